@@ -1,0 +1,17 @@
+pub mod MessagePart
+pub mod Streams
+pub mod Inbox
+pub mod Outbox
+pub mod Contents
+pub mod Settling
+pub mod Says
+pub mod Calls
+pub mod PlainMeaning
+pub mod Amounts
+pub mod Sound
+pub mod RaiseLemmas
+pub mod BufferedLemmas
+pub mod KeepLemmas
+pub mod WorkLemmas
+pub mod DoesLemmas
+pub mod PlainLaws

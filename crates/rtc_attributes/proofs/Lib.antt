@@ -1,0 +1,4 @@
+pub mod ShapeLemmas
+pub mod WordLemmas
+pub mod FingerprintLemmas
+pub mod CandidateLemmas

@@ -1,0 +1,3 @@
+pub mod WordValue
+pub mod FingerprintValue
+pub mod CandidateValue

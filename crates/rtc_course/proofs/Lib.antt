@@ -1,0 +1,12 @@
+pub mod FreeMid
+pub mod Staging
+pub mod TextLists
+pub mod Tells
+pub mod Entries
+pub mod TokenEntries
+pub mod Around
+pub mod OfferSteps
+pub mod AnswerSteps
+pub mod NegotiateSteps
+pub mod Reaches
+pub mod MoreSteps

@@ -1,0 +1,56 @@
+-- A run goes on by a step that is performed.
+use Rattle.std.proofs.Common.{◌≡◌, ◌<◌, ◌+◌, ◌^◌, List, [], ◌∷◌, ◌++◌, refl, ap, arith}
+use Rattle.rtc_peer_state.specs.Draws.{Draws}
+use Rattle.rtc_steps.specs.declared.step.Step.{Step}
+use Rattle.rtc_steps.specs.declared.reply.Reply.{Reply}
+use Rattle.rtc_steps.specs.Sizes.{step_size, steps_size}
+use Rattle.rtc_steps.specs.Past.{Entry, steps_of}
+use Rattle.rtc_course.specs.PairState.{PairState}
+use Rattle.rtc_course.specs.Performs.{Performs, Enters, made_by}
+use Rattle.rtc_course.specs.Runs.{Reached, Runs}
+use Rattle.rtc_course.specs.Fresh.{IsFresh}
+use Rattle.rtc_course.specs.Bounds.{IsWithin}
+use Rattle.rtc_course.proofs.Around.{entry}
+use Rattle.rtc_course.proofs.Reaches.{reached_within, sound_next}
+
+-- a run of no steps
+pub runs_none : {N : Type 0} (draws : Draws N) (start : PairState N) → Runs draws start [] [] start
+runs_none draws start = record {
+  past = [];
+  steps_are = refl;
+  replies_are = refl;
+  reached = refl;
+  sound = tt;
+}
+
+-- a run of one more step
+pub runs_more : {N : Type 0} (draws : Draws N) (start old new : PairState N) (steps : List Step) (replies : List Reply) (step : Step) (reply : Reply)
+    → IsFresh start → Runs draws start steps replies old → Performs draws old step reply.outcome reply.table new → new.size < 2 ^ 32
+    → Runs draws start (steps ++ step ∷ []) (replies ++ reply ∷ []) new
+runs_more draws start old new steps replies step reply fresh run performs small = record {
+  past = entry step reply.outcome reply.table (made_by old new) ∷ run.past;
+  steps_are = ap (λ before. before ++ step ∷ []) run.steps_are;
+  replies_are = ap (λ before. before ++ reply ∷ []) run.replies_are;
+  reached = (old, run.reached, record { performs = performs; made = refl });
+  sound = (sound_next draws start old new run.past step reply.outcome reply.table fresh run.reached performs small, run.sound);
+}
+
+-- ---- sizes
+
+steps_size-append : (steps : List Step) (step : Step) → steps_size (steps ++ step ∷ []) ≡ steps_size steps + step_size step
+steps_size-append [] step = omega arith
+steps_size-append (first ∷ steps) step = omega (arith, steps_size-append steps step)
+
+reached_size : {N : Type 0} (draws : Draws N) (start pair : PairState N) (past : List Entry) → Reached draws start past pair → pair.size ≡ start.size + steps_size (steps_of past)
+reached_size draws start pair [] reached = let same : pair.size ≡ start.size = ap (λ p. p.size) reached in omega arith
+reached_size draws start pair (last ∷ past) reached =
+    let enters : Enters draws reached.0 last pair = reached.2 in
+    omega (arith, enters.performs.size, reached_size draws start reached.0 past reached.1, steps_size-append (steps_of past) last.step)
+
+-- the size of a pair is that of the steps of its run
+pub runs_size : {N : Type 0} (draws : Draws N) (start pair : PairState N) (steps : List Step) (replies : List Reply) → IsFresh start → Runs draws start steps replies pair → pair.size ≡ steps_size steps
+runs_size draws start pair steps replies fresh run = omega (arith, reached_size draws start pair run.past run.reached, fresh.size, ap steps_size run.steps_are)
+
+-- a pair is within the size of the steps of its run
+pub runs_within : {N : Type 0} (draws : Draws N) (start pair : PairState N) (steps : List Step) (replies : List Reply) → IsFresh start → Runs draws start steps replies pair → pair.size < 2 ^ 32 → IsWithin pair
+runs_within draws start pair steps replies fresh run small = reached_within draws start pair run.past fresh run.reached small

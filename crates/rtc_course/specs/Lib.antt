@@ -1,0 +1,5 @@
+pub mod PairState
+pub mod Performs
+pub mod Runs
+pub mod Fresh
+pub mod Bounds

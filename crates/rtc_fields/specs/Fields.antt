@@ -1,0 +1,23 @@
+-- Fields and rows that are read each by itself.
+use Rattle.std.specs.Prelude.{List, [], ◌∷◌, Option, Some, None}
+
+-- a value in front of those of the rest, where both are there
+abbrev pub onto : {B : Type 0} → Option B → Option (List B) → Option (List B)
+onto None rest = None
+onto (Some b) None = None
+onto (Some b) (Some bs) = Some (b ∷ bs)
+
+-- each field by its form, where all have it
+abbrev pub each : {A B : Type 0} → (A → Option B) → List A → Option (List B)
+each form [] = Some []
+each form (field ∷ rest) = onto (form field) (each form rest)
+
+-- the first of the two that is there
+abbrev pub or_else : {B : Type 0} → Option B → Option B → Option B
+or_else None rest = rest
+or_else (Some b) rest = Some b
+
+-- what the first of the rows that gives something gives
+abbrev pub first : {A B : Type 0} → (A → Option B) → List A → Option B
+first gives [] = None
+first gives (row ∷ rest) = or_else (gives row) (first gives rest)

@@ -1,0 +1,11 @@
+pub mod Tokens
+pub mod ShortToken
+pub mod Numbers
+pub mod Words
+pub mod Cuts
+pub mod Fields
+pub mod Fronts
+pub mod Hex
+pub mod LetterCase
+pub mod Once
+pub mod Lines

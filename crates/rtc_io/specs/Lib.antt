@@ -1,0 +1,6 @@
+pub mod Faults
+pub mod Feed
+pub mod MemSink
+pub mod MemSource
+pub mod Tape
+pub mod Writing

@@ -1,0 +1,21 @@
+//! What lines say.
+use crate::{Attribute, MediaHead};
+
+/// What one line of a session text says by itself (RFC 8866, section 5).
+#[derive(Debug, Drop)]
+pub enum Item {
+    /// Nothing: the line is empty.
+    Blank,
+    /// Nothing: the line has no form, and is refused wherever it stands.
+    Bad,
+    /// Nothing that counts here.
+    Skipped,
+    /// `v=0`.
+    Version,
+    /// The number of the session, of an `o=` line.
+    Origin(u64),
+    /// What an `m=` line says.
+    Media(MediaHead),
+    /// What an `a=` line says.
+    Says(Attribute),
+}

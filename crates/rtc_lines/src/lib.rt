@@ -1,0 +1,13 @@
+//! Offers and answers, and the values that they are made of.
+#![tactic(auto)]
+
+mod sdp_answer;
+mod sdp_offer;
+
+pub use rtc_rows::{
+    Candidate, CandidateKind, CodecConfig, Direction, Extension, ExtensionMap, Fingerprint,
+    IceCreds, LineKind, LineRow, MediaKind, MediaLine, Mid, Msid, PayloadRow, Pt, Rid, Sdp, Setup,
+    Simulcast, SimulcastLayer, Ssrc,
+};
+pub use sdp_answer::SdpAnswer;
+pub use sdp_offer::SdpOffer;

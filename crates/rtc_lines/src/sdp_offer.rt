@@ -1,0 +1,44 @@
+//! Offers.
+ghost use Rattle.std.specs.Prelude.{◌≡◌, IfOk, Ok};
+ghost use Rattle.rtc_lines.specs.SdpReads.{ReadsOffer};
+ghost use Rattle.rtc_reading.specs.Reading.{reading};
+ghost use Rattle.rtc_writing.specs.Plain.{IsPlain};
+ghost use Rattle.rtc_writing.specs.SessionRows.{written};
+
+use rtc_reading::read;
+use rtc_rows::{Sdp, SdpError};
+use rtc_wire::{Text, TryCopy};
+use rtc_writing::{write, written_text_reads_back};
+use std::alloc::{AllocError, Global};
+
+/// A session text that is an offer (RFC 3264, section 4).
+#[derive(Debug, PartialEq, Eq, Drop)]
+pub struct SdpOffer(pub Sdp);
+
+impl SdpOffer {
+    /// The offer that a session text is (RFC 8829, section 5.8, in our profile), or the number of the first line that refuses it.
+    pub fn from_sdp_string(alloc: Global, text: &str) -> Result<SdpOffer, SdpError>
+        ensures { ReadsOffer result (reading text.now) }
+    {
+        match read(alloc, text) {
+            Ok(sdp) => Ok(SdpOffer(sdp)),
+            Err(error) => Err(error),
+        }
+    }
+
+    /// The session text of the offer. Every offer has one; that of a plain one reads as it.
+    pub fn to_sdp_string(&self) -> Result<Text, AllocError>
+        ensures text { IfOk result (λ text. text ≡ written self.now.0) }
+        ensures read_back { IsPlain self.now.0 → IfOk result (λ text. reading text ≡ Ok self.now.0) }
+    {
+        written_text_reads_back();
+        write(self.0.lines.allocator(), &self.0)
+    }
+}
+
+impl TryCopy for SdpOffer {
+    fn copy(&self) -> Result<SdpOffer, AllocError> {
+        let text = self.0.copy()?;
+        Ok(SdpOffer(text))
+    }
+}

@@ -1,0 +1,13 @@
+//! What a `rid` attribute says.
+use crate::RidDirection;
+use rtc_media_rows::Rid;
+use rtc_wire::{Seq, Text};
+
+/// The restrictions that a `rid` attribute puts on a layer (RFC 8851, section 4).
+#[derive(Debug, PartialEq, Eq, Drop)]
+pub struct RidLine {
+    pub rid: Rid,
+    pub direction: RidDirection,
+    /// Names and values, in the order of the text.
+    pub attributes: Seq<(Text, Text)>,
+}

@@ -1,0 +1,13 @@
+//! Codecs of payload types.
+use rtc_media_rows::Pt;
+use rtc_wire::Text;
+
+/// The codec that an `rtpmap` attribute gives to a payload type (RFC 8866, section 6.6).
+#[derive(Debug, PartialEq, Eq, Drop)]
+pub struct Rtpmap {
+    pub pt: Pt,
+    pub codec: Text,
+    /// Ticks a second.
+    pub clock: u32,
+    pub channels: u8,
+}

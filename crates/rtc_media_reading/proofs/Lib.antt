@@ -1,0 +1,4 @@
+pub mod PayloadLookups
+pub mod PayloadLaw
+pub mod LayerLaw
+pub mod PlaceLemmas

@@ -1,0 +1,5 @@
+pub mod Payloads
+pub mod PlainPayloads
+pub mod Layers
+pub mod Places
+pub mod PlainLayers

@@ -1,0 +1,5 @@
+pub mod Tries
+pub mod Tokens
+pub mod Counts
+pub mod Hex
+pub mod Pairs

@@ -1,0 +1,15 @@
+-- One more pair of sources.
+use Rattle.std.proofs.Common.{◌≡◌, suc, ℕ, List, [], ◌∷◌, ◌++◌, Bool, append_assoc}
+use Rattle.rtc_rows.specs.declared.media_kind.MediaKind.{MediaKind}
+use Rattle.rtc_peer_state.specs.Draws.{Draws}
+use Rattle.rtc_peer_state.specs.Sources.{Pair, pair_numbers, next_pair, next_pairs, after_pair, after_pairs}
+
+pub one_pair : {N : Type 0} (draws : Draws N) (used : ℕ → Bool) (kind : MediaKind) (done : List Pair) (pair : Pair) (earlier later : List ℕ) (left more : ℕ) (ids after : N) (all : List Pair) → left ≡ suc more → pair ≡ next_pair draws used kind earlier ids → later ≡ earlier ++ pair_numbers pair → after ≡ after_pair draws used kind ids → done ++ next_pairs draws used kind earlier left ids ≡ all → (done ++ pair ∷ []) ++ next_pairs draws used kind later more after ≡ all
+one_pair draws used kind done pair earlier later left more ids after all left_is pair_is later_is after_is h =
+    let inv : done ++ (next_pair draws used kind earlier ids ∷ next_pairs draws used kind (earlier ++ pair_numbers (next_pair draws used kind earlier ids)) more (after_pair draws used kind ids)) ≡ all = rw left_is at h in
+    rw (later_is, after_is, pair_is, append_assoc) inv
+
+pub one_draw : {N : Type 0} (draws : Draws N) (used : ℕ → Bool) (kind : MediaKind) (left more : ℕ) (ids after last : N) → left ≡ suc more → after ≡ after_pair draws used kind ids → after_pairs draws used kind left ids ≡ last → after_pairs draws used kind more after ≡ last
+one_draw draws used kind left more ids after last left_is after_is h =
+    let inv : after_pairs draws used kind more (after_pair draws used kind ids) ≡ last = rw left_is at h in
+    rw after_is inv

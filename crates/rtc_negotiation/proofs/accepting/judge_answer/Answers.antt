@@ -1,0 +1,6 @@
+use Rattle.std.proofs.Common.{Some}
+use Rattle.rtc_negotiation.proofs.Counts.{planned_count}
+use Rattle.rtc_negotiation.proofs.accepting.judge_answer.Goals as goal
+
+pub returns-clause-count : goal.returns-clause-count
+returns-clause-count c = planned_count _ _ _ _ c.plan_answer_text.ensures.plans

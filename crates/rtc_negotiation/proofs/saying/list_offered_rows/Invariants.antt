@@ -1,0 +1,10 @@
+use Rattle.std.proofs.Common.{◌≡◌, ◌++◌, ◌+◌, drop, length}
+use Rattle.rtc_plan.specs.PendingOffer.{added_rows}
+use Rattle.rtc_negotiation.proofs.saying.list_offered_rows.Given as goal
+
+abbrev pub invariant-loop-change : goal.invariant-loop-change
+invariant-loop-change l =
+    record {
+      rows : l.offered.items ++ added_rows l.place (drop l.change-index l.staged) ≡ l.rows ++ added_rows (length l.rows) l.staged;
+      place : l.place ≡ length l.rows + l.change-index;
+    }

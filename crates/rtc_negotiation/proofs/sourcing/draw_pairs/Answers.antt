@@ -1,0 +1,12 @@
+use Rattle.std.proofs.Common.{◌≡◌, ◌-◌, ◌+◌, suc, arith}
+use Rattle.rtc_peer_state.specs.Sources.{is_used}
+use Rattle.rtc_negotiation.proofs.Pairs.{one_pair, one_draw}
+use Rattle.rtc_negotiation.proofs.sourcing.draw_pairs.Goals as goal
+
+pub loop-preserved : goal.loop-preserved
+loop-preserved g c =
+    let one_less : c.args.count - c.loop.counter ≡ suc (c.args.count - (c.loop.counter + 1)) = omega arith in
+    record {
+      pairs = rw c.in_ok-push.ensures.items (one_pair g.N.Ids.ids (is_used c.args.sources.now) c.args.kind _ _ _ _ _ _ c.loop.ids _ _ one_less c.in_ok-pair.ensures.pair c.in_ok-pair.ensures.earlier c.in_ok-pair.ensures.after c.loop.invariant.pairs);
+      after = one_draw g.N.Ids.ids (is_used c.args.sources.now) c.args.kind _ _ c.loop.ids _ _ one_less c.in_ok-pair.ensures.after c.loop.invariant.after;
+    }

@@ -1,0 +1,26 @@
+use Rattle.std.proofs.Common.{◌≡◌, ◌-◌, ◌+◌, ◌^◌, ◌||◌, suc, ℕ, Bool, true, false, arith, sym, ap, ◌∙◌, refl}
+use Rattle.rtc_peer_state.specs.Sources.{is_used, is_number, unused, source_of}
+use Rattle.rtc_negotiation.proofs.Tries.{unused-used, unused-free, unused-none}
+use Rattle.rtc_negotiation.proofs.sourcing.find_source.Goals as goal
+
+pub loop-init : goal.loop-init
+loop-init c = refl
+
+pub returns-then-not-is_taken : goal.returns-then-not-is_taken
+returns-then-not-is_taken c =
+    let one_less : 2 ^ 32 - c.loop.counter ≡ suc (2 ^ 32 - (c.loop.counter + 1)) = omega arith in
+    let free : (is_used c.args.sources.now c.loop.n || is_number c.loop.n c.args.earlier.now) ≡ false = sym c.is_taken.ensures ∙ c.if-not-is_taken.true in
+    sym (unused-free (λ m. is_used c.args.sources.now m || is_number m c.args.earlier.now) c.args.first _ _ c.loop.n one_less free) ∙ c.loop.invariant
+
+pub loop-preserved : goal.loop-preserved
+loop-preserved c =
+    let one_less : 2 ^ 32 - c.loop.counter ≡ suc (2 ^ 32 - (c.loop.counter + 1)) = omega arith in
+    let taken : (is_used c.args.sources.now c.loop.n || is_number c.loop.n c.args.earlier.now) ≡ true = sym c.is_taken.ensures ∙ c.if-not-is_taken.false in
+    sym (unused-used (λ m. is_used c.args.sources.now m || is_number m c.args.earlier.now) c.args.first _ _ c.loop.n one_less taken) ∙ c.loop.invariant
+
+pub returns : goal.returns
+returns c =
+    let none_left : 2 ^ 32 - c.loop.counter ≡ 0 = omega arith in
+    sym (unused-none (λ m. is_used c.args.sources.now m || is_number m c.args.earlier.now) c.args.first c.loop.n)
+    ∙ ap (λ (t : ℕ). unused (λ m. is_used c.args.sources.now m || is_number m c.args.earlier.now) c.args.first t c.loop.n) (sym none_left)
+    ∙ c.loop.invariant

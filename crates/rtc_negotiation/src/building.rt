@@ -1,0 +1,108 @@
+//! Peers that are built.
+ghost use Rattle.std.specs.Prelude.{◌≡◌, ◌++◌, ◌<◌, ◌≤◌, ◌^◌, ◌/◌, ◌%◌, IfOk, OnOk, string_bytes, ℕ};
+ghost use Rattle.rtc_peer_state.specs.Built.{hex_digit, hex_digits, drawn_creds, number_bytes, built, cert_or, after_cert};
+ghost use Rattle.std.specs.Option.{option_copied};
+
+use rtc_peer_state::{Ids, Peer, RtcConfig};
+use rtc_plan::Lines;
+use rtc_rows::IceCreds;
+use rtc_wire::{Bytes, Moment, Seq, Text, TryCopy};
+use std::alloc::{AllocError, Global};
+
+// A digit of base 16.
+fn digit(n: u8) -> char
+    requires { n < 16 }
+    ensures { result ≡ hex_digit n }
+{
+    if n < 10 {
+        (b'0' + n) as char
+    } else {
+        (b'a' + n - 10) as char
+    }
+}
+
+// Puts the last so many digits of a number in base 16 at the end of a text.
+fn push_digits(text: &mut String, count: u32, n: u64) -> Result<(), AllocError>
+    ensures { OnOk result (string_bytes text.new ≡ string_bytes text.old ++ hex_digits count n) }
+{
+    if count == 0 {
+        return Ok(());
+    }
+    push_digits(text, count - 1, n / 16)?;
+    text.push(digit((n % 16) as u8))?;
+    Ok(())
+}
+
+// The credentials of a draw.
+fn make_creds(alloc: Global, n: u64) -> Result<IceCreds, AllocError>
+    ensures { IfOk result (λ creds. creds ≡ drawn_creds n) }
+{
+    let mut ufrag = String::new(alloc);
+    ufrag.push('u')?;
+    push_digits(&mut ufrag, 16, n)?;
+    let mut pass = String::new(alloc);
+    push_digits(&mut pass, 16, n)?;
+    push_digits(&mut pass, 16, n)?;
+    Ok(IceCreds {
+        ufrag: Text::new(ufrag),
+        pass: Text::new(pass),
+    })
+}
+
+// Puts the last so many bytes of a number at the end, the greatest first.
+fn push_bytes(bytes: &mut Vec<u8>, count: u32, n: u64) -> Result<(), AllocError>
+    ensures { OnOk result (bytes.new.items ≡ bytes.old.items ++ number_bytes count n) }
+{
+    if count == 0 {
+        return Ok(());
+    }
+    push_bytes(bytes, count - 1, n / 256)?;
+    bytes.push((n % 256) as u8)?;
+    Ok(())
+}
+
+// The certificate that is given, or else one that is drawn.
+fn make_cert<N: Ids>(alloc: Global, ids: &mut N, given: Option<&[u8]>) -> Result<Bytes, AllocError>
+    ensures cert { IfOk result (λ cert. cert ≡ cert_or N.ids (option_copied given.entry) ids.old) }
+    ensures after { OnOk result (ids.new ≡ after_cert N.ids (option_copied given.entry) ids.old) }
+{
+    match given {
+        Some(cert) => {
+            let copied = Vec::from_slice(alloc, cert)?;
+            Ok(Bytes::new(copied))
+        }
+        None => {
+            let n = ids.draw();
+            let mut bytes = Vec::new(alloc);
+            push_bytes(&mut bytes, 8, n)?;
+            Ok(Bytes::new(bytes))
+        }
+    }
+}
+
+/// A peer with no rows, as its config says: the number of its session and its credentials are drawn.
+pub fn build_peer<N: Ids + Drop>(
+    alloc: Global,
+    config: RtcConfig,
+    start: Moment,
+    ids: N,
+) -> Result<Peer<N>, AllocError>
+    ensures { IfOk result (λ peer. peer ≡ built N.ids alloc config start ids) }
+{
+    let mut ids = ids;
+    let session_id = ids.draw();
+    let creds = make_creds(alloc, ids.draw())?;
+    let cert = make_cert(alloc, &mut ids, config.dtls_cert())?;
+    Ok(Peer {
+        alloc,
+        lines: Lines::new(alloc),
+        staged: Seq::empty(alloc),
+        counter: 0,
+        session_id,
+        creds,
+        cert,
+        sources: Seq::empty(alloc),
+        greatest: start,
+        ids,
+    })
+}

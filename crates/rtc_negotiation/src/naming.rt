@@ -1,0 +1,103 @@
+//! Draws of names.
+ghost use Rattle.std.specs.Prelude.{◌≡◌, ◌+◌, ◌<◌, ◌^◌, IfOk, OnOk, Option, option_map, string_bytes, length, codes};
+ghost use Rattle.rtc_plan.specs.PendingOffer.{adds_mid};
+ghost use Rattle.rtc_peer_state.specs.Names.{drawn_mid, is_held, free_mid, kept_bytes, kept_name, name_of, after_name};
+
+use rtc_fields::is_token_byte;
+use rtc_peer_state::Ids;
+use rtc_plan::{Change, Lines, is_added};
+use rtc_rows::Mid;
+use rtc_wire::Text;
+use std::alloc::{AllocError, Global};
+
+// The mid of a number.
+fn numbered_mid(alloc: Global, n: u32) -> Result<Mid, AllocError>
+    ensures { IfOk result (λ mid. mid ≡ drawn_mid n) }
+{
+    let text = format!(in alloc; "m{n}")?;
+    Ok(Mid::of(text.as_str()))
+}
+
+fn is_held_mid(lines: &Lines, staged: &[Change], mid: Mid) -> bool
+    ensures { result ≡ is_held lines.now staged.now mid }
+{
+    lines.has_mid(mid) || is_added(staged, mid)
+}
+
+/// The first mid counted on from a number that no row and no staged line has.
+pub fn find_mid(
+    alloc: Global,
+    lines: &Lines,
+    staged: &[Change],
+    first: u32,
+) -> Result<Mid, AllocError>
+    requires { length lines.now + length staged.now < 2 ^ 63 }
+    ensures { IfOk result (λ mid. mid ≡ free_mid (is_held lines.now staged.now) (length lines.now + length staged.now) first) }
+{
+    let tries = lines.rows().len() + staged.len();
+    let mut n = first;
+    for _ in 0..tries {
+        let mid = numbered_mid(alloc, n)?;
+        if !is_held_mid(lines, staged, mid) {
+            return Ok(mid);
+        }
+        n = n.wrapping_add(1);
+    }
+    numbered_mid(alloc, n)
+}
+
+// The bytes that are kept of a name.
+fn list_kept(alloc: Global, name: &str) -> Result<Vec<u8>, AllocError>
+    ensures { IfOk result (λ kept. kept.items ≡ kept_bytes name.now) }
+{
+    name.bytes()
+        .filter(|byte| is_token_byte(*byte))
+        .take(64)
+        .collect(alloc)
+}
+
+// What is kept of a name.
+fn keep_bytes(alloc: Global, name: &str) -> Result<Text, AllocError>
+    ensures { IfOk result (λ kept. kept ≡ kept_bytes name.now) }
+{
+    let kept = list_kept(alloc, name)?;
+    match String::from_utf8(kept) {
+        Ok(text) => Ok(Text::new(text)),
+        Err(_) => unreachable!(),
+    }
+}
+
+/// A name that is given, where something is kept of it.
+pub fn keep_name(alloc: Global, name: Option<String>) -> Result<Option<Text>, AllocError>
+    ensures { IfOk result (λ kept. kept ≡ kept_name (option_map (λ given. string_bytes given) name)) }
+{
+    let Some(name) = name else {
+        return Ok(None);
+    };
+    let kept = keep_bytes(alloc, name.as_str())?;
+    if kept.as_str().is_empty() {
+        Ok(None)
+    } else {
+        Ok(Some(kept))
+    }
+}
+
+/// The name that is given, or else one that is drawn.
+pub fn draw_name<N: Ids>(
+    alloc: Global,
+    ids: &mut N,
+    prefix: &str,
+    given: Option<Text>,
+) -> Result<Text, AllocError>
+    ensures name { IfOk result (λ name. name ≡ name_of N.ids prefix.now given ids.old) }
+    ensures after { OnOk result (ids.new ≡ after_name N.ids given ids.old) }
+{
+    match given {
+        Some(name) => Ok(name),
+        None => {
+            let n = ids.draw();
+            let name = format!(in alloc; "{prefix}{n}")?;
+            Ok(Text::new(name))
+        }
+    }
+}

@@ -1,0 +1,70 @@
+-- What the program does and answers.
+use Rattle.std.specs.Prelude.{◌≡◌, ◌≤◌, ◌^◌, ℕ, Bool, List, [], ◌∷◌, ◌++◌, length, codes, Option, Some, None, ◌⊎◌}
+use Rattle.std.specs.List.{list_any}
+use Rattle.std.specs.Fmt.{decimal}
+use Rattle.std.specs.declared.alloc.Global.{Global}
+use Rattle.std.specs.Io.KnownBytes.{Appends, IsAtEnd}
+use Rattle.rtc_io.specs.Faults.{Rose}
+use Rattle.rtc_io.specs.Writing.{AppendsFront}
+use Rattle.rtc_steps.specs.declared.step.Step.{Step}
+use Rattle.rtc_steps.specs.declared.reply.Reply.{Reply}
+use Rattle.rtc_steps.specs.Memory.{lacks_memory}
+use Rattle.rtc_script.specs.Script.{IsScript, IsRefused}
+use Rattle.rtc_script.specs.declared.script_error.ScriptError.TheVariants.{Line}
+use Rattle.rtc_report.specs.Report.{report}
+use Rattle.rtc_course.specs.PairState.{PairState}
+use Rattle.rtc_course.specs.Runs.{Runs}
+use Rattle.rtc_pair.specs.Program.{counting, program_pair}
+
+-- the words of a run
+abbrev pub run_words : List (List ℕ)
+run_words = codes "run" ∷ []
+
+-- a fact of what a source had left, where it tells that
+abbrev pub IfTold : Option (List ℕ) → (List ℕ → Type 0) → Type 0
+IfTold None P = Unit {0}
+IfTold (Some text) P = P text
+
+-- whether a reply tells a want of memory
+abbrev pub lack_memory : List Reply → Bool
+lack_memory replies = list_any lacks_memory replies
+
+-- Steps were performed on the program's pair, which is left, and their report was written.
+pub record PerformsSteps (alloc : Global) (lacking : Bool) (steps : List Step) (written written' : Option (List ℕ)) (last : Option (PairState ℕ)) : Type 0 where
+  pub replies : List Reply
+  pub pair : PairState ℕ
+  pub reported : Appends written written' (report steps replies)
+  pub runs : Runs counting (program_pair alloc) steps replies pair
+  pub kept : last ≡ Some pair
+  pub memory : lack_memory replies ≡ lacking
+
+-- A script was read to the end of what was left, and its steps were performed.
+pub record RunsScript (alloc : Global) (lacking : Bool) (left left' written written' : Option (List ℕ)) (last : Option (PairState ℕ)) : Type 0 where
+  pub steps : List Step
+  pub at_end : IsAtEnd left'
+  pub script : IfTold left (λ text. (length text ≤ 2 ^ 20) × IsScript text steps)
+  pub performs : PerformsSteps alloc lacking steps written written' last
+
+abbrev pub usage_line : List ℕ
+usage_line = codes "usage: rtc_pair run | rtc_pair demo N S\n"
+
+abbrev pub fault_line : List ℕ
+fault_line = codes "read fault\n"
+
+abbrev pub long_line : List ℕ
+long_line = codes "script too long\n"
+
+abbrev pub refused_line : ℕ → List ℕ
+refused_line n = codes "script refused at line " ++ decimal n ++ codes "\n"
+
+-- at most so many bytes came, they are no script, and the number of the refused line is told
+pub record RefusesScript (left left' written written' : Option (List ℕ)) : Type 0 where
+  pub line : ℕ
+  pub at_end : IsAtEnd left'
+  pub refused : IfTold left (λ text. (length text ≤ 2 ^ 20) × IsRefused text (Line line))
+  pub told : Appends written written' (refused_line line)
+
+-- A text was written and this is the status; or the sink failed behind a front of it, and the status is 5.
+abbrev pub Says : ℕ → List ℕ → Option (List ℕ) → Option (List ℕ) → ℕ → ℕ → ℕ → Type 0
+Says status text written written' faults faults' result =
+    ((result ≡ status) × Appends written written' text) ⊎ ((result ≡ 5) × Rose faults faults' × AppendsFront written written' text)

@@ -1,0 +1,40 @@
+//! The pair that the program runs its script on.
+ghost use Rattle.std.specs.Prelude.{◌≡◌, ◌≤◌, IfOk, Some, length};
+ghost use Rattle.rtc_peer_state.specs.Built.{built};
+ghost use Rattle.rtc_pair.specs.Program.{counting, program_pair};
+
+use rtc_peer::{CountIds, Rtc, RtcConfig};
+use rtc_run::Pair;
+use rtc_wire::{Addr, Moment};
+use std::alloc::{AllocError, Global};
+
+/// A pair of the plain parts.
+pub type PlainPair = Pair<CountIds>;
+
+// A peer with a certificate, whose numbers count up from `first`.
+fn make_peer(alloc: Global, name: &str, first: u64) -> Result<Rtc<CountIds>, AllocError>
+    requires { length name.now ≤ 1900 }
+    ensures { IfOk result (λ rtc. rtc.core ≡ built counting alloc (record { cert = Some name.now }) 0 first) }
+{
+    let mut cert = Vec::new(alloc);
+    cert.extend_from_slice(name.as_bytes())?;
+    let config = RtcConfig::new(alloc)?.set_dtls_cert(cert);
+    Rtc::build(alloc, config, Moment::FAR_PAST, CountIds::starting(first))
+}
+
+/// The program's pair, at moment 0.
+pub fn make_pair(alloc: Global) -> Result<PlainPair, AllocError>
+    ensures { IfOk result (λ pair. pair ≡ program_pair alloc) }
+{
+    let left = make_peer(alloc, "abc", 1)?;
+    let right = make_peer(alloc, "def", 1_000_001)?;
+    let left_addr = Addr {
+        ip: [1, 1, 1, 1],
+        port: 1000,
+    };
+    let right_addr = Addr {
+        ip: [2, 2, 2, 2],
+        port: 2000,
+    };
+    Ok(Pair::new(alloc, left, right, left_addr, right_addr))
+}

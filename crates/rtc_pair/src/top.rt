@@ -1,0 +1,110 @@
+//! The top call.
+ghost use Rattle.std.specs.Prelude.{◌≡◌, ◌≢◌, ◌<◌, ◌≤◌, ◌^◌, ◌⊎◌, true, false, Some, None, map, string_bytes, IfOk, IfSome, OnErr, length};
+ghost use Rattle.std.specs.Io.KnownBytes.{Appends, IsAtEnd};
+ghost use Rattle.rtc_io.specs.Faults.{Rose};
+ghost use Rattle.rtc_steps.specs.Sizes.{steps_size};
+ghost use Rattle.rtc_pair.specs.Answers.{run_words, PerformsSteps, RunsScript, RefusesScript, lack_memory, refused_line, usage_line};
+
+use crate::answering::{ask_for_run, list_refusal, say};
+use crate::program::{PlainPair, make_pair};
+use rtc_io::{INPUT_LIMIT, ReadError, Sink, Source, read_all, write_all};
+use rtc_report::write_report;
+use rtc_run::run_pair;
+use rtc_script::{ScriptError, read_script};
+use rtc_steps::{Reply, Step};
+use std::alloc::Global;
+
+fn lack_memory(replies: &[Reply]) -> bool
+    ensures { result ≡ lack_memory replies.now }
+{
+    for reply in replies {
+        if reply.is_out_of_memory() {
+            return true;
+        }
+    }
+    false
+}
+
+// Performs steps on the program's pair, and writes their report.
+fn perform_script<W: Sink>(
+    alloc: Global,
+    steps: &[Step],
+    output: &mut W,
+    last: &mut Option<PlainPair>,
+) -> u8
+    requires { steps_size steps.now < 2 ^ 32 }
+    ensures done { result ≡ 0 → PerformsSteps alloc false steps.now (W.written output.old) (W.written output.new) last.new }
+    ensures write { result ≡ 5 → Rose (W.faults output.old) (W.faults output.new) }
+    ensures memory { result ≡ 6 → PerformsSteps alloc true steps.now (W.written output.old) (W.written output.new) last.new ⊎ ((output.new ≡ output.old) × (last.new ≡ last.old)) }
+    ensures kept { result ≡ 5 → last.new ≡ last.old }
+    ensures statuses { (result ≡ 0) ⊎ (result ≡ 5) ⊎ (result ≡ 6) }
+{
+    let Ok(mut pair) = make_pair(alloc) else {
+        return 6;
+    };
+    let Ok(replies) = run_pair(alloc, &mut pair, steps) else {
+        return 6;
+    };
+    let Ok(text) = write_report(alloc, steps, replies.as_slice()) else {
+        return 6;
+    };
+    if write_all(output, text.as_slice()).is_err() {
+        return 5;
+    }
+    *last = Some(pair);
+    if lack_memory(replies.as_slice()) {
+        6
+    } else {
+        0
+    }
+}
+
+// Tells the line at which a script is refused.
+fn refuse_script<W: Sink>(alloc: Global, line: u32, output: &mut W) -> u8
+    ensures told { result ≡ 3 → Appends (W.written output.old) (W.written output.new) (refused_line line) }
+    ensures write { result ≡ 5 → Rose (W.faults output.old) (W.faults output.new) }
+    ensures memory { result ≡ 6 → output.new ≡ output.old }
+    ensures statuses { (result ≡ 3) ⊎ (result ≡ 5) ⊎ (result ≡ 6) }
+{
+    match list_refusal(alloc, line) {
+        Ok(text) => say(output, text.as_bytes(), 3),
+        Err(_) => 6,
+    }
+}
+
+/// Reads a script from `input`, performs it, and writes its report to `output`; answers the status to end with.
+///
+/// With status 0, and with 6 where a report was written, `last` has the pair on which the steps were performed; else it is as
+/// it was. A fault of the sink (5) or want of memory (6) may come in place of any other status.
+pub fn pair_main<R: Source, W: Sink>(
+    alloc: Global,
+    words: &[String],
+    input: &mut R,
+    output: &mut W,
+    last: &mut Option<PlainPair>,
+) -> u8
+    ensures done { result ≡ 0 → RunsScript alloc false (R.left input.old) (R.left input.new) (W.written output.old) (W.written output.new) last.new }
+    ensures usage { result ≡ 2 → (map (λ word. string_bytes word) words.now ≢ run_words) × Appends (W.written output.old) (W.written output.new) usage_line }
+    ensures refused { result ≡ 3 → RefusesScript (R.left input.old) (R.left input.new) (W.written output.old) (W.written output.new) }
+    ensures read { result ≡ 4 → Rose (R.faults input.old) (R.faults input.new) }
+    ensures write { result ≡ 5 → Rose (W.faults output.old) (W.faults output.new) }
+    ensures memory { result ≡ 6 → RunsScript alloc true (R.left input.old) (R.left input.new) (W.written output.old) (W.written output.new) last.new ⊎ ((output.new ≡ output.old) × (last.new ≡ last.old)) }
+    ensures long { result ≡ 7 → IfSome (R.left input.old) (λ text. 2 ^ 20 < length text) }
+    ensures kept { result ≢ 0 → result ≢ 6 → last.new ≡ last.old }
+    ensures statuses { (result ≢ 1) × (result < 8) }
+{
+    if !ask_for_run(words) {
+        return say(output, b"usage: rtc_pair run | rtc_pair demo N S\n", 2);
+    }
+    let text = match read_all(alloc, input, INPUT_LIMIT) {
+        Ok(text) => text,
+        Err(ReadError::Fault) => return say(output, b"read fault\n", 4),
+        Err(ReadError::TooLong) => return say(output, b"script too long\n", 7),
+        Err(ReadError::Alloc) => return 6,
+    };
+    match read_script(alloc, text.as_slice()) {
+        Ok(script) => perform_script(alloc, script.steps.as_slice(), output, last),
+        Err(ScriptError::Line(line)) => refuse_script(alloc, line, output),
+        Err(ScriptError::Alloc) => 6,
+    }
+}

@@ -1,0 +1,14 @@
+//! The parts of a peer that stand outside of it, each known by what its calls do.
+#![tactic(auto)]
+
+mod assoc_error;
+mod assoc_event;
+mod association;
+mod completion;
+mod ppi;
+
+pub use assoc_error::AssocError;
+pub use assoc_event::AssocEvent;
+pub use association::Association;
+pub use completion::nothing_read_after_completion;
+pub use ppi::Ppi;

@@ -1,0 +1,26 @@
+//! The state of a peer.
+use crate::LineSources;
+use rtc_plan::{Change, Lines};
+use rtc_rows::IceCreds;
+use rtc_wire::{Bytes, Moment, Seq};
+use std::alloc::Global;
+
+/// The state of a peer. Its fields are public for the crates that work on it; callers hold an `Rtc`.
+#[derive(Drop)]
+pub struct Peer<N> {
+    pub alloc: Global,
+    pub lines: Lines,
+    /// What is staged and not yet applied.
+    pub staged: Seq<Change>,
+    /// Rises with each offer that is applied or handed in; wraps.
+    pub counter: u64,
+    /// The number of the session, of the `o=` line.
+    pub session_id: u64,
+    pub creds: IceCreds,
+    pub cert: Bytes,
+    /// The sources of the lines that have some.
+    pub sources: Seq<LineSources>,
+    /// The greatest moment that was handed in.
+    pub greatest: Moment,
+    pub ids: N,
+}

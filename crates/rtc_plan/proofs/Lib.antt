@@ -1,0 +1,4 @@
+pub mod TableLemmas
+pub mod TakenTable
+pub mod ConsistentMids
+pub mod VerdictLemmas

@@ -1,0 +1,55 @@
+//! Lists of staged changes.
+ghost use Rattle.std.specs.Prelude.{◌≡◌, ◌+◌, ◌<◌, ◌≤◌, ◌^◌, ◌-◌, IfOk, length};
+ghost use Rattle.rtc_plan.specs.PendingOffer.{added_rows, adds_mid};
+
+use crate::Change;
+use rtc_rows::{LineRow, Mid};
+use rtc_wire::{Seq, TryCopy};
+use std::alloc::{AllocError, Global};
+
+/// Staged changes, in the order in which they were asked for.
+#[derive(Debug, PartialEq, Eq, Drop)]
+pub struct Changes(pub Seq<Change>);
+
+/// Whether one of these changes adds a line of this mid.
+pub fn is_added(changes: &[Change], mid: Mid) -> bool
+    ensures { result ≡ adds_mid mid changes.now }
+{
+    for change in changes {
+        if change.mid() == mid {
+            return true;
+        }
+    }
+    false
+}
+
+impl Changes {
+    /// Whether one of them adds a line of this mid.
+    pub fn has_mid(&self, mid: Mid) -> bool
+        ensures { result ≡ adds_mid mid self.now.0 }
+    {
+        is_added(self.0.as_slice(), mid)
+    }
+
+    /// The rows of the lines that they add, at places from `index_start` on.
+    pub fn as_new_medias(&self, alloc: Global, index_start: u32) -> Result<Seq<LineRow>, AllocError>
+        requires { index_start + length self.now.0 < 2 ^ 32 }
+        ensures rows { IfOk result (λ rows. rows ≡ added_rows index_start self.now.0) }
+        ensures count { IfOk result (λ rows. length rows ≡ length self.now.0) }
+    {
+        let mut rows = Seq::empty(alloc);
+        let mut place = index_start;
+        for change in self.0.as_slice() {
+            rows.push(change.new_row(place))?;
+            place += 1;
+        }
+        Ok(rows)
+    }
+}
+
+impl TryCopy for Changes {
+    fn copy(&self) -> Result<Changes, AllocError> {
+        let changes = self.0.copy()?;
+        Ok(Changes(changes))
+    }
+}

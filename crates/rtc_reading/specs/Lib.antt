@@ -1,0 +1,6 @@
+pub mod Parting
+pub mod Refusal
+pub mod LineValue
+pub mod SessionValue
+pub mod Reading
+pub mod FirstRefused

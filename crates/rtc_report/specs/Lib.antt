@@ -1,0 +1,3 @@
+pub mod Outcomes
+pub mod Report
+pub mod Rows

@@ -1,0 +1,6 @@
+pub mod Direction
+pub mod Fingerprint
+pub mod LineRow
+pub mod MediaKind
+pub mod Sdp
+pub mod SdpErrorText

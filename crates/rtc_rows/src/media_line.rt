@@ -1,0 +1,64 @@
+//! One m-line of a session text.
+use crate::{
+    Candidate, Direction, Extension, Fingerprint, IceCreds, LineKind, Mid, Msid, PayloadRow, Setup,
+    Simulcast, Ssrc,
+};
+use rtc_wire::{Seq, Text, TryCopy};
+use std::alloc::AllocError;
+
+/// What an m-line of a session text says, with the attributes of its part (RFC 8866, section 5.14).
+#[derive(Debug, PartialEq, Eq, Drop)]
+pub struct MediaLine {
+    pub kind: LineKind,
+    /// Its port is 0.
+    pub disabled: bool,
+    pub mid: Mid,
+    pub dir: Direction,
+    pub candidates: Seq<Candidate>,
+    pub creds: Option<IceCreds>,
+    pub fingerprint: Option<Fingerprint>,
+    pub setup: Option<Setup>,
+    pub payloads: Seq<PayloadRow>,
+    pub exts: Seq<(u8, Extension)>,
+    pub simulcast: Option<Simulcast>,
+    pub msid: Option<Msid>,
+    pub cname: Option<Text>,
+    /// Each source, with that of its retransmissions.
+    pub ssrcs: Seq<(Ssrc, Option<Ssrc>)>,
+    /// In bytes; 0 means any size (RFC 8841, section 6).
+    pub max_message_size: Option<u64>,
+    pub sctp_init: Option<Text>,
+}
+
+impl TryCopy for MediaLine {
+    fn copy(&self) -> Result<MediaLine, AllocError> {
+        let candidates = self.candidates.copy()?;
+        let creds = self.creds.copy()?;
+        let fingerprint = self.fingerprint.copy()?;
+        let payloads = self.payloads.copy()?;
+        let exts = self.exts.copy()?;
+        let simulcast = self.simulcast.copy()?;
+        let msid = self.msid.copy()?;
+        let cname = self.cname.copy()?;
+        let ssrcs = self.ssrcs.copy()?;
+        let sctp_init = self.sctp_init.copy()?;
+        Ok(MediaLine {
+            kind: self.kind,
+            disabled: self.disabled,
+            mid: self.mid,
+            dir: self.dir,
+            candidates,
+            creds,
+            fingerprint,
+            setup: self.setup,
+            payloads,
+            exts,
+            simulcast,
+            msid,
+            cname,
+            ssrcs,
+            max_message_size: self.max_message_size,
+            sctp_init,
+        })
+    }
+}

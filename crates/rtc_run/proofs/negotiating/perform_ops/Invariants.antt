@@ -1,0 +1,17 @@
+use Rattle.std.proofs.Common.{◌≡◌, ◌≤◌, ◌+◌, ◌++◌, List, length, drop, vec_capacity}
+use Rattle.rtc_peer_state.specs.declared.peer.Peer.{Peer}
+use Rattle.rtc_steps.specs.declared.op_answer.OpAnswer.{OpAnswer}
+use Rattle.rtc_course.specs.Performs.{PerformsOps}
+use Rattle.rtc_run.proofs.negotiating.perform_ops.Given as goal
+
+-- how the ops that are left go on, all of them do
+abbrev pub invariant-loop-op : goal.invariant-loop-op
+invariant-loop-op g l =
+    record {
+      same : l.api.rtc.ghost_name ≡ l.fn.api.rtc.ghost_name;
+      done : (more : List OpAnswer) (q : Peer g.row.N.Denot) → PerformsOps g.N.Ids.ids l.api.rtc.now.core (drop l.op-index l.ops) more q → PerformsOps g.N.Ids.ids l.fn.api.rtc.now.core l.ops (l.room.items ++ more) q;
+      count : length l.room.items ≡ l.op-index;
+      room : length l.ops ≤ vec_capacity l.room;
+      lines : l.api.rtc.now.core.lines ≡ l.fn.api.rtc.now.core.lines;
+      staged : length l.api.rtc.now.core.staged ≤ length l.fn.api.rtc.now.core.staged + l.op-index;
+    }

@@ -1,0 +1,12 @@
+use Rattle.std.proofs.Common.{◌≡◌, ◌≤◌, take, length, vec_capacity}
+use Rattle.rtc_course.specs.Runs.{Runs}
+use Rattle.rtc_run.proofs.running.run_pair.Given as goal
+
+-- the steps so far are a run
+abbrev pub invariant-loop-step : goal.invariant-loop-step
+invariant-loop-step g l =
+    record {
+      runs : Runs g.N.Ids.ids l.fn.pair (take l.step-index l.steps) l.replies.items l.pair;
+      count : length l.replies.items ≡ l.step-index;
+      room : length l.steps ≤ vec_capacity l.replies;
+    }

@@ -1,0 +1,32 @@
+//! Runs of pairs.
+ghost use Rattle.std.specs.Prelude.{◌≡◌, ◌+◌, ◌<◌, ◌≤◌, ◌^◌, ◌-◌, [], length, IfOk, OnErr, vec_capacity};
+ghost use Rattle.rtc_steps.specs.Sizes.{steps_size};
+ghost use Rattle.rtc_course.specs.Fresh.{IsFresh};
+ghost use Rattle.rtc_course.specs.Runs.{Runs};
+
+use crate::Pair;
+use rtc_peer::Ids;
+use rtc_steps::{Reply, Step};
+use rtc_wire::Seq;
+use std::alloc::{AllocError, Global};
+
+/// Performs steps in order, each by the public calls of the acting peer, with a reply for each.
+///
+/// Room for the replies is made first: an error has left both peers as they were.
+pub fn run_pair<N: Ids>(
+    alloc: Global,
+    pair: &mut Pair<N>,
+    steps: &[Step],
+) -> Result<Seq<Reply>, AllocError>
+    requires fresh { IsFresh pair.old }
+    requires sizes { steps_size steps.now < 2 ^ 32 }
+    ensures runs { IfOk result (λ replies. Runs N.ids pair.old steps.now replies pair.new) }
+    ensures untouched { OnErr result (pair.new ≡ pair.old) }
+{
+    let mut replies = Vec::with_capacity(alloc, steps.len())?;
+    for step in steps {
+        let reply = pair.perform(step);
+        replies.push_reserved(reply);
+    }
+    Ok(Seq::new(replies))
+}

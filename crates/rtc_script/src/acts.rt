@@ -1,0 +1,45 @@
+//! What a line says behind its side.
+ghost use Rattle.std.specs.Prelude.{◌≡◌, IfOk, IfSome, IfNone, map};
+ghost use Rattle.rtc_script.specs.Lines.{IsAct};
+ghost use Rattle.rtc_steps.specs.Sides.{side_of};
+ghost use Rattle.rtc_steps.specs.declared.step.Step.{Step};
+
+use crate::numbers::{read_one, read_two};
+use crate::ops::read_ops;
+use rtc_steps::{Side, Step};
+use std::alloc::{AllocError, Global};
+
+/// The step of a side that a verb and the words behind it say.
+pub fn read_act(
+    alloc: Global,
+    at: Side,
+    verb: &[u8],
+    rest: &[&[u8]],
+) -> Result<Option<Step>, AllocError>
+    ensures some { IfOk result (λ read. IfSome read (λ step. (side_of step ≡ at) × IsAct verb.now (map (λ word. word.now) rest.now) step)) }
+    ensures none { IfOk result (λ read. IfNone read ((step : Step) → IsAct verb.now (map (λ word. word.now) rest.now) step → ⊥)) }
+{
+    if verb == b"offer".as_slice() {
+        return match read_ops(alloc, rest)? {
+            Some(ops) => Ok(Some(Step::Negotiate {
+                at,
+                ops,
+                apply: true,
+            })),
+            None => Ok(None),
+        };
+    }
+    if verb == b"accept".as_slice() {
+        return match read_one(rest) {
+            Some(offer) => Ok(Some(Step::AcceptOffer { at, offer })),
+            None => Ok(None),
+        };
+    }
+    if verb == b"answer".as_slice() {
+        return match read_two(rest) {
+            Some((token, answer)) => Ok(Some(Step::AcceptAnswer { at, token, answer })),
+            None => Ok(None),
+        };
+    }
+    Ok(None)
+}

@@ -1,0 +1,32 @@
+//! Lines of steps.
+ghost use Rattle.std.specs.Prelude.{◌≡◌, ◌≢◌, IfOk, IfSome, IfNone, map};
+ghost use Rattle.rtc_script.specs.Lines.{IsLine, AreStepWords};
+ghost use Rattle.rtc_steps.specs.declared.step.Step.{Step};
+
+use crate::acts::read_act;
+use crate::cutting::cut_words;
+use rtc_steps::Step;
+use rtc_words::read_side;
+use std::alloc::{AllocError, Global};
+
+fn read_words(alloc: Global, words: &[&[u8]]) -> Result<Option<Step>, AllocError>
+    ensures some { IfOk result (λ read. IfSome read (λ step. AreStepWords (map (λ word. word.now) words.now) step)) }
+    ensures none { IfOk result (λ read. IfNone read ((step : Step) → AreStepWords (map (λ word. word.now) words.now) step → ⊥)) }
+{
+    let [side, verb, rest @ ..] = words else {
+        return Ok(None);
+    };
+    let Some(at) = read_side(side) else {
+        return Ok(None);
+    };
+    read_act(alloc, at, verb, rest)
+}
+
+/// The step whose line it is.
+pub fn read_line(alloc: Global, line: &[u8]) -> Result<Option<Step>, AllocError>
+    ensures some { IfOk result (λ read. IfSome read (λ step. IsLine line.now step)) }
+    ensures none { IfOk result (λ read. IfNone read ((step : Step) → IsLine line.now step → ⊥)) }
+{
+    let words = cut_words(alloc, line)?;
+    read_words(alloc, words.as_slice())
+}

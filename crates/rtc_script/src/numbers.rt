@@ -1,0 +1,49 @@
+//! Numbers of a line.
+ghost use Rattle.std.specs.Prelude.{◌≡◌, ◌≢◌, ◌<◌, ◌^◌, ℕ, [], ◌∷◌, IfSome, IfNone, map};
+ghost use Rattle.std.specs.Fmt.{decimal};
+ghost use Rattle.rtc_script.specs.Lines.{AreNumbers};
+
+use rtc_fields::read_decimal;
+use std::str;
+
+// The number below 2^32 whose decimal a word is.
+fn read_u32(word: &[u8]) -> Option<u32>
+    ensures some { IfSome result (λ n. word.now ≡ decimal n) }
+    ensures none { IfNone result ((n : ℕ) → n < 2 ^ 32 → word.now ≢ decimal n) }
+{
+    let Ok(text) = str::from_utf8(word) else {
+        return None;
+    };
+    let n = read_decimal(text)?;
+    if n <= u32::MAX as u64 {
+        Some(n as u32)
+    } else {
+        None
+    }
+}
+
+/// The number that one word says.
+pub fn read_one(words: &[&[u8]]) -> Option<u32>
+    ensures some { IfSome result (λ n. AreNumbers (map (λ word. word.now) words.now) (n ∷ [])) }
+    ensures none { IfNone result ((n : ℕ) → AreNumbers (map (λ word. word.now) words.now) (n ∷ []) → ⊥) }
+{
+    match words {
+        [word] => read_u32(word),
+        _ => None,
+    }
+}
+
+/// The numbers that two words say.
+pub fn read_two(words: &[&[u8]]) -> Option<(u32, u32)>
+    ensures some { IfSome result (λ found. AreNumbers (map (λ word. word.now) words.now) (found.0 ∷ found.1 ∷ [])) }
+    ensures none { IfNone result ((m n : ℕ) → AreNumbers (map (λ word. word.now) words.now) (m ∷ n ∷ []) → ⊥) }
+{
+    match words {
+        [first, second] => {
+            let m = read_u32(first)?;
+            let n = read_u32(second)?;
+            Some((m, n))
+        }
+        _ => None,
+    }
+}

@@ -1,0 +1,116 @@
+//! Scripts and refused lines by hand.
+use crate::{ScriptError, read_script};
+use rtc_rows::{Direction, MediaKind};
+use rtc_steps::{Op, Side, Step};
+use rtc_wire::Seq;
+use std::alloc::{AllocError, Global};
+use std::test::Fail;
+
+fn offer(alloc: Global, at: Side, dir: Direction) -> Result<Step, AllocError> {
+    let mut ops = Seq::empty(alloc);
+    ops.push(Op::AddMedia {
+        kind: MediaKind::Audio,
+        dir,
+    })?;
+    Ok(Step::Negotiate {
+        at,
+        ops,
+        apply: true,
+    })
+}
+
+#[test]
+fn each_line_is_a_step(rt: HostRuntime) -> Result<(), Fail> {
+    let text =
+        b"str0m-pair 1\nL offer audio:sendrecv\nR offer audio:inactive\nR accept 0\nL answer 0 4294967295\n";
+    let script = read_script(rt.alloc(), text)?;
+    let steps = script.steps.as_slice();
+    assert_eq!(rt; steps.len(), 4);
+    assert_eq!(rt;
+        steps[0],
+        offer(rt.alloc(), Side::Left, Direction::SendRecv)?
+    );
+    assert_eq!(rt;
+        steps[1],
+        offer(rt.alloc(), Side::Right, Direction::Inactive)?
+    );
+    assert_eq!(rt;
+        steps[2],
+        Step::AcceptOffer {
+            at: Side::Right,
+            offer: 0
+        }
+    );
+    assert_eq!(rt;
+        steps[3],
+        Step::AcceptAnswer {
+            at: Side::Left,
+            token: 0,
+            answer: 4294967295
+        }
+    );
+    let script = read_script(rt.alloc(), b"str0m-pair 1\n")?;
+    assert!(rt; script.steps.is_empty());
+    Ok(())
+}
+
+const REFUSED: [(&str, u32); 20] = [
+    ("", 1),
+    ("\n", 1),
+    ("str0m-pair 1", 1),
+    (
+        "tr0m-pair 1\nR offer audio:sendonly\nL accept 0\nR answer 0 1\n",
+        1,
+    ),
+    ("str0m-pair 1\n\n", 2),
+    ("str0m-pair 1\nset L lite\n", 2),
+    ("str0m-pair 1\nR offer\n", 2),
+    ("str0m-pair 1\nR offer video:sendrecv\n", 2),
+    ("str0m-pair 1\nR offer audio:sendrecv audio:sendrecv\n", 2),
+    ("str0m-pair 1\nR accept 4294967296\n", 2),
+    ("str0m-pair 1\nR accept +1\n", 2),
+    (
+        "str0m-pair 1\nL accept 1\nL write 00 text 61\nR accept 0\nL answer 0 0\n",
+        3,
+    ),
+    (
+        "str0m-pair 1\nR answer 1 0\nR accept 1\nset L stats 0\nL offer audio:recvonly\n",
+        4,
+    ),
+    (
+        "str0m-pair 1\nL offer audio:sendrecv\nR accept 0\nL answer 0 1\nL offer restart:old\n",
+        5,
+    ),
+    (
+        "str0m-pair 1\nL offer audio:inactive\nR offer audio:sendonly\nL accept 1\nR accept 0\nL answer 0 3 \n",
+        6,
+    ),
+    (
+        "str0m-pair 1\nR offer audio:recvonly\nL accept 0\nR answer 0 1\nR accept 0\nL poll\t\n",
+        6,
+    ),
+    (
+        "str0m-pair 1\nR offer audio:sendonly\nL accept 0\nR answer 0 1\nL offer audio:recvonly\nL answer 01 1\n",
+        6,
+    ),
+    (
+        "str0m-pair 1\nR accept 0\nL offer audio:inactive\nR accept 0\nL answer 0 1\nR answer 0 0\nL offer\r\n",
+        7,
+    ),
+    (
+        "str0m-pair 1\nL offer audio:recvonly\nR offer audio:sendrecv\nL accept 1\nR answer 1 2\nL accept 1\nR answer 0 3\nL\n",
+        8,
+    ),
+    (
+        "str0m-pair 1\nL offer audio:sendonly\nR accept 0\nL answer 0 1\nR offer audio:recvonly\nL accept 2\nR answer 2 3\nL answer 1 1\nL answer 0 1",
+        9,
+    ),
+];
+
+#[test]
+fn first_bad_line_is_told(rt: HostRuntime) {
+    for (text, line) in REFUSED {
+        let answer = read_script(rt.alloc(), text.as_bytes());
+        assert_eq!(rt; answer.err(), Some(ScriptError::Line(line)), "{text}");
+    }
+}

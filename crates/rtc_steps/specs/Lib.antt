@@ -1,0 +1,5 @@
+pub mod Sides
+pub mod Memory
+pub mod Sizes
+pub mod Past
+pub mod Sound

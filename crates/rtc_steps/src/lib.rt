@@ -1,0 +1,20 @@
+//! Steps of two peers, what is replied to them, and what the replies may be.
+#![tactic(auto)]
+
+mod made;
+mod op;
+mod op_answer;
+mod outcome;
+mod reply;
+mod side;
+mod step;
+mod table;
+
+pub use made::Made;
+pub use op::Op;
+pub use op_answer::OpAnswer;
+pub use outcome::Outcome;
+pub use reply::{Reply, do_answers_lack};
+pub use side::Side;
+pub use step::Step;
+pub use table::Table;

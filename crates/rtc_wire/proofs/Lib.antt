@@ -1,0 +1,2 @@
+pub mod DcepOpenLemmas
+pub mod StandardFacts

@@ -1,0 +1,62 @@
+//! What a channel is opened with.
+ghost use Rattle.std.specs.Prelude.{◌≡◌, ℕ, [], true, not, IfOk};
+ghost use Rattle.std.specs.Prelude.{None};
+ghost use Rattle.rtc_wire.specs.ChannelConfig.{fresh, config_of};
+
+use crate::{DcepOpen, Reliability, Text, TryCopy};
+use std::alloc::{AllocError, Global};
+
+/// What a data channel is opened with (RFC 8832, section 5.1; W3C WebRTC, section 6.2).
+#[derive(Debug, PartialEq, Eq, Hash, Drop)]
+pub struct ChannelConfig {
+    pub label: Text,
+    pub ordered: bool,
+    pub reliability: Reliability,
+    /// The SCTP stream that both ends settled by other means; None where the open message settles it.
+    pub negotiated: Option<u16>,
+    pub protocol: Text,
+}
+
+impl ChannelConfig {
+    /// Ordered, reliable, announced by an open message, with no label and no protocol.
+    pub fn new(alloc: Global) -> ChannelConfig
+        ensures { result ≡ fresh }
+    {
+        ChannelConfig {
+            label: Text::new(String::new(alloc)),
+            ordered: true,
+            reliability: Reliability::default(),
+            negotiated: None,
+            protocol: Text::new(String::new(alloc)),
+        }
+    }
+
+    /// The config that an open message asks for.
+    pub fn from_open(d: &DcepOpen) -> Result<ChannelConfig, AllocError>
+        ensures { IfOk result (λ made. made ≡ config_of d.now) }
+    {
+        let label = d.label.copy()?;
+        let protocol = d.protocol.copy()?;
+        Ok(ChannelConfig {
+            label,
+            ordered: !d.unordered,
+            reliability: Reliability::from_parts(d.channel_type, d.reliability_parameter),
+            negotiated: None,
+            protocol,
+        })
+    }
+}
+
+impl TryCopy for ChannelConfig {
+    fn copy(&self) -> Result<ChannelConfig, AllocError> {
+        let label = self.label.copy()?;
+        let protocol = self.protocol.copy()?;
+        Ok(ChannelConfig {
+            label,
+            ordered: self.ordered,
+            reliability: self.reliability,
+            negotiated: self.negotiated,
+            protocol,
+        })
+    }
+}

@@ -1,0 +1,3 @@
+mod copies;
+mod datagrams;
+mod messages;

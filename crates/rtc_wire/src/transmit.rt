@@ -1,0 +1,11 @@
+//! Datagrams with their addresses.
+use crate::{Addr, DatagramSend, Protocol};
+
+/// A datagram to be sent, with the way that it goes.
+#[derive(Debug, PartialEq, Eq, Drop)]
+pub struct Transmit {
+    pub proto: Protocol,
+    pub source: Addr,
+    pub destination: Addr,
+    pub contents: DatagramSend,
+}

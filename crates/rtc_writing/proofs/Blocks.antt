@@ -1,0 +1,202 @@
+-- Groups of written lines, each with what its lines say.
+use Rattle.std.proofs.Common.{◌≡◌, ℕ, Bool, true, false, cond, eqb, List, [], ◌∷◌, ◌++◌, map, Option, Some, None, refl, sym, ap, ◌∙◌, length}
+use Rattle.std.specs.Prelude.{filter, IfSome}
+use Rattle.std.specs.List.{AllByRecursion, filter_map, count_by}
+use Rattle.std.proofs.lemmas.List.{map-append}
+use Rattle.std.proofs.lemmas.List.Elements.{filter_map-append, filter-append}
+use Rattle.std.proofs.lemmas.List.Sums.{length-filter}
+use Rattle.rtc_fields.specs.Fields.{first, or_else}
+use Rattle.rtc_fields.specs.Lines.{AreLines}
+use Rattle.rtc_fields.proofs.LineLemmas.{AreLines-append}
+use Rattle.rtc_items.specs.declared.attribute.Attribute.{Attribute}
+use Rattle.rtc_items.specs.declared.attribute.Attribute.TheVariants.{MidLine, GroupLine, SetupLine, DirectionLine}
+use Rattle.rtc_items.specs.declared.item.Item.{Item}
+use Rattle.rtc_items.specs.declared.item.Item.TheVariants.{Skipped, Says}
+use Rattle.rtc_items.specs.ItemForm.{item_of}
+use Rattle.rtc_items.proofs.LineLaws.{IsLineOf}
+use Rattle.rtc_reading.specs.Refusal.{is_malformed_in_session, is_malformed_in_line}
+use Rattle.rtc_writing.specs.Rows.{single, optional}
+
+-- ---- the table of attributes: a number for each
+abbrev pub attribute_tag : Attribute → ℕ
+attribute_tag (MidLine mid) = 1
+attribute_tag (GroupLine mids) = 2
+attribute_tag (SetupLine setup) = 3
+attribute_tag (DirectionLine dir) = 4
+
+-- that of the attribute that a line says
+abbrev pub tag_of : Item → ℕ
+tag_of (Says attribute) = attribute_tag attribute
+tag_of _ = 0
+
+-- a line inside of a part that no place refuses
+abbrev pub IsSaid : Item → Type 0
+IsSaid Skipped = Unit {0}
+IsSaid (Says attribute) = (is_malformed_in_session attribute ≡ false) × (is_malformed_in_line attribute ≡ false)
+IsSaid _ = ⊥
+
+-- ---- lines of one attribute
+pub record Block : Type 0 where
+  pub rows : List (List ℕ)
+  pub tag : ℕ
+  pub items : List Item
+  pub again : map item_of rows ≡ items
+  pub one : AreLines rows
+  pub said : AllByRecursion IsSaid items
+  pub tagged : AllByRecursion (λ item. tag_of item ≡ tag) items
+
+-- ---- kinds of blocks
+-- a line that is always there
+abbrev pub single_block : (tag : ℕ) (line : List ℕ) (item : Item) → IsLineOf line item → IsSaid item → tag_of item ≡ tag → Block
+single_block tag line item h said tagged = record {
+  rows = single line;
+  tag = tag;
+  items = item ∷ [];
+  again = ap (λ (i : Item). i ∷ []) h.again;
+  one = (h.one, tt);
+  said = (said, tt);
+  tagged = (tagged, tt);
+}
+
+abbrev pub items_if : {A : Type 0} → (A → Item) → Option A → List Item
+items_if item None = []
+items_if item (Some value) = item value ∷ []
+
+pub again_if : {A : Type 0} (line : A → List ℕ) (item : A → Item) (P : A → Type 0) → ((x : A) → P x → IsLineOf (line x) (item x)) → (value : Option A) → IfSome value P → map item_of (optional line value) ≡ items_if item value
+again_if line item P is None h = refl
+again_if line item P is (Some x) h = ap (λ (i : Item). i ∷ []) (is x h).again
+
+pub one_if : {A : Type 0} (line : A → List ℕ) (item : A → Item) (P : A → Type 0) → ((x : A) → P x → IsLineOf (line x) (item x)) → (value : Option A) → IfSome value P → AreLines (optional line value)
+one_if line item P is None h = tt
+one_if line item P is (Some x) h = ((is x h).one, tt)
+
+pub all_if : {A : Type 0} (item : A → Item) (Q : Item → Type 0) → ((x : A) → Q (item x)) → (value : Option A) → AllByRecursion Q (items_if item value)
+all_if item Q h None = tt
+all_if item Q h (Some x) = (h x, tt)
+
+-- a line where there is a value for it
+abbrev pub optional_block : {A : Type 0} (tag : ℕ) (line : A → List ℕ) (item : A → Item) (P : A → Type 0) → ((x : A) → P x → IsLineOf (line x) (item x)) → ((x : A) → IsSaid (item x)) → ((x : A) → tag_of (item x) ≡ tag) → (value : Option A) → IfSome value P → Block
+optional_block tag line item P is said tagged value h = record {
+  rows = optional line value;
+  tag = tag;
+  items = items_if item value;
+  again = again_if line item P is value h;
+  one = one_if line item P is value h;
+  said = all_if item IsSaid said value;
+  tagged = all_if item (λ i. tag_of i ≡ tag) tagged value;
+}
+
+pub again_each : {A : Type 0} (line : A → List ℕ) (item : A → Item) (P : A → Type 0) → ((x : A) → P x → IsLineOf (line x) (item x)) → (values : List A) → AllByRecursion P values → map item_of (map line values) ≡ map item values
+again_each line item P is [] h = refl
+again_each line item P is (x ∷ xs) h = rw ((is x h.0).again, again_each line item P is xs h.1) refl
+
+pub one_each : {A : Type 0} (line : A → List ℕ) (item : A → Item) (P : A → Type 0) → ((x : A) → P x → IsLineOf (line x) (item x)) → (values : List A) → AllByRecursion P values → AreLines (map line values)
+one_each line item P is [] h = tt
+one_each line item P is (x ∷ xs) h = ((is x h.0).one, one_each line item P is xs h.1)
+
+pub all_each : {A : Type 0} (item : A → Item) (Q : Item → Type 0) → ((x : A) → Q (item x)) → (values : List A) → AllByRecursion Q (map item values)
+all_each item Q h [] = tt
+all_each item Q h (x ∷ xs) = (h x, all_each item Q h xs)
+
+-- a line for each value
+abbrev pub list_block : {A : Type 0} (tag : ℕ) (line : A → List ℕ) (item : A → Item) (P : A → Type 0) → ((x : A) → P x → IsLineOf (line x) (item x)) → ((x : A) → IsSaid (item x)) → ((x : A) → tag_of (item x) ≡ tag) → (values : List A) → AllByRecursion P values → Block
+list_block tag line item P is said tagged values h = record {
+  rows = map line values;
+  tag = tag;
+  items = map item values;
+  again = again_each line item P is values h;
+  one = one_each line item P is values h;
+  said = all_each item IsSaid said values;
+  tagged = all_each item (λ i. tag_of i ≡ tag) tagged values;
+}
+
+-- ---- all blocks of a part
+abbrev pub rows_in : List Block → List (List ℕ)
+rows_in [] = []
+rows_in (block ∷ rest) = block.rows ++ rows_in rest
+
+abbrev pub items_in : List Block → List Item
+items_in [] = []
+items_in (block ∷ rest) = block.items ++ items_in rest
+
+pub rows_again : (blocks : List Block) → map item_of (rows_in blocks) ≡ items_in blocks
+rows_again [] = refl
+rows_again (block ∷ rest) = map-append item_of block.rows (rows_in rest) ∙ ap (λ (l : List Item). l ++ map item_of (rows_in rest)) block.again ∙ ap (λ (l : List Item). block.items ++ l) (rows_again rest)
+
+pub rows_one : (blocks : List Block) → AreLines (rows_in blocks)
+rows_one [] = tt
+rows_one (block ∷ rest) = AreLines-append block.rows (rows_in rest) block.one (rows_one rest)
+
+said_append : (xs ys : List Item) → AllByRecursion IsSaid xs → AllByRecursion IsSaid ys → AllByRecursion IsSaid (xs ++ ys)
+said_append [] ys h k = k
+said_append (x ∷ xs) ys h k = (h.0, said_append xs ys h.1 k)
+
+pub all_said : (blocks : List Block) → AllByRecursion IsSaid (items_in blocks)
+all_said [] = tt
+all_said (block ∷ rest) = said_append block.items (items_in rest) block.said (all_said rest)
+
+-- ---- looking for one attribute
+or_else_assoc : {B : Type 0} (a b c : Option B) → or_else a (or_else b c) ≡ or_else (or_else a b) c
+or_else_assoc None b c = refl
+or_else_assoc (Some x) b c = refl
+
+first-append : {B : Type 0} (gives : Item → Option B) (xs ys : List Item) → first gives (xs ++ ys) ≡ or_else (first gives xs) (first gives ys)
+first-append gives [] ys = refl
+first-append gives (x ∷ xs) ys = ap (or_else (gives x)) (first-append gives xs ys) ∙ or_else_assoc (gives x) (first gives xs) (first gives ys)
+
+-- the blocks of one attribute
+abbrev pub of_tag : ℕ → List Block → List Block
+of_tag tag blocks = filter (λ block. eqb block.tag tag) blocks
+
+-- what looks at one attribute alone
+abbrev pub LooksAt : {B : Type 0} → ℕ → (Item → Option B) → Type 0
+LooksAt tag gives = (item : Item) → eqb (tag_of item) tag ≡ false → gives item ≡ None
+
+module _ {B : Type 0} (tag : ℕ) (gives : Item → Option B) (looks : LooksAt tag gives) where
+  silent : (other : ℕ) → eqb other tag ≡ false → (xs : List Item) → AllByRecursion (λ item. tag_of item ≡ other) xs → first gives xs ≡ None
+  silent other ne [] h = refl
+  silent other ne (x ∷ xs) h = rw (looks x (rw h.0 ne), silent other ne xs h.1) refl
+
+  silent_all : (other : ℕ) → eqb other tag ≡ false → (xs : List Item) → AllByRecursion (λ item. tag_of item ≡ other) xs → filter_map gives xs ≡ []
+  silent_all other ne [] h = refl
+  silent_all other ne (x ∷ xs) h = rw (looks x (rw h.0 ne), silent_all other ne xs h.1) refl
+
+  -- the first is that of the blocks of the attribute
+  pub first_in : (blocks : List Block) → first gives (items_in blocks) ≡ first gives (items_in (of_tag tag blocks))
+  first_in [] = refl
+  first_in (block ∷ rest) = go (eqb block.tag tag) refl (first_in rest)
+    where
+      go : (test : Bool) → eqb block.tag tag ≡ test → first gives (items_in rest) ≡ first gives (items_in (of_tag tag rest)) → first gives (block.items ++ items_in rest) ≡ first gives (items_in (cond test (block ∷ of_tag tag rest) (of_tag tag rest)))
+      go true t ih = first-append gives block.items (items_in rest) ∙ ap (or_else (first gives block.items)) ih ∙ sym (first-append gives block.items (items_in (of_tag tag rest)))
+      go false t ih = first-append gives block.items (items_in rest) ∙ rw (silent block.tag t block.items block.tagged) ih
+
+  -- all are those of the blocks of the attribute
+  pub all_in : (blocks : List Block) → filter_map gives (items_in blocks) ≡ filter_map gives (items_in (of_tag tag blocks))
+  all_in [] = refl
+  all_in (block ∷ rest) = go (eqb block.tag tag) refl (all_in rest)
+    where
+      go : (test : Bool) → eqb block.tag tag ≡ test → filter_map gives (items_in rest) ≡ filter_map gives (items_in (of_tag tag rest)) → filter_map gives (block.items ++ items_in rest) ≡ filter_map gives (items_in (cond test (block ∷ of_tag tag rest) (of_tag tag rest)))
+      go true t ih = filter_map-append gives block.items (items_in rest) ∙ ap (λ (l : List B). filter_map gives block.items ++ l) ih ∙ sym (filter_map-append gives block.items (items_in (of_tag tag rest)))
+      go false t ih = filter_map-append gives block.items (items_in rest) ∙ rw (silent_all block.tag t block.items block.tagged) ih
+
+-- what tests one attribute alone
+abbrev pub TestsOnly : ℕ → (Item → Bool) → Type 0
+TestsOnly tag test = (item : Item) → eqb (tag_of item) tag ≡ false → test item ≡ false
+
+module _ (tag : ℕ) (test : Item → Bool) (tests : TestsOnly tag test) where
+  none_kept : (other : ℕ) → eqb other tag ≡ false → (xs : List Item) → AllByRecursion (λ item. tag_of item ≡ other) xs → filter test xs ≡ []
+  none_kept other ne [] h = refl
+  none_kept other ne (x ∷ xs) h = rw (tests x (rw h.0 ne), none_kept other ne xs h.1) refl
+
+  -- those that pass are those of the blocks of the attribute
+  pub kept_in : (blocks : List Block) → filter test (items_in blocks) ≡ filter test (items_in (of_tag tag blocks))
+  kept_in [] = refl
+  kept_in (block ∷ rest) = go (eqb block.tag tag) refl (kept_in rest)
+    where
+      go : (b : Bool) → eqb block.tag tag ≡ b → filter test (items_in rest) ≡ filter test (items_in (of_tag tag rest)) → filter test (block.items ++ items_in rest) ≡ filter test (items_in (cond b (block ∷ of_tag tag rest) (of_tag tag rest)))
+      go true t ih = filter-append test block.items (items_in rest) ∙ ap (λ (l : List Item). filter test block.items ++ l) ih ∙ sym (filter-append test block.items (items_in (of_tag tag rest)))
+      go false t ih = filter-append test block.items (items_in rest) ∙ rw (none_kept block.tag t block.items block.tagged) ih
+
+  -- how many pass
+  pub count_in : (blocks : List Block) → count_by test (items_in blocks) ≡ length (filter test (items_in (of_tag tag blocks)))
+  count_in blocks = sym (length-filter test (items_in blocks)) ∙ ap length (kept_in blocks)

@@ -1,0 +1,4 @@
+pub mod Orders
+pub mod Blocks
+pub mod LineBlocks
+pub mod Law

@@ -1,0 +1,19 @@
+use Rattle.std.proofs.Common.{◌∙◌}
+use Rattle.rtc_writing.proofs.Orders.{parts_are_written}
+use Rattle.rtc_writing.proofs.session_text.write.Goals as goal
+
+pub returns : goal.returns
+returns c =
+    c.new.ensures
+    ∙ rw (
+      c.in_ok-put_lines.ensures,
+      c.in_ok-push_str-3.ensures.bytes,
+      c.in_ok-put_group.ensures,
+      c.in_ok-push_str-2.ensures.bytes,
+      c.in_ok-put_origin.ensures,
+      c.in_ok-push_str.ensures.bytes,
+      c.new-out.ensures.bytes,
+      c.as_slice.ensures,
+      c.as_slice-2.ensures,
+    )
+    (parts_are_written c.args.sdp.now)

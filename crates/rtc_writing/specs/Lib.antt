@@ -1,0 +1,4 @@
+pub mod Rows
+pub mod LineRows
+pub mod SessionRows
+pub mod Plain

@@ -1,0 +1,86 @@
+//! Single lines, put behind a text.
+ghost use Rattle.std.specs.Prelude.{◌≡◌, ◌++◌, OnOk, string_bytes, []};
+ghost use Rattle.rtc_fields.specs.Lines.{crlf};
+ghost use Rattle.rtc_items.specs.LineTexts as spec;
+ghost use Rattle.rtc_writing.specs.SessionRows.{live_mids};
+
+use rtc_rows::{Direction, LineKind, MediaLine, Mid, Setup};
+use std::alloc::AllocError;
+use std::fmt::Write;
+
+#[tactic(auto, unfolding(rtc_items::specs::LineTexts::origin_line))]
+pub(crate) fn put_origin(out: &mut String, id: u64) -> Result<(), AllocError>
+    ensures { OnOk result (string_bytes out.new ≡ string_bytes out.old ++ crlf (spec.origin_line id)) }
+{
+    write!(out, "o=str0m {id} 2 IN IP4 0.0.0.0\r\n")
+}
+
+/// The BUNDLE group of the lines that are not disabled.
+#[tactic(auto, unfolding(rtc_items::specs::LineTexts::group_line))]
+pub(crate) fn put_group(out: &mut String, lines: &[MediaLine]) -> Result<(), AllocError>
+    ensures { OnOk result (string_bytes out.new ≡ string_bytes out.old ++ crlf (spec.group_line (live_mids lines.now))) }
+{
+    out.push_str("a=group:BUNDLE")?;
+    for line in lines {
+        if line.disabled {
+            continue;
+        }
+        let mid = line.mid.as_str();
+        write!(out, " {mid}")?;
+    }
+    out.push_str("\r\n")
+}
+
+#[tactic(auto, unfolding(rtc_items::specs::LineTexts::mid_line))]
+pub(crate) fn put_mid(out: &mut String, mid: Mid) -> Result<(), AllocError>
+    ensures { OnOk result (string_bytes out.new ≡ string_bytes out.old ++ crlf (spec.mid_line mid)) }
+{
+    out.push_str("a=mid:")?;
+    out.push_str(mid.as_str())?;
+    out.push_str("\r\n")
+}
+
+#[tactic(auto, unfolding(rtc_items::specs::LineTexts::setup_line))]
+pub(crate) fn put_setup(out: &mut String, setup: Setup) -> Result<(), AllocError>
+    ensures { OnOk result (string_bytes out.new ≡ string_bytes out.old ++ crlf (spec.setup_line setup)) }
+{
+    out.push_str(match setup {
+        Setup::ActPass => "a=setup:actpass\r\n",
+        Setup::Active => "a=setup:active\r\n",
+        Setup::Passive => "a=setup:passive\r\n",
+    })
+}
+
+#[tactic(auto, unfolding(rtc_items::specs::LineTexts::direction_line))]
+pub(crate) fn put_direction(out: &mut String, dir: Direction) -> Result<(), AllocError>
+    ensures { OnOk result (string_bytes out.new ≡ string_bytes out.old ++ crlf (spec.direction_line dir)) }
+{
+    out.push_str(match dir {
+        Direction::SendRecv => "a=sendrecv\r\n",
+        Direction::SendOnly => "a=sendonly\r\n",
+        Direction::RecvOnly => "a=recvonly\r\n",
+        Direction::Inactive => "a=inactive\r\n",
+    })
+}
+
+fn port_word(disabled: bool) -> &'static str
+    ensures { result.now ≡ spec.port_word disabled }
+{
+    if disabled { "0" } else { "9" }
+}
+
+#[tactic(auto, unfolding(rtc_items::specs::LineTexts::media_line))]
+pub(crate) fn put_media(out: &mut String, kind: LineKind, disabled: bool) -> Result<(), AllocError>
+    ensures { OnOk result (string_bytes out.new ≡ string_bytes out.old ++ crlf (spec.media_line kind disabled [])) }
+{
+    let port = port_word(disabled);
+    match kind {
+        LineKind::Audio => write!(out, "m=audio {port} UDP/TLS/RTP/SAVPF\r\n"),
+        LineKind::Video => write!(out, "m=video {port} UDP/TLS/RTP/SAVPF\r\n"),
+        LineKind::Application => {
+            write!(out, "m=application {port} UDP/DTLS/SCTP webrtc-datachannel\r\n")?;
+            Ok(())
+        }
+        LineKind::Unknown => write!(out, "m=unknown {port} UDP\r\n"),
+    }
+}
