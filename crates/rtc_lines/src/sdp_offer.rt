@@ -32,7 +32,7 @@ impl SdpOffer {
         ensures read_back { IsPlain self.now.0 → IfOk result (λ text. reading text ≡ Ok self.now.0) }
     {
         written_text_reads_back();
-        write(self.0.lines.allocator(), &self.0)
+        write(&self.0)
     }
 }
 

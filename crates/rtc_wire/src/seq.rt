@@ -2,7 +2,7 @@
 ghost use Rattle.std.specs.Prelude.{◌≡◌, ℕ, List, [], ◌∷◌, ◌++◌, IfOk, OnOk, OnErr, IsTrue, ◌↔◌, length};
 ghost use Rattle.std.specs.Cmp.Lexicographic.{pointwise, lists_per, lists_equiv};
 
-use crate::{TryCopy, copy_all};
+use crate::{Text, TryCopy, copy_all};
 use std::alloc::{AllocError, Global};
 use std::marker::Model;
 
@@ -76,9 +76,11 @@ impl<T> Seq<T> {
         self.items.clear();
     }
 
-    /// The allocator that memory for more values is taken from.
-    pub fn allocator(&self) -> Global {
-        *self.items.allocator()
+    /// A text without a byte, which takes memory from where this list does.
+    pub fn empty_text(&self) -> Text
+        ensures { result ≡ [] }
+    {
+        Text::new(String::new(*self.items.allocator()))
     }
 
     /// The vector inside.

@@ -6,14 +6,14 @@ use crate::line_text::{put_group, put_origin};
 use crate::media_text::put_lines;
 use rtc_rows::Sdp;
 use rtc_wire::Text;
-use std::alloc::{AllocError, Global};
+use std::alloc::AllocError;
 
 /// The text of a value (RFC 8866, section 5). Each value has one; those of the session and what is None are not written.
 #[tactic(auto, unfolding(crate::specs::SessionRows::written))]
-pub fn write(alloc: Global, sdp: &Sdp) -> Result<Text, AllocError>
+pub fn write(sdp: &Sdp) -> Result<Text, AllocError>
     ensures { IfOk result (λ text. text ≡ spec.written sdp.now) }
 {
-    let mut out = String::new(alloc);
+    let mut out = sdp.lines.empty_text().into_string();
     out.push_str("v=0\r\n")?;
     put_origin(&mut out, sdp.id)?;
     out.push_str("s=-\r\nt=0 0\r\n")?;

@@ -12,7 +12,8 @@ returns c =
       c.in_ok-push_str-2.ensures.bytes,
       c.in_ok-put_origin.ensures,
       c.in_ok-push_str.ensures.bytes,
-      c.new-out.ensures.bytes,
+      c.into_string-out.ensures,
+      c.empty_text.ensures,
       c.as_slice.ensures,
       c.as_slice-2.ensures,
     )
