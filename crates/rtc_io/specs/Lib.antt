@@ -2,5 +2,6 @@ pub mod Faults
 pub mod Feed
 pub mod MemSink
 pub mod MemSource
+pub mod Saying
 pub mod Tape
 pub mod Writing

@@ -4,6 +4,7 @@
 mod mem_sink;
 mod mem_source;
 mod reading;
+mod saying;
 mod sink;
 mod source;
 mod std_sink;
@@ -15,6 +16,7 @@ mod writing;
 pub use mem_sink::MemSink;
 pub use mem_source::MemSource;
 pub use reading::{INPUT_LIMIT, ReadError, read_all};
+pub use saying::{SINK_FAILED, say};
 pub use sink::{Sink, WriteFailed};
 pub use source::{ReadFailed, Source};
 pub use std_sink::StdSink;

@@ -7,13 +7,8 @@ use Rattle.rtc_script.specs.Script.{IsScript, IsRefused}
 use Rattle.rtc_script.specs.declared.script_error.ScriptError.{ScriptError}
 use Rattle.rtc_script.specs.declared.script_error.ScriptError.TheVariants.{Line}
 use Rattle.rtc_course.specs.PairState.{PairState}
-use Rattle.rtc_pair.specs.Answers.{PerformsSteps, RunsScript, RefusesScript, IfTold, refused_line}
-
--- a source that is at its end gave all that it had
-told : (a b : Option (List ℕ)) (bytes : List ℕ) (P : List ℕ → Type 0) → Consumes a b bytes → IsAtEnd b → P bytes → IfTold a P
-told None b bytes P p q h = tt
-told (Some x) None bytes P p q h = absurd p
-told (Some x) (Some y) bytes P p q h = subst P (sym (p ∙ ap (λ (l : List ℕ). bytes ++ l) q ∙ append-nil bytes)) h
+use Rattle.rtc_io.proofs.Told.{told}
+use Rattle.rtc_pair.specs.Answers.{PerformsSteps, RunsScript, RefusesScript, refused_line}
 
 pub runs_script : (alloc : Global) (lacking : Bool) (a b written written' : Option (List ℕ)) (last : Option (PairState ℕ)) (bytes slice : List ℕ) (steps performed : List Step) → Consumes a b bytes → IsAtEnd b → length bytes ≤ 2 ^ 20 → slice ≡ bytes → IsScript slice steps → performed ≡ steps → PerformsSteps alloc lacking performed written written' last → RunsScript alloc lacking a b written written' last
 runs_script alloc lacking a b written written' last bytes slice steps performed taken ended short same script steps_are performs =

@@ -4,8 +4,7 @@ use Rattle.std.specs.List.{list_any}
 use Rattle.std.specs.Fmt.{decimal}
 use Rattle.std.specs.declared.alloc.Global.{Global}
 use Rattle.std.specs.Io.KnownBytes.{Appends, IsAtEnd}
-use Rattle.rtc_io.specs.Faults.{Rose}
-use Rattle.rtc_io.specs.Writing.{AppendsFront}
+use Rattle.rtc_io.specs.Saying.{IfTold}
 use Rattle.rtc_steps.specs.declared.step.Step.{Step}
 use Rattle.rtc_steps.specs.declared.reply.Reply.{Reply}
 use Rattle.rtc_steps.specs.Memory.{lacks_memory}
@@ -19,11 +18,6 @@ use Rattle.rtc_pair.specs.Program.{counting, program_pair}
 -- the words of a run
 abbrev pub run_words : List (List ℕ)
 run_words = codes "run" ∷ []
-
--- a fact of what a source had left, where it tells that
-abbrev pub IfTold : Option (List ℕ) → (List ℕ → Type 0) → Type 0
-IfTold None P = Unit {0}
-IfTold (Some text) P = P text
 
 -- whether a reply tells a want of memory
 abbrev pub lack_memory : List Reply → Bool
@@ -63,8 +57,3 @@ pub record RefusesScript (left left' written written' : Option (List ℕ)) : Typ
   pub at_end : IsAtEnd left'
   pub refused : IfTold left (λ text. (length text ≤ 2 ^ 20) × IsRefused text (Line line))
   pub told : Appends written written' (refused_line line)
-
--- A text was written and this is the status; or the sink failed behind a front of it, and the status is 5.
-abbrev pub Says : ℕ → List ℕ → Option (List ℕ) → Option (List ℕ) → ℕ → ℕ → ℕ → Type 0
-Says status text written written' faults faults' result =
-    ((result ≡ status) × Appends written written' text) ⊎ ((result ≡ 5) × Rose faults faults' × AppendsFront written written' text)

@@ -1,11 +1,7 @@
 //! Lines that the program answers.
-ghost use Rattle.std.specs.Prelude.{◌≡◌, ◌≤◌, ◌⊎◌, ◌↔◌, ◌++◌, IsTrue, IfOk, map, codes, string_bytes};
-ghost use Rattle.std.specs.Io.KnownBytes.{Appends};
-ghost use Rattle.rtc_io.specs.Faults.{Rose};
-ghost use Rattle.rtc_io.specs.Writing.{AppendsFront};
-ghost use Rattle.rtc_pair.specs.Answers.{run_words, refused_line, Says};
+ghost use Rattle.std.specs.Prelude.{◌≡◌, ◌↔◌, IsTrue, IfOk, map, string_bytes};
+ghost use Rattle.rtc_pair.specs.Answers.{run_words, refused_line};
 
-use rtc_io::{Sink, write_all};
 use std::alloc::{AllocError, Global};
 
 /// Whether the words ask for a run.
@@ -15,16 +11,6 @@ pub fn ask_for_run(words: &[String]) -> bool
     match words.split_first() {
         Some((word, rest)) => rest.is_empty() && word.as_str() == "run",
         None => false,
-    }
-}
-
-/// Writes a text, and answers a status; 5 where the sink fails.
-pub fn say<W: Sink>(output: &mut W, text: &[u8], status: u8) -> u8
-    ensures { Says status text.now (W.written output.old) (W.written output.new) (W.faults output.old) (W.faults output.new) result }
-{
-    match write_all(output, text) {
-        Ok(()) => status,
-        Err(_) => 5,
     }
 }
 

@@ -5,9 +5,9 @@ ghost use Rattle.rtc_io.specs.Faults.{Rose};
 ghost use Rattle.rtc_steps.specs.Sizes.{steps_size};
 ghost use Rattle.rtc_pair.specs.Answers.{run_words, PerformsSteps, RunsScript, RefusesScript, lack_memory, refused_line, usage_line};
 
-use crate::answering::{ask_for_run, list_refusal, say};
+use crate::answering::{ask_for_run, list_refusal};
 use crate::program::{PlainPair, make_pair};
-use rtc_io::{INPUT_LIMIT, ReadError, Sink, Source, read_all, write_all};
+use rtc_io::{INPUT_LIMIT, ReadError, SINK_FAILED, Sink, Source, read_all, say, write_all};
 use rtc_report::write_report;
 use rtc_run::run_pair;
 use rtc_script::{ScriptError, read_script};
@@ -49,7 +49,7 @@ fn perform_script<W: Sink>(
         return 6;
     };
     if write_all(output, text.as_slice()).is_err() {
-        return 5;
+        return SINK_FAILED;
     }
     *last = Some(pair);
     if lack_memory(replies.as_slice()) {

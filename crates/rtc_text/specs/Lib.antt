@@ -1,0 +1,4 @@
+pub mod Asking
+pub mod Repair
+pub mod Rewrite
+pub mod Answers
