@@ -14,3 +14,6 @@ pub use accepting::{accept_answer, accept_offer};
 pub use applying::apply_staged;
 pub use building::build_peer;
 pub use staging::stage_media;
+
+#[cfg(test)]
+mod tests;

@@ -27,3 +27,6 @@ fn main(rt: HostRuntime) -> io::Result<ExitCode> {
     let status = pair_main(alloc, words.as_slice(), &mut input, &mut output, &mut last);
     Ok(ExitCode::from(status))
 }
+
+#[cfg(test)]
+mod tests;

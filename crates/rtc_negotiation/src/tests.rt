@@ -1,0 +1,52 @@
+//! Peers that the tests speak of.
+ghost use Rattle.std.specs.Prelude.{◌+◌, ◌<◌, IsTrue, length};
+
+mod rounds;
+mod stagings;
+
+use crate::{apply_staged, build_peer, stage_media};
+use rtc_lines::SdpOffer;
+use rtc_peer_state::{CountIds, Peer, RtcConfig};
+use rtc_plan::SdpPendingOffer;
+use rtc_rows::{Direction, MediaKind};
+use rtc_wire::Moment;
+use std::alloc::{AllocError, Global};
+
+// A peer whose numbers count up from `first`, with the certificate abc.
+fn made(alloc: Global, first: u64) -> Result<Peer<CountIds>, AllocError> {
+    let mut cert = Vec::new(alloc);
+    cert.extend_from_slice(b"abc")?;
+    let config = RtcConfig::new(alloc)?.set_dtls_cert(cert);
+    build_peer(alloc, config, Moment::FAR_PAST, CountIds::starting(first))
+}
+
+// Whether a peer has few rows and staged lines, as each peer of these tests does.
+fn is_small(peer: &Peer<CountIds>) -> bool
+    ensures { IsTrue result → length peer.now.lines + length peer.now.staged < 200 }
+{
+    peer.lines.rows().len() < 100 && peer.staged.len() < 100
+}
+
+// Stages a line that has no names of its own.
+fn stage(peer: &mut Peer<CountIds>, kind: MediaKind, dir: Direction) -> Result<(), AllocError> {
+    if !is_small(peer) {
+        return Err(AllocError);
+    }
+    stage_media(peer, kind, dir, None, None, None)?;
+    Ok(())
+}
+
+// The offer of an audio line, with its token.
+fn offer_line(
+    peer: &mut Peer<CountIds>,
+    dir: Direction,
+) -> Result<(SdpOffer, SdpPendingOffer), AllocError> {
+    stage(peer, MediaKind::Audio, dir)?;
+    if !is_small(peer) {
+        return Err(AllocError);
+    }
+    match apply_staged(peer)? {
+        Some(made) => Ok(made),
+        None => Err(AllocError),
+    }
+}
