@@ -82,7 +82,7 @@ length-added_rows place (change ∷ changes) = grind (arith, length-added_rows (
 length-offer : {N : Type 0} (p : Peer N) → length (offer_text p).lines ≡ length p.lines + length p.staged
 unfolding offer_text
 length-offer p =
-    length-map (offered_rows p) (row_line p.creds ActPass) ∙ length-append p.lines (added_rows (length p.lines) p.staged)
+    length-map (offered_rows p) (row_line p.identity ActPass) ∙ length-append p.lines (added_rows (length p.lines) p.staged)
     ∙ ap (λ n. length p.lines + n) (length-added_rows (length p.lines) p.staged)
 
 -- what is staged is not applied, or nothing is

@@ -57,7 +57,7 @@ taken_within rows text offer size few_rows few_lines = omega (arith, length_take
 
 length-answer : {N : Type 0} (p : Peer N) (text : Sdp) → length (answer_text p text).lines ≡ length (taken p.lines (said_lines text) true)
 unfolding answer_text
-length-answer p text = length-map (taken p.lines (said_lines text) true) (row_line p.creds Passive)
+length-answer p text = length-map (taken p.lines (said_lines text) true) (row_line p.identity Passive)
 
 here : (at : Side) (b : Bool) → b ≡ true → (same_side at at && b) ≡ true
 here at b is = rw (same_side-self at, is) refl

@@ -86,7 +86,7 @@ pub fn accept_offer<N: Ids>(peer: &mut Peer<N>, offer: SdpOffer) -> Result<SdpAn
     let Ok(answer) = say_text(
         alloc,
         peer.session_id,
-        &peer.creds,
+        &peer.identity,
         Setup::Passive,
         plan.rows.as_slice(),
     ) else {

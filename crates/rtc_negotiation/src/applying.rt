@@ -27,7 +27,7 @@ pub fn apply_staged<N>(
     let text = say_text(
         alloc,
         peer.session_id,
-        &peer.creds,
+        &peer.identity,
         Setup::ActPass,
         rows.as_slice(),
     )?;

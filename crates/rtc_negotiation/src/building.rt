@@ -1,11 +1,11 @@
 //! Peers that are built.
 ghost use Rattle.std.specs.Prelude.{◌≡◌, ◌++◌, ◌<◌, ◌≤◌, ◌^◌, ◌/◌, ◌%◌, IfOk, OnOk, string_bytes, ℕ};
-ghost use Rattle.rtc_peer_state.specs.Built.{hex_digit, hex_digits, drawn_creds, number_bytes, built, cert_or, after_cert};
+ghost use Rattle.rtc_peer_state.specs.Built.{hex_digit, hex_digits, drawn_creds, fingerprint_of, number_bytes, built, cert_or, after_cert};
 ghost use Rattle.std.specs.Option.{option_copied};
 
-use rtc_peer_state::{Ids, Peer, RtcConfig};
+use rtc_peer_state::{Identity, Ids, Peer, RtcConfig};
 use rtc_plan::Lines;
-use rtc_rows::IceCreds;
+use rtc_rows::{Fingerprint, IceCreds};
 use rtc_wire::{Bytes, Moment, Seq, Text, TryCopy};
 use std::alloc::{AllocError, Global};
 
@@ -80,6 +80,16 @@ fn make_cert<N: Ids>(alloc: Global, ids: &mut N, given: Option<&[u8]>) -> Result
     }
 }
 
+// The fingerprint of a certificate.
+fn hash_cert(alloc: Global, cert: &[u8]) -> Result<Fingerprint, AllocError>
+    ensures { IfOk result (λ made. made ≡ fingerprint_of cert.now) }
+{
+    match Fingerprint::of_certificate(alloc, cert, "sha-256")? {
+        Some(fingerprint) => Ok(fingerprint),
+        None => unreachable!(),
+    }
+}
+
 /// A peer with no rows, as its config says: the number of its session and its credentials are drawn.
 pub fn build_peer<N: Ids + Drop>(
     alloc: Global,
@@ -93,13 +103,14 @@ pub fn build_peer<N: Ids + Drop>(
     let session_id = ids.draw();
     let creds = make_creds(alloc, ids.draw())?;
     let cert = make_cert(alloc, &mut ids, config.dtls_cert())?;
+    let fingerprint = hash_cert(alloc, cert.as_slice())?;
     Ok(Peer {
         alloc,
         lines: Lines::new(alloc),
         staged: Seq::empty(alloc),
         counter: 0,
         session_id,
-        creds,
+        identity: Identity { creds, fingerprint },
         cert,
         sources: Seq::empty(alloc),
         greatest: start,

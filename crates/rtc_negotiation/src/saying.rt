@@ -3,8 +3,9 @@ ghost use Rattle.std.specs.Prelude.{◌≡◌, ◌+◌, ◌++◌, ◌<◌, ◌^�
 ghost use Rattle.rtc_plan.specs.PendingOffer.{added_rows};
 ghost use Rattle.rtc_peer_state.specs.Texts.{is_stopped, bare_line, row_line, line_kind, live_mids, text_of};
 
+use rtc_peer_state::Identity;
 use rtc_plan::Change;
-use rtc_rows::{Direction, IceCreds, LineKind, LineRow, MediaKind, MediaLine, Mid, Sdp, Setup};
+use rtc_rows::{Direction, LineKind, LineRow, MediaKind, MediaLine, Mid, Sdp, Setup};
 use rtc_wire::{LOCAL_MAX_MESSAGE_SIZE, Seq, TryCopy};
 use std::alloc::{AllocError, Global};
 
@@ -28,7 +29,7 @@ fn is_stopped_row(row: &LineRow) -> bool
 
 fn say_line(
     alloc: Global,
-    creds: IceCreds,
+    identity: Identity,
     setup: Setup,
     kind: LineKind,
     disabled: bool,
@@ -36,7 +37,7 @@ fn say_line(
     dir: Direction,
     most: Option<u64>,
 ) -> MediaLine
-    ensures { result ≡ bare_line creds setup kind disabled mid dir most }
+    ensures { result ≡ bare_line identity setup kind disabled mid dir most }
 {
     MediaLine {
         kind,
@@ -44,8 +45,8 @@ fn say_line(
         mid,
         dir,
         candidates: Seq::empty(alloc),
-        creds: Some(creds),
-        fingerprint: None,
+        creds: Some(identity.creds),
+        fingerprint: Some(identity.fingerprint),
         setup: Some(setup),
         payloads: Seq::empty(alloc),
         exts: Seq::empty(alloc),
@@ -61,13 +62,13 @@ fn say_line(
 // The m-line that says a row.
 fn say_row(
     alloc: Global,
-    creds: &IceCreds,
+    identity: &Identity,
     setup: Setup,
     row: &LineRow,
 ) -> Result<MediaLine, AllocError>
-    ensures { IfOk result (λ line. line ≡ row_line creds.now setup row.now) }
+    ensures { IfOk result (λ line. line ≡ row_line identity.now setup row.now) }
 {
-    let creds = creds.copy()?;
+    let identity = identity.copy()?;
     match row {
         LineRow::Media {
             mid,
@@ -77,11 +78,11 @@ fn say_row(
             ..
         } => {
             let kind = kind_of_line(*kind);
-            Ok(say_line(alloc, creds, setup, kind, *stopped, *mid, *dir, None))
+            Ok(say_line(alloc, identity, setup, kind, *stopped, *mid, *dir, None))
         }
         LineRow::App { mid, .. } => Ok(say_line(
             alloc,
-            creds,
+            identity,
             setup,
             LineKind::Application,
             false,
@@ -94,15 +95,15 @@ fn say_row(
 
 fn say_rows(
     alloc: Global,
-    creds: &IceCreds,
+    identity: &Identity,
     setup: Setup,
     rows: &[LineRow],
 ) -> Result<Seq<MediaLine>, AllocError>
-    ensures { IfOk result (λ lines. lines ≡ map (row_line creds.now setup) rows.now) }
+    ensures { IfOk result (λ lines. lines ≡ map (row_line identity.now setup) rows.now) }
 {
     let mut lines = Vec::new(alloc);
     for row in rows {
-        let line = say_row(alloc, creds, setup, row)?;
+        let line = say_row(alloc, identity, setup, row)?;
         lines.push(line)?;
     }
     Ok(Seq::new(lines))
@@ -125,16 +126,16 @@ fn list_live_mids(alloc: Global, rows: &[LineRow]) -> Result<Seq<Mid>, AllocErro
 pub fn say_text(
     alloc: Global,
     session: u64,
-    creds: &IceCreds,
+    identity: &Identity,
     setup: Setup,
     rows: &[LineRow],
 ) -> Result<Sdp, AllocError>
-    ensures { IfOk result (λ text. text ≡ text_of session creds.now setup rows.now) }
+    ensures { IfOk result (λ text. text ≡ text_of session identity.now setup rows.now) }
 {
     let group = list_live_mids(alloc, rows)?;
     let mut groups = Seq::empty(alloc);
     groups.push(group)?;
-    let lines = say_rows(alloc, creds, setup, rows)?;
+    let lines = say_rows(alloc, identity, setup, rows)?;
     Ok(Sdp {
         id: session,
         groups,

@@ -11,12 +11,12 @@ use Rattle.rtc_rows.specs.declared.direction.Direction.{Direction}
 use Rattle.rtc_rows.specs.declared.direction.Direction.TheVariants.{SendRecv}
 use Rattle.rtc_rows.specs.declared.setup.Setup.{Setup}
 use Rattle.rtc_rows.specs.declared.setup.Setup.TheVariants.{ActPass, Passive}
-use Rattle.rtc_rows.specs.declared.ice_creds.IceCreds.{IceCreds}
 use Rattle.rtc_rows.specs.declared.media_line.MediaLine.{MediaLine}
 use Rattle.rtc_rows.specs.declared.sdp.Sdp.{Sdp}
 use Rattle.rtc_plan.specs.PendingOffer.{added_rows}
 use Rattle.rtc_plan.specs.SaidLines.{said_lines}
 use Rattle.rtc_plan.specs.Taken.{taken}
+use Rattle.rtc_peer_state.specs.declared.identity.Identity.{Identity}
 use Rattle.rtc_peer_state.specs.declared.peer.Peer.{Peer}
 
 abbrev pub is_stopped : LineRow → Bool
@@ -27,16 +27,16 @@ abbrev pub line_kind : MediaKind → LineKind
 line_kind Audio = AudioLine
 line_kind Video = VideoLine
 
--- an m-line with the credentials and the role of its peer, and nothing else
-abbrev pub bare_line : IceCreds → Setup → LineKind → Bool → List ℕ → Direction → Option ℕ → MediaLine
-bare_line creds setup kind disabled mid dir most = record {
+-- an m-line with the credentials, the fingerprint and the role of its peer, and nothing else
+abbrev pub bare_line : Identity → Setup → LineKind → Bool → List ℕ → Direction → Option ℕ → MediaLine
+bare_line identity setup kind disabled mid dir most = record {
   kind = kind;
   disabled = disabled;
   mid = mid;
   dir = dir;
   candidates = [];
-  creds = Some creds;
-  fingerprint = None;
+  creds = Some identity.creds;
+  fingerprint = Some identity.fingerprint;
   setup = Some setup;
   payloads = [];
   exts = [];
@@ -49,24 +49,24 @@ bare_line creds setup kind disabled mid dir most = record {
 }
 
 -- the m-line that says a row; the data channels take messages of up to 262144 bytes
-abbrev pub row_line : IceCreds → Setup → LineRow → MediaLine
-row_line creds setup (Media place mid kind dir stopped remote_created) = bare_line creds setup (line_kind kind) stopped mid dir None
-row_line creds setup (App place mid) = bare_line creds setup Application false mid SendRecv (Some 262144)
+abbrev pub row_line : Identity → Setup → LineRow → MediaLine
+row_line identity setup (Media place mid kind dir stopped remote_created) = bare_line identity setup (line_kind kind) stopped mid dir None
+row_line identity setup (App place mid) = bare_line identity setup Application false mid SendRecv (Some 262144)
 
 -- the mids of the BUNDLE group: those of the rows that are not stopped (RFC 8843, section 7)
 abbrev pub live_mids : List LineRow → List (List ℕ)
 live_mids rows = map row_mid (filter (λ row. not (is_stopped row)) rows)
 
 -- the text that says rows
-abbrev pub text_of : ℕ → IceCreds → Setup → List LineRow → Sdp
-text_of session creds setup rows = record {
+abbrev pub text_of : ℕ → Identity → Setup → List LineRow → Sdp
+text_of session identity setup rows = record {
   id = session;
   groups = live_mids rows ∷ [];
   ice_lite = false;
   creds = None;
   fingerprint = None;
   setup = None;
-  lines = map (row_line creds setup) rows;
+  lines = map (row_line identity setup) rows;
 }
 
 -- the rows that an offer says: those that are there, then those that it adds
@@ -75,8 +75,8 @@ offered_rows p = p.lines ++ added_rows (length p.lines) p.staged
 
 -- the offer of what is staged: either side may take either DTLS role (RFC 8842, section 5.2)
 unfoldable pub offer_text : {N : Type 0} → Peer N → Sdp
-offer_text p = text_of p.session_id p.creds ActPass (offered_rows p)
+offer_text p = text_of p.session_id p.identity ActPass (offered_rows p)
 
 -- the answer to an offer that is taken: this side waits for the DTLS handshake (RFC 8842, section 5.3)
 unfoldable pub answer_text : {N : Type 0} → Peer N → Sdp → Sdp
-answer_text p offer = text_of p.session_id p.creds Passive (taken p.lines (said_lines offer) true)
+answer_text p offer = text_of p.session_id p.identity Passive (taken p.lines (said_lines offer) true)

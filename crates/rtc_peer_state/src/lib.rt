@@ -2,6 +2,7 @@
 #![tactic(auto)]
 
 mod count_ids;
+mod identity;
 mod ids;
 mod line_sources;
 mod peer;
@@ -9,6 +10,7 @@ mod rtc_config;
 mod rtc_error;
 
 pub use count_ids::CountIds;
+pub use identity::Identity;
 pub use ids::Ids;
 pub use line_sources::LineSources;
 pub use peer::Peer;

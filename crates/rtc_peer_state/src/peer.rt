@@ -1,7 +1,6 @@
 //! The state of a peer.
-use crate::LineSources;
+use crate::{Identity, LineSources};
 use rtc_plan::{Change, Lines};
-use rtc_rows::IceCreds;
 use rtc_wire::{Bytes, Moment, Seq};
 use std::alloc::Global;
 
@@ -16,7 +15,7 @@ pub struct Peer<N> {
     pub counter: u64,
     /// The number of the session, of the `o=` line.
     pub session_id: u64,
-    pub creds: IceCreds,
+    pub identity: Identity,
     pub cert: Bytes,
     /// The sources of the lines that have some.
     pub sources: Seq<LineSources>,

@@ -11,8 +11,8 @@ use std::test::Fail;
 // Whether a peer is as it was built from numbers that count up from 1.
 fn is_built(peer: &Peer<CountIds>, cert: &[u8]) -> bool {
     peer.session_id == 1
-        && peer.creds.ufrag.as_str() == "u0000000000000002"
-        && peer.creds.pass.as_str() == "00000000000000020000000000000002"
+        && peer.identity.creds.ufrag.as_str() == "u0000000000000002"
+        && peer.identity.creds.pass.as_str() == "00000000000000020000000000000002"
         && peer.cert.as_slice() == cert
 }
 
