@@ -78,7 +78,10 @@ pub(crate) fn put_media(out: &mut String, kind: LineKind, disabled: bool) -> Res
         LineKind::Audio => write!(out, "m=audio {port} UDP/TLS/RTP/SAVPF\r\n"),
         LineKind::Video => write!(out, "m=video {port} UDP/TLS/RTP/SAVPF\r\n"),
         LineKind::Application => {
-            write!(out, "m=application {port} UDP/DTLS/SCTP webrtc-datachannel\r\n")?;
+            write!(
+                out,
+                "m=application {port} UDP/DTLS/SCTP webrtc-datachannel\r\n"
+            )?;
             Ok(())
         }
         LineKind::Unknown => write!(out, "m=unknown {port} UDP\r\n"),
