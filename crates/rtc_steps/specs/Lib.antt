@@ -3,3 +3,7 @@ pub mod Memory
 pub mod Sizes
 pub mod Past
 pub mod Sound
+pub mod Finished
+pub mod SaidRows
+pub mod Rounds
+pub mod SoundEntry
