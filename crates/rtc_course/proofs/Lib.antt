@@ -8,5 +8,14 @@ pub mod Around
 pub mod OfferSteps
 pub mod AnswerSteps
 pub mod NegotiateSteps
+pub mod SaidTexts
+pub mod MakesTexts
+pub mod FinishedRows
+pub mod AnswerCounts
+pub mod PastTables
+pub mod PastOffers
+pub mod PastRows
+pub mod PastAnswers
+pub mod FinishedRounds
 pub mod Reaches
 pub mod MoreSteps
