@@ -51,7 +51,7 @@ row_known : (offerer : List LineRow) (row : LineRow) → row_of offerer (row_mid
 row_known offerer (Media place mid kind dir stopped remote_created) found = inl found
 row_known offerer (App place mid) found = tt
 
-none_of_mid : (rows : List LineRow) (mid : List ℕ) (found : Option LineRow) → row_of rows mid ≡ found → has_mid mid rows ≡ false → found ≡ None
+pub none_of_mid : (rows : List LineRow) (mid : List ℕ) (found : Option LineRow) → row_of rows mid ≡ found → has_mid mid rows ≡ false → found ≡ None
 none_of_mid rows mid None is none = refl
 none_of_mid rows mid (Some row) is none = absurd (let e : has_mid mid rows ≡ true = rw (has_mid_row_of rows mid, is) refl in both_ways (has_mid mid rows) none e)
 

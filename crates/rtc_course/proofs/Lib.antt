@@ -17,5 +17,6 @@ pub mod PastOffers
 pub mod PastRows
 pub mod PastAnswers
 pub mod FinishedRounds
+pub mod RowsFollow
 pub mod Reaches
 pub mod MoreSteps

@@ -4,6 +4,7 @@ use Rattle.std.specs.Prelude.{slice_get}
 use Rattle.std.proofs.Math.Seq.{drop-append_seam, drop-length}
 use Rattle.std.proofs.lemmas.List.{drop_all}
 use Rattle.rtc_rows.specs.LineRow.{row_mid}
+use Rattle.rtc_rows.specs.Sdp.{inconsistency}
 use Rattle.rtc_rows.specs.declared.line_row.LineRow.{LineRow}
 use Rattle.rtc_rows.specs.declared.sdp.Sdp.{Sdp}
 use Rattle.rtc_rows.specs.declared.setup.Setup.TheVariants.{ActPass, Passive}
@@ -30,12 +31,12 @@ use Rattle.rtc_steps.specs.Memory.{answers_lack}
 use Rattle.rtc_steps.specs.Sides.{side_of}
 use Rattle.rtc_steps.specs.Past.{Entry, Said, before, rows_or, added}
 use Rattle.rtc_steps.specs.Sound.{OpsAnswered, IsSound}
-use Rattle.rtc_steps.specs.SaidRows.{row_said, MakesText}
+use Rattle.rtc_steps.specs.SaidRows.{row_said, are_live, MakesText}
 use Rattle.rtc_course.specs.declared.kept.Kept.{Kept}
 use Rattle.rtc_course.specs.PairState.{PairState, peer_at, said_of, handed_text, held_token, spent}
 use Rattle.rtc_course.specs.Performs.{MakesOf, Negotiates, HandsOffer, HandsAnswer, Performs, kept_offer, kept_answer, lent, made_by}
 use Rattle.rtc_course.proofs.Staging.{Stages, ops_stage}
-use Rattle.rtc_course.proofs.SaidTexts.{text_says, offered_distinct}
+use Rattle.rtc_course.proofs.SaidTexts.{text_says, text_fits, offered_distinct}
 
 -- the texts behind those that were there
 abbrev behind : List Kept → List Kept → List Said
@@ -55,6 +56,18 @@ offer_says p ops answers table answered adds =
     ap (λ more. said_lines (text_of p.session_id p.creds ActPass (p.lines ++ more))) adds
     ∙ text_says p.session_id p.creds ActPass (p.lines ++ added (length p.lines) ops answers) (offered_distinct p.lines ops answers (length p.lines) table.distinct answered)
 
+-- an offer fits together where one of its rows is live
+offer_fits : {N : Type 0} (p : Peer N) (ops : List Op) (answers : List OpAnswer) → IsTable p.lines → OpsAnswered (map row_mid p.lines) ops answers
+    → added_rows (length p.lines) p.staged ≡ added (length p.lines) ops answers → are_live (p.lines ++ added (length p.lines) ops answers) ≡ true → inconsistency (offer_text p) ≡ None
+unfolding offer_text
+offer_fits p ops answers table answered adds live =
+    ap (λ more. inconsistency (text_of p.session_id p.creds ActPass (p.lines ++ more))) adds
+    ∙ text_fits p.session_id p.creds ActPass (p.lines ++ added (length p.lines) ops answers) (offered_distinct p.lines ops answers (length p.lines) table.distinct answered) live
+
+answer_fits : {N : Type 0} (p : Peer N) (text : Sdp) (rows : List LineRow) → taken p.lines (said_lines text) true ≡ rows → IsTable rows → are_live rows ≡ true → inconsistency (answer_text p text) ≡ None
+unfolding answer_text
+answer_fits p text rows is table live = rw is (text_fits p.session_id p.creds Passive rows table.distinct live)
+
 -- an answer says the rows that it leaves
 answer_says : {N : Type 0} (p : Peer N) (text : Sdp) (rows : List LineRow) → taken p.lines (said_lines text) true ≡ rows → IsTable rows → said_lines (answer_text p text) ≡ map row_said rows
 unfolding answer_text
@@ -73,6 +86,7 @@ makes_of at true p q ops answers apply kept kept' (Offer k) table h is rows answ
   text = h.0.0.0;
   one = one_behind kept kept' (kept_offer at h.0) h.2;
   says = ap (λ (o : SdpOffer). said_lines o.0) h.1.1 ∙ (rw rows (offer_says p ops answers (subst IsTable rows is) (rw (← rows) answered) adds));
+  fits = λ live. ap (λ (o : SdpOffer). inconsistency o.0) h.1.1 ∙ offer_fits p ops answers (subst IsTable rows is) (rw (← rows) answered) adds (rw (← rows) live);
 }
 makes_of at asked p q ops answers apply kept kept' made table h is rows answered adds = absurd h
 
@@ -96,6 +110,7 @@ offer_makes draws at k (Some text) old new kept kept' (Answered n) (Some table) 
   text = h.0.0;
   one = one_behind kept kept' (kept_answer at h.0) h.2;
   says = ap (λ (a : SdpAnswer). said_lines a.0) h.1.answered ∙ answer_says (lent old) text table.lines (sym (h.4 ∙ ap (λ p. p.lines) h.1.rest)) is;
+  fits = λ live. ap (λ (a : SdpAnswer). inconsistency a.0) h.1.answered ∙ answer_fits (lent old) text table.lines (sym (h.4 ∙ ap (λ p. p.lines) h.1.rest)) is live;
 }
 offer_makes draws at k (Some text) old new kept kept' (Refused error) (Some table) h is = none_behind kept kept' h.1
 offer_makes draws at k offer old new kept kept' outcome table h is = absurd h

@@ -3,6 +3,7 @@ use Rattle.std.proofs.Common.{◌≡◌, ◌<◌, ℕ, Bool, true, false, not, �
 use Rattle.std.specs.Prelude.{slice_get}
 use Rattle.std.proofs.lemmas.Bool.{eqb-true}
 use Rattle.rtc_rows.specs.LineRow.{row_mid}
+use Rattle.rtc_rows.specs.Sdp.{inconsistency}
 use Rattle.rtc_rows.specs.declared.line_row.LineRow.{LineRow}
 use Rattle.rtc_rows.specs.declared.sdp.Sdp.{Sdp}
 use Rattle.rtc_plan.specs.Held.{Asked}
@@ -21,7 +22,7 @@ use Rattle.rtc_steps.specs.Sides.{side_of}
 use Rattle.rtc_steps.specs.Past.{Entry, Said, before, texts, handed, is_offer_of, holds_token, is_right, moves, makes, do_stage, added, added_in, added_by}
 use Rattle.rtc_steps.specs.Memory.{answers_lack}
 use Rattle.rtc_steps.specs.Sound.{OpsAnswered, MadeOf, TakesOffer, TakesAnswer, IsSound, asked_in, view_in}
-use Rattle.rtc_steps.specs.SaidRows.{row_said, MakesText}
+use Rattle.rtc_steps.specs.SaidRows.{row_said, are_live, MakesText}
 use Rattle.rtc_steps.specs.SoundEntry.{IsSoundEntry}
 use Rattle.rtc_steps.specs.Rounds.{makes_offer, offered_rows}
 use Rattle.rtc_course.specs.Runs.{Sound}
@@ -61,12 +62,19 @@ pub record OfferEntry (past : List Entry) (entry : Entry) (t : ℕ) : Type 0 whe
   pub adds : (place : ℕ) → added_in place entry.step entry.outcome ≡ added place ops answers
   pub answered : OpsAnswered (map row_mid (before (side_of entry.step) past)) ops answers
   pub says : said_lines text ≡ map row_said (before (side_of entry.step) (entry ∷ past) ++ added (length (before (side_of entry.step) (entry ∷ past))) ops answers)
+  pub fits : are_live (before (side_of entry.step) (entry ∷ past) ++ added (length (before (side_of entry.step) (entry ∷ past))) ops answers) ≡ true → inconsistency text ≡ None
+  pub some : do_stage answers ≡ true
   pub moved : moves (side_of entry.step) entry.step entry.outcome ≡ true
 
 offer_count : (asked offers : Bool) (k next : ℕ) → MadeOf asked offers (Offer k) next → k ≡ next
 offer_count true true k next made = made
 offer_count true false k next made = absurd made
 offer_count false offers k next made = absurd made
+
+offer_stages : (asked offers : Bool) (k next : ℕ) → MadeOf asked offers (Offer k) next → offers ≡ true
+offer_stages true true k next made = refl
+offer_stages true false k next made = absurd made
+offer_stages false offers k next made = absurd made
 
 no_offer : (text : Option Sdp) (past : List Entry) (at : Side) (next : ℕ) (answers : List OpAnswer) (made : Made) (after : List LineRow) → TakesOffer text (view_in at past) next (Negotiated answers made) after → ⊥
 no_offer None past at next answers made after takes = takes
@@ -98,6 +106,8 @@ offer_entry past entry t sound makes_it = by entry.step entry.outcome entry.tabl
           adds = λ place. refl;
           answered = replied.1;
           says = rw rows text.says;
+          fits = rw rows text.fits;
+          some = offer_stages (apply && not (answers_lack answers)) (do_stage answers) k (length (texts past)) replied.2;
           moved = rw (same_side-self at) refl;
         }
     by (Negotiate at ops apply) (Negotiated answers NotAsked) table made replied text makes_it = absurd (cc)
@@ -127,6 +137,8 @@ pub record PastOffer (at : Side) (t : ℕ) (past : List Entry) : Type 0 where
   pub adds : (place : ℕ) → added_by place t past ≡ added place ops answers
   pub answered : OpsAnswered (map row_mid (offered_rows at t past)) ops answers
   pub says : said_lines text ≡ map row_said (offered_rows at t past ++ added (length (offered_rows at t past)) ops answers)
+  pub fits : are_live (offered_rows at t past ++ added (length (offered_rows at t past)) ops answers) ≡ true → inconsistency text ≡ None
+  pub some : do_stage answers ≡ true
 
 -- the text of an entry is behind those before it
 pub text_next : (past : List Entry) (entry : Entry) (said : Said) (t : ℕ) → entry.made ≡ said ∷ [] → t ≡ length (texts past) → slice_get (texts (entry ∷ past)) t ≡ Some said
@@ -178,6 +190,8 @@ past_offer at t (entry ∷ past) sound right mine = by (λ right mine. past_offe
           adds = λ place. rw is (it.adds place);
           answered = rw (is, it.rows) it.answered;
           says = rw is it.says;
+          fits = rw is it.fits;
+          some = it.some;
         })
     by earlier false is =
         let before_it = (right_parts at t past entry is right).1 in
@@ -191,4 +205,6 @@ past_offer at t (entry ∷ past) sound right mine = by (λ right mine. past_offe
           adds = λ place. rw is (offer.adds place);
           answered = rw is offer.answered;
           says = rw is offer.says;
+          fits = rw is offer.fits;
+          some = offer.some;
         }

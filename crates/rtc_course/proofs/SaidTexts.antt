@@ -1,11 +1,13 @@
 -- The text of rows says these rows, and the rows of an offer have distinct mids.
 use Rattle.std.proofs.Common.{◌≡◌, ◌+◌, ℕ, Bool, true, false, not, ◌||◌, List, [], ◌∷◌, ◌++◌, map, refl, sym, ◌∙◌, ap, subst, cond, append_assoc}
-use Rattle.std.specs.Prelude.{filter}
+use Rattle.std.specs.Prelude.{filter, None}
+use Rattle.std.specs.List.{list_all}
 use Rattle.std.specs.Str.{bytes_eq}
 use Rattle.std.proofs.lemmas.Slice.Eq.{bytes_eq-Decides}
-use Rattle.std.proofs.lemmas.Bool.{or_parts, or_from, both_ways, false_from_ne_true}
+use Rattle.std.proofs.lemmas.Bool.{and_parts, or_parts, or_from, both_ways, false_from_ne_true}
 use Rattle.std.proofs.lemmas.List.Folds.{list_any-append}
 use Rattle.rtc_rows.specs.LineRow.{row_mid}
+use Rattle.rtc_rows.specs.Sdp.{inconsistency, is_among as is_among_names, mids_of, are_grouped, are_distinct, is_none_of}
 use Rattle.rtc_rows.specs.declared.ice_creds.IceCreds.{IceCreds}
 use Rattle.rtc_rows.specs.declared.line_row.LineRow.{LineRow}
 use Rattle.rtc_rows.specs.declared.line_row.LineRow.TheVariants.{Media, App}
@@ -21,7 +23,8 @@ use Rattle.rtc_steps.specs.declared.op_answer.OpAnswer.{OpAnswer}
 use Rattle.rtc_steps.specs.declared.op_answer.OpAnswer.TheVariants.{Mid, Alloc as OpAlloc}
 use Rattle.rtc_steps.specs.Past.{added}
 use Rattle.rtc_steps.specs.Sound.{OpsAnswered}
-use Rattle.rtc_steps.specs.SaidRows.{row_said}
+use Rattle.rtc_steps.specs.SaidRows.{row_said, are_live}
+use Rattle.rtc_course.proofs.Staging.{among_rows}
 
 -- ---- what a text says of rows
 
@@ -87,6 +90,90 @@ rows_say creds setup all front (row ∷ rows) is distinct =
 -- the text of rows with distinct mids says them
 pub text_says : (session : ℕ) (creds : IceCreds) (setup : Setup) (rows : List LineRow) → Distinct rows → said_lines (text_of session creds setup rows) ≡ map row_said rows
 text_says session creds setup rows distinct = rows_say creds setup rows [] rows refl distinct
+
+-- ---- a text fits together
+
+-- the mids of the lines of rows are the rows'
+mids_of_rows : (creds : IceCreds) (setup : Setup) (rows : List LineRow) → mids_of (map (row_line creds setup) rows) ≡ map row_mid rows
+mids_of_rows creds setup [] = refl
+mids_of_rows creds setup (Media place mid kind dir stopped remote_created ∷ rows) = ap (λ mids. mid ∷ mids) (mids_of_rows creds setup rows)
+mids_of_rows creds setup (App place mid ∷ rows) = ap (λ mids. mid ∷ mids) (mids_of_rows creds setup rows)
+
+distinct_mids : (rows : List LineRow) → Distinct rows → are_distinct (map row_mid rows) ≡ true
+distinct_mids [] distinct = refl
+distinct_mids (row ∷ rows) distinct =
+    let none : is_among (map row_mid rows) (row_mid row) ≡ false = among_rows rows (row_mid row) ∙ distinct.0 in
+    rw none (distinct_mids rows distinct.1)
+
+some_live : (rows : List LineRow) → are_live rows ≡ true → is_none_of (live_mids rows) ≡ false
+some_live [] live = absurd (cc)
+some_live (row ∷ rows) live = by (not (is_stopped row)) live (some_live rows)
+  where
+    by : (here : Bool) → (here || are_live rows) ≡ true → (are_live rows ≡ true → is_none_of (live_mids rows) ≡ false)
+        → is_none_of (map row_mid (cond here (row ∷ filter (λ row. not (is_stopped row)) rows) (filter (λ row. not (is_stopped row)) rows))) ≡ false
+    by true live rest = refl
+    by false live rest = rest live
+
+-- names that are among some are among more
+still_among : (more : List (List ℕ)) (name first : List ℕ) → is_among_names name more ≡ true → is_among_names name (first ∷ more) ≡ true
+still_among more name first among = either (bytes_eq first name) among
+  where
+    either : {b : Bool} → (a : Bool) → b ≡ true → (a || b) ≡ true
+    either true is = refl
+    either false is = is
+
+among_itself : (more : List (List ℕ)) (name : List ℕ) → is_among_names name (name ∷ more) ≡ true
+among_itself more name = rw ((bytes_eq-Decides name name).1 refl) refl
+
+all_among : (group names : List (List ℕ)) (first : List ℕ) → list_all (λ mid. is_among_names mid names) group ≡ true → list_all (λ mid. is_among_names mid (first ∷ names)) group ≡ true
+all_among [] names first all = refl
+all_among (mid ∷ group) names first all =
+    let parts = and_parts (is_among_names mid names) (list_all (λ mid. is_among_names mid names) group) all in
+    rw (still_among names mid first parts.0, all_among group names first parts.1) refl
+
+-- each live mid is that of a row
+live_known : (rows : List LineRow) → list_all (λ mid. is_among_names mid (map row_mid rows)) (live_mids rows) ≡ true
+live_known [] = refl
+live_known (row ∷ rows) = by (not (is_stopped row)) (all_among (live_mids rows) (map row_mid rows) (row_mid row) (live_known rows))
+  where
+    by : (here : Bool) → list_all (λ mid. is_among_names mid (row_mid row ∷ map row_mid rows)) (live_mids rows) ≡ true
+        → list_all (λ mid. is_among_names mid (row_mid row ∷ map row_mid rows)) (map row_mid (cond here (row ∷ filter (λ row. not (is_stopped row)) rows) (filter (λ row. not (is_stopped row)) rows))) ≡ true
+    by true rest = rw (among_itself (map row_mid rows) (row_mid row), rest) refl
+    by false rest = rest
+
+-- each row is stopped or its mid is a live one
+abbrev AreGrouped : List (List ℕ) → List LineRow → Type 0
+AreGrouped group [] = Unit {0}
+AreGrouped group (row ∷ rows) = ((is_stopped row || is_among_names (row_mid row) group) ≡ true) × AreGrouped group rows
+
+grouped_more : (group : List (List ℕ)) (first : List ℕ) (rows : List LineRow) → AreGrouped group rows → AreGrouped (first ∷ group) rows
+grouped_more group first [] grouped = tt
+grouped_more group first (row ∷ rows) grouped = (by (is_stopped row) grouped.0, grouped_more group first rows grouped.1)
+  where
+    by : (stopped : Bool) → (stopped || is_among_names (row_mid row) group) ≡ true → (stopped || is_among_names (row_mid row) (first ∷ group)) ≡ true
+    by true is = refl
+    by false is = still_among group (row_mid row) first is
+
+rows_grouped : (rows : List LineRow) → AreGrouped (live_mids rows) rows
+rows_grouped [] = tt
+rows_grouped (row ∷ rows) = by (is_stopped row) (rows_grouped rows)
+  where
+    by : (stopped : Bool) → AreGrouped (live_mids rows) rows
+        → ((stopped || is_among_names (row_mid row) (map row_mid (cond (not stopped) (row ∷ filter (λ row. not (is_stopped row)) rows) (filter (λ row. not (is_stopped row)) rows)))) ≡ true)
+        × AreGrouped (map row_mid (cond (not stopped) (row ∷ filter (λ row. not (is_stopped row)) rows) (filter (λ row. not (is_stopped row)) rows))) rows
+    by true rest = (refl, rest)
+    by false rest = (among_itself (live_mids rows) (row_mid row), grouped_more (live_mids rows) (row_mid row) rows rest)
+
+lines_grouped : (creds : IceCreds) (setup : Setup) (group : List (List ℕ)) (rows : List LineRow) → AreGrouped group rows → are_grouped group (map (row_line creds setup) rows) ≡ true
+lines_grouped creds setup group [] grouped = refl
+lines_grouped creds setup group (Media place mid kind dir stopped remote_created ∷ rows) grouped = rw (grouped.0, lines_grouped creds setup group rows grouped.1) refl
+lines_grouped creds setup group (App place mid ∷ rows) grouped = rw (grouped.0, lines_grouped creds setup group rows grouped.1) refl
+
+-- the text of rows with distinct mids, one of which is live, fits together
+pub text_fits : (session : ℕ) (creds : IceCreds) (setup : Setup) (rows : List LineRow) → Distinct rows → are_live rows ≡ true → inconsistency (text_of session creds setup rows) ≡ None
+unfolding inconsistency
+text_fits session creds setup rows distinct live =
+    rw (some_live rows live, mids_of_rows creds setup rows, live_known rows, lines_grouped creds setup (live_mids rows) rows (rows_grouped rows), distinct_mids rows distinct) refl
 
 -- ---- the rows of an offer
 

@@ -6,4 +6,5 @@ pub mod Sound
 pub mod Finished
 pub mod SaidRows
 pub mod Rounds
+pub mod Orderly
 pub mod SoundEntry
