@@ -87,7 +87,7 @@ at_least : (count place : ℕ) → (place < count → ⊥) → count ≤ place
 at_least count place never = let less : count < place + 1 = lt_of_not-le (λ most. never (omega arith)) in omega arith
 
 -- the new lines of an answer that is allowed are those past the rows
-new_count : (rows : List LineRow) (came : Bool) (place : ℕ) (said : List SaidLine) → Rising 0 rows → first_refusal rows false came place said ≡ None
+pub new_count : (rows : List LineRow) (came : Bool) (place : ℕ) (said : List SaidLine) → Rising 0 rows → first_refusal rows false came place said ≡ None
     → length (new_places rows place said) ≡ (place + length said) - max place (length rows)
 new_count rows came place [] rising allowed = omega arith
 new_count rows came place (line ∷ said) rising allowed =

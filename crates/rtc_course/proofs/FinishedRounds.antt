@@ -70,13 +70,13 @@ added_known offerer held (AddMedia kind dir ∷ ops) (Mid mid ∷ answers) place
 added_known offerer held (AddMedia kind dir ∷ ops) (OpAlloc ∷ []) place answered apart = tt
 added_known offerer held ops answers place answered apart = absurd answered
 
-added_rising : (held : List (List ℕ)) (ops : List Op) (answers : List OpAnswer) (place : ℕ) → OpsAnswered held ops answers → Rising place (added place ops answers)
+pub added_rising : (held : List (List ℕ)) (ops : List Op) (answers : List OpAnswer) (place : ℕ) → OpsAnswered held ops answers → Rising place (added place ops answers)
 added_rising held [] [] place answered = tt
 added_rising held (AddMedia kind dir ∷ ops) (Mid mid ∷ answers) place answered = (refl, added_rising (mid ∷ held) ops answers (place + 1) answered.1)
 added_rising held (AddMedia kind dir ∷ ops) (OpAlloc ∷ []) place answered = tt
 added_rising held ops answers place answered = absurd answered
 
-rising_append : (place : ℕ) (rows more : List LineRow) → Rising place rows → Rising (place + length rows) more → Rising place (rows ++ more)
+pub rising_append : (place : ℕ) (rows more : List LineRow) → Rising place rows → Rising (place + length rows) more → Rising place (rows ++ more)
 rising_append place [] more rising other = subst (λ (n : ℕ). Rising n more) (let e : place + length {A = LineRow} [] ≡ place = omega arith in e) other
 rising_append place (row ∷ rows) more rising other =
     (rising.0, rising_append (place + 1) rows more rising.1 (subst (λ (n : ℕ). Rising n more) (let e : place + length (row ∷ rows) ≡ place + 1 + length rows = omega arith in e) other))
@@ -100,7 +100,7 @@ offered_known offerer ops answers table answered = record {
 -- ---- both ends
 
 -- a text with at least as many lines as there are rows leaves a row for each line
-taken_whole : (rows : List LineRow) (said : List SaidLine) (offer : Bool) → length rows ≤ length said → taken rows said offer ≡ rows_after rows offer 0 said
+pub taken_whole : (rows : List LineRow) (said : List SaidLine) (offer : Bool) → length rows ≤ length said → taken rows said offer ≡ rows_after rows offer 0 said
 taken_whole rows said offer more = ap (λ rest. rows_after rows offer 0 said ++ rest) (drop_all (length said) rows more) ∙ append-nil (rows_after rows offer 0 said)
 
 -- What an offer that is taken and an answer that is taken leave, where the answer has a line for each line of the offer.
@@ -138,25 +138,25 @@ same_text : (one other : Sdp) → Some one ≡ Some other → one ≡ other
 same_text one other same = cc
 
 -- the answer of the other side is what is handed over
-handed_answer : (at : Side) (text : Sdp) → said_for false at (Some (record { at = other_side at; offer = false; text = text })) ≡ Some text
+pub handed_answer : (at : Side) (text : Sdp) → said_for false at (Some (record { at = other_side at; offer = false; text = text })) ≡ Some text
 handed_answer Left text = refl
 handed_answer Right text = refl
 
 -- the offer of a side is what the other one is handed
-handed_offer : (at : Side) (text : Sdp) → said_for true (other_side at) (Some (record { at = at; offer = true; text = text })) ≡ Some text
+pub handed_offer : (at : Side) (text : Sdp) → said_for true (other_side at) (Some (record { at = at; offer = true; text = text })) ≡ Some text
 handed_offer Left text = refl
 handed_offer Right text = refl
 
 -- What an answer that is accepted came with.
-record AnswerTaken (held right : Bool) (asked : Asked) (text : Option Sdp) (rows after : List LineRow) : Type 0 where
-  answer : Sdp
-  held_is : held ≡ true
-  right_is : right ≡ true
-  is : text ≡ Some answer
-  passes : verdict (record { lines = rows }) (Some asked) answer ≡ None
-  leaves : after ≡ taken rows (said_lines answer) false
+pub record AnswerTaken (held right : Bool) (asked : Asked) (text : Option Sdp) (rows after : List LineRow) : Type 0 where
+  pub answer : Sdp
+  pub held_is : held ≡ true
+  pub right_is : right ≡ true
+  pub is : text ≡ Some answer
+  pub passes : verdict (record { lines = rows }) (Some asked) answer ≡ None
+  pub leaves : after ≡ taken rows (said_lines answer) false
 
-answer_taken : (held right : Bool) (asked : Asked) (text : Option Sdp) (rows after : List LineRow) → TakesAnswer held right asked text (record { lines = rows }) Finished after → AnswerTaken held right asked text rows after
+pub answer_taken : (held right : Bool) (asked : Asked) (text : Option Sdp) (rows after : List LineRow) → TakesAnswer held right asked text (record { lines = rows }) Finished after → AnswerTaken held right asked text rows after
 answer_taken true true asked (Some text) rows after takes = record { answer = text; held_is = refl; right_is = refl; is = refl; passes = takes.0; leaves = takes.1 }
 answer_taken true true asked None rows after takes = absurd takes
 answer_taken true false asked None rows after takes = absurd takes

@@ -18,5 +18,6 @@ pub mod PastRows
 pub mod PastAnswers
 pub mod FinishedRounds
 pub mod RowsFollow
+pub mod RoundRows
 pub mod Reaches
 pub mod MoreSteps

@@ -54,14 +54,14 @@ record AnswerEntry (past : List Entry) (entry : Entry) (side : Side) (t a : ℕ)
   took : TookOffer (before side past) (before side (entry ∷ past)) offer text
 
 -- an offer that was answered
-record Answers (text : Option Sdp) (rows : List LineRow) (next k : ℕ) (after : List LineRow) : Type 0 where
-  offer : Sdp
-  is : text ≡ Some offer
-  passes : verdict (record { lines = rows }) None offer ≡ None
-  leaves : after ≡ taken rows (said_lines offer) true
-  count : k ≡ next
+pub record Answers (text : Option Sdp) (rows : List LineRow) (next k : ℕ) (after : List LineRow) : Type 0 where
+  pub offer : Sdp
+  pub is : text ≡ Some offer
+  pub passes : verdict (record { lines = rows }) None offer ≡ None
+  pub leaves : after ≡ taken rows (said_lines offer) true
+  pub count : k ≡ next
 
-answered : (text : Option Sdp) (rows : List LineRow) (next k : ℕ) (after : List LineRow) → TakesOffer text (record { lines = rows }) next (Answered k) after → Answers text rows next k after
+pub answered : (text : Option Sdp) (rows : List LineRow) (next k : ℕ) (after : List LineRow) → TakesOffer text (record { lines = rows }) next (Answered k) after → Answers text rows next k after
 answered None rows next k after takes = absurd takes
 answered (Some text) rows next k after takes = record { offer = text; is = refl; passes = takes.0; leaves = takes.1; count = takes.2 }
 

@@ -223,3 +223,11 @@ follows_right rows news place (own ∷ left) (row ∷ offered) (other ∷ more) 
     rw (known_line rows false false place own other table (first_left rows place (own ∷ left) at) follows.0).1
     (follows_right rows news (place + 1) left offered more table (next_left rows place own left at) follows.1 same.1 rising.1 finds)
 follows_right rows news place left offered more table at follows same rising finds = absurd same
+
+-- rows that go on from others are media rows
+pub follows_media : (rows left more : List LineRow) → Follows rows left more → Aligned more more
+follows_media rows [] [] follows = tt
+follows_media rows [] (Media place mid kind dir stopped remote_created ∷ more) follows = ((refl, refl), follows_media rows [] more follows.1)
+follows_media rows [] (App place mid ∷ more) follows = absurd follows.0
+follows_media rows (own ∷ left) [] follows = absurd follows
+follows_media rows (own ∷ left) (row ∷ more) follows = (name_twice row own (name_sym own row follows.0), follows_media rows left more follows.1)

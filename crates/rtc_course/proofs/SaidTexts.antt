@@ -186,7 +186,7 @@ added_apart held (AddMedia kind dir ∷ ops) (Mid own ∷ answers) place mid ans
 added_apart held (AddMedia kind dir ∷ ops) (OpAlloc ∷ []) place mid answered among = refl
 added_apart held ops answers place mid answered among = absurd answered
 
-added_distinct : (held : List (List ℕ)) (ops : List Op) (answers : List OpAnswer) (place : ℕ) → OpsAnswered held ops answers → Distinct (added place ops answers)
+pub added_distinct : (held : List (List ℕ)) (ops : List Op) (answers : List OpAnswer) (place : ℕ) → OpsAnswered held ops answers → Distinct (added place ops answers)
 added_distinct held [] [] place answered = tt
 added_distinct held (AddMedia kind dir ∷ ops) (Mid mid ∷ answers) place answered =
     (added_apart (mid ∷ held) ops answers (place + 1) mid answered.1 (rw ((bytes_eq-Decides mid mid).1 refl) refl), added_distinct (mid ∷ held) ops answers (place + 1) answered.1)
