@@ -19,5 +19,7 @@ pub mod PastAnswers
 pub mod FinishedRounds
 pub mod RowsFollow
 pub mod RoundRows
+pub mod Courses
+pub mod OrderlySteps
 pub mod Reaches
 pub mod MoreSteps

@@ -38,7 +38,7 @@ pub record PastAnswer (at : Side) (t a : ℕ) (past : List Entry) : Type 0 where
   pub there : slice_get (texts past) a ≡ Some (record { at = other_side at; offer = false; text = text })
   pub took : TookOffer (before (other_side at) (before_last (makes_answer at t a) past)) (before (other_side at) (through_last (makes_answer at t a) past)) offer text
 
-another : (side at : Side) → not (same_side side at) ≡ true → side ≡ other_side at
+pub another : (side at : Side) → not (same_side side at) ≡ true → side ≡ other_side at
 another Left Left other = absurd (cc)
 another Left Right other = refl
 another Right Left other = refl
