@@ -32,7 +32,7 @@ runs_more draws start old new steps replies step reply fresh run performs small 
   steps_are = ap (λ before. before ++ step ∷ []) run.steps_are;
   replies_are = ap (λ before. before ++ reply ∷ []) run.replies_are;
   reached = (old, run.reached, record { performs = performs; made = refl });
-  sound = (sound_next draws start old new run.past step reply.outcome reply.table fresh run.reached performs small, run.sound);
+  sound = (sound_next draws start old new run.past step reply.outcome reply.table fresh run.reached run.sound performs small, run.sound);
 }
 
 -- ---- sizes

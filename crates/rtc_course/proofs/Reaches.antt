@@ -1,6 +1,7 @@
 -- A pair that is reached by its steps stays within their sizes, and each reply is sound.
 use Rattle.std.proofs.Common.{◌≡◌, ◌<◌, ◌≤◌, ◌^◌, ℕ, List, [], ◌∷◌, length, true, false, Option, Some, None, refl, sym, ap, arith}
 use Rattle.std.specs.Prelude.{slice_get}
+use Rattle.rtc_plan.specs.Table.{IsTable}
 use Rattle.rtc_peer_state.specs.declared.peer.Peer.{Peer}
 use Rattle.rtc_peer_state.specs.Draws.{Draws}
 use Rattle.rtc_steps.specs.declared.side.Side.{Side}
@@ -9,12 +10,14 @@ use Rattle.rtc_steps.specs.declared.step.Step.{Step}
 use Rattle.rtc_steps.specs.declared.step.Step.TheVariants.{Negotiate, AcceptOffer, AcceptAnswer}
 use Rattle.rtc_steps.specs.declared.outcome.Outcome.{Outcome}
 use Rattle.rtc_steps.specs.declared.table.Table.{Table}
-use Rattle.rtc_steps.specs.Past.{Entry, Said}
+use Rattle.rtc_steps.specs.Sides.{side_of}
+use Rattle.rtc_steps.specs.Past.{Entry, Said, before}
 use Rattle.rtc_steps.specs.Sound.{IsSound}
+use Rattle.rtc_steps.specs.SoundEntry.{IsSoundEntry}
 use Rattle.rtc_course.specs.declared.kept.Kept.{Kept}
 use Rattle.rtc_course.specs.PairState.{PairState, peer_at, handed_text, held_token}
 use Rattle.rtc_course.specs.Performs.{Performs, Enters, made_by}
-use Rattle.rtc_course.specs.Runs.{Reached}
+use Rattle.rtc_course.specs.Runs.{Reached, Sound}
 use Rattle.rtc_course.specs.Fresh.{IsFresh, IsJustBuilt}
 use Rattle.rtc_course.specs.Bounds.{IsWithin}
 use Rattle.rtc_course.proofs.Tells.{Tells, SideTells, within}
@@ -22,6 +25,9 @@ use Rattle.rtc_course.proofs.Around.{Around, entry, size_grows, handed-told, len
 use Rattle.rtc_course.proofs.NegotiateSteps.{negotiate_reply, negotiate_tells}
 use Rattle.rtc_course.proofs.OfferSteps.{offer_reply, offer_tells}
 use Rattle.rtc_course.proofs.AnswerSteps.{answer_reply, answer_tells}
+use Rattle.rtc_course.proofs.PastTables.{reply_table, past_table}
+use Rattle.rtc_course.proofs.MakesTexts.{makes_text}
+use Rattle.rtc_course.proofs.FinishedRounds.{finishes_round}
 
 -- ---- one step
 
@@ -99,9 +105,15 @@ reached_tells draws start pair (last ∷ past) fresh reached small =
 pub reached_within : {N : Type 0} (draws : Draws N) (start pair : PairState N) (past : List Entry) → IsFresh start → Reached draws start past pair → pair.size < 2 ^ 32 → IsWithin pair
 reached_within draws start pair past fresh reached small = within past pair (reached_tells draws start pair past fresh reached small)
 
--- The reply to a step of a pair that is reached is sound.
+-- The entry of a step of a pair that is reached is sound.
 pub sound_next : {N : Type 0} (draws : Draws N) (start old new : PairState N) (past : List Entry) (step : Step) (outcome : Outcome) (table : Option Table)
-    → IsFresh start → Reached draws start past old → Performs draws old step outcome table new → new.size < 2 ^ 32 → IsSound past step outcome table
-sound_next draws start old new past step outcome table fresh reached performs small =
-    step_sound draws past old new step outcome table
-    (reached_tells draws start old past fresh reached (omega (arith, size_grows step (made_by old new) old new (around_of draws old new step outcome table (made_by old new) performs refl small)))) performs small
+    → IsFresh start → Reached draws start past old → Sound past → Performs draws old step outcome table new → new.size < 2 ^ 32 → IsSoundEntry past (entry step outcome table (made_by old new))
+sound_next draws start old new past step outcome table fresh reached sound performs small =
+    let tells : Tells past old = reached_tells draws start old past fresh reached (omega (arith, size_grows step (made_by old new) old new (around_of draws old new step outcome table (made_by old new) performs refl small))) in
+    let replied : IsSound past step outcome table = step_sound draws past old new step outcome table tells performs small in
+    let rows : IsTable (before (side_of step) past) = past_table past (side_of step) sound in
+    record {
+      replied = replied;
+      made = makes_text draws past old new step outcome table performs rows (reply_table past step outcome table replied rows) replied (sym (tells.sides (side_of step)).rows);
+      finished = finishes_round past step outcome table sound replied;
+    }

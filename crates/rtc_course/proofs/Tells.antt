@@ -63,6 +63,12 @@ pub same_side-self : (at : Side) → same_side at at ≡ true
 same_side-self Left = refl
 same_side-self Right = refl
 
+pub same_side-true : (side at : Side) → same_side side at ≡ true → side ≡ at
+same_side-true Left Left same = refl
+same_side-true Left Right same = absurd (cc)
+same_side-true Right Left same = absurd (cc)
+same_side-true Right Right same = refl
+
 pub same_side-other : (at : Side) → same_side at (other_side at) ≡ false
 same_side-other Left = refl
 same_side-other Right = refl

@@ -1,10 +1,10 @@
--- A run of a pair: from the pair at its start, step by step, each with a reply that is sound.
+-- A run of a pair: from the pair at its start, step by step, each of them sound.
 use Rattle.std.specs.Prelude.{◌≡◌, List, [], ◌∷◌}
 use Rattle.rtc_peer_state.specs.Draws.{Draws}
 use Rattle.rtc_steps.specs.declared.step.Step.{Step}
 use Rattle.rtc_steps.specs.declared.reply.Reply.{Reply}
 use Rattle.rtc_steps.specs.Past.{Entry, steps_of, replies_of}
-use Rattle.rtc_steps.specs.Sound.{IsSound}
+use Rattle.rtc_steps.specs.SoundEntry.{IsSoundEntry}
 use Rattle.rtc_course.specs.PairState.{PairState}
 use Rattle.rtc_course.specs.Performs.{Enters}
 
@@ -17,10 +17,10 @@ Went {E} P fresh (entry ∷ past) pair = (between : E) × Went P fresh past betw
 abbrev pub Reached : {N : Type 0} → Draws N → PairState N → List Entry → PairState N → Type 0
 Reached draws start past pair = Went (λ earlier between entry after. Enters draws between entry after) (λ fresh. fresh ≡ start) past pair
 
--- each reply is sound after the steps before it
+-- each entry is sound by the entries before it
 abbrev pub Sound : List Entry → Type 0
 Sound [] = Unit {0}
-Sound (entry ∷ past) = IsSound past entry.step entry.outcome entry.table × Sound past
+Sound (entry ∷ past) = IsSoundEntry past entry × Sound past
 
 -- A run by these steps, with these replies.
 pub record Runs {N : Type 0} (draws : Draws N) (start : PairState N) (steps : List Step) (replies : List Reply) (pair : PairState N) : Type 0 where

@@ -1,0 +1,2 @@
+mod FinishedFacts
+mod RoundFacts

@@ -3,3 +3,8 @@ pub mod Memory
 pub mod Sizes
 pub mod Past
 pub mod Sound
+pub mod Finished
+pub mod SaidRows
+pub mod Rounds
+pub mod Orderly
+pub mod SoundEntry

@@ -1,8 +1,8 @@
 -- What the steps so far say: rows, texts and tokens, read from the steps and their replies alone.
-use Rattle.std.specs.Prelude.{◌≡◌, ◌+◌, ℕ, ◌==◌, Bool, true, false, not, ◌&&◌, ◌||◌, List, [], ◌∷◌, ◌++◌, length, if◌then◌else◌, Option, Some, None, slice_get}
+use Rattle.std.specs.Prelude.{◌+◌, ℕ, ◌==◌, Bool, true, false, not, ◌&&◌, ◌||◌, List, [], ◌∷◌, ◌++◌, if◌then◌else◌, Option, Some, None, slice_get}
 use Rattle.std.specs.List.{list_any}
 use Rattle.rtc_rows.specs.declared.line_row.LineRow.{LineRow}
-use Rattle.rtc_rows.specs.declared.line_row.LineRow.TheVariants.{Media, App}
+use Rattle.rtc_rows.specs.declared.line_row.LineRow.TheVariants.{Media}
 use Rattle.rtc_rows.specs.declared.sdp.Sdp.{Sdp}
 use Rattle.rtc_steps.specs.declared.side.Side.{Side}
 use Rattle.rtc_steps.specs.declared.op.Op.{Op}
