@@ -1,26 +1,22 @@
 -- What an end keeps of the items that come.
-use Rattle.std.proofs.Common.{ℕ, zero, suc, ◌≡◌, ◌+◌, ◌<◌, ◌≤◌, ◌==◌, ◌&&◌, ◌||◌, ◌⊎◌, not, nat_lt, inl, inr, Bool, true, false, cond, List, [], ◌∷◌, ◌++◌, length, Option, Some, None, refl, sym, ap, subst, ◌∙◌, arith, append_assoc, append-nil}
-use Rattle.std.proofs.lemmas.Bool.{cases_Bool}
+use Rattle.std.proofs.Common.{ℕ, ◌≡◌, ◌+◌, ◌⊎◌, not, inl, inr, Bool, true, false, cond, List, [], ◌∷◌, ◌++◌, length, refl, sym, ap, subst, ◌∙◌, arith, append-nil}
 use Rattle.std.proofs.lemmas.Bool.Decides.{eqb_tells}
 use Rattle.rtc_parts.specs.AssociationWords.{AssociationMessage}
 use Rattle.rtc_assoc_items.specs.declared.item.Item.{Item}
 use Rattle.rtc_assoc_items.specs.declared.item_part.ItemPart.{ItemPart}
 use Rattle.rtc_assoc_items.specs.declared.item_part.ItemPart.TheVariants.{More, Last, Close}
-use Rattle.rtc_assoc_items.specs.declared.frame.Frame.{Frame}
-use Rattle.rtc_assoc_items.specs.declared.frame.Frame.TheVariants.{Hello, Welcome, Data, Acknowledgement, Shutdown}
 use Rattle.rtc_assoc_items.specs.Pieces.{piece, close_of}
-use Rattle.rtc_assoc_plain.specs.declared.message.Message.{Message}
 use Rattle.rtc_assoc_plain.specs.declared.close_state.CloseState.{CloseState}
 use Rattle.rtc_assoc_plain.specs.declared.close_state.CloseState.TheVariants.{Unclosed, Queued, Acknowledged}
 use Rattle.rtc_assoc_plain.specs.declared.stream_row.StreamRow.{StreamRow}
 use Rattle.rtc_assoc_plain.specs.Streams.{stream_of, put, reset_row, is_unclosed, is_closed_here, takes_messages}
-use Rattle.rtc_assoc_plain.specs.Inbox.{Inbox, MessagePart, bytes_so_far, with_bytes, without_part, without_messages, forgotten, message_of, kept_more, kept_last}
+use Rattle.rtc_assoc_plain.specs.Inbox.{Inbox, bytes_so_far, with_bytes, without_part, without_messages, forgotten, message_of}
 use Rattle.rtc_assoc_plain.specs.Settling.{can_reset}
-use Rattle.rtc_assoc_plain.specs.Contents.{Contents, is_ending}
-use Rattle.rtc_assoc_plain.specs.Calls.{sent, counted, more_kept, last_kept, piece_kept, piece_came, finished, reset_told, close_came_at, close_came, part_came, item_taken, item_came}
+use Rattle.rtc_assoc_plain.specs.Contents.{Contents}
+use Rattle.rtc_assoc_plain.specs.Calls.{sent, counted, more_kept, last_kept, finished, reset_told, close_came_at, close_came, part_came, item_taken}
 use Rattle.rtc_assoc_plain.specs.RaiseLemmas.{stream_of-stream}
 use Rattle.rtc_assoc.specs.Unread.{unread, IsPrefix}
-use Rattle.rtc_assoc.proofs.MessageLemmas.{is_pair, pair_tells, pair_same, message, completed_by, left_by, shown, kept, messages, left, Closes, HasClose}
+use Rattle.rtc_assoc.proofs.MessageLemmas.{is_pair, pair_tells, message, messages, left, HasClose}
 use Rattle.rtc_assoc.proofs.UnreadLemmas.{prefix_self, prefix_none, prefix_is, unread-append, unread-without, unread-forgotten, so_far-with, so_far-with_other, so_far-without_other, so_far-forgotten}
 use Rattle.rtc_assoc.proofs.AliveLemmas.{alive, RowOf, takes-row, alive-put_as, alive-put_row, closed_not_own, reset-takes, Shut, shut-fewer, shut-dies, shut-own}
 

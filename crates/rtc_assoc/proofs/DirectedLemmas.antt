@@ -1,10 +1,10 @@
 -- What one end sent and the other one took, and that each act of either keeps it.
-use Rattle.std.proofs.Common.{ℕ, zero, suc, ◌≡◌, ◌+◌, ◌-◌, ◌<◌, ◌≤◌, ◌==◌, ◌&&◌, ◌||◌, ◌⊎◌, max, inl, inr, Bool, true, false, cond, List, [], ◌∷◌, ◌++◌, length, take, drop, Option, Some, None, refl, sym, ap, subst, ◌∙◌, arith, append_assoc, append-nil, length-append, length-drop, add-zero}
+use Rattle.std.proofs.Common.{ℕ, ◌≡◌, ◌+◌, ◌≤◌, ◌||◌, ◌⊎◌, inl, inr, Bool, true, false, List, [], ◌∷◌, ◌++◌, length, take, drop, Option, Some, None, refl, sym, ap, subst, ◌∙◌, arith, append_assoc, append-nil, length-append, length-drop, add-zero}
 use Rattle.std.proofs.lemmas.List.{take-append-drop, take-append-le, drop-append-le, length-take-le, take_all}
 use Rattle.std.proofs.lemmas.Bool.{cases_Bool}
 use Rattle.std.proofs.Math.Seq.{drop-drop, take-append_seam, take-append-add}
 use Rattle.rtc_parts.specs.Among.{Member, Among}
-use Rattle.rtc_parts.specs.AssociationActs.{AssociationAct, Started, Opened, Wrote, Ended, Given, Taken, Read, Told, Stirred}
+use Rattle.rtc_parts.specs.AssociationActs.{AssociationAct, Given, Taken}
 use Rattle.rtc_parts.specs.AssociationWords.{AssociationMessage, given, taken, written, read, ended}
 use Rattle.rtc_parts.proofs.AmongLemmas.{member-append}
 use Rattle.rtc_parts.proofs.AssociationLemmas.{taken-append, written-append, read-append, ended-append}
@@ -18,11 +18,11 @@ use Rattle.rtc_assoc_plain.specs.Outbox.{Outbox}
 use Rattle.rtc_assoc_plain.specs.Contents.{Contents}
 use Rattle.rtc_assoc_plain.specs.Says.{Numbered, Says}
 use Rattle.rtc_assoc.specs.Unread.{unread, IsPrefix}
-use Rattle.rtc_assoc.proofs.MessageLemmas.{messages, left, messages-append, left-append, Closes, HasClose, close-append, close-left, close-right}
+use Rattle.rtc_assoc.proofs.MessageLemmas.{messages, left, messages-append, left-append, HasClose, close-append, close-left, close-right}
 use Rattle.rtc_assoc.proofs.UnreadLemmas.{prefix_is, prefix_then, prefix_more, prefix_behind, prefix_front}
 use Rattle.rtc_assoc.proofs.AliveLemmas.{alive}
 use Rattle.rtc_assoc.proofs.ArriveLemmas.{Gets}
-use Rattle.rtc_assoc.proofs.StepLemmas.{Acknowledges, Brings, Causes, Core, Step}
+use Rattle.rtc_assoc.proofs.StepLemmas.{Acknowledges, Brings, Causes, Step}
 
 -- numbered items
 numbered_more : (base number : ℕ) (item : Item) (xs ys : List Item) → Numbered base xs number item → Numbered base (xs ++ ys) number item

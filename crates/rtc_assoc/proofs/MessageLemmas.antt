@@ -1,9 +1,8 @@
 -- The messages that items carry, by generation and stream.
-use Rattle.std.proofs.Common.{ℕ, zero, suc, ◌≡◌, ◌+◌, ◌-◌, ◌<◌, ◌≤◌, ◌==◌, ◌&&◌, ◌⊎◌, inl, inr, Bool, true, false, cond, leb, List, [], ◌∷◌, ◌++◌, length, take, drop, refl, sym, ap, subst, ◌∙◌, arith, append_assoc, append-nil}
-use Rattle.std.proofs.lemmas.Bool.{cases_Bool}
+use Rattle.std.proofs.Common.{ℕ, zero, suc, ◌≡◌, ◌==◌, ◌&&◌, ◌⊎◌, inl, inr, Bool, true, false, cond, List, [], ◌∷◌, ◌++◌, length, take, drop, refl, sym, ap, ◌∙◌, append_assoc}
 use Rattle.std.proofs.lemmas.Bool.Decides.{eqb_tells, leb_tells}
 use Rattle.std.proofs.lemmas.List.{take-append-drop}
-use Rattle.rtc_parts.specs.AssociationActs.{AssociationAct, Wrote}
+use Rattle.rtc_parts.specs.AssociationActs.{Wrote}
 use Rattle.rtc_parts.specs.AssociationWords.{AssociationMessage, written}
 use Rattle.rtc_assoc_items.specs.declared.item.Item.{Item}
 use Rattle.rtc_assoc_items.specs.declared.item_part.ItemPart.{ItemPart}
@@ -142,7 +141,6 @@ pub close-left : (s g : ℕ) (xs ys : List Item) → HasClose s g xs → HasClos
 close-left s g [] ys h = absurd h
 close-left s g (x ∷ xs) ys (inl c) = inl c
 close-left s g (x ∷ xs) ys (inr h) = inr (close-left s g xs ys h)
-
 
 no_close_last : (s g id h i : ℕ) (bytes : List ℕ) → HasClose s g (piece id h Last i bytes ∷ []) → ⊥
 no_close_last s g id h i bytes (inl k) = let e : Last ≡ Close = k.part_is in cc

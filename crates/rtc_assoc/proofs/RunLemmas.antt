@@ -1,20 +1,19 @@
 -- Runs of two ends.
-use Rattle.std.proofs.Common.{ℕ, ◌≡◌, ◌+◌, ◌≤◌, ◌⊎◌, ◌==◌, ◌&&◌, ◌||◌, nat_lt, inl, inr, Bool, true, false, List, [], ◌∷◌, ◌++◌, refl, sym, ap, subst, ◌∙◌, append_assoc, append-nil, arith}
+use Rattle.std.proofs.Common.{ℕ, ◌≡◌, ◌+◌, ◌⊎◌, ◌==◌, ◌&&◌, ◌||◌, nat_lt, inl, inr, true, false, List, [], ◌∷◌, ◌++◌, refl, sym, ap, subst, ◌∙◌, append_assoc, append-nil, arith}
 use Rattle.std.proofs.lemmas.Bool.Decides.{nat_tests}
-use Rattle.rtc_parts.specs.Among.{Member, Among}
-use Rattle.rtc_parts.specs.AssociationActs.{AssociationAct, Started, Opened, Wrote, Ended, Given, Taken, Read, Told, Stirred, Acted, Moved, moved-append}
-use Rattle.rtc_parts.specs.AssociationWords.{AssociationMessage, given, taken, written, read, ended, told, completions}
-use Rattle.rtc_parts.proofs.AssociationLemmas.{taken-append, completed, completions_before_read}
+use Rattle.rtc_parts.specs.Among.{Among}
+use Rattle.rtc_parts.specs.AssociationActs.{AssociationAct, Given, Moved, moved-append}
+use Rattle.rtc_parts.specs.AssociationWords.{given, taken, ended, told, completions}
+use Rattle.rtc_parts.proofs.AssociationLemmas.{taken-append, completed}
 use Rattle.rtc_assoc_items.specs.declared.item.Item.{Item}
 use Rattle.rtc_assoc_plain.specs.Contents.{Contents, fresh_contents, generation_of, untold_resets}
 use Rattle.rtc_assoc_plain.specs.PlainMeaning.{plain_meaning}
 use Rattle.rtc_assoc_plain.specs.PlainLaws.{plain_laws}
-use Rattle.rtc_assoc.specs.Unread.{unread, IsPrefix}
 use Rattle.rtc_assoc.specs.Joined.{Ends, fresh_ends, Move, LeftMoves, RightMoves, Goes, Run, Joined}
 use Rattle.rtc_assoc.proofs.UnreadLemmas.{prefix_none}
 use Rattle.rtc_assoc.proofs.AliveLemmas.{alive}
 use Rattle.rtc_assoc.proofs.StepLemmas.{Step, step_of}
-use Rattle.rtc_assoc.proofs.DirectedLemmas.{Directed, sender_moves, receiver_moves, brings_of, directed_prefix, directed_all}
+use Rattle.rtc_assoc.proofs.DirectedLemmas.{Directed, sender_moves, receiver_moves, brings_of}
 
 -- what one end told, by its own acts
 pub resets_told : (p : Contents) (acts : List AssociationAct) (s : ℕ) → Moved plain_meaning fresh_contents acts p → completions s (told acts) + untold_resets p s ≡ generation_of p s

@@ -1,12 +1,12 @@
 -- What is kept of a generation of a stream while messages come, are read and are dropped.
-use Rattle.std.proofs.Common.{ℕ, zero, suc, ◌≡◌, ◌+◌, ◌==◌, ◌&&◌, ◌⊎◌, not, inl, inr, Bool, true, false, cond, List, [], ◌∷◌, ◌++◌, filter, Option, Some, None, refl, sym, ap, subst, ◌∙◌, append_assoc, append-nil}
+use Rattle.std.proofs.Common.{ℕ, ◌≡◌, not, inl, inr, Bool, true, false, cond, List, [], ◌∷◌, ◌++◌, Some, None, refl, sym, ap, ◌∙◌, append_assoc, append-nil}
 use Rattle.std.proofs.lemmas.Bool.{cases_Bool}
 use Rattle.rtc_parts.specs.AssociationWords.{AssociationMessage}
 use Rattle.rtc_assoc_plain.specs.declared.message.Message.{Message}
-use Rattle.rtc_assoc_plain.specs.Inbox.{MessagePart, part, is_part_of, is_message_of, bytes_so_far, with_bytes, without_part, without_messages}
+use Rattle.rtc_assoc_plain.specs.Inbox.{MessagePart, is_part_of, is_message_of, bytes_so_far, with_bytes, without_part, without_messages}
 use Rattle.rtc_assoc_plain.specs.Calls.{message_in, messages_behind}
 use Rattle.rtc_assoc.specs.Unread.{unread, IsPrefix}
-use Rattle.rtc_assoc.proofs.MessageLemmas.{is_pair, pair_tells, pair_same, message}
+use Rattle.rtc_assoc.proofs.MessageLemmas.{pair_tells, pair_same, message}
 
 -- lists that begin others
 pub prefix_self : {A : Type 0} (xs : List A) → IsPrefix xs xs
