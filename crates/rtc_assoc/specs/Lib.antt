@@ -1,2 +1,4 @@
 pub mod Unread
 pub mod Joined
+pub mod Steps
+pub mod Replies
