@@ -335,12 +335,16 @@ directed_prefix w a b v u s g h =
     let all : messages s g [] (take n w) ++ rest ≡ written s g v = sym (messages-append s g [] (take n w) (drop n w)) ∙ ap (messages s g []) (take-append-drop n w) ∙ h.wrote s g in
     subst (λ (l : List AssociationMessage). IsPrefix (read s g u) l) all (prefix_more (read s g u) (messages s g [] (take n w)) rest front)
 
--- where neither closed the generation and nothing is unacknowledged, what is read and unread is all that was written
-pub directed_all : (w : List Item) (a b : Contents) (v u : List AssociationAct) (s g : ℕ) → Directed w a b v u → ended s g v ≡ false → ended s g u ≡ false → a.outbox.items ≡ [] → read s g u ++ unread s g b.inbox.unread ≡ written s g v
-directed_all w a b v u s g h x y e =
+-- where messages of the generation are taken and nothing is unacknowledged, what is read and unread is all that was
+-- written
+pub directed_open : (w : List Item) (a b : Contents) (v u : List AssociationAct) (s g : ℕ) → Directed w a b v u → alive b.streams s g ≡ true → a.outbox.items ≡ [] → read s g u ++ unread s g b.inbox.unread ≡ written s g v
+directed_open w a b v u s g h l e =
     let n : length w ≤ b.inbox.received = omega (arith, h.sender.count, h.sender.behind, ap length e) in
-    let lives : alive b.streams s g ≡ true = elim (cases_Bool (alive b.streams s g)) [ inl l ↦ l | inr l ↦ absurd (none (h.dead s g l)) ] in
-    h.receiver.exact s g lives ∙ ap (messages s g []) (take_all b.inbox.received w n) ∙ h.wrote s g
+    h.receiver.exact s g l ∙ ap (messages s g []) (take_all b.inbox.received w n) ∙ h.wrote s g
+
+-- they are where neither closed the generation
+pub directed_all : (w : List Item) (a b : Contents) (v u : List AssociationAct) (s g : ℕ) → Directed w a b v u → ended s g v ≡ false → ended s g u ≡ false → a.outbox.items ≡ [] → read s g u ++ unread s g b.inbox.unread ≡ written s g v
+directed_all w a b v u s g h x y e = directed_open w a b v u s g h (elim (cases_Bool (alive b.streams s g)) [ inl l ↦ l | inr l ↦ absurd (none (h.dead s g l)) ]) e
   where
     none : EitherEnded s g v u → ⊥
     none (inl k) = let j : false ≡ true = sym x ∙ k in cc

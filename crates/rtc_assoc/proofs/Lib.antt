@@ -5,3 +5,5 @@ pub mod ArriveLemmas
 pub mod StepLemmas
 pub mod DirectedLemmas
 pub mod RunLemmas
+pub mod ActLemmas
+pub mod WorldLemmas

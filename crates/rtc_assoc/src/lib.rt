@@ -7,6 +7,7 @@ mod calls;
 mod ends;
 mod joined;
 mod resets;
+mod runs;
 mod sent;
 mod world;
 
@@ -16,3 +17,4 @@ pub use ends::what_is_read_was_written;
 pub use joined::moves_join_ends;
 pub use resets::each_reset_is_told_once;
 pub use rtc_assoc_plain::PlainAssociation;
+pub use runs::run_assoc;
