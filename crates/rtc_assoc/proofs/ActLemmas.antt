@@ -1,14 +1,12 @@
 -- The acts of one step at an end.
-use Rattle.std.proofs.Common.{ℕ, zero, suc, ◌≡◌, ◌+◌, ◌==◌, ◌&&◌, ◌⊎◌, not, inl, inr, Bool, true, false, cond, List, [], ◌∷◌, ◌++◌, length, Option, Some, None, Ok, Err, refl, sym, ap, subst, ◌∙◌, append-nil}
+use Rattle.std.proofs.Common.{ℕ, zero, suc, ◌≡◌, ◌&&◌, not, inl, inr, Bool, true, false, List, [], ◌∷◌, ◌++◌, length, Option, Some, None, Ok, refl, sym, ap, subst, ◌∙◌, append-nil}
 use Rattle.std.specs.Prelude.{slice_get}
-use Rattle.rtc_parts.specs.declared.assoc_error.AssocError.{AssocError}
-use Rattle.rtc_parts.specs.declared.assoc_event.AssocEvent.{AssocEvent}
 use Rattle.rtc_parts.specs.declared.ppi.Ppi.{Ppi}
 use Rattle.rtc_parts.specs.Ppi.{ppi_number}
 use Rattle.rtc_parts.specs.Why.{Timed, Other}
 use Rattle.rtc_parts.specs.Among.{Member}
 use Rattle.rtc_parts.specs.AssociationActs.{AssociationAct, Started, Opened, Wrote as WroteAct, Ended, Given, Taken, Read as ReadAct, Told, Stirred, ByConnect, ByAccept, ConnectRefused, AcceptRefused, OpenRefused, WriteRefused, ReadRefused, EndRefused, Acted, Moved, moved-one}
-use Rattle.rtc_parts.specs.AssociationWords.{AssociationMessage, given, taken, written, read, told, completions}
+use Rattle.rtc_parts.specs.AssociationWords.{given, taken, written, read, told, completions}
 use Rattle.rtc_assoc_plain.specs.Contents.{Contents, is_started, generation_of}
 use Rattle.rtc_assoc_plain.specs.PlainMeaning.{plain_meaning}
 use Rattle.rtc_assoc_plain.specs.PlainLaws.{plain_laws}

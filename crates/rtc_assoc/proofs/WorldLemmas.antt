@@ -1,7 +1,6 @@
 -- Runs of steps as runs of moves.
-use Rattle.std.proofs.Common.{ℕ, zero, suc, ◌≡◌, ◌+◌, ◌<◌, ◌≤◌, ◌⊎◌, not, inl, inr, Bool, true, false, List, [], ◌∷◌, ◌++◌, length, take, get_or, Some, None, refl, sym, ap, subst, ◌∙◌, append_assoc, append-nil, length-append, arith}
-use Rattle.std.proofs.lemmas.List.{take_more, length-take-le, take_all}
-use Rattle.std.proofs.lemmas.Bool.{cases_Bool}
+use Rattle.std.proofs.Common.{ℕ, ◌≡◌, ◌+◌, ◌<◌, ◌≤◌, not, inl, inr, Bool, true, false, List, [], ◌∷◌, ◌++◌, length, take, get_or, Some, refl, sym, ap, subst, ◌∙◌, append_assoc, append-nil, arith}
+use Rattle.std.proofs.lemmas.List.{take_more, take_all}
 use Rattle.rtc_parts.specs.declared.ppi.Ppi.{Ppi}
 use Rattle.rtc_parts.specs.Among.{Member, Among}
 use Rattle.rtc_parts.specs.Why.{Other}
@@ -19,10 +18,10 @@ use Rattle.rtc_assoc.specs.declared.assoc_reply.AssocReply.{AssocReply}
 use Rattle.rtc_assoc.specs.declared.assoc_reply.AssocReply.TheVariants.{Message, NoSuch}
 use Rattle.rtc_assoc.specs.Unread.{unread, IsPrefix}
 use Rattle.rtc_assoc.specs.Joined.{Ends, fresh_ends, Move, LeftMoves, RightMoves, Goes, Run}
-use Rattle.rtc_assoc.specs.Steps.{at_left, Performs, World, Steps, Ran, first_world, Runs}
-use Rattle.rtc_assoc.specs.Replies.{wrote_by, read_by, told_by, written_in, read_in, told_in, is_open}
+use Rattle.rtc_assoc.specs.Steps.{at_left, Performs, World, Steps, Ran, first_world}
+use Rattle.rtc_assoc.specs.Replies.{wrote_by, read_by, told_by, written_in, read_in, told_in}
 use Rattle.rtc_assoc.specs.Law.{OneWay, ToldOnce}
-use Rattle.rtc_assoc.proofs.ActLemmas.{sent, sents, Acts, acts_of, Elsewhere, elsewhere}
+use Rattle.rtc_assoc.proofs.ActLemmas.{sent, sents, acts_of, elsewhere}
 use Rattle.rtc_assoc.proofs.DirectedLemmas.{directed_prefix, directed_open}
 use Rattle.rtc_assoc.proofs.RunLemmas.{both_run, moved_run, resets_told}
 

@@ -1,8 +1,5 @@
 -- What steps and their replies say was written, read and told.
-use Rattle.std.specs.Prelude.{ℕ, ◌≡◌, ◌+◌, ◌==◌, ◌&&◌, not, if◌then◌else◌, Bool, true, false, List, [], ◌∷◌, ◌++◌, Option, Some, None}
-use Rattle.rtc_parts.specs.declared.assoc_event.AssocEvent.{AssocEvent}
-use Rattle.rtc_parts.specs.declared.assoc_event.AssocEvent.TheVariants.{ResetComplete}
-use Rattle.rtc_parts.specs.declared.ppi.Ppi.{Ppi}
+use Rattle.std.specs.Prelude.{ℕ, ◌+◌, ◌==◌, ◌&&◌, not, if◌then◌else◌, Bool, true, false, List, [], ◌∷◌, ◌++◌, Some}
 use Rattle.rtc_parts.specs.Ppi.{ppi_number}
 use Rattle.rtc_parts.specs.AssociationWords.{AssociationMessage, completions}
 use Rattle.rtc_assoc_plain.specs.Contents.{Contents}

@@ -9,7 +9,9 @@ pub enum AssocReply {
     /// Neither `Fault` nor `Alloc`.
     Refused(AssocError),
     /// A message was written. The generation is the stream's as the call began.
-    Wrote { generation: u64 },
+    Wrote {
+        generation: u64,
+    },
     /// The number of the packet that was taken, if there was one.
     Packet(Option<u32>),
     Event(Option<AssocEvent>),

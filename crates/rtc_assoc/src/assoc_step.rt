@@ -9,28 +9,48 @@ use rtc_wire::{Bytes, Moment};
 #[derive(Debug, PartialEq, Eq, Drop)]
 pub enum AssocStep {
     /// Starts the end as the client at moment 0, with the longest send limit.
-    Connect { left: bool },
+    Connect {
+        left: bool,
+    },
     /// Starts the end as the server at moment 0, with the longest send limit.
-    Accept { left: bool },
-    Open { left: bool, id: u16 },
+    Accept {
+        left: bool,
+    },
+    Open {
+        left: bool,
+        id: u16,
+    },
     Write {
         left: bool,
         id: u16,
         ppi: Ppi,
         bytes: Bytes,
     },
-    CloseStream { left: bool, id: u16 },
-    Time { left: bool, now: Moment },
+    CloseStream {
+        left: bool,
+        id: u16,
+    },
+    Time {
+        left: bool,
+        now: Moment,
+    },
     /// Takes a packet of the end.
-    Transmit { left: bool },
+    Transmit {
+        left: bool,
+    },
     /// Gives the end a packet that the other one transmitted. Packets are numbered from 0 over both ends.
     Deliver {
         left: bool,
         packet: u32,
         now: Moment,
     },
-    Poll { left: bool },
-    Read { left: bool, id: u16 },
+    Poll {
+        left: bool,
+    },
+    Read {
+        left: bool,
+        id: u16,
+    },
 }
 
 impl AssocStep {

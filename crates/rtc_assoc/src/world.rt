@@ -4,7 +4,9 @@ ghost use Rattle.rtc_assoc.specs.Steps.{at_left, Performs, World, Steps};
 
 use crate::assoc_reply::AssocReply;
 use crate::assoc_step::AssocStep;
-use crate::calls::{accept, close_stream, connect, deliver, open, poll, read, time, transmit, write};
+use crate::calls::{
+    accept, close_stream, connect, deliver, open, poll, read, time, transmit, write,
+};
 use crate::sent::Sent;
 use rtc_assoc_plain::PlainAssociation;
 use std::alloc::AllocError;

@@ -1,4 +1,4 @@
-use Rattle.std.proofs.Common.{◌≡◌, ap, sym, subst, length, take, List, ◌+◌, ◌∷◌, [], ◌++◌, true, false, arith}
+use Rattle.std.proofs.Common.{sym, subst, take, List, ◌+◌, true, false, arith}
 use Rattle.rtc_assoc.specs.declared.assoc_reply.AssocReply.{AssocReply}
 use Rattle.rtc_assoc.specs.Steps.{Ran, World, first_world}
 use Rattle.rtc_assoc.proofs.WorldLemmas.{ran_next, ran_all, one_way_left, one_way_right, told_once}

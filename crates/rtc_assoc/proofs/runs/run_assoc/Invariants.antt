@@ -1,4 +1,4 @@
-use Rattle.std.proofs.Common.{◌≡◌, ◌≤◌, take, length}
+use Rattle.std.proofs.Common.{◌≤◌, take, length}
 use Rattle.rtc_assoc.specs.Steps.{Ran, first_world}
 use Rattle.rtc_assoc.proofs.runs.run_assoc.Given as goal
 
