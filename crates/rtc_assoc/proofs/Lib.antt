@@ -1,0 +1,9 @@
+pub mod MessageLemmas
+pub mod UnreadLemmas
+pub mod AliveLemmas
+pub mod ArriveLemmas
+pub mod StepLemmas
+pub mod DirectedLemmas
+pub mod RunLemmas
+pub mod ActLemmas
+pub mod WorldLemmas

@@ -1,0 +1,82 @@
+//! One step of two ends.
+ghost use Rattle.std.specs.Prelude.{◌≡◌, ◌<◌, ◌≤◌, ◌+◌, ◌^◌, length, IfOk};
+ghost use Rattle.rtc_assoc.specs.Steps.{at_left, Performs, World, Steps};
+
+use crate::assoc_reply::AssocReply;
+use crate::assoc_step::AssocStep;
+use crate::calls::{
+    accept, close_stream, connect, deliver, open, poll, read, time, transmit, write,
+};
+use crate::sent::Sent;
+use rtc_assoc_plain::PlainAssociation;
+use std::alloc::AllocError;
+
+// A step at an end.
+fn act(
+    step: &AssocStep,
+    end: &mut PlainAssociation,
+    packets: &mut Vec<Sent>,
+) -> Result<AssocReply, AllocError>
+    requires { length packets.old.items < 2 ^ 32 }
+    ensures performs { IfOk result (λ reply. Performs step.now reply end.old end.new packets.old.items packets.new.items) }
+    ensures few { length packets.new.items ≤ length packets.old.items + 1 }
+{
+    match step {
+        AssocStep::Connect { .. } => {
+            let reply = connect(end)?;
+            Ok(reply)
+        }
+        AssocStep::Accept { .. } => {
+            let reply = accept(end)?;
+            Ok(reply)
+        }
+        AssocStep::Open { id, .. } => {
+            let reply = open(end, *id)?;
+            Ok(reply)
+        }
+        AssocStep::Write { id, ppi, bytes, .. } => {
+            let reply = write(end, *id, *ppi, bytes.as_slice())?;
+            Ok(reply)
+        }
+        AssocStep::CloseStream { id, .. } => {
+            let reply = close_stream(end, *id)?;
+            Ok(reply)
+        }
+        AssocStep::Time { now, .. } => {
+            let reply = time(end, *now)?;
+            Ok(reply)
+        }
+        AssocStep::Transmit { left } => {
+            let reply = transmit(end, *left, packets)?;
+            Ok(reply)
+        }
+        AssocStep::Deliver { left, packet, now } => {
+            let reply = deliver(end, *left, *packet, *now, packets.as_slice())?;
+            Ok(reply)
+        }
+        AssocStep::Poll { .. } => Ok(poll(end)),
+        AssocStep::Read { id, .. } => {
+            let reply = read(end, *id)?;
+            Ok(reply)
+        }
+    }
+}
+
+/// A step at the end that it names.
+pub fn perform(
+    step: &AssocStep,
+    left: &mut PlainAssociation,
+    right: &mut PlainAssociation,
+    packets: &mut Vec<Sent>,
+) -> Result<AssocReply, AllocError>
+    requires { length packets.old.items < 2 ^ 32 }
+    ensures steps { IfOk result (λ reply. Steps (at_left step.now) step.now reply (record { left = left.old; right = right.old; packets = packets.old.items }) (record { left = left.new; right = right.new; packets = packets.new.items })) }
+    ensures few { length packets.new.items ≤ length packets.old.items + 1 }
+{
+    if step.at_left() {
+        let reply = act(step, left, packets)?;
+        return Ok(reply);
+    }
+    let reply = act(step, right, packets)?;
+    Ok(reply)
+}
