@@ -1,4 +1,3 @@
-pub mod FreeMid
 pub mod Staging
 pub mod TextLists
 pub mod Tells

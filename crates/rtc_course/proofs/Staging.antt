@@ -1,8 +1,7 @@
 -- What the ops of a step stage, and that each mid which answers one is new.
-use Rattle.std.proofs.Common.{◌≡◌, ◌≤◌, ◌<◌, ◌+◌, ◌%◌, ◌^◌, ℕ, List, [], ◌∷◌, ◌++◌, map, length, Bool, true, false, ◌||◌, refl, sym, ◌∙◌, ap, arith, append-nil, append_assoc, length-append}
+use Rattle.std.proofs.Common.{◌≡◌, ◌≤◌, ◌<◌, ◌+◌, ◌^◌, ℕ, List, [], ◌∷◌, ◌++◌, map, length, Bool, true, false, ◌||◌, refl, sym, ◌∙◌, ap, arith, append-nil, append_assoc, length-append}
 use Rattle.std.specs.List.{list_any}
 use Rattle.std.specs.Str.{bytes_eq}
-use Rattle.std.proofs.lemmas.List.{length-map}
 use Rattle.std.proofs.lemmas.List.Folds.{list_any-append}
 use Rattle.rtc_rows.specs.LineRow.{row_mid}
 use Rattle.rtc_rows.specs.declared.line_row.LineRow.{LineRow}
@@ -14,8 +13,8 @@ use Rattle.rtc_plan.specs.Table.{has_mid}
 use Rattle.rtc_plan.specs.PendingOffer.{added_mid, adds_mid, added_row, added_rows}
 use Rattle.rtc_peer_state.specs.declared.peer.Peer.{Peer}
 use Rattle.rtc_peer_state.specs.Draws.{Draws}
-use Rattle.rtc_peer_state.specs.Names.{free_mid, is_held}
-use Rattle.rtc_peer_state.specs.Calls.{staged_media, staged_mid}
+use Rattle.rtc_peer_state.specs.Names.{is_held}
+use Rattle.rtc_peer_state.specs.Calls.{staged_media}
 use Rattle.rtc_steps.specs.declared.op.Op.{Op}
 use Rattle.rtc_steps.specs.declared.op.Op.TheVariants.{AddMedia}
 use Rattle.rtc_steps.specs.declared.op_answer.OpAnswer.{OpAnswer}
@@ -23,13 +22,8 @@ use Rattle.rtc_steps.specs.declared.op_answer.OpAnswer.TheVariants.{Mid, Alloc a
 use Rattle.rtc_steps.specs.Past.{added, do_stage}
 use Rattle.rtc_steps.specs.Sound.{OpsAnswered}
 use Rattle.rtc_course.specs.Performs.{PerformsOps, wanted}
-use Rattle.rtc_course.proofs.FreeMid.{free_mid_is_free}
 
 -- ---- mids that are held
-
--- the mids of rows and of staged lines
-abbrev held_mids : List LineRow → List Change → List (List ℕ)
-held_mids rows staged = map row_mid rows ++ map added_mid staged
 
 -- a test of what a list is mapped to
 any_mapped : {A B : Type 0} (test : B → Bool) (f : A → B) (xs : List A) → list_any test (map f xs) ≡ list_any (λ x. test (f x)) xs
@@ -38,20 +32,6 @@ any_mapped test f (x ∷ xs) = rw (any_mapped test f xs) refl
 
 pub among_rows : (rows : List LineRow) (mid : List ℕ) → is_among (map row_mid rows) mid ≡ has_mid mid rows
 among_rows rows mid = any_mapped (λ other. bytes_eq other mid) row_mid rows
-
-held_among : (rows : List LineRow) (staged : List Change) (mid : List ℕ) → is_held rows staged mid ≡ is_among (held_mids rows staged) mid
-held_among rows staged mid =
-    rw (list_any-append (λ other. bytes_eq other mid) (map row_mid rows) (map added_mid staged), any_mapped (λ other. bytes_eq other mid) row_mid rows, any_mapped (λ other. bytes_eq other mid) added_mid staged) refl
-
--- a mid that is drawn is that of no row and of no staged line
-staged_mid_is_free : {N : Type 0} (draws : Draws N) (p : Peer N) → length p.lines + length p.staged + 1 < 2 ^ 32 → is_held p.lines p.staged (staged_mid draws p) ≡ false
-staged_mid_is_free draws p few =
-    free (length p.lines + length p.staged) (length-append (map row_mid p.lines) (map added_mid p.staged) ∙ (rw (length-map p.lines row_mid, length-map p.staged added_mid) refl))
-  where
-    free : (tries : ℕ) → length (held_mids p.lines p.staged) ≡ tries → is_held p.lines p.staged (free_mid (is_held p.lines p.staged) tries (draws.drawn p.ids % 2 ^ 32)) ≡ false
-    free tries count =
-        rw (← count) (free_mid_is_free (is_held p.lines p.staged) (held_mids p.lines p.staged) (draws.drawn p.ids % 2 ^ 32) (held_among p.lines p.staged) (omega arith)
-        (omega (arith, length-append (map row_mid p.lines) (map added_mid p.staged), length-map p.lines row_mid, length-map p.staged added_mid)))
 
 newest_last : (a b c : Bool) → (c || (a || b)) ≡ (a || (b || (c || false)))
 newest_last true b true = refl
@@ -78,7 +58,7 @@ ops_answered draws p q (AddMedia kind dir ∷ ops) (Mid mid ∷ answers) held sa
     let lines : h.0.lines ≡ p.lines = ap (λ r. r.lines) h.1.1 in
     let count : length h.0.staged ≡ length p.staged + 1 = ap length staged ∙ length-append p.staged (change ∷ []) in
     let rows : length h.0.lines ≡ length p.lines = ap length lines in (
-      same mid ∙ ap (is_held p.lines p.staged) h.1.0 ∙ staged_mid_is_free draws p (omega arith),
+      same mid ∙ h.1.2,
       ops_answered draws h.0 q ops answers (mid ∷ held)
           (λ other. ap (λ m. is_among (m ∷ held) other) h.1.0 ∙ held_more p.lines p.staged change held other (same other) ∙ sym (ap (λ s. is_held p.lines s other) staged) ∙ sym (ap (λ l. is_held l h.0.staged other) lines))
           (omega arith) h.2,

@@ -1,5 +1,5 @@
 //! Draws of names.
-ghost use Rattle.std.specs.Prelude.{◌≡◌, ◌+◌, ◌<◌, ◌^◌, IfOk, OnOk, Option, option_map, string_bytes, length, codes};
+ghost use Rattle.std.specs.Prelude.{◌≡◌, ◌+◌, ◌-◌, ◌%◌, ◌<◌, ◌^◌, false, IfOk, OnOk, Option, option_map, string_bytes, length, codes};
 ghost use Rattle.rtc_plan.specs.PendingOffer.{adds_mid};
 ghost use Rattle.rtc_peer_state.specs.Names.{drawn_mid, is_held, free_mid, kept_bytes, kept_name, name_of, after_name};
 
@@ -24,13 +24,8 @@ fn is_held_mid(lines: &Lines, staged: &[Change], mid: Mid) -> bool
     lines.has_mid(mid) || is_added(staged, mid)
 }
 
-/// The first mid counted on from a number that no row and no staged line has.
-pub fn find_mid(
-    alloc: Global,
-    lines: &Lines,
-    staged: &[Change],
-    first: u32,
-) -> Result<Mid, AllocError>
+// The first mid counted on from a number that no row and no staged line has.
+fn find_mid(alloc: Global, lines: &Lines, staged: &[Change], first: u32) -> Result<Mid, AllocError>
     requires { length lines.now + length staged.now < 2 ^ 63 }
     ensures { IfOk result (λ mid. mid ≡ free_mid (is_held lines.now staged.now) (length lines.now + length staged.now) first) }
 {
@@ -44,6 +39,23 @@ pub fn find_mid(
         n = n.wrapping_add(1);
     }
     numbered_mid(alloc, n)
+}
+
+/// Draws a mid that no row and no staged line has.
+pub fn draw_mid<N: Ids>(
+    alloc: Global,
+    ids: &mut N,
+    lines: &Lines,
+    staged: &[Change],
+) -> Result<Mid, AllocError>
+    requires { length lines.now + length staged.now < 2 ^ 32 - 1 }
+    ensures mid { IfOk result (λ mid. mid ≡ free_mid (is_held lines.now staged.now) (length lines.now + length staged.now) (N.ids.drawn ids.old % 2 ^ 32)) }
+    ensures free { IfOk result (λ mid. is_held lines.now staged.now mid ≡ false) }
+    ensures after { ids.new ≡ N.ids.after ids.old }
+{
+    let first = (ids.draw() % (1 << 32)) as u32;
+    let mid = find_mid(alloc, lines, staged, first)?;
+    Ok(mid)
 }
 
 // The bytes that are kept of a name.

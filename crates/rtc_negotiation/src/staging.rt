@@ -3,7 +3,7 @@ ghost use Rattle.std.specs.Prelude.{◌≡◌, ◌+◌, ◌<◌, ◌^◌, ◌-�
 ghost use Rattle.rtc_peer_state.specs.Calls.{AddsMedia};
 ghost use Rattle.rtc_peer_state.specs.Sources.{pair_count};
 
-use crate::naming::{draw_name, find_mid, keep_name};
+use crate::naming::{draw_mid, draw_name, keep_name};
 use crate::sourcing::draw_pairs;
 use rtc_peer_state::{Ids, Peer};
 use rtc_plan::{AddMedia, Change};
@@ -34,8 +34,7 @@ pub fn stage_media<N: Ids>(
     ensures { AddsMedia N.ids peer.old (record { kind = kind; dir = dir; stream = option_map (λ name. string_bytes name) stream_id; track = option_map (λ name. string_bytes name) track_id; simulcast = simulcast }) result peer.new }
 {
     let alloc = peer.alloc;
-    let first = (peer.ids.draw() % (1 << 32)) as u32;
-    let mid = find_mid(alloc, &peer.lines, peer.staged.as_slice(), first)?;
+    let mid = draw_mid(alloc, &mut peer.ids, &peer.lines, peer.staged.as_slice())?;
     let stream = keep_name(alloc, stream_id)?;
     let stream_id = draw_name(alloc, &mut peer.ids, "s", stream)?;
     let track = keep_name(alloc, track_id)?;

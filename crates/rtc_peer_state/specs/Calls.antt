@@ -70,7 +70,7 @@ module _ {N : Type 0} (draws : Draws N) where
     simulcast = wanted.simulcast;
   }
 
-  -- A media line is staged.
+  -- A media line is staged, with a mid that no row and no staged line has.
   abbrev pub AddsMedia : Peer N → Wanted → Result (List ℕ) AllocError → Peer N → Type 0
   AddsMedia p wanted (Ok mid) q =
       (mid ≡ staged_mid p)
@@ -78,6 +78,7 @@ module _ {N : Type 0} (draws : Draws N) where
         staged = p.staged ++ AddMedia (staged_media p wanted) ∷ [];
         ids = after_pairs draws (is_used p.sources) wanted.kind (pair_count wanted.simulcast) (track_drawn p.ids wanted);
       })
+      × (is_held p.lines p.staged mid ≡ false)
   AddsMedia p wanted (Err error) q = q ≡ record p { ids = q.ids }
 
 -- What is staged is applied.

@@ -1,17 +1,23 @@
 -- A mid that is drawn is free: of one more mids than are held, one is not held.
-use Rattle.std.proofs.Common.{◌≡◌, ◌≢◌, ◌∙◌, ◌≤◌, ◌<◌, ◌+◌, ◌%◌, ◌^◌, zero, suc, ◌||◌, Bool, true, false, ℕ, List, [], ◌∷◌, length, refl, sym, ap, subst, arith}
-use Rattle.std.specs.List.{IsDistinct, AllByRecursion}
+use Rattle.std.proofs.Common.{◌≡◌, ◌≢◌, ◌∙◌, ◌≤◌, ◌<◌, ◌+◌, ◌%◌, ◌^◌, zero, suc, ◌||◌, Bool, true, false, ℕ, List, [], ◌∷◌, ◌++◌, map, length, refl, sym, ap, subst, arith, length-append}
+use Rattle.std.specs.List.{list_any, IsDistinct, AllByRecursion}
 use Rattle.std.specs.Set.{is_member}
 use Rattle.std.specs.Str.{bytes_eq}
 use Rattle.std.specs.Fmt.{decimal}
 use Rattle.std.specs.Cmp.{IsEquivalence}
 use Rattle.std.proofs.lemmas.Bool.{false_from_ne_true}
 use Rattle.std.proofs.lemmas.Fmt.{decimal_injective}
+use Rattle.std.proofs.lemmas.List.{length-map}
+use Rattle.std.proofs.lemmas.List.Folds.{list_any-append}
 use Rattle.std.proofs.lemmas.Slice.Eq.{bytes_eq-Decides}
 use Rattle.std.proofs.lemmas.Map.Keys.{IsDistinct-cons}
 use Rattle.std.proofs.lemmas.Map.Made.{length-le_from_is_member}
+use Rattle.rtc_rows.specs.LineRow.{row_mid}
+use Rattle.rtc_rows.specs.declared.line_row.LineRow.{LineRow}
+use Rattle.rtc_plan.specs.declared.change.Change.{Change}
 use Rattle.rtc_plan.specs.Distinct.{is_among}
-use Rattle.rtc_peer_state.specs.Names.{drawn_mid, free_mid}
+use Rattle.rtc_plan.specs.PendingOffer.{added_mid}
+use Rattle.rtc_peer_state.specs.Names.{drawn_mid, free_mid, is_held}
 
 abbrev following : ℕ → ℕ
 following n = (n + 1) % 2 ^ 32
@@ -109,7 +115,7 @@ member_among [] mid = refl
 member_among (first ∷ mids) mid = rw (bytes_symm mid first, member_among mids mid) refl
 
 -- the mid that is found is free
-pub free_mid_is_free : (held : List ℕ → Bool) (mids : List (List ℕ)) (n : ℕ) → ((mid : List ℕ) → held mid ≡ is_among mids mid)
+free_mid_is_free : (held : List ℕ → Bool) (mids : List (List ℕ)) (n : ℕ) → ((mid : List ℕ) → held mid ≡ is_among mids mid)
     → n < 2 ^ 32 → length mids + 1 < 2 ^ 32 → held (free_mid held (length mids) n) ≡ false
 free_mid_is_free held mids n same small few = false_from_ne_true (held (free_mid held (length mids) n)) (λ found.
     let most : length (tried (length mids) n) ≤ length mids =
@@ -117,3 +123,28 @@ free_mid_is_free held mids n same small few = false_from_ne_true (held (free_mid
     (λ other among. member_among mids other ∙ sym (same other) ∙ all_held held (length mids) n found other among) in
     let count : length (tried (length mids) n) ≡ suc (length mids) = length-tried (length mids) n in
     omega arith)
+
+-- the mids of rows and of staged lines
+abbrev held_mids : List LineRow → List Change → List (List ℕ)
+held_mids rows staged = map row_mid rows ++ map added_mid staged
+
+length-held_mids : (rows : List LineRow) (staged : List Change) → length (held_mids rows staged) ≡ length rows + length staged
+length-held_mids rows staged =
+    length-append (map row_mid rows) (map added_mid staged) ∙ (rw (length-map rows row_mid, length-map staged added_mid) refl)
+
+-- a test of what a list is mapped to
+any_mapped : {A B : Type 0} (test : B → Bool) (f : A → B) (xs : List A) → list_any test (map f xs) ≡ list_any (λ x. test (f x)) xs
+any_mapped test f [] = refl
+any_mapped test f (x ∷ xs) = rw (any_mapped test f xs) refl
+
+held_among : (rows : List LineRow) (staged : List Change) (mid : List ℕ) → is_held rows staged mid ≡ is_among (held_mids rows staged) mid
+held_among rows staged mid =
+    rw (list_any-append (λ other. bytes_eq other mid) (map row_mid rows) (map added_mid staged), any_mapped (λ other. bytes_eq other mid) row_mid rows, any_mapped (λ other. bytes_eq other mid) added_mid staged) refl
+
+-- a mid that is drawn and counted on is that of no row and of no staged line
+pub drawn_mid_is_free : (rows : List LineRow) (staged : List Change) (n : ℕ) → n < 2 ^ 32 → length rows + length staged + 1 < 2 ^ 32
+    → is_held rows staged (free_mid (is_held rows staged) (length rows + length staged) n) ≡ false
+drawn_mid_is_free rows staged n small few =
+    let free : is_held rows staged (free_mid (is_held rows staged) (length (held_mids rows staged)) n) ≡ false =
+    free_mid_is_free (is_held rows staged) (held_mids rows staged) n (held_among rows staged) small (omega (arith, length-held_mids rows staged)) in
+    ap (λ (tries : ℕ). is_held rows staged (free_mid (is_held rows staged) tries n)) (sym (length-held_mids rows staged)) ∙ free
