@@ -108,7 +108,7 @@ pub record GoesOn (outcome : Outcome) (course : Course) (past : List Entry) : Ty
   pub ok : IsOkOrLacks outcome
   pub next : outcome_lacks outcome ≡ false → InCourse course past
 
-accept_goes_on : (past : List Entry) (at : Side) (n : ℕ) (outcome : Outcome) (table : Option Table) (made : List Said) → Sound past → HasOffered at n past → Aligned (before at past) (before (other_side at) past)
+pub accept_goes_on : (past : List Entry) (at : Side) (n : ℕ) (outcome : Outcome) (table : Option Table) (made : List Said) → Sound past → HasOffered at n past → Aligned (before at past) (before (other_side at) past)
     → IsSound past (AcceptOffer (other_side at) n) outcome table → MakesText (AcceptOffer (other_side at) n) outcome table made
     → GoesOn outcome (record { texts = length (texts past) + 1; phase = AwaitsEnd at n (length (texts past)) }) (entry (AcceptOffer (other_side at) n) outcome table made ∷ past)
 accept_goes_on past at n Alloc None made sound has same replied says = record { ok = refl; next = λ enough. absurd (cc) }
@@ -127,7 +127,7 @@ accept_goes_on past at n outcome (Some table) made sound has same replied says =
         (λ replied says. record { count = length-append (texts past) made ∙ ap (λ (k : ℕ). length (texts past) + k) (ap length says.one); phase = accepted_next at n past j table made has may replied says })
 accept_goes_on past at n outcome table made sound has same replied says = absurd replied
 
-end_goes_on : (past : List Entry) (at : Side) (n m : ℕ) (outcome : Outcome) (table : Option Table) (made : List Said) → Sound past → HasOffered at n past → HasAnswered at n m past
+pub end_goes_on : (past : List Entry) (at : Side) (n m : ℕ) (outcome : Outcome) (table : Option Table) (made : List Said) → Sound past → HasOffered at n past → HasAnswered at n m past
     → IsSound past (AcceptAnswer at n m) outcome table → MakesText (AcceptAnswer at n m) outcome table made
     → GoesOn outcome (record { texts = length (texts past); phase = Idle }) (entry (AcceptAnswer at n m) outcome table made ∷ past)
 end_goes_on past at n m Alloc None made sound has answer replied says = record { ok = refl; next = λ enough. absurd (cc) }
@@ -149,7 +149,7 @@ end_goes_on past at n m outcome table made sound has answer replied says = absur
 -- ---- ops
 
 -- a step that leaves the rows of its side leaves those of both
-rows_kept : (past : List Entry) (at : Side) (ops : List Op) (apply : Bool) (outcome : Outcome) (table : Table) (made : List Said) (side : Side) → table.lines ≡ before at past
+pub rows_kept : (past : List Entry) (at : Side) (ops : List Op) (apply : Bool) (outcome : Outcome) (table : Table) (made : List Said) (side : Side) → table.lines ≡ before at past
     → before side (entry (Negotiate at ops apply) outcome (Some table) made ∷ past) ≡ before side past
 rows_kept past at ops apply outcome table made side lines = by (same_side at side) refl
   where
@@ -157,11 +157,11 @@ rows_kept past at ops apply outcome table made side lines = by (same_side at sid
     by true is = lines ∙ ap (λ s. before s past) (same_side-true at side is)
     by false is = refl
 
-aligned_as : (mine mine' theirs theirs' : List LineRow) → mine' ≡ mine → theirs' ≡ theirs → Aligned mine theirs → Aligned mine' theirs'
+pub aligned_as : (mine mine' theirs theirs' : List LineRow) → mine' ≡ mine → theirs' ≡ theirs → Aligned mine theirs → Aligned mine' theirs'
 aligned_as mine mine' theirs theirs' same_mine same_theirs same = rw (same_mine, same_theirs) same
 
 -- an offer is made
-offer_goes_on : (past : List Entry) (at : Side) (ops : List Op) (apply : Bool) (answers : List OpAnswer) (k : ℕ) (table : Table) (made : List Said) → Sound past → Aligned (before Left past) (before Right past)
+pub offer_goes_on : (past : List Entry) (at : Side) (ops : List Op) (apply : Bool) (answers : List OpAnswer) (k : ℕ) (table : Table) (made : List Said) → Sound past → Aligned (before Left past) (before Right past)
     → table.lines ≡ before at past → k ≡ length (texts past) → MakesText (Negotiate at ops apply) (Negotiated answers (Offer k)) (Some table) made
     → InCourse (record { texts = length (texts past) + 1; phase = AwaitsAnswer at (length (texts past)) }) (entry (Negotiate at ops apply) (Negotiated answers (Offer k)) (Some table) made ∷ past)
 offer_goes_on past at ops apply answers k table made sound same lines count says =
