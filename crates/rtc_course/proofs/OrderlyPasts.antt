@@ -1,10 +1,11 @@
 -- Every past of orderly steps is in its course up to the first want of memory, so that each step gives its Ok until then.
-use Rattle.std.proofs.Common.{◌≡◌, ◌+◌, ◌==◌, ℕ, Bool, true, false, not, ◌&&◌, ◌||◌, List, [], ◌∷◌, ◌++◌, map, length, Option, Some, None, refl, sym, ◌∙◌, ap, subst, cond, append-nil}
+use Rattle.std.proofs.Common.{◌≡◌, ◌+◌, ℕ, Bool, true, false, not, ◌&&◌, List, [], ◌∷◌, ◌++◌, map, length, Option, Some, None, refl, sym, ◌∙◌, ap, subst, append-nil}
 use Rattle.std.specs.Prelude.{slice_get, is_some}
 use Rattle.std.specs.List.{list_any}
-use Rattle.std.proofs.lemmas.Bool.{eqb-true, or_parts, and_parts, and_right}
+use Rattle.std.proofs.lemmas.Bool.{or_parts, and_right}
 use Rattle.rtc_rows.specs.LineRow.{row_mid}
 use Rattle.rtc_rows.specs.declared.line_row.LineRow.{LineRow}
+use Rattle.rtc_rows.specs.declared.line_row.LineRow.TheVariants.{Media}
 use Rattle.rtc_steps.specs.declared.side.Side.{Side}
 use Rattle.rtc_steps.specs.declared.side.Side.TheVariants.{Left, Right}
 use Rattle.rtc_steps.specs.declared.op.Op.{Op}
@@ -16,22 +17,21 @@ use Rattle.rtc_steps.specs.declared.made.Made.TheVariants.{NotAsked, Nothing, Of
 use Rattle.rtc_steps.specs.declared.step.Step.{Step}
 use Rattle.rtc_steps.specs.declared.step.Step.TheVariants.{Negotiate, AcceptOffer, AcceptAnswer}
 use Rattle.rtc_steps.specs.declared.outcome.Outcome.{Outcome}
-use Rattle.rtc_steps.specs.declared.outcome.Outcome.TheVariants.{Negotiated, Answered, Finished, Refused, NoSuch, Alloc}
+use Rattle.rtc_steps.specs.declared.outcome.Outcome.TheVariants.{Negotiated, Alloc}
 use Rattle.rtc_steps.specs.declared.table.Table.{Table}
 use Rattle.rtc_steps.specs.Memory.{answers_lack, outcome_lacks}
 use Rattle.rtc_steps.specs.Sides.{same_side, other_side}
 use Rattle.rtc_steps.specs.Past.{Entry, Said, before, texts, steps_of, is_offer_of, is_applied, is_offer_numbered, do_stage, added_by}
 use Rattle.rtc_steps.specs.Sound.{OpsAnswered, MadeOf, IsSound}
+use Rattle.rtc_steps.specs.Finished.{AreSameLine, Equal}
 use Rattle.rtc_steps.specs.SaidRows.{row_said, MakesText}
-use Rattle.rtc_steps.specs.SoundEntry.{IsSoundEntry}
-use Rattle.rtc_steps.specs.Orderly.{Phase, Idle, AwaitsAnswer, AwaitsEnd, Course, must_offer, do_offer, after_step, after_ops, after_offer, after_answer, follow, course_of, are_orderly, has_lacked, is_ok, OkWhereOrderly}
+use Rattle.rtc_steps.specs.Orderly.{Phase, Idle, AwaitsAnswer, AwaitsEnd, Course, must_offer, do_offer, after_step, after_ops, follow, course_of, has_lacked, OkWhereOrderly, InStepWhereOrderly}
 use Rattle.rtc_course.specs.Runs.{Sound}
-use Rattle.rtc_course.proofs.Tells.{same_side-true}
 use Rattle.rtc_course.proofs.Around.{entry}
-use Rattle.rtc_course.proofs.RowsFollow.{Aligned, Follows}
+use Rattle.rtc_course.proofs.RowsFollow.{SameName, Aligned, Follows}
 use Rattle.rtc_course.proofs.RoundRows.{HasOffered}
 use Rattle.rtc_course.proofs.Courses.{HasAnswered, InPhase, InCourse}
-use Rattle.rtc_course.proofs.CourseSteps.{quiet_course, offer_course, AcceptsAt, accept_course, EndsAt, end_course}
+use Rattle.rtc_course.proofs.CourseSteps.{quiet_course, offer_course, accept_course, end_course}
 use Rattle.rtc_course.proofs.OrderlySteps.{IsOkOrLacks, negotiated_ok, GoesOn, accept_goes_on, end_goes_on, rows_kept, aligned_as, offer_goes_on}
 
 -- ---- ops that offer nothing
@@ -161,7 +161,7 @@ step_goes_on past (AcceptOffer at k) outcome table made course course' sound is 
     let has : InPhase (AwaitsAnswer it.side k) past = subst (λ (phase : Phase). InPhase phase past) it.phase_is is.phase in
     let goes : GoesOn outcome (record { texts = length (texts past) + 1; phase = AwaitsEnd it.side k (length (texts past)) }) (entry (AcceptOffer at k) outcome table made ∷ past) =
     subst (λ (side : Side). IsSound past (AcceptOffer side k) outcome table → MakesText (AcceptOffer side k) outcome table made
-        → GoesOn outcome (record { texts = length (texts past) + 1; phase = AwaitsEnd it.side k (length (texts past)) }) (entry (AcceptOffer side k) outcome table made ∷ past)) it.at_is
+    → GoesOn outcome (record { texts = length (texts past) + 1; phase = AwaitsEnd it.side k (length (texts past)) }) (entry (AcceptOffer side k) outcome table made ∷ past)) it.at_is
     (λ replied says. accept_goes_on past it.side k outcome table made sound has.0 has.1 replied says) replied says in
     subst (λ (c : Course). GoesOn outcome c (entry (AcceptOffer at k) outcome table made ∷ past)) it.course_is
     (subst (λ (n : ℕ). GoesOn outcome (record { texts = n + 1; phase = AwaitsEnd it.side k n }) (entry (AcceptOffer at k) outcome table made ∷ past)) is.count goes)
@@ -184,21 +184,25 @@ follow_last (Some course) [] step = refl
 follow_last None (first ∷ steps) step = refl
 follow_last (Some course) (first ∷ steps) step = follow_last (after_step course first) steps step
 
+-- the same of a past with one more entry
+last_in_course : (past : List Entry) (last : Entry) (course : Course) → Sound past → ((c : Course) → course_of (steps_of past) ≡ Some c → InCourse c past)
+    → IsSound past last.step last.outcome last.table → MakesText last.step last.outcome last.table last.made → outcome_lacks last.outcome ≡ false
+    → course_of (steps_of (last ∷ past)) ≡ Some course → InCourse course (last ∷ past)
+last_in_course past last course sound earlier replied says enough is =
+    by (course_of (steps_of past)) refl (sym (follow_last (Some (record { texts = 0; phase = Idle })) (steps_of past) last.step) ∙ is)
+  where
+    by : (found : Option Course) → course_of (steps_of past) ≡ found → next_of found last.step ≡ Some course → InCourse course (last ∷ past)
+    by None before_it after = absurd (cc)
+    by (Some c) before_it after = (step_goes_on past last.step last.outcome last.table last.made c course sound (earlier c before_it) replied says after).next enough
+
 -- A past of orderly steps, none of which told a want of memory, is in its course.
 in_course : (past : List Entry) (course : Course) → Sound past → has_lacked past ≡ false → course_of (steps_of past) ≡ Some course → InCourse course past
 in_course [] course sound enough is =
     let same : record { texts = 0; phase = Idle } ≡ course = cc in
     subst (λ (c : Course). InCourse c []) same (record { count = refl; phase = tt })
 in_course (last ∷ past) course sound enough is =
-    by (λ c is. in_course past c sound.1 parts.1 is) (course_of (steps_of past)) refl (sym (follow_last (Some (record { texts = 0; phase = Idle })) (steps_of past) last.step) ∙ is)
-  where
-    parts : (outcome_lacks last.outcome ≡ false) × (has_lacked past ≡ false)
-    parts = or_parts (outcome_lacks last.outcome) (has_lacked past) enough
-
-    by : ((c : Course) → course_of (steps_of past) ≡ Some c → InCourse c past) → (found : Option Course) → course_of (steps_of past) ≡ found → next_of found last.step ≡ Some course → InCourse course (last ∷ past)
-    by earlier None before_it after = absurd (cc)
-    by earlier (Some c) before_it after =
-        (step_goes_on past last.step last.outcome last.table last.made c course sound.1 (earlier c before_it) sound.0.replied sound.0.made after).next parts.0
+    let parts = or_parts (outcome_lacks last.outcome) (has_lacked past) enough in
+    last_in_course past last course sound.1 (λ c is. in_course past c sound.1 parts.1 is) sound.0.replied sound.0.made parts.0 is
 
 -- Orderly steps give their Ok up to the first want of memory.
 pub ok_where_orderly : (past : List Entry) (step : Step) (outcome : Outcome) (table : Option Table) (made : List Said) → Sound past → IsSound past step outcome table → MakesText step outcome table made → OkWhereOrderly past step outcome
@@ -212,3 +216,20 @@ ok_where_orderly past step outcome table made sound replied says =
     by : has_lacked past ≡ false → (found : Option Course) → course_of (steps_of past) ≡ found → is_some (next_of found step) ≡ true → IsOkOrLacks outcome
     by enough None before_it some = absurd (cc)
     by enough (Some c) before_it some = of_step c (in_course past c sound enough before_it) (after_step c step) refl some
+
+equal_lines : (rows others : List LineRow) → Aligned rows others → Equal rows others
+equal_lines [] [] same = tt
+equal_lines (row ∷ rows) (other ∷ others) same = (line row other same.0, equal_lines rows others same.1)
+  where
+    line : (row other : LineRow) → SameName row other → AreSameLine row other
+    line (Media place mid kind dir stopped remote_created) (Media place' mid' kind' dir' stopped' remote_created') same = same
+    line row other same = absurd same
+equal_lines rows others same = absurd same
+
+-- Where nothing is outstanding after orderly steps, the tables are equal.
+pub in_step_where_orderly : (past : List Entry) (last : Entry) → Sound past → IsSound past last.step last.outcome last.table → MakesText last.step last.outcome last.table last.made → InStepWhereOrderly (last ∷ past)
+in_step_where_orderly past last sound replied says =
+    λ n is enough.
+    let parts = or_parts (outcome_lacks last.outcome) (has_lacked past) enough in
+    equal_lines (before Left (last ∷ past)) (before Right (last ∷ past))
+    (last_in_course past last (record { texts = n; phase = Idle }) sound (λ c is. in_course past c sound parts.1 is) replied says parts.0 is).phase
