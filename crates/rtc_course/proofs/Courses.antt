@@ -1,7 +1,7 @@
 -- What a course of orderly steps says of a past, and that it says so of the past after one more step.
-use Rattle.std.proofs.Common.{◌≡◌, ◌+◌, ◌<◌, ◌≤◌, ◌==◌, ℕ, Bool, true, false, not, ◌&&◌, ◌||◌, List, [], ◌∷◌, ◌++◌, map, length, Option, Some, None, refl, sym, ◌∙◌, ap, subst, arith, length-append, append-nil}
+use Rattle.std.proofs.Common.{◌≡◌, ◌<◌, ◌≤◌, ◌==◌, ℕ, Bool, true, false, not, ◌&&◌, List, [], ◌∷◌, ◌++◌, map, length, Option, Some, None, refl, sym, ◌∙◌, ap, subst, arith, length-append}
 use Rattle.std.specs.Prelude.{slice_get}
-use Rattle.std.proofs.lemmas.Bool.{eq-eqb, ne_eqb, or_parts, and_parts}
+use Rattle.std.proofs.lemmas.Bool.{ne_eqb, and_parts}
 use Rattle.std.proofs.lemmas.Option.{slice_get_within}
 use Rattle.std.proofs.lemmas.List.{length-map}
 use Rattle.rtc_rows.specs.Sdp.{inconsistency}
@@ -9,7 +9,6 @@ use Rattle.rtc_rows.specs.declared.line_row.LineRow.{LineRow}
 use Rattle.rtc_rows.specs.declared.sdp.Sdp.{Sdp}
 use Rattle.rtc_plan.specs.Held.{Held, Asked}
 use Rattle.rtc_plan.specs.SaidLines.{said_lines}
-use Rattle.rtc_plan.specs.Table.{has_mid}
 use Rattle.rtc_plan.specs.Taken.{taken, rows_after}
 use Rattle.rtc_plan.specs.Plans.{verdict}
 use Rattle.rtc_steps.specs.declared.side.Side.{Side}
@@ -19,18 +18,18 @@ use Rattle.rtc_steps.specs.declared.step.Step.TheVariants.{Negotiate, AcceptOffe
 use Rattle.rtc_steps.specs.declared.outcome.Outcome.{Outcome}
 use Rattle.rtc_steps.specs.declared.outcome.Outcome.TheVariants.{Negotiated, Answered, Finished, Refused, NoSuch, Alloc}
 use Rattle.rtc_steps.specs.declared.table.Table.{Table}
-use Rattle.rtc_steps.specs.Sides.{same_side, other_side, side_of}
-use Rattle.rtc_steps.specs.Past.{Entry, Said, before, rows_or, texts, said_for, handed, was_handed, is_offer_of, holds_token, spends, is_spent, moves, makes, is_right, added_by}
+use Rattle.rtc_steps.specs.Sides.{same_side, other_side}
+use Rattle.rtc_steps.specs.Past.{Entry, Said, before, texts, said_for, handed, was_handed, is_offer_of, holds_token, spends, is_spent, is_right, added_by}
 use Rattle.rtc_steps.specs.Sound.{TakesOffer, TakesAnswer, IsSound, asked_in, view_in}
-use Rattle.rtc_steps.specs.SaidRows.{row_said, are_live, SaysRows, MakesText}
+use Rattle.rtc_steps.specs.SaidRows.{row_said, MakesText}
 use Rattle.rtc_steps.specs.Orderly.{Phase, Idle, AwaitsAnswer, AwaitsEnd, Course}
 use Rattle.rtc_course.specs.Runs.{Sound}
-use Rattle.rtc_course.proofs.Tells.{same_side-self, same_side-other, same_side-true}
+use Rattle.rtc_course.proofs.Tells.{same_side-self, same_side-other}
 use Rattle.rtc_course.proofs.Around.{entry}
 use Rattle.rtc_course.proofs.PastTables.{past_table}
-use Rattle.rtc_course.proofs.PastOffers.{stays_there, within_there, text_next}
-use Rattle.rtc_course.proofs.PastAnswers.{Answers, answered}
-use Rattle.rtc_course.proofs.FinishedRounds.{taken_whole, handed_answer, handed_offer, AnswerTaken, answer_taken}
+use Rattle.rtc_course.proofs.PastOffers.{stays_there, text_next}
+use Rattle.rtc_course.proofs.PastAnswers.{answered}
+use Rattle.rtc_course.proofs.FinishedRounds.{taken_whole, handed_answer, handed_offer, answer_taken}
 use Rattle.rtc_course.proofs.RowsFollow.{Aligned, Follows, aligned_sym, aligned_twice, has_mid-aligned, length-aligned, follows_append, follows_live, follows_media, after_aligned, answer_follows}
 use Rattle.rtc_course.proofs.RoundRows.{HasOffered, OfferRows, offer_rows, offer_passes, answer_passes}
 

@@ -20,5 +20,7 @@ pub mod RowsFollow
 pub mod RoundRows
 pub mod Courses
 pub mod OrderlySteps
+pub mod CourseSteps
+pub mod OrderlyPasts
 pub mod Reaches
 pub mod MoreSteps

@@ -1,42 +1,33 @@
 -- Orderly steps give their Ok, up to the first want of memory.
-use Rattle.std.proofs.Common.{◌≡◌, ◌+◌, ◌<◌, ◌≤◌, ◌==◌, ℕ, Bool, true, false, not, ◌&&◌, ◌||◌, List, [], ◌∷◌, ◌++◌, map, length, Option, Some, None, refl, sym, ◌∙◌, ap, subst, arith, cond, length-append, append-nil}
-use Rattle.std.specs.Prelude.{slice_get, is_some}
-use Rattle.std.specs.List.{list_any}
-use Rattle.std.proofs.lemmas.Bool.{eq-eqb, eqb-true, or_parts, and_parts, both_ways}
-use Rattle.rtc_rows.specs.LineRow.{row_mid}
+use Rattle.std.proofs.Common.{◌≡◌, ◌+◌, ℕ, Bool, true, false, ◌||◌, List, ◌∷◌, ◌++◌, length, Option, Some, None, refl, sym, ◌∙◌, ap, subst, arith, length-append, append-nil}
+use Rattle.std.proofs.lemmas.Bool.{eq-eqb}
 use Rattle.rtc_rows.specs.declared.line_row.LineRow.{LineRow}
 use Rattle.rtc_rows.specs.declared.sdp.Sdp.{Sdp}
 use Rattle.rtc_plan.specs.Held.{Held, Asked}
 use Rattle.rtc_plan.specs.Plans.{verdict}
-use Rattle.rtc_peer_state.specs.declared.rtc_error.RtcError.TheVariants.{RemoteSdp, Sdp as TextRefused, ChangesOutOfOrder, Alloc as PeerAlloc}
+use Rattle.rtc_peer_state.specs.declared.rtc_error.RtcError.TheVariants.{RemoteSdp, Sdp as TextRefused, Alloc as PeerAlloc}
 use Rattle.rtc_steps.specs.declared.side.Side.{Side}
 use Rattle.rtc_steps.specs.declared.side.Side.TheVariants.{Left, Right}
 use Rattle.rtc_steps.specs.declared.op.Op.{Op}
-use Rattle.rtc_steps.specs.declared.op.Op.TheVariants.{AddMedia}
 use Rattle.rtc_steps.specs.declared.op_answer.OpAnswer.{OpAnswer}
-use Rattle.rtc_steps.specs.declared.op_answer.OpAnswer.TheVariants.{Mid, Alloc as OpAlloc}
-use Rattle.rtc_steps.specs.declared.made.Made.{Made}
-use Rattle.rtc_steps.specs.declared.made.Made.TheVariants.{NotAsked, Nothing, Offer, Alloc as MadeAlloc}
-use Rattle.rtc_steps.specs.declared.step.Step.{Step}
+use Rattle.rtc_steps.specs.declared.made.Made.TheVariants.{Offer}
 use Rattle.rtc_steps.specs.declared.step.Step.TheVariants.{Negotiate, AcceptOffer, AcceptAnswer}
 use Rattle.rtc_steps.specs.declared.outcome.Outcome.{Outcome}
-use Rattle.rtc_steps.specs.declared.outcome.Outcome.TheVariants.{Negotiated, Answered, Finished, Refused, NoSuch, Alloc}
+use Rattle.rtc_steps.specs.declared.outcome.Outcome.TheVariants.{Negotiated, Answered, Finished, Refused, Alloc}
 use Rattle.rtc_steps.specs.declared.table.Table.{Table}
-use Rattle.rtc_steps.specs.Memory.{answers_lack, outcome_lacks}
-use Rattle.rtc_steps.specs.Sides.{same_side, other_side, side_of}
-use Rattle.rtc_steps.specs.Past.{Entry, Said, before, rows_or, texts, handed, steps_of, is_offer_of, is_spent, is_applied, is_right, do_stage, added_by}
-use Rattle.rtc_steps.specs.Sound.{OpsAnswered, MadeOf, TakesOffer, TakesAnswer, IsSound, asked_in, view_in}
-use Rattle.rtc_steps.specs.SaidRows.{SaysRows, MakesText}
-use Rattle.rtc_steps.specs.SoundEntry.{IsSoundEntry}
-use Rattle.rtc_steps.specs.Orderly.{Phase, Idle, AwaitsAnswer, AwaitsEnd, Course, must_offer, do_offer, after_step, after_ops, after_offer, after_answer, follow, course_of, are_orderly, has_lacked, is_ok, OkWhereOrderly}
+use Rattle.rtc_steps.specs.Memory.{outcome_lacks}
+use Rattle.rtc_steps.specs.Sides.{same_side, other_side}
+use Rattle.rtc_steps.specs.Past.{Entry, Said, before, rows_or, texts, handed, is_offer_of}
+use Rattle.rtc_steps.specs.Sound.{TakesOffer, TakesAnswer, IsSound, asked_in, view_in}
+use Rattle.rtc_steps.specs.SaidRows.{MakesText}
+use Rattle.rtc_steps.specs.Orderly.{Idle, AwaitsAnswer, AwaitsEnd, Course, is_ok}
 use Rattle.rtc_course.specs.Runs.{Sound}
 use Rattle.rtc_course.proofs.Tells.{same_side-self, same_side-true}
 use Rattle.rtc_course.proofs.Around.{entry}
 use Rattle.rtc_course.proofs.PastOffers.{text_next}
-use Rattle.rtc_course.proofs.PastAnswers.{another}
 use Rattle.rtc_course.proofs.RowsFollow.{Aligned}
 use Rattle.rtc_course.proofs.RoundRows.{HasOffered}
-use Rattle.rtc_course.proofs.Courses.{HasAnswered, InPhase, InCourse, aligned_at, unspent_later, MayAccept, may_accept, accepted_next, MayEnd, may_end, ended_next, offer_taking, answer_taking}
+use Rattle.rtc_course.proofs.Courses.{HasAnswered, InCourse, aligned_at, unspent_later, MayAccept, may_accept, accepted_next, MayEnd, may_end, ended_next, offer_taking, answer_taking}
 
 -- ---- each outcome that may come is an Ok or tells a want of memory
 
@@ -108,7 +99,7 @@ pub record GoesOn (outcome : Outcome) (course : Course) (past : List Entry) : Ty
   pub ok : IsOkOrLacks outcome
   pub next : outcome_lacks outcome ≡ false → InCourse course past
 
-accept_goes_on : (past : List Entry) (at : Side) (n : ℕ) (outcome : Outcome) (table : Option Table) (made : List Said) → Sound past → HasOffered at n past → Aligned (before at past) (before (other_side at) past)
+pub accept_goes_on : (past : List Entry) (at : Side) (n : ℕ) (outcome : Outcome) (table : Option Table) (made : List Said) → Sound past → HasOffered at n past → Aligned (before at past) (before (other_side at) past)
     → IsSound past (AcceptOffer (other_side at) n) outcome table → MakesText (AcceptOffer (other_side at) n) outcome table made
     → GoesOn outcome (record { texts = length (texts past) + 1; phase = AwaitsEnd at n (length (texts past)) }) (entry (AcceptOffer (other_side at) n) outcome table made ∷ past)
 accept_goes_on past at n Alloc None made sound has same replied says = record { ok = refl; next = λ enough. absurd (cc) }
@@ -123,11 +114,11 @@ accept_goes_on past at n outcome (Some table) made sound has same replied says =
         → InCourse (record { texts = length (texts past) + 1; phase = AwaitsEnd at n (length (texts past)) }) (entry (AcceptOffer (other_side at) n) outcome (Some table) made ∷ past)
     by may j outcome is =
         subst (λ (o : Outcome). IsSound past (AcceptOffer (other_side at) n) o (Some table) → MakesText (AcceptOffer (other_side at) n) o (Some table) made
-            → InCourse (record { texts = length (texts past) + 1; phase = AwaitsEnd at n (length (texts past)) }) (entry (AcceptOffer (other_side at) n) o (Some table) made ∷ past)) (sym is)
+        → InCourse (record { texts = length (texts past) + 1; phase = AwaitsEnd at n (length (texts past)) }) (entry (AcceptOffer (other_side at) n) o (Some table) made ∷ past)) (sym is)
         (λ replied says. record { count = length-append (texts past) made ∙ ap (λ (k : ℕ). length (texts past) + k) (ap length says.one); phase = accepted_next at n past j table made has may replied says })
 accept_goes_on past at n outcome table made sound has same replied says = absurd replied
 
-end_goes_on : (past : List Entry) (at : Side) (n m : ℕ) (outcome : Outcome) (table : Option Table) (made : List Said) → Sound past → HasOffered at n past → HasAnswered at n m past
+pub end_goes_on : (past : List Entry) (at : Side) (n m : ℕ) (outcome : Outcome) (table : Option Table) (made : List Said) → Sound past → HasOffered at n past → HasAnswered at n m past
     → IsSound past (AcceptAnswer at n m) outcome table → MakesText (AcceptAnswer at n m) outcome table made
     → GoesOn outcome (record { texts = length (texts past); phase = Idle }) (entry (AcceptAnswer at n m) outcome table made ∷ past)
 end_goes_on past at n m Alloc None made sound has answer replied says = record { ok = refl; next = λ enough. absurd (cc) }
@@ -142,14 +133,14 @@ end_goes_on past at n m outcome (Some table) made sound has answer replied says 
         → InCourse (record { texts = length (texts past); phase = Idle }) (entry (AcceptAnswer at n m) outcome (Some table) made ∷ past)
     by outcome is =
         subst (λ (o : Outcome). IsSound past (AcceptAnswer at n m) o (Some table) → MakesText (AcceptAnswer at n m) o (Some table) made
-            → InCourse (record { texts = length (texts past); phase = Idle }) (entry (AcceptAnswer at n m) o (Some table) made ∷ past)) (sym is)
+        → InCourse (record { texts = length (texts past); phase = Idle }) (entry (AcceptAnswer at n m) o (Some table) made ∷ past)) (sym is)
         (λ replied says. record { count = ap (λ more. length (texts past ++ more)) says ∙ ap length (append-nil (texts past)); phase = ended_next at n m past table made answer replied })
 end_goes_on past at n m outcome table made sound has answer replied says = absurd replied
 
 -- ---- ops
 
 -- a step that leaves the rows of its side leaves those of both
-rows_kept : (past : List Entry) (at : Side) (ops : List Op) (apply : Bool) (outcome : Outcome) (table : Table) (made : List Said) (side : Side) → table.lines ≡ before at past
+pub rows_kept : (past : List Entry) (at : Side) (ops : List Op) (apply : Bool) (outcome : Outcome) (table : Table) (made : List Said) (side : Side) → table.lines ≡ before at past
     → before side (entry (Negotiate at ops apply) outcome (Some table) made ∷ past) ≡ before side past
 rows_kept past at ops apply outcome table made side lines = by (same_side at side) refl
   where
@@ -157,11 +148,11 @@ rows_kept past at ops apply outcome table made side lines = by (same_side at sid
     by true is = lines ∙ ap (λ s. before s past) (same_side-true at side is)
     by false is = refl
 
-aligned_as : (mine mine' theirs theirs' : List LineRow) → mine' ≡ mine → theirs' ≡ theirs → Aligned mine theirs → Aligned mine' theirs'
+pub aligned_as : (mine mine' theirs theirs' : List LineRow) → mine' ≡ mine → theirs' ≡ theirs → Aligned mine theirs → Aligned mine' theirs'
 aligned_as mine mine' theirs theirs' same_mine same_theirs same = rw (same_mine, same_theirs) same
 
 -- an offer is made
-offer_goes_on : (past : List Entry) (at : Side) (ops : List Op) (apply : Bool) (answers : List OpAnswer) (k : ℕ) (table : Table) (made : List Said) → Sound past → Aligned (before Left past) (before Right past)
+pub offer_goes_on : (past : List Entry) (at : Side) (ops : List Op) (apply : Bool) (answers : List OpAnswer) (k : ℕ) (table : Table) (made : List Said) → Sound past → Aligned (before Left past) (before Right past)
     → table.lines ≡ before at past → k ≡ length (texts past) → MakesText (Negotiate at ops apply) (Negotiated answers (Offer k)) (Some table) made
     → InCourse (record { texts = length (texts past) + 1; phase = AwaitsAnswer at (length (texts past)) }) (entry (Negotiate at ops apply) (Negotiated answers (Offer k)) (Some table) made ∷ past)
 offer_goes_on past at ops apply answers k table made sound same lines count says =
@@ -170,9 +161,12 @@ offer_goes_on past at ops apply answers k table made sound same lines count says
     let rows = λ (side : Side). rows_kept past at ops apply (Negotiated answers (Offer k)) table made side lines in
     record {
       count = length-append (texts past) made ∙ ap (λ (n : ℕ). length (texts past) + n) (ap length says.one);
-      phase = (record {
-        right = rw (eq-eqb k (length (texts past)) count) refl;
-        unspent = unspent_later past (length (texts past)) sound (omega arith);
-        mine = ap (is_offer_of at) there ∙ same_side-self at;
-      }, aligned_as (before at past) _ (before (other_side at) past) _ (rows at) (rows (other_side at)) (aligned_at at past same));
+      phase = (
+        record {
+          right = rw (eq-eqb k (length (texts past)) count) refl;
+          unspent = unspent_later past (length (texts past)) sound (omega arith);
+          mine = ap (is_offer_of at) there ∙ same_side-self at;
+        },
+        aligned_as (before at past) _ (before (other_side at) past) _ (rows at) (rows (other_side at)) (aligned_at at past same),
+      );
     }

@@ -13,6 +13,7 @@ use Rattle.rtc_steps.specs.declared.table.Table.{Table}
 use Rattle.rtc_steps.specs.Sides.{side_of}
 use Rattle.rtc_steps.specs.Past.{Entry, Said, before}
 use Rattle.rtc_steps.specs.Sound.{IsSound}
+use Rattle.rtc_steps.specs.SaidRows.{MakesText}
 use Rattle.rtc_steps.specs.SoundEntry.{IsSoundEntry}
 use Rattle.rtc_course.specs.declared.kept.Kept.{Kept}
 use Rattle.rtc_course.specs.PairState.{PairState, peer_at, handed_text, held_token}
@@ -28,6 +29,7 @@ use Rattle.rtc_course.proofs.AnswerSteps.{answer_reply, answer_tells}
 use Rattle.rtc_course.proofs.PastTables.{reply_table, past_table}
 use Rattle.rtc_course.proofs.MakesTexts.{makes_text}
 use Rattle.rtc_course.proofs.FinishedRounds.{finishes_round}
+use Rattle.rtc_course.proofs.OrderlyPasts.{ok_where_orderly, in_step_where_orderly}
 
 -- ---- one step
 
@@ -112,8 +114,11 @@ sound_next draws start old new past step outcome table fresh reached sound perfo
     let tells : Tells past old = reached_tells draws start old past fresh reached (omega (arith, size_grows step (made_by old new) old new (around_of draws old new step outcome table (made_by old new) performs refl small))) in
     let replied : IsSound past step outcome table = step_sound draws past old new step outcome table tells performs small in
     let rows : IsTable (before (side_of step) past) = past_table past (side_of step) sound in
+    let says : MakesText step outcome table (made_by old new) = makes_text draws past old new step outcome table performs rows (reply_table past step outcome table replied rows) replied (sym (tells.sides (side_of step)).rows) in
     record {
       replied = replied;
-      made = makes_text draws past old new step outcome table performs rows (reply_table past step outcome table replied rows) replied (sym (tells.sides (side_of step)).rows);
+      made = says;
       finished = finishes_round past step outcome table sound replied;
+      orderly = ok_where_orderly past step outcome table (made_by old new) sound replied says;
+      in_step = in_step_where_orderly past (entry step outcome table (made_by old new)) sound replied says;
     }

@@ -1,21 +1,18 @@
 -- Rows that go on from others, the same lines and then new ones that are live: the text of such rows is refused for no cause.
-use Rattle.std.proofs.Common.{◌≡◌, ◌+◌, ◌-◌, ◌<◌, ◌≤◌, ◌==◌, ℕ, Bool, true, false, not, ◌&&◌, ◌||◌, List, [], ◌∷◌, ◌++◌, map, length, Option, Some, None, refl, sym, ◌∙◌, ap, subst, arith, max, zero, suc}
-use Rattle.std.specs.Prelude.{slice_get, option_map}
-use Rattle.std.specs.List.{list_any}
+use Rattle.std.proofs.Common.{◌≡◌, ◌+◌, ◌<◌, ◌==◌, ℕ, Bool, true, false, not, ◌||◌, List, [], ◌∷◌, ◌++◌, map, length, Some, None, refl, sym, ◌∙◌, ap, arith, suc}
+use Rattle.std.specs.Prelude.{slice_get}
 use Rattle.std.specs.Str.{bytes_eq}
 use Rattle.std.proofs.lemmas.Bool.{or_parts, eq-eqb}
-use Rattle.std.proofs.lemmas.Option.{slice_get_past}
 use Rattle.rtc_rows.specs.LineRow.{row_place, row_mid}
 use Rattle.rtc_rows.specs.MediaKind.{same_kind}
 use Rattle.rtc_rows.specs.declared.line_row.LineRow.{LineRow}
 use Rattle.rtc_rows.specs.declared.line_row.LineRow.TheVariants.{Media, App}
 use Rattle.rtc_rows.specs.declared.media_kind.MediaKind.{MediaKind}
 use Rattle.rtc_rows.specs.declared.media_kind.MediaKind.TheVariants.{Audio, Video}
-use Rattle.rtc_plan.specs.declared.said_line.SaidLine.{SaidLine}
 use Rattle.rtc_plan.specs.Distinct.{is_among}
 use Rattle.rtc_plan.specs.Table.{IsTable, Rising, has_mid, row_of}
 use Rattle.rtc_plan.specs.Taken.{is_new, rows_after, row_after}
-use Rattle.rtc_plan.specs.Verdict.{or_else, is_application, first_refusal, line_refusal}
+use Rattle.rtc_plan.specs.Verdict.{is_application, first_refusal, line_refusal}
 use Rattle.rtc_plan.specs.WrongLines.{wrong_line, by_added}
 use Rattle.rtc_plan.proofs.TableLemmas.{row_of_its_mid, place_of_row}
 use Rattle.rtc_peer_state.specs.Texts.{is_stopped}

@@ -1,2 +1,3 @@
 mod FinishedFacts
 mod RoundFacts
+mod OrderlyFacts

@@ -2,6 +2,7 @@
 use Rattle.std.specs.Prelude.{◌≡◌, ◌+◌, ◌==◌, ℕ, Bool, true, false, not, ◌&&◌, ◌||◌, List, [], ◌∷◌, ◌++◌, if◌then◌else◌, Option, Some, None, is_some}
 use Rattle.std.specs.List.{list_any}
 use Rattle.rtc_steps.specs.declared.side.Side.{Side}
+use Rattle.rtc_steps.specs.declared.side.Side.TheVariants.{Left, Right}
 use Rattle.rtc_steps.specs.declared.op.Op.{Op}
 use Rattle.rtc_steps.specs.declared.op.Op.TheVariants.{AddMedia}
 use Rattle.rtc_steps.specs.declared.step.Step.{Step}
@@ -10,7 +11,8 @@ use Rattle.rtc_steps.specs.declared.outcome.Outcome.{Outcome}
 use Rattle.rtc_steps.specs.declared.outcome.Outcome.TheVariants.{Negotiated, Answered, Finished, Refused, NoSuch, Alloc}
 use Rattle.rtc_steps.specs.Sides.{same_side}
 use Rattle.rtc_steps.specs.Memory.{outcome_lacks}
-use Rattle.rtc_steps.specs.Past.{Entry, steps_of}
+use Rattle.rtc_steps.specs.Past.{Entry, steps_of, before}
+use Rattle.rtc_steps.specs.Finished.{Equal}
 
 -- what is outstanding: nothing; the answer to the offer of a number; the end of the round of an offer and its answer
 pub data Phase : Type 0 where
@@ -85,3 +87,7 @@ is_ok Alloc = false
 -- Orderly steps give their Ok up to the first want of memory.
 abbrev pub OkWhereOrderly : List Entry → Step → Outcome → Type 0
 OkWhereOrderly past step outcome = are_orderly (steps_of past ++ step ∷ []) ≡ true → has_lacked past ≡ false → (is_ok outcome || outcome_lacks outcome) ≡ true
+
+-- After orderly steps that leave no round open, and none of which told a want of memory, both sides have the same lines.
+abbrev pub InStepWhereOrderly : List Entry → Type 0
+InStepWhereOrderly past = (n : ℕ) → course_of (steps_of past) ≡ Some (record { texts = n; phase = Idle }) → has_lacked past ≡ false → Equal (before Left past) (before Right past)
