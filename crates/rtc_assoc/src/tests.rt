@@ -10,6 +10,7 @@ mod starts;
 
 // The left end and the right end.
 const L: bool = true;
+
 const R: bool = false;
 
 /// A step, short to write. A moment is in milliseconds.
