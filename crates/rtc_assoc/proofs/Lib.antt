@@ -2,7 +2,10 @@ pub mod MessageLemmas
 pub mod UnreadLemmas
 pub mod AliveLemmas
 pub mod ArriveLemmas
+pub mod FrameLemmas
+pub mod CoreLemmas
 pub mod StepLemmas
+pub mod OrderLemmas
 pub mod DirectedLemmas
 pub mod RunLemmas
 pub mod ActLemmas

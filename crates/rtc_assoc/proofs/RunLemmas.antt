@@ -12,7 +12,8 @@ use Rattle.rtc_assoc_plain.specs.PlainLaws.{plain_laws}
 use Rattle.rtc_assoc.specs.Joined.{Ends, fresh_ends, Move, LeftMoves, RightMoves, Goes, Run, Joined}
 use Rattle.rtc_assoc.proofs.UnreadLemmas.{prefix_none}
 use Rattle.rtc_assoc.proofs.AliveLemmas.{alive}
-use Rattle.rtc_assoc.proofs.StepLemmas.{Step, step_of}
+use Rattle.rtc_assoc.proofs.CoreLemmas.{Step}
+use Rattle.rtc_assoc.proofs.StepLemmas.{step_of}
 use Rattle.rtc_assoc.proofs.DirectedLemmas.{Directed, sender_moves, receiver_moves, brings_of}
 
 -- what one end told, by its own acts

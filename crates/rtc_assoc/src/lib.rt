@@ -18,3 +18,6 @@ pub use joined::moves_join_ends;
 pub use resets::each_reset_is_told_once;
 pub use rtc_assoc_plain::PlainAssociation;
 pub use runs::run_assoc;
+
+#[cfg(test)]
+mod tests;

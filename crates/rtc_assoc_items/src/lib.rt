@@ -14,3 +14,6 @@ pub use item::Item;
 pub use item_part::ItemPart;
 pub use outgoing::Outgoing;
 pub use packet::Packet;
+
+#[cfg(test)]
+mod tests;

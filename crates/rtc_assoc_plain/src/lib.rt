@@ -22,3 +22,6 @@ mod standing;
 mod stream_row;
 
 pub use association::PlainAssociation;
+
+#[cfg(test)]
+mod tests;

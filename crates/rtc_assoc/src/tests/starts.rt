@@ -1,0 +1,39 @@
+//! Ends that are started, and steps for which there is no call.
+use super::*;
+use std::test::Fail;
+
+#[test]
+fn steps_before_the_start_and_second_starts_are_no_such(rt: HostRuntime) -> Result<(), Fail> {
+    let script = [
+        (Do::Open(L, 0), Says::NoSuch),
+        (Do::Write(L, 0, Ppi::Text, b"a"), Says::NoSuch),
+        (Do::Close(L, 0), Says::NoSuch),
+        (Do::Time(L, 1), Says::NoSuch),
+        (Do::Send(L), Says::NoSuch),
+        (Do::Give(L, 0, 0), Says::NoSuch),
+        (Do::Poll(L), Says::NoSuch),
+        (Do::Read(L, 0), Says::NoSuch),
+        (Do::Connect(L), Says::Done),
+        (Do::Connect(L), Says::NoSuch),
+        (Do::Accept(L), Says::NoSuch),
+        (Do::Send(L), Says::Sent(0)),
+        (Do::Give(R, 0, 0), Says::NoSuch),
+        (Do::Accept(R), Says::Done),
+        (Do::Give(L, 0, 0), Says::NoSuch),
+        (Do::Give(R, 1, 0), Says::NoSuch),
+        (Do::Give(R, 0, 0), Says::Done),
+        (Do::Poll(R), Says::Told(AssocEvent::Connected)),
+        (Do::Poll(R), Says::Still),
+        (Do::Send(R), Says::Sent(1)),
+        (Do::Give(R, 1, 0), Says::NoSuch),
+        (Do::Give(L, 1, 0), Says::Done),
+        (Do::Poll(L), Says::Told(AssocEvent::Connected)),
+        (Do::Poll(L), Says::Still),
+        (Do::Read(L, 0), Says::Refused(AssocError::NoStream)),
+        (Do::Close(L, 0), Says::Refused(AssocError::NoStream)),
+        (Do::Open(L, 0), Says::Done),
+        (Do::Open(L, 0), Says::Refused(AssocError::StreamExists)),
+    ];
+    assert_eq!(rt; played(rt.alloc(), &script)?, script.len());
+    Ok(())
+}
