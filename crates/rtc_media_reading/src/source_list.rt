@@ -12,10 +12,7 @@ use std::alloc::{AllocError, Global};
 use std::collections::{BTreeMap, BTreeSet};
 
 /// The source of retransmissions of each source. A map keeps them, so that the time is not in the square of the sources.
-fn first_rtxs(
-    alloc: Global,
-    pairs: &[(Ssrc, Ssrc)],
-) -> Result<BTreeMap<u32, Ssrc>, AllocError>
+fn first_rtxs(alloc: Global, pairs: &[(Ssrc, Ssrc)]) -> Result<BTreeMap<u32, Ssrc>, AllocError>
     ensures { IfOk result (λ found. (ssrc : ℕ) → map.get nat_cmp found ssrc ≡ spec.rtx_of pairs.now ssrc) }
 {
     let mut found = BTreeMap::new(alloc);
