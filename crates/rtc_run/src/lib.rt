@@ -10,3 +10,6 @@ mod running;
 
 pub use pair::Pair;
 pub use running::run_pair;
+
+#[cfg(test)]
+mod tests;
