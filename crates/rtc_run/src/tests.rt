@@ -91,7 +91,8 @@ fn is_offer(reply: Option<&Reply>) -> bool {
     };
     match &reply.outcome {
         Outcome::Negotiated { answers, made } => {
-            answers.as_slice() == [OpAnswer::Mid(Mid::of("m4"))].as_slice() && *made == Made::Offer(0)
+            answers.as_slice() == [OpAnswer::Mid(Mid::of("m4"))].as_slice()
+                && *made == Made::Offer(0)
         }
         _ => false,
     }
