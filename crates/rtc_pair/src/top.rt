@@ -3,7 +3,7 @@ ghost use Rattle.std.specs.Prelude.{◌≡◌, ◌≢◌, ◌<◌, ◌≤◌, �
 ghost use Rattle.std.specs.Io.KnownBytes.{Appends, IsAtEnd};
 ghost use Rattle.rtc_io.specs.Faults.{Rose};
 ghost use Rattle.rtc_steps.specs.Sizes.{steps_size};
-ghost use Rattle.rtc_pair.specs.Answers.{run_words, PerformsSteps, RunsScript, RefusesScript, lack_memory, refused_line, usage_line};
+ghost use Rattle.rtc_pair.specs.Answers.{run_words, PerformsSteps, RunsScript, RefusesScript, lack_memory, fault_line, long_line, refused_line, usage_line};
 
 use crate::answering::{ask_for_run, list_refusal};
 use crate::program::{PlainPair, make_pair};
@@ -86,10 +86,11 @@ pub fn pair_main<R: Source, W: Sink>(
     ensures done { result ≡ 0 → RunsScript alloc false (R.left input.old) (R.left input.new) (W.written output.old) (W.written output.new) last.new }
     ensures usage { result ≡ 2 → (map (λ word. string_bytes word) words.now ≢ run_words) × Appends (W.written output.old) (W.written output.new) usage_line }
     ensures refused { result ≡ 3 → RefusesScript (R.left input.old) (R.left input.new) (W.written output.old) (W.written output.new) }
-    ensures read { result ≡ 4 → Rose (R.faults input.old) (R.faults input.new) }
+    ensures read { result ≡ 4 → Rose (R.faults input.old) (R.faults input.new) × Appends (W.written output.old) (W.written output.new) fault_line }
     ensures write { result ≡ 5 → Rose (W.faults output.old) (W.faults output.new) }
     ensures memory { result ≡ 6 → RunsScript alloc true (R.left input.old) (R.left input.new) (W.written output.old) (W.written output.new) last.new ⊎ ((output.new ≡ output.old) × (last.new ≡ last.old)) }
-    ensures long { result ≡ 7 → IfSome (R.left input.old) (λ text. 2 ^ 20 < length text) }
+    ensures long { result ≡ 7 → IfSome (R.left input.old) (λ text. 2 ^ 20 < length text) × Appends (W.written output.old) (W.written output.new) long_line }
+    ensures asked { (map (λ word. string_bytes word) words.now ≢ run_words) → (result ≡ 2) ⊎ (result ≡ 5) }
     ensures kept { result ≢ 0 → result ≢ 6 → last.new ≡ last.old }
     ensures statuses { (result ≢ 1) × (result < 8) }
 {
