@@ -1,19 +1,13 @@
 -- What calls do to the items and messages of an end.
-use Rattle.std.proofs.Common.{ℕ, ◌≡◌, ◌+◌, ◌-◌, ◌≤◌, ◌==◌, ◌&&◌, ◌⊎◌, not, max, inl, inr, Bool, true, false, cond, List, [], ◌∷◌, ◌++◌, length, drop, Option, Some, None, Result, Ok, Err, refl, sym, ap, subst, ◌∙◌, arith, append-nil}
-use Rattle.std.specs.declared.alloc.AllocError.{AllocError}
+use Rattle.std.proofs.Common.{ℕ, ◌≡◌, ◌+◌, ◌-◌, ◌≤◌, ◌⊎◌, inl, inr, true, false, List, [], ◌∷◌, ◌++◌, length, drop, Some, refl, sym, ap, subst, ◌∙◌, arith, append-nil}
 use Rattle.std.proofs.lemmas.Bool.Decides.{eqb_tells}
-use Rattle.rtc_parts.specs.declared.assoc_error.AssocError.{AssocError}
 use Rattle.rtc_parts.specs.declared.assoc_event.AssocEvent.{AssocEvent}
-use Rattle.rtc_parts.specs.declared.assoc_event.AssocEvent.TheVariants.{Connected}
-use Rattle.rtc_parts.specs.declared.ppi.Ppi.{Ppi}
 use Rattle.rtc_parts.specs.Ppi.{ppi_number, ppi_of}
 use Rattle.rtc_parts.specs.Among.{Member}
 use Rattle.rtc_parts.specs.Why.{Timed, Shut as ShutDown, Other}
-use Rattle.rtc_parts.specs.AssociationActs.{AssociationAct, Started, Opened, Wrote, Ended, Given, Taken, Read, Told, Stirred, Starts, ByConnect, ByAccept, BySnap, Stirs, LimitsSet, ConnectRefused, AcceptRefused, SnapRefused, OpenRefused, WriteRefused, ReadRefused, EndRefused, ThresholdSet, ReliabilitySet, Acted}
+use Rattle.rtc_parts.specs.AssociationActs.{AssociationAct, Started, Opened, Wrote, Ended, Given, Taken, Read, Told, Stirred}
 use Rattle.rtc_parts.specs.AssociationWords.{AssociationMessage, written, read, ended}
 use Rattle.rtc_assoc_items.specs.declared.item.Item.{Item}
-use Rattle.rtc_assoc_items.specs.declared.frame.Frame.{Frame}
-use Rattle.rtc_assoc_items.specs.declared.frame.Frame.TheVariants.{Hello, Welcome, Data, Acknowledgement, Shutdown}
 use Rattle.rtc_assoc_items.specs.Packets.{frame_in}
 use Rattle.rtc_assoc_items.specs.Pieces.{pieces_of, close_of}
 use Rattle.rtc_assoc_plain.specs.declared.message.Message.{Message}
@@ -21,23 +15,19 @@ use Rattle.rtc_assoc_plain.specs.declared.close_state.CloseState.TheVariants.{Qu
 use Rattle.rtc_assoc_plain.specs.declared.stream_row.StreamRow.{StreamRow}
 use Rattle.rtc_assoc_plain.specs.Streams.{stream_of, put}
 use Rattle.rtc_assoc_plain.specs.Inbox.{Inbox, without_messages, forgotten}
-use Rattle.rtc_assoc_plain.specs.Outbox.{Outbox, settled_count}
-use Rattle.rtc_assoc_plain.specs.Settling.{told_of}
-use Rattle.rtc_assoc_plain.specs.Contents.{Contents, is_ending, is_server}
+use Rattle.rtc_assoc_plain.specs.Outbox.{Outbox}
+use Rattle.rtc_assoc_plain.specs.Contents.{Contents}
 use Rattle.rtc_assoc_plain.specs.Says.{Queues}
 use Rattle.rtc_assoc_plain.specs.Calls as call
 use Rattle.rtc_assoc_plain.specs.Calls.{limited, connected, accepted, snapped, started_as, said_hello, opened, sent, message_in, messages_behind, next_message, taken_out, thresholded, shut_down, greeted, welcomed, acknowledged, answered, lost, item_taken, item_came, framed, half_taken, at_moment, input_taken, timed, event_given, packet_given}
-use Rattle.rtc_assoc_plain.specs.PlainMeaning.{plain_meaning, Leaves, Sends, Reads, Gives, ending_cause, open_cause, write_cause, end_cause, stream_cause}
 use Rattle.rtc_assoc_plain.specs.RaiseLemmas.{stream_of-stream}
-use Rattle.rtc_assoc_plain.specs.DoesLemmas.{refused, does_leaves, polls_some, transmits_some, reads_some}
-use Rattle.rtc_assoc_plain.proofs.SaysLemmas.{queues_same, queues_more, all_say_one, says_hello, says_shutdown}
-use Rattle.rtc_assoc_plain.proofs.SendsLemmas.{packets-greeted, packets-acknowledged}
+use Rattle.rtc_assoc_plain.proofs.SaysLemmas.{queues_same}
 use Rattle.rtc_assoc.specs.Unread.{unread, IsPrefix}
 use Rattle.rtc_assoc.proofs.MessageLemmas.{is_pair, pair_tells, message, messages, left, messages-written, left-written, HasClose, close-pieces}
 use Rattle.rtc_assoc.proofs.UnreadLemmas.{prefix_none, prefix_is, unread-without, unread-forgotten, unread-taken, unread-taken_other, so_far-without_other}
-use Rattle.rtc_assoc.proofs.AliveLemmas.{alive, RowOf, alive-put_row, Shut, shut-fewer, shut-dies, shut-own, alive-settled}
-use Rattle.rtc_assoc.proofs.ArriveLemmas.{Gets, no_reads, gets_from, gets_none, Came, arrives_none, came_taken, empty_either, same_either}
-use Rattle.rtc_assoc.proofs.FrameLemmas.{Acknowledges, Brings, FrameCore, acknowledges_none, frame_quiet, frame_welcomed, frame_greeted, frame_lost, frame_nothing, frame_acknowledged, frame_came, came_then, received_same, number_is, frame_numbered, frame_data, frame_framed, frame_half, packets_half}
+use Rattle.rtc_assoc.proofs.AliveLemmas.{alive, Shut, shut-fewer, shut-dies, shut-own}
+use Rattle.rtc_assoc.proofs.ArriveLemmas.{Gets, no_reads, gets_none, empty_either, same_either}
+use Rattle.rtc_assoc.proofs.FrameLemmas.{Acknowledges, Brings}
 
 abbrev pub Causes : Contents → AssociationAct → ℕ → List Item → Type 0
 Causes p (Given b) count got = Acknowledges p.outbox.acked count (frame_in b) × Brings p.inbox.received got (frame_in b)

@@ -1,29 +1,22 @@
 -- What an end sends, and what the other one takes of it, in order.
-use Rattle.std.proofs.Common.{ℕ, ◌≡◌, ◌+◌, ◌≤◌, ◌||◌, ◌⊎◌, inl, inr, Bool, true, false, List, [], ◌∷◌, ◌++◌, length, take, drop, Option, Some, None, refl, sym, ap, subst, ◌∙◌, arith, append_assoc, append-nil, length-append, length-drop, add-zero}
-use Rattle.std.proofs.lemmas.List.{take-append-drop, take-append-le, drop-append-le, length-take-le, take_all}
-use Rattle.std.proofs.lemmas.Bool.{cases_Bool}
+use Rattle.std.proofs.Common.{ℕ, ◌≡◌, ◌+◌, ◌≤◌, Bool, true, false, List, [], ◌∷◌, ◌++◌, length, take, drop, Option, Some, None, refl, sym, ap, subst, ◌∙◌, arith, append_assoc, append-nil, length-append, length-drop, add-zero}
+use Rattle.std.proofs.lemmas.List.{take-append-drop, take-append-le, drop-append-le, length-take-le}
 use Rattle.std.proofs.Math.Seq.{drop-drop, take-append_seam, take-append-add}
-use Rattle.rtc_parts.specs.Among.{Member, Among}
-use Rattle.rtc_parts.specs.AssociationActs.{AssociationAct, Given, Taken}
-use Rattle.rtc_parts.specs.AssociationWords.{AssociationMessage, given, taken, written, read, ended}
-use Rattle.rtc_parts.proofs.AmongLemmas.{member-append}
-use Rattle.rtc_parts.proofs.AssociationLemmas.{taken-append, written-append, read-append, ended-append}
+use Rattle.rtc_parts.specs.AssociationWords.{AssociationMessage}
 use Rattle.rtc_assoc_items.specs.declared.item.Item.{Item}
 use Rattle.rtc_assoc_items.specs.declared.frame.Frame.{Frame}
 use Rattle.rtc_assoc_items.specs.declared.frame.Frame.TheVariants.{Hello, Welcome, Data, Acknowledgement, Shutdown}
-use Rattle.rtc_assoc_items.specs.Packets.{frame_in}
 use Rattle.rtc_assoc_plain.specs.declared.stream_row.StreamRow.{StreamRow}
 use Rattle.rtc_assoc_plain.specs.Inbox.{Inbox, bytes_so_far}
 use Rattle.rtc_assoc_plain.specs.Outbox.{Outbox}
 use Rattle.rtc_assoc_plain.specs.Contents.{Contents}
 use Rattle.rtc_assoc_plain.specs.Says.{Numbered, Says}
 use Rattle.rtc_assoc.specs.Unread.{unread, IsPrefix}
-use Rattle.rtc_assoc.proofs.MessageLemmas.{messages, left, messages-append, left-append, HasClose, close-append, close-left, close-right}
-use Rattle.rtc_assoc.proofs.UnreadLemmas.{prefix_is, prefix_then, prefix_more, prefix_behind, prefix_front}
+use Rattle.rtc_assoc.proofs.MessageLemmas.{messages, left, messages-append, left-append, HasClose, close-left, close-right}
+use Rattle.rtc_assoc.proofs.UnreadLemmas.{prefix_is, prefix_then, prefix_more, prefix_behind}
 use Rattle.rtc_assoc.proofs.AliveLemmas.{alive}
 use Rattle.rtc_assoc.proofs.ArriveLemmas.{Gets}
 use Rattle.rtc_assoc.proofs.FrameLemmas.{Acknowledges, Brings}
-use Rattle.rtc_assoc.proofs.CoreLemmas.{Causes, Step}
 
 -- numbered items
 pub numbered_more : (base number : ℕ) (item : Item) (xs ys : List Item) → Numbered base xs number item → Numbered base (xs ++ ys) number item

@@ -14,6 +14,9 @@ const SECOND: u64 = 1_000_000_000;
 fn client(alloc: Global) -> Result<PlainAssociation, AssocError> {
     let mut end = PlainAssociation::new(alloc);
     end.set_limits(40, 262_144);
+    if end.is_started() {
+        return Err(AssocError::Closing);
+    }
     end.connect(Moment::FAR_PAST, 1000)?;
     Ok(end)
 }
@@ -21,6 +24,9 @@ fn client(alloc: Global) -> Result<PlainAssociation, AssocError> {
 fn server(alloc: Global) -> Result<PlainAssociation, AssocError> {
     let mut end = PlainAssociation::new(alloc);
     end.set_limits(40, 262_144);
+    if end.is_started() {
+        return Err(AssocError::Closing);
+    }
     end.accept(Moment::FAR_PAST, 1000)?;
     Ok(end)
 }
