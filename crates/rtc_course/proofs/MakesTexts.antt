@@ -53,25 +53,25 @@ offer_says : {N : Type 0} (p : Peer N) (ops : List Op) (answers : List OpAnswer)
     → added_rows (length p.lines) p.staged ≡ added (length p.lines) ops answers → said_lines (offer_text p) ≡ map row_said (p.lines ++ added (length p.lines) ops answers)
 unfolding offer_text
 offer_says p ops answers table answered adds =
-    ap (λ more. said_lines (text_of p.session_id p.creds ActPass (p.lines ++ more))) adds
-    ∙ text_says p.session_id p.creds ActPass (p.lines ++ added (length p.lines) ops answers) (offered_distinct p.lines ops answers (length p.lines) table.distinct answered)
+    ap (λ more. said_lines (text_of p.session_id p.identity ActPass (p.lines ++ more))) adds
+    ∙ text_says p.session_id p.identity ActPass (p.lines ++ added (length p.lines) ops answers) (offered_distinct p.lines ops answers (length p.lines) table.distinct answered)
 
 -- an offer fits together where one of its rows is live
 offer_fits : {N : Type 0} (p : Peer N) (ops : List Op) (answers : List OpAnswer) → IsTable p.lines → OpsAnswered (map row_mid p.lines) ops answers
     → added_rows (length p.lines) p.staged ≡ added (length p.lines) ops answers → are_live (p.lines ++ added (length p.lines) ops answers) ≡ true → inconsistency (offer_text p) ≡ None
 unfolding offer_text
 offer_fits p ops answers table answered adds live =
-    ap (λ more. inconsistency (text_of p.session_id p.creds ActPass (p.lines ++ more))) adds
-    ∙ text_fits p.session_id p.creds ActPass (p.lines ++ added (length p.lines) ops answers) (offered_distinct p.lines ops answers (length p.lines) table.distinct answered) live
+    ap (λ more. inconsistency (text_of p.session_id p.identity ActPass (p.lines ++ more))) adds
+    ∙ text_fits p.session_id p.identity ActPass (p.lines ++ added (length p.lines) ops answers) (offered_distinct p.lines ops answers (length p.lines) table.distinct answered) live
 
 answer_fits : {N : Type 0} (p : Peer N) (text : Sdp) (rows : List LineRow) → taken p.lines (said_lines text) true ≡ rows → IsTable rows → are_live rows ≡ true → inconsistency (answer_text p text) ≡ None
 unfolding answer_text
-answer_fits p text rows is table live = rw is (text_fits p.session_id p.creds Passive rows table.distinct live)
+answer_fits p text rows is table live = rw is (text_fits p.session_id p.identity Passive rows table.distinct live)
 
 -- an answer says the rows that it leaves
 answer_says : {N : Type 0} (p : Peer N) (text : Sdp) (rows : List LineRow) → taken p.lines (said_lines text) true ≡ rows → IsTable rows → said_lines (answer_text p text) ≡ map row_said rows
 unfolding answer_text
-answer_says p text rows is table = rw is (text_says p.session_id p.creds Passive rows table.distinct)
+answer_says p text rows is table = rw is (text_says p.session_id p.identity Passive rows table.distinct)
 
 -- ---- each kind of step
 

@@ -8,7 +8,7 @@ use Rattle.std.proofs.lemmas.Bool.{and_parts, or_parts, or_from, both_ways, fals
 use Rattle.std.proofs.lemmas.List.Folds.{list_any-append}
 use Rattle.rtc_rows.specs.LineRow.{row_mid}
 use Rattle.rtc_rows.specs.Sdp.{inconsistency, is_among as is_among_names, mids_of, are_grouped, are_distinct, is_none_of}
-use Rattle.rtc_rows.specs.declared.ice_creds.IceCreds.{IceCreds}
+use Rattle.rtc_peer_state.specs.declared.identity.Identity.{Identity}
 use Rattle.rtc_rows.specs.declared.line_row.LineRow.{LineRow}
 use Rattle.rtc_rows.specs.declared.line_row.LineRow.TheVariants.{Media, App}
 use Rattle.rtc_rows.specs.declared.setup.Setup.{Setup}
@@ -70,34 +70,34 @@ stopped_unnamed front row rest distinct stopped =
     (or_from _ _ (unnamed front (row_mid row) parts.0) (unnamed rest (row_mid row) parts.1))
 
 -- the line of a row says it, where no group names the row if it is stopped
-line_says : (creds : IceCreds) (setup : Setup) (group : List (List ℕ)) (row : LineRow) → (is_stopped row ≡ true → is_named group (row_mid row) ≡ false) → said_line (group ∷ []) (row_line creds setup row) ≡ row_said row
-line_says creds setup group (App place mid) unnamed = refl
-line_says creds setup group (Media place mid kind dir false remote_created) unnamed = refl
-line_says creds setup group (Media place mid kind dir true remote_created) unnamed = rw (unnamed refl) refl
+line_says : (identity : Identity) (setup : Setup) (group : List (List ℕ)) (row : LineRow) → (is_stopped row ≡ true → is_named group (row_mid row) ≡ false) → said_line (group ∷ []) (row_line identity setup row) ≡ row_said row
+line_says identity setup group (App place mid) unnamed = refl
+line_says identity setup group (Media place mid kind dir false remote_created) unnamed = refl
+line_says identity setup group (Media place mid kind dir true remote_created) unnamed = rw (unnamed refl) refl
 
-rows_say : (creds : IceCreds) (setup : Setup) (all front rows : List LineRow) → all ≡ front ++ rows → Distinct all
-    → map (said_line (live_mids all ∷ [])) (map (row_line creds setup) rows) ≡ map row_said rows
-rows_say creds setup all front [] is distinct = refl
-rows_say creds setup all front (row ∷ rows) is distinct =
-    let first : said_line (live_mids all ∷ []) (row_line creds setup row) ≡ row_said row =
-    line_says creds setup (live_mids all) row (λ stopped. rw is (stopped_unnamed front row rows (subst Distinct is distinct) stopped)) in
-    let rest = rows_say creds setup all (front ++ row ∷ []) rows (is ∙ sym (append_assoc front (row ∷ []) rows)) distinct in
+rows_say : (identity : Identity) (setup : Setup) (all front rows : List LineRow) → all ≡ front ++ rows → Distinct all
+    → map (said_line (live_mids all ∷ [])) (map (row_line identity setup) rows) ≡ map row_said rows
+rows_say identity setup all front [] is distinct = refl
+rows_say identity setup all front (row ∷ rows) is distinct =
+    let first : said_line (live_mids all ∷ []) (row_line identity setup row) ≡ row_said row =
+    line_says identity setup (live_mids all) row (λ stopped. rw is (stopped_unnamed front row rows (subst Distinct is distinct) stopped)) in
+    let rest = rows_say identity setup all (front ++ row ∷ []) rows (is ∙ sym (append_assoc front (row ∷ []) rows)) distinct in
     cons_same first rest
   where
     cons_same : {A : Type 0} {x y : A} {xs ys : List A} → x ≡ y → xs ≡ ys → x ∷ xs ≡ y ∷ ys
     cons_same same rest = cc
 
 -- the text of rows with distinct mids says them
-pub text_says : (session : ℕ) (creds : IceCreds) (setup : Setup) (rows : List LineRow) → Distinct rows → said_lines (text_of session creds setup rows) ≡ map row_said rows
-text_says session creds setup rows distinct = rows_say creds setup rows [] rows refl distinct
+pub text_says : (session : ℕ) (identity : Identity) (setup : Setup) (rows : List LineRow) → Distinct rows → said_lines (text_of session identity setup rows) ≡ map row_said rows
+text_says session identity setup rows distinct = rows_say identity setup rows [] rows refl distinct
 
 -- ---- a text fits together
 
 -- the mids of the lines of rows are the rows'
-mids_of_rows : (creds : IceCreds) (setup : Setup) (rows : List LineRow) → mids_of (map (row_line creds setup) rows) ≡ map row_mid rows
-mids_of_rows creds setup [] = refl
-mids_of_rows creds setup (Media place mid kind dir stopped remote_created ∷ rows) = ap (λ mids. mid ∷ mids) (mids_of_rows creds setup rows)
-mids_of_rows creds setup (App place mid ∷ rows) = ap (λ mids. mid ∷ mids) (mids_of_rows creds setup rows)
+mids_of_rows : (identity : Identity) (setup : Setup) (rows : List LineRow) → mids_of (map (row_line identity setup) rows) ≡ map row_mid rows
+mids_of_rows identity setup [] = refl
+mids_of_rows identity setup (Media place mid kind dir stopped remote_created ∷ rows) = ap (λ mids. mid ∷ mids) (mids_of_rows identity setup rows)
+mids_of_rows identity setup (App place mid ∷ rows) = ap (λ mids. mid ∷ mids) (mids_of_rows identity setup rows)
 
 distinct_mids : (rows : List LineRow) → Distinct rows → are_distinct (map row_mid rows) ≡ true
 distinct_mids [] distinct = refl
@@ -164,16 +164,16 @@ rows_grouped (row ∷ rows) = by (is_stopped row) (rows_grouped rows)
     by true rest = (refl, rest)
     by false rest = (among_itself (live_mids rows) (row_mid row), grouped_more (live_mids rows) (row_mid row) rows rest)
 
-lines_grouped : (creds : IceCreds) (setup : Setup) (group : List (List ℕ)) (rows : List LineRow) → AreGrouped group rows → are_grouped group (map (row_line creds setup) rows) ≡ true
-lines_grouped creds setup group [] grouped = refl
-lines_grouped creds setup group (Media place mid kind dir stopped remote_created ∷ rows) grouped = rw (grouped.0, lines_grouped creds setup group rows grouped.1) refl
-lines_grouped creds setup group (App place mid ∷ rows) grouped = rw (grouped.0, lines_grouped creds setup group rows grouped.1) refl
+lines_grouped : (identity : Identity) (setup : Setup) (group : List (List ℕ)) (rows : List LineRow) → AreGrouped group rows → are_grouped group (map (row_line identity setup) rows) ≡ true
+lines_grouped identity setup group [] grouped = refl
+lines_grouped identity setup group (Media place mid kind dir stopped remote_created ∷ rows) grouped = rw (grouped.0, lines_grouped identity setup group rows grouped.1) refl
+lines_grouped identity setup group (App place mid ∷ rows) grouped = rw (grouped.0, lines_grouped identity setup group rows grouped.1) refl
 
 -- the text of rows with distinct mids, one of which is live, fits together
-pub text_fits : (session : ℕ) (creds : IceCreds) (setup : Setup) (rows : List LineRow) → Distinct rows → are_live rows ≡ true → inconsistency (text_of session creds setup rows) ≡ None
+pub text_fits : (session : ℕ) (identity : Identity) (setup : Setup) (rows : List LineRow) → Distinct rows → are_live rows ≡ true → inconsistency (text_of session identity setup rows) ≡ None
 unfolding inconsistency
-text_fits session creds setup rows distinct live =
-    rw (some_live rows live, mids_of_rows creds setup rows, live_known rows, lines_grouped creds setup (live_mids rows) rows (rows_grouped rows), distinct_mids rows distinct) refl
+text_fits session identity setup rows distinct live =
+    rw (some_live rows live, mids_of_rows identity setup rows, live_known rows, lines_grouped identity setup (live_mids rows) rows (rows_grouped rows), distinct_mids rows distinct) refl
 
 -- ---- the rows of an offer
 
