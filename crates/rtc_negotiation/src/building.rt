@@ -81,6 +81,7 @@ fn make_cert<N: Ids>(alloc: Global, ids: &mut N, given: Option<&[u8]>) -> Result
 }
 
 // The fingerprint of a certificate.
+#[tactic(auto, unfolding(rtc_peer_state::specs::Built::fingerprint_of))]
 fn hash_cert(alloc: Global, cert: &[u8]) -> Result<Fingerprint, AllocError>
     ensures { IfOk result (λ made. made ≡ fingerprint_of cert.now) }
 {

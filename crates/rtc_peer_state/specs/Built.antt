@@ -22,7 +22,7 @@ abbrev pub drawn_creds : ℕ → IceCreds
 drawn_creds n = record { ufrag = 117 ∷ hex_digits 16 n; pass = hex_digits 16 n ++ hex_digits 16 n }
 
 -- the fingerprint of a certificate by SHA-256 (RFC 8122, section 5)
-abbrev pub fingerprint_of : List ℕ → Fingerprint
+unfoldable pub fingerprint_of : List ℕ → Fingerprint
 fingerprint_of cert = record { hash_func = codes "sha-256"; bytes = sha256 cert }
 
 -- the last so many bytes of a number, the greatest first
