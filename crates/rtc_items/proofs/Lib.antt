@@ -1,3 +1,4 @@
 pub mod WordLemmas
-pub mod OnceLemmas
 pub mod LineLaws
+pub mod ConnectionLineLaws
+pub mod MediaLineLaws

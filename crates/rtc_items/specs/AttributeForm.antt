@@ -3,13 +3,26 @@ use Rattle.std.specs.Prelude.{ℕ, List, [], ◌∷◌, Option, Some, None, if�
 use Rattle.std.specs.Str.{bytes_eq}
 use Rattle.rtc_fields.specs.Cuts.{cut}
 use Rattle.rtc_fields.specs.Fields.{each}
+use Rattle.rtc_fields.specs.Numbers.{number}
 use Rattle.rtc_fields.specs.Words.{words}
 use Rattle.rtc_fields.specs.Tokens.{is_short_token}
 use Rattle.rtc_rows.specs.declared.direction.Direction.{Direction}
 use Rattle.rtc_rows.specs.declared.direction.Direction.TheVariants.{SendRecv, SendOnly, RecvOnly, Inactive}
 use Rattle.rtc_rows.specs.declared.setup.Setup.{Setup}
 use Rattle.rtc_rows.specs.declared.setup.Setup.TheVariants.{ActPass, Active, Passive}
-use Rattle.rtc_items.specs.declared.attribute.Attribute.TheVariants.{MidLine, GroupLine, SetupLine, DirectionLine}
+use Rattle.rtc_attributes.specs.WordValue.{ufrag_of, password_of, sctp_init_of}
+use Rattle.rtc_attributes.specs.FingerprintValue.{fingerprint_of}
+use Rattle.rtc_attributes.specs.CandidateValue.{candidate_of}
+use Rattle.rtc_media_attributes.specs.RtpmapValue.{rtpmap_of}
+use Rattle.rtc_media_attributes.specs.FmtpValue.{fmtp_of}
+use Rattle.rtc_media_attributes.specs.ExtmapValue.{extmap_of}
+use Rattle.rtc_media_attributes.specs.MsidValue.{msid_of}
+use Rattle.rtc_media_attributes.specs.RidValue.{rid_of}
+use Rattle.rtc_media_attributes.specs.SimulcastValue.{simulcast_of}
+use Rattle.rtc_media_attributes.specs.SsrcValue.{ssrc_name_of, ssrc_pair_of}
+use Rattle.rtc_items.specs.declared.attribute.Attribute.{Attribute}
+use Rattle.rtc_items.specs.declared.attribute.Attribute.TheVariants.{MidLine, GroupLine, SetupLine, DirectionLine, UfragLine, PasswordLine, LiteLine, FingerprintLine, CandidateLine, MessageSizeLine, SctpInitLine}
+use Rattle.rtc_items.specs.declared.attribute.Attribute.TheVariants.{CodecLine, ParametersLine, ExtensionLine, StreamLine, LayerLine, LayerListLine, SourceLine, SourcePairLine}
 use Rattle.rtc_items.specs.declared.item.Item.{Item}
 use Rattle.rtc_items.specs.declared.item.Item.TheVariants.{Skipped, Says}
 
@@ -52,7 +65,39 @@ abbrev pub bare : List ℕ → Item
 bare name =
     if bytes_eq name (codes "mid") then Says (MidLine None)
     else if bytes_eq name (codes "setup") then Says (SetupLine None)
+    else if bytes_eq name (codes "fingerprint") then Says (FingerprintLine None)
+    else if bytes_eq name (codes "max-message-size") then Says (MessageSizeLine None)
+    else if bytes_eq name (codes "ice-lite") then Says LiteLine
     else direction_item (direction_of name)
+
+-- an attribute that is skipped where it has not its form
+abbrev pub said_if : {A : Type 0} → (A → Attribute) → Option A → Item
+said_if says None = Skipped
+said_if says (Some value) = Says (says value)
+
+-- a=NAME:VALUE of a media line; other names are skipped
+abbrev pub media_valued : List ℕ → List ℕ → Item
+media_valued name value =
+    if bytes_eq name (codes "rtpmap") then said_if CodecLine (rtpmap_of value)
+    else if bytes_eq name (codes "fmtp") then said_if ParametersLine (fmtp_of value)
+    else if bytes_eq name (codes "extmap") then said_if ExtensionLine (extmap_of value)
+    else if bytes_eq name (codes "msid") then said_if StreamLine (msid_of value)
+    else if bytes_eq name (codes "rid") then said_if LayerLine (rid_of value)
+    else if bytes_eq name (codes "simulcast") then said_if LayerListLine (simulcast_of value)
+    else if bytes_eq name (codes "ssrc") then said_if SourceLine (ssrc_name_of value)
+    else if bytes_eq name (codes "ssrc-group") then said_if SourcePairLine (ssrc_pair_of value)
+    else Skipped
+
+-- a=NAME:VALUE of a connection
+abbrev pub connection_valued : List ℕ → List ℕ → Item
+connection_valued name value =
+    if bytes_eq name (codes "ice-ufrag") then said_if UfragLine (ufrag_of value)
+    else if bytes_eq name (codes "ice-pwd") then said_if PasswordLine (password_of value)
+    else if bytes_eq name (codes "fingerprint") then Says (FingerprintLine (fingerprint_of value))
+    else if bytes_eq name (codes "candidate") then said_if CandidateLine (candidate_of value)
+    else if bytes_eq name (codes "max-message-size") then Says (MessageSizeLine (number value))
+    else if bytes_eq name (codes "sctp-init") then said_if SctpInitLine (sctp_init_of value)
+    else media_valued name value
 
 -- a=NAME:VALUE
 abbrev pub valued : List ℕ → List ℕ → Item
@@ -60,7 +105,7 @@ valued name value =
     if bytes_eq name (codes "mid") then Says (MidLine (mid_of value))
     else if bytes_eq name (codes "group") then group value
     else if bytes_eq name (codes "setup") then Says (SetupLine (setup_of value))
-    else Skipped
+    else connection_valued name value
 
 abbrev pub attribute_parts : List ℕ → Option (List ℕ × List ℕ) → Item
 attribute_parts name None = bare name

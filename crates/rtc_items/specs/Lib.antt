@@ -1,5 +1,6 @@
-pub mod Once
 pub mod MediaForm
 pub mod AttributeForm
 pub mod ItemForm
 pub mod LineTexts
+pub mod ConnectionTexts
+pub mod MediaTexts

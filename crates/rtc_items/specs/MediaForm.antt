@@ -9,7 +9,7 @@ use Rattle.rtc_fields.specs.Tokens.{is_token}
 use Rattle.rtc_fields.specs.Numbers.{is_numeral, number_up_to}
 use Rattle.rtc_rows.specs.declared.line_kind.LineKind.{LineKind}
 use Rattle.rtc_rows.specs.declared.line_kind.LineKind.TheVariants.{Audio, Video, Application, Unknown}
-use Rattle.rtc_items.specs.Once.{each_once}
+use Rattle.rtc_fields.specs.Once.{each_once}
 use Rattle.rtc_items.specs.declared.item.Item.{Item}
 use Rattle.rtc_items.specs.declared.item.Item.TheVariants.{Bad, Media}
 

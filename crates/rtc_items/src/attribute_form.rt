@@ -2,6 +2,7 @@
 ghost use Rattle.std.specs.Prelude.{◌≡◌, IfOk};
 ghost use Rattle.rtc_items.specs.AttributeForm as spec;
 
+use crate::connection_form::connection_valued;
 use crate::direction_word::direction_of;
 use crate::group_form::group;
 use crate::setup_word::setup_of;
@@ -19,6 +20,15 @@ fn bare(name: &str) -> Item
     if name == "setup" {
         return Item::Says(Attribute::SetupLine(None));
     }
+    if name == "fingerprint" {
+        return Item::Says(Attribute::FingerprintLine(None));
+    }
+    if name == "max-message-size" {
+        return Item::Says(Attribute::MessageSizeLine(None));
+    }
+    if name == "ice-lite" {
+        return Item::Says(Attribute::LiteLine);
+    }
     match direction_of(name) {
         None => Item::Skipped,
         Some(dir) => Item::Says(Attribute::DirectionLine(dir)),
@@ -35,7 +45,7 @@ fn valued(alloc: Global, name: &str, value: &str) -> Result<Item, AllocError>
     } else if name == "setup" {
         Ok(Item::Says(Attribute::SetupLine(setup_of(value))))
     } else {
-        Ok(Item::Skipped)
+        connection_valued(alloc, name, value)
     }
 }
 

@@ -3,10 +3,12 @@
 
 mod attribute;
 mod attribute_form;
+mod connection_form;
 mod direction_word;
 mod group_form;
 mod item;
 mod item_form;
+mod media_attribute_form;
 mod media_form;
 mod media_head;
 mod setup_word;

@@ -5,7 +5,7 @@ ghost use Rattle.rtc_fields.specs.Fields.{each};
 ghost use Rattle.rtc_fields.specs.Numbers.{number_up_to as spec_number_up_to};
 ghost use Rattle.rtc_fields.specs.Tokens.{is_token as IsToken};
 ghost use Rattle.rtc_items.specs.MediaForm as spec;
-ghost use Rattle.rtc_items.specs.Once.{each_once as spec_each_once};
+ghost use Rattle.rtc_fields.specs.Once.{each_once as spec_each_once};
 
 use crate::{Item, MediaHead};
 use rtc_fields::{cut, is_numeral, is_token, number_up_to, words};

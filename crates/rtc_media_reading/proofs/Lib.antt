@@ -2,3 +2,5 @@ pub mod PayloadLookups
 pub mod PayloadLaw
 pub mod LayerLaw
 pub mod PlaceLemmas
+pub mod SourceLaw
+pub mod NumberLemmas

@@ -21,7 +21,7 @@ or_else_assoc : {B : Type 0} (a b c : Option B) → or_else a (or_else b c) ≡ 
 or_else_assoc None b c = refl
 or_else_assoc (Some x) b c = refl
 
-or_else_none : {B : Type 0} (a : Option B) → or_else a None ≡ a
+pub or_else_none : {B : Type 0} (a : Option B) → or_else a None ≡ a
 or_else_none None = refl
 or_else_none (Some x) = refl
 
@@ -29,17 +29,18 @@ first-push : {A B : Type 0} (gives : A → Option B) (xs : List A) (x : A) → f
 first-push gives [] x = or_else_none (gives x)
 first-push gives (y ∷ ys) x = ap (or_else (gives y)) (first-push gives ys x) ∙ or_else_assoc (gives y) (first gives ys) (gives x)
 
-first_more : (gives : RidLine → Option Pairs) (lines : List RidLine) (i : ℕ) (x : RidLine) → i < length lines → x ≡ get_or lines i x → first gives (take (i + 1) lines) ≡ or_else (first gives (take i lines)) (gives x)
-first_more gives lines i x lt is =
-    let more : take (i + 1) lines ≡ take i lines ++ x ∷ [] = take_more lines i x lt ∙ ap (λ (y : RidLine). take i lines ++ y ∷ []) (sym is) in
-    ap (first gives) more ∙ first-push gives (take i lines) x
+-- what the first gives, with one more
+pub first_more : {A B : Type 0} (gives : A → Option B) (rows : List A) (i : ℕ) (d x : A) → i < length rows → x ≡ get_or rows i d → first gives (take (i + 1) rows) ≡ or_else (first gives (take i rows)) (gives x)
+first_more {A = A} gives rows i d x lt is =
+    let more : take (i + 1) rows ≡ take i rows ++ x ∷ [] = take_more rows i d lt ∙ ap (λ (y : A). take i rows ++ y ∷ []) (sym is) in
+    ap (first gives) more ∙ first-push gives (take i rows) x
 
 -- an attribute of another direction changes nothing
 pub passes_over : (lines : List RidLine) (direction : RidDirection) (i : ℕ) (found : BTreeMap (List ℕ) ℕ) (x : RidLine) → i < length lines → x ≡ get_or lines i x
     → same_direction x.direction direction ≡ false → AreFirst lines direction i found → AreFirst lines direction (i + 1) found
 passes_over lines direction i found x lt is other h q =
     let nothing : pairs_in direction q x ≡ None = rw other refl in
-    h q ∙ sym (or_else_none (first (pairs_in direction q) (take i lines))) ∙ ap (or_else (first (pairs_in direction q) (take i lines))) (sym nothing) ∙ sym (first_more (pairs_in direction q) lines i x lt is)
+    h q ∙ sym (or_else_none (first (pairs_in direction q) (take i lines))) ∙ ap (or_else (first (pairs_in direction q) (take i lines))) (sym nothing) ∙ sym (first_more (pairs_in direction q) lines i x x lt is)
 
 other_name : (direction : RidDirection) (q : List ℕ) (x : RidLine) → same_direction x.direction direction ≡ true → bytes_eq x.rid q ≡ false → pairs_in direction q x ≡ None
 other_name direction q x same other = rw (same, other) refl
@@ -57,7 +58,7 @@ pub passes_known : (lines : List RidLine) (direction : RidDirection) (i : ℕ) (
 passes_known lines direction i found x lt is same known h q =
     let at : Option ℕ = map.get (slice_cmp nat_cmp) found q in
     let before : Option Pairs = first (pairs_in direction q) (take i lines) in
-    let more : first (pairs_in direction q) (take (i + 1) lines) ≡ or_else before (pairs_in direction q x) = first_more (pairs_in direction q) lines i x lt is in
+    let more : first (pairs_in direction q) (take (i + 1) lines) ≡ or_else before (pairs_in direction q x) = first_more (pairs_in direction q) lines i x x lt is in
     elim (bytes_tell x.rid q) [
       | inl (_, e) ↦ there lines at (pairs_in direction q x) (ap (λ (r : List ℕ). is_some (map.get (slice_cmp nat_cmp) found r)) (sym e) ∙ known)
           ∙ ap (λ (o : Option Pairs). or_else o (pairs_in direction q x)) (h q) ∙ sym more
@@ -84,7 +85,7 @@ pub puts_new : (lines : List RidLine) (direction : RidDirection) (i : ℕ) (foun
     → AreFirst lines direction i found → AreFirst lines direction (i + 1) now
 puts_new lines direction i found now x lt is same new put h q =
     let before : Option Pairs = first (pairs_in direction q) (take i lines) in
-    let more : first (pairs_in direction q) (take (i + 1) lines) ≡ or_else before (pairs_in direction q x) = first_more (pairs_in direction q) lines i x lt is in
+    let more : first (pairs_in direction q) (take (i + 1) lines) ≡ or_else before (pairs_in direction q x) = first_more (pairs_in direction q) lines i x x lt is in
     let got : map.get (slice_cmp nat_cmp) now q ≡ cond (bytes_eq x.rid q) (Some i) (map.get (slice_cmp nat_cmp) found q) =
     put q ∙ ap (λ (b : Bool). cond b (Some i) (map.get (slice_cmp nat_cmp) found q)) (is_eq-slice_cmp x.rid q) in
     elim (bytes_tell x.rid q) [

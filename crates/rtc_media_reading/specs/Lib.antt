@@ -3,3 +3,5 @@ pub mod PlainPayloads
 pub mod Layers
 pub mod Places
 pub mod PlainLayers
+pub mod Sources
+pub mod PlainSources

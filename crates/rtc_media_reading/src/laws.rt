@@ -1,11 +1,14 @@
 //! What is written is read back: laws over the definitions, which take no time at all.
-ghost use Rattle.std.specs.Prelude.{◌≡◌, List};
+ghost use Rattle.std.specs.Prelude.{◌≡◌, List, Option};
 ghost use Rattle.std.specs.List.{AllByRecursion};
 ghost use Rattle.rtc_media_rows.specs.declared.payload_row.PayloadRow.{PayloadRow};
 ghost use Rattle.rtc_media_rows.specs.declared.simulcast.Simulcast.{Simulcast};
+ghost use Rattle.rtc_media_rows.specs.declared.ssrc.Ssrc.{Ssrc};
 ghost use Rattle.rtc_media_reading.specs.Layers.{simulcast_value as layers_with_pairs};
 ghost use Rattle.rtc_media_reading.specs.Payloads.{payload_rows as rows_with_links};
 ghost use Rattle.rtc_media_reading.specs.PlainLayers.{rid_lines, listed, AreNamesApart};
+ghost use Rattle.rtc_media_reading.specs.PlainSources.{numbers_of, pairs_of, AreNumbersApart};
+ghost use Rattle.rtc_media_reading.specs.Sources.{sources as sources_with_pairs};
 ghost use Rattle.rtc_media_reading.specs.PlainPayloads.{formats_of, codecs_of, fmtps_of, IsPlainPayload, AreApart};
 
 /// Payload rows are read back from the list, the codecs and the parameters that are written for them.
@@ -16,4 +19,9 @@ pub fn payload_rows_read_back()
 /// Layers are read back from the lists and the pairs that are written for them.
 pub fn layers_read_back()
     ensures { (simulcast : Simulcast) → AreNamesApart simulcast → layers_with_pairs (rid_lines simulcast) (listed simulcast) ≡ simulcast }
+{}
+
+/// Sources are read back from the names and pairs that are written for them.
+pub fn sources_read_back()
+    ensures { (sources : List (Ssrc × Option Ssrc)) → AreNumbersApart sources → sources_with_pairs (numbers_of sources) (pairs_of sources) ≡ sources }
 {}

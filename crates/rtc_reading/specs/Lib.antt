@@ -1,5 +1,6 @@
 pub mod Parting
 pub mod Refusal
+pub mod Said
 pub mod LineValue
 pub mod SessionValue
 pub mod Reading

@@ -1,39 +1,40 @@
 -- The value of a line part: of an attribute that counts once, the first counts.
 use Rattle.std.specs.Prelude.{ℕ, List, [], ◌∷◌, Option, Some, None, option_map}
-use Rattle.std.specs.List.{cons_option}
+use Rattle.std.specs.List.{cons_option, filter_map}
 use Rattle.rtc_fields.specs.Fields.{first}
-use Rattle.rtc_rows.specs.declared.direction.Direction.{Direction}
+use Rattle.rtc_media_rows.specs.declared.payload_row.PayloadRow.{PayloadRow}
+use Rattle.rtc_media_rows.specs.declared.simulcast.Simulcast.{Simulcast}
+use Rattle.rtc_media_rows.specs.declared.ssrc.Ssrc.{Ssrc}
+use Rattle.rtc_media_reading.specs.Layers.{simulcast_value}
+use Rattle.rtc_media_reading.specs.Payloads.{payload_rows}
+use Rattle.rtc_media_reading.specs.Sources.{sources}
 use Rattle.rtc_rows.specs.declared.direction.Direction.TheVariants.{SendRecv}
-use Rattle.rtc_rows.specs.declared.setup.Setup.{Setup}
+use Rattle.rtc_rows.specs.declared.ice_creds.IceCreds.{IceCreds}
 use Rattle.rtc_rows.specs.declared.media_line.MediaLine.{MediaLine}
-use Rattle.rtc_items.specs.declared.attribute.Attribute.{Attribute}
-use Rattle.rtc_items.specs.declared.attribute.Attribute.TheVariants.{MidLine, SetupLine, DirectionLine}
 use Rattle.rtc_items.specs.declared.item.Item.{Item}
-use Rattle.rtc_items.specs.declared.item.Item.TheVariants.{Media, Says}
+use Rattle.rtc_items.specs.declared.item.Item.TheVariants.{Media}
 use Rattle.rtc_items.specs.declared.media_head.MediaHead.{MediaHead}
+use Rattle.rtc_reading.specs.Said.{said, value_or, mid_of, setup_of, direction_of, ufrag_of, password_of, fingerprint_of, candidate_of, message_size_of, sctp_init_of, codec_of, parameters_of, extension_of, stream_of, layer_of, layer_list_of, cname_of, source_of, source_pair_of}
 use Rattle.rtc_reading.specs.Parting.{inner}
 
--- ---- what single attributes give
-abbrev pub mid_of : Attribute → Option (List ℕ)
-mid_of (MidLine mid) = mid
-mid_of _ = None
+-- ---- what several attributes give together
+-- credentials are there where both of them are (RFC 8839, section 5.4)
+abbrev pub creds_made : Option (List ℕ) → Option (List ℕ) → Option IceCreds
+creds_made (Some ufrag) (Some pass) = Some (record { ufrag = ufrag; pass = pass })
+creds_made _ _ = None
 
-abbrev pub setup_of : Attribute → Option Setup
-setup_of (SetupLine setup) = setup
-setup_of _ = None
+abbrev pub creds_in : List Item → Option IceCreds
+creds_in items = creds_made (first (said ufrag_of) items) (first (said password_of) items)
 
-abbrev pub direction_of : Attribute → Option Direction
-direction_of (DirectionLine dir) = Some dir
-direction_of _ = None
+abbrev pub payloads_in : List ℕ → List Item → List PayloadRow
+payloads_in formats items = payload_rows formats (filter_map (said codec_of) items) (filter_map (said parameters_of) items)
 
--- what a line gives, where it says an attribute
-abbrev pub said : {B : Type 0} → (Attribute → Option B) → Item → Option B
-said gives (Says attribute) = gives attribute
-said gives _ = None
+-- the layers of the first list
+abbrev pub simulcast_in : List Item → Option Simulcast
+simulcast_in items = option_map (simulcast_value (filter_map (said layer_of) items)) (first (said layer_list_of) items)
 
-abbrev pub value_or : {A : Type 0} → A → Option A → A
-value_or default None = default
-value_or default (Some value) = value
+abbrev pub sources_in : List Item → List (Ssrc × Option Ssrc)
+sources_in items = sources (filter_map (said source_of) items) (filter_map (said source_pair_of) items)
 
 -- ---- the value
 abbrev pub line_named : MediaHead → List Item → List ℕ → MediaLine
@@ -42,18 +43,18 @@ line_named head items mid = record {
   disabled = head.disabled;
   mid = mid;
   dir = value_or SendRecv (first (said direction_of) items);
-  candidates = [];
-  creds = None;
-  fingerprint = None;
+  candidates = filter_map (said candidate_of) items;
+  creds = creds_in items;
+  fingerprint = first (said fingerprint_of) items;
   setup = first (said setup_of) items;
-  payloads = [];
-  exts = [];
-  simulcast = None;
-  msid = None;
-  cname = None;
-  ssrcs = [];
-  max_message_size = None;
-  sctp_init = None;
+  payloads = payloads_in head.formats items;
+  exts = filter_map (said extension_of) items;
+  simulcast = simulcast_in items;
+  msid = first (said stream_of) items;
+  cname = first (said cname_of) items;
+  ssrcs = sources_in items;
+  max_message_size = first (said message_size_of) items;
+  sctp_init = first (said sctp_init_of) items;
 }
 
 -- the line part of an `m=` line and the lines behind it; one without a mid is refused

@@ -1,7 +1,7 @@
 -- Which line refuses a text: a function of where the line stands, what it says, and the lines behind it.
 use Rattle.std.specs.Prelude.{ℕ, ◌+◌, Bool, true, false, not, List, [], ◌∷◌, Option, Some, None, if◌then◌else◌}
 use Rattle.rtc_items.specs.declared.attribute.Attribute.{Attribute}
-use Rattle.rtc_items.specs.declared.attribute.Attribute.TheVariants.{MidLine, GroupLine, SetupLine}
+use Rattle.rtc_items.specs.declared.attribute.Attribute.TheVariants.{MidLine, GroupLine, SetupLine, FingerprintLine, MessageSizeLine}
 use Rattle.rtc_items.specs.declared.item.Item.{Item}
 use Rattle.rtc_items.specs.declared.item.Item.TheVariants.{Blank, Bad, Version, Origin, Media, Says}
 use Rattle.rtc_reading.specs.declared.place.Place.{Place}
@@ -12,11 +12,14 @@ use Rattle.rtc_reading.specs.Parting.{has_one_mid}
 abbrev pub is_malformed_in_session : Attribute → Bool
 is_malformed_in_session (GroupLine None) = true
 is_malformed_in_session (SetupLine None) = true
+is_malformed_in_session (FingerprintLine None) = true
 is_malformed_in_session _ = false
 
 abbrev pub is_malformed_in_line : Attribute → Bool
 is_malformed_in_line (MidLine None) = true
 is_malformed_in_line (SetupLine None) = true
+is_malformed_in_line (FingerprintLine None) = true
+is_malformed_in_line (MessageSizeLine None) = true
 is_malformed_in_line _ = false
 
 -- ---- one line

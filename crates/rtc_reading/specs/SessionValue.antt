@@ -3,29 +3,24 @@ use Rattle.std.specs.Prelude.{ℕ, List, Option, Some, None, false}
 use Rattle.std.specs.List.{filter_map}
 use Rattle.rtc_fields.specs.Fields.{first}
 use Rattle.rtc_rows.specs.declared.sdp.Sdp.{Sdp}
-use Rattle.rtc_items.specs.declared.attribute.Attribute.{Attribute}
-use Rattle.rtc_items.specs.declared.attribute.Attribute.TheVariants.{GroupLine}
 use Rattle.rtc_items.specs.declared.item.Item.{Item}
 use Rattle.rtc_items.specs.declared.item.Item.TheVariants.{Origin}
 use Rattle.rtc_reading.specs.Parting.{inner}
-use Rattle.rtc_reading.specs.LineValue.{setup_of, said, value_or, lines_of}
+use Rattle.rtc_reading.specs.Said.{said, value_or, group_of, setup_of, lite_of, fingerprint_of}
+use Rattle.rtc_reading.specs.LineValue.{creds_in, lines_of}
 
 abbrev pub origin_of : Item → Option ℕ
 origin_of (Origin id) = Some id
 origin_of _ = None
-
-abbrev pub group_of : Attribute → Option (List (List ℕ))
-group_of (GroupLine mids) = mids
-group_of _ = None
 
 -- the value that lines give: attributes in front of the first `m=` line are those of the session
 unfoldable pub sdp_of : List Item → Sdp
 sdp_of items = record {
   id = value_or 0 (first origin_of items);
   groups = filter_map (said group_of) (inner items);
-  ice_lite = false;
-  creds = None;
-  fingerprint = None;
+  ice_lite = value_or false (first (said lite_of) (inner items));
+  creds = creds_in (inner items);
+  fingerprint = first (said fingerprint_of) (inner items);
   setup = first (said setup_of) (inner items);
   lines = lines_of items;
 }

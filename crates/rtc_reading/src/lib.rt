@@ -1,7 +1,9 @@
 //! The reader of session texts: from what the lines say to the value.
 #![tactic(auto)]
 
+mod all_values;
 mod answers;
+mod first_values;
 mod laws;
 mod line_value;
 mod parting;

@@ -10,7 +10,9 @@ fn is_malformed_in_session(attribute: &Attribute) -> bool
     ensures { result ≡ spec.is_malformed_in_session attribute.now }
 {
     match attribute {
-        Attribute::GroupLine(None) | Attribute::SetupLine(None) => true,
+        Attribute::GroupLine(None)
+        | Attribute::SetupLine(None)
+        | Attribute::FingerprintLine(None) => true,
         _ => false,
     }
 }
@@ -19,7 +21,10 @@ fn is_malformed_in_line(attribute: &Attribute) -> bool
     ensures { result ≡ spec.is_malformed_in_line attribute.now }
 {
     match attribute {
-        Attribute::MidLine(None) | Attribute::SetupLine(None) => true,
+        Attribute::MidLine(None)
+        | Attribute::SetupLine(None)
+        | Attribute::FingerprintLine(None)
+        | Attribute::MessageSizeLine(None) => true,
         _ => false,
     }
 }

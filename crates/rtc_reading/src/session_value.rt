@@ -1,15 +1,15 @@
 //! The values of session texts.
 ghost use Rattle.std.specs.Prelude.{◌≡◌, IfOk};
-ghost use Rattle.std.specs.List.{filter_map};
 ghost use Rattle.rtc_fields.specs.Fields.{first};
-ghost use Rattle.rtc_reading.specs.LineValue.{said};
 ghost use Rattle.rtc_reading.specs.SessionValue as spec;
 
-use crate::line_value::{first_setup, lines_of};
+use crate::all_values::all_groups;
+use crate::first_values::{first_fingerprint, first_setup, is_lite};
+use crate::line_value::{creds_in, lines_of};
 use crate::parting::inner;
-use rtc_items::{Attribute, Item};
-use rtc_rows::{Mid, Sdp};
-use rtc_wire::{Seq, TryCopy};
+use rtc_items::Item;
+use rtc_rows::Sdp;
+use rtc_wire::Seq;
 use std::alloc::{AllocError, Global};
 
 fn first_origin(items: &[Item]) -> Option<u64>
@@ -23,34 +23,22 @@ fn first_origin(items: &[Item]) -> Option<u64>
     None
 }
 
-fn groups_of(alloc: Global, items: &[Item]) -> Result<Vec<Seq<Mid>>, AllocError>
-    ensures { IfOk result (λ groups. groups.items ≡ filter_map (said spec.group_of) items.now) }
-{
-    let mut groups = Vec::new(alloc);
-    for item in items {
-        let Item::Says(Attribute::GroupLine(Some(mids))) = item else {
-            continue;
-        };
-        let copied = mids.copy()?;
-        groups.push(copied)?;
-    }
-    Ok(groups)
-}
-
 /// The value that lines give.
 #[tactic(auto, unfolding(crate::specs::SessionValue::sdp_of))]
 pub(crate) fn sdp_of(alloc: Global, items: &[Item]) -> Result<Sdp, AllocError>
     ensures { IfOk result (λ sdp. sdp ≡ spec.sdp_of items.now) }
 {
     let session = inner(items);
-    let groups = groups_of(alloc, session)?;
+    let groups = all_groups(alloc, session)?;
+    let creds = creds_in(session)?;
+    let fingerprint = first_fingerprint(session)?;
     let lines = lines_of(alloc, items)?;
     Ok(Sdp {
         id: first_origin(items).unwrap_or(0),
-        groups: Seq::new(groups),
-        ice_lite: false,
-        creds: None,
-        fingerprint: None,
+        groups,
+        ice_lite: is_lite(session),
+        creds,
+        fingerprint,
         setup: first_setup(session),
         lines: Seq::new(lines),
     })

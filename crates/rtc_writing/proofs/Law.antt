@@ -1,11 +1,11 @@
 -- The law of writing and reading.
 use Rattle.std.proofs.Common.{◌≡◌, ℕ, ◌+◌, ◌<◌, ◌^◌, Bool, true, false, not, cond, eqb, List, [], ◌∷◌, ◌++◌, length, map, Option, Some, None, Result, Ok, Err, refl, sym, ap, subst, ◌∙◌, rules}
-use Rattle.std.specs.Prelude.{codes, filter}
-use Rattle.std.specs.List.{AllByRecursion, filter_map, cons_option, count_by}
+use Rattle.std.specs.Prelude.{codes, filter, IfSome}
+use Rattle.std.specs.List.{AllByRecursion, filter_map, cons_option, count_by, list_any}
 use Rattle.std.proofs.lemmas.List.{map-append, append-nil}
 use Rattle.rtc_fields.specs.Fields.{first}
 use Rattle.rtc_fields.specs.Lines.{lines, AreLines}
-use Rattle.rtc_fields.specs.Tokens.{is_short_token}
+use Rattle.rtc_fields.specs.Tokens.{is_short_token, is_token}
 use Rattle.rtc_fields.proofs.LineLemmas.{lines-text_of, AreLines-append}
 use Rattle.rtc_rows.specs.declared.fingerprint.Fingerprint.{Fingerprint}
 use Rattle.rtc_rows.specs.declared.ice_creds.IceCreds.{IceCreds}
@@ -13,7 +13,7 @@ use Rattle.rtc_rows.specs.declared.media_line.MediaLine.{MediaLine}
 use Rattle.rtc_rows.specs.declared.sdp.Sdp.{Sdp}
 use Rattle.rtc_rows.specs.declared.setup.Setup.{Setup}
 use Rattle.rtc_items.specs.declared.attribute.Attribute.{Attribute}
-use Rattle.rtc_items.specs.declared.attribute.Attribute.TheVariants.{MidLine, GroupLine, SetupLine, DirectionLine}
+use Rattle.rtc_items.specs.declared.attribute.Attribute.TheVariants.{MidLine, GroupLine, SetupLine, DirectionLine, UfragLine, PasswordLine, LiteLine, FingerprintLine}
 use Rattle.rtc_items.specs.declared.item.Item.{Item}
 use Rattle.rtc_items.specs.declared.item.Item.TheVariants.{Blank, Bad, Skipped, Version, Origin, Media, Says}
 use Rattle.rtc_items.specs.ItemForm.{item_of, items_of}
@@ -22,15 +22,24 @@ use Rattle.rtc_items.proofs.LineLaws.{IsLineOf, AreMids, origin_line_is, group_l
 use Rattle.rtc_reading.specs.declared.place.Place.TheVariants.{First, Second, Session, Line}
 use Rattle.rtc_reading.specs.Parting.{inner, is_mid_line, has_one_mid}
 use Rattle.rtc_reading.specs.Refusal.{refused_from, refused}
-use Rattle.rtc_reading.specs.LineValue.{said, setup_of, line_of, lines_of}
-use Rattle.rtc_reading.specs.SessionValue.{group_of, sdp_of}
+use Rattle.rtc_reading.specs.Said.{said, value_or, group_of, setup_of, ufrag_of, password_of, lite_of, fingerprint_of}
+use Rattle.rtc_reading.specs.LineValue.{creds_in, creds_made, line_of, lines_of}
+use Rattle.rtc_reading.specs.SessionValue.{sdp_of}
 use Rattle.rtc_reading.specs.Reading.{judged, reading}
 use Rattle.rtc_writing.specs.Rows.{in_order}
 use Rattle.rtc_writing.specs.LineRows.{line_rows, all_line_rows}
-use Rattle.rtc_writing.specs.SessionRows.{live_mids, session_groups, sdp_rows, written}
+use Rattle.rtc_writing.specs.MediaRows.{shown_stream}
+use Rattle.rtc_writing.specs.SessionRows.{live_mids, new_name, names_behind, stream_names, lite_lines, session_groups, sdp_rows, written}
 use Rattle.rtc_writing.specs.Plain.{IsPlainLine, IsPlain}
-use Rattle.rtc_writing.proofs.Blocks.{Block, tag_of, IsSaid, single_block, rows_in, items_in, rows_again, rows_one, all_said, first_in, all_in}
-use Rattle.rtc_writing.proofs.LineBlocks.{blocks_of, said_inner, said_line, line_rows_again, line_rows_one, one_mid, media_head, line_again}
+use Rattle.rtc_writing.specs.SessionRows.{is_stream}
+use Rattle.rtc_media_rows.specs.declared.msid.Msid.{Msid}
+use Rattle.rtc_media_attributes.specs.MsidValue.{IsPlainMsid}
+use Rattle.rtc_items.specs.MediaTexts.{semantic_line}
+use Rattle.rtc_items.proofs.ConnectionLineLaws.{lite_line_is}
+use Rattle.rtc_items.proofs.MediaLineLaws.{semantic_line_is}
+use Rattle.rtc_writing.proofs.Blocks.{Block, tag_of, IsSaid, single_block, kept_block, if_kept, rows_in, items_in, rows_again, rows_one, all_said, first_in, all_in}
+use Rattle.rtc_writing.proofs.LineBlocks.{blocks_of, said_inner, said_line, line_rows_again, line_rows_one}
+use Rattle.rtc_writing.proofs.LineFound.{one_mid, media_head, line_again}
 
 -- ---- what lines inside of a part leave as it is
 abbrev AreSaid : List Item → Type 0
@@ -144,9 +153,26 @@ allow_mixed_is : IsLineOf (codes "a=extmap-allow-mixed") Skipped
 unfolding item_of
 allow_mixed_is = record { again = refl; one = search rules }
 
-semantic_is : IsLineOf (codes "a=msid-semantic: WMS") Skipped
-unfolding item_of
-semantic_is = record { again = refl; one = search rules }
+-- the names of streams are tokens
+name_plain : (front : List MediaLine) (msid : Option Msid) → IfSome msid IsPlainMsid → AllByRecursion (λ name. is_token name ≡ true) (new_name front msid)
+name_plain front None h = tt
+name_plain front (Some msid) h = go (list_any (λ line. is_stream msid.stream_id (shown_stream line)) front)
+  where
+    go : (known : Bool) → AllByRecursion (λ name. is_token name ≡ true) (cond known [] (msid.stream_id ∷ []))
+    go true = tt
+    go false = (h.stream, tt)
+
+shown_plain : (disabled : Bool) (msid : Option Msid) → IfSome msid IsPlainMsid → IfSome (cond disabled None msid) IsPlainMsid
+shown_plain true msid h = tt
+shown_plain false msid h = h
+
+names_append : (xs ys : List (List ℕ)) → AllByRecursion (λ name. is_token name ≡ true) xs → AllByRecursion (λ name. is_token name ≡ true) ys → AllByRecursion (λ name. is_token name ≡ true) (xs ++ ys)
+names_append [] ys h k = k
+names_append (x ∷ xs) ys h k = (h.0, names_append xs ys h.1 k)
+
+names_plain : (front lines : List MediaLine) → ArePlain lines → AllByRecursion (λ name. is_token name ≡ true) (names_behind front lines)
+names_plain front [] h = tt
+names_plain front (line ∷ rest) h = names_append (new_name front (shown_stream line)) (names_behind (front ++ line ∷ []) rest) (name_plain front (shown_stream line) (shown_plain line.disabled line.msid h.0.msid)) (names_plain (front ++ line ∷ []) rest h.1)
 
 abbrev session_blocks : (sdp : Sdp) → IsPlain sdp → List Block
 session_blocks sdp h =
@@ -154,15 +180,21 @@ session_blocks sdp h =
     ∷ (constant (codes "t=0 0") any_time_is
     ∷ (single_block 2 (group_line (live_mids sdp.lines)) (Says (GroupLine (Some (live_mids sdp.lines)))) (group_line_is (live_mids sdp.lines) (mids_of_live sdp.lines h.lines)) (refl, refl) refl
     ∷ (constant (codes "a=extmap-allow-mixed") allow_mixed_is
-    ∷ (constant (codes "a=msid-semantic: WMS") semantic_is
-    ∷ []))))
+    ∷ (single_block 0 (semantic_line (stream_names sdp.lines)) Skipped (semantic_line_is (stream_names sdp.lines) (names_plain [] sdp.lines h.lines)) tt refl
+    ∷ (kept_block sdp.ice_lite (single_block 7 (codes "a=ice-lite") (Says LiteLine) lite_line_is (refl, refl) refl)
+    ∷ [])))))
 
 abbrev said_session : (sdp : Sdp) → IsPlain sdp → List Item
 said_session sdp h = items_in (session_blocks sdp h)
 
+lite_as_written : (lite : Bool) → if_kept lite (codes "a=ice-lite" ∷ []) ++ [] ≡ lite_lines lite ++ []
+lite_as_written true = refl
+lite_as_written false = refl
+
 session_as_written : (sdp : Sdp) (h : IsPlain sdp) → rows_in (session_blocks sdp h) ≡ in_order (session_groups sdp)
 unfolding session_groups
-session_as_written sdp h = refl
+session_as_written sdp h =
+    ap (λ (l : List (List ℕ)). codes "s=-" ∷ (codes "t=0 0" ∷ (group_line (live_mids sdp.lines) ∷ (codes "a=extmap-allow-mixed" ∷ (semantic_line (stream_names sdp.lines) ∷ l))))) (lite_as_written sdp.ice_lite)
 
 -- ---- the text
 abbrev said_all : (sdp : Sdp) → IsPlain sdp → List Item
@@ -198,6 +230,31 @@ setup_looks : (item : Item) → eqb (tag_of item) 3 ≡ false → said setup_of 
 setup_looks (Says (SetupLine setup)) ne = absurd cc
 setup_looks _ ne = refl
 
+fingerprint_looks : (item : Item) → eqb (tag_of item) 8 ≡ false → said fingerprint_of item ≡ None
+fingerprint_looks (Says (FingerprintLine fingerprint)) ne = absurd cc
+fingerprint_looks _ ne = refl
+
+ufrag_looks : (item : Item) → eqb (tag_of item) 5 ≡ false → said ufrag_of item ≡ None
+ufrag_looks (Says (UfragLine ufrag)) ne = absurd cc
+ufrag_looks _ ne = refl
+
+lite_looks : (item : Item) → eqb (tag_of item) 7 ≡ false → said lite_of item ≡ None
+lite_looks (Says LiteLine) ne = absurd cc
+lite_looks _ ne = refl
+
+lite_kept : (lite : Bool) → value_or false (first (said lite_of) (if_kept lite (Says LiteLine ∷ []) ++ [])) ≡ lite
+lite_kept true = refl
+lite_kept false = refl
+
+lite_found : (sdp : Sdp) (h : IsPlain sdp) → value_or false (first (said lite_of) (said_session sdp h)) ≡ sdp.ice_lite
+lite_found sdp h = ap (value_or false) (first_in 7 (said lite_of) lite_looks (session_blocks sdp h)) ∙ lite_kept sdp.ice_lite
+
+no_creds : (sdp : Sdp) (h : IsPlain sdp) → creds_in (said_session sdp h) ≡ sdp.creds
+no_creds sdp h = ap (λ (u : Option (List ℕ)). creds_made u (first (said password_of) (said_session sdp h))) (first_in 5 (said ufrag_of) ufrag_looks (session_blocks sdp h)) ∙ sym h.creds
+
+no_fingerprint : (sdp : Sdp) (h : IsPlain sdp) → first (said fingerprint_of) (said_session sdp h) ≡ sdp.fingerprint
+no_fingerprint sdp h = first_in 8 (said fingerprint_of) fingerprint_looks (session_blocks sdp h) ∙ sym h.fingerprint
+
 groups_found : (sdp : Sdp) (h : IsPlain sdp) → filter_map (said group_of) (said_session sdp h) ≡ sdp.groups
 groups_found sdp h = all_in 2 (said group_of) group_looks (session_blocks sdp h) ∙ sym h.groups
 
@@ -216,9 +273,9 @@ sdp_again sdp h =
     let session : inner (said_session sdp h ++ said_lines sdp.lines h.lines) ≡ said_session sdp h = inner_over (said_session sdp h) (said_lines sdp.lines h.lines) (all_said (session_blocks sdp h)) (inner_begins sdp.lines h.lines) in
     sdp_from sdp _ _ _ _ _ _
     (ap (filter_map (said group_of)) session ∙ groups_found sdp h)
-    (sym h.ice_lite)
-    (sym h.creds)
-    (sym h.fingerprint)
+    (ap (λ (l : List Item). value_or false (first (said lite_of) l)) session ∙ lite_found sdp h)
+    (ap creds_in session ∙ no_creds sdp h)
+    (ap (first (said fingerprint_of)) session ∙ no_fingerprint sdp h)
     (ap (first (said setup_of)) session ∙ setup_found sdp h)
     (lines_over (said_session sdp h) (said_lines sdp.lines h.lines) (all_said (session_blocks sdp h)) ∙ lines_again sdp.lines h.lines)
 

@@ -1,4 +1,5 @@
 pub mod Rows
+pub mod MediaRows
 pub mod LineRows
 pub mod SessionRows
 pub mod Plain

@@ -1,25 +1,53 @@
 -- The text of a value. A group of the session is not written as it stands: the group names the lines with a port.
-use Rattle.std.specs.Prelude.{ℕ, not, List, [], ◌∷◌, ◌++◌, map, filter, codes}
+use Rattle.std.specs.Prelude.{ℕ, Bool, true, false, not, List, [], ◌∷◌, ◌++◌, map, filter, option_map, Option, Some, None, if◌then◌else◌, codes}
+use Rattle.std.specs.List.{list_any}
+use Rattle.std.specs.Str.{bytes_eq}
 use Rattle.rtc_fields.specs.Lines.{text_of}
+use Rattle.rtc_media_rows.specs.declared.msid.Msid.{Msid}
 use Rattle.rtc_rows.specs.declared.media_line.MediaLine.{MediaLine}
 use Rattle.rtc_rows.specs.declared.sdp.Sdp.{Sdp}
 use Rattle.rtc_items.specs.LineTexts.{origin_line, group_line}
+use Rattle.rtc_items.specs.MediaTexts.{semantic_line}
 use Rattle.rtc_writing.specs.Rows.{in_order, single, optional}
+use Rattle.rtc_writing.specs.MediaRows.{shown_stream}
 use Rattle.rtc_writing.specs.LineRows.{all_line_rows}
 
 -- the mids of lines that are not disabled, in order
 abbrev pub live_mids : List MediaLine → List (List ℕ)
 live_mids lines = map (λ line. line.mid) (filter (λ line. not line.disabled) lines)
 
--- the lines of the session part behind the `o=` line
+-- ---- the names of the streams of lines that are not disabled
+abbrev pub is_stream : List ℕ → Option Msid → Bool
+is_stream name None = false
+is_stream name (Some msid) = bytes_eq msid.stream_id name
+
+-- the name, unless a line in front has it
+abbrev pub new_name : List MediaLine → Option Msid → List (List ℕ)
+new_name front None = []
+new_name front (Some msid) = if list_any (λ line. is_stream msid.stream_id (shown_stream line)) front then [] else msid.stream_id ∷ []
+
+abbrev pub names_behind : List MediaLine → List MediaLine → List (List ℕ)
+names_behind front [] = []
+names_behind front (line ∷ rest) = new_name front (shown_stream line) ++ names_behind (front ++ line ∷ []) rest
+
+-- each once, in order
+abbrev pub stream_names : List MediaLine → List (List ℕ)
+stream_names lines = names_behind [] lines
+
+-- ---- the lines of the session part behind the `o=` line
+abbrev pub lite_lines : Bool → List (List ℕ)
+lite_lines true = single (codes "a=ice-lite")
+lite_lines false = []
+
 unfoldable pub session_groups : Sdp → List (List (List ℕ))
 session_groups sdp =
     single (codes "s=-")
     ∷ (single (codes "t=0 0")
     ∷ (single (group_line (live_mids sdp.lines))
     ∷ (single (codes "a=extmap-allow-mixed")
-    ∷ (single (codes "a=msid-semantic: WMS")
-    ∷ []))))
+    ∷ (single (semantic_line (stream_names sdp.lines))
+    ∷ (lite_lines sdp.ice_lite
+    ∷ [])))))
 
 -- the lines of a text
 abbrev pub sdp_rows : Sdp → List (List ℕ)

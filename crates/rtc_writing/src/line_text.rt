@@ -1,10 +1,10 @@
 //! Single lines, put behind a text.
-ghost use Rattle.std.specs.Prelude.{◌≡◌, ◌++◌, OnOk, string_bytes, []};
+ghost use Rattle.std.specs.Prelude.{◌≡◌, ◌++◌, OnOk, string_bytes};
 ghost use Rattle.rtc_fields.specs.Lines.{crlf};
 ghost use Rattle.rtc_items.specs.LineTexts as spec;
 ghost use Rattle.rtc_writing.specs.SessionRows.{live_mids};
 
-use rtc_rows::{Direction, LineKind, MediaLine, Mid, Setup};
+use rtc_rows::{Direction, MediaLine, Mid, Setup};
 use std::alloc::AllocError;
 use std::fmt::Write;
 
@@ -61,29 +61,4 @@ pub(crate) fn put_direction(out: &mut String, dir: Direction) -> Result<(), Allo
         Direction::RecvOnly => "a=recvonly\r\n",
         Direction::Inactive => "a=inactive\r\n",
     })
-}
-
-fn port_word(disabled: bool) -> &'static str
-    ensures { result.now ≡ spec.port_word disabled }
-{
-    if disabled { "0" } else { "9" }
-}
-
-#[tactic(auto, unfolding(rtc_items::specs::LineTexts::media_line))]
-pub(crate) fn put_media(out: &mut String, kind: LineKind, disabled: bool) -> Result<(), AllocError>
-    ensures { OnOk result (string_bytes out.new ≡ string_bytes out.old ++ crlf (spec.media_line kind disabled [])) }
-{
-    let port = port_word(disabled);
-    match kind {
-        LineKind::Audio => write!(out, "m=audio {port} UDP/TLS/RTP/SAVPF\r\n"),
-        LineKind::Video => write!(out, "m=video {port} UDP/TLS/RTP/SAVPF\r\n"),
-        LineKind::Application => {
-            write!(
-                out,
-                "m=application {port} UDP/DTLS/SCTP webrtc-datachannel\r\n"
-            )?;
-            Ok(())
-        }
-        LineKind::Unknown => write!(out, "m=unknown {port} UDP\r\n"),
-    }
 }

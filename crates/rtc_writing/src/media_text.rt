@@ -5,7 +5,15 @@ ghost use Rattle.rtc_items.specs.LineTexts.{setup_line};
 ghost use Rattle.rtc_writing.specs.Rows.{in_order, optional};
 ghost use Rattle.rtc_writing.specs.LineRows as spec;
 
-use crate::line_text::{put_direction, put_media, put_mid, put_setup};
+use crate::connection_text::{
+    put_candidates, put_creds_if_any, put_fingerprint_if_any, put_message_size_if_any,
+    put_sctp_init_if_any,
+};
+use crate::head_text::put_media;
+use crate::layer_text::{put_extensions, put_simulcast_if_any, put_stream_if_shown};
+use crate::line_text::{put_direction, put_mid, put_setup};
+use crate::payload_text::put_payloads;
+use crate::source_text::put_sources_if_shown;
 use rtc_rows::{LineKind, MediaLine, Setup};
 use std::alloc::AllocError;
 
@@ -23,23 +31,36 @@ fn put_transport(out: &mut String, line: &MediaLine) -> Result<(), AllocError>
     ensures { OnOk result (string_bytes out.new ≡ string_bytes out.old ++ text_of (in_order (spec.transport_groups line.now))) }
 {
     out.push_str("c=IN IP4 0.0.0.0\r\n")?;
+    put_candidates(out, line.candidates.as_slice())?;
+    put_creds_if_any(out, &line.creds)?;
+    out.push_str("a=ice-options:trickle\r\n")?;
+    put_fingerprint_if_any(out, &line.fingerprint)?;
     put_setup_if_any(out, line.setup)?;
     put_mid(out, line.mid)?;
     Ok(())
 }
 
 #[tactic(auto, using(rtc_fields::proofs::LineLemmas::appends), unfolding(crate::specs::LineRows::media_groups))]
-fn put_medium(out: &mut String, line: &MediaLine) -> Result<(), AllocError>
-    ensures { OnOk result (string_bytes out.new ≡ string_bytes out.old ++ text_of (in_order (spec.media_groups line.now))) }
+fn put_medium(out: &mut String, kind: LineKind, line: &MediaLine) -> Result<(), AllocError>
+    ensures { OnOk result (string_bytes out.new ≡ string_bytes out.old ++ text_of (in_order (spec.media_groups kind line.now))) }
 {
+    put_extensions(out, line.exts.as_slice())?;
     put_direction(out, line.dir)?;
+    put_stream_if_shown(out, line)?;
+    out.push_str("a=rtcp-mux\r\n")?;
+    put_payloads(out, kind, line.payloads.as_slice())?;
+    put_simulcast_if_any(out, &line.simulcast)?;
+    put_sources_if_shown(out, line)?;
     Ok(())
 }
 
 #[tactic(auto, using(rtc_fields::proofs::LineLemmas::appends), unfolding(crate::specs::LineRows::channel_groups))]
-fn put_channel(out: &mut String, _line: &MediaLine) -> Result<(), AllocError>
-    ensures { OnOk result (string_bytes out.new ≡ string_bytes out.old ++ text_of (in_order (spec.channel_groups _line.now))) }
+fn put_channel(out: &mut String, line: &MediaLine) -> Result<(), AllocError>
+    ensures { OnOk result (string_bytes out.new ≡ string_bytes out.old ++ text_of (in_order (spec.channel_groups line.now))) }
 {
+    out.push_str("a=sctp-port:5000\r\n")?;
+    put_message_size_if_any(out, line.max_message_size)?;
+    put_sctp_init_if_any(out, &line.sctp_init)?;
     Ok(())
 }
 
@@ -47,8 +68,10 @@ fn put_kind(out: &mut String, line: &MediaLine) -> Result<(), AllocError>
     ensures { OnOk result (string_bytes out.new ≡ string_bytes out.old ++ text_of (in_order (spec.kind_groups line.now.kind line.now))) }
 {
     match line.kind {
-        LineKind::Audio | LineKind::Video | LineKind::Unknown => put_medium(out, line),
+        LineKind::Audio => put_medium(out, LineKind::Audio, line),
+        LineKind::Video => put_medium(out, LineKind::Video, line),
         LineKind::Application => put_channel(out, line),
+        LineKind::Unknown => put_medium(out, LineKind::Unknown, line),
     }
 }
 
@@ -56,7 +79,7 @@ fn put_kind(out: &mut String, line: &MediaLine) -> Result<(), AllocError>
 fn put_line(out: &mut String, line: &MediaLine) -> Result<(), AllocError>
     ensures { OnOk result (string_bytes out.new ≡ string_bytes out.old ++ text_of (spec.line_rows line.now)) }
 {
-    put_media(out, line.kind, line.disabled)?;
+    put_media(out, line.kind, line.disabled, line.payloads.as_slice())?;
     put_transport(out, line)?;
     put_kind(out, line)?;
     Ok(())

@@ -11,5 +11,6 @@ returns c =
       c.in_ok-put_kind.ensures,
       c.in_ok-put_transport.ensures,
       c.in_ok-put_media.ensures,
+      c.as_slice.ensures,
     )
     (simp (in_order-append, text_of-append, append_assoc))

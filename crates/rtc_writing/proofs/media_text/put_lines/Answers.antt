@@ -1,7 +1,11 @@
+use Rattle.std.proofs.Common.{ℕ, List, map, refl, get_or}
 use Rattle.std.specs.Prelude.{string_bytes}
-use Rattle.rtc_writing.proofs.Orders.{line_put}
+use Rattle.rtc_fields.specs.Lines.{text_of, crlf}
+use Rattle.rtc_fields.proofs.LineLemmas.{text_of-append}
+use Rattle.rtc_writing.specs.LineRows.{line_rows, all_line_rows}
+use Rattle.rtc_writing.proofs.Orders.{more_put}
 use Rattle.rtc_writing.proofs.media_text.put_lines.Goals as goal
 
 pub loop-line-preserved : goal.loop-line-preserved
 loop-line-preserved c =
-    line_put (string_bytes c.loop-line.out) (string_bytes c.put_line.new.out) _ c.args.lines.now c.loop-line.line-index c.line-item.result c.loop-line-test.true c.line-item.is c.in_ok-put_line.ensures c.loop-line.invariant
+    more_put (λ xs. text_of (all_line_rows xs)) (λ x. text_of (line_rows x)) (λ x xs. text_of-append (line_rows x) (all_line_rows xs)) (string_bytes c.loop-line.out) (string_bytes c.put_line.new.out) _ c.args.lines.now c.loop-line.line-index c.line-item.result c.line-item.result c.loop-line-test.true c.line-item.is c.in_ok-put_line.ensures c.loop-line.invariant

@@ -7,6 +7,8 @@ returns c =
     c.new.ensures
     ∙ rw (
       c.in_ok-put_lines.ensures,
+      c.in_ok-put_lite_if_so.ensures,
+      c.in_ok-put_semantic.ensures,
       c.in_ok-push_str-3.ensures.bytes,
       c.in_ok-put_group.ensures,
       c.in_ok-push_str-2.ensures.bytes,
@@ -16,5 +18,6 @@ returns c =
       c.empty_text.ensures,
       c.as_slice.ensures,
       c.as_slice-2.ensures,
+      c.as_slice-3.ensures,
     )
     (parts_are_written c.args.sdp.now)

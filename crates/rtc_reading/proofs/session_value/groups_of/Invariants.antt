@@ -1,8 +1,0 @@
-use Rattle.std.proofs.Common.{◌≡◌, ◌++◌, drop}
-use Rattle.std.specs.List.{filter_map}
-use Rattle.rtc_reading.specs.LineValue.{said}
-use Rattle.rtc_reading.specs.SessionValue.{group_of}
-use Rattle.rtc_reading.proofs.session_value.groups_of.Given as goal
-
-abbrev pub invariant-loop-item : goal.invariant-loop-item
-invariant-loop-item l = l.groups.items ++ filter_map (said group_of) (drop l.item-index l.items) ≡ filter_map (said group_of) l.items
