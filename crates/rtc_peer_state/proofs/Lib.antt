@@ -1,0 +1,5 @@
+pub mod Alls
+pub mod DrawnMids
+pub mod BuiltPeers
+pub mod PlainTexts
+pub mod FormedCalls
