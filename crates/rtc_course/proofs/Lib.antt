@@ -8,6 +8,7 @@ pub mod OfferSteps
 pub mod AnswerSteps
 pub mod NegotiateSteps
 pub mod SaidTexts
+pub mod FormedSteps
 pub mod MakesTexts
 pub mod FinishedRows
 pub mod AnswerCounts

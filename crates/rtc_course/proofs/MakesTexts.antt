@@ -35,6 +35,7 @@ use Rattle.rtc_steps.specs.SaidRows.{row_said, are_live, MakesText}
 use Rattle.rtc_course.specs.declared.kept.Kept.{Kept}
 use Rattle.rtc_course.specs.PairState.{PairState, peer_at, said_of, handed_text, held_token, spent}
 use Rattle.rtc_course.specs.Performs.{MakesOf, Negotiates, HandsOffer, HandsAnswer, Performs, kept_offer, kept_answer, lent, made_by}
+use Rattle.rtc_course.proofs.FormedSteps.{ArePlain, last_carried}
 use Rattle.rtc_course.proofs.Staging.{Stages, ops_stage}
 use Rattle.rtc_course.proofs.SaidTexts.{text_says, text_fits, offered_distinct}
 
@@ -77,43 +78,45 @@ answer_says p text rows is table = rw is (text_says p.session_id p.identity Pass
 
 makes_of : {N : Type 0} (at : Side) (asked : Bool) (p q : Peer N) (ops : List Op) (answers : List OpAnswer) (apply : Bool) (kept kept' : List Kept) (made : Made) (table : Table)
     → MakesOf asked at p kept made q kept' → IsTable table.lines → table.lines ≡ p.lines → OpsAnswered (map row_mid table.lines) ops answers
-    → added_rows (length p.lines) p.staged ≡ added (length p.lines) ops answers
+    → added_rows (length p.lines) p.staged ≡ added (length p.lines) ops answers → ArePlain kept'
     → MakesText (Negotiate at ops apply) (Negotiated answers made) (Some table) (behind kept kept')
-makes_of at false p q ops answers apply kept kept' NotAsked table h is rows answered adds = none_behind kept kept' h.1
-makes_of at true p q ops answers apply kept kept' Nothing table h is rows answered adds = none_behind kept kept' h.1
-makes_of at true p q ops answers apply kept kept' MadeAlloc table h is rows answered adds = none_behind kept kept' h.1
-makes_of at true p q ops answers apply kept kept' (Offer k) table h is rows answered adds = record {
+makes_of at false p q ops answers apply kept kept' NotAsked table h is rows answered adds plain = none_behind kept kept' h.1
+makes_of at true p q ops answers apply kept kept' Nothing table h is rows answered adds plain = none_behind kept kept' h.1
+makes_of at true p q ops answers apply kept kept' MadeAlloc table h is rows answered adds plain = none_behind kept kept' h.1
+makes_of at true p q ops answers apply kept kept' (Offer k) table h is rows answered adds plain = record {
   text = h.0.0.0;
   one = one_behind kept kept' (kept_offer at h.0) h.2;
+  carried = last_carried kept kept' (kept_offer at h.0) h.2 plain;
   says = ap (λ (o : SdpOffer). said_lines o.0) h.1.1 ∙ (rw rows (offer_says p ops answers (subst IsTable rows is) (rw (← rows) answered) adds));
   fits = λ live. ap (λ (o : SdpOffer). inconsistency o.0) h.1.1 ∙ offer_fits p ops answers (subst IsTable rows is) (rw (← rows) answered) adds (rw (← rows) live);
 }
-makes_of at asked p q ops answers apply kept kept' made table h is rows answered adds = absurd h
+makes_of at asked p q ops answers apply kept kept' made table h is rows answered adds plain = absurd h
 
 negotiate_makes : {N : Type 0} (draws : Draws N) (at : Side) (ops : List Op) (apply : Bool) (old new : Peer N) (kept kept' : List Kept) (outcome : Outcome) (table : Option Table) (past : List Entry)
-    → Negotiates draws at ops apply old kept outcome table new kept' → IsTable (before at past) → IsSound past (Negotiate at ops apply) outcome table → before at past ≡ old.lines
+    → Negotiates draws at ops apply old kept outcome table new kept' → IsTable (before at past) → IsSound past (Negotiate at ops apply) outcome table → before at past ≡ old.lines → ArePlain kept'
     → MakesText (Negotiate at ops apply) outcome table (behind kept kept')
-negotiate_makes draws at ops apply old new kept kept' Alloc None past h is sound rows = none_behind kept kept' h.texts_kept
-negotiate_makes draws at ops apply old new kept kept' (Negotiated answers made) (Some table) past h is sound rows =
+negotiate_makes draws at ops apply old new kept kept' Alloc None past h is sound rows plain = none_behind kept kept' h.texts_kept
+negotiate_makes draws at ops apply old new kept kept' (Negotiated answers made) (Some table) past h is sound rows plain =
     let staged : Stages (lent old) ops answers h.0 = ops_stage draws (lent old) h.0 ops answers h.1 in
     let same : table.lines ≡ before at past = sound.0 in
     makes_of at (apply && not (answers_lack answers)) h.0 new ops answers apply kept kept' made table h.2 (subst IsTable (sym same) is) (same ∙ rows ∙ sym staged.lines)
-    (rw same sound.1) (staged.adds (length h.0.lines) ∙ ap (λ n. added n ops answers) (let e : length h.0.lines + 0 ≡ length h.0.lines = omega arith in e))
-negotiate_makes draws at ops apply old new kept kept' outcome table past h is sound rows = absurd h
+    (rw same sound.1) (staged.adds (length h.0.lines) ∙ ap (λ n. added n ops answers) (let e : length h.0.lines + 0 ≡ length h.0.lines = omega arith in e)) plain
+negotiate_makes draws at ops apply old new kept kept' outcome table past h is sound rows plain = absurd h
 
 offer_makes : {N : Type 0} (draws : Draws N) (at : Side) (k : ℕ) (offer : Option Sdp) (old new : Peer N) (kept kept' : List Kept) (outcome : Outcome) (table : Option Table)
-    → HandsOffer draws at offer old kept outcome table new kept' → IsTable (rows_or true table (old.lines)) → MakesText (AcceptOffer at k) outcome table (behind kept kept')
-offer_makes draws at k None old new kept kept' Alloc None h is = none_behind kept kept' h.texts_kept
-offer_makes draws at k (Some text) old new kept kept' Alloc None h is = none_behind kept kept' h.texts_kept
-offer_makes draws at k None old new kept kept' NoSuch (Some table) h is = none_behind kept kept' h.0.texts_kept
-offer_makes draws at k (Some text) old new kept kept' (Answered n) (Some table) h is = record {
+    → HandsOffer draws at offer old kept outcome table new kept' → IsTable (rows_or true table (old.lines)) → ArePlain kept' → MakesText (AcceptOffer at k) outcome table (behind kept kept')
+offer_makes draws at k None old new kept kept' Alloc None h is plain = none_behind kept kept' h.texts_kept
+offer_makes draws at k (Some text) old new kept kept' Alloc None h is plain = none_behind kept kept' h.texts_kept
+offer_makes draws at k None old new kept kept' NoSuch (Some table) h is plain = none_behind kept kept' h.0.texts_kept
+offer_makes draws at k (Some text) old new kept kept' (Answered n) (Some table) h is plain = record {
   text = h.0.0;
   one = one_behind kept kept' (kept_answer at h.0) h.2;
+  carried = last_carried kept kept' (kept_answer at h.0) h.2 plain;
   says = ap (λ (a : SdpAnswer). said_lines a.0) h.1.answered ∙ answer_says (lent old) text table.lines (sym (h.4 ∙ ap (λ p. p.lines) h.1.rest)) is;
   fits = λ live. ap (λ (a : SdpAnswer). inconsistency a.0) h.1.answered ∙ answer_fits (lent old) text table.lines (sym (h.4 ∙ ap (λ p. p.lines) h.1.rest)) is live;
 }
-offer_makes draws at k (Some text) old new kept kept' (Refused error) (Some table) h is = none_behind kept kept' h.1
-offer_makes draws at k offer old new kept kept' outcome table h is = absurd h
+offer_makes draws at k (Some text) old new kept kept' (Refused error) (Some table) h is plain = none_behind kept kept' h.1
+offer_makes draws at k offer old new kept kept' outcome table h is plain = absurd h
 
 length-spent : (t : ℕ) (kept : List Kept) → length (spent t kept) ≡ length kept
 length-spent t kept = by (slice_get kept t) refl
@@ -143,10 +146,10 @@ answer_makes draws at t a token answer old new kept kept' outcome table h = absu
 -- A step that is performed makes the text that says the rows of its side.
 pub makes_text : {N : Type 0} (draws : Draws N) (past : List Entry) (old new : PairState N) (step : Step) (outcome : Outcome) (table : Option Table)
     → Performs draws old step outcome table new → IsTable (before (side_of step) past) → IsTable (rows_or true table (before (side_of step) past)) → IsSound past step outcome table
-    → before (side_of step) past ≡ (peer_at (side_of step) old).lines → MakesText step outcome table (made_by old new)
-makes_text draws past old new (Negotiate at ops apply) outcome table performs is is' sound rows =
-    negotiate_makes draws at ops apply (peer_at at old) (peer_at at new) old.texts new.texts outcome table past performs.acts is sound rows
-makes_text draws past old new (AcceptOffer at k) outcome table performs is is' sound rows =
-    offer_makes draws at k (handed_text true old.texts at k) (peer_at at old) (peer_at at new) old.texts new.texts outcome table performs.acts (rw (← rows) is')
-makes_text draws past old new (AcceptAnswer at t a) outcome table performs is is' sound rows =
+    → before (side_of step) past ≡ (peer_at (side_of step) old).lines → ArePlain new.texts → MakesText step outcome table (made_by old new)
+makes_text draws past old new (Negotiate at ops apply) outcome table performs is is' sound rows plain =
+    negotiate_makes draws at ops apply (peer_at at old) (peer_at at new) old.texts new.texts outcome table past performs.acts is sound rows plain
+makes_text draws past old new (AcceptOffer at k) outcome table performs is is' sound rows plain =
+    offer_makes draws at k (handed_text true old.texts at k) (peer_at at old) (peer_at at new) old.texts new.texts outcome table performs.acts (rw (← rows) is') plain
+makes_text draws past old new (AcceptAnswer at t a) outcome table performs is is' sound rows plain =
     answer_makes draws at t a (held_token old.texts at t) (handed_text false old.texts at a) (peer_at at old) (peer_at at new) old.texts new.texts outcome table performs.acts

@@ -10,7 +10,9 @@ use Rattle.rtc_course.specs.Performs.{Performs, Enters, made_by}
 use Rattle.rtc_course.specs.Runs.{Reached, Runs}
 use Rattle.rtc_course.specs.Fresh.{IsFresh}
 use Rattle.rtc_course.specs.Bounds.{IsWithin}
+use Rattle.rtc_course.specs.Formed.{ArePeersFormed, AreCarried}
 use Rattle.rtc_course.proofs.Around.{entry}
+use Rattle.rtc_course.proofs.FormedSteps.{plain_carried, reached_formed}
 use Rattle.rtc_course.proofs.Reaches.{reached_within, sound_next}
 
 -- a run of no steps
@@ -25,14 +27,14 @@ runs_none draws start = record {
 
 -- a run of one more step
 pub runs_more : {N : Type 0} (draws : Draws N) (start old new : PairState N) (steps : List Step) (replies : List Reply) (step : Step) (reply : Reply)
-    → IsFresh start → Runs draws start steps replies old → Performs draws old step reply.outcome reply.table new → new.size < 2 ^ 32
+    → IsFresh start → ArePeersFormed start → Runs draws start steps replies old → Performs draws old step reply.outcome reply.table new → new.size < 2 ^ 32
     → Runs draws start (steps ++ step ∷ []) (replies ++ reply ∷ []) new
-runs_more draws start old new steps replies step reply fresh run performs small = record {
+runs_more draws start old new steps replies step reply fresh formed run performs small = record {
   past = entry step reply.outcome reply.table (made_by old new) ∷ run.past;
   steps_are = ap (λ before. before ++ step ∷ []) run.steps_are;
   replies_are = ap (λ before. before ++ reply ∷ []) run.replies_are;
   reached = (old, run.reached, record { performs = performs; made = refl });
-  sound = (sound_next draws start old new run.past step reply.outcome reply.table fresh run.reached run.sound performs small, run.sound);
+  sound = (sound_next draws start old new run.past step reply.outcome reply.table fresh formed run.reached run.sound performs small, run.sound);
 }
 
 -- ---- sizes
@@ -54,3 +56,7 @@ runs_size draws start pair steps replies fresh run = omega (arith, reached_size 
 -- a pair is within the size of the steps of its run
 pub runs_within : {N : Type 0} (draws : Draws N) (start pair : PairState N) (steps : List Step) (replies : List Reply) → IsFresh start → Runs draws start steps replies pair → pair.size < 2 ^ 32 → IsWithin pair
 runs_within draws start pair steps replies fresh run small = reached_within draws start pair run.past fresh run.reached small
+
+-- each text of a run is delivered as it is
+pub runs_carried : {N : Type 0} (draws : Draws N) (start pair : PairState N) (steps : List Step) (replies : List Reply) → IsFresh start → ArePeersFormed start → Runs draws start steps replies pair → AreCarried pair.texts
+runs_carried draws start pair steps replies fresh formed run = plain_carried pair.texts (reached_formed draws start pair run.past fresh formed run.reached).plain

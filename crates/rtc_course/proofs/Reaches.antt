@@ -21,12 +21,14 @@ use Rattle.rtc_course.specs.Performs.{Performs, Enters, made_by}
 use Rattle.rtc_course.specs.Runs.{Reached, Sound}
 use Rattle.rtc_course.specs.Fresh.{IsFresh, IsJustBuilt}
 use Rattle.rtc_course.specs.Bounds.{IsWithin}
+use Rattle.rtc_course.specs.Formed.{ArePeersFormed}
 use Rattle.rtc_course.proofs.Tells.{Tells, SideTells, within}
 use Rattle.rtc_course.proofs.Around.{Around, entry, size_grows, handed-told, length-told, text_within}
 use Rattle.rtc_course.proofs.NegotiateSteps.{negotiate_reply, negotiate_tells}
 use Rattle.rtc_course.proofs.OfferSteps.{offer_reply, offer_tells}
 use Rattle.rtc_course.proofs.AnswerSteps.{answer_reply, answer_tells}
 use Rattle.rtc_course.proofs.PastTables.{reply_table, past_table}
+use Rattle.rtc_course.proofs.FormedSteps.{IsWellFormed, performs_formed, reached_formed}
 use Rattle.rtc_course.proofs.MakesTexts.{makes_text}
 use Rattle.rtc_course.proofs.FinishedRounds.{finishes_round}
 use Rattle.rtc_course.proofs.OrderlyPasts.{ok_where_orderly, in_step_where_orderly}
@@ -109,12 +111,13 @@ reached_within draws start pair past fresh reached small = within past pair (rea
 
 -- The entry of a step of a pair that is reached is sound.
 pub sound_next : {N : Type 0} (draws : Draws N) (start old new : PairState N) (past : List Entry) (step : Step) (outcome : Outcome) (table : Option Table)
-    → IsFresh start → Reached draws start past old → Sound past → Performs draws old step outcome table new → new.size < 2 ^ 32 → IsSoundEntry past (entry step outcome table (made_by old new))
-sound_next draws start old new past step outcome table fresh reached sound performs small =
+    → IsFresh start → ArePeersFormed start → Reached draws start past old → Sound past → Performs draws old step outcome table new → new.size < 2 ^ 32 → IsSoundEntry past (entry step outcome table (made_by old new))
+sound_next draws start old new past step outcome table fresh formed reached sound performs small =
     let tells : Tells past old = reached_tells draws start old past fresh reached (omega (arith, size_grows step (made_by old new) old new (around_of draws old new step outcome table (made_by old new) performs refl small))) in
     let replied : IsSound past step outcome table = step_sound draws past old new step outcome table tells performs small in
     let rows : IsTable (before (side_of step) past) = past_table past (side_of step) sound in
-    let says : MakesText step outcome table (made_by old new) = makes_text draws past old new step outcome table performs rows (reply_table past step outcome table replied rows) replied (sym (tells.sides (side_of step)).rows) in
+    let made_formed : IsWellFormed new = performs_formed draws old new step outcome table performs (reached_formed draws start old past fresh formed reached) in
+    let says : MakesText step outcome table (made_by old new) = makes_text draws past old new step outcome table performs rows (reply_table past step outcome table replied rows) replied (sym (tells.sides (side_of step)).rows) made_formed.plain in
     record {
       replied = replied;
       made = says;

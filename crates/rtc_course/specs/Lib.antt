@@ -3,3 +3,4 @@ pub mod Performs
 pub mod Runs
 pub mod Fresh
 pub mod Bounds
+pub mod Formed

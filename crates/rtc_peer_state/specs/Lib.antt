@@ -5,4 +5,5 @@ pub mod Sources
 pub mod Texts
 pub mod Calls
 pub mod Built
+pub mod Formed
 pub mod Whole

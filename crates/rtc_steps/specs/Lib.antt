@@ -4,6 +4,7 @@ pub mod Sizes
 pub mod Past
 pub mod Sound
 pub mod Finished
+pub mod Delivered
 pub mod SaidRows
 pub mod Rounds
 pub mod Orderly

@@ -17,6 +17,7 @@ use Rattle.rtc_steps.specs.declared.made.Made.TheVariants.{Offer}
 use Rattle.rtc_steps.specs.declared.outcome.Outcome.{Outcome}
 use Rattle.rtc_steps.specs.declared.outcome.Outcome.TheVariants.{Negotiated, Answered}
 use Rattle.rtc_steps.specs.declared.table.Table.{Table}
+use Rattle.rtc_steps.specs.Delivered.{ReadsBack}
 use Rattle.rtc_steps.specs.Past.{Said, added}
 
 -- the line that says a row: a stopped one is rejected (RFC 8843, section 7)
@@ -28,10 +29,12 @@ row_said (App place mid) = record { kind = Application; mid = mid; dir = SendRec
 abbrev pub are_live : List LineRow → Bool
 are_live rows = list_any (λ row. not (is_stopped row)) rows
 
--- One text was made, by this side. Its lines say these rows, and it fits together where one of them is live (RFC 8843, section 7.1).
+-- One text was made, by this side. What signalling carries of it reads as it, its lines say these rows, and it fits together
+-- where one of them is live (RFC 8843, section 7.1).
 pub record SaysRows (at : Side) (offer : Bool) (rows : List LineRow) (made : List Said) : Type 0 where
   pub text : Sdp
   pub one : made ≡ record { at = at; offer = offer; text = text } ∷ []
+  pub carried : ReadsBack text
   pub says : said_lines text ≡ map row_said rows
   pub fits : are_live rows ≡ true → inconsistency text ≡ None
 

@@ -1,0 +1,88 @@
+-- Each call of a peer keeps it formed.
+use Rattle.std.proofs.Common.{◌≡◌, ◌+◌, ◌%◌, ◌<◌, ◌^◌, ℕ, Bool, true, false, List, [], ◌∷◌, ◌++◌, length, Option, Some, None, Result, Ok, Err, refl, sym, ap, ◌∙◌, subst, arith}
+use Rattle.std.specs.declared.alloc.AllocError.{AllocError}
+use Rattle.rtc_fields.specs.Tokens.{is_short_token}
+use Rattle.rtc_rows.specs.declared.sdp.Sdp.{Sdp}
+use Rattle.rtc_lines.specs.declared.sdp_offer.SdpOffer.{SdpOffer}
+use Rattle.rtc_lines.specs.declared.sdp_answer.SdpAnswer.{SdpAnswer}
+use Rattle.rtc_writing.specs.Plain.{IsPlain}
+use Rattle.rtc_plan.specs.declared.change.Change.TheVariants.{AddMedia}
+use Rattle.rtc_plan.specs.PendingOffer.{PendingOffer, added_mid}
+use Rattle.rtc_plan.specs.SaidLines.{said_lines}
+use Rattle.rtc_peer_state.specs.declared.peer.Peer.{Peer}
+use Rattle.rtc_peer_state.specs.declared.rtc_error.RtcError.{RtcError}
+use Rattle.rtc_peer_state.specs.declared.rtc_error.RtcError.TheVariants.{RemoteSdp, Sdp as TextRefused, ChangesOutOfOrder, Alloc}
+use Rattle.rtc_peer_state.specs.Draws.{Draws}
+use Rattle.rtc_peer_state.specs.Names.{is_held}
+use Rattle.rtc_peer_state.specs.Calls.{Wanted, AddsMedia, Applies, AcceptsOffer, AcceptsAnswer, staged_media}
+use Rattle.rtc_peer_state.specs.Formed.{IsFormed}
+use Rattle.rtc_peer_state.proofs.Alls.{all-append}
+use Rattle.rtc_peer_state.proofs.DrawnMids.{free_mid_token}
+use Rattle.rtc_peer_state.proofs.PlainTexts.{taken_tokens, plain_says_tokens}
+
+-- what is formed of a peer stays with these fields
+pub formed_by : {N : Type 0} (p q : Peer N) → q.session_id ≡ p.session_id → q.identity ≡ p.identity → q.lines ≡ p.lines → q.staged ≡ p.staged → IsFormed p → IsFormed q
+formed_by p q session identity lines staged formed = record {
+  session = rw session formed.session;
+  identity = rw identity formed.identity;
+  rows = rw lines formed.rows;
+  staged = rw staged formed.staged;
+}
+
+-- what was staged is dropped
+pub lent_formed : {N : Type 0} (p : Peer N) → IsFormed p → IsFormed (record p { staged = [] })
+lent_formed p formed = record { session = formed.session; identity = formed.identity; rows = formed.rows; staged = tt }
+
+-- A media line is staged.
+pub adds_formed : {N : Type 0} (draws : Draws N) (p : Peer N) (wanted : Wanted) (result : Result (List ℕ) AllocError) (q : Peer N) → AddsMedia draws p wanted result q → IsFormed p → IsFormed q
+adds_formed draws p wanted (Ok mid) q adds formed =
+    let token : is_short_token (staged_media draws p wanted).mid ≡ true = free_mid_token (is_held p.lines p.staged) (length p.lines + length p.staged) (draws.drawn p.ids % 2 ^ 32) (omega arith) in
+    record {
+      session = rw adds.1 formed.session;
+      identity = rw adds.1 formed.identity;
+      rows = rw adds.1 formed.rows;
+      staged = rw adds.1 (all-append (λ change. is_short_token (added_mid change) ≡ true) p.staged (AddMedia (staged_media draws p wanted) ∷ []) formed.staged (token, tt));
+    }
+adds_formed draws p wanted (Err error) q adds formed =
+    formed_by p q (ap (λ r. r.session_id) adds) (ap (λ r. r.identity) adds) (ap (λ r. r.lines) adds) (ap (λ r. r.staged) adds) formed
+
+-- What is staged is applied.
+pub applies_formed : {N : Type 0} (p : Peer N) (result : Result (Option (SdpOffer × PendingOffer)) AllocError) (q : Peer N) → Applies p result q → IsFormed p → IsFormed q
+applies_formed p (Ok None) q applies formed = rw applies.1 formed
+applies_formed p (Ok (Some made)) q applies formed = record {
+  session = rw applies.3 formed.session;
+  identity = rw applies.3 formed.identity;
+  rows = rw applies.3 formed.rows;
+  staged = rw applies.3 tt;
+}
+applies_formed p (Err error) q applies formed = rw applies formed
+
+-- A peer is handed a plain offer.
+pub offered_formed : {N : Type 0} (draws : Draws N) (p : Peer N) (offer : SdpOffer) (result : Result SdpAnswer RtcError) (q : Peer N) → AcceptsOffer draws p offer result q → IsPlain offer.0 → IsFormed p → IsFormed q
+offered_formed draws p offer (Ok answer) q accepts plain formed = record {
+  session = rw accepts.rest formed.session;
+  identity = rw accepts.rest formed.identity;
+  rows = rw accepts.rest (taken_tokens p.lines (said_lines offer.0) true formed.rows (plain_says_tokens offer.0 plain));
+  staged = rw accepts.rest formed.staged;
+}
+offered_formed draws p offer (Err (RemoteSdp why)) q accepts plain formed =
+    formed_by p q (ap (λ r. r.session_id) accepts.1) (ap (λ r. r.identity) accepts.1) (ap (λ r. r.lines) accepts.1) (ap (λ r. r.staged) accepts.1) formed
+offered_formed draws p offer (Err (TextRefused error)) q accepts plain formed =
+    formed_by p q (ap (λ r. r.session_id) accepts.1) (ap (λ r. r.identity) accepts.1) (ap (λ r. r.lines) accepts.1) (ap (λ r. r.staged) accepts.1) formed
+offered_formed draws p offer (Err ChangesOutOfOrder) q accepts plain formed = absurd accepts
+offered_formed draws p offer (Err Alloc) q accepts plain formed =
+    formed_by p q (ap (λ r. r.session_id) accepts) (ap (λ r. r.identity) accepts) (ap (λ r. r.lines) accepts) (ap (λ r. r.staged) accepts) formed
+
+-- A peer is handed a plain answer.
+pub answered_formed : {N : Type 0} (draws : Draws N) (p : Peer N) (token : PendingOffer) (answer : SdpAnswer) (result : Result (Unit {0}) RtcError) (q : Peer N) → AcceptsAnswer draws p token answer result q → IsPlain answer.0 → IsFormed p → IsFormed q
+answered_formed draws p token answer (Ok done) q accepts plain formed = record {
+  session = rw accepts.rest formed.session;
+  identity = rw accepts.rest formed.identity;
+  rows = rw accepts.rest (taken_tokens p.lines (said_lines answer.0) false formed.rows (plain_says_tokens answer.0 plain));
+  staged = rw accepts.rest formed.staged;
+}
+answered_formed draws p token answer (Err ChangesOutOfOrder) q accepts plain formed = rw accepts.1 formed
+answered_formed draws p token answer (Err (RemoteSdp why)) q accepts plain formed = rw accepts.2 formed
+answered_formed draws p token answer (Err (TextRefused error)) q accepts plain formed = rw accepts.2 formed
+answered_formed draws p token answer (Err Alloc) q accepts plain formed =
+    formed_by p q (ap (λ r. r.session_id) accepts.1) (ap (λ r. r.identity) accepts.1) (ap (λ r. r.lines) accepts.1) (ap (λ r. r.staged) accepts.1) formed
