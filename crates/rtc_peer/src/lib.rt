@@ -7,3 +7,6 @@ mod sdp_api;
 pub use rtc::Rtc;
 pub use rtc_peer_state::{CountIds, Ids, RtcConfig, RtcError};
 pub use sdp_api::SdpApi;
+
+#[cfg(test)]
+mod tests;
