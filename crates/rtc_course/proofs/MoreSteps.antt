@@ -1,41 +1,53 @@
 -- A run goes on by a step that is performed.
 use Rattle.std.proofs.Common.{◌≡◌, ◌<◌, ◌+◌, ◌^◌, List, [], ◌∷◌, ◌++◌, refl, ap, arith}
 use Rattle.rtc_peer_state.specs.Draws.{Draws}
+use Rattle.rtc_steps.specs.declared.side.Side.{Side}
+use Rattle.rtc_steps.specs.declared.side.Side.TheVariants.{Left, Right}
 use Rattle.rtc_steps.specs.declared.step.Step.{Step}
 use Rattle.rtc_steps.specs.declared.reply.Reply.{Reply}
 use Rattle.rtc_steps.specs.Sizes.{step_size, steps_size}
-use Rattle.rtc_steps.specs.Past.{Entry, steps_of}
-use Rattle.rtc_course.specs.PairState.{PairState}
+use Rattle.rtc_steps.specs.Past.{Entry, before, steps_of}
+use Rattle.rtc_course.specs.PairState.{PairState, peer_at}
 use Rattle.rtc_course.specs.Performs.{Performs, Enters, made_by}
 use Rattle.rtc_course.specs.Runs.{Reached, Runs}
 use Rattle.rtc_course.specs.Fresh.{IsFresh}
 use Rattle.rtc_course.specs.Bounds.{IsWithin}
 use Rattle.rtc_course.specs.Formed.{ArePeersFormed, AreCarried}
+use Rattle.rtc_course.proofs.Tells.{Tells}
 use Rattle.rtc_course.proofs.Around.{entry}
 use Rattle.rtc_course.proofs.FormedSteps.{plain_carried, reached_formed}
-use Rattle.rtc_course.proofs.Reaches.{reached_within, sound_next}
+use Rattle.rtc_course.proofs.Reaches.{reached_within, reached_tells, sound_next}
 
 -- a run of no steps
-pub runs_none : {N : Type 0} (draws : Draws N) (start : PairState N) → Runs draws start [] [] start
-runs_none draws start = record {
+pub runs_none : {N : Type 0} (draws : Draws N) (start : PairState N) → IsFresh start → Runs draws start [] [] start
+runs_none draws start fresh = record {
   past = [];
   steps_are = refl;
   replies_are = refl;
   reached = refl;
   sound = tt;
+  rows = by;
 }
+  where
+    by : (at : Side) → (peer_at at start).lines ≡ before at []
+    by Left = fresh.left.lines
+    by Right = fresh.right.lines
 
 -- a run of one more step
 pub runs_more : {N : Type 0} (draws : Draws N) (start old new : PairState N) (steps : List Step) (replies : List Reply) (step : Step) (reply : Reply)
     → IsFresh start → ArePeersFormed start → Runs draws start steps replies old → Performs draws old step reply.outcome reply.table new → new.size < 2 ^ 32
     → Runs draws start (steps ++ step ∷ []) (replies ++ reply ∷ []) new
-runs_more draws start old new steps replies step reply fresh formed run performs small = record {
-  past = entry step reply.outcome reply.table (made_by old new) ∷ run.past;
-  steps_are = ap (λ before. before ++ step ∷ []) run.steps_are;
-  replies_are = ap (λ before. before ++ reply ∷ []) run.replies_are;
-  reached = (old, run.reached, record { performs = performs; made = refl });
-  sound = (sound_next draws start old new run.past step reply.outcome reply.table fresh formed run.reached run.sound performs small, run.sound);
-}
+runs_more draws start old new steps replies step reply fresh formed run performs small =
+    let reached : Reached draws start (entry step reply.outcome reply.table (made_by old new) ∷ run.past) new = (old, run.reached, record { performs = performs; made = refl }) in
+    let tells : Tells (entry step reply.outcome reply.table (made_by old new) ∷ run.past) new = reached_tells draws start new (entry step reply.outcome reply.table (made_by old new) ∷ run.past) fresh reached small in
+    record {
+      past = entry step reply.outcome reply.table (made_by old new) ∷ run.past;
+      steps_are = ap (λ before. before ++ step ∷ []) run.steps_are;
+      replies_are = ap (λ before. before ++ reply ∷ []) run.replies_are;
+      reached = reached;
+      sound = (sound_next draws start old new run.past step reply.outcome reply.table fresh formed run.reached run.sound performs small, run.sound);
+      rows = λ at. (tells.sides at).rows;
+    }
 
 -- ---- sizes
 

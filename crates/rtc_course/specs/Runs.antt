@@ -1,11 +1,12 @@
 -- A run of a pair: from the pair at its start, step by step, each of them sound.
 use Rattle.std.specs.Prelude.{◌≡◌, List, [], ◌∷◌}
 use Rattle.rtc_peer_state.specs.Draws.{Draws}
+use Rattle.rtc_steps.specs.declared.side.Side.{Side}
 use Rattle.rtc_steps.specs.declared.step.Step.{Step}
 use Rattle.rtc_steps.specs.declared.reply.Reply.{Reply}
-use Rattle.rtc_steps.specs.Past.{Entry, steps_of, replies_of}
+use Rattle.rtc_steps.specs.Past.{Entry, before, steps_of, replies_of}
 use Rattle.rtc_steps.specs.SoundEntry.{IsSoundEntry}
-use Rattle.rtc_course.specs.PairState.{PairState}
+use Rattle.rtc_course.specs.PairState.{PairState, peer_at}
 use Rattle.rtc_course.specs.Performs.{Enters}
 
 -- A pair goes through a past, the newest entry first: each entry from the pair between to the pair after it.
@@ -29,3 +30,5 @@ pub record Runs {N : Type 0} (draws : Draws N) (start : PairState N) (steps : Li
   pub replies_are : replies_of past ≡ replies
   pub reached : Reached draws start past pair
   pub sound : Sound past
+  -- what the peers hold is what the last replies show
+  pub rows : (at : Side) → (peer_at at pair).lines ≡ before at past

@@ -11,7 +11,7 @@ use Rattle.rtc_course.specs.Performs.{Performs}
 use Rattle.rtc_course.specs.Runs.{Runs}
 use Rattle.rtc_course.specs.Fresh.{IsFresh}
 use Rattle.rtc_course.specs.Bounds.{IsWithin}
-use Rattle.rtc_course.proofs.MoreSteps.{runs_more, runs_size, runs_within}
+use Rattle.rtc_course.proofs.MoreSteps.{runs_none, runs_more, runs_size, runs_within}
 
 sized : (steps : List Step) (i : ℕ) (d : Step) → i < length steps → steps_size (take i steps) + step_size (get_or steps i d) ≤ steps_size steps
 sized [] i d h = absurd (omega arith)
@@ -25,6 +25,10 @@ run_is_within draws start old steps i step replies fresh inside is small run =
     let fits : steps_size (take i steps) + step_size (get_or steps i step) ≤ steps_size steps = sized steps i step inside in
     let same : step_size step ≡ step_size (get_or steps i step) = ap step_size is in
     (runs_within draws start old (take i steps) replies fresh run (omega arith), omega arith)
+
+-- a run begins at a fresh pair
+pub run_begins : {N : Type 0} (draws : Draws N) (start : PairState N) (steps : List Step) (replies : List Reply) → IsFresh start → steps ≡ [] → replies ≡ [] → Runs draws start steps replies start
+run_begins draws start steps replies fresh none unreplied = rw (none, unreplied) (runs_none draws start fresh)
 
 -- a run goes on by the next step
 pub run_goes_on : {N : Type 0} (draws : Draws N) (start old new : PairState N) (steps : List Step) (i : ℕ) (step : Step) (replies replies' : List Reply) (reply : Reply) → IsFresh start → i < length steps → step ≡ get_or steps i step → steps_size steps < 2 ^ 32 → Runs draws start (take i steps) replies old → Performs draws old step reply.outcome reply.table new → replies' ≡ replies ++ reply ∷ [] → Runs draws start (take (i + 1) steps) replies' new
