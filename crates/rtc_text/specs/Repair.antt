@@ -11,7 +11,7 @@ pieces bytes = slice_split (λ byte. byte == 10) bytes
 
 -- a piece as it is read: one that is not UTF-8 is a question mark, which is refused wherever it stands
 abbrev pub piece_in : List ℕ → List ℕ
-piece_in piece = if is_utf8 piece then piece else codes "?"
+piece_in piece = if is_utf8 piece then piece else 63 ∷ []
 
 -- pieces with a line feed in front of each
 abbrev pub fed : List (List ℕ) → List ℕ
