@@ -10,3 +10,6 @@ pub use candidate_value::{put_candidate, read_candidate};
 pub use fingerprint_value::{put_fingerprint, read_fingerprint};
 pub use laws::{candidates_read_back, fingerprints_read_back, words_read_back};
 pub use word_value::{read_password, read_sctp_init, read_ufrag};
+
+#[cfg(test)]
+mod tests;

@@ -11,3 +11,6 @@ pub use rtc_rows::{
 };
 pub use sdp_answer::SdpAnswer;
 pub use sdp_offer::SdpOffer;
+
+#[cfg(test)]
+mod tests;

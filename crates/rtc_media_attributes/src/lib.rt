@@ -33,3 +33,6 @@ pub use simulcast_line::SimulcastLine;
 pub use simulcast_value::{put_simulcast, read_simulcast};
 pub use ssrc_name::SsrcName;
 pub use ssrc_value::{put_ssrc_msid, put_ssrc_name, put_ssrc_pair, read_ssrc_name, read_ssrc_pair};
+
+#[cfg(test)]
+mod tests;
