@@ -7,3 +7,6 @@ pub use plans::{plan_answer, plan_offer};
 pub use rtc_plan::{
     AddMedia, Change, Changes, Lines, NewLine, Plan, Refusal, SdpPendingOffer, View, Why,
 };
+
+#[cfg(test)]
+mod tests;
