@@ -22,43 +22,22 @@ fn act(
     ensures few { length packets.new.items ≤ length packets.old.items + 1 }
 {
     match step {
-        AssocStep::Connect { .. } => {
-            let reply = connect(end)?;
-            Ok(reply)
-        }
-        AssocStep::Accept { .. } => {
-            let reply = accept(end)?;
-            Ok(reply)
-        }
-        AssocStep::Open { id, .. } => {
-            let reply = open(end, *id)?;
-            Ok(reply)
-        }
-        AssocStep::Write { id, ppi, bytes, .. } => {
-            let reply = write(end, *id, *ppi, bytes.as_slice())?;
-            Ok(reply)
-        }
-        AssocStep::CloseStream { id, .. } => {
-            let reply = close_stream(end, *id)?;
-            Ok(reply)
-        }
-        AssocStep::Time { now, .. } => {
-            let reply = time(end, *now)?;
-            Ok(reply)
-        }
-        AssocStep::Transmit { left } => {
-            let reply = transmit(end, *left, packets)?;
-            Ok(reply)
-        }
-        AssocStep::Deliver { left, packet, now } => {
-            let reply = deliver(end, *left, *packet, *now, packets.as_slice())?;
-            Ok(reply)
-        }
+        AssocStep::Connect { .. } => Ok(connect(end)?),
+        AssocStep::Accept { .. } => Ok(accept(end)?),
+        AssocStep::Open { id, .. } => Ok(open(end, *id)?),
+        AssocStep::Write { id, ppi, bytes, .. } => Ok(write(end, *id, *ppi, bytes.as_slice())?),
+        AssocStep::CloseStream { id, .. } => Ok(close_stream(end, *id)?),
+        AssocStep::Time { now, .. } => Ok(time(end, *now)?),
+        AssocStep::Transmit { left } => Ok(transmit(end, *left, packets)?),
+        AssocStep::Deliver { left, packet, now } => Ok(deliver(
+            end,
+            *left,
+            *packet,
+            *now,
+            packets.as_slice(),
+        )?),
         AssocStep::Poll { .. } => Ok(poll(end)),
-        AssocStep::Read { id, .. } => {
-            let reply = read(end, *id)?;
-            Ok(reply)
-        }
+        AssocStep::Read { id, .. } => Ok(read(end, *id)?),
     }
 }
 
