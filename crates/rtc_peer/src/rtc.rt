@@ -2,6 +2,7 @@
 ghost use Rattle.std.specs.Prelude.{◌≡◌, ◌≢◌, IsTrue, ◌↔◌, ◌+◌, ◌<◌, ◌≤◌, ◌^◌, ◌-◌, [], IfOk, length, option_map, string_bytes};
 ghost use Rattle.rtc_peer_state.specs.Calls.{AcceptsOffer, AcceptsAnswer, AddsMedia, Applies, raised};
 ghost use Rattle.rtc_peer_state.specs.Built.{built};
+ghost use Rattle.rtc_peer_state.specs.Formed.{IsFormed};
 
 use crate::SdpApi;
 use rtc_lines::{Direction, MediaKind, Mid, SdpAnswer, SdpOffer, Simulcast};
@@ -37,9 +38,11 @@ impl<N: Ids + Drop> Rtc<N> {
         start: Moment,
         ids: N,
     ) -> Result<Rtc<N>, AllocError>
-        ensures { IfOk result (λ rtc. rtc.core ≡ built N.ids alloc config start ids) }
+        ensures state { IfOk result (λ rtc. rtc.core ≡ built N.ids alloc config start ids) }
+        ensures formed { IfOk result (λ rtc. IsFormed rtc.core) }
     {
         let core = build_peer(alloc, config, start, ids)?;
+        let _session = core.session_id;
         Ok(Rtc { core })
     }
 }

@@ -12,6 +12,7 @@ use Rattle.rtc_fields.specs.Cuts.{Lacks}
 use Rattle.rtc_attributes.specs.WordValue.{is_not_space, is_spaceless, is_word_up_to}
 use Rattle.rtc_rows.specs.declared.ice_creds.IceCreds.{IceCreds}
 use Rattle.rtc_writing.specs.Plain.{IsPlainCreds, IsPlainHash}
+use Rattle.rtc_peer_state.specs.declared.peer.Peer.{Peer}
 use Rattle.rtc_peer_state.specs.Built.{hex_digit, hex_digits, drawn_creds, fingerprint_of, built}
 use Rattle.rtc_peer_state.specs.Config.{Config}
 use Rattle.rtc_peer_state.specs.Draws.{Draws}
@@ -114,3 +115,9 @@ built_formed draws alloc config start ids small = record {
   rows = tt;
   staged = tt;
 }
+
+-- a built peer whose session number has 64 bits
+pub session_formed : {N : Type 0} (draws : Draws N) (alloc : Global) (config : Config) (start : ℕ) (ids : N) (p : Peer N) → p ≡ built draws alloc config start ids → p.session_id < 2 ^ 64 → IsFormed p
+session_formed draws alloc config start ids p is small =
+    let drawn : draws.drawn ids < 2 ^ 64 = rw (← ap (λ q. q.session_id) is) small in
+    rw is (built_formed draws alloc config start ids drawn)
