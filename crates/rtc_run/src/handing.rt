@@ -4,9 +4,11 @@ ghost use Rattle.std.specs.Option.{option_copied};
 ghost use Rattle.rtc_plan.specs.PendingOffer.{PendingOffer};
 ghost use Rattle.rtc_peer_state.specs.Calls.{AcceptsAnswer, AcceptsOffer, raised};
 ghost use Rattle.rtc_steps.specs.Sides.{same_side};
+ghost use Rattle.rtc_course.specs.Formed.{AreCarried};
 ghost use Rattle.rtc_course.specs.PairState.{handed_text, held_token, spent};
 ghost use Rattle.rtc_course.specs.Performs.{HandsAnswer, HandsOffer, lent};
 
+use crate::delivery::{carry_answer, carry_offer};
 use crate::replying::{room_for, tell, tell_no_memory, tell_no_such};
 use rtc_course::Kept;
 use rtc_lines::{SdpAnswer, SdpOffer};
@@ -14,7 +16,6 @@ use rtc_peer::{Ids, Rtc, RtcError};
 use rtc_plan::SdpPendingOffer;
 use rtc_rows::Sdp;
 use rtc_steps::{Outcome, Reply, Side};
-use rtc_wire::TryCopy;
 use std::alloc::Global;
 
 fn is_same_side(a: Side, b: Side) -> bool
@@ -49,7 +50,7 @@ fn take_offer<N: Ids>(rtc: &mut Rtc<N>, offer: SdpOffer) -> Result<SdpAnswer, Rt
     rtc.sdp_api().accept_offer(offer)
 }
 
-/// Hands the offer of a number to a peer.
+/// Hands the offer of a number to a peer, which gets what a delivery makes of it.
 pub fn hand_offer<N: Ids>(
     alloc: Global,
     rtc: &mut Rtc<N>,
@@ -60,23 +61,24 @@ pub fn hand_offer<N: Ids>(
     requires rows { length rtc.old.core.lines < 2 ^ 32 - 1 }
     requires texts { length texts.old.items < 2 ^ 32 }
     requires lines { All (λ kept. length kept.text.lines < 2 ^ 32 - 1) texts.old.items }
+    requires carried { AreCarried texts.old.items }
     ensures { HandsOffer N.ids at (handed_text true texts.old.items at offer) rtc.old.core texts.old.items result.outcome result.table rtc.new.core texts.new.items }
 {
     let rows = rtc.lines().rows().len();
-    let text = match find_text(texts, true, at, offer) {
+    let delivered = match find_text(texts, true, at, offer) {
         None => return tell_no_such(alloc, rtc.lines().rows()),
-        Some(text) => match text.copy() {
-            Ok(copied) => copied,
+        Some(text) => match carry_offer(alloc, text) {
+            Ok(delivered) => delivered,
             Err(_) => return tell_no_memory(),
         },
     };
-    let Ok(room) = room_for(alloc, rows + text.lines.len()) else {
+    let Ok(room) = room_for(alloc, rows + delivered.0.lines.len()) else {
         return tell_no_memory();
     };
     if texts.reserve(1).is_err() {
         return tell_no_memory();
     }
-    match take_offer(rtc, SdpOffer(text)) {
+    match take_offer(rtc, delivered) {
         Ok(answer) => {
             let number = texts.len() as u32;
             texts.push_reserved(Kept {
@@ -130,7 +132,7 @@ fn take_answer<N: Ids>(
     rtc.sdp_api().accept_answer(pending, answer)
 }
 
-/// Hands the answer of a number to a peer, with the token of a number.
+/// Hands the answer of a number to a peer, which gets what a delivery makes of it, with the token of a number.
 pub fn hand_answer<N: Ids>(
     alloc: Global,
     rtc: &mut Rtc<N>,
@@ -141,24 +143,25 @@ pub fn hand_answer<N: Ids>(
 ) -> Reply
     requires rows { length rtc.old.core.lines < 2 ^ 32 }
     requires lines { All (λ kept. length kept.text.lines < 2 ^ 32 - 1) texts.old.items }
+    requires carried { AreCarried texts.old.items }
     requires fits { (pending : PendingOffer) → held_token texts.old.items at token ≡ Some pending → rtc.old.core.counter ≡ raised pending.id → length rtc.old.core.lines + length pending.changes < 2 ^ 32 - 1 }
     ensures { HandsAnswer N.ids token (held_token texts.old.items at token) (handed_text false texts.old.items at answer) rtc.old.core texts.old.items result.outcome result.table rtc.new.core texts.new.items }
 {
     let rows = rtc.lines().rows().len();
-    let text = match find_text(texts, false, at, answer) {
+    let delivered = match find_text(texts, false, at, answer) {
         None => return tell_no_such(alloc, rtc.lines().rows()),
-        Some(text) => match text.copy() {
-            Ok(copied) => copied,
+        Some(text) => match carry_answer(alloc, text) {
+            Ok(delivered) => delivered,
             Err(_) => return tell_no_memory(),
         },
     };
-    let Ok(room) = room_for(alloc, rows + text.lines.len()) else {
+    let Ok(room) = room_for(alloc, rows + delivered.0.lines.len()) else {
         return tell_no_memory();
     };
     let Some(pending) = take_token(texts, at, token) else {
         return tell(Outcome::NoSuch, room, rtc.lines().rows());
     };
-    match take_answer(rtc, pending, SdpAnswer(text)) {
+    match take_answer(rtc, pending, delivered) {
         Ok(()) => tell(Outcome::Finished, room, rtc.lines().rows()),
         Err(error) => tell(Outcome::Refused(error), room, rtc.lines().rows()),
     }

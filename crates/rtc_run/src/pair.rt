@@ -34,6 +34,7 @@ impl<N: Ids> Pair<N> {
     ghost use Rattle.rtc_course.specs.PairState.{PairState};
     ghost use Rattle.rtc_course.specs.Performs.{Performs};
     ghost use Rattle.rtc_course.specs.Bounds.{IsWithin};
+    ghost use Rattle.rtc_course.specs.Formed.{AreCarried};
     ghost use Rattle.rtc_steps.specs.Sizes.{step_size};
 
     /// Two peers that made no text yet.
@@ -81,6 +82,7 @@ impl<N: Ids> Pair<N> {
     /// Performs one step.
     pub(crate) fn perform(&mut self, step: &Step) -> Reply
         requires within { IsWithin self.old }
+        requires carried { AreCarried self.old.texts }
         requires size { self.old.size + step_size step.now < 2 ^ 32 }
         ensures { Performs N.ids self.old step.now result.outcome result.table self.new }
     {

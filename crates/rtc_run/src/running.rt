@@ -1,6 +1,7 @@
 //! Runs of pairs.
 ghost use Rattle.std.specs.Prelude.{◌≡◌, ◌+◌, ◌<◌, ◌≤◌, ◌^◌, ◌-◌, [], length, IfOk, OnErr, vec_capacity};
 ghost use Rattle.rtc_steps.specs.Sizes.{steps_size};
+ghost use Rattle.rtc_course.specs.Formed.{ArePeersFormed};
 ghost use Rattle.rtc_course.specs.Fresh.{IsFresh};
 ghost use Rattle.rtc_course.specs.Runs.{Runs};
 
@@ -19,6 +20,7 @@ pub fn run_pair<N: Ids>(
     steps: &[Step],
 ) -> Result<Seq<Reply>, AllocError>
     requires fresh { IsFresh pair.old }
+    requires formed { ArePeersFormed pair.old }
     requires sizes { steps_size steps.now < 2 ^ 32 }
     ensures runs { IfOk result (λ replies. Runs N.ids pair.old steps.now replies pair.new) }
     ensures untouched { OnErr result (pair.new ≡ pair.old) }

@@ -1,4 +1,5 @@
 use Rattle.std.proofs.Common.{rules}
+use Rattle.rtc_course.proofs.MoreSteps.{runs_carried}
 use Rattle.rtc_run.proofs.Sized.{run_is_within, run_goes_on}
 use Rattle.rtc_run.proofs.running.run_pair.Goals as goal
 
@@ -11,7 +12,10 @@ perform-reply-requires-clause-size g c = (run_is_within g.N.Ids.ids _ _ c.args.s
 pub loop-step-preserved : goal.loop-step-preserved
 loop-step-preserved g c =
     record {
-      runs = run_goes_on g.N.Ids.ids _ _ _ c.args.steps.now c.loop-step.step-index c.step-item.result _ _ c.perform-reply.result c.requires.fresh c.loop-step-test.true c.step-item.is c.requires.sizes c.loop-step.invariant.runs c.perform-reply.ensures c.push_reserved.ensures.items;
+      runs = run_goes_on g.N.Ids.ids _ _ _ c.args.steps.now c.loop-step.step-index c.step-item.result _ _ c.perform-reply.result c.requires.fresh c.requires.formed c.loop-step-test.true c.step-item.is c.requires.sizes c.loop-step.invariant.runs c.perform-reply.ensures c.push_reserved.ensures.items;
       count = search rules;
       room = search rules;
     }
+
+pub perform-reply-requires-clause-carried : goal.perform-reply-requires-clause-carried
+perform-reply-requires-clause-carried g c = runs_carried g.N.Ids.ids _ _ _ _ c.requires.fresh c.requires.formed c.loop-step.invariant.runs
