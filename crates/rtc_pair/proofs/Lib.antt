@@ -1,4 +1,3 @@
 pub mod SmallScripts
 pub mod Scripts
 pub mod Words
-pub mod ProgramPeers

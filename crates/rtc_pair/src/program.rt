@@ -1,6 +1,8 @@
 //! The pair that the program runs its script on.
 ghost use Rattle.std.specs.Prelude.{◌≡◌, ◌≤◌, IfOk, Some, length};
 ghost use Rattle.rtc_peer_state.specs.Built.{built};
+ghost use Rattle.rtc_peer_state.specs.Formed.{IsFormed};
+ghost use Rattle.rtc_course.specs.Formed.{ArePeersFormed};
 ghost use Rattle.rtc_pair.specs.Program.{counting, program_pair};
 
 use rtc_peer::{CountIds, Rtc, RtcConfig};
@@ -14,7 +16,8 @@ pub type PlainPair = Pair<CountIds>;
 // A peer with a certificate, whose numbers count up from `first`.
 fn make_peer(alloc: Global, name: &str, first: u64) -> Result<Rtc<CountIds>, AllocError>
     requires { length name.now ≤ 1900 }
-    ensures { IfOk result (λ rtc. rtc.core ≡ built counting alloc (record { cert = Some name.now }) 0 first) }
+    ensures state { IfOk result (λ rtc. rtc.core ≡ built counting alloc (record { cert = Some name.now }) 0 first) }
+    ensures formed { IfOk result (λ rtc. IsFormed rtc.core) }
 {
     let mut cert = Vec::new(alloc);
     cert.extend_from_slice(name.as_bytes())?;
@@ -24,7 +27,8 @@ fn make_peer(alloc: Global, name: &str, first: u64) -> Result<Rtc<CountIds>, All
 
 /// The program's pair, at moment 0.
 pub fn make_pair(alloc: Global) -> Result<PlainPair, AllocError>
-    ensures { IfOk result (λ pair. pair ≡ program_pair alloc) }
+    ensures state { IfOk result (λ pair. pair ≡ program_pair alloc) }
+    ensures formed { IfOk result (λ pair. ArePeersFormed pair) }
 {
     let left = make_peer(alloc, "abc", 1)?;
     let right = make_peer(alloc, "def", 1_000_001)?;
