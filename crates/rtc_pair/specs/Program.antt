@@ -10,7 +10,7 @@ abbrev pub counting : Draws ℕ
 counting = record { drawn = λ n. n; after = λ n. (n + 1) % 2 ^ 64 }
 
 -- two peers at moment 0: the left one draws from 1 and has the certificate abc, the right one from 1000001 and def
-abbrev pub program_pair : Global → PairState ℕ
+unfoldable pub program_pair : Global → PairState ℕ
 program_pair alloc = record {
   left = record { core = built counting alloc (record { cert = Some (codes "abc") }) 0 1 };
   right = record { core = built counting alloc (record { cert = Some (codes "def") }) 0 1000001 };

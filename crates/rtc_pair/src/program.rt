@@ -3,6 +3,7 @@ ghost use Rattle.std.specs.Prelude.{◌≡◌, ◌≤◌, IfOk, Some, length};
 ghost use Rattle.rtc_peer_state.specs.Built.{built};
 ghost use Rattle.rtc_peer_state.specs.Formed.{IsFormed};
 ghost use Rattle.rtc_course.specs.Formed.{ArePeersFormed};
+ghost use Rattle.rtc_course.specs.Fresh.{IsFresh};
 ghost use Rattle.rtc_pair.specs.Program.{counting, program_pair};
 
 use rtc_peer::{CountIds, Rtc, RtcConfig};
@@ -26,8 +27,10 @@ fn make_peer(alloc: Global, name: &str, first: u64) -> Result<Rtc<CountIds>, All
 }
 
 /// The program's pair, at moment 0.
+#[tactic(auto, unfolding(crate::specs::Program::program_pair))]
 pub fn make_pair(alloc: Global) -> Result<PlainPair, AllocError>
     ensures state { IfOk result (λ pair. pair ≡ program_pair alloc) }
+    ensures fresh { IfOk result (λ pair. IsFresh pair) }
     ensures formed { IfOk result (λ pair. ArePeersFormed pair) }
 {
     let left = make_peer(alloc, "abc", 1)?;

@@ -48,9 +48,9 @@ fn perform_script<W: Sink>(
     let Ok(text) = write_report(alloc, steps, replies.as_slice()) else {
         return 6;
     };
-    if write_all(output, text.as_slice()).is_err() {
+    let Ok(()) = write_all(output, text.as_slice()) else {
         return SINK_FAILED;
-    }
+    };
     *last = Some(pair);
     if lack_memory(replies.as_slice()) {
         6
