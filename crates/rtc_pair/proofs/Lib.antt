@@ -1,3 +1,5 @@
 pub mod SmallScripts
 pub mod Scripts
 pub mod Words
+pub mod ProgramPeers
+pub mod Performed
