@@ -71,6 +71,7 @@ handed_plain offer texts at k text is plain = by (slice_get texts k) refl is
     picked : (b : Bool) (kept : Kept) → IsPlain kept.text → cond b (Some kept.text) None ≡ Some text → IsPlain text
     picked true kept whole e = let same : kept.text ≡ text = cc in subst IsPlain same whole
     picked false kept whole e = absurd (let bad : None ≡ Some text = e in cc)
+
     by : (found : Option Kept) → slice_get texts k ≡ found → text_for offer at found ≡ Some text → IsPlain text
     by None there e = absurd (let bad : None ≡ Some text = e in cc)
     by (Some kept) there e = picked _ kept (all-get (λ (one : Kept). IsPlain one.text) texts k kept there plain) e
