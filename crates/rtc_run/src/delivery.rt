@@ -55,3 +55,6 @@ pub(crate) fn carry_answer(alloc: Global, text: &Sdp) -> Result<SdpAnswer, Alloc
         Err(SdpError::Inconsistent(_)) => unreachable!(),
     }
 }
+
+#[cfg(test)]
+mod tests;

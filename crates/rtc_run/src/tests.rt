@@ -1,5 +1,6 @@
 //! A run of a round, with its replies.
 ghost use Rattle.std.specs.Prelude.{◌≡◌, IfOk, length};
+ghost use Rattle.rtc_course.specs.Formed.{ArePeersFormed};
 ghost use Rattle.rtc_course.specs.Fresh.{IsFresh};
 
 use crate::{Pair, run_pair};
@@ -12,7 +13,8 @@ use std::test::Fail;
 
 // Two peers whose numbers count up from 1 and from 1001.
 fn fresh_pair(alloc: Global) -> Result<Pair<CountIds>, AllocError>
-    ensures { IfOk result (λ pair. IsFresh pair) }
+    ensures fresh { IfOk result (λ pair. IsFresh pair) }
+    ensures formed { IfOk result (λ pair. ArePeersFormed pair) }
 {
     let start = Moment::FAR_PAST;
     let config = RtcConfig::new(alloc)?;
