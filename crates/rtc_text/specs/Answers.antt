@@ -10,6 +10,12 @@ use Rattle.rtc_text.specs.Repair.{bytes_reading}
 abbrev pub usage_line : List ℕ
 usage_line = codes "usage: rtc_text offer | rtc_text answer\n"
 
+abbrev pub fault_line : List ℕ
+fault_line = codes "read fault\n"
+
+abbrev pub long_line : List ℕ
+long_line = codes "text too long\n"
+
 abbrev pub refused_line : ℕ → List ℕ
 refused_line n = codes "text refused at line " ++ decimal n ++ codes "\n"
 

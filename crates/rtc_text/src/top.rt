@@ -3,7 +3,7 @@ ghost use Rattle.std.specs.Prelude.{◌≡◌, ◌≢◌, ◌<◌, ◌^◌, ◌�
 ghost use Rattle.std.specs.Io.KnownBytes.{Appends};
 ghost use Rattle.rtc_io.specs.Faults.{Rose};
 ghost use Rattle.rtc_text.specs.Asking.{asked};
-ghost use Rattle.rtc_text.specs.Answers.{WritesText, RefusesText, refused_line, usage_line};
+ghost use Rattle.rtc_text.specs.Answers.{WritesText, RefusesText, fault_line, long_line, refused_line, usage_line};
 
 use crate::{TextError, asked_for, rewrite};
 use rtc_io::{INPUT_LIMIT, ReadError, Sink, Source, read_all, say};
@@ -42,10 +42,11 @@ pub fn text_main<R: Source, W: Sink>(
     ensures done { result ≡ 0 → WritesText (R.left input.old) (R.left input.new) (W.written output.old) (W.written output.new) }
     ensures usage { result ≡ 2 → (asked (map (λ word. string_bytes word) words.now) ≡ None) × Appends (W.written output.old) (W.written output.new) usage_line }
     ensures refused { result ≡ 3 → RefusesText (R.left input.old) (R.left input.new) (W.written output.old) (W.written output.new) }
-    ensures read { result ≡ 4 → Rose (R.faults input.old) (R.faults input.new) }
+    ensures read { result ≡ 4 → Rose (R.faults input.old) (R.faults input.new) × Appends (W.written output.old) (W.written output.new) fault_line }
     ensures write { result ≡ 5 → Rose (W.faults output.old) (W.faults output.new) }
     ensures memory { result ≡ 6 → output.new ≡ output.old }
-    ensures long { result ≡ 7 → IfSome (R.left input.old) (λ bytes. 2 ^ 20 < length bytes) }
+    ensures long { result ≡ 7 → IfSome (R.left input.old) (λ bytes. 2 ^ 20 < length bytes) × Appends (W.written output.old) (W.written output.new) long_line }
+    ensures asked { asked (map (λ word. string_bytes word) words.now) ≡ None → (result ≡ 2) ⊎ (result ≡ 5) }
     ensures statuses { (result ≢ 1) × (result < 8) }
 {
     let Some(asked) = asked_for(words) else {
