@@ -2,6 +2,7 @@
 ghost use Rattle.std.specs.Prelude.{◌≡◌, IfOk};
 ghost use Rattle.rtc_lines.specs.SdpReads.{ReadsAnswer, ReadsOffer};
 ghost use Rattle.rtc_reading.specs.Reading.{reading};
+ghost use Rattle.rtc_writing.specs.Plain.{IsPlain};
 ghost use Rattle.rtc_writing.specs.SessionRows.{written};
 ghost use Rattle.rtc_steps.specs.Delivered.{ReadsBack};
 
@@ -14,7 +15,8 @@ use std::alloc::{AllocError, Global};
 ///
 /// It may differ from what went in: a text does not say what our profile has no line for.
 pub fn deliver_offer(alloc: Global, offer: &SdpOffer) -> Result<SdpOffer, SdpError>
-    ensures { ReadsOffer result (reading (written offer.now.0)) }
+    ensures reading { ReadsOffer result (reading (written offer.now.0)) }
+    ensures plain { IsPlain offer.now.0 → IfOk result (λ delivered. delivered.0 ≡ offer.now.0) }
 {
     let text = offer.to_sdp_string()?;
     SdpOffer::from_sdp_string(alloc, text.as_str())
@@ -22,7 +24,8 @@ pub fn deliver_offer(alloc: Global, offer: &SdpOffer) -> Result<SdpOffer, SdpErr
 
 /// The answer that comes out of signalling where this one went in (RFC 8829, section 5.8, in our profile).
 pub fn deliver_answer(alloc: Global, answer: &SdpAnswer) -> Result<SdpAnswer, SdpError>
-    ensures { ReadsAnswer result (reading (written answer.now.0)) }
+    ensures reading { ReadsAnswer result (reading (written answer.now.0)) }
+    ensures plain { IsPlain answer.now.0 → IfOk result (λ delivered. delivered.0 ≡ answer.now.0) }
 {
     let text = answer.to_sdp_string()?;
     SdpAnswer::from_sdp_string(alloc, text.as_str())
