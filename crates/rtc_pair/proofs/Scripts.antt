@@ -1,30 +1,14 @@
 -- What was read, said of what a source had left.
-use Rattle.std.proofs.Common.{◌≡◌, ◌≤◌, ◌^◌, ◌⊎◌, inl, inr, ℕ, Bool, true, List, ◌++◌, length, Option, Some, None, refl, sym, ap, ◌∙◌, subst, append-nil}
+use Rattle.std.proofs.Common.{◌≡◌, ◌≤◌, ◌^◌, ◌⊎◌, inl, inr, ℕ, Bool, true, List, length, Option, subst}
 use Rattle.std.specs.declared.alloc.Global.{Global}
 use Rattle.std.specs.Io.KnownBytes.{Consumes, IsAtEnd, Appends}
 use Rattle.rtc_steps.specs.declared.step.Step.{Step}
-use Rattle.rtc_steps.specs.declared.reply.Reply.{Reply}
 use Rattle.rtc_script.specs.Script.{IsScript, IsRefused}
 use Rattle.rtc_script.specs.declared.script_error.ScriptError.{ScriptError}
 use Rattle.rtc_script.specs.declared.script_error.ScriptError.TheVariants.{Line}
-use Rattle.rtc_report.specs.Report.{report}
 use Rattle.rtc_course.specs.PairState.{PairState}
-use Rattle.rtc_course.specs.Runs.{Runs}
 use Rattle.rtc_io.proofs.Told.{told}
-use Rattle.rtc_pair.specs.Program.{counting, program_pair}
-use Rattle.rtc_pair.specs.Answers.{PerformsSteps, RunsScript, RefusesScript, lack_memory, refused_line}
-
--- what was performed, and the report of it that was written
-pub performs_steps : (alloc : Global) (lacking : Bool) (start pair : PairState ℕ) (steps : List Step) (replies shown counted : List Reply) (text wrote : List ℕ) (written written' : Option (List ℕ)) → start ≡ program_pair alloc → Runs counting start steps replies pair → shown ≡ replies → counted ≡ replies → text ≡ report steps shown → wrote ≡ text → Appends written written' wrote → lack_memory counted ≡ lacking → PerformsSteps alloc lacking steps written written' (Some pair)
-performs_steps alloc lacking start pair steps replies shown counted text wrote written written' start_is runs shown_is counted_is text_is wrote_is appends lacks =
-    record {
-      replies = replies;
-      pair = pair;
-      reported = subst (Appends written written') (wrote_is ∙ text_is ∙ ap (report steps) shown_is) appends;
-      runs = subst (λ (s : PairState ℕ). Runs counting s steps replies pair) start_is runs;
-      kept = refl;
-      memory = subst (λ (rs : List Reply). lack_memory rs ≡ lacking) counted_is lacks;
-    }
+use Rattle.rtc_pair.specs.Answers.{PerformsSteps, RunsScript, RefusesScript, refused_line}
 
 pub runs_script : (alloc : Global) (lacking : Bool) (a b written written' : Option (List ℕ)) (last : Option (PairState ℕ)) (bytes slice : List ℕ) (steps performed : List Step) → Consumes a b bytes → IsAtEnd b → length bytes ≤ 2 ^ 20 → slice ≡ bytes → IsScript slice steps → performed ≡ steps → PerformsSteps alloc lacking performed written written' last → RunsScript alloc lacking a b written written' last
 runs_script alloc lacking a b written written' last bytes slice steps performed taken ended short same script steps_are performs =
