@@ -1,7 +1,6 @@
 //! A row for each form of an attribute of a connection.
 use super::*;
-use rtc_rows::{Candidate, CandidateKind};
-use rtc_wire::{Protocol, Text};
+use rtc_wire::Text;
 use std::test::*;
 
 fn is_word(read: &Option<Text>, wanted: Option<&str>) -> bool {
@@ -38,58 +37,6 @@ fn words_have_their_lengths(rt: HostRuntime) -> Result<(), Fail> {
     for (value, wanted) in [("", Some("")), ("AQ==", Some("AQ==")), ("A Q", None)] {
         let read = read_sctp_init(alloc, value)?;
         assert!(rt; is_word(&read, wanted), "{value}");
-    }
-    Ok(())
-}
-
-fn is_candidate(
-    read: &Option<Candidate>,
-    wanted: Option<(Protocol, [u8; 4], u16, CandidateKind)>,
-) -> bool {
-    match (read, wanted) {
-        (None, None) => true,
-        (Some(candidate), Some((proto, ip, port, kind))) => {
-            candidate.proto == proto
-                && candidate.addr.ip == ip
-                && candidate.addr.port == port
-                && candidate.kind == kind
-        }
-        _ => false,
-    }
-}
-
-#[test]
-fn candidates_have_addresses_of_ipv4(rt: HostRuntime) -> Result<(), Fail> {
-    for (value, wanted) in [
-        (
-            "1 1 udp 2130706431 1.2.3.4 1000 typ host",
-            Some((Protocol::Udp, [1, 2, 3, 4], 1000, CandidateKind::Host)),
-        ),
-        (
-            "a+ 65535 Tcp 0 255.0.0.1 0 typ srflx raddr x",
-            Some((
-                Protocol::Tcp,
-                [255, 0, 0, 1],
-                0,
-                CandidateKind::ServerReflexive,
-            )),
-        ),
-        (
-            "1 1 UDP 4294967295 001.2.3.4 65535 typ prflx",
-            Some((
-                Protocol::Udp,
-                [1, 2, 3, 4],
-                65535,
-                CandidateKind::PeerReflexive,
-            )),
-        ),
-        (
-            "1 1 tCP 1 1.2.3.4 9 typ relay ",
-            Some((Protocol::Tcp, [1, 2, 3, 4], 9, CandidateKind::Relayed)),
-        ),
-    ] {
-        let read = read_candidate(rt.alloc(), value)?;
-        assert!(rt; is_candidate(&read, wanted), "{value}");
     }
     Ok(())
 }
