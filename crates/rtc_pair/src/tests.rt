@@ -3,6 +3,7 @@ use crate::{MemSink, MemSource, pair_main};
 use rtc_wire::{Bytes, Seq};
 use std::alloc::{AllocError, Global};
 
+mod changes;
 mod rounds;
 mod statuses;
 mod vectors;

@@ -1,3 +1,4 @@
 pub mod LineLemmas
 pub mod Refusals
 pub mod StepLines
+pub mod ZipLemmas

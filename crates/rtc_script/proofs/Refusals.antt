@@ -2,10 +2,11 @@
 use Rattle.std.proofs.Common.{◌≡◌, ◌≢◌, ◌+◌, ◌-◌, ◌^◌, ◌≤◌, ◌<◌, ◌∙◌, ℕ, zero, suc, List, [], ◌∷◌, ◌++◌, length, take, min, refl, ap, sym, subst, add-one, length-append, lit<, arith, Bor}
 use Rattle.std.proofs.Math.Seq.{take-length}
 use Rattle.std.proofs.lemmas.List.{take-append-le, length-map}
-use Rattle.rtc_script.specs.Script.{AreStepLines, ArePieces, BeginsScript, AreRefused, header}
+use Rattle.rtc_script.specs.Script.{HaveLines, ArePieces, BeginsScript, AreRefused, header}
 use Rattle.rtc_script.specs.Steps.{StopsAt}
 use Rattle.rtc_script.specs.declared.script_error.ScriptError.TheVariants.{Line}
-use Rattle.rtc_script.proofs.StepLines.{step_lines_front, texts}
+use Rattle.rtc_script.specs.Lines.{IsLine}
+use Rattle.rtc_script.proofs.ZipLemmas.{texts, front_zip}
 use Rattle.rtc_steps.specs.declared.step.Step.{Step}
 
 -- a shorter front of a front is a front
@@ -30,18 +31,18 @@ front_is (l ∷ lines) (o ∷ other) end same =
     (cc, h.1)
 
 -- a script may begin with the header and lines of steps, as many as there are
-begins : (rest : List (List ℕ)) (end : List ℕ) (j : ℕ) (steps : List Step) → j ≤ length rest → AreStepLines (take j rest) steps → (k : ℕ) → k < suc (suc j) → BeginsScript (header ∷ rest ++ end ∷ []) k
+begins : (rest : List (List ℕ)) (end : List ℕ) (j : ℕ) (steps : List Step) → j ≤ length rest → HaveLines (take j rest) steps → (k : ℕ) → k < suc (suc j) → BeginsScript (header ∷ rest ++ end ∷ []) k
 begins rest end j steps le are zero lt = (omega (arith, length-append rest (end ∷ [])), ([], refl))
 begins rest end j steps le are (suc k) lt =
     let front : take k (take j rest) ≡ take k (rest ++ end ∷ []) = front_of_front k j rest (omega arith) ∙ sym (take-append-le k rest (end ∷ []) (omega arith)) in
-    let P : List (List ℕ) → Type 0 = λ lines. AreStepLines lines (take k steps) in
-    (omega (arith, length-append rest (end ∷ [])), (take k steps, (refl, subst P front (step_lines_front k (take j rest) steps are))))
+    let P : List (List ℕ) → Type 0 = λ lines. HaveLines lines (take k steps) in
+    (omega (arith, length-append rest (end ∷ [])), (take k steps, (refl, subst P front (front_zip IsLine k (take j rest) steps are))))
 
 -- and with no line that is of no step
-begins_no_more : (rest : List (List ℕ)) (end : List ℕ) (place : ℕ) → place < length rest → ((steps : List Step) → AreStepLines (take (suc place) rest) steps → ⊥) → BeginsScript (header ∷ rest ++ end ∷ []) (suc (suc place)) → ⊥
+begins_no_more : (rest : List (List ℕ)) (end : List ℕ) (place : ℕ) → place < length rest → ((steps : List Step) → HaveLines (take (suc place) rest) steps → ⊥) → BeginsScript (header ∷ rest ++ end ∷ []) (suc (suc place)) → ⊥
 begins_no_more rest end place lt none begins =
     let front : take (suc place) (rest ++ end ∷ []) ≡ take (suc place) rest = take-append-le (suc place) rest (end ∷ []) (omega arith) in
-    let P : List (List ℕ) → Type 0 = λ lines. AreStepLines lines begins.1.0 in
+    let P : List (List ℕ) → Type 0 = λ lines. HaveLines lines begins.1.0 in
     none begins.1.0 (subst P front begins.1.1.1)
 
 -- a text without a line is refused at line 1
@@ -73,7 +74,7 @@ wrong_header first rest end wrong = (
 -- a line that is of no step is refused
 pub wrong_step : (rest : List (List ℕ)) (end : List ℕ) (place told : ℕ) → StopsAt rest place → told ≡ min (place + 2) (2 ^ 32 - 1) → AreRefused (header ∷ rest ++ end ∷ []) (Line told)
 wrong_step rest end place told stops is =
-    let none : (steps : List Step) → AreStepLines (take (suc place) rest) steps → ⊥ = rw add-one at stops.2 in (
+    let none : (steps : List Step) → HaveLines (take (suc place) rest) steps → ⊥ = rw add-one at stops.2 in (
       λ steps are. no_script steps are,
       (
         suc (suc place),
@@ -89,13 +90,13 @@ wrong_step rest end place told stops is =
     no_script steps are =
         let same : rest ++ end ∷ [] ≡ are.0 ++ [] ∷ [] = let e = are.1 in cc in
         let lines = front_is rest are.0 end same in
-        let P : List (List ℕ) → Type 0 = λ lines. AreStepLines lines steps in
-        stops.2 (take (place + 1) steps) (step_lines_front (place + 1) rest steps (subst P (sym lines.0) are.2))
+        let P : List (List ℕ) → Type 0 = λ lines. HaveLines lines steps in
+        stops.2 (take (place + 1) steps) (front_zip IsLine (place + 1) rest steps (subst P (sym lines.0) are.2))
 
 -- a last line without LF is refused
-pub unended : (rest : List (List ℕ)) (end : List ℕ) (steps : List Step) (told : ℕ) → AreStepLines rest steps → end ≢ [] → told ≡ min (length rest + 2) (2 ^ 32 - 1) → AreRefused (header ∷ rest ++ end ∷ []) (Line told)
+pub unended : (rest : List (List ℕ)) (end : List ℕ) (steps : List Step) (told : ℕ) → HaveLines rest steps → end ≢ [] → told ≡ min (length rest + 2) (2 ^ 32 - 1) → AreRefused (header ∷ rest ++ end ∷ []) (Line told)
 unended rest end steps told are more is =
-    let P : List (List ℕ) → Type 0 = λ lines. AreStepLines lines steps in (
+    let P : List (List ℕ) → Type 0 = λ lines. HaveLines lines steps in (
       λ steps are. let same : rest ++ end ∷ [] ≡ are.0 ++ [] ∷ [] = let e = are.1 in cc in more (front_is rest are.0 end same).1,
       (
         suc (suc (length rest)),
@@ -116,12 +117,12 @@ step_refused lines rest first end place told is head stops number =
     let P : List (List ℕ) → Type 0 = λ cut. AreRefused cut (Line told) in
     subst P (cut_is lines rest first end is head) (wrong_step (texts rest) end place told stops number)
 
-pub end_refused : (lines rest : List (Bor (List ℕ))) (first : Bor (List ℕ)) (end : List ℕ) (steps : List Step) (told : ℕ) → lines ≡ first ∷ rest → first.now ≡ header → AreStepLines (texts rest) steps → end ≢ [] → told ≡ min (length rest + 2) (2 ^ 32 - 1) → AreRefused (texts lines ++ end ∷ []) (Line told)
+pub end_refused : (lines rest : List (Bor (List ℕ))) (first : Bor (List ℕ)) (end : List ℕ) (steps : List Step) (told : ℕ) → lines ≡ first ∷ rest → first.now ≡ header → HaveLines (texts rest) steps → end ≢ [] → told ≡ min (length rest + 2) (2 ^ 32 - 1) → AreRefused (texts lines ++ end ∷ []) (Line told)
 end_refused lines rest first end steps told is head are more number =
     let P : List (List ℕ) → Type 0 = λ cut. AreRefused cut (Line told) in
     let count : told ≡ min (length (texts rest) + 2) (2 ^ 32 - 1) = rw length-map number in
     subst P (cut_is lines rest first end is head) (unended (texts rest) end steps told are more count)
 
-pub script_read : (lines rest : List (Bor (List ℕ))) (first : Bor (List ℕ)) (end : List ℕ) (steps : List Step) → lines ≡ first ∷ rest → first.now ≡ header → AreStepLines (texts rest) steps → end ≡ [] → ArePieces (texts lines ++ end ∷ []) steps
+pub script_read : (lines rest : List (Bor (List ℕ))) (first : Bor (List ℕ)) (end : List ℕ) (steps : List Step) → lines ≡ first ∷ rest → first.now ≡ header → HaveLines (texts rest) steps → end ≡ [] → ArePieces (texts lines ++ end ∷ []) steps
 script_read lines rest first end steps is head are none =
     (texts rest, sym (cut_is lines rest first end is head) ∙ ap (λ (last : List ℕ). header ∷ texts rest ++ last ∷ []) none, are)

@@ -1,13 +1,30 @@
 //! What a line says behind its side.
-ghost use Rattle.std.specs.Prelude.{◌≡◌, IfOk, IfSome, IfNone, map};
-ghost use Rattle.rtc_script.specs.Lines.{IsAct};
+ghost use Rattle.std.specs.Prelude.{◌≡◌, List, IfOk, IfSome, IfNone, map};
+ghost use Rattle.rtc_script.specs.Lines.{IsAct, AreOps, ops_verb};
 ghost use Rattle.rtc_steps.specs.Sides.{side_of};
+ghost use Rattle.rtc_steps.specs.declared.op.Op.{Op};
 ghost use Rattle.rtc_steps.specs.declared.step.Step.{Step};
 
 use crate::numbers::{read_one, read_two};
 use crate::ops::read_ops;
 use rtc_steps::{Side, Step};
 use std::alloc::{AllocError, Global};
+
+// The step of a side whose ops words say.
+fn read_negotiation(
+    alloc: Global,
+    at: Side,
+    words: &[&[u8]],
+    apply: bool,
+) -> Result<Option<Step>, AllocError>
+    ensures some { IfOk result (λ read. IfSome read (λ step. (side_of step ≡ at) × IsAct (ops_verb apply) (map (λ word. word.now) words.now) step)) }
+    ensures none { IfOk result (λ read. IfNone read ((ops : List Op) → AreOps (map (λ word. word.now) words.now) ops → ⊥)) }
+{
+    match read_ops(alloc, words)? {
+        Some(ops) => Ok(Some(Step::Negotiate { at, ops, apply })),
+        None => Ok(None),
+    }
+}
 
 /// The step of a side that a verb and the words behind it say.
 pub fn read_act(
@@ -20,14 +37,10 @@ pub fn read_act(
     ensures none { IfOk result (λ read. IfNone read ((step : Step) → IsAct verb.now (map (λ word. word.now) rest.now) step → ⊥)) }
 {
     if verb == b"offer".as_slice() {
-        return match read_ops(alloc, rest)? {
-            Some(ops) => Ok(Some(Step::Negotiate {
-                at,
-                ops,
-                apply: true,
-            })),
-            None => Ok(None),
-        };
+        return read_negotiation(alloc, at, rest, true);
+    }
+    if verb == b"stage".as_slice() {
+        return read_negotiation(alloc, at, rest, false);
     }
     if verb == b"accept".as_slice() {
         return match read_one(rest) {

@@ -1,6 +1,6 @@
 //! Texts cut at a byte.
 ghost use Rattle.std.specs.Prelude.{◌≡◌, ◌<◌, IfOk, length, map};
-ghost use Rattle.rtc_fields.specs.Words.{words};
+ghost use Rattle.rtc_fields.specs.Words.{parts, words};
 ghost use Rattle.rtc_script.specs.Script.{pieces};
 
 use std::alloc::{AllocError, Global};
@@ -18,4 +18,11 @@ pub fn cut_words<'a>(alloc: Global, line: &'a [u8]) -> Result<Vec<&'a [u8]>, All
     ensures { IfOk result (λ cut. map (λ word. word.now) cut.items ≡ words line.now) }
 {
     line.split(|byte| *byte == b' ').collect(alloc)
+}
+
+/// The parts of a word between its colons.
+pub fn cut_parts<'a>(alloc: Global, word: &'a [u8]) -> Result<Vec<&'a [u8]>, AllocError>
+    ensures { IfOk result (λ cut. map (λ part. part.now) cut.items ≡ parts 58 word.now) }
+{
+    word.split(|byte| *byte == b':').collect(alloc)
 }

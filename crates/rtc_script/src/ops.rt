@@ -1,52 +1,48 @@
 //! Ops of a line.
-ghost use Rattle.std.specs.Prelude.{◌≡◌, ◌≢◌, [], ◌∷◌, ◌++◌, ℕ, List, length, IfOk, IfSome, IfNone, MatchOption, map};
-ghost use Rattle.rtc_script.specs.Lines.{IsOp, AreOps};
+ghost use Rattle.std.specs.Prelude.{◌≡◌, List, IfOk, IfSome, IfNone, map};
+ghost use Rattle.rtc_script.specs.Lines.{AreOpParts, IsOp, AreOps};
 ghost use Rattle.rtc_steps.specs.declared.op.Op.{Op};
 
-use rtc_rows::MediaKind;
+use crate::cutting::cut_parts;
 use rtc_steps::Op;
 use rtc_wire::Seq;
-use rtc_words::read_direction;
+use rtc_words::{read_direction, read_kind};
 use std::alloc::{AllocError, Global};
 
-// What follows a front.
-fn after<'a>(word: &'a [u8], front: &[u8]) -> Option<&'a [u8]>
-    ensures { MatchOption result ((rest : List ℕ) → word.now ≢ front.now ++ rest) (λ rest. word.now ≡ front.now ++ rest.now) }
+// The line of a kind of media that parts add.
+fn read_added(parts: &[&[u8]]) -> Option<Op>
+    ensures some { IfSome result (λ op. AreOpParts (map (λ part. part.now) parts.now) op) }
+    ensures none { IfNone result ((op : Op) → AreOpParts (map (λ part. part.now) parts.now) op → ⊥) }
 {
-    word.strip_prefix(front)
-}
-
-fn read_op(word: &[u8]) -> Option<Op>
-    ensures some { IfSome result (λ op. IsOp word.now op) }
-    ensures none { IfNone result ((op : Op) → IsOp word.now op → ⊥) }
-{
-    let rest = after(word, b"audio:")?;
-    let dir = read_direction(rest)?;
-    Some(Op::AddMedia {
-        kind: MediaKind::Audio,
-        dir,
-    })
-}
-
-fn read_only_op(words: &[&[u8]]) -> Option<Op>
-    ensures some { IfSome result (λ op. AreOps (map (λ word. word.now) words.now) (op ∷ [])) }
-    ensures none { IfNone result ((op : Op) → AreOps (map (λ word. word.now) words.now) (op ∷ []) → ⊥) }
-{
-    match words {
-        [word] => read_op(word),
+    match parts {
+        [kind, dir] => {
+            let kind = read_kind(kind)?;
+            let dir = read_direction(dir)?;
+            Some(Op::AddMedia { kind, dir })
+        }
         _ => None,
     }
 }
 
-/// The one op that words say.
-pub fn read_ops(alloc: Global, words: &[&[u8]]) -> Result<Option<Seq<Op>>, AllocError>
-    ensures some { IfOk result (λ read. IfSome read (λ ops. AreOps (map (λ word. word.now) words.now) ops × (length ops ≡ 1))) }
-    ensures none { IfOk result (λ read. IfNone read ((ops : List Op) → AreOps (map (λ word. word.now) words.now) ops → length ops ≡ 1 → ⊥)) }
+fn read_op(alloc: Global, word: &[u8]) -> Result<Option<Op>, AllocError>
+    ensures some { IfOk result (λ read. IfSome read (λ op. IsOp word.now op)) }
+    ensures none { IfOk result (λ read. IfNone read ((op : Op) → IsOp word.now op → ⊥)) }
 {
-    let Some(op) = read_only_op(words) else {
-        return Ok(None);
-    };
+    let parts = cut_parts(alloc, word)?;
+    Ok(read_added(parts.as_slice()))
+}
+
+/// The ops that words say.
+pub fn read_ops(alloc: Global, words: &[&[u8]]) -> Result<Option<Seq<Op>>, AllocError>
+    ensures some { IfOk result (λ read. IfSome read (λ ops. AreOps (map (λ word. word.now) words.now) ops)) }
+    ensures none { IfOk result (λ read. IfNone read ((ops : List Op) → AreOps (map (λ word. word.now) words.now) ops → ⊥)) }
+{
     let mut ops = Seq::empty(alloc);
-    ops.push(op)?;
+    for word in words {
+        let Some(op) = read_op(alloc, word)? else {
+            return Ok(None);
+        };
+        ops.push(op)?;
+    }
     Ok(Some(ops))
 }

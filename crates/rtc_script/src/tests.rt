@@ -6,17 +6,20 @@ use rtc_wire::Seq;
 use std::alloc::{AllocError, Global};
 use std::test::Fail;
 
-fn offer(alloc: Global, at: Side, dir: Direction) -> Result<Step, AllocError> {
+fn negotiate(
+    alloc: Global,
+    at: Side,
+    added: &[(MediaKind, Direction)],
+    apply: bool,
+) -> Result<Step, AllocError> {
     let mut ops = Seq::empty(alloc);
-    ops.push(Op::AddMedia {
-        kind: MediaKind::Audio,
-        dir,
-    })?;
-    Ok(Step::Negotiate {
-        at,
-        ops,
-        apply: true,
-    })
+    for (kind, dir) in added {
+        ops.push(Op::AddMedia {
+            kind: *kind,
+            dir: *dir,
+        })?;
+    }
+    Ok(Step::Negotiate { at, ops, apply })
 }
 
 #[test]
@@ -28,11 +31,21 @@ fn each_line_is_a_step(rt: HostRuntime) -> Result<(), Fail> {
     assert_eq!(rt; steps.len(), 4);
     assert_eq!(rt;
         steps[0],
-        offer(rt.alloc(), Side::Left, Direction::SendRecv)?
+        negotiate(
+            rt.alloc(),
+            Side::Left,
+            &[(MediaKind::Audio, Direction::SendRecv)],
+            true
+        )?
     );
     assert_eq!(rt;
         steps[1],
-        offer(rt.alloc(), Side::Right, Direction::Inactive)?
+        negotiate(
+            rt.alloc(),
+            Side::Right,
+            &[(MediaKind::Audio, Direction::Inactive)],
+            true
+        )?
     );
     assert_eq!(rt;
         steps[2],
@@ -54,7 +67,50 @@ fn each_line_is_a_step(rt: HostRuntime) -> Result<(), Fail> {
     Ok(())
 }
 
-const REFUSED: [(&str, u32); 20] = [
+// Whether a line alone is read as the step of the left side with these ops.
+fn does_add(
+    alloc: Global,
+    text: &[u8],
+    added: &[(MediaKind, Direction)],
+    apply: bool,
+) -> Result<bool, Fail> {
+    let script = read_script(alloc, text)?;
+    let step = negotiate(alloc, Side::Left, added, apply)?;
+    Ok(script.steps.as_slice() == [step].as_slice())
+}
+
+#[test]
+fn line_without_ops_is_an_offer(rt: HostRuntime) -> Result<(), Fail> {
+    assert!(rt; does_add(rt.alloc(), b"str0m-pair 1\nL offer\n", &[], true)?);
+    Ok(())
+}
+
+#[test]
+fn line_without_ops_is_staged(rt: HostRuntime) -> Result<(), Fail> {
+    assert!(rt; does_add(rt.alloc(), b"str0m-pair 1\nL stage\n", &[], false)?);
+    Ok(())
+}
+
+#[test]
+fn ops_stand_in_the_order_of_their_words(rt: HostRuntime) -> Result<(), Fail> {
+    let text = b"str0m-pair 1\nL stage video:recvonly audio:sendonly video:recvonly\n";
+    let video = (MediaKind::Video, Direction::RecvOnly);
+    let audio = (MediaKind::Audio, Direction::SendOnly);
+    assert!(rt; does_add(rt.alloc(), text, &[video, audio, video], false)?);
+    Ok(())
+}
+
+#[test]
+fn side_offers_again(rt: HostRuntime) -> Result<(), Fail> {
+    let text = b"str0m-pair 1\nL offer video:inactive\nL offer video:inactive\n";
+    let script = read_script(rt.alloc(), text)?;
+    let steps = script.steps.as_slice();
+    assert_eq!(rt; steps.len(), 2);
+    assert!(rt; steps[0] == steps[1]);
+    Ok(())
+}
+
+const REFUSED: [(&str, u32); 32] = [
     ("", 1),
     ("\n", 1),
     ("str0m-pair 1", 1),
@@ -64,9 +120,21 @@ const REFUSED: [(&str, u32); 20] = [
     ),
     ("str0m-pair 1\n\n", 2),
     ("str0m-pair 1\nset L lite\n", 2),
-    ("str0m-pair 1\nR offer\n", 2),
-    ("str0m-pair 1\nR offer video:sendrecv\n", 2),
-    ("str0m-pair 1\nR offer audio:sendrecv audio:sendrecv\n", 2),
+    ("str0m-pair 1\nR offer \n", 2),
+    ("str0m-pair 1\nR stage \n", 2),
+    ("str0m-pair 1\nR offers\n", 2),
+    ("str0m-pair 1\nR offer audio\n", 2),
+    ("str0m-pair 1\nR offer audio:\n", 2),
+    ("str0m-pair 1\nR offer :sendrecv\n", 2),
+    ("str0m-pair 1\nR offer audio:sendrecv:\n", 2),
+    ("str0m-pair 1\nR offer text:sendrecv\n", 2),
+    ("str0m-pair 1\nR offer Audio:sendrecv\n", 2),
+    ("str0m-pair 1\nR offer video:sendRecv\n", 2),
+    ("str0m-pair 1\nR offer audio:sendrecv,video:sendrecv\n", 2),
+    ("str0m-pair 1\nR offer audio:sendrecv  video:sendrecv\n", 2),
+    ("str0m-pair 1\nR offer video:sendrecv audio:send\n", 2),
+    ("str0m-pair 1\nR offer channel:61\n", 2),
+    ("str0m-pair 1\nL stage stop:0\n", 2),
     ("str0m-pair 1\nR accept 4294967296\n", 2),
     ("str0m-pair 1\nR accept +1\n", 2),
     (

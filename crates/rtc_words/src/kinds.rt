@@ -1,6 +1,7 @@
 //! Words of kinds of media.
-ghost use Rattle.std.specs.Prelude.{◌≡◌};
+ghost use Rattle.std.specs.Prelude.{◌≡◌, ◌≢◌, IfSome, IfNone};
 ghost use Rattle.rtc_words.specs.Words.{kind_text};
+ghost use Rattle.rtc_rows.specs.declared.media_kind.MediaKind.{MediaKind};
 
 use rtc_rows::MediaKind;
 
@@ -11,5 +12,19 @@ pub fn kind_word(kind: MediaKind) -> &'static str
     match kind {
         MediaKind::Audio => "audio",
         MediaKind::Video => "video",
+    }
+}
+
+/// The kind of media whose word it is.
+pub fn read_kind(word: &[u8]) -> Option<MediaKind>
+    ensures some { IfSome result (λ kind. word.now ≡ kind_text kind) }
+    ensures none { IfNone result ((kind : MediaKind) → word.now ≢ kind_text kind) }
+{
+    if word == b"audio".as_slice() {
+        Some(MediaKind::Audio)
+    } else if word == b"video".as_slice() {
+        Some(MediaKind::Video)
+    } else {
+        None
     }
 }

@@ -6,5 +6,5 @@ mod kinds;
 mod sides;
 
 pub use directions::{direction_word, read_direction};
-pub use kinds::kind_word;
+pub use kinds::{kind_word, read_kind};
 pub use sides::{read_side, side_word};
