@@ -127,6 +127,23 @@ fn outcomes_have_their_words(rt: HostRuntime) -> Result<(), Fail> {
     Ok(())
 }
 
+#[test]
+fn answers_are_parted_by_commas(rt: HostRuntime) -> Result<(), Fail> {
+    let alloc = rt.alloc();
+    let answers = [
+        OpAnswer::Mid(mid(&rt, "m3")),
+        OpAnswer::Mid(mid(&rt, "m7")),
+        OpAnswer::Mid(mid(&rt, "m12")),
+    ];
+    let offered = negotiated(alloc, &answers, Made::Offer(4))?;
+    assert_report(&rt, alloc, offered, &[], "step 0 R ops m3,m7,m12 text 4\n")?;
+    let staged = negotiated(alloc, &answers, Made::NotAsked)?;
+    assert_report(&rt, alloc, staged, &[], "step 0 R ops m3,m7,m12 text -\n")?;
+    let none = negotiated(alloc, &[], Made::NotAsked)?;
+    assert_report(&rt, alloc, none, &[], "step 0 R ops - text -\n")?;
+    Ok(())
+}
+
 fn assert_refusal(
     rt: &impl Abort,
     alloc: Global,
