@@ -13,3 +13,10 @@ Says status text written written' faults faults' result =
 abbrev pub IfTold : Option (List ℕ) → (List ℕ → Type 0) → Type 0
 IfTold None P = Unit {0}
 IfTold (Some text) P = P text
+
+-- The sink failed behind a front of a text that was due.
+pub record BreaksOff (IsDue : List ℕ → Type 0) (written written' : Option (List ℕ)) (faults faults' : ℕ) : Type 0 where
+  pub text : List ℕ
+  pub due : IsDue text
+  pub front : AppendsFront written written' text
+  pub rose : Rose faults faults'

@@ -1,3 +1,4 @@
 pub mod SmallScripts
 pub mod Scripts
 pub mod Words
+pub mod DueTexts

@@ -32,11 +32,20 @@ pub record PerformsSteps (alloc : Global) (lacking : Bool) (steps : List Step) (
   pub kept : last ≡ Some pair
   pub memory : lack_memory replies ≡ lacking
 
--- A script was read to the end of what was left, and its steps were performed.
-pub record RunsScript (alloc : Global) (lacking : Bool) (left left' written written' : Option (List ℕ)) (last : Option (PairState ℕ)) : Type 0 where
-  pub steps : List Step
+-- At most so many bytes were read, to the end of what was left, and they are the script of these steps.
+pub record ReadsScript (left left' : Option (List ℕ)) (steps : List Step) : Type 0 where
   pub at_end : IsAtEnd left'
   pub script : IfTold left (λ text. (length text ≤ 2 ^ 20) × IsScript text steps)
+
+-- At most so many bytes were read, to the end of what was left, and they are refused at this line.
+pub record ReadsNoScript (left left' : Option (List ℕ)) (line : ℕ) : Type 0 where
+  pub at_end : IsAtEnd left'
+  pub refused : IfTold left (λ text. (length text ≤ 2 ^ 20) × IsRefused text (Line line))
+
+-- A script was read, and its steps were performed.
+pub record RunsScript (alloc : Global) (lacking : Bool) (left left' written written' : Option (List ℕ)) (last : Option (PairState ℕ)) : Type 0 where
+  pub steps : List Step
+  pub read : ReadsScript left left' steps
   pub performs : PerformsSteps alloc lacking steps written written' last
 
 abbrev pub usage_line : List ℕ
@@ -51,9 +60,8 @@ long_line = codes "script too long\n"
 abbrev pub refused_line : ℕ → List ℕ
 refused_line n = codes "script refused at line " ++ decimal n ++ codes "\n"
 
--- at most so many bytes came, they are no script, and the number of the refused line is told
+-- What was read is no script, and the number of the refused line was told.
 pub record RefusesScript (left left' written written' : Option (List ℕ)) : Type 0 where
   pub line : ℕ
-  pub at_end : IsAtEnd left'
-  pub refused : IfTold left (λ text. (length text ≤ 2 ^ 20) × IsRefused text (Line line))
+  pub read : ReadsNoScript left left' line
   pub told : Appends written written' (refused_line line)

@@ -2,8 +2,10 @@
 ghost use Rattle.std.specs.Prelude.{◌≡◌, ◌≢◌, ◌<◌, ◌≤◌, ◌^◌, ◌⊎◌, true, false, Some, None, map, string_bytes, IfOk, IfSome, OnErr, length};
 ghost use Rattle.std.specs.Io.KnownBytes.{Appends, IsAtEnd};
 ghost use Rattle.rtc_io.specs.Faults.{Rose};
+ghost use Rattle.rtc_io.specs.Saying.{BreaksOff};
 ghost use Rattle.rtc_steps.specs.Sizes.{steps_size};
 ghost use Rattle.rtc_pair.specs.Answers.{run_words, PerformsSteps, RunsScript, RefusesScript, lack_memory, fault_line, long_line, refused_line, usage_line};
+ghost use Rattle.rtc_pair.specs.Due.{IsReport, IsDue};
 
 use crate::answering::{ask_for_run, list_refusal};
 use crate::program::{PlainPair, make_pair};
@@ -34,7 +36,7 @@ fn perform_script<W: Sink>(
 ) -> u8
     requires { steps_size steps.now < 2 ^ 32 }
     ensures done { result ≡ 0 → PerformsSteps alloc false steps.now (W.written output.old) (W.written output.new) last.new }
-    ensures write { result ≡ 5 → Rose (W.faults output.old) (W.faults output.new) }
+    ensures write { result ≡ 5 → BreaksOff (IsReport alloc steps.now) (W.written output.old) (W.written output.new) (W.faults output.old) (W.faults output.new) }
     ensures memory { result ≡ 6 → PerformsSteps alloc true steps.now (W.written output.old) (W.written output.new) last.new ⊎ ((output.new ≡ output.old) × (last.new ≡ last.old)) }
     ensures kept { result ≡ 5 → last.new ≡ last.old }
     ensures statuses { (result ≡ 0) ⊎ (result ≡ 5) ⊎ (result ≡ 6) }
@@ -62,7 +64,7 @@ fn perform_script<W: Sink>(
 // Tells the line at which a script is refused.
 fn refuse_script<W: Sink>(alloc: Global, line: u32, output: &mut W) -> u8
     ensures told { result ≡ 3 → Appends (W.written output.old) (W.written output.new) (refused_line line) }
-    ensures write { result ≡ 5 → Rose (W.faults output.old) (W.faults output.new) }
+    ensures write { result ≡ 5 → BreaksOff (λ text. text ≡ refused_line line) (W.written output.old) (W.written output.new) (W.faults output.old) (W.faults output.new) }
     ensures memory { result ≡ 6 → output.new ≡ output.old }
     ensures statuses { (result ≡ 3) ⊎ (result ≡ 5) ⊎ (result ≡ 6) }
 {
@@ -87,9 +89,10 @@ pub fn pair_main<R: Source, W: Sink>(
     ensures usage { result ≡ 2 → (map (λ word. string_bytes word) words.now ≢ run_words) × Appends (W.written output.old) (W.written output.new) usage_line }
     ensures refused { result ≡ 3 → RefusesScript (R.left input.old) (R.left input.new) (W.written output.old) (W.written output.new) }
     ensures read { result ≡ 4 → Rose (R.faults input.old) (R.faults input.new) × Appends (W.written output.old) (W.written output.new) fault_line }
-    ensures write { result ≡ 5 → Rose (W.faults output.old) (W.faults output.new) }
+    ensures write { result ≡ 5 → BreaksOff (IsDue alloc (map (λ word. string_bytes word) words.now) (R.left input.old) (R.left input.new) (R.faults input.old) (R.faults input.new)) (W.written output.old) (W.written output.new) (W.faults output.old) (W.faults output.new) }
     ensures memory { result ≡ 6 → RunsScript alloc true (R.left input.old) (R.left input.new) (W.written output.old) (W.written output.new) last.new ⊎ ((output.new ≡ output.old) × (last.new ≡ last.old)) }
     ensures long { result ≡ 7 → IfSome (R.left input.old) (λ text. 2 ^ 20 < length text) × Appends (W.written output.old) (W.written output.new) long_line }
+    ensures unread { (map (λ word. string_bytes word) words.now ≢ run_words) → input.new ≡ input.old }
     ensures asked { (map (λ word. string_bytes word) words.now ≢ run_words) → (result ≡ 2) ⊎ (result ≡ 5) }
     ensures kept { result ≢ 0 → result ≢ 6 → last.new ≡ last.old }
     ensures statuses { (result ≢ 1) × (result < 8) }

@@ -1,5 +1,5 @@
 -- What the program does and answers.
-use Rattle.std.specs.Prelude.{◌≡◌, ◌≤◌, ◌^◌, ℕ, List, ◌++◌, length, codes, Option, Ok, Err}
+use Rattle.std.specs.Prelude.{◌≡◌, ◌≤◌, ◌^◌, ℕ, List, ◌++◌, length, codes, Option, Result, Ok, Err}
 use Rattle.std.specs.Fmt.{decimal}
 use Rattle.std.specs.Io.KnownBytes.{Appends, IsAtEnd}
 use Rattle.rtc_io.specs.Saying.{IfTold}
@@ -19,16 +19,19 @@ long_line = codes "text too long\n"
 abbrev pub refused_line : ℕ → List ℕ
 refused_line n = codes "text refused at line " ++ decimal n ++ codes "\n"
 
--- A text was read to the end of what was left, and what it reads as was written.
+-- At most so many bytes were read, to the end of what was left, and this is their reading.
+pub record ReadsAs (left left' : Option (List ℕ)) (reading : Result Sdp ℕ) : Type 0 where
+  pub at_end : IsAtEnd left'
+  pub read : IfTold left (λ bytes. (length bytes ≤ 2 ^ 20) × (bytes_reading bytes ≡ reading))
+
+-- What was left reads as a value, and the text of this was written.
 pub record WritesText (left left' out out' : Option (List ℕ)) : Type 0 where
   pub sdp : Sdp
-  pub at_end : IsAtEnd left'
-  pub read : IfTold left (λ bytes. (length bytes ≤ 2 ^ 20) × (bytes_reading bytes ≡ Ok sdp))
+  pub read : ReadsAs left left' (Ok sdp)
   pub told : Appends out out' (written sdp)
 
 -- What was left is no session text, and the number of the refused line was told.
 pub record RefusesText (left left' out out' : Option (List ℕ)) : Type 0 where
   pub line : ℕ
-  pub at_end : IsAtEnd left'
-  pub refused : IfTold left (λ bytes. (length bytes ≤ 2 ^ 20) × (bytes_reading bytes ≡ Err line))
+  pub read : ReadsAs left left' (Err line)
   pub told : Appends out out' (refused_line line)

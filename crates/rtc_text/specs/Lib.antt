@@ -2,3 +2,4 @@ pub mod Asking
 pub mod Repair
 pub mod Rewrite
 pub mod Answers
+pub mod Due

@@ -2,8 +2,10 @@
 ghost use Rattle.std.specs.Prelude.{◌≡◌, ◌≢◌, ◌<◌, ◌^◌, ◌⊎◌, None, map, string_bytes, IfOk, IfSome, length};
 ghost use Rattle.std.specs.Io.KnownBytes.{Appends};
 ghost use Rattle.rtc_io.specs.Faults.{Rose};
+ghost use Rattle.rtc_io.specs.Saying.{BreaksOff};
 ghost use Rattle.rtc_text.specs.Asking.{asked};
 ghost use Rattle.rtc_text.specs.Answers.{WritesText, RefusesText, fault_line, long_line, refused_line, usage_line};
+ghost use Rattle.rtc_text.specs.Due.{IsDue};
 
 use crate::{TextError, asked_for, rewrite};
 use rtc_io::{INPUT_LIMIT, ReadError, Sink, Source, read_all, say};
@@ -20,7 +22,7 @@ fn refusal(alloc: Global, line: u32) -> Result<String, AllocError>
 // Tells the line at which a text is refused.
 fn refuse_text<W: Sink>(alloc: Global, line: u32, output: &mut W) -> u8
     ensures told { result ≡ 3 → Appends (W.written output.old) (W.written output.new) (refused_line line) }
-    ensures write { result ≡ 5 → Rose (W.faults output.old) (W.faults output.new) }
+    ensures write { result ≡ 5 → BreaksOff (λ text. text ≡ refused_line line) (W.written output.old) (W.written output.new) (W.faults output.old) (W.faults output.new) }
     ensures memory { result ≡ 6 → output.new ≡ output.old }
     ensures statuses { (result ≡ 3) ⊎ (result ≡ 5) ⊎ (result ≡ 6) }
 {
@@ -43,9 +45,10 @@ pub fn text_main<R: Source, W: Sink>(
     ensures usage { result ≡ 2 → (asked (map (λ word. string_bytes word) words.now) ≡ None) × Appends (W.written output.old) (W.written output.new) usage_line }
     ensures refused { result ≡ 3 → RefusesText (R.left input.old) (R.left input.new) (W.written output.old) (W.written output.new) }
     ensures read { result ≡ 4 → Rose (R.faults input.old) (R.faults input.new) × Appends (W.written output.old) (W.written output.new) fault_line }
-    ensures write { result ≡ 5 → Rose (W.faults output.old) (W.faults output.new) }
+    ensures write { result ≡ 5 → BreaksOff (IsDue (map (λ word. string_bytes word) words.now) (R.left input.old) (R.left input.new) (R.faults input.old) (R.faults input.new)) (W.written output.old) (W.written output.new) (W.faults output.old) (W.faults output.new) }
     ensures memory { result ≡ 6 → output.new ≡ output.old }
     ensures long { result ≡ 7 → IfSome (R.left input.old) (λ bytes. 2 ^ 20 < length bytes) × Appends (W.written output.old) (W.written output.new) long_line }
+    ensures unread { asked (map (λ word. string_bytes word) words.now) ≡ None → input.new ≡ input.old }
     ensures asked { asked (map (λ word. string_bytes word) words.now) ≡ None → (result ≡ 2) ⊎ (result ≡ 5) }
     ensures statuses { (result ≢ 1) × (result < 8) }
 {

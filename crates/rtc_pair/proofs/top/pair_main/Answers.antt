@@ -1,8 +1,9 @@
 use Rattle.std.proofs.Common.{◌<◌, ◌≤◌, ◌^◌, length, List, sym, subst, rules}
 use Rattle.rtc_steps.specs.declared.step.Step.{Step}
 use Rattle.rtc_steps.specs.Sizes.{steps_size}
+use Rattle.rtc_pair.proofs.DueTexts.{report_due, refusal_due}
 use Rattle.rtc_pair.proofs.SmallScripts.{script_small}
-use Rattle.rtc_pair.proofs.Scripts.{runs_script, runs_or, refuses_script}
+use Rattle.rtc_pair.proofs.Scripts.{reads_script, reads_no_script, runs_or}
 use Rattle.rtc_pair.proofs.top.pair_main.Goals as goal
 
 pub perform_script-requires : goal.perform_script-requires
@@ -11,10 +12,26 @@ perform_script-requires g c =
     subst (λ (steps : List Step). steps_size steps < 2 ^ 32) (sym c.as_slice-in-Ok-read_script.ensures) (script_small c.as_slice.result.now c.in-Ok-read_script.script.steps c.in-Ok-read_script.ensures.some short)
 
 pub returns-in-Ok-read_script-clause-done : goal.returns-in-Ok-read_script-clause-done
-returns-in-Ok-read_script-clause-done g c = λ ended. runs_script c.args.alloc _ _ _ _ _ _ c.in-Ok.text c.as_slice.result.now c.in-Ok-read_script.script.steps c.as_slice-in-Ok-read_script.result.now c.in-Ok.ensures.bytes c.in-Ok.ensures.end c.in-Ok.ensures.within (search rules) c.in-Ok-read_script.ensures.some c.as_slice-in-Ok-read_script.ensures (c.perform_script.ensures.done ended)
+returns-in-Ok-read_script-clause-done g c =
+    let read = reads_script _ _ c.in-Ok.text c.as_slice.result.now c.in-Ok-read_script.script.steps c.as_slice-in-Ok-read_script.result.now c.in-Ok.ensures.bytes c.in-Ok.ensures.end c.in-Ok.ensures.within (search rules) c.in-Ok-read_script.ensures.some c.as_slice-in-Ok-read_script.ensures in
+    λ ended. record { steps = _; read = read; performs = c.perform_script.ensures.done ended }
+
+pub returns-in-Ok-read_script-clause-write : goal.returns-in-Ok-read_script-clause-write
+returns-in-Ok-read_script-clause-write g c =
+    let read = reads_script _ _ c.in-Ok.text c.as_slice.result.now c.in-Ok-read_script.script.steps c.as_slice-in-Ok-read_script.result.now c.in-Ok.ensures.bytes c.in-Ok.ensures.end c.in-Ok.ensures.within (search rules) c.in-Ok-read_script.ensures.some c.as_slice-in-Ok-read_script.ensures in
+    λ ended. report_due _ _ _ _ _ _ _ _ _ _ _ (search rules) read (c.perform_script.ensures.write ended)
 
 pub returns-in-Ok-read_script-clause-memory : goal.returns-in-Ok-read_script-clause-memory
-returns-in-Ok-read_script-clause-memory g c = λ ended. runs_or c.args.alloc _ _ _ _ _ c.in-Ok.text c.as_slice.result.now c.in-Ok-read_script.script.steps c.as_slice-in-Ok-read_script.result.now _ c.in-Ok.ensures.bytes c.in-Ok.ensures.end c.in-Ok.ensures.within (search rules) c.in-Ok-read_script.ensures.some c.as_slice-in-Ok-read_script.ensures (c.perform_script.ensures.memory ended)
+returns-in-Ok-read_script-clause-memory g c =
+    let read = reads_script _ _ c.in-Ok.text c.as_slice.result.now c.in-Ok-read_script.script.steps c.as_slice-in-Ok-read_script.result.now c.in-Ok.ensures.bytes c.in-Ok.ensures.end c.in-Ok.ensures.within (search rules) c.in-Ok-read_script.ensures.some c.as_slice-in-Ok-read_script.ensures in
+    λ ended. runs_or _ _ _ _ _ _ _ _ read (c.perform_script.ensures.memory ended)
 
 pub returns-in-Err-Line-clause-refused : goal.returns-in-Err-Line-clause-refused
-returns-in-Err-Line-clause-refused g c = λ ended. refuses_script _ _ _ _ c.in-Ok.text c.as_slice.result.now c.in-Err-Line.field-0 c.in-Err-Line.line c.in-Ok.ensures.bytes c.in-Ok.ensures.end c.in-Ok.ensures.within (search rules) c.in-Err-Line.ensures.none c.in-Err-Line.field-0-is (c.refuse_script.ensures.told ended)
+returns-in-Err-Line-clause-refused g c =
+    let read = reads_no_script _ _ c.in-Ok.text c.as_slice.result.now c.in-Err-Line.field-0 c.in-Err-Line.line c.in-Ok.ensures.bytes c.in-Ok.ensures.end c.in-Ok.ensures.within (search rules) c.in-Err-Line.ensures.none c.in-Err-Line.field-0-is in
+    λ ended. record { line = _; read = read; told = c.refuse_script.ensures.told ended }
+
+pub returns-in-Err-Line-clause-write : goal.returns-in-Err-Line-clause-write
+returns-in-Err-Line-clause-write g c =
+    let read = reads_no_script _ _ c.in-Ok.text c.as_slice.result.now c.in-Err-Line.field-0 c.in-Err-Line.line c.in-Ok.ensures.bytes c.in-Ok.ensures.end c.in-Ok.ensures.within (search rules) c.in-Err-Line.ensures.none c.in-Err-Line.field-0-is in
+    λ ended. refusal_due _ _ _ _ _ _ _ _ _ _ _ (search rules) read (c.refuse_script.ensures.write ended)
