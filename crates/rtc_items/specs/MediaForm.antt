@@ -11,7 +11,7 @@ use Rattle.rtc_rows.specs.declared.line_kind.LineKind.{LineKind}
 use Rattle.rtc_rows.specs.declared.line_kind.LineKind.TheVariants.{Audio, Video, Application, Unknown}
 use Rattle.rtc_fields.specs.Once.{each_once}
 use Rattle.rtc_items.specs.declared.item.Item.{Item}
-use Rattle.rtc_items.specs.declared.item.Item.TheVariants.{Bad, Media}
+use Rattle.rtc_items.specs.declared.item.Item.TheVariants.{BadMedia, Media}
 
 -- at least one byte
 abbrev pub is_filled : List ℕ → Bool
@@ -38,13 +38,13 @@ abbrev pub head : LineKind → Bool → List ℕ → Item
 head kind disabled formats = Media (record { kind = kind; disabled = disabled; formats = formats })
 
 abbrev pub with_numbers : LineKind → Bool → Option (List ℕ) → Item
-with_numbers kind disabled None = Bad
+with_numbers kind disabled None = BadMedia
 with_numbers kind disabled (Some numbers) = head kind disabled (each_once eqb numbers)
 
 -- audio and video: each format is a number up to 127, and one that comes again is skipped
 abbrev pub media_of : LineKind → Bool → List ℕ → List (List ℕ) → Item
 media_of kind disabled protocol formats =
-    if bytes_eq protocol (codes "UDP/TLS/RTP/SAVPF") then with_numbers kind disabled (each (number_up_to 127) formats) else Bad
+    if bytes_eq protocol (codes "UDP/TLS/RTP/SAVPF") then with_numbers kind disabled (each (number_up_to 127) formats) else BadMedia
 
 abbrev pub is_channel_protocol : List ℕ → Bool
 is_channel_protocol protocol =
@@ -53,12 +53,12 @@ is_channel_protocol protocol =
 -- the line of the data channels: the formats are any tokens
 abbrev pub application_of : Bool → List ℕ → List (List ℕ) → Item
 application_of disabled protocol formats =
-    if is_channel_protocol protocol && list_all is_token formats then head Application disabled [] else Bad
+    if is_channel_protocol protocol && list_all is_token formats then head Application disabled [] else BadMedia
 
 -- other kinds: neither is looked at
 abbrev pub unknown_of : Bool → List ℕ → List (List ℕ) → Item
 unknown_of disabled protocol formats =
-    if is_filled protocol && list_all is_filled formats then head Unknown disabled [] else Bad
+    if is_filled protocol && list_all is_filled formats then head Unknown disabled [] else BadMedia
 
 abbrev pub of_kind : LineKind → Bool → List ℕ → List (List ℕ) → Item
 of_kind Audio = media_of Audio
@@ -67,13 +67,13 @@ of_kind Application = application_of
 of_kind Unknown = unknown_of
 
 abbrev pub at_port : List ℕ → Option ℕ → List ℕ → List (List ℕ) → Item
-at_port kind None protocol formats = Bad
-at_port kind (Some port) protocol formats = if is_token kind then of_kind (kind_of kind) (port == 0) protocol formats else Bad
+at_port kind None protocol formats = BadMedia
+at_port kind (Some port) protocol formats = if is_token kind then of_kind (kind_of kind) (port == 0) protocol formats else BadMedia
 
 abbrev pub media_words : List (List ℕ) → Item
 media_words (kind ∷ port ∷ protocol ∷ formats) = at_port kind (port_of port) protocol formats
-media_words _ = Bad
+media_words _ = BadMedia
 
--- what an `m=` line says: words parted by single spaces, none of them empty
+-- what an `m=` line says: words parted by single spaces, none of them empty; one without this form is an `m=` line too
 abbrev pub media : List ℕ → Item
 media value = media_words (words value)

@@ -8,6 +8,8 @@ pub enum Item {
     Blank,
     /// Nothing: the line has no form, and is refused wherever it stands.
     Bad,
+    /// An `m=` line that has not its form: it is refused wherever it stands, and begins a line part like any other.
+    BadMedia,
     /// Nothing that counts here.
     Skipped,
     /// `v=0`.

@@ -75,10 +75,10 @@ fn media_of(
     ensures { IfOk result (λ item. item ≡ spec.media_of kind disabled protocol.now (map (λ word. word.now) formats.now)) }
 {
     if protocol != "UDP/TLS/RTP/SAVPF" {
-        return Ok(Item::Bad);
+        return Ok(Item::BadMedia);
     }
     match payload_types(alloc, formats)? {
-        None => Ok(Item::Bad),
+        None => Ok(Item::BadMedia),
         Some(numbers) => {
             let formats = each_once(alloc, numbers.as_slice())?;
             Ok(Item::Media(MediaHead {
@@ -113,7 +113,7 @@ fn application_of(alloc: Global, disabled: bool, protocol: &str, formats: &[&str
             formats: Seq::empty(alloc),
         })
     } else {
-        Item::Bad
+        Item::BadMedia
     }
 }
 
@@ -140,7 +140,7 @@ fn unknown_of(alloc: Global, disabled: bool, protocol: &str, formats: &[&str]) -
             formats: Seq::empty(alloc),
         })
     } else {
-        Item::Bad
+        Item::BadMedia
     }
 }
 
@@ -167,13 +167,13 @@ pub(crate) fn media(alloc: Global, value: &str) -> Result<Item, AllocError>
 {
     let fields = words(alloc, value)?;
     let [kind, port, protocol, formats @ ..] = fields.as_slice() else {
-        return Ok(Item::Bad);
+        return Ok(Item::BadMedia);
     };
     let Some(port) = port_of(port) else {
-        return Ok(Item::Bad);
+        return Ok(Item::BadMedia);
     };
     if !is_token(kind) {
-        return Ok(Item::Bad);
+        return Ok(Item::BadMedia);
     }
     of_kind(alloc, kind_of(kind), port == 0, protocol, formats)
 }

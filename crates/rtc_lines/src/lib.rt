@@ -6,8 +6,8 @@ mod sdp_offer;
 
 pub use rtc_rows::{
     Candidate, CandidateKind, CodecConfig, Direction, Extension, ExtensionMap, Fingerprint,
-    IceCreds, LineKind, LineRow, MediaKind, MediaLine, Mid, Msid, PayloadRow, Pt, Rid, Sdp, Setup,
-    Simulcast, SimulcastLayer, Ssrc,
+    IceCreds, Inconsistent, LineKind, LineRow, MediaKind, MediaLine, Mid, Msid, PayloadRow, Pt,
+    Rid, Sdp, SdpError, Setup, Simulcast, SimulcastLayer, Ssrc,
 };
 pub use sdp_answer::SdpAnswer;
 pub use sdp_offer::SdpOffer;

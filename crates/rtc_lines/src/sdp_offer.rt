@@ -2,6 +2,7 @@
 ghost use Rattle.std.specs.Prelude.{◌≡◌, IfOk, Ok};
 ghost use Rattle.rtc_lines.specs.SdpReads.{ReadsOffer};
 ghost use Rattle.rtc_reading.specs.Reading.{reading};
+ghost use Rattle.rtc_rows.specs.Sdp.{inconsistency, refusal};
 ghost use Rattle.rtc_writing.specs.Plain.{IsPlain};
 ghost use Rattle.rtc_writing.specs.SessionRows.{written};
 
@@ -33,6 +34,13 @@ impl SdpOffer {
     {
         written_text_reads_back();
         write(&self.0)
+    }
+
+    /// Whether the mids and the BUNDLE group of the offer fit together (RFC 8843, section 7.1). It takes time in the square of the lines.
+    pub fn assert_consistency(&self) -> Result<(), SdpError>
+        ensures { result ≡ refusal (inconsistency self.now.0) }
+    {
+        self.0.assert_consistency()
     }
 }
 

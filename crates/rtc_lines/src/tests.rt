@@ -1,11 +1,11 @@
 //! Session texts by hand, and what they are read as.
 mod attributes;
+mod consistency;
 mod frames;
 mod media_attributes;
 mod offers;
 
-use crate::{MediaLine, Sdp, SdpOffer};
-use rtc_rows::SdpError;
+use crate::{MediaLine, Sdp, SdpError, SdpOffer};
 use rtc_wire::Seq;
 use std::alloc::{AllocError, Global};
 use std::test::Fail;

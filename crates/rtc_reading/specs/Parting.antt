@@ -4,12 +4,13 @@ use Rattle.std.specs.List.{count_by}
 use Rattle.rtc_items.specs.declared.attribute.Attribute.{Attribute}
 use Rattle.rtc_items.specs.declared.attribute.Attribute.TheVariants.{MidLine}
 use Rattle.rtc_items.specs.declared.item.Item.{Item}
-use Rattle.rtc_items.specs.declared.item.Item.TheVariants.{Media, Says}
+use Rattle.rtc_items.specs.declared.item.Item.TheVariants.{BadMedia, Media, Says}
 
--- the lines in front of the next `m=` line
+-- the lines in front of the next `m=` line, well formed or not
 abbrev pub inner : List Item → List Item
 inner [] = []
 inner (Media head ∷ rest) = []
+inner (BadMedia ∷ rest) = []
 inner (item ∷ rest) = item ∷ inner rest
 
 abbrev pub names_line : Attribute → Bool

@@ -3,7 +3,7 @@ use Rattle.std.specs.Prelude.{ℕ, ◌+◌, Bool, true, false, not, List, [], �
 use Rattle.rtc_items.specs.declared.attribute.Attribute.{Attribute}
 use Rattle.rtc_items.specs.declared.attribute.Attribute.TheVariants.{MidLine, GroupLine, SetupLine, FingerprintLine, MessageSizeLine}
 use Rattle.rtc_items.specs.declared.item.Item.{Item}
-use Rattle.rtc_items.specs.declared.item.Item.TheVariants.{Blank, Bad, Version, Origin, Media, Says}
+use Rattle.rtc_items.specs.declared.item.Item.TheVariants.{Blank, Bad, BadMedia, Version, Origin, Media, Says}
 use Rattle.rtc_reading.specs.declared.place.Place.{Place}
 use Rattle.rtc_reading.specs.declared.place.Place.TheVariants.{First, Second, Session, Line}
 use Rattle.rtc_reading.specs.Parting.{has_one_mid}
@@ -38,6 +38,7 @@ is_refused_second _ = true
 -- later ones have a form, and a line part has one `mid` line
 abbrev pub is_refused_later : (Attribute → Bool) → Item → List Item → Bool
 is_refused_later is_malformed Bad after = true
+is_refused_later is_malformed BadMedia after = true
 is_refused_later is_malformed (Media head) after = not (has_one_mid after)
 is_refused_later is_malformed (Says attribute) after = is_malformed attribute
 is_refused_later is_malformed _ after = false
@@ -54,6 +55,7 @@ abbrev pub next : Place → Item → Place
 next First Version = Second
 next Second (Origin id) = Session
 next Session (Media head) = Line
+next Session BadMedia = Line
 next place _ = place
 
 -- whether a text may end at a place: its first two lines are there

@@ -4,12 +4,12 @@ ghost use Rattle.rtc_reading.specs.Parting as spec;
 
 use rtc_items::{Attribute, Item};
 
-/// The lines in front of the next `m=` line.
+/// The lines in front of the next `m=` line, well formed or not.
 pub(crate) fn inner(items: &[Item]) -> &[Item]
     ensures { result.now ≡ spec.inner items.now }
 {
     for i in 0..items.len() {
-        if let Item::Media(_) = items[i] {
+        if let Item::Media(_) | Item::BadMedia = items[i] {
             return &items[..i];
         }
     }

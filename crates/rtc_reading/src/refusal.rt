@@ -37,7 +37,7 @@ fn is_refused(place: Place, item: &Item, after: &[Item]) -> bool
         (Place::First, _) => true,
         (Place::Second, Item::Blank | Item::Origin(_)) => false,
         (Place::Second, _) => true,
-        (_, Item::Bad) => true,
+        (_, Item::Bad | Item::BadMedia) => true,
         (_, Item::Media(_)) => !has_one_mid(after),
         (Place::Session, Item::Says(attribute)) => is_malformed_in_session(attribute),
         (Place::Line, Item::Says(attribute)) => is_malformed_in_line(attribute),
@@ -51,7 +51,7 @@ fn next(place: Place, item: &Item) -> Place
     match (place, item) {
         (Place::First, Item::Version) => Place::Second,
         (Place::Second, Item::Origin(_)) => Place::Session,
-        (Place::Session, Item::Media(_)) => Place::Line,
+        (Place::Session, Item::Media(_) | Item::BadMedia) => Place::Line,
         _ => place,
     }
 }

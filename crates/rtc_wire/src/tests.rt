@@ -1,3 +1,4 @@
+mod constants;
 mod copies;
 mod datagrams;
 mod messages;

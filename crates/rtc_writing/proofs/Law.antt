@@ -15,7 +15,7 @@ use Rattle.rtc_rows.specs.declared.setup.Setup.{Setup}
 use Rattle.rtc_items.specs.declared.attribute.Attribute.{Attribute}
 use Rattle.rtc_items.specs.declared.attribute.Attribute.TheVariants.{MidLine, GroupLine, SetupLine, DirectionLine, UfragLine, PasswordLine, LiteLine, FingerprintLine}
 use Rattle.rtc_items.specs.declared.item.Item.{Item}
-use Rattle.rtc_items.specs.declared.item.Item.TheVariants.{Blank, Bad, Skipped, Version, Origin, Media, Says}
+use Rattle.rtc_items.specs.declared.item.Item.TheVariants.{Blank, Bad, BadMedia, Skipped, Version, Origin, Media, Says}
 use Rattle.rtc_items.specs.ItemForm.{item_of, items_of}
 use Rattle.rtc_items.specs.LineTexts.{origin_line, group_line}
 use Rattle.rtc_items.proofs.LineLaws.{IsLineOf, AreMids, origin_line_is, group_line_is}
@@ -51,6 +51,7 @@ inner_over (Skipped ∷ xs) rest h e = ap (λ (l : List Item). Skipped ∷ l) (i
 inner_over (Says a ∷ xs) rest h e = ap (λ (l : List Item). Says a ∷ l) (inner_over xs rest h.1 e)
 inner_over (Blank ∷ xs) rest h e = absurd h.0
 inner_over (Bad ∷ xs) rest h e = absurd h.0
+inner_over (BadMedia ∷ xs) rest h e = absurd h.0
 inner_over (Version ∷ xs) rest h e = absurd h.0
 inner_over (Origin id ∷ xs) rest h e = absurd h.0
 inner_over (Media head ∷ xs) rest h e = absurd h.0
@@ -61,6 +62,7 @@ lines_over (Skipped ∷ xs) rest h = lines_over xs rest h.1
 lines_over (Says a ∷ xs) rest h = lines_over xs rest h.1
 lines_over (Blank ∷ xs) rest h = absurd h.0
 lines_over (Bad ∷ xs) rest h = absurd h.0
+lines_over (BadMedia ∷ xs) rest h = absurd h.0
 lines_over (Version ∷ xs) rest h = absurd h.0
 lines_over (Origin id ∷ xs) rest h = absurd h.0
 lines_over (Media head ∷ xs) rest h = absurd h.0
@@ -71,6 +73,7 @@ session_over (Skipped ∷ xs) rest h k n = session_over xs rest h.1 k (n + 1)
 session_over (Says a ∷ xs) rest h k n = rw h.0.0 (session_over xs rest h.1 k (n + 1))
 session_over (Blank ∷ xs) rest h k n = absurd h.0
 session_over (Bad ∷ xs) rest h k n = absurd h.0
+session_over (BadMedia ∷ xs) rest h k n = absurd h.0
 session_over (Version ∷ xs) rest h k n = absurd h.0
 session_over (Origin id ∷ xs) rest h k n = absurd h.0
 session_over (Media head ∷ xs) rest h k n = absurd h.0
@@ -81,6 +84,7 @@ line_over (Skipped ∷ xs) rest h k n = line_over xs rest h.1 k (n + 1)
 line_over (Says a ∷ xs) rest h k n = rw h.0.1 (line_over xs rest h.1 k (n + 1))
 line_over (Blank ∷ xs) rest h k n = absurd h.0
 line_over (Bad ∷ xs) rest h k n = absurd h.0
+line_over (BadMedia ∷ xs) rest h k n = absurd h.0
 line_over (Version ∷ xs) rest h k n = absurd h.0
 line_over (Origin id ∷ xs) rest h k n = absurd h.0
 line_over (Media head ∷ xs) rest h k n = absurd h.0

@@ -77,6 +77,27 @@ fn a_line_part_has_one_name(rt: HostRuntime) -> Result<(), Fail> {
 }
 
 #[test]
+fn malformed_media_line_begins_a_line_part(rt: HostRuntime) -> Result<(), Fail> {
+    for (rest, line) in [
+        (
+            "m=audio 9 UDP/TLS/RTP/SAVPF 0\r\na=mid:0\r\nm=video 9 RTP/AVP 96\r\na=mid:1\r\n",
+            5,
+        ),
+        (
+            "m=audio 9 UDP/TLS/RTP/SAVPF 0\r\nm=video 9 RTP/AVP 96\r\na=mid:1\r\n",
+            3,
+        ),
+        ("m=audio 9 UDP/TLS/RTP/SAVPF 0\na=mid:0\nm=\na=mid:1\n", 5),
+        ("m=audio 9 UDP/TLS/RTP/SAVPF 0\na=mid:0\na=mid:1\nm=\n", 3),
+        ("m=video 9 RTP/AVP 96\r\na=mid:1\r\na=mid:2\r\n", 3),
+    ] {
+        let text = headed(rt.alloc(), rest)?;
+        assert_eq!(rt; refused_at(rt.alloc(), text.as_str()), line, "{rest}");
+    }
+    Ok(())
+}
+
+#[test]
 fn malformed_attributes_refuse_where_they_count(rt: HostRuntime) -> Result<(), Fail> {
     for (rest, line) in [
         ("a=group:BUNDLE\r\n", 0),

@@ -1,10 +1,10 @@
 //! Whole offers, read and written.
 use super::*;
 use crate::{
-    Candidate, Direction, Fingerprint, IceCreds, LineKind, Mid, Pt, Rid, Setup, Simulcast,
-    SimulcastLayer,
+    Candidate, Direction, Fingerprint, IceCreds, LineKind, Mid, Pt, Rid, SdpAnswer, Setup,
+    Simulcast, SimulcastLayer,
 };
-use rtc_wire::{Addr, Protocol, Text};
+use rtc_wire::{Addr, Protocol, Text, TryCopy};
 use std::test::Fail;
 
 const APPLICATION: &str =
@@ -84,6 +84,24 @@ fn is_read_as(alloc: Global, text: &str, offer: &SdpOffer) -> bool {
         Ok(read) => read == *offer,
         Err(_) => false,
     }
+}
+
+#[test]
+fn the_copy_of_an_offer_has_its_text(rt: HostRuntime) -> Result<(), Fail> {
+    let line = application_line(rt.alloc())?;
+    let offer = offer_of(rt.alloc(), 1, line)?;
+    let text = offer.copy()?.to_sdp_string()?;
+    assert_eq!(rt; text.as_str(), APPLICATION);
+    Ok(())
+}
+
+#[test]
+fn the_copy_of_an_answer_has_its_text(rt: HostRuntime) -> Result<(), Fail> {
+    let line = application_line(rt.alloc())?;
+    let answer = SdpAnswer(offer_of(rt.alloc(), 1, line)?.0);
+    let text = answer.copy()?.to_sdp_string()?;
+    assert_eq!(rt; text.as_str(), APPLICATION);
+    Ok(())
 }
 
 #[test]
