@@ -6,7 +6,7 @@ use Rattle.rtc_rows.specs.LineRow.{row_mid}
 use Rattle.rtc_rows.specs.declared.line_row.LineRow.{LineRow}
 use Rattle.rtc_plan.specs.declared.change.Change.{Change}
 use Rattle.rtc_plan.specs.Table.{has_mid}
-use Rattle.rtc_plan.specs.PendingOffer.{added_mid, adds_mid}
+use Rattle.rtc_plan.specs.PendingOffer.{adds_mid}
 use Rattle.rtc_peer_state.specs.Draws.{Draws}
 
 -- the mid of a number: m and its decimal

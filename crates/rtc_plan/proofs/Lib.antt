@@ -1,4 +1,5 @@
 pub mod TableLemmas
+pub mod RowChangeLemmas
 pub mod TakenTable
 pub mod ConsistentMids
 pub mod VerdictLemmas

@@ -10,6 +10,7 @@ mod new_line;
 mod plan;
 mod planning;
 mod refusal;
+mod row_changes;
 mod said_line;
 mod sdp_pending_offer;
 mod taking;
@@ -19,7 +20,7 @@ mod wrong_lines;
 
 pub use add_media::AddMedia;
 pub use change::Change;
-pub use changes::{Changes, is_added};
+pub use changes::{Changes, count_added, is_added};
 pub use lines::Lines;
 pub use new_line::NewLine;
 pub use plan::Plan;
