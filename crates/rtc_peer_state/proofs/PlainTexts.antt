@@ -18,7 +18,7 @@ use Rattle.rtc_rows.specs.declared.setup.Setup.TheVariants.{ActPass, Passive}
 use Rattle.rtc_writing.specs.Plain.{IsPlain, IsPlainLine, IsMediumLine, IsChannelLine, SuitsKind, StandFirst}
 use Rattle.rtc_writing.specs.SessionRows.{live_mids as named_mids}
 use Rattle.rtc_plan.specs.declared.change.Change.{Change}
-use Rattle.rtc_plan.specs.declared.change.Change.TheVariants.{AddMedia, AddApp}
+use Rattle.rtc_plan.specs.declared.change.Change.TheVariants.{AddMedia, AddApp, Direction as SetDirection}
 use Rattle.rtc_plan.specs.PendingOffer.{added_rows}
 use Rattle.rtc_plan.specs.SaidLines.{said_line, said_lines}
 use Rattle.rtc_plan.specs.Table.{is_app, app_of}
@@ -126,6 +126,7 @@ added_tokens : (place : ℕ) (changes : List Change) → AddTokens changes → H
 added_tokens place [] h = tt
 added_tokens place (AddMedia media ∷ changes) h = (h.0, added_tokens (place + 1) changes h.1)
 added_tokens place (AddApp mid ∷ changes) h = (h.0, added_tokens (place + 1) changes h.1)
+added_tokens place (SetDirection mid dir ∷ changes) h = added_tokens place changes h
 
 -- the mid of each line is a short token
 abbrev pub SayTokens : List SaidLine → Type 0
