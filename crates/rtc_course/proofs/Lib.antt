@@ -1,4 +1,8 @@
+pub mod OpRows
+pub mod AddedRows
+pub mod PlacedRows
 pub mod Staging
+pub mod AnsweredOps
 pub mod TextLists
 pub mod Tells
 pub mod Entries
