@@ -10,6 +10,8 @@ pub mod NegotiateSteps
 pub mod SaidTexts
 pub mod FormedSteps
 pub mod MakesTexts
+pub mod OpRows
+pub mod AddedRows
 pub mod FinishedRows
 pub mod AnswerCounts
 pub mod PastTables
