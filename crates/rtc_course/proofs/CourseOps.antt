@@ -1,7 +1,6 @@
--- Ops as a course sees them: what they leave, stage and add is said by the rows without their mids.
-use Rattle.std.proofs.Common.{◌≡◌, ◌+◌, ℕ, Bool, true, false, ◌||◌, List, [], ◌∷◌, ◌++◌, map, length, Option, Some, None, refl, sym, ◌∙◌, ap, subst, zero, suc}
+-- Ops as a course sees them: what they leave, stage and add is said by the rows without their mids. They leave the names of rows.
+use Rattle.std.proofs.Common.{◌≡◌, ◌+◌, ℕ, Bool, true, false, ◌||◌, List, [], ◌∷◌, map, Option, Some, None, refl, sym, ◌∙◌, ap, subst, zero, suc}
 use Rattle.std.specs.Prelude.{slice_get, is_some, option_map}
-use Rattle.std.proofs.lemmas.Bool.{or_parts}
 use Rattle.rtc_rows.specs.Direction.{same_direction}
 use Rattle.rtc_rows.specs.declared.direction.Direction.{Direction}
 use Rattle.rtc_rows.specs.declared.line_row.LineRow.{LineRow}
@@ -15,6 +14,8 @@ use Rattle.rtc_steps.specs.Memory.{answers_lack}
 use Rattle.rtc_steps.specs.Past.{added, do_stage}
 use Rattle.rtc_steps.specs.Sound.{HasNoLine, OpsAnswered}
 use Rattle.rtc_steps.specs.CourseRows.{unnamed, rows_after_ops, must_offer, rows_added}
+use Rattle.rtc_course.proofs.OpRows.{ops_keep}
+use Rattle.rtc_course.proofs.RowsFollow.{SameName, Aligned}
 
 -- ---- changes of rows without mids
 
@@ -135,3 +136,31 @@ ops_seen rows held (AddMedia kind dir ∷ ops) (OpAlloc ∷ []) after answered e
 ops_seen rows held (SetDirection at dir ∷ ops) (OpAlloc ∷ []) after answered enough = absurd (cc)
 ops_seen rows held (StopMedia at ∷ ops) (OpAlloc ∷ []) after answered enough = absurd (cc)
 ops_seen rows held ops answers after answered enough = absurd answered
+
+-- ---- names
+
+turned_name : (dir : Direction) (first row : LineRow) → SameName first row → SameName first (row_after_change (turned dir) row)
+turned_name dir (Media place mid kind own stopped remote_created) (Media p m k d true r) same = same
+turned_name dir (Media place mid kind own stopped remote_created) (Media p m k d false r) same = by (same_direction d dir) refl
+  where
+    by : (alike : Bool) → same_direction d dir ≡ alike → SameName (Media place mid kind own stopped remote_created) (row_after_change (turned dir) (Media p m k d false r))
+    by true is = rw is same
+    by false is = rw is same
+turned_name dir first row same = absurd same
+
+halted_name : (first row : LineRow) → SameName first row → SameName first (row_after_change halted row)
+halted_name (Media place mid kind own stopped remote_created) (Media p m k d true r) same = same
+halted_name (Media place mid kind own stopped remote_created) (Media p m k d false r) same = same
+halted_name first row same = absurd same
+
+names_kept : (change : RowChange) → ((first row : LineRow) → SameName first row → SameName first (row_after_change change row)) → (first : List LineRow) (place : ℕ) (rows : List LineRow) → Aligned first rows
+    → Aligned first (changed_at change place rows)
+names_kept change keeps [] place [] same = tt
+names_kept change keeps (row ∷ first) zero (other ∷ rows) same = (keeps row other same.0, same.1)
+names_kept change keeps (row ∷ first) (suc place) (other ∷ rows) same = (same.0, names_kept change keeps first place rows same.1)
+names_kept change keeps first place rows same = absurd same
+
+-- ops leave the names of media rows
+pub ops_aligned : (rows : List LineRow) (held : List (List ℕ)) (ops : List Op) (answers : List OpAnswer) (after : List LineRow) → OpsAnswered rows held ops answers after → Aligned rows rows → Aligned rows after
+ops_aligned rows held ops answers after answered media =
+    ops_keep (Aligned rows) (λ dir. names_kept (turned dir) (turned_name dir) rows) (names_kept halted halted_name rows) rows held ops answers after answered media

@@ -1,22 +1,22 @@
 -- What a course of orderly steps says of a past, and that it says so of the past after one more step.
-use Rattle.std.proofs.Common.{◌≡◌, ◌<◌, ◌≤◌, ◌==◌, ◌+◌, ℕ, Bool, true, false, not, ◌&&◌, List, [], ◌∷◌, ◌++◌, map, length, Option, Some, None, refl, sym, ◌∙◌, ap, subst, arith, length-append}
-use Rattle.std.specs.Prelude.{slice_get}
+use Rattle.std.proofs.Common.{◌≡◌, ℕ, true, false, List, ◌∷◌, ◌++◌, map, length, Option, Some, None, refl, sym, ◌∙◌, ap, subst, arith, length-append}
 use Rattle.std.proofs.lemmas.List.{length-map}
 use Rattle.rtc_rows.specs.LineRow.{row_mid}
 use Rattle.rtc_rows.specs.declared.line_row.LineRow.{LineRow}
 use Rattle.rtc_rows.specs.declared.sdp.Sdp.{Sdp}
 use Rattle.rtc_plan.specs.SaidLines.{said_lines}
-use Rattle.rtc_plan.specs.Table.{IsTable, has_mid}
 use Rattle.rtc_plan.specs.Taken.{taken, rows_after}
 use Rattle.rtc_plan.specs.Plans.{verdict}
 use Rattle.rtc_steps.specs.declared.side.Side.{Side}
 use Rattle.rtc_steps.specs.declared.side.Side.TheVariants.{Left, Right}
+use Rattle.rtc_steps.specs.declared.step.Step.{Step}
 use Rattle.rtc_steps.specs.declared.step.Step.TheVariants.{AcceptOffer, AcceptAnswer}
+use Rattle.rtc_steps.specs.declared.outcome.Outcome.{Outcome}
 use Rattle.rtc_steps.specs.declared.outcome.Outcome.TheVariants.{Answered, Finished}
 use Rattle.rtc_steps.specs.declared.table.Table.{Table}
-use Rattle.rtc_steps.specs.Sides.{same_side, other_side}
+use Rattle.rtc_steps.specs.Sides.{same_side, other_side, side_of}
 use Rattle.rtc_steps.specs.Past.{Entry, Said, before, rows_or, texts, said_for, handed, holds_token, is_right, added_by}
-use Rattle.rtc_steps.specs.Sound.{IsSound, asked_in, view_in}
+use Rattle.rtc_steps.specs.Sound.{IsSound, asked_in}
 use Rattle.rtc_steps.specs.SaidRows.{row_said, MakesText}
 use Rattle.rtc_steps.specs.CourseRows.{unnamed, rows_taken}
 use Rattle.rtc_steps.specs.Orderly.{Phase, Idle, AwaitsAnswer, AwaitsEnd, Course, course_rows, moved_on}
@@ -31,7 +31,7 @@ use Rattle.rtc_course.proofs.FinishedRounds.{taken_whole, handed_answer, handed_
 use Rattle.rtc_course.proofs.RowsFollow.{Aligned, Follows, aligned_sym, aligned_trans, aligned_twice, has_mid-aligned, length-aligned, added_follow, follows_append, follows_media, after_aligned, answer_follows}
 use Rattle.rtc_course.proofs.LiveRows.{KeepsLive, StartsLive, starts_are_live, starts_keep, text_live}
 use Rattle.rtc_course.proofs.CourseTexts.{text_taken}
-use Rattle.rtc_course.proofs.RoundRows.{OfferSaid, AnswerSaid, HasOffered, HasAnswered, IsOffered, IsAnswered, offer_passes, answer_passes}
+use Rattle.rtc_course.proofs.RoundRows.{OfferSaid, AnswerSaid, HasOffered, IsOffered, IsAnswered, offer_passes, answer_passes}
 
 -- The rows of a side in a course: these without their mids, media rows alone, the first of them live.
 pub record IsSideOf (seen rows : List LineRow) : Type 0 where
@@ -70,6 +70,25 @@ sides_next Left course rows count phase table past mine sides Left = mine
 sides_next Left course rows count phase table past mine sides Right = sides Right
 sides_next Right course rows count phase table past mine sides Left = sides Left
 sides_next Right course rows count phase table past mine sides Right = mine
+
+-- A past is in the course where a side has moved on.
+pub moved_in : (at : Side) (course : Course) (rows : List LineRow) (count : ℕ) (phase : Phase) (step : Step) (outcome : Outcome) (table : Table) (made : List Said) (past : List Entry) → side_of step ≡ at
+    → IsSideOf rows table.lines → InCourse course past → length (texts past ++ made) ≡ count → InPhase phase (entry step outcome (Some table) made ∷ past)
+    → InCourse (moved_on at course rows count phase) (entry step outcome (Some table) made ∷ past)
+moved_in at course rows count phase step outcome table made past here mine is counted in_phase = record {
+  count = by_count at;
+  sides = λ side. subst (λ (one : Side). IsSideOf (course_rows side (moved_on at course rows count phase)) (rows_or (same_side one side) (Some table) (before side past))) (sym here)
+      (sides_next at course rows count phase table past mine is.sides side);
+  phase = by_phase at;
+}
+  where
+    by_count : (at : Side) → length (texts past ++ made) ≡ (moved_on at course rows count phase).texts
+    by_count Left = counted
+    by_count Right = counted
+
+    by_phase : (at : Side) → InPhase (moved_on at course rows count phase).phase (entry step outcome (Some table) made ∷ past)
+    by_phase Left = in_phase
+    by_phase Right = in_phase
 
 some_same : (one other : Sdp) → Some one ≡ Some other → one ≡ other
 some_same one other same = cc

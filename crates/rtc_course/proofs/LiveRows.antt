@@ -1,14 +1,12 @@
 -- The first row of each side stays live where no op stops it, so that each text of a round has a live line.
-use Rattle.std.proofs.Common.{◌≡◌, ℕ, Bool, true, false, not, ◌||◌, List, [], ◌∷◌, ◌++◌, map, length, Option, Some, None, refl, sym, ◌∙◌, ap, subst, arith, zero, suc}
-use Rattle.std.specs.Prelude.{slice_get, is_some}
-use Rattle.std.proofs.lemmas.Bool.{or_parts}
+use Rattle.std.proofs.Common.{◌≡◌, ℕ, Bool, true, false, List, [], ◌∷◌, ◌++◌, map, Some, refl, sym, ◌∙◌, ap, subst, arith, zero, suc}
 use Rattle.rtc_rows.specs.Direction.{same_direction}
 use Rattle.rtc_rows.specs.LineRow.{row_mid}
 use Rattle.rtc_rows.specs.declared.direction.Direction.{Direction}
 use Rattle.rtc_rows.specs.declared.line_row.LineRow.{LineRow}
 use Rattle.rtc_rows.specs.declared.line_row.LineRow.TheVariants.{Media, App}
 use Rattle.rtc_rows.specs.declared.media_kind.MediaKind.TheVariants.{Audio, Video}
-use Rattle.rtc_plan.specs.RowChanges.{RowChange, turned, halted, row_after_change, changed_at}
+use Rattle.rtc_plan.specs.RowChanges.{turned, halted, row_after_change, changed_at}
 use Rattle.rtc_plan.specs.Table.{IsTable, row_of}
 use Rattle.rtc_plan.specs.Taken.{rows_after, row_after}
 use Rattle.rtc_plan.proofs.TableLemmas.{row_of_its_mid}
@@ -17,12 +15,11 @@ use Rattle.rtc_steps.specs.declared.op.Op.{Op}
 use Rattle.rtc_steps.specs.declared.op.Op.TheVariants.{AddMedia, SetDirection, StopMedia}
 use Rattle.rtc_steps.specs.declared.op_answer.OpAnswer.{OpAnswer}
 use Rattle.rtc_steps.specs.declared.op_answer.OpAnswer.TheVariants.{Mid, Changed, NoLine, Alloc as OpAlloc}
-use Rattle.rtc_steps.specs.CourseRows.{stops_first, do_stop_first}
+use Rattle.rtc_steps.specs.CourseRows.{do_stop_first}
 use Rattle.rtc_steps.specs.Past.{added, do_stage}
 use Rattle.rtc_steps.specs.SaidRows.{row_said, are_live}
 use Rattle.rtc_steps.specs.Sound.{OpsAnswered}
 use Rattle.rtc_course.proofs.OpRows.{ops_length}
-use Rattle.rtc_course.proofs.FinishedRounds.{none_of_mid}
 use Rattle.rtc_course.proofs.RowsFollow.{SameName, Follows}
 
 -- the first row, if there is one, is live
