@@ -1,12 +1,10 @@
 -- Each call of a peer keeps it formed.
-use Rattle.std.proofs.Common.{◌≡◌, ◌+◌, ◌%◌, ◌<◌, ◌^◌, ℕ, Bool, true, false, List, [], ◌∷◌, ◌++◌, length, Option, Some, None, Result, Ok, Err, refl, sym, ap, ◌∙◌, subst, arith}
+use Rattle.std.proofs.Common.{◌≡◌, ◌+◌, ◌%◌, ◌^◌, ℕ, Bool, true, false, List, [], ◌∷◌, ◌++◌, length, Option, Some, None, Result, Ok, Err, sym, ap, subst, arith}
 use Rattle.std.specs.declared.alloc.AllocError.{AllocError}
 use Rattle.rtc_fields.specs.Tokens.{is_short_token}
-use Rattle.rtc_rows.specs.declared.sdp.Sdp.{Sdp}
 use Rattle.rtc_lines.specs.declared.sdp_offer.SdpOffer.{SdpOffer}
 use Rattle.rtc_lines.specs.declared.sdp_answer.SdpAnswer.{SdpAnswer}
 use Rattle.rtc_writing.specs.Plain.{IsPlain}
-use Rattle.rtc_rows.specs.LineRow.{row_mid}
 use Rattle.rtc_rows.specs.declared.direction.Direction.{Direction}
 use Rattle.rtc_rows.specs.declared.line_row.LineRow.{LineRow}
 use Rattle.rtc_plan.specs.declared.change.Change.{Change}

@@ -1,6 +1,6 @@
 -- The texts of formed peers are plain.
-use Rattle.std.proofs.Common.{◌≡◌, ◌+◌, ◌<◌, ◌^◌, ℕ, Bool, true, false, not, cond, List, [], ◌∷◌, ◌++◌, map, length, drop, Option, Some, None, refl, sym, ap, ◌∙◌, arith}
-use Rattle.std.specs.Prelude.{filter, IfSome}
+use Rattle.std.proofs.Common.{◌≡◌, ◌+◌, ◌<◌, ◌^◌, ℕ, Bool, true, false, List, [], ◌∷◌, ◌++◌, map, length, drop, Option, Some, None, refl, ap, arith}
+use Rattle.std.specs.Prelude.{IfSome}
 use Rattle.std.specs.List.{AllByRecursion}
 use Rattle.rtc_fields.specs.Tokens.{is_short_token}
 use Rattle.rtc_rows.specs.LineRow.{row_mid}
@@ -9,13 +9,11 @@ use Rattle.rtc_rows.specs.declared.line_kind.LineKind.{LineKind}
 use Rattle.rtc_rows.specs.declared.line_kind.LineKind.TheVariants.{Audio as AudioLine, Video as VideoLine, Application}
 use Rattle.rtc_rows.specs.declared.line_row.LineRow.{LineRow}
 use Rattle.rtc_rows.specs.declared.line_row.LineRow.TheVariants.{Media, App}
-use Rattle.rtc_rows.specs.declared.media_kind.MediaKind.{MediaKind}
 use Rattle.rtc_rows.specs.declared.media_kind.MediaKind.TheVariants.{Audio, Video}
-use Rattle.rtc_rows.specs.declared.media_line.MediaLine.{MediaLine}
 use Rattle.rtc_rows.specs.declared.sdp.Sdp.{Sdp}
 use Rattle.rtc_rows.specs.declared.setup.Setup.{Setup}
 use Rattle.rtc_rows.specs.declared.setup.Setup.TheVariants.{ActPass, Passive}
-use Rattle.rtc_writing.specs.Plain.{IsPlain, IsPlainLine, IsMediumLine, IsChannelLine, SuitsKind, StandFirst}
+use Rattle.rtc_writing.specs.Plain.{IsPlain, IsPlainLine, IsMediumLine, SuitsKind, StandFirst}
 use Rattle.rtc_writing.specs.SessionRows.{live_mids as named_mids}
 use Rattle.rtc_plan.specs.declared.change.Change.{Change}
 use Rattle.rtc_plan.specs.declared.change.Change.TheVariants.{AddMedia, AddApp, Direction as SetDirection}
@@ -27,7 +25,7 @@ use Rattle.rtc_plan.specs.declared.said_line.SaidLine.{SaidLine}
 use Rattle.rtc_peer_state.specs.declared.identity.Identity.{Identity}
 use Rattle.rtc_peer_state.specs.declared.peer.Peer.{Peer}
 use Rattle.rtc_peer_state.specs.Formed.{IsPlainIdentity, HaveTokens, AddTokens, IsFormed}
-use Rattle.rtc_peer_state.specs.Texts.{is_stopped, line_kind, row_line, bare_line, live_mids, text_of, offer_text, answer_text}
+use Rattle.rtc_peer_state.specs.Texts.{is_stopped, row_line, bare_line, live_mids, text_of, offer_text, answer_text}
 use Rattle.rtc_peer_state.proofs.Alls.{all-append, all-drop, all-map, all-find}
 
 -- ---- the line of a row

@@ -1,5 +1,5 @@
 -- Peers whose texts have the form that is read back.
-use Rattle.std.specs.Prelude.{◌≡◌, ◌<◌, ◌^◌, ℕ, true, List}
+use Rattle.std.specs.Prelude.{◌≡◌, ◌<◌, ◌^◌, true, List}
 use Rattle.std.specs.List.{AllByRecursion}
 use Rattle.rtc_fields.specs.Tokens.{is_short_token}
 use Rattle.rtc_rows.specs.LineRow.{row_mid}
