@@ -55,7 +55,7 @@ added_rising held place (Media at mid kind dir stopped remote_created ∷ rows) 
 added_rising held place (App at mid ∷ rows) new = absurd new
 
 -- a mid that is held is not added
-added_apart : (held : List (List ℕ)) (place : ℕ) (rows : List LineRow) (mid : List ℕ) → AreAdded held place rows → is_among held mid ≡ true → has_mid mid rows ≡ false
+pub added_apart : (held : List (List ℕ)) (place : ℕ) (rows : List LineRow) (mid : List ℕ) → AreAdded held place rows → is_among held mid ≡ true → has_mid mid rows ≡ false
 added_apart held place [] mid new among = refl
 added_apart held place (Media at own kind dir stopped remote_created ∷ rows) mid new among =
     let other : bytes_eq own mid ≡ false = false_from_ne_true (bytes_eq own mid) (λ same. both_ways (is_among held own) new.0.free (subst (λ (m : List ℕ). is_among held m ≡ true) (sym ((bytes_eq-Decides own mid).0 same)) among)) in

@@ -1,4 +1,8 @@
+pub mod OpRows
+pub mod AddedRows
+pub mod PlacedRows
 pub mod Staging
+pub mod AnsweredOps
 pub mod TextLists
 pub mod Tells
 pub mod Entries
@@ -10,8 +14,6 @@ pub mod NegotiateSteps
 pub mod SaidTexts
 pub mod FormedSteps
 pub mod MakesTexts
-pub mod OpRows
-pub mod AddedRows
 pub mod FinishedRows
 pub mod AnswerCounts
 pub mod PastTables

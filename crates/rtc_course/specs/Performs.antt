@@ -1,5 +1,5 @@
 -- What each step does to a pair: the calls that it makes, by the relations of these calls.
-use Rattle.std.specs.Prelude.{◌≡◌, ◌+◌, ℕ, List, [], ◌∷◌, ◌++◌, map, drop, Bool, true, false, not, ◌&&◌, Option, Some, None, Result, Ok, Err, length, alloc_error, slice_get}
+use Rattle.std.specs.Prelude.{◌≡◌, ◌+◌, ℕ, List, [], ◌∷◌, ◌++◌, map, drop, Bool, true, false, not, ◌&&◌, Option, Some, None, Ok, Err, length, alloc_error, slice_get}
 use Rattle.rtc_rows.specs.declared.direction.Direction.{Direction}
 use Rattle.rtc_rows.specs.declared.media_kind.MediaKind.{MediaKind}
 use Rattle.rtc_rows.specs.declared.sdp.Sdp.{Sdp}

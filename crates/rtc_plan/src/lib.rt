@@ -26,6 +26,7 @@ pub use new_line::NewLine;
 pub use plan::Plan;
 pub use planning::{plan_answer_text, plan_offer_text};
 pub use refusal::Refusal;
+pub use row_changes::{halt, turn};
 pub use said_line::SaidLine;
 pub use sdp_pending_offer::SdpPendingOffer;
 pub use view::View;
