@@ -6,6 +6,7 @@ mod plans;
 pub use plans::{plan_answer, plan_offer};
 pub use rtc_plan::{
     AddMedia, Change, Changes, Lines, NewLine, Plan, Refusal, SdpPendingOffer, View, Why,
+    count_added,
 };
 
 #[cfg(test)]

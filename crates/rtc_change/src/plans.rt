@@ -1,5 +1,6 @@
 //! Plans of offers and answers.
 ghost use Rattle.std.specs.Prelude.{◌≡◌, ◌+◌, ◌<◌, ◌^◌, ◌-◌, length, IfOk, Some, None};
+ghost use Rattle.rtc_plan.specs.PendingOffer.{added_mids};
 ghost use Rattle.rtc_plan.specs.Plans.{PlansText, asked_by};
 ghost use Rattle.rtc_plan.specs.Table.{IsTable};
 
@@ -24,7 +25,7 @@ pub fn plan_answer(
     token: &SdpPendingOffer,
     answer: &SdpAnswer,
 ) -> Result<Plan, Refusal>
-    requires rows { length view.now.lines + length token.now.changes < 2 ^ 32 - 1 }
+    requires rows { length view.now.lines + length (added_mids token.now.changes) < 2 ^ 32 - 1 }
     requires lines { length answer.now.0.lines < 2 ^ 32 - 1 }
     ensures plans { PlansText view.now (Some (asked_by view.now.lines token.now)) answer.now.0 result }
     ensures table { IfOk result (λ plan. IsTable plan.rows) }

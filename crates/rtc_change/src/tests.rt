@@ -1,6 +1,7 @@
 //! An offer and an answer with a line of data channels: each call gives its plan where there is enough memory.
 use crate::{
-    Change, Changes, Lines, Plan, Refusal, SdpPendingOffer, View, plan_answer, plan_offer,
+    Change, Changes, Lines, Plan, Refusal, SdpPendingOffer, View, count_added, plan_answer,
+    plan_offer,
 };
 use rtc_lines::{Direction, LineKind, LineRow, MediaLine, Mid, Sdp, SdpAnswer, SdpOffer};
 use rtc_wire::Seq;
@@ -60,7 +61,7 @@ fn planned_answer(alloc: Global, lines: &Lines) -> Result<Plan, Refusal> {
     staged.push(Change::AddApp(Mid::of("d")))?;
     let token = SdpPendingOffer::new(0, Changes(staged));
     let answer = SdpAnswer(text(alloc)?);
-    let changes = token.changes().0.len();
+    let changes = count_added(token.changes().0.as_slice());
     if lines.rows().len() > 100 || answer.0.lines.len() > 100 || changes > 100 {
         return Err(Refusal::Alloc);
     }

@@ -99,7 +99,7 @@ untouched_tells : {N : Type 0} (past : List Entry) (at : Side) (t a : ℕ) (outc
     → was_handed outcome ≡ false → ((u : ℕ) → makes u outcome ≡ false) → peer_at at new ≡ peer_at at old → new.texts ≡ old.texts → rows_or true table (before at past) ≡ (peer_at at old).lines
     → Around (AcceptAnswer at t a) made old new → Tells past old → Tells (entry (AcceptAnswer at t a) outcome table made ∷ past) new
 untouched_tells past at t a outcome table made old new unhanded unmade peer kept rows around tells =
-    quiet_tells false past (AcceptAnswer at t a) outcome table made old new (ap (λ p. p.lines) peer) kept (ap (λ p. p.lines) peer ∙ sym rows) (ap (λ p. p.counter) peer)
+    quiet_tells false past (AcceptAnswer at t a) outcome table made old new (ap (λ p. length p.lines) peer) kept (ap (λ p. p.lines) peer ∙ sym rows) (ap (λ p. p.counter) peer)
     refl refl (λ u. and_right (t == u) (was_handed outcome) unhanded) unmade around tells
 
 -- the text of a token that is held
@@ -134,7 +134,7 @@ refused_tells : {N : Type 0} (past : List Entry) (at : Side) (t a : ℕ) (token 
 refused_tells past at t a token error table made old new is kept lines counter rows around tells =
     let few : length (peer_at at old).lines ≤ old.size = (tells.sides at).few in
     let same : length (peer_at at new).lines ≡ length (peer_at at old).lines = ap length lines in
-    spends_tells past at t a token (Refused error) table made old new is refl (λ u. refl) kept counter rows (omega arith) (inl lines) around tells
+    spends_tells past at t a token (Refused error) table made old new is refl (λ u. refl) kept counter rows (omega arith) (inl same) around tells
 
 -- A step that hands over an answer.
 pub answer_tells : {N : Type 0} (draws : Draws N) (past : List Entry) (at : Side) (t a : ℕ) (token : Option PendingOffer) (text : Option Sdp) (old new : PairState N) (outcome : Outcome) (table : Option Table) (made : List Said)

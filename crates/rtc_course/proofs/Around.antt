@@ -1,4 +1,4 @@
--- What surrounds what the acting peer of a step does, and steps that leave rows and texts as they were.
+-- What surrounds what the acting peer of a step does, and steps that add no row and no text.
 use Rattle.std.proofs.Common.{◌≡◌, ◌≤◌, ◌<◌, ◌+◌, ◌^◌, ℕ, List, ◌∷◌, length, Bool, true, false, not, ◌&&◌, cond, Option, Some, None, refl, sym, ◌∙◌, ap, arith}
 use Rattle.std.specs.Prelude.{slice_get, option_map}
 use Rattle.std.proofs.lemmas.List.{length-map}
@@ -54,9 +54,9 @@ goes_on moved past step outcome table made old new rows counter mine theirs few 
   made = around.made_is;
 }
 
--- A step that leaves rows and texts as they were.
+-- A step that leaves as many rows, and texts as they were.
 pub quiet_tells : {N : Type 0} (moved : Bool) (past : List Entry) (step : Step) (outcome : Outcome) (table : Option Table) (made : List Said) (old new : PairState N)
-    → (peer_at (side_of step) new).lines ≡ (peer_at (side_of step) old).lines → new.texts ≡ old.texts
+    → length (peer_at (side_of step) new).lines ≡ length (peer_at (side_of step) old).lines → new.texts ≡ old.texts
     → (peer_at (side_of step) new).lines ≡ rows_or true table (before (side_of step) past)
     → (peer_at (side_of step) new).counter ≡ cond moved ((peer_at (side_of step) old).counter + 1) (peer_at (side_of step) old).counter
     → moves (side_of step) step outcome ≡ moved → moves (other_side (side_of step)) step outcome ≡ false
@@ -64,7 +64,6 @@ pub quiet_tells : {N : Type 0} (moved : Bool) (past : List Entry) (step : Step) 
     → Around step made old new → Tells past old → Tells (entry step outcome table made ∷ past) new
 quiet_tells moved past step outcome table made old new lines kept rows counter mine theirs unspent unmade around tells =
     let few : length (peer_at (side_of step) old).lines ≤ old.size = (tells.sides (side_of step)).few in
-    let same : length (peer_at (side_of step) new).lines ≡ length (peer_at (side_of step) old).lines = ap length lines in
     let grows : old.size + 1 ≤ new.size = size_grows step made old new around in
     unmade_tells moved past (entry step outcome table made) old new (goes_on moved past step outcome table made old new rows counter mine theirs (omega arith) around) lines kept unspent unmade tells
 

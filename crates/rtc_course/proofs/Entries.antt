@@ -77,12 +77,12 @@ same_offer past e old new side t says says' same = ap (is_offer_of side) (said_a
 -- ---- an entry that makes no text
 
 fits_unmade : {N : Type 0} (moved : Bool) (past : List Entry) (at : Side) (old new : Peer N) (kept kept' : List Kept) (size size' : ℕ)
-    → new.counter ≡ cond moved (old.counter + 1) old.counter → new.lines ≡ old.lines → size < 2 ^ 32 → size ≤ size' → HeldBefore at kept kept' → SideTells past at old kept size → Fits at new kept' size'
+    → new.counter ≡ cond moved (old.counter + 1) old.counter → length new.lines ≡ length old.lines → size < 2 ^ 32 → size ≤ size' → HeldBefore at kept kept' → SideTells past at old kept size → Fits at new kept' size'
 fits_unmade true past at old new kept kept' size size' counter lines small grows was told = fits_moved past at old new kept kept' size size' counter small was told
 fits_unmade false past at old new kept kept' size size' counter lines small grows was told = fits_same past at old new kept kept' size size' counter lines grows was told
 
 pub unmade_tells : {N : Type 0} (moved : Bool) (past : List Entry) (e : Entry) (old new : PairState N) → Goes moved past e old new
-    → (peer_at (side_of e.step) new).lines ≡ (peer_at (side_of e.step) old).lines → new.texts ≡ old.texts
+    → length (peer_at (side_of e.step) new).lines ≡ length (peer_at (side_of e.step) old).lines → new.texts ≡ old.texts
     → ((t : ℕ) → spends t e.step e.outcome ≡ false) → ((t : ℕ) → makes t e.outcome ≡ false) → Tells past old → Tells (e ∷ past) new
 unmade_tells moved past e old new goes lines kept unspent unmade tells =
     let at = side_of e.step in

@@ -2,7 +2,7 @@
 use Rattle.std.proofs.Common.{◌≡◌, ◌≤◌, ◌+◌, ℕ, Bool, true, false, not, List, [], ◌∷◌, ◌++◌, map, length, Option, Some, None, refl, sym, ◌∙◌, ap, subst, arith, max, inl, inr, append-nil, length-append}
 use Rattle.std.specs.Prelude.{slice_get}
 use Rattle.std.specs.Str.{bytes_eq}
-use Rattle.std.proofs.lemmas.Bool.{or_parts, and_parts, both_ways}
+use Rattle.std.proofs.lemmas.Bool.{or_parts, and_parts, both_ways, not-true}
 use Rattle.std.proofs.lemmas.List.{length-map, drop_all}
 use Rattle.rtc_rows.specs.LineRow.{row_mid}
 use Rattle.rtc_rows.specs.declared.line_row.LineRow.{LineRow}
@@ -20,23 +20,19 @@ use Rattle.rtc_plan.proofs.TakenTable.{length_taken, length_rows_after}
 use Rattle.rtc_plan.proofs.VerdictLemmas.{unrefused}
 use Rattle.rtc_steps.specs.declared.side.Side.{Side}
 use Rattle.rtc_steps.specs.declared.side.Side.TheVariants.{Left, Right}
-use Rattle.rtc_steps.specs.declared.op.Op.{Op}
-use Rattle.rtc_steps.specs.declared.op.Op.TheVariants.{AddMedia}
-use Rattle.rtc_steps.specs.declared.op_answer.OpAnswer.{OpAnswer}
-use Rattle.rtc_steps.specs.declared.op_answer.OpAnswer.TheVariants.{Mid, Alloc as OpAlloc}
 use Rattle.rtc_steps.specs.declared.step.Step.{Step}
 use Rattle.rtc_steps.specs.declared.step.Step.TheVariants.{AcceptAnswer}
 use Rattle.rtc_steps.specs.declared.outcome.Outcome.{Outcome}
 use Rattle.rtc_steps.specs.declared.outcome.Outcome.TheVariants.{Finished}
 use Rattle.rtc_steps.specs.declared.table.Table.{Table}
 use Rattle.rtc_steps.specs.Sides.{other_side}
-use Rattle.rtc_steps.specs.Past.{Entry, before, texts, said_for, handed, is_offer_of, holds_token, is_spent, is_right, added}
-use Rattle.rtc_steps.specs.Sound.{OpsAnswered, TakesAnswer, IsSound, asked_in}
+use Rattle.rtc_steps.specs.Past.{Entry, before, texts, said_for, handed, is_offer_of, holds_token, is_spent, is_right}
+use Rattle.rtc_steps.specs.Sound.{TakesAnswer, IsSound, asked_in}
 use Rattle.rtc_steps.specs.SaidRows.{row_said}
 use Rattle.rtc_steps.specs.Finished.{FinishedRound}
-use Rattle.rtc_steps.specs.Rounds.{is_own, offered_rows, EndsRound, FinishesRound}
+use Rattle.rtc_steps.specs.Rounds.{is_own, has_set, offered_rows, EndsRound, FinishesRound}
 use Rattle.rtc_course.specs.Runs.{Sound}
-use Rattle.rtc_course.proofs.Staging.{among_rows}
+use Rattle.rtc_course.proofs.AddedRows.{AreAdded, added_rising, among_mids, rising_append}
 use Rattle.rtc_course.proofs.FinishedRows.{IsKnown, AllKnown, known_each, rows_finished}
 use Rattle.rtc_course.proofs.AnswerCounts.{answer_count}
 use Rattle.rtc_course.proofs.PastTables.{past_table}
@@ -60,26 +56,14 @@ known_append offerer [] more known other = other
 known_append offerer (row ∷ rows) more known other = (known.0, known_append offerer rows more known.1 other)
 
 -- added rows are new
-added_known : (offerer : List LineRow) (held : List (List ℕ)) (ops : List Op) (answers : List OpAnswer) (place : ℕ) → OpsAnswered held ops answers
-    → ((mid : List ℕ) → is_among held mid ≡ false → has_mid mid offerer ≡ false) → AllKnown offerer (added place ops answers)
-added_known offerer held [] [] place answered apart = tt
-added_known offerer held (AddMedia kind dir ∷ ops) (Mid mid ∷ answers) place answered apart = (
-  inr (none_of_mid offerer mid (row_of offerer mid) refl (apart mid answered.0), refl, refl),
-  added_known offerer (mid ∷ held) ops answers (place + 1) answered.1 (λ other apart_it. apart other (or_parts (bytes_eq mid other) (is_among held other) apart_it).1),
+added_known : (offerer : List LineRow) (held : List (List ℕ)) (place : ℕ) (rows : List LineRow) → AreAdded held place rows
+    → ((mid : List ℕ) → is_among held mid ≡ false → has_mid mid offerer ≡ false) → AllKnown offerer rows
+added_known offerer held place [] new apart = tt
+added_known offerer held place (Media at mid kind dir stopped remote_created ∷ rows) new apart = (
+  inr (none_of_mid offerer mid (row_of offerer mid) refl (apart mid new.0.free), new.0.live, new.0.own),
+  added_known offerer (mid ∷ held) (place + 1) rows new.1 (λ other apart_it. apart other (or_parts (bytes_eq mid other) (is_among held other) apart_it).1),
 )
-added_known offerer held (AddMedia kind dir ∷ ops) (OpAlloc ∷ []) place answered apart = tt
-added_known offerer held ops answers place answered apart = absurd answered
-
-pub added_rising : (held : List (List ℕ)) (ops : List Op) (answers : List OpAnswer) (place : ℕ) → OpsAnswered held ops answers → Rising place (added place ops answers)
-added_rising held [] [] place answered = tt
-added_rising held (AddMedia kind dir ∷ ops) (Mid mid ∷ answers) place answered = (refl, added_rising (mid ∷ held) ops answers (place + 1) answered.1)
-added_rising held (AddMedia kind dir ∷ ops) (OpAlloc ∷ []) place answered = tt
-added_rising held ops answers place answered = absurd answered
-
-pub rising_append : (place : ℕ) (rows more : List LineRow) → Rising place rows → Rising (place + length rows) more → Rising place (rows ++ more)
-rising_append place [] more rising other = subst (λ (n : ℕ). Rising n more) (let e : place + length {A = LineRow} [] ≡ place = omega arith in e) other
-rising_append place (row ∷ rows) more rising other =
-    (rising.0, rising_append (place + 1) rows more rising.1 (subst (λ (n : ℕ). Rising n more) (let e : place + length (row ∷ rows) ≡ place + 1 + length rows = omega arith in e) other))
+added_known offerer held place (App at mid ∷ rows) new apart = absurd new
 
 -- What is known of the rows of an offer at its side.
 record OfferedRows (offerer added : List LineRow) : Type 0 where
@@ -87,14 +71,14 @@ record OfferedRows (offerer added : List LineRow) : Type 0 where
   known : AllKnown offerer (offerer ++ added)
   rising : Rising 0 (offerer ++ added)
 
-offered_known : (offerer : List LineRow) (ops : List Op) (answers : List OpAnswer) → IsTable offerer → OpsAnswered (map row_mid offerer) ops answers → OfferedRows offerer (added (length offerer) ops answers)
-offered_known offerer ops answers table answered = record {
+offered_known : (offerer more : List LineRow) → IsTable offerer → AreAdded (map row_mid offerer) (length offerer) more → OfferedRows offerer more
+offered_known offerer more table new = record {
   table = table;
-  known = known_append offerer offerer (added (length offerer) ops answers)
+  known = known_append offerer offerer more
       (known_each offerer offerer (λ k row there. row_known offerer row (row_of_its_mid offerer k row table.distinct there)))
-      (added_known offerer (map row_mid offerer) ops answers (length offerer) answered (λ mid apart. sym (among_rows offerer mid) ∙ apart));
-  rising = rising_append 0 offerer (added (length offerer) ops answers) table.rising
-      (subst (λ (n : ℕ). Rising n (added (length offerer) ops answers)) (let e : length offerer ≡ 0 + length offerer = omega arith in e) (added_rising (map row_mid offerer) ops answers (length offerer) answered));
+      (added_known offerer (map row_mid offerer) (length offerer) more new (λ mid apart. sym (among_mids offerer mid) ∙ apart));
+  rising = rising_append 0 offerer more table.rising
+      (subst (λ (n : ℕ). Rising n more) (let e : length offerer ≡ 0 + length offerer = omega arith in e) (added_rising (map row_mid offerer) (length offerer) more new));
 }
 
 -- ---- both ends
@@ -176,26 +160,21 @@ ends_alike offerer added before answerer after offer answer rows took says passe
 
 ends_round : (past : List Entry) (at : Side) (t a : ℕ) (after : List LineRow) → Sound past
     → AnswerTaken (holds_token at t past) (is_right at t past) (asked_in at t past) (handed false at a past) (before at past) after
-    → is_own at t a past ≡ true → EndsRound at t a past after
-ends_round past at t a after sound taken own =
+    → is_own at t a past ≡ true → has_set at t past ≡ false → EndsRound at t a past after
+ends_round past at t a after sound taken own unset =
     let held = and_parts (is_offer_of at (slice_get (texts past) t)) (not (is_spent t past)) taken.held_is in
     let offer = past_offer at t past sound taken.right_is held.0 in
     let answer = past_answer at t a past sound own in
-    let rows : before at past ≡ offered_rows at t past = rows_since past at t sound taken.right_is held.0 (not_true (is_spent t past) held.1) in
+    let rows : before at past ≡ offered_rows at t past = rows_since past at t sound taken.right_is held.0 (not-true (is_spent t past) held.1) unset in
     let table : IsTable (offered_rows at t past) = subst IsTable rows (past_table past at sound) in
-    let adds = offer.adds (length (offered_rows at t past)) in
     let answer_is : answer.text ≡ taken.answer = same_text _ _ (sym (handed_answer at answer.text) ∙ ap (said_for false at) (sym answer.there) ∙ taken.is) in
     let offer_is : answer.offer ≡ offer.text = same_text _ _ (sym answer.offered ∙ ap (said_for true (other_side at)) offer.there ∙ handed_offer at offer.text) in
-    rw adds (ends_alike (offered_rows at t past) (added (length (offered_rows at t past)) offer.ops offer.answers) _ _ after answer.offer answer.text
-    (offered_known (offered_rows at t past) offer.ops offer.answers table offer.answered) answer.took (ap said_lines offer_is ∙ offer.says)
-    (rw answer_is (rw adds at (rw rows at taken.passes))) (rw answer_is (rw rows at taken.leaves)))
-  where
-    not_true : (b : Bool) → not b ≡ true → b ≡ false
-    not_true true is = absurd (cc)
-    not_true false is = refl
+    rw offer.adds (ends_alike (offered_rows at t past) offer.more _ _ after answer.offer answer.text
+    (offered_known (offered_rows at t past) offer.more table offer.new) answer.took (ap said_lines offer_is ∙ offer.says)
+    (rw answer_is (rw offer.adds at (rw rows at taken.passes))) (rw answer_is (rw rows at taken.leaves)))
 
 -- Each accepted answer that is its token's own ends the round.
 pub finishes_round : (past : List Entry) (step : Step) (outcome : Outcome) (table : Option Table) → Sound past → IsSound past step outcome table → FinishesRound past step outcome table
 finishes_round past (AcceptAnswer at t a) Finished (Some table) sound replied =
-    λ own unset. ends_round past at t a table.lines sound (answer_taken (holds_token at t past) (is_right at t past) (asked_in at t past) (handed false at a past) (before at past) table.lines replied) own
+    λ own unset. ends_round past at t a table.lines sound (answer_taken (holds_token at t past) (is_right at t past) (asked_in at t past) (handed false at a past) (before at past) table.lines replied) own unset
 finishes_round past step outcome table sound replied = tt

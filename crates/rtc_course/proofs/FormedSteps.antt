@@ -1,25 +1,28 @@
 -- Formed peers stay formed in each step, and each text that they make is plain, so that it is delivered as it is.
-use Rattle.std.proofs.Common.{◌≡◌, ◌<◌, zero, suc, ℕ, List, [], ◌∷◌, ◌++◌, length, get_or, All, Bool, true, false, not, ◌&&◌, cond, Option, Some, None, Ok, Err, refl, sym, ◌∙◌, ap, subst, arith}
+use Rattle.std.proofs.Common.{◌≡◌, zero, suc, ℕ, List, [], ◌∷◌, ◌++◌, Bool, true, false, not, ◌&&◌, cond, Option, Some, None, Ok, Err, refl, sym, subst, arith}
 use Rattle.std.specs.Prelude.{slice_get, slice_set, alloc_error}
 use Rattle.std.specs.List.{AllByRecursion}
+use Rattle.rtc_rows.specs.declared.direction.Direction.TheVariants.{Inactive}
 use Rattle.rtc_rows.specs.declared.sdp.Sdp.{Sdp}
 use Rattle.rtc_lines.specs.declared.sdp_offer.SdpOffer.{SdpOffer}
 use Rattle.rtc_lines.specs.declared.sdp_answer.SdpAnswer.{SdpAnswer}
 use Rattle.rtc_writing.specs.Plain.{IsPlain}
 use Rattle.rtc_writing.proofs.Law.{written_reads_back}
 use Rattle.rtc_plan.specs.PendingOffer.{PendingOffer}
+use Rattle.rtc_plan.specs.RowChanges.{turned, halted}
+use Rattle.rtc_plan.proofs.RowChangeLemmas.{turned_keeps, halted_keeps}
 use Rattle.rtc_peer_state.specs.declared.peer.Peer.{Peer}
 use Rattle.rtc_peer_state.specs.Draws.{Draws}
 use Rattle.rtc_peer_state.specs.Formed.{IsFormed}
 use Rattle.rtc_peer_state.proofs.Alls.{all-append, all_behind}
 use Rattle.rtc_peer_state.proofs.PlainTexts.{offer_plain, answer_plain}
-use Rattle.rtc_peer_state.proofs.FormedCalls.{lent_formed, adds_formed, applies_formed, offered_formed, answered_formed}
+use Rattle.rtc_peer_state.proofs.FormedCalls.{lent_formed, adds_formed, changes_formed, applies_formed, offered_formed, answered_formed}
 use Rattle.rtc_steps.specs.declared.side.Side.{Side}
 use Rattle.rtc_steps.specs.declared.side.Side.TheVariants.{Left, Right}
 use Rattle.rtc_steps.specs.declared.op.Op.{Op}
-use Rattle.rtc_steps.specs.declared.op.Op.TheVariants.{AddMedia}
+use Rattle.rtc_steps.specs.declared.op.Op.TheVariants.{AddMedia, SetDirection, StopMedia}
 use Rattle.rtc_steps.specs.declared.op_answer.OpAnswer.{OpAnswer}
-use Rattle.rtc_steps.specs.declared.op_answer.OpAnswer.TheVariants.{Mid, Alloc as OpAlloc}
+use Rattle.rtc_steps.specs.declared.op_answer.OpAnswer.TheVariants.{Mid, Changed, NoLine, Alloc as OpAlloc}
 use Rattle.rtc_steps.specs.declared.made.Made.{Made}
 use Rattle.rtc_steps.specs.declared.made.Made.TheVariants.{NotAsked, Nothing, Offer, Alloc as MadeAlloc}
 use Rattle.rtc_steps.specs.declared.step.Step.{Step}
@@ -30,7 +33,7 @@ use Rattle.rtc_steps.specs.declared.table.Table.{Table}
 use Rattle.rtc_steps.specs.Delivered.{ReadsBack}
 use Rattle.rtc_steps.specs.Memory.{answers_lack}
 use Rattle.rtc_steps.specs.Past.{Entry}
-use Rattle.rtc_steps.specs.Sides.{same_side, side_of, other_side}
+use Rattle.rtc_steps.specs.Sides.{side_of, other_side}
 use Rattle.rtc_course.specs.declared.kept.Kept.{Kept}
 use Rattle.rtc_course.specs.Formed.{ArePeersFormed, AreCarried}
 use Rattle.rtc_course.specs.Fresh.{IsFresh}
@@ -95,6 +98,14 @@ ops_formed : {N : Type 0} (draws : Draws N) (p q : Peer N) (ops : List Op) (answ
 ops_formed draws p q [] [] h formed = rw h formed
 ops_formed draws p q (AddMedia kind dir ∷ ops) (Mid mid ∷ answers) h formed = ops_formed draws h.0 q ops answers h.2 (adds_formed draws p (wanted kind dir) (Ok mid) h.0 h.1 formed)
 ops_formed draws p q (AddMedia kind dir ∷ ops) (OpAlloc ∷ []) h formed = adds_formed draws p (wanted kind dir) (Err alloc_error) q h formed
+ops_formed draws p q (SetDirection place dir ∷ ops) (NoLine ∷ answers) h formed = ops_formed draws p q ops answers h.1 formed
+ops_formed draws p q (SetDirection place dir ∷ ops) (Changed changed ∷ answers) h formed =
+    ops_formed draws h.0 q ops answers h.2 (changes_formed (turned dir) dir p h.1.mid (Ok changed) h.0 (turned_keeps dir) h.1.called formed)
+ops_formed draws p q (SetDirection place dir ∷ ops) (OpAlloc ∷ []) h formed = changes_formed (turned dir) dir p h.mid (Err alloc_error) q (turned_keeps dir) h.called formed
+ops_formed draws p q (StopMedia place ∷ ops) (NoLine ∷ answers) h formed = ops_formed draws p q ops answers h.1 formed
+ops_formed draws p q (StopMedia place ∷ ops) (Changed changed ∷ answers) h formed =
+    ops_formed draws h.0 q ops answers h.2 (changes_formed halted Inactive p h.1.mid (Ok changed) h.0 halted_keeps h.1.called formed)
+ops_formed draws p q (StopMedia place ∷ ops) (OpAlloc ∷ []) h formed = changes_formed halted Inactive p h.mid (Err alloc_error) q halted_keeps h.called formed
 ops_formed draws p q ops answers h formed = absurd h
 
 makes_formed : {N : Type 0} (asked : Bool) (at : Side) (p q : Peer N) (kept kept' : List Kept) (made : Made) → MakesOf asked at p kept made q kept' → IsFormed p → ArePlain kept → IsFormed q × ArePlain kept'

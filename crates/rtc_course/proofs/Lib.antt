@@ -1,4 +1,8 @@
+pub mod OpRows
+pub mod AddedRows
+pub mod PlacedRows
 pub mod Staging
+pub mod AnsweredOps
 pub mod TextLists
 pub mod Tells
 pub mod Entries
@@ -18,10 +22,15 @@ pub mod PastRows
 pub mod PastAnswers
 pub mod FinishedRounds
 pub mod RowsFollow
+pub mod LiveRows
+pub mod CourseOps
+pub mod CourseTexts
 pub mod RoundRows
+pub mod UnspentTokens
 pub mod Courses
 pub mod OrderlySteps
 pub mod CourseSteps
+pub mod OrderlyOps
 pub mod OrderlyPasts
 pub mod Reaches
 pub mod MoreSteps

@@ -12,7 +12,7 @@ use Rattle.rtc_lines.specs.declared.sdp_offer.SdpOffer.{SdpOffer}
 use Rattle.rtc_lines.specs.declared.sdp_answer.SdpAnswer.{SdpAnswer}
 use Rattle.rtc_plan.specs.PendingOffer.{PendingOffer, added_rows}
 use Rattle.rtc_plan.specs.SaidLines.{said_lines}
-use Rattle.rtc_plan.specs.Table.{IsTable}
+use Rattle.rtc_plan.specs.Table.{IsTable, Distinct}
 use Rattle.rtc_plan.specs.Taken.{taken}
 use Rattle.rtc_peer_state.specs.declared.peer.Peer.{Peer}
 use Rattle.rtc_peer_state.specs.Draws.{Draws}
@@ -37,6 +37,9 @@ use Rattle.rtc_course.specs.PairState.{PairState, peer_at, said_of, handed_text,
 use Rattle.rtc_course.specs.Performs.{MakesOf, Negotiates, HandsOffer, HandsAnswer, Performs, kept_offer, kept_answer, lent, made_by}
 use Rattle.rtc_course.proofs.FormedSteps.{ArePlain, last_carried}
 use Rattle.rtc_course.proofs.Staging.{Stages, ops_stage}
+use Rattle.rtc_course.proofs.NegotiateSteps.{made_lines}
+use Rattle.rtc_course.proofs.OpRows.{ops_mids}
+use Rattle.rtc_course.proofs.AddedRows.{AreAdded, ops_add}
 use Rattle.rtc_course.proofs.SaidTexts.{text_says, text_fits, offered_distinct}
 
 -- the texts behind those that were there
@@ -50,20 +53,16 @@ one_behind : (kept kept' : List Kept) (one : Kept) → kept' ≡ kept ++ one ∷
 one_behind kept kept' one pushed = rw (pushed, drop-append_seam kept (one ∷ [])) refl
 
 -- an offer says the rows of its side, then those that it adds
-offer_says : {N : Type 0} (p : Peer N) (ops : List Op) (answers : List OpAnswer) → IsTable p.lines → OpsAnswered (map row_mid p.lines) ops answers
-    → added_rows (length p.lines) p.staged ≡ added (length p.lines) ops answers → said_lines (offer_text p) ≡ map row_said (p.lines ++ added (length p.lines) ops answers)
+offer_says : {N : Type 0} (p : Peer N) (more : List LineRow) → Distinct (p.lines ++ more) → added_rows (length p.lines) p.staged ≡ more → said_lines (offer_text p) ≡ map row_said (p.lines ++ more)
 unfolding offer_text
-offer_says p ops answers table answered adds =
-    ap (λ more. said_lines (text_of p.session_id p.identity ActPass (p.lines ++ more))) adds
-    ∙ text_says p.session_id p.identity ActPass (p.lines ++ added (length p.lines) ops answers) (offered_distinct p.lines ops answers (length p.lines) table.distinct answered)
+offer_says p more distinct adds =
+    ap (λ added. said_lines (text_of p.session_id p.identity ActPass (p.lines ++ added))) adds ∙ text_says p.session_id p.identity ActPass (p.lines ++ more) distinct
 
 -- an offer fits together where one of its rows is live
-offer_fits : {N : Type 0} (p : Peer N) (ops : List Op) (answers : List OpAnswer) → IsTable p.lines → OpsAnswered (map row_mid p.lines) ops answers
-    → added_rows (length p.lines) p.staged ≡ added (length p.lines) ops answers → are_live (p.lines ++ added (length p.lines) ops answers) ≡ true → inconsistency (offer_text p) ≡ None
+offer_fits : {N : Type 0} (p : Peer N) (more : List LineRow) → Distinct (p.lines ++ more) → added_rows (length p.lines) p.staged ≡ more → are_live (p.lines ++ more) ≡ true → inconsistency (offer_text p) ≡ None
 unfolding offer_text
-offer_fits p ops answers table answered adds live =
-    ap (λ more. inconsistency (text_of p.session_id p.identity ActPass (p.lines ++ more))) adds
-    ∙ text_fits p.session_id p.identity ActPass (p.lines ++ added (length p.lines) ops answers) (offered_distinct p.lines ops answers (length p.lines) table.distinct answered) live
+offer_fits p more distinct adds live =
+    ap (λ added. inconsistency (text_of p.session_id p.identity ActPass (p.lines ++ added))) adds ∙ text_fits p.session_id p.identity ActPass (p.lines ++ more) distinct live
 
 answer_fits : {N : Type 0} (p : Peer N) (text : Sdp) (rows : List LineRow) → taken p.lines (said_lines text) true ≡ rows → IsTable rows → are_live rows ≡ true → inconsistency (answer_text p text) ≡ None
 unfolding answer_text
@@ -77,31 +76,39 @@ answer_says p text rows is table = rw is (text_says p.session_id p.identity Pass
 -- ---- each kind of step
 
 makes_of : {N : Type 0} (at : Side) (asked : Bool) (p q : Peer N) (ops : List Op) (answers : List OpAnswer) (apply : Bool) (kept kept' : List Kept) (made : Made) (table : Table)
-    → MakesOf asked at p kept made q kept' → IsTable table.lines → table.lines ≡ p.lines → OpsAnswered (map row_mid table.lines) ops answers
-    → added_rows (length p.lines) p.staged ≡ added (length p.lines) ops answers → ArePlain kept'
+    → MakesOf asked at p kept made q kept' → table.lines ≡ p.lines → Distinct (table.lines ++ added (length table.lines) ops answers)
+    → added_rows (length table.lines) p.staged ≡ added (length table.lines) ops answers → ArePlain kept'
     → MakesText (Negotiate at ops apply) (Negotiated answers made) (Some table) (behind kept kept')
-makes_of at false p q ops answers apply kept kept' NotAsked table h is rows answered adds plain = none_behind kept kept' h.1
-makes_of at true p q ops answers apply kept kept' Nothing table h is rows answered adds plain = none_behind kept kept' h.1
-makes_of at true p q ops answers apply kept kept' MadeAlloc table h is rows answered adds plain = none_behind kept kept' h.1
-makes_of at true p q ops answers apply kept kept' (Offer k) table h is rows answered adds plain = record {
+makes_of at false p q ops answers apply kept kept' NotAsked table h rows distinct adds plain = none_behind kept kept' h.1
+makes_of at true p q ops answers apply kept kept' Nothing table h rows distinct adds plain = none_behind kept kept' h.1
+makes_of at true p q ops answers apply kept kept' MadeAlloc table h rows distinct adds plain = none_behind kept kept' h.1
+makes_of at true p q ops answers apply kept kept' (Offer k) table h rows distinct adds plain = record {
   text = h.0.0.0;
   one = one_behind kept kept' (kept_offer at h.0) h.2;
   carried = last_carried kept kept' (kept_offer at h.0) h.2 plain;
-  says = ap (λ (o : SdpOffer). said_lines o.0) h.1.1 ∙ (rw rows (offer_says p ops answers (subst IsTable rows is) (rw (← rows) answered) adds));
-  fits = λ live. ap (λ (o : SdpOffer). inconsistency o.0) h.1.1 ∙ offer_fits p ops answers (subst IsTable rows is) (rw (← rows) answered) adds (rw (← rows) live);
+  says = ap (λ (o : SdpOffer). said_lines o.0) h.1.1 ∙ (rw rows (offer_says p (added (length p.lines) ops answers) (rw (← rows) distinct) (rw (← rows) adds)));
+  fits = λ live. ap (λ (o : SdpOffer). inconsistency o.0) h.1.1 ∙ offer_fits p (added (length p.lines) ops answers) (rw (← rows) distinct) (rw (← rows) adds) (rw (← rows) live);
 }
-makes_of at asked p q ops answers apply kept kept' made table h is rows answered adds plain = absurd h
+makes_of at asked p q ops answers apply kept kept' made table h rows distinct adds plain = absurd h
+
+-- the rows that ops leave, with those that they stage, have distinct mids
+ops_distinct : (rows after : List LineRow) (ops : List Op) (answers : List OpAnswer) (place : ℕ) → OpsAnswered rows (map row_mid rows) ops answers after → IsTable after → Distinct (after ++ added place ops answers)
+ops_distinct rows after ops answers place answered table =
+    let new : AreAdded (map row_mid after) place (added place ops answers) =
+    subst (λ (held : List (List ℕ)). AreAdded held place (added place ops answers)) (sym (ops_mids rows (map row_mid rows) ops answers after answered)) (ops_add rows (map row_mid rows) ops answers after place answered) in
+    offered_distinct after (added place ops answers) place table.distinct new
 
 negotiate_makes : {N : Type 0} (draws : Draws N) (at : Side) (ops : List Op) (apply : Bool) (old new : Peer N) (kept kept' : List Kept) (outcome : Outcome) (table : Option Table) (past : List Entry)
-    → Negotiates draws at ops apply old kept outcome table new kept' → IsTable (before at past) → IsSound past (Negotiate at ops apply) outcome table → before at past ≡ old.lines → ArePlain kept'
+    → Negotiates draws at ops apply old kept outcome table new kept' → IsTable (rows_or true table (before at past)) → IsSound past (Negotiate at ops apply) outcome table → ArePlain kept'
     → MakesText (Negotiate at ops apply) outcome table (behind kept kept')
-negotiate_makes draws at ops apply old new kept kept' Alloc None past h is sound rows plain = none_behind kept kept' h.texts_kept
-negotiate_makes draws at ops apply old new kept kept' (Negotiated answers made) (Some table) past h is sound rows plain =
+negotiate_makes draws at ops apply old new kept kept' Alloc None past h is sound plain = none_behind kept kept' h.texts_kept
+negotiate_makes draws at ops apply old new kept kept' (Negotiated answers made) (Some table) past h is sound plain =
     let staged : Stages (lent old) ops answers h.0 = ops_stage draws (lent old) h.0 ops answers h.1 in
-    let same : table.lines ≡ before at past = sound.0 in
-    makes_of at (apply && not (answers_lack answers)) h.0 new ops answers apply kept kept' made table h.2 (subst IsTable (sym same) is) (same ∙ rows ∙ sym staged.lines)
-    (rw same sound.1) (staged.adds (length h.0.lines) ∙ ap (λ n. added n ops answers) (let e : length h.0.lines + 0 ≡ length h.0.lines = omega arith in e)) plain
-negotiate_makes draws at ops apply old new kept kept' outcome table past h is sound rows plain = absurd h
+    let left : table.lines ≡ h.0.lines = h.3 ∙ made_lines (apply && not (answers_lack answers)) at h.0 new kept kept' made h.2 in
+    makes_of at (apply && not (answers_lack answers)) h.0 new ops answers apply kept kept' made table h.2 left
+    (ops_distinct (before at past) table.lines ops answers (length table.lines) sound.0 is)
+    (staged.adds (length table.lines) ∙ ap (λ n. added n ops answers) (let e : length table.lines + 0 ≡ length table.lines = omega arith in e)) plain
+negotiate_makes draws at ops apply old new kept kept' outcome table past h is sound plain = absurd h
 
 offer_makes : {N : Type 0} (draws : Draws N) (at : Side) (k : ℕ) (offer : Option Sdp) (old new : Peer N) (kept kept' : List Kept) (outcome : Outcome) (table : Option Table)
     → HandsOffer draws at offer old kept outcome table new kept' → IsTable (rows_or true table (old.lines)) → ArePlain kept' → MakesText (AcceptOffer at k) outcome table (behind kept kept')
@@ -145,11 +152,11 @@ answer_makes draws at t a token answer old new kept kept' outcome table h = absu
 
 -- A step that is performed makes the text that says the rows of its side.
 pub makes_text : {N : Type 0} (draws : Draws N) (past : List Entry) (old new : PairState N) (step : Step) (outcome : Outcome) (table : Option Table)
-    → Performs draws old step outcome table new → IsTable (before (side_of step) past) → IsTable (rows_or true table (before (side_of step) past)) → IsSound past step outcome table
+    → Performs draws old step outcome table new → IsTable (rows_or true table (before (side_of step) past)) → IsSound past step outcome table
     → before (side_of step) past ≡ (peer_at (side_of step) old).lines → ArePlain new.texts → MakesText step outcome table (made_by old new)
-makes_text draws past old new (Negotiate at ops apply) outcome table performs is is' sound rows plain =
-    negotiate_makes draws at ops apply (peer_at at old) (peer_at at new) old.texts new.texts outcome table past performs.acts is sound rows plain
-makes_text draws past old new (AcceptOffer at k) outcome table performs is is' sound rows plain =
-    offer_makes draws at k (handed_text true old.texts at k) (peer_at at old) (peer_at at new) old.texts new.texts outcome table performs.acts (rw (← rows) is') plain
-makes_text draws past old new (AcceptAnswer at t a) outcome table performs is is' sound rows plain =
+makes_text draws past old new (Negotiate at ops apply) outcome table performs is sound rows plain =
+    negotiate_makes draws at ops apply (peer_at at old) (peer_at at new) old.texts new.texts outcome table past performs.acts is sound plain
+makes_text draws past old new (AcceptOffer at k) outcome table performs is sound rows plain =
+    offer_makes draws at k (handed_text true old.texts at k) (peer_at at old) (peer_at at new) old.texts new.texts outcome table performs.acts (rw (← rows) is) plain
+makes_text draws past old new (AcceptAnswer at t a) outcome table performs is sound rows plain =
     answer_makes draws at t a (held_token old.texts at t) (handed_text false old.texts at a) (peer_at at old) (peer_at at new) old.texts new.texts outcome table performs.acts

@@ -70,7 +70,7 @@ untouched_tells : {N : Type 0} (past : List Entry) (at : Side) (k : ℕ) (outcom
     → was_handed outcome ≡ false → ((t : ℕ) → makes t outcome ≡ false) → peer_at at new ≡ peer_at at old → new.texts ≡ old.texts → rows_or true table (before at past) ≡ (peer_at at old).lines
     → Around (AcceptOffer at k) made old new → Tells past old → Tells (entry (AcceptOffer at k) outcome table made ∷ past) new
 untouched_tells past at k outcome table made old new unhanded unmade peer kept rows around tells =
-    quiet_tells false past (AcceptOffer at k) outcome table made old new (ap (λ p. p.lines) peer) kept (ap (λ p. p.lines) peer ∙ sym rows) (ap (λ p. p.counter) peer)
+    quiet_tells false past (AcceptOffer at k) outcome table made old new (ap (λ p. length p.lines) peer) kept (ap (λ p. p.lines) peer ∙ sym rows) (ap (λ p. p.counter) peer)
     (and_right (same_side at at) (was_handed outcome) unhanded) (and_right (same_side at (other_side at)) (was_handed outcome) unhanded) (λ t. refl) unmade around tells
 
 -- the counter of a pair that is small rises by one
@@ -83,7 +83,7 @@ refused_tells : {N : Type 0} (past : List Entry) (at : Side) (k : ℕ) (error : 
     → (peer_at at new).lines ≡ (peer_at at old).lines → (peer_at at new).counter ≡ raised (peer_at at old).counter → new.texts ≡ old.texts → table.lines ≡ (peer_at at new).lines
     → Around (AcceptOffer at k) made old new → Tells past old → Tells (entry (AcceptOffer at k) (Refused error) (Some table) made ∷ past) new
 refused_tells past at k error table made old new lines counter kept rows around tells =
-    quiet_tells true past (AcceptOffer at k) (Refused error) (Some table) made old new lines kept (sym rows) (rises past at k made old new counter around tells)
+    quiet_tells true past (AcceptOffer at k) (Refused error) (Some table) made old new (ap length lines) kept (sym rows) (rises past at k made old new counter around tells)
     (here at true refl) (nowhere at true) (λ t. refl) (λ t. refl) around tells
 
 -- A step that hands over an offer.

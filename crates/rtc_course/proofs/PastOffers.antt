@@ -1,9 +1,8 @@
--- The offer of a number in a past: which step made it, what it says, and that its side's rows stayed since.
+-- The offer of a number in a past: which step made it, what it says, and which rows it added.
 use Rattle.std.proofs.Common.{◌≡◌, ◌<◌, ℕ, Bool, true, false, not, ◌&&◌, List, [], ◌∷◌, ◌++◌, map, length, Option, Some, None, refl, sym, ◌∙◌, ap, subst, arith, length-append, zero, suc}
 use Rattle.std.specs.Prelude.{slice_get}
 use Rattle.std.proofs.lemmas.Bool.{eqb-true}
 use Rattle.rtc_rows.specs.LineRow.{row_mid}
-use Rattle.rtc_rows.specs.Sdp.{inconsistency}
 use Rattle.rtc_rows.specs.declared.line_row.LineRow.{LineRow}
 use Rattle.rtc_rows.specs.declared.sdp.Sdp.{Sdp}
 use Rattle.rtc_plan.specs.Held.{Asked}
@@ -22,11 +21,13 @@ use Rattle.rtc_steps.specs.Sides.{side_of}
 use Rattle.rtc_steps.specs.Past.{Entry, Said, before, texts, handed, is_offer_of, holds_token, is_right, moves, makes, do_stage, added, added_in, added_by}
 use Rattle.rtc_steps.specs.Memory.{answers_lack}
 use Rattle.rtc_steps.specs.Sound.{OpsAnswered, MadeOf, TakesOffer, TakesAnswer, IsSound, asked_in, view_in}
-use Rattle.rtc_steps.specs.SaidRows.{row_said, are_live, MakesText}
+use Rattle.rtc_steps.specs.SaidRows.{row_said, MakesText}
 use Rattle.rtc_steps.specs.SoundEntry.{IsSoundEntry}
 use Rattle.rtc_steps.specs.Rounds.{makes_offer, offered_rows}
 use Rattle.rtc_course.specs.Runs.{Sound}
 use Rattle.rtc_course.proofs.Tells.{same_side-self, same_side-true}
+use Rattle.rtc_course.proofs.OpRows.{ops_mids}
+use Rattle.rtc_course.proofs.AddedRows.{AreAdded, ops_add}
 
 -- ---- texts that stay
 
@@ -54,27 +55,18 @@ next_there (y ∷ xs) x (suc t) at = next_there xs x t (omega arith)
 -- What a step that made the offer of a number is.
 pub record OfferEntry (past : List Entry) (entry : Entry) (t : ℕ) : Type 0 where
   pub text : Sdp
-  pub ops : List Op
-  pub answers : List OpAnswer
+  pub more : List LineRow
   pub count : t ≡ length (texts past)
   pub one : entry.made ≡ record { at = side_of entry.step; offer = true; text = text } ∷ []
-  pub rows : before (side_of entry.step) (entry ∷ past) ≡ before (side_of entry.step) past
-  pub adds : (place : ℕ) → added_in place entry.step entry.outcome ≡ added place ops answers
-  pub answered : OpsAnswered (map row_mid (before (side_of entry.step) past)) ops answers
-  pub says : said_lines text ≡ map row_said (before (side_of entry.step) (entry ∷ past) ++ added (length (before (side_of entry.step) (entry ∷ past))) ops answers)
-  pub fits : are_live (before (side_of entry.step) (entry ∷ past) ++ added (length (before (side_of entry.step) (entry ∷ past))) ops answers) ≡ true → inconsistency text ≡ None
-  pub some : do_stage answers ≡ true
+  pub adds : added_in (length (before (side_of entry.step) (entry ∷ past))) entry.step entry.outcome ≡ more
+  pub new : AreAdded (map row_mid (before (side_of entry.step) (entry ∷ past))) (length (before (side_of entry.step) (entry ∷ past))) more
+  pub says : said_lines text ≡ map row_said (before (side_of entry.step) (entry ∷ past) ++ more)
   pub moved : moves (side_of entry.step) entry.step entry.outcome ≡ true
 
 offer_count : (asked offers : Bool) (k next : ℕ) → MadeOf asked offers (Offer k) next → k ≡ next
 offer_count true true k next made = made
 offer_count true false k next made = absurd made
 offer_count false offers k next made = absurd made
-
-offer_stages : (asked offers : Bool) (k next : ℕ) → MadeOf asked offers (Offer k) next → offers ≡ true
-offer_stages true true k next made = refl
-offer_stages true false k next made = absurd made
-offer_stages false offers k next made = absurd made
 
 no_offer : (text : Option Sdp) (past : List Entry) (at : Side) (next : ℕ) (answers : List OpAnswer) (made : Made) (after : List LineRow) → TakesOffer text (view_in at past) next (Negotiated answers made) after → ⊥
 no_offer None past at next answers made after takes = takes
@@ -85,6 +77,11 @@ no_answer false right asked text past at answers made after takes = takes
 no_answer true right asked None past at answers made after takes = takes
 no_answer true false asked (Some text) past at answers made after takes = takes
 no_answer true true asked (Some text) past at answers made after takes = takes
+
+-- what ops stage is new beside the rows that they leave
+pub ops_new : (rows : List LineRow) (ops : List Op) (answers : List OpAnswer) (after : List LineRow) (place : ℕ) → OpsAnswered rows (map row_mid rows) ops answers after → AreAdded (map row_mid after) place (added place ops answers)
+ops_new rows ops answers after place answered =
+    subst (λ (held : List (List ℕ)). AreAdded held place (added place ops answers)) (sym (ops_mids rows (map row_mid rows) ops answers after answered)) (ops_add rows (map row_mid rows) ops answers after place answered)
 
 pub offer_entry : (past : List Entry) (entry : Entry) (t : ℕ) → IsSoundEntry past entry → makes_offer t entry ≡ true → OfferEntry past entry t
 offer_entry past entry t sound makes_it = by entry.step entry.outcome entry.table entry.made sound.replied sound.made makes_it
@@ -98,16 +95,12 @@ offer_entry past entry t sound makes_it = by entry.step entry.outcome entry.tabl
         let rows = rows_of at table (Negotiate at ops apply) (Negotiated answers (Offer k)) made refl in
         record {
           text = text.text;
-          ops = ops;
-          answers = answers;
-          count = sym (eqb-true k t makes_it) ∙ offer_count (apply && not (answers_lack answers)) (do_stage answers) k (length (texts past)) replied.2;
+          more = added (length table.lines) ops answers;
+          count = sym (eqb-true k t makes_it) ∙ offer_count (apply && not (answers_lack answers)) (do_stage answers) k (length (texts past)) replied.1;
           one = text.one;
-          rows = rows ∙ replied.0;
-          adds = λ place. refl;
-          answered = replied.1;
+          adds = rw rows refl;
+          new = rw rows (ops_new (before at past) ops answers table.lines (length table.lines) replied.0);
           says = rw rows text.says;
-          fits = rw rows text.fits;
-          some = offer_stages (apply && not (answers_lack answers)) (do_stage answers) k (length (texts past)) replied.2;
           moved = rw (same_side-self at) refl;
         }
     by (Negotiate at ops apply) (Negotiated answers NotAsked) table made replied text makes_it = absurd (cc)
@@ -131,14 +124,11 @@ offer_entry past entry t sound makes_it = by entry.step entry.outcome entry.tabl
 -- What a past says of the offer of a number, which a side made.
 pub record PastOffer (at : Side) (t : ℕ) (past : List Entry) : Type 0 where
   pub text : Sdp
-  pub ops : List Op
-  pub answers : List OpAnswer
+  pub more : List LineRow
   pub there : slice_get (texts past) t ≡ Some (record { at = at; offer = true; text = text })
-  pub adds : (place : ℕ) → added_by place t past ≡ added place ops answers
-  pub answered : OpsAnswered (map row_mid (offered_rows at t past)) ops answers
-  pub says : said_lines text ≡ map row_said (offered_rows at t past ++ added (length (offered_rows at t past)) ops answers)
-  pub fits : are_live (offered_rows at t past ++ added (length (offered_rows at t past)) ops answers) ≡ true → inconsistency text ≡ None
-  pub some : do_stage answers ≡ true
+  pub adds : added_by (length (offered_rows at t past)) t past ≡ more
+  pub new : AreAdded (map row_mid (offered_rows at t past)) (length (offered_rows at t past)) more
+  pub says : said_lines text ≡ map row_said (offered_rows at t past ++ more)
 
 -- the text of an entry is behind those before it
 pub text_next : (past : List Entry) (entry : Entry) (said : Said) (t : ℕ) → entry.made ≡ said ∷ [] → t ≡ length (texts past) → slice_get (texts (entry ∷ past)) t ≡ Some said
@@ -184,27 +174,22 @@ past_offer at t (entry ∷ past) sound right mine = by (λ right mine. past_offe
         subst (λ (side : Side). PastOffer side t (entry ∷ past)) here
         (record {
           text = it.text;
-          ops = it.ops;
-          answers = it.answers;
+          more = it.more;
           there = there;
-          adds = λ place. rw is (it.adds place);
-          answered = rw (is, it.rows) it.answered;
+          adds = rw is it.adds;
+          new = rw is it.new;
           says = rw is it.says;
-          fits = rw is it.fits;
-          some = it.some;
         })
     by earlier false is =
         let before_it = (right_parts at t past entry is right).1 in
         let same = within_there (texts past) entry.made t (right_within at t past sound.1 before_it) in
         let offer = earlier before_it (ap (is_offer_of at) (sym same) ∙ mine) in
+        let rows : offered_rows at t past ≡ offered_rows at t (entry ∷ past) = rw is refl in
         record {
           text = offer.text;
-          ops = offer.ops;
-          answers = offer.answers;
+          more = offer.more;
           there = same ∙ offer.there;
-          adds = λ place. rw is (offer.adds place);
-          answered = rw is offer.answered;
+          adds = subst (λ (list : List LineRow). added_by (length list) t (entry ∷ past) ≡ offer.more) rows (rw is offer.adds);
+          new = rw is offer.new;
           says = rw is offer.says;
-          fits = rw is offer.fits;
-          some = offer.some;
         }

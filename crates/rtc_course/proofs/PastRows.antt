@@ -1,7 +1,8 @@
--- At most one token of a side is right, and the rows of the side stay as its offer left them while it is.
-use Rattle.std.proofs.Common.{◌≡◌, ℕ, Bool, true, false, not, List, [], ◌∷◌, length, Option, Some, None, refl, sym, ◌∙◌, ap, subst, ◌⊎◌, inl, inr}
+-- At most one token of a side is right, and while it is, the rows of the side stay as its offer left them where its ops set and stop no line.
+use Rattle.std.proofs.Common.{◌≡◌, ℕ, Bool, true, false, not, List, [], ◌∷◌, map, length, Option, Some, None, refl, sym, ◌∙◌, ap, subst, ◌⊎◌, inl, inr}
 use Rattle.std.specs.Prelude.{slice_get}
 use Rattle.std.proofs.lemmas.Bool.{eq-eqb, both_ways, or_parts, and_parts}
+use Rattle.rtc_rows.specs.LineRow.{row_mid}
 use Rattle.rtc_rows.specs.declared.line_row.LineRow.{LineRow}
 use Rattle.rtc_rows.specs.declared.sdp.Sdp.{Sdp}
 use Rattle.rtc_plan.specs.Held.{Asked}
@@ -16,9 +17,10 @@ use Rattle.rtc_steps.specs.Sides.{same_side, side_of}
 use Rattle.rtc_steps.specs.Past.{Entry, before, rows_or, texts, handed, is_offer_of, holds_token, is_spent, spends, was_handed, is_right, moves}
 use Rattle.rtc_steps.specs.Sound.{TakesOffer, TakesAnswer, IsSound, asked_in, view_in}
 use Rattle.rtc_steps.specs.SoundEntry.{IsSoundEntry}
-use Rattle.rtc_steps.specs.Rounds.{makes_offer, offered_rows}
+use Rattle.rtc_steps.specs.Rounds.{makes_offer, sets_lines, has_set, offered_rows}
 use Rattle.rtc_course.specs.Runs.{Sound}
 use Rattle.rtc_course.proofs.Tells.{same_side-self, same_side-true}
+use Rattle.rtc_course.proofs.OpRows.{unset_rows}
 use Rattle.rtc_course.proofs.PastOffers.{offer_entry, right_parts, right_within, within_there, text_next, maker_side}
 
 -- a step of a side that made an offer moved the side
@@ -76,12 +78,13 @@ answer_rows past at held right asked text outcome after takes = absurd takes
 -- a step of a side whose token is right, that moves nothing and does not spend it, leaves the rows
 stayed : (past : List Entry) (step : Step) (outcome : Outcome) (table : Option Table) (t : ℕ) → Sound past → IsSound past step outcome table
     → is_right (side_of step) t past ≡ true → is_offer_of (side_of step) (slice_get (texts past) t) ≡ true → moves (side_of step) step outcome ≡ false → spends t step outcome ≡ false
-    → rows_or true table (before (side_of step) past) ≡ before (side_of step) past
-stayed past step Alloc None t sound replied right mine still unspent = refl
-stayed past (Negotiate at ops apply) (Negotiated answers made) (Some table) t sound replied right mine still unspent = replied.0
-stayed past (AcceptOffer at offer) outcome (Some table) t sound replied right mine still unspent =
+    → sets_lines (side_of step) step ≡ false → rows_or true table (before (side_of step) past) ≡ before (side_of step) past
+stayed past step Alloc None t sound replied right mine still unspent unset = refl
+stayed past (Negotiate at ops apply) (Negotiated answers made) (Some table) t sound replied right mine still unspent unset =
+    unset_rows (before at past) (map row_mid (before at past)) ops answers table.lines replied.0 (rw (← unset) (rw (same_side-self at) refl))
+stayed past (AcceptOffer at offer) outcome (Some table) t sound replied right mine still unspent unset =
     unhanded_rows past at (handed true at offer past) (length (texts past)) outcome table.lines replied (rw (← still) (rw (same_side-self at) refl))
-stayed past (AcceptAnswer at u answer) outcome (Some table) t sound replied right mine still unspent =
+stayed past (AcceptAnswer at u answer) outcome (Some table) t sound replied right mine still unspent unset =
     elim (answer_rows past at (holds_token at u past) (is_right at u past) (asked_in at u past) (handed false at answer past) outcome table.lines replied) [
       | inl same ↦ same
       | inr taken ↦ absurd (
@@ -89,33 +92,39 @@ stayed past (AcceptAnswer at u answer) outcome (Some table) t sound replied righ
           let one : u ≡ t = one_right past at u t sound taken.2 right held.0 mine in
           both_ways (spends t (AcceptAnswer at u answer) outcome) unspent (rw (taken.0, eq-eqb u t one) refl))
     ]
-stayed past step outcome table t sound replied right mine still unspent = absurd replied
+stayed past step outcome table t sound replied right mine still unspent unset = absurd replied
 
 -- the same of a step of either side
 rows_stay : (past : List Entry) (entry : Entry) (at : Side) (t : ℕ) → Sound (entry ∷ past) → is_right at t past ≡ true → is_offer_of at (slice_get (texts past) t) ≡ true
-    → moves at entry.step entry.outcome ≡ false → spends t entry.step entry.outcome ≡ false → before at (entry ∷ past) ≡ before at past
-rows_stay past entry at t sound right mine still unspent = by (same_side (side_of entry.step) at) refl
+    → moves at entry.step entry.outcome ≡ false → spends t entry.step entry.outcome ≡ false → sets_lines at entry.step ≡ false → before at (entry ∷ past) ≡ before at past
+rows_stay past entry at t sound right mine still unspent unset = by (same_side (side_of entry.step) at) refl
   where
     by : (here : Bool) → same_side (side_of entry.step) at ≡ here → rows_or here entry.table (before at past) ≡ before at past
     by true is =
-        subst (λ (side : Side). is_right side t past ≡ true → is_offer_of side (slice_get (texts past) t) ≡ true → moves side entry.step entry.outcome ≡ false → rows_or true entry.table (before side past) ≡ before side past)
+        subst (λ (side : Side). is_right side t past ≡ true → is_offer_of side (slice_get (texts past) t) ≡ true → moves side entry.step entry.outcome ≡ false
+        → sets_lines side entry.step ≡ false → rows_or true entry.table (before side past) ≡ before side past)
         (same_side-true (side_of entry.step) at is)
-        (λ right mine still. stayed past entry.step entry.outcome entry.table t sound.1 sound.0.replied right mine still unspent)
-        right mine still
+        (λ right mine still unset. stayed past entry.step entry.outcome entry.table t sound.1 sound.0.replied right mine still unspent unset)
+        right mine still unset
     by false is = refl
 
--- The rows of a side whose token is right and not spent are those that it offered.
+-- a side that has set no line since an offer, which an entry did not make, set none before this entry, nor did the entry
+unset_parts : (past : List Entry) (entry : Entry) (at : Side) (t : ℕ) → makes_offer t entry ≡ false → has_set at t (entry ∷ past) ≡ false → (sets_lines at entry.step ≡ false) × (has_set at t past ≡ false)
+unset_parts past entry at t other unset = or_parts (sets_lines at entry.step) (has_set at t past) (rw other at unset)
+
+-- The rows of a side whose token is right and not spent, and that has set no line since, are those that it offered.
 pub rows_since : (past : List Entry) (at : Side) (t : ℕ) → Sound past → is_right at t past ≡ true → is_offer_of at (slice_get (texts past) t) ≡ true → is_spent t past ≡ false
-    → before at past ≡ offered_rows at t past
-rows_since [] at t sound right mine unspent = refl
-rows_since (entry ∷ past) at t sound right mine unspent =
-    by (λ right mine unspent. rows_since past at t sound.1 right mine unspent) (or_parts (spends t entry.step entry.outcome) (is_spent t past) unspent) (makes_offer t entry) refl
+    → has_set at t past ≡ false → before at past ≡ offered_rows at t past
+rows_since [] at t sound right mine unspent unset = refl
+rows_since (entry ∷ past) at t sound right mine unspent unset =
+    by (λ right mine unspent unset. rows_since past at t sound.1 right mine unspent unset) (or_parts (spends t entry.step entry.outcome) (is_spent t past) unspent) (makes_offer t entry) refl
   where
-    by : (is_right at t past ≡ true → is_offer_of at (slice_get (texts past) t) ≡ true → is_spent t past ≡ false → before at past ≡ offered_rows at t past)
+    by : (is_right at t past ≡ true → is_offer_of at (slice_get (texts past) t) ≡ true → is_spent t past ≡ false → has_set at t past ≡ false → before at past ≡ offered_rows at t past)
         → (spends t entry.step entry.outcome ≡ false) × (is_spent t past ≡ false)
         → (made : Bool) → makes_offer t entry ≡ made → before at (entry ∷ past) ≡ offered_rows at t (entry ∷ past)
     by earlier parts true is = rw is refl
     by earlier parts false is =
         let right_before = right_parts at t past entry is right in
         let mine_before : is_offer_of at (slice_get (texts past) t) ≡ true = ap (is_offer_of at) (sym (within_there (texts past) entry.made t (right_within at t past sound.1 right_before.1))) ∙ mine in
-        rows_stay past entry at t sound right_before.1 mine_before right_before.0 parts.0 ∙ earlier right_before.1 mine_before parts.1 ∙ (rw is refl)
+        let unset_before = unset_parts past entry at t is unset in
+        rows_stay past entry at t sound right_before.1 mine_before right_before.0 parts.0 unset_before.0 ∙ earlier right_before.1 mine_before parts.1 unset_before.1 ∙ (rw is refl)

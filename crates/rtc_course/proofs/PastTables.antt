@@ -1,5 +1,6 @@
 -- The rows that a past says of a side are a table.
-use Rattle.std.proofs.Common.{◌≡◌, ℕ, Bool, true, false, List, [], ◌∷◌, Option, Some, None, refl, sym, subst}
+use Rattle.std.proofs.Common.{◌≡◌, ℕ, Bool, true, false, List, [], ◌∷◌, map, Option, Some, None, refl, sym, subst}
+use Rattle.rtc_rows.specs.LineRow.{row_mid}
 use Rattle.rtc_rows.specs.declared.line_row.LineRow.{LineRow}
 use Rattle.rtc_rows.specs.declared.sdp.Sdp.{Sdp}
 use Rattle.rtc_plan.specs.Held.{Asked}
@@ -17,6 +18,7 @@ use Rattle.rtc_steps.specs.Past.{Entry, before, rows_or, handed, holds_token, is
 use Rattle.rtc_steps.specs.Sound.{TakesOffer, TakesAnswer, IsSound, asked_in}
 use Rattle.rtc_course.specs.Runs.{Sound}
 use Rattle.rtc_course.proofs.Tells.{same_side-true}
+use Rattle.rtc_course.proofs.OpRows.{ops_table}
 
 same_table : (rows after : List LineRow) → after ≡ rows → IsTable rows → IsTable after
 same_table rows after same table = subst IsTable (sym same) table
@@ -44,7 +46,7 @@ answer_table held right asked text rows outcome after takes table = absurd takes
 pub reply_table : (past : List Entry) (step : Step) (outcome : Outcome) (table : Option Table) → IsSound past step outcome table
     → IsTable (before (side_of step) past) → IsTable (rows_or true table (before (side_of step) past))
 reply_table past step Alloc None sound table = table
-reply_table past (Negotiate at ops apply) (Negotiated answers made) (Some after) sound table = same_table _ after.lines sound.0 table
+reply_table past (Negotiate at ops apply) (Negotiated answers made) (Some after) sound table = ops_table (before at past) (map row_mid (before at past)) ops answers after.lines sound.0 table
 reply_table past (AcceptOffer at offer) outcome (Some after) sound table = offer_table (handed true at offer past) (before at past) _ outcome after.lines sound table
 reply_table past (AcceptAnswer at token answer) outcome (Some after) sound table =
     answer_table (holds_token at token past) (is_right at token past) (asked_in at token past) (handed false at answer past) (before at past) outcome after.lines sound table

@@ -40,15 +40,13 @@ around_of : {N : Type 0} (draws : Draws N) (old new : PairState N) (step : Step)
 around_of draws old new step outcome table made performs made_is small = record { other = performs.other; size = performs.size; small = small; made_is = made_is }
 
 pub step_sound : {N : Type 0} (draws : Draws N) (past : List Entry) (old new : PairState N) (step : Step) (outcome : Outcome) (table : Option Table)
-    → Tells past old → Performs draws old step outcome table new → new.size < 2 ^ 32 → IsSound past step outcome table
-step_sound draws past old new (Negotiate at ops apply) outcome table tells performs small =
-    let few : length (peer_at at old).lines ≤ old.size = (tells.sides at).few in
-    negotiate_reply draws past at ops apply (peer_at at old) (peer_at at new) old.texts new.texts outcome table (sym (tells.sides at).rows) (length-told past old tells)
-    (omega (arith, few, performs.size)) performs.acts
-step_sound draws past old new (AcceptOffer at k) outcome table tells performs small =
+    → Tells past old → IsTable (before (side_of step) past) → Performs draws old step outcome table new → new.size < 2 ^ 32 → IsSound past step outcome table
+step_sound draws past old new (Negotiate at ops apply) outcome table tells rows performs small =
+    negotiate_reply draws past at ops apply (peer_at at old) (peer_at at new) old.texts new.texts outcome table (sym (tells.sides at).rows) rows (length-told past old tells) performs.acts
+step_sound draws past old new (AcceptOffer at k) outcome table tells rows performs small =
     offer_reply draws past at k (handed_text true old.texts at k) (peer_at at old) (peer_at at new) old.texts new.texts outcome table
     (handed-told past old true at k tells) (sym (tells.sides at).rows) (length-told past old tells) performs.acts
-step_sound draws past old new (AcceptAnswer at t a) outcome table tells performs small =
+step_sound draws past old new (AcceptAnswer at t a) outcome table tells rows performs small =
     answer_reply draws past at t a old.size (slice_get old.texts t) (held_token old.texts at t) (handed_text false old.texts at a) (peer_at at old) (peer_at at new) old.texts new.texts outcome table
     refl ((tells.sides at).tokens t) (tells.sides at).counts (omega (arith, performs.size)) (handed-told past old false at a tells) (sym (tells.sides at).rows) performs.acts
 
@@ -114,10 +112,10 @@ pub sound_next : {N : Type 0} (draws : Draws N) (start old new : PairState N) (p
     → IsFresh start → ArePeersFormed start → Reached draws start past old → Sound past → Performs draws old step outcome table new → new.size < 2 ^ 32 → IsSoundEntry past (entry step outcome table (made_by old new))
 sound_next draws start old new past step outcome table fresh formed reached sound performs small =
     let tells : Tells past old = reached_tells draws start old past fresh reached (omega (arith, size_grows step (made_by old new) old new (around_of draws old new step outcome table (made_by old new) performs refl small))) in
-    let replied : IsSound past step outcome table = step_sound draws past old new step outcome table tells performs small in
     let rows : IsTable (before (side_of step) past) = past_table past (side_of step) sound in
+    let replied : IsSound past step outcome table = step_sound draws past old new step outcome table tells rows performs small in
     let made_formed : IsWellFormed new = performs_formed draws old new step outcome table performs (reached_formed draws start old past fresh formed reached) in
-    let says : MakesText step outcome table (made_by old new) = makes_text draws past old new step outcome table performs rows (reply_table past step outcome table replied rows) replied (sym (tells.sides (side_of step)).rows) made_formed.plain in
+    let says : MakesText step outcome table (made_by old new) = makes_text draws past old new step outcome table performs (reply_table past step outcome table replied rows) replied (sym (tells.sides (side_of step)).rows) made_formed.plain in
     record {
       replied = replied;
       made = says;

@@ -1,5 +1,5 @@
--- Rows that go on from others, the same lines and then new ones that are live: the text of such rows is refused for no cause.
-use Rattle.std.proofs.Common.{◌≡◌, ◌+◌, ◌<◌, ◌==◌, ℕ, Bool, true, false, not, ◌||◌, List, [], ◌∷◌, ◌++◌, map, length, Some, None, refl, sym, ◌∙◌, ap, arith, suc}
+-- Rows that go on from others, the same lines and then new ones: the text of such rows is refused for no cause.
+use Rattle.std.proofs.Common.{◌≡◌, ◌+◌, ◌==◌, ℕ, Bool, true, false, ◌||◌, List, [], ◌∷◌, ◌++◌, map, length, Some, None, refl, sym, ◌∙◌, ap, arith, suc}
 use Rattle.std.specs.Prelude.{slice_get}
 use Rattle.std.specs.Str.{bytes_eq}
 use Rattle.std.proofs.lemmas.Bool.{or_parts, eq-eqb}
@@ -15,15 +15,9 @@ use Rattle.rtc_plan.specs.Taken.{is_new, rows_after, row_after}
 use Rattle.rtc_plan.specs.Verdict.{is_application, first_refusal, line_refusal}
 use Rattle.rtc_plan.specs.WrongLines.{wrong_line, by_added}
 use Rattle.rtc_plan.proofs.TableLemmas.{row_of_its_mid, place_of_row}
-use Rattle.rtc_peer_state.specs.Texts.{is_stopped}
-use Rattle.rtc_steps.specs.declared.op.Op.{Op}
-use Rattle.rtc_steps.specs.declared.op.Op.TheVariants.{AddMedia}
-use Rattle.rtc_steps.specs.declared.op_answer.OpAnswer.{OpAnswer}
-use Rattle.rtc_steps.specs.declared.op_answer.OpAnswer.TheVariants.{Mid, Alloc as OpAlloc}
-use Rattle.rtc_steps.specs.Past.{added}
-use Rattle.rtc_steps.specs.Sound.{OpsAnswered}
 use Rattle.rtc_steps.specs.Finished.{AtEachPlace}
-use Rattle.rtc_steps.specs.SaidRows.{row_said, are_live}
+use Rattle.rtc_steps.specs.SaidRows.{row_said}
+use Rattle.rtc_course.proofs.AddedRows.{AreAdded}
 use Rattle.rtc_course.proofs.FinishedRounds.{none_of_mid}
 
 -- two media rows of one mid and kind
@@ -31,9 +25,9 @@ abbrev pub SameName : LineRow → LineRow → Type 0
 SameName (Media place mid kind dir stopped remote_created) (Media place' mid' kind' dir' stopped' remote_created') = (mid' ≡ mid) × (kind' ≡ kind)
 SameName row other = ⊥
 
--- a live media row with a mid that none of these has
+-- a media row with a mid that none of these has
 abbrev pub NewRow : List LineRow → LineRow → Type 0
-NewRow rows (Media place mid kind dir stopped remote_created) = (has_mid mid rows ≡ false) × (stopped ≡ false)
+NewRow rows (Media place mid kind dir stopped remote_created) = has_mid mid rows ≡ false
 NewRow rows (App place mid) = ⊥
 
 abbrev pub Aligned : List LineRow → List LineRow → Type 0
@@ -56,6 +50,20 @@ pub aligned_sym : (rows others : List LineRow) → Aligned rows others → Align
 aligned_sym [] [] same = tt
 aligned_sym (row ∷ rows) (other ∷ others) same = (name_sym row other same.0, aligned_sym rows others same.1)
 aligned_sym rows others same = absurd same
+
+name_trans : (row other third : LineRow) → SameName row other → SameName other third → SameName row third
+name_trans (Media place mid kind dir stopped remote_created) (Media place' mid' kind' dir' stopped' remote_created') (Media p m k d s r) same more = (more.0 ∙ same.0, more.1 ∙ same.1)
+name_trans (Media place mid kind dir stopped remote_created) (Media place' mid' kind' dir' stopped' remote_created') (App p m) same more = absurd more
+name_trans (Media place mid kind dir stopped remote_created) (App place' mid') third same more = absurd same
+name_trans (App place mid) other third same more = absurd same
+
+pub aligned_trans : (rows others thirds : List LineRow) → Aligned rows others → Aligned others thirds → Aligned rows thirds
+aligned_trans [] [] [] same more = tt
+aligned_trans (row ∷ rows) (other ∷ others) (third ∷ thirds) same more = (name_trans row other third same.0 more.0, aligned_trans rows others thirds same.1 more.1)
+aligned_trans [] [] (third ∷ thirds) same more = absurd more
+aligned_trans (row ∷ rows) (other ∷ others) [] same more = absurd more
+aligned_trans [] (other ∷ others) thirds same more = absurd same
+aligned_trans (row ∷ rows) [] thirds same more = absurd same
 
 name_twice : (row other : LineRow) → SameName row other → SameName row row
 name_twice (Media place mid kind dir stopped remote_created) (Media place' mid' kind' dir' stopped' remote_created') same = (refl, refl)
@@ -87,27 +95,27 @@ follows_append rows [] [] more same new = new
 follows_append rows (own ∷ left) (row ∷ front) more same new = (same.0, follows_append rows left front more same.1 new)
 follows_append rows left front more same new = absurd same
 
-pub added_new : (rows : List LineRow) (held : List (List ℕ)) (ops : List Op) (answers : List OpAnswer) (place : ℕ) → OpsAnswered held ops answers
-    → ((mid : List ℕ) → is_among held mid ≡ false → has_mid mid rows ≡ false) → Follows rows [] (added place ops answers)
-added_new rows held [] [] place answered apart = tt
-added_new rows held (AddMedia kind dir ∷ ops) (Mid mid ∷ answers) place answered apart = (
-  (apart mid answered.0, refl),
-  added_new rows (mid ∷ held) ops answers (place + 1) answered.1 (λ other apart_it. apart other (or_parts (bytes_eq mid other) (is_among held other) apart_it).1),
+pub added_follow : (rows : List LineRow) (held : List (List ℕ)) (place : ℕ) (more : List LineRow) → AreAdded held place more
+    → ((mid : List ℕ) → is_among held mid ≡ false → has_mid mid rows ≡ false) → Follows rows [] more
+added_follow rows held place [] new apart = tt
+added_follow rows held place (Media at mid kind dir stopped remote_created ∷ more) new apart = (
+  apart mid new.0.free,
+  added_follow rows (mid ∷ held) (place + 1) more new.1 (λ other apart_it. apart other (or_parts (bytes_eq mid other) (is_among held other) apart_it).1),
 )
-added_new rows held (AddMedia kind dir ∷ ops) (OpAlloc ∷ []) place answered apart = tt
-added_new rows held ops answers place answered apart = absurd answered
+added_follow rows held place (App at mid ∷ more) new apart = absurd new
 
--- where there is a new row, one is live
-pub follows_live : (rows left more : List LineRow) → Follows rows left more → length left < length more → are_live more ≡ true
-follows_live rows [] [] follows fewer = absurd (omega arith)
-follows_live rows [] (Media place mid kind dir stopped remote_created ∷ more) follows fewer = rw follows.0.1 refl
-follows_live rows [] (App place mid ∷ more) follows fewer = absurd follows.0
-follows_live rows (own ∷ left) [] follows fewer = absurd follows
-follows_live rows (own ∷ left) (row ∷ more) follows fewer = either (not (is_stopped row)) (follows_live rows left more follows.1 (omega arith))
-  where
-    either : {b : Bool} → (a : Bool) → b ≡ true → (a || b) ≡ true
-    either true is = refl
-    either false is = is
+new_alike : (rows others : List LineRow) (row : LineRow) → Aligned rows others → NewRow rows row → NewRow others row
+new_alike rows others (Media place mid kind dir stopped remote_created) same new = has_mid-aligned rows others mid same ∙ new
+new_alike rows others (App place mid) same new = absurd new
+
+-- rows that go on from some go on from others with the same names
+pub follows_alike : (rows others left left' more : List LineRow) → Aligned rows others → Aligned left left' → Follows rows left more → Follows others left' more
+follows_alike rows others [] [] [] same same_left follows = tt
+follows_alike rows others [] [] (row ∷ more) same same_left follows = (new_alike rows others row same follows.0, follows_alike rows others [] [] more same tt follows.1)
+follows_alike rows others (own ∷ left) (own' ∷ left') [] same same_left follows = absurd follows
+follows_alike rows others (own ∷ left) (own' ∷ left') (row ∷ more) same same_left follows =
+    (name_trans own' own row (name_sym own own' same_left.0) follows.0, follows_alike rows others left left' more same same_left.1 follows.1)
+follows_alike rows others left left' more same same_left follows = absurd same_left
 
 -- ---- the rows that a text leaves
 
@@ -123,8 +131,8 @@ after_aligned rows offer place (row ∷ first) (other ∷ more) same = (name_aft
 after_aligned rows offer place first more same = absurd same
 
 new_after : (rows answerer : List LineRow) (place : ℕ) (row : LineRow) → NewRow rows row → NewRow answerer row → NewRow rows (row_after answerer true place (row_said row))
-new_after rows answerer place (Media at mid Audio dir stopped remote_created) new new' = (new.0, rw (new.1, none_of_mid answerer mid (row_of answerer mid) refl new'.0) refl)
-new_after rows answerer place (Media at mid Video dir stopped remote_created) new new' = (new.0, rw (new.1, none_of_mid answerer mid (row_of answerer mid) refl new'.0) refl)
+new_after rows answerer place (Media at mid Audio dir stopped remote_created) new new' = new
+new_after rows answerer place (Media at mid Video dir stopped remote_created) new new' = new
 new_after rows answerer place (App at mid) new new' = absurd new
 
 -- what an answerer leaves of an offer goes on from the offerer's rows as the offer does
@@ -147,13 +155,13 @@ IsLeft rows place left = (k : ℕ) → slice_get rows (place + k) ≡ slice_get 
 pub all_left : (rows : List LineRow) → IsLeft rows 0 rows
 all_left rows k = ap (slice_get rows) (let e : 0 + k ≡ k = omega arith in e)
 
-first_left : (rows : List LineRow) (place : ℕ) (left : List LineRow) → IsLeft rows place left → slice_get rows place ≡ slice_get left 0
+pub first_left : (rows : List LineRow) (place : ℕ) (left : List LineRow) → IsLeft rows place left → slice_get rows place ≡ slice_get left 0
 first_left rows place left at = ap (slice_get rows) (let e : place ≡ place + 0 = omega arith in e) ∙ at 0
 
-next_left : (rows : List LineRow) (place : ℕ) (row : LineRow) (left : List LineRow) → IsLeft rows place (row ∷ left) → IsLeft rows (place + 1) left
+pub next_left : (rows : List LineRow) (place : ℕ) (row : LineRow) (left : List LineRow) → IsLeft rows place (row ∷ left) → IsLeft rows (place + 1) left
 next_left rows place row left at k = ap (slice_get rows) (let e : place + 1 + k ≡ place + suc k = omega arith in e) ∙ at (suc k)
 
-none_left : (rows : List LineRow) (place : ℕ) → IsLeft rows place [] → IsLeft rows (place + 1) []
+pub none_left : (rows : List LineRow) (place : ℕ) → IsLeft rows place [] → IsLeft rows (place + 1) []
 none_left rows place at k = ap (slice_get rows) (let e : place + 1 + k ≡ place + suc k = omega arith in e) ∙ at (suc k)
 
 same_kind-self : (kind : MediaKind) → same_kind kind kind ≡ true
@@ -175,9 +183,9 @@ known_line rows offer came place own row table there same = absurd same
 new_line : (rows : List LineRow) (offer came : Bool) (place : ℕ) (row : LineRow) → slice_get rows place ≡ None → NewRow rows row
     → (line_refusal rows offer came place (row_said row) ≡ None) × (is_new rows (row_said row) ≡ true)
 new_line rows offer came place (Media at mid Audio dir stopped remote_created) there new =
-    let found : row_of rows mid ≡ None = none_of_mid rows mid (row_of rows mid) refl new.0 in (rw (found, there) refl, rw found refl)
+    let found : row_of rows mid ≡ None = none_of_mid rows mid (row_of rows mid) refl new in (rw (found, there) refl, rw found refl)
 new_line rows offer came place (Media at mid Video dir stopped remote_created) there new =
-    let found : row_of rows mid ≡ None = none_of_mid rows mid (row_of rows mid) refl new.0 in (rw (found, there) refl, rw found refl)
+    let found : row_of rows mid ≡ None = none_of_mid rows mid (row_of rows mid) refl new in (rw (found, there) refl, rw found refl)
 new_line rows offer came place (App at mid) there new = absurd new
 
 -- no line of rows that go on from a table is refused

@@ -1,5 +1,5 @@
 -- The text of rows says these rows, and the rows of an offer have distinct mids.
-use Rattle.std.proofs.Common.{◌≡◌, ◌+◌, ℕ, Bool, true, false, not, ◌||◌, List, [], ◌∷◌, ◌++◌, map, refl, sym, ◌∙◌, ap, subst, cond, append_assoc}
+use Rattle.std.proofs.Common.{◌≡◌, ℕ, Bool, true, false, not, ◌||◌, List, [], ◌∷◌, ◌++◌, map, refl, sym, ◌∙◌, ap, subst, cond, append_assoc}
 use Rattle.std.specs.Prelude.{filter, None}
 use Rattle.std.specs.List.{list_all}
 use Rattle.std.specs.Str.{bytes_eq}
@@ -17,14 +17,8 @@ use Rattle.rtc_plan.specs.SaidLines.{said_line, said_lines}
 use Rattle.rtc_plan.specs.Table.{Distinct, is_of, has_mid}
 use Rattle.rtc_peer_state.specs.declared.identity.Identity.{Identity}
 use Rattle.rtc_peer_state.specs.Texts.{is_stopped, row_line, live_mids, text_of}
-use Rattle.rtc_steps.specs.declared.op.Op.{Op}
-use Rattle.rtc_steps.specs.declared.op.Op.TheVariants.{AddMedia}
-use Rattle.rtc_steps.specs.declared.op_answer.OpAnswer.{OpAnswer}
-use Rattle.rtc_steps.specs.declared.op_answer.OpAnswer.TheVariants.{Mid, Alloc as OpAlloc}
-use Rattle.rtc_steps.specs.Past.{added}
-use Rattle.rtc_steps.specs.Sound.{OpsAnswered}
 use Rattle.rtc_steps.specs.SaidRows.{row_said, are_live}
-use Rattle.rtc_course.proofs.Staging.{among_rows}
+use Rattle.rtc_course.proofs.AddedRows.{AreAdded, among_mids, added_apart, added_distinct}
 
 -- ---- what a text says of rows
 
@@ -102,7 +96,7 @@ mids_of_rows identity setup (App place mid ∷ rows) = ap (λ mids. mid ∷ mids
 distinct_mids : (rows : List LineRow) → Distinct rows → are_distinct (map row_mid rows) ≡ true
 distinct_mids [] distinct = refl
 distinct_mids (row ∷ rows) distinct =
-    let none : is_among (map row_mid rows) (row_mid row) ≡ false = among_rows rows (row_mid row) ∙ distinct.0 in
+    let none : is_among (map row_mid rows) (row_mid row) ≡ false = among_mids rows (row_mid row) ∙ distinct.0 in
     rw none (distinct_mids rows distinct.1)
 
 some_live : (rows : List LineRow) → are_live rows ≡ true → is_none_of (live_mids rows) ≡ false
@@ -177,22 +171,6 @@ text_fits session identity setup rows distinct live =
 
 -- ---- the rows of an offer
 
--- a mid that is held is not added
-added_apart : (held : List (List ℕ)) (ops : List Op) (answers : List OpAnswer) (place : ℕ) (mid : List ℕ) → OpsAnswered held ops answers → is_among held mid ≡ true → has_mid mid (added place ops answers) ≡ false
-added_apart held [] [] place mid answered among = refl
-added_apart held (AddMedia kind dir ∷ ops) (Mid own ∷ answers) place mid answered among =
-    let other : bytes_eq own mid ≡ false = false_from_ne_true (bytes_eq own mid) (λ same. both_ways (is_among held own) answered.0 (subst (λ (m : List ℕ). is_among held m ≡ true) (sym ((bytes_eq-Decides own mid).0 same)) among)) in
-    rw other (added_apart (own ∷ held) ops answers (place + 1) mid answered.1 (rw (other, among) refl))
-added_apart held (AddMedia kind dir ∷ ops) (OpAlloc ∷ []) place mid answered among = refl
-added_apart held ops answers place mid answered among = absurd answered
-
-pub added_distinct : (held : List (List ℕ)) (ops : List Op) (answers : List OpAnswer) (place : ℕ) → OpsAnswered held ops answers → Distinct (added place ops answers)
-added_distinct held [] [] place answered = tt
-added_distinct held (AddMedia kind dir ∷ ops) (Mid mid ∷ answers) place answered =
-    (added_apart (mid ∷ held) ops answers (place + 1) mid answered.1 (rw ((bytes_eq-Decides mid mid).1 refl) refl), added_distinct (mid ∷ held) ops answers (place + 1) answered.1)
-added_distinct held (AddMedia kind dir ∷ ops) (OpAlloc ∷ []) place answered = tt
-added_distinct held ops answers place answered = absurd answered
-
 distinct_append : (rows more : List LineRow) → Distinct rows → Distinct more → ((mid : List ℕ) → is_among (map row_mid rows) mid ≡ true → has_mid mid more ≡ false) → Distinct (rows ++ more)
 distinct_append [] more distinct other apart = other
 distinct_append (row ∷ rows) more distinct other apart = (
@@ -205,6 +183,6 @@ distinct_append (row ∷ rows) more distinct other apart = (
     either false is = is
 
 -- the rows of an offer have distinct mids
-pub offered_distinct : (rows : List LineRow) (ops : List Op) (answers : List OpAnswer) (place : ℕ) → Distinct rows → OpsAnswered (map row_mid rows) ops answers → Distinct (rows ++ added place ops answers)
-offered_distinct rows ops answers place distinct answered =
-    distinct_append rows (added place ops answers) distinct (added_distinct (map row_mid rows) ops answers place answered) (λ mid among. added_apart (map row_mid rows) ops answers place mid answered among)
+pub offered_distinct : (rows more : List LineRow) (place : ℕ) → Distinct rows → AreAdded (map row_mid rows) place more → Distinct (rows ++ more)
+offered_distinct rows more place distinct new =
+    distinct_append rows more distinct (added_distinct (map row_mid rows) place more new) (λ mid among. added_apart (map row_mid rows) place more mid new among)

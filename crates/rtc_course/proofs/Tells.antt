@@ -2,7 +2,7 @@
 use Rattle.std.proofs.Common.{◌≡◌, ◌≤◌, ◌<◌, ◌+◌, ◌^◌, ◌==◌, ℕ, List, ◌∷◌, map, length, All, Bool, true, false, Option, Some, None, refl, sym, ◌∙◌, ap, arith, cond, ◌⊎◌, inl, inr}
 use Rattle.std.specs.Prelude.{slice_get, is_some}
 use Rattle.std.proofs.lemmas.Bool.{ne_eqb}
-use Rattle.rtc_plan.specs.PendingOffer.{PendingOffer, added_rows}
+use Rattle.rtc_plan.specs.PendingOffer.{PendingOffer, added_mids, added_rows}
 use Rattle.rtc_peer_state.specs.declared.peer.Peer.{Peer}
 use Rattle.rtc_peer_state.specs.Calls.{raised}
 use Rattle.rtc_steps.specs.declared.side.Side.{Side}
@@ -22,7 +22,7 @@ pub record TokenTells (past : List Entry) (at : Side) (counter t : ℕ) (kept : 
 
 -- the rows of a side with those that its right token adds are at most so many
 abbrev pub Fits : {N : Type 0} → Side → Peer N → List Kept → ℕ → Type 0
-Fits at peer kept size = (t : ℕ) (token : PendingOffer) → held_token kept at t ≡ Some token → peer.counter ≡ raised token.id → length peer.lines + length token.changes ≤ size
+Fits at peer kept size = (t : ℕ) (token : PendingOffer) → held_token kept at t ≡ Some token → peer.counter ≡ raised token.id → length peer.lines + length (added_mids token.changes) ≤ size
 
 -- What a past says of a side.
 pub record SideTells {N : Type 0} (past : List Entry) (at : Side) (peer : Peer N) (kept : List Kept) (size : ℕ) : Type 0 where
@@ -149,11 +149,10 @@ fits_moved past at old new kept kept' size size' counter small was told t token 
     absurd (omega (arith, counter, right, next))
 
 pub fits_same : {N : Type 0} (past : List Entry) (at : Side) (old new : Peer N) (kept kept' : List Kept) (size size' : ℕ)
-    → new.counter ≡ old.counter → new.lines ≡ old.lines → size ≤ size' → HeldBefore at kept kept' → SideTells past at old kept size → Fits at new kept' size'
+    → new.counter ≡ old.counter → length new.lines ≡ length old.lines → size ≤ size' → HeldBefore at kept kept' → SideTells past at old kept size → Fits at new kept' size'
 fits_same past at old new kept kept' size size' counter lines grows was told t token is right =
-    let fit : length old.lines + length token.changes ≤ size = told.fits t token (was t token is) (sym counter ∙ right) in
-    let rows : length new.lines ≡ length old.lines = ap length lines in
-    omega (arith, fit, rows, grows)
+    let fit : length old.lines + length (added_mids token.changes) ≤ size = told.fits t token (was t token is) (sym counter ∙ right) in
+    omega (arith, fit, lines, grows)
 
 at_most_one : (moved : Bool) (counter size size' : ℕ) → counter ≤ size → size + 1 ≤ size' → cond moved (counter + 1) counter ≤ size'
 at_most_one true counter size size' low grows = omega arith

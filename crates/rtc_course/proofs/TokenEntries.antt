@@ -5,7 +5,7 @@ use Rattle.std.proofs.lemmas.Bool.{eq-eqb, and_right, both_ways}
 use Rattle.std.proofs.lemmas.List.{length-map, drop_all}
 use Rattle.std.proofs.lemmas.List.Elements.{All-set, All-get_or}
 use Rattle.std.proofs.lemmas.Option.{slice_get_within, get_or_from_slice_get}
-use Rattle.rtc_plan.specs.PendingOffer.{PendingOffer, added_rows}
+use Rattle.rtc_plan.specs.PendingOffer.{PendingOffer, added_mids, added_rows}
 use Rattle.rtc_peer_state.specs.declared.peer.Peer.{Peer}
 use Rattle.rtc_peer_state.specs.Calls.{raised}
 use Rattle.rtc_steps.specs.declared.side.Side.{Side}
@@ -41,9 +41,9 @@ fits_spent past at old new kept kept' size size' k token counter small held spen
     let here : k ≡ t = told.one_each k t token other held (was t other is) same in
     absurd (let e : None ≡ Some other = sym spent ∙ ap (held_token kept' at) here ∙ is in cc)
 
--- the rows stay, or the token that is spent was right
+-- there are as many rows, or the token that is spent was right
 abbrev pub StaysOrRight : {N : Type 0} → Side → Peer N → List Kept → ℕ → Peer N → Type 0
-StaysOrRight at old kept k new = (new.lines ≡ old.lines) ⊎ ((token : PendingOffer) × (held_token kept at k ≡ Some token) × (old.counter ≡ raised token.id))
+StaysOrRight at old kept k new = (length new.lines ≡ length old.lines) ⊎ ((token : PendingOffer) × (held_token kept at k ≡ Some token) × (old.counter ≡ raised token.id))
 
 fits_either : {N : Type 0} (past : List Entry) (at : Side) (old new : Peer N) (kept kept' : List Kept) (size size' k : ℕ) → StaysOrRight at old kept k new
     → new.counter ≡ old.counter → size < 2 ^ 32 → size ≤ size' → held_token kept' at k ≡ None → HeldBefore at kept kept' → SideTells past at old kept size → Fits at new kept' size'
@@ -138,17 +138,17 @@ one_each_offered past at old kept size token id told t u one other (inr new) (in
 one_each_offered past at old kept size token id told t u one other (inr new) (inr new') same = new.0 ∙ sym new'.0
 
 fits_offered : {N : Type 0} (past : List Entry) (at : Side) (old new : Peer N) (kept : List Kept) (size size' : ℕ) (token : PendingOffer) → new.counter ≡ old.counter + 1 → size < 2 ^ 32
-    → length new.lines + length token.changes ≤ size' → SideTells past at old kept size
-    → (t : ℕ) (other : PendingOffer) → Origin at kept token t other → new.counter ≡ raised other.id → length new.lines + length other.changes ≤ size'
+    → length new.lines + length (added_mids token.changes) ≤ size' → SideTells past at old kept size
+    → (t : ℕ) (other : PendingOffer) → Origin at kept token t other → new.counter ≡ raised other.id → length new.lines + length (added_mids other.changes) ≤ size'
 fits_offered past at old new kept size size' token counter small fit told t other (inl is) right =
     fits_moved past at old new kept kept size size' counter small (λ u one held. held) told t other is right
 fits_offered past at old new kept size size' token counter small fit told t other (inr made) right =
-    let n : length token.changes ≡ length other.changes = ap (λ k. length k.changes) made.1 in omega arith
+    let n : length (added_mids token.changes) ≡ length (added_mids other.changes) = ap (λ k. length (added_mids k.changes)) made.1 in omega arith
 
 pub offered_tells : {N : Type 0} (past : List Entry) (e : Entry) (old new : PairState N) (kept : Kept) (token : PendingOffer) → Goes true past e old new
     → kept.at ≡ side_of e.step → kept.offer ≡ true → kept.token ≡ Some token → token.id ≡ (peer_at (side_of e.step) old).counter
     → ((place : ℕ) → added_in place e.step e.outcome ≡ added_rows place token.changes)
-    → length kept.text.lines ≤ new.size → length (peer_at (side_of e.step) new).lines + length token.changes ≤ new.size → new.texts ≡ old.texts ++ kept ∷ []
+    → length kept.text.lines ≤ new.size → length (peer_at (side_of e.step) new).lines + length (added_mids token.changes) ≤ new.size → new.texts ≡ old.texts ++ kept ∷ []
     → ((t : ℕ) → spends t e.step e.outcome ≡ false) → ((t : ℕ) → makes t e.outcome ≡ (length old.texts == t)) → Tells past old → Tells (e ∷ past) new
 offered_tells past e old new kept token goes by offer has id adds few fit pushed unspent makes_it tells =
     let at = side_of e.step in

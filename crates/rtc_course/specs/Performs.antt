@@ -1,21 +1,22 @@
 -- What each step does to a pair: the calls that it makes, by the relations of these calls.
-use Rattle.std.specs.Prelude.{◌≡◌, ◌+◌, ℕ, List, [], ◌∷◌, ◌++◌, map, drop, Bool, true, false, not, ◌&&◌, Option, Some, None, Ok, Err, length, alloc_error}
+use Rattle.std.specs.Prelude.{◌≡◌, ◌+◌, ℕ, List, [], ◌∷◌, ◌++◌, map, drop, Bool, true, false, not, ◌&&◌, Option, Some, None, Ok, Err, length, alloc_error, slice_get}
 use Rattle.rtc_rows.specs.declared.direction.Direction.{Direction}
 use Rattle.rtc_rows.specs.declared.media_kind.MediaKind.{MediaKind}
 use Rattle.rtc_rows.specs.declared.sdp.Sdp.{Sdp}
 use Rattle.rtc_lines.specs.declared.sdp_offer.SdpOffer.{SdpOffer}
 use Rattle.rtc_lines.specs.declared.sdp_answer.SdpAnswer.{SdpAnswer}
 use Rattle.rtc_plan.specs.PendingOffer.{PendingOffer}
+use Rattle.rtc_plan.specs.RowChanges.{media_mid}
 use Rattle.rtc_peer_state.specs.declared.peer.Peer.{Peer}
 use Rattle.rtc_peer_state.specs.Draws.{Draws}
-use Rattle.rtc_peer_state.specs.Calls.{AcceptsOffer, AcceptsAnswer, AddsMedia, Applies, Wanted}
+use Rattle.rtc_peer_state.specs.Calls.{AcceptsOffer, AcceptsAnswer, AddsMedia, SetsDirection, StopsMedia, Applies, Wanted}
 use Rattle.rtc_steps.specs.declared.side.Side.{Side}
 use Rattle.rtc_steps.specs.declared.op.Op.{Op}
-use Rattle.rtc_steps.specs.declared.op.Op.TheVariants.{AddMedia}
+use Rattle.rtc_steps.specs.declared.op.Op.TheVariants.{AddMedia, SetDirection, StopMedia}
 use Rattle.rtc_steps.specs.declared.step.Step.{Step}
 use Rattle.rtc_steps.specs.declared.step.Step.TheVariants.{Negotiate, AcceptOffer, AcceptAnswer}
 use Rattle.rtc_steps.specs.declared.op_answer.OpAnswer.{OpAnswer}
-use Rattle.rtc_steps.specs.declared.op_answer.OpAnswer.TheVariants.{Mid, Alloc as OpAlloc}
+use Rattle.rtc_steps.specs.declared.op_answer.OpAnswer.TheVariants.{Mid, Changed, NoLine, Alloc as OpAlloc}
 use Rattle.rtc_steps.specs.declared.made.Made.{Made}
 use Rattle.rtc_steps.specs.declared.made.Made.TheVariants.{NotAsked, Nothing, Offer, Alloc as MadeAlloc}
 use Rattle.rtc_steps.specs.declared.outcome.Outcome.{Outcome}
@@ -47,11 +48,25 @@ pub record Stays {N : Type 0} (old : Peer N) (texts : List Kept) (new : Peer N) 
   pub peer : new ≡ old
   pub texts_kept : texts' ≡ texts
 
+-- a call names the line at a place by its mid
+pub record CallsLine {N : Type 0} (p : Peer N) (place : ℕ) (call : List ℕ → Type 0) : Type 0 where
+  pub mid : List ℕ
+  pub there : media_mid (slice_get p.lines place) ≡ Some mid
+  pub called : call mid
+
 -- Ops are performed in order, up to the first that lacks memory.
 abbrev pub PerformsOps : {N : Type 0} → Draws N → Peer N → List Op → List OpAnswer → Peer N → Type 0
 PerformsOps draws p [] [] q = q ≡ p
 PerformsOps {N} draws p (AddMedia kind dir ∷ ops) (Mid mid ∷ answers) q = (r : Peer N) × AddsMedia draws p (wanted kind dir) (Ok mid) r × PerformsOps draws r ops answers q
 PerformsOps draws p (AddMedia kind dir ∷ ops) (OpAlloc ∷ []) q = AddsMedia draws p (wanted kind dir) (Err alloc_error) q
+PerformsOps draws p (SetDirection place dir ∷ ops) (NoLine ∷ answers) q = (media_mid (slice_get p.lines place) ≡ None) × PerformsOps draws p ops answers q
+PerformsOps {N} draws p (SetDirection place dir ∷ ops) (Changed changed ∷ answers) q =
+    (r : Peer N) × CallsLine p place (λ mid. SetsDirection p mid dir (Ok changed) r) × PerformsOps draws r ops answers q
+PerformsOps draws p (SetDirection place dir ∷ ops) (OpAlloc ∷ []) q = CallsLine p place (λ mid. SetsDirection p mid dir (Err alloc_error) q)
+PerformsOps draws p (StopMedia place ∷ ops) (NoLine ∷ answers) q = (media_mid (slice_get p.lines place) ≡ None) × PerformsOps draws p ops answers q
+PerformsOps {N} draws p (StopMedia place ∷ ops) (Changed changed ∷ answers) q =
+    (r : Peer N) × CallsLine p place (λ mid. StopsMedia p mid (Ok changed) r) × PerformsOps draws r ops answers q
+PerformsOps draws p (StopMedia place ∷ ops) (OpAlloc ∷ []) q = CallsLine p place (λ mid. StopsMedia p mid (Err alloc_error) q)
 PerformsOps draws p ops answers q = ⊥
 
 -- What is staged is applied where that is asked: at a peer, with the texts before and after.

@@ -1,5 +1,6 @@
 //! Texts of the other side that a peer takes.
 ghost use Rattle.std.specs.Prelude.{◌≡◌, ◌+◌, ◌<◌, ◌≤◌, ◌^◌, ◌-◌, ◌%◌, length, [], List, true, false, Bool, IfOk, Some, None, max, Ok, Err, Result};
+ghost use Rattle.rtc_plan.specs.PendingOffer.{added_mids};
 ghost use Rattle.rtc_plan.specs.Plans.{PlansText, asked_by, plan_of};
 ghost use Rattle.rtc_plan.specs.Table.{IsTable};
 ghost use Rattle.rtc_plan.specs.SaidLines.{said_lines};
@@ -57,7 +58,7 @@ fn judge_answer(
     token: &SdpPendingOffer,
     text: &Sdp,
 ) -> Result<Plan, Refusal>
-    requires rows { length lines.now + length token.now.changes < 2 ^ 32 - 1 }
+    requires rows { length lines.now + length (added_mids token.now.changes) < 2 ^ 32 - 1 }
     requires lines { length text.now.lines < 2 ^ 32 - 1 }
     ensures plans { PlansText (record { lines = lines.now }) (Some (asked_by lines.now token.now)) text.now result }
     ensures table { IfOk result (λ plan. IsTable plan.rows) }
@@ -113,7 +114,7 @@ pub fn accept_answer<N: Ids>(
     token: SdpPendingOffer,
     answer: SdpAnswer,
 ) -> Result<(), RtcError>
-    requires rows { peer.old.counter ≡ raised token.id → length peer.old.lines + length token.changes < 2 ^ 32 - 1 }
+    requires rows { peer.old.counter ≡ raised token.id → length peer.old.lines + length (added_mids token.changes) < 2 ^ 32 - 1 }
     requires lines { length answer.0.lines < 2 ^ 32 - 1 }
     ensures { AcceptsAnswer N.ids peer.old token answer result peer.new }
 {

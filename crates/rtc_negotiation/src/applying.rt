@@ -1,5 +1,6 @@
 //! Staged changes that are applied.
 ghost use Rattle.std.specs.Prelude.{◌≡◌, ◌+◌, ◌<◌, ◌^◌, ◌-◌, length};
+ghost use Rattle.rtc_plan.specs.PendingOffer.{added_mids};
 ghost use Rattle.rtc_peer_state.specs.Calls.{Applies};
 
 use crate::saying::{list_offered_rows, say_text};
@@ -16,7 +17,7 @@ use std::mem;
 pub fn apply_staged<N>(
     peer: &mut Peer<N>,
 ) -> Result<Option<(SdpOffer, SdpPendingOffer)>, AllocError>
-    requires { length peer.old.lines + length peer.old.staged < 2 ^ 32 - 1 }
+    requires { length peer.old.lines + length (added_mids peer.old.staged) < 2 ^ 32 - 1 }
     ensures { Applies peer.old result peer.new }
 {
     if peer.staged.is_empty() {

@@ -1,11 +1,11 @@
 //! Draws of names.
 ghost use Rattle.std.specs.Prelude.{◌≡◌, ◌+◌, ◌-◌, ◌%◌, ◌<◌, ◌^◌, false, IfOk, OnOk, Option, option_map, string_bytes, length, codes};
-ghost use Rattle.rtc_plan.specs.PendingOffer.{adds_mid};
+ghost use Rattle.rtc_plan.specs.PendingOffer.{added_mids, adds_mid};
 ghost use Rattle.rtc_peer_state.specs.Names.{drawn_mid, is_held, free_mid, kept_bytes, kept_name, name_of, after_name};
 
 use rtc_fields::is_token_byte;
 use rtc_peer_state::Ids;
-use rtc_plan::{Change, Lines, is_added};
+use rtc_plan::{Change, Lines, count_added, is_added};
 use rtc_rows::Mid;
 use rtc_wire::Text;
 use std::alloc::{AllocError, Global};
@@ -26,10 +26,10 @@ fn is_held_mid(lines: &Lines, staged: &[Change], mid: Mid) -> bool
 
 // The first mid counted on from a number that no row and no staged line has.
 fn find_mid(alloc: Global, lines: &Lines, staged: &[Change], first: u32) -> Result<Mid, AllocError>
-    requires { length lines.now + length staged.now < 2 ^ 63 }
-    ensures { IfOk result (λ mid. mid ≡ free_mid (is_held lines.now staged.now) (length lines.now + length staged.now) first) }
+    requires { length lines.now + length (added_mids staged.now) < 2 ^ 63 }
+    ensures { IfOk result (λ mid. mid ≡ free_mid (is_held lines.now staged.now) (length lines.now + length (added_mids staged.now)) first) }
 {
-    let tries = lines.rows().len() + staged.len();
+    let tries = lines.rows().len() + count_added(staged);
     let mut n = first;
     for _ in 0..tries {
         let mid = numbered_mid(alloc, n)?;
@@ -48,8 +48,8 @@ pub fn draw_mid<N: Ids>(
     lines: &Lines,
     staged: &[Change],
 ) -> Result<Mid, AllocError>
-    requires { length lines.now + length staged.now < 2 ^ 32 - 1 }
-    ensures mid { IfOk result (λ mid. mid ≡ free_mid (is_held lines.now staged.now) (length lines.now + length staged.now) (N.ids.drawn ids.old % 2 ^ 32)) }
+    requires { length lines.now + length (added_mids staged.now) < 2 ^ 32 - 1 }
+    ensures mid { IfOk result (λ mid. mid ≡ free_mid (is_held lines.now staged.now) (length lines.now + length (added_mids staged.now)) (N.ids.drawn ids.old % 2 ^ 32)) }
     ensures free { IfOk result (λ mid. is_held lines.now staged.now mid ≡ false) }
     ensures after { ids.new ≡ N.ids.after ids.old }
 {

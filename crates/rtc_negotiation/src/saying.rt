@@ -1,6 +1,6 @@
 //! Session texts that a peer makes.
 ghost use Rattle.std.specs.Prelude.{◌≡◌, ◌+◌, ◌++◌, ◌<◌, ◌^◌, IfOk, map, length};
-ghost use Rattle.rtc_plan.specs.PendingOffer.{added_rows};
+ghost use Rattle.rtc_plan.specs.PendingOffer.{added_mids, added_rows};
 ghost use Rattle.rtc_peer_state.specs.Texts.{is_stopped, bare_line, row_line, line_kind, live_mids, text_of};
 
 use rtc_peer_state::Identity;
@@ -153,13 +153,16 @@ pub fn list_offered_rows(
     rows: &[LineRow],
     staged: &[Change],
 ) -> Result<Vec<LineRow>, AllocError>
-    requires { length rows.now + length staged.now < 2 ^ 32 }
+    requires { length rows.now + length (added_mids staged.now) < 2 ^ 32 }
     ensures { IfOk result (λ offered. offered.items ≡ rows.now ++ added_rows (length rows.now) staged.now) }
 {
     let mut offered = rows.to_vec(alloc)?;
     let mut place = rows.len() as u32;
     for change in staged {
-        offered.push(change.new_row(place))?;
+        let Some(row) = change.new_row(place) else {
+            continue;
+        };
+        offered.push(row)?;
         place += 1;
     }
     Ok(offered)

@@ -1,5 +1,6 @@
 //! Media lines that are staged.
 ghost use Rattle.std.specs.Prelude.{◌≡◌, ◌+◌, ◌<◌, ◌^◌, ◌-◌, IfOk, OnOk, length, option_map, string_bytes};
+ghost use Rattle.rtc_plan.specs.PendingOffer.{added_mids};
 ghost use Rattle.rtc_peer_state.specs.Calls.{AddsMedia};
 ghost use Rattle.rtc_peer_state.specs.Sources.{pair_count};
 
@@ -30,7 +31,7 @@ pub fn stage_media<N: Ids>(
     track_id: Option<String>,
     simulcast: Option<Simulcast>,
 ) -> Result<Mid, AllocError>
-    requires { length peer.old.lines + length peer.old.staged < 2 ^ 32 - 1 }
+    requires { length peer.old.lines + length (added_mids peer.old.staged) < 2 ^ 32 - 1 }
     ensures { AddsMedia N.ids peer.old (record { kind = kind; dir = dir; stream = option_map (λ name. string_bytes name) stream_id; track = option_map (λ name. string_bytes name) track_id; simulcast = simulcast }) result peer.new }
 {
     let alloc = peer.alloc;

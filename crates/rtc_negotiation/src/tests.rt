@@ -1,5 +1,6 @@
 //! Peers that the tests speak of.
 ghost use Rattle.std.specs.Prelude.{◌+◌, ◌<◌, IsTrue, length};
+ghost use Rattle.rtc_plan.specs.PendingOffer.{added_mids};
 
 mod rounds;
 mod stagings;
@@ -7,7 +8,7 @@ mod stagings;
 use crate::{apply_staged, build_peer, stage_media};
 use rtc_lines::SdpOffer;
 use rtc_peer_state::{CountIds, Peer, RtcConfig};
-use rtc_plan::SdpPendingOffer;
+use rtc_plan::{SdpPendingOffer, count_added};
 use rtc_rows::{Direction, MediaKind};
 use rtc_wire::Moment;
 use std::alloc::{AllocError, Global};
@@ -22,9 +23,9 @@ fn made(alloc: Global, first: u64) -> Result<Peer<CountIds>, AllocError> {
 
 // Whether a peer has few rows and staged lines, as each peer of these tests does.
 fn is_small(peer: &Peer<CountIds>) -> bool
-    ensures { IsTrue result → length peer.now.lines + length peer.now.staged < 200 }
+    ensures { IsTrue result → length peer.now.lines + length (added_mids peer.now.staged) < 200 }
 {
-    peer.lines.rows().len() < 100 && peer.staged.len() < 100
+    peer.lines.rows().len() < 100 && count_added(peer.staged.as_slice()) < 100
 }
 
 // Stages a line that has no names of its own.

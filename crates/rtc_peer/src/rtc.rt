@@ -1,12 +1,15 @@
 //! The peer that callers hold.
 ghost use Rattle.std.specs.Prelude.{◌≡◌, ◌≢◌, IsTrue, ◌↔◌, ◌+◌, ◌<◌, ◌≤◌, ◌^◌, ◌-◌, [], IfOk, length, option_map, string_bytes};
-ghost use Rattle.rtc_peer_state.specs.Calls.{AcceptsOffer, AcceptsAnswer, AddsMedia, Applies, raised};
+ghost use Rattle.rtc_plan.specs.PendingOffer.{added_mids};
+ghost use Rattle.rtc_peer_state.specs.Calls.{AcceptsOffer, AcceptsAnswer, AddsMedia, SetsDirection, StopsMedia, Applies, raised};
 ghost use Rattle.rtc_peer_state.specs.Built.{built};
 ghost use Rattle.rtc_peer_state.specs.Formed.{IsFormed};
 
 use crate::SdpApi;
 use rtc_lines::{Direction, MediaKind, Mid, SdpAnswer, SdpOffer, Simulcast};
-use rtc_negotiation::{accept_answer, accept_offer, apply_staged, build_peer, stage_media};
+use rtc_negotiation::{
+    accept_answer, accept_offer, apply_staged, build_peer, set_direction, stage_media, stop_media,
+};
 use rtc_peer_state::{Ids, Peer, RtcConfig, RtcError};
 use rtc_plan::{Lines, SdpPendingOffer};
 use rtc_wire::Moment;
@@ -83,7 +86,7 @@ impl<N: Ids> Rtc<N> {
         pending: SdpPendingOffer,
         answer: SdpAnswer,
     ) -> Result<(), RtcError>
-        requires rows { self.old.core.counter ≡ raised pending.id → length self.old.core.lines + length pending.changes < 2 ^ 32 - 1 }
+        requires rows { self.old.core.counter ≡ raised pending.id → length self.old.core.lines + length (added_mids pending.changes) < 2 ^ 32 - 1 }
         requires lines { length answer.0.lines < 2 ^ 32 - 1 }
         ensures { AcceptsAnswer N.ids self.old.core pending answer result self.new.core }
     {
@@ -98,14 +101,26 @@ impl<N: Ids> Rtc<N> {
         track_id: Option<String>,
         simulcast: Option<Simulcast>,
     ) -> Result<Mid, AllocError>
-        requires { length self.old.core.lines + length self.old.core.staged < 2 ^ 32 - 1 }
+        requires { length self.old.core.lines + length (added_mids self.old.core.staged) < 2 ^ 32 - 1 }
         ensures { AddsMedia N.ids self.old.core (record { kind = kind; dir = dir; stream = option_map (λ name. string_bytes name) stream_id; track = option_map (λ name. string_bytes name) track_id; simulcast = simulcast }) result self.new.core }
     {
         stage_media(&mut self.core, kind, dir, stream_id, track_id, simulcast)
     }
 
+    pub(crate) fn turn(&mut self, mid: Mid, dir: Direction) -> Result<bool, AllocError>
+        ensures { SetsDirection self.old.core mid dir result self.new.core }
+    {
+        set_direction(&mut self.core, mid, dir)
+    }
+
+    pub(crate) fn stop(&mut self, mid: Mid) -> Result<bool, AllocError>
+        ensures { StopsMedia self.old.core mid result self.new.core }
+    {
+        stop_media(&mut self.core, mid)
+    }
+
     pub(crate) fn apply(&mut self) -> Result<Option<(SdpOffer, SdpPendingOffer)>, AllocError>
-        requires { length self.old.core.lines + length self.old.core.staged < 2 ^ 32 - 1 }
+        requires { length self.old.core.lines + length (added_mids self.old.core.staged) < 2 ^ 32 - 1 }
         ensures { Applies self.old.core result self.new.core }
     {
         apply_staged(&mut self.core)

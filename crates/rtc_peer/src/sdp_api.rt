@@ -1,6 +1,7 @@
 //! Offers and answers of a peer.
 ghost use Rattle.std.specs.Prelude.{◌≡◌, ◌≢◌, IsTrue, ◌↔◌, ◌+◌, ◌<◌, ◌≤◌, ◌^◌, ◌-◌, [], IfOk, length, option_map, string_bytes};
-ghost use Rattle.rtc_peer_state.specs.Calls.{AcceptsOffer, AcceptsAnswer, AddsMedia, Applies, raised};
+ghost use Rattle.rtc_plan.specs.PendingOffer.{added_mids};
+ghost use Rattle.rtc_peer_state.specs.Calls.{AcceptsOffer, AcceptsAnswer, AddsMedia, SetsDirection, StopsMedia, Applies, raised};
 ghost use Rattle.rtc_peer_state.specs.Whole.{Whole};
 
 use crate::Rtc;
@@ -11,7 +12,8 @@ use std::alloc::AllocError;
 
 /// A handle on the negotiation of a peer.
 ///
-/// Changes are staged on it, and offered together by `apply`. A handle that is dropped offers nothing.
+/// Changes are staged on it, and offered together by `apply`. A handle that is dropped offers nothing; what it set or
+/// stopped stays so.
 #[derive(Drop)]
 pub struct SdpApi<'a, N: Ids> {
     pub(crate) rtc: &'a mut Rtc<N>,
@@ -31,7 +33,7 @@ impl<'a, N: Ids> SdpApi<'a, N> {
 
     /// Takes the answer to an offer of this side (RFC 8829, section 5.11). The token is spent in any case.
     pub fn accept_answer(self, pending: SdpPendingOffer, answer: SdpAnswer) -> Result<(), RtcError>
-        requires rows { self.rtc.now.core.counter ≡ raised pending.id → length self.rtc.now.core.lines + length pending.changes < 2 ^ 32 - 1 }
+        requires rows { self.rtc.now.core.counter ≡ raised pending.id → length self.rtc.now.core.lines + length (added_mids pending.changes) < 2 ^ 32 - 1 }
         requires lines { length answer.0.lines < 2 ^ 32 - 1 }
         ensures { AcceptsAnswer N.ids self.entry.rtc.now.core pending answer result self.exit.0.now.core }
     {
@@ -64,18 +66,41 @@ impl<'a, N: Ids> SdpApi<'a, N> {
         track_id: Option<String>,
         simulcast: Option<Simulcast>,
     ) -> Result<Mid, AllocError>
-        requires { length self.old.rtc.now.core.lines + length self.old.rtc.now.core.staged < 2 ^ 32 - 1 }
+        requires { length self.old.rtc.now.core.lines + length (added_mids self.old.rtc.now.core.staged) < 2 ^ 32 - 1 }
         ensures same_reference { self.new.rtc.ghost_name ≡ self.old.rtc.ghost_name }
         ensures adds { AddsMedia N.ids self.old.rtc.now.core (record { kind = kind; dir = dir; stream = option_map (λ name. string_bytes name) stream_id; track = option_map (λ name. string_bytes name) track_id; simulcast = simulcast }) result self.new.rtc.now.core }
     {
         self.rtc.stage(kind, dir, stream_id, track_id, simulcast)
     }
 
+    /// Gives a live media line another direction, and stages that (RFC 8829, section 4.2.3).
+    ///
+    /// It acts at once, before anything is applied. It answers whether the line changed, which str0m does not tell;
+    /// nothing happens where the line is stopped, has that direction, carries data channels or is not there.
+    pub fn set_direction(&mut self, mid: Mid, dir: Direction) -> Result<bool, AllocError>
+        ensures same_reference { self.new.rtc.ghost_name ≡ self.old.rtc.ghost_name }
+        ensures sets { SetsDirection self.old.rtc.now.core mid dir result self.new.rtc.now.core }
+    {
+        self.rtc.turn(mid, dir)
+    }
+
+    /// Stops a live media line for good, and stages that (RFC 8829, section 4.2.1).
+    ///
+    /// It acts at once, before anything is applied: the row stays at its place, inactive. It answers whether the line
+    /// changed, which str0m does not tell; nothing happens where the line is stopped, carries data channels or is not
+    /// there.
+    pub fn stop_media(&mut self, mid: Mid) -> Result<bool, AllocError>
+        ensures same_reference { self.new.rtc.ghost_name ≡ self.old.rtc.ghost_name }
+        ensures stops { StopsMedia self.old.rtc.now.core mid result self.new.rtc.now.core }
+    {
+        self.rtc.stop(mid)
+    }
+
     /// Makes the offer of what is staged, with the token that its answer is to be handed in with.
     ///
     /// None where nothing is staged.
     pub fn apply(self) -> Result<Option<(SdpOffer, SdpPendingOffer)>, AllocError>
-        requires { length self.rtc.now.core.lines + length self.rtc.now.core.staged < 2 ^ 32 - 1 }
+        requires { length self.rtc.now.core.lines + length (added_mids self.rtc.now.core.staged) < 2 ^ 32 - 1 }
         ensures { Applies self.entry.rtc.now.core result self.exit.0.now.core }
     {
         self.rtc.apply()

@@ -1,7 +1,7 @@
 //! A round of two peers: each call that takes memory gives its answer where there is enough.
 use crate::{CountIds, Rtc, RtcConfig, RtcError};
 use rtc_lines::{Direction, LineRow, MediaKind, Mid, SdpAnswer, SdpOffer};
-use rtc_plan::SdpPendingOffer;
+use rtc_plan::{SdpPendingOffer, count_added};
 use rtc_wire::Moment;
 use std::alloc::{AllocError, Global};
 use std::test::Fail;
@@ -41,7 +41,7 @@ fn take_answer(
     answer: SdpAnswer,
 ) -> Result<(), RtcError> {
     let lines = answer.0.lines.len();
-    let changes = token.changes().0.len();
+    let changes = count_added(token.changes().0.as_slice());
     if rtc.lines().rows().len() > 100 || lines > 100 || changes > 100 {
         return Err(RtcError::Alloc);
     }

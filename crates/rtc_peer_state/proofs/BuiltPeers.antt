@@ -1,24 +1,21 @@
 -- The peer that is built is formed.
-use Rattle.std.proofs.Common.{◌≡◌, ◌≢◌, ◌+◌, ◌/◌, ◌%◌, ◌<◌, ◌≤◌, ◌^◌, ◌==◌, eqb, ltb, leb, ℕ, zero, suc, Bool, true, false, cond, not, ◌&&◌, List, [], ◌∷◌, ◌++◌, length, codes, refl, sym, ap, ◌∙◌, arith, length-append}
-use Rattle.std.specs.List.{AllByRecursion, list_all}
+use Rattle.std.proofs.Common.{◌≡◌, ◌+◌, ◌/◌, ◌%◌, ◌<◌, ◌≤◌, ◌^◌, eqb, ltb, leb, ℕ, zero, suc, Bool, true, false, cond, List, [], ◌∷◌, ◌++◌, length, refl, ap, arith, length-append}
+use Rattle.std.specs.List.{AllByRecursion}
 use Rattle.std.specs.Int.{to_be_bytes, bytes_high_first, byte_at, w32}
 use Rattle.std.specs.Prelude.{slice_index}
 use Rattle.std.specs.declared.alloc.Global.{Global}
 use Rattle.std.proofs.lemmas.Bool.{le-leb, lt-ltb, ne_eqb}
-use Rattle.std.proofs.lemmas.Bool.Decides.{nat_tests}
 use Rattle.sha2.specs.Sha256.{sha256, digest_bytes, final_hash, initial_hash_256}
 use Rattle.sha2.proofs.Facts256.{length-sha256}
 use Rattle.rtc_fields.specs.Cuts.{Lacks}
-use Rattle.rtc_attributes.specs.WordValue.{is_not_space, is_spaceless, is_word_up_to}
-use Rattle.rtc_rows.specs.declared.ice_creds.IceCreds.{IceCreds}
+use Rattle.rtc_attributes.specs.WordValue.{is_spaceless, is_word_up_to}
 use Rattle.rtc_writing.specs.Plain.{IsPlainCreds, IsPlainHash}
 use Rattle.rtc_peer_state.specs.declared.peer.Peer.{Peer}
 use Rattle.rtc_peer_state.specs.Built.{hex_digit, hex_digits, drawn_creds, fingerprint_of, built}
 use Rattle.rtc_peer_state.specs.Config.{Config}
 use Rattle.rtc_peer_state.specs.Draws.{Draws}
-use Rattle.rtc_peer_state.specs.Formed.{IsPlainIdentity, IsFormed}
+use Rattle.rtc_peer_state.specs.Formed.{IsFormed}
 use Rattle.rtc_peer_state.proofs.Alls.{all-append}
-use Rattle.rtc_peer_state.proofs.DrawnMids.{both_hold}
 
 -- ---- credentials: letters and digits
 

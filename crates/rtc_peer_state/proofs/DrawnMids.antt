@@ -6,7 +6,7 @@ use Rattle.std.specs.Fmt.{decimal}
 use Rattle.std.proofs.lemmas.Bool.{le-leb, lt-ltb}
 use Rattle.std.proofs.lemmas.Bool.Decides.{nat_tests}
 use Rattle.std.proofs.lemmas.Fmt.{digits_decimal, length-decimal-le}
-use Rattle.rtc_fields.specs.Tokens.{is_token_byte, is_token, is_short_token}
+use Rattle.rtc_fields.specs.Tokens.{is_token_byte, is_short_token}
 use Rattle.rtc_fields.proofs.TokenLemmas.{both}
 use Rattle.rtc_fields.proofs.NumberLemmas.{digit_model}
 use Rattle.rtc_peer_state.specs.Names.{drawn_mid, free_mid}

@@ -1,21 +1,26 @@
 -- Each call of a peer keeps it formed.
-use Rattle.std.proofs.Common.{◌≡◌, ◌+◌, ◌%◌, ◌<◌, ◌^◌, ℕ, Bool, true, false, List, [], ◌∷◌, ◌++◌, length, Option, Some, None, Result, Ok, Err, refl, sym, ap, ◌∙◌, subst, arith}
+use Rattle.std.proofs.Common.{◌≡◌, ◌+◌, ◌%◌, ◌^◌, ℕ, Bool, true, false, List, [], ◌∷◌, ◌++◌, length, Option, Some, None, Result, Ok, Err, sym, ap, subst, arith}
 use Rattle.std.specs.declared.alloc.AllocError.{AllocError}
 use Rattle.rtc_fields.specs.Tokens.{is_short_token}
-use Rattle.rtc_rows.specs.declared.sdp.Sdp.{Sdp}
 use Rattle.rtc_lines.specs.declared.sdp_offer.SdpOffer.{SdpOffer}
 use Rattle.rtc_lines.specs.declared.sdp_answer.SdpAnswer.{SdpAnswer}
 use Rattle.rtc_writing.specs.Plain.{IsPlain}
-use Rattle.rtc_plan.specs.declared.change.Change.TheVariants.{AddMedia}
-use Rattle.rtc_plan.specs.PendingOffer.{PendingOffer, added_mid}
+use Rattle.rtc_rows.specs.declared.direction.Direction.{Direction}
+use Rattle.rtc_rows.specs.declared.line_row.LineRow.{LineRow}
+use Rattle.rtc_plan.specs.declared.change.Change.{Change}
+use Rattle.rtc_plan.specs.declared.change.Change.TheVariants.{AddMedia, Direction as SetDirection}
+use Rattle.rtc_plan.specs.RowChanges.{RowChange, changed_of}
+use Rattle.rtc_plan.proofs.RowChangeLemmas.{KeepsRow, AreAlike, changed_of_alike}
+use Rattle.rtc_plan.proofs.AddedLemmas.{added_mids-append}
+use Rattle.rtc_plan.specs.PendingOffer.{PendingOffer, added_mids}
 use Rattle.rtc_plan.specs.SaidLines.{said_lines}
 use Rattle.rtc_peer_state.specs.declared.peer.Peer.{Peer}
 use Rattle.rtc_peer_state.specs.declared.rtc_error.RtcError.{RtcError}
 use Rattle.rtc_peer_state.specs.declared.rtc_error.RtcError.TheVariants.{RemoteSdp, Sdp as TextRefused, ChangesOutOfOrder, Alloc}
 use Rattle.rtc_peer_state.specs.Draws.{Draws}
 use Rattle.rtc_peer_state.specs.Names.{is_held}
-use Rattle.rtc_peer_state.specs.Calls.{Wanted, AddsMedia, Applies, AcceptsOffer, AcceptsAnswer, staged_media}
-use Rattle.rtc_peer_state.specs.Formed.{IsFormed}
+use Rattle.rtc_peer_state.specs.Calls.{Wanted, AddsMedia, ChangesLine, Applies, AcceptsOffer, AcceptsAnswer, staged_media}
+use Rattle.rtc_peer_state.specs.Formed.{IsFormed, HaveTokens, AddTokens}
 use Rattle.rtc_peer_state.proofs.Alls.{all-append}
 use Rattle.rtc_peer_state.proofs.DrawnMids.{free_mid_token}
 use Rattle.rtc_peer_state.proofs.PlainTexts.{taken_tokens, plain_says_tokens}
@@ -29,22 +34,45 @@ formed_by p q session identity lines staged formed = record {
   staged = rw staged formed.staged;
 }
 
+-- rows that are alike have the same mids
+tokens_alike : (rows others : List LineRow) → AreAlike rows others → HaveTokens rows → HaveTokens others
+tokens_alike [] [] alike tokens = tt
+tokens_alike (row ∷ rows) (other ∷ others) alike tokens = (subst (λ (mid : List ℕ). is_short_token mid ≡ true) (sym alike.0.mid) tokens.0, tokens_alike rows others alike.1 tokens.1)
+tokens_alike [] (other ∷ others) alike tokens = absurd alike
+tokens_alike (row ∷ rows) [] alike tokens = absurd alike
+
 -- what was staged is dropped
 pub lent_formed : {N : Type 0} (p : Peer N) → IsFormed p → IsFormed (record p { staged = [] })
 lent_formed p formed = record { session = formed.session; identity = formed.identity; rows = formed.rows; staged = tt }
 
+-- the mids of lines that are staged behind others
+staged_tokens : (staged more : List Change) → AddTokens staged → AddTokens more → AddTokens (staged ++ more)
+staged_tokens staged more tokens new = rw (added_mids-append staged more) (all-append (λ mid. is_short_token mid ≡ true) (added_mids staged) (added_mids more) tokens new)
+
 -- A media line is staged.
 pub adds_formed : {N : Type 0} (draws : Draws N) (p : Peer N) (wanted : Wanted) (result : Result (List ℕ) AllocError) (q : Peer N) → AddsMedia draws p wanted result q → IsFormed p → IsFormed q
 adds_formed draws p wanted (Ok mid) q adds formed =
-    let token : is_short_token (staged_media draws p wanted).mid ≡ true = free_mid_token (is_held p.lines p.staged) (length p.lines + length p.staged) (draws.drawn p.ids % 2 ^ 32) (omega arith) in
+    let token : is_short_token (staged_media draws p wanted).mid ≡ true = free_mid_token (is_held p.lines p.staged) (length p.lines + length (added_mids p.staged)) (draws.drawn p.ids % 2 ^ 32) (omega arith) in
     record {
       session = rw adds.1 formed.session;
       identity = rw adds.1 formed.identity;
       rows = rw adds.1 formed.rows;
-      staged = rw adds.1 (all-append (λ change. is_short_token (added_mid change) ≡ true) p.staged (AddMedia (staged_media draws p wanted) ∷ []) formed.staged (token, tt));
+      staged = rw adds.1 (staged_tokens p.staged (AddMedia (staged_media draws p wanted) ∷ []) formed.staged (token, tt));
     }
 adds_formed draws p wanted (Err error) q adds formed =
     formed_by p q (ap (λ r. r.session_id) adds) (ap (λ r. r.identity) adds) (ap (λ r. r.lines) adds) (ap (λ r. r.staged) adds) formed
+
+-- The row of a mid is changed, where its change keeps mids.
+pub changes_formed : {N : Type 0} (change : RowChange) (to : Direction) (p : Peer N) (mid : List ℕ) (result : Result Bool AllocError) (q : Peer N)
+    → KeepsRow change → ChangesLine change to p mid result q → IsFormed p → IsFormed q
+changes_formed change to p mid (Ok true) q keeps changes formed = record {
+  session = rw changes.1 formed.session;
+  identity = rw changes.1 formed.identity;
+  rows = rw changes.1 (tokens_alike p.lines (changed_of change mid p.lines) (changed_of_alike change keeps mid p.lines) formed.rows);
+  staged = rw changes.1 (staged_tokens p.staged (SetDirection mid to ∷ []) formed.staged tt);
+}
+changes_formed change to p mid (Ok false) q keeps changes formed = rw changes.1 formed
+changes_formed change to p mid (Err error) q keeps changes formed = rw changes formed
 
 -- What is staged is applied.
 pub applies_formed : {N : Type 0} (p : Peer N) (result : Result (Option (SdpOffer × PendingOffer)) AllocError) (q : Peer N) → Applies p result q → IsFormed p → IsFormed q

@@ -16,7 +16,7 @@ use Rattle.rtc_rows.specs.LineRow.{row_mid}
 use Rattle.rtc_rows.specs.declared.line_row.LineRow.{LineRow}
 use Rattle.rtc_plan.specs.declared.change.Change.{Change}
 use Rattle.rtc_plan.specs.Distinct.{is_among}
-use Rattle.rtc_plan.specs.PendingOffer.{added_mid}
+use Rattle.rtc_plan.specs.PendingOffer.{added_mids}
 use Rattle.rtc_peer_state.specs.Names.{drawn_mid, free_mid, is_held}
 
 abbrev following : ℕ → ℕ
@@ -126,11 +126,10 @@ free_mid_is_free held mids n same small few = false_from_ne_true (held (free_mid
 
 -- the mids of rows and of staged lines
 abbrev held_mids : List LineRow → List Change → List (List ℕ)
-held_mids rows staged = map row_mid rows ++ map added_mid staged
+held_mids rows staged = map row_mid rows ++ added_mids staged
 
-length-held_mids : (rows : List LineRow) (staged : List Change) → length (held_mids rows staged) ≡ length rows + length staged
-length-held_mids rows staged =
-    length-append (map row_mid rows) (map added_mid staged) ∙ (rw (length-map rows row_mid, length-map staged added_mid) refl)
+length-held_mids : (rows : List LineRow) (staged : List Change) → length (held_mids rows staged) ≡ length rows + length (added_mids staged)
+length-held_mids rows staged = length-append (map row_mid rows) (added_mids staged) ∙ (rw (length-map rows row_mid) refl)
 
 -- a test of what a list is mapped to
 any_mapped : {A B : Type 0} (test : B → Bool) (f : A → B) (xs : List A) → list_any test (map f xs) ≡ list_any (λ x. test (f x)) xs
@@ -139,11 +138,11 @@ any_mapped test f (x ∷ xs) = rw (any_mapped test f xs) refl
 
 held_among : (rows : List LineRow) (staged : List Change) (mid : List ℕ) → is_held rows staged mid ≡ is_among (held_mids rows staged) mid
 held_among rows staged mid =
-    rw (list_any-append (λ other. bytes_eq other mid) (map row_mid rows) (map added_mid staged), any_mapped (λ other. bytes_eq other mid) row_mid rows, any_mapped (λ other. bytes_eq other mid) added_mid staged) refl
+    rw (list_any-append (λ other. bytes_eq other mid) (map row_mid rows) (added_mids staged), any_mapped (λ other. bytes_eq other mid) row_mid rows) refl
 
 -- a mid that is drawn and counted on is that of no row and of no staged line
-pub drawn_mid_is_free : (rows : List LineRow) (staged : List Change) (n : ℕ) → n < 2 ^ 32 → length rows + length staged + 1 < 2 ^ 32
-    → is_held rows staged (free_mid (is_held rows staged) (length rows + length staged) n) ≡ false
+pub drawn_mid_is_free : (rows : List LineRow) (staged : List Change) (n : ℕ) → n < 2 ^ 32 → length rows + length (added_mids staged) + 1 < 2 ^ 32
+    → is_held rows staged (free_mid (is_held rows staged) (length rows + length (added_mids staged)) n) ≡ false
 drawn_mid_is_free rows staged n small few =
     let free : is_held rows staged (free_mid (is_held rows staged) (length (held_mids rows staged)) n) ≡ false =
     free_mid_is_free (is_held rows staged) (held_mids rows staged) n (held_among rows staged) small (omega (arith, length-held_mids rows staged)) in

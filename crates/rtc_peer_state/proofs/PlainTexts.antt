@@ -1,6 +1,6 @@
 -- The texts of formed peers are plain.
-use Rattle.std.proofs.Common.{◌≡◌, ◌+◌, ◌<◌, ◌^◌, ℕ, Bool, true, false, not, cond, List, [], ◌∷◌, ◌++◌, map, length, drop, Option, Some, None, refl, sym, ap, ◌∙◌, arith}
-use Rattle.std.specs.Prelude.{filter, IfSome}
+use Rattle.std.proofs.Common.{◌≡◌, ◌+◌, ◌<◌, ◌^◌, ℕ, Bool, true, false, List, [], ◌∷◌, ◌++◌, map, length, drop, Option, Some, None, refl, ap, arith}
+use Rattle.std.specs.Prelude.{IfSome}
 use Rattle.std.specs.List.{AllByRecursion}
 use Rattle.rtc_fields.specs.Tokens.{is_short_token}
 use Rattle.rtc_rows.specs.LineRow.{row_mid}
@@ -9,16 +9,14 @@ use Rattle.rtc_rows.specs.declared.line_kind.LineKind.{LineKind}
 use Rattle.rtc_rows.specs.declared.line_kind.LineKind.TheVariants.{Audio as AudioLine, Video as VideoLine, Application}
 use Rattle.rtc_rows.specs.declared.line_row.LineRow.{LineRow}
 use Rattle.rtc_rows.specs.declared.line_row.LineRow.TheVariants.{Media, App}
-use Rattle.rtc_rows.specs.declared.media_kind.MediaKind.{MediaKind}
 use Rattle.rtc_rows.specs.declared.media_kind.MediaKind.TheVariants.{Audio, Video}
-use Rattle.rtc_rows.specs.declared.media_line.MediaLine.{MediaLine}
 use Rattle.rtc_rows.specs.declared.sdp.Sdp.{Sdp}
 use Rattle.rtc_rows.specs.declared.setup.Setup.{Setup}
 use Rattle.rtc_rows.specs.declared.setup.Setup.TheVariants.{ActPass, Passive}
-use Rattle.rtc_writing.specs.Plain.{IsPlain, IsPlainLine, IsMediumLine, IsChannelLine, SuitsKind, StandFirst}
+use Rattle.rtc_writing.specs.Plain.{IsPlain, IsPlainLine, IsMediumLine, SuitsKind, StandFirst}
 use Rattle.rtc_writing.specs.SessionRows.{live_mids as named_mids}
 use Rattle.rtc_plan.specs.declared.change.Change.{Change}
-use Rattle.rtc_plan.specs.declared.change.Change.TheVariants.{AddMedia, AddApp}
+use Rattle.rtc_plan.specs.declared.change.Change.TheVariants.{AddMedia, AddApp, Direction as SetDirection}
 use Rattle.rtc_plan.specs.PendingOffer.{added_rows}
 use Rattle.rtc_plan.specs.SaidLines.{said_line, said_lines}
 use Rattle.rtc_plan.specs.Table.{is_app, app_of}
@@ -27,7 +25,7 @@ use Rattle.rtc_plan.specs.declared.said_line.SaidLine.{SaidLine}
 use Rattle.rtc_peer_state.specs.declared.identity.Identity.{Identity}
 use Rattle.rtc_peer_state.specs.declared.peer.Peer.{Peer}
 use Rattle.rtc_peer_state.specs.Formed.{IsPlainIdentity, HaveTokens, AddTokens, IsFormed}
-use Rattle.rtc_peer_state.specs.Texts.{is_stopped, line_kind, row_line, bare_line, live_mids, text_of, offer_text, answer_text}
+use Rattle.rtc_peer_state.specs.Texts.{is_stopped, row_line, bare_line, live_mids, text_of, offer_text, answer_text}
 use Rattle.rtc_peer_state.proofs.Alls.{all-append, all-drop, all-map, all-find}
 
 -- ---- the line of a row
@@ -126,6 +124,7 @@ added_tokens : (place : ℕ) (changes : List Change) → AddTokens changes → H
 added_tokens place [] h = tt
 added_tokens place (AddMedia media ∷ changes) h = (h.0, added_tokens (place + 1) changes h.1)
 added_tokens place (AddApp mid ∷ changes) h = (h.0, added_tokens (place + 1) changes h.1)
+added_tokens place (SetDirection mid dir ∷ changes) h = added_tokens place changes h
 
 -- the mid of each line is a short token
 abbrev pub SayTokens : List SaidLine → Type 0

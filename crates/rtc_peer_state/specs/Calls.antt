@@ -2,6 +2,7 @@
 use Rattle.std.specs.Prelude.{◌≡◌, ◌≢◌, ◌+◌, ◌%◌, ◌^◌, ℕ, Bool, true, false, List, [], ◌∷◌, ◌++◌, length, take, ◌||◌, codes, Option, Some, None, Result, Ok, Err}
 use Rattle.std.specs.declared.alloc.AllocError.{AllocError}
 use Rattle.rtc_rows.specs.declared.direction.Direction.{Direction}
+use Rattle.rtc_rows.specs.declared.direction.Direction.TheVariants.{Inactive}
 use Rattle.rtc_rows.specs.declared.media_kind.MediaKind.{MediaKind}
 use Rattle.rtc_rows.specs.declared.line_row.LineRow.{LineRow}
 use Rattle.rtc_rows.specs.declared.sdp.Sdp.{Sdp}
@@ -9,9 +10,11 @@ use Rattle.rtc_media_rows.specs.declared.simulcast.Simulcast.{Simulcast}
 use Rattle.rtc_lines.specs.declared.sdp_offer.SdpOffer.{SdpOffer}
 use Rattle.rtc_lines.specs.declared.sdp_answer.SdpAnswer.{SdpAnswer}
 use Rattle.rtc_plan.specs.declared.add_media.AddMedia.{AddMedia as Media}
-use Rattle.rtc_plan.specs.declared.change.Change.TheVariants.{AddMedia}
+use Rattle.rtc_plan.specs.declared.change.Change.TheVariants.{AddMedia, Direction as SetDirection}
 use Rattle.rtc_plan.specs.declared.refusal.Refusal.TheVariants.{RemoteSdp as RefusedSdp, Sdp as RefusedText}
-use Rattle.rtc_plan.specs.PendingOffer.{PendingOffer}
+use Rattle.rtc_plan.specs.PendingOffer.{PendingOffer, added_mids}
+use Rattle.rtc_plan.specs.RowChanges.{RowChange, turned, halted, is_changed, changed_of}
+use Rattle.rtc_plan.specs.Table.{row_of}
 use Rattle.rtc_plan.specs.Held.{Held}
 use Rattle.rtc_plan.specs.SaidLines.{said_lines}
 use Rattle.rtc_plan.specs.Taken.{taken, removed_mids}
@@ -53,7 +56,7 @@ module _ {N : Type 0} (draws : Draws N) where
   track_drawn ids wanted = after_name draws (kept_name wanted.track) (stream_drawn ids wanted)
 
   abbrev pub staged_mid : Peer N → List ℕ
-  staged_mid p = free_mid (is_held p.lines p.staged) (length p.lines + length p.staged) (draws.drawn p.ids % 2 ^ 32)
+  staged_mid p = free_mid (is_held p.lines p.staged) (length p.lines + length (added_mids p.staged)) (draws.drawn p.ids % 2 ^ 32)
 
   abbrev pub track_name : Peer N → Wanted → List ℕ
   track_name p wanted = name_of draws (codes "t") (kept_name wanted.track) (stream_drawn p.ids wanted)
@@ -80,6 +83,22 @@ module _ {N : Type 0} (draws : Draws N) where
       })
       × (is_held p.lines p.staged mid ≡ false)
   AddsMedia p wanted (Err error) q = q ≡ record p { ids = q.ids }
+
+-- The row of a mid is changed at once, and staged with the direction that it has then exactly where it is changed.
+abbrev pub ChangesLine : {N : Type 0} → RowChange → Direction → Peer N → List ℕ → Result Bool AllocError → Peer N → Type 0
+ChangesLine change to p mid (Ok true) q =
+    (is_changed change (row_of p.lines mid) ≡ true)
+    × (q ≡ record p { lines = changed_of change mid p.lines; staged = p.staged ++ SetDirection mid to ∷ [] })
+ChangesLine change to p mid (Ok false) q = (is_changed change (row_of p.lines mid) ≡ false) × (q ≡ p)
+ChangesLine change to p mid (Err error) q = q ≡ p
+
+-- A live media line gets another direction.
+abbrev pub SetsDirection : {N : Type 0} → Peer N → List ℕ → Direction → Result Bool AllocError → Peer N → Type 0
+SetsDirection p mid dir result q = ChangesLine (turned dir) dir p mid result q
+
+-- A live media line is stopped for good.
+abbrev pub StopsMedia : {N : Type 0} → Peer N → List ℕ → Result Bool AllocError → Peer N → Type 0
+StopsMedia p mid result q = ChangesLine halted Inactive p mid result q
 
 -- What is staged is applied.
 abbrev pub Applies : {N : Type 0} → Peer N → Result (Option (SdpOffer × PendingOffer)) AllocError → Peer N → Type 0

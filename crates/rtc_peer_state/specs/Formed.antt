@@ -1,12 +1,12 @@
 -- Peers whose texts have the form that is read back.
-use Rattle.std.specs.Prelude.{◌≡◌, ◌<◌, ◌^◌, ℕ, true, List}
+use Rattle.std.specs.Prelude.{◌≡◌, ◌<◌, ◌^◌, true, List}
 use Rattle.std.specs.List.{AllByRecursion}
 use Rattle.rtc_fields.specs.Tokens.{is_short_token}
 use Rattle.rtc_rows.specs.LineRow.{row_mid}
 use Rattle.rtc_rows.specs.declared.line_row.LineRow.{LineRow}
 use Rattle.rtc_writing.specs.Plain.{IsPlainCreds, IsPlainHash}
 use Rattle.rtc_plan.specs.declared.change.Change.{Change}
-use Rattle.rtc_plan.specs.PendingOffer.{added_mid}
+use Rattle.rtc_plan.specs.PendingOffer.{added_mids}
 use Rattle.rtc_peer_state.specs.declared.identity.Identity.{Identity}
 use Rattle.rtc_peer_state.specs.declared.peer.Peer.{Peer}
 
@@ -21,7 +21,7 @@ HaveTokens rows = AllByRecursion (λ row. is_short_token (row_mid row) ≡ true)
 
 -- the mid of each line that is staged is a short token
 abbrev pub AddTokens : List Change → Type 0
-AddTokens changes = AllByRecursion (λ change. is_short_token (added_mid change) ≡ true) changes
+AddTokens changes = AllByRecursion (λ mid. is_short_token mid ≡ true) (added_mids changes)
 
 -- a peer whose session number, identity and mids are such
 pub record IsFormed {N : Type 0} (p : Peer N) : Type 0 where

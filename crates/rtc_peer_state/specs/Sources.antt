@@ -1,5 +1,5 @@
 -- Synchronization sources that a peer draws.
-use Rattle.std.specs.Prelude.{◌≡◌, ◌+◌, ◌%◌, ◌^◌, ◌==◌, ◌||◌, ◌&&◌, not, zero, suc, ℕ, Bool, true, false, List, [], ◌∷◌, ◌++◌, length, filter, if◌then◌else◌, Option, Some, None}
+use Rattle.std.specs.Prelude.{◌+◌, ◌%◌, ◌^◌, ◌==◌, ◌||◌, ◌&&◌, not, zero, suc, ℕ, Bool, true, false, List, [], ◌∷◌, ◌++◌, length, filter, if◌then◌else◌, Option, Some, None}
 use Rattle.std.specs.List.{list_any}
 use Rattle.std.specs.Str.{bytes_eq}
 use Rattle.rtc_rows.specs.Direction.{does_send}
@@ -11,7 +11,7 @@ use Rattle.rtc_rows.specs.declared.media_kind.MediaKind.TheVariants.{Audio, Vide
 use Rattle.rtc_media_rows.specs.declared.ssrc.Ssrc.{Ssrc}
 use Rattle.rtc_media_rows.specs.declared.simulcast.Simulcast.{Simulcast}
 use Rattle.rtc_plan.specs.declared.change.Change.{Change}
-use Rattle.rtc_plan.specs.declared.change.Change.TheVariants.{AddMedia, AddApp}
+use Rattle.rtc_plan.specs.declared.change.Change.TheVariants.{AddMedia, AddApp, Direction as SetDirection}
 use Rattle.rtc_plan.specs.Distinct.{is_among}
 use Rattle.rtc_peer_state.specs.declared.line_sources.LineSources.{LineSources}
 use Rattle.rtc_peer_state.specs.Draws.{Draws}
@@ -109,6 +109,7 @@ abbrev pub added_sources : List Change → List LineSources
 added_sources [] = []
 added_sources (AddMedia media ∷ changes) = record { mid = media.mid; ssrcs = media.ssrcs } ∷ added_sources changes
 added_sources (AddApp mid ∷ changes) = added_sources changes
+added_sources (SetDirection mid dir ∷ changes) = added_sources changes
 
 -- the sources but those of these mids
 abbrev pub without : List (List ℕ) → List LineSources → List LineSources

@@ -1,6 +1,7 @@
 pub mod PendingOffer
 pub mod Held
 pub mod Table
+pub mod RowChanges
 pub mod Names
 pub mod Distinct
 pub mod SaidLines

@@ -1,9 +1,9 @@
 //! Changes that are staged.
 ghost use Rattle.std.specs.Prelude.{◌≡◌};
-ghost use Rattle.rtc_plan.specs.PendingOffer.{added_mid, added_row};
+ghost use Rattle.rtc_plan.specs.PendingOffer.{new_mid as NewMid, new_row as NewRow};
 
 use crate::AddMedia;
-use rtc_rows::{LineRow, Mid};
+use rtc_rows::{Direction, LineRow, Mid};
 use rtc_wire::TryCopy;
 use std::alloc::AllocError;
 
@@ -13,6 +13,8 @@ pub enum Change {
     AddMedia(AddMedia),
     /// The line of the data channels.
     AddApp(Mid),
+    /// The line of a mid has this direction by now; inactive where it was stopped.
+    Direction(Mid, Direction),
 }
 
 impl TryCopy for Change {
@@ -20,35 +22,38 @@ impl TryCopy for Change {
         match self {
             Change::AddMedia(media) => Ok(Change::AddMedia(media.copy()?)),
             Change::AddApp(mid) => Ok(Change::AddApp(*mid)),
+            Change::Direction(mid, dir) => Ok(Change::Direction(*mid, *dir)),
         }
     }
 }
 
 impl Change {
-    /// The mid of the line that it adds.
-    pub fn mid(&self) -> Mid
-        ensures { result ≡ added_mid self.now }
+    /// The mid of the line that it adds, if it adds one.
+    pub fn new_mid(&self) -> Option<Mid>
+        ensures { result ≡ NewMid self.now }
     {
         match self {
-            Change::AddMedia(media) => media.mid,
-            Change::AddApp(mid) => *mid,
+            Change::AddMedia(media) => Some(media.mid),
+            Change::AddApp(mid) => Some(*mid),
+            Change::Direction(_, _) => None,
         }
     }
 
-    /// The row of the line that it adds, at a place.
-    pub fn new_row(&self, place: u32) -> LineRow
-        ensures { result ≡ added_row place self.now }
+    /// The row of the line that it adds, at a place, if it adds one.
+    pub fn new_row(&self, place: u32) -> Option<LineRow>
+        ensures { result ≡ NewRow place self.now }
     {
         match self {
-            Change::AddMedia(media) => LineRow::Media {
+            Change::AddMedia(media) => Some(LineRow::Media {
                 place,
                 mid: media.mid,
                 kind: media.kind,
                 dir: media.dir,
                 stopped: false,
                 remote_created: false,
-            },
-            Change::AddApp(mid) => LineRow::App { place, mid: *mid },
+            }),
+            Change::AddApp(mid) => Some(LineRow::App { place, mid: *mid }),
+            Change::Direction(_, _) => None,
         }
     }
 }

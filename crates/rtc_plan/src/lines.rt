@@ -1,20 +1,21 @@
 //! The rows of a peer.
-ghost use Rattle.std.specs.Prelude.{◌≡◌, [], OnOk, OnErr, MatchOption, None, Some, option_map};
+ghost use Rattle.std.specs.Prelude.{◌≡◌, [], OnOk, OnErr, MatchOption, None, Some, option_map, IsTrue, IsFalse};
 ghost use Rattle.std.specs.Option.{option_copied};
 ghost use Rattle.rtc_rows.specs.LineRow.{row_place, row_mid};
+ghost use Rattle.rtc_plan.specs.RowChanges.{turned, halted, is_changed, changed_of};
 ghost use Rattle.rtc_plan.specs.Table.{IsTable, row_of, app_of, has_mid};
 
 use crate::Plan;
 use crate::judging::{find_app, find_row, has_row};
-use rtc_rows::{LineRow, Mid};
-use rtc_wire::Seq;
+use crate::row_changes::{halt, turn};
+use rtc_rows::{Direction, LineRow, Mid};
 use std::alloc::{AllocError, Global};
 use std::marker::Model;
 
 /// The rows of a peer, by place.
 #[derive(Debug, Drop)]
 pub struct Lines {
-    rows: Seq<LineRow>,
+    rows: Vec<LineRow>,
 }
 
 impl Model for Lines {
@@ -24,9 +25,9 @@ impl Model for Lines {
 
     ghost Value = { List LineRow };
 
-    ghost view = { λ lines. lines.rows };
+    ghost view = { λ lines. lines.rows.items };
 
-    ghost invariant = { λ lines. IsTable lines.rows };
+    ghost invariant = { λ lines. IsTable lines.rows.items };
 }
 
 impl Lines {
@@ -35,7 +36,7 @@ impl Lines {
         ensures { result ≡ [] }
     {
         Lines {
-            rows: Seq::empty(alloc),
+            rows: Vec::new(alloc),
         }
     }
 
@@ -71,11 +72,45 @@ impl Lines {
         has_row(self.rows.as_slice(), mid)
     }
 
+    /// Gives the live media row of a mid another direction.
+    ///
+    /// Nothing happens, and it answers false, where there is no such row or it has that direction.
+    pub fn set_direction(&mut self, mid: Mid, dir: Direction) -> bool
+        ensures changed { result ≡ is_changed (turned dir) (row_of self.old mid) }
+        ensures rows { self.new ≡ changed_of (turned dir) mid self.old }
+    {
+        let Some(row) = find_row(self.rows.as_slice(), mid) else {
+            return false;
+        };
+        let Some(turned) = turn(row, dir) else {
+            return false;
+        };
+        self.rows[turned.place() as usize] = turned;
+        true
+    }
+
+    /// Stops the live media row of a mid for good.
+    ///
+    /// Nothing happens, and it answers false, where there is no such row.
+    pub fn stop(&mut self, mid: Mid) -> bool
+        ensures changed { result ≡ is_changed halted (row_of self.old mid) }
+        ensures rows { self.new ≡ changed_of halted mid self.old }
+    {
+        let Some(row) = find_row(self.rows.as_slice(), mid) else {
+            return false;
+        };
+        let Some(halted) = halt(row) else {
+            return false;
+        };
+        self.rows[halted.place() as usize] = halted;
+        true
+    }
+
     /// Replaces the rows by those of a plan.
     pub fn commit(&mut self, plan: Plan)
         requires { IsTable plan.rows }
         ensures { self.new ≡ plan.rows }
     {
-        self.rows = plan.rows;
+        self.rows = plan.rows.into_vec();
     }
 }

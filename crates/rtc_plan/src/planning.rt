@@ -1,6 +1,7 @@
 //! Plans of texts.
 ghost use Rattle.std.specs.Prelude.{◌≡◌, ◌+◌, ◌<◌, ◌≤◌, ◌^◌, ◌-◌, Bool, true, false, length, List, IfOk, Option, Some, None, IfNone, map};
 ghost use Rattle.rtc_rows.specs.declared.line_row.LineRow.{LineRow};
+ghost use Rattle.rtc_plan.specs.PendingOffer.{added_mids};
 ghost use Rattle.rtc_plan.specs.Plans.{PlansText, plan_of, inconsistent, asked_by};
 ghost use Rattle.rtc_plan.specs.SaidLines.{said_lines};
 ghost use Rattle.rtc_plan.specs.Distinct.{DistinctMids};
@@ -80,7 +81,7 @@ pub fn plan_answer_text(
     token: &SdpPendingOffer,
     answer: &Sdp,
 ) -> Result<Plan, Refusal>
-    requires rows { length view.now.lines + length token.now.changes < 2 ^ 32 - 1 }
+    requires rows { length view.now.lines + length (added_mids token.now.changes) < 2 ^ 32 - 1 }
     requires lines { length answer.now.lines < 2 ^ 32 - 1 }
     ensures plans { PlansText view.now (Some (asked_by view.now.lines token.now)) answer.now result }
     ensures table { IfOk result (λ plan. IsTable plan.rows) }

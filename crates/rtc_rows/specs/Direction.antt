@@ -1,5 +1,5 @@
 -- Directions of media lines (RFC 8866, section 6.7).
-use Rattle.std.specs.Prelude.{Bool, true, false, ◌≡◌, refl}
+use Rattle.std.specs.Prelude.{Bool, true, false, ◌&&◌, not, ◌≡◌, refl}
 use Rattle.rtc_rows.specs.declared.direction.Direction.{Direction}
 use Rattle.rtc_rows.specs.declared.direction.Direction.TheVariants.{SendRecv, SendOnly, RecvOnly, Inactive}
 
@@ -21,6 +21,12 @@ does_receive SendRecv = true
 does_receive SendOnly = false
 does_receive RecvOnly = true
 does_receive Inactive = false
+
+abbrev pub same_direction : Direction → Direction → Bool
+same_direction SendRecv other = does_send other && does_receive other
+same_direction SendOnly other = does_send other && not (does_receive other)
+same_direction RecvOnly other = not (does_send other) && does_receive other
+same_direction Inactive other = not (does_send other) && not (does_receive other)
 
 -- inverting twice is the identity
 pub inverse_of-inverse_of : (dir : Direction) → inverse_of (inverse_of dir) ≡ dir

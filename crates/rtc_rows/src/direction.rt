@@ -1,6 +1,6 @@
 //! Directions of media lines.
 ghost use Rattle.std.specs.Prelude.{◌≡◌, ◌⊎◌, IsTrue, ◌↔◌};
-ghost use Rattle.rtc_rows.specs.Direction.{inverse_of, does_send, does_receive};
+ghost use Rattle.rtc_rows.specs.Direction.{inverse_of, does_send, does_receive, same_direction};
 
 use rtc_wire::TryCopy;
 use std::alloc::AllocError;
@@ -25,6 +25,13 @@ impl Direction {
             Direction::RecvOnly => Direction::SendOnly,
             Direction::Inactive => Direction::Inactive,
         }
+    }
+
+    /// Whether it is the same as another.
+    pub fn is_same(self, other: Direction) -> bool
+        ensures { result ≡ same_direction self other }
+    {
+        self.is_sending() == other.is_sending() && self.is_receiving() == other.is_receiving()
     }
 
     /// Whether the holder sends.

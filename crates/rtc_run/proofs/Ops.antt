@@ -1,40 +1,78 @@
 -- Ops are performed one after another.
-use Rattle.std.proofs.Common.{◌≡◌, ◌≢◌, ◌+◌, ◌≤◌, ◌<◌, ℕ, true, false, List, [], ◌∷◌, ◌++◌, length, Ok, refl, sym, ap, ◌∙◌, subst, arith, length-append, append_assoc, append-nil, get_or, drop}
+use Rattle.std.proofs.Common.{◌≡◌, ◌≢◌, ◌+◌, ◌≤◌, ◌<◌, ℕ, Bool, true, false, List, [], ◌∷◌, ◌++◌, length, Option, Some, Ok, refl, sym, ap, ◌∙◌, subst, arith, append_assoc, append-nil, get_or, drop}
+use Rattle.std.specs.Prelude.{slice_get}
 use Rattle.std.proofs.lemmas.List.{drop_more}
 use Rattle.std.proofs.Math.ListN.{drop_of_length-le}
 use Rattle.rtc_rows.specs.declared.direction.Direction.{Direction}
+use Rattle.rtc_rows.specs.declared.line_row.LineRow.{LineRow}
 use Rattle.rtc_rows.specs.declared.media_kind.MediaKind.{MediaKind}
+use Rattle.rtc_plan.specs.PendingOffer.{added_mids}
+use Rattle.rtc_plan.specs.RowChanges.{media_mid}
 use Rattle.rtc_peer_state.specs.declared.peer.Peer.{Peer}
 use Rattle.rtc_peer_state.specs.Draws.{Draws}
-use Rattle.rtc_peer_state.specs.Calls.{AddsMedia}
+use Rattle.rtc_peer_state.specs.Calls.{AddsMedia, SetsDirection, StopsMedia}
 use Rattle.rtc_steps.specs.declared.op.Op.{Op}
-use Rattle.rtc_steps.specs.declared.op.Op.TheVariants.{AddMedia}
+use Rattle.rtc_steps.specs.declared.op.Op.TheVariants.{AddMedia, SetDirection, StopMedia}
 use Rattle.rtc_steps.specs.declared.op_answer.OpAnswer.{OpAnswer}
-use Rattle.rtc_steps.specs.declared.op_answer.OpAnswer.TheVariants.{Mid, Alloc}
+use Rattle.rtc_steps.specs.declared.op_answer.OpAnswer.TheVariants.{Mid, Changed, NoLine, Alloc}
 use Rattle.rtc_steps.specs.Memory.{answer_lacks}
 use Rattle.rtc_course.specs.Performs.{PerformsOps, wanted}
+use Rattle.rtc_course.proofs.Staging.{Stages, ops_stage}
 
--- after an op that staged a line, the ops that are left go on
+-- after an op that did not lack memory, the ops that are left go on
 pub op_done : {N : Type 0} (draws : Draws N) (p r q : Peer N) (op : Op) (answer : OpAnswer) (ops : List Op) (more : List OpAnswer) → answer ≢ Alloc → PerformsOps draws p (op ∷ []) (answer ∷ []) r → PerformsOps draws r ops more q → PerformsOps draws p (op ∷ ops) (answer ∷ more) q
-op_done {N} draws p r q (AddMedia kind dir) (Mid mid) ops more some first then = (r, subst (λ (s : Peer N). AddsMedia draws p (wanted kind dir) (Ok mid) s) (sym first.2) first.1, then)
-op_done {N} draws p r q (AddMedia kind dir) Alloc ops more some first then = absurd (some refl)
+op_done {N} draws p r q (AddMedia kind dir) (Mid mid) ops more some first then = (first.0, first.1, subst (λ (s : Peer N). PerformsOps draws s ops more q) first.2 then)
+op_done {N} draws p r q (SetDirection place dir) (Changed changed) ops more some first then = (first.0, first.1, subst (λ (s : Peer N). PerformsOps draws s ops more q) first.2 then)
+op_done {N} draws p r q (SetDirection place dir) NoLine ops more some first then = (first.0, subst (λ (s : Peer N). PerformsOps draws s ops more q) first.1 then)
+op_done {N} draws p r q (StopMedia place) (Changed changed) ops more some first then = (first.0, first.1, subst (λ (s : Peer N). PerformsOps draws s ops more q) first.2 then)
+op_done {N} draws p r q (StopMedia place) NoLine ops more some first then = (first.0, subst (λ (s : Peer N). PerformsOps draws s ops more q) first.1 then)
+op_done draws p r q op Alloc ops more some first then = absurd (some refl)
+op_done draws p r q op answer ops more some first then = absurd first
 
 -- the first want of memory ends them
 pub op_ends : {N : Type 0} (draws : Draws N) (p r : Peer N) (op : Op) (ops : List Op) → PerformsOps draws p (op ∷ []) (Alloc ∷ []) r → PerformsOps draws p (op ∷ ops) (Alloc ∷ []) r
 op_ends draws p r (AddMedia kind dir) ops h = h
-
--- an op adds at most one line
-pub op_lines : {N : Type 0} (draws : Draws N) (p r : Peer N) (op : Op) (answer : OpAnswer) → PerformsOps draws p (op ∷ []) (answer ∷ []) r → (r.lines ≡ p.lines) × (length r.staged ≤ length p.staged + 1)
-op_lines {N} draws p r (AddMedia kind dir) (Mid mid) h =
-    let staged : length r.staged ≡ length p.staged + 1 = ap (λ (s : Peer N). length s.staged) h.2 ∙ ap (λ (s : Peer N). length s.staged) h.1.1 ∙ length-append p.staged _ in
-    (ap (λ (s : Peer N). s.lines) h.2 ∙ ap (λ (s : Peer N). s.lines) h.1.1, omega arith)
-op_lines {N} draws p r (AddMedia kind dir) Alloc h =
-    let staged : length r.staged ≡ length p.staged = ap (λ (s : Peer N). length s.staged) h in
-    (ap (λ (s : Peer N). s.lines) h, omega arith)
+op_ends draws p r (SetDirection place dir) ops h = h
+op_ends draws p r (StopMedia place) ops h = h
 
 -- one op that staged a line
 pub op_once : {N : Type 0} (draws : Draws N) (p r : Peer N) (kind : MediaKind) (dir : Direction) (mid : List ℕ) → AddsMedia draws p (wanted kind dir) (Ok mid) r → PerformsOps draws p (AddMedia kind dir ∷ []) (Mid mid ∷ []) r
 op_once draws p r kind dir mid h = (r, h, refl)
+
+-- the line at a place, as a call finds it
+abbrev pub Finds : {N : Type 0} → Peer N → List LineRow → ℕ → Option (List ℕ) → Type 0
+Finds p rows place found = (rows ≡ p.lines) × (found ≡ media_mid (slice_get rows place))
+
+finds_there : {N : Type 0} (p : Peer N) (rows : List LineRow) (place : ℕ) (found : Option (List ℕ)) (mid : List ℕ) → Finds p rows place found → found ≡ Some mid → media_mid (slice_get p.lines place) ≡ Some mid
+finds_there p rows place found mid finds is = ap (λ (list : List LineRow). media_mid (slice_get list place)) (sym finds.0) ∙ sym finds.1 ∙ is
+
+-- one op that sets the direction of a line
+pub set_once : {N : Type 0} (draws : Draws N) (p r : Peer N) (rows : List LineRow) (place : ℕ) (dir : Direction) (found : Option (List ℕ)) (mid : List ℕ) (changed : Bool)
+    → Finds p rows place found → found ≡ Some mid → SetsDirection p mid dir (Ok changed) r → PerformsOps draws p (SetDirection place dir ∷ []) (Changed changed ∷ []) r
+set_once draws p r rows place dir found mid changed finds is h = (r, record { mid = mid; there = finds_there p rows place found mid finds is; called = h }, refl)
+
+-- one op that stops a line
+pub stop_once : {N : Type 0} (draws : Draws N) (p r : Peer N) (rows : List LineRow) (place : ℕ) (found : Option (List ℕ)) (mid : List ℕ) (changed : Bool)
+    → Finds p rows place found → found ≡ Some mid → StopsMedia p mid (Ok changed) r → PerformsOps draws p (StopMedia place ∷ []) (Changed changed ∷ []) r
+stop_once draws p r rows place found mid changed finds is h = (r, record { mid = mid; there = finds_there p rows place found mid finds is; called = h }, refl)
+
+-- one more op keeps the number of rows
+pub lines_go_on : {N : Type 0} (draws : Draws N) (start p r : Peer N) (ops : List Op) (index : ℕ) (d : Op) (answer : OpAnswer) → PerformsOps draws p (get_or ops index d ∷ []) (answer ∷ []) r → length p.lines ≡ length start.lines
+    → length r.lines ≡ length start.lines
+lines_go_on draws start p r ops index d answer h same =
+    let staged : Stages p (get_or ops index d ∷ []) (answer ∷ []) r = ops_stage draws p r (get_or ops index d ∷ []) (answer ∷ []) h in staged.rows ∙ same
+
+-- one more op adds at most one line
+pub staged_go_on : {N : Type 0} (draws : Draws N) (start p r : Peer N) (ops : List Op) (index : ℕ) (d : Op) (answer : OpAnswer) → PerformsOps draws p (get_or ops index d ∷ []) (answer ∷ []) r
+    → length (added_mids p.staged) ≤ length (added_mids start.staged) + index → length (added_mids r.staged) ≤ length (added_mids start.staged) + (index + 1)
+staged_go_on draws start p r ops index d answer h few =
+    let staged : Stages p (get_or ops index d ∷ []) (answer ∷ []) r = ops_stage draws p r (get_or ops index d ∷ []) (answer ∷ []) h in
+    let one : length (added_mids r.staged) ≤ length (added_mids p.staged) + 1 = staged.count in omega (arith, few, one)
+
+pub staged_end : {N : Type 0} (draws : Draws N) (start p r : Peer N) (ops : List Op) (index : ℕ) (d : Op) (answer : OpAnswer) → index < length ops → PerformsOps draws p (get_or ops index d ∷ []) (answer ∷ []) r
+    → length (added_mids p.staged) ≤ length (added_mids start.staged) + index → length (added_mids r.staged) ≤ length (added_mids start.staged) + length ops
+staged_end draws start p r ops index d answer within h few =
+    let next : length (added_mids r.staged) ≤ length (added_mids start.staged) + (index + 1) = staged_go_on draws start p r ops index d answer h few in omega (arith, next, within)
 
 -- the ops go on after one more, in the form of the loop
 pub ops_go_on : {N : Type 0} (draws : Draws N) (start p r : Peer N) (ops : List Op) (index : ℕ) (d : Op) (answer : OpAnswer) (room room' : List OpAnswer) → index < length ops → answer_lacks answer ≡ false → room' ≡ room ++ answer ∷ [] → PerformsOps draws p (get_or ops index d ∷ []) (answer ∷ []) r → ((more : List OpAnswer) (q : Peer N) → PerformsOps draws p (drop index ops) more q → PerformsOps draws start ops (room ++ more) q) → (more : List OpAnswer) (q : Peer N) → PerformsOps draws r (drop (index + 1) ops) more q → PerformsOps draws start ops (room' ++ more) q
@@ -48,6 +86,8 @@ ops_go_on {N} draws start p r ops index d answer room room' within is pushed fir
 
 lacking : (answer : OpAnswer) → answer_lacks answer ≡ true → answer ≡ Alloc
 lacking (Mid mid) h = absurd cc
+lacking (Changed changed) h = absurd cc
+lacking NoLine h = absurd cc
 lacking Alloc h = refl
 
 -- the first want of memory ends the loop

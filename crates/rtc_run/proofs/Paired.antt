@@ -1,6 +1,6 @@
 -- What a step of a pair may rely on.
 use Rattle.std.proofs.Common.{◌≡◌, ◌≤◌, ◌<◌, ◌+◌, ◌-◌, ◌^◌, ℕ, List, length, Bool, Some, sym, ap, subst, arith}
-use Rattle.rtc_plan.specs.PendingOffer.{PendingOffer}
+use Rattle.rtc_plan.specs.PendingOffer.{PendingOffer, added_mids}
 use Rattle.rtc_peer_state.specs.Calls.{raised}
 use Rattle.rtc_steps.specs.declared.side.Side.{Side}
 use Rattle.rtc_steps.specs.declared.op.Op.{Op}
@@ -39,10 +39,10 @@ few_rows_or_one view pair step side view_is within small =
 
 -- the rows of a side with those that its right token adds
 pub rows_with_token : {N : Type 0} (view pair : PairState N) (step : Step) (side at : Side) (t : ℕ) → view ≡ pair → IsWithin pair → pair.size + step_size step < 2 ^ 32 → at ≡ side
-    → (pending : PendingOffer) → held_token view.texts at t ≡ Some pending → (peer_at side view).counter ≡ raised pending.id → length (peer_at side view).lines + length pending.changes < 2 ^ 32 - 1
+    → (pending : PendingOffer) → held_token view.texts at t ≡ Some pending → (peer_at side view).counter ≡ raised pending.id → length (peer_at side view).lines + length (added_mids pending.changes) < 2 ^ 32 - 1
 rows_with_token {N} view pair step side at t view_is within small at_is pending held right =
     let same : IsWithin view = subst IsWithin (sym view_is) within in
     let here : held_token view.texts side t ≡ Some pending = subst (λ (one : Side). held_token view.texts one t ≡ Some pending) at_is held in
-    let most : length (peer_at side view).lines + length pending.changes ≤ view.size = same.fits side t pending here right in
+    let most : length (peer_at side view).lines + length (added_mids pending.changes) ≤ view.size = same.fits side t pending here right in
     let less : view.size < 2 ^ 32 - 1 = small_before view.size step (subst (λ (p : PairState N). p.size + step_size step < 2 ^ 32) (sym view_is) small) in
     omega (arith, most, less)

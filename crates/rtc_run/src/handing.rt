@@ -1,7 +1,7 @@
 //! Texts that are handed to a peer.
 ghost use Rattle.std.specs.Prelude.{◌≡◌, ◌+◌, ◌<◌, ◌≤◌, ◌^◌, ◌-◌, ◌++◌, [], ◌∷◌, length, All, Some, None, IsTrue, IsSome, IfSome, IfNone, OnSome, is_some, ◌↔◌, slice_get, true, false, ℕ};
 ghost use Rattle.std.specs.Option.{option_copied};
-ghost use Rattle.rtc_plan.specs.PendingOffer.{PendingOffer};
+ghost use Rattle.rtc_plan.specs.PendingOffer.{PendingOffer, added_mids};
 ghost use Rattle.rtc_peer_state.specs.Calls.{AcceptsAnswer, AcceptsOffer, raised};
 ghost use Rattle.rtc_steps.specs.Sides.{same_side};
 ghost use Rattle.rtc_course.specs.Formed.{AreCarried};
@@ -124,7 +124,7 @@ fn take_answer<N: Ids>(
     pending: SdpPendingOffer,
     answer: SdpAnswer,
 ) -> Result<(), RtcError>
-    requires rows { rtc.old.core.counter ≡ raised pending.id → length rtc.old.core.lines + length pending.changes < 2 ^ 32 - 1 }
+    requires rows { rtc.old.core.counter ≡ raised pending.id → length rtc.old.core.lines + length (added_mids pending.changes) < 2 ^ 32 - 1 }
     requires lines { length answer.0.lines < 2 ^ 32 - 1 }
     ensures accepts { AcceptsAnswer N.ids (lent rtc.old.core) pending answer result rtc.new.core }
     ensures rows { length rtc.new.core.lines ≤ length rtc.old.core.lines + length answer.0.lines }
@@ -144,7 +144,7 @@ pub fn hand_answer<N: Ids>(
     requires rows { length rtc.old.core.lines < 2 ^ 32 }
     requires lines { All (λ kept. length kept.text.lines < 2 ^ 32 - 1) texts.old.items }
     requires carried { AreCarried texts.old.items }
-    requires fits { (pending : PendingOffer) → held_token texts.old.items at token ≡ Some pending → rtc.old.core.counter ≡ raised pending.id → length rtc.old.core.lines + length pending.changes < 2 ^ 32 - 1 }
+    requires fits { (pending : PendingOffer) → held_token texts.old.items at token ≡ Some pending → rtc.old.core.counter ≡ raised pending.id → length rtc.old.core.lines + length (added_mids pending.changes) < 2 ^ 32 - 1 }
     ensures { HandsAnswer N.ids token (held_token texts.old.items at token) (handed_text false texts.old.items at answer) rtc.old.core texts.old.items result.outcome result.table rtc.new.core texts.new.items }
 {
     let rows = rtc.lines().rows().len();

@@ -1,7 +1,9 @@
 //! Ops of a step at one peer.
-ghost use Rattle.std.specs.Prelude.{◌≡◌, ◌+◌, ◌<◌, ◌≤◌, ◌^◌, ◌-◌, ◌++◌, [], ◌∷◌, length, vec_capacity, vec_len, Some, IfOk, not, ◌&&◌, true, false};
+ghost use Rattle.std.specs.Prelude.{◌≡◌, ◌+◌, ◌<◌, ◌≤◌, ◌^◌, ◌-◌, ◌++◌, [], ◌∷◌, length, slice_get, vec_capacity, vec_len, Some, IfOk, not, ◌&&◌, true, false};
+ghost use Rattle.rtc_plan.specs.PendingOffer.{added_mids};
+ghost use Rattle.rtc_plan.specs.RowChanges.{media_mid};
 ghost use Rattle.rtc_steps.specs.Memory.{answer_lacks, answers_lack};
-ghost use Rattle.rtc_steps.specs.declared.op.Op.TheVariants.{AddMedia};
+ghost use Rattle.rtc_steps.specs.declared.op.Op.TheVariants.{AddMedia, SetDirection, StopMedia};
 ghost use Rattle.rtc_steps.specs.declared.outcome.Outcome.TheVariants.{Negotiated};
 ghost use Rattle.rtc_course.specs.Performs.{Negotiates, PerformsOps};
 ghost use Rattle.rtc_run.specs.Stages.{Stages};
@@ -10,18 +12,16 @@ use crate::applied::Applied;
 use crate::replying::{room_for, tell, tell_no_memory};
 use rtc_course::Kept;
 use rtc_peer::{Ids, Rtc, SdpApi};
-use rtc_rows::{Direction, LineRow, MediaKind};
+use rtc_rows::{Direction, LineRow, MediaKind, Mid};
 use rtc_steps::{Made, Op, OpAnswer, Outcome, Reply, Side, do_answers_lack};
 use rtc_wire::Seq;
 use std::alloc::Global;
 
 // Stages a line with no names of its own.
 fn add_line<N: Ids>(api: &mut SdpApi<'_, N>, kind: MediaKind, dir: Direction) -> OpAnswer
-    requires { length api.old.rtc.now.core.lines + length api.old.rtc.now.core.staged < 2 ^ 32 - 1 }
+    requires { length api.old.rtc.now.core.lines + length (added_mids api.old.rtc.now.core.staged) < 2 ^ 32 - 1 }
     ensures same_reference { api.new.rtc.ghost_name ≡ api.old.rtc.ghost_name }
     ensures performs { PerformsOps N.ids api.old.rtc.now.core (AddMedia kind dir ∷ []) (result ∷ []) api.new.rtc.now.core }
-    ensures lines { api.new.rtc.now.core.lines ≡ api.old.rtc.now.core.lines }
-    ensures staged { length api.new.rtc.now.core.staged ≤ length api.old.rtc.now.core.staged + 1 }
 {
     match api.add_media(kind, dir, None, None, None) {
         Ok(mid) => OpAnswer::Mid(mid),
@@ -29,15 +29,57 @@ fn add_line<N: Ids>(api: &mut SdpApi<'_, N>, kind: MediaKind, dir: Direction) ->
     }
 }
 
+// The mid of the media line at a place, if one stands there.
+fn find_line(rows: &[LineRow], place: u32) -> Option<Mid>
+    ensures { result ≡ media_mid (slice_get rows.now place) }
+{
+    let Some(row) = rows.get(place as usize) else {
+        return None;
+    };
+    match row {
+        LineRow::Media { mid, .. } => Some(*mid),
+        LineRow::App { .. } => None,
+    }
+}
+
+// Sets the direction of the line at a place.
+fn set_line<N: Ids>(api: &mut SdpApi<'_, N>, place: u32, dir: Direction) -> OpAnswer
+    ensures same_reference { api.new.rtc.ghost_name ≡ api.old.rtc.ghost_name }
+    ensures performs { PerformsOps N.ids api.old.rtc.now.core (SetDirection place dir ∷ []) (result ∷ []) api.new.rtc.now.core }
+{
+    let Some(mid) = find_line(api.lines().rows(), place) else {
+        return OpAnswer::NoLine;
+    };
+    match api.set_direction(mid, dir) {
+        Ok(changed) => OpAnswer::Changed(changed),
+        Err(_) => OpAnswer::Alloc,
+    }
+}
+
+// Stops the line at a place.
+fn stop_line<N: Ids>(api: &mut SdpApi<'_, N>, place: u32) -> OpAnswer
+    ensures same_reference { api.new.rtc.ghost_name ≡ api.old.rtc.ghost_name }
+    ensures performs { PerformsOps N.ids api.old.rtc.now.core (StopMedia place ∷ []) (result ∷ []) api.new.rtc.now.core }
+{
+    let Some(mid) = find_line(api.lines().rows(), place) else {
+        return OpAnswer::NoLine;
+    };
+    match api.stop_media(mid) {
+        Ok(changed) => OpAnswer::Changed(changed),
+        Err(_) => OpAnswer::Alloc,
+    }
+}
+
 fn perform_op<N: Ids>(api: &mut SdpApi<'_, N>, op: &Op) -> OpAnswer
-    requires { length api.old.rtc.now.core.lines + length api.old.rtc.now.core.staged < 2 ^ 32 - 1 }
+    requires { length api.old.rtc.now.core.lines + length (added_mids api.old.rtc.now.core.staged) < 2 ^ 32 - 1 }
     ensures same_reference { api.new.rtc.ghost_name ≡ api.old.rtc.ghost_name }
     ensures performs { PerformsOps N.ids api.old.rtc.now.core (op.now ∷ []) (result ∷ []) api.new.rtc.now.core }
-    ensures lines { api.new.rtc.now.core.lines ≡ api.old.rtc.now.core.lines }
-    ensures staged { length api.new.rtc.now.core.staged ≤ length api.old.rtc.now.core.staged + 1 }
 {
-    let Op::AddMedia { kind, dir } = *op;
-    add_line(api, kind, dir)
+    match *op {
+        Op::AddMedia { kind, dir } => add_line(api, kind, dir),
+        Op::SetDirection { place, dir } => set_line(api, place, dir),
+        Op::StopMedia { place } => stop_line(api, place),
+    }
 }
 
 // Whether an op lacked memory.
@@ -46,6 +88,8 @@ fn is_lack(answer: &OpAnswer) -> bool
 {
     match answer {
         OpAnswer::Mid(_) => false,
+        OpAnswer::Changed(_) => false,
+        OpAnswer::NoLine => false,
         OpAnswer::Alloc => true,
     }
 }
@@ -54,11 +98,11 @@ fn is_lack(answer: &OpAnswer) -> bool
 fn perform_ops<N: Ids>(api: &mut SdpApi<'_, N>, ops: &[Op], room: Vec<OpAnswer>) -> Seq<OpAnswer>
     requires empty { room.items ≡ [] }
     requires room { length ops.now ≤ vec_capacity room }
-    requires few { length api.old.rtc.now.core.lines + length api.old.rtc.now.core.staged + length ops.now < 2 ^ 32 }
+    requires few { length api.old.rtc.now.core.lines + length (added_mids api.old.rtc.now.core.staged) + length ops.now < 2 ^ 32 }
     ensures same_reference { api.new.rtc.ghost_name ≡ api.old.rtc.ghost_name }
     ensures performs { PerformsOps N.ids api.old.rtc.now.core ops.now result api.new.rtc.now.core }
-    ensures lines { api.new.rtc.now.core.lines ≡ api.old.rtc.now.core.lines }
-    ensures staged { length api.new.rtc.now.core.staged ≤ length api.old.rtc.now.core.staged + length ops.now }
+    ensures lines { length api.new.rtc.now.core.lines ≡ length api.old.rtc.now.core.lines }
+    ensures staged { length (added_mids api.new.rtc.now.core.staged) ≤ length (added_mids api.old.rtc.now.core.staged) + length ops.now }
 {
     let mut room = room;
     for op in ops {
@@ -90,7 +134,7 @@ fn perform_and_apply<N: Ids>(
     requires room { length ops.now ≤ vec_capacity room }
     requires few { length rtc.old.core.lines + length ops.now < 2 ^ 32 - 1 }
     ensures stages { Stages N.ids rtc.old.core ops.now apply result.0 result.1 rtc.new.core }
-    ensures lines { rtc.new.core.lines ≡ rtc.old.core.lines }
+    ensures lines { length rtc.new.core.lines ≡ length rtc.old.core.lines }
 {
     let mut api = rtc.sdp_api();
     let answers = perform_ops(&mut api, ops, room);

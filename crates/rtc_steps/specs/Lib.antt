@@ -7,5 +7,6 @@ pub mod Finished
 pub mod Delivered
 pub mod SaidRows
 pub mod Rounds
+pub mod CourseRows
 pub mod Orderly
 pub mod SoundEntry

@@ -4,7 +4,7 @@ use Rattle.std.specs.List.{list_any}
 use Rattle.rtc_peer_state.specs.declared.rtc_error.RtcError.{RtcError}
 use Rattle.rtc_peer_state.specs.declared.rtc_error.RtcError.TheVariants.{RemoteSdp, Sdp, ChangesOutOfOrder, Alloc as PeerAlloc}
 use Rattle.rtc_steps.specs.declared.op_answer.OpAnswer.{OpAnswer}
-use Rattle.rtc_steps.specs.declared.op_answer.OpAnswer.TheVariants.{Mid, Alloc as OpAlloc}
+use Rattle.rtc_steps.specs.declared.op_answer.OpAnswer.TheVariants.{Mid, Changed, NoLine, Alloc as OpAlloc}
 use Rattle.rtc_steps.specs.declared.made.Made.{Made}
 use Rattle.rtc_steps.specs.declared.made.Made.TheVariants.{NotAsked, Nothing, Offer, Alloc as MadeAlloc}
 use Rattle.rtc_steps.specs.declared.outcome.Outcome.{Outcome}
@@ -13,6 +13,8 @@ use Rattle.rtc_steps.specs.declared.reply.Reply.{Reply}
 
 abbrev pub answer_lacks : OpAnswer → Bool
 answer_lacks (Mid mid) = false
+answer_lacks (Changed changed) = false
+answer_lacks NoLine = false
 answer_lacks OpAlloc = true
 
 abbrev pub answers_lack : List OpAnswer → Bool

@@ -10,7 +10,7 @@ use Rattle.rtc_steps.specs.declared.op.Op.TheVariants.{AddMedia}
 use Rattle.rtc_steps.specs.declared.step.Step.{Step}
 use Rattle.rtc_steps.specs.declared.step.Step.TheVariants.{Negotiate, AcceptOffer, AcceptAnswer}
 use Rattle.rtc_steps.specs.declared.op_answer.OpAnswer.{OpAnswer}
-use Rattle.rtc_steps.specs.declared.op_answer.OpAnswer.TheVariants.{Mid, Alloc as OpAlloc}
+use Rattle.rtc_steps.specs.declared.op_answer.OpAnswer.TheVariants.{Mid, Changed, NoLine, Alloc as OpAlloc}
 use Rattle.rtc_steps.specs.declared.made.Made.{Made}
 use Rattle.rtc_steps.specs.declared.made.Made.TheVariants.{NotAsked, Nothing, Offer, Alloc as MadeAlloc}
 use Rattle.rtc_steps.specs.declared.outcome.Outcome.{Outcome}
@@ -96,6 +96,8 @@ holds_token at t past = is_offer_of at (slice_get (texts past) t) && not (is_spe
 -- whether an op staged something
 abbrev pub stages : OpAnswer → Bool
 stages (Mid mid) = true
+stages (Changed changed) = changed
+stages NoLine = false
 stages OpAlloc = false
 
 abbrev pub do_stage : List OpAnswer → Bool
@@ -147,7 +149,7 @@ abbrev pub added : ℕ → List Op → List OpAnswer → List LineRow
 added place [] answers = []
 added place (op ∷ ops) [] = []
 added place (AddMedia kind dir ∷ ops) (Mid mid ∷ answers) = Media place mid kind dir false false ∷ added (place + 1) ops answers
-added place (AddMedia kind dir ∷ ops) (OpAlloc ∷ answers) = []
+added place (op ∷ ops) (answer ∷ answers) = added place ops answers
 
 abbrev pub added_in : ℕ → Step → Outcome → List LineRow
 added_in place (Negotiate at ops apply) (Negotiated answers made) = added place ops answers

@@ -4,7 +4,7 @@ use Rattle.std.specs.List.{list_any}
 use Rattle.rtc_rows.specs.declared.line_row.LineRow.{LineRow}
 use Rattle.rtc_steps.specs.declared.side.Side.{Side}
 use Rattle.rtc_steps.specs.declared.op.Op.{Op}
-use Rattle.rtc_steps.specs.declared.op.Op.TheVariants.{AddMedia}
+use Rattle.rtc_steps.specs.declared.op.Op.TheVariants.{AddMedia, SetDirection, StopMedia}
 use Rattle.rtc_steps.specs.declared.step.Step.{Step}
 use Rattle.rtc_steps.specs.declared.step.Step.TheVariants.{Negotiate, AcceptOffer, AcceptAnswer}
 use Rattle.rtc_steps.specs.declared.outcome.Outcome.{Outcome}
@@ -48,6 +48,8 @@ is_own at t a past = list_any (makes_answer at t a) past
 -- whether an op sets the direction of a line, or stops one
 abbrev pub sets_line : Op → Bool
 sets_line (AddMedia kind dir) = false
+sets_line (SetDirection place dir) = true
+sets_line (StopMedia place) = true
 
 -- whether a step of a side sets or stops a line, also one that is staged only
 abbrev pub sets_lines : Side → Step → Bool

@@ -1,10 +1,11 @@
 -- What the reply to a step may be, by the steps and replies before it.
-use Rattle.std.specs.Prelude.{◌≡◌, ℕ, Bool, true, false, not, ◌&&◌, List, [], ◌∷◌, map, length, Option, Some, None}
+use Rattle.std.specs.Prelude.{◌≡◌, ℕ, Bool, true, false, not, ◌&&◌, List, [], ◌∷◌, map, length, Option, Some, None, is_some, slice_get}
 use Rattle.rtc_rows.specs.LineRow.{row_mid}
 use Rattle.rtc_rows.specs.declared.line_row.LineRow.{LineRow}
 use Rattle.rtc_rows.specs.declared.sdp.Sdp.{Sdp}
 use Rattle.rtc_plan.specs.Distinct.{is_among}
 use Rattle.rtc_plan.specs.Held.{Held, Asked}
+use Rattle.rtc_plan.specs.RowChanges.{RowChange, turned, halted, is_changed, changed_at, media_mid}
 use Rattle.rtc_plan.specs.SaidLines.{said_lines}
 use Rattle.rtc_plan.specs.Taken.{taken}
 use Rattle.rtc_plan.specs.Plans.{verdict}
@@ -12,11 +13,11 @@ use Rattle.rtc_plan.specs.declared.refusal.Refusal.TheVariants.{RemoteSdp as Ref
 use Rattle.rtc_peer_state.specs.declared.rtc_error.RtcError.TheVariants.{RemoteSdp, Sdp as TextRefused, ChangesOutOfOrder, Alloc as PeerAlloc}
 use Rattle.rtc_steps.specs.declared.side.Side.{Side}
 use Rattle.rtc_steps.specs.declared.op.Op.{Op}
-use Rattle.rtc_steps.specs.declared.op.Op.TheVariants.{AddMedia}
+use Rattle.rtc_steps.specs.declared.op.Op.TheVariants.{AddMedia, SetDirection, StopMedia}
 use Rattle.rtc_steps.specs.declared.step.Step.{Step}
 use Rattle.rtc_steps.specs.declared.step.Step.TheVariants.{Negotiate, AcceptOffer, AcceptAnswer}
 use Rattle.rtc_steps.specs.declared.op_answer.OpAnswer.{OpAnswer}
-use Rattle.rtc_steps.specs.declared.op_answer.OpAnswer.TheVariants.{Mid, Alloc as OpAlloc}
+use Rattle.rtc_steps.specs.declared.op_answer.OpAnswer.TheVariants.{Mid, Changed, NoLine, Alloc as OpAlloc}
 use Rattle.rtc_steps.specs.declared.made.Made.{Made}
 use Rattle.rtc_steps.specs.declared.made.Made.TheVariants.{NotAsked, Nothing, Offer, Alloc as MadeAlloc}
 use Rattle.rtc_steps.specs.declared.outcome.Outcome.{Outcome}
@@ -25,12 +26,27 @@ use Rattle.rtc_steps.specs.declared.table.Table.{Table}
 use Rattle.rtc_steps.specs.Memory.{answers_lack}
 use Rattle.rtc_steps.specs.Past.{Entry, before, texts, handed, holds_token, is_right, do_stage, added_by}
 
--- A line that is staged has a mid that no row and no earlier line of the step has; the first want of memory ends the answers.
-abbrev pub OpsAnswered : List (List ℕ) → List Op → List OpAnswer → Type 0
-OpsAnswered held [] [] = Unit {0}
-OpsAnswered held (AddMedia kind dir ∷ ops) (Mid mid ∷ answers) = (is_among held mid ≡ false) × OpsAnswered (mid ∷ held) ops answers
-OpsAnswered held (op ∷ ops) (OpAlloc ∷ []) = Unit {0}
-OpsAnswered held ops answers = ⊥
+-- no media row stands at a place
+abbrev pub HasNoLine : ℕ → List LineRow → Type 0
+HasNoLine place rows = media_mid (slice_get rows place) ≡ None
+
+-- a media row stands at a place, and this is whether it is changed
+abbrev pub TellsChange : RowChange → ℕ → List LineRow → Bool → Type 0
+TellsChange change place rows changed = (is_some (media_mid (slice_get rows place)) ≡ true) × (changed ≡ is_changed change (slice_get rows place))
+
+-- Ops act in order, each on the rows that the one before left, and leave these rows. A line that is staged has a mid that no row and
+-- no earlier line of the step has; the first want of memory ends the answers.
+abbrev pub OpsAnswered : List LineRow → List (List ℕ) → List Op → List OpAnswer → List LineRow → Type 0
+OpsAnswered rows held [] [] after = after ≡ rows
+OpsAnswered rows held (AddMedia kind dir ∷ ops) (Mid mid ∷ answers) after = (is_among held mid ≡ false) × OpsAnswered rows (mid ∷ held) ops answers after
+OpsAnswered rows held (SetDirection place dir ∷ ops) (NoLine ∷ answers) after = HasNoLine place rows × OpsAnswered rows held ops answers after
+OpsAnswered rows held (SetDirection place dir ∷ ops) (Changed changed ∷ answers) after =
+    TellsChange (turned dir) place rows changed × OpsAnswered (changed_at (turned dir) place rows) held ops answers after
+OpsAnswered rows held (StopMedia place ∷ ops) (NoLine ∷ answers) after = HasNoLine place rows × OpsAnswered rows held ops answers after
+OpsAnswered rows held (StopMedia place ∷ ops) (Changed changed ∷ answers) after =
+    TellsChange halted place rows changed × OpsAnswered (changed_at halted place rows) held ops answers after
+OpsAnswered rows held (op ∷ ops) (OpAlloc ∷ []) after = after ≡ rows
+OpsAnswered rows held ops answers after = ⊥
 
 -- An offer is made exactly where something is staged that has to be offered, want of memory aside.
 abbrev pub MadeOf : Bool → Bool → Made → ℕ → Type 0
@@ -72,8 +88,7 @@ asked_in at t past = record { added = added_by (length (before at past)) t past 
 abbrev pub IsSound : List Entry → Step → Outcome → Option Table → Type 0
 IsSound past step Alloc None = Unit {0}
 IsSound past (Negotiate at ops apply) (Negotiated answers made) (Some table) =
-    (table.lines ≡ before at past)
-    × OpsAnswered (map row_mid (before at past)) ops answers
+    OpsAnswered (before at past) (map row_mid (before at past)) ops answers table.lines
     × MadeOf (apply && not (answers_lack answers)) (do_stage answers) made (length (texts past))
 IsSound past (AcceptOffer at offer) outcome (Some table) = TakesOffer (handed true at offer past) (view_in at past) (length (texts past)) outcome table.lines
 IsSound past (AcceptAnswer at token answer) outcome (Some table) =

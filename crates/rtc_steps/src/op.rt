@@ -5,4 +5,8 @@ use rtc_rows::{Direction, MediaKind};
 #[derive(Clone, Copy, Debug, PartialEq, Eq)]
 pub enum Op {
     AddMedia { kind: MediaKind, dir: Direction },
+    /// Sets the direction of the media line at a place, counted from 0.
+    SetDirection { place: u32, dir: Direction },
+    /// Stops the media line at a place for good.
+    StopMedia { place: u32 },
 }

@@ -6,6 +6,10 @@ use rtc_rows::Mid;
 pub enum OpAnswer {
     /// The mid of the line that was staged.
     Mid(Mid),
+    /// Whether the line was live, and had another direction where one was to be set. It is staged exactly then.
+    Changed(bool),
+    /// No media line stands at the place.
+    NoLine,
     /// There was too little memory; nothing changed, and no further op is performed.
     Alloc,
 }

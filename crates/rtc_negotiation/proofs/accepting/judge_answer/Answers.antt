@@ -1,4 +1,3 @@
-use Rattle.std.proofs.Common.{Some}
 use Rattle.rtc_negotiation.proofs.Counts.{planned_count}
 use Rattle.rtc_negotiation.proofs.accepting.judge_answer.Goals as goal
 

@@ -1,4 +1,4 @@
-use Rattle.std.proofs.Common.{arith, sym, ap, ◌∙◌, append_assoc, ◌++◌}
+use Rattle.std.proofs.Common.{arith, append_assoc}
 use Rattle.rtc_negotiation.proofs.Hex.{number_bytes-last}
 use Rattle.rtc_negotiation.proofs.building.+push_bytes.Goals as goal
 

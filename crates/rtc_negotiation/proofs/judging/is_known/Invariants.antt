@@ -1,4 +1,4 @@
-use Rattle.std.proofs.Common.{◌≡◌, ◌++◌, drop}
+use Rattle.std.proofs.Common.{◌≡◌, drop}
 use Rattle.rtc_peer_state.specs.Sources.{has_sources}
 use Rattle.rtc_negotiation.proofs.judging.is_known.Given as goal
 

@@ -1,4 +1,4 @@
-use Rattle.std.proofs.Common.{◌≡◌, ◌++◌, drop}
+use Rattle.std.proofs.Common.{◌≡◌, drop}
 use Rattle.rtc_plan.specs.Distinct.{is_among}
 use Rattle.rtc_negotiation.proofs.judging.is_removed.Given as goal
 

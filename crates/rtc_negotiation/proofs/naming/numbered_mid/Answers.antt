@@ -1,5 +1,5 @@
 use Rattle.std.proofs.Common.{arith}
-use Rattle.rtc_negotiation.proofs.Tokens.{drawn_mid_token}
+use Rattle.rtc_peer_state.proofs.DrawnMids.{drawn_mid_token}
 use Rattle.rtc_negotiation.proofs.naming.numbered_mid.Goals as goal
 
 pub of-requires : goal.of-requires

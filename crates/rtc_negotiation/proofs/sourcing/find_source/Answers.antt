@@ -1,5 +1,5 @@
-use Rattle.std.proofs.Common.{◌≡◌, ◌-◌, ◌+◌, ◌^◌, ◌||◌, suc, ℕ, Bool, true, false, arith, sym, ap, ◌∙◌, refl}
-use Rattle.rtc_peer_state.specs.Sources.{is_used, is_number, unused, source_of}
+use Rattle.std.proofs.Common.{◌≡◌, ◌-◌, ◌+◌, ◌^◌, ◌||◌, suc, ℕ, true, false, arith, sym, ap, ◌∙◌, refl}
+use Rattle.rtc_peer_state.specs.Sources.{is_used, is_number, unused}
 use Rattle.rtc_negotiation.proofs.Tries.{unused-used, unused-free, unused-none}
 use Rattle.rtc_negotiation.proofs.sourcing.find_source.Goals as goal
 

@@ -1,4 +1,4 @@
-use Rattle.std.proofs.Common.{◌≡◌, ◌++◌, drop}
+use Rattle.std.proofs.Common.{◌≡◌, drop}
 use Rattle.std.specs.List.{list_any}
 use Rattle.rtc_peer_state.specs.Sources.{is_number, pair_numbers}
 use Rattle.rtc_negotiation.proofs.sourcing.have_number.Given as goal

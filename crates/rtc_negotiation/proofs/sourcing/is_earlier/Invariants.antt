@@ -1,4 +1,4 @@
-use Rattle.std.proofs.Common.{◌≡◌, ◌++◌, drop}
+use Rattle.std.proofs.Common.{◌≡◌, drop}
 use Rattle.rtc_peer_state.specs.Sources.{is_number}
 use Rattle.rtc_negotiation.proofs.sourcing.is_earlier.Given as goal
 

@@ -1,4 +1,5 @@
 use Rattle.std.proofs.Common.{◌≡◌, ◌≤◌, ◌+◌, ◌++◌, List, length, drop, vec_capacity}
+use Rattle.rtc_plan.specs.PendingOffer.{added_mids}
 use Rattle.rtc_peer_state.specs.declared.peer.Peer.{Peer}
 use Rattle.rtc_steps.specs.declared.op_answer.OpAnswer.{OpAnswer}
 use Rattle.rtc_course.specs.Performs.{PerformsOps}
@@ -12,6 +13,6 @@ invariant-loop-op g l =
       done : (more : List OpAnswer) (q : Peer g.row.N.Denot) → PerformsOps g.N.Ids.ids l.api.rtc.now.core (drop l.op-index l.ops) more q → PerformsOps g.N.Ids.ids l.fn.api.rtc.now.core l.ops (l.room.items ++ more) q;
       count : length l.room.items ≡ l.op-index;
       room : length l.ops ≤ vec_capacity l.room;
-      lines : l.api.rtc.now.core.lines ≡ l.fn.api.rtc.now.core.lines;
-      staged : length l.api.rtc.now.core.staged ≤ length l.fn.api.rtc.now.core.staged + l.op-index;
+      lines : length l.api.rtc.now.core.lines ≡ length l.fn.api.rtc.now.core.lines;
+      staged : length (added_mids l.api.rtc.now.core.staged) ≤ length (added_mids l.fn.api.rtc.now.core.staged) + l.op-index;
     }
