@@ -56,8 +56,10 @@ fn planned_offer(alloc: Global, lines: &Lines) -> Result<Plan, Refusal> {
     plan_offer(alloc, &View { lines }, &offer)
 }
 
+// The plan of the answer to an offer that added the line d; a direction that is staged with it adds none.
 fn planned_answer(alloc: Global, lines: &Lines) -> Result<Plan, Refusal> {
     let mut staged = Seq::empty(alloc);
+    staged.push(Change::Direction(Mid::of("a"), Direction::SendOnly))?;
     staged.push(Change::AddApp(Mid::of("d")))?;
     let token = SdpPendingOffer::new(0, Changes(staged));
     let answer = SdpAnswer(text(alloc)?);

@@ -2,12 +2,13 @@
 ghost use Rattle.std.specs.Prelude.{◌+◌, ◌<◌, IsTrue, length};
 ghost use Rattle.rtc_plan.specs.PendingOffer.{added_mids};
 
+mod changes;
 mod rounds;
 mod stagings;
 
-use crate::{apply_staged, build_peer, stage_media};
-use rtc_lines::SdpOffer;
-use rtc_peer_state::{CountIds, Peer, RtcConfig};
+use crate::{accept_answer, accept_offer, apply_staged, build_peer, stage_media};
+use rtc_lines::{SdpAnswer, SdpOffer};
+use rtc_peer_state::{CountIds, Peer, RtcConfig, RtcError};
 use rtc_plan::{SdpPendingOffer, count_added};
 use rtc_rows::{Direction, MediaKind};
 use rtc_wire::Moment;
@@ -43,6 +44,11 @@ fn offer_line(
     dir: Direction,
 ) -> Result<(SdpOffer, SdpPendingOffer), AllocError> {
     stage(peer, MediaKind::Audio, dir)?;
+    apply(peer)
+}
+
+// The offer of what is staged, with its token.
+fn apply(peer: &mut Peer<CountIds>) -> Result<(SdpOffer, SdpPendingOffer), AllocError> {
     if !is_small(peer) {
         return Err(AllocError);
     }
@@ -50,4 +56,25 @@ fn offer_line(
         Some(made) => Ok(made),
         None => Err(AllocError),
     }
+}
+
+fn take_offer(peer: &mut Peer<CountIds>, offer: SdpOffer) -> Result<SdpAnswer, RtcError> {
+    let lines = offer.0.lines.len();
+    if !is_small(peer) || lines > 100 {
+        return Err(RtcError::Alloc);
+    }
+    accept_offer(peer, offer)
+}
+
+fn take_answer(
+    peer: &mut Peer<CountIds>,
+    token: SdpPendingOffer,
+    answer: SdpAnswer,
+) -> Result<(), RtcError> {
+    let lines = answer.0.lines.len();
+    let changes = count_added(token.changes().0.as_slice());
+    if !is_small(peer) || lines > 100 || changes > 100 {
+        return Err(RtcError::Alloc);
+    }
+    accept_answer(peer, token, answer)
 }

@@ -14,13 +14,16 @@ fn made(alloc: Global, first: u64) -> Result<Rtc<CountIds>, AllocError> {
     Rtc::build(alloc, config, Moment::FAR_PAST, CountIds::starting(first))
 }
 
-// The offer of an audio line that only sends, with its token.
-fn offer_line(rtc: &mut Rtc<CountIds>) -> Result<(SdpOffer, SdpPendingOffer), AllocError> {
+// The offer of an audio line, with its token.
+fn offer_line(
+    rtc: &mut Rtc<CountIds>,
+    dir: Direction,
+) -> Result<(SdpOffer, SdpPendingOffer), AllocError> {
     if rtc.lines().rows().len() > 100 {
         return Err(AllocError);
     }
     let mut api = rtc.sdp_api();
-    api.add_media(MediaKind::Audio, Direction::SendOnly, None, None, None)?;
+    api.add_media(MediaKind::Audio, dir, None, None, None)?;
     match api.apply()? {
         Some(made) => Ok(made),
         None => Err(AllocError),
@@ -48,23 +51,37 @@ fn take_answer(
     rtc.sdp_api().accept_answer(token, answer)
 }
 
-// Whether a peer has the live row m3 of audio and nothing else.
-fn has_row(rtc: &Rtc<CountIds>, dir: Direction, remote_created: bool) -> bool {
-    let row = LineRow::Media {
+// The row of the live audio line m3.
+fn live_row(dir: Direction, remote_created: bool) -> LineRow {
+    LineRow::Media {
         place: 0,
         mid: Mid::of("m3"),
         kind: MediaKind::Audio,
         dir,
         stopped: false,
         remote_created,
-    };
+    }
+}
+
+// Whether a peer has this row and nothing else.
+fn has_row(rtc: &Rtc<CountIds>, row: LineRow) -> bool {
     rtc.lines().rows() == [row].as_slice()
+}
+
+// The side that offered the audio line m3, after the round.
+fn after_round(alloc: Global) -> Result<Rtc<CountIds>, RtcError> {
+    let mut left = made(alloc, 1)?;
+    let mut right = made(alloc, 1001)?;
+    let (offer, token) = offer_line(&mut left, Direction::SendRecv)?;
+    let answer = take_offer(&mut right, offer)?;
+    take_answer(&mut left, token, answer)?;
+    Ok(left)
 }
 
 #[test]
 fn staged_line_is_offered(rt: HostRuntime) -> Result<(), Fail> {
     let mut rtc = made(rt.alloc(), 1)?;
-    let (offer, token) = offer_line(&mut rtc)?;
+    let (offer, token) = offer_line(&mut rtc, Direction::SendOnly)?;
     assert_eq!(rt; offer.0.lines.len(), 1);
     assert_eq!(rt; token.change_id(), 0);
     Ok(())
@@ -74,10 +91,60 @@ fn staged_line_is_offered(rt: HostRuntime) -> Result<(), Fail> {
 fn round_leaves_a_row_at_both_peers(rt: HostRuntime) -> Result<(), Fail> {
     let mut left = made(rt.alloc(), 1)?;
     let mut right = made(rt.alloc(), 1001)?;
-    let (offer, token) = offer_line(&mut left)?;
+    let (offer, token) = offer_line(&mut left, Direction::SendOnly)?;
     let answer = take_offer(&mut right, offer)?;
-    assert!(rt; has_row(&right, Direction::RecvOnly, true));
+    assert!(rt; has_row(&right, live_row(Direction::RecvOnly, true)));
     take_answer(&mut left, token, answer)?;
-    assert!(rt; has_row(&left, Direction::SendOnly, false));
+    assert!(rt; has_row(&left, live_row(Direction::SendOnly, false)));
+    Ok(())
+}
+
+#[test]
+fn direction_is_set_at_once(rt: HostRuntime) -> Result<(), Fail> {
+    let mut rtc = after_round(rt.alloc())?;
+    let mut api = rtc.sdp_api();
+    let first = api.set_direction(Mid::of("m3"), Direction::SendOnly)?;
+    let again = api.set_direction(Mid::of("m3"), Direction::SendOnly)?;
+    drop(api);
+    assert!(rt; first && !again);
+    assert!(rt; has_row(&rtc, live_row(Direction::SendOnly, false)));
+    Ok(())
+}
+
+// Stops the line m3, and offers that where it changed.
+fn offer_stop(rtc: &mut Rtc<CountIds>) -> Result<Option<(SdpOffer, SdpPendingOffer)>, AllocError> {
+    let mut api = rtc.sdp_api();
+    if !api.stop_media(Mid::of("m3"))? || api.lines().rows().len() > 100 {
+        return Ok(None);
+    }
+    api.apply()
+}
+
+// Whether an offer was made that has one line, with port 0.
+fn does_stop(made: &Option<(SdpOffer, SdpPendingOffer)>) -> bool {
+    let Some((offer, _)) = made else {
+        return false;
+    };
+    match offer.0.lines.as_slice() {
+        [line] => line.disabled && line.dir == Direction::Inactive,
+        _ => false,
+    }
+}
+
+#[test]
+fn line_is_stopped_once_and_offered_with_port_zero(rt: HostRuntime) -> Result<(), Fail> {
+    let mut rtc = after_round(rt.alloc())?;
+    let first = offer_stop(&mut rtc)?;
+    let again = offer_stop(&mut rtc)?;
+    assert!(rt; does_stop(&first) && again.is_none());
+    let row = LineRow::Media {
+        place: 0,
+        mid: Mid::of("m3"),
+        kind: MediaKind::Audio,
+        dir: Direction::Inactive,
+        stopped: true,
+        remote_created: false,
+    };
+    assert!(rt; has_row(&rtc, row));
     Ok(())
 }

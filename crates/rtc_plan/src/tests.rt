@@ -6,10 +6,11 @@ mod copies;
 mod lines_of_texts;
 mod new_lines;
 mod printed;
+mod set_lines;
 
 use crate::{
     AddMedia, Change, Changes, Lines, Plan, Refusal, SaidLine, SdpPendingOffer, View, Why,
-    plan_answer_text, plan_offer_text,
+    count_added, plan_answer_text, plan_offer_text,
 };
 use rtc_rows::{Direction, LineKind, LineRow, MediaKind, MediaLine, Mid, Msid, Sdp};
 use rtc_wire::{Seq, Text};
@@ -110,7 +111,7 @@ fn plan_of_answer(
     let answer = text(alloc, said)?;
     let rows = lines.rows().len();
     let count = answer.lines.len();
-    let changes = token.changes().0.len();
+    let changes = count_added(token.changes().0.as_slice());
     if rows > 100 || count > 100 || changes > 100 {
         return Err(Refusal::Alloc);
     }

@@ -1,32 +1,8 @@
 //! Offers that are made and taken, and answers.
-use super::{is_small, made, offer_line};
-use crate::{accept_answer, accept_offer};
-use rtc_lines::{SdpAnswer, SdpOffer};
-use rtc_peer_state::{CountIds, Peer, RtcError};
-use rtc_plan::SdpPendingOffer;
+use super::{made, offer_line, take_answer, take_offer};
+use rtc_peer_state::{CountIds, Peer};
 use rtc_rows::{Direction, LineRow, MediaKind, Mid, Sdp, Setup};
 use std::test::Fail;
-
-fn take_offer(peer: &mut Peer<CountIds>, offer: SdpOffer) -> Result<SdpAnswer, RtcError> {
-    let lines = offer.0.lines.len();
-    if !is_small(peer) || lines > 100 {
-        return Err(RtcError::Alloc);
-    }
-    accept_offer(peer, offer)
-}
-
-fn take_answer(
-    peer: &mut Peer<CountIds>,
-    token: SdpPendingOffer,
-    answer: SdpAnswer,
-) -> Result<(), RtcError> {
-    let lines = answer.0.lines.len();
-    let changes = token.changes().0.len();
-    if !is_small(peer) || lines > 100 || changes > 100 {
-        return Err(RtcError::Alloc);
-    }
-    accept_answer(peer, token, answer)
-}
 
 // Whether a text says the line m3 of audio and nothing else.
 fn does_say(text: &Sdp, id: u64, dir: Direction, setup: Setup) -> bool {
