@@ -5,6 +5,7 @@ use std::alloc::{AllocError, Global};
 
 mod changes;
 mod rounds;
+mod set_lines;
 mod statuses;
 mod vectors;
 

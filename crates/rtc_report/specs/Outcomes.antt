@@ -1,5 +1,5 @@
 -- The words of outcomes.
-use Rattle.std.specs.Prelude.{ℕ, List, [], ◌∷◌, ◌++◌, flat_map, codes}
+use Rattle.std.specs.Prelude.{ℕ, Bool, true, false, List, [], ◌∷◌, ◌++◌, flat_map, codes}
 use Rattle.std.specs.Fmt.{decimal}
 use Rattle.rtc_plan.specs.WhyText.{why_text}
 use Rattle.rtc_rows.specs.SdpErrorText.{sdp_error_text}
@@ -8,7 +8,7 @@ use Rattle.rtc_peer_state.specs.declared.rtc_error.RtcError.TheVariants.{RemoteS
 use Rattle.rtc_steps.specs.declared.made.Made.{Made}
 use Rattle.rtc_steps.specs.declared.made.Made.TheVariants.{NotAsked, Nothing, Offer, Alloc as MadeAlloc}
 use Rattle.rtc_steps.specs.declared.op_answer.OpAnswer.{OpAnswer}
-use Rattle.rtc_steps.specs.declared.op_answer.OpAnswer.TheVariants.{Mid, Alloc as OpAlloc}
+use Rattle.rtc_steps.specs.declared.op_answer.OpAnswer.TheVariants.{Mid, Changed, NoLine, Alloc as OpAlloc}
 use Rattle.rtc_steps.specs.declared.outcome.Outcome.{Outcome}
 use Rattle.rtc_steps.specs.declared.outcome.Outcome.TheVariants.{Negotiated, Answered, Finished, Refused, NoSuch, Alloc}
 
@@ -16,9 +16,16 @@ use Rattle.rtc_steps.specs.declared.outcome.Outcome.TheVariants.{Negotiated, Ans
 abbrev pub no_memory : List ℕ
 no_memory = codes "nomemory"
 
+-- whether a line was changed
+abbrev pub changed_text : Bool → List ℕ
+changed_text true = codes "true"
+changed_text false = codes "false"
+
 -- the answer to an op
 abbrev pub answer_text : OpAnswer → List ℕ
 answer_text (Mid mid) = mid
+answer_text (Changed changed) = changed_text changed
+answer_text NoLine = codes "none"
 answer_text OpAlloc = no_memory
 
 -- answers behind the first, each behind a comma

@@ -12,6 +12,9 @@ fn push_answer(out: &mut String, answer: &OpAnswer) -> Result<(), AllocError>
 {
     match answer {
         OpAnswer::Mid(mid) => out.push_str(mid.as_str()),
+        OpAnswer::Changed(true) => out.push_str("true"),
+        OpAnswer::Changed(false) => out.push_str("false"),
+        OpAnswer::NoLine => out.push_str("none"),
         OpAnswer::Alloc => out.push_str("nomemory"),
     }
 }

@@ -11,7 +11,7 @@ use Rattle.rtc_script.specs.Lines.{IsOp, IsAct, AreStepWords, IsLine, ops_verb}
 use Rattle.rtc_script.proofs.ZipLemmas.{one_zip}
 use Rattle.rtc_steps.specs.Sides.{side_of}
 use Rattle.rtc_steps.specs.declared.op.Op.{Op}
-use Rattle.rtc_steps.specs.declared.op.Op.TheVariants.{AddMedia}
+use Rattle.rtc_steps.specs.declared.op.Op.TheVariants.{AddMedia, SetDirection, StopMedia}
 use Rattle.rtc_steps.specs.declared.side.Side.{Side}
 use Rattle.rtc_steps.specs.declared.side.Side.TheVariants.{Left, Right}
 use Rattle.rtc_steps.specs.declared.step.Step.{Step}
@@ -58,15 +58,45 @@ kind_again Video = refl
 one_kind : (a b : MediaKind) → kind_text a ≡ kind_text b → a ≡ b
 one_kind a b same = sym (kind_again a) ∙ ap kind_from same ∙ kind_again b
 
+one_number : (m n : ℕ) → m < 2 ^ 32 → n < 2 ^ 32 → decimal m ≡ decimal n → m ≡ n
+one_number m n small small' same = decimal_injective m n (omega arith) (omega arith) same
+
+first_same : (a b : List ℕ) (rest others : List (List ℕ)) → a ∷ rest ≡ b ∷ others → a ≡ b
+first_same a b rest others same = cc
+
+rest_same : (a b : List ℕ) (rest others : List (List ℕ)) → a ∷ rest ≡ b ∷ others → rest ≡ others
+rest_same a b rest others same = cc
+
+-- two parts are not three
+two_or_three : (a b c d e : List ℕ) → a ∷ b ∷ [] ≡ c ∷ d ∷ e ∷ [] → ⊥
+two_or_three a b c d e same = absurd (cc)
+
+-- no kind of media is named stop
+no_stop : (kind : MediaKind) → kind_text kind ≡ codes "stop" → ⊥
+no_stop Audio same = absurd (omega (arith, same_letter 0 (codes "audio") (codes "audio") (codes "stop") refl same))
+no_stop Video same = absurd (omega (arith, same_letter 0 (codes "video") (codes "video") (codes "stop") refl same))
+
 -- a word is that of one op
 one_op : (word : List ℕ) (a b : Op) → IsOp word a → IsOp word b → a ≡ b
 one_op word (AddMedia kind dir) (AddMedia kind' dir') is is' =
     let same = sym is ∙ is' in
-    let kinds : kind_text kind ≡ kind_text kind' = cc in
-    let dirs : direction_text dir ≡ direction_text dir' = cc in
-    let one = one_kind kind kind' kinds in
-    let other = one_direction dir dir' dirs in
-    cc
+    let kinds = one_kind kind kind' (first_same _ _ _ _ same) in
+    let dirs = one_direction dir dir' (first_same _ _ _ _ (rest_same _ _ _ _ same)) in
+    rw (kinds, dirs) refl
+one_op word (AddMedia kind dir) (SetDirection place to) is is' = absurd (two_or_three _ _ _ _ _ (sym is ∙ is'.0))
+one_op word (AddMedia kind dir) (StopMedia place) is is' = absurd (no_stop kind (first_same _ _ _ _ (sym is ∙ is'.0)))
+one_op word (SetDirection place to) (AddMedia kind dir) is is' = absurd (two_or_three _ _ _ _ _ (sym is' ∙ is.0))
+one_op word (SetDirection place to) (SetDirection place' to') is is' =
+    let same = rest_same _ _ _ _ (sym is.0 ∙ is'.0) in
+    let places = one_number place place' is.1 is'.1 (first_same _ _ _ _ same) in
+    let dirs = one_direction to to' (first_same _ _ _ _ (rest_same _ _ _ _ same)) in
+    rw (places, dirs) refl
+one_op word (SetDirection place to) (StopMedia place') is is' = absurd (two_or_three _ _ _ _ _ (sym is'.0 ∙ is.0))
+one_op word (StopMedia place) (AddMedia kind dir) is is' = absurd (no_stop kind (first_same _ _ _ _ (sym is' ∙ is.0)))
+one_op word (StopMedia place) (SetDirection place' to) is is' = absurd (two_or_three _ _ _ _ _ (sym is.0 ∙ is'.0))
+one_op word (StopMedia place) (StopMedia place') is is' =
+    let places = one_number place place' is.1 is'.1 (first_same _ _ _ _ (rest_same _ _ _ _ (sym is.0 ∙ is'.0))) in
+    rw places refl
 
 applied_from : List ℕ → Bool
 applied_from text = eqb (get_or text 0 0) 111
@@ -83,9 +113,6 @@ one_verb a b same = sym (applied_again a) ∙ ap applied_from same ∙ applied_a
 other_verb : (apply : Bool) (verb other : List ℕ) → verb ≡ ops_verb apply → verb ≡ other → get_or other 0 0 ≡ 97 → ⊥
 other_verb true verb other is is' letter = absurd (omega (arith, same_letter 0 verb (codes "offer") other is is', letter))
 other_verb false verb other is is' letter = absurd (omega (arith, same_letter 0 verb (codes "stage") other is is', letter))
-
-one_number : (m n : ℕ) → m < 2 ^ 32 → n < 2 ^ 32 → decimal m ≡ decimal n → m ≡ n
-one_number m n small small' same = decimal_injective m n (omega arith) (omega arith) same
 
 -- a verb and the words behind it are those of one step of a side
 one_act : (verb : List ℕ) (rest : List (List ℕ)) (a b : Step) → side_of a ≡ side_of b → IsAct verb rest a → IsAct verb rest b → a ≡ b

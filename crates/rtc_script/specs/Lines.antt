@@ -5,7 +5,7 @@ use Rattle.std.specs.List.{AllZip}
 use Rattle.rtc_fields.specs.Words.{parts, words}
 use Rattle.rtc_steps.specs.Sides.{side_of}
 use Rattle.rtc_steps.specs.declared.op.Op.{Op}
-use Rattle.rtc_steps.specs.declared.op.Op.TheVariants.{AddMedia}
+use Rattle.rtc_steps.specs.declared.op.Op.TheVariants.{AddMedia, SetDirection, StopMedia}
 use Rattle.rtc_steps.specs.declared.step.Step.{Step}
 use Rattle.rtc_steps.specs.declared.step.Step.TheVariants.{Negotiate, AcceptOffer, AcceptAnswer}
 use Rattle.rtc_words.specs.Words.{side_text, kind_text, direction_text}
@@ -13,6 +13,8 @@ use Rattle.rtc_words.specs.Words.{side_text, kind_text, direction_text}
 -- the parts of an op's word
 abbrev pub AreOpParts : List (List ℕ) → Op → Type 0
 AreOpParts found (AddMedia kind dir) = found ≡ kind_text kind ∷ direction_text dir ∷ []
+AreOpParts found (SetDirection place dir) = (found ≡ codes "dir" ∷ decimal place ∷ direction_text dir ∷ []) × (place < 2 ^ 32)
+AreOpParts found (StopMedia place) = (found ≡ codes "stop" ∷ decimal place ∷ []) × (place < 2 ^ 32)
 
 -- the word of an op: parts with a colon between
 abbrev pub IsOp : List ℕ → Op → Type 0

@@ -6,8 +6,8 @@ ghost use Rattle.rtc_script.specs.Lines.{AreNumbers};
 use rtc_fields::read_decimal;
 use std::str;
 
-// The number below 2^32 whose decimal a word is.
-fn read_u32(word: &[u8]) -> Option<u32>
+/// The number below 2^32 whose decimal a word is.
+pub fn read_u32(word: &[u8]) -> Option<u32>
     ensures some { IfSome result (λ n. word.now ≡ decimal n) }
     ensures none { IfNone result ((n : ℕ) → n < 2 ^ 32 → word.now ≢ decimal n) }
 {

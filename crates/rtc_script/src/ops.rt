@@ -1,25 +1,49 @@
 //! Ops of a line.
-ghost use Rattle.std.specs.Prelude.{◌≡◌, List, IfOk, IfSome, IfNone, map};
+ghost use Rattle.std.specs.Prelude.{◌≡◌, ◌<◌, ◌^◌, [], ◌∷◌, List, IfOk, IfSome, IfNone, map};
 ghost use Rattle.rtc_script.specs.Lines.{AreOpParts, IsOp, AreOps};
 ghost use Rattle.rtc_steps.specs.declared.op.Op.{Op};
 
 use crate::cutting::cut_parts;
+use crate::numbers::read_u32;
 use rtc_steps::Op;
 use rtc_wire::Seq;
 use rtc_words::{read_direction, read_kind};
 use std::alloc::{AllocError, Global};
 
-// The line of a kind of media that parts add.
-fn read_added(parts: &[&[u8]]) -> Option<Op>
+// The op of two parts: a line that is added, or one that is stopped.
+fn read_two_parts(word: &[u8], value: &[u8]) -> Option<Op>
+    ensures some { IfSome result (λ op. AreOpParts (word.now ∷ value.now ∷ []) op) }
+    ensures none { IfNone result ((op : Op) → AreOpParts (word.now ∷ value.now ∷ []) op → ⊥) }
+{
+    if word == b"stop".as_slice() {
+        let place = read_u32(value)?;
+        return Some(Op::StopMedia { place });
+    }
+    let kind = read_kind(word)?;
+    let dir = read_direction(value)?;
+    Some(Op::AddMedia { kind, dir })
+}
+
+// The op of three parts: a direction that is set.
+fn read_three_parts(word: &[u8], place: &[u8], value: &[u8]) -> Option<Op>
+    ensures some { IfSome result (λ op. AreOpParts (word.now ∷ place.now ∷ value.now ∷ []) op) }
+    ensures none { IfNone result ((op : Op) → AreOpParts (word.now ∷ place.now ∷ value.now ∷ []) op → ⊥) }
+{
+    if word != b"dir".as_slice() {
+        return None;
+    }
+    let place = read_u32(place)?;
+    let dir = read_direction(value)?;
+    Some(Op::SetDirection { place, dir })
+}
+
+fn read_parts(parts: &[&[u8]]) -> Option<Op>
     ensures some { IfSome result (λ op. AreOpParts (map (λ part. part.now) parts.now) op) }
     ensures none { IfNone result ((op : Op) → AreOpParts (map (λ part. part.now) parts.now) op → ⊥) }
 {
     match parts {
-        [kind, dir] => {
-            let kind = read_kind(kind)?;
-            let dir = read_direction(dir)?;
-            Some(Op::AddMedia { kind, dir })
-        }
+        [word, value] => read_two_parts(word, value),
+        [word, place, value] => read_three_parts(word, place, value),
         _ => None,
     }
 }
@@ -29,7 +53,7 @@ fn read_op(alloc: Global, word: &[u8]) -> Result<Option<Op>, AllocError>
     ensures none { IfOk result (λ read. IfNone read ((op : Op) → IsOp word.now op → ⊥)) }
 {
     let parts = cut_parts(alloc, word)?;
-    Ok(read_added(parts.as_slice()))
+    Ok(read_parts(parts.as_slice()))
 }
 
 /// The ops that words say.

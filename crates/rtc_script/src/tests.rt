@@ -101,6 +101,25 @@ fn ops_stand_in_the_order_of_their_words(rt: HostRuntime) -> Result<(), Fail> {
 }
 
 #[test]
+fn lines_are_set_and_stopped_by_place(rt: HostRuntime) -> Result<(), Fail> {
+    let text = b"str0m-pair 1\nL offer dir:4294967295:sendonly stop:10\n";
+    let script = read_script(rt.alloc(), text)?;
+    let mut ops = Seq::empty(rt.alloc());
+    ops.push(Op::SetDirection {
+        place: 4294967295,
+        dir: Direction::SendOnly,
+    })?;
+    ops.push(Op::StopMedia { place: 10 })?;
+    let step = Step::Negotiate {
+        at: Side::Left,
+        ops,
+        apply: true,
+    };
+    assert!(rt; script.steps.as_slice() == [step].as_slice());
+    Ok(())
+}
+
+#[test]
 fn side_offers_again(rt: HostRuntime) -> Result<(), Fail> {
     let text = b"str0m-pair 1\nL offer video:inactive\nL offer video:inactive\n";
     let script = read_script(rt.alloc(), text)?;
@@ -110,7 +129,7 @@ fn side_offers_again(rt: HostRuntime) -> Result<(), Fail> {
     Ok(())
 }
 
-const REFUSED: [(&str, u32); 32] = [
+const REFUSED: [(&str, u32); 40] = [
     ("", 1),
     ("\n", 1),
     ("str0m-pair 1", 1),
@@ -134,7 +153,15 @@ const REFUSED: [(&str, u32); 32] = [
     ("str0m-pair 1\nR offer audio:sendrecv  video:sendrecv\n", 2),
     ("str0m-pair 1\nR offer video:sendrecv audio:send\n", 2),
     ("str0m-pair 1\nR offer channel:61\n", 2),
-    ("str0m-pair 1\nL stage stop:0\n", 2),
+    ("str0m-pair 1\nL stage stop:\n", 2),
+    ("str0m-pair 1\nL stage stop:-1\n", 2),
+    ("str0m-pair 1\nL stage stop:01\n", 2),
+    ("str0m-pair 1\nL stage stop:4294967296\n", 2),
+    ("str0m-pair 1\nL stage stop:0:inactive\n", 2),
+    ("str0m-pair 1\nL offer dir:0\n", 2),
+    ("str0m-pair 1\nL offer dir::sendrecv\n", 2),
+    ("str0m-pair 1\nL offer dir:0:send\n", 2),
+    ("str0m-pair 1\nL offer restart:keep\n", 2),
     ("str0m-pair 1\nR accept 4294967296\n", 2),
     ("str0m-pair 1\nR accept +1\n", 2),
     (
