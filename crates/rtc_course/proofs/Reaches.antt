@@ -1,5 +1,5 @@
 -- A pair that is reached by its steps stays within their sizes, and each reply is sound.
-use Rattle.std.proofs.Common.{◌≡◌, ◌<◌, ◌≤◌, ◌^◌, ℕ, List, [], ◌∷◌, length, true, false, Option, Some, None, refl, sym, ap, arith}
+use Rattle.std.proofs.Common.{◌≡◌, ◌<◌, ◌^◌, ℕ, List, [], ◌∷◌, length, true, false, Option, Some, None, refl, sym, ap, arith}
 use Rattle.std.specs.Prelude.{slice_get}
 use Rattle.rtc_plan.specs.Table.{IsTable}
 use Rattle.rtc_peer_state.specs.declared.peer.Peer.{Peer}
