@@ -9,10 +9,8 @@ use crate::assoc_step::AssocStep;
 use crate::world::perform;
 use rtc_assoc_plain::PlainAssociation;
 use rtc_parts::Association;
+use rtc_wire::LOCAL_MAX_MESSAGE_SIZE;
 use std::alloc::{AllocError, Global};
-
-/// The longest message that an end takes, in bytes.
-const LOCAL_MAX_MESSAGE: u32 = 262_144;
 
 fn add(replies: &mut Vec<AssocReply>, reply: AssocReply) -> Result<(), AllocError>
     ensures { OnOk result (replies.new.items ≡ replies.old.items ++ reply ∷ []) }
@@ -43,8 +41,8 @@ pub fn run_assoc(
     ensures told_left { IfOk result (λ replies. ToldOnce steps.now replies.items true left.new) }
     ensures told_right { IfOk result (λ replies. ToldOnce steps.now replies.items false right.new) }
 {
-    left.set_limits(max_payload, LOCAL_MAX_MESSAGE);
-    right.set_limits(max_payload, LOCAL_MAX_MESSAGE);
+    left.set_limits(max_payload, LOCAL_MAX_MESSAGE_SIZE);
+    right.set_limits(max_payload, LOCAL_MAX_MESSAGE_SIZE);
     let mut packets = Vec::new(alloc);
     let mut replies = Vec::new(alloc);
     for step in steps {

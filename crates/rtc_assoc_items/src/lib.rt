@@ -9,7 +9,7 @@ mod outgoing;
 mod packet;
 
 pub use cut::{cut_message, packets_of};
-pub use frame::Frame;
+pub use frame::{DATA_OVERHEAD, Frame};
 pub use item::Item;
 pub use item_part::ItemPart;
 pub use outgoing::Outgoing;

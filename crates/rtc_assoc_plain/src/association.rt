@@ -15,7 +15,7 @@ use crate::standing::Standing;
 use crate::stream_row::StreamRow;
 use rtc_assoc_items::{Outgoing, Packet};
 use rtc_parts::AssocEvent;
-use rtc_wire::Moment;
+use rtc_wire::{LOCAL_MAX_MESSAGE_SIZE, Moment};
 use std::alloc::Global;
 use std::collections::VecDeque;
 use std::marker::Model;
@@ -65,7 +65,7 @@ impl PlainAssociation {
             alloc,
             limits: Limits {
                 max_payload: 1062,
-                local_max_message: 262_144,
+                local_max_message: LOCAL_MAX_MESSAGE_SIZE,
                 max_send: 0,
             },
             standing: Standing {

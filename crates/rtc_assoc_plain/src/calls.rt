@@ -12,12 +12,9 @@ use crate::message::Message;
 use crate::queues::{append_all, enqueue, set_row};
 use crate::role::Role;
 use crate::rows::{put_row, row_of};
-use rtc_assoc_items::{Outgoing, Packet, cut_message, packets_of};
+use rtc_assoc_items::{DATA_OVERHEAD, Outgoing, Packet, cut_message, packets_of};
 use rtc_wire::Moment;
 use std::alloc::AllocError;
-
-/// The bytes of a data packet before those of its item.
-const DATA_OVERHEAD: usize = 28;
 
 impl PlainAssociation {
     #[tactic(auto, unfolding(crate::specs::Calls::limited))]

@@ -9,6 +9,7 @@ ghost use Rattle.rtc_assoc_plain.specs.Settling.{told_of, reaches, close_settled
 
 use crate::amounts::{Amount, amount_in, lower};
 use crate::close_state::CloseState;
+use crate::queues::enqueue;
 use crate::rows::{replace_row, row_of};
 use crate::stream_row::StreamRow;
 use rtc_assoc_items::{ItemPart, Outgoing};
@@ -21,18 +22,6 @@ fn is_reached(threshold: Option<usize>, before: usize, after: usize) -> bool
     match threshold {
         None => false,
         Some(n) => n < before && after <= n,
-    }
-}
-
-/// Queues an event where room was made.
-fn tell(events: &mut VecDeque<AssocEvent>, event: AssocEvent)
-    requires { deque_len events.old < deque_capacity events.old }
-    ensures items { events.new.items ≡ events.old.items ++ event ∷ [] }
-    ensures len { deque_len events.new ≡ deque_len events.old + 1 }
-    ensures capacity { deque_capacity events.old ≤ deque_capacity events.new }
-{
-    if events.push_back(event).is_err() {
-        unreachable!();
     }
 }
 
@@ -50,7 +39,7 @@ fn settle_queued(
 {
     if row.finished && row.generation < u32::MAX {
         replace_row(streams, row.reset());
-        tell(events, AssocEvent::ResetComplete(row.stream));
+        enqueue(events, AssocEvent::ResetComplete(row.stream));
         return;
     }
     row.close = CloseState::Acknowledged;
@@ -86,7 +75,7 @@ fn settle_piece(
 {
     let row = row_of(streams, stream);
     if is_reached(row.threshold, before, after) {
-        tell(events, AssocEvent::BufferedAmountLow(stream));
+        enqueue(events, AssocEvent::BufferedAmountLow(stream));
     }
 }
 

@@ -1,5 +1,5 @@
 //! Values of `candidate`.
-ghost use Rattle.std.specs.Prelude.{◌≡◌, ◌++◌, IfOk, OnOk, string_bytes};
+ghost use Rattle.std.specs.Prelude.{◌≡◌, ◌++◌, IfOk, OnOk, Some, string_bytes};
 ghost use Rattle.rtc_attributes.specs.CandidateValue as spec;
 
 use rtc_fields::{is_token, number_up_to, parts, same_letters, words};
@@ -100,6 +100,37 @@ fn typed_kind(typ: &str, word: &str) -> Option<CandidateKind>
     if typ == "typ" { kind_of(word) } else { None }
 }
 
+fn candidate_made(
+    alloc: Global,
+    foundation: &str,
+    component: u16,
+    proto: Protocol,
+    priority: u32,
+    addr: Option<Addr>,
+    kind: Option<CandidateKind>,
+) -> Result<Option<Candidate>, AllocError>
+    ensures { IfOk result (λ made. made ≡ spec.candidate_parts foundation.now (Some component) (Some proto) (Some priority) addr kind) }
+{
+    let Some(addr) = addr else {
+        return Ok(None);
+    };
+    let Some(kind) = kind else {
+        return Ok(None);
+    };
+    if !is_token(foundation) {
+        return Ok(None);
+    }
+    let foundation = Text::from_str(alloc, foundation)?;
+    Ok(Some(Candidate {
+        foundation,
+        component,
+        proto,
+        priority,
+        addr,
+        kind,
+    }))
+}
+
 /// The candidate that a value writes, where its address is of IPv4 (RFC 8839, section 5.1). What follows the kind is ignored.
 pub fn read_candidate(alloc: Global, value: &str) -> Result<Option<Candidate>, AllocError>
     ensures { IfOk result (λ read. read ≡ spec.candidate_of value.now) }
@@ -126,24 +157,17 @@ pub fn read_candidate(alloc: Global, value: &str) -> Result<Option<Candidate>, A
     ) else {
         return Ok(None);
     };
-    let Some(addr) = addr_of(alloc, ip, port)? else {
-        return Ok(None);
-    };
-    let Some(kind) = typed_kind(typ, kind) else {
-        return Ok(None);
-    };
-    if !is_token(foundation) {
-        return Ok(None);
-    }
-    let foundation = Text::from_str(alloc, foundation)?;
-    Ok(Some(Candidate {
+    let addr = addr_of(alloc, ip, port)?;
+    let made = candidate_made(
+        alloc,
         foundation,
-        component: component as u16,
+        component as u16,
         proto,
-        priority: priority as u32,
+        priority as u32,
         addr,
-        kind,
-    }))
+        typed_kind(typ, kind),
+    )?;
+    Ok(made)
 }
 
 fn put_ip(out: &mut String, ip: [u8; 4]) -> Result<(), AllocError>

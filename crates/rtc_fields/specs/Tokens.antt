@@ -1,4 +1,4 @@
--- Tokens: the bytes that names are made of (RFC 4566, section 9; the set here is our profile's).
+-- Tokens: the bytes that names are made of (`token-char` of RFC 8866, section 9).
 use Rattle.std.specs.Prelude.{ℕ, ◌==◌, Bool, ◌&&◌, ◌||◌, nat_lt, nat_le, List, length}
 use Rattle.std.specs.List.{list_all}
 use Rattle.std.specs.Int.{is_in_range}

@@ -1,4 +1,4 @@
-//! Tokens (RFC 4566, section 9), without the character `|` and the like that no name here uses.
+//! Tokens: the `token` of RFC 8866, section 9.
 ghost use Rattle.std.specs.Prelude.{◌≡◌};
 ghost use Rattle.std.specs.List.{list_all};
 ghost use Rattle.rtc_fields.specs.Tokens as token;

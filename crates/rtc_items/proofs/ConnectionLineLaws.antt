@@ -1,5 +1,5 @@
 -- Each line of a connection's attribute that is written is one line, and is read again.
-use Rattle.std.proofs.Common.{◌≡◌, ℕ, ◌<◌, ◌^◌, Bool, true, List, Some, None, refl, ap, rules, arith}
+use Rattle.std.proofs.Common.{◌≡◌, ℕ, ◌<◌, ◌^◌, true, List, Some, refl, ap, rules, arith}
 use Rattle.std.specs.Prelude.{codes}
 use Rattle.std.specs.Fmt.{decimal}
 use Rattle.rtc_fields.specs.Cuts.{Lacks}

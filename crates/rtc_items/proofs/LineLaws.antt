@@ -20,12 +20,12 @@ use Rattle.rtc_rows.specs.declared.setup.Setup.{Setup}
 use Rattle.rtc_rows.specs.declared.setup.Setup.TheVariants.{ActPass, Active, Passive}
 use Rattle.rtc_items.specs.declared.attribute.Attribute.TheVariants.{MidLine, GroupLine, SetupLine, DirectionLine}
 use Rattle.rtc_items.specs.declared.item.Item.{Item}
-use Rattle.rtc_items.specs.declared.item.Item.TheVariants.{Bad, Origin, Media, Says, Skipped}
-use Rattle.rtc_fields.specs.Once.{each_once, IsApart}
+use Rattle.rtc_items.specs.declared.item.Item.TheVariants.{Origin, Media, Says, Skipped}
+use Rattle.rtc_fields.specs.Once.{IsApart}
 use Rattle.rtc_items.specs.MediaForm.{media_words, with_numbers}
 use Rattle.rtc_items.specs.AttributeForm.{mid_of, group_words}
 use Rattle.rtc_items.specs.ItemForm.{item_of, origin_words}
-use Rattle.rtc_items.specs.LineTexts.{origin_line, group_line, mid_line, setup_word, setup_line, direction_line, port_word, transport_words, kind_word, media_line}
+use Rattle.rtc_items.specs.LineTexts.{origin_line, group_line, mid_line, setup_line, direction_line, port_word, transport_words, media_line}
 use Rattle.rtc_fields.proofs.OnceLemmas.{each_once_apart}
 
 -- a text is one line, and says the item
