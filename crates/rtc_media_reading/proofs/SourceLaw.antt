@@ -1,12 +1,11 @@
 -- Sources are read back from the names and pairs that are written for them.
-use Rattle.std.proofs.Common.{◌≡◌, ◌≢◌, ℕ, eqb, Bool, true, false, ◌||◌, List, [], ◌∷◌, ◌++◌, Option, Some, None, refl, sym, ap, ◌∙◌, inl, inr}
+use Rattle.std.proofs.Common.{◌≡◌, ℕ, eqb, Bool, true, false, ◌||◌, List, [], ◌∷◌, Option, Some, None, refl, sym, ap, ◌∙◌, inl, inr}
 use Rattle.std.specs.List.{AllByRecursion, filter_map}
 use Rattle.std.proofs.lemmas.Bool.Decides.{eqb_tells}
-use Rattle.rtc_fields.specs.Once.{each_once, IsApart}
 use Rattle.rtc_fields.proofs.OnceLemmas.{each_once_apart}
 use Rattle.rtc_media_rows.specs.declared.ssrc.Ssrc.{Ssrc}
 use Rattle.rtc_media_reading.specs.Sources.{rtx_of, is_rtx, source_of, sources}
-use Rattle.rtc_media_reading.specs.PlainSources.{rtx_number, numbers_of, pair_of, pairs_of, AreNumbersApart}
+use Rattle.rtc_media_reading.specs.PlainSources.{numbers_of, pairs_of, AreNumbersApart}
 
 itself : (n : ℕ) → eqb n n ≡ true
 itself n = elim (eqb_tells n n) [ inl (t, e) ↦ t | inr (f, ne) ↦ absurd (ne refl) ]

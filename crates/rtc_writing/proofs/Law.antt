@@ -1,26 +1,25 @@
 -- The law of writing and reading.
-use Rattle.std.proofs.Common.{◌≡◌, ℕ, ◌+◌, ◌<◌, ◌^◌, Bool, true, false, not, cond, eqb, List, [], ◌∷◌, ◌++◌, length, map, Option, Some, None, Result, Ok, Err, refl, sym, ap, subst, ◌∙◌, rules}
+use Rattle.std.proofs.Common.{◌≡◌, ℕ, ◌+◌, Bool, true, false, not, cond, eqb, List, [], ◌∷◌, ◌++◌, map, Option, Some, None, Ok, refl, sym, ap, subst, ◌∙◌, rules}
 use Rattle.std.specs.Prelude.{codes, filter, IfSome}
-use Rattle.std.specs.List.{AllByRecursion, filter_map, cons_option, count_by, list_any}
-use Rattle.std.proofs.lemmas.List.{map-append, append-nil}
+use Rattle.std.specs.List.{AllByRecursion, filter_map, cons_option, list_any}
+use Rattle.std.proofs.lemmas.List.{map-append}
 use Rattle.rtc_fields.specs.Fields.{first}
 use Rattle.rtc_fields.specs.Lines.{lines, AreLines}
-use Rattle.rtc_fields.specs.Tokens.{is_short_token, is_token}
+use Rattle.rtc_fields.specs.Tokens.{is_token}
 use Rattle.rtc_fields.proofs.LineLemmas.{lines-text_of, AreLines-append}
 use Rattle.rtc_rows.specs.declared.fingerprint.Fingerprint.{Fingerprint}
 use Rattle.rtc_rows.specs.declared.ice_creds.IceCreds.{IceCreds}
 use Rattle.rtc_rows.specs.declared.media_line.MediaLine.{MediaLine}
 use Rattle.rtc_rows.specs.declared.sdp.Sdp.{Sdp}
 use Rattle.rtc_rows.specs.declared.setup.Setup.{Setup}
-use Rattle.rtc_items.specs.declared.attribute.Attribute.{Attribute}
-use Rattle.rtc_items.specs.declared.attribute.Attribute.TheVariants.{MidLine, GroupLine, SetupLine, DirectionLine, UfragLine, PasswordLine, LiteLine, FingerprintLine}
+use Rattle.rtc_items.specs.declared.attribute.Attribute.TheVariants.{GroupLine, LiteLine}
 use Rattle.rtc_items.specs.declared.item.Item.{Item}
 use Rattle.rtc_items.specs.declared.item.Item.TheVariants.{Blank, Bad, BadMedia, Skipped, Version, Origin, Media, Says}
 use Rattle.rtc_items.specs.ItemForm.{item_of, items_of}
-use Rattle.rtc_items.specs.LineTexts.{origin_line, group_line}
+use Rattle.rtc_items.specs.LineTexts.{group_line}
 use Rattle.rtc_items.proofs.LineLaws.{IsLineOf, AreMids, origin_line_is, group_line_is}
-use Rattle.rtc_reading.specs.declared.place.Place.TheVariants.{First, Second, Session, Line}
-use Rattle.rtc_reading.specs.Parting.{inner, is_mid_line, has_one_mid}
+use Rattle.rtc_reading.specs.declared.place.Place.TheVariants.{Session, Line}
+use Rattle.rtc_reading.specs.Parting.{inner, has_one_mid}
 use Rattle.rtc_reading.specs.Refusal.{refused_from, refused}
 use Rattle.rtc_reading.specs.Said.{said, value_or, group_of, setup_of, ufrag_of, password_of, lite_of, fingerprint_of}
 use Rattle.rtc_reading.specs.LineValue.{creds_in, creds_made, line_of, lines_of}
@@ -37,6 +36,7 @@ use Rattle.rtc_media_attributes.specs.MsidValue.{IsPlainMsid}
 use Rattle.rtc_items.specs.MediaTexts.{semantic_line}
 use Rattle.rtc_items.proofs.ConnectionLineLaws.{lite_line_is}
 use Rattle.rtc_items.proofs.MediaLineLaws.{semantic_line_is}
+use Rattle.rtc_writing.proofs.AttributesFound.{setup_looks, fingerprint_looks, ufrag_looks}
 use Rattle.rtc_writing.proofs.Blocks.{Block, tag_of, IsSaid, single_block, kept_block, if_kept, rows_in, items_in, rows_again, rows_one, all_said, first_in, all_in}
 use Rattle.rtc_writing.proofs.LineBlocks.{blocks_of, said_inner, said_line, line_rows_again, line_rows_one}
 use Rattle.rtc_writing.proofs.LineFound.{one_mid, media_head, line_again}
@@ -229,18 +229,6 @@ not_refused sdp h = session_over (said_session sdp h) (said_lines sdp.lines h.li
 group_looks : (item : Item) → eqb (tag_of item) 2 ≡ false → said group_of item ≡ None
 group_looks (Says (GroupLine mids)) ne = absurd cc
 group_looks _ ne = refl
-
-setup_looks : (item : Item) → eqb (tag_of item) 3 ≡ false → said setup_of item ≡ None
-setup_looks (Says (SetupLine setup)) ne = absurd cc
-setup_looks _ ne = refl
-
-fingerprint_looks : (item : Item) → eqb (tag_of item) 8 ≡ false → said fingerprint_of item ≡ None
-fingerprint_looks (Says (FingerprintLine fingerprint)) ne = absurd cc
-fingerprint_looks _ ne = refl
-
-ufrag_looks : (item : Item) → eqb (tag_of item) 5 ≡ false → said ufrag_of item ≡ None
-ufrag_looks (Says (UfragLine ufrag)) ne = absurd cc
-ufrag_looks _ ne = refl
 
 lite_looks : (item : Item) → eqb (tag_of item) 7 ≡ false → said lite_of item ≡ None
 lite_looks (Says LiteLine) ne = absurd cc

@@ -2,7 +2,6 @@
 use Rattle.std.proofs.Common.{◌≡◌, ℕ, Bool, true, false, cond, eqb, List, [], ◌∷◌, ◌++◌, map, Option, Some, None, refl, ap}
 use Rattle.std.specs.Prelude.{IfSome, option_map}
 use Rattle.std.specs.List.{AllByRecursion}
-use Rattle.rtc_fields.specs.Cuts.{Lacks}
 use Rattle.rtc_fields.specs.Tokens.{is_short_token}
 use Rattle.rtc_media_rows.specs.declared.simulcast.Simulcast.{Simulcast}
 use Rattle.rtc_media_rows.specs.declared.simulcast_layer.SimulcastLayer.{SimulcastLayer}
@@ -13,7 +12,7 @@ use Rattle.rtc_media_attributes.specs.RidValue.{IsPlainPair}
 use Rattle.rtc_media_attributes.specs.SimulcastValue.{is_listed, rids_in}
 use Rattle.rtc_media_attributes.proofs.RidLemmas.{ArePairsFree}
 use Rattle.rtc_media_reading.specs.Layers.{simulcast_value}
-use Rattle.rtc_media_reading.specs.PlainLayers.{rid_line, rid_lines, listed}
+use Rattle.rtc_media_reading.specs.PlainLayers.{rid_line, listed}
 use Rattle.rtc_media_reading.proofs.LayerLaw.{simulcast_value_again}
 use Rattle.rtc_items.proofs.MediaLineLaws.{IsPlainLayerList}
 use Rattle.rtc_items.proofs.MediaLineLaws.{IsPlainLayer as IsPlainLayerLine}

@@ -3,6 +3,7 @@ pub mod PayloadBlocks
 pub mod SourceBlocks
 pub mod LayerBlocks
 pub mod LineBlocks
+pub mod AttributesFound
 pub mod LineFound
 pub mod Orders
 pub mod Law

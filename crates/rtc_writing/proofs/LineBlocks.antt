@@ -1,11 +1,10 @@
 -- What the lines of a line part say: a row for each attribute.
-use Rattle.std.proofs.Common.{◌≡◌, ℕ, ◌<◌, ◌≤◌, ◌^◌, Bool, true, false, not, cond, List, [], ◌∷◌, ◌++◌, map, Option, Some, None, refl, sym, ap, subst, ◌∙◌, rules}
+use Rattle.std.proofs.Common.{◌≡◌, ℕ, ◌<◌, ◌^◌, Bool, true, false, not, cond, List, [], ◌∷◌, ◌++◌, map, Option, Some, None, refl, sym, ap, subst, ◌∙◌, rules}
 use Rattle.std.specs.Prelude.{codes, IfSome, option_map}
 use Rattle.std.specs.List.{AllByRecursion}
 use Rattle.rtc_fields.specs.Cuts.{Lacks}
 use Rattle.rtc_fields.specs.Lines.{AreLines}
 use Rattle.rtc_attributes.specs.WordValue.{is_word_up_to}
-use Rattle.rtc_attributes.specs.CandidateValue.{IsPlainCandidate}
 use Rattle.rtc_media_attributes.specs.MsidValue.{IsPlainMsid}
 use Rattle.rtc_media_reading.specs.PlainLayers.{listed}
 use Rattle.rtc_media_reading.specs.PlainPayloads.{formats_of, row_formats, itself, IsPayloadType}
@@ -13,7 +12,6 @@ use Rattle.rtc_media_reading.specs.PlainPayloads.{optional as made_of}
 use Rattle.rtc_media_rows.specs.declared.pt.Pt.{Pt}
 use Rattle.rtc_media_reading.specs.PlainSources.{numbers_of, pairs_of}
 use Rattle.rtc_rows.specs.Sdp.{is_application}
-use Rattle.rtc_rows.specs.declared.candidate.Candidate.{Candidate}
 use Rattle.rtc_rows.specs.declared.ice_creds.IceCreds.{IceCreds}
 use Rattle.rtc_rows.specs.declared.line_kind.LineKind.{LineKind}
 use Rattle.rtc_rows.specs.declared.line_kind.LineKind.TheVariants.{Audio, Video, Application, Unknown}
@@ -27,7 +25,7 @@ use Rattle.rtc_items.specs.declared.item.Item.{Item}
 use Rattle.rtc_items.specs.declared.item.Item.TheVariants.{Skipped, Says}
 use Rattle.rtc_items.specs.ItemForm.{item_of}
 use Rattle.rtc_items.specs.ConnectionTexts.{ufrag_line, password_line, fingerprint_line, candidate_line, message_size_line, sctp_init_line}
-use Rattle.rtc_items.specs.LineTexts.{mid_line, setup_line, direction_line, media_line}
+use Rattle.rtc_items.specs.LineTexts.{mid_line, setup_line, direction_line}
 use Rattle.rtc_items.specs.MediaTexts.{extension_line, stream_line, layer_line, layer_list_line, source_pair_line}
 use Rattle.rtc_items.proofs.LineLaws.{IsLineOf, mid_line_is, setup_line_is, direction_line_is, media_line_is, skipped_line_is, head_of, ArePayloadTypes}
 use Rattle.rtc_items.proofs.ConnectionLineLaws.{ufrag_line_is, password_line_is, fingerprint_line_is, candidate_line_is, message_size_line_is, sctp_init_line_is, trickle_line_is, sctp_port_line_is}

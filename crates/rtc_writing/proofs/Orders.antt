@@ -19,8 +19,8 @@ use Rattle.rtc_rows.specs.declared.sdp.Sdp.{Sdp}
 use Rattle.rtc_items.specs.LineTexts.{origin_line, group_line}
 use Rattle.rtc_items.specs.MediaTexts.{semantic_line, layer_line, source_pair_line}
 use Rattle.rtc_writing.specs.Rows.{in_order}
-use Rattle.rtc_writing.specs.LineRows.{line_rows, all_line_rows}
-use Rattle.rtc_writing.specs.SessionRows.{live_mids, new_name, names_behind, stream_names, lite_lines, session_groups, sdp_rows, written}
+use Rattle.rtc_writing.specs.LineRows.{all_line_rows}
+use Rattle.rtc_writing.specs.SessionRows.{live_mids, new_name, names_behind, stream_names, lite_lines, session_groups, written}
 
 pub in_order-append : (xs ys : List (List (List ℕ))) → in_order (xs ++ ys) ≡ in_order xs ++ in_order ys
 in_order-append [] ys = refl

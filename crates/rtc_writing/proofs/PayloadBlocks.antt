@@ -1,6 +1,6 @@
 -- What the lines of payload rows say, and the codecs and parameters that they give.
-use Rattle.std.proofs.Common.{◌≡◌, ℕ, ◌<◌, ◌≤◌, ◌^◌, true, List, [], ◌∷◌, ◌++◌, length, map, Option, Some, None, refl, sym, ap, ◌∙◌, append_assoc, arith, rules}
-use Rattle.std.specs.Prelude.{codes, IfSome}
+use Rattle.std.proofs.Common.{◌≡◌, ℕ, ◌≤◌, true, List, [], ◌∷◌, ◌++◌, map, Option, Some, None, refl, sym, ap, ◌∙◌, append_assoc, arith, rules}
+use Rattle.std.specs.Prelude.{codes}
 use Rattle.std.specs.List.{AllByRecursion, filter_map}
 use Rattle.std.proofs.lemmas.List.Elements.{filter_map-append}
 use Rattle.rtc_fields.specs.Cuts.{Lacks}
@@ -17,7 +17,6 @@ use Rattle.rtc_items.specs.declared.attribute.Attribute.TheVariants.{CodecLine, 
 use Rattle.rtc_items.specs.declared.item.Item.{Item}
 use Rattle.rtc_items.specs.declared.item.Item.TheVariants.{Skipped, Says}
 use Rattle.rtc_items.specs.MediaTexts.{codec_line, parameters_line, feedback_line}
-use Rattle.rtc_items.proofs.LineLaws.{IsLineOf}
 use Rattle.rtc_items.proofs.MediaLineLaws.{IsPlainCodec, codec_line_is, IsPlainFmtp, parameters_line_is, feedback_line_is}
 use Rattle.rtc_reading.specs.Said.{said, codec_of, parameters_of}
 use Rattle.rtc_writing.specs.MediaRows.{feedback_kinds, all_payload_lines}

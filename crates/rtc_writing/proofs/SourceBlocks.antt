@@ -1,13 +1,12 @@
 -- What the lines of sources say, and the names, numbers and pairs that they give.
-use Rattle.std.proofs.Common.{◌≡◌, ℕ, ◌<◌, ◌≤◌, ◌^◌, true, false, List, [], ◌∷◌, ◌++◌, map, Option, Some, None, refl, sym, ap, ◌∙◌, append_assoc}
+use Rattle.std.proofs.Common.{◌≡◌, ℕ, ◌≤◌, true, false, List, [], ◌∷◌, ◌++◌, Option, Some, None, refl, sym, ap, ◌∙◌, append_assoc}
 use Rattle.std.specs.Prelude.{IfSome, IsSome}
 use Rattle.std.specs.List.{AllByRecursion, filter_map}
-use Rattle.std.proofs.lemmas.List.Elements.{filter_map-append}
-use Rattle.rtc_fields.specs.Fields.{first, or_else}
+use Rattle.rtc_fields.specs.Fields.{first}
 use Rattle.rtc_media_rows.specs.declared.msid.Msid.{Msid}
 use Rattle.rtc_media_rows.specs.declared.ssrc.Ssrc.{Ssrc}
 use Rattle.rtc_media_attributes.specs.MsidValue.{IsPlainMsid}
-use Rattle.rtc_media_reading.specs.PlainSources.{rtx_number, numbers_of, pair_of, pairs_of}
+use Rattle.rtc_media_reading.specs.PlainSources.{numbers_of, pairs_of}
 use Rattle.rtc_rows.specs.declared.media_line.MediaLine.{MediaLine}
 use Rattle.rtc_items.specs.declared.attribute.Attribute.TheVariants.{SourceLine}
 use Rattle.rtc_items.specs.declared.item.Item.{Item}

@@ -4,7 +4,6 @@ use Rattle.std.specs.List.{AllByRecursion}
 use Rattle.rtc_fields.specs.Cuts.{Lacks}
 use Rattle.rtc_fields.specs.Tokens.{is_short_token, is_token}
 use Rattle.rtc_media_rows.specs.declared.extension.Extension.{Extension}
-use Rattle.rtc_media_rows.specs.declared.msid.Msid.{Msid}
 use Rattle.rtc_media_rows.specs.declared.payload_row.PayloadRow.{PayloadRow}
 use Rattle.rtc_media_rows.specs.declared.simulcast.Simulcast.{Simulcast}
 use Rattle.rtc_media_rows.specs.declared.simulcast_layer.SimulcastLayer.{SimulcastLayer}

@@ -1,5 +1,5 @@
 -- The text of a value. A group of the session is not written as it stands: the group names the lines with a port.
-use Rattle.std.specs.Prelude.{ℕ, Bool, true, false, not, List, [], ◌∷◌, ◌++◌, map, filter, option_map, Option, Some, None, if◌then◌else◌, codes}
+use Rattle.std.specs.Prelude.{ℕ, Bool, true, false, not, List, [], ◌∷◌, ◌++◌, map, filter, Option, Some, None, if◌then◌else◌, codes}
 use Rattle.std.specs.List.{list_any}
 use Rattle.std.specs.Str.{bytes_eq}
 use Rattle.rtc_fields.specs.Lines.{text_of}
@@ -8,7 +8,7 @@ use Rattle.rtc_rows.specs.declared.media_line.MediaLine.{MediaLine}
 use Rattle.rtc_rows.specs.declared.sdp.Sdp.{Sdp}
 use Rattle.rtc_items.specs.LineTexts.{origin_line, group_line}
 use Rattle.rtc_items.specs.MediaTexts.{semantic_line}
-use Rattle.rtc_writing.specs.Rows.{in_order, single, optional}
+use Rattle.rtc_writing.specs.Rows.{in_order, single}
 use Rattle.rtc_writing.specs.MediaRows.{shown_stream}
 use Rattle.rtc_writing.specs.LineRows.{all_line_rows}
 

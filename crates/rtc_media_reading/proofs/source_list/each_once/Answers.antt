@@ -1,4 +1,4 @@
-use Rattle.std.proofs.Common.{◌≡◌, ℕ, eqb, Bool, not, List, ap, sym, ◌∙◌, refl, subst, get_or}
+use Rattle.std.proofs.Common.{◌≡◌, ℕ, eqb, Bool, not, List, sym, ◌∙◌, refl, subst, get_or}
 use Rattle.std.proofs.lemmas.Bool.Decides.{eqb_tells}
 use Rattle.rtc_fields.proofs.OnceLemmas.{among, grown, once_more}
 use Rattle.rtc_media_reading.proofs.NumberLemmas.{HasNumbers, numbers_grown, grew}

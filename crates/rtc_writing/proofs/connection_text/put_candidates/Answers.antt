@@ -1,4 +1,4 @@
-use Rattle.std.proofs.Common.{ℕ, List, map, refl, get_or}
+use Rattle.std.proofs.Common.{map, refl}
 use Rattle.std.specs.Prelude.{string_bytes}
 use Rattle.rtc_fields.specs.Lines.{text_of, crlf}
 use Rattle.rtc_items.specs.ConnectionTexts.{candidate_line}

@@ -1,4 +1,3 @@
-use Rattle.std.proofs.Common.{append_assoc}
 use Rattle.std.specs.Prelude.{string_bytes}
 use Rattle.rtc_writing.proofs.Orders.{layers_written}
 use Rattle.rtc_writing.proofs.layer_text.put_layers.Goals as goal

@@ -1,6 +1,5 @@
-use Rattle.std.proofs.Common.{ℕ, List, map, refl, get_or}
 use Rattle.std.specs.Prelude.{string_bytes}
-use Rattle.rtc_fields.specs.Lines.{text_of, crlf}
+use Rattle.rtc_fields.specs.Lines.{text_of}
 use Rattle.rtc_fields.proofs.LineLemmas.{text_of-append}
 use Rattle.rtc_writing.specs.MediaRows.{payload_lines, all_payload_lines}
 use Rattle.rtc_writing.proofs.Orders.{more_put}

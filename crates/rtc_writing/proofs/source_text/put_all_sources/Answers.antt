@@ -1,6 +1,6 @@
-use Rattle.std.proofs.Common.{ℕ, List, map, refl, get_or}
+use Rattle.std.proofs.Common.{refl, get_or}
 use Rattle.std.specs.Prelude.{string_bytes}
-use Rattle.rtc_fields.specs.Lines.{text_of, crlf}
+use Rattle.rtc_fields.specs.Lines.{text_of}
 use Rattle.rtc_fields.proofs.LineLemmas.{text_of-append}
 use Rattle.std.proofs.Common.{None}
 use Rattle.rtc_writing.specs.MediaRows.{source_lines, all_source_lines}

@@ -1,4 +1,4 @@
-use Rattle.std.proofs.Common.{◌≡◌, ◌++◌, drop, map}
+use Rattle.std.proofs.Common.{◌≡◌, ◌++◌, drop}
 use Rattle.std.specs.Prelude.{string_bytes}
 use Rattle.rtc_fields.specs.Lines.{text_of}
 use Rattle.rtc_writing.specs.MediaRows.{all_source_lines}

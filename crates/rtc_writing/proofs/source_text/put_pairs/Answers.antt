@@ -1,6 +1,6 @@
-use Rattle.std.proofs.Common.{ℕ, List, map, refl, get_or}
+use Rattle.std.proofs.Common.{map, refl, get_or}
 use Rattle.std.specs.Prelude.{string_bytes}
-use Rattle.rtc_fields.specs.Lines.{text_of, crlf}
+use Rattle.rtc_fields.specs.Lines.{text_of}
 use Rattle.std.proofs.Common.{None}
 use Rattle.rtc_items.specs.MediaTexts.{source_pair_line}
 use Rattle.rtc_media_reading.specs.PlainSources.{pair_of, pairs_of}
