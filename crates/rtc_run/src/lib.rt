@@ -14,4 +14,6 @@ pub use pair::Pair;
 pub use running::run_pair;
 
 #[cfg(test)]
+mod line_tests;
+#[cfg(test)]
 mod tests;

@@ -12,7 +12,7 @@ use std::alloc::{AllocError, Global};
 use std::test::Fail;
 
 // Two peers whose numbers count up from 1 and from 1001.
-fn fresh_pair(alloc: Global) -> Result<Pair<CountIds>, AllocError>
+pub(crate) fn fresh_pair(alloc: Global) -> Result<Pair<CountIds>, AllocError>
     ensures fresh { IfOk result (λ pair. IsFresh pair) }
     ensures formed { IfOk result (λ pair. ArePeersFormed pair) }
 {
@@ -76,7 +76,7 @@ fn row(dir: Direction, remote_created: bool) -> LineRow {
 }
 
 // Whether a reply shows these rows.
-fn does_show(reply: Option<&Reply>, rows: &[LineRow]) -> bool {
+pub(crate) fn does_show(reply: Option<&Reply>, rows: &[LineRow]) -> bool {
     let Some(reply) = reply else {
         return false;
     };
