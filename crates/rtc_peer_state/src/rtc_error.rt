@@ -13,7 +13,7 @@ pub enum RtcError {
     RemoteSdp(Why),
     /// The text of the other side is not consistent.
     Sdp(SdpError),
-    /// An offer was applied or taken since the token was made.
+    /// Since the token was made an offer was applied, or handed in, also one that was refused.
     ChangesOutOfOrder,
     /// There was too little memory.
     Alloc,

@@ -1,7 +1,8 @@
 //! Each call that takes memory gives its answer where there is enough.
-use crate::{CountIds, Ids, LineSources, RtcConfig};
-use rtc_rows::{Mid, Ssrc};
-use rtc_wire::{Seq, TryCopy};
+use crate::{CountIds, Identity, Ids, LineSources, RtcConfig};
+use rtc_rows::{Fingerprint, IceCreds, Mid, Ssrc};
+use rtc_wire::{Bytes, Seq, Text, TryCopy};
+use std::alloc::{AllocError, Global};
 use std::test::Fail;
 
 #[test]
@@ -26,6 +27,35 @@ fn sources_of_a_line_are_copied(rt: HostRuntime) -> Result<(), Fail> {
     };
     let copied = line.copy()?;
     assert_eq!(rt; copied, line);
+    Ok(())
+}
+
+// An identity with short texts.
+fn identity(alloc: Global) -> Result<Identity, AllocError> {
+    let creds = IceCreds {
+        ufrag: Text::from_str(alloc, "abcd")?,
+        pass: Text::from_str(alloc, "efghijklmnopqrstuvwxyz")?,
+    };
+    let fingerprint = Fingerprint {
+        hash_func: Text::from_str(alloc, "sha-256")?,
+        bytes: Bytes::new(Vec::from_slice(alloc, &[1, 2, 255])?),
+    };
+    Ok(Identity { creds, fingerprint })
+}
+
+// Whether an identity is the one above.
+fn is_identity(identity: &Identity) -> bool {
+    identity.creds.ufrag.as_str() == "abcd"
+        && identity.creds.pass.as_str() == "efghijklmnopqrstuvwxyz"
+        && identity.fingerprint.hash_func.as_str() == "sha-256"
+        && identity.fingerprint.bytes.as_slice() == [1, 2, 255].as_slice()
+}
+
+#[test]
+fn identity_is_copied(rt: HostRuntime) -> Result<(), Fail> {
+    let identity = identity(rt.alloc())?;
+    let copied = identity.copy()?;
+    assert!(rt; is_identity(&copied));
     Ok(())
 }
 
