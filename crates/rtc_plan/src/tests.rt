@@ -174,6 +174,15 @@ fn stopped_row(place: u32, mid: Mid, kind: MediaKind) -> LineRow {
     }
 }
 
+// The rows of the lines that few changes add.
+fn rows_of(alloc: Global, changes: &Changes, index_start: u32) -> Result<Seq<LineRow>, AllocError> {
+    let count = count_added(changes.0.as_slice());
+    if index_start > 100 || count > 100 {
+        return Err(AllocError);
+    }
+    changes.as_new_medias(alloc, index_start)
+}
+
 fn added_media(
     alloc: Global,
     mid: Mid,

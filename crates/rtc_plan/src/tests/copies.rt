@@ -19,7 +19,7 @@ fn changes_are_copied_and_give_their_rows(rt: HostRuntime) -> Result<(), Fail> {
     assert_eq!(rt; copied, changes);
     assert!(rt; changes.has_mid(Mid::of("d")));
     assert!(rt; !changes.has_mid(Mid::of("m4")));
-    let rows = copied.as_new_medias(rt.alloc(), 4)?;
+    let rows = rows_of(rt.alloc(), &copied, 4)?;
     let want = [
         LineRow::Media {
             place: 4,

@@ -85,7 +85,7 @@ fn directions_are_copied_and_add_no_line(rt: HostRuntime) -> Result<(), Fail> {
     let copied = changes.copy()?;
     assert_eq!(rt; copied, changes);
     assert!(rt; count_added(copied.0.as_slice()) == 2 && !copied.has_mid(v()));
-    let rows = copied.as_new_medias(rt.alloc(), 0)?;
+    let rows = rows_of(rt.alloc(), &copied, 0)?;
     let want = [
         LineRow::App { place: 0, mid: d() },
         LineRow::Media {
