@@ -1,0 +1,284 @@
+#!/usr/bin/env python3
+"""Runs the program rtc_pair on random scripts, and compares its reports with those of a model of the rules.
+
+usage: tests/random_scripts.py crates/rtc_pair/out/rtc_pair [SEED [COUNT]]
+
+It is no part of the gate. The model below is written from the rules of docs/FORMATS.md and not from the program: lists of
+rows, what an offer and an answer say, by which cause a text is refused, and which numbers are drawn. A random script goes
+round by round for the most part, with steps in between that cross, repeat or lose texts.
+"""
+import random
+import subprocess
+import sys
+
+INVERSE = {"sendrecv": "sendrecv", "sendonly": "recvonly", "recvonly": "sendonly", "inactive": "inactive"}
+DIRECTIONS = list(INVERSE)
+OTHER = {"L": "R", "R": "L"}
+
+
+class Refused(Exception):
+    pass
+
+
+def moved(mid):
+    return Refused(f"1 remote sdp: Changed order for m-line with mid: {mid}")
+
+
+class Row:
+    def __init__(self, mid, kind, direction, stopped=False, remote=False):
+        self.mid, self.kind, self.direction, self.stopped, self.remote = mid, kind, direction, stopped, remote
+
+    def copy(self):
+        return Row(self.mid, self.kind, self.direction, self.stopped, self.remote)
+
+
+class Peer:
+    def __init__(self, first):
+        self.next, self.rows, self.staged, self.counter, self.sources = first, [], [], 0, {}
+        self.draw(), self.draw()  # the number of the session, the credentials
+
+    def draw(self):
+        self.next += 1
+        return self.next - 1
+
+    def draw_source(self, earlier):
+        number = self.draw() % 2**32
+        used = {n for numbers in self.sources.values() for n in numbers} | set(earlier)
+        while number in used:
+            number = (number + 1) % 2**32
+        return number
+
+    # For video the source of the retransmissions is drawn first.
+    def draw_sources(self, kind, earlier):
+        drawn = []
+        for _ in range(2 if kind == "video" else 1):
+            drawn.append(self.draw_source(earlier + drawn))
+        return drawn
+
+    def add(self, kind, direction):
+        number = self.draw() % 2**32
+        held = {row.mid for row in self.rows} | {row.mid for row, _ in self.staged if row}
+        while f"m{number}" in held:
+            number = (number + 1) % 2**32
+        self.draw(), self.draw()  # the names of the stream and of the track
+        self.staged.append((Row(f"m{number}", kind, direction), self.draw_sources(kind, [])))
+        return f"m{number}"
+
+    def change(self, place, direction, stop):
+        if place >= len(self.rows):
+            return "none"
+        row = self.rows[place]
+        if row.stopped or (not stop and row.direction == direction):
+            return "false"
+        row.direction, row.stopped = direction, stop
+        self.staged.append((None, None))
+        return "true"
+
+    def apply(self):
+        if not self.staged:
+            return None
+        added = [(row, sources) for row, sources in self.staged if row]
+        text = [row.copy() for row in self.rows] + [row.copy() for row, _ in added]
+        token = (self.counter, added)
+        self.counter, self.staged = self.counter + 1, []
+        return text, token
+
+    # The places of the new lines, where no cause refuses the text.
+    def judge(self, text, offer):
+        if all(line.stopped for line in text):
+            raise Refused("2 BUNDLE group is empty")
+        new = []
+        for place, line in enumerate(text):
+            found = [i for i, row in enumerate(self.rows) if row.mid == line.mid]
+            if found:
+                if found[0] != place or self.rows[place].kind != line.kind:
+                    raise moved(line.mid)
+                continue
+            if place < len(self.rows) and not offer:
+                told = "Answer recycles stopped m-line (not permitted per RFC 8829 §5.2.2)"
+                raise Refused(f"1 remote sdp: {told}: {line.mid}")
+            if place < len(self.rows) and not self.rows[place].stopped:
+                raise moved(line.mid)
+            new.append(place)
+        return new
+
+    def judge_new(self, text, new, added):
+        if len(new) != len(added):
+            raise Refused(f"1 remote sdp: Differing m-line count in offer vs answer: {len(added)} != {len(new)}")
+        places = {row.mid: len(self.rows) + i for i, (row, _) in enumerate(added)}
+        kinds = {row.mid: row.kind for row, _ in added}
+        for place in new:
+            line = text[place]
+            if line.mid not in places:
+                raise Refused(f"1 remote sdp: Mid in answer is not in offer: {line.mid}")
+            if kinds[line.mid] != line.kind:
+                raise Refused(f"1 remote sdp: Answer m-line for mid ({line.mid}) is of another kind")
+            if places[line.mid] != place:
+                raise moved(line.mid)
+
+    def row_after(self, line, before, offer):
+        if line.stopped or (before and before.stopped):
+            return Row(line.mid, line.kind, "inactive", True, before.remote if before else offer)
+        direction = INVERSE[line.direction]
+        if before and not before.remote and before.direction == "inactive" and direction == "sendonly":
+            direction = "inactive"
+        return Row(line.mid, line.kind, direction, False, before.remote if before else offer)
+
+    def take(self, text, offer, new, added):
+        known = {row.mid: row for row in self.rows}
+        after = [self.row_after(line, known.get(line.mid), offer) for line in text]
+        gone = [self.rows[place].mid for place in new if place < len(self.rows)]
+        sourced = set(self.sources) | {row.mid for row, _ in added}
+        drawn, earlier = {}, []
+        for row in after:
+            if row.direction in ("sendrecv", "sendonly") and row.mid not in sourced:
+                drawn[row.mid] = self.draw_sources(row.kind, earlier)
+                earlier += drawn[row.mid]
+        for mid in gone:
+            self.sources.pop(mid, None)
+        self.sources.update({row.mid: sources for row, sources in added})
+        self.sources.update(drawn)
+        self.rows = after + self.rows[len(text):]
+
+    def accept_offer(self, text):
+        self.staged, self.counter = [], self.counter + 1
+        new = self.judge(text, True)
+        self.take(text, True, new, [])
+        return [row.copy() for row in self.rows]
+
+    def accept_answer(self, token, text):
+        self.staged = []
+        if self.counter != token[0] + 1:
+            raise Refused("7 Changes made out of order")
+        new = self.judge(text, False)
+        self.judge_new(text, new, token[1])
+        self.take(text, False, new, token[1])
+
+
+class Pair:
+    def __init__(self):
+        self.peers = {"L": Peer(1), "R": Peer(1000001)}
+        self.texts, self.tokens, self.lines, self.report = [], {}, [], ""
+
+    def perform_ops(self, at, verb, words):
+        peer = self.peers[at]
+        peer.staged, answers = [], []
+        for word in words:
+            parts = word.split(":")
+            if parts[0] == "dir":
+                answers.append(peer.change(int(parts[1]), parts[2], False))
+            elif parts[0] == "stop":
+                answers.append(peer.change(int(parts[1]), "inactive", True))
+            else:
+                answers.append(peer.add(parts[0], parts[1]))
+        made = peer.apply() if verb == "offer" else None
+        number = "-"
+        if made:
+            number = len(self.texts)
+            self.tokens[number] = (at, made[1])
+            self.texts.append((at, True, made[0]))
+        return f"ops {','.join(answers) or '-'} text {number}"
+
+    def text_for(self, at, offer, number):
+        if number < len(self.texts) and self.texts[number][:2] == (OTHER[at], offer):
+            return self.texts[number][2]
+        return None
+
+    def hand_offer(self, at, number):
+        text = self.text_for(at, True, number)
+        if text is None:
+            return "nosuch"
+        self.texts.append((at, False, self.peers[at].accept_offer(text)))
+        return f"answered {len(self.texts) - 1}"
+
+    def hand_answer(self, at, token, number):
+        text = self.text_for(at, False, number)
+        if text is None or self.tokens.get(token, (None,))[0] != at:
+            return "nosuch"
+        self.peers[at].accept_answer(self.tokens.pop(token)[1], text)
+        return "finished"
+
+    def perform(self, line):
+        at, verb, *words = line.split(" ")
+        try:
+            if verb == "accept":
+                outcome = self.hand_offer(at, int(words[0]))
+            elif verb == "answer":
+                outcome = self.hand_answer(at, int(words[0]), int(words[1]))
+            else:
+                outcome = self.perform_ops(at, verb, words)
+        except Refused as refusal:
+            outcome = f"refused {refusal}"
+        self.report += f"step {len(self.lines)} {at} {outcome}\n"
+        for place, row in enumerate(self.peers[at].rows):
+            state = "stopped" if row.stopped else "live"
+            side = "remote" if row.remote else "local"
+            self.report += f"line {place} {row.mid} {row.kind} {row.direction} {state} {side}\n"
+        self.lines.append(line)
+
+
+def random_ops(chance, rows):
+    ops = ""
+    for _ in range(chance.choice([0, 1, 1, 1, 2, 3])):
+        place = chance.randrange(rows) if rows and chance.random() < 0.9 else chance.randrange(7)
+        kind = chance.choice(["audio", "video"])
+        added = f"{kind}:{chance.choice(DIRECTIONS)}"
+        set_to = f"dir:{place}:{chance.choice(DIRECTIONS)}"
+        ops += " " + chance.choices([added, set_to, f"stop:{place}"], [3 if rows else 9, 4, 2])[0]
+    return ops
+
+
+def negotiate(chance, pair, at, verb):
+    pair.perform(f"{at} {verb}{random_ops(chance, len(pair.peers[at].rows))}")
+
+
+def random_round(chance, pair, at):
+    offer = len(pair.texts)
+    negotiate(chance, pair, at, "offer")
+    if len(pair.texts) == offer:
+        return
+    if chance.random() < 0.3:
+        negotiate(chance, pair, chance.choice("LR"), chance.choice(["stage", "stage", "offer"]))
+    answer = len(pair.texts)
+    pair.perform(f"{OTHER[at]} accept {offer}")
+    if chance.random() < 0.2:
+        negotiate(chance, pair, chance.choice("LR"), "stage")
+    if len(pair.texts) > answer and chance.random() < 0.9:
+        pair.perform(f"{at} answer {offer} {answer}")
+
+
+def random_pair(chance):
+    pair = Pair()
+    length = chance.randint(6, 40)
+    while len(pair.lines) < length:
+        at, texts = chance.choice("LR"), len(pair.texts)
+        kind = chance.random()
+        if kind < 0.6:
+            random_round(chance, pair, at)
+        elif kind < 0.75:
+            negotiate(chance, pair, at, chance.choice(["offer", "stage"]))
+        elif kind < 0.88:
+            pair.perform(f"{at} accept {chance.randint(0, texts)}")
+        else:
+            pair.perform(f"{at} answer {chance.randint(0, texts)} {chance.randint(0, texts)}")
+    return pair
+
+
+def main():
+    program = sys.argv[1]
+    chance = random.Random(int(sys.argv[2]) if len(sys.argv) > 2 else 1)
+    count = int(sys.argv[3]) if len(sys.argv) > 3 else 300
+    wrong = 0
+    for number in range(count):
+        pair = random_pair(chance)
+        script = "str0m-pair 1\n" + "".join(f"{line}\n" for line in pair.lines)
+        done = subprocess.run([program, "run"], input=script.encode(), capture_output=True, timeout=60)
+        if (done.returncode, done.stdout.decode()) != (0, pair.report):
+            wrong += 1
+            print(f"WRONG script {number}, status {done.returncode}:\n{script}")
+    print(f"{count} scripts, {wrong} reports differ")
+    return 1 if wrong else 0
+
+
+if __name__ == "__main__":
+    sys.exit(main())
