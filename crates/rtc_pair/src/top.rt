@@ -77,7 +77,7 @@ fn refuse_script<W: Sink>(alloc: Global, line: u32, output: &mut W) -> u8
 /// Reads a script from `input`, performs it, and writes its report to `output`; answers the status to end with.
 ///
 /// With status 0, and with 6 where a report was written, `last` has the pair on which the steps were performed; else it is as
-/// it was. A fault of the sink (5) or want of memory (6) may come in place of any other status.
+/// it was. A fault of the sink (5) may come in place of any other status, and want of memory (6) in place of any but 2.
 pub fn pair_main<R: Source, W: Sink>(
     alloc: Global,
     words: &[String],

@@ -62,6 +62,11 @@ fn each_line_is_a_step(rt: HostRuntime) -> Result<(), Fail> {
             answer: 4294967295
         }
     );
+    Ok(())
+}
+
+#[test]
+fn header_alone_has_no_steps(rt: HostRuntime) -> Result<(), Fail> {
     let script = read_script(rt.alloc(), b"str0m-pair 1\n")?;
     assert!(rt; script.steps.is_empty());
     Ok(())

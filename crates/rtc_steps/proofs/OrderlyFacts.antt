@@ -85,7 +85,7 @@ later_line_stopped :
     })
 later_line_stopped = refl
 
--- the first line, of whose transport the others are, is not
+-- a list that stops the first line is not
 first_line_stopped : are_orderly (both_lines ++ stops 0 ∷ []) ≡ false
 first_line_stopped = refl
 

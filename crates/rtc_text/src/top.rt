@@ -34,7 +34,7 @@ fn refuse_text<W: Sink>(alloc: Global, line: u32, output: &mut W) -> u8
 
 /// Reads a session text from `input` and writes what it reads as to `output`; answers the status to end with.
 ///
-/// A fault of the sink (5) or want of memory (6) may come in place of any other status.
+/// A fault of the sink (5) may come in place of any other status, and want of memory (6) in place of any but 2.
 pub fn text_main<R: Source, W: Sink>(
     alloc: Global,
     words: &[String],
