@@ -1,7 +1,7 @@
 #!/usr/bin/env python3
-"""Feeds hostile inputs to the proved program rtc_text, and checks its status and its time against the length.
+"""Feeds hostile inputs to the proved program rtc_sdp_text, and checks its status and its time against the length.
 
-usage: tests/hostile_texts.py crates/rtc_text/out/rtc_text [FOLDER of good texts]
+usage: tests/hostile_texts.py crates/rtc_sdp_text/out/rtc_sdp_text [FOLDER of good texts]
 
 It is no part of the gate. Each input is written to the program's standard input; the program has to end by itself with
 status 0 and a text, or with status 3 and one line that names a line of the input, within a time that grows with the

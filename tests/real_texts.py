@@ -1,7 +1,7 @@
 #!/usr/bin/env python3
-"""Reads texts of real stacks with the proved program rtc_text, and compares its answers with their verdicts.
+"""Reads texts of real stacks with the proved program rtc_sdp_text, and compares its answers with their verdicts.
 
-usage: tests/real_texts.py crates/rtc_text/out/rtc_text FOLDER
+usage: tests/real_texts.py crates/rtc_sdp_text/out/rtc_sdp_text FOLDER
 
 FOLDER has the texts and `verdicts.json`: for each text whether it is an offer or an answer, and whether the grammar reads
 it, with the kind, mid and direction of each line, or refuses it, with the number of the line. It is no part of the gate,

@@ -1,22 +1,22 @@
 -- The acts of one step at an end.
 use Rattle.std.proofs.Common.{ℕ, zero, suc, ◌≡◌, ◌&&◌, not, inl, inr, Bool, true, false, List, [], ◌∷◌, ◌++◌, length, Option, Some, None, Ok, refl, sym, ap, subst, ◌∙◌, append-nil}
 use Rattle.std.specs.Prelude.{slice_get}
-use Rattle.rtc_parts.specs.declared.ppi.Ppi.{Ppi}
-use Rattle.rtc_parts.specs.Ppi.{ppi_number}
-use Rattle.rtc_parts.specs.Why.{Timed, Other}
-use Rattle.rtc_parts.specs.Among.{Member}
-use Rattle.rtc_parts.specs.AssociationActs.{AssociationAct, Started, Opened, Wrote as WroteAct, Ended, Given, Taken, Read as ReadAct, Told, Stirred, ByConnect, ByAccept, ConnectRefused, AcceptRefused, OpenRefused, WriteRefused, ReadRefused, EndRefused, Acted, Moved, moved-one}
-use Rattle.rtc_parts.specs.AssociationWords.{given, taken, written, read, told, completions}
-use Rattle.rtc_assoc_plain.specs.Contents.{Contents, is_started, generation_of}
-use Rattle.rtc_assoc_plain.specs.PlainMeaning.{plain_meaning}
-use Rattle.rtc_assoc_plain.specs.PlainLaws.{plain_laws}
+use Rattle.rtc_association.specs.declared.ppi.Ppi.{Ppi}
+use Rattle.rtc_association.specs.Ppi.{ppi_number}
+use Rattle.rtc_association.specs.Why.{Timed, Other}
+use Rattle.rtc_association.specs.Among.{Member}
+use Rattle.rtc_association.specs.AssociationActs.{AssociationAct, Started, Opened, Wrote as WroteAct, Ended, Given, Taken, Read as ReadAct, Told, Stirred, ByConnect, ByAccept, ConnectRefused, AcceptRefused, OpenRefused, WriteRefused, ReadRefused, EndRefused, Acted, Moved, moved-one}
+use Rattle.rtc_association.specs.AssociationWords.{given, taken, written, read, told, completions}
+use Rattle.rtc_assoc_end.specs.Contents.{Contents, is_started, generation_of}
+use Rattle.rtc_assoc_end.specs.PlainMeaning.{plain_meaning}
+use Rattle.rtc_assoc_end.specs.PlainLaws.{plain_laws}
 use Rattle.rtc_assoc.specs.declared.sent.Sent.{Sent}
 use Rattle.rtc_assoc.specs.declared.assoc_step.AssocStep.{AssocStep}
 use Rattle.rtc_assoc.specs.declared.assoc_step.AssocStep.TheVariants.{Connect, Accept, Open, Write, CloseStream, Time, Transmit, Deliver, Poll, Read}
 use Rattle.rtc_assoc.specs.declared.assoc_reply.AssocReply.{AssocReply}
 use Rattle.rtc_assoc.specs.declared.assoc_reply.AssocReply.TheVariants.{Done, Refused, Wrote, Packet, Event, Message, NoSuch}
 use Rattle.rtc_assoc.specs.Steps as step
-use Rattle.rtc_assoc.specs.Steps.{at_left, Tried, is_for, bytes_of, Performs}
+use Rattle.rtc_assoc.specs.Steps.{at_left, Tried, is_packet_for, bytes_of, PerformsAssocStep}
 use Rattle.rtc_assoc.specs.Replies.{same_end, wrote_by, read_by, told_by}
 
 abbrev pub sent : Bool → List ℕ → Sent
@@ -112,16 +112,16 @@ acts_close Done l id p q packets h = acts_one (CloseStream l id) Done p q packet
 acts_close (Refused e) l id p q packets h = acts_one (CloseStream l id) (Refused e) p q packets packets (Stirred Other) (record { gives = refl; takes = refl }) (EndRefused id e h.1) refl (λ t g. refl) (λ t g. refl) (λ t. refl)
 acts_close (_) l id p q packets h = absurd h
 
-acts_time : (reply : AssocReply) (l : Bool) (now : ℕ) (p q : Contents) (packets : List Sent) → step.Times now reply p q → Acts (Time l now) reply p q packets packets
+acts_time : (reply : AssocReply) (l : Bool) (now : ℕ) (p q : Contents) (packets : List Sent) → step.StepTimes now reply p q → Acts (Time l now) reply p q packets packets
 acts_time Done l now p q packets h = acts_one (Time l now) Done p q packets packets (Stirred (Timed now)) (record { gives = refl; takes = refl }) (Ok tt, h) refl (λ t g. refl) (λ t g. refl) (λ t. refl)
 acts_time (_) l now p q packets h = absurd h
 
-acts_poll : (reply : AssocReply) (l : Bool) (p q : Contents) (packets : List Sent) → step.Polls reply p q → Acts (Poll l) reply p q packets packets
+acts_poll : (reply : AssocReply) (l : Bool) (p q : Contents) (packets : List Sent) → step.StepPolls reply p q → Acts (Poll l) reply p q packets packets
 acts_poll (Event None) l p q packets h = acts_none (Poll l) (Event None) p q packets packets (record { writes = λ l t g. refl; reads = λ l t g. refl; tells = λ l t. refl }) (plain_laws.event_none p q h) refl
 acts_poll (Event (Some e)) l p q packets h = acts_one (Poll l) (Event (Some e)) p q packets packets (Told e) (record { gives = refl; takes = refl }) h refl (λ t g. refl) (λ t g. refl) (λ t. rw (same_self l) refl)
 acts_poll (_) l p q packets h = absurd h
 
-acts_read : (reply : AssocReply) (l : Bool) (id : ℕ) (p q : Contents) (packets : List Sent) → step.Reads id reply p q → Acts (Read l id) reply p q packets packets
+acts_read : (reply : AssocReply) (l : Bool) (id : ℕ) (p q : Contents) (packets : List Sent) → step.StepReads id reply p q → Acts (Read l id) reply p q packets packets
 acts_read (Message n None) l id p q packets h = acts_none (Read l id) (Message n None) p q packets packets (record { writes = λ l t g. refl; reads = λ l t g. refl; tells = λ l t. refl }) (plain_laws.read_none p q id h.1) refl
 acts_read (Message n (Some m)) l id p q packets h = acts_one (Read l id) (Message n (Some m)) p q packets packets (ReadAct id n (ppi_number m.0) m.1) (record { gives = refl; takes = refl }) (m.0, (h.1, refl, h.0)) refl (λ t g. refl) (λ t g. rw (same_self l) refl) (λ t. refl)
 acts_read (Refused e) l id p q packets h = acts_one (Read l id) (Refused e) p q packets packets (Stirred Other) (record { gives = refl; takes = refl }) (ReadRefused id e h.1) refl (λ t g. refl) (λ t g. refl) (λ t. refl)
@@ -136,7 +136,7 @@ member_get [] n x e = absurd (let k : None ≡ Some x = e in cc)
 member_get (p ∷ packets) zero x e = inl (some_same x p (sym e))
 member_get (p ∷ packets) (suc n) x e = inr (member_get packets n x e)
 
-other_end : (l : Bool) (x : Sent) → is_for l (Some x) ≡ true → x.from_left ≡ not l
+other_end : (l : Bool) (x : Sent) → is_packet_for l (Some x) ≡ true → x.from_left ≡ not l
 other_end true x e = not_true x.from_left e
   where
     not_true : (b : Bool) → not b ≡ true → b ≡ false
@@ -144,11 +144,11 @@ other_end true x e = not_true x.from_left e
     not_true false e = refl
 other_end false x e = e
 
-for_end : (l : Bool) (o : Option Sent) (packets : List Sent) (n : ℕ) → slice_get packets n ≡ o → is_for l o ≡ true → Member (sent (not l) (bytes_of o)) packets
+for_end : (l : Bool) (o : Option Sent) (packets : List Sent) (n : ℕ) → slice_get packets n ≡ o → is_packet_for l o ≡ true → Member (sent (not l) (bytes_of o)) packets
 for_end l None packets n e f = absurd (let k : false ≡ true = f in cc)
 for_end l (Some x) packets n e f = subst (λ (b : Bool). Member (sent b x.bytes) packets) (other_end l x f) (member_get packets n x e)
 
-acts_deliver : (reply : AssocReply) (l : Bool) (n now : ℕ) (p q : Contents) (packets : List Sent) → is_for l (slice_get packets n) ≡ true → step.Delivers (bytes_of (slice_get packets n)) now reply p q → Acts (Deliver l n now) reply p q packets packets
+acts_deliver : (reply : AssocReply) (l : Bool) (n now : ℕ) (p q : Contents) (packets : List Sent) → is_packet_for l (slice_get packets n) ≡ true → step.Delivers (bytes_of (slice_get packets n)) now reply p q → Acts (Deliver l n now) reply p q packets packets
 acts_deliver Done l n now p q packets f h =
     let bytes = bytes_of (slice_get packets n) in
     record {
@@ -162,7 +162,7 @@ acts_deliver Done l n now p q packets f h =
     }
 acts_deliver (_) l n now p q packets f h = absurd h
 
-acts_transmit : (reply : AssocReply) (l : Bool) (p q : Contents) (packets after : List Sent) → step.Transmits l reply p q packets after → Acts (Transmit l) reply p q packets after
+acts_transmit : (reply : AssocReply) (l : Bool) (p q : Contents) (packets after : List Sent) → step.StepTransmits l reply p q packets after → Acts (Transmit l) reply p q packets after
 acts_transmit (Packet None) l p q packets after h = acts_none (Transmit l) (Packet None) p q packets after (record { writes = λ l t g. refl; reads = λ l t g. refl; tells = λ l t. refl }) (plain_laws.packet_none p q h.0) h.1
 acts_transmit (Packet (Some n)) l p q packets after h = record {
   acts = Taken h.bytes ∷ [];
@@ -191,18 +191,18 @@ both_hold : (a b : Bool) → (a && b) ≡ true → b ≡ true
 both_hold true b e = e
 both_hold false b e = absurd cc
 
-pub acts_of : (s : AssocStep) (reply : AssocReply) (p q : Contents) (packets after : List Sent) → Performs s reply p q packets after → Acts s reply p q packets after
+pub acts_of : (s : AssocStep) (reply : AssocReply) (p q : Contents) (packets after : List Sent) → PerformsAssocStep s reply p q packets after → Acts s reply p q packets after
 acts_of (Connect l) reply p q packets after h = acts_tried (Connect l) reply p q packets after (not (is_started p)) (step.Connects reply p q) (λ e k. acts_connect reply l p q packets (unstarted (is_started p) e) k) h
 acts_of (Accept l) reply p q packets after h = acts_tried (Accept l) reply p q packets after (not (is_started p)) (step.Accepts reply p q) (λ e k. acts_accept reply l p q packets (unstarted (is_started p) e) k) h
 acts_of (Open l id) reply p q packets after h = acts_tried (Open l id) reply p q packets after (is_started p) (step.Opens id reply p q) (λ e k. acts_open reply l id p q packets k) h
 acts_of (Write l id ppi bytes) reply p q packets after h = acts_tried (Write l id ppi bytes) reply p q packets after (is_started p) (step.Writes id ppi bytes reply p q) (λ e k. acts_write reply l id ppi bytes p q packets k) h
 acts_of (CloseStream l id) reply p q packets after h = acts_tried (CloseStream l id) reply p q packets after (is_started p) (step.ClosesStream id reply p q) (λ e k. acts_close reply l id p q packets k) h
-acts_of (Time l now) reply p q packets after h = acts_tried (Time l now) reply p q packets after (is_started p) (step.Times now reply p q) (λ e k. acts_time reply l now p q packets k) h
+acts_of (Time l now) reply p q packets after h = acts_tried (Time l now) reply p q packets after (is_started p) (step.StepTimes now reply p q) (λ e k. acts_time reply l now p q packets k) h
 acts_of (Transmit l) reply p q packets after (inl k) = subst (λ (r : AssocReply). Acts (Transmit l) r p q packets after) (sym k.1) (acts_none (Transmit l) NoSuch p q packets after (says_no_such (Transmit l)) k.2 k.3)
 acts_of (Transmit l) reply p q packets after (inr k) = acts_transmit reply l p q packets after k.1
-acts_of (Deliver l n now) reply p q packets after h = acts_tried (Deliver l n now) reply p q packets after (is_started p && is_for l (slice_get packets n)) (step.Delivers (bytes_of (slice_get packets n)) now reply p q) (λ e k. acts_deliver reply l n now p q packets (both_hold (is_started p) (is_for l (slice_get packets n)) e) k) h
-acts_of (Poll l) reply p q packets after h = acts_tried (Poll l) reply p q packets after (is_started p) (step.Polls reply p q) (λ e k. acts_poll reply l p q packets k) h
-acts_of (Read l id) reply p q packets after h = acts_tried (Read l id) reply p q packets after (is_started p) (step.Reads id reply p q) (λ e k. acts_read reply l id p q packets k) h
+acts_of (Deliver l n now) reply p q packets after h = acts_tried (Deliver l n now) reply p q packets after (is_started p && is_packet_for l (slice_get packets n)) (step.Delivers (bytes_of (slice_get packets n)) now reply p q) (λ e k. acts_deliver reply l n now p q packets (both_hold (is_started p) (is_packet_for l (slice_get packets n)) e) k) h
+acts_of (Poll l) reply p q packets after h = acts_tried (Poll l) reply p q packets after (is_started p) (step.StepPolls reply p q) (λ e k. acts_poll reply l p q packets k) h
+acts_of (Read l id) reply p q packets after h = acts_tried (Read l id) reply p q packets after (is_started p) (step.StepReads id reply p q) (λ e k. acts_read reply l id p q packets k) h
 
 -- a step writes, reads and tells nothing at the other end
 same_not : (b : Bool) → same_end (not b) b ≡ false

@@ -1,20 +1,20 @@
 -- What an end keeps of the items that come.
 use Rattle.std.proofs.Common.{ℕ, ◌≡◌, ◌+◌, ◌⊎◌, not, inl, inr, Bool, true, false, cond, List, [], ◌∷◌, ◌++◌, length, refl, sym, ap, subst, ◌∙◌, arith, append-nil}
 use Rattle.std.proofs.lemmas.Bool.Decides.{eqb_tells}
-use Rattle.rtc_parts.specs.AssociationWords.{AssociationMessage}
-use Rattle.rtc_assoc_items.specs.declared.item.Item.{Item}
-use Rattle.rtc_assoc_items.specs.declared.item_part.ItemPart.{ItemPart}
-use Rattle.rtc_assoc_items.specs.declared.item_part.ItemPart.TheVariants.{More, Last, Close}
-use Rattle.rtc_assoc_items.specs.Pieces.{piece, close_of}
-use Rattle.rtc_assoc_plain.specs.declared.close_state.CloseState.{CloseState}
-use Rattle.rtc_assoc_plain.specs.declared.close_state.CloseState.TheVariants.{Unclosed, Queued, Acknowledged}
-use Rattle.rtc_assoc_plain.specs.declared.stream_row.StreamRow.{StreamRow}
-use Rattle.rtc_assoc_plain.specs.Streams.{stream_of, put, reset_row, is_unclosed, is_closed_here, takes_messages}
-use Rattle.rtc_assoc_plain.specs.Inbox.{Inbox, bytes_so_far, with_bytes, without_part, without_messages, forgotten, message_of}
-use Rattle.rtc_assoc_plain.specs.Settling.{can_reset}
-use Rattle.rtc_assoc_plain.specs.Contents.{Contents}
-use Rattle.rtc_assoc_plain.specs.Calls.{sent, counted, more_kept, last_kept, finished, reset_told, close_came_at, close_came, part_came, item_taken}
-use Rattle.rtc_assoc_plain.specs.RaiseLemmas.{stream_of-stream}
+use Rattle.rtc_association.specs.AssociationWords.{AssociationMessage}
+use Rattle.rtc_assoc_packets.specs.declared.item.Item.{Item}
+use Rattle.rtc_assoc_packets.specs.declared.item_part.ItemPart.{ItemPart}
+use Rattle.rtc_assoc_packets.specs.declared.item_part.ItemPart.TheVariants.{More, Last, Close}
+use Rattle.rtc_assoc_packets.specs.Pieces.{piece, close_of}
+use Rattle.rtc_assoc_end.specs.declared.close_state.CloseState.{CloseState}
+use Rattle.rtc_assoc_end.specs.declared.close_state.CloseState.TheVariants.{Unclosed, Queued, Acknowledged}
+use Rattle.rtc_assoc_end.specs.declared.stream_row.StreamRow.{StreamRow}
+use Rattle.rtc_assoc_end.specs.Streams.{stream_of, put, reset_row, is_unclosed, is_closed_here, takes_messages}
+use Rattle.rtc_assoc_end.specs.Inbox.{Inbox, bytes_so_far, with_bytes, without_part, without_messages, forgotten, message_of}
+use Rattle.rtc_assoc_end.specs.Settling.{can_reset}
+use Rattle.rtc_assoc_end.specs.Contents.{Contents}
+use Rattle.rtc_assoc_end.specs.Calls.{sent, item_counted, more_kept, last_kept, finished, reset_told, close_came_at, close_came, part_came, item_taken}
+use Rattle.rtc_assoc_end.specs.RaiseLemmas.{stream_of-stream}
 use Rattle.rtc_assoc.specs.Unread.{unread, IsPrefix}
 use Rattle.rtc_assoc.proofs.MessageLemmas.{is_pair, pair_tells, message, messages, left, HasClose}
 use Rattle.rtc_assoc.proofs.UnreadLemmas.{prefix_self, prefix_none, prefix_is, unread-append, unread-without, unread-forgotten, so_far-with, so_far-with_other, so_far-without_other, so_far-forgotten}
@@ -158,29 +158,29 @@ arrives_quiet p q got o h e = record {
 pub arrives_none : (p : Contents) → Arrives p [] [] p
 arrives_none p = arrives_quiet p p [] refl (gets_none p.inbox p.streams p.streams (λ s g. refl)) (λ s g. refl)
 
-arrives_more : (id h i : ℕ) (bytes : List ℕ) (row : StreamRow) (p : Contents) → RowOf id row p.streams → Arrives p (piece id h More i bytes ∷ []) [] (more_kept (piece id h More i bytes) (counted row p))
-unfolding more_kept counted
+arrives_more : (id h i : ℕ) (bytes : List ℕ) (row : StreamRow) (p : Contents) → RowOf id row p.streams → Arrives p (piece id h More i bytes ∷ []) [] (more_kept (piece id h More i bytes) (item_counted row p))
+unfolding more_kept item_counted
 arrives_more id h i bytes row p r =
     let e = alive-put_row id row p.streams r in
-    arrives_quiet p (more_kept (piece id h More i bytes) (counted row p)) (piece id h More i bytes ∷ []) refl (gets_more p.inbox p.streams (put row p.streams) id h i bytes e) e
+    arrives_quiet p (more_kept (piece id h More i bytes) (item_counted row p)) (piece id h More i bytes ∷ []) refl (gets_more p.inbox p.streams (put row p.streams) id h i bytes e) e
 
-arrives_last : (id h i : ℕ) (bytes : List ℕ) (row : StreamRow) (p : Contents) → RowOf id row p.streams → takes_messages row h ≡ true → Arrives p (piece id h Last i bytes ∷ []) [] (last_kept (piece id h Last i bytes) (counted row p))
-unfolding last_kept counted
+arrives_last : (id h i : ℕ) (bytes : List ℕ) (row : StreamRow) (p : Contents) → RowOf id row p.streams → takes_messages row h ≡ true → Arrives p (piece id h Last i bytes ∷ []) [] (last_kept (piece id h Last i bytes) (item_counted row p))
+unfolding last_kept item_counted
 arrives_last id h i bytes row p r t =
     let e = alive-put_row id row p.streams r in
-    arrives_quiet p (last_kept (piece id h Last i bytes) (counted row p)) (piece id h Last i bytes ∷ []) refl (gets_last p.inbox p.streams (put row p.streams) id h i bytes (sym (takes-row id row p.streams h r) ∙ t) e) e
+    arrives_quiet p (last_kept (piece id h Last i bytes) (item_counted row p)) (piece id h Last i bytes ∷ []) refl (gets_last p.inbox p.streams (put row p.streams) id h i bytes (sym (takes-row id row p.streams h r) ∙ t) e) e
 
-arrives_dropped : (id h i : ℕ) (part : ItemPart) (bytes : List ℕ) (row : StreamRow) (p : Contents) → RowOf id row p.streams → takes_messages row h ≡ false → Arrives p (piece id h part i bytes ∷ []) [] (counted row p)
-unfolding counted
+arrives_dropped : (id h i : ℕ) (part : ItemPart) (bytes : List ℕ) (row : StreamRow) (p : Contents) → RowOf id row p.streams → takes_messages row h ≡ false → Arrives p (piece id h part i bytes ∷ []) [] (item_counted row p)
+unfolding item_counted
 arrives_dropped id h i part bytes row p r t =
     let e = alive-put_row id row p.streams r in
-    arrives_quiet p (counted row p) (piece id h part i bytes ∷ []) refl (gets_dropped p.inbox p.streams (put row p.streams) id h i part bytes (sym (takes-row id row p.streams h r) ∙ t) e) e
+    arrives_quiet p (item_counted row p) (piece id h part i bytes ∷ []) refl (gets_dropped p.inbox p.streams (put row p.streams) id h i part bytes (sym (takes-row id row p.streams h r) ∙ t) e) e
 
-arrives_skipped : (id h i : ℕ) (bytes : List ℕ) (row : StreamRow) (p : Contents) → RowOf id row p.streams → Arrives p (piece id h Close i bytes ∷ []) [] (counted row p)
-unfolding counted
+arrives_skipped : (id h i : ℕ) (bytes : List ℕ) (row : StreamRow) (p : Contents) → RowOf id row p.streams → Arrives p (piece id h Close i bytes ∷ []) [] (item_counted row p)
+unfolding item_counted
 arrives_skipped id h i bytes row p r =
     let e = alive-put_row id row p.streams r in
-    arrives_quiet p (counted row p) (piece id h Close i bytes ∷ []) refl (gets_close_kept p.inbox p.streams (put row p.streams) id h i bytes e) e
+    arrives_quiet p (item_counted row p) (piece id h Close i bytes ∷ []) refl (gets_close_kept p.inbox p.streams (put row p.streams) id h i bytes e) e
 
 -- the close of a generation that this end closed before
 arrives_again : (i : ℕ) (bytes : List ℕ) (row new : StreamRow) (p q : Contents) → is_closed_here row ≡ true → RowOf row.stream row p.streams → new.stream ≡ row.stream → ((g : ℕ) → takes_messages new g ≡ takes_messages row g) → q.outbox ≡ p.outbox → q.inbox ≡ record (forgotten row.stream row.generation p.inbox) { received = p.inbox.received + 1 } → q.streams ≡ put new p.streams → Arrives p (piece row.stream row.generation Close i bytes ∷ []) [] q
@@ -194,21 +194,21 @@ arrives_again i bytes row new p q c r n t o b z =
     let Q : List StreamRow → Type 0 = λ v. Gets p.inbox p.streams (piece id row.generation Close i bytes ∷ []) no_reads q.inbox v in
     arrives_quiet p q (piece id row.generation Close i bytes ∷ []) o (subst Q (sym z) (subst P (sym b) gets)) (λ s g. ap (λ (v : List StreamRow). alive v s g) z ∙ e s g)
 
-arrives_second : (i : ℕ) (bytes : List ℕ) (row : StreamRow) (p : Contents) → is_closed_here row ≡ true → RowOf row.stream row p.streams → Arrives p (piece row.stream row.generation Close i bytes ∷ []) [] (counted (record row { finished = true }) (finished row p))
-unfolding counted finished
-arrives_second i bytes row p c r = arrives_again i bytes row (record row { finished = true }) p (counted (record row { finished = true }) (finished row p)) c r refl (λ g. refl) refl refl refl
+arrives_second : (i : ℕ) (bytes : List ℕ) (row : StreamRow) (p : Contents) → is_closed_here row ≡ true → RowOf row.stream row p.streams → Arrives p (piece row.stream row.generation Close i bytes ∷ []) [] (item_counted (record row { finished = true }) (finished row p))
+unfolding item_counted finished
+arrives_second i bytes row p c r = arrives_again i bytes row (record row { finished = true }) p (item_counted (record row { finished = true }) (finished row p)) c r refl (λ g. refl) refl refl refl
 
-arrives_reset : (i : ℕ) (bytes : List ℕ) (row : StreamRow) (p : Contents) → is_closed_here row ≡ true → RowOf row.stream row p.streams → Arrives p (piece row.stream row.generation Close i bytes ∷ []) [] (reset_told row (counted (reset_row row) (finished row p)))
-unfolding reset_told counted finished
-arrives_reset i bytes row p c r = arrives_again i bytes row (reset_row row) p (reset_told row (counted (reset_row row) (finished row p))) c r refl (λ g. reset-takes row g c) refl refl refl
+arrives_reset : (i : ℕ) (bytes : List ℕ) (row : StreamRow) (p : Contents) → is_closed_here row ≡ true → RowOf row.stream row p.streams → Arrives p (piece row.stream row.generation Close i bytes ∷ []) [] (reset_told row (item_counted (reset_row row) (finished row p)))
+unfolding reset_told item_counted finished
+arrives_reset i bytes row p c r = arrives_again i bytes row (reset_row row) p (reset_told row (item_counted (reset_row row) (finished row p))) c r refl (λ g. reset-takes row g c) refl refl refl
 
 -- the close of a generation that this end closes now
 closed_so : (s g t h i : ℕ) (bytes : List ℕ) → HasClose s g (close_of t h ∷ []) → HasClose s g (piece t h Close i bytes ∷ [])
 closed_so s g t h i bytes (inl c) = inl (record { part_is = refl; stream_is = c.stream_is; generation_is = c.generation_is })
 closed_so s g t h i bytes (inr c) = inr c
 
-arrives_first : (now i : ℕ) (bytes : List ℕ) (row : StreamRow) (p : Contents) → RowOf row.stream row p.streams → Arrives p (piece row.stream row.generation Close i bytes ∷ []) (close_of row.stream row.generation ∷ []) (sent now (close_of row.stream row.generation ∷ []) (counted (record row { close = Queued; finished = true }) (finished row p)))
-unfolding sent counted finished
+arrives_first : (now i : ℕ) (bytes : List ℕ) (row : StreamRow) (p : Contents) → RowOf row.stream row p.streams → Arrives p (piece row.stream row.generation Close i bytes ∷ []) (close_of row.stream row.generation ∷ []) (sent now (close_of row.stream row.generation ∷ []) (item_counted (record row { close = Queued; finished = true }) (finished row p)))
+unfolding sent item_counted finished
 arrives_first now i bytes row p r =
     let id = row.stream in
     let new : StreamRow = record row { close = Queued; finished = true } in
@@ -234,7 +234,7 @@ pub record Came (p : Contents) (q : Contents) (got : List Item) : Type 0 where
   pub more : List Item
   pub arrives : Arrives p got more q
 
-came_last : (b : Bool) (i : ℕ) (bytes : List ℕ) (row : StreamRow) (p : Contents) → is_closed_here row ≡ true → RowOf row.stream row p.streams → Came p (cond b (reset_told row (counted (reset_row row) (finished row p))) (counted (record row { finished = true }) (finished row p))) (piece row.stream row.generation Close i bytes ∷ [])
+came_last : (b : Bool) (i : ℕ) (bytes : List ℕ) (row : StreamRow) (p : Contents) → is_closed_here row ≡ true → RowOf row.stream row p.streams → Came p (cond b (reset_told row (item_counted (reset_row row) (finished row p))) (item_counted (record row { finished = true }) (finished row p))) (piece row.stream row.generation Close i bytes ∷ [])
 came_last true i bytes row p c r = record { more = []; arrives = arrives_reset i bytes row p c r }
 came_last false i bytes row p c r = record { more = []; arrives = arrives_second i bytes row p c r }
 
@@ -255,11 +255,11 @@ came_close now id h i bytes row p r =
       | inr e ↦ rw e.0 (record { more = []; arrives = arrives_skipped id h i bytes row p r })
     ]
 
-came_more : (b : Bool) (id h i : ℕ) (bytes : List ℕ) (row : StreamRow) (p : Contents) → takes_messages row h ≡ b → RowOf id row p.streams → Came p (cond b (more_kept (piece id h More i bytes) (counted row p)) (counted row p)) (piece id h More i bytes ∷ [])
+came_more : (b : Bool) (id h i : ℕ) (bytes : List ℕ) (row : StreamRow) (p : Contents) → takes_messages row h ≡ b → RowOf id row p.streams → Came p (cond b (more_kept (piece id h More i bytes) (item_counted row p)) (item_counted row p)) (piece id h More i bytes ∷ [])
 came_more true id h i bytes row p e r = record { more = []; arrives = arrives_more id h i bytes row p r }
 came_more false id h i bytes row p e r = record { more = []; arrives = arrives_dropped id h i More bytes row p r e }
 
-came_whole : (b : Bool) (id h i : ℕ) (bytes : List ℕ) (row : StreamRow) (p : Contents) → takes_messages row h ≡ b → RowOf id row p.streams → Came p (cond b (last_kept (piece id h Last i bytes) (counted row p)) (counted row p)) (piece id h Last i bytes ∷ [])
+came_whole : (b : Bool) (id h i : ℕ) (bytes : List ℕ) (row : StreamRow) (p : Contents) → takes_messages row h ≡ b → RowOf id row p.streams → Came p (cond b (last_kept (piece id h Last i bytes) (item_counted row p)) (item_counted row p)) (piece id h Last i bytes ∷ [])
 came_whole true id h i bytes row p e r = record { more = []; arrives = arrives_last id h i bytes row p r e }
 came_whole false id h i bytes row p e r = record { more = []; arrives = arrives_dropped id h i Last bytes row p r e }
 

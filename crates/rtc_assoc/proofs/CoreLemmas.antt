@@ -1,27 +1,27 @@
 -- What calls do to the items and messages of an end.
 use Rattle.std.proofs.Common.{ℕ, ◌≡◌, ◌+◌, ◌-◌, ◌≤◌, ◌⊎◌, inl, inr, true, false, List, [], ◌∷◌, ◌++◌, length, drop, Some, refl, sym, ap, subst, ◌∙◌, arith, append-nil}
 use Rattle.std.proofs.lemmas.Bool.Decides.{eqb_tells}
-use Rattle.rtc_parts.specs.declared.assoc_event.AssocEvent.{AssocEvent}
-use Rattle.rtc_parts.specs.Ppi.{ppi_number, ppi_of}
-use Rattle.rtc_parts.specs.Among.{Member}
-use Rattle.rtc_parts.specs.Why.{Timed, Shut as ShutDown, Other}
-use Rattle.rtc_parts.specs.AssociationActs.{AssociationAct, Started, Opened, Wrote, Ended, Given, Taken, Read, Told, Stirred}
-use Rattle.rtc_parts.specs.AssociationWords.{AssociationMessage, written, read, ended}
-use Rattle.rtc_assoc_items.specs.declared.item.Item.{Item}
-use Rattle.rtc_assoc_items.specs.Packets.{frame_in}
-use Rattle.rtc_assoc_items.specs.Pieces.{pieces_of, close_of}
-use Rattle.rtc_assoc_plain.specs.declared.message.Message.{Message}
-use Rattle.rtc_assoc_plain.specs.declared.close_state.CloseState.TheVariants.{Queued}
-use Rattle.rtc_assoc_plain.specs.declared.stream_row.StreamRow.{StreamRow}
-use Rattle.rtc_assoc_plain.specs.Streams.{stream_of, put}
-use Rattle.rtc_assoc_plain.specs.Inbox.{Inbox, without_messages, forgotten}
-use Rattle.rtc_assoc_plain.specs.Outbox.{Outbox}
-use Rattle.rtc_assoc_plain.specs.Contents.{Contents}
-use Rattle.rtc_assoc_plain.specs.Says.{Queues}
-use Rattle.rtc_assoc_plain.specs.Calls as call
-use Rattle.rtc_assoc_plain.specs.Calls.{limited, connected, accepted, snapped, started_as, said_hello, opened, sent, message_in, messages_behind, next_message, taken_out, thresholded, shut_down, greeted, welcomed, acknowledged, answered, lost, item_taken, item_came, framed, half_taken, at_moment, input_taken, timed, event_given, packet_given}
-use Rattle.rtc_assoc_plain.specs.RaiseLemmas.{stream_of-stream}
-use Rattle.rtc_assoc_plain.proofs.SaysLemmas.{queues_same}
+use Rattle.rtc_association.specs.declared.assoc_event.AssocEvent.{AssocEvent}
+use Rattle.rtc_association.specs.Ppi.{ppi_number, ppi_of}
+use Rattle.rtc_association.specs.Among.{Member}
+use Rattle.rtc_association.specs.Why.{Timed, Shut as ShutDown, Other}
+use Rattle.rtc_association.specs.AssociationActs.{AssociationAct, Started, Opened, Wrote, Ended, Given, Taken, Read, Told, Stirred}
+use Rattle.rtc_association.specs.AssociationWords.{AssociationMessage, written, read, ended}
+use Rattle.rtc_assoc_packets.specs.declared.item.Item.{Item}
+use Rattle.rtc_assoc_packets.specs.Packets.{frame_in}
+use Rattle.rtc_assoc_packets.specs.Pieces.{pieces_of, close_of}
+use Rattle.rtc_assoc_end.specs.declared.message.Message.{Message}
+use Rattle.rtc_assoc_end.specs.declared.close_state.CloseState.TheVariants.{Queued}
+use Rattle.rtc_assoc_end.specs.declared.stream_row.StreamRow.{StreamRow}
+use Rattle.rtc_assoc_end.specs.Streams.{stream_of, put}
+use Rattle.rtc_assoc_end.specs.Inbox.{Inbox, without_messages, forgotten}
+use Rattle.rtc_assoc_end.specs.Outbox.{Outbox}
+use Rattle.rtc_assoc_end.specs.Contents.{Contents}
+use Rattle.rtc_assoc_end.specs.Says.{Queues}
+use Rattle.rtc_assoc_end.specs.Calls as call
+use Rattle.rtc_assoc_end.specs.Calls.{limited, connected, accepted, snapped, started_as, said_hello, opened, sent, first_message_of, messages_behind, next_message, taken_out, thresholded, shut_down, greeted, welcomed, acknowledged, answered, lost, item_taken, item_came, framed, half_taken, at_moment, input_taken, timed, event_given, packet_given}
+use Rattle.rtc_assoc_end.specs.RaiseLemmas.{stream_of-stream}
+use Rattle.rtc_assoc_end.proofs.SaysLemmas.{queues_same}
 use Rattle.rtc_assoc.specs.Unread.{unread, IsPrefix}
 use Rattle.rtc_assoc.proofs.MessageLemmas.{is_pair, pair_tells, message, messages, left, messages-written, left-written, HasClose, close-pieces}
 use Rattle.rtc_assoc.proofs.UnreadLemmas.{prefix_none, prefix_is, unread-without, unread-forgotten, unread-taken, unread-taken_other, so_far-without_other}
@@ -112,7 +112,7 @@ pub quiet_other : IsQuiet (Stirred Other)
 quiet_other = record { wrote = λ s g. refl; read_is = λ s g. refl; causes = λ p. (refl, refl, tt) }
 
 -- writing
-pub core_written : (p : Contents) (id h i : ℕ) (bytes : List ℕ) → h ≡ (stream_of id p.streams).generation → Core p (Wrote id h i bytes) (call.written id i bytes p)
+pub core_written : (p : Contents) (id h i : ℕ) (bytes : List ℕ) → h ≡ (stream_of id p.streams).generation → Core p (Wrote id h i bytes) (call.message_written id i bytes p)
 unfolding sent
 core_written p id h i bytes e = record {
   count = 0;
@@ -151,8 +151,8 @@ pub own_close : (id h s g : ℕ) → HasClose s g (close_of id h ∷ []) → end
 own_close id h s g (inl c) = pair_ended id h s g c.stream_is c.generation_is
 own_close id h s g (inr c) = absurd c
 
-pub core_ended : (p : Contents) (now id h : ℕ) → h ≡ (stream_of id p.streams).generation → Core p (Ended id h) (call.ended now id p)
-unfolding sent call.ended
+pub core_ended : (p : Contents) (now id h : ℕ) → h ≡ (stream_of id p.streams).generation → Core p (Ended id h) (call.stream_ended now id p)
+unfolding sent call.stream_ended
 core_ended p now id h e =
     let n = (stream_of id p.streams).generation in
     let row : StreamRow = record (stream_of id p.streams) { close = Queued } in
@@ -195,7 +195,7 @@ ppi_number-ppi_of n =
       ]
     ]
 
-pub read_then : (id h i : ℕ) (bytes : List ℕ) (xs : List Message) (m : Message) (s g : ℕ) → message_in id h xs ≡ Some m → i ≡ m.identifier → bytes ≡ m.bytes → read s g (Read id h i bytes ∷ []) ++ unread s g (messages_behind id h xs) ≡ unread s g xs
+pub read_then : (id h i : ℕ) (bytes : List ℕ) (xs : List Message) (m : Message) (s g : ℕ) → first_message_of id h xs ≡ Some m → i ≡ m.identifier → bytes ≡ m.bytes → read s g (Read id h i bytes ∷ []) ++ unread s g (messages_behind id h xs) ≡ unread s g xs
 read_then id h i bytes xs m s g e n b =
     elim (pair_tells id h s g) [
       | inl p ↦

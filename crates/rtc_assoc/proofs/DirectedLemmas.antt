@@ -2,15 +2,15 @@
 use Rattle.std.proofs.Common.{ℕ, ◌≡◌, ◌+◌, ◌≤◌, ◌||◌, ◌⊎◌, inl, inr, Bool, true, false, List, [], ◌∷◌, ◌++◌, length, take, drop, refl, sym, ap, subst, ◌∙◌, arith}
 use Rattle.std.proofs.lemmas.List.{take-append-drop, take_all}
 use Rattle.std.proofs.lemmas.Bool.{cases_Bool}
-use Rattle.rtc_parts.specs.Among.{Member, Among}
-use Rattle.rtc_parts.specs.AssociationActs.{AssociationAct, Given, Taken}
-use Rattle.rtc_parts.specs.AssociationWords.{AssociationMessage, given, taken, written, read, ended}
-use Rattle.rtc_parts.proofs.AmongLemmas.{member-append}
-use Rattle.rtc_parts.proofs.AssociationLemmas.{taken-append, written-append, read-append, ended-append}
-use Rattle.rtc_assoc_items.specs.declared.item.Item.{Item}
-use Rattle.rtc_assoc_items.specs.Packets.{frame_in}
-use Rattle.rtc_assoc_plain.specs.Contents.{Contents}
-use Rattle.rtc_assoc_plain.specs.Says.{Says}
+use Rattle.rtc_association.specs.Among.{Member, Among}
+use Rattle.rtc_association.specs.AssociationActs.{AssociationAct, Given, Taken}
+use Rattle.rtc_association.specs.AssociationWords.{AssociationMessage, given, taken, written, read, ended}
+use Rattle.rtc_association.proofs.AmongLemmas.{member-append}
+use Rattle.rtc_association.proofs.AssociationLemmas.{taken-append, written-append, read-append, ended-append}
+use Rattle.rtc_assoc_packets.specs.declared.item.Item.{Item}
+use Rattle.rtc_assoc_packets.specs.Packets.{frame_in}
+use Rattle.rtc_assoc_end.specs.Contents.{Contents}
+use Rattle.rtc_assoc_end.specs.SaysPacket.{SaysPacket}
 use Rattle.rtc_assoc.specs.Unread.{unread, IsPrefix}
 use Rattle.rtc_assoc.proofs.MessageLemmas.{messages, left, messages-append, left-append, HasClose, close-append}
 use Rattle.rtc_assoc.proofs.UnreadLemmas.{prefix_more, prefix_front}
@@ -65,7 +65,7 @@ taken_was packet (Taken b) p count got t (inl e) = subst (λ (x : List ℕ). Mem
 taken_was packet (Taken b) p count got t (inr h) = absurd h
 taken_was packet (_) p count got t m = absurd m
 
-packet_step : (packet : List ℕ) (act : AssociationAct) (p q : Contents) (v : List AssociationAct) → Step p act q → Member packet q.packets ⊎ Member packet (taken (v ++ act ∷ [])) → (Member packet p.packets ⊎ Member packet (taken v)) ⊎ Says q (frame_in packet)
+packet_step : (packet : List ℕ) (act : AssociationAct) (p q : Contents) (v : List AssociationAct) → Step p act q → Member packet q.packets ⊎ Member packet (taken (v ++ act ∷ [])) → (Member packet p.packets ⊎ Member packet (taken v)) ⊎ SaysPacket q (frame_in packet)
 packet_step packet act p q v s (inl m) = elim (s.queues.each packet m) [ inl h ↦ inl (inl h) | inr h ↦ inr h ]
 packet_step packet act p q v s (inr m) =
     elim (member-append packet (taken v) (taken (act ∷ [])) (subst (λ (l : List (List ℕ)). Member packet l) (taken-append v (act ∷ [])) m)) [

@@ -1,17 +1,17 @@
 -- What a packet does to an end.
 use Rattle.std.proofs.Common.{ℕ, ◌≡◌, ◌+◌, ◌≤◌, ◌==◌, ◌&&◌, ◌⊎◌, not, max, inl, inr, Bool, true, false, cond, List, [], ◌∷◌, ◌++◌, length, drop, Option, Some, None, refl, sym, ap, subst, ◌∙◌, arith, append-nil}
 use Rattle.std.proofs.lemmas.Bool.Decides.{eqb_tells}
-use Rattle.rtc_parts.specs.declared.assoc_event.AssocEvent.TheVariants.{Connected}
-use Rattle.rtc_assoc_items.specs.declared.item.Item.{Item}
-use Rattle.rtc_assoc_items.specs.declared.frame.Frame.{Frame}
-use Rattle.rtc_assoc_items.specs.declared.frame.Frame.TheVariants.{Hello, Welcome, Data, Acknowledgement, Shutdown}
-use Rattle.rtc_assoc_plain.specs.declared.stream_row.StreamRow.{StreamRow}
-use Rattle.rtc_assoc_plain.specs.Inbox.{Inbox}
-use Rattle.rtc_assoc_plain.specs.Outbox.{Outbox, settled_count}
-use Rattle.rtc_assoc_plain.specs.Settling.{told_of}
-use Rattle.rtc_assoc_plain.specs.Contents.{Contents, is_ending, is_server}
-use Rattle.rtc_assoc_plain.specs.Calls.{greeted, welcomed, acknowledged, answered, lost, item_taken, item_came, framed, half_taken, at_moment}
-use Rattle.rtc_assoc_plain.proofs.SendsLemmas.{packets-greeted, packets-acknowledged}
+use Rattle.rtc_association.specs.declared.assoc_event.AssocEvent.TheVariants.{Connected}
+use Rattle.rtc_assoc_packets.specs.declared.item.Item.{Item}
+use Rattle.rtc_assoc_packets.specs.declared.frame.Frame.{Frame}
+use Rattle.rtc_assoc_packets.specs.declared.frame.Frame.TheVariants.{Hello, Welcome, Data, Acknowledgement, Shutdown}
+use Rattle.rtc_assoc_end.specs.declared.stream_row.StreamRow.{StreamRow}
+use Rattle.rtc_assoc_end.specs.Inbox.{Inbox}
+use Rattle.rtc_assoc_end.specs.Outbox.{Outbox, settled_count}
+use Rattle.rtc_assoc_end.specs.Settling.{told_of}
+use Rattle.rtc_assoc_end.specs.Contents.{Contents, is_ending, is_server}
+use Rattle.rtc_assoc_end.specs.Calls.{greeted, welcomed, acknowledged, answered, lost, item_taken, item_came, framed, half_taken, at_moment}
+use Rattle.rtc_assoc_end.proofs.SendsLemmas.{packets-greeted, packets-acknowledged}
 use Rattle.rtc_assoc.proofs.MessageLemmas.{messages, left, HasClose}
 use Rattle.rtc_assoc.proofs.AliveLemmas.{alive, alive-settled}
 use Rattle.rtc_assoc.proofs.ArriveLemmas.{Gets, no_reads, gets_from, gets_none, Came, arrives_none, came_taken}

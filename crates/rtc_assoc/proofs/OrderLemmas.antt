@@ -2,15 +2,15 @@
 use Rattle.std.proofs.Common.{ℕ, ◌≡◌, ◌+◌, ◌≤◌, Bool, true, false, List, [], ◌∷◌, ◌++◌, length, take, drop, Option, Some, None, refl, sym, ap, subst, ◌∙◌, arith, append_assoc, append-nil, length-append, length-drop, add-zero}
 use Rattle.std.proofs.lemmas.List.{take-append-drop, take-append-le, drop-append-le, length-take-le}
 use Rattle.std.proofs.Math.Seq.{drop-drop, take-append_seam, take-append-add}
-use Rattle.rtc_parts.specs.AssociationWords.{AssociationMessage}
-use Rattle.rtc_assoc_items.specs.declared.item.Item.{Item}
-use Rattle.rtc_assoc_items.specs.declared.frame.Frame.{Frame}
-use Rattle.rtc_assoc_items.specs.declared.frame.Frame.TheVariants.{Hello, Welcome, Data, Acknowledgement, Shutdown}
-use Rattle.rtc_assoc_plain.specs.declared.stream_row.StreamRow.{StreamRow}
-use Rattle.rtc_assoc_plain.specs.Inbox.{Inbox, bytes_so_far}
-use Rattle.rtc_assoc_plain.specs.Outbox.{Outbox}
-use Rattle.rtc_assoc_plain.specs.Contents.{Contents}
-use Rattle.rtc_assoc_plain.specs.Says.{Numbered, Says}
+use Rattle.rtc_association.specs.AssociationWords.{AssociationMessage}
+use Rattle.rtc_assoc_packets.specs.declared.item.Item.{Item}
+use Rattle.rtc_assoc_packets.specs.declared.frame.Frame.{Frame}
+use Rattle.rtc_assoc_packets.specs.declared.frame.Frame.TheVariants.{Hello, Welcome, Data, Acknowledgement, Shutdown}
+use Rattle.rtc_assoc_end.specs.declared.stream_row.StreamRow.{StreamRow}
+use Rattle.rtc_assoc_end.specs.Inbox.{Inbox, bytes_so_far}
+use Rattle.rtc_assoc_end.specs.Outbox.{Outbox}
+use Rattle.rtc_assoc_end.specs.Contents.{Contents}
+use Rattle.rtc_assoc_end.specs.SaysPacket.{Numbered, SaysPacket}
 use Rattle.rtc_assoc.specs.Unread.{unread, IsPrefix}
 use Rattle.rtc_assoc.proofs.MessageLemmas.{messages, left, messages-append, left-append, HasClose, close-left, close-right}
 use Rattle.rtc_assoc.proofs.UnreadLemmas.{prefix_is, prefix_then, prefix_more, prefix_behind}
@@ -165,7 +165,7 @@ honest_grew w more (Some (Data n number item)) h = numbered_more 0 number item w
 honest_grew w more (Some (Acknowledgement n)) h = tt
 honest_grew w more (Some Shutdown) h = tt
 
-pub honest_says : (w : List Item) (received : ℕ) (c : Contents) (f : Option Frame) → SenderOk w received c.outbox → Says c f → Honest w f
+pub honest_says : (w : List Item) (received : ℕ) (c : Contents) (f : Option Frame) → SenderOk w received c.outbox → SaysPacket c f → Honest w f
 honest_says w received c None s h = tt
 honest_says w received c (Some Hello) s h = tt
 honest_says w received c (Some Welcome) s h = tt
@@ -182,7 +182,7 @@ modest_later r t (Some (Data n number item)) h m = omega (arith, h, m)
 modest_later r t (Some (Acknowledgement n)) h m = omega (arith, h, m)
 modest_later r t (Some Shutdown) h m = tt
 
-pub modest_says : (c : Contents) (f : Option Frame) → Says c f → Modest c.inbox.received f
+pub modest_says : (c : Contents) (f : Option Frame) → SaysPacket c f → Modest c.inbox.received f
 modest_says c None h = tt
 modest_says c (Some Hello) h = tt
 modest_says c (Some Welcome) h = tt

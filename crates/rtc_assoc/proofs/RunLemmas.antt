@@ -1,14 +1,14 @@
 -- Runs of two ends.
 use Rattle.std.proofs.Common.{ℕ, ◌≡◌, ◌+◌, ◌⊎◌, ◌==◌, ◌&&◌, ◌||◌, nat_lt, inl, inr, true, false, List, [], ◌∷◌, ◌++◌, refl, sym, ap, subst, ◌∙◌, append_assoc, append-nil, arith}
 use Rattle.std.proofs.lemmas.Bool.Decides.{nat_tests}
-use Rattle.rtc_parts.specs.Among.{Among}
-use Rattle.rtc_parts.specs.AssociationActs.{AssociationAct, Given, Moved, moved-append}
-use Rattle.rtc_parts.specs.AssociationWords.{given, taken, ended, told, completions}
-use Rattle.rtc_parts.proofs.AssociationLemmas.{taken-append, completed}
-use Rattle.rtc_assoc_items.specs.declared.item.Item.{Item}
-use Rattle.rtc_assoc_plain.specs.Contents.{Contents, fresh_contents, generation_of, untold_resets}
-use Rattle.rtc_assoc_plain.specs.PlainMeaning.{plain_meaning}
-use Rattle.rtc_assoc_plain.specs.PlainLaws.{plain_laws}
+use Rattle.rtc_association.specs.Among.{Among}
+use Rattle.rtc_association.specs.AssociationActs.{AssociationAct, Given, Moved, moved-append}
+use Rattle.rtc_association.specs.AssociationWords.{given, taken, ended, told, completions}
+use Rattle.rtc_association.proofs.AssociationLemmas.{taken-append, completed}
+use Rattle.rtc_assoc_packets.specs.declared.item.Item.{Item}
+use Rattle.rtc_assoc_end.specs.Contents.{Contents, fresh_contents, generation_of, untold_resets}
+use Rattle.rtc_assoc_end.specs.PlainMeaning.{plain_meaning}
+use Rattle.rtc_assoc_end.specs.PlainLaws.{plain_laws}
 use Rattle.rtc_assoc.specs.Joined.{Ends, fresh_ends, Move, LeftMoves, RightMoves, Goes, Run, Joined}
 use Rattle.rtc_assoc.proofs.UnreadLemmas.{prefix_none}
 use Rattle.rtc_assoc.proofs.AliveLemmas.{alive}

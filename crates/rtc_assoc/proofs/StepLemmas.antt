@@ -1,22 +1,22 @@
 -- What one act does to an end.
 use Rattle.std.proofs.Common.{ℕ, ◌≡◌, inl, inr, true, List, [], ◌∷◌, length, Some, None, Result, Ok, Err, refl, sym, ap, subst, ◌∙◌, arith, append-nil}
 use Rattle.std.specs.declared.alloc.AllocError.{AllocError}
-use Rattle.rtc_parts.specs.declared.assoc_error.AssocError.{AssocError}
-use Rattle.rtc_parts.specs.declared.assoc_event.AssocEvent.{AssocEvent}
-use Rattle.rtc_parts.specs.declared.ppi.Ppi.{Ppi}
-use Rattle.rtc_parts.specs.Ppi.{ppi_number, ppi_of}
-use Rattle.rtc_parts.specs.Among.{Member}
-use Rattle.rtc_parts.specs.Why.{Timed, Shut as ShutDown, Other}
-use Rattle.rtc_parts.specs.AssociationActs.{AssociationAct, Started, Opened, Wrote, Ended, Given, Taken, Read, Told, Stirred, Starts, ByConnect, ByAccept, BySnap, Stirs, LimitsSet, ConnectRefused, AcceptRefused, SnapRefused, OpenRefused, WriteRefused, ReadRefused, EndRefused, ThresholdSet, ReliabilitySet, Acted}
-use Rattle.rtc_assoc_items.specs.Packets.{frame_in}
-use Rattle.rtc_assoc_plain.specs.Streams.{stream_of}
-use Rattle.rtc_assoc_plain.specs.Contents.{Contents}
-use Rattle.rtc_assoc_plain.specs.Calls as call
-use Rattle.rtc_assoc_plain.specs.Calls.{limited, connected, accepted, snapped, started_as, said_hello, opened, sent, message_in, messages_behind, next_message, taken_out, thresholded, shut_down, greeted, welcomed, acknowledged, answered, lost, item_taken, item_came, framed, half_taken, at_moment, input_taken, timed, event_given, packet_given}
-use Rattle.rtc_assoc_plain.specs.PlainMeaning.{plain_meaning, Leaves, Sends, Reads, Gives, ending_cause, open_cause, write_cause, end_cause, stream_cause}
-use Rattle.rtc_assoc_plain.specs.RaiseLemmas.{stream_of-stream}
-use Rattle.rtc_assoc_plain.specs.DoesLemmas.{refused, does_leaves, polls_some, transmits_some, reads_some}
-use Rattle.rtc_assoc_plain.proofs.SaysLemmas.{queues_same, queues_more, all_say_one, says_hello, says_shutdown}
+use Rattle.rtc_association.specs.declared.assoc_error.AssocError.{AssocError}
+use Rattle.rtc_association.specs.declared.assoc_event.AssocEvent.{AssocEvent}
+use Rattle.rtc_association.specs.declared.ppi.Ppi.{Ppi}
+use Rattle.rtc_association.specs.Ppi.{ppi_number, ppi_of}
+use Rattle.rtc_association.specs.Among.{Member}
+use Rattle.rtc_association.specs.Why.{Timed, Shut as ShutDown, Other}
+use Rattle.rtc_association.specs.AssociationActs.{AssociationAct, Started, Opened, Wrote, Ended, Given, Taken, Read, Told, Stirred, Starts, ByConnect, ByAccept, BySnap, Stirs, LimitsSet, ConnectRefused, AcceptRefused, SnapRefused, OpenRefused, WriteRefused, ReadRefused, EndRefused, ThresholdSet, ReliabilitySet, Acted}
+use Rattle.rtc_assoc_packets.specs.Packets.{frame_in}
+use Rattle.rtc_assoc_end.specs.Streams.{stream_of}
+use Rattle.rtc_assoc_end.specs.Contents.{Contents}
+use Rattle.rtc_assoc_end.specs.Calls as call
+use Rattle.rtc_assoc_end.specs.Calls.{limited, connected, accepted, snapped, started_as, said_hello, opened, sent, first_message_of, messages_behind, next_message, taken_out, thresholded, shut_down, greeted, welcomed, acknowledged, answered, lost, item_taken, item_came, framed, half_taken, at_moment, input_taken, timed, event_given, packet_given}
+use Rattle.rtc_assoc_end.specs.PlainMeaning.{plain_meaning, Leaves, Sends, Reads, Gives, ending_cause, open_cause, write_cause, end_cause, stream_cause}
+use Rattle.rtc_assoc_end.specs.RaiseLemmas.{stream_of-stream}
+use Rattle.rtc_assoc_end.specs.DoesLemmas.{refused_changes_nothing, does_leaves, polls_some, transmits_some, reads_some}
+use Rattle.rtc_assoc_end.proofs.SaysLemmas.{queues_same, queues_more, all_say_one, says_hello, says_shutdown}
 use Rattle.rtc_assoc.proofs.AliveLemmas.{RowOf, alive-put_row}
 use Rattle.rtc_assoc.proofs.ArriveLemmas.{gets_none}
 use Rattle.rtc_assoc.proofs.FrameLemmas.{FrameCore, frame_quiet, frame_framed, frame_half, packets_half}
@@ -120,7 +120,7 @@ step_shut_down p q e = record {
 
 step_shut : (p q : Contents) (r : Result (Unit {0}) AssocError) → plain_meaning.shut p r q → Step p (Stirred ShutDown) q
 step_shut p q (Ok x) h = step_shut_down p q h.1
-step_shut p q (Err e) h = quiet_step p q (Stirred ShutDown) quiet_shut (refused (ending_cause p) p q (Leaves (shut_down p)) e h)
+step_shut p q (Err e) h = quiet_step p q (Stirred ShutDown) quiet_shut (refused_changes_nothing (ending_cause p) p q (Leaves (shut_down p)) e h)
 
 -- calls that neither give nor take anything
 step_limited : (p q : Contents) (n m : ℕ) → q ≡ limited n m p → Step p (Stirred Other) q
@@ -141,17 +141,17 @@ step_thresholded p q id n e =
 
 step_threshold : (p q : Contents) (id n : ℕ) (r : Result (Unit {0}) AssocError) → plain_meaning.threshold_set p id n r q → Step p (Stirred Other) q
 step_threshold p q id n (Ok x) h = step_thresholded p q id n h.1
-step_threshold p q id n (Err e) h = quiet_step p q (Stirred Other) quiet_other (refused (stream_cause p id) p q (Leaves (thresholded id n p)) e h)
+step_threshold p q id n (Err e) h = quiet_step p q (Stirred Other) quiet_other (refused_changes_nothing (stream_cause p id) p q (Leaves (thresholded id n p)) e h)
 
 step_stirs : (p q : Contents) → Stirs plain_meaning p q → Step p (Stirred Other) q
 step_stirs p q (LimitsSet n m h) = step_limited p q n m h
-step_stirs p q (ConnectRefused now m e s h) = quiet_step p q (Stirred Other) quiet_other (refused None p q (Leaves (connected now m p)) e h)
-step_stirs p q (AcceptRefused now m e s h) = quiet_step p q (Stirred Other) quiet_other (refused None p q (Leaves (accepted now m p)) e h)
-step_stirs p q (SnapRefused now m l o e s h) = quiet_step p q (Stirred Other) quiet_other (refused None p q (Leaves (snapped now m p)) e h)
-step_stirs p q (OpenRefused id e h) = quiet_step p q (Stirred Other) quiet_other (refused (open_cause p id) p q (Leaves (opened id p)) e h)
-step_stirs p q (WriteRefused id i b e h) = quiet_step p q (Stirred Other) quiet_other (refused (write_cause p id b) p q (λ n o. (n ≡ length b) × Sends p (call.written id (ppi_number i) b p) o) e h)
-step_stirs p q (ReadRefused id e h) = quiet_step p q (Stirred Other) quiet_other (refused (stream_cause p id) p q (λ m o. Reads (next_message id p) id p m o) e h)
-step_stirs p q (EndRefused id e h) = quiet_step p q (Stirred Other) quiet_other (refused {T = Unit {0}} (end_cause p id) p q (λ _ o. Sends p (call.ended p.clock.now id p) o) e h)
+step_stirs p q (ConnectRefused now m e s h) = quiet_step p q (Stirred Other) quiet_other (refused_changes_nothing None p q (Leaves (connected now m p)) e h)
+step_stirs p q (AcceptRefused now m e s h) = quiet_step p q (Stirred Other) quiet_other (refused_changes_nothing None p q (Leaves (accepted now m p)) e h)
+step_stirs p q (SnapRefused now m l o e s h) = quiet_step p q (Stirred Other) quiet_other (refused_changes_nothing None p q (Leaves (snapped now m p)) e h)
+step_stirs p q (OpenRefused id e h) = quiet_step p q (Stirred Other) quiet_other (refused_changes_nothing (open_cause p id) p q (Leaves (opened id p)) e h)
+step_stirs p q (WriteRefused id i b e h) = quiet_step p q (Stirred Other) quiet_other (refused_changes_nothing (write_cause p id b) p q (λ n o. (n ≡ length b) × Sends p (call.message_written id (ppi_number i) b p) o) e h)
+step_stirs p q (ReadRefused id e h) = quiet_step p q (Stirred Other) quiet_other (refused_changes_nothing (stream_cause p id) p q (λ m o. Reads (next_message id p) id p m o) e h)
+step_stirs p q (EndRefused id e h) = quiet_step p q (Stirred Other) quiet_other (refused_changes_nothing {T = Unit {0}} (end_cause p id) p q (λ _ o. Sends p (call.stream_ended p.clock.now id p) o) e h)
 step_stirs p q (ThresholdSet id n r h) = step_threshold p q id n r h
 step_stirs p q (ReliabilitySet id u t n r h) = does_leaves (λ (x : Contents). Step p (Stirred Other) x) (stream_cause p id) p p q r (quiet_step p p (Stirred Other) quiet_other refl) (quiet_step p p (Stirred Other) quiet_other refl) h
 
@@ -184,13 +184,13 @@ pub step_of : (p q : Contents) (act : AssociationAct) → Acted plain_meaning p 
 step_of p q Started h = step_started p q h.1
 step_of p q (Opened id g) h = step_opened p q id g h.0.1
 step_of p q (Wrote id g i b) h =
-    let r = call.written id (ppi_number h.0) b p in
+    let r = call.message_written id (ppi_number h.0) b p in
     record {
       core = core_at p q r (Wrote id g i b) h.1.1.0.1.1.0 (subst (λ (k : ℕ). Core p (Wrote id g k b) r) (sym h.1.1.1) (core_written p id g (ppi_number h.0) b h.1.1.2));
       queues = h.1.1.0.1.1.1;
     }
 step_of p q (Ended id g) h = record {
-  core = core_at p q (call.ended p.clock.now id p) (Ended id g) h.0.1.0 (core_ended p p.clock.now id g h.1);
+  core = core_at p q (call.stream_ended p.clock.now id p) (Ended id g) h.0.1.0 (core_ended p p.clock.now id g h.1);
   queues = h.0.1.1;
 }
 step_of p q (Given b) h = step_given p q h.0 b h.1.0 h.1.1

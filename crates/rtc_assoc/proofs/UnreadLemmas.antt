@@ -1,10 +1,10 @@
 -- What is kept of a generation of a stream while messages come, are read and are dropped.
 use Rattle.std.proofs.Common.{ℕ, ◌≡◌, not, inl, inr, Bool, true, false, cond, List, [], ◌∷◌, ◌++◌, Some, None, refl, sym, ap, ◌∙◌, append_assoc, append-nil}
 use Rattle.std.proofs.lemmas.Bool.{cases_Bool}
-use Rattle.rtc_parts.specs.AssociationWords.{AssociationMessage}
-use Rattle.rtc_assoc_plain.specs.declared.message.Message.{Message}
-use Rattle.rtc_assoc_plain.specs.Inbox.{MessagePart, is_part_of, is_message_of, bytes_so_far, with_bytes, without_part, without_messages}
-use Rattle.rtc_assoc_plain.specs.Calls.{message_in, messages_behind}
+use Rattle.rtc_association.specs.AssociationWords.{AssociationMessage}
+use Rattle.rtc_assoc_end.specs.declared.message.Message.{Message}
+use Rattle.rtc_assoc_end.specs.Inbox.{MessagePart, is_part_of, is_message_of, bytes_so_far, with_bytes, without_part, without_messages}
+use Rattle.rtc_assoc_end.specs.Calls.{first_message_of, messages_behind}
 use Rattle.rtc_assoc.specs.Unread.{unread, IsPrefix}
 use Rattle.rtc_assoc.proofs.MessageLemmas.{pair_tells, pair_same, message}
 
@@ -67,12 +67,12 @@ unread-forgotten s g [] = refl
 unread-forgotten s g (m ∷ xs) = unread-none_by s g m (is_message_of s g m) (without_messages s g xs) (unread-forgotten s g xs) refl
 
 -- the first message of a generation is taken out
-pub unread-taken : (s g : ℕ) (xs : List Message) (m : Message) → message_in s g xs ≡ Some m → unread s g xs ≡ message m.identifier m.bytes ∷ unread s g (messages_behind s g xs)
+pub unread-taken : (s g : ℕ) (xs : List Message) (m : Message) → first_message_of s g xs ≡ Some m → unread s g xs ≡ message m.identifier m.bytes ∷ unread s g (messages_behind s g xs)
 unread-taken s g [] m e = absurd (let k : None ≡ Some m = e in cc)
 unread-taken s g (x ∷ xs) m e =
     elim (cases_Bool (is_message_of s g x)) [
       | inl b ↦ let same : Some x ≡ Some m = rw b at e in rw b (ap (λ (y : Message). message y.identifier y.bytes ∷ unread s g xs) (some_same x m same))
-      | inr b ↦ let rest : message_in s g xs ≡ Some m = rw b at e in rw (b, b) (unread-taken s g xs m rest)
+      | inr b ↦ let rest : first_message_of s g xs ≡ Some m = rw b at e in rw (b, b) (unread-taken s g xs m rest)
     ]
   where
     some_same : (x y : Message) → Some x ≡ Some y → x ≡ y

@@ -1,16 +1,16 @@
 -- Runs of steps as runs of moves.
 use Rattle.std.proofs.Common.{ℕ, ◌≡◌, ◌+◌, ◌<◌, ◌≤◌, not, inl, inr, Bool, true, false, List, [], ◌∷◌, ◌++◌, length, take, get_or, Some, refl, sym, ap, subst, ◌∙◌, append_assoc, append-nil, arith}
 use Rattle.std.proofs.lemmas.List.{take_more, take_all}
-use Rattle.rtc_parts.specs.declared.ppi.Ppi.{Ppi}
-use Rattle.rtc_parts.specs.Among.{Member, Among}
-use Rattle.rtc_parts.specs.Why.{Other}
-use Rattle.rtc_parts.specs.AssociationActs.{AssociationAct, Stirred, LimitsSet, Moved, moved-one}
-use Rattle.rtc_parts.specs.AssociationWords.{AssociationMessage, given, taken, written, read, told, completions}
-use Rattle.rtc_parts.proofs.AmongLemmas.{member-append, member-left, member-right}
-use Rattle.rtc_parts.proofs.AssociationLemmas.{taken-append, written-append, read-append, told-append, completions-append}
-use Rattle.rtc_assoc_plain.specs.Contents.{Contents, fresh_contents, generation_of}
-use Rattle.rtc_assoc_plain.specs.Calls.{limited}
-use Rattle.rtc_assoc_plain.specs.PlainMeaning.{plain_meaning}
+use Rattle.rtc_association.specs.declared.ppi.Ppi.{Ppi}
+use Rattle.rtc_association.specs.Among.{Member, Among}
+use Rattle.rtc_association.specs.Why.{Other}
+use Rattle.rtc_association.specs.AssociationActs.{AssociationAct, Stirred, LimitsSet, Moved, moved-one}
+use Rattle.rtc_association.specs.AssociationWords.{AssociationMessage, given, taken, written, read, told, completions}
+use Rattle.rtc_association.proofs.AmongLemmas.{member-append, member-left, member-right}
+use Rattle.rtc_association.proofs.AssociationLemmas.{taken-append, written-append, read-append, told-append, completions-append}
+use Rattle.rtc_assoc_end.specs.Contents.{Contents, fresh_contents, generation_of}
+use Rattle.rtc_assoc_end.specs.Calls.{limited}
+use Rattle.rtc_assoc_end.specs.PlainMeaning.{plain_meaning}
 use Rattle.rtc_assoc.specs.declared.sent.Sent.{Sent}
 use Rattle.rtc_assoc.specs.declared.assoc_step.AssocStep.{AssocStep}
 use Rattle.rtc_assoc.specs.declared.assoc_step.AssocStep.TheVariants.{Read}
@@ -18,7 +18,7 @@ use Rattle.rtc_assoc.specs.declared.assoc_reply.AssocReply.{AssocReply}
 use Rattle.rtc_assoc.specs.declared.assoc_reply.AssocReply.TheVariants.{Message, NoSuch}
 use Rattle.rtc_assoc.specs.Unread.{unread, IsPrefix}
 use Rattle.rtc_assoc.specs.Joined.{Ends, fresh_ends, Move, LeftMoves, RightMoves, Goes, Run}
-use Rattle.rtc_assoc.specs.Steps.{at_left, Performs, World, Steps, Ran, first_world}
+use Rattle.rtc_assoc.specs.Steps.{at_left, PerformsAssocStep, World, Steps, Ran, first_world}
 use Rattle.rtc_assoc.specs.Replies.{wrote_by, read_by, told_by, written_in, read_in, told_in}
 use Rattle.rtc_assoc.specs.Law.{OneWay, ToldOnce}
 use Rattle.rtc_assoc.proofs.ActLemmas.{sent, sents, acts_of, elsewhere}
@@ -78,7 +78,7 @@ pub record OneStep (moves : List Move) (x y : List AssociationAct) (step : Assoc
 abbrev ends : World → (x y : List AssociationAct) → Ends
 ends w x y = record { left = w.left; right = w.right; left_acts = x; right_acts = y }
 
-one_left : (moves : List Move) (x y : List AssociationAct) (step : AssocStep) (reply : AssocReply) (w u : World) → at_left step ≡ true → Performs step reply w.left u.left w.packets u.packets → u.right ≡ w.right → Run moves (ends w x y) → SentSo w.packets x y → OneStep moves x y step reply u
+one_left : (moves : List Move) (x y : List AssociationAct) (step : AssocStep) (reply : AssocReply) (w u : World) → at_left step ≡ true → PerformsAssocStep step reply w.left u.left w.packets u.packets → u.right ≡ w.right → Run moves (ends w x y) → SentSo w.packets x y → OneStep moves x y step reply u
 one_left moves x y step reply w u e h same r k =
     let a = acts_of step reply w.left u.left w.packets u.packets h in
     let o = elsewhere step reply in
@@ -110,7 +110,7 @@ one_left moves x y step reply w u e h same r k =
       told_right = λ s. sym (o.tells s) ∙ ap (λ b. told_by step reply (not b) s) e;
     }
 
-one_right : (moves : List Move) (x y : List AssociationAct) (step : AssocStep) (reply : AssocReply) (w u : World) → at_left step ≡ false → Performs step reply w.right u.right w.packets u.packets → u.left ≡ w.left → Run moves (ends w x y) → SentSo w.packets x y → OneStep moves x y step reply u
+one_right : (moves : List Move) (x y : List AssociationAct) (step : AssocStep) (reply : AssocReply) (w u : World) → at_left step ≡ false → PerformsAssocStep step reply w.right u.right w.packets u.packets → u.left ≡ w.left → Run moves (ends w x y) → SentSo w.packets x y → OneStep moves x y step reply u
 one_right moves x y step reply w u e h same r k =
     let a = acts_of step reply w.right u.right w.packets u.packets h in
     let o = elsewhere step reply in
@@ -263,7 +263,7 @@ ran_split (x ∷ earlier) later (y ∷ said) after step reply w v e r =
     let rest = ran_split earlier later said after step reply r.0 v (omega (arith, e)) r.1.1 in
     record { before = rest.before; after = rest.after; ran = (r.0, (r.1.0, rest.ran)); stepped = rest.stepped }
 
-read_generation : (at : Bool) (s g : ℕ) (message : Ppi × List ℕ) (p q : Contents) (packets after : List Sent) → Performs (Read at s) (Message g (Some message)) p q packets after → g ≡ generation_of p s
+read_generation : (at : Bool) (s g : ℕ) (message : Ppi × List ℕ) (p q : Contents) (packets after : List Sent) → PerformsAssocStep (Read at s) (Message g (Some message)) p q packets after → g ≡ generation_of p s
 read_generation at s g message p q packets after h = elim h.0 [ inl k ↦ absurd (let e : Message g (Some message) ≡ NoSuch = k.1 in cc) | inr k ↦ k.1.0 ]
 
 stepped_read : (at : Bool) (s g : ℕ) (message : Ppi × List ℕ) (w u : World) → Steps at (Read at s) (Message g (Some message)) w u → g ≡ generation_of (end_at at w) s

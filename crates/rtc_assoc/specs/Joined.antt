@@ -1,10 +1,10 @@
 -- Two ends, each of which was given packets that the other one had transmitted.
 use Rattle.std.specs.Prelude.{ℕ, ◌≡◌, List, [], ◌∷◌, ◌++◌}
-use Rattle.rtc_parts.specs.Among.{Among}
-use Rattle.rtc_parts.specs.AssociationActs.{AssociationAct, Moved}
-use Rattle.rtc_parts.specs.AssociationWords.{given, taken}
-use Rattle.rtc_assoc_plain.specs.Contents.{Contents, fresh_contents}
-use Rattle.rtc_assoc_plain.specs.PlainMeaning.{plain_meaning}
+use Rattle.rtc_association.specs.Among.{Among}
+use Rattle.rtc_association.specs.AssociationActs.{AssociationAct, Moved}
+use Rattle.rtc_association.specs.AssociationWords.{given, taken}
+use Rattle.rtc_assoc_end.specs.Contents.{Contents, fresh_contents}
+use Rattle.rtc_assoc_end.specs.PlainMeaning.{plain_meaning}
 
 -- two ends, and what was done to each since it was fresh
 pub record Ends : Type 0 where

@@ -1,7 +1,7 @@
 -- What holds of the replies to steps of two ends, and of the ends that the steps left.
 use Rattle.std.specs.Prelude.{ℕ, ◌≡◌, ◌≤◌, not, Bool, true, List, [], ◌∷◌, ◌++◌, length, Some}
-use Rattle.rtc_parts.specs.declared.ppi.Ppi.{Ppi}
-use Rattle.rtc_assoc_plain.specs.Contents.{Contents, generation_of}
+use Rattle.rtc_association.specs.declared.ppi.Ppi.{Ppi}
+use Rattle.rtc_assoc_end.specs.Contents.{Contents, generation_of}
 use Rattle.rtc_assoc.specs.declared.assoc_step.AssocStep.{AssocStep}
 use Rattle.rtc_assoc.specs.declared.assoc_step.AssocStep.TheVariants.{Read}
 use Rattle.rtc_assoc.specs.declared.assoc_reply.AssocReply.{AssocReply}

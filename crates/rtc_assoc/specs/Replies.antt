@@ -1,9 +1,9 @@
 -- What steps and their replies say was written, read and told.
 use Rattle.std.specs.Prelude.{ℕ, ◌+◌, ◌==◌, ◌&&◌, not, if◌then◌else◌, Bool, true, false, List, [], ◌∷◌, ◌++◌, Some}
-use Rattle.rtc_parts.specs.Ppi.{ppi_number}
-use Rattle.rtc_parts.specs.AssociationWords.{AssociationMessage, completions}
-use Rattle.rtc_assoc_plain.specs.Contents.{Contents}
-use Rattle.rtc_assoc_plain.specs.Streams.{stream_of, takes_messages}
+use Rattle.rtc_association.specs.Ppi.{ppi_number}
+use Rattle.rtc_association.specs.AssociationWords.{AssociationMessage, completions}
+use Rattle.rtc_assoc_end.specs.Contents.{Contents}
+use Rattle.rtc_assoc_end.specs.Streams.{stream_of, takes_messages}
 use Rattle.rtc_assoc.specs.declared.assoc_step.AssocStep.{AssocStep}
 use Rattle.rtc_assoc.specs.declared.assoc_step.AssocStep.TheVariants.{Write, Poll, Read}
 use Rattle.rtc_assoc.specs.declared.assoc_reply.AssocReply.{AssocReply}

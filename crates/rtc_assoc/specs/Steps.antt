@@ -1,11 +1,11 @@
 -- Steps of two ends, and what each answers.
 use Rattle.std.specs.Prelude.{ℕ, ◌≡◌, ◌⊎◌, ◌&&◌, not, Bool, true, false, List, [], ◌∷◌, ◌++◌, length, Option, Some, None, Ok, Err, slice_get}
-use Rattle.rtc_parts.specs.declared.assoc_error.AssocError.{AssocError}
-use Rattle.rtc_parts.specs.declared.assoc_error.AssocError.TheVariants.{StreamExists, ResetPending, NoStream, TooLong, Closing, Fault, Alloc}
-use Rattle.rtc_parts.specs.declared.ppi.Ppi.{Ppi}
-use Rattle.rtc_assoc_plain.specs.Contents.{Contents, fresh_contents, is_started, generation_of}
-use Rattle.rtc_assoc_plain.specs.Calls.{limited}
-use Rattle.rtc_assoc_plain.specs.PlainMeaning.{plain_meaning}
+use Rattle.rtc_association.specs.declared.assoc_error.AssocError.{AssocError}
+use Rattle.rtc_association.specs.declared.assoc_error.AssocError.TheVariants.{StreamExists, ResetPending, NoStream, TooLong, Closing, Fault, Alloc}
+use Rattle.rtc_association.specs.declared.ppi.Ppi.{Ppi}
+use Rattle.rtc_assoc_end.specs.Contents.{Contents, fresh_contents, is_started, generation_of}
+use Rattle.rtc_assoc_end.specs.Calls.{limited}
+use Rattle.rtc_assoc_end.specs.PlainMeaning.{plain_meaning}
 use Rattle.rtc_assoc.specs.declared.sent.Sent.{Sent}
 use Rattle.rtc_assoc.specs.declared.assoc_step.AssocStep.{AssocStep}
 use Rattle.rtc_assoc.specs.declared.assoc_step.AssocStep.TheVariants.{Connect, Accept, Open, Write, CloseStream, Time, Transmit, Deliver, Poll, Read}
@@ -65,22 +65,22 @@ ClosesStream id Done p q = plain_meaning.ended p id (Ok tt) q
 ClosesStream id (Refused e) p q = (is_refusal e ≡ true) × plain_meaning.ended p id (Err e) q
 ClosesStream id _ p q = ⊥
 
-abbrev pub Times : ℕ → AssocReply → Contents → Contents → Type 0
-Times now Done p q = plain_meaning.timed p now (Ok tt) q
-Times now _ p q = ⊥
+abbrev pub StepTimes : ℕ → AssocReply → Contents → Contents → Type 0
+StepTimes now Done p q = plain_meaning.timed p now (Ok tt) q
+StepTimes now _ p q = ⊥
 
 abbrev pub Delivers : List ℕ → ℕ → AssocReply → Contents → Contents → Type 0
 Delivers bytes now Done p q = plain_meaning.given p now bytes (Ok tt) q
 Delivers bytes now _ p q = ⊥
 
-abbrev pub Polls : AssocReply → Contents → Contents → Type 0
-Polls (Event event) p q = plain_meaning.polled p event q
-Polls _ p q = ⊥
+abbrev pub StepPolls : AssocReply → Contents → Contents → Type 0
+StepPolls (Event event) p q = plain_meaning.polled p event q
+StepPolls _ p q = ⊥
 
-abbrev pub Reads : ℕ → AssocReply → Contents → Contents → Type 0
-Reads id (Message generation message) p q = (generation ≡ generation_of p id) × plain_meaning.read p id (Ok message) q
-Reads id (Refused e) p q = (is_refusal e ≡ true) × plain_meaning.read p id (Err e) q
-Reads id _ p q = ⊥
+abbrev pub StepReads : ℕ → AssocReply → Contents → Contents → Type 0
+StepReads id (Message generation message) p q = (generation ≡ generation_of p id) × plain_meaning.read p id (Ok message) q
+StepReads id (Refused e) p q = (is_refusal e ≡ true) × plain_meaning.read p id (Err e) q
+StepReads id _ p q = ⊥
 
 -- a packet that is taken is put at the end of all, and answered by its number
 pub record Numbers (left : Bool) (number : ℕ) (p q : Contents) (packets after : List Sent) : Type 0 where
@@ -89,33 +89,33 @@ pub record Numbers (left : Bool) (number : ℕ) (p q : Contents) (packets after 
   pub number_is : number ≡ length packets
   pub after_is : after ≡ packets ++ (record { from_left = left; bytes = bytes }) ∷ []
 
-abbrev pub Transmits : Bool → AssocReply → Contents → Contents → (packets after : List Sent) → Type 0
-Transmits left (Packet None) p q packets after = plain_meaning.gave p None q × (after ≡ packets)
-Transmits left (Packet (Some number)) p q packets after = Numbers left number p q packets after
-Transmits left _ p q packets after = ⊥
+abbrev pub StepTransmits : Bool → AssocReply → Contents → Contents → (packets after : List Sent) → Type 0
+StepTransmits left (Packet None) p q packets after = plain_meaning.gave p None q × (after ≡ packets)
+StepTransmits left (Packet (Some number)) p q packets after = Numbers left number p q packets after
+StepTransmits left _ p q packets after = ⊥
 
 -- whether a packet is one for an end: one that the other end transmitted
-abbrev pub is_for : Bool → Option Sent → Bool
-is_for left None = false
-is_for true (Some sent) = not sent.from_left
-is_for false (Some sent) = sent.from_left
+abbrev pub is_packet_for : Bool → Option Sent → Bool
+is_packet_for left None = false
+is_packet_for true (Some sent) = not sent.from_left
+is_packet_for false (Some sent) = sent.from_left
 
 abbrev pub bytes_of : Option Sent → List ℕ
 bytes_of None = []
 bytes_of (Some sent) = sent.bytes
 
 -- a step at an end, with the packets of both ends before and after
-abbrev pub Performs : AssocStep → AssocReply → (p q : Contents) → (packets after : List Sent) → Type 0
-Performs (Connect left) reply p q packets after = Tried (not (is_started p)) (Connects reply p q) reply p q × (after ≡ packets)
-Performs (Accept left) reply p q packets after = Tried (not (is_started p)) (Accepts reply p q) reply p q × (after ≡ packets)
-Performs (Open left id) reply p q packets after = Tried (is_started p) (Opens id reply p q) reply p q × (after ≡ packets)
-Performs (Write left id ppi bytes) reply p q packets after = Tried (is_started p) (Writes id ppi bytes reply p q) reply p q × (after ≡ packets)
-Performs (CloseStream left id) reply p q packets after = Tried (is_started p) (ClosesStream id reply p q) reply p q × (after ≡ packets)
-Performs (Time left now) reply p q packets after = Tried (is_started p) (Times now reply p q) reply p q × (after ≡ packets)
-Performs (Transmit left) reply p q packets after = ((is_started p ≡ false) × (reply ≡ NoSuch) × (q ≡ p) × (after ≡ packets)) ⊎ ((is_started p ≡ true) × Transmits left reply p q packets after)
-Performs (Deliver left packet now) reply p q packets after = Tried (is_started p && is_for left (slice_get packets packet)) (Delivers (bytes_of (slice_get packets packet)) now reply p q) reply p q × (after ≡ packets)
-Performs (Poll left) reply p q packets after = Tried (is_started p) (Polls reply p q) reply p q × (after ≡ packets)
-Performs (Read left id) reply p q packets after = Tried (is_started p) (Reads id reply p q) reply p q × (after ≡ packets)
+abbrev pub PerformsAssocStep : AssocStep → AssocReply → (p q : Contents) → (packets after : List Sent) → Type 0
+PerformsAssocStep (Connect left) reply p q packets after = Tried (not (is_started p)) (Connects reply p q) reply p q × (after ≡ packets)
+PerformsAssocStep (Accept left) reply p q packets after = Tried (not (is_started p)) (Accepts reply p q) reply p q × (after ≡ packets)
+PerformsAssocStep (Open left id) reply p q packets after = Tried (is_started p) (Opens id reply p q) reply p q × (after ≡ packets)
+PerformsAssocStep (Write left id ppi bytes) reply p q packets after = Tried (is_started p) (Writes id ppi bytes reply p q) reply p q × (after ≡ packets)
+PerformsAssocStep (CloseStream left id) reply p q packets after = Tried (is_started p) (ClosesStream id reply p q) reply p q × (after ≡ packets)
+PerformsAssocStep (Time left now) reply p q packets after = Tried (is_started p) (StepTimes now reply p q) reply p q × (after ≡ packets)
+PerformsAssocStep (Transmit left) reply p q packets after = ((is_started p ≡ false) × (reply ≡ NoSuch) × (q ≡ p) × (after ≡ packets)) ⊎ ((is_started p ≡ true) × StepTransmits left reply p q packets after)
+PerformsAssocStep (Deliver left packet now) reply p q packets after = Tried (is_started p && is_packet_for left (slice_get packets packet)) (Delivers (bytes_of (slice_get packets packet)) now reply p q) reply p q × (after ≡ packets)
+PerformsAssocStep (Poll left) reply p q packets after = Tried (is_started p) (StepPolls reply p q) reply p q × (after ≡ packets)
+PerformsAssocStep (Read left id) reply p q packets after = Tried (is_started p) (StepReads id reply p q) reply p q × (after ≡ packets)
 
 -- two ends, and the packets that both have transmitted
 pub record World : Type 0 where
@@ -124,8 +124,8 @@ pub record World : Type 0 where
   pub packets : List Sent
 
 abbrev pub Steps : Bool → AssocStep → AssocReply → World → World → Type 0
-Steps true step reply w v = Performs step reply w.left v.left w.packets v.packets × (v.right ≡ w.right)
-Steps false step reply w v = Performs step reply w.right v.right w.packets v.packets × (v.left ≡ w.left)
+Steps true step reply w v = PerformsAssocStep step reply w.left v.left w.packets v.packets × (v.right ≡ w.right)
+Steps false step reply w v = PerformsAssocStep step reply w.right v.right w.packets v.packets × (v.left ≡ w.left)
 
 -- one step after the other, each at the ends that those before left
 abbrev pub Ran : List AssocStep → List AssocReply → World → World → Type 0
@@ -139,6 +139,6 @@ abbrev pub first_world : ℕ → World
 first_world max_payload = record { left = limited max_payload 262144 fresh_contents; right = limited max_payload 262144 fresh_contents; packets = [] }
 
 -- the steps gave these replies, and left these ends
-pub record Runs (max_payload : ℕ) (steps : List AssocStep) (replies : List AssocReply) (left right : Contents) : Type 0 where
+pub record RunsEnds (max_payload : ℕ) (steps : List AssocStep) (replies : List AssocReply) (left right : Contents) : Type 0 where
   pub packets : List Sent
   pub ran : Ran steps replies (first_world max_payload) (record { left = left; right = right; packets = packets })

@@ -1,8 +1,8 @@
 -- The messages that an end holds unread, and lists that begin others.
 use Rattle.std.specs.Prelude.{ℕ, ◌≡◌, if◌then◌else◌, List, [], ◌∷◌, ◌++◌}
-use Rattle.rtc_parts.specs.AssociationWords.{AssociationMessage}
-use Rattle.rtc_assoc_plain.specs.declared.message.Message.{Message}
-use Rattle.rtc_assoc_plain.specs.Inbox.{is_message_of}
+use Rattle.rtc_association.specs.AssociationWords.{AssociationMessage}
+use Rattle.rtc_assoc_end.specs.declared.message.Message.{Message}
+use Rattle.rtc_assoc_end.specs.Inbox.{is_message_of}
 
 -- those of a generation of a stream, in order
 abbrev pub unread : ℕ → ℕ → List Message → List AssociationMessage

@@ -2,13 +2,13 @@
 ghost use Rattle.std.specs.Prelude.{◌≡◌, ◌&&◌, ◌<◌, ◌≤◌, ◌+◌, ◌^◌, not, length, [], ◌∷◌, ◌++◌, IfOk, OnOk, OnErr, IfSome, IsNone, Some, true, false, slice_get};
 ghost use Rattle.rtc_assoc.specs.declared.assoc_step.AssocStep.TheVariants.{Transmit};
 ghost use Rattle.std.specs.Option.{option_copied};
-ghost use Rattle.rtc_assoc_plain.specs.Contents.{is_started};
-ghost use Rattle.rtc_assoc.specs.Steps.{is_refusal, Tried, Connects, Accepts, Opens, Writes, ClosesStream, Times, Delivers, Polls, Reads, Transmits, Performs, is_for, bytes_of};
+ghost use Rattle.rtc_assoc_end.specs.Contents.{is_started};
+ghost use Rattle.rtc_assoc.specs.Steps.{is_refusal, Tried, Connects, Accepts, Opens, Writes, ClosesStream, StepTimes, Delivers, StepPolls, StepReads, StepTransmits, PerformsAssocStep, is_packet_for, bytes_of};
 
 use crate::assoc_reply::AssocReply;
 use crate::sent::Sent;
-use rtc_assoc_plain::PlainAssociation;
-use rtc_parts::{AssocError, Association, Ppi};
+use rtc_assoc_end::PlainAssociation;
+use rtc_association::{AssocError, Association, Ppi};
 use rtc_wire::{Bytes, Moment};
 use std::alloc::AllocError;
 
@@ -119,7 +119,7 @@ pub fn close_stream(end: &mut PlainAssociation, id: u16) -> Result<AssocReply, A
 }
 
 pub fn time(end: &mut PlainAssociation, now: Moment) -> Result<AssocReply, AllocError>
-    ensures { IfOk result (λ reply. Tried (is_started end.old) (Times now reply end.old end.new) reply end.old end.new) }
+    ensures { IfOk result (λ reply. Tried (is_started end.old) (StepTimes now reply end.old end.new) reply end.old end.new) }
 {
     if !end.is_started() {
         return Ok(AssocReply::NoSuch);
@@ -131,7 +131,7 @@ pub fn time(end: &mut PlainAssociation, now: Moment) -> Result<AssocReply, Alloc
 }
 
 pub fn poll(end: &mut PlainAssociation) -> AssocReply
-    ensures { Tried (is_started end.old) (Polls result end.old end.new) result end.old end.new }
+    ensures { Tried (is_started end.old) (StepPolls result end.old end.new) result end.old end.new }
 {
     if !end.is_started() {
         return AssocReply::NoSuch;
@@ -141,7 +141,7 @@ pub fn poll(end: &mut PlainAssociation) -> AssocReply
 }
 
 pub fn read(end: &mut PlainAssociation, id: u16) -> Result<AssocReply, AllocError>
-    ensures { IfOk result (λ reply. Tried (is_started end.old) (Reads id reply end.old end.new) reply end.old end.new) }
+    ensures { IfOk result (λ reply. Tried (is_started end.old) (StepReads id reply end.old end.new) reply end.old end.new) }
 {
     if !end.is_started() {
         return Ok(AssocReply::NoSuch);
@@ -175,7 +175,7 @@ pub fn transmit(
     packets: &mut Vec<Sent>,
 ) -> Result<AssocReply, AllocError>
     requires { length packets.old.items < 2 ^ 32 }
-    ensures performs { IfOk result (λ reply. Performs (Transmit left) reply end.old end.new packets.old.items packets.new.items) }
+    ensures performs { IfOk result (λ reply. PerformsAssocStep (Transmit left) reply end.old end.new packets.old.items packets.new.items) }
     ensures few { length packets.new.items ≤ length packets.old.items + 1 }
 {
     if !end.is_started() {
@@ -193,8 +193,8 @@ pub fn transmit(
 
 // The packet of a number, where it is one for this end.
 fn packet_for(packets: &[Sent], left: bool, number: u32) -> Option<&Sent>
-    ensures some { IfSome result (λ sent. (slice_get packets.now number ≡ Some sent.now) × (is_for left (slice_get packets.now number) ≡ true)) }
-    ensures none { IsNone result → is_for left (slice_get packets.now number) ≡ false }
+    ensures some { IfSome result (λ sent. (slice_get packets.now number ≡ Some sent.now) × (is_packet_for left (slice_get packets.now number) ≡ true)) }
+    ensures none { IsNone result → is_packet_for left (slice_get packets.now number) ≡ false }
 {
     match packets.get(number as usize) {
         None => None,
@@ -215,7 +215,7 @@ pub fn deliver(
     now: Moment,
     packets: &[Sent],
 ) -> Result<AssocReply, AllocError>
-    ensures { IfOk result (λ reply. Tried (is_started end.old && is_for left (slice_get packets.now number)) (Delivers (bytes_of (slice_get packets.now number)) now reply end.old end.new) reply end.old end.new) }
+    ensures { IfOk result (λ reply. Tried (is_started end.old && is_packet_for left (slice_get packets.now number)) (Delivers (bytes_of (slice_get packets.now number)) now reply end.old end.new) reply end.old end.new) }
 {
     if !end.is_started() {
         return Ok(AssocReply::NoSuch);

@@ -1,8 +1,8 @@
 //! What two ends read of what they wrote.
 ghost use Rattle.std.specs.Prelude.{◌≡◌, ◌≤◌, ℕ, List, [], ◌∷◌, ◌++◌, false};
-ghost use Rattle.rtc_parts.specs.AssociationActs.{AssociationAct, Read};
-ghost use Rattle.rtc_parts.specs.AssociationWords.{written, read, ended, told, completions};
-ghost use Rattle.rtc_assoc_plain.specs.Contents.{generation_of};
+ghost use Rattle.rtc_association.specs.AssociationActs.{AssociationAct, Read};
+ghost use Rattle.rtc_association.specs.AssociationWords.{written, read, ended, told, completions};
+ghost use Rattle.rtc_assoc_end.specs.Contents.{generation_of};
 ghost use Rattle.rtc_assoc.specs.Unread.{unread, IsPrefix};
 ghost use Rattle.rtc_assoc.specs.Joined.{Move, Ends, Run};
 

@@ -1,10 +1,10 @@
 //! What joins two ends.
 ghost use Rattle.std.specs.Prelude.{ℕ, List, [], ◌++◌};
-ghost use Rattle.rtc_parts.specs.Among.{Among};
-ghost use Rattle.rtc_parts.specs.AssociationActs.{AssociationAct, Moved};
-ghost use Rattle.rtc_parts.specs.AssociationWords.{given, taken};
-ghost use Rattle.rtc_assoc_plain.specs.Contents.{Contents, fresh_contents};
-ghost use Rattle.rtc_assoc_plain.specs.PlainMeaning.{plain_meaning};
+ghost use Rattle.rtc_association.specs.Among.{Among};
+ghost use Rattle.rtc_association.specs.AssociationActs.{AssociationAct, Moved};
+ghost use Rattle.rtc_association.specs.AssociationWords.{given, taken};
+ghost use Rattle.rtc_assoc_end.specs.Contents.{Contents, fresh_contents};
+ghost use Rattle.rtc_assoc_end.specs.PlainMeaning.{plain_meaning};
 ghost use Rattle.rtc_assoc.specs.Joined.{Joined};
 
 /// Two fresh ends are joined, and stay so by every move of one of them that is given what the other one transmitted.

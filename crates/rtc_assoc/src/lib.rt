@@ -16,7 +16,7 @@ pub use assoc_step::AssocStep;
 pub use ends::what_is_read_was_written;
 pub use joined::moves_join_ends;
 pub use resets::each_reset_is_told_once;
-pub use rtc_assoc_plain::PlainAssociation;
+pub use rtc_assoc_end::PlainAssociation;
 pub use runs::run_assoc;
 
 #[cfg(test)]

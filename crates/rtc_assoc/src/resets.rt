@@ -1,9 +1,9 @@
 //! The completed resets that one end tells.
 ghost use Rattle.std.specs.Prelude.{◌≡◌, ◌≤◌, ◌+◌, ℕ, List, ◌∷◌, ◌++◌};
-ghost use Rattle.rtc_parts.specs.AssociationActs.{AssociationAct, Read, Moved};
-ghost use Rattle.rtc_parts.specs.AssociationWords.{told, completions};
-ghost use Rattle.rtc_assoc_plain.specs.Contents.{Contents, fresh_contents, generation_of, untold_resets};
-ghost use Rattle.rtc_assoc_plain.specs.PlainMeaning.{plain_meaning};
+ghost use Rattle.rtc_association.specs.AssociationActs.{AssociationAct, Read, Moved};
+ghost use Rattle.rtc_association.specs.AssociationWords.{told, completions};
+ghost use Rattle.rtc_assoc_end.specs.Contents.{Contents, fresh_contents, generation_of, untold_resets};
+ghost use Rattle.rtc_assoc_end.specs.PlainMeaning.{plain_meaning};
 
 /// An end tells each completed reset of a stream once. So the n-th one told, from 1, is that of generation n - 1: there
 /// are never more of them than the stream's generation, and no message of a generation is read after its own.

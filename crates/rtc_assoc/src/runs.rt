@@ -1,14 +1,14 @@
 //! Steps of two ends, one after the other.
 ghost use Rattle.std.specs.Prelude.{◌≡◌, ◌<◌, ◌≤◌, ◌^◌, ◌++◌, ◌∷◌, [], length, IfOk, OnOk, true, false};
-ghost use Rattle.rtc_assoc_plain.specs.Contents.{fresh_contents};
-ghost use Rattle.rtc_assoc.specs.Steps.{Runs};
+ghost use Rattle.rtc_assoc_end.specs.Contents.{fresh_contents};
+ghost use Rattle.rtc_assoc.specs.Steps.{RunsEnds};
 ghost use Rattle.rtc_assoc.specs.Law.{OneWay, ToldOnce};
 
 use crate::assoc_reply::AssocReply;
 use crate::assoc_step::AssocStep;
 use crate::world::perform;
-use rtc_assoc_plain::PlainAssociation;
-use rtc_parts::Association;
+use rtc_assoc_end::PlainAssociation;
+use rtc_association::Association;
 use rtc_wire::LOCAL_MAX_MESSAGE_SIZE;
 use std::alloc::{AllocError, Global};
 
@@ -35,7 +35,7 @@ pub fn run_assoc(
     requires few { length steps.now < 2 ^ 32 }
     requires fresh_left { left.old ≡ fresh_contents }
     requires fresh_right { right.old ≡ fresh_contents }
-    ensures runs { IfOk result (λ replies. Runs max_payload steps.now replies.items left.new right.new) }
+    ensures runs { IfOk result (λ replies. RunsEnds max_payload steps.now replies.items left.new right.new) }
     ensures from_left { IfOk result (λ replies. OneWay steps.now replies.items true left.new right.new) }
     ensures from_right { IfOk result (λ replies. OneWay steps.now replies.items false right.new left.new) }
     ensures told_left { IfOk result (λ replies. ToldOnce steps.now replies.items true left.new) }

@@ -1,6 +1,6 @@
 //! One step of two ends.
 ghost use Rattle.std.specs.Prelude.{◌≡◌, ◌<◌, ◌≤◌, ◌+◌, ◌^◌, length, IfOk};
-ghost use Rattle.rtc_assoc.specs.Steps.{at_left, Performs, World, Steps};
+ghost use Rattle.rtc_assoc.specs.Steps.{at_left, PerformsAssocStep, World, Steps};
 
 use crate::assoc_reply::AssocReply;
 use crate::assoc_step::AssocStep;
@@ -8,7 +8,7 @@ use crate::calls::{
     accept, close_stream, connect, deliver, open, poll, read, time, transmit, write,
 };
 use crate::sent::Sent;
-use rtc_assoc_plain::PlainAssociation;
+use rtc_assoc_end::PlainAssociation;
 use std::alloc::AllocError;
 
 // A step at an end.
@@ -18,7 +18,7 @@ fn act(
     packets: &mut Vec<Sent>,
 ) -> Result<AssocReply, AllocError>
     requires { length packets.old.items < 2 ^ 32 }
-    ensures performs { IfOk result (λ reply. Performs step.now reply end.old end.new packets.old.items packets.new.items) }
+    ensures performs { IfOk result (λ reply. PerformsAssocStep step.now reply end.old end.new packets.old.items packets.new.items) }
     ensures few { length packets.new.items ≤ length packets.old.items + 1 }
 {
     match step {

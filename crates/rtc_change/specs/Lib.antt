@@ -1,0 +1,12 @@
+pub mod PendingOffer
+pub mod Held
+pub mod Table
+pub mod RowChanges
+pub mod Names
+pub mod Distinct
+pub mod SaidLines
+pub mod Verdict
+pub mod Taken
+pub mod WrongLines
+pub mod Plans
+pub mod WhyText

@@ -1,19 +1,55 @@
-//! An offer and an answer with a line of data channels: each call gives its plan where there is enough memory.
-use crate::{
-    Change, Changes, Lines, Plan, Refusal, SdpPendingOffer, View, count_added, plan_answer,
-    plan_offer,
-};
-use rtc_lines::{Direction, LineKind, LineRow, MediaLine, Mid, Sdp, SdpAnswer, SdpOffer};
-use rtc_wire::Seq;
-use std::alloc::{AllocError, Global};
-use std::test::Fail;
+//! Texts and tables that the tests speak of.
+ghost use Rattle.std.specs.Prelude.{IfOk};
+ghost use Rattle.rtc_change.specs.Table.{IsTable};
 
-fn app_line(alloc: Global) -> MediaLine {
+mod copies;
+mod lines_of_texts;
+mod new_lines;
+mod printed;
+mod set_lines;
+
+use crate::{
+    AddMedia, Change, Changes, Lines, Plan, Refusal, SaidLine, SdpPendingOffer, View, Why,
+    count_added, plan_answer_text, plan_offer_text,
+};
+use rtc_sdp_values::{Direction, LineKind, LineRow, MediaKind, MediaLine, Mid, Msid, Sdp};
+use rtc_wire::{Seq, Text};
+use std::alloc::{AllocError, Global};
+
+fn said(kind: LineKind, mid: Mid, dir: Direction) -> SaidLine {
+    SaidLine {
+        kind,
+        mid,
+        dir,
+        rejected: false,
+    }
+}
+
+fn audio(mid: Mid) -> SaidLine {
+    said(LineKind::Audio, mid, Direction::SendRecv)
+}
+
+fn video(mid: Mid) -> SaidLine {
+    said(LineKind::Video, mid, Direction::SendRecv)
+}
+
+fn app(mid: Mid) -> SaidLine {
+    said(LineKind::Application, mid, Direction::SendRecv)
+}
+
+fn rejected(line: SaidLine) -> SaidLine {
+    SaidLine {
+        rejected: true,
+        ..line
+    }
+}
+
+fn media_line(alloc: Global, said: &SaidLine) -> MediaLine {
     MediaLine {
-        kind: LineKind::Application,
-        disabled: false,
-        mid: Mid::of("d"),
-        dir: Direction::SendRecv,
+        kind: said.kind,
+        disabled: said.rejected,
+        mid: said.mid,
+        dir: said.dir,
         candidates: Seq::empty(alloc),
         creds: None,
         fingerprint: None,
@@ -29,14 +65,18 @@ fn app_line(alloc: Global) -> MediaLine {
     }
 }
 
-// A text with the line d of data channels and nothing else.
-fn text(alloc: Global) -> Result<Sdp, AllocError> {
+// A text with these lines, one group having the mids of those that are not rejected.
+fn text(alloc: Global, said: &[SaidLine]) -> Result<Sdp, AllocError> {
     let mut group = Seq::empty(alloc);
-    group.push(Mid::of("d"))?;
+    let mut lines = Seq::empty(alloc);
+    for line in said {
+        if !line.rejected {
+            group.push(line.mid)?;
+        }
+        lines.push(media_line(alloc, line))?;
+    }
     let mut groups = Seq::empty(alloc);
     groups.push(group)?;
-    let mut lines = Seq::empty(alloc);
-    lines.push(app_line(alloc))?;
     Ok(Sdp {
         id: 1,
         groups,
@@ -48,47 +88,120 @@ fn text(alloc: Global) -> Result<Sdp, AllocError> {
     })
 }
 
-fn planned_offer(alloc: Global, lines: &Lines) -> Result<Plan, Refusal> {
-    let offer = SdpOffer(text(alloc)?);
-    if lines.rows().len() > 100 || offer.0.lines.len() > 100 {
+fn plan_of_offer(alloc: Global, lines: &Lines, said: &[SaidLine]) -> Result<Plan, Refusal>
+    ensures { IfOk result (λ plan. IsTable plan.rows) }
+{
+    let offer = text(alloc, said)?;
+    let rows = lines.rows().len();
+    let count = offer.lines.len();
+    if rows > 100 || count > 100 {
         return Err(Refusal::Alloc);
     }
-    plan_offer(alloc, &View { lines }, &offer)
+    plan_offer_text(alloc, &View { lines }, &offer)
 }
 
-// The plan of the answer to an offer that added the line d; a direction that is staged with it adds none.
-fn planned_answer(alloc: Global, lines: &Lines) -> Result<Plan, Refusal> {
-    let mut staged = Seq::empty(alloc);
-    staged.push(Change::Direction(Mid::of("a"), Direction::SendOnly))?;
-    staged.push(Change::AddApp(Mid::of("d")))?;
-    let token = SdpPendingOffer::new(0, Changes(staged));
-    let answer = SdpAnswer(text(alloc)?);
+fn plan_of_answer(
+    alloc: Global,
+    lines: &Lines,
+    token: &SdpPendingOffer,
+    said: &[SaidLine],
+) -> Result<Plan, Refusal>
+    ensures { IfOk result (λ plan. IsTable plan.rows) }
+{
+    let answer = text(alloc, said)?;
+    let rows = lines.rows().len();
+    let count = answer.lines.len();
     let changes = count_added(token.changes().0.as_slice());
-    if lines.rows().len() > 100 || answer.0.lines.len() > 100 || changes > 100 {
+    if rows > 100 || count > 100 || changes > 100 {
         return Err(Refusal::Alloc);
     }
-    plan_answer(alloc, &View { lines }, &token, &answer)
+    plan_answer_text(alloc, &View { lines }, token, &answer)
 }
 
-// Whether a plan leaves the row d of data channels and nothing else.
-fn does_leave_d(plan: &Plan) -> bool {
-    let row = LineRow::App {
-        place: 0,
-        mid: Mid::of("d"),
-    };
-    plan.rows.as_slice() == [row].as_slice()
+fn is_refused(plan: &Result<Plan, Refusal>, why: Why) -> bool {
+    match plan {
+        Err(Refusal::RemoteSdp(got)) => *got == why,
+        _ => false,
+    }
 }
 
-#[test]
-fn offer_has_a_plan(rt: HostRuntime) -> Result<(), Fail> {
-    let none = Lines::new(rt.alloc());
-    assert!(rt; does_leave_d(&planned_offer(rt.alloc(), &none)?));
-    Ok(())
+fn does_leave(plan: &Result<Plan, Refusal>, rows: &[LineRow]) -> bool {
+    match plan {
+        Ok(plan) => plan.rows.as_slice() == rows,
+        Err(_) => false,
+    }
 }
 
-#[test]
-fn answer_has_a_plan(rt: HostRuntime) -> Result<(), Fail> {
-    let none = Lines::new(rt.alloc());
-    assert!(rt; does_leave_d(&planned_answer(rt.alloc(), &none)?));
-    Ok(())
+fn does_refuse(alloc: Global, lines: &Lines, said: &[SaidLine], why: Why) -> bool {
+    let plan = plan_of_offer(alloc, lines, said);
+    is_refused(&plan, why)
+}
+
+fn leaves(alloc: Global, lines: &Lines, said: &[SaidLine], rows: &[LineRow]) -> bool {
+    let plan = plan_of_offer(alloc, lines, said);
+    does_leave(&plan, rows)
+}
+
+// The rows of a peer that took an offer with these lines first.
+fn offered(alloc: Global, said: &[SaidLine]) -> Result<Lines, Refusal> {
+    let mut lines = Lines::new(alloc);
+    let plan = plan_of_offer(alloc, &lines, said)?;
+    lines.commit(plan);
+    Ok(lines)
+}
+
+// The row of a live line that came in an offer.
+fn remote_row(place: u32, mid: Mid, kind: MediaKind, dir: Direction) -> LineRow {
+    LineRow::Media {
+        place,
+        mid,
+        kind,
+        dir,
+        stopped: false,
+        remote_created: true,
+    }
+}
+
+// The row of a rejected line that came in an offer.
+fn stopped_row(place: u32, mid: Mid, kind: MediaKind) -> LineRow {
+    LineRow::Media {
+        place,
+        mid,
+        kind,
+        dir: Direction::Inactive,
+        stopped: true,
+        remote_created: true,
+    }
+}
+
+// The rows of the lines that few changes add.
+fn rows_of(alloc: Global, changes: &Changes, index_start: u32) -> Result<Seq<LineRow>, AllocError> {
+    let count = count_added(changes.0.as_slice());
+    if index_start > 100 || count > 100 {
+        return Err(AllocError);
+    }
+    changes.as_new_medias(alloc, index_start)
+}
+
+fn added_media(
+    alloc: Global,
+    mid: Mid,
+    kind: MediaKind,
+    dir: Direction,
+) -> Result<Change, AllocError> {
+    let cname = Text::from_str(alloc, "c")?;
+    let stream = Text::from_str(alloc, "s")?;
+    let track = Text::from_str(alloc, "t")?;
+    Ok(Change::AddMedia(AddMedia {
+        mid,
+        cname,
+        msid: Msid {
+            stream_id: stream,
+            track_id: track,
+        },
+        kind,
+        dir,
+        ssrcs: Seq::empty(alloc),
+        simulcast: None,
+    }))
 }

@@ -1,4 +1,4 @@
 pub mod SdpReads
-pub use Rattle.rtc_reading.specs.Reading
-pub use Rattle.rtc_writing.specs.SessionRows
-pub use Rattle.rtc_writing.specs.Plain
+pub use Rattle.rtc_sdp_reader.specs.Reading
+pub use Rattle.rtc_sdp_writer.specs.SessionRows
+pub use Rattle.rtc_sdp_writer.specs.Plain

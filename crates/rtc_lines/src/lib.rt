@@ -4,7 +4,7 @@
 mod sdp_answer;
 mod sdp_offer;
 
-pub use rtc_rows::{
+pub use rtc_sdp_values::{
     Candidate, CandidateKind, CodecConfig, Direction, Extension, ExtensionMap, Fingerprint,
     IceCreds, Inconsistent, LineKind, LineRow, MediaKind, MediaLine, Mid, Msid, PayloadRow, Pt,
     Rid, Sdp, SdpError, Setup, Simulcast, SimulcastLayer, Ssrc,

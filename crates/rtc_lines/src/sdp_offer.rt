@@ -1,15 +1,15 @@
 //! Offers.
 ghost use Rattle.std.specs.Prelude.{◌≡◌, IfOk, Ok};
 ghost use Rattle.rtc_lines.specs.SdpReads.{ReadsOffer};
-ghost use Rattle.rtc_reading.specs.Reading.{reading};
-ghost use Rattle.rtc_rows.specs.Sdp.{inconsistency, refusal};
-ghost use Rattle.rtc_writing.specs.Plain.{IsPlain};
-ghost use Rattle.rtc_writing.specs.SessionRows.{written};
+ghost use Rattle.rtc_sdp_reader.specs.Reading.{reading};
+ghost use Rattle.rtc_sdp_values.specs.Sdp.{inconsistency, refusal};
+ghost use Rattle.rtc_sdp_writer.specs.Plain.{IsPlain};
+ghost use Rattle.rtc_sdp_writer.specs.SessionRows.{written_sdp};
 
-use rtc_reading::read;
-use rtc_rows::{Sdp, SdpError};
+use rtc_sdp_reader::read;
+use rtc_sdp_values::{Sdp, SdpError};
+use rtc_sdp_writer::{write, written_text_reads_back};
 use rtc_wire::{Text, TryCopy};
-use rtc_writing::{write, written_text_reads_back};
 use std::alloc::{AllocError, Global};
 
 /// A session text that is an offer (RFC 3264, section 4).
@@ -29,7 +29,7 @@ impl SdpOffer {
 
     /// The session text of the offer. Every offer has one; that of a plain one reads as it.
     pub fn to_sdp_string(&self) -> Result<Text, AllocError>
-        ensures text { IfOk result (λ text. text ≡ written self.now.0) }
+        ensures text { IfOk result (λ text. text ≡ written_sdp self.now.0) }
         ensures read_back { IsPlain self.now.0 → IfOk result (λ text. reading text ≡ Ok self.now.0) }
     {
         written_text_reads_back();

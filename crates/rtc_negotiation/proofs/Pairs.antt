@@ -1,6 +1,6 @@
 -- One more pair of sources.
 use Rattle.std.proofs.Common.{◌≡◌, suc, ℕ, List, [], ◌∷◌, ◌++◌, Bool, append_assoc}
-use Rattle.rtc_rows.specs.declared.media_kind.MediaKind.{MediaKind}
+use Rattle.rtc_sdp_values.specs.declared.media_kind.MediaKind.{MediaKind}
 use Rattle.rtc_peer_state.specs.Draws.{Draws}
 use Rattle.rtc_peer_state.specs.Sources.{Pair, pair_numbers, next_pair, next_pairs, after_pair, after_pairs}
 

@@ -1,7 +1,7 @@
 -- What a peer's sources and numbers become as a text is taken, before anything is changed.
 use Rattle.std.specs.Prelude.{◌≡◌, ◌++◌, ℕ, List, [], take, Result, Ok, Err}
 use Rattle.std.specs.declared.alloc.AllocError.{AllocError}
-use Rattle.rtc_plan.specs.declared.plan.Plan.{Plan}
+use Rattle.rtc_change.specs.declared.plan.Plan.{Plan}
 use Rattle.rtc_peer_state.specs.declared.line_sources.LineSources.{LineSources}
 use Rattle.rtc_peer_state.specs.Calls.{is_sourced}
 use Rattle.rtc_peer_state.specs.Draws.{Draws}

@@ -1,19 +1,19 @@
 //! Texts of the other side that a peer takes.
 ghost use Rattle.std.specs.Prelude.{◌≡◌, ◌+◌, ◌<◌, ◌≤◌, ◌^◌, ◌-◌, ◌%◌, length, [], List, true, false, Bool, IfOk, Some, None, max, Ok, Err, Result};
-ghost use Rattle.rtc_plan.specs.PendingOffer.{added_mids};
-ghost use Rattle.rtc_plan.specs.Plans.{PlansText, asked_by, plan_of};
-ghost use Rattle.rtc_plan.specs.Table.{IsTable};
-ghost use Rattle.rtc_plan.specs.SaidLines.{said_lines};
+ghost use Rattle.rtc_change.specs.PendingOffer.{added_mids};
+ghost use Rattle.rtc_change.specs.Plans.{PlansText, asked_by, plan_of};
+ghost use Rattle.rtc_change.specs.Table.{IsTable};
+ghost use Rattle.rtc_change.specs.SaidLines.{said_lines};
 ghost use Rattle.rtc_peer_state.specs.Calls.{AcceptsOffer, AcceptsAnswer, raised};
 ghost use Rattle.rtc_peer_state.specs.declared.line_sources.LineSources.{LineSources as Sources};
 ghost use Rattle.rtc_negotiation.specs.Grows.{Grows};
 
 use crate::judging::{draw_sources, join_sources, list_added};
 use crate::saying::say_text;
+use rtc_change::{Lines, Plan, Refusal, SdpPendingOffer, View, plan_answer_text, plan_offer_text};
 use rtc_lines::{SdpAnswer, SdpOffer};
 use rtc_peer_state::{Ids, LineSources, Peer, RtcError};
-use rtc_plan::{Lines, Plan, Refusal, SdpPendingOffer, View, plan_answer_text, plan_offer_text};
-use rtc_rows::{Sdp, Setup};
+use rtc_sdp_values::{Sdp, Setup};
 use rtc_wire::Seq;
 use std::alloc::{AllocError, Global};
 

@@ -1,13 +1,13 @@
 //! Staged changes that are applied.
 ghost use Rattle.std.specs.Prelude.{◌≡◌, ◌+◌, ◌<◌, ◌^◌, ◌-◌, length};
-ghost use Rattle.rtc_plan.specs.PendingOffer.{added_mids};
+ghost use Rattle.rtc_change.specs.PendingOffer.{added_mids};
 ghost use Rattle.rtc_peer_state.specs.Calls.{Applies};
 
 use crate::saying::{list_offered_rows, say_text};
+use rtc_change::{Changes, SdpPendingOffer};
 use rtc_lines::SdpOffer;
 use rtc_peer_state::Peer;
-use rtc_plan::{Changes, SdpPendingOffer};
-use rtc_rows::Setup;
+use rtc_sdp_values::Setup;
 use rtc_wire::Seq;
 use std::alloc::AllocError;
 use std::mem;

@@ -1,18 +1,18 @@
 //! Peers that are built.
 ghost use Rattle.std.specs.Prelude.{◌≡◌, ◌++◌, ◌<◌, ◌≤◌, ◌^◌, ◌/◌, ◌%◌, IfOk, OnOk, string_bytes, ℕ};
-ghost use Rattle.rtc_peer_state.specs.Built.{hex_digit, hex_digits, drawn_creds, fingerprint_of, number_bytes, built, cert_or, after_cert};
+ghost use Rattle.rtc_peer_state.specs.Built.{lower_hex_digit, hex_digits, drawn_creds, sha256_fingerprint, number_bytes, built, cert_or, after_cert};
 ghost use Rattle.std.specs.Option.{option_copied};
 
+use rtc_change::Lines;
 use rtc_peer_state::{Identity, Ids, Peer, RtcConfig};
-use rtc_plan::Lines;
-use rtc_rows::{Fingerprint, IceCreds};
+use rtc_sdp_values::{Fingerprint, IceCreds};
 use rtc_wire::{Bytes, Moment, Seq, Text, TryCopy};
 use std::alloc::{AllocError, Global};
 
 // A digit of base 16.
 fn digit(n: u8) -> char
     requires { n < 16 }
-    ensures { result ≡ hex_digit n }
+    ensures { result ≡ lower_hex_digit n }
 {
     if n < 10 {
         (b'0' + n) as char
@@ -81,9 +81,9 @@ fn make_cert<N: Ids>(alloc: Global, ids: &mut N, given: Option<&[u8]>) -> Result
 }
 
 // The fingerprint of a certificate.
-#[tactic(auto, unfolding(rtc_peer_state::specs::Built::fingerprint_of))]
+#[tactic(auto, unfolding(rtc_peer_state::specs::Built::sha256_fingerprint))]
 fn hash_cert(alloc: Global, cert: &[u8]) -> Result<Fingerprint, AllocError>
-    ensures { IfOk result (λ made. made ≡ fingerprint_of cert.now) }
+    ensures { IfOk result (λ made. made ≡ sha256_fingerprint cert.now) }
 {
     match Fingerprint::of_certificate(alloc, cert, "sha-256")? {
         Some(fingerprint) => Ok(fingerprint),

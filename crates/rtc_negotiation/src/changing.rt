@@ -1,12 +1,12 @@
 //! Lines that are changed at once, before anything is applied.
 ghost use Rattle.std.specs.Prelude.{◌≡◌};
-ghost use Rattle.rtc_plan.specs.RowChanges.{turned, halted, is_changed};
-ghost use Rattle.rtc_plan.specs.Table.{row_of};
+ghost use Rattle.rtc_change.specs.RowChanges.{turned, halted, is_changed};
+ghost use Rattle.rtc_change.specs.Table.{row_of};
 ghost use Rattle.rtc_peer_state.specs.Calls.{SetsDirection, StopsMedia};
 
+use rtc_change::{Change, Lines, halt, turn};
 use rtc_peer_state::Peer;
-use rtc_plan::{Change, Lines, halt, turn};
-use rtc_rows::{Direction, Mid};
+use rtc_sdp_values::{Direction, Mid};
 use std::alloc::AllocError;
 
 // Whether the line of a mid is of live media and has another direction.

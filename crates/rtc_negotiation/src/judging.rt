@@ -1,16 +1,16 @@
 //! What a text of the other side does to a peer, worked out before anything changes.
 ghost use Rattle.std.specs.Prelude.{◌≡◌, ◌+◌, ◌++◌, ◌<◌, ◌^◌, ◌-◌, ◌&&◌, ◌||◌, not, Bool, true, false, [], ◌∷◌, List, ℕ, length, take, filter, IfOk, OnOk, Some, None};
-ghost use Rattle.rtc_rows.specs.LineRow.{row_mid};
-ghost use Rattle.rtc_plan.specs.Distinct.{is_among};
-ghost use Rattle.rtc_plan.specs.declared.change.Change.{Change};
+ghost use Rattle.rtc_sdp_values.specs.LineRow.{row_mid};
+ghost use Rattle.rtc_change.specs.Distinct.{is_among};
+ghost use Rattle.rtc_change.specs.declared.change.Change.{Change};
 ghost use Rattle.rtc_peer_state.specs.declared.line_sources.LineSources.{LineSources};
 ghost use Rattle.rtc_peer_state.specs.Calls.{is_sourced};
 ghost use Rattle.rtc_peer_state.specs.Sources.{is_used, has_sources, wants_sources, row_kind, row_sources, drawn_sources, after_sources, added_sources, without, next_pair, after_pair, pair_numbers};
 
 use crate::sourcing::draw_pair;
+use rtc_change::Change;
 use rtc_peer_state::{Ids, LineSources};
-use rtc_plan::Change;
-use rtc_rows::{LineRow, MediaKind, Mid};
+use rtc_sdp_values::{LineRow, MediaKind, Mid};
 use rtc_wire::{Seq, TryCopy};
 use std::alloc::{AllocError, Global};
 

@@ -1,12 +1,12 @@
 //! Draws of names.
 ghost use Rattle.std.specs.Prelude.{◌≡◌, ◌+◌, ◌-◌, ◌%◌, ◌<◌, ◌^◌, false, IfOk, OnOk, Option, option_map, string_bytes, length, codes};
-ghost use Rattle.rtc_plan.specs.PendingOffer.{added_mids, adds_mid};
+ghost use Rattle.rtc_change.specs.PendingOffer.{added_mids, adds_mid};
 ghost use Rattle.rtc_peer_state.specs.Names.{drawn_mid, is_held, free_mid, kept_bytes, kept_name, name_of, after_name};
 
+use rtc_change::{Change, Lines, count_added, is_added};
 use rtc_fields::is_token_byte;
 use rtc_peer_state::Ids;
-use rtc_plan::{Change, Lines, count_added, is_added};
-use rtc_rows::Mid;
+use rtc_sdp_values::Mid;
 use rtc_wire::Text;
 use std::alloc::{AllocError, Global};
 

@@ -1,11 +1,11 @@
 //! Session texts that a peer makes.
 ghost use Rattle.std.specs.Prelude.{◌≡◌, ◌+◌, ◌++◌, ◌<◌, ◌^◌, IfOk, map, length};
-ghost use Rattle.rtc_plan.specs.PendingOffer.{added_mids, added_rows};
-ghost use Rattle.rtc_peer_state.specs.Texts.{is_stopped, bare_line, row_line, line_kind, live_mids, text_of};
+ghost use Rattle.rtc_change.specs.PendingOffer.{added_mids, added_rows};
+ghost use Rattle.rtc_peer_state.specs.Texts.{is_stopped, bare_line, row_line, line_kind, live_mids, sdp_of_rows};
 
+use rtc_change::Change;
 use rtc_peer_state::Identity;
-use rtc_plan::Change;
-use rtc_rows::{Direction, LineKind, LineRow, MediaKind, MediaLine, Mid, Sdp, Setup};
+use rtc_sdp_values::{Direction, LineKind, LineRow, MediaKind, MediaLine, Mid, Sdp, Setup};
 use rtc_wire::{LOCAL_MAX_MESSAGE_SIZE, Seq, TryCopy};
 use std::alloc::{AllocError, Global};
 
@@ -130,7 +130,7 @@ pub fn say_text(
     setup: Setup,
     rows: &[LineRow],
 ) -> Result<Sdp, AllocError>
-    ensures { IfOk result (λ text. text ≡ text_of session identity.now setup rows.now) }
+    ensures { IfOk result (λ text. text ≡ sdp_of_rows session identity.now setup rows.now) }
 {
     let group = list_live_mids(alloc, rows)?;
     let mut groups = Seq::empty(alloc);

@@ -1,10 +1,10 @@
 //! Draws of synchronization sources.
 ghost use Rattle.std.specs.Prelude.{◌≡◌, ◌||◌, ◌++◌, [], ℕ, Bool, IfOk, OnOk};
 ghost use Rattle.std.specs.List.{list_any};
-ghost use Rattle.rtc_peer_state.specs.Sources.{pair_numbers, is_number, is_used, source_of, next_source, next_pair, after_pair, next_pairs, after_pairs};
+ghost use Rattle.rtc_peer_state.specs.Sources.{pair_numbers, is_number, is_used, drawn_source, next_source, next_pair, after_pair, next_pairs, after_pairs};
 
 use rtc_peer_state::{Ids, LineSources};
-use rtc_rows::{MediaKind, Ssrc};
+use rtc_sdp_values::{MediaKind, Ssrc};
 use rtc_wire::Seq;
 use std::alloc::{AllocError, Global};
 
@@ -62,7 +62,7 @@ fn is_taken(sources: &[LineSources], earlier: &[u32], n: u32) -> bool
 
 // The first number counted on that is not taken; where all are, the first.
 fn find_source(sources: &[LineSources], earlier: &[u32], first: u32) -> u32
-    ensures { result ≡ source_of (is_used sources.now) earlier.now first }
+    ensures { result ≡ drawn_source (is_used sources.now) earlier.now first }
 {
     let mut n = first;
     for _ in 0..ALL_NUMBERS {

@@ -1,14 +1,14 @@
 //! Media lines that are staged.
 ghost use Rattle.std.specs.Prelude.{◌≡◌, ◌+◌, ◌<◌, ◌^◌, ◌-◌, IfOk, OnOk, length, option_map, string_bytes};
-ghost use Rattle.rtc_plan.specs.PendingOffer.{added_mids};
+ghost use Rattle.rtc_change.specs.PendingOffer.{added_mids};
 ghost use Rattle.rtc_peer_state.specs.Calls.{AddsMedia};
 ghost use Rattle.rtc_peer_state.specs.Sources.{pair_count};
 
 use crate::naming::{draw_mid, draw_name, keep_name};
 use crate::sourcing::draw_pairs;
+use rtc_change::{AddMedia, Change};
 use rtc_peer_state::{Ids, Peer};
-use rtc_plan::{AddMedia, Change};
-use rtc_rows::{Direction, MediaKind, Mid, Msid, Simulcast};
+use rtc_sdp_values::{Direction, MediaKind, Mid, Msid, Simulcast};
 use rtc_wire::TryCopy;
 use std::alloc::AllocError;
 

@@ -1,16 +1,16 @@
 //! Peers that the tests speak of.
 ghost use Rattle.std.specs.Prelude.{◌+◌, ◌<◌, IsTrue, length};
-ghost use Rattle.rtc_plan.specs.PendingOffer.{added_mids};
+ghost use Rattle.rtc_change.specs.PendingOffer.{added_mids};
 
 mod changes;
 mod rounds;
 mod stagings;
 
 use crate::{accept_answer, accept_offer, apply_staged, build_peer, stage_media};
+use rtc_change::{SdpPendingOffer, count_added};
 use rtc_lines::{SdpAnswer, SdpOffer};
 use rtc_peer_state::{CountIds, Peer, RtcConfig, RtcError};
-use rtc_plan::{SdpPendingOffer, count_added};
-use rtc_rows::{Direction, MediaKind};
+use rtc_sdp_values::{Direction, MediaKind};
 use rtc_wire::Moment;
 use std::alloc::{AllocError, Global};
 

@@ -2,7 +2,7 @@
 use Rattle.std.proofs.Common.{◌≡◌, inl, inr, ℕ, List, Option}
 use Rattle.std.specs.declared.alloc.Global.{Global}
 use Rattle.rtc_io.specs.Saying.{BreaksOff}
-use Rattle.rtc_steps.specs.declared.step.Step.{Step}
+use Rattle.rtc_history.specs.declared.step.Step.{Step}
 use Rattle.rtc_pair.specs.Answers.{run_words, ReadsScript, ReadsNoScript, refused_line}
 use Rattle.rtc_pair.specs.Due.{IsReport, IsDue}
 

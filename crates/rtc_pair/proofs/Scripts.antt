@@ -2,11 +2,11 @@
 use Rattle.std.proofs.Common.{◌≡◌, ◌≤◌, ◌^◌, ◌⊎◌, inl, inr, ℕ, true, List, length, Option, sym, subst}
 use Rattle.std.specs.declared.alloc.Global.{Global}
 use Rattle.std.specs.Io.KnownBytes.{Consumes, IsAtEnd}
-use Rattle.rtc_steps.specs.declared.step.Step.{Step}
+use Rattle.rtc_history.specs.declared.step.Step.{Step}
 use Rattle.rtc_script.specs.Script.{IsScript, IsRefused}
 use Rattle.rtc_script.specs.declared.script_error.ScriptError.{ScriptError}
 use Rattle.rtc_script.specs.declared.script_error.ScriptError.TheVariants.{Line}
-use Rattle.rtc_course.specs.PairState.{PairState}
+use Rattle.rtc_history.specs.PairState.{PairState}
 use Rattle.rtc_io.proofs.Told.{told}
 use Rattle.rtc_pair.specs.Answers.{PerformsSteps, ReadsScript, ReadsNoScript, RunsScript}
 

@@ -7,9 +7,9 @@ use Rattle.std.proofs.lemmas.Slice.Zip.{AllZip-long}
 use Rattle.rtc_fields.specs.Words.{words}
 use Rattle.rtc_script.specs.Lines.{IsOp, IsAct, IsLine, AreStepWords}
 use Rattle.rtc_script.specs.Script.{IsScript, HaveLines, pieces, header}
-use Rattle.rtc_steps.specs.Sizes.{step_size, steps_size}
-use Rattle.rtc_steps.specs.declared.step.Step.{Step}
-use Rattle.rtc_steps.specs.declared.step.Step.TheVariants.{Negotiate, AcceptOffer, AcceptAnswer}
+use Rattle.rtc_history.specs.Sizes.{step_size, steps_size}
+use Rattle.rtc_history.specs.declared.step.Step.{Step}
+use Rattle.rtc_history.specs.declared.step.Step.TheVariants.{Negotiate, AcceptOffer, AcceptAnswer}
 
 -- a line has a word for its side, one for its verb, and one for each op
 words_small : (found : List (List ℕ)) (step : Step) → AreStepWords found step → step_size step + 1 ≤ length found

@@ -5,14 +5,14 @@ use Rattle.std.specs.Fmt.{decimal}
 use Rattle.std.specs.declared.alloc.Global.{Global}
 use Rattle.std.specs.Io.KnownBytes.{Appends, IsAtEnd}
 use Rattle.rtc_io.specs.Saying.{IfTold}
-use Rattle.rtc_steps.specs.declared.step.Step.{Step}
-use Rattle.rtc_steps.specs.declared.reply.Reply.{Reply}
-use Rattle.rtc_steps.specs.Memory.{lacks_memory}
+use Rattle.rtc_history.specs.declared.step.Step.{Step}
+use Rattle.rtc_history.specs.declared.reply.Reply.{Reply}
+use Rattle.rtc_history.specs.Memory.{lacks_memory}
 use Rattle.rtc_script.specs.Script.{IsScript, IsRefused}
 use Rattle.rtc_script.specs.declared.script_error.ScriptError.TheVariants.{Line}
-use Rattle.rtc_report.specs.Report.{report}
-use Rattle.rtc_course.specs.PairState.{PairState}
-use Rattle.rtc_course.specs.Runs.{Runs}
+use Rattle.rtc_script.specs.Report.{report}
+use Rattle.rtc_history.specs.PairState.{PairState}
+use Rattle.rtc_history.specs.Runs.{Runs}
 use Rattle.rtc_pair.specs.Program.{counting, program_pair}
 
 -- the words of a run

@@ -2,11 +2,11 @@
 use Rattle.std.specs.Prelude.{◌≡◌, ◌≢◌, ◌<◌, ◌^◌, ◌⊎◌, ℕ, List, length, Option, IfSome}
 use Rattle.std.specs.declared.alloc.Global.{Global}
 use Rattle.rtc_io.specs.Faults.{Rose}
-use Rattle.rtc_steps.specs.declared.step.Step.{Step}
-use Rattle.rtc_steps.specs.declared.reply.Reply.{Reply}
-use Rattle.rtc_report.specs.Report.{report}
-use Rattle.rtc_course.specs.PairState.{PairState}
-use Rattle.rtc_course.specs.Runs.{Runs}
+use Rattle.rtc_history.specs.declared.step.Step.{Step}
+use Rattle.rtc_history.specs.declared.reply.Reply.{Reply}
+use Rattle.rtc_script.specs.Report.{report}
+use Rattle.rtc_history.specs.PairState.{PairState}
+use Rattle.rtc_history.specs.Runs.{Runs}
 use Rattle.rtc_pair.specs.Answers.{run_words, ReadsScript, ReadsNoScript, fault_line, long_line, refused_line, usage_line}
 use Rattle.rtc_pair.specs.Program.{counting, program_pair}
 

@@ -3,7 +3,7 @@ use Rattle.std.specs.Prelude.{◌+◌, ◌%◌, ◌^◌, ℕ, [], ◌∷◌, Som
 use Rattle.std.specs.declared.alloc.Global.{Global}
 use Rattle.rtc_peer_state.specs.Draws.{Draws}
 use Rattle.rtc_peer_state.specs.Built.{built}
-use Rattle.rtc_course.specs.PairState.{PairState}
+use Rattle.rtc_history.specs.PairState.{PairState}
 
 -- numbers that count up by one, and wrap
 abbrev pub counting : Draws ℕ

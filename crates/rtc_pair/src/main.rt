@@ -6,11 +6,10 @@ mod program;
 mod top;
 
 pub use program::PlainPair;
+pub use rtc_history::{Made, Op, OpAnswer, Outcome, Reply, Side, Step, Table};
 pub use rtc_io::{MemSink, MemSource, Sink, Source, StdSink, StdSource};
-pub use rtc_report::write_report;
 pub use rtc_run::{Pair, run_pair};
-pub use rtc_script::{Script, ScriptError, read_script};
-pub use rtc_steps::{Made, Op, OpAnswer, Outcome, Reply, Side, Step, Table};
+pub use rtc_script::{Script, ScriptError, read_script, write_report};
 use std::process::ExitCode;
 use std::{env, io};
 pub use top::pair_main;

@@ -2,8 +2,8 @@
 ghost use Rattle.std.specs.Prelude.{◌≡◌, ◌≤◌, IfOk, Some, length};
 ghost use Rattle.rtc_peer_state.specs.Built.{built};
 ghost use Rattle.rtc_peer_state.specs.Formed.{IsFormed};
-ghost use Rattle.rtc_course.specs.Formed.{ArePeersFormed};
-ghost use Rattle.rtc_course.specs.Fresh.{IsFresh};
+ghost use Rattle.rtc_history.specs.Formed.{ArePeersFormed};
+ghost use Rattle.rtc_history.specs.Fresh.{IsFresh};
 ghost use Rattle.rtc_pair.specs.Program.{counting, program_pair};
 
 use rtc_peer::{CountIds, Rtc, RtcConfig};

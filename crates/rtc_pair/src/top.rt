@@ -3,17 +3,16 @@ ghost use Rattle.std.specs.Prelude.{◌≡◌, ◌≢◌, ◌<◌, ◌≤◌, �
 ghost use Rattle.std.specs.Io.KnownBytes.{Appends, IsAtEnd};
 ghost use Rattle.rtc_io.specs.Faults.{Rose};
 ghost use Rattle.rtc_io.specs.Saying.{BreaksOff};
-ghost use Rattle.rtc_steps.specs.Sizes.{steps_size};
+ghost use Rattle.rtc_history.specs.Sizes.{steps_size};
 ghost use Rattle.rtc_pair.specs.Answers.{run_words, PerformsSteps, RunsScript, RefusesScript, lack_memory, fault_line, long_line, refused_line, usage_line};
 ghost use Rattle.rtc_pair.specs.Due.{IsReport, IsDue};
 
 use crate::answering::{ask_for_run, list_refusal};
 use crate::program::{PlainPair, make_pair};
+use rtc_history::{Reply, Step};
 use rtc_io::{INPUT_LIMIT, ReadError, SINK_FAILED, Sink, Source, read_all, say, write_all};
-use rtc_report::write_report;
 use rtc_run::run_pair;
-use rtc_script::{ScriptError, read_script};
-use rtc_steps::{Reply, Step};
+use rtc_script::{ScriptError, read_script, write_report};
 use std::alloc::Global;
 
 fn lack_memory(replies: &[Reply]) -> bool

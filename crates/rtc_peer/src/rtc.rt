@@ -1,17 +1,17 @@
 //! The peer that callers hold.
 ghost use Rattle.std.specs.Prelude.{◌≡◌, ◌≢◌, IsTrue, ◌↔◌, ◌+◌, ◌<◌, ◌≤◌, ◌^◌, ◌-◌, [], IfOk, length, option_map, string_bytes};
-ghost use Rattle.rtc_plan.specs.PendingOffer.{added_mids};
+ghost use Rattle.rtc_change.specs.PendingOffer.{added_mids};
 ghost use Rattle.rtc_peer_state.specs.Calls.{AcceptsOffer, AcceptsAnswer, AddsMedia, SetsDirection, StopsMedia, Applies, raised};
 ghost use Rattle.rtc_peer_state.specs.Built.{built};
 ghost use Rattle.rtc_peer_state.specs.Formed.{IsFormed};
 
 use crate::SdpApi;
+use rtc_change::{Lines, SdpPendingOffer};
 use rtc_lines::{Direction, MediaKind, Mid, SdpAnswer, SdpOffer, Simulcast};
 use rtc_negotiation::{
     accept_answer, accept_offer, apply_staged, build_peer, set_direction, stage_media, stop_media,
 };
 use rtc_peer_state::{Ids, Peer, RtcConfig, RtcError};
-use rtc_plan::{Lines, SdpPendingOffer};
 use rtc_wire::Moment;
 use std::alloc::{AllocError, Global};
 use std::marker::Model;

@@ -1,13 +1,13 @@
 //! Offers and answers of a peer.
 ghost use Rattle.std.specs.Prelude.{◌≡◌, ◌≢◌, IsTrue, ◌↔◌, ◌+◌, ◌<◌, ◌≤◌, ◌^◌, ◌-◌, [], IfOk, length, option_map, string_bytes};
-ghost use Rattle.rtc_plan.specs.PendingOffer.{added_mids};
+ghost use Rattle.rtc_change.specs.PendingOffer.{added_mids};
 ghost use Rattle.rtc_peer_state.specs.Calls.{AcceptsOffer, AcceptsAnswer, AddsMedia, SetsDirection, StopsMedia, Applies, raised};
 ghost use Rattle.rtc_peer_state.specs.Whole.{Whole};
 
 use crate::Rtc;
+use rtc_change::{Lines, SdpPendingOffer};
 use rtc_lines::{Direction, MediaKind, Mid, SdpAnswer, SdpOffer, Simulcast};
 use rtc_peer_state::{Ids, RtcError};
-use rtc_plan::{Lines, SdpPendingOffer};
 use std::alloc::AllocError;
 
 /// A handle on the negotiation of a peer.

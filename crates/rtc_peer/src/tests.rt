@@ -1,7 +1,7 @@
 //! A round of two peers: each call that takes memory gives its answer where there is enough.
 use crate::{CountIds, Rtc, RtcConfig, RtcError};
+use rtc_change::{SdpPendingOffer, count_added};
 use rtc_lines::{Direction, LineRow, MediaKind, Mid, SdpAnswer, SdpOffer};
-use rtc_plan::{SdpPendingOffer, count_added};
 use rtc_wire::Moment;
 use std::alloc::{AllocError, Global};
 use std::test::Fail;

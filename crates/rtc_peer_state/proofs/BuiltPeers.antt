@@ -8,10 +8,10 @@ use Rattle.std.proofs.lemmas.Bool.{le-leb, lt-ltb, ne_eqb}
 use Rattle.sha2.specs.Sha256.{sha256, digest_bytes, final_hash, initial_hash_256}
 use Rattle.sha2.proofs.Facts256.{length-sha256}
 use Rattle.rtc_fields.specs.Cuts.{Lacks}
-use Rattle.rtc_attributes.specs.WordValue.{is_spaceless, is_word_up_to}
-use Rattle.rtc_writing.specs.Plain.{IsPlainCreds, IsPlainHash}
+use Rattle.rtc_sdp_attributes.specs.WordValue.{is_spaceless, is_word_up_to}
+use Rattle.rtc_sdp_writer.specs.Plain.{IsPlainCreds, IsPlainHash}
 use Rattle.rtc_peer_state.specs.declared.peer.Peer.{Peer}
-use Rattle.rtc_peer_state.specs.Built.{hex_digit, hex_digits, drawn_creds, fingerprint_of, built}
+use Rattle.rtc_peer_state.specs.Built.{lower_hex_digit, hex_digits, drawn_creds, sha256_fingerprint, built}
 use Rattle.rtc_peer_state.specs.Config.{Config}
 use Rattle.rtc_peer_state.specs.Draws.{Draws}
 use Rattle.rtc_peer_state.specs.Formed.{IsFormed}
@@ -23,7 +23,7 @@ use Rattle.rtc_peer_state.proofs.Alls.{all-append}
 abbrev ArePastSpace : List ℕ → Type 0
 ArePastSpace text = AllByRecursion (λ byte. 33 ≤ byte) text
 
-hex_digit_past : (n : ℕ) → 33 ≤ hex_digit n
+hex_digit_past : (n : ℕ) → 33 ≤ lower_hex_digit n
 hex_digit_past n = by (ltb n 10)
   where
     by : (b : Bool) → 33 ≤ cond b (48 + n) (87 + n)
@@ -32,11 +32,11 @@ hex_digit_past n = by (ltb n 10)
 
 hex_digits_past : (count n : ℕ) → ArePastSpace (hex_digits count n)
 hex_digits_past zero n = tt
-hex_digits_past (suc count) n = all-append (λ byte. 33 ≤ byte) (hex_digits count (n / 16)) (hex_digit (n % 16) ∷ []) (hex_digits_past count (n / 16)) (hex_digit_past (n % 16), tt)
+hex_digits_past (suc count) n = all-append (λ byte. 33 ≤ byte) (hex_digits count (n / 16)) (lower_hex_digit (n % 16) ∷ []) (hex_digits_past count (n / 16)) (hex_digit_past (n % 16), tt)
 
 length-hex_digits : (count n : ℕ) → length (hex_digits count n) ≡ count
 length-hex_digits zero n = refl
-length-hex_digits (suc count) n = omega (arith, length-append (hex_digits count (n / 16)) (hex_digit (n % 16) ∷ []), length-hex_digits count (n / 16))
+length-hex_digits (suc count) n = omega (arith, length-append (hex_digits count (n / 16)) (lower_hex_digit (n % 16) ∷ []), length-hex_digits count (n / 16))
 
 past_spaceless : (text : List ℕ) → ArePastSpace text → is_spaceless text ≡ true
 past_spaceless [] h = refl
@@ -89,8 +89,8 @@ unfolding sha256
 sha256_small m = digest_small (final_hash initial_hash_256 m) 8
 
 -- the fingerprint of a certificate
-fingerprint_plain : (cert : List ℕ) → IsPlainHash (fingerprint_of cert)
-unfolding fingerprint_of
+fingerprint_plain : (cert : List ℕ) → IsPlainHash (sha256_fingerprint cert)
+unfolding sha256_fingerprint
 fingerprint_plain cert = record {
   form = record {
     token = refl;

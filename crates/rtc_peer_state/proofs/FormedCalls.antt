@@ -4,16 +4,16 @@ use Rattle.std.specs.declared.alloc.AllocError.{AllocError}
 use Rattle.rtc_fields.specs.Tokens.{is_short_token}
 use Rattle.rtc_lines.specs.declared.sdp_offer.SdpOffer.{SdpOffer}
 use Rattle.rtc_lines.specs.declared.sdp_answer.SdpAnswer.{SdpAnswer}
-use Rattle.rtc_writing.specs.Plain.{IsPlain}
-use Rattle.rtc_rows.specs.declared.direction.Direction.{Direction}
-use Rattle.rtc_rows.specs.declared.line_row.LineRow.{LineRow}
-use Rattle.rtc_plan.specs.declared.change.Change.{Change}
-use Rattle.rtc_plan.specs.declared.change.Change.TheVariants.{AddMedia, Direction as SetDirection}
-use Rattle.rtc_plan.specs.RowChanges.{RowChange, changed_of}
-use Rattle.rtc_plan.proofs.RowChangeLemmas.{KeepsRow, AreAlike, changed_of_alike}
-use Rattle.rtc_plan.proofs.AddedLemmas.{added_mids-append}
-use Rattle.rtc_plan.specs.PendingOffer.{PendingOffer, added_mids}
-use Rattle.rtc_plan.specs.SaidLines.{said_lines}
+use Rattle.rtc_sdp_writer.specs.Plain.{IsPlain}
+use Rattle.rtc_sdp_values.specs.declared.direction.Direction.{Direction}
+use Rattle.rtc_sdp_values.specs.declared.line_row.LineRow.{LineRow}
+use Rattle.rtc_change.specs.declared.change.Change.{Change}
+use Rattle.rtc_change.specs.declared.change.Change.TheVariants.{AddMedia, Direction as SetDirection}
+use Rattle.rtc_change.specs.RowChanges.{RowChange, changed_of}
+use Rattle.rtc_change.proofs.RowChangeLemmas.{KeepsRow, AreAlike, changed_of_alike}
+use Rattle.rtc_change.proofs.AddedLemmas.{added_mids-append}
+use Rattle.rtc_change.specs.PendingOffer.{PendingOffer, added_mids}
+use Rattle.rtc_change.specs.SaidLines.{said_lines}
 use Rattle.rtc_peer_state.specs.declared.peer.Peer.{Peer}
 use Rattle.rtc_peer_state.specs.declared.rtc_error.RtcError.{RtcError}
 use Rattle.rtc_peer_state.specs.declared.rtc_error.RtcError.TheVariants.{RemoteSdp, Sdp as TextRefused, ChangesOutOfOrder, Alloc}

@@ -12,11 +12,11 @@ use Rattle.std.proofs.lemmas.List.Folds.{list_any-append}
 use Rattle.std.proofs.lemmas.Slice.Eq.{bytes_eq-Decides}
 use Rattle.std.proofs.lemmas.Map.Keys.{IsDistinct-cons}
 use Rattle.std.proofs.lemmas.Map.Made.{length-le_from_is_member}
-use Rattle.rtc_rows.specs.LineRow.{row_mid}
-use Rattle.rtc_rows.specs.declared.line_row.LineRow.{LineRow}
-use Rattle.rtc_plan.specs.declared.change.Change.{Change}
-use Rattle.rtc_plan.specs.Distinct.{is_among}
-use Rattle.rtc_plan.specs.PendingOffer.{added_mids}
+use Rattle.rtc_sdp_values.specs.LineRow.{row_mid}
+use Rattle.rtc_sdp_values.specs.declared.line_row.LineRow.{LineRow}
+use Rattle.rtc_change.specs.declared.change.Change.{Change}
+use Rattle.rtc_change.specs.Distinct.{is_among}
+use Rattle.rtc_change.specs.PendingOffer.{added_mids}
 use Rattle.rtc_peer_state.specs.Names.{drawn_mid, free_mid, is_held}
 
 abbrev following : ℕ → ℕ

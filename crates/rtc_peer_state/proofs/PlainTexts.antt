@@ -3,29 +3,29 @@ use Rattle.std.proofs.Common.{◌≡◌, ◌+◌, ◌<◌, ◌^◌, ℕ, Bool, t
 use Rattle.std.specs.Prelude.{IfSome}
 use Rattle.std.specs.List.{AllByRecursion}
 use Rattle.rtc_fields.specs.Tokens.{is_short_token}
-use Rattle.rtc_rows.specs.LineRow.{row_mid}
-use Rattle.rtc_rows.specs.declared.direction.Direction.{Direction}
-use Rattle.rtc_rows.specs.declared.line_kind.LineKind.{LineKind}
-use Rattle.rtc_rows.specs.declared.line_kind.LineKind.TheVariants.{Audio as AudioLine, Video as VideoLine, Application}
-use Rattle.rtc_rows.specs.declared.line_row.LineRow.{LineRow}
-use Rattle.rtc_rows.specs.declared.line_row.LineRow.TheVariants.{Media, App}
-use Rattle.rtc_rows.specs.declared.media_kind.MediaKind.TheVariants.{Audio, Video}
-use Rattle.rtc_rows.specs.declared.sdp.Sdp.{Sdp}
-use Rattle.rtc_rows.specs.declared.setup.Setup.{Setup}
-use Rattle.rtc_rows.specs.declared.setup.Setup.TheVariants.{ActPass, Passive}
-use Rattle.rtc_writing.specs.Plain.{IsPlain, IsPlainLine, IsMediumLine, SuitsKind, StandFirst}
-use Rattle.rtc_writing.specs.SessionRows.{live_mids as named_mids}
-use Rattle.rtc_plan.specs.declared.change.Change.{Change}
-use Rattle.rtc_plan.specs.declared.change.Change.TheVariants.{AddMedia, AddApp, Direction as SetDirection}
-use Rattle.rtc_plan.specs.PendingOffer.{added_rows}
-use Rattle.rtc_plan.specs.SaidLines.{said_line, said_lines}
-use Rattle.rtc_plan.specs.Table.{is_app, app_of}
-use Rattle.rtc_plan.specs.Taken.{taken, rows_after, row_after, app_mid}
-use Rattle.rtc_plan.specs.declared.said_line.SaidLine.{SaidLine}
+use Rattle.rtc_sdp_values.specs.LineRow.{row_mid}
+use Rattle.rtc_sdp_values.specs.declared.direction.Direction.{Direction}
+use Rattle.rtc_sdp_values.specs.declared.line_kind.LineKind.{LineKind}
+use Rattle.rtc_sdp_values.specs.declared.line_kind.LineKind.TheVariants.{Audio as AudioLine, Video as VideoLine, Application}
+use Rattle.rtc_sdp_values.specs.declared.line_row.LineRow.{LineRow}
+use Rattle.rtc_sdp_values.specs.declared.line_row.LineRow.TheVariants.{Media, App}
+use Rattle.rtc_sdp_values.specs.declared.media_kind.MediaKind.TheVariants.{Audio, Video}
+use Rattle.rtc_sdp_values.specs.declared.sdp.Sdp.{Sdp}
+use Rattle.rtc_sdp_values.specs.declared.setup.Setup.{Setup}
+use Rattle.rtc_sdp_values.specs.declared.setup.Setup.TheVariants.{ActPass, Passive}
+use Rattle.rtc_sdp_writer.specs.Plain.{IsPlain, IsPlainLine, IsMediumLine, SuitsKind, StandFirst}
+use Rattle.rtc_sdp_writer.specs.SessionRows.{enabled_mids as named_mids}
+use Rattle.rtc_change.specs.declared.change.Change.{Change}
+use Rattle.rtc_change.specs.declared.change.Change.TheVariants.{AddMedia, AddApp, Direction as SetDirection}
+use Rattle.rtc_change.specs.PendingOffer.{added_rows}
+use Rattle.rtc_change.specs.SaidLines.{said_line, said_lines}
+use Rattle.rtc_change.specs.Table.{is_app, app_of}
+use Rattle.rtc_change.specs.Taken.{table_after, rows_after, row_after, app_mid}
+use Rattle.rtc_change.specs.declared.said_line.SaidLine.{SaidLine}
 use Rattle.rtc_peer_state.specs.declared.identity.Identity.{Identity}
 use Rattle.rtc_peer_state.specs.declared.peer.Peer.{Peer}
 use Rattle.rtc_peer_state.specs.Formed.{IsPlainIdentity, HaveTokens, AddTokens, IsFormed}
-use Rattle.rtc_peer_state.specs.Texts.{is_stopped, row_line, bare_line, live_mids, text_of, offer_text, answer_text}
+use Rattle.rtc_peer_state.specs.Texts.{is_stopped, row_line, bare_line, live_mids, sdp_of_rows, offer_text, answer_text}
 use Rattle.rtc_peer_state.proofs.Alls.{all-append, all-drop, all-map, all-find}
 
 -- ---- the line of a row
@@ -103,7 +103,7 @@ bare_rows identity setup [] = tt
 bare_rows identity setup (row ∷ rows) = (row_bare identity setup row, bare_rows identity setup rows)
 
 -- the text of rows
-pub text_plain : (session : ℕ) (identity : Identity) (setup : Setup) (rows : List LineRow) → session < 2 ^ 64 → IsPlainIdentity identity → HaveTokens rows → IsPlain (text_of session identity setup rows)
+pub text_plain : (session : ℕ) (identity : Identity) (setup : Setup) (rows : List LineRow) → session < 2 ^ 64 → IsPlainIdentity identity → HaveTokens rows → IsPlain (sdp_of_rows session identity setup rows)
 text_plain session identity setup rows small plain tokens = record {
   id = small;
   groups = ap (λ mids. mids ∷ []) (live_mids-same identity setup rows);
@@ -156,7 +156,7 @@ after_tokens rows offer place [] tokens says = tt
 after_tokens rows offer place (line ∷ said) tokens says = (after_token rows offer place line tokens says.0, after_tokens rows offer (place + 1) said tokens says.1)
 
 -- the rows that a text leaves
-pub taken_tokens : (rows : List LineRow) (said : List SaidLine) (offer : Bool) → HaveTokens rows → SayTokens said → HaveTokens (taken rows said offer)
+pub taken_tokens : (rows : List LineRow) (said : List SaidLine) (offer : Bool) → HaveTokens rows → SayTokens said → HaveTokens (table_after rows said offer)
 taken_tokens rows said offer tokens says =
     all-append (λ row. is_short_token (row_mid row) ≡ true) (rows_after rows offer 0 said) (drop (length said) rows) (after_tokens rows offer 0 said tokens says) (all-drop (λ row. is_short_token (row_mid row) ≡ true) (length said) rows tokens)
 
@@ -173,5 +173,5 @@ offer_plain p formed =
 pub answer_plain : {N : Type 0} (p : Peer N) (offer : Sdp) → IsFormed p → IsPlain offer → IsPlain (answer_text p offer)
 unfolding answer_text
 answer_plain p offer formed plain =
-    text_plain p.session_id p.identity Passive (taken p.lines (said_lines offer) true) formed.session formed.identity
+    text_plain p.session_id p.identity Passive (table_after p.lines (said_lines offer) true) formed.session formed.identity
     (taken_tokens p.lines (said_lines offer) true formed.rows (plain_says_tokens offer plain))

@@ -1,24 +1,24 @@
 -- What each call of a peer does: one relation a call, of the peer before, the arguments, the answer and the peer after.
 use Rattle.std.specs.Prelude.{◌≡◌, ◌≢◌, ◌+◌, ◌%◌, ◌^◌, ℕ, Bool, true, false, List, [], ◌∷◌, ◌++◌, length, take, ◌||◌, codes, Option, Some, None, Result, Ok, Err}
 use Rattle.std.specs.declared.alloc.AllocError.{AllocError}
-use Rattle.rtc_rows.specs.declared.direction.Direction.{Direction}
-use Rattle.rtc_rows.specs.declared.direction.Direction.TheVariants.{Inactive}
-use Rattle.rtc_rows.specs.declared.media_kind.MediaKind.{MediaKind}
-use Rattle.rtc_rows.specs.declared.line_row.LineRow.{LineRow}
-use Rattle.rtc_rows.specs.declared.sdp.Sdp.{Sdp}
-use Rattle.rtc_media_rows.specs.declared.simulcast.Simulcast.{Simulcast}
+use Rattle.rtc_sdp_values.specs.declared.direction.Direction.{Direction}
+use Rattle.rtc_sdp_values.specs.declared.direction.Direction.TheVariants.{Inactive}
+use Rattle.rtc_sdp_values.specs.declared.media_kind.MediaKind.{MediaKind}
+use Rattle.rtc_sdp_values.specs.declared.line_row.LineRow.{LineRow}
+use Rattle.rtc_sdp_values.specs.declared.sdp.Sdp.{Sdp}
+use Rattle.rtc_sdp_values.specs.declared.simulcast.Simulcast.{Simulcast}
 use Rattle.rtc_lines.specs.declared.sdp_offer.SdpOffer.{SdpOffer}
 use Rattle.rtc_lines.specs.declared.sdp_answer.SdpAnswer.{SdpAnswer}
-use Rattle.rtc_plan.specs.declared.add_media.AddMedia.{AddMedia as Media}
-use Rattle.rtc_plan.specs.declared.change.Change.TheVariants.{AddMedia, Direction as SetDirection}
-use Rattle.rtc_plan.specs.declared.refusal.Refusal.TheVariants.{RemoteSdp as RefusedSdp, Sdp as RefusedText}
-use Rattle.rtc_plan.specs.PendingOffer.{PendingOffer, added_mids}
-use Rattle.rtc_plan.specs.RowChanges.{RowChange, turned, halted, is_changed, changed_of}
-use Rattle.rtc_plan.specs.Table.{row_of}
-use Rattle.rtc_plan.specs.Held.{Held}
-use Rattle.rtc_plan.specs.SaidLines.{said_lines}
-use Rattle.rtc_plan.specs.Taken.{taken, removed_mids}
-use Rattle.rtc_plan.specs.Plans.{verdict, asked_by}
+use Rattle.rtc_change.specs.declared.add_media.AddMedia.{AddMedia as Media}
+use Rattle.rtc_change.specs.declared.change.Change.TheVariants.{AddMedia, Direction as SetDirection}
+use Rattle.rtc_change.specs.declared.refusal.Refusal.TheVariants.{RemoteSdp as RefusedSdp, Sdp as RefusedText}
+use Rattle.rtc_change.specs.PendingOffer.{PendingOffer, added_mids}
+use Rattle.rtc_change.specs.RowChanges.{RowChange, turned, halted, is_changed, changed_of}
+use Rattle.rtc_change.specs.Table.{row_of}
+use Rattle.rtc_change.specs.Held.{Held}
+use Rattle.rtc_change.specs.SaidLines.{said_lines}
+use Rattle.rtc_change.specs.Taken.{table_after, removed_mids}
+use Rattle.rtc_change.specs.Plans.{verdict, asked_by}
 use Rattle.rtc_peer_state.specs.declared.line_sources.LineSources.{LineSources}
 use Rattle.rtc_peer_state.specs.declared.peer.Peer.{Peer}
 use Rattle.rtc_peer_state.specs.declared.rtc_error.RtcError.{RtcError}
@@ -112,7 +112,7 @@ Applies p (Err error) q = q ≡ p
 
 -- the rows that the lines of a text leave
 abbrev pub rows_of_text : {N : Type 0} → Peer N → Bool → Sdp → List LineRow
-rows_of_text p offer text = take (length text.lines) (taken p.lines (said_lines text) offer)
+rows_of_text p offer text = take (length text.lines) (table_after p.lines (said_lines text) offer)
 
 -- whether a line has sources, or gets those that a token added
 abbrev pub is_sourced : List LineSources → List LineSources → List ℕ → Bool
@@ -128,13 +128,13 @@ module _ {N : Type 0} (draws : Draws N) where
   abbrev pub ids_after : Peer N → Bool → List LineSources → Sdp → N
   ids_after p offer added text = after_sources draws (is_used p.sources) (is_sourced p.sources added) (rows_of_text p offer text) p.ids
 
-  -- an offer that is taken
+  -- an offer that is table_after
   pub record OfferTaken (p : Peer N) (text : Sdp) (answer : SdpAnswer) (q : Peer N) : Type 0 where
     pub passes : verdict (held_by p) None text ≡ None
     pub answered : answer ≡ record { 0 = answer_text p text }
     pub rest : q ≡ record p {
       counter = raised p.counter;
-      lines = taken p.lines (said_lines text) true;
+      lines = table_after p.lines (said_lines text) true;
       sources = sources_after p true [] text;
       ids = ids_after p true [] text;
     }
@@ -147,12 +147,12 @@ module _ {N : Type 0} (draws : Draws N) where
   AcceptsOffer p offer (Err ChangesOutOfOrder) q = ⊥
   AcceptsOffer p offer (Err Alloc) q = q ≡ record p { counter = raised p.counter; ids = q.ids }
 
-  -- an answer that is taken
+  -- an answer that is table_after
   pub record AnswerTaken (p : Peer N) (token : PendingOffer) (text : Sdp) (q : Peer N) : Type 0 where
     pub right : p.counter ≡ raised token.id
     pub passes : verdict (held_by p) (Some (asked_by p.lines token)) text ≡ None
     pub rest : q ≡ record p {
-      lines = taken p.lines (said_lines text) false;
+      lines = table_after p.lines (said_lines text) false;
       sources = sources_after p false (added_sources token.changes) text;
       ids = ids_after p false (added_sources token.changes) text;
     }

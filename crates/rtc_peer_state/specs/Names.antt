@@ -2,10 +2,10 @@
 use Rattle.std.specs.Prelude.{◌+◌, ◌%◌, ◌^◌, ◌||◌, zero, suc, ℕ, Bool, List, [], ◌∷◌, ◌++◌, filter, take, if◌then◌else◌, Option, Some, None}
 use Rattle.std.specs.Fmt.{decimal}
 use Rattle.rtc_fields.specs.Tokens.{is_token_byte}
-use Rattle.rtc_rows.specs.declared.line_row.LineRow.{LineRow}
-use Rattle.rtc_plan.specs.declared.change.Change.{Change}
-use Rattle.rtc_plan.specs.Table.{has_mid}
-use Rattle.rtc_plan.specs.PendingOffer.{adds_mid}
+use Rattle.rtc_sdp_values.specs.declared.line_row.LineRow.{LineRow}
+use Rattle.rtc_change.specs.declared.change.Change.{Change}
+use Rattle.rtc_change.specs.Table.{has_mid}
+use Rattle.rtc_change.specs.PendingOffer.{adds_mid}
 use Rattle.rtc_peer_state.specs.Draws.{Draws}
 
 -- the mid of a number: m and its decimal

@@ -2,17 +2,17 @@
 use Rattle.std.specs.Prelude.{◌+◌, ◌%◌, ◌^◌, ◌==◌, ◌||◌, ◌&&◌, not, zero, suc, ℕ, Bool, true, false, List, [], ◌∷◌, ◌++◌, length, filter, if◌then◌else◌, Option, Some, None}
 use Rattle.std.specs.List.{list_any}
 use Rattle.std.specs.Str.{bytes_eq}
-use Rattle.rtc_rows.specs.Direction.{does_send}
-use Rattle.rtc_rows.specs.LineRow.{row_mid}
-use Rattle.rtc_rows.specs.declared.line_row.LineRow.{LineRow}
-use Rattle.rtc_rows.specs.declared.line_row.LineRow.TheVariants.{Media, App}
-use Rattle.rtc_rows.specs.declared.media_kind.MediaKind.{MediaKind}
-use Rattle.rtc_rows.specs.declared.media_kind.MediaKind.TheVariants.{Audio, Video}
-use Rattle.rtc_media_rows.specs.declared.ssrc.Ssrc.{Ssrc}
-use Rattle.rtc_media_rows.specs.declared.simulcast.Simulcast.{Simulcast}
-use Rattle.rtc_plan.specs.declared.change.Change.{Change}
-use Rattle.rtc_plan.specs.declared.change.Change.TheVariants.{AddMedia, AddApp, Direction as SetDirection}
-use Rattle.rtc_plan.specs.Distinct.{is_among}
+use Rattle.rtc_sdp_values.specs.Direction.{does_send}
+use Rattle.rtc_sdp_values.specs.LineRow.{row_mid}
+use Rattle.rtc_sdp_values.specs.declared.line_row.LineRow.{LineRow}
+use Rattle.rtc_sdp_values.specs.declared.line_row.LineRow.TheVariants.{Media, App}
+use Rattle.rtc_sdp_values.specs.declared.media_kind.MediaKind.{MediaKind}
+use Rattle.rtc_sdp_values.specs.declared.media_kind.MediaKind.TheVariants.{Audio, Video}
+use Rattle.rtc_sdp_values.specs.declared.ssrc.Ssrc.{Ssrc}
+use Rattle.rtc_sdp_values.specs.declared.simulcast.Simulcast.{Simulcast}
+use Rattle.rtc_change.specs.declared.change.Change.{Change}
+use Rattle.rtc_change.specs.declared.change.Change.TheVariants.{AddMedia, AddApp, Direction as SetDirection}
+use Rattle.rtc_change.specs.Distinct.{is_among}
 use Rattle.rtc_peer_state.specs.declared.line_sources.LineSources.{LineSources}
 use Rattle.rtc_peer_state.specs.Draws.{Draws}
 
@@ -41,12 +41,12 @@ unused used first zero n = first
 unused used first (suc tries) n = if used n then unused used first tries ((n + 1) % 2 ^ 32) else n
 
 -- the source of a draw, given those drawn earlier in the call
-abbrev pub source_of : (ℕ → Bool) → List ℕ → ℕ → ℕ
-source_of used earlier n = unused (λ m. used m || is_number m earlier) n (2 ^ 32) n
+abbrev pub drawn_source : (ℕ → Bool) → List ℕ → ℕ → ℕ
+drawn_source used earlier n = unused (λ m. used m || is_number m earlier) n (2 ^ 32) n
 
 module _ {N : Type 0} (draws : Draws N) (used : ℕ → Bool) where
   abbrev pub next_source : List ℕ → N → ℕ
-  next_source earlier ids = source_of used earlier (draws.drawn ids % 2 ^ 32)
+  next_source earlier ids = drawn_source used earlier (draws.drawn ids % 2 ^ 32)
 
   -- for video the source of the retransmissions is drawn first
   abbrev pub next_pair : MediaKind → List ℕ → N → Pair

@@ -1,21 +1,21 @@
 -- The session texts that a peer makes.
 use Rattle.std.specs.Prelude.{ℕ, Bool, true, false, not, List, [], ◌∷◌, ◌++◌, map, filter, length, Option, Some, None}
-use Rattle.rtc_rows.specs.LineRow.{row_mid}
-use Rattle.rtc_rows.specs.declared.line_row.LineRow.{LineRow}
-use Rattle.rtc_rows.specs.declared.line_row.LineRow.TheVariants.{Media, App}
-use Rattle.rtc_rows.specs.declared.line_kind.LineKind.{LineKind}
-use Rattle.rtc_rows.specs.declared.line_kind.LineKind.TheVariants.{Audio as AudioLine, Video as VideoLine, Application}
-use Rattle.rtc_rows.specs.declared.media_kind.MediaKind.{MediaKind}
-use Rattle.rtc_rows.specs.declared.media_kind.MediaKind.TheVariants.{Audio, Video}
-use Rattle.rtc_rows.specs.declared.direction.Direction.{Direction}
-use Rattle.rtc_rows.specs.declared.direction.Direction.TheVariants.{SendRecv}
-use Rattle.rtc_rows.specs.declared.setup.Setup.{Setup}
-use Rattle.rtc_rows.specs.declared.setup.Setup.TheVariants.{ActPass, Passive}
-use Rattle.rtc_rows.specs.declared.media_line.MediaLine.{MediaLine}
-use Rattle.rtc_rows.specs.declared.sdp.Sdp.{Sdp}
-use Rattle.rtc_plan.specs.PendingOffer.{added_rows}
-use Rattle.rtc_plan.specs.SaidLines.{said_lines}
-use Rattle.rtc_plan.specs.Taken.{taken}
+use Rattle.rtc_sdp_values.specs.LineRow.{row_mid}
+use Rattle.rtc_sdp_values.specs.declared.line_row.LineRow.{LineRow}
+use Rattle.rtc_sdp_values.specs.declared.line_row.LineRow.TheVariants.{Media, App}
+use Rattle.rtc_sdp_values.specs.declared.line_kind.LineKind.{LineKind}
+use Rattle.rtc_sdp_values.specs.declared.line_kind.LineKind.TheVariants.{Audio as AudioLine, Video as VideoLine, Application}
+use Rattle.rtc_sdp_values.specs.declared.media_kind.MediaKind.{MediaKind}
+use Rattle.rtc_sdp_values.specs.declared.media_kind.MediaKind.TheVariants.{Audio, Video}
+use Rattle.rtc_sdp_values.specs.declared.direction.Direction.{Direction}
+use Rattle.rtc_sdp_values.specs.declared.direction.Direction.TheVariants.{SendRecv}
+use Rattle.rtc_sdp_values.specs.declared.setup.Setup.{Setup}
+use Rattle.rtc_sdp_values.specs.declared.setup.Setup.TheVariants.{ActPass, Passive}
+use Rattle.rtc_sdp_values.specs.declared.media_line.MediaLine.{MediaLine}
+use Rattle.rtc_sdp_values.specs.declared.sdp.Sdp.{Sdp}
+use Rattle.rtc_change.specs.PendingOffer.{added_rows}
+use Rattle.rtc_change.specs.SaidLines.{said_lines}
+use Rattle.rtc_change.specs.Taken.{table_after}
 use Rattle.rtc_peer_state.specs.declared.identity.Identity.{Identity}
 use Rattle.rtc_peer_state.specs.declared.peer.Peer.{Peer}
 
@@ -58,8 +58,8 @@ abbrev pub live_mids : List LineRow → List (List ℕ)
 live_mids rows = map row_mid (filter (λ row. not (is_stopped row)) rows)
 
 -- the text that says rows
-abbrev pub text_of : ℕ → Identity → Setup → List LineRow → Sdp
-text_of session identity setup rows = record {
+abbrev pub sdp_of_rows : ℕ → Identity → Setup → List LineRow → Sdp
+sdp_of_rows session identity setup rows = record {
   id = session;
   groups = live_mids rows ∷ [];
   ice_lite = false;
@@ -75,8 +75,8 @@ offered_rows p = p.lines ++ added_rows (length p.lines) p.staged
 
 -- the offer of what is staged: either side may take either DTLS role (RFC 8842, section 5.2)
 unfoldable pub offer_text : {N : Type 0} → Peer N → Sdp
-offer_text p = text_of p.session_id p.identity ActPass (offered_rows p)
+offer_text p = sdp_of_rows p.session_id p.identity ActPass (offered_rows p)
 
--- the answer to an offer that is taken: this side waits for the DTLS handshake (RFC 8842, section 5.3)
+-- the answer to an offer that is table_after: this side waits for the DTLS handshake (RFC 8842, section 5.3)
 unfoldable pub answer_text : {N : Type 0} → Peer N → Sdp → Sdp
-answer_text p offer = text_of p.session_id p.identity Passive (taken p.lines (said_lines offer) true)
+answer_text p offer = sdp_of_rows p.session_id p.identity Passive (table_after p.lines (said_lines offer) true)

@@ -1,5 +1,5 @@
 //! How a peer is known to the other side.
-use rtc_rows::{Fingerprint, IceCreds};
+use rtc_sdp_values::{Fingerprint, IceCreds};
 use rtc_wire::TryCopy;
 use std::alloc::AllocError;
 

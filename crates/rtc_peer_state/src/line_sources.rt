@@ -1,5 +1,5 @@
 //! Synchronization sources of lines.
-use rtc_rows::{Mid, Ssrc};
+use rtc_sdp_values::{Mid, Ssrc};
 use rtc_wire::{Seq, TryCopy};
 use std::alloc::AllocError;
 

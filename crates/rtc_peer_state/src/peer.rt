@@ -1,6 +1,6 @@
 //! The state of a peer.
 use crate::{Identity, LineSources};
-use rtc_plan::{Change, Lines};
+use rtc_change::{Change, Lines};
 use rtc_wire::{Bytes, Moment, Seq};
 use std::alloc::Global;
 

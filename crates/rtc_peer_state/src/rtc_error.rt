@@ -2,8 +2,8 @@
 ghost use Rattle.std.specs.Prelude.{◌≡◌};
 ghost use Rattle.rtc_peer_state.specs.declared.rtc_error.RtcError.TheVariants.{Alloc};
 
-use rtc_plan::Why;
-use rtc_rows::SdpError;
+use rtc_change::Why;
+use rtc_sdp_values::SdpError;
 use std::alloc::{AllocError, AllocFailed};
 
 /// Why a call of a peer is refused.

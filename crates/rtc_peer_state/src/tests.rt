@@ -1,6 +1,6 @@
 //! Each call that takes memory gives its answer where there is enough.
 use crate::{CountIds, Identity, Ids, LineSources, RtcConfig};
-use rtc_rows::{Fingerprint, IceCreds, Mid, Ssrc};
+use rtc_sdp_values::{Fingerprint, IceCreds, Mid, Ssrc};
 use rtc_wire::{Bytes, Seq, Text, TryCopy};
 use std::alloc::{AllocError, Global};
 use std::test::Fail;

@@ -13,8 +13,8 @@ abbrev pub neither : Signals
 neither = record { events = false; timeout = false }
 
 -- each signal stands where either has it
-abbrev pub joined : Signals → Signals → Signals
-joined kept raised = record { events = kept.events || raised.events; timeout = kept.timeout || raised.timeout }
+abbrev pub joined_signals : Signals → Signals → Signals
+joined_signals kept raised = record { events = kept.events || raised.events; timeout = kept.timeout || raised.timeout }
 
 -- each signal of the old stands in the new
 pub record Keeps (old new : Signals) : Type 0 where

@@ -1,6 +1,6 @@
 //! Signals that are kept.
 ghost use Rattle.std.specs.Prelude.{◌≡◌, true, false};
-ghost use Rattle.rtc_ready.specs.Signals.{both, neither, joined, Keeps};
+ghost use Rattle.rtc_ready.specs.Signals.{both, neither, joined_signals, Keeps};
 
 use crate::{Mutation, Wake};
 use std::marker::Model;
@@ -83,7 +83,7 @@ impl Readiness {
 
     /// Spends a wake: each of its marks raises the signal.
     pub fn fold(&mut self, w: Wake)
-        ensures exact { self.new ≡ joined self.old w }
+        ensures exact { self.new ≡ joined_signals self.old w }
         ensures keeps { Keeps self.old self.new }
         ensures raises { Keeps w self.new }
         ensures unmarked { w ≡ neither → self.new ≡ self.old }

@@ -1,14 +1,14 @@
 -- What a call of a lent peer did, said of the peer.
 use Rattle.std.proofs.Common.{◌≡◌, ◌≤◌, ◌+◌, List, length, Result, sym, subst}
-use Rattle.rtc_rows.specs.declared.line_row.LineRow.{LineRow}
+use Rattle.rtc_sdp_values.specs.declared.line_row.LineRow.{LineRow}
 use Rattle.rtc_lines.specs.declared.sdp_offer.SdpOffer.{SdpOffer}
 use Rattle.rtc_lines.specs.declared.sdp_answer.SdpAnswer.{SdpAnswer}
-use Rattle.rtc_plan.specs.PendingOffer.{PendingOffer}
+use Rattle.rtc_change.specs.PendingOffer.{PendingOffer}
 use Rattle.rtc_peer_state.specs.declared.peer.Peer.{Peer}
 use Rattle.rtc_peer_state.specs.declared.rtc_error.RtcError.{RtcError}
 use Rattle.rtc_peer_state.specs.Draws.{Draws}
 use Rattle.rtc_peer_state.specs.Calls.{AcceptsOffer, AcceptsAnswer}
-use Rattle.rtc_course.specs.Performs.{lent}
+use Rattle.rtc_history.specs.Performs.{lent}
 use Rattle.rtc_run.proofs.RowsLeft.{offer_rows, answer_rows}
 
 pub accepted_offer : {N : Type 0} (draws : Draws N) (old p r q : Peer N) (offer : SdpOffer) (result : Result SdpAnswer RtcError) → p ≡ lent old → AcceptsOffer draws p offer result r → q ≡ r → AcceptsOffer draws (lent old) offer result q

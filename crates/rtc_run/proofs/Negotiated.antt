@@ -1,21 +1,21 @@
 -- What a reply to a step of ops tells.
 use Rattle.std.proofs.Common.{◌≡◌, ℕ, List, [], ◌∷◌, ◌++◌, length, Bool, true, false, not, ◌&&◌, Option, Some, refl}
-use Rattle.rtc_rows.specs.declared.line_row.LineRow.{LineRow}
+use Rattle.rtc_sdp_values.specs.declared.line_row.LineRow.{LineRow}
 use Rattle.rtc_lines.specs.declared.sdp_offer.SdpOffer.{SdpOffer}
-use Rattle.rtc_plan.specs.PendingOffer.{PendingOffer}
+use Rattle.rtc_change.specs.PendingOffer.{PendingOffer}
 use Rattle.rtc_peer_state.specs.declared.peer.Peer.{Peer}
 use Rattle.rtc_peer_state.specs.Draws.{Draws}
-use Rattle.rtc_steps.specs.declared.side.Side.{Side}
-use Rattle.rtc_steps.specs.declared.op.Op.{Op}
-use Rattle.rtc_steps.specs.declared.op_answer.OpAnswer.{OpAnswer}
-use Rattle.rtc_steps.specs.declared.made.Made.{Made}
-use Rattle.rtc_steps.specs.declared.made.Made.TheVariants.{NotAsked as MadeNotAsked, Nothing as MadeNothing, Offer as MadeOffer, Alloc as MadeAlloc}
-use Rattle.rtc_steps.specs.declared.outcome.Outcome.{Outcome}
-use Rattle.rtc_steps.specs.declared.outcome.Outcome.TheVariants.{Negotiated}
-use Rattle.rtc_steps.specs.declared.table.Table.{Table}
-use Rattle.rtc_steps.specs.Memory.{answers_lack}
-use Rattle.rtc_course.specs.declared.kept.Kept.{Kept}
-use Rattle.rtc_course.specs.Performs.{Negotiates, MakesOf, kept_offer}
+use Rattle.rtc_history.specs.declared.side.Side.{Side}
+use Rattle.rtc_history.specs.declared.op.Op.{Op}
+use Rattle.rtc_history.specs.declared.op_answer.OpAnswer.{OpAnswer}
+use Rattle.rtc_history.specs.declared.made.Made.{Made}
+use Rattle.rtc_history.specs.declared.made.Made.TheVariants.{NotAsked as MadeNotAsked, Nothing as MadeNothing, Offer as MadeOffer, Alloc as MadeAlloc}
+use Rattle.rtc_history.specs.declared.outcome.Outcome.{Outcome}
+use Rattle.rtc_history.specs.declared.outcome.Outcome.TheVariants.{Negotiated}
+use Rattle.rtc_history.specs.declared.table.Table.{Table}
+use Rattle.rtc_history.specs.Memory.{answers_lack}
+use Rattle.rtc_history.specs.declared.kept.Kept.{Kept}
+use Rattle.rtc_history.specs.Performs.{Negotiates, MakesOf, kept_offer}
 use Rattle.rtc_run.specs.declared.applied.Applied.{Applied}
 use Rattle.rtc_run.specs.declared.applied.Applied.TheVariants.{NotAsked, Nothing, Offer, Alloc}
 use Rattle.rtc_run.specs.Stages.{Stages, Becomes}

@@ -3,21 +3,21 @@ use Rattle.std.proofs.Common.{◌≡◌, ◌≢◌, ◌+◌, ◌≤◌, ◌<◌,
 use Rattle.std.specs.Prelude.{slice_get}
 use Rattle.std.proofs.lemmas.List.{drop_more}
 use Rattle.std.proofs.Math.ListN.{drop_of_length-le}
-use Rattle.rtc_rows.specs.declared.direction.Direction.{Direction}
-use Rattle.rtc_rows.specs.declared.line_row.LineRow.{LineRow}
-use Rattle.rtc_rows.specs.declared.media_kind.MediaKind.{MediaKind}
-use Rattle.rtc_plan.specs.PendingOffer.{added_mids}
-use Rattle.rtc_plan.specs.RowChanges.{media_mid}
+use Rattle.rtc_sdp_values.specs.declared.direction.Direction.{Direction}
+use Rattle.rtc_sdp_values.specs.declared.line_row.LineRow.{LineRow}
+use Rattle.rtc_sdp_values.specs.declared.media_kind.MediaKind.{MediaKind}
+use Rattle.rtc_change.specs.PendingOffer.{added_mids}
+use Rattle.rtc_change.specs.RowChanges.{media_mid}
 use Rattle.rtc_peer_state.specs.declared.peer.Peer.{Peer}
 use Rattle.rtc_peer_state.specs.Draws.{Draws}
 use Rattle.rtc_peer_state.specs.Calls.{AddsMedia, SetsDirection, StopsMedia}
-use Rattle.rtc_steps.specs.declared.op.Op.{Op}
-use Rattle.rtc_steps.specs.declared.op.Op.TheVariants.{AddMedia, SetDirection, StopMedia}
-use Rattle.rtc_steps.specs.declared.op_answer.OpAnswer.{OpAnswer}
-use Rattle.rtc_steps.specs.declared.op_answer.OpAnswer.TheVariants.{Mid, Changed, NoLine, Alloc}
-use Rattle.rtc_steps.specs.Memory.{answer_lacks}
-use Rattle.rtc_course.specs.Performs.{PerformsOps, wanted}
-use Rattle.rtc_course.proofs.Staging.{Stages, ops_stage}
+use Rattle.rtc_history.specs.declared.op.Op.{Op}
+use Rattle.rtc_history.specs.declared.op.Op.TheVariants.{AddMedia, SetDirection, StopMedia}
+use Rattle.rtc_history.specs.declared.op_answer.OpAnswer.{OpAnswer}
+use Rattle.rtc_history.specs.declared.op_answer.OpAnswer.TheVariants.{Mid, Changed, NoLine, Alloc}
+use Rattle.rtc_history.specs.Memory.{answer_lacks}
+use Rattle.rtc_history.specs.Performs.{PerformsOps, wanted}
+use Rattle.rtc_history_laws.proofs.Staging.{Stages, ops_stage}
 
 -- after an op that did not lack memory, the ops that are left go on
 pub op_done : {N : Type 0} (draws : Draws N) (p r q : Peer N) (op : Op) (answer : OpAnswer) (ops : List Op) (more : List OpAnswer) → answer ≢ Alloc → PerformsOps draws p (op ∷ []) (answer ∷ []) r → PerformsOps draws r ops more q → PerformsOps draws p (op ∷ ops) (answer ∷ more) q

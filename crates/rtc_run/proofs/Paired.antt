@@ -1,14 +1,14 @@
 -- What a step of a pair may rely on.
 use Rattle.std.proofs.Common.{◌≡◌, ◌≤◌, ◌<◌, ◌+◌, ◌-◌, ◌^◌, ℕ, List, length, Bool, Some, sym, ap, subst, arith}
-use Rattle.rtc_plan.specs.PendingOffer.{PendingOffer, added_mids}
+use Rattle.rtc_change.specs.PendingOffer.{PendingOffer, added_mids}
 use Rattle.rtc_peer_state.specs.Calls.{raised}
-use Rattle.rtc_steps.specs.declared.side.Side.{Side}
-use Rattle.rtc_steps.specs.declared.op.Op.{Op}
-use Rattle.rtc_steps.specs.declared.step.Step.{Step}
-use Rattle.rtc_steps.specs.declared.step.Step.TheVariants.{Negotiate, AcceptOffer, AcceptAnswer}
-use Rattle.rtc_steps.specs.Sizes.{step_size}
-use Rattle.rtc_course.specs.PairState.{PairState, peer_at, held_token}
-use Rattle.rtc_course.specs.Bounds.{IsWithin}
+use Rattle.rtc_history.specs.declared.side.Side.{Side}
+use Rattle.rtc_history.specs.declared.op.Op.{Op}
+use Rattle.rtc_history.specs.declared.step.Step.{Step}
+use Rattle.rtc_history.specs.declared.step.Step.TheVariants.{Negotiate, AcceptOffer, AcceptAnswer}
+use Rattle.rtc_history.specs.Sizes.{step_size}
+use Rattle.rtc_history.specs.PairState.{PairState, peer_at, held_token}
+use Rattle.rtc_history.specs.Bounds.{IsWithin}
 
 small_before : (size : ℕ) (step : Step) → size + step_size step < 2 ^ 32 → size < 2 ^ 32 - 1
 small_before size (Negotiate at ops apply) small = omega (arith, small)

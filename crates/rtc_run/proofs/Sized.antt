@@ -3,16 +3,16 @@ use Rattle.std.proofs.Common.{◌≡◌, ◌+◌, ◌≤◌, ◌<◌, ◌^◌, �
 use Rattle.std.proofs.lemmas.List.{take_more}
 use Rattle.std.proofs.Math.Seq.{take-length}
 use Rattle.rtc_peer_state.specs.Draws.{Draws}
-use Rattle.rtc_steps.specs.declared.step.Step.{Step}
-use Rattle.rtc_steps.specs.declared.reply.Reply.{Reply}
-use Rattle.rtc_steps.specs.Sizes.{step_size, steps_size}
-use Rattle.rtc_course.specs.PairState.{PairState}
-use Rattle.rtc_course.specs.Performs.{Performs}
-use Rattle.rtc_course.specs.Runs.{Runs}
-use Rattle.rtc_course.specs.Fresh.{IsFresh}
-use Rattle.rtc_course.specs.Bounds.{IsWithin}
-use Rattle.rtc_course.specs.Formed.{ArePeersFormed}
-use Rattle.rtc_course.proofs.MoreSteps.{runs_none, runs_more, runs_size, runs_within}
+use Rattle.rtc_history.specs.declared.step.Step.{Step}
+use Rattle.rtc_history.specs.declared.reply.Reply.{Reply}
+use Rattle.rtc_history.specs.Sizes.{step_size, steps_size}
+use Rattle.rtc_history.specs.PairState.{PairState}
+use Rattle.rtc_history.specs.Performs.{Performs}
+use Rattle.rtc_history.specs.Runs.{Runs}
+use Rattle.rtc_history.specs.Fresh.{IsFresh}
+use Rattle.rtc_history.specs.Bounds.{IsWithin}
+use Rattle.rtc_history.specs.Formed.{ArePeersFormed}
+use Rattle.rtc_history_laws.proofs.MoreSteps.{runs_none, runs_more, runs_size, runs_within}
 
 sized : (steps : List Step) (i : ℕ) (d : Step) → i < length steps → steps_size (take i steps) + step_size (get_or steps i d) ≤ steps_size steps
 sized [] i d h = absurd (omega arith)

@@ -2,14 +2,14 @@
 use Rattle.std.proofs.Common.{◌≡◌, List, Bool, true, false, not, ◌&&◌, Option, Some, None, Ok, Err, Result, sym, ◌∙◌, subst, ap}
 use Rattle.std.specs.declared.alloc.AllocError.{AllocError}
 use Rattle.rtc_lines.specs.declared.sdp_offer.SdpOffer.{SdpOffer}
-use Rattle.rtc_plan.specs.PendingOffer.{PendingOffer}
+use Rattle.rtc_change.specs.PendingOffer.{PendingOffer}
 use Rattle.rtc_peer_state.specs.declared.peer.Peer.{Peer}
 use Rattle.rtc_peer_state.specs.Draws.{Draws}
 use Rattle.rtc_peer_state.specs.Calls.{Applies}
-use Rattle.rtc_steps.specs.declared.op.Op.{Op}
-use Rattle.rtc_steps.specs.declared.op_answer.OpAnswer.{OpAnswer}
-use Rattle.rtc_steps.specs.Memory.{answers_lack}
-use Rattle.rtc_course.specs.Performs.{PerformsOps, lent}
+use Rattle.rtc_history.specs.declared.op.Op.{Op}
+use Rattle.rtc_history.specs.declared.op_answer.OpAnswer.{OpAnswer}
+use Rattle.rtc_history.specs.Memory.{answers_lack}
+use Rattle.rtc_history.specs.Performs.{PerformsOps, lent}
 use Rattle.rtc_run.specs.declared.applied.Applied.{Applied}
 use Rattle.rtc_run.specs.declared.applied.Applied.TheVariants.{NotAsked, Nothing, Offer, Alloc}
 use Rattle.rtc_run.specs.Stages.{Stages, Becomes}

@@ -1,6 +1,6 @@
 //! What becomes of staged changes.
+use rtc_change::SdpPendingOffer;
 use rtc_lines::SdpOffer;
-use rtc_plan::SdpPendingOffer;
 
 /// What became of what a step staged.
 #[derive(Drop)]

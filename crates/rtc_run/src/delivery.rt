@@ -1,13 +1,13 @@
 //! Deliveries of session texts: each is written, and what was written is read.
 ghost use Rattle.std.specs.Prelude.{◌≡◌, IfOk};
 ghost use Rattle.rtc_lines.specs.SdpReads.{ReadsAnswer, ReadsOffer};
-ghost use Rattle.rtc_reading.specs.Reading.{reading};
-ghost use Rattle.rtc_writing.specs.Plain.{IsPlain};
-ghost use Rattle.rtc_writing.specs.SessionRows.{written};
-ghost use Rattle.rtc_steps.specs.Delivered.{ReadsBack};
+ghost use Rattle.rtc_sdp_reader.specs.Reading.{reading};
+ghost use Rattle.rtc_sdp_writer.specs.Plain.{IsPlain};
+ghost use Rattle.rtc_sdp_writer.specs.SessionRows.{written_sdp};
+ghost use Rattle.rtc_history.specs.Delivered.{ReadsBack};
 
 use rtc_lines::{SdpAnswer, SdpOffer};
-use rtc_rows::{Sdp, SdpError};
+use rtc_sdp_values::{Sdp, SdpError};
 use rtc_wire::TryCopy;
 use std::alloc::{AllocError, Global};
 
@@ -15,7 +15,7 @@ use std::alloc::{AllocError, Global};
 ///
 /// It may differ from what went in: a text does not say what our profile has no line for.
 pub fn deliver_offer(alloc: Global, offer: &SdpOffer) -> Result<SdpOffer, SdpError>
-    ensures reading { ReadsOffer result (reading (written offer.now.0)) }
+    ensures reading { ReadsOffer result (reading (written_sdp offer.now.0)) }
     ensures plain { IsPlain offer.now.0 → IfOk result (λ delivered. delivered.0 ≡ offer.now.0) }
 {
     let text = offer.to_sdp_string()?;
@@ -24,7 +24,7 @@ pub fn deliver_offer(alloc: Global, offer: &SdpOffer) -> Result<SdpOffer, SdpErr
 
 /// The answer that comes out of signalling where this one went in (RFC 8829, section 5.8, in our profile).
 pub fn deliver_answer(alloc: Global, answer: &SdpAnswer) -> Result<SdpAnswer, SdpError>
-    ensures reading { ReadsAnswer result (reading (written answer.now.0)) }
+    ensures reading { ReadsAnswer result (reading (written_sdp answer.now.0)) }
     ensures plain { IsPlain answer.now.0 → IfOk result (λ delivered. delivered.0 ≡ answer.now.0) }
 {
     let text = answer.to_sdp_string()?;

@@ -1,21 +1,20 @@
 //! Texts that are handed to a peer.
 ghost use Rattle.std.specs.Prelude.{◌≡◌, ◌+◌, ◌<◌, ◌≤◌, ◌^◌, ◌-◌, ◌++◌, [], ◌∷◌, length, All, Some, None, IsTrue, IsSome, IfSome, IfNone, OnSome, is_some, ◌↔◌, slice_get, true, false, ℕ};
 ghost use Rattle.std.specs.Option.{option_copied};
-ghost use Rattle.rtc_plan.specs.PendingOffer.{PendingOffer, added_mids};
+ghost use Rattle.rtc_change.specs.PendingOffer.{PendingOffer, added_mids};
 ghost use Rattle.rtc_peer_state.specs.Calls.{AcceptsAnswer, AcceptsOffer, raised};
-ghost use Rattle.rtc_steps.specs.Sides.{same_side};
-ghost use Rattle.rtc_course.specs.Formed.{AreCarried};
-ghost use Rattle.rtc_course.specs.PairState.{handed_text, held_token, spent};
-ghost use Rattle.rtc_course.specs.Performs.{HandsAnswer, HandsOffer, lent};
+ghost use Rattle.rtc_history.specs.Sides.{same_side};
+ghost use Rattle.rtc_history.specs.Formed.{AreCarried};
+ghost use Rattle.rtc_history.specs.PairState.{handed_text, held_token, spent};
+ghost use Rattle.rtc_history.specs.Performs.{HandsAnswer, HandsOffer, lent};
 
 use crate::delivery::{carry_answer, carry_offer};
 use crate::replying::{room_for, tell, tell_no_memory, tell_no_such};
-use rtc_course::Kept;
+use rtc_change::SdpPendingOffer;
+use rtc_history::{Kept, Outcome, Reply, Side};
 use rtc_lines::{SdpAnswer, SdpOffer};
 use rtc_peer::{Ids, Rtc, RtcError};
-use rtc_plan::SdpPendingOffer;
-use rtc_rows::Sdp;
-use rtc_steps::{Outcome, Reply, Side};
+use rtc_sdp_values::Sdp;
 use std::alloc::Global;
 
 fn is_same_side(a: Side, b: Side) -> bool

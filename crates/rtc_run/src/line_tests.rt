@@ -3,9 +3,9 @@ ghost use Rattle.std.specs.Prelude.{◌≡◌, IfOk, length};
 
 use crate::run_pair;
 use crate::tests::{does_show, fresh_pair};
+use rtc_history::{Made, Op, OpAnswer, Outcome, Reply, Side, Step};
 use rtc_peer::RtcError;
-use rtc_rows::{Direction, Inconsistent, LineRow, MediaKind, Mid, SdpError};
-use rtc_steps::{Made, Op, OpAnswer, Outcome, Reply, Side, Step};
+use rtc_sdp_values::{Direction, Inconsistent, LineRow, MediaKind, Mid, SdpError};
 use rtc_wire::Seq;
 use std::alloc::{AllocError, Global};
 use std::test::Fail;

@@ -1,19 +1,18 @@
 //! Ops of a step at one peer.
 ghost use Rattle.std.specs.Prelude.{◌≡◌, ◌+◌, ◌<◌, ◌≤◌, ◌^◌, ◌-◌, ◌++◌, [], ◌∷◌, length, slice_get, vec_capacity, vec_len, Some, IfOk, not, ◌&&◌, true, false};
-ghost use Rattle.rtc_plan.specs.PendingOffer.{added_mids};
-ghost use Rattle.rtc_plan.specs.RowChanges.{media_mid};
-ghost use Rattle.rtc_steps.specs.Memory.{answer_lacks, answers_lack};
-ghost use Rattle.rtc_steps.specs.declared.op.Op.TheVariants.{AddMedia, SetDirection, StopMedia};
-ghost use Rattle.rtc_steps.specs.declared.outcome.Outcome.TheVariants.{Negotiated};
-ghost use Rattle.rtc_course.specs.Performs.{Negotiates, PerformsOps};
+ghost use Rattle.rtc_change.specs.PendingOffer.{added_mids};
+ghost use Rattle.rtc_change.specs.RowChanges.{media_mid};
+ghost use Rattle.rtc_history.specs.Memory.{answer_lacks, answers_lack};
+ghost use Rattle.rtc_history.specs.declared.op.Op.TheVariants.{AddMedia, SetDirection, StopMedia};
+ghost use Rattle.rtc_history.specs.declared.outcome.Outcome.TheVariants.{Negotiated};
+ghost use Rattle.rtc_history.specs.Performs.{Negotiates, PerformsOps};
 ghost use Rattle.rtc_run.specs.Stages.{Stages};
 
 use crate::applied::Applied;
 use crate::replying::{room_for, tell, tell_no_memory};
-use rtc_course::Kept;
+use rtc_history::{Kept, Made, Op, OpAnswer, Outcome, Reply, Side, do_answers_lack};
 use rtc_peer::{Ids, Rtc, SdpApi};
-use rtc_rows::{Direction, LineRow, MediaKind, Mid};
-use rtc_steps::{Made, Op, OpAnswer, Outcome, Reply, Side, do_answers_lack};
+use rtc_sdp_values::{Direction, LineRow, MediaKind, Mid};
 use rtc_wire::Seq;
 use std::alloc::Global;
 

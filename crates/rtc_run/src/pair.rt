@@ -3,9 +3,8 @@ ghost use Rattle.std.specs.Prelude.{◌≡◌, ◌+◌, ◌<◌, ◌≤◌, ◌^
 
 use crate::handing::{hand_answer, hand_offer};
 use crate::negotiating::negotiate;
-use rtc_course::Kept;
+use rtc_history::{Kept, Reply, Side, Step};
 use rtc_peer::{Ids, Rtc};
-use rtc_steps::{Reply, Side, Step};
 use rtc_wire::Addr;
 use std::alloc::Global;
 use std::marker::Model;
@@ -23,7 +22,7 @@ pub struct Pair<N: Ids> {
 }
 
 impl<N: Ids> Model for Pair<N> {
-    ghost use Rattle.rtc_course.specs.PairState.{PairState};
+    ghost use Rattle.rtc_history.specs.PairState.{PairState};
 
     ghost Value = { PairState N };
 
@@ -31,11 +30,11 @@ impl<N: Ids> Model for Pair<N> {
 }
 
 impl<N: Ids> Pair<N> {
-    ghost use Rattle.rtc_course.specs.PairState.{PairState};
-    ghost use Rattle.rtc_course.specs.Performs.{Performs};
-    ghost use Rattle.rtc_course.specs.Bounds.{IsWithin};
-    ghost use Rattle.rtc_course.specs.Formed.{AreCarried};
-    ghost use Rattle.rtc_steps.specs.Sizes.{step_size};
+    ghost use Rattle.rtc_history.specs.PairState.{PairState};
+    ghost use Rattle.rtc_history.specs.Performs.{Performs};
+    ghost use Rattle.rtc_history.specs.Bounds.{IsWithin};
+    ghost use Rattle.rtc_history.specs.Formed.{AreCarried};
+    ghost use Rattle.rtc_history.specs.Sizes.{step_size};
 
     /// Two peers that made no text yet.
     pub fn new(

@@ -1,10 +1,10 @@
 //! Replies that show the acting peer's rows.
 ghost use Rattle.std.specs.Prelude.{◌≡◌, ◌≤◌, [], IfOk, length, Some, None, vec_capacity};
 ghost use Rattle.rtc_run.specs.NoSuch.{IsNoSuch};
-ghost use Rattle.rtc_steps.specs.declared.outcome.Outcome.TheVariants.{Alloc};
+ghost use Rattle.rtc_history.specs.declared.outcome.Outcome.TheVariants.{Alloc};
 
-use rtc_rows::LineRow;
-use rtc_steps::{Outcome, Reply, Table};
+use rtc_history::{Outcome, Reply, Table};
+use rtc_sdp_values::LineRow;
 use rtc_wire::Seq;
 use std::alloc::{AllocError, Global};
 

@@ -1,13 +1,13 @@
 //! Runs of pairs.
 ghost use Rattle.std.specs.Prelude.{◌≡◌, ◌+◌, ◌<◌, ◌≤◌, ◌^◌, ◌-◌, [], length, IfOk, OnErr, vec_capacity};
-ghost use Rattle.rtc_steps.specs.Sizes.{steps_size};
-ghost use Rattle.rtc_course.specs.Formed.{ArePeersFormed};
-ghost use Rattle.rtc_course.specs.Fresh.{IsFresh};
-ghost use Rattle.rtc_course.specs.Runs.{Runs};
+ghost use Rattle.rtc_history.specs.Sizes.{steps_size};
+ghost use Rattle.rtc_history.specs.Formed.{ArePeersFormed};
+ghost use Rattle.rtc_history.specs.Fresh.{IsFresh};
+ghost use Rattle.rtc_history.specs.Runs.{Runs};
 
 use crate::Pair;
+use rtc_history::{Reply, Step};
 use rtc_peer::Ids;
-use rtc_steps::{Reply, Step};
 use rtc_wire::Seq;
 use std::alloc::{AllocError, Global};
 

@@ -1,12 +1,12 @@
 //! A run of a round, with its replies.
 ghost use Rattle.std.specs.Prelude.{◌≡◌, IfOk, length};
-ghost use Rattle.rtc_course.specs.Formed.{ArePeersFormed};
-ghost use Rattle.rtc_course.specs.Fresh.{IsFresh};
+ghost use Rattle.rtc_history.specs.Formed.{ArePeersFormed};
+ghost use Rattle.rtc_history.specs.Fresh.{IsFresh};
 
 use crate::{Pair, run_pair};
+use rtc_history::{Made, Op, OpAnswer, Outcome, Reply, Side, Step};
 use rtc_peer::{CountIds, Rtc, RtcConfig};
-use rtc_rows::{Direction, LineRow, MediaKind, Mid};
-use rtc_steps::{Made, Op, OpAnswer, Outcome, Reply, Side, Step};
+use rtc_sdp_values::{Direction, LineRow, MediaKind, Mid};
 use rtc_wire::{Addr, Moment, Seq};
 use std::alloc::{AllocError, Global};
 use std::test::Fail;

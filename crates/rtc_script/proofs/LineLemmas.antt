@@ -3,20 +3,20 @@ use Rattle.std.proofs.Common.{◌≡◌, ◌<◌, ◌^◌, ◌∙◌, ℕ, Bool,
 use Rattle.std.specs.Fmt.{decimal}
 use Rattle.std.proofs.lemmas.Fmt.{decimal_injective}
 use Rattle.rtc_fields.specs.Words.{words}
-use Rattle.rtc_rows.specs.declared.direction.Direction.{Direction}
-use Rattle.rtc_rows.specs.declared.direction.Direction.TheVariants.{SendRecv, SendOnly, RecvOnly, Inactive}
-use Rattle.rtc_rows.specs.declared.media_kind.MediaKind.{MediaKind}
-use Rattle.rtc_rows.specs.declared.media_kind.MediaKind.TheVariants.{Audio, Video}
+use Rattle.rtc_sdp_values.specs.declared.direction.Direction.{Direction}
+use Rattle.rtc_sdp_values.specs.declared.direction.Direction.TheVariants.{SendRecv, SendOnly, RecvOnly, Inactive}
+use Rattle.rtc_sdp_values.specs.declared.media_kind.MediaKind.{MediaKind}
+use Rattle.rtc_sdp_values.specs.declared.media_kind.MediaKind.TheVariants.{Audio, Video}
 use Rattle.rtc_script.specs.Lines.{IsOp, IsAct, AreStepWords, IsLine, ops_verb}
 use Rattle.rtc_script.proofs.ZipLemmas.{one_zip}
-use Rattle.rtc_steps.specs.Sides.{side_of}
-use Rattle.rtc_steps.specs.declared.op.Op.{Op}
-use Rattle.rtc_steps.specs.declared.op.Op.TheVariants.{AddMedia, SetDirection, StopMedia}
-use Rattle.rtc_steps.specs.declared.side.Side.{Side}
-use Rattle.rtc_steps.specs.declared.side.Side.TheVariants.{Left, Right}
-use Rattle.rtc_steps.specs.declared.step.Step.{Step}
-use Rattle.rtc_steps.specs.declared.step.Step.TheVariants.{Negotiate, AcceptOffer, AcceptAnswer}
-use Rattle.rtc_words.specs.Words.{side_text, kind_text, direction_text}
+use Rattle.rtc_history.specs.Sides.{side_of}
+use Rattle.rtc_history.specs.declared.op.Op.{Op}
+use Rattle.rtc_history.specs.declared.op.Op.TheVariants.{AddMedia, SetDirection, StopMedia}
+use Rattle.rtc_history.specs.declared.side.Side.{Side}
+use Rattle.rtc_history.specs.declared.side.Side.TheVariants.{Left, Right}
+use Rattle.rtc_history.specs.declared.step.Step.{Step}
+use Rattle.rtc_history.specs.declared.step.Step.TheVariants.{Negotiate, AcceptOffer, AcceptAnswer}
+use Rattle.rtc_script.specs.Words.{side_text, kind_text, direction_text}
 
 side_from : List ℕ → Side
 side_from text = cond (eqb (get_or text 0 0) 76) Left Right

@@ -7,7 +7,7 @@ use Rattle.rtc_script.specs.Steps.{StopsAt}
 use Rattle.rtc_script.specs.declared.script_error.ScriptError.TheVariants.{Line}
 use Rattle.rtc_script.specs.Lines.{IsLine}
 use Rattle.rtc_script.proofs.ZipLemmas.{texts, front_zip}
-use Rattle.rtc_steps.specs.declared.step.Step.{Step}
+use Rattle.rtc_history.specs.declared.step.Step.{Step}
 
 -- a shorter front of a front is a front
 front_of_front : (k j : ℕ) (xs : List (List ℕ)) → k ≤ j → take k (take j xs) ≡ take k xs

@@ -5,7 +5,7 @@ use Rattle.rtc_script.specs.Lines.{IsLine}
 use Rattle.rtc_script.specs.Script.{HaveLines}
 use Rattle.rtc_script.specs.Steps.{StopsAt}
 use Rattle.rtc_script.proofs.ZipLemmas.{texts, no_zip_at}
-use Rattle.rtc_steps.specs.declared.step.Step.{Step}
+use Rattle.rtc_history.specs.declared.step.Step.{Step}
 
 -- lines stop being lines of steps at the first that no step has
 pub stops_at_no_step : (lines : List (Bor (List ℕ))) (i : ℕ) (d : Bor (List ℕ)) (steps : List Step) → i < length lines → HaveLines (take i (texts lines)) steps → ((step : Step) → IsLine (get_or lines i d).now step → ⊥) → StopsAt (texts lines) i

@@ -4,7 +4,7 @@ use Rattle.std.specs.List.{AllZip, slice_split}
 use Rattle.rtc_script.specs.Lines.{IsLine}
 use Rattle.rtc_script.specs.declared.script_error.ScriptError.{ScriptError}
 use Rattle.rtc_script.specs.declared.script_error.ScriptError.TheVariants.{Line, Alloc}
-use Rattle.rtc_steps.specs.declared.step.Step.{Step}
+use Rattle.rtc_history.specs.declared.step.Step.{Step}
 
 -- a text as it is cut at its line feeds: its lines, and what stands behind the last line feed
 abbrev pub pieces : List ℕ → List (List ℕ)

@@ -3,7 +3,7 @@ use Rattle.std.specs.Prelude.{◌+◌, ◌<◌, ℕ, List, length, take}
 use Rattle.rtc_script.specs.Script.{HaveLines}
 use Rattle.rtc_script.specs.declared.steps.Stop.{Stop}
 use Rattle.rtc_script.specs.declared.steps.Stop.TheVariants.{At, Alloc}
-use Rattle.rtc_steps.specs.declared.step.Step.{Step}
+use Rattle.rtc_history.specs.declared.step.Step.{Step}
 
 -- the lines before a place are lines of steps, and with the one there they are not
 abbrev pub StopsAt : List (List ℕ) → ℕ → Type 0

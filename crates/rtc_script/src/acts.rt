@@ -1,13 +1,13 @@
 //! What a line says behind its side.
 ghost use Rattle.std.specs.Prelude.{◌≡◌, List, IfOk, IfSome, IfNone, map};
 ghost use Rattle.rtc_script.specs.Lines.{IsAct, AreOps, ops_verb};
-ghost use Rattle.rtc_steps.specs.Sides.{side_of};
-ghost use Rattle.rtc_steps.specs.declared.op.Op.{Op};
-ghost use Rattle.rtc_steps.specs.declared.step.Step.{Step};
+ghost use Rattle.rtc_history.specs.Sides.{side_of};
+ghost use Rattle.rtc_history.specs.declared.op.Op.{Op};
+ghost use Rattle.rtc_history.specs.declared.step.Step.{Step};
 
 use crate::numbers::{read_one, read_two};
 use crate::ops::read_ops;
-use rtc_steps::{Side, Step};
+use rtc_history::{Side, Step};
 use std::alloc::{AllocError, Global};
 
 // The step of a side whose ops words say.

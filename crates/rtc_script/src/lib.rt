@@ -1,18 +1,30 @@
-//! Reads scripts: a header, and then a line for each step of a pair.
+//! Scripts and reports of two peers: a script has a line for each step, its report a line for each reply.
 #![tactic(auto)]
 
 mod acts;
 mod cutting;
+mod directions;
+mod errors;
+mod kinds;
 mod lines;
 mod numbers;
 mod ops;
+mod outcomes;
+mod pushing;
 mod reading;
+mod reports;
+mod rows;
 mod script;
 mod script_error;
+mod sides;
 mod steps;
-#[cfg(test)]
-mod tests;
 
 pub use reading::read_script;
+pub use reports::write_report;
 pub use script::Script;
 pub use script_error::ScriptError;
+
+#[cfg(test)]
+mod report_tests;
+#[cfg(test)]
+mod tests;

@@ -1,12 +1,12 @@
 //! Lines of steps.
 ghost use Rattle.std.specs.Prelude.{◌≡◌, ◌≢◌, IfOk, IfSome, IfNone, map};
 ghost use Rattle.rtc_script.specs.Lines.{IsLine, AreStepWords};
-ghost use Rattle.rtc_steps.specs.declared.step.Step.{Step};
+ghost use Rattle.rtc_history.specs.declared.step.Step.{Step};
 
 use crate::acts::read_act;
 use crate::cutting::cut_words;
-use rtc_steps::Step;
-use rtc_words::read_side;
+use crate::sides::read_side;
+use rtc_history::Step;
 use std::alloc::{AllocError, Global};
 
 fn read_words(alloc: Global, words: &[&[u8]]) -> Result<Option<Step>, AllocError>

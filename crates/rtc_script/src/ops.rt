@@ -1,13 +1,14 @@
 //! Ops of a line.
 ghost use Rattle.std.specs.Prelude.{◌≡◌, ◌<◌, ◌^◌, [], ◌∷◌, List, IfOk, IfSome, IfNone, map};
 ghost use Rattle.rtc_script.specs.Lines.{AreOpParts, IsOp, AreOps};
-ghost use Rattle.rtc_steps.specs.declared.op.Op.{Op};
+ghost use Rattle.rtc_history.specs.declared.op.Op.{Op};
 
 use crate::cutting::cut_parts;
+use crate::directions::read_direction;
+use crate::kinds::read_kind;
 use crate::numbers::read_u32;
-use rtc_steps::Op;
+use rtc_history::Op;
 use rtc_wire::Seq;
-use rtc_words::{read_direction, read_kind};
 use std::alloc::{AllocError, Global};
 
 // The op of two parts: a line that is added, or one that is stopped.

@@ -1,5 +1,5 @@
 //! What a script says.
-use rtc_steps::Step;
+use rtc_history::Step;
 use rtc_wire::Seq;
 
 /// What a script says.

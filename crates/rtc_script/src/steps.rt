@@ -5,7 +5,7 @@ ghost use Rattle.rtc_script.specs.Steps.{IsStop};
 ghost use Rattle.rtc_script.specs.declared.steps.Stop.TheVariants.{Alloc};
 
 use crate::lines::read_line;
-use rtc_steps::Step;
+use rtc_history::Step;
 use std::alloc::{AllocError, AllocFailed, Global};
 
 /// Why the lines behind a header are not those of steps.

@@ -1,7 +1,7 @@
 //! Scripts and refused lines by hand.
 use crate::{ScriptError, read_script};
-use rtc_rows::{Direction, MediaKind};
-use rtc_steps::{Op, Side, Step};
+use rtc_history::{Op, Side, Step};
+use rtc_sdp_values::{Direction, MediaKind};
 use rtc_wire::Seq;
 use std::alloc::{AllocError, Global};
 use std::test::Fail;

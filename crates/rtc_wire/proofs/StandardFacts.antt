@@ -8,7 +8,7 @@ use Rattle.rtc_wire.specs.declared.io_kind.IoKind.TheVariants.{InvalidData}
 use Rattle.rtc_wire.specs.declared.io_text.IoText.TheVariants.{EmptyDatagram, UnknownDatagram}
 use Rattle.rtc_wire.specs.declared.dcep_error.DcepError.TheVariants.{DcepOpenTooSmall, DcepIncorrectMessageType, DcepBadUtf8}
 use Rattle.rtc_wire.specs.declared.dcep_open.DcepOpen.{DcepOpen}
-use Rattle.rtc_wire.specs.MultiplexKind.{kind_of}
+use Rattle.rtc_wire.specs.MultiplexKind.{datagram_kind}
 use Rattle.rtc_wire.specs.ChannelConfig.{fresh, open_of}
 use Rattle.rtc_wire.specs.DcepOpen.{header_bytes, open_bytes, message_in, refusal_of}
 
@@ -18,27 +18,27 @@ binding_request =
     0x00 ∷ 0x01 ∷ 0x00 ∷ 0x58 ∷ 0x21 ∷ 0x12 ∷ 0xa4 ∷ 0x42 ∷ 0xb7 ∷ 0xe7
     ∷ 0xa7 ∷ 0x01 ∷ 0xbc ∷ 0x34 ∷ 0xd6 ∷ 0x86 ∷ 0xfa ∷ 0x87 ∷ 0xdf ∷ 0xae ∷ []
 
-pub request_is_stun : kind_of binding_request ≡ Ok Stun
+pub request_is_stun : datagram_kind binding_request ≡ Ok Stun
 request_is_stun = refl
 
 -- nothing
-pub nothing_is_empty : kind_of [] ≡ Err (Io InvalidData EmptyDatagram)
+pub nothing_is_empty : datagram_kind [] ≡ Err (Io InvalidData EmptyDatagram)
 nothing_is_empty = refl
 
 -- a handshake record of DTLS has the content type 22 (RFC 6347, section 4.1)
-pub handshake_is_dtls : kind_of (22 ∷ []) ≡ Ok Dtls
+pub handshake_is_dtls : datagram_kind (22 ∷ []) ≡ Ok Dtls
 handshake_is_dtls = refl
 
 -- version 2 and payload type 96 (RFC 3550, section 5.1)
-pub dynamic_payload_is_rtp : kind_of (0x80 ∷ 96 ∷ 0 ∷ []) ≡ Ok Rtp
+pub dynamic_payload_is_rtp : datagram_kind (0x80 ∷ 96 ∷ 0 ∷ []) ≡ Ok Rtp
 dynamic_payload_is_rtp = refl
 
 -- a sender report has the packet type 200 (RFC 3550, section 6.4.1)
-pub sender_report_is_rtcp : kind_of (0x80 ∷ 200 ∷ 0 ∷ []) ≡ Ok Rtcp
+pub sender_report_is_rtcp : datagram_kind (0x80 ∷ 200 ∷ 0 ∷ []) ≡ Ok Rtcp
 sender_report_is_rtcp = refl
 
 -- two bytes are too few for either
-pub two_bytes_are_unknown : kind_of (0x80 ∷ 96 ∷ []) ≡ Err (Io InvalidData UnknownDatagram)
+pub two_bytes_are_unknown : datagram_kind (0x80 ∷ 96 ∷ []) ≡ Err (Io InvalidData UnknownDatagram)
 two_bytes_are_unknown = refl
 
 -- the open message of a fresh config with the label `a` (RFC 8832, section 5.1)

@@ -7,7 +7,7 @@ use Rattle.rtc_wire.specs.declared.datagram_recv.DatagramRecv.TheVariants as dat
 use Rattle.rtc_wire.specs.declared.net_error.NetError.{NetError}
 use Rattle.rtc_wire.specs.declared.net_error.NetError.TheVariants.{Stun}
 use Rattle.rtc_wire.specs.declared.stun_error.StunError.TheVariants.{NotStun}
-use Rattle.rtc_wire.specs.MultiplexKind.{kind_of}
+use Rattle.rtc_wire.specs.MultiplexKind.{datagram_kind}
 
 -- the kind that a datagram's variant says
 abbrev pub kind_said : DatagramRecv → MultiplexKind
@@ -37,4 +37,4 @@ passed_with stun (Err why) = Err why
 
 -- the kind of a datagram, or why it is not taken, where a reader has this test for STUN
 abbrev pub kind_by : (List ℕ → Bool) → List ℕ → Result MultiplexKind NetError
-kind_by stun bytes = passed_with (stun bytes) (kind_of bytes)
+kind_by stun bytes = passed_with (stun bytes) (datagram_kind bytes)

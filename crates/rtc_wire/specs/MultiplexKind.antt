@@ -26,9 +26,9 @@ abbrev pub is_control : ℕ → Bool
 is_control second = is_in_range 64 95 (bit_and second 0x7f)
 
 -- the kind of a datagram, or why it has none
-abbrev pub kind_of : List ℕ → Result MultiplexKind NetError
-kind_of [] = Err (Io InvalidData EmptyDatagram)
-kind_of (first ∷ rest) = let bytes = first ∷ rest in
+abbrev pub datagram_kind : List ℕ → Result MultiplexKind NetError
+datagram_kind [] = Err (Io InvalidData EmptyDatagram)
+datagram_kind (first ∷ rest) = let bytes = first ∷ rest in
     if is_stun bytes then Ok Stun
     else if is_dtls bytes then Ok Dtls
     else if is_media bytes then (if is_control (slice_index bytes 1) then Ok Rtcp else Ok Rtp)

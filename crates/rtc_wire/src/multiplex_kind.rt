@@ -1,6 +1,6 @@
 //! Kinds of datagrams.
 ghost use Rattle.std.specs.Prelude.{◌≡◌};
-ghost use Rattle.rtc_wire.specs.MultiplexKind.{kind_of, is_control as IsControl};
+ghost use Rattle.rtc_wire.specs.MultiplexKind.{datagram_kind, is_control as IsControl};
 
 use crate::{IoKind, IoText, NetError};
 
@@ -23,7 +23,7 @@ fn is_control(second: u8) -> bool
 impl MultiplexKind {
     /// The kind that the first bytes of a datagram say.
     pub fn read(bytes: &[u8]) -> Result<MultiplexKind, NetError>
-        ensures { result ≡ kind_of bytes.now }
+        ensures { result ≡ datagram_kind bytes.now }
     {
         match bytes {
             [] => Err(NetError::Io(IoKind::InvalidData, IoText::EmptyDatagram)),

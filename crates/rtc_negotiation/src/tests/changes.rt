@@ -1,9 +1,9 @@
 //! Lines that are given another direction, or stopped, after a round.
 use super::{apply, made, offer_line, take_answer, take_offer};
 use crate::{set_direction, stop_media};
+use rtc_change::Change;
 use rtc_peer_state::{CountIds, Peer, RtcError};
-use rtc_plan::Change;
-use rtc_rows::{Direction, LineRow, MediaKind, Mid, Sdp};
+use rtc_sdp_values::{Direction, LineRow, MediaKind, Mid, Sdp};
 use std::alloc::Global;
 use std::test::Fail;
 

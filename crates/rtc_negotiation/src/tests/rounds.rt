@@ -1,7 +1,7 @@
 //! Offers that are made and taken, and answers.
 use super::{made, offer_line, take_answer, take_offer};
 use rtc_peer_state::{CountIds, Peer};
-use rtc_rows::{Direction, LineRow, MediaKind, Mid, Sdp, Setup};
+use rtc_sdp_values::{Direction, LineRow, MediaKind, Mid, Sdp, Setup};
 use std::test::Fail;
 
 // Whether a text says the line m3 of audio and nothing else.

@@ -1,9 +1,9 @@
 //! Peers that are built, and lines that are staged.
 use super::{is_small, made, stage};
 use crate::{build_peer, stage_media};
+use rtc_change::Change;
 use rtc_peer_state::{CountIds, Peer, RtcConfig};
-use rtc_plan::Change;
-use rtc_rows::{Direction, MediaKind, Ssrc};
+use rtc_sdp_values::{Direction, MediaKind, Ssrc};
 use rtc_wire::Moment;
 use std::alloc::{AllocError, Global};
 use std::test::Fail;

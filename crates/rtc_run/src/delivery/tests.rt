@@ -1,7 +1,7 @@
 //! Session texts by hand, delivered.
 use super::{deliver_answer, deliver_offer};
 use rtc_lines::{SdpAnswer, SdpOffer};
-use rtc_rows::{Sdp, Setup};
+use rtc_sdp_values::{Sdp, Setup};
 use std::alloc::Global;
 use std::test::Fail;
 

@@ -1,5 +1,5 @@
 use Rattle.std.proofs.Common.{◌≡◌, drop}
-use Rattle.rtc_plan.specs.Distinct.{is_among}
+use Rattle.rtc_change.specs.Distinct.{is_among}
 use Rattle.rtc_negotiation.proofs.judging.is_removed.Given as goal
 
 abbrev pub invariant-loop-other : goal.invariant-loop-other

@@ -1,6 +1,6 @@
 use Rattle.std.proofs.Common.{◌≡◌, ◌-◌, ◌+◌, suc, zero, ℕ, length, true, false, arith, sym, ap, ◌∙◌, List, subst}
 use Rattle.std.specs.Prelude.{IfOk}
-use Rattle.rtc_plan.specs.PendingOffer.{added_mids}
+use Rattle.rtc_change.specs.PendingOffer.{added_mids}
 use Rattle.rtc_peer_state.specs.Names.{is_held, drawn_mid, free_mid}
 use Rattle.rtc_negotiation.proofs.Tries.{free_mid-held, free_mid-free, free_mid-none}
 use Rattle.rtc_negotiation.proofs.naming.find_mid.Goals as goal

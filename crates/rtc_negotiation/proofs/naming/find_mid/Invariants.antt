@@ -1,5 +1,5 @@
 use Rattle.std.proofs.Common.{◌≡◌, ◌-◌, ◌+◌, length}
-use Rattle.rtc_plan.specs.PendingOffer.{added_mids}
+use Rattle.rtc_change.specs.PendingOffer.{added_mids}
 use Rattle.rtc_peer_state.specs.Names.{free_mid, is_held}
 use Rattle.rtc_negotiation.proofs.naming.find_mid.Given as goal
 

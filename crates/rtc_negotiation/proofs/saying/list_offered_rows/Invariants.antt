@@ -1,5 +1,5 @@
 use Rattle.std.proofs.Common.{◌≡◌, ◌++◌, ◌+◌, drop, length}
-use Rattle.rtc_plan.specs.PendingOffer.{added_mids, added_rows}
+use Rattle.rtc_change.specs.PendingOffer.{added_mids, added_rows}
 use Rattle.rtc_negotiation.proofs.saying.list_offered_rows.Given as goal
 
 abbrev pub invariant-loop-change : goal.invariant-loop-change

@@ -1,6 +1,6 @@
 use Rattle.std.proofs.Common.{◌<◌, ◌≤◌, ◌^◌, length, List, sym, subst, rules}
-use Rattle.rtc_steps.specs.declared.step.Step.{Step}
-use Rattle.rtc_steps.specs.Sizes.{steps_size}
+use Rattle.rtc_history.specs.declared.step.Step.{Step}
+use Rattle.rtc_history.specs.Sizes.{steps_size}
 use Rattle.rtc_pair.proofs.DueTexts.{report_due, refusal_due}
 use Rattle.rtc_pair.proofs.SmallScripts.{script_small}
 use Rattle.rtc_pair.proofs.Scripts.{reads_script, reads_no_script, runs_or}

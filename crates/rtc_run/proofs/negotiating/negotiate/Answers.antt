@@ -1,6 +1,6 @@
 use Rattle.std.proofs.Common.{ap, ◌∙◌, ◌++◌, ◌∷◌, [], length, List}
-use Rattle.rtc_course.specs.declared.kept.Kept.{Kept}
-use Rattle.rtc_course.specs.Performs.{kept_offer}
+use Rattle.rtc_history.specs.declared.kept.Kept.{Kept}
+use Rattle.rtc_history.specs.Performs.{kept_offer}
 use Rattle.rtc_run.proofs.Negotiated.{offered, not_offered}
 use Rattle.rtc_run.proofs.negotiating.negotiate.Goals as goal
 

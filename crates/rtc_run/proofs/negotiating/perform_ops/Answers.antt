@@ -1,5 +1,5 @@
 use Rattle.std.proofs.Common.{sym, ◌∙◌, rules, subst}
-use Rattle.rtc_course.specs.Performs.{PerformsOps}
+use Rattle.rtc_history.specs.Performs.{PerformsOps}
 use Rattle.rtc_run.proofs.Ops.{lines_go_on, staged_go_on, staged_end, ops_go_on, ops_end, ops_all}
 use Rattle.rtc_run.proofs.negotiating.perform_ops.Goals as goal
 

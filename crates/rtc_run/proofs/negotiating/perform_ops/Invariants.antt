@@ -1,8 +1,8 @@
 use Rattle.std.proofs.Common.{◌≡◌, ◌≤◌, ◌+◌, ◌++◌, List, length, drop, vec_capacity}
-use Rattle.rtc_plan.specs.PendingOffer.{added_mids}
+use Rattle.rtc_change.specs.PendingOffer.{added_mids}
 use Rattle.rtc_peer_state.specs.declared.peer.Peer.{Peer}
-use Rattle.rtc_steps.specs.declared.op_answer.OpAnswer.{OpAnswer}
-use Rattle.rtc_course.specs.Performs.{PerformsOps}
+use Rattle.rtc_history.specs.declared.op_answer.OpAnswer.{OpAnswer}
+use Rattle.rtc_history.specs.Performs.{PerformsOps}
 use Rattle.rtc_run.proofs.negotiating.perform_ops.Given as goal
 
 -- how the ops that are left go on, all of them do

@@ -1,5 +1,5 @@
 use Rattle.std.proofs.Common.{rules}
-use Rattle.rtc_course.proofs.MoreSteps.{runs_carried}
+use Rattle.rtc_history_laws.proofs.MoreSteps.{runs_carried}
 use Rattle.rtc_run.proofs.Sized.{run_begins, run_is_within, run_goes_on}
 use Rattle.rtc_run.proofs.running.run_pair.Goals as goal
 

@@ -1,5 +1,5 @@
 use Rattle.std.proofs.Common.{◌≡◌, ◌≤◌, take, length, vec_capacity}
-use Rattle.rtc_course.specs.Runs.{Runs}
+use Rattle.rtc_history.specs.Runs.{Runs}
 use Rattle.rtc_run.proofs.running.run_pair.Given as goal
 
 -- the steps so far are a run

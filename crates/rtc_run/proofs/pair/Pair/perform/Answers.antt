@@ -1,4 +1,4 @@
-use Rattle.rtc_steps.specs.declared.side.Side.TheVariants.{Left, Right}
+use Rattle.rtc_history.specs.declared.side.Side.TheVariants.{Left, Right}
 use Rattle.rtc_run.proofs.Paired.{rows_with_ops, few_rows, few_rows_or_one, rows_with_token}
 use Rattle.rtc_run.proofs.pair.Pair.perform.Goals as goal
 

@@ -1,0 +1,39 @@
+-- Items that are sent: their numbers fit, and the amounts count them.
+use Rattle.std.proofs.Common.{ℕ, zero, suc, ◌≡◌, ◌+◌, ◌-◌, ◌<◌, ◌≤◌, ◌==◌, ◌||◌, inl, inr, Bool, true, false, cond, leb, List, [], ◌∷◌, ◌++◌, length, take, drop, refl, sym, ap, subst, ◌∙◌, arith, length-append, length-drop}
+use Rattle.std.proofs.lemmas.Bool.{ltb-false}
+use Rattle.std.proofs.lemmas.Bool.Decides.{eqb_tells, leb_tells}
+use Rattle.std.proofs.lemmas.List.{length-take-le, take-append-drop}
+use Rattle.rtc_assoc_packets.specs.declared.item_part.ItemPart.TheVariants.{More, Last, Close}
+use Rattle.rtc_assoc_packets.specs.declared.item.Item.{Item}
+use Rattle.rtc_assoc_packets.specs.Pieces.{piece, close_of, pieces_within, pieces_of}
+use Rattle.rtc_assoc_end.specs.declared.amounts.Amount.{Amount}
+use Rattle.rtc_assoc_end.specs.Outbox.{bytes_for, buffered, last_number}
+use Rattle.rtc_assoc_end.specs.Amounts.{amount_of, Agree}
+use Rattle.rtc_assoc_end.specs.BufferedLemmas.{buffered-append, buffered-pieces}
+use Rattle.rtc_assoc_end.specs.Streams.{any_worn}
+use Rattle.rtc_assoc_end.specs.Contents.{Contents, is_ending, is_closing, is_closed, few_numbers_left}
+
+or_parts : (a b : Bool) → (a || b) ≡ false → (a ≡ false) × (b ≡ false)
+or_parts true b e = absurd cc
+or_parts false b e = (refl, e)
+
+-- an end that lives has many numbers left
+pub numbers_left : (p : Contents) → is_ending p ≡ false → last_number p.outbox + 8589934592 ≤ 18446744073709551615
+numbers_left p e =
+    let closing : is_closing p ≡ false = (or_parts (is_closing p) (is_closed p) e).0 in
+    let early : (p.standing.shut || few_numbers_left p.outbox) ≡ false = (or_parts (p.standing.shut || few_numbers_left p.outbox) (any_worn p.streams) closing).0 in
+    let few : few_numbers_left p.outbox ≡ false = (or_parts p.standing.shut (few_numbers_left p.outbox) early).1 in
+    omega (arith, ltb-false (18446744073709551615 - last_number p.outbox) 8589934592 few)
+
+-- the amounts after a message is written, and after a close is queued
+pub agree-written : (old new : List Amount) (items : List Item) (size id g i n : ℕ) (bytes : List ℕ) → Agree old items → n ≡ length bytes → ((s : ℕ) → amount_of s new ≡ amount_of s old + cond (id == s) n 0) → Agree new (items ++ pieces_of size id g i bytes)
+agree-written old new items size id g i n bytes a e h = record {
+  each = λ s. h s ∙ ap (λ k. amount_of s old + cond (id == s) k 0) e ∙ omega (arith, a.each s, buffered-append s items (pieces_of size id g i bytes), buffered-pieces (length bytes) size id g i s bytes);
+}
+
+nothing_for : (b : Bool) (n : ℕ) → n ≡ 0 → cond b n 0 ≡ n
+nothing_for true n e = refl
+nothing_for false n e = sym e
+
+pub agree-closed : (amounts : List Amount) (items : List Item) (id g : ℕ) → Agree amounts items → Agree amounts (items ++ close_of id g ∷ [])
+agree-closed amounts items id g a = record { each = λ s. omega (arith, a.each s, buffered-append s items (close_of id g ∷ []), nothing_for (id == s) 0 refl) }

@@ -1,0 +1,37 @@
+use Rattle.std.proofs.Common.{◌≡◌, ◌+◌, ◌-◌, ◌≤◌, ◌++◌, ◌∷◌, List, [], ℕ, length, refl, sym, ap, subst, ◌∙◌, arith, append-nil}
+use Rattle.rtc_assoc_packets.specs.Packets.{data_bytes}
+use Rattle.rtc_assoc_packets.specs.Pieces.{close_of}
+use Rattle.rtc_assoc_end.specs.Streams.{stream_of}
+use Rattle.rtc_assoc_end.specs.Outbox.{last_number}
+use Rattle.rtc_assoc_end.specs.Calls.{sent, stream_ended}
+use Rattle.rtc_assoc_end.specs.Contents.{Contents, is_ending}
+use Rattle.rtc_assoc_end.proofs.SentLemmas.{numbers_left, agree-closed}
+use Rattle.rtc_assoc_end.proofs.SaysLemmas.{queues_more, all_say_items}
+use Rattle.rtc_assoc_end.proofs.association.PlainAssociation.end.Goals as goal
+
+pub invariant_of-self-2 : goal.invariant_of-self-2
+invariant_of-self-2 c =
+    let left = numbers_left c.args.self.now c.requires in
+    let last : c.self.inside.acked + length c.self.inside.items.items ≡ last_number c.args.self.now.outbox = ap (λ (p : Contents). last_number p.outbox) c.self.view_is in
+    record {
+      least = c.self.invariant.least;
+      most = c.self.invariant.most;
+      numbers = omega (arith, left, last, c.in_ok-push_back.ensures.len);
+      agree = rw (c.in_ok-push_back.ensures.items, c.close-close.ensures) (agree-closed _ _ _ _ c.self.invariant.agree);
+    }
+
+pub returns-clause-ok : goal.returns-clause-ok
+unfolding sent stream_ended
+returns-clause-ok c =
+    let row_is = rw c.as_slice.ensures.value at c.row_of-row.ensures in
+    let closes = rw row_is at c.close-close.ensures in
+    let items_is = c.in_ok-push_back.ensures.items ∙ ap (λ i. c.self.inside.items.items ++ i ∷ []) closes in
+    let number_is : c.self.inside.acked + c.len.result + 1 ≡ c.self.inside.acked + length c.self.inside.items.items + 1 = omega (arith, c.len.ensures) in
+    let made = rw (number_is, closes) at c.in_ok-packet.ensures.bytes in
+    let reads = rw (number_is, closes) at c.in_ok-packet.ensures.reads in
+    let packets_is = c.enqueue.ensures.items ∙ ap (λ l. l ++ c.in_ok-packet.packet ∷ []) c.in_ok-reserve.ensures.items ∙ ap (λ b. c.self.inside.packets.items ++ b ∷ []) made in
+    let streams_is = rw (c.in_ok-reserve-2.ensures.items, row_is) at c.set_row.ensures in
+    let parts_is = rw row_is at c.forget.ensures.parts in
+    let unread_is = rw row_is at c.forget.ensures.unread in
+    rw (← c.self.view_is)
+    (rw (items_is, packets_is, streams_is, parts_is, unread_is) refl, queues_more _ _ _ packets_is (all_say_items _ _ c.self.inside.items.items (_ ∷ []) [] items_is refl (reads, tt)))

@@ -1,0 +1,33 @@
+use Rattle.std.proofs.Common.{◌≡◌, ◌+◌, ◌++◌, ◌∷◌, List, [], ℕ, length, refl, sym, ap, ◌∙◌, arith}
+use Rattle.rtc_assoc_end.specs.Outbox.{last_number}
+use Rattle.rtc_assoc_end.specs.Contents.{Contents}
+use Rattle.rtc_assoc_end.specs.Calls.{item_counted, finished, sent, answered}
+use Rattle.rtc_assoc_end.proofs.SentLemmas.{numbers_left, agree-closed}
+use Rattle.rtc_assoc_end.proofs.SaysLemmas.{queues_close}
+use Rattle.rtc_assoc_end.proofs.association.PlainAssociation.take_first_close.Goals as goal
+
+pub invariant_of-self-2 : goal.invariant_of-self-2
+invariant_of-self-2 c =
+    let left = numbers_left c.args.self.now c.requires.lives in
+    let last : c.self.inside.acked + length c.self.inside.items.items ≡ last_number c.args.self.now.outbox = ap (λ (p : Contents). last_number p.outbox) c.self.view_is in
+    record {
+      least = c.self.invariant.least;
+      most = c.self.invariant.most;
+      numbers = omega (arith, left, last, c.in_ok-push_back.ensures.len);
+      agree = rw (c.in_ok-push_back.ensures.items, c.close-close.ensures) (agree-closed _ _ _ _ c.self.invariant.agree);
+    }
+
+pub returns-clause-ok : goal.returns-clause-ok
+unfolding item_counted finished sent answered
+returns-clause-ok c =
+    let items_is = c.in_ok-push_back.ensures.items ∙ ap (λ i. c.self.inside.items.items ++ i ∷ []) c.close-close.ensures in
+    let number_is : c.self.inside.acked + c.len.result + 1 ≡ c.self.inside.acked + length c.self.inside.items.items + 1 = omega (arith, c.len.ensures) in
+    let made = rw (number_is, c.close-close.ensures) at c.in_ok-packet.ensures.bytes in
+    let reads = rw (number_is, c.close-close.ensures) at c.in_ok-packet.ensures.reads in
+    let packets_is = rw (c.enqueue-2.ensures.items, c.in_ok-reserve-3.ensures.items, made, c.in_ok-answer.ensures.bytes) at c.count_item.ensures.packets in
+    let streams_is = rw c.in_ok-reserve-2.ensures.items at c.count_item.ensures.streams in
+    let events_is = rw c.in_ok-reserve.ensures.items at c.enqueue.ensures.items in
+    rw (← c.self.view_is) (
+      rw (items_is, packets_is, streams_is, events_is, c.count_item.ensures.received, c.forget.ensures.parts, c.forget.ensures.unread) refl,
+      queues_close _ _ _ _ _ (sym c.count_item.ensures.received) packets_is reads c.in_ok-answer.ensures.reads c.self.inside.items.items items_is refl,
+    )

@@ -1,0 +1,33 @@
+use Rattle.std.proofs.Common.{◌≡◌, ◌+◌, ◌-◌, ◌≤◌, ◌++◌, List, [], ℕ, length, refl, sym, ap, subst, ◌∙◌, arith, append-nil}
+use Rattle.rtc_assoc_packets.specs.Pieces.{pieces_of, packets_from}
+use Rattle.rtc_assoc_end.specs.Streams.{stream_of}
+use Rattle.rtc_assoc_end.specs.Outbox.{last_number}
+use Rattle.rtc_assoc_end.specs.Calls.{sent}
+use Rattle.rtc_assoc_end.specs.Contents.{Contents, is_ending}
+use Rattle.rtc_assoc_end.proofs.SentLemmas.{numbers_left, agree-written}
+use Rattle.rtc_assoc_end.proofs.SaysLemmas.{queues_more, all_say_items}
+use Rattle.rtc_assoc_end.proofs.association.PlainAssociation.write.Goals as goal
+
+pub invariant_of-self-2 : goal.invariant_of-self-2
+invariant_of-self-2 c =
+    let left = numbers_left c.args.self.now c.requires.lives in
+    let last : c.self.inside.acked + length c.self.inside.items.items ≡ last_number c.args.self.now.outbox = ap (λ (p : Contents). last_number p.outbox) c.self.view_is in
+    record {
+      least = c.self.invariant.least;
+      most = c.self.invariant.most;
+      numbers = omega (arith, left, last, c.append_all.ensures.len, c.in_ok-reserve.ensures.len, c.in_ok-items.ensures.count, c.requires.short);
+      agree = rw (c.append_all.ensures.items, c.in_ok-reserve.ensures.items, c.in_ok-items.ensures.items)
+          (agree-written _ _ _ _ _ _ _ _ _ c.self.invariant.agree refl c.in_ok-raise.ensures.ok);
+    }
+
+pub returns-clause-ok : goal.returns-clause-ok
+unfolding sent
+returns-clause-ok c =
+    let row_is = rw c.as_slice.ensures.value at c.row_of-generation.ensures in
+    let pieces = rw row_is at c.in_ok-items.ensures.items in
+    let items_is = c.append_all.ensures.items ∙ ap (λ l. l ++ c.in_ok-items.items.items) c.in_ok-reserve.ensures.items ∙ ap (λ l. c.self.inside.items.items ++ l) pieces in
+    let number_is : c.self.inside.acked + c.len.result + 1 ≡ c.self.inside.acked + length c.self.inside.items.items + 1 = omega (arith, c.len.ensures) in
+    let made = rw (number_is, pieces) at c.in_ok-packets.ensures.packets in
+    let reads = rw (number_is, pieces) at c.in_ok-packets.ensures.reads in
+    let packets_is = c.append_all-2.ensures.items ∙ ap (λ l. l ++ c.in_ok-packets.packets.items) c.in_ok-reserve-2.ensures.items ∙ ap (λ l. c.self.inside.packets.items ++ l) made in
+    rw (← c.self.view_is) (rw (items_is, packets_is) refl, queues_more _ _ _ packets_is (all_say_items _ _ c.self.inside.items.items _ [] (items_is ∙ ap (λ l. c.self.inside.items.items ++ l) (sym (append-nil _))) refl reads))

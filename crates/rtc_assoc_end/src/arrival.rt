@@ -1,0 +1,258 @@
+//! What items do that come in their order.
+ghost use Rattle.std.specs.Prelude.{◌≡◌, ◌<◌, ◌+◌, ◌^◌, ◌∷◌, [], ◌++◌, OnOk, OnErr, false, true, vec_len, vec_capacity};
+ghost use Rattle.std.specs.VecDeque.{deque_len, deque_capacity};
+ghost use Rattle.rtc_assoc_packets.specs.declared.item_part.ItemPart.TheVariants.{More, Last, Close};
+ghost use Rattle.rtc_assoc_end.specs.declared.close_state.CloseState.TheVariants.{Unclosed};
+ghost use Rattle.rtc_assoc_end.specs.Streams.{put, reset_row};
+ghost use Rattle.rtc_assoc_end.specs.Contents.{is_ending};
+ghost use Rattle.rtc_assoc_end.specs.Calls.{answered, item_counted, more_kept, last_kept, item_taken, piece_came, close_came, close_came_at, finished, reset_told};
+ghost use Rattle.rtc_assoc_end.specs.PlainMeaning.{Sends};
+
+use crate::association::PlainAssociation;
+use crate::close_state::CloseState;
+use crate::inbox::{forget, keep_last, keep_more};
+use crate::queues::{enqueue, set_row};
+use crate::rows::row_of;
+use crate::stream_row::StreamRow;
+use rtc_assoc_packets::{Item, ItemPart, Outgoing, Packet};
+use rtc_association::AssocEvent;
+use rtc_wire::Moment;
+use std::alloc::AllocError;
+use std::collections::VecDeque;
+
+/// One more item came: its stream has this row now, and it is answered, in room that was made.
+fn count_item(
+    received: &mut u64,
+    streams: &mut Vec<StreamRow>,
+    packets: &mut VecDeque<Packet>,
+    row: StreamRow,
+    answer: Packet,
+)
+    requires number { received.old + 1 < 2 ^ 64 }
+    requires rows { vec_len streams.old < vec_capacity streams.old }
+    requires room { deque_len packets.old < deque_capacity packets.old }
+    ensures received { received.new ≡ received.old + 1 }
+    ensures streams { streams.new.items ≡ put row streams.old.items }
+    ensures packets { packets.new.items ≡ packets.old.items ++ answer ∷ [] }
+{
+    *received += 1;
+    set_row(streams, row);
+    enqueue(packets, answer);
+}
+
+impl PlainAssociation {
+    /// An item came that changes nothing but the number, and the row of its stream.
+    #[tactic(auto, unfolding(crate::specs::Calls::item_counted, crate::specs::Calls::answered))]
+    fn skip_item(&mut self, row: StreamRow) -> Result<(), AllocError>
+        requires { self.old.inbox.received + 1 < 2 ^ 64 }
+        ensures ok { OnOk result (Sends self.old (answered (item_counted row self.old)) self.new) }
+        ensures err { OnErr result (self.new ≡ self.old) }
+    {
+        let answer = Packet::acknowledgement(self.alloc, self.received + 1)?;
+        self.streams.reserve(1)?;
+        self.packets.reserve(1)?;
+        count_item(
+            &mut self.received,
+            &mut self.streams,
+            &mut self.packets,
+            row,
+            answer,
+        );
+        Ok(())
+    }
+
+    /// A piece of a message came, with more to come.
+    #[tactic(auto, unfolding(crate::specs::Calls::item_counted, crate::specs::Calls::more_kept, crate::specs::Calls::answered))]
+    fn take_more(&mut self, row: StreamRow, item: Item) -> Result<(), AllocError>
+        requires { self.old.inbox.received + 1 < 2 ^ 64 }
+        ensures ok { OnOk result (Sends self.old (answered (more_kept item (item_counted row self.old))) self.new) }
+        ensures err { OnErr result (self.new ≡ self.old) }
+    {
+        let answer = Packet::acknowledgement(self.alloc, self.received + 1)?;
+        self.streams.reserve(1)?;
+        self.packets.reserve(1)?;
+        keep_more(&mut self.parts, item)?;
+        count_item(
+            &mut self.received,
+            &mut self.streams,
+            &mut self.packets,
+            row,
+            answer,
+        );
+        Ok(())
+    }
+
+    /// The last piece of a message came.
+    #[tactic(auto, unfolding(crate::specs::Calls::item_counted, crate::specs::Calls::last_kept, crate::specs::Calls::answered))]
+    fn take_last(&mut self, row: StreamRow, item: Item) -> Result<(), AllocError>
+        requires { self.old.inbox.received + 1 < 2 ^ 64 }
+        ensures ok { OnOk result (Sends self.old (answered (last_kept item (item_counted row self.old))) self.new) }
+        ensures err { OnErr result (self.new ≡ self.old) }
+    {
+        let answer = Packet::acknowledgement(self.alloc, self.received + 1)?;
+        let stream = item.stream;
+        self.events.reserve(1)?;
+        self.streams.reserve(1)?;
+        self.packets.reserve(1)?;
+        keep_last(self.alloc, &mut self.parts, &mut self.unread, item)?;
+        enqueue(&mut self.events, AssocEvent::Readable(stream));
+        count_item(
+            &mut self.received,
+            &mut self.streams,
+            &mut self.packets,
+            row,
+            answer,
+        );
+        Ok(())
+    }
+
+    /// A piece of a message came.
+    fn take_piece(&mut self, row: StreamRow, item: Item) -> Result<(), AllocError>
+        requires { self.old.inbox.received + 1 < 2 ^ 64 }
+        ensures ok { OnOk result (Sends self.old (answered (piece_came item row self.old)) self.new) }
+        ensures err { OnErr result (self.new ≡ self.old) }
+    {
+        if !row.takes_messages(item.generation) {
+            return self.skip_item(row);
+        }
+        match item.part {
+            ItemPart::More => self.take_more(row, item),
+            ItemPart::Last => self.take_last(row, item),
+            ItemPart::Close => self.take_more(row, item),
+        }
+    }
+
+    /// The close of a stream came, which this end did not close: it does now.
+    #[tactic(auto, unfolding(crate::specs::Calls::item_counted, crate::specs::Calls::finished, crate::specs::Calls::sent, crate::specs::Calls::answered))]
+    fn take_first_close(&mut self, now: Moment, mut row: StreamRow) -> Result<(), AllocError>
+        requires number { self.old.inbox.received + 1 < 2 ^ 64 }
+        requires lives { is_ending self.old ≡ false }
+        ensures ok { OnOk result (Sends self.old (answered (close_came_at Unclosed now row (finished row self.old))) self.new) }
+        ensures err { OnErr result (self.new ≡ self.old) }
+    {
+        let answer = Packet::acknowledgement(self.alloc, self.received + 1)?;
+        let close = Outgoing::close(self.alloc, row.stream, row.generation);
+        let number = self.acked + self.items.len() as u64 + 1;
+        let packet = Packet::data(self.alloc, self.received + 1, number, &close)?;
+        self.events.reserve(1)?;
+        self.streams.reserve(1)?;
+        self.packets.reserve(2)?;
+        self.items.push_back(close)?;
+        enqueue(&mut self.events, AssocEvent::Finished(row.stream));
+        enqueue(&mut self.packets, packet);
+        forget(
+            &mut self.parts,
+            &mut self.unread,
+            row.stream,
+            row.generation,
+        );
+        self.clock.items_sent = now;
+        row.close = CloseState::Queued;
+        row.finished = true;
+        count_item(
+            &mut self.received,
+            &mut self.streams,
+            &mut self.packets,
+            row,
+            answer,
+        );
+        Ok(())
+    }
+
+    /// The close of a stream came, which this end closed. Its close was not acknowledged.
+    #[tactic(auto, unfolding(crate::specs::Calls::item_counted, crate::specs::Calls::finished, crate::specs::Calls::answered))]
+    fn take_second_close(&mut self, mut row: StreamRow) -> Result<(), AllocError>
+        requires { self.old.inbox.received + 1 < 2 ^ 64 }
+        ensures ok { OnOk result (Sends self.old (answered (item_counted (record row { finished = true }) (finished row self.old))) self.new) }
+        ensures err { OnErr result (self.new ≡ self.old) }
+    {
+        let answer = Packet::acknowledgement(self.alloc, self.received + 1)?;
+        self.events.reserve(1)?;
+        self.streams.reserve(1)?;
+        self.packets.reserve(1)?;
+        enqueue(&mut self.events, AssocEvent::Finished(row.stream));
+        forget(
+            &mut self.parts,
+            &mut self.unread,
+            row.stream,
+            row.generation,
+        );
+        row.finished = true;
+        count_item(
+            &mut self.received,
+            &mut self.streams,
+            &mut self.packets,
+            row,
+            answer,
+        );
+        Ok(())
+    }
+
+    /// The close of a stream came, after this end's was acknowledged: the reset is complete.
+    #[tactic(auto, unfolding(crate::specs::Calls::item_counted, crate::specs::Calls::finished, crate::specs::Calls::reset_told, crate::specs::Calls::answered))]
+    fn take_last_close(&mut self, row: StreamRow) -> Result<(), AllocError>
+        requires number { self.old.inbox.received + 1 < 2 ^ 64 }
+        requires generation { row.generation < 4294967295 }
+        ensures ok { OnOk result (Sends self.old (answered (reset_told row (item_counted (reset_row row) (finished row self.old)))) self.new) }
+        ensures err { OnErr result (self.new ≡ self.old) }
+    {
+        let answer = Packet::acknowledgement(self.alloc, self.received + 1)?;
+        self.events.reserve(2)?;
+        self.streams.reserve(1)?;
+        self.packets.reserve(1)?;
+        enqueue(&mut self.events, AssocEvent::Finished(row.stream));
+        enqueue(&mut self.events, AssocEvent::ResetComplete(row.stream));
+        forget(
+            &mut self.parts,
+            &mut self.unread,
+            row.stream,
+            row.generation,
+        );
+        count_item(
+            &mut self.received,
+            &mut self.streams,
+            &mut self.packets,
+            row.reset(),
+            answer,
+        );
+        Ok(())
+    }
+
+    /// The close of a stream came.
+    fn take_close(&mut self, now: Moment, row: StreamRow, generation: u32) -> Result<(), AllocError>
+        requires number { self.old.inbox.received + 1 < 2 ^ 64 }
+        requires lives { is_ending self.old ≡ false }
+        ensures ok { OnOk result (Sends self.old (answered (close_came now generation row self.old)) self.new) }
+        ensures err { OnErr result (self.new ≡ self.old) }
+    {
+        if generation != row.generation {
+            return self.skip_item(row);
+        }
+        match row.close {
+            CloseState::Unclosed => self.take_first_close(now, row),
+            CloseState::Queued => self.take_second_close(row),
+            CloseState::Acknowledged => {
+                if row.generation < u32::MAX {
+                    return self.take_last_close(row);
+                }
+                self.take_second_close(row)
+            }
+        }
+    }
+
+    /// The next item came: its stream is there.
+    pub(crate) fn take_item(&mut self, now: Moment, item: Item) -> Result<(), AllocError>
+        requires number { self.old.inbox.received + 1 < 2 ^ 64 }
+        requires lives { is_ending self.old ≡ false }
+        ensures ok { OnOk result (Sends self.old (answered (item_taken now item self.old)) self.new) }
+        ensures err { OnErr result (self.new ≡ self.old) }
+    {
+        let mut row = row_of(self.streams.as_slice(), item.stream);
+        row.there = true;
+        match item.part {
+            ItemPart::Close => self.take_close(now, row, item.generation),
+            ItemPart::More => self.take_piece(row, item),
+            ItemPart::Last => self.take_piece(row, item),
+        }
+    }
+}

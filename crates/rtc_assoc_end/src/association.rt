@@ -1,0 +1,93 @@
+//! The plain association.
+ghost use Rattle.std.specs.Prelude.{◌≡◌, ◌≤◌, ◌<◌, ◌+◌, ◌^◌, ◌⊎◌, IfOk, OnOk, OnErr, IfSome, Some, None, true, false, length, MatchOption};
+ghost use Rattle.rtc_assoc_end.specs.Contents.{Contents, fresh_contents, is_started, is_closing, is_closed, is_ending, has_stream, closed_here, is_stale, generation_of, buffered_of, wake_of, hello_wake, items_wake, waits};
+ghost use Rattle.rtc_assoc_end.specs.Says.{Queues};
+ghost use Rattle.rtc_assoc_end.specs.Calls as call;
+ghost use Rattle.rtc_assoc_end.specs.PlainMeaning.{Sends};
+
+use crate::amounts::Amount;
+use crate::clock::Clock;
+use crate::limits::Limits;
+use crate::message::Message;
+use crate::partial::Partial;
+use crate::role::Role;
+use crate::standing::Standing;
+use crate::stream_row::StreamRow;
+use rtc_assoc_packets::{Outgoing, Packet};
+use rtc_association::AssocEvent;
+use rtc_wire::{LOCAL_MAX_MESSAGE_SIZE, Moment};
+use std::alloc::Global;
+use std::collections::VecDeque;
+use std::marker::Model;
+
+/// One end of a reliable transport of messages over streams that can be reset. It keeps everything in memory and has
+/// no security: whoever can give it a packet can forge one.
+///
+/// Items (pieces of messages, and closes of streams) are numbered from 1 over all streams. A receiver takes the next
+/// one alone and answers with the greatest number up to which all came; a sender queues what is not acknowledged again
+/// one second after it last queued an item.
+#[derive(Drop)]
+pub struct PlainAssociation {
+    pub(crate) alloc: Global,
+    pub(crate) limits: Limits,
+    pub(crate) standing: Standing,
+    pub(crate) clock: Clock,
+    pub(crate) acked: u64,
+    pub(crate) items: VecDeque<Outgoing>,
+    pub(crate) amounts: Vec<Amount>,
+    pub(crate) received: u64,
+    pub(crate) parts: Vec<Partial>,
+    pub(crate) unread: VecDeque<Message>,
+    pub(crate) streams: Vec<StreamRow>,
+    pub(crate) events: VecDeque<AssocEvent>,
+    pub(crate) packets: VecDeque<Packet>,
+}
+
+impl Model for PlainAssociation {
+    ghost use Rattle.rtc_assoc_end.specs.Contents.{Contents};
+    ghost use Rattle.rtc_assoc_end.specs.SoundContents.{SoundContents};
+
+    ghost Value = { Contents };
+
+    ghost view = { λ a. record { limits = a.limits; standing = a.standing; clock = a.clock; outbox = record { acked = a.acked; items = a.items.items }; inbox = record { received = a.received; parts = a.parts.items; unread = a.unread.items }; streams = a.streams.items; events = a.events.items; packets = a.packets.items } };
+
+    ghost use Rattle.std.specs.VecDeque.{deque_len};
+
+    ghost invariant = { λ a. SoundContents a.limits.max_payload a.acked (deque_len a.items) a.amounts.items a.items.items };
+}
+
+impl PlainAssociation {
+    /// An end that is not started, with packets of at most 1062 bytes. No memory is taken.
+    pub fn new(alloc: Global) -> PlainAssociation
+        ensures { result ≡ fresh_contents }
+    {
+        PlainAssociation {
+            alloc,
+            limits: Limits {
+                max_payload: 1062,
+                local_max_message: LOCAL_MAX_MESSAGE_SIZE,
+                max_send: 0,
+            },
+            standing: Standing {
+                role: Role::Unstarted,
+                connected: false,
+                shut: false,
+                lost: false,
+            },
+            clock: Clock {
+                now: Moment::FAR_PAST,
+                hello_sent: Moment::FAR_PAST,
+                items_sent: Moment::FAR_PAST,
+            },
+            acked: 0,
+            items: VecDeque::new(alloc),
+            amounts: Vec::new(alloc),
+            received: 0,
+            parts: Vec::new(alloc),
+            unread: VecDeque::new(alloc),
+            streams: Vec::new(alloc),
+            events: VecDeque::new(alloc),
+            packets: VecDeque::new(alloc),
+        }
+    }
+}

@@ -1,0 +1,147 @@
+//! What the calls of an end do to it.
+ghost use Rattle.std.specs.Prelude.{◌≡◌, ◌≤◌, ◌<◌, ◌^◌, OnOk, OnErr, false, length};
+ghost use Rattle.rtc_assoc_end.specs.Contents.{is_ending};
+ghost use Rattle.rtc_assoc_end.specs.Calls.{limited, connected, accepted, snapped, opened, message_written, stream_ended, thresholded, shut_down, next_message, taken_out};
+ghost use Rattle.rtc_assoc_end.specs.PlainMeaning.{Sends};
+
+use crate::amounts::raise;
+use crate::association::PlainAssociation;
+use crate::close_state::CloseState;
+use crate::inbox::{forget, take_out};
+use crate::message::Message;
+use crate::queues::{append_all, enqueue, set_row};
+use crate::role::Role;
+use crate::rows::{put_row, row_of};
+use rtc_assoc_packets::{DATA_OVERHEAD, Outgoing, Packet, cut_message, packets_of};
+use rtc_wire::Moment;
+use std::alloc::AllocError;
+
+impl PlainAssociation {
+    #[tactic(auto, unfolding(crate::specs::Calls::limited))]
+    pub(crate) fn limit(&mut self, max_payload: usize, local_max_message: u32)
+        requires least { 29 ≤ max_payload }
+        requires most { max_payload ≤ 1900 }
+        ensures { self.new ≡ limited max_payload local_max_message self.old }
+    {
+        self.limits.max_payload = max_payload;
+        self.limits.local_max_message = local_max_message;
+    }
+
+    #[tactic(auto, unfolding(crate::specs::Calls::started_as, crate::specs::Calls::said_hello))]
+    pub(crate) fn start_client(&mut self, now: Moment, max_send: u32) -> Result<(), AllocError>
+        ensures ok { OnOk result (self.new ≡ connected now max_send self.old) }
+        ensures err { OnErr result (self.new ≡ self.old) }
+    {
+        let hello = Packet::hello(self.alloc)?;
+        self.packets.push_back(hello)?;
+        self.limits.max_send = max_send;
+        self.standing.role = Role::Client;
+        self.clock.now = now;
+        self.clock.hello_sent = now;
+        Ok(())
+    }
+
+    #[tactic(auto, unfolding(crate::specs::Calls::started_as))]
+    pub(crate) fn start_server(&mut self, now: Moment, max_send: u32)
+        ensures { self.new ≡ accepted now max_send self.old }
+    {
+        self.limits.max_send = max_send;
+        self.standing.role = Role::Server;
+        self.clock.now = now;
+    }
+
+    #[tactic(auto, unfolding(crate::specs::Calls::started_as, crate::specs::Calls::snapped))]
+    pub(crate) fn start_snap(&mut self, now: Moment, max_send: u32)
+        ensures { self.new ≡ snapped now max_send self.old }
+    {
+        self.limits.max_send = max_send;
+        self.standing.role = Role::Snap;
+        self.standing.connected = true;
+        self.clock.now = now;
+    }
+
+    #[tactic(auto, unfolding(crate::specs::Calls::opened))]
+    pub(crate) fn open(&mut self, id: u16) -> Result<(), AllocError>
+        ensures ok { OnOk result (self.new ≡ opened id self.old) }
+        ensures err { OnErr result (self.new ≡ self.old) }
+    {
+        let mut row = row_of(self.streams.as_slice(), id);
+        row.there = true;
+        put_row(&mut self.streams, row)?;
+        Ok(())
+    }
+
+    #[tactic(auto, unfolding(crate::specs::Calls::thresholded))]
+    pub(crate) fn set_low(&mut self, id: u16, n: usize) -> Result<(), AllocError>
+        ensures ok { OnOk result (self.new ≡ thresholded id n self.old) }
+        ensures err { OnErr result (self.new ≡ self.old) }
+    {
+        let mut row = row_of(self.streams.as_slice(), id);
+        row.threshold = Some(n);
+        put_row(&mut self.streams, row)?;
+        Ok(())
+    }
+
+    #[tactic(auto, unfolding(crate::specs::Calls::shut_down))]
+    pub(crate) fn shut(&mut self) -> Result<(), AllocError>
+        ensures ok { OnOk result (self.new ≡ shut_down self.old) }
+        ensures err { OnErr result (self.new ≡ self.old) }
+    {
+        let packet = Packet::shutdown(self.alloc)?;
+        self.packets.push_back(packet)?;
+        self.standing.shut = true;
+        Ok(())
+    }
+
+    #[tactic(auto, unfolding(crate::specs::Calls::taken_out))]
+    pub(crate) fn read(&mut self, id: u16) -> Option<Message>
+        ensures message { result ≡ next_message id self.old }
+        ensures rest { self.new ≡ taken_out id self.old }
+    {
+        let generation = row_of(self.streams.as_slice(), id).generation;
+        take_out(&mut self.unread, id, generation)
+    }
+
+    #[tactic(auto, unfolding(crate::specs::Calls::sent))]
+    pub(crate) fn write(&mut self, id: u16, identifier: u32, bytes: &[u8]) -> Result<(), AllocError>
+        requires lives { is_ending self.old ≡ false }
+        requires short { length bytes.now < 2 ^ 32 }
+        ensures ok { OnOk result (Sends self.old (message_written id identifier bytes.now self.old) self.new) }
+        ensures err { OnErr result (self.new ≡ self.old) }
+    {
+        let generation = row_of(self.streams.as_slice(), id).generation;
+        let size = self.limits.max_payload - DATA_OVERHEAD;
+        let items = cut_message(self.alloc, size, id, generation, identifier, bytes)?;
+        let first = self.acked + self.items.len() as u64 + 1;
+        let packets = packets_of(self.alloc, self.received, first, &items)?;
+        self.items.reserve(items.len())?;
+        self.packets.reserve(packets.len())?;
+        raise(&mut self.amounts, id, bytes.len())?;
+        append_all(&mut self.items, items);
+        append_all(&mut self.packets, packets);
+        self.clock.items_sent = self.clock.now;
+        Ok(())
+    }
+
+    #[tactic(auto, unfolding(crate::specs::Calls::sent, crate::specs::Calls::stream_ended))]
+    pub(crate) fn end(&mut self, id: u16) -> Result<(), AllocError>
+        requires { is_ending self.old ≡ false }
+        ensures ok { OnOk result (Sends self.old (stream_ended self.old.clock.now id self.old) self.new) }
+        ensures err { OnErr result (self.new ≡ self.old) }
+    {
+        let mut row = row_of(self.streams.as_slice(), id);
+        let generation = row.generation;
+        let close = Outgoing::close(self.alloc, id, generation);
+        let number = self.acked + self.items.len() as u64 + 1;
+        let packet = Packet::data(self.alloc, self.received, number, &close)?;
+        self.packets.reserve(1)?;
+        self.streams.reserve(1)?;
+        self.items.push_back(close)?;
+        enqueue(&mut self.packets, packet);
+        row.close = CloseState::Queued;
+        set_row(&mut self.streams, row);
+        forget(&mut self.parts, &mut self.unread, id, generation);
+        self.clock.items_sent = self.clock.now;
+        Ok(())
+    }
+}

@@ -1,0 +1,156 @@
+//! What an end answers of itself.
+ghost use Rattle.std.specs.Prelude.{◌≡◌, ◌+◌, ◌<◌, ◌^◌, nat_lt, Some, None};
+ghost use Rattle.std.specs.Bool.{OnFalse};
+ghost use Rattle.rtc_assoc_end.specs.Contents.{is_started, is_closing, is_closed, is_ending, has_stream, closed_here, is_stale, generation_of, buffered_of, wake_of, hello_wake, items_wake, waits, second_after, earlier, has_role};
+
+use crate::amounts::amount_in;
+use crate::association::PlainAssociation;
+use crate::role::Role;
+use crate::rows::{any_worn, row_of};
+use crate::standing::Standing;
+use rtc_wire::{Moment, Span};
+
+impl Role {
+    pub fn is_started(self) -> bool
+        ensures { result ≡ has_role self }
+    {
+        match self {
+            Role::Unstarted => false,
+            Role::Client | Role::Server | Role::Snap => true,
+        }
+    }
+}
+
+impl Standing {
+    /// Whether a client waits for its answer.
+    pub fn waits(&self) -> bool
+        ensures { result ≡ waits self.now }
+    {
+        match self.role {
+            Role::Client => !self.connected,
+            Role::Unstarted | Role::Server | Role::Snap => false,
+        }
+    }
+}
+
+/// One second after a moment.
+pub fn second_after(moment: Moment) -> Moment
+    ensures { result ≡ second_after moment }
+{
+    moment.plus(Span::from_secs(1))
+}
+
+fn earlier(a: Option<Moment>, b: Option<Moment>) -> Option<Moment>
+    ensures { result ≡ earlier a b }
+{
+    match a {
+        None => b,
+        Some(x) => match b {
+            None => Some(x),
+            Some(y) => {
+                if x.nanos() <= y.nanos() {
+                    Some(x)
+                } else {
+                    Some(y)
+                }
+            }
+        },
+    }
+}
+
+impl PlainAssociation {
+    pub(crate) fn has_started(&self) -> bool
+        ensures { result ≡ is_started self.now }
+    {
+        self.standing.role.is_started()
+    }
+
+    /// Closing for good: shut down, with few item numbers left, or with a stream at its last generation.
+    pub(crate) fn closes(&self) -> bool
+        ensures { result ≡ is_closing self.now }
+    {
+        let last = self.acked + self.items.len() as u64;
+        let few = u64::MAX - last < 8_589_934_592;
+        let worn = any_worn(self.streams.as_slice());
+        self.standing.shut || few || worn
+    }
+
+    pub(crate) fn is_lost(&self) -> bool
+        ensures { result ≡ is_closed self.now }
+    {
+        self.standing.lost
+    }
+
+    /// Closing or closed.
+    pub(crate) fn ends(&self) -> bool
+        ensures { result ≡ is_ending self.now }
+    {
+        self.closes() || self.is_lost()
+    }
+
+    pub(crate) fn has(&self, id: u16) -> bool
+        ensures { result ≡ has_stream self.now id }
+    {
+        row_of(self.streams.as_slice(), id).there
+    }
+
+    pub(crate) fn has_closed(&self, id: u16) -> bool
+        ensures { result ≡ closed_here self.now id }
+    {
+        row_of(self.streams.as_slice(), id).is_closed_here()
+    }
+
+    pub(crate) fn stale(&self, id: u16) -> bool
+        ensures { result ≡ is_stale self.now id }
+    {
+        self.has(id) && self.has_closed(id)
+    }
+
+    pub(crate) fn generation_of(&self, id: u16) -> u64
+        ensures { result ≡ generation_of self.now id }
+    {
+        row_of(self.streams.as_slice(), id).generation as u64
+    }
+
+    pub(crate) fn buffered(&self, id: u16) -> usize
+        ensures { result ≡ buffered_of self.now id }
+    {
+        amount_in(self.amounts.as_slice(), id)
+    }
+
+    /// Whether a message of so many bytes is longer than the other end takes. One that is not has fewer than 2^32.
+    pub(crate) fn is_too_long(&self, len: usize) -> bool
+        ensures value { result ≡ nat_lt self.now.limits.max_send len }
+        ensures short { OnFalse result (len < 2 ^ 32) }
+    {
+        let most = self.limits.max_send;
+        (most as usize) < len
+    }
+
+    fn hello_wake(&self) -> Option<Moment>
+        ensures { result ≡ hello_wake self.now }
+    {
+        if self.standing.waits() {
+            Some(second_after(self.clock.hello_sent))
+        } else {
+            None
+        }
+    }
+
+    fn items_wake(&self) -> Option<Moment>
+        ensures { result ≡ items_wake self.now }
+    {
+        if self.items.is_empty() {
+            None
+        } else {
+            Some(second_after(self.clock.items_sent))
+        }
+    }
+
+    /// When something is to be queued again.
+    pub(crate) fn wake(&self) -> Option<Moment>
+        ensures { result ≡ wake_of self.now }
+    {
+        earlier(self.hello_wake(), self.items_wake())
+    }
+}

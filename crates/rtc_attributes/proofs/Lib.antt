@@ -1,4 +1,0 @@
-pub mod ShapeLemmas
-pub mod WordLemmas
-pub mod FingerprintLemmas
-pub mod CandidateLemmas

@@ -1,5 +1,0 @@
-use Rattle.rtc_attributes.proofs.CandidateLemmas.{candidate_again, candidate_lacks}
-use Rattle.rtc_attributes.proofs.laws.candidates_read_back.Goals as goal
-
-pub returns : goal.returns
-returns c = record { again = candidate_again; one_line = candidate_lacks }

@@ -1,3 +1,0 @@
-pub mod WordValue
-pub mod FingerprintValue
-pub mod CandidateValue

@@ -1,0 +1,59 @@
+//! Changes that are staged.
+ghost use Rattle.std.specs.Prelude.{◌≡◌};
+ghost use Rattle.rtc_change.specs.PendingOffer.{new_mid as NewMid, new_row as NewRow};
+
+use crate::AddMedia;
+use rtc_sdp_values::{Direction, LineRow, Mid};
+use rtc_wire::TryCopy;
+use std::alloc::AllocError;
+
+/// A change of a peer's lines that is staged and not yet negotiated.
+#[derive(Debug, PartialEq, Eq, Drop)]
+pub enum Change {
+    AddMedia(AddMedia),
+    /// The line of the data channels.
+    AddApp(Mid),
+    /// The line of a mid has this direction by now; inactive where it was stopped.
+    Direction(Mid, Direction),
+}
+
+impl TryCopy for Change {
+    fn copy(&self) -> Result<Change, AllocError> {
+        match self {
+            Change::AddMedia(media) => Ok(Change::AddMedia(media.copy()?)),
+            Change::AddApp(mid) => Ok(Change::AddApp(*mid)),
+            Change::Direction(mid, dir) => Ok(Change::Direction(*mid, *dir)),
+        }
+    }
+}
+
+impl Change {
+    /// The mid of the line that it adds, if it adds one.
+    pub fn new_mid(&self) -> Option<Mid>
+        ensures { result ≡ NewMid self.now }
+    {
+        match self {
+            Change::AddMedia(media) => Some(media.mid),
+            Change::AddApp(mid) => Some(*mid),
+            Change::Direction(_, _) => None,
+        }
+    }
+
+    /// The row of the line that it adds, at a place, if it adds one.
+    pub fn new_row(&self, place: u32) -> Option<LineRow>
+        ensures { result ≡ NewRow place self.now }
+    {
+        match self {
+            Change::AddMedia(media) => Some(LineRow::Media {
+                place,
+                mid: media.mid,
+                kind: media.kind,
+                dir: media.dir,
+                stopped: false,
+                remote_created: false,
+            }),
+            Change::AddApp(mid) => Some(LineRow::App { place, mid: *mid }),
+            Change::Direction(_, _) => None,
+        }
+    }
+}

@@ -1,0 +1,149 @@
+//! Why a line of a text is refused.
+ghost use Rattle.std.specs.Prelude.{◌≡◌, ◌<◌, ◌^◌, ◌-◌, ◌||◌, nat_lt, Bool, true, false, length, Some, None};
+ghost use Rattle.std.specs.Option.{option_copied};
+ghost use Rattle.rtc_change.specs.Table.{row_of, app_of, has_mid};
+ghost use Rattle.rtc_change.specs.Verdict.{app_refusal, known_refusal, place_refusal, media_refusal, line_refusal, first_refusal};
+
+use crate::{SaidLine, Why};
+use rtc_sdp_values::{LineKind, LineRow, MediaKind, Mid};
+
+/// The row of a mid.
+pub fn find_row(rows: &[LineRow], mid: Mid) -> Option<&LineRow>
+    ensures { option_copied result ≡ row_of rows.now mid }
+{
+    for row in rows {
+        if row.mid() == mid {
+            return Some(row);
+        }
+    }
+    None
+}
+
+/// The row of the data channels.
+pub fn find_app(rows: &[LineRow]) -> Option<&LineRow>
+    ensures { option_copied result ≡ app_of rows.now }
+{
+    for row in rows {
+        if let LineRow::App { .. } = row {
+            return Some(row);
+        }
+    }
+    None
+}
+
+/// Whether a row has a mid.
+pub fn has_row(rows: &[LineRow], mid: Mid) -> bool
+    ensures { result ≡ has_mid mid rows.now }
+{
+    for row in rows {
+        if row.mid() == mid {
+            return true;
+        }
+    }
+    false
+}
+
+// Whether a new line of this mid cannot stand at a place that no row has.
+fn is_taken(rows: &[LineRow], place: u32, mid: Mid) -> bool
+    ensures { result ≡ (nat_lt place (length rows.now) || has_mid mid rows.now) }
+{
+    (place as usize) < rows.len() || has_row(rows, mid)
+}
+
+fn judge_app(rows: &[LineRow], came: bool, place: u32, mid: Mid) -> Option<Why>
+    ensures { result ≡ app_refusal rows.now came place mid }
+{
+    match find_app(rows) {
+        None => {
+            if came || is_taken(rows, place, mid) {
+                Some(Why::MovedLine(mid))
+            } else {
+                None
+            }
+        }
+        Some(row) => {
+            if row.place() == place && !came {
+                None
+            } else {
+                Some(Why::MovedLine(mid))
+            }
+        }
+    }
+}
+
+// A media line whose mid this row has.
+fn judge_known(place: u32, kind: MediaKind, mid: Mid, row: &LineRow) -> Option<Why>
+    ensures { result ≡ known_refusal place kind mid row.now }
+{
+    match row {
+        LineRow::Media {
+            place: p,
+            kind: k,
+            ..
+        } => {
+            if *p == place && *k == kind {
+                None
+            } else {
+                Some(Why::MovedLine(mid))
+            }
+        }
+        LineRow::App { .. } => Some(Why::MovedLine(mid)),
+    }
+}
+
+// A media line whose mid no row has, at the place of this row.
+fn judge_place(offer: bool, mid: Mid, row: &LineRow) -> Option<Why>
+    ensures { result ≡ place_refusal offer mid (Some row.now) }
+{
+    match row {
+        LineRow::App { .. } => Some(Why::MovedLine(mid)),
+        LineRow::Media { stopped, .. } => {
+            if !offer {
+                Some(Why::AnswerRecycles(mid))
+            } else if *stopped {
+                None
+            } else {
+                Some(Why::PlaceTaken(mid))
+            }
+        }
+    }
+}
+
+fn judge_media(rows: &[LineRow], offer: bool, place: u32, kind: MediaKind, mid: Mid) -> Option<Why>
+    ensures { result ≡ media_refusal rows.now offer place kind mid }
+{
+    match find_row(rows, mid) {
+        Some(row) => judge_known(place, kind, mid, row),
+        None => match rows.get(place as usize) {
+            Some(row) => judge_place(offer, mid, row),
+            None => None,
+        },
+    }
+}
+
+fn judge_line(rows: &[LineRow], offer: bool, came: bool, place: u32, said: &SaidLine) -> Option<Why>
+    ensures { result ≡ line_refusal rows.now offer came place said.now }
+{
+    match said.kind {
+        LineKind::Audio => judge_media(rows, offer, place, MediaKind::Audio, said.mid),
+        LineKind::Video => judge_media(rows, offer, place, MediaKind::Video, said.mid),
+        LineKind::Application => judge_app(rows, came, place, said.mid),
+        LineKind::Unknown => Some(Why::MovedLine(said.mid)),
+    }
+}
+
+/// Why the first line that is refused is refused.
+pub fn judge_lines(rows: &[LineRow], offer: bool, lines: &[SaidLine]) -> Option<Why>
+    requires { length lines.now < 2 ^ 32 - 1 }
+    ensures { result ≡ first_refusal rows.now offer false 0 lines.now }
+{
+    let mut came = false;
+    for (place, said) in lines.iter().enumerate() {
+        let refused = judge_line(rows, offer, came, place as u32, said);
+        if refused.is_some() {
+            return refused;
+        }
+        came = came || said.kind == LineKind::Application;
+    }
+    None
+}

@@ -1,0 +1,116 @@
+//! The rows of a peer.
+ghost use Rattle.std.specs.Prelude.{◌≡◌, [], OnOk, OnErr, MatchOption, None, Some, option_map, IsTrue, IsFalse};
+ghost use Rattle.std.specs.Option.{option_copied};
+ghost use Rattle.rtc_sdp_values.specs.LineRow.{row_place, row_mid};
+ghost use Rattle.rtc_change.specs.RowChanges.{turned, halted, is_changed, changed_of};
+ghost use Rattle.rtc_change.specs.Table.{IsTable, row_of, app_of, has_mid};
+
+use crate::Plan;
+use crate::judging::{find_app, find_row, has_row};
+use crate::row_changes::{halt, turn};
+use rtc_sdp_values::{Direction, LineRow, Mid};
+use std::alloc::{AllocError, Global};
+use std::marker::Model;
+
+/// The rows of a peer, by place.
+#[derive(Debug, Drop)]
+pub struct Lines {
+    rows: Vec<LineRow>,
+}
+
+impl Model for Lines {
+    ghost use Rattle.std.specs.Prelude.{List};
+    ghost use Rattle.rtc_sdp_values.specs.declared.line_row.LineRow.{LineRow};
+    ghost use Rattle.rtc_change.specs.Table.{IsTable};
+
+    ghost Value = { List LineRow };
+
+    ghost view = { λ lines. lines.rows.items };
+
+    ghost invariant = { λ lines. IsTable lines.rows.items };
+}
+
+impl Lines {
+    /// No row yet.
+    pub fn new(alloc: Global) -> Lines
+        ensures { result ≡ [] }
+    {
+        Lines {
+            rows: Vec::new(alloc),
+        }
+    }
+
+    /// The rows, lent.
+    pub fn rows(&self) -> &[LineRow]
+        ensures value { result.now ≡ self.now }
+        ensures table { IsTable self.now }
+    {
+        self.rows.as_slice()
+    }
+
+    /// The mid and the place of the row of the data channels.
+    pub fn app(&self) -> Option<(Mid, u32)>
+        ensures { result ≡ option_map (λ row. (row_mid row, row_place row)) (app_of self.now) }
+    {
+        match find_app(self.rows.as_slice()) {
+            Some(row) => Some((row.mid(), row.place())),
+            None => None,
+        }
+    }
+
+    /// The row of a mid, lent.
+    pub fn find(&self, mid: Mid) -> Option<&LineRow>
+        ensures { option_copied result ≡ row_of self.now mid }
+    {
+        find_row(self.rows.as_slice(), mid)
+    }
+
+    /// Whether a row has a mid.
+    pub fn has_mid(&self, mid: Mid) -> bool
+        ensures { result ≡ has_mid mid self.now }
+    {
+        has_row(self.rows.as_slice(), mid)
+    }
+
+    /// Gives the live media row of a mid another direction.
+    ///
+    /// Nothing happens, and it answers false, where there is no such row or it has that direction.
+    pub fn set_direction(&mut self, mid: Mid, dir: Direction) -> bool
+        ensures changed { result ≡ is_changed (turned dir) (row_of self.old mid) }
+        ensures rows { self.new ≡ changed_of (turned dir) mid self.old }
+    {
+        let Some(row) = find_row(self.rows.as_slice(), mid) else {
+            return false;
+        };
+        let Some(turned) = turn(row, dir) else {
+            return false;
+        };
+        self.rows[turned.place() as usize] = turned;
+        true
+    }
+
+    /// Stops the live media row of a mid for good.
+    ///
+    /// Nothing happens, and it answers false, where there is no such row.
+    pub fn stop(&mut self, mid: Mid) -> bool
+        ensures changed { result ≡ is_changed halted (row_of self.old mid) }
+        ensures rows { self.new ≡ changed_of halted mid self.old }
+    {
+        let Some(row) = find_row(self.rows.as_slice(), mid) else {
+            return false;
+        };
+        let Some(halted) = halt(row) else {
+            return false;
+        };
+        self.rows[halted.place() as usize] = halted;
+        true
+    }
+
+    /// Replaces the rows by those of a plan.
+    pub fn commit(&mut self, plan: Plan)
+        requires { IsTable plan.rows }
+        ensures { self.new ≡ plan.rows }
+    {
+        self.rows = plan.rows.into_vec();
+    }
+}

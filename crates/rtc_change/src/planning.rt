@@ -1,0 +1,104 @@
+//! Plans of texts.
+ghost use Rattle.std.specs.Prelude.{◌≡◌, ◌+◌, ◌<◌, ◌≤◌, ◌^◌, ◌-◌, Bool, true, false, length, List, IfOk, Option, Some, None, IfNone, map};
+ghost use Rattle.rtc_sdp_values.specs.declared.line_row.LineRow.{LineRow};
+ghost use Rattle.rtc_change.specs.PendingOffer.{added_mids};
+ghost use Rattle.rtc_change.specs.Plans.{PlansText, plan_of, inconsistent, asked_by};
+ghost use Rattle.rtc_change.specs.SaidLines.{said_lines};
+ghost use Rattle.rtc_change.specs.Distinct.{DistinctMids};
+ghost use Rattle.rtc_change.specs.Verdict.{first_refusal};
+ghost use Rattle.rtc_change.specs.Table.{IsTable};
+
+use crate::judging::judge_lines;
+use crate::taking::{find_new_places, find_removed, take_lines};
+use crate::wrong_lines::judge_new_lines;
+use crate::{Plan, Refusal, SaidLine, SdpPendingOffer, View, Why};
+use rtc_sdp_values::{LineRow, Sdp};
+use std::alloc::{AllocError, Global};
+
+// Why the lines of a text do not fit together; where they do, their mids are distinct.
+#[tactic(auto, using(crate::proofs::ConsistentMids::distinct_said))]
+fn find_inconsistency(text: &Sdp) -> Option<Refusal>
+    ensures cause { result ≡ inconsistent text.now }
+    ensures distinct { IfNone result (DistinctMids (map (λ line. line.mid) (said_lines text.now))) }
+{
+    match text.assert_consistency() {
+        Ok(()) => None,
+        Err(error) => Some(Refusal::Sdp(error)),
+    }
+}
+
+fn make_plan(
+    alloc: Global,
+    rows: &[LineRow],
+    offer: bool,
+    lines: &[SaidLine],
+) -> Result<Plan, AllocError>
+    requires few { length lines.now < 2 ^ 32 - 1 }
+    requires table { IsTable rows.now }
+    requires allowed { first_refusal rows.now offer false 0 lines.now ≡ None }
+    requires distinct { DistinctMids (map (λ line. line.mid) lines.now) }
+    ensures plan { IfOk result (λ plan. plan ≡ plan_of rows.now offer lines.now) }
+    ensures table { IfOk result (λ plan. IsTable plan.rows) }
+{
+    let after = take_lines(alloc, rows, offer, lines)?;
+    let removed = find_removed(alloc, rows, lines)?;
+    let added = find_new_places(alloc, rows, lines)?;
+    Ok(Plan {
+        rows: after,
+        removed,
+        added,
+    })
+}
+
+/// What an offer does to the rows of a view, or why it is refused (RFC 8829, section 5.10).
+#[tactic(auto, unfolding(crate::specs::Plans::verdict, crate::specs::Plans::head_verdict))]
+pub fn plan_offer_text(alloc: Global, view: &View<'_>, offer: &Sdp) -> Result<Plan, Refusal>
+    requires rows { length view.now.lines < 2 ^ 32 - 1 }
+    requires lines { length offer.now.lines < 2 ^ 32 - 1 }
+    ensures plans { PlansText view.now None offer.now result }
+    ensures table { IfOk result (λ plan. IsTable plan.rows) }
+{
+    let lines = SaidLine::all_of(alloc, offer)?;
+    if lines.is_empty() {
+        return Err(Refusal::RemoteSdp(Why::NoLines));
+    }
+    if let Some(refusal) = find_inconsistency(offer) {
+        return Err(refusal);
+    }
+    let rows = view.lines.rows();
+    if let Some(why) = judge_lines(rows, true, lines.as_slice()) {
+        return Err(Refusal::RemoteSdp(why));
+    }
+    let plan = make_plan(alloc, rows, true, lines.as_slice())?;
+    Ok(plan)
+}
+
+/// What an answer does to the rows of a view, or why it is refused (RFC 8829, section 5.11).
+#[tactic(auto, unfolding(crate::specs::Plans::verdict, crate::specs::Plans::head_verdict))]
+pub fn plan_answer_text(
+    alloc: Global,
+    view: &View<'_>,
+    token: &SdpPendingOffer,
+    answer: &Sdp,
+) -> Result<Plan, Refusal>
+    requires rows { length view.now.lines + length (added_mids token.now.changes) < 2 ^ 32 - 1 }
+    requires lines { length answer.now.lines < 2 ^ 32 - 1 }
+    ensures plans { PlansText view.now (Some (asked_by view.now.lines token.now)) answer.now result }
+    ensures table { IfOk result (λ plan. IsTable plan.rows) }
+{
+    let lines = SaidLine::all_of(alloc, answer)?;
+    if let Some(refusal) = find_inconsistency(answer) {
+        return Err(refusal);
+    }
+    let rows = view.lines.rows();
+    if let Some(why) = judge_lines(rows, false, lines.as_slice()) {
+        return Err(Refusal::RemoteSdp(why));
+    }
+    let added = token.changes().as_new_medias(alloc, rows.len() as u32)?;
+    let new = find_new_places(alloc, rows, lines.as_slice())?;
+    if let Some(wrong) = judge_new_lines(rows, added.as_slice(), new.as_slice(), lines.as_slice()) {
+        return Err(Refusal::RemoteSdp(Why::WrongNewLines(wrong)));
+    }
+    let plan = make_plan(alloc, rows, false, lines.as_slice())?;
+    Ok(plan)
+}

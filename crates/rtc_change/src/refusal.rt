@@ -1,0 +1,33 @@
+//! Why there is no plan for a text.
+ghost use Rattle.std.specs.Prelude.{◌≡◌};
+ghost use Rattle.rtc_change.specs.declared.refusal.Refusal.TheVariants.{Alloc};
+
+use crate::Why;
+use rtc_sdp_values::SdpError;
+use std::alloc::{AllocError, AllocFailed};
+
+/// Why there is no plan for a text.
+#[derive(Debug, PartialEq, Eq, Drop)]
+pub enum Refusal {
+    RemoteSdp(Why),
+    /// The lines of the text do not fit together.
+    Sdp(SdpError),
+    /// There was too little memory.
+    Alloc,
+}
+
+impl From<AllocError> for Refusal {
+    ghost from_gives = { λ _ e. e ≡ Alloc };
+
+    fn from(_error: AllocError) -> Refusal {
+        Refusal::Alloc
+    }
+}
+
+impl<T: Drop> From<AllocFailed<T>> for Refusal {
+    ghost from_gives = { λ _ e. e ≡ Alloc };
+
+    fn from(_error: AllocFailed<T>) -> Refusal {
+        Refusal::Alloc
+    }
+}

@@ -1,0 +1,47 @@
+//! Why a text of the other side is refused.
+ghost use Rattle.std.specs.Prelude.{Some};
+ghost use Rattle.rtc_change.specs.WhyText as text;
+
+use crate::NewLine;
+use rtc_sdp_values::Mid;
+use std::error::Error;
+use std::fmt;
+
+/// Why a text of the other side is refused. Nothing but the counter has changed.
+#[derive(Debug, PartialEq, Eq, Drop)]
+pub enum Why {
+    /// An offer says no line.
+    NoLines,
+    /// A line stands at another place than its row, or is of a kind that its row or its place cannot be.
+    MovedLine(Mid),
+    /// A new line of an offer stands at the place of a live row.
+    PlaceTaken(Mid),
+    /// A new line of an answer stands at the place of a row (RFC 8829, section 5.2.2).
+    AnswerRecycles(Mid),
+    WrongNewLines(NewLine),
+}
+
+impl fmt::Display for Why {
+    ghost output = { λ why. Some (text.why_text why) };
+
+    #[tactic(auto, unfolding(crate::specs::WhyText::why_text))]
+    fn fmt<W: fmt::Write>(&self, f: &mut fmt::Formatter<W>) -> fmt::Result {
+        match self {
+            Why::NoLines => f.write_str("No m-lines in offer"),
+            Why::MovedLine(mid) | Why::PlaceTaken(mid) => {
+                let mid = mid.as_str();
+                write!(f, "Changed order for m-line with mid: {mid}")
+            }
+            Why::AnswerRecycles(mid) => {
+                let mid = mid.as_str();
+                write!(
+                    f,
+                    "Answer recycles stopped m-line (not permitted per RFC 8829 §5.2.2): {mid}"
+                )
+            }
+            Why::WrongNewLines(wrong) => write!(f, "{wrong}"),
+        }
+    }
+}
+
+impl Error for Why {}

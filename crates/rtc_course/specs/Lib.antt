@@ -1,6 +1,0 @@
-pub mod PairState
-pub mod Performs
-pub mod Runs
-pub mod Fresh
-pub mod Bounds
-pub mod Formed

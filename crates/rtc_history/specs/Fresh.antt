@@ -1,0 +1,17 @@
+-- A pair at its start.
+use Rattle.std.specs.Prelude.{◌≡◌, []}
+use Rattle.rtc_peer_state.specs.declared.peer.Peer.{Peer}
+use Rattle.rtc_history.specs.PairState.{PairState}
+
+-- there are no rows, nothing is staged, and the counter is 0
+pub record IsJustBuilt {N : Type 0} (peer : Peer N) : Type 0 where
+  pub lines : peer.lines ≡ []
+  pub staged : peer.staged ≡ []
+  pub counter : peer.counter ≡ 0
+
+-- both peers were just built, and no text was made and no step performed
+pub record IsFresh {N : Type 0} (pair : PairState N) : Type 0 where
+  pub left : IsJustBuilt pair.left.core
+  pub right : IsJustBuilt pair.right.core
+  pub texts : pair.texts ≡ []
+  pub size : pair.size ≡ 0

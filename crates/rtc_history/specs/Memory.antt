@@ -1,0 +1,44 @@
+-- Which replies tell a want of memory.
+use Rattle.std.specs.Prelude.{Bool, true, false, ◌||◌, List}
+use Rattle.std.specs.List.{list_any}
+use Rattle.rtc_peer_state.specs.declared.rtc_error.RtcError.{RtcError}
+use Rattle.rtc_peer_state.specs.declared.rtc_error.RtcError.TheVariants.{RemoteSdp, Sdp, ChangesOutOfOrder, Alloc as PeerAlloc}
+use Rattle.rtc_history.specs.declared.op_answer.OpAnswer.{OpAnswer}
+use Rattle.rtc_history.specs.declared.op_answer.OpAnswer.TheVariants.{Mid, Changed, NoLine, Alloc as OpAlloc}
+use Rattle.rtc_history.specs.declared.made.Made.{Made}
+use Rattle.rtc_history.specs.declared.made.Made.TheVariants.{NotAsked, Nothing, Offer, Alloc as MadeAlloc}
+use Rattle.rtc_history.specs.declared.outcome.Outcome.{Outcome}
+use Rattle.rtc_history.specs.declared.outcome.Outcome.TheVariants.{Negotiated, Answered, Finished, Refused, NoSuch, Alloc}
+use Rattle.rtc_history.specs.declared.reply.Reply.{Reply}
+
+abbrev pub answer_lacks : OpAnswer → Bool
+answer_lacks (Mid mid) = false
+answer_lacks (Changed changed) = false
+answer_lacks NoLine = false
+answer_lacks OpAlloc = true
+
+abbrev pub answers_lack : List OpAnswer → Bool
+answers_lack answers = list_any answer_lacks answers
+
+abbrev pub made_lacks : Made → Bool
+made_lacks NotAsked = false
+made_lacks Nothing = false
+made_lacks (Offer k) = false
+made_lacks MadeAlloc = true
+
+abbrev pub error_lacks : RtcError → Bool
+error_lacks (RemoteSdp why) = false
+error_lacks (Sdp error) = false
+error_lacks ChangesOutOfOrder = false
+error_lacks PeerAlloc = true
+
+abbrev pub outcome_lacks : Outcome → Bool
+outcome_lacks (Negotiated answers made) = made_lacks made || answers_lack answers
+outcome_lacks (Answered k) = false
+outcome_lacks Finished = false
+outcome_lacks (Refused error) = error_lacks error
+outcome_lacks NoSuch = false
+outcome_lacks Alloc = true
+
+abbrev pub lacks_memory : Reply → Bool
+lacks_memory reply = outcome_lacks reply.outcome

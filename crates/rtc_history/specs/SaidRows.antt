@@ -1,0 +1,45 @@
+-- What the texts that steps make say: the rows of the side that makes them.
+use Rattle.std.specs.Prelude.{◌≡◌, Bool, true, false, not, List, [], ◌∷◌, ◌++◌, map, length, Option, Some, None}
+use Rattle.std.specs.List.{list_any}
+use Rattle.rtc_sdp_values.specs.Sdp.{inconsistency}
+use Rattle.rtc_sdp_values.specs.declared.direction.Direction.TheVariants.{SendRecv}
+use Rattle.rtc_sdp_values.specs.declared.line_kind.LineKind.TheVariants.{Application}
+use Rattle.rtc_sdp_values.specs.declared.line_row.LineRow.{LineRow}
+use Rattle.rtc_sdp_values.specs.declared.line_row.LineRow.TheVariants.{Media, App}
+use Rattle.rtc_sdp_values.specs.declared.sdp.Sdp.{Sdp}
+use Rattle.rtc_change.specs.declared.said_line.SaidLine.{SaidLine}
+use Rattle.rtc_change.specs.SaidLines.{said_lines}
+use Rattle.rtc_peer_state.specs.Texts.{is_stopped, line_kind}
+use Rattle.rtc_history.specs.declared.side.Side.{Side}
+use Rattle.rtc_history.specs.declared.step.Step.{Step}
+use Rattle.rtc_history.specs.declared.step.Step.TheVariants.{Negotiate, AcceptOffer}
+use Rattle.rtc_history.specs.declared.made.Made.TheVariants.{Offer}
+use Rattle.rtc_history.specs.declared.outcome.Outcome.{Outcome}
+use Rattle.rtc_history.specs.declared.outcome.Outcome.TheVariants.{Negotiated, Answered}
+use Rattle.rtc_history.specs.declared.table.Table.{Table}
+use Rattle.rtc_history.specs.Delivered.{ReadsBack}
+use Rattle.rtc_history.specs.Past.{Said, added}
+
+-- the line that says a row: a stopped one is rejected (RFC 8843, section 7)
+abbrev pub row_said : LineRow → SaidLine
+row_said (Media place mid kind dir stopped remote_created) = record { kind = line_kind kind; mid = mid; dir = dir; rejected = stopped }
+row_said (App place mid) = record { kind = Application; mid = mid; dir = SendRecv; rejected = false }
+
+-- whether one of the rows is live
+abbrev pub are_live : List LineRow → Bool
+are_live rows = list_any (λ row. not (is_stopped row)) rows
+
+-- One text was made, by this side. What signalling carries of it reads as it, its lines say these rows, and it fits together
+-- where one of them is live (RFC 8843, section 7.1).
+pub record SaysRows (at : Side) (offer : Bool) (rows : List LineRow) (made : List Said) : Type 0 where
+  pub text : Sdp
+  pub one : made ≡ record { at = at; offer = offer; text = text } ∷ []
+  pub carried : ReadsBack text
+  pub says : said_lines text ≡ map row_said rows
+  pub fits : are_live rows ≡ true → inconsistency text ≡ None
+
+-- An offer says the rows of its side, then those that it adds; an answer says those that it leaves; no other text is made.
+abbrev pub MakesText : Step → Outcome → Option Table → List Said → Type 0
+MakesText (Negotiate at ops apply) (Negotiated answers (Offer k)) (Some table) made = SaysRows at true (table.lines ++ added (length table.lines) ops answers) made
+MakesText (AcceptOffer at offer) (Answered k) (Some table) made = SaysRows at false table.lines made
+MakesText step outcome table made = made ≡ []

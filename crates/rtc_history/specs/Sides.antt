@@ -1,0 +1,22 @@
+-- The two peers of a pair.
+use Rattle.std.specs.Prelude.{Bool, true, false}
+use Rattle.rtc_history.specs.declared.side.Side.{Side}
+use Rattle.rtc_history.specs.declared.side.Side.TheVariants.{Left, Right}
+use Rattle.rtc_history.specs.declared.step.Step.{Step}
+use Rattle.rtc_history.specs.declared.step.Step.TheVariants.{Negotiate, AcceptOffer, AcceptAnswer}
+
+abbrev pub same_side : Side → Side → Bool
+same_side Left Left = true
+same_side Left Right = false
+same_side Right Left = false
+same_side Right Right = true
+
+abbrev pub other_side : Side → Side
+other_side Left = Right
+other_side Right = Left
+
+-- the peer that acts
+abbrev pub side_of : Step → Side
+side_of (Negotiate at ops apply) = at
+side_of (AcceptOffer at offer) = at
+side_of (AcceptAnswer at token answer) = at

@@ -1,0 +1,14 @@
+-- The size of steps: how many rows and texts they can add.
+use Rattle.std.specs.Prelude.{◌+◌, ℕ, List, [], ◌∷◌, length}
+use Rattle.rtc_history.specs.declared.step.Step.{Step}
+use Rattle.rtc_history.specs.declared.step.Step.TheVariants.{Negotiate, AcceptOffer, AcceptAnswer}
+
+-- one, and one more for each op
+abbrev pub step_size : Step → ℕ
+step_size (Negotiate at ops apply) = 1 + length ops
+step_size (AcceptOffer at offer) = 1
+step_size (AcceptAnswer at token answer) = 1
+
+abbrev pub steps_size : List Step → ℕ
+steps_size [] = 0
+steps_size (step ∷ steps) = step_size step + steps_size steps

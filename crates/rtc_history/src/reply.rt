@@ -1,0 +1,48 @@
+//! Replies to steps.
+ghost use Rattle.std.specs.Prelude.{◌≡◌};
+ghost use Rattle.rtc_history.specs.Memory.{lacks_memory, outcome_lacks, answers_lack};
+ghost use Rattle.rtc_history.specs.declared.op_answer.OpAnswer.{OpAnswer};
+
+use crate::{Made, OpAnswer, Outcome, Table};
+use rtc_peer_state::RtcError;
+
+/// What is replied to a step.
+#[derive(Debug, PartialEq, Eq, Drop)]
+pub struct Reply {
+    pub outcome: Outcome,
+    /// The acting peer's rows after the step; None exactly where the outcome is `Alloc`.
+    pub table: Option<Table>,
+}
+
+/// Whether an op lacked memory.
+pub fn do_answers_lack(answers: &[OpAnswer]) -> bool
+    ensures { result ≡ answers_lack answers.now }
+{
+    for answer in answers {
+        if let OpAnswer::Alloc = answer {
+            return true;
+        }
+    }
+    false
+}
+
+fn does_outcome_lack(outcome: &Outcome) -> bool
+    ensures { result ≡ outcome_lacks outcome.now }
+{
+    match outcome {
+        Outcome::Negotiated { answers, made } => *made == Made::Alloc
+            || do_answers_lack(answers.as_slice()),
+        Outcome::Refused(RtcError::Alloc) => true,
+        Outcome::Alloc => true,
+        _ => false,
+    }
+}
+
+impl Reply {
+    /// Whether it tells a want of memory.
+    pub fn is_out_of_memory(&self) -> bool
+        ensures { result ≡ lacks_memory self.now }
+    {
+        does_outcome_lack(&self.outcome)
+    }
+}

@@ -1,0 +1,9 @@
+//! Tables that replies show.
+use rtc_sdp_values::LineRow;
+use rtc_wire::Seq;
+
+/// What the acting peer holds after a step.
+#[derive(Debug, PartialEq, Eq, Drop)]
+pub struct Table {
+    pub lines: Seq<LineRow>,
+}

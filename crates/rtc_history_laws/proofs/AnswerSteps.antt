@@ -1,0 +1,170 @@
+-- A step that hands over an answer is sound, and its entry says what it leaves.
+use Rattle.std.proofs.Common.{◌≡◌, ◌≢◌, ◌≤◌, ◌<◌, ◌+◌, ◌^◌, ◌==◌, ℕ, List, ◌∷◌, length, Bool, true, false, ◌&&◌, Option, Some, None, refl, sym, ◌∙◌, ap, arith, inl, inr}
+use Rattle.std.specs.Prelude.{slice_get, slice_set, is_some}
+use Rattle.std.proofs.lemmas.Bool.{and_right, eq-eqb, ne_eqb}
+use Rattle.rtc_sdp_values.specs.declared.line_row.LineRow.{LineRow}
+use Rattle.rtc_sdp_values.specs.declared.sdp.Sdp.{Sdp}
+use Rattle.rtc_change.specs.Held.{Held, Asked}
+use Rattle.rtc_change.specs.PendingOffer.{PendingOffer}
+use Rattle.rtc_change.specs.Plans.{asked_by}
+use Rattle.rtc_change.specs.SaidLines.{said_lines}
+use Rattle.rtc_change.specs.Taken.{table_after}
+use Rattle.rtc_peer_state.specs.declared.peer.Peer.{Peer}
+use Rattle.rtc_peer_state.specs.declared.rtc_error.RtcError.{RtcError}
+use Rattle.rtc_peer_state.specs.declared.rtc_error.RtcError.TheVariants.{RemoteSdp, Sdp as TextRefused, ChangesOutOfOrder, Alloc as PeerAlloc}
+use Rattle.rtc_peer_state.specs.Draws.{Draws}
+use Rattle.rtc_peer_state.specs.Calls.{raised}
+use Rattle.rtc_history.specs.declared.side.Side.{Side}
+use Rattle.rtc_history.specs.declared.step.Step.TheVariants.{AcceptAnswer}
+use Rattle.rtc_history.specs.declared.outcome.Outcome.{Outcome}
+use Rattle.rtc_history.specs.declared.outcome.Outcome.TheVariants.{Finished, Refused, NoSuch, Alloc}
+use Rattle.rtc_history.specs.declared.table.Table.{Table}
+use Rattle.rtc_history.specs.Past.{Entry, Said, before, rows_or, handed, is_right, was_handed, makes}
+use Rattle.rtc_history.specs.Sound.{TakesAnswer, IsSound, asked_in}
+use Rattle.rtc_history.specs.declared.kept.Kept.{Kept}
+use Rattle.rtc_history.specs.PairState.{PairState, peer_at, token_for, held_token, spent}
+use Rattle.rtc_history.specs.Performs.{HandsAnswer}
+use Rattle.rtc_history_laws.proofs.Tells.{Tells, TokenTells, raised-small}
+use Rattle.rtc_history_laws.proofs.TokenEntries.{StaysOrRight, bare, spent_tells}
+use Rattle.rtc_history_laws.proofs.Around.{Around, entry, goes_on, quiet_tells}
+use Rattle.rtc_history_laws.proofs.OfferSteps.{taken_within}
+
+-- the same of equal tokens, texts and rows
+answer_by : (held held' right right' : Bool) (asked asked' : Asked) (text text' : Option Sdp) (rows rows' : List LineRow) (outcome : Outcome) (after : List LineRow)
+    → held' ≡ held → right' ≡ right → asked' ≡ asked → text' ≡ text → rows' ≡ rows
+    → TakesAnswer held right asked text (record { lines = rows }) outcome after → TakesAnswer held' right' asked' text' (record { lines = rows' }) outcome after
+answer_by held held' right right' asked asked' text text' rows rows' outcome after same_held same_right same_asked same_text same_rows takes =
+    rw (same_held, same_right, same_asked, same_text, same_rows) takes
+
+no_text : (right : Bool) (asked : Asked) (view : Held) (after : List LineRow) → after ≡ view.lines → TakesAnswer true right asked None view NoSuch after
+no_text true asked view after e = e
+no_text false asked view after e = e
+
+now_right : (counter size id : ℕ) (right : Bool) → counter ≡ raised id → (counter == id + 1) ≡ right → id + 1 ≤ counter → counter ≤ size → size < 2 ^ 32 → right ≡ true
+now_right counter size id right e is older low small =
+    let next : raised id ≡ id + 1 = raised-small id size (omega arith) small in sym is ∙ eq-eqb counter (id + 1) (e ∙ next)
+
+not_right : (counter size id : ℕ) (right : Bool) → counter ≢ raised id → (counter == id + 1) ≡ right → id + 1 ≤ counter → counter ≤ size → size < 2 ^ 32 → right ≡ false
+not_right counter size id right differs is older low small =
+    let next : raised id ≡ id + 1 = raised-small id size (omega arith) small in sym is ∙ ne_eqb counter (id + 1) (λ e. differs (e ∙ sym next))
+
+-- what the token asks is what the past says of its offer
+asked_told : (past : List Entry) (at : Side) (counter t : ℕ) (found : Option Kept) (token : PendingOffer) (rows : List LineRow)
+    → TokenTells past at counter t found → token_for at found ≡ Some token → before at past ≡ rows → asked_in at t past ≡ asked_by rows token
+asked_told past at counter t found token rows told is same =
+    let asked : List LineRow → Asked = λ rows. record { added = rows } in
+    rw same (ap asked (sym (told.changes token is (length rows))))
+
+-- the reply to an answer that is handed over
+pub answer_reply : {N : Type 0} (draws : Draws N) (past : List Entry) (at : Side) (t a size : ℕ) (found : Option Kept) (token : Option PendingOffer) (text : Option Sdp) (old new : Peer N) (kept kept' : List Kept) (outcome : Outcome) (table : Option Table)
+    → token_for at found ≡ token → TokenTells past at old.counter t found → old.counter ≤ size → size < 2 ^ 32 → handed false at a past ≡ text → before at past ≡ old.lines
+    → HandsAnswer draws t token text old kept outcome table new kept' → IsSound past (AcceptAnswer at t a) outcome table
+answer_reply draws past at t a size found None None old new kept kept' Alloc None is told low small said rows h = tt
+answer_reply draws past at t a size found None (Some text) old new kept kept' Alloc None is told low small said rows h = tt
+answer_reply draws past at t a size found (Some token) None old new kept kept' Alloc None is told low small said rows h = tt
+answer_reply draws past at t a size found (Some token) (Some text) old new kept kept' Alloc None is told low small said rows h = tt
+answer_reply draws past at t a size found None None old new kept kept' NoSuch (Some table) is told low small said rows h =
+    answer_by false _ (is_right at t past) _ (asked_in at t past) _ None _ old.lines _ NoSuch table.lines (sym told.held ∙ ap is_some is) refl refl said rows h.1
+answer_reply draws past at t a size found None (Some text) old new kept kept' NoSuch (Some table) is told low small said rows h =
+    answer_by false _ (is_right at t past) _ (asked_in at t past) _ (Some text) _ old.lines _ NoSuch table.lines (sym told.held ∙ ap is_some is) refl refl said rows h.1
+answer_reply draws past at t a size found (Some token) None old new kept kept' NoSuch (Some table) is told low small said rows h =
+    answer_by true _ (is_right at t past) _ (asked_in at t past) _ None _ old.lines _ NoSuch table.lines (sym told.held ∙ ap is_some is) refl refl said rows
+    (no_text (is_right at t past) (asked_in at t past) (record { lines = old.lines }) table.lines h.1)
+answer_reply draws past at t a size found (Some token) (Some text) old new kept kept' Finished (Some table) is told low small said rows h =
+    answer_by true _ true _ (asked_by old.lines token) _ (Some text) _ old.lines _ Finished table.lines (sym told.held ∙ ap is_some is)
+    (now_right old.counter size token.id (is_right at t past) h.0.right (told.right token is) (told.older token is) low small)
+    (asked_told past at old.counter t found token old.lines told is rows) said rows (h.0.passes, h.2 ∙ ap (λ p. p.lines) h.0.rest)
+answer_reply draws past at t a size found (Some token) (Some text) old new kept kept' (Refused (RemoteSdp why)) (Some table) is told low small said rows h =
+    answer_by true _ true _ (asked_by old.lines token) _ (Some text) _ old.lines _ (Refused (RemoteSdp why)) table.lines (sym told.held ∙ ap is_some is)
+    (now_right old.counter size token.id (is_right at t past) h.0.0 (told.right token is) (told.older token is) low small)
+    (asked_told past at old.counter t found token old.lines told is rows) said rows (h.0.1, h.2 ∙ ap (λ p. p.lines) h.0.2)
+answer_reply draws past at t a size found (Some token) (Some text) old new kept kept' (Refused (TextRefused error)) (Some table) is told low small said rows h =
+    answer_by true _ true _ (asked_by old.lines token) _ (Some text) _ old.lines _ (Refused (TextRefused error)) table.lines (sym told.held ∙ ap is_some is)
+    (now_right old.counter size token.id (is_right at t past) h.0.0 (told.right token is) (told.older token is) low small)
+    (asked_told past at old.counter t found token old.lines told is rows) said rows (h.0.1, h.2 ∙ ap (λ p. p.lines) h.0.2)
+answer_reply draws past at t a size found (Some token) (Some text) old new kept kept' (Refused PeerAlloc) (Some table) is told low small said rows h =
+    answer_by true _ true _ (asked_in at t past) _ (Some text) _ old.lines _ (Refused PeerAlloc) table.lines (sym told.held ∙ ap is_some is)
+    (now_right old.counter size token.id (is_right at t past) h.0.0 (told.right token is) (told.older token is) low small)
+    refl said rows (h.2 ∙ ap (λ p. p.lines) h.0.1)
+answer_reply draws past at t a size found (Some token) (Some text) old new kept kept' (Refused ChangesOutOfOrder) (Some table) is told low small said rows h =
+    answer_by true _ false _ (asked_in at t past) _ (Some text) _ old.lines _ (Refused ChangesOutOfOrder) table.lines (sym told.held ∙ ap is_some is)
+    (not_right old.counter size token.id (is_right at t past) h.0.0 (told.right token is) (told.older token is) low small)
+    refl said rows (h.2 ∙ ap (λ p. p.lines) h.0.1)
+answer_reply draws past at t a size found token text old new kept kept' outcome table is told low small said rows h = absurd h
+
+-- ---- what the entry leaves
+
+-- the peer was handed nothing
+untouched_tells : {N : Type 0} (past : List Entry) (at : Side) (t a : ℕ) (outcome : Outcome) (table : Option Table) (made : List Said) (old new : PairState N)
+    → was_handed outcome ≡ false → ((u : ℕ) → makes u outcome ≡ false) → peer_at at new ≡ peer_at at old → new.texts ≡ old.texts → rows_or true table (before at past) ≡ (peer_at at old).lines
+    → Around (AcceptAnswer at t a) made old new → Tells past old → Tells (entry (AcceptAnswer at t a) outcome table made ∷ past) new
+untouched_tells past at t a outcome table made old new unhanded unmade peer kept rows around tells =
+    quiet_tells false past (AcceptAnswer at t a) outcome table made old new (ap (λ p. length p.lines) peer) kept (ap (λ p. p.lines) peer ∙ sym rows) (ap (λ p. p.counter) peer)
+    refl refl (λ u. and_right (t == u) (was_handed outcome) unhanded) unmade around tells
+
+-- the text of a token that is held
+text_found : (at : Side) (found : Option Kept) (token : PendingOffer) → token_for at found ≡ Some token → (kept : Kept) × (found ≡ Some kept)
+text_found at None token e = absurd (let f : None ≡ Some token = e in cc)
+text_found at (Some kept) token e = (kept, refl)
+
+spent-is : (t : ℕ) (texts : List Kept) (kept : Kept) → slice_get texts t ≡ Some kept → spent t texts ≡ slice_set texts t (bare kept)
+spent-is t texts kept there = rw there refl
+
+and_true : (b : Bool) → (b && true) ≡ b
+and_true true = refl
+and_true false = refl
+
+-- the token is spent
+spends_tells : {N : Type 0} (past : List Entry) (at : Side) (t a : ℕ) (token : PendingOffer) (outcome : Outcome) (table : Table) (made : List Said) (old new : PairState N)
+    → held_token old.texts at t ≡ Some token → was_handed outcome ≡ true → ((u : ℕ) → makes u outcome ≡ false) → new.texts ≡ spent t old.texts
+    → (peer_at at new).counter ≡ (peer_at at old).counter → table.lines ≡ (peer_at at new).lines → length (peer_at at new).lines ≤ old.size
+    → StaysOrRight at (peer_at at old) old.texts t (peer_at at new)
+    → Around (AcceptAnswer at t a) made old new → Tells past old → Tells (entry (AcceptAnswer at t a) outcome (Some table) made ∷ past) new
+spends_tells past at t a token outcome table made old new is was unmade kept counter rows few right around tells =
+    let found : (kept : Kept) × (slice_get old.texts t ≡ Some kept) = text_found at (slice_get old.texts t) token is in
+    spent_tells past (entry (AcceptAnswer at t a) outcome (Some table) made) old new t found.0
+    (goes_on false past (AcceptAnswer at t a) outcome (Some table) made old new (sym rows) counter refl refl (omega (arith, few, around.size)) around)
+    right found.1 (kept ∙ spent-is t old.texts found.0 found.1) (λ u. ap (λ b. (t == u) && b) was ∙ and_true (t == u)) unmade tells
+
+-- the peer refused the answer
+refused_tells : {N : Type 0} (past : List Entry) (at : Side) (t a : ℕ) (token : PendingOffer) (error : RtcError) (table : Table) (made : List Said) (old new : PairState N)
+    → held_token old.texts at t ≡ Some token → new.texts ≡ spent t old.texts → (peer_at at new).lines ≡ (peer_at at old).lines
+    → (peer_at at new).counter ≡ (peer_at at old).counter → table.lines ≡ (peer_at at new).lines
+    → Around (AcceptAnswer at t a) made old new → Tells past old → Tells (entry (AcceptAnswer at t a) (Refused error) (Some table) made ∷ past) new
+refused_tells past at t a token error table made old new is kept lines counter rows around tells =
+    let few : length (peer_at at old).lines ≤ old.size = (tells.sides at).few in
+    let same : length (peer_at at new).lines ≡ length (peer_at at old).lines = ap length lines in
+    spends_tells past at t a token (Refused error) table made old new is refl (λ u. refl) kept counter rows (omega arith) (inl same) around tells
+
+-- A step that hands over an answer.
+pub answer_tells : {N : Type 0} (draws : Draws N) (past : List Entry) (at : Side) (t a : ℕ) (token : Option PendingOffer) (text : Option Sdp) (old new : PairState N) (outcome : Outcome) (table : Option Table) (made : List Said)
+    → ((said : Sdp) → text ≡ Some said → length said.lines ≤ old.size) → held_token old.texts at t ≡ token
+    → HandsAnswer draws t token text (peer_at at old) old.texts outcome table (peer_at at new) new.texts
+    → Around (AcceptAnswer at t a) made old new → Tells past old → Tells (entry (AcceptAnswer at t a) outcome table made ∷ past) new
+answer_tells draws past at t a None None old new Alloc None made few is h around tells =
+    untouched_tells past at t a Alloc None made old new refl (λ u. refl) h.peer h.texts_kept (sym (tells.sides at).rows) around tells
+answer_tells draws past at t a None (Some text) old new Alloc None made few is h around tells =
+    untouched_tells past at t a Alloc None made old new refl (λ u. refl) h.peer h.texts_kept (sym (tells.sides at).rows) around tells
+answer_tells draws past at t a (Some token) None old new Alloc None made few is h around tells =
+    untouched_tells past at t a Alloc None made old new refl (λ u. refl) h.peer h.texts_kept (sym (tells.sides at).rows) around tells
+answer_tells draws past at t a (Some token) (Some text) old new Alloc None made few is h around tells =
+    untouched_tells past at t a Alloc None made old new refl (λ u. refl) h.peer h.texts_kept (sym (tells.sides at).rows) around tells
+answer_tells draws past at t a None None old new NoSuch (Some table) made few is h around tells =
+    untouched_tells past at t a NoSuch (Some table) made old new refl (λ u. refl) h.0.peer h.0.texts_kept h.1 around tells
+answer_tells draws past at t a None (Some text) old new NoSuch (Some table) made few is h around tells =
+    untouched_tells past at t a NoSuch (Some table) made old new refl (λ u. refl) h.0.peer h.0.texts_kept h.1 around tells
+answer_tells draws past at t a (Some token) None old new NoSuch (Some table) made few is h around tells =
+    untouched_tells past at t a NoSuch (Some table) made old new refl (λ u. refl) h.0.peer h.0.texts_kept h.1 around tells
+answer_tells draws past at t a (Some token) (Some text) old new Finished (Some table) made few is h around tells =
+    let most : length (table_after (peer_at at old).lines (said_lines text) false) ≤ old.size = taken_within (peer_at at old).lines text false old.size (tells.sides at).few (few text refl) in
+    let rows : length (peer_at at new).lines ≡ length (table_after (peer_at at old).lines (said_lines text) false) = ap (λ p. length p.lines) h.0.rest in
+    spends_tells past at t a token Finished table made old new is refl (λ u. refl) h.1 (ap (λ p. p.counter) h.0.rest) h.2 (omega (arith, most, rows)) (inr (token, is, h.0.right)) around tells
+answer_tells draws past at t a (Some token) (Some text) old new (Refused (RemoteSdp why)) (Some table) made few is h around tells =
+    refused_tells past at t a token (RemoteSdp why) table made old new is h.1 (ap (λ p. p.lines) h.0.2) (ap (λ p. p.counter) h.0.2) h.2 around tells
+answer_tells draws past at t a (Some token) (Some text) old new (Refused (TextRefused error)) (Some table) made few is h around tells =
+    refused_tells past at t a token (TextRefused error) table made old new is h.1 (ap (λ p. p.lines) h.0.2) (ap (λ p. p.counter) h.0.2) h.2 around tells
+answer_tells draws past at t a (Some token) (Some text) old new (Refused PeerAlloc) (Some table) made few is h around tells =
+    refused_tells past at t a token PeerAlloc table made old new is h.1 (ap (λ p. p.lines) h.0.1) (ap (λ p. p.counter) h.0.1) h.2 around tells
+answer_tells draws past at t a (Some token) (Some text) old new (Refused ChangesOutOfOrder) (Some table) made few is h around tells =
+    refused_tells past at t a token ChangesOutOfOrder table made old new is h.1 (ap (λ p. p.lines) h.0.1) (ap (λ p. p.counter) h.0.1) h.2 around tells
+answer_tells draws past at t a token text old new outcome table made few is h around tells = absurd h

@@ -1,0 +1,94 @@
+-- What surrounds what the acting peer of a step does, and steps that add no row and no text.
+use Rattle.std.proofs.Common.{◌≡◌, ◌≤◌, ◌<◌, ◌+◌, ◌^◌, ℕ, List, ◌∷◌, length, Bool, true, false, not, ◌&&◌, cond, Option, Some, None, refl, sym, ◌∙◌, ap, arith}
+use Rattle.std.specs.Prelude.{slice_get, option_map}
+use Rattle.std.proofs.lemmas.List.{length-map}
+use Rattle.std.proofs.lemmas.Option.{slice_get-map}
+use Rattle.rtc_sdp_values.specs.declared.sdp.Sdp.{Sdp}
+use Rattle.rtc_history.specs.declared.side.Side.{Side}
+use Rattle.rtc_history.specs.declared.step.Step.{Step}
+use Rattle.rtc_history.specs.declared.step.Step.TheVariants.{Negotiate, AcceptOffer, AcceptAnswer}
+use Rattle.rtc_history.specs.declared.outcome.Outcome.{Outcome}
+use Rattle.rtc_history.specs.declared.table.Table.{Table}
+use Rattle.rtc_history.specs.Sides.{same_side, other_side, side_of}
+use Rattle.rtc_history.specs.Sizes.{step_size}
+use Rattle.rtc_history.specs.Past.{Entry, Said, before, rows_or, texts, said_for, handed, spends, moves, makes}
+use Rattle.rtc_history.specs.declared.kept.Kept.{Kept}
+use Rattle.rtc_history.specs.PairState.{PairState, peer_at, said_of, text_for, handed_text}
+use Rattle.rtc_history.specs.Performs.{made_by}
+use Rattle.rtc_history_laws.proofs.Tells.{Tells}
+use Rattle.rtc_history_laws.proofs.Entries.{Goes, unmade_tells}
+use Rattle.rtc_history_laws.proofs.TokenEntries.{All-slice_get}
+
+abbrev pub entry : Step → Outcome → Option Table → List Said → Entry
+entry step outcome table made = record { step = step; outcome = outcome; table = table; made = made }
+
+-- what is known of a step besides what its peer does
+pub record Around {N : Type 0} (step : Step) (made : List Said) (old new : PairState N) : Type 0 where
+  pub other : peer_at (other_side (side_of step)) new ≡ peer_at (other_side (side_of step)) old
+  pub size : new.size ≡ old.size + step_size step
+  pub small : new.size < 2 ^ 32
+  pub made_is : made ≡ made_by old new
+
+one_at_least : (step : Step) → 1 ≤ step_size step
+one_at_least (Negotiate at ops apply) = omega arith
+one_at_least (AcceptOffer at offer) = omega arith
+one_at_least (AcceptAnswer at token answer) = omega arith
+
+pub size_grows : {N : Type 0} (step : Step) (made : List Said) (old new : PairState N) → Around step made old new → old.size + 1 ≤ new.size
+size_grows step made old new around = omega (arith, one_at_least step, around.size)
+
+pub goes_on : {N : Type 0} (moved : Bool) (past : List Entry) (step : Step) (outcome : Outcome) (table : Option Table) (made : List Said) (old new : PairState N)
+    → (peer_at (side_of step) new).lines ≡ rows_or true table (before (side_of step) past)
+    → (peer_at (side_of step) new).counter ≡ cond moved ((peer_at (side_of step) old).counter + 1) (peer_at (side_of step) old).counter
+    → moves (side_of step) step outcome ≡ moved → moves (other_side (side_of step)) step outcome ≡ false
+    → length (peer_at (side_of step) new).lines ≤ new.size → Around step made old new → Goes moved past (entry step outcome table made) old new
+goes_on moved past step outcome table made old new rows counter mine theirs few around = record {
+  rows = rows;
+  counter = counter;
+  other = around.other;
+  mine = mine;
+  theirs = theirs;
+  few = few;
+  grows = size_grows step made old new around;
+  small = around.small;
+  made = around.made_is;
+}
+
+-- A step that leaves as many rows, and texts as they were.
+pub quiet_tells : {N : Type 0} (moved : Bool) (past : List Entry) (step : Step) (outcome : Outcome) (table : Option Table) (made : List Said) (old new : PairState N)
+    → length (peer_at (side_of step) new).lines ≡ length (peer_at (side_of step) old).lines → new.texts ≡ old.texts
+    → (peer_at (side_of step) new).lines ≡ rows_or true table (before (side_of step) past)
+    → (peer_at (side_of step) new).counter ≡ cond moved ((peer_at (side_of step) old).counter + 1) (peer_at (side_of step) old).counter
+    → moves (side_of step) step outcome ≡ moved → moves (other_side (side_of step)) step outcome ≡ false
+    → ((t : ℕ) → spends t step outcome ≡ false) → ((t : ℕ) → makes t outcome ≡ false)
+    → Around step made old new → Tells past old → Tells (entry step outcome table made ∷ past) new
+quiet_tells moved past step outcome table made old new lines kept rows counter mine theirs unspent unmade around tells =
+    let few : length (peer_at (side_of step) old).lines ≤ old.size = (tells.sides (side_of step)).few in
+    let grows : old.size + 1 ≤ new.size = size_grows step made old new around in
+    unmade_tells moved past (entry step outcome table made) old new (goes_on moved past step outcome table made old new rows counter mine theirs (omega arith) around) lines kept unspent unmade tells
+
+-- ---- texts that are handed over
+
+-- what the past says of a text is what is kept of it
+pub handed-told : {N : Type 0} (past : List Entry) (pair : PairState N) (offer : Bool) (at : Side) (k : ℕ) → Tells past pair → handed offer at k past ≡ handed_text offer pair.texts at k
+handed-told past pair offer at k tells = ap (λ said. said_for offer at (slice_get said k)) (sym tells.says) ∙ ap (said_for offer at) (slice_get-map said_of pair.texts k) ∙ same (slice_get pair.texts k)
+  where
+    same : (kept : Option Kept) → said_for offer at (option_map said_of kept) ≡ text_for offer at kept
+    same None = refl
+    same (Some kept) = refl
+
+-- how many texts there are
+pub length-told : {N : Type 0} (past : List Entry) (pair : PairState N) → Tells past pair → length (texts past) ≡ length pair.texts
+length-told past pair tells = ap length (sym tells.says) ∙ length-map pair.texts said_of
+
+-- the text that is handed over is one of the pair's
+pub text_within : {N : Type 0} (past : List Entry) (pair : PairState N) (offer : Bool) (at : Side) (k : ℕ) (text : Sdp) → Tells past pair → handed_text offer pair.texts at k ≡ Some text → length text.lines ≤ pair.size
+text_within past pair offer at k text tells is = by (slice_get pair.texts k) refl is
+  where
+    picked : (b : Bool) (kept : Kept) → slice_get pair.texts k ≡ Some kept → cond b (Some kept.text) None ≡ Some text → length text.lines ≤ pair.size
+    picked true kept there e = let same : kept.text ≡ text = cc in rw (← same) (All-slice_get (λ (one : Kept). length one.text.lines ≤ pair.size) pair.texts k kept there tells.each)
+    picked false kept there e = absurd (let f : None ≡ Some text = e in cc)
+
+    by : (found : Option Kept) → slice_get pair.texts k ≡ found → text_for offer at found ≡ Some text → length text.lines ≤ pair.size
+    by None there e = absurd (let f : None ≡ Some text = e in cc)
+    by (Some kept) there e = picked (cond offer kept.offer (not kept.offer) && not (same_side kept.at at)) kept there e

@@ -1,0 +1,166 @@
+-- Ops as a course sees them: what they leave, stage and add is said by the rows without their mids. They leave the names of rows.
+use Rattle.std.proofs.Common.{◌≡◌, ◌+◌, ℕ, Bool, true, false, ◌||◌, List, [], ◌∷◌, map, Option, Some, None, refl, sym, ◌∙◌, ap, subst, zero, suc}
+use Rattle.std.specs.Prelude.{slice_get, is_some, option_map}
+use Rattle.rtc_sdp_values.specs.Direction.{same_direction}
+use Rattle.rtc_sdp_values.specs.declared.direction.Direction.{Direction}
+use Rattle.rtc_sdp_values.specs.declared.line_row.LineRow.{LineRow}
+use Rattle.rtc_sdp_values.specs.declared.line_row.LineRow.TheVariants.{Media, App}
+use Rattle.rtc_change.specs.RowChanges.{RowChange, turned, halted, row_after_change, changed_at, is_changed, media_mid}
+use Rattle.rtc_history.specs.declared.op.Op.{Op}
+use Rattle.rtc_history.specs.declared.op.Op.TheVariants.{AddMedia, SetDirection, StopMedia}
+use Rattle.rtc_history.specs.declared.op_answer.OpAnswer.{OpAnswer}
+use Rattle.rtc_history.specs.declared.op_answer.OpAnswer.TheVariants.{Mid, Changed, NoLine, Alloc as OpAlloc}
+use Rattle.rtc_history.specs.Memory.{answers_lack}
+use Rattle.rtc_history.specs.Past.{added, do_stage}
+use Rattle.rtc_history.specs.Sound.{HasNoLine, OpsAnswered}
+use Rattle.rtc_history.specs.CourseRows.{unnamed, rows_after_ops, must_offer, rows_added}
+use Rattle.rtc_history_laws.proofs.OpRows.{ops_keep}
+use Rattle.rtc_history_laws.proofs.RowsFollow.{SameName, Aligned}
+
+-- ---- changes of rows without mids
+
+-- A change does the same to a row without its mid, and nothing to a row that is not of media.
+record IsSeen (change : RowChange) : Type 0 where
+  same : (row : LineRow) → change (unnamed row) ≡ option_map unnamed (change row)
+  media : (row : LineRow) → media_mid (Some row) ≡ None → change row ≡ None
+
+turned_seen : (dir : Direction) → IsSeen (turned dir)
+turned_seen dir = record { same = same; media = media }
+  where
+    same : (row : LineRow) → turned dir (unnamed row) ≡ option_map unnamed (turned dir row)
+    same (Media place mid kind own true remote_created) = refl
+    same (Media place mid kind own false remote_created) = by (same_direction own dir) refl
+      where
+        by : (alike : Bool) → same_direction own dir ≡ alike
+            → turned dir (unnamed (Media place mid kind own false remote_created)) ≡ option_map unnamed (turned dir (Media place mid kind own false remote_created))
+        by true is = rw is refl
+        by false is = rw is refl
+    same (App place mid) = refl
+
+    media : (row : LineRow) → media_mid (Some row) ≡ None → turned dir row ≡ None
+    media (Media place mid kind own stopped remote_created) none = absurd (cc)
+    media (App place mid) none = refl
+
+halted_seen : IsSeen halted
+halted_seen = record { same = same; media = media }
+  where
+    same : (row : LineRow) → halted (unnamed row) ≡ option_map unnamed (halted row)
+    same (Media place mid kind own true remote_created) = refl
+    same (Media place mid kind own false remote_created) = refl
+    same (App place mid) = refl
+
+    media : (row : LineRow) → media_mid (Some row) ≡ None → halted row ≡ None
+    media (Media place mid kind own stopped remote_created) none = absurd (cc)
+    media (App place mid) none = refl
+
+row_seen : (change : RowChange) → IsSeen change → (row : LineRow) → unnamed (row_after_change change row) ≡ row_after_change change (unnamed row)
+row_seen change seen row = by (change row) refl
+  where
+    by : (found : Option LineRow) → change row ≡ found → unnamed (row_after_change change row) ≡ row_after_change change (unnamed row)
+    by None is = rw (seen.same row, is) refl
+    by (Some changed) is = rw (seen.same row, is) refl
+
+is_some_mapped : (found : Option LineRow) → is_some (option_map unnamed found) ≡ is_some found
+is_some_mapped None = refl
+is_some_mapped (Some row) = refl
+
+rows_seen : (change : RowChange) → IsSeen change → (place : ℕ) (rows : List LineRow) → map unnamed (changed_at change place rows) ≡ changed_at change place (map unnamed rows)
+rows_seen change seen place [] = refl
+rows_seen change seen zero (row ∷ rows) = ap (λ first. first ∷ map unnamed rows) (row_seen change seen row)
+rows_seen change seen (suc place) (row ∷ rows) = ap (λ rest. unnamed row ∷ rest) (rows_seen change seen place rows)
+
+changed_seen : (change : RowChange) → IsSeen change → (place : ℕ) (rows : List LineRow) → is_changed change (slice_get (map unnamed rows) place) ≡ is_changed change (slice_get rows place)
+changed_seen change seen place [] = refl
+changed_seen change seen zero (row ∷ rows) = ap is_some (seen.same row) ∙ is_some_mapped (change row)
+changed_seen change seen (suc place) (row ∷ rows) = changed_seen change seen place rows
+
+-- where no media row stands, nothing is changed
+unchanged : (change : RowChange) → IsSeen change → (place : ℕ) (rows : List LineRow) → HasNoLine place rows → (changed_at change place rows ≡ rows) × (is_changed change (slice_get rows place) ≡ false)
+unchanged change seen place [] none = (refl, refl)
+unchanged change seen zero (row ∷ rows) none = rw (seen.media row none) (refl, refl)
+unchanged change seen (suc place) (row ∷ rows) none = let rest = unchanged change seen place rows none in (ap (λ list. row ∷ list) rest.0, rest.1)
+
+-- ---- ops
+
+-- What ops that are all answered leave, stage and add, as a course sees it.
+pub record AreSeen (rows : List LineRow) (ops : List Op) (answers : List OpAnswer) (after : List LineRow) : Type 0 where
+  pub left : map unnamed after ≡ rows_after_ops ops (map unnamed rows)
+  pub staged : do_stage answers ≡ must_offer ops (map unnamed rows)
+  pub adds : (place : ℕ) → map unnamed (added place ops answers) ≡ rows_added place ops
+
+-- one op that changes a row, and the ones after it
+record IsSetSeen (change : RowChange) (place : ℕ) (rows : List LineRow) (ops : List Op) (answers : List OpAnswer) (after : List LineRow) (changed : Bool) : Type 0 where
+  left : map unnamed after ≡ rows_after_ops ops (changed_at change place (map unnamed rows))
+  staged : (changed || do_stage answers) ≡ (is_changed change (slice_get (map unnamed rows) place) || must_offer ops (changed_at change place (map unnamed rows)))
+
+set_seen : (change : RowChange) → IsSeen change → (place : ℕ) (rows : List LineRow) (ops : List Op) (answers : List OpAnswer) (after : List LineRow) (changed : Bool) → changed ≡ is_changed change (slice_get rows place)
+    → AreSeen (changed_at change place rows) ops answers after → IsSetSeen change place rows ops answers after changed
+set_seen change seen place rows ops answers after changed is rest =
+    let same : map unnamed (changed_at change place rows) ≡ changed_at change place (map unnamed rows) = rows_seen change seen place rows in
+    record {
+      left = rest.left ∙ ap (rows_after_ops ops) same;
+      staged = ap (λ b. b || do_stage answers) (is ∙ sym (changed_seen change seen place rows))
+          ∙ ap (λ b. is_changed change (slice_get (map unnamed rows) place) || b) (rest.staged ∙ ap (must_offer ops) same);
+    }
+
+-- the same where no media row stands at the place
+unset_seen : (change : RowChange) → IsSeen change → (place : ℕ) (rows : List LineRow) (ops : List Op) (answers : List OpAnswer) (after : List LineRow) → HasNoLine place rows
+    → AreSeen rows ops answers after → IsSetSeen change place rows ops answers after false
+unset_seen change seen place rows ops answers after none rest =
+    let quiet = unchanged change seen place rows none in
+    set_seen change seen place rows ops answers after false (sym quiet.1) (subst (λ (list : List LineRow). AreSeen list ops answers after) (sym quiet.0) rest)
+
+pub ops_seen : (rows : List LineRow) (held : List (List ℕ)) (ops : List Op) (answers : List OpAnswer) (after : List LineRow) → OpsAnswered rows held ops answers after → answers_lack answers ≡ false
+    → AreSeen rows ops answers after
+ops_seen rows held [] [] after answered enough = record { left = ap (map unnamed) answered; staged = refl; adds = λ place. refl }
+ops_seen rows held (AddMedia kind dir ∷ ops) (Mid mid ∷ answers) after answered enough =
+    let rest = ops_seen rows (mid ∷ held) ops answers after answered.1 enough in
+    record { left = rest.left; staged = refl; adds = λ place. ap (λ more. Media place [] kind dir false false ∷ more) (rest.adds (place + 1)) }
+ops_seen rows held (SetDirection at dir ∷ ops) (NoLine ∷ answers) after answered enough =
+    let rest = ops_seen rows held ops answers after answered.1 enough in
+    let here = unset_seen (turned dir) (turned_seen dir) at rows ops answers after answered.0 rest in
+    record { left = here.left; staged = here.staged; adds = rest.adds }
+ops_seen rows held (SetDirection at dir ∷ ops) (Changed changed ∷ answers) after answered enough =
+    let rest = ops_seen (changed_at (turned dir) at rows) held ops answers after answered.1 enough in
+    let here = set_seen (turned dir) (turned_seen dir) at rows ops answers after changed answered.0.1 rest in
+    record { left = here.left; staged = here.staged; adds = rest.adds }
+ops_seen rows held (StopMedia at ∷ ops) (NoLine ∷ answers) after answered enough =
+    let rest = ops_seen rows held ops answers after answered.1 enough in
+    let here = unset_seen halted halted_seen at rows ops answers after answered.0 rest in
+    record { left = here.left; staged = here.staged; adds = rest.adds }
+ops_seen rows held (StopMedia at ∷ ops) (Changed changed ∷ answers) after answered enough =
+    let rest = ops_seen (changed_at halted at rows) held ops answers after answered.1 enough in
+    let here = set_seen halted halted_seen at rows ops answers after changed answered.0.1 rest in
+    record { left = here.left; staged = here.staged; adds = rest.adds }
+ops_seen rows held (AddMedia kind dir ∷ ops) (OpAlloc ∷ []) after answered enough = absurd (cc)
+ops_seen rows held (SetDirection at dir ∷ ops) (OpAlloc ∷ []) after answered enough = absurd (cc)
+ops_seen rows held (StopMedia at ∷ ops) (OpAlloc ∷ []) after answered enough = absurd (cc)
+ops_seen rows held ops answers after answered enough = absurd answered
+
+-- ---- names
+
+turned_name : (dir : Direction) (first row : LineRow) → SameName first row → SameName first (row_after_change (turned dir) row)
+turned_name dir (Media place mid kind own stopped remote_created) (Media p m k d true r) same = same
+turned_name dir (Media place mid kind own stopped remote_created) (Media p m k d false r) same = by (same_direction d dir) refl
+  where
+    by : (alike : Bool) → same_direction d dir ≡ alike → SameName (Media place mid kind own stopped remote_created) (row_after_change (turned dir) (Media p m k d false r))
+    by true is = rw is same
+    by false is = rw is same
+turned_name dir first row same = absurd same
+
+halted_name : (first row : LineRow) → SameName first row → SameName first (row_after_change halted row)
+halted_name (Media place mid kind own stopped remote_created) (Media p m k d true r) same = same
+halted_name (Media place mid kind own stopped remote_created) (Media p m k d false r) same = same
+halted_name first row same = absurd same
+
+names_kept : (change : RowChange) → ((first row : LineRow) → SameName first row → SameName first (row_after_change change row)) → (first : List LineRow) (place : ℕ) (rows : List LineRow) → Aligned first rows
+    → Aligned first (changed_at change place rows)
+names_kept change keeps [] place [] same = tt
+names_kept change keeps (row ∷ first) zero (other ∷ rows) same = (keeps row other same.0, same.1)
+names_kept change keeps (row ∷ first) (suc place) (other ∷ rows) same = (same.0, names_kept change keeps first place rows same.1)
+names_kept change keeps first place rows same = absurd same
+
+-- ops leave the names of media rows
+pub ops_aligned : (rows : List LineRow) (held : List (List ℕ)) (ops : List Op) (answers : List OpAnswer) (after : List LineRow) → OpsAnswered rows held ops answers after → Aligned rows rows → Aligned rows after
+ops_aligned rows held ops answers after answered media =
+    ops_keep (Aligned rows) (λ dir. names_kept (turned dir) (turned_name dir) rows) (names_kept halted halted_name rows) rows held ops answers after answered media

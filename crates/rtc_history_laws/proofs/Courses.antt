@@ -1,0 +1,246 @@
+-- What a course of orderly steps says of a past, and that it says so of the past after one more step.
+use Rattle.std.proofs.Common.{◌≡◌, ℕ, true, false, List, ◌∷◌, ◌++◌, map, length, Option, Some, None, refl, sym, ◌∙◌, ap, subst, arith, length-append}
+use Rattle.std.proofs.lemmas.List.{length-map}
+use Rattle.rtc_sdp_values.specs.LineRow.{row_mid}
+use Rattle.rtc_sdp_values.specs.declared.line_row.LineRow.{LineRow}
+use Rattle.rtc_sdp_values.specs.declared.sdp.Sdp.{Sdp}
+use Rattle.rtc_change.specs.SaidLines.{said_lines}
+use Rattle.rtc_change.specs.Taken.{table_after, rows_after}
+use Rattle.rtc_change.specs.Plans.{verdict}
+use Rattle.rtc_history.specs.declared.side.Side.{Side}
+use Rattle.rtc_history.specs.declared.side.Side.TheVariants.{Left, Right}
+use Rattle.rtc_history.specs.declared.step.Step.{Step}
+use Rattle.rtc_history.specs.declared.step.Step.TheVariants.{AcceptOffer, AcceptAnswer}
+use Rattle.rtc_history.specs.declared.outcome.Outcome.{Outcome}
+use Rattle.rtc_history.specs.declared.outcome.Outcome.TheVariants.{Answered, Finished}
+use Rattle.rtc_history.specs.declared.table.Table.{Table}
+use Rattle.rtc_history.specs.Sides.{same_side, other_side, side_of}
+use Rattle.rtc_history.specs.Past.{Entry, Said, before, rows_or, texts, said_for, handed, holds_token, is_right, added_by}
+use Rattle.rtc_history.specs.Sound.{IsSound, asked_in}
+use Rattle.rtc_history.specs.SaidRows.{row_said, MakesText}
+use Rattle.rtc_history.specs.CourseRows.{unnamed, rows_taken}
+use Rattle.rtc_history.specs.Orderly.{Phase, Idle, AwaitsAnswer, AwaitsEnd, Course, course_rows, moved_on}
+use Rattle.rtc_history.specs.Runs.{Sound}
+use Rattle.rtc_history_laws.proofs.Tells.{same_side-self, same_side-other}
+use Rattle.rtc_history_laws.proofs.Around.{entry}
+use Rattle.rtc_history_laws.proofs.AddedRows.{among_mids}
+use Rattle.rtc_history_laws.proofs.PastTables.{past_table}
+use Rattle.rtc_history_laws.proofs.PastOffers.{stays_there, text_next}
+use Rattle.rtc_history_laws.proofs.PastAnswers.{answered}
+use Rattle.rtc_history_laws.proofs.FinishedRounds.{taken_whole, handed_answer, handed_offer, answer_taken}
+use Rattle.rtc_history_laws.proofs.RowsFollow.{Aligned, Follows, aligned_sym, aligned_trans, aligned_twice, has_mid-aligned, length-aligned, added_follow, follows_append, follows_media, after_aligned, answer_follows}
+use Rattle.rtc_history_laws.proofs.LiveRows.{KeepsLive, StartsLive, starts_are_live, starts_keep, text_live}
+use Rattle.rtc_history_laws.proofs.CourseTexts.{text_taken}
+use Rattle.rtc_history_laws.proofs.RoundRows.{OfferSaid, AnswerSaid, HasOffered, IsOffered, IsAnswered, offer_passes, answer_passes}
+
+-- The rows of a side in a course: these without their mids, media rows alone, the first of them live.
+pub record IsSideOf (seen rows : List LineRow) : Type 0 where
+  pub are : map unnamed rows ≡ seen
+  pub media : Aligned rows rows
+  pub live : KeepsLive rows
+
+abbrev pub InPhase : Phase → List Entry → Type 0
+InPhase Idle past = Aligned (before Left past) (before Right past)
+InPhase (AwaitsAnswer at n said) past = IsOffered at n said past
+InPhase (AwaitsEnd at n m said) past = IsAnswered at n m said past
+
+pub record InCourse (course : Course) (past : List Entry) : Type 0 where
+  pub count : length (texts past) ≡ course.texts
+  pub sides : (side : Side) → IsSideOf (course_rows side course) (before side past)
+  pub phase : InPhase course.phase past
+
+-- ---- sides
+
+pub aligned_at : (at : Side) (past : List Entry) → Aligned (before Left past) (before Right past) → Aligned (before at past) (before (other_side at) past)
+aligned_at Left past same = same
+aligned_at Right past same = aligned_sym (before Left past) (before Right past) same
+
+aligned_from : (at : Side) (past : List Entry) → Aligned (before (other_side at) past) (before at past) → Aligned (before Left past) (before Right past)
+aligned_from Left past same = aligned_sym (before Right past) (before Left past) same
+aligned_from Right past same = same
+
+other_side-same : (at : Side) → same_side (other_side at) at ≡ false
+other_side-same Left = refl
+other_side-same Right = refl
+
+-- a side goes on, and the other stays
+pub sides_next : (at : Side) (course : Course) (rows : List LineRow) (count : ℕ) (phase : Phase) (table : Table) (past : List Entry) → IsSideOf rows table.lines
+    → ((side : Side) → IsSideOf (course_rows side course) (before side past)) → (side : Side) → IsSideOf (course_rows side (moved_on at course rows count phase)) (rows_or (same_side at side) (Some table) (before side past))
+sides_next Left course rows count phase table past mine sides Left = mine
+sides_next Left course rows count phase table past mine sides Right = sides Right
+sides_next Right course rows count phase table past mine sides Left = sides Left
+sides_next Right course rows count phase table past mine sides Right = mine
+
+-- A past is in the course where a side has moved on.
+pub moved_in : (at : Side) (course : Course) (rows : List LineRow) (count : ℕ) (phase : Phase) (step : Step) (outcome : Outcome) (table : Table) (made : List Said) (past : List Entry) → side_of step ≡ at
+    → IsSideOf rows table.lines → InCourse course past → length (texts past ++ made) ≡ count → InPhase phase (entry step outcome (Some table) made ∷ past)
+    → InCourse (moved_on at course rows count phase) (entry step outcome (Some table) made ∷ past)
+moved_in at course rows count phase step outcome table made past here mine is counted in_phase = record {
+  count = by_count at;
+  sides = λ side. subst (λ (one : Side). IsSideOf (course_rows side (moved_on at course rows count phase)) (rows_or (same_side one side) (Some table) (before side past))) (sym here)
+      (sides_next at course rows count phase table past mine is.sides side);
+  phase = by_phase at;
+}
+  where
+    by_count : (at : Side) → length (texts past ++ made) ≡ (moved_on at course rows count phase).texts
+    by_count Left = counted
+    by_count Right = counted
+
+    by_phase : (at : Side) → InPhase (moved_on at course rows count phase).phase (entry step outcome (Some table) made ∷ past)
+    by_phase Left = in_phase
+    by_phase Right = in_phase
+
+some_same : (one other : Sdp) → Some one ≡ Some other → one ≡ other
+some_same one other same = cc
+
+-- ---- an offer is accepted
+
+-- The offer that is outstanding may be handed to the other side, which does not refuse it.
+pub record MayAccept (offer : OfferSaid) (at : Side) (n : ℕ) (past : List Entry) : Type 0 where
+  pub handed_is : handed true (other_side at) n past ≡ Some offer.text
+  pub passes : verdict (record { lines = before (other_side at) past }) None offer.text ≡ None
+  pub leaves : table_after (before (other_side at) past) (said_lines offer.text) true ≡ rows_after (before (other_side at) past) true 0 (map row_said (offer.front ++ offer.more))
+  pub here : Follows (before at past) (before at past) (offer.front ++ offer.more)
+  pub there : Follows (before (other_side at) past) (before (other_side at) past) (offer.front ++ offer.more)
+
+-- the rows of an offer go on from rows with the names of those that it says first
+offer_follows : (offer : OfferSaid) (rows : List LineRow) → Aligned offer.front rows → Follows rows rows (offer.front ++ offer.more)
+offer_follows offer rows same =
+    follows_append rows rows offer.front offer.more (aligned_sym offer.front rows same)
+    (added_follow rows (map row_mid offer.front) (length offer.front) offer.more offer.new (λ mid free. has_mid-aligned offer.front rows mid same ∙ sym (among_mids offer.front mid) ∙ free))
+
+pub may_accept : (at : Side) (n : ℕ) (said : List LineRow) (past : List Entry) → Sound past → (it : IsOffered at n said past) → MayAccept it.offer at n past
+may_accept at n said past sound it =
+    let offer : OfferSaid = it.offer in
+    let theirs : List LineRow = before (other_side at) past in
+    let same : Aligned offer.front theirs = aligned_trans offer.front (before at past) theirs it.has.kept it.same in
+    let there : Follows theirs theirs (offer.front ++ offer.more) = offer_follows offer theirs same in
+    let lines : length (map row_said (offer.front ++ offer.more)) ≡ length (offer.front ++ offer.more) = length-map (offer.front ++ offer.more) row_said in
+    record {
+      handed_is = ap (said_for true (other_side at)) it.has.there ∙ handed_offer at offer.text;
+      passes = offer_passes theirs (offer.front ++ offer.more) offer.text (past_table past (other_side at) sound) there offer.says offer.fits offer.live;
+      leaves = ap (λ list. table_after theirs list true) offer.says ∙ taken_whole theirs (map row_said (offer.front ++ offer.more)) true (omega (arith, length-aligned offer.front theirs same, length-append offer.front offer.more));
+      here = offer_follows offer (before at past) it.has.kept;
+      there = there;
+    }
+
+-- an offer stays outstanding as the other side accepts it
+offer_stays : (offer : OfferSaid) (at : Side) (n : ℕ) (past : List Entry) (k j : ℕ) (table : Option Table) (made : List Said) → HasOffered offer at n past
+    → HasOffered offer at n (entry (AcceptOffer (other_side at) k) (Answered j) table made ∷ past)
+offer_stays offer at n past k j table made has = record {
+  right = rw (other_side-same at) has.right;
+  unspent = has.unspent;
+  there = stays_there (texts past) made n _ has.there;
+  adds = has.adds;
+  kept = rw (other_side-same at) has.kept;
+}
+
+-- What the other side is left with that has accepted the offer.
+pub record Accepted (at : Side) (n m : ℕ) (said : List LineRow) (past : List Entry) (table : Table) : Type 0 where
+  pub phase : IsAnswered at n m said past
+  pub side : IsSideOf said table.lines
+
+-- The other side has accepted the offer.
+pub accepted_next : (at : Side) (n m : ℕ) (said seen : List LineRow) (past : List Entry) (j : ℕ) (table : Table) (made : List Said) → Sound past → IsOffered at n said past
+    → IsSideOf seen (before (other_side at) past) → m ≡ length (texts past)
+    → IsSound past (AcceptOffer (other_side at) n) (Answered j) (Some table) → MakesText (AcceptOffer (other_side at) n) (Answered j) (Some table) made
+    → Accepted at n m (rows_taken true 0 seen said) (entry (AcceptOffer (other_side at) n) (Answered j) (Some table) made ∷ past) table
+accepted_next at n m said seen past j table made sound out side count replied says =
+    let may : MayAccept out.offer at n past = may_accept at n said past sound out in
+    let it = answered (handed true (other_side at) n past) theirs (length (texts past)) j table.lines replied in
+    let text_is : it.offer ≡ out.offer.text = some_same _ _ (sym it.is ∙ may.handed_is) in
+    let after : table.lines ≡ rows_after theirs true 0 (map row_said offered) = it.leaves ∙ ap (λ text. table_after theirs (said_lines text) true) text_is ∙ may.leaves in
+    let names : Aligned offered table.lines = rw after (after_aligned theirs true 0 offered offered (follows_media mine mine offered may.here)) in
+    let follows : Follows mine mine table.lines = rw after (answer_follows mine theirs mine theirs offered 0 out.same may.here may.there) in
+    let live : StartsLive table.lines = rw after (text_live theirs true offered (past_table past (other_side at) sound) may.there side.live out.offer.live) in
+    let media : Aligned table.lines table.lines = aligned_twice table.lines offered (aligned_sym offered table.lines names) in
+    let are : map unnamed table.lines ≡ rows_taken true 0 seen said =
+    ap (map unnamed) after ∙ text_taken theirs true offered (past_table past (other_side at) sound) may.there
+    ∙ ap (λ list. rows_taken true 0 list (map unnamed offered)) side.are ∙ ap (λ list. rows_taken true 0 seen list) out.are in
+    record {
+      phase = record {
+        offer = out.offer;
+        answer = record { text = says.text; rows = table.lines; says = says.says; fits = says.fits (starts_are_live table.lines live); live = live };
+        are = are;
+        has = offer_stays out.offer at n past n j (Some table) made out.has;
+        answered = record {
+          there = text_next past (entry (AcceptOffer (other_side at) n) (Answered j) (Some table) made) _ m says.one count;
+          offered = names;
+          mine = rw (other_side-same at) follows;
+          theirs = rw (same_side-self (other_side at)) media;
+        };
+      };
+      side = record { are = are; media = media; live = starts_keep table.lines live };
+    }
+  where
+    mine : List LineRow
+    mine = before at past
+
+    theirs : List LineRow
+    theirs = before (other_side at) past
+
+    offered : List LineRow
+    offered = out.offer.front ++ out.offer.more
+
+-- ---- an answer is accepted
+
+-- The answer that is outstanding may be handed to the side that offered, which does not refuse it.
+pub record MayEnd (answer : AnswerSaid) (at : Side) (n m : ℕ) (past : List Entry) : Type 0 where
+  pub held : holds_token at n past ≡ true
+  pub right : is_right at n past ≡ true
+  pub handed_is : handed false at m past ≡ Some answer.text
+  pub passes : verdict (record { lines = before at past }) (Some (asked_in at n past)) answer.text ≡ None
+  pub leaves : table_after (before at past) (said_lines answer.text) false ≡ rows_after (before at past) false 0 (map row_said answer.rows)
+
+pub may_end : (at : Side) (n m : ℕ) (said : List LineRow) (past : List Entry) → Sound past → (it : IsAnswered at n m said past) → MayEnd it.answer at n m past
+may_end at n m said past sound it =
+    let offer : OfferSaid = it.offer in
+    let answer : AnswerSaid = it.answer in
+    let mine : List LineRow = before at past in
+    let few : length mine ≡ length offer.front = length-aligned offer.front mine it.has.kept in
+    let adds : added_by (length mine) n past ≡ offer.more = ap (λ (k : ℕ). added_by k n past) few ∙ it.has.adds in
+    let lines : length (map row_said answer.rows) ≡ length answer.rows = length-map answer.rows row_said in
+    record {
+      held = rw (it.has.there, it.has.unspent, same_side-self at) refl;
+      right = it.has.right;
+      handed_is = ap (said_for false at) it.answered.there ∙ handed_answer at answer.text;
+      passes = rw adds (answer_passes mine offer answer.rows answer.text (past_table past at sound) it.answered.mine it.answered.offered it.has.kept answer.says answer.fits);
+      leaves = ap (λ list. table_after mine list false) answer.says
+          ∙ taken_whole mine (map row_said answer.rows) false (omega (arith, length-aligned (offer.front ++ offer.more) answer.rows it.answered.offered, length-append offer.front offer.more));
+    }
+
+-- What the side is left with that offered, and has accepted the answer.
+pub record Ended (said : List LineRow) (past : List Entry) (table : Table) : Type 0 where
+  pub phase : InPhase Idle past
+  pub side : IsSideOf said table.lines
+
+-- The side that offered has accepted the answer.
+pub ended_next : (at : Side) (n m : ℕ) (said seen : List LineRow) (past : List Entry) (table : Table) (made : List Said) → Sound past → IsAnswered at n m said past
+    → IsSideOf seen (before at past) → IsSound past (AcceptAnswer at n m) Finished (Some table)
+    → Ended (rows_taken false 0 seen said) (entry (AcceptAnswer at n m) Finished (Some table) made ∷ past) table
+ended_next at n m said seen past table made sound out side replied =
+    let may : MayEnd out.answer at n m past = may_end at n m said past sound out in
+    let it = answer_taken (holds_token at n past) (is_right at n past) (asked_in at n past) (handed false at m past) mine table.lines replied in
+    let text_is : it.answer ≡ out.answer.text = some_same _ _ (sym it.is ∙ may.handed_is) in
+    let after : table.lines ≡ rows_after mine false 0 (map row_said rows) = it.leaves ∙ ap (λ text. table_after mine (said_lines text) false) text_is ∙ may.leaves in
+    let media : Aligned rows rows = aligned_twice rows theirs out.answered.theirs in
+    let names : Aligned rows table.lines = rw after (after_aligned mine false 0 rows rows media) in
+    let live : StartsLive table.lines = rw after (text_live mine false rows (past_table past at sound) out.answered.mine side.live out.answer.live) in
+    record {
+      phase = aligned_from at (entry (AcceptAnswer at n m) Finished (Some table) made ∷ past) (rw (same_side-self at, same_side-other at) (aligned_trans theirs rows table.lines (aligned_sym rows theirs out.answered.theirs) names));
+      side = record {
+        are = ap (map unnamed) after ∙ text_taken mine false rows (past_table past at sound) out.answered.mine
+            ∙ ap (λ list. rows_taken false 0 list (map unnamed rows)) side.are ∙ ap (λ list. rows_taken false 0 seen list) out.are;
+        media = aligned_twice table.lines rows (aligned_sym rows table.lines names);
+        live = starts_keep table.lines live;
+      };
+    }
+  where
+    mine : List LineRow
+    mine = before at past
+
+    theirs : List LineRow
+    theirs = before (other_side at) past
+
+    rows : List LineRow
+    rows = out.answer.rows

@@ -1,0 +1,74 @@
+-- A run goes on by a step that is performed.
+use Rattle.std.proofs.Common.{◌≡◌, ◌<◌, ◌+◌, ◌^◌, List, [], ◌∷◌, ◌++◌, refl, ap, arith}
+use Rattle.rtc_peer_state.specs.Draws.{Draws}
+use Rattle.rtc_history.specs.declared.side.Side.{Side}
+use Rattle.rtc_history.specs.declared.side.Side.TheVariants.{Left, Right}
+use Rattle.rtc_history.specs.declared.step.Step.{Step}
+use Rattle.rtc_history.specs.declared.reply.Reply.{Reply}
+use Rattle.rtc_history.specs.Sizes.{step_size, steps_size}
+use Rattle.rtc_history.specs.Past.{Entry, before, steps_of}
+use Rattle.rtc_history.specs.PairState.{PairState, peer_at}
+use Rattle.rtc_history.specs.Performs.{Performs, Enters, made_by}
+use Rattle.rtc_history.specs.Runs.{Reached, Runs}
+use Rattle.rtc_history.specs.Fresh.{IsFresh}
+use Rattle.rtc_history.specs.Bounds.{IsWithin}
+use Rattle.rtc_history.specs.Formed.{ArePeersFormed, AreCarried}
+use Rattle.rtc_history_laws.proofs.Tells.{Tells}
+use Rattle.rtc_history_laws.proofs.Around.{entry}
+use Rattle.rtc_history_laws.proofs.FormedSteps.{plain_carried, reached_formed}
+use Rattle.rtc_history_laws.proofs.Reaches.{reached_within, reached_tells, sound_next}
+
+-- a run of no steps
+pub runs_none : {N : Type 0} (draws : Draws N) (start : PairState N) → IsFresh start → Runs draws start [] [] start
+runs_none draws start fresh = record {
+  past = [];
+  steps_are = refl;
+  replies_are = refl;
+  reached = refl;
+  sound = tt;
+  rows = by;
+}
+  where
+    by : (at : Side) → (peer_at at start).lines ≡ before at []
+    by Left = fresh.left.lines
+    by Right = fresh.right.lines
+
+-- a run of one more step
+pub runs_more : {N : Type 0} (draws : Draws N) (start old new : PairState N) (steps : List Step) (replies : List Reply) (step : Step) (reply : Reply)
+    → IsFresh start → ArePeersFormed start → Runs draws start steps replies old → Performs draws old step reply.outcome reply.table new → new.size < 2 ^ 32
+    → Runs draws start (steps ++ step ∷ []) (replies ++ reply ∷ []) new
+runs_more draws start old new steps replies step reply fresh formed run performs small =
+    let reached : Reached draws start (entry step reply.outcome reply.table (made_by old new) ∷ run.past) new = (old, run.reached, record { performs = performs; made = refl }) in
+    let tells : Tells (entry step reply.outcome reply.table (made_by old new) ∷ run.past) new = reached_tells draws start new (entry step reply.outcome reply.table (made_by old new) ∷ run.past) fresh reached small in
+    record {
+      past = entry step reply.outcome reply.table (made_by old new) ∷ run.past;
+      steps_are = ap (λ before. before ++ step ∷ []) run.steps_are;
+      replies_are = ap (λ before. before ++ reply ∷ []) run.replies_are;
+      reached = reached;
+      sound = (sound_next draws start old new run.past step reply.outcome reply.table fresh formed run.reached run.sound performs small, run.sound);
+      rows = λ at. (tells.sides at).rows;
+    }
+
+-- ---- sizes
+
+steps_size-append : (steps : List Step) (step : Step) → steps_size (steps ++ step ∷ []) ≡ steps_size steps + step_size step
+steps_size-append [] step = omega arith
+steps_size-append (first ∷ steps) step = omega (arith, steps_size-append steps step)
+
+reached_size : {N : Type 0} (draws : Draws N) (start pair : PairState N) (past : List Entry) → Reached draws start past pair → pair.size ≡ start.size + steps_size (steps_of past)
+reached_size draws start pair [] reached = let same : pair.size ≡ start.size = ap (λ p. p.size) reached in omega arith
+reached_size draws start pair (last ∷ past) reached =
+    let enters : Enters draws reached.0 last pair = reached.2 in
+    omega (arith, enters.performs.size, reached_size draws start reached.0 past reached.1, steps_size-append (steps_of past) last.step)
+
+-- the size of a pair is that of the steps of its run
+pub runs_size : {N : Type 0} (draws : Draws N) (start pair : PairState N) (steps : List Step) (replies : List Reply) → IsFresh start → Runs draws start steps replies pair → pair.size ≡ steps_size steps
+runs_size draws start pair steps replies fresh run = omega (arith, reached_size draws start pair run.past run.reached, fresh.size, ap steps_size run.steps_are)
+
+-- a pair is within the size of the steps of its run
+pub runs_within : {N : Type 0} (draws : Draws N) (start pair : PairState N) (steps : List Step) (replies : List Reply) → IsFresh start → Runs draws start steps replies pair → pair.size < 2 ^ 32 → IsWithin pair
+runs_within draws start pair steps replies fresh run small = reached_within draws start pair run.past fresh run.reached small
+
+-- each text of a run is delivered as it is
+pub runs_carried : {N : Type 0} (draws : Draws N) (start pair : PairState N) (steps : List Step) (replies : List Reply) → IsFresh start → ArePeersFormed start → Runs draws start steps replies pair → AreCarried pair.texts
+runs_carried draws start pair steps replies fresh formed run = plain_carried pair.texts (reached_formed draws start pair run.past fresh formed run.reached).plain

@@ -1,0 +1,195 @@
+-- The offer of a number in a past: which step made it, what it says, and which rows it added.
+use Rattle.std.proofs.Common.{◌≡◌, ◌<◌, ℕ, Bool, true, false, not, ◌&&◌, List, [], ◌∷◌, ◌++◌, map, length, Option, Some, None, refl, sym, ◌∙◌, ap, subst, arith, length-append, zero, suc}
+use Rattle.std.specs.Prelude.{slice_get}
+use Rattle.std.proofs.lemmas.Bool.{eqb-true}
+use Rattle.rtc_sdp_values.specs.LineRow.{row_mid}
+use Rattle.rtc_sdp_values.specs.declared.line_row.LineRow.{LineRow}
+use Rattle.rtc_sdp_values.specs.declared.sdp.Sdp.{Sdp}
+use Rattle.rtc_change.specs.Held.{Asked}
+use Rattle.rtc_change.specs.SaidLines.{said_lines}
+use Rattle.rtc_history.specs.declared.side.Side.{Side}
+use Rattle.rtc_history.specs.declared.op.Op.{Op}
+use Rattle.rtc_history.specs.declared.op_answer.OpAnswer.{OpAnswer}
+use Rattle.rtc_history.specs.declared.made.Made.{Made}
+use Rattle.rtc_history.specs.declared.made.Made.TheVariants.{NotAsked, Nothing, Offer, Alloc as MadeAlloc}
+use Rattle.rtc_history.specs.declared.step.Step.{Step}
+use Rattle.rtc_history.specs.declared.step.Step.TheVariants.{Negotiate, AcceptOffer, AcceptAnswer}
+use Rattle.rtc_history.specs.declared.outcome.Outcome.{Outcome}
+use Rattle.rtc_history.specs.declared.outcome.Outcome.TheVariants.{Negotiated, Answered, Finished, Refused, NoSuch, Alloc}
+use Rattle.rtc_history.specs.declared.table.Table.{Table}
+use Rattle.rtc_history.specs.Sides.{side_of}
+use Rattle.rtc_history.specs.Past.{Entry, Said, before, texts, handed, is_offer_of, holds_token, is_right, moves, makes, do_stage, added, added_in, added_by}
+use Rattle.rtc_history.specs.Memory.{answers_lack}
+use Rattle.rtc_history.specs.Sound.{OpsAnswered, MadeOf, TakesOffer, TakesAnswer, IsSound, asked_in, view_in}
+use Rattle.rtc_history.specs.SaidRows.{row_said, MakesText}
+use Rattle.rtc_history.specs.SoundEntry.{IsSoundEntry}
+use Rattle.rtc_history.specs.Rounds.{makes_offer, rows_at_offer}
+use Rattle.rtc_history.specs.Runs.{Sound}
+use Rattle.rtc_history_laws.proofs.Tells.{same_side-self, same_side-true}
+use Rattle.rtc_history_laws.proofs.OpRows.{ops_mids}
+use Rattle.rtc_history_laws.proofs.AddedRows.{AreAdded, ops_add}
+
+-- ---- texts that stay
+
+-- an element of a list stays where it is behind which more come
+pub stays_there : {A : Type 0} (xs ys : List A) (t : ℕ) (x : A) → slice_get xs t ≡ Some x → slice_get (xs ++ ys) t ≡ Some x
+stays_there [] ys t x there = absurd (cc)
+stays_there (y ∷ xs) ys zero x there = there
+stays_there (y ∷ xs) ys (suc t) x there = stays_there xs ys t x there
+
+-- an element within a list is that of the list with more behind it
+pub within_there : {A : Type 0} (xs ys : List A) (t : ℕ) → t < length xs → slice_get (xs ++ ys) t ≡ slice_get xs t
+within_there [] ys t within = absurd (omega arith)
+within_there (y ∷ xs) ys zero within = refl
+within_there (y ∷ xs) ys (suc t) within = within_there xs ys t (omega arith)
+
+-- the first of the elements that come behind a list
+pub next_there : {A : Type 0} (xs : List A) (x : A) (t : ℕ) → t ≡ length xs → slice_get (xs ++ x ∷ []) t ≡ Some x
+next_there [] x zero at = refl
+next_there [] x (suc t) at = absurd (omega arith)
+next_there (y ∷ xs) x zero at = absurd (omega arith)
+next_there (y ∷ xs) x (suc t) at = next_there xs x t (omega arith)
+
+-- ---- the step that made an offer
+
+-- What a step that made the offer of a number is.
+pub record OfferEntry (past : List Entry) (entry : Entry) (t : ℕ) : Type 0 where
+  pub text : Sdp
+  pub more : List LineRow
+  pub count : t ≡ length (texts past)
+  pub one : entry.made ≡ record { at = side_of entry.step; offer = true; text = text } ∷ []
+  pub adds : added_in (length (before (side_of entry.step) (entry ∷ past))) entry.step entry.outcome ≡ more
+  pub new : AreAdded (map row_mid (before (side_of entry.step) (entry ∷ past))) (length (before (side_of entry.step) (entry ∷ past))) more
+  pub says : said_lines text ≡ map row_said (before (side_of entry.step) (entry ∷ past) ++ more)
+  pub moved : moves (side_of entry.step) entry.step entry.outcome ≡ true
+
+offer_count : (asked offers : Bool) (k next : ℕ) → MadeOf asked offers (Offer k) next → k ≡ next
+offer_count true true k next made = made
+offer_count true false k next made = absurd made
+offer_count false offers k next made = absurd made
+
+no_offer : (text : Option Sdp) (past : List Entry) (at : Side) (next : ℕ) (answers : List OpAnswer) (made : Made) (after : List LineRow) → TakesOffer text (view_in at past) next (Negotiated answers made) after → ⊥
+no_offer None past at next answers made after takes = takes
+no_offer (Some text) past at next answers made after takes = takes
+
+no_answer : (held right : Bool) (asked : Asked) (text : Option Sdp) (past : List Entry) (at : Side) (answers : List OpAnswer) (made : Made) (after : List LineRow) → TakesAnswer held right asked text (view_in at past) (Negotiated answers made) after → ⊥
+no_answer false right asked text past at answers made after takes = takes
+no_answer true right asked None past at answers made after takes = takes
+no_answer true false asked (Some text) past at answers made after takes = takes
+no_answer true true asked (Some text) past at answers made after takes = takes
+
+-- what ops stage is new beside the rows that they leave
+pub ops_new : (rows : List LineRow) (ops : List Op) (answers : List OpAnswer) (after : List LineRow) (place : ℕ) → OpsAnswered rows (map row_mid rows) ops answers after → AreAdded (map row_mid after) place (added place ops answers)
+ops_new rows ops answers after place answered =
+    subst (λ (held : List (List ℕ)). AreAdded held place (added place ops answers)) (sym (ops_mids rows (map row_mid rows) ops answers after answered)) (ops_add rows (map row_mid rows) ops answers after place answered)
+
+pub offer_entry : (past : List Entry) (entry : Entry) (t : ℕ) → IsSoundEntry past entry → makes_offer t entry ≡ true → OfferEntry past entry t
+offer_entry past entry t sound makes_it = by entry.step entry.outcome entry.table entry.made sound.replied sound.made makes_it
+  where
+    rows_of : (at : Side) (table : Table) (step : Step) (outcome : Outcome) (made : List Said) → side_of step ≡ at → before (side_of step) (record { step = step; outcome = outcome; table = Some table; made = made } ∷ past) ≡ table.lines
+    rows_of at table step outcome made is = rw (same_side-self (side_of step)) refl
+
+    by : (step : Step) (outcome : Outcome) (table : Option Table) (made : List Said) → IsSound past step outcome table → MakesText step outcome table made → makes t outcome ≡ true
+        → OfferEntry past (record { step = step; outcome = outcome; table = table; made = made }) t
+    by (Negotiate at ops apply) (Negotiated answers (Offer k)) (Some table) made replied text makes_it =
+        let rows = rows_of at table (Negotiate at ops apply) (Negotiated answers (Offer k)) made refl in
+        record {
+          text = text.text;
+          more = added (length table.lines) ops answers;
+          count = sym (eqb-true k t makes_it) ∙ offer_count (apply && not (answers_lack answers)) (do_stage answers) k (length (texts past)) replied.1;
+          one = text.one;
+          adds = rw rows refl;
+          new = rw rows (ops_new (before at past) ops answers table.lines (length table.lines) replied.0);
+          says = rw rows text.says;
+          moved = rw (same_side-self at) refl;
+        }
+    by (Negotiate at ops apply) (Negotiated answers NotAsked) table made replied text makes_it = absurd (cc)
+    by (Negotiate at ops apply) (Negotiated answers Nothing) table made replied text makes_it = absurd (cc)
+    by (Negotiate at ops apply) (Negotiated answers MadeAlloc) table made replied text makes_it = absurd (cc)
+    by (Negotiate at ops apply) (Negotiated answers (Offer k)) None made replied text makes_it = absurd replied
+    by (AcceptOffer at offer) (Negotiated answers what) None made replied text makes_it = absurd replied
+    by (AcceptOffer at offer) (Negotiated answers what) (Some table) made replied text makes_it =
+        absurd (no_offer (handed true at offer past) past at (length (texts past)) answers what table.lines replied)
+    by (AcceptAnswer at token answer) (Negotiated answers what) None made replied text makes_it = absurd replied
+    by (AcceptAnswer at token answer) (Negotiated answers what) (Some table) made replied text makes_it =
+        absurd (no_answer (holds_token at token past) (is_right at token past) (asked_in at token past) (handed false at answer past) past at answers what table.lines replied)
+    by step (Answered k) table made replied text makes_it = absurd (cc)
+    by step Finished table made replied text makes_it = absurd (cc)
+    by step (Refused error) table made replied text makes_it = absurd (cc)
+    by step NoSuch table made replied text makes_it = absurd (cc)
+    by step Alloc table made replied text makes_it = absurd (cc)
+
+-- ---- the offer of a number
+
+-- What a past says of the offer of a number, which a side made.
+pub record PastOffer (at : Side) (t : ℕ) (past : List Entry) : Type 0 where
+  pub text : Sdp
+  pub more : List LineRow
+  pub there : slice_get (texts past) t ≡ Some (record { at = at; offer = true; text = text })
+  pub adds : added_by (length (rows_at_offer at t past)) t past ≡ more
+  pub new : AreAdded (map row_mid (rows_at_offer at t past)) (length (rows_at_offer at t past)) more
+  pub says : said_lines text ≡ map row_said (rows_at_offer at t past ++ more)
+
+-- the text of an entry is behind those before it
+pub text_next : (past : List Entry) (entry : Entry) (said : Said) (t : ℕ) → entry.made ≡ said ∷ [] → t ≡ length (texts past) → slice_get (texts (entry ∷ past)) t ≡ Some said
+text_next past entry said t one at = rw one (next_there (texts past) said t at)
+
+pub maker_side : (at : Side) (text : Sdp) (found : Option Said) (side : Side) → found ≡ Some (record { at = side; offer = true; text = text }) → is_offer_of at found ≡ true → side ≡ at
+maker_side at text found side there mine = same_side-true side at (let e : is_offer_of at (Some (record { at = side; offer = true; text = text })) ≡ true = ap (is_offer_of at) (sym there) ∙ mine in e)
+
+-- what a side has to do with the newest entry that made an offer, and with the ones before it
+pub right_parts : (at : Side) (t : ℕ) (past : List Entry) (entry : Entry) → makes_offer t entry ≡ false → is_right at t (entry ∷ past) ≡ true
+    → (moves at entry.step entry.outcome ≡ false) × (is_right at t past ≡ true)
+right_parts at t past entry other right = by (moves at entry.step entry.outcome) refl
+  where
+    stands : (not (moves at entry.step entry.outcome) && is_right at t past) ≡ true
+    stands = rw other at right
+
+    by : (moved : Bool) → moves at entry.step entry.outcome ≡ moved → (moves at entry.step entry.outcome ≡ false) × (is_right at t past ≡ true)
+    by true is = absurd (let e = rw is at stands in cc)
+    by false is = (is, rw is at stands)
+
+-- the number of an offer that is right is that of a text
+pub right_within : (at : Side) (t : ℕ) (past : List Entry) → Sound past → is_right at t past ≡ true → t < length (texts past)
+right_within at t [] sound right = absurd (cc)
+right_within at t (entry ∷ past) sound right = by (λ right. right_within at t past sound.1 right) (makes_offer t entry) refl
+  where
+    by : (is_right at t past ≡ true → t < length (texts past)) → (made : Bool) → makes_offer t entry ≡ made → t < length (texts (entry ∷ past))
+    by earlier true is =
+        let it = offer_entry past entry t sound.0 is in
+        let one : length entry.made ≡ 1 = ap length it.one in
+        omega (arith, it.count, length-append (texts past) entry.made)
+    by earlier false is = omega (arith, earlier (right_parts at t past entry is right).1, length-append (texts past) entry.made)
+
+-- The offer of a number that is right.
+pub past_offer : (at : Side) (t : ℕ) (past : List Entry) → Sound past → is_right at t past ≡ true → is_offer_of at (slice_get (texts past) t) ≡ true → PastOffer at t past
+past_offer at t [] sound right mine = absurd (cc)
+past_offer at t (entry ∷ past) sound right mine = by (λ right mine. past_offer at t past sound.1 right mine) (makes_offer t entry) refl
+  where
+    by : (is_right at t past ≡ true → is_offer_of at (slice_get (texts past) t) ≡ true → PastOffer at t past) → (made : Bool) → makes_offer t entry ≡ made → PastOffer at t (entry ∷ past)
+    by earlier true is =
+        let it = offer_entry past entry t sound.0 is in
+        let there = text_next past entry _ t it.one it.count in
+        let here : side_of entry.step ≡ at = maker_side at it.text _ (side_of entry.step) there mine in
+        subst (λ (side : Side). PastOffer side t (entry ∷ past)) here
+        (record {
+          text = it.text;
+          more = it.more;
+          there = there;
+          adds = rw is it.adds;
+          new = rw is it.new;
+          says = rw is it.says;
+        })
+    by earlier false is =
+        let before_it = (right_parts at t past entry is right).1 in
+        let same = within_there (texts past) entry.made t (right_within at t past sound.1 before_it) in
+        let offer = earlier before_it (ap (is_offer_of at) (sym same) ∙ mine) in
+        let rows : rows_at_offer at t past ≡ rows_at_offer at t (entry ∷ past) = rw is refl in
+        record {
+          text = offer.text;
+          more = offer.more;
+          there = same ∙ offer.there;
+          adds = subst (λ (list : List LineRow). added_by (length list) t (entry ∷ past) ≡ offer.more) rows (rw is offer.adds);
+          new = rw is offer.new;
+          says = rw is offer.says;
+        }

@@ -1,0 +1,120 @@
+-- What the offer of a round and its answer say, and that neither is refused.
+use Rattle.std.proofs.Common.{◌≡◌, ◌+◌, ◌-◌, ◌==◌, ℕ, true, false, List, [], ◌∷◌, ◌++◌, map, length, Some, None, refl, subst, arith, max, zero, suc, length-append}
+use Rattle.std.specs.Prelude.{slice_get}
+use Rattle.std.proofs.lemmas.Bool.{eq-eqb}
+use Rattle.std.proofs.lemmas.List.{length-map}
+use Rattle.rtc_sdp_values.specs.LineRow.{row_mid}
+use Rattle.rtc_sdp_values.specs.Sdp.{inconsistency}
+use Rattle.rtc_sdp_values.specs.declared.line_row.LineRow.{LineRow}
+use Rattle.rtc_sdp_values.specs.declared.sdp.Sdp.{Sdp}
+use Rattle.rtc_change.specs.SaidLines.{said_lines}
+use Rattle.rtc_change.specs.Table.{IsTable, Rising, row_of}
+use Rattle.rtc_change.specs.Taken.{new_places}
+use Rattle.rtc_change.specs.Plans.{verdict, head_verdict}
+use Rattle.rtc_change.proofs.TableLemmas.{row_of_its_mid}
+use Rattle.rtc_history.specs.declared.side.Side.{Side}
+use Rattle.rtc_history.specs.Sides.{other_side}
+use Rattle.rtc_history.specs.Past.{Entry, before, texts, is_spent, is_right, added_by}
+use Rattle.rtc_history.specs.SaidRows.{row_said}
+use Rattle.rtc_history.specs.CourseRows.{unnamed}
+use Rattle.rtc_history_laws.proofs.AddedRows.{AreAdded, added_rising, added_distinct, rising_append}
+use Rattle.rtc_history_laws.proofs.AnswerCounts.{new_count}
+use Rattle.rtc_history_laws.proofs.RowsFollow.{Aligned, Follows, FindsNew, follows_allowed, follows_right, all_left, length-aligned}
+use Rattle.rtc_history_laws.proofs.LiveRows.{StartsLive}
+
+-- ---- texts
+
+-- What an offer says: the rows that its side had as it made it, then those that it added.
+pub record OfferSaid : Type 0 where
+  pub text : Sdp
+  pub front : List LineRow
+  pub more : List LineRow
+  pub says : said_lines text ≡ map row_said (front ++ more)
+  pub fits : inconsistency text ≡ None
+  pub live : StartsLive (front ++ more)
+  pub table : IsTable front
+  pub new : AreAdded (map row_mid front) (length front) more
+
+-- What an answer says: the rows that its side had as it made it.
+pub record AnswerSaid : Type 0 where
+  pub text : Sdp
+  pub rows : List LineRow
+  pub says : said_lines text ≡ map row_said rows
+  pub fits : inconsistency text ≡ None
+  pub live : StartsLive rows
+
+-- A side made the offer of a number, has its token, which is right, and its rows still have the names that it offered.
+pub record HasOffered (offer : OfferSaid) (at : Side) (n : ℕ) (past : List Entry) : Type 0 where
+  pub right : is_right at n past ≡ true
+  pub unspent : is_spent n past ≡ false
+  pub there : slice_get (texts past) n ≡ Some (record { at = at; offer = true; text = offer.text })
+  pub adds : added_by (length offer.front) n past ≡ offer.more
+  pub kept : Aligned offer.front (before at past)
+
+-- The other side made the answer of a number to an offer, and the rows of both sides have the names that it says.
+pub record HasAnswered (offer : OfferSaid) (answer : AnswerSaid) (at : Side) (m : ℕ) (past : List Entry) : Type 0 where
+  pub there : slice_get (texts past) m ≡ Some (record { at = other_side at; offer = false; text = answer.text })
+  pub offered : Aligned (offer.front ++ offer.more) answer.rows
+  pub mine : Follows (before at past) (before at past) answer.rows
+  pub theirs : Aligned answer.rows (before (other_side at) past)
+
+-- The offer of a number is outstanding, and says these rows.
+pub record IsOffered (at : Side) (n : ℕ) (said : List LineRow) (past : List Entry) : Type 0 where
+  pub offer : OfferSaid
+  pub are : map unnamed (offer.front ++ offer.more) ≡ said
+  pub has : HasOffered offer at n past
+  pub same : Aligned (before at past) (before (other_side at) past)
+
+-- The answer of a number to the offer of a number is outstanding, and says these rows.
+pub record IsAnswered (at : Side) (n m : ℕ) (said : List LineRow) (past : List Entry) : Type 0 where
+  pub offer : OfferSaid
+  pub answer : AnswerSaid
+  pub are : map unnamed answer.rows ≡ said
+  pub has : HasOffered offer at n past
+  pub answered : HasAnswered offer answer at m past
+
+-- ---- the rows of an offer
+
+-- each of the added rows is found among them
+finds_each : (news rows : List LineRow) → ((k : ℕ) (row : LineRow) → slice_get rows k ≡ Some row → row_of news (row_mid row) ≡ Some row) → FindsNew news [] rows
+finds_each news [] each = tt
+finds_each news (row ∷ rows) each = (each zero row refl, finds_each news rows (λ k other there. each (suc k) other there))
+
+finds_past : (news front rows : List LineRow) → Aligned front rows → FindsNew news [] news → FindsNew news rows (front ++ news)
+finds_past news [] [] same finds = finds
+finds_past news (row ∷ front) (other ∷ rows) same finds = finds_past news front rows same.1 finds
+finds_past news front rows same finds = absurd same
+
+-- past rows with the names of those that an offer says first, the rows that it says are found among the added ones
+pub offer_finds : (offer : OfferSaid) (rows : List LineRow) → Aligned offer.front rows → FindsNew offer.more rows (offer.front ++ offer.more)
+offer_finds offer rows same =
+    finds_past offer.more offer.front rows same
+    (finds_each offer.more offer.more (λ k row there. row_of_its_mid offer.more k row (added_distinct (map row_mid offer.front) (length offer.front) offer.more offer.new) there))
+
+pub offer_rising : (offer : OfferSaid) → Rising 0 (offer.front ++ offer.more)
+offer_rising offer =
+    rising_append 0 offer.front offer.more offer.table.rising
+    (subst (λ (k : ℕ). Rising k offer.more) (let e : length offer.front ≡ 0 + length offer.front = omega arith in e) (added_rising (map row_mid offer.front) (length offer.front) offer.more offer.new))
+
+-- ---- no cause holds
+
+-- an offer whose rows go on from those of a table is not refused
+pub offer_passes : (rows more : List LineRow) (text : Sdp) → IsTable rows → Follows rows rows more → said_lines text ≡ map row_said more → inconsistency text ≡ None → StartsLive more
+    → verdict (record { lines = rows }) None text ≡ None
+unfolding verdict head_verdict
+offer_passes rows [] text table follows says fits live = absurd live
+offer_passes rows (row ∷ more) text table follows says fits live = rw (says, fits, follows_allowed rows true false 0 rows (row ∷ more) table (all_left rows) follows) refl
+
+-- an answer whose rows are those that were offered is not refused
+pub answer_passes : (rows : List LineRow) (offer : OfferSaid) (more : List LineRow) (text : Sdp) → IsTable rows → Follows rows rows more → Aligned (offer.front ++ offer.more) more → Aligned offer.front rows
+    → said_lines text ≡ map row_said more → inconsistency text ≡ None → verdict (record { lines = rows }) (Some (record { added = offer.more })) text ≡ None
+unfolding verdict head_verdict
+answer_passes rows offer more text table follows same kept says fits =
+    let allowed = follows_allowed rows false false 0 rows more table (all_left rows) follows in
+    let count : length (new_places rows 0 (map row_said more)) ≡ (0 + length (map row_said more)) - max 0 (length rows) = new_count rows false 0 (map row_said more) table.rising allowed in
+    let lines : length (map row_said more) ≡ length more = length-map more row_said in
+    let all : length more ≡ length (offer.front ++ offer.more) = length-aligned (offer.front ++ offer.more) more same in
+    let both : length (offer.front ++ offer.more) ≡ length offer.front + length offer.more = length-append offer.front offer.more in
+    let few : length rows ≡ length offer.front = length-aligned offer.front rows kept in
+    let right : (length offer.more == length (new_places rows 0 (map row_said more))) ≡ true = eq-eqb (length offer.more) (length (new_places rows 0 (map row_said more))) (omega arith) in
+    rw (says, fits, allowed, right, follows_right rows offer.more 0 rows (offer.front ++ offer.more) more table (all_left rows) follows same (offer_rising offer) (offer_finds offer rows kept)) refl

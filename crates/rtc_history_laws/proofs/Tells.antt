@@ -1,0 +1,182 @@
+-- What a past says of a pair, and what a new entry says of each side.
+use Rattle.std.proofs.Common.{◌≡◌, ◌≤◌, ◌<◌, ◌+◌, ◌^◌, ◌==◌, ℕ, List, ◌∷◌, map, length, All, Bool, true, false, Option, Some, None, refl, sym, ◌∙◌, ap, arith, cond, ◌⊎◌, inl, inr}
+use Rattle.std.specs.Prelude.{slice_get, is_some}
+use Rattle.std.proofs.lemmas.Bool.{ne_eqb}
+use Rattle.rtc_change.specs.PendingOffer.{PendingOffer, added_mids, added_rows}
+use Rattle.rtc_peer_state.specs.declared.peer.Peer.{Peer}
+use Rattle.rtc_peer_state.specs.Calls.{raised}
+use Rattle.rtc_history.specs.declared.side.Side.{Side}
+use Rattle.rtc_history.specs.declared.side.Side.TheVariants.{Left, Right}
+use Rattle.rtc_history.specs.Sides.{same_side, other_side, side_of}
+use Rattle.rtc_history.specs.Past.{Entry, before, rows_or, texts, spends, is_spent, is_offer_of, holds_token, moves, makes, is_right, added_by}
+use Rattle.rtc_history.specs.declared.kept.Kept.{Kept}
+use Rattle.rtc_history.specs.PairState.{PairState, peer_at, said_of, token_for, held_token}
+use Rattle.rtc_history.specs.Bounds.{IsWithin}
+
+-- What a past says of the token of a number, at a side whose counter is this.
+pub record TokenTells (past : List Entry) (at : Side) (counter t : ℕ) (kept : Option Kept) : Type 0 where
+  pub held : is_some (token_for at kept) ≡ holds_token at t past
+  pub right : (token : PendingOffer) → token_for at kept ≡ Some token → (counter == token.id + 1) ≡ is_right at t past
+  pub older : (token : PendingOffer) → token_for at kept ≡ Some token → token.id + 1 ≤ counter
+  pub changes : (token : PendingOffer) → token_for at kept ≡ Some token → (place : ℕ) → added_rows place token.changes ≡ added_by place t past
+
+-- the rows of a side with those that its right token adds are at most so many
+abbrev pub Fits : {N : Type 0} → Side → Peer N → List Kept → ℕ → Type 0
+Fits at peer kept size = (t : ℕ) (token : PendingOffer) → held_token kept at t ≡ Some token → peer.counter ≡ raised token.id → length peer.lines + length (added_mids token.changes) ≤ size
+
+-- What a past says of a side.
+pub record SideTells {N : Type 0} (past : List Entry) (at : Side) (peer : Peer N) (kept : List Kept) (size : ℕ) : Type 0 where
+  pub rows : peer.lines ≡ before at past
+  pub tokens : (t : ℕ) → TokenTells past at peer.counter t (slice_get kept t)
+  pub counts : peer.counter ≤ size
+  pub few : length peer.lines ≤ size
+  -- no two tokens have one id
+  pub one_each : (t u : ℕ) (token other : PendingOffer) → held_token kept at t ≡ Some token → held_token kept at u ≡ Some other → token.id ≡ other.id → t ≡ u
+  pub fits : Fits at peer kept size
+
+pub record Tells {N : Type 0} (past : List Entry) (pair : PairState N) : Type 0 where
+  pub sides : (at : Side) → SideTells past at (peer_at at pair) pair.texts pair.size
+  pub says : map said_of pair.texts ≡ texts past
+  -- no token past the texts is spent
+  pub later : (t : ℕ) → length (texts past) ≤ t → is_spent t past ≡ false
+  pub count : length pair.texts ≤ pair.size
+  pub each : All (λ kept. length kept.text.lines ≤ pair.size) pair.texts
+
+pub within : {N : Type 0} (past : List Entry) (pair : PairState N) → Tells past pair → IsWithin pair
+within past pair tells = record {
+  rows = λ at. (tells.sides at).few;
+  texts = tells.count;
+  each = tells.each;
+  fits = λ at. (tells.sides at).fits;
+}
+
+-- ---- sides
+
+-- a fact of one side and of the other is one of each side
+pub both_sides : (P : Side → Type 0) (at : Side) → P at → P (other_side at) → (side : Side) → P side
+both_sides P Left here there Left = here
+both_sides P Left here there Right = there
+both_sides P Right here there Left = there
+both_sides P Right here there Right = here
+
+pub same_side-self : (at : Side) → same_side at at ≡ true
+same_side-self Left = refl
+same_side-self Right = refl
+
+pub same_side-true : (side at : Side) → same_side side at ≡ true → side ≡ at
+same_side-true Left Left same = refl
+same_side-true Left Right same = absurd (cc)
+same_side-true Right Left same = absurd (cc)
+same_side-true Right Right same = refl
+
+pub same_side-other : (at : Side) → same_side at (other_side at) ≡ false
+same_side-other Left = refl
+same_side-other Right = refl
+
+-- ---- tokens that a side had before
+
+pub raised-small : (counter size : ℕ) → counter ≤ size → size < 2 ^ 32 → raised counter ≡ counter + 1
+raised-small counter size low few = omega arith
+
+-- a new entry made no offer of this number, and spent no token of it
+pub record IsUntold (past : List Entry) (e : Entry) (at : Side) (t : ℕ) : Type 0 where
+  pub same : is_offer_of at (slice_get (texts (e ∷ past)) t) ≡ is_offer_of at (slice_get (texts past) t)
+  pub unspent : spends t e.step e.outcome ≡ false
+  pub unmade : makes t e.outcome ≡ false
+
+token_kept : (past : List Entry) (e : Entry) (at : Side) (counter t : ℕ) (kept : Option Kept) → IsUntold past e at t
+    → moves at e.step e.outcome ≡ false → TokenTells past at counter t kept → TokenTells (e ∷ past) at counter t kept
+token_kept past e at counter t kept untold still told =
+    let same = untold.same in
+    let unspent = untold.unspent in
+    let unmade = untold.unmade in
+    record {
+      held = told.held ∙ (rw (same, unspent) refl);
+      right = λ token is. told.right token is ∙ (rw (unmade, still) refl);
+      older = told.older;
+      changes = λ token is place. told.changes token is place ∙ (rw unmade refl);
+    }
+
+not_next : (counter id : ℕ) → id + 1 ≤ counter → (counter + 1 == id + 1) ≡ false
+not_next counter id older = ne_eqb (counter + 1) (id + 1) (λ e. omega arith)
+
+token_moved : (past : List Entry) (e : Entry) (at : Side) (counter t : ℕ) (kept : Option Kept) → IsUntold past e at t
+    → moves at e.step e.outcome ≡ true → TokenTells past at counter t kept → TokenTells (e ∷ past) at (counter + 1) t kept
+token_moved past e at counter t kept untold moved told =
+    let same = untold.same in
+    let unspent = untold.unspent in
+    let unmade = untold.unmade in
+    record {
+      held = told.held ∙ (rw (same, unspent) refl);
+      right = λ token is. not_next counter token.id (told.older token is) ∙ (rw (unmade, moved) refl);
+      older = λ token is. let o : token.id + 1 ≤ counter = told.older token is in omega arith;
+      changes = λ token is place. told.changes token is place ∙ (rw unmade refl);
+    }
+
+pub token_next : (moved : Bool) (past : List Entry) (e : Entry) (at : Side) (counter t : ℕ) (kept : Option Kept) → IsUntold past e at t
+    → moves at e.step e.outcome ≡ moved → TokenTells past at counter t kept → TokenTells (e ∷ past) at (cond moved (counter + 1) counter) t kept
+token_next true past e at counter t kept untold moved told = token_moved past e at counter t kept untold moved told
+token_next false past e at counter t kept untold moved told = token_kept past e at counter t kept untold moved told
+
+-- a text whose token this side has not
+pub no_token : (past : List Entry) (at : Side) (counter t : ℕ) (kept : Option Kept) → token_for at kept ≡ None → holds_token at t past ≡ false → TokenTells past at counter t kept
+no_token past at counter t kept none unheld = record {
+  held = rw (none, unheld) refl;
+  right = λ token is. absurd (let e : None ≡ Some token = sym none ∙ is in cc);
+  older = λ token is. absurd (let e : None ≡ Some token = sym none ∙ is in cc);
+  changes = λ token is. absurd (let e : None ≡ Some token = sym none ∙ is in cc);
+}
+
+-- ---- sides after an entry
+
+-- the tokens of a side are among those that it had
+abbrev pub HeldBefore : Side → List Kept → List Kept → Type 0
+HeldBefore at kept kept' = (t : ℕ) (token : PendingOffer) → held_token kept' at t ≡ Some token → held_token kept at t ≡ Some token
+
+pub held_before : (at : Side) (kept kept' : List Kept) → ((t : ℕ) → (slice_get kept' t ≡ slice_get kept t) ⊎ (held_token kept' at t ≡ None)) → HeldBefore at kept kept'
+held_before at kept kept' place t token is = elim (place t) [
+  | inl same ↦ ap (token_for at) (sym same) ∙ is
+  | inr none ↦ absurd (let e : None ≡ Some token = sym none ∙ is in cc)
+]
+
+-- a token from before an entry that moves its side is not right
+pub fits_moved : {N : Type 0} (past : List Entry) (at : Side) (old new : Peer N) (kept kept' : List Kept) (size size' : ℕ)
+    → new.counter ≡ old.counter + 1 → size < 2 ^ 32 → HeldBefore at kept kept' → SideTells past at old kept size → Fits at new kept' size'
+fits_moved past at old new kept kept' size size' counter small was told t token is right =
+    let older : token.id + 1 ≤ old.counter = (told.tokens t).older token (was t token is) in
+    let counts : old.counter ≤ size = told.counts in
+    let next : raised token.id ≡ token.id + 1 = raised-small token.id size (omega arith) small in
+    absurd (omega (arith, counter, right, next))
+
+pub fits_same : {N : Type 0} (past : List Entry) (at : Side) (old new : Peer N) (kept kept' : List Kept) (size size' : ℕ)
+    → new.counter ≡ old.counter → length new.lines ≡ length old.lines → size ≤ size' → HeldBefore at kept kept' → SideTells past at old kept size → Fits at new kept' size'
+fits_same past at old new kept kept' size size' counter lines grows was told t token is right =
+    let fit : length old.lines + length (added_mids token.changes) ≤ size = told.fits t token (was t token is) (sym counter ∙ right) in
+    omega (arith, fit, lines, grows)
+
+at_most_one : (moved : Bool) (counter size size' : ℕ) → counter ≤ size → size + 1 ≤ size' → cond moved (counter + 1) counter ≤ size'
+at_most_one true counter size size' low grows = omega arith
+at_most_one false counter size size' low grows = omega arith
+
+-- a side with no token that it had not
+pub side_next : {N : Type 0} (moved : Bool) (past : List Entry) (e : Entry) (at : Side) (old new : Peer N) (kept kept' : List Kept) (size size' : ℕ)
+    → new.lines ≡ before at (e ∷ past) → new.counter ≡ cond moved (old.counter + 1) old.counter → size + 1 ≤ size' → length new.lines ≤ size'
+    → HeldBefore at kept kept' → ((t : ℕ) → TokenTells (e ∷ past) at (cond moved (old.counter + 1) old.counter) t (slice_get kept' t))
+    → Fits at new kept' size' → SideTells past at old kept size → SideTells (e ∷ past) at new kept' size'
+side_next moved past e at old new kept kept' size size' rows counter grows few was tokens fits told = record {
+  rows = rows;
+  tokens = λ t. rw counter (tokens t);
+  counts = rw counter (at_most_one moved old.counter size size' told.counts grows);
+  few = few;
+  one_each = λ t u token other is is'. told.one_each t u token other (was t token is) (was u other is');
+  fits = fits;
+}
+
+-- the side that does not act
+pub side_stays : {N : Type 0} (past : List Entry) (e : Entry) (at : Side) (peer : Peer N) (kept kept' : List Kept) (size size' : ℕ)
+    → same_side (side_of e.step) at ≡ false → size + 1 ≤ size' → HeldBefore at kept kept'
+    → ((t : ℕ) → TokenTells (e ∷ past) at peer.counter t (slice_get kept' t)) → SideTells past at peer kept size → SideTells (e ∷ past) at peer kept' size'
+side_stays past e at peer kept kept' size size' another grows was tokens told =
+    let few : length peer.lines ≤ size = told.few in
+    side_next false past e at peer peer kept kept' size size' (told.rows ∙ sym (ap (λ b. rows_or b e.table (before at past)) another)) refl grows (omega arith) was tokens
+    (fits_same past at peer peer kept kept' size size' refl refl (omega arith) was told) told

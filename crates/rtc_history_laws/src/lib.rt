@@ -1,0 +1,2 @@
+//! That every run of two peers keeps what the history promises.
+#![tactic(auto)]

@@ -1,5 +1,0 @@
-use Rattle.rtc_media_attributes.proofs.ExtmapLemmas.{extmap_again, extmap_lacks}
-use Rattle.rtc_media_attributes.proofs.laws.extmaps_read_back.Goals as goal
-
-pub returns : goal.returns
-returns c = record { again = extmap_again; one_line = extmap_lacks }

@@ -1,5 +1,0 @@
-use Rattle.rtc_media_attributes.proofs.MsidLemmas.{msid_again, msid_lacks}
-use Rattle.rtc_media_attributes.proofs.laws.msids_read_back.Goals as goal
-
-pub returns : goal.returns
-returns c = record { again = msid_again; one_line = msid_lacks }

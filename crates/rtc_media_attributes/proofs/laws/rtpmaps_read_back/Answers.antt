@@ -1,5 +1,0 @@
-use Rattle.rtc_media_attributes.proofs.RtpmapLemmas.{rtpmap_again, rtpmap_lacks}
-use Rattle.rtc_media_attributes.proofs.laws.rtpmaps_read_back.Goals as goal
-
-pub returns : goal.returns
-returns c = record { again = rtpmap_again; one_line = rtpmap_lacks }

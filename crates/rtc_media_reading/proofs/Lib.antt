@@ -1,6 +1,0 @@
-pub mod PayloadLookups
-pub mod PayloadLaw
-pub mod LayerLaw
-pub mod PlaceLemmas
-pub mod SourceLaw
-pub mod NumberLemmas

@@ -1,6 +1,0 @@
-use Rattle.std.proofs.Common.{◌≡◌, ◌++◌, drop}
-use Rattle.rtc_media_reading.specs.Layers as spec
-use Rattle.rtc_media_reading.proofs.layer_list.layers.Given as goal
-
-abbrev pub invariant-loop-rid : goal.invariant-loop-rid
-invariant-loop-rid l = l.made ++ spec.layers l.lines l.direction (drop l.rid-index l.rids) ≡ spec.layers l.lines l.direction l.rids

@@ -1,6 +1,0 @@
-use Rattle.std.proofs.Common.{◌≡◌, drop}
-use Rattle.rtc_media_reading.specs.Payloads as spec
-use Rattle.rtc_media_reading.proofs.payloads.fmtp_for.Given as goal
-
-abbrev pub invariant-loop-fmtp : goal.invariant-loop-fmtp
-invariant-loop-fmtp l = spec.fmtp_for (drop l.fmtp-index l.fmtps) l.pt ≡ spec.fmtp_for l.fmtps l.pt

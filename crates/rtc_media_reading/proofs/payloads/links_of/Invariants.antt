@@ -1,6 +1,0 @@
-use Rattle.std.proofs.Common.{◌≡◌, ◌++◌, map, drop}
-use Rattle.rtc_media_reading.specs.Payloads as spec
-use Rattle.rtc_media_reading.proofs.payloads.links_of.Given as goal
-
-abbrev pub invariant-loop-format : goal.invariant-loop-format
-invariant-loop-format l = l.links.items ++ map spec.link_of (spec.entries (drop l.format-index l.formats) l.codecs l.fmtps) ≡ map spec.link_of (spec.entries l.formats l.codecs l.fmtps)

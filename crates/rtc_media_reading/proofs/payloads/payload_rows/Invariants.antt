@@ -1,7 +1,0 @@
-use Rattle.std.proofs.Common.{◌≡◌, ◌++◌, drop}
-use Rattle.rtc_media_reading.specs.Payloads as spec
-use Rattle.std.specs.List.{filter_map}
-use Rattle.rtc_media_reading.proofs.payloads.payload_rows.Given as goal
-
-abbrev pub invariant-loop-format : goal.invariant-loop-format
-invariant-loop-format l = l.rows ++ filter_map (spec.row_of l.links.items) (spec.entries (drop l.format-index l.formats) l.codecs l.fmtps) ≡ filter_map (spec.row_of l.links.items) (spec.entries l.formats l.codecs l.fmtps)

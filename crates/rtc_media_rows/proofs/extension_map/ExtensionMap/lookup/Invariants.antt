@@ -1,6 +1,0 @@
-use Rattle.std.proofs.Common.{◌≡◌, drop}
-use Rattle.rtc_media_rows.specs.ExtensionMap as spec
-use Rattle.rtc_media_rows.proofs.extension_map.ExtensionMap.lookup.Given as goal
-
-abbrev pub invariant-loop-row : goal.invariant-loop-row
-invariant-loop-row l = spec.lookup l.id (drop l.row-index l.row-items) ≡ spec.lookup l.id l.self.rows

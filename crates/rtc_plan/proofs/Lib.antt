@@ -1,6 +1,0 @@
-pub mod TableLemmas
-pub mod RowChangeLemmas
-pub mod AddedLemmas
-pub mod TakenTable
-pub mod ConsistentMids
-pub mod VerdictLemmas

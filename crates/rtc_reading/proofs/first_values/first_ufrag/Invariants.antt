@@ -1,7 +1,0 @@
-use Rattle.std.proofs.Common.{◌≡◌, drop}
-use Rattle.rtc_fields.specs.Fields.{first}
-use Rattle.rtc_reading.specs.Said.{said, ufrag_of}
-use Rattle.rtc_reading.proofs.first_values.first_ufrag.Given as goal
-
-abbrev pub invariant-loop-item : goal.invariant-loop-item
-invariant-loop-item l = first (said ufrag_of) (drop l.item-index l.items) ≡ first (said ufrag_of) l.items

@@ -1,6 +1,0 @@
-use Rattle.std.proofs.Common.{◌≡◌, drop}
-use Rattle.rtc_rows.specs.Sdp as spec
-use Rattle.rtc_rows.proofs.consistency.are_known.Given as goal
-
-abbrev pub invariant-loop-mid : goal.invariant-loop-mid
-invariant-loop-mid l = spec.are_known (drop l.mid-index l.group) l.lines ≡ spec.are_known l.group l.lines

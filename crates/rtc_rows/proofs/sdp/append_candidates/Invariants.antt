@@ -1,5 +1,0 @@
-use Rattle.std.proofs.Common.{◌≡◌, ◌++◌, drop}
-use Rattle.rtc_rows.proofs.sdp.append_candidates.Given as goal
-
-abbrev pub invariant-loop-candidate : goal.invariant-loop-candidate
-invariant-loop-candidate l = l.found ++ drop l.candidate-index l.candidates ≡ l.fn.found ++ l.candidates

@@ -1,6 +1,0 @@
-use Rattle.std.proofs.Common.{◌≡◌, drop}
-use Rattle.rtc_rows.specs.Sdp as spec
-use Rattle.rtc_rows.proofs.sdp.application_line.Given as goal
-
-abbrev pub invariant-loop-line : goal.invariant-loop-line
-invariant-loop-line l = spec.application_line (drop l.line-index l.lines) ≡ spec.application_line l.lines

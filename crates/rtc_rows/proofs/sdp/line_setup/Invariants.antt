@@ -1,6 +1,0 @@
-use Rattle.std.proofs.Common.{◌≡◌, drop}
-use Rattle.rtc_fields.specs.Fields.{first}
-use Rattle.rtc_rows.proofs.sdp.line_setup.Given as goal
-
-abbrev pub invariant-loop-line : goal.invariant-loop-line
-invariant-loop-line l = first (λ line. line.setup) (drop l.line-index l.lines) ≡ first (λ line. line.setup) l.lines

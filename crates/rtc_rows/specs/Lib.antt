@@ -1,6 +1,0 @@
-pub mod Direction
-pub mod Fingerprint
-pub mod LineRow
-pub mod MediaKind
-pub mod Sdp
-pub mod SdpErrorText

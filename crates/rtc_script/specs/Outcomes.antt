@@ -1,0 +1,61 @@
+-- The words of outcomes.
+use Rattle.std.specs.Prelude.{ℕ, Bool, true, false, List, [], ◌∷◌, ◌++◌, flat_map, codes}
+use Rattle.std.specs.Fmt.{decimal}
+use Rattle.rtc_change.specs.WhyText.{why_text}
+use Rattle.rtc_sdp_values.specs.SdpErrorText.{sdp_error_text}
+use Rattle.rtc_peer_state.specs.declared.rtc_error.RtcError.{RtcError}
+use Rattle.rtc_peer_state.specs.declared.rtc_error.RtcError.TheVariants.{RemoteSdp, Sdp, ChangesOutOfOrder, Alloc as PeerAlloc}
+use Rattle.rtc_history.specs.declared.made.Made.{Made}
+use Rattle.rtc_history.specs.declared.made.Made.TheVariants.{NotAsked, Nothing, Offer, Alloc as MadeAlloc}
+use Rattle.rtc_history.specs.declared.op_answer.OpAnswer.{OpAnswer}
+use Rattle.rtc_history.specs.declared.op_answer.OpAnswer.TheVariants.{Mid, Changed, NoLine, Alloc as OpAlloc}
+use Rattle.rtc_history.specs.declared.outcome.Outcome.{Outcome}
+use Rattle.rtc_history.specs.declared.outcome.Outcome.TheVariants.{Negotiated, Answered, Finished, Refused, NoSuch, Alloc}
+
+-- the word of a want of memory
+abbrev pub no_memory : List ℕ
+no_memory = codes "nomemory"
+
+-- whether a line was changed
+abbrev pub changed_text : Bool → List ℕ
+changed_text true = codes "true"
+changed_text false = codes "false"
+
+-- the answer to an op
+abbrev pub op_answer_text : OpAnswer → List ℕ
+op_answer_text (Mid mid) = mid
+op_answer_text (Changed changed) = changed_text changed
+op_answer_text NoLine = codes "none"
+op_answer_text OpAlloc = no_memory
+
+-- answers behind the first, each behind a comma
+abbrev pub more_answers : List OpAnswer → List ℕ
+more_answers answers = flat_map (λ answer. codes "," ++ op_answer_text answer) answers
+
+-- answers parted by commas; a dash for none
+abbrev pub answers_text : List OpAnswer → List ℕ
+answers_text [] = codes "-"
+answers_text (first ∷ answers) = op_answer_text first ++ more_answers answers
+
+-- the number of the offer that was made; a dash where none was
+abbrev pub made_text : Made → List ℕ
+made_text NotAsked = codes "-"
+made_text Nothing = codes "-"
+made_text (Offer number) = decimal number
+made_text MadeAlloc = no_memory
+
+-- a refusal: its number and its printed text
+abbrev pub error_text : RtcError → List ℕ
+error_text (RemoteSdp why) = codes "refused 1 remote sdp: " ++ why_text why
+error_text (Sdp error) = codes "refused 2 " ++ sdp_error_text error
+error_text ChangesOutOfOrder = codes "refused 7 Changes made out of order"
+error_text PeerAlloc = no_memory
+
+-- what a step came to
+abbrev pub outcome_text : Outcome → List ℕ
+outcome_text (Negotiated answers made) = codes "ops " ++ answers_text answers ++ codes " text " ++ made_text made
+outcome_text (Answered text) = codes "answered " ++ decimal text
+outcome_text Finished = codes "finished"
+outcome_text (Refused error) = error_text error
+outcome_text NoSuch = codes "nosuch"
+outcome_text Alloc = no_memory

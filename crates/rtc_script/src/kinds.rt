@@ -1,0 +1,30 @@
+//! Words of kinds of media.
+ghost use Rattle.std.specs.Prelude.{◌≡◌, ◌≢◌, IfSome, IfNone};
+ghost use Rattle.rtc_script.specs.Words.{kind_text};
+ghost use Rattle.rtc_sdp_values.specs.declared.media_kind.MediaKind.{MediaKind};
+
+use rtc_sdp_values::MediaKind;
+
+/// The word of a kind of media (RFC 8866, section 5.14).
+pub fn kind_word(kind: MediaKind) -> &'static str
+    ensures { result.now ≡ kind_text kind }
+{
+    match kind {
+        MediaKind::Audio => "audio",
+        MediaKind::Video => "video",
+    }
+}
+
+/// The kind of media whose word it is.
+pub fn read_kind(word: &[u8]) -> Option<MediaKind>
+    ensures some { IfSome result (λ kind. word.now ≡ kind_text kind) }
+    ensures none { IfNone result ((kind : MediaKind) → word.now ≢ kind_text kind) }
+{
+    if word == b"audio".as_slice() {
+        Some(MediaKind::Audio)
+    } else if word == b"video".as_slice() {
+        Some(MediaKind::Video)
+    } else {
+        None
+    }
+}

@@ -1,0 +1,46 @@
+//! Whole reports.
+ghost use Rattle.std.specs.Prelude.{◌≡◌, ◌++◌, OnOk, IfOk, string_bytes};
+ghost use Rattle.rtc_script.specs.Report.{table_lines, step_lines, report};
+
+use crate::outcomes::push_outcome;
+use crate::pushing::push_count;
+use crate::rows::push_rows;
+use crate::sides::side_word;
+use rtc_history::{Reply, Step, Table};
+use std::alloc::{AllocError, Global};
+
+fn push_table(out: &mut String, table: &Option<Table>) -> Result<(), AllocError>
+    ensures { OnOk result (string_bytes out.new ≡ string_bytes out.old ++ table_lines table.now) }
+{
+    match table {
+        None => Ok(()),
+        Some(table) => push_rows(out, table.lines.as_slice()),
+    }
+}
+
+fn push_step(out: &mut String, number: usize, step: &Step, reply: &Reply) -> Result<(), AllocError>
+    ensures { OnOk result (string_bytes out.new ≡ string_bytes out.old ++ step_lines number step.now reply.now) }
+{
+    out.push_str("step ")?;
+    push_count(out, number)?;
+    out.push_str(" ")?;
+    out.push_str(side_word(step.side()))?;
+    out.push_str(" ")?;
+    push_outcome(out, &reply.outcome)?;
+    out.push_str("\n")?;
+    push_table(out, &reply.table)
+}
+
+/// The report of steps and their replies: a line for each reply and, behind it, the rows of the peer that acted.
+pub fn write_report(alloc: Global, steps: &[Step], replies: &[Reply]) -> Result<Vec<u8>, AllocError>
+    ensures { IfOk result (λ bytes. bytes.items ≡ report steps.now replies.now) }
+{
+    let mut out = String::new(alloc);
+    for (number, step) in steps.iter().enumerate() {
+        if number >= replies.len() {
+            return Ok(out.into_bytes());
+        }
+        push_step(&mut out, number, step, &replies[number])?;
+    }
+    Ok(out.into_bytes())
+}

@@ -1,0 +1,56 @@
+//! Lines of rows.
+ghost use Rattle.std.specs.Prelude.{◌≡◌, ◌++◌, OnOk, string_bytes};
+ghost use Rattle.rtc_script.specs.Rows.{row_report_line, row_lines};
+
+use crate::directions::direction_word;
+use crate::kinds::kind_word;
+use crate::pushing::push_number;
+use rtc_sdp_values::LineRow;
+use std::alloc::AllocError;
+
+fn push_row(out: &mut String, row: &LineRow) -> Result<(), AllocError>
+    ensures { OnOk result (string_bytes out.new ≡ string_bytes out.old ++ row_report_line row.now) }
+{
+    match row {
+        LineRow::Media {
+            place,
+            mid,
+            kind,
+            dir,
+            stopped,
+            remote_created,
+        } => {
+            out.push_str("line ")?;
+            push_number(out, *place)?;
+            out.push_str(" ")?;
+            out.push_str(mid.as_str())?;
+            out.push_str(" ")?;
+            out.push_str(kind_word(*kind))?;
+            out.push_str(" ")?;
+            out.push_str(direction_word(*dir))?;
+            out.push_str(if *stopped { " stopped" } else { " live" })?;
+            out.push_str(if *remote_created {
+                " remote\n"
+            } else {
+                " local\n"
+            })
+        }
+        LineRow::App { place, mid } => {
+            out.push_str("line ")?;
+            push_number(out, *place)?;
+            out.push_str(" ")?;
+            out.push_str(mid.as_str())?;
+            out.push_str(" app\n")
+        }
+    }
+}
+
+/// Puts the lines of rows behind a text.
+pub fn push_rows(out: &mut String, rows: &[LineRow]) -> Result<(), AllocError>
+    ensures { OnOk result (string_bytes out.new ≡ string_bytes out.old ++ row_lines rows.now) }
+{
+    for row in rows {
+        push_row(out, row)?;
+    }
+    Ok(())
+}

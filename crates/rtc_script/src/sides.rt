@@ -1,0 +1,30 @@
+//! Letters of sides.
+ghost use Rattle.std.specs.Prelude.{◌≡◌, ◌≢◌, IfSome, IfNone};
+ghost use Rattle.rtc_script.specs.Words.{side_text};
+ghost use Rattle.rtc_history.specs.declared.side.Side.{Side};
+
+use rtc_history::Side;
+
+/// The letter of a side.
+pub fn side_word(side: Side) -> &'static str
+    ensures { result.now ≡ side_text side }
+{
+    match side {
+        Side::Left => "L",
+        Side::Right => "R",
+    }
+}
+
+/// The side whose letter a word is.
+pub fn read_side(word: &[u8]) -> Option<Side>
+    ensures some { IfSome result (λ side. word.now ≡ side_text side) }
+    ensures none { IfNone result ((side : Side) → word.now ≢ side_text side) }
+{
+    if word == b"L".as_slice() {
+        Some(Side::Left)
+    } else if word == b"R".as_slice() {
+        Some(Side::Right)
+    } else {
+        None
+    }
+}

@@ -1,0 +1,12 @@
+pub mod ShapeLemmas
+pub mod WordLemmas
+pub mod FingerprintLemmas
+pub mod CandidateLemmas
+pub mod PairLemmas
+pub mod RtpmapLemmas
+pub mod FmtpLemmas
+pub mod ExtmapLemmas
+pub mod MsidLemmas
+pub mod RidLemmas
+pub mod SimulcastLemmas
+pub mod SsrcLemmas

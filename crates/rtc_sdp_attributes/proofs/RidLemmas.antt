@@ -1,0 +1,89 @@
+-- A restricted layer that is written is read back.
+use Rattle.std.proofs.Common.{◌≡◌, ℕ, ◌<◌, List, [], ◌∷◌, ◌++◌, map, Option, Some, refl, ap, ◌∙◌, arith, rules}
+use Rattle.std.specs.Prelude.{codes, filter}
+use Rattle.std.specs.List.{AllByRecursion}
+use Rattle.std.proofs.lemmas.Bool.{ne_eqb}
+use Rattle.std.proofs.lemmas.List.{append-nil}
+use Rattle.rtc_fields.specs.Cuts.{cut, Lacks}
+use Rattle.rtc_fields.specs.Fields.{each}
+use Rattle.rtc_fields.specs.Words.{joined}
+use Rattle.rtc_fields.proofs.CutLemmas.{cut-append, cut_none, parts-after_each, short_token_lacks, no_token_byte, lacks-append, lacks-joined, printable_lacks}
+use Rattle.rtc_sdp_attributes.specs.declared.rid_direction.RidDirection.{RidDirection}
+use Rattle.rtc_sdp_attributes.specs.declared.rid_direction.RidDirection.TheVariants.{Send, Recv}
+use Rattle.rtc_sdp_attributes.specs.RidValue.{rid_direction_of, rid_direction_word, rid_pair_of, is_kept, kept_pairs, rid_pairs_of, rid_made, rid_rest, rid_parts, rid_of, pair_text, pairs_text, rid_text, IsPlainPair, IsPlainRid}
+
+abbrev Pairs : Type 0
+Pairs = List (List ℕ × List ℕ)
+
+pub direction_again : (direction : RidDirection) → rid_direction_of (rid_direction_word direction) ≡ Some direction
+direction_again Send = refl
+direction_again Recv = refl
+
+pub direction_lacks_space : (direction : RidDirection) → Lacks 32 (rid_direction_word direction)
+direction_lacks_space Send = search rules
+direction_lacks_space Recv = search rules
+
+direction_lacks : (byte : ℕ) → byte < 32 → (direction : RidDirection) → Lacks byte (rid_direction_word direction)
+direction_lacks byte low Send = printable_lacks byte low (codes "send") refl
+direction_lacks byte low Recv = printable_lacks byte low (codes "recv") refl
+
+pair_again : (p : List ℕ × List ℕ) → IsPlainPair p → rid_pair_of (pair_text p) ≡ Some p
+pair_again p h = rw (cut-append 61 p.0 p.1 h.key_equals, cut_none 61 p.1 h.value_equals) refl
+
+pairs_each : (ps : Pairs) → AllByRecursion IsPlainPair ps → each rid_pair_of (map pair_text ps) ≡ Some ps
+pairs_each [] h = refl
+pairs_each (p ∷ ps) h = rw (pair_again p h.0, pairs_each ps h.1) refl
+
+all_kept : (ps : Pairs) → AllByRecursion IsPlainPair ps → filter is_kept ps ≡ ps
+all_kept [] h = refl
+all_kept (p ∷ ps) h = rw (h.0.kept, all_kept ps h.1) refl
+
+pair_lacks_semicolon : (p : List ℕ × List ℕ) → IsPlainPair p → Lacks 59 (pair_text p)
+pair_lacks_semicolon p h = lacks-append 59 p.0 (61 ∷ p.1) h.key_semicolon (refl, h.value_semicolon)
+
+pairs_lack_semicolon : (ps : Pairs) → AllByRecursion IsPlainPair ps → AllByRecursion (λ w. Lacks 59 w) (map pair_text ps)
+pairs_lack_semicolon [] h = tt
+pairs_lack_semicolon (p ∷ ps) h = (pair_lacks_semicolon p h.0, pairs_lack_semicolon ps h.1)
+
+pairs_again : (p : List ℕ × List ℕ) (ps : Pairs) → AllByRecursion IsPlainPair (p ∷ ps) → rid_pairs_of (joined 59 (map pair_text (p ∷ ps))) ≡ Some (p ∷ ps)
+pairs_again p ps h =
+    ap (λ (l : List (List ℕ)). kept_pairs (each rid_pair_of l)) (parts-after_each 59 (pair_text p) (map pair_text ps) (pair_lacks_semicolon p h.0) (pairs_lack_semicolon ps h.1))
+    ∙ ap kept_pairs (pairs_each (p ∷ ps) h)
+    ∙ ap Some (all_kept (p ∷ ps) h)
+
+rest_again : (rid : List ℕ) (direction : RidDirection) (ps : Pairs) → AllByRecursion IsPlainPair ps
+    → rid_rest rid (rid_direction_word direction ++ pairs_text ps) (cut 32 (rid_direction_word direction ++ pairs_text ps)) ≡ rid_made rid (Some direction) (Some ps)
+rest_again rid direction [] h =
+    ap (λ (rest : List ℕ). rid_rest rid rest (cut 32 rest)) (append-nil (rid_direction_word direction))
+    ∙ ap (rid_rest rid (rid_direction_word direction)) (cut_none 32 (rid_direction_word direction) (direction_lacks_space direction))
+    ∙ ap (λ (d : Option RidDirection). rid_made rid d (Some [])) (direction_again direction)
+rest_again rid direction (p ∷ ps) h =
+    ap (rid_rest rid (rid_direction_word direction ++ pairs_text (p ∷ ps))) (cut-append 32 (rid_direction_word direction) (joined 59 (map pair_text (p ∷ ps))) (direction_lacks_space direction))
+    ∙ ap (λ (d : Option RidDirection). rid_made rid d (rid_pairs_of (joined 59 (map pair_text (p ∷ ps))))) (direction_again direction)
+    ∙ ap (λ (o : Option Pairs). rid_made rid (Some direction) o) (pairs_again p ps h)
+
+pub rid_again : (rid : List ℕ) (direction : RidDirection) (attributes : Pairs) → IsPlainRid rid attributes
+    → rid_of (rid_text rid direction attributes) ≡ Some (record { rid = rid; direction = direction; attributes = attributes })
+unfolding rid_text
+rid_again rid direction ps h =
+    ap rid_parts (cut-append 32 rid (rid_direction_word direction ++ pairs_text ps) (short_token_lacks 32 refl rid h.token))
+    ∙ rest_again rid direction ps h.pairs
+    ∙ rw h.token refl
+
+-- no pair ends a line
+abbrev pub ArePairsFree : ℕ → Pairs → Type 0
+ArePairsFree byte ps = AllByRecursion (λ p. Lacks byte p.0 × Lacks byte p.1) ps
+
+pair_texts_lack : (byte : ℕ) → byte < 32 → (ps : Pairs) → ArePairsFree byte ps → AllByRecursion (λ w. Lacks byte w) (map pair_text ps)
+pair_texts_lack byte low [] h = tt
+pair_texts_lack byte low (p ∷ ps) h = (lacks-append byte p.0 (61 ∷ p.1) h.0.0 (ne_eqb 61 byte (λ e. omega arith), h.0.1), pair_texts_lack byte low ps h.1)
+
+pairs_lack : (byte : ℕ) → byte < 32 → (ps : Pairs) → ArePairsFree byte ps → Lacks byte (pairs_text ps)
+pairs_lack byte low [] h = tt
+pairs_lack byte low (p ∷ ps) h = (ne_eqb 32 byte (λ e. omega arith), lacks-joined byte 59 (ne_eqb 59 byte (λ e. omega arith)) (map pair_text (p ∷ ps)) (pair_texts_lack byte low (p ∷ ps) h))
+
+pub rid_lacks : (byte : ℕ) → byte < 32 → (rid : List ℕ) (direction : RidDirection) (attributes : Pairs) → IsPlainRid rid attributes → ArePairsFree byte attributes → Lacks byte (rid_text rid direction attributes)
+unfolding rid_text
+rid_lacks byte low rid direction ps h free =
+    lacks-append byte rid (32 ∷ (rid_direction_word direction ++ pairs_text ps)) (short_token_lacks byte (no_token_byte byte (omega arith)) rid h.token)
+    (ne_eqb 32 byte (λ e. omega arith), lacks-append byte (rid_direction_word direction) (pairs_text ps) (direction_lacks byte low direction) (pairs_lack byte low ps free))

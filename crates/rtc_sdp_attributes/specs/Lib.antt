@@ -1,0 +1,10 @@
+pub mod WordValue
+pub mod FingerprintValue
+pub mod CandidateValue
+pub mod RtpmapValue
+pub mod FmtpValue
+pub mod ExtmapValue
+pub mod MsidValue
+pub mod RidValue
+pub mod SimulcastValue
+pub mod SsrcValue

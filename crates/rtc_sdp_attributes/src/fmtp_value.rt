@@ -1,0 +1,103 @@
+//! Values of `fmtp`.
+ghost use Rattle.std.specs.Prelude.{◌≡◌, ◌++◌, IfOk, OnOk, string_bytes, map};
+ghost use Rattle.rtc_fields.specs.Fields.{first};
+ghost use Rattle.rtc_sdp_attributes.specs.FmtpValue as spec;
+
+use crate::Fmtp;
+use rtc_fields::{cut, number_up_to, parts, without_blanks};
+use rtc_sdp_values::Pt;
+use rtc_wire::Text;
+use std::alloc::{AllocError, Global};
+use std::fmt::Write;
+
+/// The parameters that a value gives to a payload type (RFC 8866, section 6.15), at least one byte.
+pub fn read_fmtp(alloc: Global, value: &str) -> Result<Option<Fmtp>, AllocError>
+    ensures { IfOk result (λ read. read ≡ spec.fmtp_of value.now) }
+{
+    let Some((pt, text)) = cut(value, ' ') else {
+        return Ok(None);
+    };
+    let Some(pt) = number_up_to(127, pt) else {
+        return Ok(None);
+    };
+    if text.is_empty() {
+        return Ok(None);
+    }
+    let text = Text::from_str(alloc, text)?;
+    Ok(Some(Fmtp {
+        pt: Pt(pt as u8),
+        text,
+    }))
+}
+
+/// Appends the value that gives parameters to a payload type.
+#[tactic(auto, unfolding(crate::specs::FmtpValue::fmtp_text))]
+pub fn put_fmtp(out: &mut String, pt: Pt, text: &str) -> Result<(), AllocError>
+    ensures { OnOk result (string_bytes out.new ≡ string_bytes out.old ++ spec.fmtp_text pt.0 text.now) }
+{
+    let number = pt.0;
+    write!(out, "{number} {text}")?;
+    Ok(())
+}
+
+fn apt_pair(pair: &str) -> Option<u64>
+    ensures { result ≡ spec.apt_pair pair.now }
+{
+    match cut(without_blanks(pair), '=') {
+        Some((name, number)) => if name == "apt" {
+            number_up_to(127, number)
+        } else {
+            None
+        },
+        None => None,
+    }
+}
+
+fn first_apt(pairs: &[&str]) -> Option<u64>
+    ensures { result ≡ first spec.apt_pair (map (λ pair. pair.now) pairs.now) }
+{
+    for pair in pairs {
+        if let Some(number) = apt_pair(pair) {
+            return Some(number);
+        }
+    }
+    None
+}
+
+/// The payload type that the parameters of a retransmission name as theirs (RFC 4588, section 8.1).
+pub fn read_apt(alloc: Global, text: &str) -> Result<Option<u64>, AllocError>
+    ensures { IfOk result (λ read. read ≡ spec.apt_of text.now) }
+{
+    let pairs = parts(alloc, text, ';')?;
+    Ok(first_apt(pairs.as_slice()))
+}
+
+/// Appends the parameters of the retransmission of a payload type.
+#[tactic(auto, unfolding(crate::specs::FmtpValue::apt_text))]
+pub fn put_apt(out: &mut String, pt: Pt) -> Result<(), AllocError>
+    ensures { OnOk result (string_bytes out.new ≡ string_bytes out.old ++ spec.apt_text pt.0) }
+{
+    let number = pt.0;
+    write!(out, "apt={number}")?;
+    Ok(())
+}
+
+/// The payload type that the parameters of redundant packets name first (RFC 2198, section 5).
+pub fn read_red_primary(text: &str) -> Option<u64>
+    ensures { result ≡ spec.red_primary_of text.now }
+{
+    match cut(text, '/') {
+        None => number_up_to(127, text),
+        Some((number, _)) => number_up_to(127, number),
+    }
+}
+
+/// Appends the parameters of redundant packets of a payload type.
+#[tactic(auto, unfolding(crate::specs::FmtpValue::red_text))]
+pub fn put_red(out: &mut String, pt: Pt) -> Result<(), AllocError>
+    ensures { OnOk result (string_bytes out.new ≡ string_bytes out.old ++ spec.red_text pt.0) }
+{
+    let number = pt.0;
+    write!(out, "{number}/{number}")?;
+    Ok(())
+}

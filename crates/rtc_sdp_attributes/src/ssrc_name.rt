@@ -1,0 +1,10 @@
+//! Names of sources.
+use rtc_sdp_values::Ssrc;
+use rtc_wire::Text;
+
+/// The canonical name that an `ssrc` attribute gives to a source (RFC 5576, section 6.1).
+#[derive(Debug, PartialEq, Eq, Drop)]
+pub struct SsrcName {
+    pub ssrc: Ssrc,
+    pub cname: Text,
+}

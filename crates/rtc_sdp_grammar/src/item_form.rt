@@ -1,0 +1,93 @@
+//! The form of lines.
+ghost use Rattle.std.specs.Prelude.{◌≡◌, IfOk, map};
+ghost use Rattle.std.specs.Char.{is_ascii_lowercase};
+ghost use Rattle.std.specs.List.{list_all};
+ghost use Rattle.rtc_sdp_grammar.specs.ItemForm as spec;
+
+use crate::Item;
+use crate::attribute_form::attribute;
+use crate::media_form::{is_filled, media};
+use rtc_fields::{cut, lines, number, words};
+use std::alloc::{AllocError, Global};
+
+fn origin(alloc: Global, value: &str) -> Result<Item, AllocError>
+    ensures { IfOk result (λ item. item ≡ spec.origin value.now) }
+{
+    let fields = words(alloc, value)?;
+    let [user, id, version, network, family, address] = fields.as_slice() else {
+        return Ok(Item::Skipped);
+    };
+    let Some(id) = number(id) else {
+        return Ok(Item::Skipped);
+    };
+    if is_filled(user)
+        && is_filled(version)
+        && is_filled(network)
+        && is_filled(family)
+        && is_filled(address)
+    {
+        Ok(Item::Origin(id))
+    } else {
+        Ok(Item::Skipped)
+    }
+}
+
+fn are_lowercase(name: &str) -> bool
+    ensures { result ≡ list_all is_ascii_lowercase name.now }
+{
+    name.bytes().all(|byte| byte.is_ascii_lowercase())
+}
+
+fn is_letter(name: &str) -> bool
+    ensures { result ≡ spec.is_letter name.now }
+{
+    name.len() == 1 && are_lowercase(name)
+}
+
+fn lettered(alloc: Global, name: &str, value: &str) -> Result<Item, AllocError>
+    ensures { IfOk result (λ item. item ≡ spec.lettered name.now value.now) }
+{
+    if name == "v" {
+        Ok(if value == "0" {
+            Item::Version
+        } else {
+            Item::Skipped
+        })
+    } else if name == "o" {
+        origin(alloc, value)
+    } else if name == "m" {
+        media(alloc, value)
+    } else if name == "a" {
+        attribute(alloc, value)
+    } else if is_letter(name) {
+        Ok(Item::Skipped)
+    } else {
+        Ok(Item::Bad)
+    }
+}
+
+#[tactic(auto, using(crate::proofs::WordLemmas::blank_line, crate::proofs::WordLemmas::other_line))]
+fn item_of(alloc: Global, line: &str) -> Result<Item, AllocError>
+    ensures { IfOk result (λ item. item ≡ spec.item_of line.now) }
+{
+    if line.is_empty() {
+        return Ok(Item::Blank);
+    }
+    match cut(line, '=') {
+        None => Ok(Item::Bad),
+        Some((name, value)) => lettered(alloc, name, value),
+    }
+}
+
+/// What the lines of a text say, one by one (RFC 8866, section 5).
+pub fn items_of(alloc: Global, text: &str) -> Result<Vec<Item>, AllocError>
+    ensures { IfOk result (λ items. items.items ≡ spec.items_of text.now) }
+{
+    let lines = lines(alloc, text)?;
+    let mut items = Vec::with_capacity(alloc, lines.len())?;
+    for line in &lines {
+        let item = item_of(alloc, line)?;
+        items.push(item)?;
+    }
+    Ok(items)
+}

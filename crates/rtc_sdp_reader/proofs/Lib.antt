@@ -1,0 +1,7 @@
+pub mod PayloadLookups
+pub mod PayloadLaw
+pub mod LayerLaw
+pub mod PlaceLemmas
+pub mod SourceLaw
+pub mod NumberLemmas
+pub mod FirstRefusedLaw

@@ -1,0 +1,14 @@
+pub mod Payloads
+pub mod PlainPayloads
+pub mod Layers
+pub mod Places
+pub mod PlainLayers
+pub mod Sources
+pub mod PlainSources
+pub mod Parting
+pub mod Refusal
+pub mod Said
+pub mod LineValue
+pub mod SessionValue
+pub mod Reading
+pub mod FirstRefused

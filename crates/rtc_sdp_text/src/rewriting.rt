@@ -1,0 +1,61 @@
+//! A session text, read and written again.
+ghost use Rattle.rtc_sdp_reader.specs.Reading.{reading};
+ghost use Rattle.rtc_sdp_text.specs.Repair.{bytes_reading};
+ghost use Rattle.rtc_sdp_text.specs.Rewrite.{Rewrites};
+
+use crate::repairing::{repair, utf8_of};
+use crate::{Asked, TextError};
+use rtc_lines::{SdpAnswer, SdpOffer};
+use rtc_sdp_values::SdpError;
+use rtc_wire::Text;
+use std::alloc::Global;
+
+fn rewrite_offer(alloc: Global, text: &str) -> Result<Text, TextError>
+    ensures { Rewrites result (reading text.now) }
+{
+    match SdpOffer::from_sdp_string(alloc, text) {
+        Ok(offer) => {
+            let text = offer.to_sdp_string()?;
+            Ok(text)
+        }
+        Err(SdpError::Parse(line)) => Err(TextError::Line(line)),
+        Err(SdpError::Inconsistent(_)) => unreachable!(),
+        Err(SdpError::Alloc) => Err(TextError::Alloc),
+    }
+}
+
+fn rewrite_answer(alloc: Global, text: &str) -> Result<Text, TextError>
+    ensures { Rewrites result (reading text.now) }
+{
+    match SdpAnswer::from_sdp_string(alloc, text) {
+        Ok(answer) => {
+            let text = answer.to_sdp_string()?;
+            Ok(text)
+        }
+        Err(SdpError::Parse(line)) => Err(TextError::Line(line)),
+        Err(SdpError::Inconsistent(_)) => unreachable!(),
+        Err(SdpError::Alloc) => Err(TextError::Alloc),
+    }
+}
+
+fn rewrite_text(alloc: Global, asked: Asked, text: &str) -> Result<Text, TextError>
+    ensures { Rewrites result (reading text.now) }
+{
+    match asked {
+        Asked::Offer => rewrite_offer(alloc, text),
+        Asked::Answer => rewrite_answer(alloc, text),
+    }
+}
+
+/// The session text that the reading of bytes is written as, or the line that refuses them.
+pub fn rewrite(alloc: Global, asked: Asked, bytes: &[u8]) -> Result<Text, TextError>
+    ensures { Rewrites result (bytes_reading bytes.now) }
+{
+    match utf8_of(bytes) {
+        Some(text) => rewrite_text(alloc, asked, text),
+        None => {
+            let text = repair(alloc, bytes)?;
+            rewrite_text(alloc, asked, text.as_str())
+        }
+    }
+}

@@ -1,0 +1,6 @@
+use Rattle.std.proofs.Common.{◌≡◌, drop}
+use Rattle.rtc_fields.specs.Fields.{first}
+use Rattle.rtc_sdp_values.proofs.sdp.line_fingerprint.Given as goal
+
+abbrev pub invariant-loop-line : goal.invariant-loop-line
+invariant-loop-line l = first (λ line. line.fingerprint) (drop l.line-index l.lines) ≡ first (λ line. line.fingerprint) l.lines

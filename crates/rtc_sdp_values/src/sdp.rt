@@ -1,0 +1,177 @@
+//! The value of a session text.
+ghost use Rattle.std.specs.Prelude.{◌≡◌, ◌++◌, IfOk, OnOk, Option, option_map};
+ghost use Rattle.std.specs.Option.{option_copied};
+ghost use Rattle.std.specs.List.{flat_map};
+ghost use Rattle.rtc_fields.specs.Fields.{first};
+ghost use Rattle.rtc_sdp_values.specs.Sdp as spec;
+
+use crate::consistency::inconsistency;
+use crate::{Candidate, Fingerprint, IceCreds, MediaLine, Mid, SdpError, Setup};
+use rtc_wire::{Seq, TryCopy};
+use std::alloc::AllocError;
+
+/// What a session text says (RFC 8866, section 5).
+#[derive(Debug, PartialEq, Eq, Drop)]
+pub struct Sdp {
+    /// The number of the session, of the `o=` line.
+    pub id: u64,
+    /// The BUNDLE groups (RFC 8843, section 7.1).
+    pub groups: Seq<Seq<Mid>>,
+    pub ice_lite: bool,
+    pub creds: Option<IceCreds>,
+    pub fingerprint: Option<Fingerprint>,
+    pub setup: Option<Setup>,
+    pub lines: Seq<MediaLine>,
+}
+
+fn line_creds(lines: &[MediaLine]) -> Option<&IceCreds>
+    ensures { option_copied result ≡ first (λ line. line.creds) lines.now }
+{
+    for line in lines {
+        if let Some(creds) = &line.creds {
+            return Some(creds);
+        }
+    }
+    None
+}
+
+fn line_fingerprint(lines: &[MediaLine]) -> Option<&Fingerprint>
+    ensures { option_copied result ≡ first (λ line. line.fingerprint) lines.now }
+{
+    for line in lines {
+        if let Some(fingerprint) = &line.fingerprint {
+            return Some(fingerprint);
+        }
+    }
+    None
+}
+
+fn line_setup(lines: &[MediaLine]) -> Option<Setup>
+    ensures { result ≡ first (λ line. line.setup) lines.now }
+{
+    for line in lines {
+        if let Some(setup) = line.setup {
+            return Some(setup);
+        }
+    }
+    None
+}
+
+fn application_line(lines: &[MediaLine]) -> Option<&MediaLine>
+    ensures { option_copied result ≡ spec.application_line lines.now }
+{
+    for line in lines {
+        if line.kind.is_application() {
+            return Some(line);
+        }
+    }
+    None
+}
+
+fn append_candidates(found: &mut Seq<Candidate>, candidates: &[Candidate]) -> Result<(), AllocError>
+    ensures { OnOk result (found.new ≡ found.old ++ candidates.now) }
+{
+    for candidate in candidates {
+        let copied = candidate.copy()?;
+        found.push(copied)?;
+    }
+    Ok(())
+}
+
+impl Sdp {
+    /// The credentials of the session, else of the first line that has them.
+    pub fn ice_creds(&self) -> Option<&IceCreds>
+        ensures { option_copied result ≡ spec.creds_of self.now }
+    {
+        match &self.creds {
+            Some(creds) => Some(creds),
+            None => line_creds(self.lines.as_slice()),
+        }
+    }
+
+    /// The fingerprint of the session, else of the first line that has one.
+    pub fn fingerprint(&self) -> Option<&Fingerprint>
+        ensures { option_copied result ≡ spec.sdp_fingerprint self.now }
+    {
+        match &self.fingerprint {
+            Some(fingerprint) => Some(fingerprint),
+            None => line_fingerprint(self.lines.as_slice()),
+        }
+    }
+
+    /// The setup of the session, else of the first line that has one.
+    pub fn setup(&self) -> Option<Setup>
+        ensures { result ≡ spec.sdp_setup self.now }
+    {
+        match self.setup {
+            Some(setup) => Some(setup),
+            None => line_setup(self.lines.as_slice()),
+        }
+    }
+
+    /// The association's chunk that the first line for data channels carries (draft-hancke-tsvwg-snap).
+    pub fn sctp_init(&self) -> Option<&str>
+        ensures { option_map (λ text. text.now) result ≡ spec.sdp_sctp_init self.now }
+    {
+        match application_line(self.lines.as_slice()) {
+            Some(line) => match &line.sctp_init {
+                Some(text) => Some(text.as_str()),
+                None => None,
+            },
+            None => None,
+        }
+    }
+
+    /// The size of messages that the first line for data channels allows, in bytes; 0 means any (RFC 8841, section 6).
+    pub fn max_message_size(&self) -> Option<u64>
+        ensures { result ≡ spec.max_message_size_of self.now }
+    {
+        match application_line(self.lines.as_slice()) {
+            Some(line) => line.max_message_size,
+            None => None,
+        }
+    }
+
+    /// The candidates of all lines, in order.
+    pub fn candidates(&self) -> Result<Seq<Candidate>, AllocError>
+        ensures { IfOk result (λ found. found ≡ spec.candidates_of self.now) }
+    {
+        let [first, rest @ ..] = self.lines.as_slice() else {
+            let nothing = self.lines.copy()?.into_vec();
+            return Ok(Seq::empty(*nothing.allocator()));
+        };
+        let mut found = first.candidates.copy()?;
+        for line in rest {
+            append_candidates(&mut found, line.candidates.as_slice())?;
+        }
+        Ok(found)
+    }
+
+    /// Whether the mids and the BUNDLE group fit together. It takes time in the square of the lines.
+    pub fn assert_consistency(&self) -> Result<(), SdpError>
+        ensures { result ≡ spec.refusal (spec.inconsistency self.now) }
+    {
+        match inconsistency(self) {
+            None => Ok(()),
+            Some(why) => Err(SdpError::Inconsistent(why)),
+        }
+    }
+}
+
+impl TryCopy for Sdp {
+    fn copy(&self) -> Result<Sdp, AllocError> {
+        let groups = self.groups.copy()?;
+        let creds = self.creds.copy()?;
+        let fingerprint = self.fingerprint.copy()?;
+        let lines = self.lines.copy()?;
+        Ok(Sdp {
+            id: self.id,
+            groups,
+            ice_lite: self.ice_lite,
+            creds,
+            fingerprint,
+            setup: self.setup,
+            lines,
+        })
+    }
+}

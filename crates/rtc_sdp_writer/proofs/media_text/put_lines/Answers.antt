@@ -1,0 +1,10 @@
+use Rattle.std.specs.Prelude.{string_bytes}
+use Rattle.rtc_fields.specs.Lines.{text_of}
+use Rattle.rtc_fields.proofs.LineLemmas.{text_of-append}
+use Rattle.rtc_sdp_writer.specs.LineRows.{line_rows, all_line_rows}
+use Rattle.rtc_sdp_writer.proofs.Orders.{more_put}
+use Rattle.rtc_sdp_writer.proofs.media_text.put_lines.Goals as goal
+
+pub loop-line-preserved : goal.loop-line-preserved
+loop-line-preserved c =
+    more_put (λ xs. text_of (all_line_rows xs)) (λ x. text_of (line_rows x)) (λ x xs. text_of-append (line_rows x) (all_line_rows xs)) (string_bytes c.loop-line.out) (string_bytes c.put_line.new.out) _ c.args.lines.now c.loop-line.line-index c.line-item.result c.line-item.result c.loop-line-test.true c.line-item.is c.in_ok-put_line.ensures c.loop-line.invariant

@@ -1,9 +1,0 @@
-//! Tables that replies show.
-use rtc_rows::LineRow;
-use rtc_wire::Seq;
-
-/// What the acting peer holds after a step.
-#[derive(Debug, PartialEq, Eq, Drop)]
-pub struct Table {
-    pub lines: Seq<LineRow>,
-}

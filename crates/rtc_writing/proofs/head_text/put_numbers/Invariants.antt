@@ -1,9 +1,0 @@
-use Rattle.std.proofs.Common.{◌≡◌, ◌++◌, drop, map}
-use Rattle.std.specs.Prelude.{string_bytes}
-use Rattle.std.specs.Fmt.{decimal}
-use Rattle.rtc_fields.specs.Words.{spaced}
-use Rattle.rtc_media_reading.specs.PlainPayloads.{formats_of}
-use Rattle.rtc_writing.proofs.head_text.put_numbers.Given as goal
-
-abbrev pub invariant-loop-row : goal.invariant-loop-row
-invariant-loop-row l = string_bytes l.out ++ spaced (map decimal (formats_of (drop l.row-index l.rows))) ≡ string_bytes l.fn.out ++ spaced (map decimal (formats_of l.rows))
