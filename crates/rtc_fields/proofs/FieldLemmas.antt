@@ -1,10 +1,11 @@
 -- Loops that read each field, or look for the first row that gives something.
 use Rattle.std.proofs.Common.{◌≡◌, ℕ, ◌+◌, ◌<◌, ◌≤◌, List, [], ◌∷◌, ◌++◌, length, map, get_or, drop, Option, Some, None, refl, sym, ap, ◌∙◌, arith, append_assoc, add-one, drop-cons}
 use Rattle.std.specs.Prelude.{option_map}
+use Rattle.std.specs.Option.{option_or}
 use Rattle.std.proofs.lemmas.List.{drop_all, length-map}
 use Rattle.std.proofs.Math.ListN.{get_or-map}
 use denote.Ref.{Bor}
-use Rattle.rtc_fields.specs.Fields.{each, onto, first, or_else}
+use Rattle.rtc_fields.specs.Fields.{each, onto, first}
 
 -- what was read before, and what is still to be read
 abbrev pub so_far : {B : Type 0} → List B → Option (List B) → Option (List B)
@@ -50,7 +51,7 @@ pub reads_none : {B : Type 0} (form : List ℕ → Option B) (ws : List (Bor (Li
 reads_none form ws i front total lt e h =
     each_none form (shown ws) i [] front total (omega (arith, length-map ws (λ (x : Bor (List ℕ)). x.now))) (ap form (at-is ws i) ∙ sym e) h
 
-first_at : {A B : Type 0} (gives : A → Option B) (xs : List A) (i : ℕ) (d : A) → i < length xs → first gives (drop i xs) ≡ or_else (gives (get_or xs i d)) (first gives (drop (i + 1) xs))
+first_at : {A B : Type 0} (gives : A → Option B) (xs : List A) (i : ℕ) (d : A) → i < length xs → first gives (drop i xs) ≡ option_or (gives (get_or xs i d)) (first gives (drop (i + 1) xs))
 first_at gives xs i d lt = let cons : drop i xs ≡ get_or xs i d ∷ drop (i + 1) xs = rw add-one (drop-cons xs i d lt) in rw cons refl
 
 -- the row is x, which gives y

@@ -1,5 +1,6 @@
 -- Fields and rows that are read each by itself.
 use Rattle.std.specs.Prelude.{List, [], ◌∷◌, Option, Some, None}
+use Rattle.std.specs.Option.{option_or}
 
 -- a value in front of those of the rest, where both are there
 abbrev pub onto : {B : Type 0} → Option B → Option (List B) → Option (List B)
@@ -12,12 +13,7 @@ abbrev pub each : {A B : Type 0} → (A → Option B) → List A → Option (Lis
 each form [] = Some []
 each form (field ∷ rest) = onto (form field) (each form rest)
 
--- the first of the two that is there
-abbrev pub or_else : {B : Type 0} → Option B → Option B → Option B
-or_else None rest = rest
-or_else (Some b) rest = Some b
-
 -- what the first of the rows that gives something gives
 abbrev pub first : {A B : Type 0} → (A → Option B) → List A → Option B
 first gives [] = None
-first gives (row ∷ rest) = or_else (gives row) (first gives rest)
+first gives (row ∷ rest) = option_or (gives row) (first gives rest)

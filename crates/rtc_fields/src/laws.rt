@@ -14,7 +14,8 @@ pub fn cuts_read_back()
 
 /// Parts with a byte between that none of them has are read back.
 pub fn parts_read_back()
-    ensures { (at : ℕ) (part : List ℕ) (rest : List (List ℕ)) → Lacks at part → AllByRecursion (Lacks at) rest → parts at (part ++ after_each at rest) ≡ part ∷ rest }
+    ensures { (at : ℕ) (part : List ℕ) (rest : List (List ℕ)) → Lacks at part → AllByRecursion (Lacks at) rest
+        → parts at (part ++ after_each at rest) ≡ part ∷ rest }
 {}
 
 /// The decimal of a number is read as it.

@@ -1,10 +1,8 @@
 //! Writing a text behind which a program ends.
 ghost use Rattle.rtc_io.specs.Saying.{Says};
 
+use crate::status::SINK_FAILED;
 use crate::{Sink, write_all};
-
-/// The status of a program whose sink failed.
-pub const SINK_FAILED: u8 = 5;
 
 /// Writes a text, and answers the status to end with: the one that was handed in, or `SINK_FAILED` where the sink fails.
 pub fn say<W: Sink>(output: &mut W, text: &[u8], status: u8) -> u8

@@ -3,7 +3,7 @@ ghost use Rattle.std.specs.Prelude.{◌<◌};
 
 use crate::{
     INPUT_LIMIT, MemSink, MemSource, ReadError, StdSink, StdSource, WriteFailed, read_all,
-    write_all,
+    read_input, refuse_input, write_all,
 };
 use rtc_wire::{Bytes, Seq};
 use std::alloc::{AllocError, Global};
@@ -105,5 +105,23 @@ fn std_writers_are_sinks(rt: HostRuntime) -> Result<(), Fail> {
     let mut full = StdSink::new(&mut room[..]);
     assert_eq!(rt; write_all(&mut full, b"L offer"), Err(WriteFailed));
     assert_eq!(rt; room.as_slice(), b"L o".as_slice());
+    Ok(())
+}
+
+#[test]
+fn input_that_is_read_is_not_told(rt: HostRuntime) -> Result<(), Fail> {
+    let mut input = source(rt.alloc(), b"L offer", 3, &[])?;
+    let mut output = sink(rt.alloc(), 7, &[])?;
+    let read = read_input(rt.alloc(), b"script too long\n", &mut input, &mut output);
+    assert!(rt; read.is_ok());
+    assert_eq!(rt; output.written(), b"".as_slice());
+    Ok(())
+}
+
+#[test]
+fn refused_line_is_told(rt: HostRuntime) -> Result<(), Fail> {
+    let mut output = sink(rt.alloc(), 7, &[])?;
+    assert_eq!(rt; refuse_input(rt.alloc(), "script", 12, &mut output), 3);
+    assert_eq!(rt; output.written(), b"script refused at line 12\n".as_slice());
     Ok(())
 }

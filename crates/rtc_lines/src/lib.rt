@@ -3,6 +3,7 @@
 
 mod sdp_answer;
 mod sdp_offer;
+mod sdp_text;
 
 pub use rtc_sdp_values::{
     Candidate, CandidateKind, CodecConfig, Direction, Extension, ExtensionMap, Fingerprint,
@@ -11,6 +12,3 @@ pub use rtc_sdp_values::{
 };
 pub use sdp_answer::SdpAnswer;
 pub use sdp_offer::SdpOffer;
-
-#[cfg(test)]
-mod tests;

@@ -6,18 +6,18 @@ ghost use Rattle.rtc_sdp_values.specs.Sdp.{inconsistency, refusal};
 ghost use Rattle.rtc_sdp_writer.specs.Plain.{IsPlain};
 ghost use Rattle.rtc_sdp_writer.specs.SessionRows.{written_sdp};
 
+use crate::sdp_text::sdp_text;
 use rtc_sdp_reader::read;
 use rtc_sdp_values::{Sdp, SdpError};
-use rtc_sdp_writer::{write, written_text_reads_back};
 use rtc_wire::{Text, TryCopy};
 use std::alloc::{AllocError, Global};
 
-/// A session text that is an answer (RFC 3264, section 4).
+/// A session description that is an answer (RFC 3264, section 4).
 #[derive(Debug, PartialEq, Eq, Drop)]
 pub struct SdpAnswer(pub Sdp);
 
 impl SdpAnswer {
-    /// The answer that a session text is (RFC 8829, section 5.8, in our profile), or the number of the first line that refuses it.
+    /// The answer that a text says (RFC 8829, section 5.8, in our profile), or the number of the first line that refuses it.
     pub fn from_sdp_string(alloc: Global, text: &str) -> Result<SdpAnswer, SdpError>
         ensures { ReadsAnswer result (reading text.now) }
     {
@@ -27,16 +27,16 @@ impl SdpAnswer {
         }
     }
 
-    /// The session text of the answer. Every answer has one; that of a plain one reads as it.
+    /// The answer as text. Every answer has one; that of a plain one reads as it.
     pub fn to_sdp_string(&self) -> Result<Text, AllocError>
         ensures text { IfOk result (λ text. text ≡ written_sdp self.now.0) }
         ensures read_back { IsPlain self.now.0 → IfOk result (λ text. reading text ≡ Ok self.now.0) }
     {
-        written_text_reads_back();
-        write(&self.0)
+        sdp_text(&self.0)
     }
 
-    /// Whether the mids and the BUNDLE group of the answer fit together (RFC 8843, section 7.1). It takes time in the square of the lines.
+    /// Whether the mids and the BUNDLE group of the answer fit together (RFC 8843, section 7.1). It takes time in the square of the
+    /// lines.
     pub fn assert_consistency(&self) -> Result<(), SdpError>
         ensures { result ≡ refusal (inconsistency self.now.0) }
     {
@@ -46,7 +46,7 @@ impl SdpAnswer {
 
 impl TryCopy for SdpAnswer {
     fn copy(&self) -> Result<SdpAnswer, AllocError> {
-        let text = self.0.copy()?;
-        Ok(SdpAnswer(text))
+        let sdp = self.0.copy()?;
+        Ok(SdpAnswer(sdp))
     }
 }

@@ -6,18 +6,18 @@ ghost use Rattle.rtc_sdp_values.specs.Sdp.{inconsistency, refusal};
 ghost use Rattle.rtc_sdp_writer.specs.Plain.{IsPlain};
 ghost use Rattle.rtc_sdp_writer.specs.SessionRows.{written_sdp};
 
+use crate::sdp_text::sdp_text;
 use rtc_sdp_reader::read;
 use rtc_sdp_values::{Sdp, SdpError};
-use rtc_sdp_writer::{write, written_text_reads_back};
 use rtc_wire::{Text, TryCopy};
 use std::alloc::{AllocError, Global};
 
-/// A session text that is an offer (RFC 3264, section 4).
+/// A session description that is an offer (RFC 3264, section 4).
 #[derive(Debug, PartialEq, Eq, Drop)]
 pub struct SdpOffer(pub Sdp);
 
 impl SdpOffer {
-    /// The offer that a session text is (RFC 8829, section 5.8, in our profile), or the number of the first line that refuses it.
+    /// The offer that a text says (RFC 8829, section 5.8, in our profile), or the number of the first line that refuses it.
     pub fn from_sdp_string(alloc: Global, text: &str) -> Result<SdpOffer, SdpError>
         ensures { ReadsOffer result (reading text.now) }
     {
@@ -27,16 +27,16 @@ impl SdpOffer {
         }
     }
 
-    /// The session text of the offer. Every offer has one; that of a plain one reads as it.
+    /// The offer as text. Every offer has one; that of a plain one reads as it.
     pub fn to_sdp_string(&self) -> Result<Text, AllocError>
         ensures text { IfOk result (λ text. text ≡ written_sdp self.now.0) }
         ensures read_back { IsPlain self.now.0 → IfOk result (λ text. reading text ≡ Ok self.now.0) }
     {
-        written_text_reads_back();
-        write(&self.0)
+        sdp_text(&self.0)
     }
 
-    /// Whether the mids and the BUNDLE group of the offer fit together (RFC 8843, section 7.1). It takes time in the square of the lines.
+    /// Whether the mids and the BUNDLE group of the offer fit together (RFC 8843, section 7.1). It takes time in the square of the
+    /// lines.
     pub fn assert_consistency(&self) -> Result<(), SdpError>
         ensures { result ≡ refusal (inconsistency self.now.0) }
     {
@@ -46,7 +46,7 @@ impl SdpOffer {
 
 impl TryCopy for SdpOffer {
     fn copy(&self) -> Result<SdpOffer, AllocError> {
-        let text = self.0.copy()?;
-        Ok(SdpOffer(text))
+        let sdp = self.0.copy()?;
+        Ok(SdpOffer(sdp))
     }
 }

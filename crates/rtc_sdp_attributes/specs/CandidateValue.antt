@@ -78,7 +78,8 @@ candidate_parts foundation _ _ _ _ _ = None
 
 abbrev pub candidate_words : List (List ℕ) → Option Candidate
 candidate_words (foundation ∷ component ∷ proto ∷ priority ∷ ip ∷ port ∷ typ ∷ kind ∷ more) =
-    candidate_parts foundation (number_up_to 65535 component) (protocol_of proto) (number_up_to 4294967295 priority) (addr_of ip port) (typed_kind typ kind)
+    candidate_parts foundation (number_up_to 65535 component) (protocol_of proto) (number_up_to 4294967295 priority)
+    (addr_of ip port) (typed_kind typ kind)
 candidate_words _ = None
 
 abbrev pub candidate_of : List ℕ → Option Candidate

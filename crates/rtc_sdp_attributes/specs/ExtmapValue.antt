@@ -10,7 +10,8 @@ use Rattle.rtc_sdp_values.specs.Extension.{uri_of, of_uri}
 -- DIR, which has no use here
 abbrev pub is_direction_word : List ℕ → Bool
 is_direction_word word =
-    bytes_eq word (codes "sendrecv") || bytes_eq word (codes "sendonly") || bytes_eq word (codes "recvonly") || bytes_eq word (codes "inactive")
+    bytes_eq word (codes "sendrecv") || bytes_eq word (codes "sendonly") || bytes_eq word (codes "recvonly")
+    || bytes_eq word (codes "inactive")
 
 abbrev pub from_one : Option ℕ → Option ℕ
 from_one None = None

@@ -1,5 +1,25 @@
 -- rid:R send and rid:R recv, then maybe a space and pairs k=v that semicolons part (RFC 8851, section 4).
-use Rattle.std.specs.Prelude.{◌≡◌, ℕ, Bool, true, false, not, is_none, List, [], ◌∷◌, ◌++◌, map, filter, Option, Some, None, option_map, if◌then◌else◌, codes}
+use Rattle.std.specs.Prelude.{
+  ◌≡◌,
+  ℕ,
+  Bool,
+  true,
+  false,
+  not,
+  is_none,
+  List,
+  [],
+  ◌∷◌,
+  ◌++◌,
+  map,
+  filter,
+  Option,
+  Some,
+  None,
+  option_map,
+  if◌then◌else◌,
+  codes,
+}
 use Rattle.std.specs.List.{AllByRecursion}
 use Rattle.std.specs.Str.{bytes_eq}
 use Rattle.rtc_fields.specs.Cuts.{cut, Lacks}
@@ -52,7 +72,8 @@ rid_pairs_of text = kept_pairs (each rid_pair_of (parts 59 text))
 
 -- ---- all of it
 abbrev pub rid_made : List ℕ → Option RidDirection → Option (List (List ℕ × List ℕ)) → Option RidLine
-rid_made rid (Some direction) (Some pairs) = if is_short_token rid then Some (record { rid = rid; direction = direction; attributes = pairs }) else None
+rid_made rid (Some direction) (Some pairs) =
+    if is_short_token rid then Some (record { rid = rid; direction = direction; attributes = pairs }) else None
 rid_made rid _ _ = None
 
 abbrev pub rid_rest : List ℕ → List ℕ → Option (List ℕ × List ℕ) → Option RidLine

@@ -1,5 +1,23 @@
 -- simulcast:DIR LIST and simulcast:DIR LIST DIR LIST (RFC 8853, section 5.1).
-use Rattle.std.specs.Prelude.{map, ◌≡◌, ℕ, Bool, true, false, ◌==◌, List, [], ◌∷◌, ◌++◌, Option, Some, None, option_map, if◌then◌else◌, codes}
+use Rattle.std.specs.Prelude.{
+  map,
+  ◌≡◌,
+  ℕ,
+  Bool,
+  true,
+  false,
+  ◌==◌,
+  List,
+  [],
+  ◌∷◌,
+  ◌++◌,
+  Option,
+  Some,
+  None,
+  option_map,
+  if◌then◌else◌,
+  codes,
+}
 use Rattle.std.specs.List.{AllByRecursion}
 use Rattle.std.specs.Str.{bytes_eq}
 use Rattle.rtc_fields.specs.Cuts.{cut}
@@ -44,7 +62,8 @@ both_ways _ _ _ _ = None
 
 abbrev pub simulcast_words : List (List ℕ) → Option SimulcastLine
 simulcast_words (direction ∷ list ∷ []) = one_way (rid_direction_of direction) (rids_of list)
-simulcast_words (direction ∷ list ∷ other ∷ rest ∷ []) = both_ways (rid_direction_of direction) (rids_of list) (rid_direction_of other) (rids_of rest)
+simulcast_words (direction ∷ list ∷ other ∷ rest
+    ∷ []) = both_ways (rid_direction_of direction) (rids_of list) (rid_direction_of other) (rids_of rest)
 simulcast_words _ = None
 
 abbrev pub simulcast_of : List ℕ → Option SimulcastLine

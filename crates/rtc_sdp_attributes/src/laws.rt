@@ -16,12 +16,15 @@ pub fn words_read_back()
 
 /// A plain fingerprint is read back, and its text ends no line.
 pub fn fingerprints_read_back()
-    ensures again { (fingerprint : Fingerprint) → IsPlainFingerprint fingerprint → fingerprint_of (fingerprint_text fingerprint) ≡ Some fingerprint }
-    ensures one_line { (byte : ℕ) → byte < 32 → (fingerprint : Fingerprint) → IsPlainFingerprint fingerprint → Lacks byte (fingerprint_text fingerprint) }
+    ensures again { (fingerprint : Fingerprint) → IsPlainFingerprint fingerprint → fingerprint_of (fingerprint_text fingerprint)
+        ≡ Some fingerprint }
+    ensures one_line { (byte : ℕ) → byte < 32 → (fingerprint : Fingerprint) → IsPlainFingerprint fingerprint
+        → Lacks byte (fingerprint_text fingerprint) }
 {}
 
 /// A plain candidate is read back, and its text ends no line.
 pub fn candidates_read_back()
     ensures again { (candidate : Candidate) → IsPlainCandidate candidate → candidate_of (candidate_text candidate) ≡ Some candidate }
-    ensures one_line { (byte : ℕ) → byte < 32 → (candidate : Candidate) → IsPlainCandidate candidate → Lacks byte (candidate_text candidate) }
+    ensures one_line { (byte : ℕ) → byte < 32 → (candidate : Candidate) → IsPlainCandidate candidate
+        → Lacks byte (candidate_text candidate) }
 {}

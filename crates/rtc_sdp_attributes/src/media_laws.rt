@@ -15,13 +15,17 @@ ghost use Rattle.rtc_sdp_attributes.specs.SsrcValue.{ssrc_name_of, ssrc_name_tex
 
 /// A codec is read back.
 pub fn rtpmaps_read_back()
-    ensures again { (pt : ℕ) (codec : List ℕ) (clock channels : ℕ) → IsPlainRtpmap pt codec clock channels → rtpmap_of (rtpmap_text pt codec clock channels) ≡ Some (record { pt = record { 0 = pt }; codec = codec; clock = clock; channels = channels }) }
-    ensures one_line { (byte : ℕ) → byte < 32 → (pt : ℕ) (codec : List ℕ) (clock channels : ℕ) → IsPlainRtpmap pt codec clock channels → Lacks byte (rtpmap_text pt codec clock channels) }
+    ensures again { (pt : ℕ) (codec : List ℕ) (clock channels : ℕ) → IsPlainRtpmap pt codec clock channels
+        → rtpmap_of (rtpmap_text pt codec clock channels)
+        ≡ Some (record { pt = record { 0 = pt }; codec = codec; clock = clock; channels = channels }) }
+    ensures one_line { (byte : ℕ) → byte < 32 → (pt : ℕ) (codec : List ℕ) (clock channels : ℕ)
+        → IsPlainRtpmap pt codec clock channels → Lacks byte (rtpmap_text pt codec clock channels) }
 {}
 
 /// Parameters are read back, and what a retransmission and redundant packets name as theirs.
 pub fn fmtps_read_back()
-    ensures again { (pt : ℕ) (text : List ℕ) → pt ≤ 127 → 0 < length text → fmtp_of (fmtp_text pt text) ≡ Some (record { pt = record { 0 = pt }; text = text }) }
+    ensures again { (pt : ℕ) (text : List ℕ) → pt ≤ 127 → 0 < length text → fmtp_of (fmtp_text pt text)
+        ≡ Some (record { pt = record { 0 = pt }; text = text }) }
     ensures apt { (pt : ℕ) → pt ≤ 127 → apt_of (apt_text pt) ≡ Some pt }
     ensures red { (pt : ℕ) → pt ≤ 127 → red_primary_of (red_text pt) ≡ Some pt }
     ensures one_line { (byte : ℕ) → byte < 32 → (pt : ℕ) (text : List ℕ) → pt ≤ 127 → Lacks byte text → Lacks byte (fmtp_text pt text) }
@@ -41,18 +45,24 @@ pub fn msids_read_back()
 
 /// A restricted layer is read back.
 pub fn rids_read_back()
-    ensures { (rid : List ℕ) (direction : RidDirection) (attributes : List (List ℕ × List ℕ)) → IsPlainRid rid attributes → rid_of (rid_text rid direction attributes) ≡ Some (record { rid = rid; direction = direction; attributes = attributes }) }
+    ensures { (rid : List ℕ) (direction : RidDirection) (attributes : List (List ℕ × List ℕ)) → IsPlainRid rid attributes
+        → rid_of (rid_text rid direction attributes) ≡ Some (record { rid = rid; direction = direction; attributes = attributes }) }
 {}
 
 /// The names of layers, at least one, are read back.
 pub fn simulcasts_read_back()
-    ensures again { (simulcast : Simulcast) → IsPlainList (rids_in simulcast.send) → IsPlainList (rids_in simulcast.recv) → (rids_in simulcast.send ++ rids_in simulcast.recv ≢ []) → simulcast_of (simulcast_text simulcast) ≡ Some (record { send = rids_in simulcast.send; recv = rids_in simulcast.recv }) }
-    ensures one_line { (byte : ℕ) → byte < 32 → (simulcast : Simulcast) → IsPlainList (rids_in simulcast.send) → IsPlainList (rids_in simulcast.recv) → Lacks byte (simulcast_text simulcast) }
+    ensures again { (simulcast : Simulcast) → IsPlainList (rids_in simulcast.send) → IsPlainList (rids_in simulcast.recv)
+        → (rids_in simulcast.send ++ rids_in simulcast.recv ≢ []) → simulcast_of (simulcast_text simulcast)
+        ≡ Some (record { send = rids_in simulcast.send; recv = rids_in simulcast.recv }) }
+    ensures one_line { (byte : ℕ) → byte < 32 → (simulcast : Simulcast) → IsPlainList (rids_in simulcast.send)
+        → IsPlainList (rids_in simulcast.recv) → Lacks byte (simulcast_text simulcast) }
 {}
 
 /// Names and pairs of sources are read back, and the stream of a source is not taken for a name.
 pub fn ssrcs_read_back()
-    ensures name { (ssrc : ℕ) (cname : List ℕ) → ssrc ≤ 4294967295 → 0 < length cname → ssrc_name_of (ssrc_name_text ssrc cname) ≡ Some (record { ssrc = record { 0 = ssrc }; cname = cname }) }
+    ensures name { (ssrc : ℕ) (cname : List ℕ) → ssrc ≤ 4294967295 → 0 < length cname → ssrc_name_of (ssrc_name_text ssrc cname)
+        ≡ Some (record { ssrc = record { 0 = ssrc }; cname = cname }) }
     ensures stream { (ssrc : ℕ) (stream track : List ℕ) → ssrc ≤ 4294967295 → ssrc_name_of (ssrc_msid_text ssrc stream track) ≡ None }
-    ensures pair { (ssrc rtx : ℕ) → ssrc ≤ 4294967295 → rtx ≤ 4294967295 → ssrc_pair_of (ssrc_pair_text ssrc rtx) ≡ Some (record { 0 = ssrc }, record { 0 = rtx }) }
+    ensures pair { (ssrc rtx : ℕ) → ssrc ≤ 4294967295 → rtx ≤ 4294967295 → ssrc_pair_of (ssrc_pair_text ssrc rtx)
+        ≡ Some (record { 0 = ssrc }, record { 0 = rtx }) }
 {}

@@ -61,7 +61,8 @@ fn push_kept(
 }
 
 fn kept_pairs(alloc: Global, parts: &[&str]) -> Result<Option<Vec<(Text, Text)>>, AllocError>
-    ensures { IfOk result (λ read. option_map (λ pairs. pairs.items) read ≡ spec.kept_pairs (each spec.rid_pair_of (map (λ part. part.now) parts.now))) }
+    ensures { IfOk result (λ read. option_map (λ pairs. pairs.items) read
+        ≡ spec.kept_pairs (each spec.rid_pair_of (map (λ part. part.now) parts.now))) }
 {
     let mut pairs = Vec::new(alloc);
     for part in parts {

@@ -21,8 +21,29 @@ use Rattle.rtc_sdp_attributes.specs.RidValue.{rid_of}
 use Rattle.rtc_sdp_attributes.specs.SimulcastValue.{simulcast_of}
 use Rattle.rtc_sdp_attributes.specs.SsrcValue.{ssrc_name_of, ssrc_pair_of}
 use Rattle.rtc_sdp_grammar.specs.declared.attribute.Attribute.{Attribute}
-use Rattle.rtc_sdp_grammar.specs.declared.attribute.Attribute.TheVariants.{MidLine, GroupLine, SetupLine, DirectionLine, UfragLine, PasswordLine, LiteLine, FingerprintLine, CandidateLine, MessageSizeLine, SctpInitLine}
-use Rattle.rtc_sdp_grammar.specs.declared.attribute.Attribute.TheVariants.{CodecLine, ParametersLine, ExtensionLine, StreamLine, LayerLine, LayerListLine, SourceLine, SourcePairLine}
+use Rattle.rtc_sdp_grammar.specs.declared.attribute.Attribute.TheVariants.{
+  MidLine,
+  GroupLine,
+  SetupLine,
+  DirectionLine,
+  UfragLine,
+  PasswordLine,
+  LiteLine,
+  FingerprintLine,
+  CandidateLine,
+  MessageSizeLine,
+  SctpInitLine,
+}
+use Rattle.rtc_sdp_grammar.specs.declared.attribute.Attribute.TheVariants.{
+  CodecLine,
+  ParametersLine,
+  ExtensionLine,
+  StreamLine,
+  LayerLine,
+  LayerListLine,
+  SourceLine,
+  SourcePairLine,
+}
 use Rattle.rtc_sdp_grammar.specs.declared.item.Item.{Item}
 use Rattle.rtc_sdp_grammar.specs.declared.item.Item.TheVariants.{Skipped, Says}
 

@@ -1,7 +1,7 @@
 //! What lines say.
 use crate::{Attribute, MediaHead};
 
-/// What one line of a session text says by itself (RFC 8866, section 5).
+/// What one line of a session description says by itself (RFC 8866, section 5).
 #[derive(Debug, Drop)]
 pub enum Item {
     /// Nothing: the line is empty.

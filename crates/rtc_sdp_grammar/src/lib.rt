@@ -1,4 +1,4 @@
-//! What one line of a session text says by itself, and the line that says it.
+//! What one line of a session description says by itself, and the line that says it.
 #![tactic(auto)]
 
 mod attribute;

@@ -7,7 +7,16 @@ ghost use Rattle.rtc_sdp_attributes.specs.MsidValue.{msid_of};
 ghost use Rattle.rtc_sdp_attributes.specs.RidValue.{rid_of};
 ghost use Rattle.rtc_sdp_attributes.specs.SimulcastValue.{simulcast_of};
 ghost use Rattle.rtc_sdp_attributes.specs.SsrcValue.{ssrc_name_of, ssrc_pair_of};
-ghost use Rattle.rtc_sdp_grammar.specs.declared.attribute.Attribute.TheVariants.{CodecLine, ParametersLine, ExtensionLine, StreamLine, LayerLine, LayerListLine, SourceLine, SourcePairLine};
+ghost use Rattle.rtc_sdp_grammar.specs.declared.attribute.Attribute.TheVariants.{
+  CodecLine,
+  ParametersLine,
+  ExtensionLine,
+  StreamLine,
+  LayerLine,
+  LayerListLine,
+  SourceLine,
+  SourcePairLine,
+};
 ghost use Rattle.rtc_sdp_grammar.specs.AttributeForm as spec;
 
 use crate::{Attribute, Item};

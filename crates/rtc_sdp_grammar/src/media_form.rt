@@ -41,7 +41,8 @@ fn port_of(word: &str) -> Option<u64>
 }
 
 fn payload_types(alloc: Global, words: &[&str]) -> Result<Option<Vec<u8>>, AllocError>
-    ensures { IfOk result (λ read. option_map (λ numbers. numbers.items) read ≡ each (spec_number_up_to 127) (map (λ word. word.now) words.now)) }
+    ensures { IfOk result (λ read. option_map (λ numbers. numbers.items) read
+        ≡ each (spec_number_up_to 127) (map (λ word. word.now) words.now)) }
 {
     let mut numbers = Vec::new(alloc);
     for word in words {

@@ -10,11 +10,11 @@ use Rattle.std.specs.BTreeSet.{BTreeSet}
 use Rattle.std.proofs.lemmas.Bool.Decides.{eqb_tells, nat_tests}
 use Rattle.std.proofs.lemmas.List.{take_more}
 use Rattle.std.proofs.lemmas.List.Folds.{list_any-append}
-use Rattle.rtc_fields.specs.Fields.{or_else}
+use Rattle.std.specs.Option.{option_or}
 use Rattle.rtc_fields.proofs.OnceLemmas.{among, grown, is_grown}
 use Rattle.rtc_sdp_values.specs.declared.ssrc.Ssrc.{Ssrc}
 use Rattle.rtc_sdp_reader.specs.Sources.{rtx_for, rtx_of, is_rtx, source_named}
-use Rattle.rtc_sdp_reader.proofs.PlaceLemmas.{first_more, or_else_none}
+use Rattle.rtc_sdp_reader.proofs.PlaceLemmas.{first_more, option_or_none}
 
 at_number : (k q : ℕ) → is_at (nat_cmp k) q ≡ eqb k q
 at_number k q = grind (arith, nat_tests)
@@ -27,7 +27,7 @@ Put found now k v = (q : ℕ) → map.get nat_cmp now q ≡ cond (is_at (nat_cmp
 abbrev pub HasFirst : List (Ssrc × Ssrc) → ℕ → BTreeMap ℕ Ssrc → Type 0
 HasFirst pairs i found = (q : ℕ) → map.get nat_cmp found q ≡ rtx_of (take i pairs) q
 
-kept : (before : Option Ssrc) (r : Option Ssrc) → is_some before ≡ true → before ≡ or_else before r
+kept : (before : Option Ssrc) (r : Option Ssrc) → is_some before ≡ true → before ≡ option_or before r
 kept None r h = absurd cc
 kept (Some s) r h = refl
 
@@ -38,27 +38,27 @@ absent (Some s) h = absurd cc
 pub pair_known : (pairs : List (Ssrc × Ssrc)) (i : ℕ) (found : BTreeMap ℕ Ssrc) (d x : Ssrc × Ssrc) → i < length pairs → x ≡ get_or pairs i d → is_some (map.get nat_cmp found x.0.0) ≡ true → HasFirst pairs i found → HasFirst pairs (i + 1) found
 pair_known pairs i found d x lt is known h q =
     let before : Option Ssrc = rtx_of (take i pairs) q in
-    let more : rtx_of (take (i + 1) pairs) q ≡ or_else before (rtx_for q x) = first_more (rtx_for q) pairs i d x lt is in
+    let more : rtx_of (take (i + 1) pairs) q ≡ option_or before (rtx_for q x) = first_more (rtx_for q) pairs i d x lt is in
     elim (eqb_tells x.0.0 q) [
       | inl (_, e) ↦ h q ∙ kept before (rtx_for q x) (ap is_some (sym (h q)) ∙ ap (λ (k : ℕ). is_some (map.get nat_cmp found k)) (sym e) ∙ known) ∙ sym more
-      | inr (f, _) ↦ let nothing : rtx_for q x ≡ None = rw f refl in h q ∙ sym (or_else_none before) ∙ ap (or_else before) (sym nothing) ∙ sym more
+      | inr (f, _) ↦ let nothing : rtx_for q x ≡ None = rw f refl in h q ∙ sym (option_or_none before) ∙ ap (option_or before) (sym nothing) ∙ sym more
     ]
 
 pub pair_new : (pairs : List (Ssrc × Ssrc)) (i : ℕ) (found now : BTreeMap ℕ Ssrc) (d x : Ssrc × Ssrc) → i < length pairs → x ≡ get_or pairs i d → is_some (map.get nat_cmp found x.0.0) ≡ false → Put found now x.0.0 x.1 → HasFirst pairs i found → HasFirst pairs (i + 1) now
 pair_new pairs i found now d x lt is new put h q =
     let before : Option Ssrc = rtx_of (take i pairs) q in
-    let more : rtx_of (take (i + 1) pairs) q ≡ or_else before (rtx_for q x) = first_more (rtx_for q) pairs i d x lt is in
+    let more : rtx_of (take (i + 1) pairs) q ≡ option_or before (rtx_for q x) = first_more (rtx_for q) pairs i d x lt is in
     let got : map.get nat_cmp now q ≡ cond (eqb x.0.0 q) (Some x.1) (map.get nat_cmp found q) = put q ∙ ap (λ (b : Bool). cond b (Some x.1) (map.get nat_cmp found q)) (at_number x.0.0 q) in
     elim (eqb_tells x.0.0 q) [
       | inl (t, e) ↦
           let nothing : before ≡ None = sym (h q) ∙ ap (map.get nat_cmp found) (sym e) ∙ absent (map.get nat_cmp found x.0.0) new in
           let own : rtx_for q x ≡ Some x.1 = rw t refl in
           let here : map.get nat_cmp now q ≡ Some x.1 = rw t at got in
-          here ∙ sym (more ∙ ap (λ (o : Option Ssrc). or_else o (rtx_for q x)) nothing ∙ own)
+          here ∙ sym (more ∙ ap (λ (o : Option Ssrc). option_or o (rtx_for q x)) nothing ∙ own)
       | inr (f, _) ↦
           let nothing : rtx_for q x ≡ None = rw f refl in
           let there : map.get nat_cmp now q ≡ map.get nat_cmp found q = rw f at got in
-          there ∙ h q ∙ sym (or_else_none before) ∙ ap (or_else before) (sym nothing) ∙ sym more
+          there ∙ h q ∙ sym (option_or_none before) ∙ ap (option_or before) (sym nothing) ∙ sym more
     ]
 
 -- ---- sets

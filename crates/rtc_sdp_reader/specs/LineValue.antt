@@ -14,7 +14,28 @@ use Rattle.rtc_sdp_values.specs.declared.media_line.MediaLine.{MediaLine}
 use Rattle.rtc_sdp_grammar.specs.declared.item.Item.{Item}
 use Rattle.rtc_sdp_grammar.specs.declared.item.Item.TheVariants.{Media}
 use Rattle.rtc_sdp_grammar.specs.declared.media_head.MediaHead.{MediaHead}
-use Rattle.rtc_sdp_reader.specs.Said.{said, value_or, said_mid, said_setup, said_direction, said_ufrag, said_password, said_fingerprint, said_candidate, message_size_of, said_sctp_init, codec_of, parameters_of, extension_of, said_stream, layer_of, layer_list_of, cname_of, said_source, source_pair_of}
+use Rattle.rtc_sdp_reader.specs.Said.{
+  said,
+  value_or,
+  said_mid,
+  said_setup,
+  said_direction,
+  said_ufrag,
+  said_password,
+  said_fingerprint,
+  said_candidate,
+  message_size_of,
+  said_sctp_init,
+  codec_of,
+  parameters_of,
+  extension_of,
+  said_stream,
+  layer_of,
+  layer_list_of,
+  cname_of,
+  said_source,
+  source_pair_of,
+}
 use Rattle.rtc_sdp_reader.specs.Parting.{inner}
 
 -- ---- what several attributes give together

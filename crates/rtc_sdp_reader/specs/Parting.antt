@@ -1,4 +1,5 @@
--- The parts of a session text: lines up to the first `m=` line are the session part, and each `m=` line begins a line part (RFC 8866, section 5).
+-- The parts of a session description: lines up to the first `m=` line are the session part, and each `m=` line begins a line part (RFC
+-- 8866, section 5).
 use Rattle.std.specs.Prelude.{◌==◌, Bool, true, false, List, [], ◌∷◌}
 use Rattle.std.specs.List.{count_by}
 use Rattle.rtc_sdp_grammar.specs.declared.attribute.Attribute.{Attribute}

@@ -16,4 +16,5 @@ pairs_at lines (Some place) = Some (or_no_pairs (option_map (λ line. line.attri
 
 -- the map has the place of the first attribute of each name among the first `count`
 abbrev pub AreFirst : List RidLine → RidDirection → ℕ → BTreeMap (List ℕ) ℕ → Type 0
-AreFirst lines direction count found = (rid : List ℕ) → pairs_at lines (map.get (slice_cmp nat_cmp) found rid) ≡ first (pairs_in direction rid) (take count lines)
+AreFirst lines direction count found = (rid : List ℕ) → pairs_at lines (map.get (slice_cmp nat_cmp) found rid)
+    ≡ first (pairs_in direction rid) (take count lines)

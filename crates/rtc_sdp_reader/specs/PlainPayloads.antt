@@ -51,7 +51,8 @@ codecs_of (row ∷ rest) = row_codecs row ++ codecs_of rest
 -- the parameters, in the order of their lines
 abbrev pub row_fmtps : PayloadRow → List Fmtp
 row_fmtps row =
-    own_fmtp row.pt.0 row.fmtp ++ (optional_number (fmtp_row (red_text row.pt.0)) row.red ++ optional_number (fmtp_row (apt_text row.pt.0)) row.rtx)
+    own_fmtp row.pt.0 row.fmtp ++ (optional_number (fmtp_row (red_text row.pt.0)) row.red
+    ++ optional_number (fmtp_row (apt_text row.pt.0)) row.rtx)
 
 abbrev pub fmtps_of : List PayloadRow → List Fmtp
 fmtps_of [] = []

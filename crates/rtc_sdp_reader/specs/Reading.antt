@@ -1,4 +1,4 @@
--- The reading of a session text: its value, or the number of the first line that refuses it.
+-- The reading of a session description: its value, or the number of the first line that refuses it.
 use Rattle.std.specs.Prelude.{◌≡◌, ℕ, ◌-◌, ◌^◌, min, List, Option, Some, None, Result, Ok, Err}
 use Rattle.rtc_sdp_values.specs.declared.sdp.Sdp.{Sdp}
 use Rattle.rtc_sdp_values.specs.declared.sdp_error.SdpError.{SdpError}

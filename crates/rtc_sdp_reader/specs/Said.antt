@@ -1,4 +1,4 @@
--- What single attributes give to the value of a session text.
+-- What single attributes give to the value of a session description.
 use Rattle.std.specs.Prelude.{ℕ, Bool, true, List, Option, Some, None}
 use Rattle.rtc_sdp_values.specs.declared.extension.Extension.{Extension}
 use Rattle.rtc_sdp_values.specs.declared.msid.Msid.{Msid}
@@ -12,8 +12,29 @@ use Rattle.rtc_sdp_values.specs.declared.direction.Direction.{Direction}
 use Rattle.rtc_sdp_values.specs.declared.fingerprint.Fingerprint.{Fingerprint}
 use Rattle.rtc_sdp_values.specs.declared.setup.Setup.{Setup}
 use Rattle.rtc_sdp_grammar.specs.declared.attribute.Attribute.{Attribute}
-use Rattle.rtc_sdp_grammar.specs.declared.attribute.Attribute.TheVariants.{MidLine, GroupLine, SetupLine, DirectionLine, UfragLine, PasswordLine, LiteLine, FingerprintLine, CandidateLine, MessageSizeLine, SctpInitLine}
-use Rattle.rtc_sdp_grammar.specs.declared.attribute.Attribute.TheVariants.{CodecLine, ParametersLine, ExtensionLine, StreamLine, LayerLine, LayerListLine, SourceLine, SourcePairLine}
+use Rattle.rtc_sdp_grammar.specs.declared.attribute.Attribute.TheVariants.{
+  MidLine,
+  GroupLine,
+  SetupLine,
+  DirectionLine,
+  UfragLine,
+  PasswordLine,
+  LiteLine,
+  FingerprintLine,
+  CandidateLine,
+  MessageSizeLine,
+  SctpInitLine,
+}
+use Rattle.rtc_sdp_grammar.specs.declared.attribute.Attribute.TheVariants.{
+  CodecLine,
+  ParametersLine,
+  ExtensionLine,
+  StreamLine,
+  LayerLine,
+  LayerListLine,
+  SourceLine,
+  SourcePairLine,
+}
 use Rattle.rtc_sdp_grammar.specs.declared.item.Item.{Item}
 use Rattle.rtc_sdp_grammar.specs.declared.item.Item.TheVariants.{Says}
 

@@ -1,4 +1,4 @@
--- The value of a session text.
+-- The value of a session description.
 use Rattle.std.specs.Prelude.{ℕ, List, Option, Some, None, false}
 use Rattle.std.specs.List.{filter_map}
 use Rattle.rtc_fields.specs.Fields.{first}

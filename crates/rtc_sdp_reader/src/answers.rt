@@ -7,7 +7,7 @@ use rtc_sdp_grammar::items_of;
 use rtc_sdp_values::{Sdp, SdpError};
 use std::alloc::Global;
 
-/// The value that a session text has, or the number of the first line that refuses it.
+/// The value that a session description has, or the number of the first line that refuses it.
 pub fn read(alloc: Global, text: &str) -> Result<Sdp, SdpError>
     ensures { ReadsSdp result (reading text.now) }
 {

@@ -23,6 +23,3 @@ pub use media_laws::{layers_read_back, payload_rows_read_back, sources_read_back
 pub use payloads::payload_rows;
 pub use place::Place;
 pub use source_list::sources;
-
-#[cfg(test)]
-mod tests;

@@ -13,7 +13,8 @@ ghost use Rattle.rtc_sdp_reader.specs.PlainPayloads.{formats_of, codecs_of, fmtp
 
 /// Payload rows are read back from the list, the codecs and the parameters that are written for them.
 pub fn payload_rows_read_back()
-    ensures { (rows : List PayloadRow) → AllByRecursion IsPlainPayload rows → AreApart rows → rows_with_links (formats_of rows) (codecs_of rows) (fmtps_of rows) ≡ rows }
+    ensures { (rows : List PayloadRow) → AllByRecursion IsPlainPayload rows → AreApart rows
+        → rows_with_links (formats_of rows) (codecs_of rows) (fmtps_of rows) ≡ rows }
 {}
 
 /// Layers are read back from the lists and the pairs that are written for them.
@@ -23,5 +24,6 @@ pub fn layers_read_back()
 
 /// Sources are read back from the names and pairs that are written for them.
 pub fn sources_read_back()
-    ensures { (sources : List (Ssrc × Option Ssrc)) → AreNumbersApart sources → sources_with_pairs (numbers_of sources) (source_pairs sources) ≡ sources }
+    ensures { (sources : List (Ssrc × Option Ssrc)) → AreNumbersApart sources
+        → sources_with_pairs (numbers_of sources) (source_pairs sources) ≡ sources }
 {}

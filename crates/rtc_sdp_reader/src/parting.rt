@@ -1,4 +1,4 @@
-//! The parts of a session text.
+//! The parts of a session description.
 ghost use Rattle.std.specs.Prelude.{◌≡◌};
 ghost use Rattle.rtc_sdp_reader.specs.Parting as spec;
 

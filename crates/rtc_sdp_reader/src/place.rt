@@ -1,6 +1,6 @@
 //! Where lines stand.
 
-/// Where a line of a session text stands; empty lines leave the place.
+/// Where a line of a session description stands; empty lines leave the place.
 ///
 /// First --`v=0`--> Second --`o=`--> Session --`m=`--> Line --`m=`--> Line
 #[derive(Clone, Copy, Debug, PartialEq, Eq)]

@@ -1,4 +1,4 @@
-//! The values of session texts.
+//! The values of session descriptions.
 ghost use Rattle.std.specs.Prelude.{◌≡◌, IfOk};
 ghost use Rattle.rtc_fields.specs.Fields.{first};
 ghost use Rattle.rtc_sdp_reader.specs.SessionValue as spec;

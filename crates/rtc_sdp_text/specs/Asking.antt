@@ -4,7 +4,7 @@ use Rattle.std.specs.Str.{bytes_eq}
 use Rattle.rtc_sdp_text.specs.declared.asking.Asked.{Asked}
 use Rattle.rtc_sdp_text.specs.declared.asking.Asked.TheVariants.{Offer, Answer}
 
--- the kind of text that one word asks for
+-- the kind of session description that one word asks for
 abbrev pub asked_kind : List ℕ → Option Asked
 asked_kind word =
     if bytes_eq word (codes "offer") then Some Offer

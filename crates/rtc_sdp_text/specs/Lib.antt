@@ -2,4 +2,3 @@ pub mod Asking
 pub mod Repair
 pub mod Rewrite
 pub mod Answers
-pub mod Due

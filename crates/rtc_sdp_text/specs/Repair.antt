@@ -1,13 +1,9 @@
--- Bytes as a session text: a line that is not UTF-8 has no form.
-use Rattle.std.specs.Prelude.{ℕ, ◌==◌, List, [], ◌∷◌, ◌++◌, codes, Result, if◌then◌else◌}
-use Rattle.std.specs.List.{slice_split}
+-- Bytes as a session description: a line that is not UTF-8 has no form.
+use Rattle.std.specs.Prelude.{ℕ, List, [], ◌∷◌, ◌++◌, codes, Result, if◌then◌else◌}
 use Rattle.std.specs.Str.{is_utf8}
+use Rattle.rtc_fields.specs.Lines.{pieces}
 use Rattle.rtc_sdp_values.specs.declared.sdp.Sdp.{Sdp}
 use Rattle.rtc_sdp_reader.specs.Reading.{reading}
-
--- what stands between line feeds
-abbrev pub pieces : List ℕ → List (List ℕ)
-pieces bytes = slice_split (λ byte. byte == 10) bytes
 
 -- a piece as it is read: one that is not UTF-8 is a question mark, which is refused wherever it stands
 abbrev pub piece_in : List ℕ → List ℕ
@@ -27,6 +23,6 @@ parted (piece ∷ rest) = piece_in piece ++ fed rest
 abbrev pub repaired : List ℕ → List ℕ
 repaired bytes = parted (pieces bytes)
 
--- the reading of bytes, as a session text
+-- the reading of bytes, as a session description
 abbrev pub bytes_reading : List ℕ → Result Sdp ℕ
 bytes_reading bytes = if is_utf8 bytes then reading bytes else reading (repaired bytes)

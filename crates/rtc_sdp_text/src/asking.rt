@@ -2,7 +2,7 @@
 ghost use Rattle.std.specs.Prelude.{◌≡◌, map, string_bytes};
 ghost use Rattle.rtc_sdp_text.specs.Asking.{asked_kind, asked};
 
-/// Which kind of text is to be read.
+/// Which kind of session description is to be read.
 #[derive(Clone, Copy, Debug, PartialEq, Eq)]
 pub enum Asked {
     Offer,
@@ -21,7 +21,7 @@ fn asked_by_word(word: &str) -> Option<Asked>
     }
 }
 
-/// The kind that the words ask for.
+/// The kind that the words ask for; None where they ask for neither.
 pub fn asked_for(words: &[String]) -> Option<Asked>
     ensures { result ≡ asked (map (λ word. string_bytes word) words.now) }
 {

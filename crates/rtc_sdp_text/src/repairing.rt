@@ -1,16 +1,11 @@
 //! Bytes that are not UTF-8.
 ghost use Rattle.std.specs.Prelude.{◌≡◌, ◌++◌, IfOk, OnOk, MatchOption, map, true, false, string_bytes};
 ghost use Rattle.std.specs.Str.{is_utf8};
-ghost use Rattle.rtc_sdp_text.specs.Repair.{pieces, piece_in, fed, repaired};
+ghost use Rattle.rtc_sdp_text.specs.Repair.{piece_in, fed, repaired};
 
+use rtc_fields::pieces;
 use std::alloc::{AllocError, Global};
 use std::str;
-
-fn cut_pieces<'a>(alloc: Global, bytes: &'a [u8]) -> Result<Vec<&'a [u8]>, AllocError>
-    ensures { IfOk result (λ cut. map (λ piece. piece.now) cut.items ≡ pieces bytes.now) }
-{
-    bytes.split(|byte| *byte == b'\n').collect(alloc)
-}
 
 /// The bytes as a text, where they are UTF-8.
 pub(crate) fn utf8_of(bytes: &[u8]) -> Option<&str>
@@ -42,12 +37,12 @@ fn push_pieces(text: &mut String, pieces: &[&[u8]]) -> Result<(), AllocError>
     Ok(())
 }
 
-/// The bytes with each line that is not UTF-8 as a question mark, which has no form as a line of a session text.
+/// The bytes with each line that is not UTF-8 as a question mark, which has no form as a line of a session description.
 pub fn repair(alloc: Global, bytes: &[u8]) -> Result<String, AllocError>
     ensures { IfOk result (λ text. string_bytes text ≡ repaired bytes.now) }
 {
     let mut text = String::new(alloc);
-    let pieces = cut_pieces(alloc, bytes)?;
+    let pieces = pieces(alloc, bytes)?;
     if let Some((first, rest)) = pieces.as_slice().split_first() {
         push_piece(&mut text, first)?;
         push_pieces(&mut text, rest)?;

@@ -1,4 +1,4 @@
-//! A session text, read and written again.
+//! A session description, read and written again.
 ghost use Rattle.rtc_sdp_reader.specs.Reading.{reading};
 ghost use Rattle.rtc_sdp_text.specs.Repair.{bytes_reading};
 ghost use Rattle.rtc_sdp_text.specs.Rewrite.{Rewrites};
@@ -47,7 +47,7 @@ fn rewrite_text(alloc: Global, asked: Asked, text: &str) -> Result<Text, TextErr
     }
 }
 
-/// The session text that the reading of bytes is written as, or the line that refuses them.
+/// The session description that bytes are read as, written again, or the line that refuses them.
 pub fn rewrite(alloc: Global, asked: Asked, bytes: &[u8]) -> Result<Text, TextError>
     ensures { Rewrites result (bytes_reading bytes.now) }
 {

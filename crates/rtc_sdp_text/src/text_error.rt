@@ -1,17 +1,16 @@
-//! Why bytes are no session text.
+//! Why bytes are no session description.
 ghost use Rattle.std.specs.Prelude.{◌≡◌};
 ghost use Rattle.rtc_sdp_text.specs.declared.text_error.TextError.TheVariants.{Alloc};
 
 use std::alloc::AllocError;
 use thiserror::Error;
 
-/// Why bytes are no session text.
+/// Why bytes are no session description.
 #[derive(Clone, Copy, Debug, PartialEq, Eq, Error)]
 pub enum TextError {
     /// The number of the first refused line, from 1; `u32::MAX` where that is greater.
     #[error("text refused at line {0}")]
     Line(u32),
-    /// There was too little memory.
     #[error("out of memory")]
     Alloc,
 }

@@ -1,1 +1,2 @@
 pub mod ExtensionLemmas
+pub mod MidLemmas

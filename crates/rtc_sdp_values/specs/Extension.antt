@@ -2,7 +2,15 @@
 use Rattle.std.specs.Prelude.{ℕ, Bool, true, false, List, Option, Some, None, if◌then◌else◌, codes}
 use Rattle.std.specs.Str.{bytes_eq}
 use Rattle.rtc_sdp_values.specs.declared.extension.Extension.{Extension}
-use Rattle.rtc_sdp_values.specs.declared.extension.Extension.TheVariants.{AudioLevel, AbsoluteSendTime, TransportSequenceNumber, RtpMid, RtpStreamId, RepairedRtpStreamId, VideoOrientation}
+use Rattle.rtc_sdp_values.specs.declared.extension.Extension.TheVariants.{
+  AudioLevel,
+  AbsoluteSendTime,
+  TransportSequenceNumber,
+  RtpMid,
+  RtpStreamId,
+  RepairedRtpStreamId,
+  VideoOrientation,
+}
 
 -- the URI that names an extension
 abbrev pub uri_of : Extension → List ℕ

@@ -2,7 +2,15 @@
 use Rattle.std.specs.Prelude.{ℕ, ◌==◌, List, [], ◌∷◌, Option, Some, None, if◌then◌else◌}
 use Rattle.rtc_fields.specs.Fields.{first}
 use Rattle.rtc_sdp_values.specs.declared.extension.Extension.{Extension}
-use Rattle.rtc_sdp_values.specs.declared.extension.Extension.TheVariants.{AudioLevel, AbsoluteSendTime, TransportSequenceNumber, RtpMid, RtpStreamId, RepairedRtpStreamId, VideoOrientation}
+use Rattle.rtc_sdp_values.specs.declared.extension.Extension.TheVariants.{
+  AudioLevel,
+  AbsoluteSendTime,
+  TransportSequenceNumber,
+  RtpMid,
+  RtpStreamId,
+  RepairedRtpStreamId,
+  VideoOrientation,
+}
 use Rattle.rtc_sdp_values.specs.Extension.{same_extension}
 
 -- the rows that a peer has where none are set

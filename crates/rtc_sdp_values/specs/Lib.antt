@@ -4,5 +4,7 @@ pub mod Direction
 pub mod Fingerprint
 pub mod LineRow
 pub mod MediaKind
+pub mod MediaLine
+pub mod Mids
 pub mod Sdp
 pub mod SdpErrorText

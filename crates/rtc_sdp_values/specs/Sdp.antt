@@ -1,13 +1,40 @@
--- What a session text says as a whole, and what of it does not fit together.
-use Rattle.std.specs.Prelude.{ℕ, Bool, true, false, not, ◌||◌, List, [], ◌∷◌, map, Option, Some, None, Result, Ok, Err, option_and_then, if◌then◌else◌}
-use Rattle.std.specs.List.{list_any, list_all, flat_map}
-use Rattle.std.specs.Str.{bytes_eq}
-use Rattle.rtc_fields.specs.Fields.{first, or_else}
+-- What a session description says as a whole, and whether it is consistent.
+use Rattle.std.specs.Prelude.{
+  ℕ,
+  Bool,
+  true,
+  false,
+  not,
+  ◌||◌,
+  List,
+  [],
+  ◌∷◌,
+  map,
+  Option,
+  Some,
+  None,
+  Result,
+  Ok,
+  Err,
+  option_and_then,
+  if◌then◌else◌,
+}
+use Rattle.std.specs.List.{list_all, flat_map}
+use Rattle.std.specs.Option.{option_or}
+use Rattle.rtc_fields.specs.Fields.{first}
+use Rattle.rtc_sdp_values.specs.Mids.{is_among, are_distinct}
 use Rattle.rtc_sdp_values.specs.declared.candidate.Candidate.{Candidate}
 use Rattle.rtc_sdp_values.specs.declared.fingerprint.Fingerprint.{Fingerprint}
 use Rattle.rtc_sdp_values.specs.declared.ice_creds.IceCreds.{IceCreds}
 use Rattle.rtc_sdp_values.specs.declared.inconsistent.Inconsistent.{Inconsistent}
-use Rattle.rtc_sdp_values.specs.declared.inconsistent.Inconsistent.TheVariants.{NoGroup, ManyGroups, EmptyGroup, UnknownMid, LineNotInGroup, RepeatedMid}
+use Rattle.rtc_sdp_values.specs.declared.inconsistent.Inconsistent.TheVariants.{
+  NoGroup,
+  ManyGroups,
+  EmptyGroup,
+  UnknownMid,
+  LineNotInGroup,
+  RepeatedMid,
+}
 use Rattle.rtc_sdp_values.specs.declared.line_kind.LineKind.{LineKind}
 use Rattle.rtc_sdp_values.specs.declared.line_kind.LineKind.TheVariants.{Audio, Video, Application, Unknown}
 use Rattle.rtc_sdp_values.specs.declared.media_line.MediaLine.{MediaLine}
@@ -18,13 +45,13 @@ use Rattle.rtc_sdp_values.specs.declared.setup.Setup.{Setup}
 
 -- those of the session if there, else those of the first line that has them (RFC 8866, section 5.13)
 abbrev pub creds_of : Sdp → Option IceCreds
-creds_of sdp = or_else sdp.creds (first (λ line. line.creds) sdp.lines)
+creds_of sdp = option_or sdp.creds (first (λ line. line.creds) sdp.lines)
 
 abbrev pub sdp_fingerprint : Sdp → Option Fingerprint
-sdp_fingerprint sdp = or_else sdp.fingerprint (first (λ line. line.fingerprint) sdp.lines)
+sdp_fingerprint sdp = option_or sdp.fingerprint (first (λ line. line.fingerprint) sdp.lines)
 
 abbrev pub sdp_setup : Sdp → Option Setup
-sdp_setup sdp = or_else sdp.setup (first (λ line. line.setup) sdp.lines)
+sdp_setup sdp = option_or sdp.setup (first (λ line. line.setup) sdp.lines)
 
 abbrev pub is_application : LineKind → Bool
 is_application Audio = false
@@ -49,25 +76,16 @@ candidates_of sdp = flat_map (λ line. line.candidates) sdp.lines
 
 -- ---- the BUNDLE group (RFC 8843, section 7.1)
 
--- the name is among these
-abbrev pub is_among : List ℕ → List (List ℕ) → Bool
-is_among name names = list_any (λ other. bytes_eq other name) names
-
 abbrev pub mids_of : List MediaLine → List (List ℕ)
 mids_of lines = map (λ line. line.mid) lines
 
 -- each mid of the group is a line's
 abbrev pub are_known : List (List ℕ) → List MediaLine → Bool
-are_known group lines = list_all (λ mid. is_among mid (mids_of lines)) group
+are_known group lines = list_all (λ mid. is_among (mids_of lines) mid) group
 
 -- each line with a port is in the group
 abbrev pub are_grouped : List (List ℕ) → List MediaLine → Bool
-are_grouped group lines = list_all (λ line. line.disabled || is_among line.mid group) lines
-
--- no name stands twice
-abbrev pub are_distinct : List (List ℕ) → Bool
-are_distinct [] = true
-are_distinct (name ∷ rest) = if is_among name rest then false else are_distinct rest
+are_grouped group lines = list_all (λ line. line.disabled || is_among group line.mid) lines
 
 abbrev pub is_none_of : List (List ℕ) → Bool
 is_none_of [] = true
@@ -92,11 +110,11 @@ judge [] lines = Some NoGroup
 judge (group ∷ []) lines = first_cause (group_causes group lines)
 judge (group ∷ other ∷ rest) lines = Some ManyGroups
 
--- why the text does not fit together, if it does not
+-- why a session description is inconsistent, if it is
 unfoldable pub inconsistency : Sdp → Option Inconsistent
 inconsistency sdp = judge sdp.groups sdp.lines
 
--- the answer where a text is refused for this cause
+-- the answer for this cause
 abbrev pub refusal : Option Inconsistent → Result (Unit {0}) SdpError
 refusal None = Ok tt
 refusal (Some why) = Err (error.Inconsistent why)

@@ -20,7 +20,14 @@ pub struct Candidate {
 impl Candidate {
     /// A host candidate, with the foundation, component and priority that all host candidates have here.
     pub fn host(alloc: Global, addr: Addr, proto: Protocol) -> Result<Candidate, AllocError>
-        ensures { IfOk result (λ made. made ≡ record { foundation = codes "1"; component = 1; proto = proto; priority = 2130706431; addr = addr; kind = Host }) }
+        ensures { IfOk result (λ made. made ≡ record {
+          foundation = codes "1";
+          component = 1;
+          proto = proto;
+          priority = 2130706431;
+          addr = addr;
+          kind = Host;
+        }) }
     {
         let foundation = Text::from_str(alloc, "1")?;
         Ok(Candidate {

@@ -1,26 +1,15 @@
-//! Whether the mids and the BUNDLE group of a session text fit together (RFC 8843, section 7.1).
+//! Whether the mids and the BUNDLE group of a session description are consistent (RFC 8843, section 7.1).
 ghost use Rattle.std.specs.Prelude.{◌≡◌};
-ghost use Rattle.std.specs.Str.{bytes_eq};
+ghost use Rattle.rtc_sdp_values.specs.Mids.{is_among, are_distinct};
 ghost use Rattle.rtc_sdp_values.specs.Sdp as spec;
 
 use crate::{Inconsistent, MediaLine, Mid, Sdp};
 
-fn is_among(name: &str, names: &[Mid]) -> bool
-    ensures { result ≡ spec.is_among name.now names.now }
-{
-    for other in names {
-        if other.as_str() == name {
-            return true;
-        }
-    }
-    false
-}
-
-fn is_mid_of(name: &str, lines: &[MediaLine]) -> bool
-    ensures { result ≡ spec.is_among name.now (spec.mids_of lines.now) }
+fn has_line(lines: &[MediaLine], mid: Mid) -> bool
+    ensures { result ≡ is_among (spec.mids_of lines.now) mid }
 {
     for line in lines {
-        if line.mid.as_str() == name {
+        if line.mid == mid {
             return true;
         }
     }
@@ -31,7 +20,7 @@ fn are_known(group: &[Mid], lines: &[MediaLine]) -> bool
     ensures { result ≡ spec.are_known group.now lines.now }
 {
     for mid in group {
-        if !is_mid_of(mid.as_str(), lines) {
+        if !has_line(lines, *mid) {
             return false;
         }
     }
@@ -42,7 +31,7 @@ fn are_grouped(group: &[Mid], lines: &[MediaLine]) -> bool
     ensures { result ≡ spec.are_grouped group.now lines.now }
 {
     for line in lines {
-        if !line.disabled && !is_among(line.mid.as_str(), group) {
+        if !line.disabled && !line.mid.is_among(group) {
             return false;
         }
     }
@@ -50,10 +39,10 @@ fn are_grouped(group: &[Mid], lines: &[MediaLine]) -> bool
 }
 
 fn are_distinct(lines: &[MediaLine]) -> bool
-    ensures { result ≡ spec.are_distinct (spec.mids_of lines.now) }
+    ensures { result ≡ are_distinct (spec.mids_of lines.now) }
 {
     for i in 0..lines.len() {
-        if is_mid_of(lines[i].mid.as_str(), &lines[i + 1..]) {
+        if has_line(&lines[i + 1..], lines[i].mid) {
             return false;
         }
     }
@@ -78,7 +67,7 @@ fn group_cause(group: &[Mid], lines: &[MediaLine]) -> Option<Inconsistent>
     None
 }
 
-/// Why a session text does not fit together, if it does not.
+/// Why a session description is inconsistent, if it is.
 #[tactic(auto, unfolding(crate::specs::Sdp::inconsistency))]
 pub(crate) fn inconsistency(sdp: &Sdp) -> Option<Inconsistent>
     ensures { result ≡ spec.inconsistency sdp.now }

@@ -18,7 +18,7 @@ pub enum Extension {
 }
 
 impl Extension {
-    /// The URI that names it in a session text.
+    /// The URI that names it in a session description.
     pub fn uri(self) -> &'static str
         ensures { result.now ≡ spec.uri_of self }
     {

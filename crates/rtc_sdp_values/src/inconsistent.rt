@@ -1,11 +1,11 @@
-//! Session texts whose lines do not fit together.
+//! Inconsistent session descriptions.
 ghost use Rattle.std.specs.Prelude.{Some};
 ghost use Rattle.rtc_sdp_values.specs.SdpErrorText as text;
 
 use std::error::Error;
 use std::fmt;
 
-/// What is wrong with the BUNDLE group or the mids of a session text (RFC 8843, section 7.1).
+/// What is wrong with the BUNDLE group or the mids of a session description (RFC 8843, section 7.1).
 #[derive(Clone, Copy, Debug, PartialEq, Eq)]
 pub enum Inconsistent {
     NoGroup,

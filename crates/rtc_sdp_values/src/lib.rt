@@ -51,8 +51,3 @@ pub use setup::Setup;
 pub use simulcast::Simulcast;
 pub use simulcast_layer::SimulcastLayer;
 pub use ssrc::Ssrc;
-
-#[cfg(test)]
-mod media_tests;
-#[cfg(test)]
-mod tests;

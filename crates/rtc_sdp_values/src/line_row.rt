@@ -15,7 +15,7 @@ pub enum LineRow {
         mid: Mid,
         kind: MediaKind,
         dir: Direction,
-        /// For good: a stopped row never flows again.
+        /// For good: a stopped line stays inactive.
         stopped: bool,
         /// It came in an offer of the other side.
         remote_created: bool,

@@ -1,12 +1,15 @@
-//! One m-line of a session text.
+//! M-lines.
+ghost use Rattle.std.specs.Prelude.{◌≡◌};
+ghost use Rattle.rtc_sdp_values.specs.MediaLine.{bare_line};
+
 use crate::{
     Candidate, Direction, Extension, Fingerprint, IceCreds, LineKind, Mid, Msid, PayloadRow, Setup,
     Simulcast, Ssrc,
 };
 use rtc_wire::{Seq, Text, TryCopy};
-use std::alloc::AllocError;
+use std::alloc::{AllocError, Global};
 
-/// What an m-line of a session text says, with the attributes of its part (RFC 8866, section 5.14).
+/// An m-line of a session description, with its attributes (RFC 8866, section 5.14).
 #[derive(Debug, PartialEq, Eq, Drop)]
 pub struct MediaLine {
     pub kind: LineKind,
@@ -28,6 +31,32 @@ pub struct MediaLine {
     /// In bytes; 0 means any size (RFC 8841, section 6).
     pub max_message_size: Option<u64>,
     pub sctp_init: Option<Text>,
+}
+
+impl MediaLine {
+    /// A line with a port and no attributes but its mid and its direction. Nothing is allocated.
+    pub fn bare(alloc: Global, kind: LineKind, mid: Mid, dir: Direction) -> MediaLine
+        ensures { result ≡ bare_line kind mid dir }
+    {
+        MediaLine {
+            kind,
+            disabled: false,
+            mid,
+            dir,
+            candidates: Seq::empty(alloc),
+            creds: None,
+            fingerprint: None,
+            setup: None,
+            payloads: Seq::empty(alloc),
+            exts: Seq::empty(alloc),
+            simulcast: None,
+            msid: None,
+            cname: None,
+            ssrcs: Seq::empty(alloc),
+            max_message_size: None,
+            sctp_init: None,
+        }
+    }
 }
 
 impl TryCopy for MediaLine {

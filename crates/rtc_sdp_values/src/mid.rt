@@ -1,6 +1,7 @@
 //! Names of m-lines.
 ghost use Rattle.std.specs.Prelude.{◌≡◌, ℕ, List, if◌then◌else◌, Some, None, Option, true, IfOk};
 ghost use Rattle.rtc_fields.specs.Tokens.{is_short_token as IsShortToken};
+ghost use Rattle.rtc_sdp_values.specs.Mids.{is_among};
 
 use rtc_fields::ShortToken;
 use rtc_wire::TryCopy;
@@ -30,10 +31,8 @@ impl Mid {
     pub fn read(text: &str) -> Option<Mid>
         ensures { result ≡ (if IsShortToken text.now then Some text.now else None) }
     {
-        match ShortToken::read(text) {
-            Some(token) => Some(Mid { token }),
-            None => None,
-        }
+        let token = ShortToken::read(text)?;
+        Some(Mid { token })
     }
 
     /// The name that a text is known to be.
@@ -52,6 +51,18 @@ impl Mid {
         ensures token { IsShortToken self.now ≡ true }
     {
         self.token.as_str()
+    }
+
+    /// Whether it is one of these.
+    pub fn is_among(self, mids: &[Mid]) -> bool
+        ensures { result ≡ is_among mids.now self }
+    {
+        for mid in mids {
+            if *mid == self {
+                return true;
+            }
+        }
+        false
     }
 }
 

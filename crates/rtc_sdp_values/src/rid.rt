@@ -30,10 +30,8 @@ impl Rid {
     pub fn read(text: &str) -> Option<Rid>
         ensures { result ≡ (if IsShortToken text.now then Some text.now else None) }
     {
-        match ShortToken::read(text) {
-            Some(token) => Some(Rid { token }),
-            None => None,
-        }
+        let token = ShortToken::read(text)?;
+        Some(Rid { token })
     }
 
     /// The name that a text is known to be.

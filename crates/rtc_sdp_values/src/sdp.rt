@@ -1,4 +1,4 @@
-//! The value of a session text.
+//! Session descriptions.
 ghost use Rattle.std.specs.Prelude.{◌≡◌, ◌++◌, IfOk, OnOk, Option, option_map};
 ghost use Rattle.std.specs.Option.{option_copied};
 ghost use Rattle.std.specs.List.{flat_map};
@@ -10,7 +10,7 @@ use crate::{Candidate, Fingerprint, IceCreds, MediaLine, Mid, SdpError, Setup};
 use rtc_wire::{Seq, TryCopy};
 use std::alloc::AllocError;
 
-/// What a session text says (RFC 8866, section 5).
+/// A session description (RFC 8866, section 5).
 #[derive(Debug, PartialEq, Eq, Drop)]
 pub struct Sdp {
     /// The number of the session, of the `o=` line.
@@ -147,7 +147,8 @@ impl Sdp {
         Ok(found)
     }
 
-    /// Whether the mids and the BUNDLE group fit together. It takes time in the square of the lines.
+    /// Whether the mids and the BUNDLE group are consistent (RFC 8843, section 7.1). It takes time in the square of the
+    /// lines.
     pub fn assert_consistency(&self) -> Result<(), SdpError>
         ensures { result ≡ spec.refusal (spec.inconsistency self.now) }
     {

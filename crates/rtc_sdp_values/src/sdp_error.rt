@@ -1,4 +1,4 @@
-//! Why a session text is refused.
+//! Why a session description is refused.
 ghost use Rattle.std.specs.Prelude.{◌≡◌, Some};
 ghost use Rattle.rtc_sdp_values.specs.declared.sdp_error.SdpError.TheVariants.{Alloc};
 ghost use Rattle.rtc_sdp_values.specs.SdpErrorText as text;
@@ -8,7 +8,7 @@ use std::alloc::{AllocError, AllocFailed};
 use std::error::Error;
 use std::fmt;
 
-/// Why a session text is refused. Parse and Inconsistent are faults of the text; nothing has changed.
+/// Why a session description is refused. Nothing has changed; all but `Alloc` are faults of the description.
 #[derive(Debug, PartialEq, Eq, Drop)]
 pub enum SdpError {
     /// The number of the first bad line, from 1; `u32::MAX` where that is greater.
@@ -48,6 +48,3 @@ impl<T: Drop> From<AllocFailed<T>> for SdpError {
         SdpError::Alloc
     }
 }
-
-#[cfg(test)]
-mod tests;

@@ -1,4 +1,4 @@
-//! DTLS roles in session texts.
+//! DTLS roles in session descriptions.
 use rtc_wire::TryCopy;
 use std::alloc::AllocError;
 

@@ -6,7 +6,8 @@ use Rattle.std.proofs.lemmas.Bool.Decides.{eqb_tells}
 use Rattle.std.proofs.lemmas.List.{map-append}
 use Rattle.std.proofs.lemmas.List.Elements.{filter_map-append, filter-append}
 use Rattle.std.proofs.lemmas.List.Sums.{length-filter}
-use Rattle.rtc_fields.specs.Fields.{first, or_else}
+use Rattle.std.specs.Option.{option_or}
+use Rattle.rtc_fields.specs.Fields.{first}
 use Rattle.rtc_fields.specs.Lines.{AreLines}
 use Rattle.rtc_fields.proofs.LineLemmas.{AreLines-append}
 use Rattle.rtc_sdp_grammar.specs.declared.attribute.Attribute.{Attribute}
@@ -214,13 +215,13 @@ kept_block b block = record {
 }
 
 -- ---- looking for one attribute
-or_else_assoc : {B : Type 0} (a b c : Option B) → or_else a (or_else b c) ≡ or_else (or_else a b) c
-or_else_assoc None b c = refl
-or_else_assoc (Some x) b c = refl
+option_or_assoc : {B : Type 0} (a b c : Option B) → option_or a (option_or b c) ≡ option_or (option_or a b) c
+option_or_assoc None b c = refl
+option_or_assoc (Some x) b c = refl
 
-first-append : {B : Type 0} (gives : Item → Option B) (xs ys : List Item) → first gives (xs ++ ys) ≡ or_else (first gives xs) (first gives ys)
+first-append : {B : Type 0} (gives : Item → Option B) (xs ys : List Item) → first gives (xs ++ ys) ≡ option_or (first gives xs) (first gives ys)
 first-append gives [] ys = refl
-first-append gives (x ∷ xs) ys = ap (or_else (gives x)) (first-append gives xs ys) ∙ or_else_assoc (gives x) (first gives xs) (first gives ys)
+first-append gives (x ∷ xs) ys = ap (option_or (gives x)) (first-append gives xs ys) ∙ option_or_assoc (gives x) (first gives xs) (first gives ys)
 
 -- the blocks of one attribute
 abbrev pub of_tag : ℕ → List Block → List Block
@@ -251,7 +252,7 @@ module _ {B : Type 0} (tag : ℕ) (gives : Item → Option B) (looks : LooksAt t
   first_in (block ∷ rest) = go (has_tag tag block.tags) refl (first_in rest)
     where
       go : (test : Bool) → has_tag tag block.tags ≡ test → first gives (items_in rest) ≡ first gives (items_in (of_tag tag rest)) → first gives (block.items ++ items_in rest) ≡ first gives (items_in (cond test (block ∷ of_tag tag rest) (of_tag tag rest)))
-      go true t ih = first-append gives block.items (items_in rest) ∙ ap (or_else (first gives block.items)) ih ∙ sym (first-append gives block.items (items_in (of_tag tag rest)))
+      go true t ih = first-append gives block.items (items_in rest) ∙ ap (option_or (first gives block.items)) ih ∙ sym (first-append gives block.items (items_in (of_tag tag rest)))
       go false t ih = first-append gives block.items (items_in rest) ∙ rw (silent block.tags t block.items block.tagged) ih
 
   -- all are those of the blocks of the attribute

@@ -5,7 +5,14 @@ use Rattle.rtc_sdp_values.specs.declared.line_kind.LineKind.TheVariants.{Audio, 
 use Rattle.rtc_sdp_values.specs.declared.media_line.MediaLine.{MediaLine}
 use Rattle.rtc_sdp_reader.specs.PlainPayloads.{formats_of}
 use Rattle.rtc_sdp_reader.specs.PlainSources.{source_pairs}
-use Rattle.rtc_sdp_grammar.specs.ConnectionTexts.{ufrag_line, password_line, fingerprint_line, candidate_line, message_size_line, sctp_init_line}
+use Rattle.rtc_sdp_grammar.specs.ConnectionTexts.{
+  ufrag_line,
+  password_line,
+  fingerprint_line,
+  candidate_line,
+  message_size_line,
+  sctp_init_line,
+}
 use Rattle.rtc_sdp_grammar.specs.LineTexts.{mid_line, setup_line, direction_line, media_line}
 use Rattle.rtc_sdp_grammar.specs.MediaTexts.{extension_line, stream_line, layer_line, layer_list_line, source_pair_line}
 use Rattle.rtc_sdp_writer.specs.MediaRows.{shown_stream, shown_sources, all_payload_lines, layers_in, all_source_lines}

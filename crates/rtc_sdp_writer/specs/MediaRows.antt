@@ -37,7 +37,8 @@ feedback_lines kind pt = map (feedback_line pt) (feedback_kinds kind)
 -- redundant packets: their codec, and whose they are
 abbrev pub red_lines : PayloadRow → Option Pt → List (List ℕ)
 red_lines row red =
-    optional (λ pt. codec_line (codec_row row (codes "red") pt.0)) red ++ optional (λ pt. parameters_line (fmtp_row (red_text row.pt.0) pt.0)) red
+    optional (λ pt. codec_line (codec_row row (codes "red") pt.0)) red
+    ++ optional (λ pt. parameters_line (fmtp_row (red_text row.pt.0) pt.0)) red
 
 -- retransmissions
 abbrev pub rtx_lines : PayloadRow → Option Pt → List (List ℕ)

@@ -31,7 +31,9 @@ fn put_password(out: &mut String, password: &str) -> Result<(), AllocError>
 
 #[tactic(auto, using(rtc_fields::proofs::LineLemmas::appends))]
 pub(crate) fn put_creds_if_any(out: &mut String, creds: &Option<IceCreds>) -> Result<(), AllocError>
-    ensures { OnOk result (string_bytes out.new ≡ string_bytes out.old ++ text_of (optional spec.ufrag_line (option_map (λ creds. creds.ufrag) creds.now) ++ optional spec.password_line (option_map (λ creds. creds.pass) creds.now))) }
+    ensures { OnOk result (string_bytes out.new ≡ string_bytes out.old
+        ++ text_of (optional spec.ufrag_line (option_map (λ creds. creds.ufrag) creds.now)
+        ++ optional spec.password_line (option_map (λ creds. creds.pass) creds.now))) }
 {
     if let Some(creds) = creds {
         put_ufrag(out, creds.ufrag.as_str())?;

@@ -76,7 +76,8 @@ fn put_video(out: &mut String, disabled: bool, rows: &[PayloadRow]) -> Result<()
 
 #[tactic(auto, unfolding(rtc_sdp_grammar::specs::LineTexts::media_line))]
 fn put_application(out: &mut String, disabled: bool, _rows: &[PayloadRow]) -> Result<(), AllocError>
-    ensures { OnOk result (string_bytes out.new ≡ string_bytes out.old ++ crlf (spec.media_line Application disabled (formats_of _rows.now))) }
+    ensures { OnOk result (string_bytes out.new ≡ string_bytes out.old
+        ++ crlf (spec.media_line Application disabled (formats_of _rows.now))) }
 {
     let port = port_word(disabled);
     write!(

@@ -40,7 +40,8 @@ fn put_stream(out: &mut String, msid: &Msid) -> Result<(), AllocError>
 
 /// The stream of a line that is not disabled.
 pub(crate) fn put_stream_if_shown(out: &mut String, line: &MediaLine) -> Result<(), AllocError>
-    ensures { OnOk result (string_bytes out.new ≡ string_bytes out.old ++ text_of (optional spec.stream_line (rows.shown_stream line.now))) }
+    ensures { OnOk result (string_bytes out.new ≡ string_bytes out.old
+        ++ text_of (optional spec.stream_line (rows.shown_stream line.now))) }
 {
     if line.disabled {
         return Ok(());
@@ -69,7 +70,8 @@ fn put_layers_one_way(
     direction: RidDirection,
     layers: &[SimulcastLayer],
 ) -> Result<(), AllocError>
-    ensures { OnOk result (string_bytes out.new ≡ string_bytes out.old ++ text_of (map spec.layer_line (map (rid_line direction) layers.now))) }
+    ensures { OnOk result (string_bytes out.new ≡ string_bytes out.old
+        ++ text_of (map spec.layer_line (map (rid_line direction) layers.now))) }
 {
     for layer in layers {
         put_layer(out, direction, layer)?;
@@ -101,7 +103,8 @@ pub(crate) fn put_simulcast_if_any(
     out: &mut String,
     simulcast: &Option<Simulcast>,
 ) -> Result<(), AllocError>
-    ensures { OnOk result (string_bytes out.new ≡ string_bytes out.old ++ text_of (map spec.layer_line (rows.layers_in simulcast.now) ++ optional spec.layer_list_line simulcast.now)) }
+    ensures { OnOk result (string_bytes out.new ≡ string_bytes out.old
+        ++ text_of (map spec.layer_line (rows.layers_in simulcast.now) ++ optional spec.layer_list_line simulcast.now)) }
 {
     if let Some(simulcast) = simulcast {
         put_layers(out, simulcast)?;

@@ -1,4 +1,4 @@
-//! The writer of session texts, and the law that a written text is read back.
+//! The writer of session descriptions, and the law that a written text is read back.
 #![tactic(auto)]
 
 mod connection_text;

@@ -21,7 +21,8 @@ fn put_codec(
     clock: u32,
     channels: u8,
 ) -> Result<(), AllocError>
-    ensures { OnOk result (string_bytes out.new ≡ string_bytes out.old ++ crlf (spec.codec_line (record { pt = pt; codec = codec.now; clock = clock; channels = channels }))) }
+    ensures { OnOk result (string_bytes out.new ≡ string_bytes out.old
+        ++ crlf (spec.codec_line (record { pt = pt; codec = codec.now; clock = clock; channels = channels }))) }
 {
     out.push_str("a=rtpmap:")?;
     put_rtpmap(out, pt, codec, clock, channels)?;
@@ -70,7 +71,8 @@ fn put_feedback(out: &mut String, kind: LineKind, pt: Pt) -> Result<(), AllocErr
 
 #[tactic(auto, unfolding(rtc_sdp_grammar::specs::MediaTexts::parameters_line, rtc_sdp_attributes::specs::FmtpValue::fmtp_text))]
 fn put_red_parameters(out: &mut String, red: Pt, primary: Pt) -> Result<(), AllocError>
-    ensures { OnOk result (string_bytes out.new ≡ string_bytes out.old ++ crlf (spec.parameters_line (fmtp_row (red_text primary.0) red.0))) }
+    ensures { OnOk result (string_bytes out.new ≡ string_bytes out.old
+        ++ crlf (spec.parameters_line (fmtp_row (red_text primary.0) red.0))) }
 {
     let number = red.0;
     write!(out, "a=fmtp:{number} ")?;
@@ -80,7 +82,8 @@ fn put_red_parameters(out: &mut String, red: Pt, primary: Pt) -> Result<(), Allo
 
 #[tactic(auto, unfolding(rtc_sdp_grammar::specs::MediaTexts::parameters_line, rtc_sdp_attributes::specs::FmtpValue::fmtp_text))]
 fn put_rtx_parameters(out: &mut String, rtx: Pt, primary: Pt) -> Result<(), AllocError>
-    ensures { OnOk result (string_bytes out.new ≡ string_bytes out.old ++ crlf (spec.parameters_line (fmtp_row (apt_text primary.0) rtx.0))) }
+    ensures { OnOk result (string_bytes out.new ≡ string_bytes out.old
+        ++ crlf (spec.parameters_line (fmtp_row (apt_text primary.0) rtx.0))) }
 {
     let number = rtx.0;
     write!(out, "a=fmtp:{number} ")?;

@@ -19,7 +19,8 @@ fn put_lite_if_so(out: &mut String, lite: bool) -> Result<(), AllocError>
     Ok(())
 }
 
-/// The text of a value (RFC 8866, section 5). Each value has one; what the session itself says of a connection, and what is None, are not written.
+/// The text of a value (RFC 8866, section 5). Each value has one; what the session itself says of a connection, and what is None,
+/// are not written.
 #[tactic(auto, unfolding(crate::specs::SessionRows::written_sdp))]
 pub fn write(sdp: &Sdp) -> Result<Text, AllocError>
     ensures { IfOk result (λ text. text ≡ spec.written_sdp sdp.now) }

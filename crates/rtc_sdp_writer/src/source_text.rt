@@ -21,7 +21,8 @@ fn put_name(out: &mut String, ssrc: Ssrc, cname: &str) -> Result<(), AllocError>
 }
 
 fn put_name_if_any(out: &mut String, ssrc: Ssrc, cname: &Option<Text>) -> Result<(), AllocError>
-    ensures { OnOk result (string_bytes out.new ≡ string_bytes out.old ++ text_of (optional (λ c. spec.source_line (rows.named ssrc.0 c)) cname.now)) }
+    ensures { OnOk result (string_bytes out.new ≡ string_bytes out.old
+        ++ text_of (optional (λ c. spec.source_line (rows.named ssrc.0 c)) cname.now)) }
 {
     if let Some(cname) = cname {
         put_name(out, ssrc, cname.as_str())?;
@@ -57,7 +58,8 @@ fn put_number(out: &mut String, ssrc: Ssrc, line: &MediaLine) -> Result<(), Allo
 }
 
 fn put_rtx_number(out: &mut String, rtx: Option<Ssrc>, line: &MediaLine) -> Result<(), AllocError>
-    ensures { OnOk result (string_bytes out.new ≡ string_bytes out.old ++ text_of (rows.rtx_number_lines line.now.cname line.now.msid rtx)) }
+    ensures { OnOk result (string_bytes out.new ≡ string_bytes out.old
+        ++ text_of (rows.rtx_number_lines line.now.cname line.now.msid rtx)) }
 {
     if let Some(rtx) = rtx {
         put_number(out, rtx, line)?;
@@ -83,7 +85,8 @@ fn put_all_sources(
     sources: &[(Ssrc, Option<Ssrc>)],
     line: &MediaLine,
 ) -> Result<(), AllocError>
-    ensures { OnOk result (string_bytes out.new ≡ string_bytes out.old ++ text_of (rows.all_source_lines line.now.cname line.now.msid sources.now)) }
+    ensures { OnOk result (string_bytes out.new ≡ string_bytes out.old
+        ++ text_of (rows.all_source_lines line.now.cname line.now.msid sources.now)) }
 {
     for source in sources {
         put_source(out, *source, line)?;
@@ -102,7 +105,8 @@ fn put_pair(out: &mut String, ssrc: Ssrc, rtx: Ssrc) -> Result<(), AllocError>
 }
 
 fn put_pair_if_any(out: &mut String, source: (Ssrc, Option<Ssrc>)) -> Result<(), AllocError>
-    ensures { OnOk result (string_bytes out.new ≡ string_bytes out.old ++ text_of (map spec.source_pair_line (source_pair source.0 source.1))) }
+    ensures { OnOk result (string_bytes out.new ≡ string_bytes out.old
+        ++ text_of (map spec.source_pair_line (source_pair source.0 source.1))) }
 {
     if let Some(rtx) = source.1 {
         put_pair(out, source.0, rtx)?;
@@ -122,7 +126,9 @@ fn put_pairs(out: &mut String, sources: &[(Ssrc, Option<Ssrc>)]) -> Result<(), A
 /// The sources of a line that is not disabled, then their pairs.
 #[tactic(auto, using(rtc_fields::proofs::LineLemmas::appends))]
 pub(crate) fn put_sources_if_shown(out: &mut String, line: &MediaLine) -> Result<(), AllocError>
-    ensures { OnOk result (string_bytes out.new ≡ string_bytes out.old ++ text_of (rows.all_source_lines line.now.cname line.now.msid (rows.shown_sources line.now) ++ map spec.source_pair_line (source_pairs (rows.shown_sources line.now)))) }
+    ensures { OnOk result (string_bytes out.new ≡ string_bytes out.old
+        ++ text_of (rows.all_source_lines line.now.cname line.now.msid (rows.shown_sources line.now)
+        ++ map spec.source_pair_line (source_pairs (rows.shown_sources line.now)))) }
 {
     if line.disabled {
         return Ok(());

@@ -8,6 +8,7 @@ use Rattle.rtc_wire.specs.declared.io_kind.IoKind.TheVariants.{InvalidData}
 use Rattle.rtc_wire.specs.declared.io_text.IoText.TheVariants.{EmptyDatagram, UnknownDatagram}
 use Rattle.rtc_wire.specs.declared.dcep_error.DcepError.TheVariants.{DcepOpenTooSmall, DcepIncorrectMessageType, DcepBadUtf8}
 use Rattle.rtc_wire.specs.declared.dcep_open.DcepOpen.{DcepOpen}
+use Rattle.rtc_wire.specs.declared.constants.TheConstants.{DATAGRAM_MAX_PACKET_SIZE, DATAGRAM_MTU_TARGET, DATAGRAM_MTU_TARGET_MAX, DATAGRAM_MTU_TARGET_MIN, DATAGRAM_MTU_WARN, DEFAULT_MAX_BUFFERED_AMOUNT, DEFAULT_REMOTE_MAX_MESSAGE_SIZE, LOCAL_MAX_MESSAGE_SIZE, MAX_DTLS_OVERHEAD, MAX_RTP_OVERHEAD, SCTP_OVERHEAD}
 use Rattle.rtc_wire.specs.MultiplexKind.{datagram_kind}
 use Rattle.rtc_wire.specs.ChannelConfig.{fresh, open_of}
 use Rattle.rtc_wire.specs.DcepOpen.{header_bytes, open_bytes, message_in, refusal_of}
@@ -70,3 +71,13 @@ label_is_not_text = refl
 -- 12 bytes of the 13
 pub cut_is_too_small : refusal_of (0x03 ∷ 0 ∷ 0 ∷ 0 ∷ 0 ∷ 0 ∷ 0 ∷ 0 ∷ 0 ∷ 1 ∷ 0 ∷ 0 ∷ []) ≡ Some DcepOpenTooSmall
 cut_is_too_small = refl
+
+-- the sizes of str0m 0.25.0, in bytes
+pub sizes_of_datagrams : DATAGRAM_MAX_PACKET_SIZE ∷ DATAGRAM_MTU_TARGET_MIN ∷ DATAGRAM_MTU_TARGET ∷ DATAGRAM_MTU_WARN ∷ DATAGRAM_MTU_TARGET_MAX ∷ [] ≡ 2000 ∷ 576 ∷ 1150 ∷ 1280 ∷ 1400 ∷ []
+sizes_of_datagrams = refl
+
+pub sizes_of_overheads : MAX_RTP_OVERHEAD ∷ MAX_DTLS_OVERHEAD ∷ SCTP_OVERHEAD ∷ [] ≡ 80 ∷ 48 ∷ 40 ∷ []
+sizes_of_overheads = refl
+
+pub sizes_of_messages : LOCAL_MAX_MESSAGE_SIZE ∷ DEFAULT_REMOTE_MAX_MESSAGE_SIZE ∷ DEFAULT_MAX_BUFFERED_AMOUNT ∷ [] ≡ 262144 ∷ 65536 ∷ 131072 ∷ []
+sizes_of_messages = refl

@@ -1,5 +1,6 @@
 -- The message that opens a data channel (RFC 8832, section 5.1): its bytes, and what is read of bytes.
-use Rattle.std.specs.Prelude.{ℕ, ◌≡◌, ◌+◌, ◌==◌, Bool, true, false, not, ◌&&◌, List, ◌∷◌, ◌++◌, length, slice_index, slice_range, nat_lt, bit_and, Option, Some, None, if◌then◌else◌}
+use Rattle.std.specs.Prelude.{ℕ, ◌≡◌, ◌+◌, ◌==◌, Bool, true, false, not, ◌&&◌, List, ◌∷◌, ◌++◌, length, slice_index, slice_range}
+use Rattle.std.specs.Prelude.{nat_lt, bit_and, Option, Some, None, if◌then◌else◌}
 use Rattle.std.specs.Int.{w16, w32, to_be_bytes, from_be_bytes}
 use Rattle.std.specs.Str.{is_utf8}
 use Rattle.rtc_wire.specs.declared.reliability_type.ReliabilityType.{ReliabilityType}

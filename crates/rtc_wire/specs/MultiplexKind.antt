@@ -9,27 +9,16 @@ use Rattle.rtc_wire.specs.declared.net_error.NetError.TheVariants.{Io}
 use Rattle.rtc_wire.specs.declared.io_kind.IoKind.TheVariants.{InvalidData}
 use Rattle.rtc_wire.specs.declared.io_text.IoText.TheVariants.{EmptyDatagram, UnknownDatagram}
 
--- the first byte is 0 or 1, and a STUN header of 20 bytes has room (RFC 8489, section 5)
-abbrev pub is_stun : List ℕ → Bool
-is_stun bytes = is_in_range 0 1 (slice_index bytes 0) && nat_le 20 (length bytes)
-
--- the first byte is 20 to 63
-abbrev pub is_dtls : List ℕ → Bool
-is_dtls bytes = is_in_range 20 63 (slice_index bytes 0)
-
--- the first byte is 128 to 191, and two more follow
-abbrev pub is_media : List ℕ → Bool
-is_media bytes = is_in_range 128 191 (slice_index bytes 0) && nat_le 3 (length bytes)
-
 -- the second byte, without its highest bit, is 64 to 95: a packet of RTCP and not of RTP
 abbrev pub is_control : ℕ → Bool
 is_control second = is_in_range 64 95 (bit_and second 0x7f)
 
--- the kind of a datagram, or why it has none
+-- the kind of a datagram, or why it has none: a STUN header has 20 bytes (RFC 8489, section 5), and RTP and RTCP say more in their
+-- second byte
 abbrev pub datagram_kind : List ℕ → Result MultiplexKind NetError
 datagram_kind [] = Err (Io InvalidData EmptyDatagram)
 datagram_kind (first ∷ rest) = let bytes = first ∷ rest in
-    if is_stun bytes then Ok Stun
-    else if is_dtls bytes then Ok Dtls
-    else if is_media bytes then (if is_control (slice_index bytes 1) then Ok Rtcp else Ok Rtp)
+    if is_in_range 0 1 first && nat_le 20 (length bytes) then Ok Stun
+    else if is_in_range 20 63 first then Ok Dtls
+    else if is_in_range 128 191 first && nat_le 3 (length bytes) then (if is_control (slice_index bytes 1) then Ok Rtcp else Ok Rtp)
     else Err (Io InvalidData UnknownDatagram)

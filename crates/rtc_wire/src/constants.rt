@@ -9,9 +9,9 @@ pub const MAX_RTP_OVERHEAD: usize = 80;
 pub const MAX_DTLS_OVERHEAD: usize = 48;
 /// What SCTP adds to a message.
 pub const SCTP_OVERHEAD: usize = 40;
-/// The largest message that this side takes.
+/// The largest message that this side accepts.
 pub const LOCAL_MAX_MESSAGE_SIZE: u32 = 262_144;
-/// The largest message that the other side takes where it does not say (RFC 8841, section 6.1).
+/// The largest message that the other side accepts where it announces none (RFC 8841, section 6.1).
 pub const DEFAULT_REMOTE_MAX_MESSAGE_SIZE: u32 = 65_536;
 /// How much may be buffered before writes are refused.
 pub const DEFAULT_MAX_BUFFERED_AMOUNT: usize = 131_072;
@@ -27,3 +27,8 @@ pub const DATAGRAM_MTU_TARGET_MIN: usize = 576;
 pub const DATAGRAM_MTU_TARGET_MAX: usize = 1400;
 /// The size above which a datagram is worth a warning.
 pub const DATAGRAM_MTU_WARN: usize = 1280;
+
+// A stream has ten seconds to open, and its opening is tried again each half second.
+const _: () = prove!(STREAM_OPEN_TIMEOUT.0 == 10 * 1_000_000_000);
+
+const _: () = prove!(STREAM_OPEN_RETRY_INTERVAL.0 == 500 * 1_000_000);

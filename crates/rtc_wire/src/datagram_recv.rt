@@ -17,7 +17,8 @@ pub enum DatagramRecv<'a> {
 impl<'a> DatagramRecv<'a> {
     /// The datagram of these bytes; one of the STUN kind has to pass the reader too.
     pub fn read<R: StunReader>(bytes: &'a [u8]) -> Result<DatagramRecv<'a>, NetError>
-        ensures kind { MatchResult result (λ datagram. kind_by R.stun bytes.now ≡ Ok (kind_said datagram)) (λ why. kind_by R.stun bytes.now ≡ Err why) }
+        ensures kind { MatchResult result (λ datagram. kind_by R.stun bytes.now ≡ Ok (kind_said datagram))
+            (λ why. kind_by R.stun bytes.now ≡ Err why) }
         ensures lent { IfOk result (λ datagram. bytes_lent datagram ≡ bytes.now) }
     {
         match MultiplexKind::read(bytes)? {

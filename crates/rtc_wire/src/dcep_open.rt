@@ -1,8 +1,10 @@
 //! DCEP open messages.
-ghost use Rattle.std.specs.Prelude.{◌≡◌, ◌+◌, ◌≤◌, ◌<◌, ◌^◌, ◌++◌, ℕ, List, length, drop, take, slice_range, IfOk, IfSome, IfNone, OnOk, IsErrOf, MatchResult, None, true, false};
+ghost use Rattle.std.specs.Prelude.{◌≡◌, ◌+◌, ◌≤◌, ◌<◌, ◌^◌, ◌++◌, ℕ, List, length, drop, take, slice_range, IfOk, IfSome, IfNone};
+ghost use Rattle.std.specs.Prelude.{OnOk, IsErrOf, MatchResult, None, true, false};
 ghost use Rattle.std.specs.Int.{w16, w32, from_be_bytes};
 ghost use Rattle.std.specs.Str.{is_utf8};
-ghost use Rattle.rtc_wire.specs.DcepOpen.{type_byte as TypeByte, type_in, is_unordered, header_bytes, open_bytes, message_in, refusal_of, ReadsAs};
+ghost use Rattle.rtc_wire.specs.DcepOpen.{type_byte as TypeByte, type_in, is_unordered, header_bytes, open_bytes, message_in};
+ghost use Rattle.rtc_wire.specs.DcepOpen.{refusal_of, ReadsAs};
 ghost use Rattle.rtc_wire.specs.ChannelConfig.{open_of, config_of};
 
 use crate::{ChannelConfig, DcepError, ReliabilityType, Text, TryCopy};
@@ -43,7 +45,8 @@ fn u32_at(bytes: &[u8], at: usize) -> u32
 }
 
 fn text_of(bytes: &[u8]) -> Result<&str, DcepError>
-    ensures { MatchResult result (λ text. (is_utf8 bytes.now ≡ true) × (text.now ≡ bytes.now)) (λ why. (is_utf8 bytes.now ≡ false) × (why ≡ DcepError.DcepBadUtf8)) }
+    ensures { MatchResult result (λ text. (is_utf8 bytes.now ≡ true) × (text.now ≡ bytes.now))
+        (λ why. (is_utf8 bytes.now ≡ false) × (why ≡ DcepError.DcepBadUtf8)) }
 {
     match str::from_utf8(bytes) {
         Ok(text) => Ok(text),

@@ -61,6 +61,3 @@ pub use stun_view::StunView;
 pub use text::Text;
 pub use transmit::Transmit;
 pub use try_copy::{TryCopy, copy_all};
-
-#[cfg(test)]
-mod tests;

@@ -21,7 +21,8 @@ impl<'a> Receive<'a> {
         destination: Addr,
         buf: &'a [u8],
     ) -> Result<Receive<'a>, NetError>
-        ensures kind { MatchResult result (λ made. kind_by R.stun buf.now ≡ Ok (kind_said made.contents)) (λ why. kind_by R.stun buf.now ≡ Err why) }
+        ensures kind { MatchResult result (λ made. kind_by R.stun buf.now ≡ Ok (kind_said made.contents))
+            (λ why. kind_by R.stun buf.now ≡ Err why) }
         ensures lent { IfOk result (λ made. bytes_lent made.contents ≡ buf.now) }
         ensures way { IfOk result (λ made. (made.proto ≡ proto) × (made.source ≡ source) × (made.destination ≡ destination)) }
     {
@@ -36,9 +37,11 @@ impl<'a> Receive<'a> {
 
     /// A datagram as it comes in where it was sent to.
     pub fn from_transmit<R: StunReader>(t: &'a Transmit) -> Result<Receive<'a>, NetError>
-        ensures kind { MatchResult result (λ made. kind_by R.stun t.now.contents ≡ Ok (kind_said made.contents)) (λ why. kind_by R.stun t.now.contents ≡ Err why) }
+        ensures kind { MatchResult result (λ made. kind_by R.stun t.now.contents ≡ Ok (kind_said made.contents))
+            (λ why. kind_by R.stun t.now.contents ≡ Err why) }
         ensures lent { IfOk result (λ made. bytes_lent made.contents ≡ t.now.contents) }
-        ensures way { IfOk result (λ made. (made.proto ≡ t.now.proto) × (made.source ≡ t.now.source) × (made.destination ≡ t.now.destination)) }
+        ensures way { IfOk result (λ made. (made.proto ≡ t.now.proto) × (made.source ≡ t.now.source)
+            × (made.destination ≡ t.now.destination)) }
     {
         Receive::new::<R>(t.proto, t.source, t.destination, t.contents.as_slice())
     }

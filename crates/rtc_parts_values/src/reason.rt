@@ -1,0 +1,21 @@
+//! Why a timeout is wanted.
+
+/// What a peer waits for: the deadline that is the least when a poll answers a timeout.
+#[derive(Clone, Copy, Debug, PartialEq, Eq, Hash, Default)]
+pub enum Reason {
+    /// Nothing is waited for.
+    #[default]
+    NotHappening,
+    DTLS,
+    Ice,
+    Sctp,
+    Channel,
+    Stats,
+    Feedback,
+    Nack,
+    Twcc,
+    PauseCheck,
+    SendStream,
+    Packetize,
+    ReceiveReorder,
+}

@@ -1,6 +1,0 @@
-use Rattle.std.proofs.Common.{◌≡◌, drop}
-use Rattle.rtc_sdp_values.specs.Sdp as spec
-use Rattle.rtc_sdp_values.proofs.consistency.is_mid_of.Given as goal
-
-abbrev pub invariant-loop-line : goal.invariant-loop-line
-invariant-loop-line l = spec.is_among l.name (spec.mids_of (drop l.line-index l.lines)) ≡ spec.is_among l.name (spec.mids_of l.lines)

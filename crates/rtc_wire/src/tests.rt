@@ -1,4 +1,0 @@
-mod constants;
-mod copies;
-mod datagrams;
-mod messages;
