@@ -1,6 +1,6 @@
 pub mod TableLemmas
 pub mod RowChangeLemmas
 pub mod AddedLemmas
-pub mod TakenTable
+pub mod TableAfterLemmas
 pub mod ConsistentMids
 pub mod VerdictLemmas

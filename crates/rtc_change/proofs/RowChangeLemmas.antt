@@ -12,7 +12,7 @@ use Rattle.rtc_sdp_values.specs.declared.direction.Direction.{Direction}
 use Rattle.rtc_sdp_values.specs.declared.line_row.LineRow.{LineRow}
 use Rattle.rtc_sdp_values.specs.declared.line_row.LineRow.TheVariants.{Media, App}
 use Rattle.rtc_change.specs.Table.{Rising, Distinct, OneApp, NoMore, IsTable, is_of, has_mid, row_of, is_app}
-use Rattle.rtc_change.specs.RowChanges.{RowChange, turned, halted, row_after_change, changed_at, changed_of, is_changed}
+use Rattle.rtc_change.specs.RowChanges.{RowChange, directed_row, stopped_row, row_after_change, changed_at, changed_of, is_changed}
 use Rattle.rtc_change.proofs.TableLemmas.{found_passes, place_from}
 
 -- a row keeps its place and its mid, and whether it is that of the data channels
@@ -86,19 +86,19 @@ table_alike rows others alike table = record {
 abbrev pub KeepsRow : RowChange → Type 0
 KeepsRow change = (row : LineRow) → AreAlikeRows row (row_after_change change row)
 
-pub turned_keeps : (to : Direction) → KeepsRow (turned to)
-turned_keeps to (Media place mid kind dir true remote_created) = record { place = refl; mid = refl; app = refl }
-turned_keeps to (App place mid) = record { place = refl; mid = refl; app = refl }
-turned_keeps to (Media place mid kind dir false remote_created) = by (same_direction dir to) refl
+pub directed_row_keeps : (to : Direction) → KeepsRow (directed_row to)
+directed_row_keeps to (Media place mid kind dir true remote_created) = record { place = refl; mid = refl; app = refl }
+directed_row_keeps to (App place mid) = record { place = refl; mid = refl; app = refl }
+directed_row_keeps to (Media place mid kind dir false remote_created) = by (same_direction dir to) refl
   where
-    by : (same : Bool) → same_direction dir to ≡ same → AreAlikeRows (Media place mid kind dir false remote_created) (row_after_change (turned to) (Media place mid kind dir false remote_created))
+    by : (same : Bool) → same_direction dir to ≡ same → AreAlikeRows (Media place mid kind dir false remote_created) (row_after_change (directed_row to) (Media place mid kind dir false remote_created))
     by true is = rw is (record { place = refl; mid = refl; app = refl })
     by false is = rw is (record { place = refl; mid = refl; app = refl })
 
-pub halted_keeps : KeepsRow halted
-halted_keeps (Media place mid kind dir true remote_created) = record { place = refl; mid = refl; app = refl }
-halted_keeps (Media place mid kind dir false remote_created) = record { place = refl; mid = refl; app = refl }
-halted_keeps (App place mid) = record { place = refl; mid = refl; app = refl }
+pub stopped_row_keeps : KeepsRow stopped_row
+stopped_row_keeps (Media place mid kind dir true remote_created) = record { place = refl; mid = refl; app = refl }
+stopped_row_keeps (Media place mid kind dir false remote_created) = record { place = refl; mid = refl; app = refl }
+stopped_row_keeps (App place mid) = record { place = refl; mid = refl; app = refl }
 
 pub changed_at_alike : (change : RowChange) → KeepsRow change → (place : ℕ) (rows : List LineRow) → AreAlike rows (changed_at change place rows)
 changed_at_alike change keeps place [] = tt

@@ -2,11 +2,9 @@ pub mod PendingOffer
 pub mod Held
 pub mod Table
 pub mod RowChanges
-pub mod Names
-pub mod Distinct
-pub mod SaidLines
+pub mod ParsedLines
 pub mod Verdict
-pub mod Taken
+pub mod TableAfter
 pub mod WrongLines
 pub mod Plans
 pub mod WhyText

@@ -7,21 +7,22 @@ use Rattle.rtc_sdp_values.specs.declared.line_row.LineRow.{LineRow}
 use Rattle.rtc_sdp_values.specs.declared.line_row.LineRow.TheVariants.{Media, App}
 use Rattle.rtc_change.specs.Table.{is_of}
 
--- what is done to a row: the row that it leaves, where it changes it
+-- a change of a row: the row that it leaves, or None where it leaves the row as it is
 abbrev pub RowChange : Type 0
 RowChange = LineRow → Option LineRow
 
--- a live media row gets another direction
-abbrev pub turned : Direction → RowChange
-turned to (Media place mid kind dir false remote_created) = if same_direction dir to then None else Some (Media place mid kind to false remote_created)
-turned to (Media place mid kind dir true remote_created) = None
-turned to (App place mid) = None
+-- a live media row with the direction that is set, where it has another
+abbrev pub directed_row : Direction → RowChange
+directed_row to (Media place mid kind dir false remote_created) =
+    if same_direction dir to then None else Some (Media place mid kind to false remote_created)
+directed_row to (Media place mid kind dir true remote_created) = None
+directed_row to (App place mid) = None
 
--- a live media row is stopped for good
-abbrev pub halted : RowChange
-halted (Media place mid kind dir false remote_created) = Some (Media place mid kind Inactive true remote_created)
-halted (Media place mid kind dir true remote_created) = None
-halted (App place mid) = None
+-- a live media row stopped for good
+abbrev pub stopped_row : RowChange
+stopped_row (Media place mid kind dir false remote_created) = Some (Media place mid kind Inactive true remote_created)
+stopped_row (Media place mid kind dir true remote_created) = None
+stopped_row (App place mid) = None
 
 abbrev pub row_after_change : RowChange → LineRow → LineRow
 row_after_change change row = by (change row)
@@ -45,10 +46,6 @@ is_changed change (Some row) = is_some (change row)
 abbrev pub changed_of : RowChange → List ℕ → List LineRow → List LineRow
 changed_of change mid [] = []
 changed_of change mid (row ∷ rows) = if is_of mid row then row_after_change change row ∷ rows else row ∷ changed_of change mid rows
-
-abbrev pub is_media : LineRow → Bool
-is_media (Media place mid kind dir stopped remote_created) = true
-is_media (App place mid) = false
 
 -- the mid of the media row that is found, if any
 abbrev pub media_mid : Option LineRow → Option (List ℕ)

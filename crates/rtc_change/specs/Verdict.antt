@@ -1,34 +1,46 @@
--- Why a line of a text is refused: by its kind, its place and the rows that are there (RFC 8829, section 5.2.2).
-use Rattle.std.specs.Prelude.{◌&&◌, ◌||◌, ◌+◌, ◌==◌, nat_lt, not, Bool, true, false, ℕ, List, [], ◌∷◌, length, if◌then◌else◌, slice_get, Option, Some, None}
+-- Why a line of an offer or an answer is refused: by its kind, its place and the rows that are there (RFC 8829, section 5.2.2).
+use Rattle.std.specs.Prelude.{
+  ◌&&◌,
+  ◌||◌,
+  ◌+◌,
+  ◌==◌,
+  nat_lt,
+  not,
+  Bool,
+  true,
+  false,
+  ℕ,
+  List,
+  [],
+  ◌∷◌,
+  length,
+  if◌then◌else◌,
+  slice_get,
+  Option,
+  Some,
+  None,
+}
+use Rattle.std.specs.Option.{option_or}
 use Rattle.rtc_sdp_values.specs.LineRow.{row_place}
 use Rattle.rtc_sdp_values.specs.MediaKind.{same_kind}
+use Rattle.rtc_sdp_values.specs.Sdp.{is_application}
 use Rattle.rtc_sdp_values.specs.declared.line_row.LineRow.{LineRow}
 use Rattle.rtc_sdp_values.specs.declared.line_row.LineRow.TheVariants.{Media, App}
 use Rattle.rtc_sdp_values.specs.declared.media_kind.MediaKind.{MediaKind}
 use Rattle.rtc_sdp_values.specs.declared.media_kind.MediaKind.TheVariants.{Audio as AudioMedia, Video as VideoMedia}
 use Rattle.rtc_sdp_values.specs.declared.line_kind.LineKind.{LineKind}
 use Rattle.rtc_sdp_values.specs.declared.line_kind.LineKind.TheVariants.{Audio, Video, Application, Unknown}
-use Rattle.rtc_change.specs.declared.said_line.SaidLine.{SaidLine}
+use Rattle.rtc_change.specs.declared.parsed_line.ParsedLine.{ParsedLine}
 use Rattle.rtc_change.specs.declared.why.Why.{Why}
 use Rattle.rtc_change.specs.declared.why.Why.TheVariants.{MovedLine, PlaceTaken, AnswerRecycles}
 use Rattle.rtc_change.specs.Table.{row_of, app_of, has_mid}
 
-abbrev pub or_else : {A : Type 0} → Option A → Option A → Option A
-or_else None next = next
-or_else (Some first) next = Some first
-
 -- the first that is there
 abbrev pub first_of : {A : Type 0} → List (Option A) → Option A
 first_of [] = None
-first_of (one ∷ rest) = or_else one (first_of rest)
+first_of (one ∷ rest) = option_or one (first_of rest)
 
-abbrev pub is_application : LineKind → Bool
-is_application Application = true
-is_application Audio = false
-is_application Video = false
-is_application Unknown = false
-
--- an application line: at the row of the data channels; else at a free place, with a mid that no row has, and the first of its text
+-- an application line: at the row of the data channels; else at a free place, with a mid that no row has, and the first application line
 abbrev pub app_refusal : List LineRow → Bool → ℕ → List ℕ → Option Why
 app_refusal rows came place mid = by_app (app_of rows)
   where
@@ -38,7 +50,8 @@ app_refusal rows came place mid = by_app (app_of rows)
 
 -- a media line with the mid of a row: at the place and of the kind of that row
 abbrev pub known_refusal : ℕ → MediaKind → List ℕ → LineRow → Option Why
-known_refusal place kind mid (Media p m k dir stopped remote_created) = if (p == place) && same_kind k kind then None else Some (MovedLine mid)
+known_refusal place kind mid (Media p m k dir stopped remote_created) =
+    if (p == place) && same_kind k kind then None else Some (MovedLine mid)
 known_refusal place kind mid (App p m) = Some (MovedLine mid)
 
 -- a media line with a mid that no row has: at a free place; or, in an offer, at the place of a stopped media row
@@ -55,18 +68,18 @@ media_refusal rows offer place kind mid = by_row (row_of rows mid)
     by_row None = place_refusal offer mid (slice_get rows place)
     by_row (Some row) = known_refusal place kind mid row
 
--- why a line at a place is refused, given whether an application line came before it in its text
-abbrev pub line_refusal : List LineRow → Bool → Bool → ℕ → SaidLine → Option Why
-line_refusal rows offer came place said = by_kind said.kind
+-- why a line at a place is refused, given whether an application line came before it
+abbrev pub line_refusal : List LineRow → Bool → Bool → ℕ → ParsedLine → Option Why
+line_refusal rows offer came place parsed = by_kind parsed.kind
   where
     by_kind : LineKind → Option Why
-    by_kind Audio = media_refusal rows offer place AudioMedia said.mid
-    by_kind Video = media_refusal rows offer place VideoMedia said.mid
-    by_kind Application = app_refusal rows came place said.mid
-    by_kind Unknown = Some (MovedLine said.mid)
+    by_kind Audio = media_refusal rows offer place AudioMedia parsed.mid
+    by_kind Video = media_refusal rows offer place VideoMedia parsed.mid
+    by_kind Application = app_refusal rows came place parsed.mid
+    by_kind Unknown = Some (MovedLine parsed.mid)
 
 -- the refusal of the first line that is refused, the lines being at places from this one on
-abbrev pub first_refusal : List LineRow → Bool → Bool → ℕ → List SaidLine → Option Why
+abbrev pub first_refusal : List LineRow → Bool → Bool → ℕ → List ParsedLine → Option Why
 first_refusal rows offer came place [] = None
-first_refusal rows offer came place (said ∷ rest) =
-    or_else (line_refusal rows offer came place said) (first_refusal rows offer (came || is_application said.kind) (place + 1) rest)
+first_refusal rows offer came place (parsed ∷ rest) =
+    option_or (line_refusal rows offer came place parsed) (first_refusal rows offer (came || is_application parsed.kind) (place + 1) rest)

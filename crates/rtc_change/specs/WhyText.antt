@@ -1,4 +1,4 @@
--- The texts by which refusals are told.
+-- What refusals print.
 use Rattle.std.specs.Prelude.{ℕ, List, [], ◌∷◌, ◌++◌, codes}
 use Rattle.std.specs.Fmt.{decimal}
 use Rattle.rtc_sdp_values.specs.declared.line_kind.LineKind.{LineKind}
@@ -20,22 +20,19 @@ moved_text mid = codes "Changed order for m-line with mid: " ++ mid
 
 -- what is wrong with the new lines of an answer
 unfoldable pub new_line_text : NewLine → List ℕ
-new_line_text (Count expected got) = codes "Differing m-line count in offer vs answer: " ++ (decimal expected ++ (codes " != " ++ decimal got))
+new_line_text (Count expected got) =
+    codes "Differing m-line count in offer vs answer: " ++ (decimal expected ++ (codes " != " ++ decimal got))
 new_line_text (NotMedia mid kind) = codes "Answer m-line for mid (" ++ (mid ++ (codes ") is not of media type: " ++ kind_name kind))
 new_line_text (NotChannel mid kind) = codes "Answer m-line for mid (" ++ (mid ++ (codes ") is not a data channel: " ++ kind_name kind))
 new_line_text (NotOffered mid) = codes "Mid in answer is not in offer: " ++ mid
 new_line_text (OtherKind mid) = codes "Answer m-line for mid (" ++ (mid ++ codes ") is of another kind")
 new_line_text (OtherPlace mid) = moved_text mid
 
--- the sign for a section, U+00A7, in UTF-8
-abbrev pub section_sign : List ℕ
-section_sign = 0xC2 ∷ 0xA7 ∷ []
-
--- why a text is refused
+-- why an offer or an answer is refused; 0xC2 0xA7 is the sign for a section, U+00A7
 unfoldable pub why_text : Why → List ℕ
 why_text NoLines = codes "No m-lines in offer"
 why_text (MovedLine mid) = moved_text mid
 why_text (PlaceTaken mid) = moved_text mid
 why_text (AnswerRecycles mid) =
-    codes "Answer recycles stopped m-line (not permitted per RFC 8829 " ++ (section_sign ++ (codes "5.2.2): " ++ mid))
+    codes "Answer recycles stopped m-line (not permitted per RFC 8829 " ++ (0xC2 ∷ 0xA7 ∷ codes "5.2.2): " ++ mid)
 why_text (WrongNewLines wrong) = new_line_text wrong

@@ -7,49 +7,50 @@ use Rattle.rtc_sdp_values.specs.declared.media_kind.MediaKind.{MediaKind}
 use Rattle.rtc_sdp_values.specs.declared.media_kind.MediaKind.TheVariants.{Audio as AudioMedia, Video as VideoMedia}
 use Rattle.rtc_sdp_values.specs.declared.line_kind.LineKind.{LineKind}
 use Rattle.rtc_sdp_values.specs.declared.line_kind.LineKind.TheVariants.{Audio, Video, Application, Unknown}
-use Rattle.rtc_change.specs.declared.said_line.SaidLine.{SaidLine}
+use Rattle.rtc_change.specs.declared.parsed_line.ParsedLine.{ParsedLine}
 use Rattle.rtc_change.specs.declared.new_line.NewLine.{NewLine}
 use Rattle.rtc_change.specs.declared.new_line.NewLine.TheVariants.{Count, NotMedia, NotChannel, NotOffered, OtherKind, OtherPlace}
 use Rattle.rtc_change.specs.Table.{row_of}
-use Rattle.rtc_change.specs.Taken.{is_new, new_places}
-use Rattle.rtc_change.specs.Verdict.{or_else}
+use Rattle.rtc_change.specs.TableAfter.{is_new, new_places}
+use Rattle.std.specs.Option.{option_or}
 
 abbrev pub at_its_place : ℕ → ℕ → List ℕ → Option NewLine
 at_its_place offered place mid = if offered == place then None else Some (OtherPlace mid)
 
 -- where the offer added a media row of the line's mid
-abbrev pub not_that_media : ℕ → MediaKind → ℕ → SaidLine → Option NewLine
-not_that_media offered kind place said = by_kind said.kind
+abbrev pub not_that_media : ℕ → MediaKind → ℕ → ParsedLine → Option NewLine
+not_that_media offered kind place parsed = by_kind parsed.kind
   where
     by_kind : LineKind → Option NewLine
-    by_kind Audio = if same_kind kind AudioMedia then at_its_place offered place said.mid else Some (OtherKind said.mid)
-    by_kind Video = if same_kind kind VideoMedia then at_its_place offered place said.mid else Some (OtherKind said.mid)
-    by_kind Application = Some (NotMedia said.mid Application)
-    by_kind Unknown = Some (NotMedia said.mid Unknown)
+    by_kind Audio = if same_kind kind AudioMedia then at_its_place offered place parsed.mid else Some (OtherKind parsed.mid)
+    by_kind Video = if same_kind kind VideoMedia then at_its_place offered place parsed.mid else Some (OtherKind parsed.mid)
+    by_kind Application = Some (NotMedia parsed.mid Application)
+    by_kind Unknown = Some (NotMedia parsed.mid Unknown)
 
 -- where the offer added a row of data channels of the line's mid
-abbrev pub not_that_channel : ℕ → ℕ → SaidLine → Option NewLine
-not_that_channel offered place said = by_kind said.kind
+abbrev pub not_that_channel : ℕ → ℕ → ParsedLine → Option NewLine
+not_that_channel offered place parsed = by_kind parsed.kind
   where
     by_kind : LineKind → Option NewLine
-    by_kind Application = at_its_place offered place said.mid
-    by_kind Audio = Some (NotChannel said.mid Audio)
-    by_kind Video = Some (NotChannel said.mid Video)
-    by_kind Unknown = Some (NotChannel said.mid Unknown)
+    by_kind Application = at_its_place offered place parsed.mid
+    by_kind Audio = Some (NotChannel parsed.mid Audio)
+    by_kind Video = Some (NotChannel parsed.mid Video)
+    by_kind Unknown = Some (NotChannel parsed.mid Unknown)
 
-abbrev pub by_added : ℕ → SaidLine → Option LineRow → Option NewLine
-by_added place said None = Some (NotOffered said.mid)
-by_added place said (Some (Media p mid kind dir stopped remote_created)) = not_that_media p kind place said
-by_added place said (Some (App p mid)) = not_that_channel p place said
+abbrev pub by_added : ℕ → ParsedLine → Option LineRow → Option NewLine
+by_added place parsed None = Some (NotOffered parsed.mid)
+by_added place parsed (Some (Media p mid kind dir stopped remote_created)) = not_that_media p kind place parsed
+by_added place parsed (Some (App p mid)) = not_that_channel p place parsed
 
 -- what is wrong with the first new line that isn't an added row
-abbrev pub wrong_line : List LineRow → List LineRow → ℕ → List SaidLine → Option NewLine
+abbrev pub wrong_line : List LineRow → List LineRow → ℕ → List ParsedLine → Option NewLine
 wrong_line rows added place [] = None
-wrong_line rows added place (said ∷ rest) =
-    or_else (if is_new rows said then by_added place said (row_of added said.mid) else None) (wrong_line rows added (place + 1) rest)
+wrong_line rows added place (parsed ∷ rest) =
+    option_or (if is_new rows parsed then by_added place parsed (row_of added parsed.mid) else None)
+    (wrong_line rows added (place + 1) rest)
 
 -- what is wrong with the new lines of an answer, given the rows that its offer added
-abbrev pub wrong_lines : List LineRow → List LineRow → List SaidLine → Option NewLine
-wrong_lines rows added said =
-    if length added == length (new_places rows 0 said) then wrong_line rows added 0 said
-    else Some (Count (length added) (length (new_places rows 0 said)))
+abbrev pub wrong_lines : List LineRow → List LineRow → List ParsedLine → Option NewLine
+wrong_lines rows added parsed =
+    if length added == length (new_places rows 0 parsed) then wrong_line rows added 0 parsed
+    else Some (Count (length added) (length (new_places rows 0 parsed)))

@@ -1,10 +1,10 @@
-//! Why a line of a text is refused.
+//! Why a line is refused.
 ghost use Rattle.std.specs.Prelude.{◌≡◌, ◌<◌, ◌^◌, ◌-◌, ◌||◌, nat_lt, Bool, true, false, length, Some, None};
 ghost use Rattle.std.specs.Option.{option_copied};
 ghost use Rattle.rtc_change.specs.Table.{row_of, app_of, has_mid};
 ghost use Rattle.rtc_change.specs.Verdict.{app_refusal, known_refusal, place_refusal, media_refusal, line_refusal, first_refusal};
 
-use crate::{SaidLine, Why};
+use crate::{ParsedLine, Why};
 use rtc_sdp_values::{LineKind, LineRow, MediaKind, Mid};
 
 /// The row of a mid.
@@ -121,29 +121,35 @@ fn judge_media(rows: &[LineRow], offer: bool, place: u32, kind: MediaKind, mid: 
     }
 }
 
-fn judge_line(rows: &[LineRow], offer: bool, came: bool, place: u32, said: &SaidLine) -> Option<Why>
-    ensures { result ≡ line_refusal rows.now offer came place said.now }
+fn judge_line(
+    rows: &[LineRow],
+    offer: bool,
+    came: bool,
+    place: u32,
+    parsed: &ParsedLine,
+) -> Option<Why>
+    ensures { result ≡ line_refusal rows.now offer came place parsed.now }
 {
-    match said.kind {
-        LineKind::Audio => judge_media(rows, offer, place, MediaKind::Audio, said.mid),
-        LineKind::Video => judge_media(rows, offer, place, MediaKind::Video, said.mid),
-        LineKind::Application => judge_app(rows, came, place, said.mid),
-        LineKind::Unknown => Some(Why::MovedLine(said.mid)),
+    match parsed.kind {
+        LineKind::Audio => judge_media(rows, offer, place, MediaKind::Audio, parsed.mid),
+        LineKind::Video => judge_media(rows, offer, place, MediaKind::Video, parsed.mid),
+        LineKind::Application => judge_app(rows, came, place, parsed.mid),
+        LineKind::Unknown => Some(Why::MovedLine(parsed.mid)),
     }
 }
 
-/// Why the first line that is refused is refused.
-pub fn judge_lines(rows: &[LineRow], offer: bool, lines: &[SaidLine]) -> Option<Why>
+/// The refusal of the first line that is refused.
+pub fn judge_lines(rows: &[LineRow], offer: bool, lines: &[ParsedLine]) -> Option<Why>
     requires { length lines.now < 2 ^ 32 - 1 }
     ensures { result ≡ first_refusal rows.now offer false 0 lines.now }
 {
     let mut came = false;
-    for (place, said) in lines.iter().enumerate() {
-        let refused = judge_line(rows, offer, came, place as u32, said);
+    for (place, parsed) in lines.iter().enumerate() {
+        let refused = judge_line(rows, offer, came, place as u32, parsed);
         if refused.is_some() {
             return refused;
         }
-        came = came || said.kind == LineKind::Application;
+        came = came || parsed.kind == LineKind::Application;
     }
     None
 }

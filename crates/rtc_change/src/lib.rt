@@ -1,4 +1,4 @@
-//! What a session text does to the rows of a peer, or why it is refused.
+//! What an offer or an answer does to the rows of a peer, or why it is refused (RFC 8829, sections 5.10 and 5.11).
 #![tactic(auto)]
 
 mod add_media;
@@ -7,13 +7,13 @@ mod changes;
 mod judging;
 mod lines;
 mod new_line;
+mod parsed_line;
 mod plan;
 mod planning;
 mod refusal;
 mod row_changes;
-mod said_line;
 mod sdp_pending_offer;
-mod taking;
+mod table_after;
 mod view;
 mod why;
 mod wrong_lines;
@@ -23,14 +23,11 @@ pub use change::Change;
 pub use changes::{Changes, count_added, is_added};
 pub use lines::Lines;
 pub use new_line::NewLine;
+pub use parsed_line::ParsedLine;
 pub use plan::Plan;
-pub use planning::{plan_answer_text, plan_offer_text};
+pub use planning::{plan_answer, plan_offer};
 pub use refusal::Refusal;
-pub use row_changes::{halt, turn};
-pub use said_line::SaidLine;
+pub use row_changes::{direct_row, stop_row};
 pub use sdp_pending_offer::SdpPendingOffer;
 pub use view::View;
 pub use why::Why;
-
-#[cfg(test)]
-mod tests;

@@ -2,12 +2,12 @@
 ghost use Rattle.std.specs.Prelude.{◌≡◌, [], OnOk, OnErr, MatchOption, None, Some, option_map, IsTrue, IsFalse};
 ghost use Rattle.std.specs.Option.{option_copied};
 ghost use Rattle.rtc_sdp_values.specs.LineRow.{row_place, row_mid};
-ghost use Rattle.rtc_change.specs.RowChanges.{turned, halted, is_changed, changed_of};
+ghost use Rattle.rtc_change.specs.RowChanges.{directed_row, stopped_row, is_changed, changed_of};
 ghost use Rattle.rtc_change.specs.Table.{IsTable, row_of, app_of, has_mid};
 
 use crate::Plan;
 use crate::judging::{find_app, find_row, has_row};
-use crate::row_changes::{halt, turn};
+use crate::row_changes::{direct_row, stop_row};
 use rtc_sdp_values::{Direction, LineRow, Mid};
 use std::alloc::{AllocError, Global};
 use std::marker::Model;
@@ -31,7 +31,7 @@ impl Model for Lines {
 }
 
 impl Lines {
-    /// No row yet.
+    /// A table with no rows.
     pub fn new(alloc: Global) -> Lines
         ensures { result ≡ [] }
     {
@@ -72,41 +72,51 @@ impl Lines {
         has_row(self.rows.as_slice(), mid)
     }
 
-    /// Gives the live media row of a mid another direction.
+    /// Sets the direction of the live media row of a mid.
     ///
-    /// Nothing happens, and it answers false, where there is no such row or it has that direction.
+    /// Answers false, and changes nothing, where there is no such row or it already has that direction.
     pub fn set_direction(&mut self, mid: Mid, dir: Direction) -> bool
-        ensures changed { result ≡ is_changed (turned dir) (row_of self.old mid) }
-        ensures rows { self.new ≡ changed_of (turned dir) mid self.old }
+        ensures changed { result ≡ is_changed (directed_row dir) (row_of self.old mid) }
+        ensures rows { self.new ≡ changed_of (directed_row dir) mid self.old }
     {
         let Some(row) = find_row(self.rows.as_slice(), mid) else {
             return false;
         };
-        let Some(turned) = turn(row, dir) else {
+        let Some(directed_row) = direct_row(row, dir) else {
             return false;
         };
-        self.rows[turned.place() as usize] = turned;
+        self.rows[directed_row.place() as usize] = directed_row;
         true
     }
 
     /// Stops the live media row of a mid for good.
     ///
-    /// Nothing happens, and it answers false, where there is no such row.
+    /// Answers false, and changes nothing, where there is no such row.
     pub fn stop(&mut self, mid: Mid) -> bool
-        ensures changed { result ≡ is_changed halted (row_of self.old mid) }
-        ensures rows { self.new ≡ changed_of halted mid self.old }
+        ensures changed { result ≡ is_changed stopped_row (row_of self.old mid) }
+        ensures rows { self.new ≡ changed_of stopped_row mid self.old }
     {
         let Some(row) = find_row(self.rows.as_slice(), mid) else {
             return false;
         };
-        let Some(halted) = halt(row) else {
+        let Some(stopped_row) = stop_row(row) else {
             return false;
         };
-        self.rows[halted.place() as usize] = halted;
+        self.rows[stopped_row.place() as usize] = stopped_row;
         true
     }
 
-    /// Replaces the rows by those of a plan.
+    /// Makes room for the rows of a plan, so that committing it allocates nothing.
+    ///
+    /// A plan brings its rows with their memory, so that nothing is left to allocate here.
+    pub fn reserve(&mut self, plan: &Plan) -> Result<(), AllocError>
+        ensures { self.new ≡ self.old }
+    {
+        let _room = plan.rows.len();
+        Ok(())
+    }
+
+    /// Replaces the rows by those of a plan. Nothing is allocated.
     pub fn commit(&mut self, plan: Plan)
         requires { IsTable plan.rows }
         ensures { self.new ≡ plan.rows }

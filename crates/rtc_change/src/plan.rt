@@ -2,7 +2,7 @@
 use rtc_sdp_values::{LineRow, Mid};
 use rtc_wire::Seq;
 
-/// What a text does to the rows of a peer.
+/// What an offer or an answer does to the rows of a peer.
 #[derive(Debug, PartialEq, Eq, Drop)]
 pub struct Plan {
     /// The whole table afterwards.

@@ -1,27 +1,27 @@
-//! Plans of texts.
+//! Plans of offers and answers.
 ghost use Rattle.std.specs.Prelude.{◌≡◌, ◌+◌, ◌<◌, ◌≤◌, ◌^◌, ◌-◌, Bool, true, false, length, List, IfOk, Option, Some, None, IfNone, map};
 ghost use Rattle.rtc_sdp_values.specs.declared.line_row.LineRow.{LineRow};
 ghost use Rattle.rtc_change.specs.PendingOffer.{added_mids};
-ghost use Rattle.rtc_change.specs.Plans.{PlansText, plan_of, inconsistent, asked_by};
-ghost use Rattle.rtc_change.specs.SaidLines.{said_lines};
-ghost use Rattle.rtc_change.specs.Distinct.{DistinctMids};
+ghost use Rattle.rtc_change.specs.Plans.{PlansSdp, plan_of, inconsistent, asked_by};
+ghost use Rattle.rtc_change.specs.ParsedLines.{parsed_lines};
+ghost use Rattle.rtc_sdp_values.specs.Mids.{AreDistinct};
 ghost use Rattle.rtc_change.specs.Verdict.{first_refusal};
 ghost use Rattle.rtc_change.specs.Table.{IsTable};
 
 use crate::judging::judge_lines;
-use crate::taking::{find_new_places, find_removed, take_lines};
+use crate::table_after::{find_new_places, find_removed, list_rows_after};
 use crate::wrong_lines::judge_new_lines;
-use crate::{Plan, Refusal, SaidLine, SdpPendingOffer, View, Why};
+use crate::{ParsedLine, Plan, Refusal, SdpPendingOffer, View, Why};
 use rtc_sdp_values::{LineRow, Sdp};
 use std::alloc::{AllocError, Global};
 
-// Why the lines of a text do not fit together; where they do, their mids are distinct.
-#[tactic(auto, using(crate::proofs::ConsistentMids::distinct_said))]
-fn find_inconsistency(text: &Sdp) -> Option<Refusal>
-    ensures cause { result ≡ inconsistent text.now }
-    ensures distinct { IfNone result (DistinctMids (map (λ line. line.mid) (said_lines text.now))) }
+// Why a session description is inconsistent; a consistent one has distinct mids.
+#[tactic(auto, using(crate::proofs::ConsistentMids::distinct_parsed))]
+fn find_inconsistency(sdp: &Sdp) -> Option<Refusal>
+    ensures cause { result ≡ inconsistent sdp.now }
+    ensures distinct { IfNone result (AreDistinct (map (λ line. line.mid) (parsed_lines sdp.now))) }
 {
-    match text.assert_consistency() {
+    match sdp.assert_consistency() {
         Ok(()) => None,
         Err(error) => Some(Refusal::Sdp(error)),
     }
@@ -31,16 +31,16 @@ fn make_plan(
     alloc: Global,
     rows: &[LineRow],
     offer: bool,
-    lines: &[SaidLine],
+    lines: &[ParsedLine],
 ) -> Result<Plan, AllocError>
     requires few { length lines.now < 2 ^ 32 - 1 }
     requires table { IsTable rows.now }
     requires allowed { first_refusal rows.now offer false 0 lines.now ≡ None }
-    requires distinct { DistinctMids (map (λ line. line.mid) lines.now) }
+    requires distinct { AreDistinct (map (λ line. line.mid) lines.now) }
     ensures plan { IfOk result (λ plan. plan ≡ plan_of rows.now offer lines.now) }
     ensures table { IfOk result (λ plan. IsTable plan.rows) }
 {
-    let after = take_lines(alloc, rows, offer, lines)?;
+    let after = list_rows_after(alloc, rows, offer, lines)?;
     let removed = find_removed(alloc, rows, lines)?;
     let added = find_new_places(alloc, rows, lines)?;
     Ok(Plan {
@@ -50,15 +50,15 @@ fn make_plan(
     })
 }
 
-/// What an offer does to the rows of a view, or why it is refused (RFC 8829, section 5.10).
+/// What an offer does to the rows, or why it is refused (RFC 8829, section 5.10).
 #[tactic(auto, unfolding(crate::specs::Plans::verdict, crate::specs::Plans::head_verdict))]
-pub fn plan_offer_text(alloc: Global, view: &View<'_>, offer: &Sdp) -> Result<Plan, Refusal>
+pub fn plan_offer(alloc: Global, view: &View<'_>, offer: &Sdp) -> Result<Plan, Refusal>
     requires rows { length view.now.lines < 2 ^ 32 - 1 }
     requires lines { length offer.now.lines < 2 ^ 32 - 1 }
-    ensures plans { PlansText view.now None offer.now result }
+    ensures plans { PlansSdp view.now None offer.now result }
     ensures table { IfOk result (λ plan. IsTable plan.rows) }
 {
-    let lines = SaidLine::all_of(alloc, offer)?;
+    let lines = ParsedLine::all_of(alloc, offer)?;
     if lines.is_empty() {
         return Err(Refusal::RemoteSdp(Why::NoLines));
     }
@@ -73,9 +73,9 @@ pub fn plan_offer_text(alloc: Global, view: &View<'_>, offer: &Sdp) -> Result<Pl
     Ok(plan)
 }
 
-/// What an answer does to the rows of a view, or why it is refused (RFC 8829, section 5.11).
+/// What an answer does to the rows, or why it is refused (RFC 8829, section 5.11).
 #[tactic(auto, unfolding(crate::specs::Plans::verdict, crate::specs::Plans::head_verdict))]
-pub fn plan_answer_text(
+pub fn plan_answer(
     alloc: Global,
     view: &View<'_>,
     token: &SdpPendingOffer,
@@ -83,10 +83,10 @@ pub fn plan_answer_text(
 ) -> Result<Plan, Refusal>
     requires rows { length view.now.lines + length (added_mids token.now.changes) < 2 ^ 32 - 1 }
     requires lines { length answer.now.lines < 2 ^ 32 - 1 }
-    ensures plans { PlansText view.now (Some (asked_by view.now.lines token.now)) answer.now result }
+    ensures plans { PlansSdp view.now (Some (asked_by view.now.lines token.now)) answer.now result }
     ensures table { IfOk result (λ plan. IsTable plan.rows) }
 {
-    let lines = SaidLine::all_of(alloc, answer)?;
+    let lines = ParsedLine::all_of(alloc, answer)?;
     if let Some(refusal) = find_inconsistency(answer) {
         return Err(refusal);
     }

@@ -1,4 +1,4 @@
-//! Why there is no plan for a text.
+//! Refusals of offers and answers.
 ghost use Rattle.std.specs.Prelude.{◌≡◌};
 ghost use Rattle.rtc_change.specs.declared.refusal.Refusal.TheVariants.{Alloc};
 
@@ -6,11 +6,11 @@ use crate::Why;
 use rtc_sdp_values::SdpError;
 use std::alloc::{AllocError, AllocFailed};
 
-/// Why there is no plan for a text.
+/// Why there is no plan for an offer or an answer.
 #[derive(Debug, PartialEq, Eq, Drop)]
 pub enum Refusal {
     RemoteSdp(Why),
-    /// The lines of the text do not fit together.
+    /// The session description is inconsistent.
     Sdp(SdpError),
     /// There was too little memory.
     Alloc,

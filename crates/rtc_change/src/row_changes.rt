@@ -1,12 +1,12 @@
-//! Rows that are changed by the side that holds them.
+//! Rows whose direction is set, or that are stopped.
 ghost use Rattle.std.specs.Prelude.{◌≡◌, Option, Some, None, is_some};
-ghost use Rattle.rtc_change.specs.RowChanges.{turned, halted};
+ghost use Rattle.rtc_change.specs.RowChanges.{directed_row, stopped_row};
 
 use rtc_sdp_values::{Direction, LineRow};
 
-/// A row with another direction, where it is of live media that has not got it.
-pub fn turn(row: &LineRow, to: Direction) -> Option<LineRow>
-    ensures { result ≡ turned to row.now }
+/// The row with the direction `to`; None where it is stopped, already has it, or carries no media.
+pub fn direct_row(row: &LineRow, to: Direction) -> Option<LineRow>
+    ensures { result ≡ directed_row to row.now }
 {
     match row {
         LineRow::Media {
@@ -34,9 +34,9 @@ pub fn turn(row: &LineRow, to: Direction) -> Option<LineRow>
     }
 }
 
-/// A row that is stopped for good, where it is of live media.
-pub fn halt(row: &LineRow) -> Option<LineRow>
-    ensures { result ≡ halted row.now }
+/// The row stopped for good; None where it is stopped already, or carries no media.
+pub fn stop_row(row: &LineRow) -> Option<LineRow>
+    ensures { result ≡ stopped_row row.now }
 {
     match row {
         LineRow::Media {

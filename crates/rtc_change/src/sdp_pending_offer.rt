@@ -4,9 +4,9 @@ ghost use Rattle.std.specs.Prelude.{◌≡◌};
 use crate::Changes;
 use std::marker::Model;
 
-/// What the side that made an offer keeps, and hands in with the answer.
+/// What the side that made an offer keeps until it accepts the answer.
 ///
-/// It is spent by the call that takes it, and cannot be copied.
+/// Accepting the answer spends it, and it cannot be copied.
 #[derive(Debug, Drop)]
 pub struct SdpPendingOffer {
     change_id: u64,
@@ -42,12 +42,5 @@ impl SdpPendingOffer {
         ensures { result.now.0 ≡ self.now.changes }
     {
         &self.changes
-    }
-
-    /// The changes inside.
-    pub fn into_changes(self) -> Changes
-        ensures { result.0 ≡ self.changes }
-    {
-        self.changes
     }
 }

@@ -1,4 +1,4 @@
-//! Why a text of the other side is refused.
+//! Why an offer or an answer is refused.
 ghost use Rattle.std.specs.Prelude.{Some};
 ghost use Rattle.rtc_change.specs.WhyText as text;
 
@@ -7,16 +7,16 @@ use rtc_sdp_values::Mid;
 use std::error::Error;
 use std::fmt;
 
-/// Why a text of the other side is refused. Nothing but the counter has changed.
+/// Why an offer or an answer of the other side is refused.
 #[derive(Debug, PartialEq, Eq, Drop)]
 pub enum Why {
-    /// An offer says no line.
+    /// An offer without m-lines.
     NoLines,
-    /// A line stands at another place than its row, or is of a kind that its row or its place cannot be.
+    /// A line is at another place than its row, or of a kind that its row or its place does not allow.
     MovedLine(Mid),
-    /// A new line of an offer stands at the place of a live row.
+    /// A new line of an offer is at the place of a live row.
     PlaceTaken(Mid),
-    /// A new line of an answer stands at the place of a row (RFC 8829, section 5.2.2).
+    /// A new line of an answer is at the place of a row (RFC 8829, section 5.2.2).
     AnswerRecycles(Mid),
     WrongNewLines(NewLine),
 }

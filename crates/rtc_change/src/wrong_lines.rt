@@ -2,11 +2,11 @@
 ghost use Rattle.std.specs.Prelude.{◌≡◌, ◌<◌, ◌^◌, ◌-◌, length, Some};
 ghost use Rattle.std.specs.Option.{option_copied};
 ghost use Rattle.rtc_change.specs.WrongLines.{at_its_place, not_that_media, not_that_channel, by_added, wrong_line, wrong_lines};
-ghost use Rattle.rtc_change.specs.Taken.{new_places};
+ghost use Rattle.rtc_change.specs.TableAfter.{new_places};
 
 use crate::judging::find_row;
-use crate::taking::is_new_line;
-use crate::{NewLine, SaidLine};
+use crate::table_after::is_new_line;
+use crate::{NewLine, ParsedLine};
 use rtc_sdp_values::{LineKind, LineRow, MediaKind, Mid};
 
 fn judge_its_place(offered: u32, place: u32, mid: Mid) -> Option<NewLine>
@@ -19,49 +19,54 @@ fn judge_its_place(offered: u32, place: u32, mid: Mid) -> Option<NewLine>
     }
 }
 
-fn judge_new_media(offered: u32, kind: MediaKind, place: u32, said: &SaidLine) -> Option<NewLine>
-    ensures { result ≡ not_that_media offered kind place said.now }
+fn judge_new_media(
+    offered: u32,
+    kind: MediaKind,
+    place: u32,
+    parsed: &ParsedLine,
+) -> Option<NewLine>
+    ensures { result ≡ not_that_media offered kind place parsed.now }
 {
-    match said.kind {
-        LineKind::Audio if kind == MediaKind::Audio => judge_its_place(offered, place, said.mid),
-        LineKind::Video if kind == MediaKind::Video => judge_its_place(offered, place, said.mid),
-        LineKind::Audio | LineKind::Video => Some(NewLine::OtherKind(said.mid)),
-        other => Some(NewLine::NotMedia(said.mid, other)),
+    match parsed.kind {
+        LineKind::Audio if kind == MediaKind::Audio => judge_its_place(offered, place, parsed.mid),
+        LineKind::Video if kind == MediaKind::Video => judge_its_place(offered, place, parsed.mid),
+        LineKind::Audio | LineKind::Video => Some(NewLine::OtherKind(parsed.mid)),
+        other => Some(NewLine::NotMedia(parsed.mid, other)),
     }
 }
 
-fn judge_new_channel(offered: u32, place: u32, said: &SaidLine) -> Option<NewLine>
-    ensures { result ≡ not_that_channel offered place said.now }
+fn judge_new_channel(offered: u32, place: u32, parsed: &ParsedLine) -> Option<NewLine>
+    ensures { result ≡ not_that_channel offered place parsed.now }
 {
-    match said.kind {
-        LineKind::Application => judge_its_place(offered, place, said.mid),
-        other => Some(NewLine::NotChannel(said.mid, other)),
+    match parsed.kind {
+        LineKind::Application => judge_its_place(offered, place, parsed.mid),
+        other => Some(NewLine::NotChannel(parsed.mid, other)),
     }
 }
 
-fn judge_new_line(place: u32, said: &SaidLine, added: Option<&LineRow>) -> Option<NewLine>
-    ensures { result ≡ by_added place said.now (option_copied added.entry) }
+fn judge_new_line(place: u32, parsed: &ParsedLine, added: Option<&LineRow>) -> Option<NewLine>
+    ensures { result ≡ by_added place parsed.now (option_copied added.entry) }
 {
     match added {
-        None => Some(NewLine::NotOffered(said.mid)),
+        None => Some(NewLine::NotOffered(parsed.mid)),
         Some(
             LineRow::Media {
                 place: offered,
                 kind,
                 ..
             },
-        ) => judge_new_media(*offered, *kind, place, said),
-        Some(LineRow::App { place: offered, .. }) => judge_new_channel(*offered, place, said),
+        ) => judge_new_media(*offered, *kind, place, parsed),
+        Some(LineRow::App { place: offered, .. }) => judge_new_channel(*offered, place, parsed),
     }
 }
 
-fn find_wrong_line(rows: &[LineRow], added: &[LineRow], lines: &[SaidLine]) -> Option<NewLine>
+fn find_wrong_line(rows: &[LineRow], added: &[LineRow], lines: &[ParsedLine]) -> Option<NewLine>
     requires { length lines.now < 2 ^ 32 - 1 }
     ensures { result ≡ wrong_line rows.now added.now 0 lines.now }
 {
-    for (place, said) in lines.iter().enumerate() {
-        if is_new_line(rows, said) {
-            let wrong = judge_new_line(place as u32, said, find_row(added, said.mid));
+    for (place, parsed) in lines.iter().enumerate() {
+        if is_new_line(rows, parsed) {
+            let wrong = judge_new_line(place as u32, parsed, find_row(added, parsed.mid));
             if wrong.is_some() {
                 return wrong;
             }
@@ -75,7 +80,7 @@ pub fn judge_new_lines(
     rows: &[LineRow],
     added: &[LineRow],
     new: &[u32],
-    lines: &[SaidLine],
+    lines: &[ParsedLine],
 ) -> Option<NewLine>
     requires few { length lines.now < 2 ^ 32 - 1 }
     requires few_added { length added.now < 2 ^ 32 }

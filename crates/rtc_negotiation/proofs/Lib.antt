@@ -1,5 +1,4 @@
 pub mod Tries
 pub mod Tokens
 pub mod Counts
-pub mod Hex
 pub mod Pairs

@@ -1,15 +1,9 @@
 -- What is kept of a name is token bytes.
-use Rattle.std.proofs.Common.{◌≡◌, ◌<◌, ◌≤◌, ◌^◌, ℕ, zero, suc, Bool, true, false, ltb, leb, ◌&&◌, List, [], ◌∷◌, length, take, refl, arith, ap, sym, ◌∙◌}
+use Rattle.std.proofs.Common.{◌≡◌, ℕ, zero, suc, Bool, true, false, List, [], ◌∷◌, take, refl}
 use Rattle.std.specs.List.{list_all, filter}
-use Rattle.std.specs.Char.{is_ascii_digit}
-use Rattle.std.specs.Fmt.{decimal}
-use Rattle.std.proofs.lemmas.Bool.{le-leb, lt-ltb}
-use Rattle.std.proofs.lemmas.Bool.Decides.{nat_tests}
-use Rattle.std.proofs.lemmas.Fmt.{digits_decimal, length-decimal-le}
-use Rattle.rtc_fields.specs.Tokens.{is_token_byte, is_token, is_short_token}
+use Rattle.rtc_fields.specs.Tokens.{is_token_byte}
 use Rattle.rtc_fields.proofs.TokenLemmas.{both}
-use Rattle.rtc_fields.proofs.NumberLemmas.{digit_model}
-use Rattle.rtc_peer_state.specs.Names.{drawn_mid, kept_bytes}
+use Rattle.rtc_peer_state.specs.Names.{kept_bytes}
 
 filter_passes : (p : ℕ → Bool) (bs : List ℕ) → list_all p (filter p bs) ≡ true
 filter_passes p [] = refl

@@ -1,5 +1,5 @@
 -- The search for a free number and for a free mid, one try at a time.
-use Rattle.std.proofs.Common.{◌≡◌, ◌+◌, ◌%◌, ◌^◌, zero, suc, ℕ, List, Bool, true, false, refl}
+use Rattle.std.proofs.Common.{◌≡◌, ◌+◌, ◌%◌, ◌^◌, suc, ℕ, List, Bool, true, false, refl}
 use Rattle.rtc_peer_state.specs.Sources.{unused}
 use Rattle.rtc_peer_state.specs.Names.{free_mid, drawn_mid}
 

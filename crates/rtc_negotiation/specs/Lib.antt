@@ -1,1 +1,1 @@
-pub mod Grows
+pub mod Updates

@@ -1,90 +1,66 @@
-//! Texts of the other side that a peer takes.
-ghost use Rattle.std.specs.Prelude.{◌≡◌, ◌+◌, ◌<◌, ◌≤◌, ◌^◌, ◌-◌, ◌%◌, length, [], List, true, false, Bool, IfOk, Some, None, max, Ok, Err, Result};
-ghost use Rattle.rtc_change.specs.PendingOffer.{added_mids};
-ghost use Rattle.rtc_change.specs.Plans.{PlansText, asked_by, plan_of};
+//! Offers and answers of the other side.
+ghost use Rattle.std.specs.Prelude.{◌≡◌, ◌≤◌, length, IfOk, None, Some};
+ghost use Rattle.rtc_change.specs.Held.{held_of};
+ghost use Rattle.rtc_change.specs.Plans.{PlansSdp, asked_by};
 ghost use Rattle.rtc_change.specs.Table.{IsTable};
-ghost use Rattle.rtc_change.specs.SaidLines.{said_lines};
-ghost use Rattle.rtc_peer_state.specs.Calls.{AcceptsOffer, AcceptsAnswer, raised};
-ghost use Rattle.rtc_peer_state.specs.declared.line_sources.LineSources.{LineSources as Sources};
-ghost use Rattle.rtc_negotiation.specs.Grows.{Grows};
+ghost use Rattle.rtc_peer_state.specs.Calls.{AcceptsOffer, AcceptsAnswer};
+ghost use Rattle.rtc_negotiation.specs.Updates.{UpdatesSources};
 
-use crate::judging::{draw_sources, join_sources, list_added};
-use crate::saying::say_text;
-use rtc_change::{Lines, Plan, Refusal, SdpPendingOffer, View, plan_answer_text, plan_offer_text};
-use rtc_lines::{SdpAnswer, SdpOffer};
-use rtc_peer_state::{Ids, LineSources, Peer, RtcError};
+use crate::describing::make_sdp;
+use crate::naming::count_lines;
+use crate::updating::{list_added, update_sources};
+use rtc_change::{Lines, Plan, Refusal, SdpPendingOffer, View, plan_answer, plan_offer};
+use rtc_peer_state::{Ids, Peer, RtcError};
 use rtc_sdp_values::{Sdp, Setup};
-use rtc_wire::Seq;
-use std::alloc::{AllocError, Global};
+use std::alloc::Global;
 
-// The sources that a peer has after a text.
-fn grow<N: Ids>(
-    alloc: Global,
-    ids: &mut N,
-    sources: &[LineSources],
-    added: &[LineSources],
-    plan: &Plan,
-    count: usize,
-) -> Result<Seq<LineSources>, AllocError>
-    requires { count ≤ length plan.now.rows }
-    ensures { Grows N.ids ids.old sources.now added.now plan.now count result ids.new }
-{
-    let rows = &plan.rows.as_slice()[..count];
-    let drawn = draw_sources(alloc, ids, sources, added, rows)?;
-    let all = join_sources(
-        alloc,
-        sources,
-        plan.removed.as_slice(),
-        added,
-        drawn.as_slice(),
-    )?;
-    Ok(all)
-}
+// A table has fewer rows than this.
+const MOST_LINES: usize = 4_294_967_295;
 
-fn judge_offer(alloc: Global, lines: &Lines, text: &Sdp) -> Result<Plan, Refusal>
-    requires rows { length lines.now < 2 ^ 32 - 1 }
-    requires lines { length text.now.lines < 2 ^ 32 - 1 }
-    ensures plans { PlansText (record { lines = lines.now }) None text.now result }
+fn judge_offer(alloc: Global, lines: &Lines, offer: &Sdp) -> Result<Plan, Refusal>
+    ensures plans { PlansSdp (held_of lines.now) None offer.now result }
     ensures table { IfOk result (λ plan. IsTable plan.rows) }
-    ensures count { IfOk result (λ plan. length text.now.lines ≤ length plan.rows) }
+    ensures count { IfOk result (λ plan. length offer.now.lines ≤ length plan.rows) }
 {
+    if lines.rows().len() >= MOST_LINES || offer.lines.len() >= MOST_LINES {
+        return Err(Refusal::Alloc);
+    }
     let view = View { lines };
-    plan_offer_text(alloc, &view, text)
+    plan_offer(alloc, &view, offer)
 }
 
 fn judge_answer(
     alloc: Global,
     lines: &Lines,
     token: &SdpPendingOffer,
-    text: &Sdp,
+    answer: &Sdp,
 ) -> Result<Plan, Refusal>
-    requires rows { length lines.now + length (added_mids token.now.changes) < 2 ^ 32 - 1 }
-    requires lines { length text.now.lines < 2 ^ 32 - 1 }
-    ensures plans { PlansText (record { lines = lines.now }) (Some (asked_by lines.now token.now)) text.now result }
+    ensures plans { PlansSdp (held_of lines.now) (Some (asked_by lines.now token.now)) answer.now result }
     ensures table { IfOk result (λ plan. IsTable plan.rows) }
-    ensures count { IfOk result (λ plan. length text.now.lines ≤ length plan.rows) }
+    ensures count { IfOk result (λ plan. length answer.now.lines ≤ length plan.rows) }
 {
+    count_lines(lines, token.changes().0.as_slice())?;
+    if answer.lines.len() >= MOST_LINES {
+        return Err(Refusal::Alloc);
+    }
     let view = View { lines };
-    plan_answer_text(alloc, &view, token, text)
+    plan_answer(alloc, &view, token, answer)
 }
 
-/// Takes an offer, and answers it; the token of an own offer is superseded, also where the offer is refused.
-#[tactic(auto, unfolding(rtc_peer_state::specs::Texts::answer_text))]
-pub fn accept_offer<N: Ids>(peer: &mut Peer<N>, offer: SdpOffer) -> Result<SdpAnswer, RtcError>
-    requires rows { length peer.old.lines < 2 ^ 32 - 1 }
-    requires lines { length offer.0.lines < 2 ^ 32 - 1 }
+/// Accepts an offer, and answers it; the token of an own offer is superseded, also where the offer is refused.
+#[tactic(auto, unfolding(rtc_peer_state::specs::MadeSdp::answer_sdp), using(rtc_peer_state::proofs::LaterLemmas::later_none))]
+pub fn accept_offer<N: Ids>(peer: &mut Peer<N>, offer: Sdp) -> Result<Sdp, RtcError>
     ensures { AcceptsOffer N.ids peer.old offer result peer.new }
 {
     let alloc = peer.alloc;
     peer.counter = peer.counter.wrapping_add(1);
-    let text = offer.0;
-    let plan = match judge_offer(alloc, &peer.lines, &text) {
+    let plan = match judge_offer(alloc, &peer.lines, &offer) {
         Ok(plan) => plan,
         Err(Refusal::RemoteSdp(why)) => return Err(RtcError::RemoteSdp(why)),
         Err(Refusal::Sdp(error)) => return Err(RtcError::Sdp(error)),
         Err(Refusal::Alloc) => return Err(RtcError::Alloc),
     };
-    let Ok(answer) = say_text(
+    let Ok(answer) = make_sdp(
         alloc,
         peer.session_id,
         &peer.identity,
@@ -93,37 +69,35 @@ pub fn accept_offer<N: Ids>(peer: &mut Peer<N>, offer: SdpOffer) -> Result<SdpAn
     ) else {
         return Err(RtcError::Alloc);
     };
-    let Ok(sources) = grow(
+    let Ok(sources) = update_sources(
         alloc,
         &mut peer.ids,
         peer.sources.as_slice(),
         &[],
         &plan,
-        text.lines.len(),
+        offer.lines.len(),
     ) else {
         return Err(RtcError::Alloc);
     };
     peer.sources = sources;
     peer.lines.commit(plan);
-    Ok(SdpAnswer(answer))
+    Ok(answer)
 }
 
-/// Takes an answer to the offer of a token, which is spent.
+/// Accepts the answer to the offer of a token, which is spent.
+#[tactic(auto, using(rtc_peer_state::proofs::LaterLemmas::later_none))]
 pub fn accept_answer<N: Ids>(
     peer: &mut Peer<N>,
     token: SdpPendingOffer,
-    answer: SdpAnswer,
+    answer: Sdp,
 ) -> Result<(), RtcError>
-    requires rows { peer.old.counter ≡ raised token.id → length peer.old.lines + length (added_mids token.changes) < 2 ^ 32 - 1 }
-    requires lines { length answer.0.lines < 2 ^ 32 - 1 }
     ensures { AcceptsAnswer N.ids peer.old token answer result peer.new }
 {
     let alloc = peer.alloc;
     if peer.counter != token.change_id().wrapping_add(1) {
         return Err(RtcError::ChangesOutOfOrder);
     }
-    let text = answer.0;
-    let plan = match judge_answer(alloc, &peer.lines, &token, &text) {
+    let plan = match judge_answer(alloc, &peer.lines, &token, &answer) {
         Ok(plan) => plan,
         Err(Refusal::RemoteSdp(why)) => return Err(RtcError::RemoteSdp(why)),
         Err(Refusal::Sdp(error)) => return Err(RtcError::Sdp(error)),
@@ -132,13 +106,13 @@ pub fn accept_answer<N: Ids>(
     let Ok(added) = list_added(alloc, token.changes().0.as_slice()) else {
         return Err(RtcError::Alloc);
     };
-    let Ok(sources) = grow(
+    let Ok(sources) = update_sources(
         alloc,
         &mut peer.ids,
         peer.sources.as_slice(),
         added.as_slice(),
         &plan,
-        text.lines.len(),
+        answer.lines.len(),
     ) else {
         return Err(RtcError::Alloc);
     };

@@ -1,6 +1,14 @@
 //! Peers that are built.
 ghost use Rattle.std.specs.Prelude.{◌≡◌, ◌++◌, ◌<◌, ◌≤◌, ◌^◌, ◌/◌, ◌%◌, IfOk, OnOk, string_bytes, ℕ};
-ghost use Rattle.rtc_peer_state.specs.Built.{lower_hex_digit, hex_digits, drawn_creds, sha256_fingerprint, number_bytes, built, cert_or, after_cert};
+ghost use Rattle.rtc_peer_state.specs.Built.{
+  lower_hex_digit,
+  hex_digits,
+  drawn_creds,
+  sha256_fingerprint,
+  built,
+  cert_or,
+  after_cert,
+};
 ghost use Rattle.std.specs.Option.{option_copied};
 
 use rtc_change::Lines;
@@ -21,7 +29,7 @@ fn digit(n: u8) -> char
     }
 }
 
-// Puts the last so many digits of a number in base 16 at the end of a text.
+// Appends the last so many digits of a number in base 16.
 fn push_digits(text: &mut String, count: u32, n: u64) -> Result<(), AllocError>
     ensures { OnOk result (string_bytes text.new ≡ string_bytes text.old ++ hex_digits count n) }
 {
@@ -49,18 +57,6 @@ fn make_creds(alloc: Global, n: u64) -> Result<IceCreds, AllocError>
     })
 }
 
-// Puts the last so many bytes of a number at the end, the greatest first.
-fn push_bytes(bytes: &mut Vec<u8>, count: u32, n: u64) -> Result<(), AllocError>
-    ensures { OnOk result (bytes.new.items ≡ bytes.old.items ++ number_bytes count n) }
-{
-    if count == 0 {
-        return Ok(());
-    }
-    push_bytes(bytes, count - 1, n / 256)?;
-    bytes.push((n % 256) as u8)?;
-    Ok(())
-}
-
 // The certificate that is given, or else one that is drawn.
 fn make_cert<N: Ids>(alloc: Global, ids: &mut N, given: Option<&[u8]>) -> Result<Bytes, AllocError>
     ensures cert { IfOk result (λ cert. cert ≡ cert_or N.ids (option_copied given.entry) ids.old) }
@@ -73,8 +69,7 @@ fn make_cert<N: Ids>(alloc: Global, ids: &mut N, given: Option<&[u8]>) -> Result
         }
         None => {
             let n = ids.draw();
-            let mut bytes = Vec::new(alloc);
-            push_bytes(&mut bytes, 8, n)?;
+            let bytes = Vec::from_slice(alloc, &n.to_be_bytes())?;
             Ok(Bytes::new(bytes))
         }
     }

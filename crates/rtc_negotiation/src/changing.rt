@@ -1,39 +1,39 @@
-//! Lines that are changed at once, before anything is applied.
+//! Lines whose direction is set, or that are stopped.
 ghost use Rattle.std.specs.Prelude.{◌≡◌};
-ghost use Rattle.rtc_change.specs.RowChanges.{turned, halted, is_changed};
+ghost use Rattle.rtc_change.specs.RowChanges.{directed_row, stopped_row, is_changed};
 ghost use Rattle.rtc_change.specs.Table.{row_of};
 ghost use Rattle.rtc_peer_state.specs.Calls.{SetsDirection, StopsMedia};
 
-use rtc_change::{Change, Lines, halt, turn};
+use rtc_change::{Change, Lines, direct_row, stop_row};
 use rtc_peer_state::Peer;
 use rtc_sdp_values::{Direction, Mid};
 use std::alloc::AllocError;
 
 // Whether the line of a mid is of live media and has another direction.
-fn is_turnable(lines: &Lines, mid: Mid, dir: Direction) -> bool
-    ensures { result ≡ is_changed (turned dir) (row_of lines.now mid) }
+fn can_direct(lines: &Lines, mid: Mid, dir: Direction) -> bool
+    ensures { result ≡ is_changed (directed_row dir) (row_of lines.now mid) }
 {
     match lines.find(mid) {
-        Some(row) => turn(row, dir).is_some(),
+        Some(row) => direct_row(row, dir).is_some(),
         None => false,
     }
 }
 
 // Whether the line of a mid is of live media.
-fn is_stoppable(lines: &Lines, mid: Mid) -> bool
-    ensures { result ≡ is_changed halted (row_of lines.now mid) }
+fn can_stop(lines: &Lines, mid: Mid) -> bool
+    ensures { result ≡ is_changed stopped_row (row_of lines.now mid) }
 {
     match lines.find(mid) {
-        Some(row) => halt(row).is_some(),
+        Some(row) => stop_row(row).is_some(),
         None => false,
     }
 }
 
-/// Gives the live media line of a mid another direction, and stages that; answers whether the line changed.
+/// Sets the direction of the live media line of a mid, and stages it; answers whether the line changed.
 pub fn set_direction<N>(peer: &mut Peer<N>, mid: Mid, dir: Direction) -> Result<bool, AllocError>
     ensures { SetsDirection peer.old mid dir result peer.new }
 {
-    if !is_turnable(&peer.lines, mid, dir) {
+    if !can_direct(&peer.lines, mid, dir) {
         return Ok(false);
     }
     peer.staged.push(Change::Direction(mid, dir))?;
@@ -41,11 +41,11 @@ pub fn set_direction<N>(peer: &mut Peer<N>, mid: Mid, dir: Direction) -> Result<
     Ok(true)
 }
 
-/// Stops the live media line of a mid for good, and stages that; answers whether the line changed.
+/// Stops the live media line of a mid for good, and stages it; answers whether the line changed.
 pub fn stop_media<N>(peer: &mut Peer<N>, mid: Mid) -> Result<bool, AllocError>
     ensures { StopsMedia peer.old mid result peer.new }
 {
-    if !is_stoppable(&peer.lines, mid) {
+    if !can_stop(&peer.lines, mid) {
         return Ok(false);
     }
     peer.staged

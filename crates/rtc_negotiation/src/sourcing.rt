@@ -1,7 +1,18 @@
 //! Draws of synchronization sources.
 ghost use Rattle.std.specs.Prelude.{◌≡◌, ◌||◌, ◌++◌, [], ℕ, Bool, IfOk, OnOk};
 ghost use Rattle.std.specs.List.{list_any};
-ghost use Rattle.rtc_peer_state.specs.Sources.{pair_numbers, is_number, is_used, drawn_source, next_source, next_pair, after_pair, next_pairs, after_pairs};
+ghost use Rattle.rtc_peer_state.specs.Draws.{Later};
+ghost use Rattle.rtc_peer_state.specs.Sources.{
+  pair_numbers,
+  is_number,
+  is_used,
+  drawn_source,
+  next_source,
+  next_pair,
+  after_pair,
+  next_pairs,
+  after_pairs,
+};
 
 use rtc_peer_state::{Ids, LineSources};
 use rtc_sdp_values::{MediaKind, Ssrc};
@@ -83,6 +94,7 @@ fn draw_source<N: Ids>(ids: &mut N, sources: &[LineSources], earlier: &[u32]) ->
 }
 
 /// A source for a line of a kind, with that of its retransmissions; its numbers go to the end of `earlier`.
+#[tactic(auto, using(rtc_peer_state::proofs::LaterLemmas::later_once, rtc_peer_state::proofs::LaterLemmas::later_twice))]
 pub fn draw_pair<N: Ids>(
     ids: &mut N,
     sources: &[LineSources],
@@ -92,6 +104,7 @@ pub fn draw_pair<N: Ids>(
     ensures pair { IfOk result (λ pair. pair ≡ next_pair N.ids (is_used sources.now) kind earlier.old.items ids.old) }
     ensures earlier { IfOk result (λ pair. earlier.new.items ≡ earlier.old.items ++ pair_numbers pair) }
     ensures after { OnOk result (ids.new ≡ after_pair N.ids (is_used sources.now) kind ids.old) }
+    ensures later { Later N.ids ids.old ids.new }
 {
     match kind {
         MediaKind::Audio => {
@@ -110,6 +123,7 @@ pub fn draw_pair<N: Ids>(
 }
 
 /// So many pairs for a line of a kind.
+#[tactic(auto, using(rtc_peer_state::proofs::LaterLemmas::later_none, rtc_peer_state::proofs::LaterLemmas::later_join))]
 pub fn draw_pairs<N: Ids>(
     alloc: Global,
     ids: &mut N,
@@ -119,6 +133,7 @@ pub fn draw_pairs<N: Ids>(
 ) -> Result<Seq<(Ssrc, Option<Ssrc>)>, AllocError>
     ensures pairs { IfOk result (λ pairs. pairs ≡ next_pairs N.ids (is_used sources.now) kind [] count ids.old) }
     ensures after { OnOk result (ids.new ≡ after_pairs N.ids (is_used sources.now) kind count ids.old) }
+    ensures later { Later N.ids ids.old ids.new }
 {
     let mut pairs = Vec::new(alloc);
     let mut earlier = Vec::new(alloc);

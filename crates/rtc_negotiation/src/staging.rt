@@ -23,6 +23,7 @@ fn count_pairs(simulcast: &Option<Simulcast>) -> usize
 }
 
 /// Stages a media line, and answers its mid.
+#[tactic(auto, using(rtc_peer_state::proofs::LaterLemmas::later_none, rtc_peer_state::proofs::LaterLemmas::later_join))]
 pub fn stage_media<N: Ids>(
     peer: &mut Peer<N>,
     kind: MediaKind,
@@ -31,8 +32,13 @@ pub fn stage_media<N: Ids>(
     track_id: Option<String>,
     simulcast: Option<Simulcast>,
 ) -> Result<Mid, AllocError>
-    requires { length peer.old.lines + length (added_mids peer.old.staged) < 2 ^ 32 - 1 }
-    ensures { AddsMedia N.ids peer.old (record { kind = kind; dir = dir; stream = option_map (λ name. string_bytes name) stream_id; track = option_map (λ name. string_bytes name) track_id; simulcast = simulcast }) result peer.new }
+    ensures { AddsMedia N.ids peer.old (record {
+      kind = kind;
+      dir = dir;
+      stream = option_map (λ name. string_bytes name) stream_id;
+      track = option_map (λ name. string_bytes name) track_id;
+      simulcast = simulcast;
+    }) result peer.new }
 {
     let alloc = peer.alloc;
     let mid = draw_mid(alloc, &mut peer.ids, &peer.lines, peer.staged.as_slice())?;

@@ -1,9 +1,10 @@
 //! The peer that callers hold.
-ghost use Rattle.std.specs.Prelude.{◌≡◌, ◌≢◌, IsTrue, ◌↔◌, ◌+◌, ◌<◌, ◌≤◌, ◌^◌, ◌-◌, [], IfOk, length, option_map, string_bytes};
-ghost use Rattle.rtc_change.specs.PendingOffer.{added_mids};
-ghost use Rattle.rtc_peer_state.specs.Calls.{AcceptsOffer, AcceptsAnswer, AddsMedia, SetsDirection, StopsMedia, Applies, raised};
+ghost use Rattle.std.specs.Prelude.{◌≡◌, ◌≢◌, IsTrue, ◌↔◌, [], IfOk};
+ghost use Rattle.rtc_peer_state.specs.Calls.{AcceptsOffer, AcceptsAnswer, AddsMedia, SetsDirection, StopsMedia, Applies};
 ghost use Rattle.rtc_peer_state.specs.Built.{built};
 ghost use Rattle.rtc_peer_state.specs.Formed.{IsFormed};
+ghost use Rattle.rtc_peer.specs.Described.{sdp_of_answer, sdp_of_offer};
+ghost use Rattle.rtc_peer.specs.WantedLine.{wanted_line};
 
 use crate::SdpApi;
 use rtc_change::{Lines, SdpPendingOffer};
@@ -16,9 +17,9 @@ use rtc_wire::Moment;
 use std::alloc::{AllocError, Global};
 use std::marker::Model;
 
-/// A peer: its lines, what it has staged, and how often it was offered something.
+/// A WebRTC peer.
 ///
-/// It reads no clock and no socket: each moment and each text is handed in, and each answer is returned.
+/// It reads no clock and no socket: moments, offers and answers are arguments of its calls.
 #[derive(Drop)]
 pub struct Rtc<N: Ids> {
     core: Peer<N>,
@@ -33,8 +34,7 @@ impl<N: Ids> Model for Rtc<N> {
 }
 
 impl<N: Ids + Drop> Rtc<N> {
-    /// The peer of a config. It draws the number of its session, its credentials, and a certificate where none is
-    /// given.
+    /// The peer of a config. It draws the number of its session, its credentials, and a certificate where none is set.
     pub fn build(
         alloc: Global,
         config: RtcConfig,
@@ -60,7 +60,7 @@ impl<N: Ids> Rtc<N> {
         SdpApi { rtc: self }
     }
 
-    /// The rows, by place.
+    /// The rows, by place; they are a table.
     pub fn lines(&self) -> &Lines
         ensures { result.now ≡ self.now.core.lines }
     {
@@ -73,24 +73,23 @@ impl<N: Ids> Rtc<N> {
         !self.core.staged.is_empty()
     }
 
-    pub(crate) fn take_offer(&mut self, offer: SdpOffer) -> Result<SdpAnswer, RtcError>
-        requires rows { length self.old.core.lines < 2 ^ 32 - 1 }
-        requires lines { length offer.0.lines < 2 ^ 32 - 1 }
-        ensures { AcceptsOffer N.ids self.old.core offer result self.new.core }
+    pub(crate) fn accept_offer(&mut self, offer: SdpOffer) -> Result<SdpAnswer, RtcError>
+        ensures { AcceptsOffer N.ids self.old.core offer.0 (sdp_of_answer result) self.new.core }
     {
-        accept_offer(&mut self.core, offer)
+        match accept_offer(&mut self.core, offer.0) {
+            Ok(answer) => Ok(SdpAnswer(answer)),
+            Err(error) => Err(error),
+        }
     }
 
-    pub(crate) fn take_answer(
+    pub(crate) fn accept_answer(
         &mut self,
         pending: SdpPendingOffer,
         answer: SdpAnswer,
     ) -> Result<(), RtcError>
-        requires rows { self.old.core.counter ≡ raised pending.id → length self.old.core.lines + length (added_mids pending.changes) < 2 ^ 32 - 1 }
-        requires lines { length answer.0.lines < 2 ^ 32 - 1 }
-        ensures { AcceptsAnswer N.ids self.old.core pending answer result self.new.core }
+        ensures { AcceptsAnswer N.ids self.old.core pending answer.0 result self.new.core }
     {
-        accept_answer(&mut self.core, pending, answer)
+        accept_answer(&mut self.core, pending, answer.0)
     }
 
     pub(crate) fn stage(
@@ -101,28 +100,29 @@ impl<N: Ids> Rtc<N> {
         track_id: Option<String>,
         simulcast: Option<Simulcast>,
     ) -> Result<Mid, AllocError>
-        requires { length self.old.core.lines + length (added_mids self.old.core.staged) < 2 ^ 32 - 1 }
-        ensures { AddsMedia N.ids self.old.core (record { kind = kind; dir = dir; stream = option_map (λ name. string_bytes name) stream_id; track = option_map (λ name. string_bytes name) track_id; simulcast = simulcast }) result self.new.core }
+        ensures { AddsMedia N.ids self.old.core (wanted_line kind dir stream_id track_id simulcast) result self.new.core }
     {
         stage_media(&mut self.core, kind, dir, stream_id, track_id, simulcast)
     }
 
-    pub(crate) fn turn(&mut self, mid: Mid, dir: Direction) -> Result<bool, AllocError>
+    pub(crate) fn set_direction(&mut self, mid: Mid, dir: Direction) -> Result<bool, AllocError>
         ensures { SetsDirection self.old.core mid dir result self.new.core }
     {
         set_direction(&mut self.core, mid, dir)
     }
 
-    pub(crate) fn stop(&mut self, mid: Mid) -> Result<bool, AllocError>
+    pub(crate) fn stop_media(&mut self, mid: Mid) -> Result<bool, AllocError>
         ensures { StopsMedia self.old.core mid result self.new.core }
     {
         stop_media(&mut self.core, mid)
     }
 
     pub(crate) fn apply(&mut self) -> Result<Option<(SdpOffer, SdpPendingOffer)>, AllocError>
-        requires { length self.old.core.lines + length (added_mids self.old.core.staged) < 2 ^ 32 - 1 }
-        ensures { Applies self.old.core result self.new.core }
+        ensures { Applies self.old.core (sdp_of_offer result) self.new.core }
     {
-        apply_staged(&mut self.core)
+        match apply_staged(&mut self.core)? {
+            Some((offer, token)) => Ok(Some((SdpOffer(offer), token))),
+            None => Ok(None),
+        }
     }
 }

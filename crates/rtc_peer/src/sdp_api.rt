@@ -1,8 +1,9 @@
 //! Offers and answers of a peer.
-ghost use Rattle.std.specs.Prelude.{◌≡◌, ◌≢◌, IsTrue, ◌↔◌, ◌+◌, ◌<◌, ◌≤◌, ◌^◌, ◌-◌, [], IfOk, length, option_map, string_bytes};
-ghost use Rattle.rtc_change.specs.PendingOffer.{added_mids};
-ghost use Rattle.rtc_peer_state.specs.Calls.{AcceptsOffer, AcceptsAnswer, AddsMedia, SetsDirection, StopsMedia, Applies, raised};
+ghost use Rattle.std.specs.Prelude.{◌≡◌, ◌≢◌, IsTrue, ◌↔◌, []};
+ghost use Rattle.rtc_peer_state.specs.Calls.{AcceptsOffer, AcceptsAnswer, AddsMedia, SetsDirection, StopsMedia, Applies};
 ghost use Rattle.rtc_peer_state.specs.Whole.{Whole};
+ghost use Rattle.rtc_peer.specs.Described.{sdp_of_answer, sdp_of_offer};
+ghost use Rattle.rtc_peer.specs.WantedLine.{wanted_line};
 
 use crate::Rtc;
 use rtc_change::{Lines, SdpPendingOffer};
@@ -20,24 +21,21 @@ pub struct SdpApi<'a, N: Ids> {
 }
 
 impl<'a, N: Ids> SdpApi<'a, N> {
-    /// Takes an offer of the other side, and answers it (RFC 8829, section 5.3).
+    /// Accepts an offer of the other side, and answers it (RFC 8829, section 5.3).
     ///
     /// An offer of this side that still awaits its answer is superseded, also where the offer is refused.
     pub fn accept_offer(self, offer: SdpOffer) -> Result<SdpAnswer, RtcError>
-        requires rows { length self.rtc.now.core.lines < 2 ^ 32 - 1 }
-        requires lines { length offer.0.lines < 2 ^ 32 - 1 }
-        ensures { AcceptsOffer N.ids self.entry.rtc.now.core offer result self.exit.0.now.core }
+        ensures { AcceptsOffer N.ids self.entry.rtc.now.core offer.0 (sdp_of_answer result) self.exit.0.now.core }
     {
-        self.rtc.take_offer(offer)
+        self.rtc.accept_offer(offer)
     }
 
-    /// Takes the answer to an offer of this side (RFC 8829, section 5.11). The token is spent in any case.
+    /// Accepts the answer to an offer of this side (RFC 8829, section 5.11). The token is spent, also where the answer is
+    /// refused.
     pub fn accept_answer(self, pending: SdpPendingOffer, answer: SdpAnswer) -> Result<(), RtcError>
-        requires rows { self.rtc.now.core.counter ≡ raised pending.id → length self.rtc.now.core.lines + length (added_mids pending.changes) < 2 ^ 32 - 1 }
-        requires lines { length answer.0.lines < 2 ^ 32 - 1 }
-        ensures { AcceptsAnswer N.ids self.entry.rtc.now.core pending answer result self.exit.0.now.core }
+        ensures { AcceptsAnswer N.ids self.entry.rtc.now.core pending answer.0 result self.exit.0.now.core }
     {
-        self.rtc.take_answer(pending, answer)
+        self.rtc.accept_answer(pending, answer)
     }
 
     /// Whether something is staged.
@@ -66,42 +64,41 @@ impl<'a, N: Ids> SdpApi<'a, N> {
         track_id: Option<String>,
         simulcast: Option<Simulcast>,
     ) -> Result<Mid, AllocError>
-        requires { length self.old.rtc.now.core.lines + length (added_mids self.old.rtc.now.core.staged) < 2 ^ 32 - 1 }
         ensures same_reference { self.new.rtc.ghost_name ≡ self.old.rtc.ghost_name }
-        ensures adds { AddsMedia N.ids self.old.rtc.now.core (record { kind = kind; dir = dir; stream = option_map (λ name. string_bytes name) stream_id; track = option_map (λ name. string_bytes name) track_id; simulcast = simulcast }) result self.new.rtc.now.core }
+        ensures adds { AddsMedia N.ids self.old.rtc.now.core
+            (wanted_line kind dir stream_id track_id simulcast) result self.new.rtc.now.core }
     {
         self.rtc.stage(kind, dir, stream_id, track_id, simulcast)
     }
 
-    /// Gives a live media line another direction, and stages that (RFC 8829, section 4.2.3).
+    /// Sets the direction of a live media line, and stages it (RFC 8829, section 4.2.3).
     ///
-    /// It acts at once, before anything is applied. It answers whether the line changed, which str0m does not tell;
-    /// nothing happens where the line is stopped, has that direction, carries data channels or is not there.
+    /// It acts at once, before anything is applied, and answers whether the line changed, which str0m does not tell.
+    /// Nothing happens where the line is stopped, already has that direction, carries data channels or is not there.
     pub fn set_direction(&mut self, mid: Mid, dir: Direction) -> Result<bool, AllocError>
         ensures same_reference { self.new.rtc.ghost_name ≡ self.old.rtc.ghost_name }
         ensures sets { SetsDirection self.old.rtc.now.core mid dir result self.new.rtc.now.core }
     {
-        self.rtc.turn(mid, dir)
+        self.rtc.set_direction(mid, dir)
     }
 
-    /// Stops a live media line for good, and stages that (RFC 8829, section 4.2.1).
+    /// Stops a live media line for good, and stages it (RFC 8829, section 4.2.1).
     ///
     /// It acts at once, before anything is applied: the row stays at its place, inactive. It answers whether the line
-    /// changed, which str0m does not tell; nothing happens where the line is stopped, carries data channels or is not
-    /// there.
+    /// changed, which str0m does not tell. Nothing happens where the line is stopped already, carries data channels or
+    /// is not there.
     pub fn stop_media(&mut self, mid: Mid) -> Result<bool, AllocError>
         ensures same_reference { self.new.rtc.ghost_name ≡ self.old.rtc.ghost_name }
         ensures stops { StopsMedia self.old.rtc.now.core mid result self.new.rtc.now.core }
     {
-        self.rtc.stop(mid)
+        self.rtc.stop_media(mid)
     }
 
-    /// Makes the offer of what is staged, with the token that its answer is to be handed in with.
+    /// Makes the offer of what is staged, with the token that `accept_answer` takes with its answer.
     ///
     /// None where nothing is staged.
     pub fn apply(self) -> Result<Option<(SdpOffer, SdpPendingOffer)>, AllocError>
-        requires { length self.rtc.now.core.lines + length (added_mids self.rtc.now.core.staged) < 2 ^ 32 - 1 }
-        ensures { Applies self.entry.rtc.now.core result self.exit.0.now.core }
+        ensures { Applies self.entry.rtc.now.core (sdp_of_offer result) self.exit.0.now.core }
     {
         self.rtc.apply()
     }

@@ -1,7 +1,9 @@
 -- What holds of each element of a list.
-use Rattle.std.proofs.Common.{zero, suc, ℕ, Bool, true, false, cond, List, [], ◌∷◌, ◌++◌, map, drop, Some}
+use Rattle.std.proofs.Common.{◌≡◌, zero, suc, ℕ, Bool, true, false, cond, List, [], ◌∷◌, ◌++◌, map, drop, Some}
 use Rattle.std.specs.Prelude.{IfSome}
-use Rattle.std.specs.List.{AllByRecursion, find}
+use Rattle.std.specs.List.{AllByRecursion, list_all, find}
+use Rattle.rtc_fields.specs.Tokens.{is_token_byte}
+use Rattle.rtc_fields.proofs.TokenLemmas.{both}
 
 pub all-append : {A : Type 0} (P : A → Type 0) (xs ys : List A) → AllByRecursion P xs → AllByRecursion P ys → AllByRecursion P (xs ++ ys)
 all-append P [] ys h k = k
@@ -27,3 +29,10 @@ all-find {A} P test (x ∷ xs) h = by (test x) (all-find P test xs h.1)
     by : (b : Bool) → IfSome (find test xs) P → IfSome (cond b (Some x) (find test xs)) P
     by true rest = h.0
     by false rest = rest
+
+-- token bytes behind token bytes
+pub all_token : (xs ys : List ℕ) → list_all is_token_byte xs ≡ true → list_all is_token_byte ys ≡ true → list_all is_token_byte (xs ++ ys) ≡ true
+all_token [] ys h k = k
+all_token (x ∷ xs) ys h k =
+    let parts = both (is_token_byte x) (list_all is_token_byte xs) h in
+    rw parts.0 (all_token xs ys parts.1 k)

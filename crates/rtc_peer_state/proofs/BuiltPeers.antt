@@ -1,72 +1,52 @@
 -- The peer that is built is formed.
-use Rattle.std.proofs.Common.{◌≡◌, ◌+◌, ◌/◌, ◌%◌, ◌<◌, ◌≤◌, ◌^◌, eqb, ltb, leb, ℕ, zero, suc, Bool, true, false, cond, List, [], ◌∷◌, ◌++◌, length, refl, ap, arith, length-append}
-use Rattle.std.specs.List.{AllByRecursion}
+use Rattle.std.proofs.Common.{◌≡◌, ◌/◌, ◌%◌, ◌<◌, ◌^◌, ltb, ℕ, zero, suc, true, List, [], ◌∷◌, ◌++◌, length, refl, ap, arith, length-append}
+use Rattle.std.specs.List.{AllByRecursion, list_all}
 use Rattle.std.specs.Int.{to_be_bytes, bytes_high_first, byte_at, w32}
 use Rattle.std.specs.Prelude.{slice_index}
 use Rattle.std.specs.declared.alloc.Global.{Global}
-use Rattle.std.proofs.lemmas.Bool.{le-leb, lt-ltb, ne_eqb}
+use Rattle.std.proofs.lemmas.Bool.{lt-ltb}
 use Rattle.sha2.specs.Sha256.{sha256, digest_bytes, final_hash, initial_hash_256}
 use Rattle.sha2.proofs.Facts256.{length-sha256}
-use Rattle.rtc_fields.specs.Cuts.{Lacks}
-use Rattle.rtc_sdp_attributes.specs.WordValue.{is_spaceless, is_word_up_to}
-use Rattle.rtc_sdp_writer.specs.Plain.{IsPlainCreds, IsPlainHash}
+use Rattle.std.proofs.lemmas.Bool.Decides.{nat_tests}
+use Rattle.rtc_fields.specs.Tokens.{is_token_byte, is_token}
 use Rattle.rtc_peer_state.specs.declared.peer.Peer.{Peer}
 use Rattle.rtc_peer_state.specs.Built.{lower_hex_digit, hex_digits, drawn_creds, sha256_fingerprint, built}
 use Rattle.rtc_peer_state.specs.Config.{Config}
 use Rattle.rtc_peer_state.specs.Draws.{Draws}
-use Rattle.rtc_peer_state.specs.Formed.{IsFormed}
-use Rattle.rtc_peer_state.proofs.Alls.{all-append}
+use Rattle.rtc_peer_state.specs.Formed.{AreTokenCreds, IsSha256, IsFormed}
+use Rattle.rtc_peer_state.proofs.Alls.{all-append, all_token}
 
 -- ---- credentials: letters and digits
 
--- bytes past the space
-abbrev ArePastSpace : List ℕ → Type 0
-ArePastSpace text = AllByRecursion (λ byte. 33 ≤ byte) text
+hex_digit_is_token : (n : ℕ) → n < 16 → is_token_byte (lower_hex_digit n) ≡ true
+hex_digit_is_token n small = grind (arith, nat_tests)
 
-hex_digit_past : (n : ℕ) → 33 ≤ lower_hex_digit n
-hex_digit_past n = by (ltb n 10)
-  where
-    by : (b : Bool) → 33 ≤ cond b (48 + n) (87 + n)
-    by true = omega arith
-    by false = omega arith
-
-hex_digits_past : (count n : ℕ) → ArePastSpace (hex_digits count n)
-hex_digits_past zero n = tt
-hex_digits_past (suc count) n = all-append (λ byte. 33 ≤ byte) (hex_digits count (n / 16)) (lower_hex_digit (n % 16) ∷ []) (hex_digits_past count (n / 16)) (hex_digit_past (n % 16), tt)
+hex_digits_are_token : (count n : ℕ) → list_all is_token_byte (hex_digits count n) ≡ true
+hex_digits_are_token zero n = refl
+hex_digits_are_token (suc count) n =
+    all_token (hex_digits count (n / 16)) (lower_hex_digit (n % 16) ∷ []) (hex_digits_are_token count (n / 16)) (rw (hex_digit_is_token (n % 16) (omega arith)) refl)
 
 length-hex_digits : (count n : ℕ) → length (hex_digits count n) ≡ count
 length-hex_digits zero n = refl
 length-hex_digits (suc count) n = omega (arith, length-append (hex_digits count (n / 16)) (lower_hex_digit (n % 16) ∷ []), length-hex_digits count (n / 16))
 
-past_spaceless : (text : List ℕ) → ArePastSpace text → is_spaceless text ≡ true
-past_spaceless [] h = refl
-past_spaceless (byte ∷ text) h =
-    let ne : eqb byte 32 ≡ false = ne_eqb byte 32 (λ e. omega (arith, h.0, e)) in
-    rw ne (past_spaceless text h.1)
-
-past_lacks : (text : List ℕ) → ArePastSpace text → Lacks 10 text
-past_lacks [] h = tt
-past_lacks (byte ∷ text) h = (ne_eqb byte 10 (λ e. omega (arith, h.0, e)), past_lacks text h.1)
-
-past_word : (most : ℕ) (text : List ℕ) → 0 < length text → length text ≤ most → ArePastSpace text → is_word_up_to most text ≡ true
-past_word most text some few past =
+token_from : (text : List ℕ) → 0 < length text → list_all is_token_byte text ≡ true → is_token text ≡ true
+token_from text some bytes =
     let a : ltb 0 (length text) ≡ true = lt-ltb 0 (length text) some in
-    let b : leb (length text) most ≡ true = le-leb (length text) most few in
-    rw (a, b) (past_spaceless text past)
+    rw (a, bytes) refl
 
 -- the credentials of a draw
-drawn_creds_plain : (n : ℕ) → IsPlainCreds (drawn_creds n)
-drawn_creds_plain n =
+drawn_creds_token : (n : ℕ) → AreTokenCreds (drawn_creds n)
+drawn_creds_token n =
     let digits : List ℕ = hex_digits 16 n in
-    let past : ArePastSpace digits = hex_digits_past 16 n in
-    let twice : ArePastSpace (digits ++ digits) = all-append (λ byte. 33 ≤ byte) digits digits past past in
-    let front : ArePastSpace (117 ∷ digits) = ((let e : 33 ≤ 117 = omega arith in e), past) in
+    let bytes : list_all is_token_byte digits ≡ true = hex_digits_are_token 16 n in
     let count : length digits ≡ 16 = length-hex_digits 16 n in
+    let twice : length (digits ++ digits) ≡ 32 = omega (arith, length-append digits digits) in
     record {
-      ufrag = past_word 255 (117 ∷ digits) (omega arith) (omega arith) front;
-      ufrag_line = past_lacks (117 ∷ digits) front;
-      pass = past_word 256 (digits ++ digits) (omega (arith, length-append digits digits)) (omega (arith, length-append digits digits)) twice;
-      pass_line = past_lacks (digits ++ digits) twice;
+      ufrag = token_from (117 ∷ digits) (omega arith) bytes;
+      ufrag_size = omega arith;
+      pass = token_from (digits ++ digits) (omega arith) (all_token digits digits bytes bytes);
+      pass_size = omega arith;
     }
 
 -- ---- fingerprints: bytes of a digest
@@ -89,26 +69,20 @@ unfolding sha256
 sha256_small m = digest_small (final_hash initial_hash_256 m) 8
 
 -- the fingerprint of a certificate
-fingerprint_plain : (cert : List ℕ) → IsPlainHash (sha256_fingerprint cert)
+fingerprint_by_sha256 : (cert : List ℕ) → IsSha256 (sha256_fingerprint cert)
 unfolding sha256_fingerprint
-fingerprint_plain cert = record {
-  form = record {
-    token = refl;
-    small = refl;
-    some = λ none. let e : length (sha256 cert) ≡ 0 = ap length none in omega (arith, e, length-sha256 cert);
-    bytes = sha256_small cert;
-  };
+fingerprint_by_sha256 cert = record {
   name = refl;
+  size = length-sha256 cert;
+  bytes = sha256_small cert;
 }
 
 -- The peer that is built is formed where numbers that are drawn have 64 bits.
 pub built_formed : {N : Type 0} (draws : Draws N) (alloc : Global) (config : Config) (start : ℕ) (ids : N) → draws.drawn ids < 2 ^ 64 → IsFormed (built draws alloc config start ids)
 built_formed draws alloc config start ids small = record {
   session = small;
-  identity = record {
-    creds = drawn_creds_plain (draws.drawn (draws.after ids));
-    fingerprint = fingerprint_plain _;
-  };
+  creds = drawn_creds_token (draws.drawn (draws.after ids));
+  fingerprint = fingerprint_by_sha256 _;
   rows = tt;
   staged = tt;
 }

@@ -2,9 +2,7 @@
 use Rattle.std.proofs.Common.{◌≡◌, ◌+◌, ◌%◌, ◌^◌, ℕ, Bool, true, false, List, [], ◌∷◌, ◌++◌, length, Option, Some, None, Result, Ok, Err, sym, ap, subst, arith}
 use Rattle.std.specs.declared.alloc.AllocError.{AllocError}
 use Rattle.rtc_fields.specs.Tokens.{is_short_token}
-use Rattle.rtc_lines.specs.declared.sdp_offer.SdpOffer.{SdpOffer}
-use Rattle.rtc_lines.specs.declared.sdp_answer.SdpAnswer.{SdpAnswer}
-use Rattle.rtc_sdp_writer.specs.Plain.{IsPlain}
+use Rattle.rtc_sdp_values.specs.declared.sdp.Sdp.{Sdp}
 use Rattle.rtc_sdp_values.specs.declared.direction.Direction.{Direction}
 use Rattle.rtc_sdp_values.specs.declared.line_row.LineRow.{LineRow}
 use Rattle.rtc_change.specs.declared.change.Change.{Change}
@@ -13,23 +11,24 @@ use Rattle.rtc_change.specs.RowChanges.{RowChange, changed_of}
 use Rattle.rtc_change.proofs.RowChangeLemmas.{KeepsRow, AreAlike, changed_of_alike}
 use Rattle.rtc_change.proofs.AddedLemmas.{added_mids-append}
 use Rattle.rtc_change.specs.PendingOffer.{PendingOffer, added_mids}
-use Rattle.rtc_change.specs.SaidLines.{said_lines}
+use Rattle.rtc_change.specs.ParsedLines.{parsed_lines}
 use Rattle.rtc_peer_state.specs.declared.peer.Peer.{Peer}
 use Rattle.rtc_peer_state.specs.declared.rtc_error.RtcError.{RtcError}
-use Rattle.rtc_peer_state.specs.declared.rtc_error.RtcError.TheVariants.{RemoteSdp, Sdp as TextRefused, ChangesOutOfOrder, Alloc}
+use Rattle.rtc_peer_state.specs.declared.rtc_error.RtcError.TheVariants.{RemoteSdp, Sdp as SdpRefused, ChangesOutOfOrder, Alloc}
 use Rattle.rtc_peer_state.specs.Draws.{Draws}
 use Rattle.rtc_peer_state.specs.Names.{is_held}
 use Rattle.rtc_peer_state.specs.Calls.{Wanted, AddsMedia, ChangesLine, Applies, AcceptsOffer, AcceptsAnswer, staged_media}
 use Rattle.rtc_peer_state.specs.Formed.{IsFormed, HaveTokens, AddTokens}
 use Rattle.rtc_peer_state.proofs.Alls.{all-append}
 use Rattle.rtc_peer_state.proofs.DrawnMids.{free_mid_token}
-use Rattle.rtc_peer_state.proofs.PlainTexts.{taken_tokens, plain_says_tokens}
+use Rattle.rtc_peer_state.proofs.TokenTables.{NameTokens, table_after_tokens}
 
 -- what is formed of a peer stays with these fields
 pub formed_by : {N : Type 0} (p q : Peer N) → q.session_id ≡ p.session_id → q.identity ≡ p.identity → q.lines ≡ p.lines → q.staged ≡ p.staged → IsFormed p → IsFormed q
 formed_by p q session identity lines staged formed = record {
   session = rw session formed.session;
-  identity = rw identity formed.identity;
+  creds = rw identity formed.creds;
+  fingerprint = rw identity formed.fingerprint;
   rows = rw lines formed.rows;
   staged = rw staged formed.staged;
 }
@@ -43,7 +42,7 @@ tokens_alike (row ∷ rows) [] alike tokens = absurd alike
 
 -- what was staged is dropped
 pub lent_formed : {N : Type 0} (p : Peer N) → IsFormed p → IsFormed (record p { staged = [] })
-lent_formed p formed = record { session = formed.session; identity = formed.identity; rows = formed.rows; staged = tt }
+lent_formed p formed = record { session = formed.session; creds = formed.creds; fingerprint = formed.fingerprint; rows = formed.rows; staged = tt }
 
 -- the mids of lines that are staged behind others
 staged_tokens : (staged more : List Change) → AddTokens staged → AddTokens more → AddTokens (staged ++ more)
@@ -55,62 +54,69 @@ adds_formed draws p wanted (Ok mid) q adds formed =
     let token : is_short_token (staged_media draws p wanted).mid ≡ true = free_mid_token (is_held p.lines p.staged) (length p.lines + length (added_mids p.staged)) (draws.drawn p.ids % 2 ^ 32) (omega arith) in
     record {
       session = rw adds.1 formed.session;
-      identity = rw adds.1 formed.identity;
+      creds = rw adds.1 formed.creds;
+      fingerprint = rw adds.1 formed.fingerprint;
       rows = rw adds.1 formed.rows;
       staged = rw adds.1 (staged_tokens p.staged (AddMedia (staged_media draws p wanted) ∷ []) formed.staged (token, tt));
     }
 adds_formed draws p wanted (Err error) q adds formed =
-    formed_by p q (ap (λ r. r.session_id) adds) (ap (λ r. r.identity) adds) (ap (λ r. r.lines) adds) (ap (λ r. r.staged) adds) formed
+    formed_by p q (ap (λ r. r.session_id) adds.1) (ap (λ r. r.identity) adds.1) (ap (λ r. r.lines) adds.1) (ap (λ r. r.staged) adds.1) formed
 
 -- The row of a mid is changed, where its change keeps mids.
 pub changes_formed : {N : Type 0} (change : RowChange) (to : Direction) (p : Peer N) (mid : List ℕ) (result : Result Bool AllocError) (q : Peer N)
     → KeepsRow change → ChangesLine change to p mid result q → IsFormed p → IsFormed q
 changes_formed change to p mid (Ok true) q keeps changes formed = record {
   session = rw changes.1 formed.session;
-  identity = rw changes.1 formed.identity;
+  creds = rw changes.1 formed.creds;
+  fingerprint = rw changes.1 formed.fingerprint;
   rows = rw changes.1 (tokens_alike p.lines (changed_of change mid p.lines) (changed_of_alike change keeps mid p.lines) formed.rows);
   staged = rw changes.1 (staged_tokens p.staged (SetDirection mid to ∷ []) formed.staged tt);
 }
 changes_formed change to p mid (Ok false) q keeps changes formed = rw changes.1 formed
 changes_formed change to p mid (Err error) q keeps changes formed = rw changes formed
 
--- What is staged is applied.
-pub applies_formed : {N : Type 0} (p : Peer N) (result : Result (Option (SdpOffer × PendingOffer)) AllocError) (q : Peer N) → Applies p result q → IsFormed p → IsFormed q
+-- What is staged is offered.
+pub applies_formed : {N : Type 0} (p : Peer N) (result : Result (Option (Sdp × PendingOffer)) AllocError) (q : Peer N) → Applies p result q → IsFormed p → IsFormed q
 applies_formed p (Ok None) q applies formed = rw applies.1 formed
 applies_formed p (Ok (Some made)) q applies formed = record {
   session = rw applies.3 formed.session;
-  identity = rw applies.3 formed.identity;
+  creds = rw applies.3 formed.creds;
+  fingerprint = rw applies.3 formed.fingerprint;
   rows = rw applies.3 formed.rows;
   staged = rw applies.3 tt;
 }
 applies_formed p (Err error) q applies formed = rw applies formed
 
--- A peer is handed a plain offer.
-pub offered_formed : {N : Type 0} (draws : Draws N) (p : Peer N) (offer : SdpOffer) (result : Result SdpAnswer RtcError) (q : Peer N) → AcceptsOffer draws p offer result q → IsPlain offer.0 → IsFormed p → IsFormed q
-offered_formed draws p offer (Ok answer) q accepts plain formed = record {
+-- A peer accepts or refuses an offer whose mids are short tokens.
+pub offered_formed : {N : Type 0} (draws : Draws N) (p : Peer N) (offer : Sdp) (result : Result Sdp RtcError) (q : Peer N)
+    → AcceptsOffer draws p offer result q → NameTokens (parsed_lines offer) → IsFormed p → IsFormed q
+offered_formed draws p offer (Ok answer) q accepts tokens formed = record {
   session = rw accepts.rest formed.session;
-  identity = rw accepts.rest formed.identity;
-  rows = rw accepts.rest (taken_tokens p.lines (said_lines offer.0) true formed.rows (plain_says_tokens offer.0 plain));
+  creds = rw accepts.rest formed.creds;
+  fingerprint = rw accepts.rest formed.fingerprint;
+  rows = rw accepts.rest (table_after_tokens p.lines (parsed_lines offer) true formed.rows tokens);
   staged = rw accepts.rest formed.staged;
 }
-offered_formed draws p offer (Err (RemoteSdp why)) q accepts plain formed =
+offered_formed draws p offer (Err (RemoteSdp why)) q accepts tokens formed =
     formed_by p q (ap (λ r. r.session_id) accepts.1) (ap (λ r. r.identity) accepts.1) (ap (λ r. r.lines) accepts.1) (ap (λ r. r.staged) accepts.1) formed
-offered_formed draws p offer (Err (TextRefused error)) q accepts plain formed =
+offered_formed draws p offer (Err (SdpRefused error)) q accepts tokens formed =
     formed_by p q (ap (λ r. r.session_id) accepts.1) (ap (λ r. r.identity) accepts.1) (ap (λ r. r.lines) accepts.1) (ap (λ r. r.staged) accepts.1) formed
-offered_formed draws p offer (Err ChangesOutOfOrder) q accepts plain formed = absurd accepts
-offered_formed draws p offer (Err Alloc) q accepts plain formed =
-    formed_by p q (ap (λ r. r.session_id) accepts) (ap (λ r. r.identity) accepts) (ap (λ r. r.lines) accepts) (ap (λ r. r.staged) accepts) formed
+offered_formed draws p offer (Err ChangesOutOfOrder) q accepts tokens formed = absurd accepts
+offered_formed draws p offer (Err Alloc) q accepts tokens formed =
+    formed_by p q (ap (λ r. r.session_id) accepts.1) (ap (λ r. r.identity) accepts.1) (ap (λ r. r.lines) accepts.1) (ap (λ r. r.staged) accepts.1) formed
 
--- A peer is handed a plain answer.
-pub answered_formed : {N : Type 0} (draws : Draws N) (p : Peer N) (token : PendingOffer) (answer : SdpAnswer) (result : Result (Unit {0}) RtcError) (q : Peer N) → AcceptsAnswer draws p token answer result q → IsPlain answer.0 → IsFormed p → IsFormed q
-answered_formed draws p token answer (Ok done) q accepts plain formed = record {
+-- A peer accepts or refuses an answer whose mids are short tokens.
+pub answered_formed : {N : Type 0} (draws : Draws N) (p : Peer N) (token : PendingOffer) (answer : Sdp) (result : Result (Unit {0}) RtcError) (q : Peer N)
+    → AcceptsAnswer draws p token answer result q → NameTokens (parsed_lines answer) → IsFormed p → IsFormed q
+answered_formed draws p token answer (Ok done) q accepts tokens formed = record {
   session = rw accepts.rest formed.session;
-  identity = rw accepts.rest formed.identity;
-  rows = rw accepts.rest (taken_tokens p.lines (said_lines answer.0) false formed.rows (plain_says_tokens answer.0 plain));
+  creds = rw accepts.rest formed.creds;
+  fingerprint = rw accepts.rest formed.fingerprint;
+  rows = rw accepts.rest (table_after_tokens p.lines (parsed_lines answer) false formed.rows tokens);
   staged = rw accepts.rest formed.staged;
 }
-answered_formed draws p token answer (Err ChangesOutOfOrder) q accepts plain formed = rw accepts.1 formed
-answered_formed draws p token answer (Err (RemoteSdp why)) q accepts plain formed = rw accepts.2 formed
-answered_formed draws p token answer (Err (TextRefused error)) q accepts plain formed = rw accepts.2 formed
-answered_formed draws p token answer (Err Alloc) q accepts plain formed =
-    formed_by p q (ap (λ r. r.session_id) accepts.1) (ap (λ r. r.identity) accepts.1) (ap (λ r. r.lines) accepts.1) (ap (λ r. r.staged) accepts.1) formed
+answered_formed draws p token answer (Err ChangesOutOfOrder) q accepts tokens formed = rw accepts.1 formed
+answered_formed draws p token answer (Err (RemoteSdp why)) q accepts tokens formed = rw accepts.1.1 formed
+answered_formed draws p token answer (Err (SdpRefused error)) q accepts tokens formed = rw accepts.1.1 formed
+answered_formed draws p token answer (Err Alloc) q accepts tokens formed =
+    formed_by p q (ap (λ r. r.session_id) accepts.1.1) (ap (λ r. r.identity) accepts.1.1) (ap (λ r. r.lines) accepts.1.1) (ap (λ r. r.staged) accepts.1.1) formed

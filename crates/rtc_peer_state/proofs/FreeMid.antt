@@ -15,7 +15,7 @@ use Rattle.std.proofs.lemmas.Map.Made.{length-le_from_is_member}
 use Rattle.rtc_sdp_values.specs.LineRow.{row_mid}
 use Rattle.rtc_sdp_values.specs.declared.line_row.LineRow.{LineRow}
 use Rattle.rtc_change.specs.declared.change.Change.{Change}
-use Rattle.rtc_change.specs.Distinct.{is_among}
+use Rattle.rtc_sdp_values.specs.Mids.{is_among}
 use Rattle.rtc_change.specs.PendingOffer.{added_mids}
 use Rattle.rtc_peer_state.specs.Names.{drawn_mid, free_mid, is_held}
 

@@ -2,5 +2,6 @@ pub mod FreeMid
 pub mod Alls
 pub mod DrawnMids
 pub mod BuiltPeers
-pub mod PlainTexts
+pub mod TokenTables
+pub mod LaterLemmas
 pub mod FormedCalls

@@ -1,5 +1,6 @@
 -- The peer that is built.
 use Rattle.std.specs.Prelude.{ℕ, ◌+◌, ◌/◌, ◌%◌, zero, suc, List, [], ◌∷◌, ◌++◌, if◌then◌else◌, nat_lt, codes, Option, Some, None}
+use Rattle.std.specs.Int.{to_be_bytes, w64}
 use Rattle.std.specs.declared.alloc.Global.{Global}
 use Rattle.sha2.specs.Sha256.{sha256}
 use Rattle.rtc_sdp_values.specs.declared.ice_creds.IceCreds.{IceCreds}
@@ -25,21 +26,17 @@ drawn_creds n = record { ufrag = 117 ∷ hex_digits 16 n; pass = hex_digits 16 n
 unfoldable pub sha256_fingerprint : List ℕ → Fingerprint
 sha256_fingerprint cert = record { hash_func = codes "sha-256"; bytes = sha256 cert }
 
--- the last so many bytes of a number, the greatest first
-abbrev pub number_bytes : ℕ → ℕ → List ℕ
-number_bytes zero n = []
-number_bytes (suc count) n = number_bytes count (n / 256) ++ n % 256 ∷ []
-
 module _ {N : Type 0} (draws : Draws N) where
+  -- the certificate that is set, or else one that is drawn
   abbrev pub cert_or : Option (List ℕ) → N → List ℕ
   cert_or (Some cert) ids = cert
-  cert_or None ids = number_bytes 8 (draws.drawn ids)
+  cert_or None ids = to_be_bytes w64 (draws.drawn ids)
 
   abbrev pub after_cert : Option (List ℕ) → N → N
   after_cert (Some cert) ids = ids
   after_cert None ids = draws.after ids
 
-  -- the peer of a config: it draws the number of its session, its credentials, and a certificate where none is given
+  -- the peer of a config: it draws the number of its session, its credentials, and a certificate where none is set
   abbrev pub built : Global → Config → ℕ → N → Peer N
   built alloc config start ids = record {
     alloc = alloc;

@@ -1,5 +1,29 @@
 -- What each call of a peer does: one relation a call, of the peer before, the arguments, the answer and the peer after.
-use Rattle.std.specs.Prelude.{◌≡◌, ◌≢◌, ◌+◌, ◌%◌, ◌^◌, ℕ, Bool, true, false, List, [], ◌∷◌, ◌++◌, length, take, ◌||◌, codes, Option, Some, None, Result, Ok, Err}
+use Rattle.std.specs.Prelude.{
+  ◌≡◌,
+  ◌≢◌,
+  ◌+◌,
+  ◌%◌,
+  ◌^◌,
+  ℕ,
+  Bool,
+  true,
+  false,
+  List,
+  [],
+  ◌∷◌,
+  ◌++◌,
+  length,
+  take,
+  ◌||◌,
+  codes,
+  Option,
+  Some,
+  None,
+  Result,
+  Ok,
+  Err,
+}
 use Rattle.std.specs.declared.alloc.AllocError.{AllocError}
 use Rattle.rtc_sdp_values.specs.declared.direction.Direction.{Direction}
 use Rattle.rtc_sdp_values.specs.declared.direction.Direction.TheVariants.{Inactive}
@@ -7,36 +31,58 @@ use Rattle.rtc_sdp_values.specs.declared.media_kind.MediaKind.{MediaKind}
 use Rattle.rtc_sdp_values.specs.declared.line_row.LineRow.{LineRow}
 use Rattle.rtc_sdp_values.specs.declared.sdp.Sdp.{Sdp}
 use Rattle.rtc_sdp_values.specs.declared.simulcast.Simulcast.{Simulcast}
-use Rattle.rtc_lines.specs.declared.sdp_offer.SdpOffer.{SdpOffer}
-use Rattle.rtc_lines.specs.declared.sdp_answer.SdpAnswer.{SdpAnswer}
 use Rattle.rtc_change.specs.declared.add_media.AddMedia.{AddMedia as Media}
 use Rattle.rtc_change.specs.declared.change.Change.TheVariants.{AddMedia, Direction as SetDirection}
-use Rattle.rtc_change.specs.declared.refusal.Refusal.TheVariants.{RemoteSdp as RefusedSdp, Sdp as RefusedText}
+use Rattle.rtc_change.specs.declared.refusal.Refusal.{Refusal}
+use Rattle.rtc_change.specs.declared.refusal.Refusal.TheVariants.{RemoteSdp as RefusedSdp, Sdp as RefusedText, Alloc as NoMemory}
 use Rattle.rtc_change.specs.PendingOffer.{PendingOffer, added_mids}
-use Rattle.rtc_change.specs.RowChanges.{RowChange, turned, halted, is_changed, changed_of}
+use Rattle.rtc_change.specs.RowChanges.{RowChange, directed_row, stopped_row, is_changed, changed_of}
 use Rattle.rtc_change.specs.Table.{row_of}
-use Rattle.rtc_change.specs.Held.{Held}
-use Rattle.rtc_change.specs.SaidLines.{said_lines}
-use Rattle.rtc_change.specs.Taken.{table_after, removed_mids}
+use Rattle.rtc_change.specs.Held.{Held, Asked, held_of}
+use Rattle.rtc_change.specs.ParsedLines.{parsed_lines}
+use Rattle.rtc_change.specs.TableAfter.{table_after, removed_mids}
 use Rattle.rtc_change.specs.Plans.{verdict, asked_by}
 use Rattle.rtc_peer_state.specs.declared.line_sources.LineSources.{LineSources}
 use Rattle.rtc_peer_state.specs.declared.peer.Peer.{Peer}
 use Rattle.rtc_peer_state.specs.declared.rtc_error.RtcError.{RtcError}
-use Rattle.rtc_peer_state.specs.declared.rtc_error.RtcError.TheVariants.{RemoteSdp, Sdp as TextRefused, ChangesOutOfOrder, Alloc}
-use Rattle.rtc_peer_state.specs.Draws.{Draws}
+use Rattle.rtc_peer_state.specs.declared.rtc_error.RtcError.TheVariants.{RemoteSdp, Sdp as SdpRefused, ChangesOutOfOrder, Alloc}
+use Rattle.rtc_peer_state.specs.Draws.{Draws, Later}
 use Rattle.rtc_peer_state.specs.Names.{free_mid, is_held, kept_name, name_of, after_name}
-use Rattle.rtc_peer_state.specs.Sources.{is_used, next_pairs, after_pairs, pair_count, drawn_sources, after_sources, added_sources, without, has_sources}
-use Rattle.rtc_peer_state.specs.Texts.{offer_text, answer_text}
+use Rattle.rtc_peer_state.specs.Sources.{
+  is_used,
+  next_pairs,
+  after_pairs,
+  pair_count,
+  drawn_sources,
+  after_sources,
+  added_sources,
+  without,
+  has_sources,
+}
+use Rattle.rtc_peer_state.specs.MadeSdp.{offer_sdp, answer_sdp}
 
 -- the counter after one more offer
 abbrev pub raised : ℕ → ℕ
 raised counter = (counter + 1) % 2 ^ 64
 
--- what a peer holds that a text is judged by
+-- what a peer holds that an offer or an answer is judged by
 abbrev pub held_by : {N : Type 0} → Peer N → Held
-held_by p = record { lines = p.lines }
+held_by p = held_of p.lines
 
--- What is asked of a media line that is to be staged.
+-- the peer after a refusal: an offer has raised the counter, whatever the cause; an answer has changed nothing
+abbrev pub after_refusal : {N : Type 0} → Option Asked → Refusal → Peer N → Peer N
+after_refusal None why p = record p { counter = raised p.counter }
+after_refusal (Some asked) why p = p
+
+-- An offer or an answer is refused, for the first cause that holds.
+abbrev pub Refuses : {N : Type 0} → Peer N → Option Asked → Sdp → Refusal → Peer N → Type 0
+Refuses p asked sdp why q = (verdict (held_by p) asked sdp ≡ Some why) × (q ≡ after_refusal asked why p)
+
+-- Memory lacked: numbers may have been drawn, and nothing else has changed.
+abbrev pub LacksMemory : {N : Type 0} → Draws N → Peer N → Peer N → Type 0
+LacksMemory draws p q = Later draws p.ids q.ids × (q ≡ record p { ids = q.ids })
+
+-- What a media line is staged with.
 pub record Wanted : Type 0 where
   pub kind : MediaKind
   pub dir : Direction
@@ -82,9 +128,9 @@ module _ {N : Type 0} (draws : Draws N) where
         ids = after_pairs draws (is_used p.sources) wanted.kind (pair_count wanted.simulcast) (track_drawn p.ids wanted);
       })
       × (is_held p.lines p.staged mid ≡ false)
-  AddsMedia p wanted (Err error) q = q ≡ record p { ids = q.ids }
+  AddsMedia p wanted (Err error) q = LacksMemory draws p q
 
--- The row of a mid is changed at once, and staged with the direction that it has then exactly where it is changed.
+-- The row of a mid is changed at once; where it is changed, its new direction is staged.
 abbrev pub ChangesLine : {N : Type 0} → RowChange → Direction → Peer N → List ℕ → Result Bool AllocError → Peer N → Type 0
 ChangesLine change to p mid (Ok true) q =
     (is_changed change (row_of p.lines mid) ≡ true)
@@ -92,75 +138,78 @@ ChangesLine change to p mid (Ok true) q =
 ChangesLine change to p mid (Ok false) q = (is_changed change (row_of p.lines mid) ≡ false) × (q ≡ p)
 ChangesLine change to p mid (Err error) q = q ≡ p
 
--- A live media line gets another direction.
+-- The direction of a live media line is set.
 abbrev pub SetsDirection : {N : Type 0} → Peer N → List ℕ → Direction → Result Bool AllocError → Peer N → Type 0
-SetsDirection p mid dir result q = ChangesLine (turned dir) dir p mid result q
+SetsDirection p mid dir result q = ChangesLine (directed_row dir) dir p mid result q
 
 -- A live media line is stopped for good.
 abbrev pub StopsMedia : {N : Type 0} → Peer N → List ℕ → Result Bool AllocError → Peer N → Type 0
-StopsMedia p mid result q = ChangesLine halted Inactive p mid result q
+StopsMedia p mid result q = ChangesLine stopped_row Inactive p mid result q
 
--- What is staged is applied.
-abbrev pub Applies : {N : Type 0} → Peer N → Result (Option (SdpOffer × PendingOffer)) AllocError → Peer N → Type 0
+-- What is staged is offered.
+abbrev pub Applies : {N : Type 0} → Peer N → Result (Option (Sdp × PendingOffer)) AllocError → Peer N → Type 0
 Applies p (Ok None) q = (p.staged ≡ []) × (q ≡ p)
 Applies p (Ok (Some made)) q =
     (p.staged ≢ [])
-    × (made.0 ≡ record { 0 = offer_text p })
+    × (made.0 ≡ offer_sdp p)
     × (made.1 ≡ record { id = p.counter; changes = p.staged })
     × (q ≡ record p { staged = []; counter = raised p.counter })
 Applies p (Err error) q = q ≡ p
 
--- the rows that the lines of a text leave
-abbrev pub rows_of_text : {N : Type 0} → Peer N → Bool → Sdp → List LineRow
-rows_of_text p offer text = take (length text.lines) (table_after p.lines (said_lines text) offer)
+-- the rows that the lines of a session description leave
+abbrev pub rows_of_sdp : {N : Type 0} → Peer N → Bool → Sdp → List LineRow
+rows_of_sdp p offer sdp = take (length sdp.lines) (table_after p.lines (parsed_lines sdp) offer)
 
 -- whether a line has sources, or gets those that a token added
 abbrev pub is_sourced : List LineSources → List LineSources → List ℕ → Bool
 is_sourced sources added mid = has_sources sources mid || has_sources added mid
 
 module _ {N : Type 0} (draws : Draws N) where
-  -- the sources after a text: those of the removed rows are gone, those that the token added and those that are drawn come
+  -- the sources afterwards: those of removed rows are gone, those that the token added and those that are drawn come
   abbrev pub sources_after : Peer N → Bool → List LineSources → Sdp → List LineSources
-  sources_after p offer added text =
-      without (removed_mids p.lines 0 (said_lines text)) p.sources ++ added
-      ++ drawn_sources draws (is_used p.sources) (is_sourced p.sources added) [] (rows_of_text p offer text) p.ids
+  sources_after p offer added sdp =
+      without (removed_mids p.lines 0 (parsed_lines sdp)) p.sources ++ added
+      ++ drawn_sources draws (is_used p.sources) (is_sourced p.sources added) [] (rows_of_sdp p offer sdp) p.ids
 
   abbrev pub ids_after : Peer N → Bool → List LineSources → Sdp → N
-  ids_after p offer added text = after_sources draws (is_used p.sources) (is_sourced p.sources added) (rows_of_text p offer text) p.ids
+  ids_after p offer added sdp = after_sources draws (is_used p.sources) (is_sourced p.sources added) (rows_of_sdp p offer sdp) p.ids
 
-  -- an offer that is table_after
-  pub record OfferTaken (p : Peer N) (text : Sdp) (answer : SdpAnswer) (q : Peer N) : Type 0 where
-    pub passes : verdict (held_by p) None text ≡ None
-    pub answered : answer ≡ record { 0 = answer_text p text }
+  -- an offer is accepted, and answered
+  pub record OfferAccepted (p : Peer N) (offer answer : Sdp) (q : Peer N) : Type 0 where
+    pub passes : verdict (held_by p) None offer ≡ None
+    pub answered : answer ≡ answer_sdp p offer
     pub rest : q ≡ record p {
       counter = raised p.counter;
-      lines = table_after p.lines (said_lines text) true;
-      sources = sources_after p true [] text;
-      ids = ids_after p true [] text;
+      lines = table_after p.lines (parsed_lines offer) true;
+      sources = sources_after p true [] offer;
+      ids = ids_after p true [] offer;
     }
 
-  -- A peer is handed an offer.
-  abbrev pub AcceptsOffer : Peer N → SdpOffer → Result SdpAnswer RtcError → Peer N → Type 0
-  AcceptsOffer p offer (Ok answer) q = OfferTaken p offer.0 answer q
-  AcceptsOffer p offer (Err (RemoteSdp why)) q = (verdict (held_by p) None offer.0 ≡ Some (RefusedSdp why)) × (q ≡ record p { counter = raised p.counter })
-  AcceptsOffer p offer (Err (TextRefused error)) q = (verdict (held_by p) None offer.0 ≡ Some (RefusedText error)) × (q ≡ record p { counter = raised p.counter })
+  -- A peer accepts an offer, or refuses it.
+  abbrev pub AcceptsOffer : Peer N → Sdp → Result Sdp RtcError → Peer N → Type 0
+  AcceptsOffer p offer (Ok answer) q = OfferAccepted p offer answer q
+  AcceptsOffer p offer (Err (RemoteSdp why)) q = Refuses p None offer (RefusedSdp why) q
+  AcceptsOffer p offer (Err (SdpRefused error)) q = Refuses p None offer (RefusedText error) q
   AcceptsOffer p offer (Err ChangesOutOfOrder) q = ⊥
-  AcceptsOffer p offer (Err Alloc) q = q ≡ record p { counter = raised p.counter; ids = q.ids }
+  AcceptsOffer p offer (Err Alloc) q = LacksMemory draws (after_refusal None NoMemory p) q
 
-  -- an answer that is table_after
-  pub record AnswerTaken (p : Peer N) (token : PendingOffer) (text : Sdp) (q : Peer N) : Type 0 where
+  -- an answer is accepted
+  pub record AnswerAccepted (p : Peer N) (token : PendingOffer) (answer : Sdp) (q : Peer N) : Type 0 where
     pub right : p.counter ≡ raised token.id
-    pub passes : verdict (held_by p) (Some (asked_by p.lines token)) text ≡ None
+    pub passes : verdict (held_by p) (Some (asked_by p.lines token)) answer ≡ None
     pub rest : q ≡ record p {
-      lines = table_after p.lines (said_lines text) false;
-      sources = sources_after p false (added_sources token.changes) text;
-      ids = ids_after p false (added_sources token.changes) text;
+      lines = table_after p.lines (parsed_lines answer) false;
+      sources = sources_after p false (added_sources token.changes) answer;
+      ids = ids_after p false (added_sources token.changes) answer;
     }
 
-  -- A peer is handed an answer with the token of its offer.
-  abbrev pub AcceptsAnswer : Peer N → PendingOffer → SdpAnswer → Result (Unit {0}) RtcError → Peer N → Type 0
-  AcceptsAnswer p token answer (Ok done) q = AnswerTaken p token answer.0 q
+  -- A peer accepts an answer with the token of its offer, or refuses it.
+  abbrev pub AcceptsAnswer : Peer N → PendingOffer → Sdp → Result (Unit {0}) RtcError → Peer N → Type 0
+  AcceptsAnswer p token answer (Ok done) q = AnswerAccepted p token answer q
   AcceptsAnswer p token answer (Err ChangesOutOfOrder) q = (p.counter ≢ raised token.id) × (q ≡ p)
-  AcceptsAnswer p token answer (Err (RemoteSdp why)) q = (p.counter ≡ raised token.id) × (verdict (held_by p) (Some (asked_by p.lines token)) answer.0 ≡ Some (RefusedSdp why)) × (q ≡ p)
-  AcceptsAnswer p token answer (Err (TextRefused error)) q = (p.counter ≡ raised token.id) × (verdict (held_by p) (Some (asked_by p.lines token)) answer.0 ≡ Some (RefusedText error)) × (q ≡ p)
-  AcceptsAnswer p token answer (Err Alloc) q = (p.counter ≡ raised token.id) × (q ≡ record p { ids = q.ids })
+  AcceptsAnswer p token answer (Err (RemoteSdp why)) q =
+      (p.counter ≡ raised token.id) × Refuses p (Some (asked_by p.lines token)) answer (RefusedSdp why) q
+  AcceptsAnswer p token answer (Err (SdpRefused error)) q =
+      (p.counter ≡ raised token.id) × Refuses p (Some (asked_by p.lines token)) answer (RefusedText error) q
+  AcceptsAnswer p token answer (Err Alloc) q =
+      (p.counter ≡ raised token.id) × LacksMemory draws (after_refusal (Some (asked_by p.lines token)) NoMemory p) q

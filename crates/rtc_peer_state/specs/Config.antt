@@ -1,5 +1,9 @@
 -- What a peer is built from.
-use Rattle.std.specs.Prelude.{ℕ, List, Option}
+use Rattle.std.specs.Prelude.{ℕ, ◌≤◌, List, Option, IfSome, length}
 
 pub record Config : Type 0 where
   pub cert : Option (List ℕ)
+
+-- a certificate that is set has at most 1900 bytes
+abbrev pub IsShort : Option (List ℕ) → Type 0
+IsShort cert = IfSome cert (λ bytes. length bytes ≤ 1900)

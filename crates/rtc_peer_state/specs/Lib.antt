@@ -2,8 +2,10 @@ pub mod Draws
 pub mod Config
 pub mod Names
 pub mod Sources
-pub mod Texts
+pub mod MadeSdp
 pub mod Calls
 pub mod Built
 pub mod Formed
 pub mod Whole
+pub mod RtcErrorText
+pub mod RtcErrors

@@ -1,5 +1,29 @@
 -- Synchronization sources that a peer draws.
-use Rattle.std.specs.Prelude.{◌+◌, ◌%◌, ◌^◌, ◌==◌, ◌||◌, ◌&&◌, not, zero, suc, ℕ, Bool, true, false, List, [], ◌∷◌, ◌++◌, length, filter, if◌then◌else◌, Option, Some, None}
+use Rattle.std.specs.Prelude.{
+  ◌+◌,
+  ◌%◌,
+  ◌^◌,
+  ◌==◌,
+  ◌||◌,
+  ◌&&◌,
+  not,
+  zero,
+  suc,
+  ℕ,
+  Bool,
+  true,
+  false,
+  List,
+  [],
+  ◌∷◌,
+  ◌++◌,
+  length,
+  filter,
+  if◌then◌else◌,
+  Option,
+  Some,
+  None,
+}
 use Rattle.std.specs.List.{list_any}
 use Rattle.std.specs.Str.{bytes_eq}
 use Rattle.rtc_sdp_values.specs.Direction.{does_send}
@@ -12,7 +36,7 @@ use Rattle.rtc_sdp_values.specs.declared.ssrc.Ssrc.{Ssrc}
 use Rattle.rtc_sdp_values.specs.declared.simulcast.Simulcast.{Simulcast}
 use Rattle.rtc_change.specs.declared.change.Change.{Change}
 use Rattle.rtc_change.specs.declared.change.Change.TheVariants.{AddMedia, AddApp, Direction as SetDirection}
-use Rattle.rtc_change.specs.Distinct.{is_among}
+use Rattle.rtc_sdp_values.specs.Mids.{is_among}
 use Rattle.rtc_peer_state.specs.declared.line_sources.LineSources.{LineSources}
 use Rattle.rtc_peer_state.specs.Draws.{Draws}
 
@@ -51,7 +75,10 @@ module _ {N : Type 0} (draws : Draws N) (used : ℕ → Bool) where
   -- for video the source of the retransmissions is drawn first
   abbrev pub next_pair : MediaKind → List ℕ → N → Pair
   next_pair Audio earlier ids = (record { 0 = next_source earlier ids }, None)
-  next_pair Video earlier ids = (record { 0 = next_source (earlier ++ next_source earlier ids ∷ []) (draws.after ids) }, Some (record { 0 = next_source earlier ids }))
+  next_pair Video earlier ids = (
+    record { 0 = next_source (earlier ++ next_source earlier ids ∷ []) (draws.after ids) },
+    Some (record { 0 = next_source earlier ids }),
+  )
 
   abbrev pub after_pair : MediaKind → N → N
   after_pair Audio ids = draws.after ids
@@ -93,7 +120,10 @@ module _ {N : Type 0} (draws : Draws N) (used : ℕ → Bool) (having : List ℕ
   abbrev pub drawn_sources : List ℕ → List LineRow → N → List LineSources
   drawn_sources earlier [] ids = []
   drawn_sources earlier (row ∷ rows) ids = elim (wants_sources having row) [
-    | true ↦ row_sources earlier row ids ∷ drawn_sources (earlier ++ pair_numbers (next_pair draws used (row_kind row) earlier ids)) rows (after_pair draws used (row_kind row) ids)
+    | true ↦
+        row_sources earlier row ids
+        ∷ drawn_sources (earlier ++ pair_numbers (next_pair draws used (row_kind row) earlier ids)) rows
+        (after_pair draws used (row_kind row) ids)
     | false ↦ drawn_sources earlier rows ids
   ]
 

@@ -3,7 +3,8 @@ use rtc_sdp_values::{Fingerprint, IceCreds};
 use rtc_wire::TryCopy;
 use std::alloc::AllocError;
 
-/// What each m-line of a peer's texts says of it: its ICE credentials (RFC 8839, section 5.4) and the fingerprint of its certificate (RFC 8122, section 5).
+/// What each m-line of a peer's offers and answers tells of it: its ICE credentials (RFC 8839, section 5.4) and the
+/// fingerprint of its certificate (RFC 8122, section 5).
 #[derive(Debug, PartialEq, Eq, Drop)]
 pub struct Identity {
     pub creds: IceCreds,

@@ -16,6 +16,3 @@ pub use line_sources::LineSources;
 pub use peer::Peer;
 pub use rtc_config::RtcConfig;
 pub use rtc_error::RtcError;
-
-#[cfg(test)]
-mod tests;

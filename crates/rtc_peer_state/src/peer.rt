@@ -11,7 +11,7 @@ pub struct Peer<N> {
     pub lines: Lines,
     /// What is staged and not yet applied.
     pub staged: Seq<Change>,
-    /// Rises with each offer that is applied or handed in; wraps.
+    /// How many offers were made or given, also those refused; it wraps.
     pub counter: u64,
     /// The number of the session, of the `o=` line.
     pub session_id: u64,
@@ -19,7 +19,7 @@ pub struct Peer<N> {
     pub cert: Bytes,
     /// The sources of the lines that have some.
     pub sources: Seq<LineSources>,
-    /// The greatest moment that was handed in.
+    /// The greatest moment that was given.
     pub greatest: Moment,
     pub ids: N,
 }

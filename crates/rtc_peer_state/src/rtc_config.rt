@@ -1,6 +1,7 @@
 //! Configurations of peers.
 ghost use Rattle.std.specs.Prelude.{◌≡◌, ◌≤◌, IfOk, Some, None, vec_len};
 ghost use Rattle.std.specs.Option.{option_copied};
+ghost use Rattle.rtc_peer_state.specs.Config.{IsShort};
 
 use rtc_wire::Bytes;
 use std::alloc::{AllocError, Global};
@@ -18,17 +19,21 @@ impl Model for RtcConfig {
     ghost Value = { Config };
 
     ghost view = { λ config. record { cert = config.cert } };
+
+    ghost use Rattle.rtc_peer_state.specs.Config.{IsShort};
+
+    ghost invariant = { λ config. IsShort config.cert };
 }
 
 impl RtcConfig {
-    /// The default: no certificate is given, so that one is drawn.
+    /// The default: the peer draws its certificate.
     pub fn new(_alloc: Global) -> Result<RtcConfig, AllocError>
         ensures { IfOk result (λ config. config ≡ record { cert = None }) }
     {
         Ok(RtcConfig { cert: None })
     }
 
-    /// The same with this certificate, of at most 1900 bytes.
+    /// Sets the certificate, of at most 1900 bytes.
     pub fn set_dtls_cert(self, cert: Vec<u8>) -> RtcConfig
         requires { vec_len cert ≤ 1900 }
         ensures { result ≡ record self { cert = Some cert.items } }
@@ -39,9 +44,10 @@ impl RtcConfig {
         }
     }
 
-    /// The certificate that was given.
+    /// The certificate that was set.
     pub fn dtls_cert(&self) -> Option<&[u8]>
-        ensures { option_copied result ≡ self.now.cert }
+        ensures value { option_copied result ≡ self.now.cert }
+        ensures short { IsShort self.now.cert }
     {
         match &self.cert {
             Some(cert) => Some(cert.as_slice()),

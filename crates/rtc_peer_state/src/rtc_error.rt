@@ -1,23 +1,43 @@
 //! Errors of a peer's calls.
-ghost use Rattle.std.specs.Prelude.{◌≡◌};
+ghost use Rattle.std.specs.Prelude.{◌≡◌, Some};
 ghost use Rattle.rtc_peer_state.specs.declared.rtc_error.RtcError.TheVariants.{Alloc};
+ghost use Rattle.rtc_peer_state.specs.RtcErrors.{error_of_sdp, error_of_refusal};
+ghost use Rattle.rtc_peer_state.specs.RtcErrorText as text;
 
-use rtc_change::Why;
+use rtc_change::{Refusal, Why};
 use rtc_sdp_values::SdpError;
 use std::alloc::{AllocError, AllocFailed};
+use std::error::Error;
+use std::fmt;
 
 /// Why a call of a peer is refused.
 #[derive(Debug, PartialEq, Eq, Drop)]
 pub enum RtcError {
-    /// What the other side says cannot be taken.
+    /// The offer or answer of the other side cannot be accepted.
     RemoteSdp(Why),
-    /// The text of the other side is not consistent.
+    /// The session description of the other side is inconsistent.
     Sdp(SdpError),
-    /// Since the token was made an offer was applied, or handed in, also one that was refused.
+    /// An offer was made or given since the token was made, be it one that was refused.
     ChangesOutOfOrder,
-    /// There was too little memory.
+    /// There was too little memory, or a table would have 2^32 - 1 lines or more.
     Alloc,
 }
+
+impl fmt::Display for RtcError {
+    ghost output = { λ error. Some (text.rtc_error_text error) };
+
+    #[tactic(auto, unfolding(crate::specs::RtcErrorText::rtc_error_text))]
+    fn fmt<W: fmt::Write>(&self, f: &mut fmt::Formatter<W>) -> fmt::Result {
+        match self {
+            RtcError::RemoteSdp(why) => write!(f, "remote sdp: {why}"),
+            RtcError::Sdp(cause) => write!(f, "{cause}"),
+            RtcError::ChangesOutOfOrder => f.write_str("Changes made out of order"),
+            RtcError::Alloc => f.write_str("out of memory"),
+        }
+    }
+}
+
+impl Error for RtcError {}
 
 impl From<AllocError> for RtcError {
     ghost from_gives = { λ _ e. e ≡ Alloc };
@@ -32,5 +52,29 @@ impl<T: Drop> From<AllocFailed<T>> for RtcError {
 
     fn from(_error: AllocFailed<T>) -> RtcError {
         RtcError::Alloc
+    }
+}
+
+impl From<SdpError> for RtcError {
+    ghost from_gives = { λ lower e. e ≡ error_of_sdp lower };
+
+    fn from(error: SdpError) -> RtcError {
+        match error {
+            SdpError::Alloc => RtcError::Alloc,
+            SdpError::Parse(line) => RtcError::Sdp(SdpError::Parse(line)),
+            SdpError::Inconsistent(cause) => RtcError::Sdp(SdpError::Inconsistent(cause)),
+        }
+    }
+}
+
+impl From<Refusal> for RtcError {
+    ghost from_gives = { λ lower e. e ≡ error_of_refusal lower };
+
+    fn from(refusal: Refusal) -> RtcError {
+        match refusal {
+            Refusal::RemoteSdp(why) => RtcError::RemoteSdp(why),
+            Refusal::Sdp(error) => RtcError::from(error),
+            Refusal::Alloc => RtcError::Alloc,
+        }
     }
 }

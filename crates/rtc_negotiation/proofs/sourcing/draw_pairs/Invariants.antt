@@ -1,4 +1,5 @@
 use Rattle.std.proofs.Common.{◌≡◌, ◌++◌, ◌-◌, []}
+use Rattle.rtc_peer_state.specs.Draws.{Later}
 use Rattle.rtc_peer_state.specs.Sources.{is_used, next_pairs, after_pairs}
 use Rattle.rtc_negotiation.proofs.sourcing.draw_pairs.Given as goal
 
@@ -7,4 +8,5 @@ invariant-loop g l =
     record {
       pairs : l.pairs.items ++ next_pairs g.N.Ids.ids (is_used l.sources) l.kind l.earlier.items (l.count - l.counter) l.ids ≡ next_pairs g.N.Ids.ids (is_used l.sources) l.kind [] l.count l.fn.ids;
       after : after_pairs g.N.Ids.ids (is_used l.sources) l.kind (l.count - l.counter) l.ids ≡ after_pairs g.N.Ids.ids (is_used l.sources) l.kind l.count l.fn.ids;
+      later : Later g.N.Ids.ids l.fn.ids l.ids;
     }

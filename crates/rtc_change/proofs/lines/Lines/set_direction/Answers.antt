@@ -1,35 +1,33 @@
-use Rattle.std.proofs.Common.{◌≡◌, ◌∙◌, refl, sym, ap, arith, List}
+use Rattle.std.proofs.Common.{◌∙◌, sym, ap, arith, List}
 use Rattle.std.specs.Prelude.{length}
-use Rattle.rtc_sdp_values.specs.LineRow.{row_place}
 use Rattle.rtc_sdp_values.specs.declared.line_row.LineRow.{LineRow}
-use Rattle.rtc_change.specs.Table.{IsTable, row_of}
-use Rattle.rtc_change.specs.RowChanges.{turned, changed_of}
-use Rattle.rtc_change.proofs.RowChangeLemmas.{IsReplaced, is_replaced, row_found, row_missed, changed_of_none, changed_of_same, turned_keeps}
+use Rattle.rtc_change.specs.RowChanges.{directed_row}
+use Rattle.rtc_change.proofs.RowChangeLemmas.{IsReplaced, is_replaced, row_found, row_missed, changed_of_none, changed_of_same, directed_row_keeps}
 use Rattle.rtc_change.proofs.lines.Lines.set_direction.Goals as goal
 
 pub returns-in_default-clause-rows : goal.returns-in_default-clause-rows
 returns-in_default-clause-rows c =
-    rw (sym c.self.view_is) (sym (changed_of_none (turned c.args.dir) c.args.mid c.self.inside.rows.items
+    rw (sym c.self.view_is) (sym (changed_of_none (directed_row c.args.dir) c.args.mid c.self.inside.rows.items
     (row_missed c.as_slice.result.now c.self.inside.rows.items c.args.mid c.find_row.result c.as_slice.ensures.value c.find_row.ensures c.in_default.is)))
 
-pub returns-in_default-turn-clause-rows : goal.returns-in_default-turn-clause-rows
-returns-in_default-turn-clause-rows c =
-    rw (sym c.self.view_is) (sym (changed_of_same (turned c.args.dir) c.args.mid c.self.inside.rows.items c.in-Some.row.now
+pub returns-in_default-direct_row-clause-rows : goal.returns-in_default-direct_row-clause-rows
+returns-in_default-direct_row-clause-rows c =
+    rw (sym c.self.view_is) (sym (changed_of_same (directed_row c.args.dir) c.args.mid c.self.inside.rows.items c.in-Some.row.now
     (row_found c.as_slice.result.now c.self.inside.rows.items c.args.mid c.find_row.result c.in-Some.row c.as_slice.ensures.value c.find_row.ensures c.in-Some.is)
-    (sym c.turn.ensures ∙ c.in_default-turn.is)))
+    (sym c.direct_row.ensures ∙ c.in_default-direct_row.is)))
 
 -- the row that is found, changed, at its place
-replaced : (c : goal.After-place) → IsReplaced (turned c.args.dir) c.args.mid c.self.inside.rows.items c.in-Some-turn.turned
+replaced : (c : goal.After-place) → IsReplaced (directed_row c.args.dir) c.args.mid c.self.inside.rows.items c.in-Some-direct_row.directed_row
 replaced c =
-    is_replaced (turned c.args.dir) (turned_keeps c.args.dir) c.args.mid c.self.inside.rows.items c.in-Some.row.now c.in-Some-turn.turned c.self.invariant
+    is_replaced (directed_row c.args.dir) (directed_row_keeps c.args.dir) c.args.mid c.self.inside.rows.items c.in-Some.row.now c.in-Some-direct_row.directed_row c.self.invariant
     (row_found c.as_slice.result.now c.self.inside.rows.items c.args.mid c.find_row.result c.in-Some.row c.as_slice.ensures.value c.find_row.ensures c.in-Some.is)
-    (sym c.turn.ensures ∙ c.in-Some-turn.is)
+    (sym c.direct_row.ensures ∙ c.in-Some-direct_row.is)
 
-replaced_then : (c : goal.After-self-1) → IsReplaced (turned c.args.dir) c.args.mid c.self.inside.rows.items c.in-Some-turn.turned
+replaced_then : (c : goal.After-self-1) → IsReplaced (directed_row c.args.dir) c.args.mid c.self.inside.rows.items c.in-Some-direct_row.directed_row
 replaced_then c =
-    is_replaced (turned c.args.dir) (turned_keeps c.args.dir) c.args.mid c.self.inside.rows.items c.in-Some.row.now c.in-Some-turn.turned c.self.invariant
+    is_replaced (directed_row c.args.dir) (directed_row_keeps c.args.dir) c.args.mid c.self.inside.rows.items c.in-Some.row.now c.in-Some-direct_row.directed_row c.self.invariant
     (row_found c.as_slice.result.now c.self.inside.rows.items c.args.mid c.find_row.result c.in-Some.row c.as_slice.ensures.value c.find_row.ensures c.in-Some.is)
-    (sym c.turn.ensures ∙ c.in-Some-turn.is)
+    (sym c.direct_row.ensures ∙ c.in-Some-direct_row.is)
 
 pub index_mut-requires : goal.index_mut-requires
 index_mut-requires c = omega (arith, c.place.ensures, (replaced c).within, c.as_slice.ensures.len, ap (λ (rows : List LineRow). length rows) c.as_slice.ensures.value)

@@ -1,6 +1,0 @@
-use Rattle.std.proofs.Common.{◌≡◌, ◌++◌, drop}
-use Rattle.rtc_peer_state.specs.Texts.{live_mids}
-use Rattle.rtc_negotiation.proofs.saying.list_live_mids.Given as goal
-
-abbrev pub invariant-loop-row : goal.invariant-loop-row
-invariant-loop-row l = l.mids.items ++ live_mids (drop l.row-index l.rows) ≡ live_mids l.rows

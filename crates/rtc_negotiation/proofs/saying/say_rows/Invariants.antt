@@ -1,6 +1,0 @@
-use Rattle.std.proofs.Common.{◌≡◌, ◌++◌, drop, map}
-use Rattle.rtc_peer_state.specs.Texts.{row_line}
-use Rattle.rtc_negotiation.proofs.saying.say_rows.Given as goal
-
-abbrev pub invariant-loop-row : goal.invariant-loop-row
-invariant-loop-row l = l.lines.items ++ map (row_line l.identity l.setup) (drop l.row-index l.rows) ≡ map (row_line l.identity l.setup) l.rows

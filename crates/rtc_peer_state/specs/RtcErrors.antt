@@ -1,0 +1,18 @@
+-- Errors of lower calls, as a peer tells them.
+use Rattle.rtc_sdp_values.specs.declared.sdp_error.SdpError.{SdpError}
+use Rattle.rtc_sdp_values.specs.declared.sdp_error.SdpError.TheVariants.{Alloc as SdpAlloc, Parse, Inconsistent}
+use Rattle.rtc_change.specs.declared.refusal.Refusal.{Refusal}
+use Rattle.rtc_change.specs.declared.refusal.Refusal.TheVariants.{RemoteSdp as RefusedSdp, Sdp as RefusedText, Alloc as NoMemory}
+use Rattle.rtc_peer_state.specs.declared.rtc_error.RtcError.{RtcError}
+use Rattle.rtc_peer_state.specs.declared.rtc_error.RtcError.TheVariants.{RemoteSdp, Sdp, Alloc}
+
+-- want of memory below is want of memory
+abbrev pub error_of_sdp : SdpError → RtcError
+error_of_sdp SdpAlloc = Alloc
+error_of_sdp (Parse line) = Sdp (Parse line)
+error_of_sdp (Inconsistent cause) = Sdp (Inconsistent cause)
+
+abbrev pub error_of_refusal : Refusal → RtcError
+error_of_refusal (RefusedSdp why) = RemoteSdp why
+error_of_refusal (RefusedText error) = error_of_sdp error
+error_of_refusal NoMemory = Alloc
