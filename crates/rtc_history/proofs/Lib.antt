@@ -1,3 +1,4 @@
+pub mod BothSides
 mod FinishedFacts
 mod RoundFacts
 mod OrderlyFacts

@@ -58,7 +58,7 @@ direction_set :
     ≡ Some (record {
       left = Media 0 [] Audio SendOnly false false ∷ Media 1 [] Video SendRecv false false ∷ [];
       right = Media 0 [] Audio RecvOnly false true ∷ Media 1 [] Video SendRecv false true ∷ [];
-      texts = 4;
+      sdps = 4;
       phase = Idle;
     })
 direction_set = refl
@@ -71,7 +71,7 @@ direction_set_again = refl
 inactive_line_stays :
     course_of (right_offers ∷ AcceptOffer Left 0 ∷ AcceptAnswer Right 0 1 ∷ Negotiate Right (SetDirection 0 Inactive ∷ []) true ∷ AcceptOffer Left 2 ∷ AcceptAnswer Right 2 3
     ∷ Negotiate Left (SetDirection 0 RecvOnly ∷ []) true ∷ AcceptOffer Right 4 ∷ AcceptAnswer Left 4 5 ∷ [])
-    ≡ Some (record { left = Media 0 [] Audio Inactive false true ∷ []; right = Media 0 [] Audio Inactive false false ∷ []; texts = 6; phase = Idle })
+    ≡ Some (record { left = Media 0 [] Audio Inactive false true ∷ []; right = Media 0 [] Audio Inactive false false ∷ []; sdps = 6; phase = Idle })
 inactive_line_stays = refl
 
 -- the second line is stopped in a later round
@@ -80,7 +80,7 @@ later_line_stopped :
     ≡ Some (record {
       left = Media 0 [] Audio SendRecv false false ∷ Media 1 [] Video Inactive true false ∷ [];
       right = Media 0 [] Audio SendRecv false true ∷ Media 1 [] Video Inactive true true ∷ [];
-      texts = 4;
+      sdps = 4;
       phase = Idle;
     })
 later_line_stopped = refl
@@ -96,14 +96,14 @@ stopped_by_answerer :
     ≡ Some (record {
       left = Media 0 [] Audio SendOnly false false ∷ Media 1 [] Video Inactive true false ∷ [];
       right = Media 0 [] Audio RecvOnly false true ∷ Media 1 [] Video Inactive true true ∷ [];
-      texts = 4;
+      sdps = 4;
       phase = Idle;
     })
 stopped_by_answerer = refl
 
 -- within a round that is under way, a direction is set, but not offered
 set_within_a_round : course_of (right_offers ∷ AcceptOffer Left 0 ∷ sets Left false ∷ AcceptAnswer Right 0 1 ∷ [])
-    ≡ Some (record { left = Media 0 [] Audio SendOnly false true ∷ []; right = Media 0 [] Audio SendRecv false false ∷ []; texts = 2; phase = Idle })
+    ≡ Some (record { left = Media 0 [] Audio SendOnly false true ∷ []; right = Media 0 [] Audio SendRecv false false ∷ []; sdps = 2; phase = Idle })
 set_within_a_round = refl
 
 offered_within_a_round : are_orderly (right_offers ∷ AcceptOffer Left 0 ∷ sets Left true ∷ []) ≡ false
@@ -118,7 +118,7 @@ offer_outstanding : course_of (both_lines ++ Negotiate Left (StopMedia 1 ∷ Add
     ≡ Some (record {
       left = Media 0 [] Audio SendRecv false false ∷ Media 1 [] Video Inactive true false ∷ [];
       right = Media 0 [] Audio SendRecv false true ∷ Media 1 [] Video SendRecv false true ∷ [];
-      texts = 3;
+      sdps = 3;
       phase = AwaitsAnswer Left 2 (Media 0 [] Audio SendRecv false false ∷ Media 1 [] Video Inactive true false ∷ Media 2 [] Audio RecvOnly false false ∷ []);
     })
 offer_outstanding = refl

@@ -10,10 +10,10 @@ use Rattle.rtc_history.specs.declared.op_answer.OpAnswer.TheVariants.{Mid}
 use Rattle.rtc_history.specs.declared.made.Made.TheVariants.{Offer}
 use Rattle.rtc_history.specs.declared.step.Step.TheVariants.{Negotiate, AcceptOffer}
 use Rattle.rtc_history.specs.declared.outcome.Outcome.TheVariants.{Negotiated, Answered}
-use Rattle.rtc_history.specs.Past.{Entry, Said, is_right}
+use Rattle.rtc_history.specs.Past.{Entry, MadeSdp, is_right}
 use Rattle.rtc_history.specs.Rounds.{is_own, has_set, EndsRound}
 
-abbrev offered : List Said → Entry
+abbrev offered : List MadeSdp → Entry
 offered made = record {
   step = Negotiate Left (AddMedia Audio SendRecv ∷ []) true;
   outcome = Negotiated (Mid (codes "m3") ∷ []) (Offer 0);
@@ -21,7 +21,7 @@ offered made = record {
   made = made;
 }
 
-abbrev answered : List Said → Entry
+abbrev answered : List MadeSdp → Entry
 answered made = record {
   step = AcceptOffer Right 0;
   outcome = Answered 1;
@@ -29,28 +29,28 @@ answered made = record {
   made = made;
 }
 
-abbrev round : List Said → List Said → List Entry
+abbrev round : List MadeSdp → List MadeSdp → List Entry
 round offer answer = answered answer ∷ offered offer ∷ []
 
-answer_is_own : (offer answer : List Said) → is_own Left 0 1 (round offer answer) ≡ true
+answer_is_own : (offer answer : List MadeSdp) → is_own Left 0 1 (round offer answer) ≡ true
 answer_is_own offer answer = refl
 
-nothing_set : (offer answer : List Said) → has_set Left 0 (round offer answer) ≡ false
+nothing_set : (offer answer : List MadeSdp) → has_set Left 0 (round offer answer) ≡ false
 nothing_set offer answer = refl
 
-token_right : (offer answer : List Said) → is_right Left 0 (round offer answer) ≡ true
+token_right : (offer answer : List MadeSdp) → is_right Left 0 (round offer answer) ≡ true
 token_right offer answer = refl
 
 -- the answer of another number is not its own, nor is it the answer to another offer
-other_answer : (offer answer : List Said) → is_own Left 0 2 (round offer answer) ≡ false
+other_answer : (offer answer : List MadeSdp) → is_own Left 0 2 (round offer answer) ≡ false
 other_answer offer answer = refl
 
-other_offer : (offer answer : List Said) → is_own Left 1 1 (round offer answer) ≡ false
+other_offer : (offer answer : List MadeSdp) → is_own Left 1 1 (round offer answer) ≡ false
 other_offer offer answer = refl
 
-round_ends : (offer answer : List Said) → EndsRound Left 0 1 (round offer answer) (Media 0 (codes "m3") Audio SendRecv false false ∷ [])
+round_ends : (offer answer : List MadeSdp) → EndsRound Left 0 1 (round offer answer) (Media 0 (codes "m3") Audio SendRecv false false ∷ [])
 round_ends offer answer = record { agreed = (refl, tt); equal = ((refl, refl), tt); mirrored = (inr (refl, refl, refl), tt) }
 
 -- it does not end with no row at the offerer
-no_row_left : (offer answer : List Said) → EndsRound Left 0 1 (round offer answer) [] → ⊥
+no_row_left : (offer answer : List MadeSdp) → EndsRound Left 0 1 (round offer answer) [] → ⊥
 no_row_left offer answer ends = ends.agreed

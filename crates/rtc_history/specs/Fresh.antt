@@ -1,4 +1,4 @@
--- A pair at its start.
+-- Pairs on which no step was performed.
 use Rattle.std.specs.Prelude.{◌≡◌, []}
 use Rattle.rtc_peer_state.specs.declared.peer.Peer.{Peer}
 use Rattle.rtc_history.specs.PairState.{PairState}
@@ -9,9 +9,9 @@ pub record IsJustBuilt {N : Type 0} (peer : Peer N) : Type 0 where
   pub staged : peer.staged ≡ []
   pub counter : peer.counter ≡ 0
 
--- both peers were just built, and no text was made and no step performed
+-- both peers were just built; no session description was made and no step performed
 pub record IsFresh {N : Type 0} (pair : PairState N) : Type 0 where
   pub left : IsJustBuilt pair.left.core
   pub right : IsJustBuilt pair.right.core
-  pub texts : pair.texts ≡ []
+  pub sdps : pair.sdps ≡ []
   pub size : pair.size ≡ 0

@@ -4,7 +4,6 @@ pub mod Sizes
 pub mod Past
 pub mod Sound
 pub mod Finished
-pub mod Delivered
 pub mod SaidRows
 pub mod Rounds
 pub mod CourseRows
@@ -14,5 +13,3 @@ pub mod PairState
 pub mod Performs
 pub mod Runs
 pub mod Fresh
-pub mod Bounds
-pub mod Formed

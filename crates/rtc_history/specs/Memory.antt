@@ -1,4 +1,4 @@
--- Which replies tell a want of memory.
+-- Which replies tell that memory ran out.
 use Rattle.std.specs.Prelude.{Bool, true, false, ◌||◌, List}
 use Rattle.std.specs.List.{list_any}
 use Rattle.rtc_peer_state.specs.declared.rtc_error.RtcError.{RtcError}

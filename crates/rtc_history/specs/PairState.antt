@@ -1,5 +1,5 @@
--- What a pair of peers is: the two peers, the texts that they made, and the tokens that are not spent.
-use Rattle.std.specs.Prelude.{ℕ, Bool, not, ◌&&◌, if◌then◌else◌, List, Option, Some, None, slice_get, slice_set}
+-- The state of a pair: its two peers, the session descriptions (SDPs) that they made, and the tokens that are not spent.
+use Rattle.std.specs.Prelude.{ℕ, Bool, if◌then◌else◌, List, Option, Some, None, option_map, slice_get, slice_set}
 use Rattle.rtc_wire.specs.declared.addr.Addr.{Addr}
 use Rattle.rtc_sdp_values.specs.declared.sdp.Sdp.{Sdp}
 use Rattle.rtc_change.specs.PendingOffer.{PendingOffer}
@@ -8,7 +8,7 @@ use Rattle.rtc_peer_state.specs.Whole.{Whole}
 use Rattle.rtc_history.specs.declared.side.Side.{Side}
 use Rattle.rtc_history.specs.declared.side.Side.TheVariants.{Left, Right}
 use Rattle.rtc_history.specs.Sides.{same_side}
-use Rattle.rtc_history.specs.Past.{Said}
+use Rattle.rtc_history.specs.Past.{MadeSdp, sdp_for}
 use Rattle.rtc_history.specs.declared.kept.Kept.{Kept}
 
 pub record PairState (N : Type 0) : Type 0 where
@@ -16,25 +16,24 @@ pub record PairState (N : Type 0) : Type 0 where
   pub right : Whole N
   pub left_addr : Addr
   pub right_addr : Addr
-  pub texts : List Kept
-  -- the sizes of the steps that were performed
+  pub sdps : List Kept
+  -- the sum of the sizes of the steps performed so far
   pub size : ℕ
 
+abbrev pub rtc_at : {N : Type 0} → Side → PairState N → Whole N
+rtc_at Left pair = pair.left
+rtc_at Right pair = pair.right
+
 abbrev pub peer_at : {N : Type 0} → Side → PairState N → Peer N
-peer_at Left pair = pair.left.core
-peer_at Right pair = pair.right.core
+peer_at at pair = (rtc_at at pair).core
 
--- a kept text, without its token
-abbrev pub said_of : Kept → Said
-said_of kept = record { at = kept.at; offer = kept.offer; text = kept.text }
+-- a kept SDP, without its token
+abbrev pub made_sdp : Kept → MadeSdp
+made_sdp kept = record { at = kept.at; offer = kept.offer; sdp = kept.sdp }
 
--- a text that is an offer (or an answer) of the other side
-abbrev pub text_for : Bool → Side → Option Kept → Option Sdp
-text_for offer at None = None
-text_for offer at (Some kept) = if (if offer then kept.offer else not kept.offer) && not (same_side kept.at at) then Some kept.text else None
-
-abbrev pub handed_text : Bool → List Kept → Side → ℕ → Option Sdp
-handed_text offer texts at k = text_for offer at (slice_get texts k)
+-- the offer (or the answer) of a number, if the other side made it
+abbrev pub kept_remote_sdp : Bool → List Kept → Side → ℕ → Option Sdp
+kept_remote_sdp offer sdps at k = sdp_for offer at (option_map made_sdp (slice_get sdps k))
 
 -- the unspent token of an offer that this side made
 abbrev pub token_for : Side → Option Kept → Option PendingOffer
@@ -42,12 +41,12 @@ token_for at None = None
 token_for at (Some kept) = if same_side kept.at at then kept.token else None
 
 abbrev pub held_token : List Kept → Side → ℕ → Option PendingOffer
-held_token texts at t = token_for at (slice_get texts t)
+held_token sdps at t = token_for at (slice_get sdps t)
 
--- the texts without the token of this number
+-- the SDPs, with the token of this number spent
 abbrev pub spent : ℕ → List Kept → List Kept
-spent t texts = without_token (slice_get texts t)
+spent t sdps = without_token (slice_get sdps t)
   where
     without_token : Option Kept → List Kept
-    without_token None = texts
-    without_token (Some kept) = slice_set texts t (record kept { token = None })
+    without_token None = sdps
+    without_token (Some kept) = slice_set sdps t (record kept { token = None })

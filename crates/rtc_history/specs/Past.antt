@@ -1,5 +1,6 @@
--- What the steps so far say: rows, texts and tokens, read from the steps and their replies alone.
-use Rattle.std.specs.Prelude.{◌+◌, ℕ, ◌==◌, Bool, true, false, not, ◌&&◌, ◌||◌, List, [], ◌∷◌, ◌++◌, if◌then◌else◌, Option, Some, None, slice_get}
+-- What a list of past steps and replies tells: rows, session descriptions (SDPs) and tokens.
+use Rattle.std.specs.Prelude.{◌+◌, ℕ, ◌==◌, Bool, true, false, not, ◌&&◌, ◌||◌, List, [], ◌∷◌, ◌++◌, if◌then◌else◌}
+use Rattle.std.specs.Prelude.{Option, Some, None, slice_get}
 use Rattle.std.specs.List.{list_any}
 use Rattle.rtc_sdp_values.specs.declared.line_row.LineRow.{LineRow}
 use Rattle.rtc_sdp_values.specs.declared.line_row.LineRow.TheVariants.{Media}
@@ -19,18 +20,18 @@ use Rattle.rtc_history.specs.declared.table.Table.{Table}
 use Rattle.rtc_history.specs.declared.reply.Reply.{Reply}
 use Rattle.rtc_history.specs.Sides.{same_side, side_of}
 
--- a text, by who made it and what it is
-pub record Said : Type 0 where
+-- an SDP, with the side that made it and whether it is an offer
+pub record MadeSdp : Type 0 where
   pub at : Side
   pub offer : Bool
-  pub text : Sdp
+  pub sdp : Sdp
 
--- a step with its reply and the text that it made, if any; a past is a list of these, the newest first
+-- a step with its reply and the SDP that it made, if any. A past is a list of these, newest first.
 pub record Entry : Type 0 where
   pub step : Step
   pub outcome : Outcome
   pub table : Option Table
-  pub made : List Said
+  pub made : List MadeSdp
 
 abbrev pub steps_of : List Entry → List Step
 steps_of [] = []
@@ -48,50 +49,51 @@ rows_or true (Some table) earlier = table.lines
 rows_or true None earlier = earlier
 rows_or false table earlier = earlier
 
--- the rows of a side: those of its last reply that has a table
+-- the rows of a side, as its last reply with a table shows them
 abbrev pub before : Side → List Entry → List LineRow
 before at [] = []
 before at (entry ∷ past) = rows_or (same_side (side_of entry.step) at) entry.table (before at past)
 
--- the texts in the order they were made
-abbrev pub texts : List Entry → List Said
-texts [] = []
-texts (entry ∷ past) = texts past ++ entry.made
+-- the SDPs in the order they were made
+abbrev pub sdps : List Entry → List MadeSdp
+sdps [] = []
+sdps (entry ∷ past) = sdps past ++ entry.made
 
--- an offer (or an answer) of the other side
-abbrev pub said_for : Bool → Side → Option Said → Option Sdp
-said_for offer at None = None
-said_for offer at (Some said) = if (if offer then said.offer else not said.offer) && not (same_side said.at at) then Some said.text else None
+-- an SDP, if it is an offer (or an answer) of the other side
+abbrev pub sdp_for : Bool → Side → Option MadeSdp → Option Sdp
+sdp_for offer at None = None
+sdp_for offer at (Some said) = if (if offer then said.offer else not said.offer) && not (same_side said.at at) then Some said.sdp else None
 
-abbrev pub handed : Bool → Side → ℕ → List Entry → Option Sdp
-handed offer at k past = said_for offer at (slice_get (texts past) k)
+-- the offer (or the answer) of a number, if the other side made it
+abbrev pub remote_sdp : Bool → Side → ℕ → List Entry → Option Sdp
+remote_sdp offer at k past = sdp_for offer at (slice_get (sdps past) k)
 
--- whether a reply says that a peer was handed the text
-abbrev pub was_handed : Outcome → Bool
-was_handed (Negotiated answers made) = false
-was_handed (Answered k) = true
-was_handed Finished = true
-was_handed (Refused error) = true
-was_handed NoSuch = false
-was_handed Alloc = false
+-- whether a reply says that the peer's accept call was reached
+abbrev pub was_called : Outcome → Bool
+was_called (Negotiated answers made) = false
+was_called (Answered k) = true
+was_called Finished = true
+was_called (Refused error) = true
+was_called NoSuch = false
+was_called Alloc = false
 
--- a token is spent by each answer that its peer is handed with it
+-- a token is spent by the call that accepts or refuses an answer with it
 abbrev pub spends : ℕ → Step → Outcome → Bool
 spends t (Negotiate at ops apply) outcome = false
 spends t (AcceptOffer at offer) outcome = false
-spends t (AcceptAnswer at token answer) outcome = (token == t) && was_handed outcome
+spends t (AcceptAnswer at token answer) outcome = (token == t) && was_called outcome
 
 abbrev pub is_spent : ℕ → List Entry → Bool
 is_spent t [] = false
 is_spent t (entry ∷ past) = spends t entry.step entry.outcome || is_spent t past
 
-abbrev pub is_offer_of : Side → Option Said → Bool
+abbrev pub is_offer_of : Side → Option MadeSdp → Bool
 is_offer_of at None = false
 is_offer_of at (Some said) = said.offer && same_side said.at at
 
--- whether a side has the token of a number
+-- whether a side holds the unspent token of a number
 abbrev pub holds_token : Side → ℕ → List Entry → Bool
-holds_token at t past = is_offer_of at (slice_get (texts past) t) && not (is_spent t past)
+holds_token at t past = is_offer_of at (slice_get (sdps past) t) && not (is_spent t past)
 
 -- whether an op staged something
 abbrev pub stages : OpAnswer → Bool
@@ -118,10 +120,10 @@ applies (Refused error) = false
 applies NoSuch = false
 applies Alloc = false
 
--- whether a step applied staged changes of a side, or handed it an offer
+-- whether a step applied staged changes of a side, or had it accept or refuse an offer
 abbrev pub moves : Side → Step → Outcome → Bool
 moves at (Negotiate side ops apply) outcome = same_side side at && applies outcome
-moves at (AcceptOffer side offer) outcome = same_side side at && was_handed outcome
+moves at (AcceptOffer side offer) outcome = same_side side at && was_called outcome
 moves at (AcceptAnswer side token answer) outcome = false
 
 abbrev pub is_offer_numbered : ℕ → Made → Bool
@@ -139,18 +141,19 @@ makes t (Refused error) = false
 makes t NoSuch = false
 makes t Alloc = false
 
--- since the offer of this number, its side applied nothing that was staged and was handed no offer
+-- since the offer of this number, its side applied no staged changes, and neither accepted nor refused an offer
 abbrev pub is_right : Side → ℕ → List Entry → Bool
 is_right at t [] = false
 is_right at t (entry ∷ past) = makes t entry.outcome || (not (moves at entry.step entry.outcome) && is_right at t past)
 
--- the rows that ops stage, at places from this one on: one for each op that is answered by a mid
+-- the rows that ops add, at places from this one on: one for each op that is answered by a mid
 abbrev pub added : ℕ → List Op → List OpAnswer → List LineRow
 added place [] answers = []
 added place (op ∷ ops) [] = []
 added place (AddMedia kind dir ∷ ops) (Mid mid ∷ answers) = Media place mid kind dir false false ∷ added (place + 1) ops answers
 added place (op ∷ ops) (answer ∷ answers) = added place ops answers
 
+-- the rows that a step adds
 abbrev pub added_in : ℕ → Step → Outcome → List LineRow
 added_in place (Negotiate at ops apply) (Negotiated answers made) = added place ops answers
 added_in place step outcome = []

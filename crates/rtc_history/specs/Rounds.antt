@@ -1,4 +1,4 @@
--- Rounds, read from the steps so far: an offer, its own answer, and what this answer leaves.
+-- Rounds, read from the past: an offer, its own answer, and what accepting this answer leaves.
 use Rattle.std.specs.Prelude.{◌≡◌, ◌==◌, ◌&&◌, not, Bool, true, false, ℕ, List, [], ◌∷◌, length, if◌then◌else◌, Option, Some}
 use Rattle.std.specs.List.{list_any}
 use Rattle.rtc_sdp_values.specs.declared.line_row.LineRow.{LineRow}
@@ -41,7 +41,7 @@ is_answer_to at t a step outcome = false
 abbrev pub makes_answer : Side → ℕ → ℕ → Entry → Bool
 makes_answer at t a entry = is_answer_to at t a entry.step entry.outcome
 
--- an answer is its token's own where the other side made it in a step that accepted the token's offer
+-- whether an answer is its token's own: the other side made it by accepting the token's offer
 abbrev pub is_own : Side → ℕ → ℕ → List Entry → Bool
 is_own at t a past = list_any (makes_answer at t a) past
 
@@ -51,7 +51,7 @@ sets_line (AddMedia kind dir) = false
 sets_line (SetDirection place dir) = true
 sets_line (StopMedia place) = true
 
--- whether a step of a side sets or stops a line, also one that is staged only
+-- whether a step of a side sets or stops a line, applied or not
 abbrev pub sets_lines : Side → Step → Bool
 sets_lines at (Negotiate side ops apply) = same_side side at && list_any sets_line ops
 sets_lines at (AcceptOffer side offer) = false
@@ -61,11 +61,11 @@ sets_lines at (AcceptAnswer side token answer) = false
 abbrev pub has_set : Side → ℕ → List Entry → Bool
 has_set at t past = list_any (λ entry. sets_lines at entry.step) (since_last (makes_offer t) past)
 
--- the rows of a side as it made the offer of a number
+-- the rows of a side when it made the offer of a number
 abbrev pub rows_at_offer : Side → ℕ → List Entry → List LineRow
 rows_at_offer at t past = before at (through_last (makes_offer t) past)
 
--- The answer ends the round of its offer at this side, and these are the rows that it leaves there.
+-- Accepting the answer ends the round of its offer at this side, and leaves these rows there.
 abbrev pub EndsRound : Side → ℕ → ℕ → List Entry → List LineRow → Type 0
 EndsRound at t a past after =
     FinishedRound
@@ -77,5 +77,6 @@ EndsRound at t a past after =
 
 -- An accepted answer that is its token's own ends the round, where its side set and stopped no line since the offer.
 abbrev pub FinishesRound : List Entry → Step → Outcome → Option Table → Type 0
-FinishesRound past (AcceptAnswer at t a) Finished (Some table) = is_own at t a past ≡ true → has_set at t past ≡ false → EndsRound at t a past table.lines
+FinishesRound past (AcceptAnswer at t a) Finished (Some table) =
+    is_own at t a past ≡ true → has_set at t past ≡ false → EndsRound at t a past table.lines
 FinishesRound past step outcome table = Unit {0}

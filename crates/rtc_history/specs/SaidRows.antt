@@ -1,4 +1,4 @@
--- What the texts that steps make say: the rows of the side that makes them.
+-- What the SDPs that steps make say: the rows of the side that makes them.
 use Rattle.std.specs.Prelude.{◌≡◌, Bool, true, false, not, List, [], ◌∷◌, ◌++◌, map, length, Option, Some, None}
 use Rattle.std.specs.List.{list_any}
 use Rattle.rtc_sdp_values.specs.Sdp.{inconsistency}
@@ -7,9 +7,9 @@ use Rattle.rtc_sdp_values.specs.declared.line_kind.LineKind.TheVariants.{Applica
 use Rattle.rtc_sdp_values.specs.declared.line_row.LineRow.{LineRow}
 use Rattle.rtc_sdp_values.specs.declared.line_row.LineRow.TheVariants.{Media, App}
 use Rattle.rtc_sdp_values.specs.declared.sdp.Sdp.{Sdp}
-use Rattle.rtc_change.specs.declared.said_line.SaidLine.{SaidLine}
-use Rattle.rtc_change.specs.SaidLines.{said_lines}
-use Rattle.rtc_peer_state.specs.Texts.{is_stopped, line_kind}
+use Rattle.rtc_change.specs.declared.parsed_line.ParsedLine.{ParsedLine}
+use Rattle.rtc_change.specs.ParsedLines.{parsed_lines}
+use Rattle.rtc_peer_state.specs.MadeSdp.{is_stopped, line_kind}
 use Rattle.rtc_history.specs.declared.side.Side.{Side}
 use Rattle.rtc_history.specs.declared.step.Step.{Step}
 use Rattle.rtc_history.specs.declared.step.Step.TheVariants.{Negotiate, AcceptOffer}
@@ -17,11 +17,10 @@ use Rattle.rtc_history.specs.declared.made.Made.TheVariants.{Offer}
 use Rattle.rtc_history.specs.declared.outcome.Outcome.{Outcome}
 use Rattle.rtc_history.specs.declared.outcome.Outcome.TheVariants.{Negotiated, Answered}
 use Rattle.rtc_history.specs.declared.table.Table.{Table}
-use Rattle.rtc_history.specs.Delivered.{ReadsBack}
-use Rattle.rtc_history.specs.Past.{Said, added}
+use Rattle.rtc_history.specs.Past.{MadeSdp, added}
 
 -- the line that says a row: a stopped one is rejected (RFC 8843, section 7)
-abbrev pub row_said : LineRow → SaidLine
+abbrev pub row_said : LineRow → ParsedLine
 row_said (Media place mid kind dir stopped remote_created) = record { kind = line_kind kind; mid = mid; dir = dir; rejected = stopped }
 row_said (App place mid) = record { kind = Application; mid = mid; dir = SendRecv; rejected = false }
 
@@ -29,17 +28,16 @@ row_said (App place mid) = record { kind = Application; mid = mid; dir = SendRec
 abbrev pub are_live : List LineRow → Bool
 are_live rows = list_any (λ row. not (is_stopped row)) rows
 
--- One text was made, by this side. What signalling carries of it reads as it, its lines say these rows, and it fits together
--- where one of them is live (RFC 8843, section 7.1).
-pub record SaysRows (at : Side) (offer : Bool) (rows : List LineRow) (made : List Said) : Type 0 where
-  pub text : Sdp
-  pub one : made ≡ record { at = at; offer = offer; text = text } ∷ []
-  pub carried : ReadsBack text
-  pub says : said_lines text ≡ map row_said rows
-  pub fits : are_live rows ≡ true → inconsistency text ≡ None
+-- One SDP was made, by this side. Its lines say these rows, and it is consistent where one of them is live (RFC 8843, section 7.1).
+pub record SaysRows (at : Side) (offer : Bool) (rows : List LineRow) (made : List MadeSdp) : Type 0 where
+  pub sdp : Sdp
+  pub one : made ≡ record { at = at; offer = offer; sdp = sdp } ∷ []
+  pub says : parsed_lines sdp ≡ map row_said rows
+  pub fits : are_live rows ≡ true → inconsistency sdp ≡ None
 
--- An offer says the rows of its side, then those that it adds; an answer says those that it leaves; no other text is made.
-abbrev pub MakesText : Step → Outcome → Option Table → List Said → Type 0
-MakesText (Negotiate at ops apply) (Negotiated answers (Offer k)) (Some table) made = SaysRows at true (table.lines ++ added (length table.lines) ops answers) made
-MakesText (AcceptOffer at offer) (Answered k) (Some table) made = SaysRows at false table.lines made
-MakesText step outcome table made = made ≡ []
+-- An offer says the rows of its side, then those that it adds; an answer says those that it leaves; no other SDP is made.
+abbrev pub MakesSdp : Step → Outcome → Option Table → List MadeSdp → Type 0
+MakesSdp (Negotiate at ops apply) (Negotiated answers (Offer k)) (Some table) made =
+    SaysRows at true (table.lines ++ added (length table.lines) ops answers) made
+MakesSdp (AcceptOffer at offer) (Answered k) (Some table) made = SaysRows at false table.lines made
+MakesSdp step outcome table made = made ≡ []

@@ -1,14 +1,14 @@
-//! What is made of staged changes.
+//! What a step makes of staged changes.
 
-/// What became of what the ops of a step staged.
+/// What a step made of the changes that its ops staged.
 #[derive(Clone, Copy, Debug, PartialEq, Eq)]
 pub enum Made {
-    /// The step does not apply it, or an op lacked memory.
+    /// The step does not apply them, or memory ran out in an op.
     NotAsked,
-    /// Nothing was staged that has to be offered.
+    /// Nothing staged has to be offered.
     Nothing,
     /// The offer of this number.
     Offer(u32),
-    /// There was too little memory; nothing is applied.
+    /// There was too little memory, and nothing is applied.
     Alloc,
 }

@@ -1,15 +1,33 @@
 //! Answers to ops.
+ghost use Rattle.std.specs.Prelude.{◌≡◌};
+
 use rtc_sdp_values::Mid;
 
-/// What is answered to an op.
+/// The answer to an op.
 #[derive(Clone, Copy, Debug, PartialEq, Eq)]
 pub enum OpAnswer {
     /// The mid of the line that was staged.
     Mid(Mid),
-    /// Whether the line was live, and had another direction where one was to be set. It is staged exactly then.
+    /// Whether the line changed, and the change was staged. A stopped line stays as it is, and so does the direction that it has.
     Changed(bool),
     /// No media line stands at the place.
     NoLine,
-    /// There was too little memory; nothing changed, and no further op is performed.
+    /// There was too little memory: nothing changed, and no further op is performed.
     Alloc,
+}
+
+impl OpAnswer {
+    ghost use Rattle.rtc_history.specs.Memory.{answer_lacks};
+
+    /// Whether memory ran out.
+    pub fn is_out_of_memory(&self) -> bool
+        ensures { result ≡ answer_lacks self.now }
+    {
+        match self {
+            OpAnswer::Mid(_) => false,
+            OpAnswer::Changed(_) => false,
+            OpAnswer::NoLine => false,
+            OpAnswer::Alloc => true,
+        }
+    }
 }

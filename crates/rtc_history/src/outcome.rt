@@ -3,17 +3,18 @@ use crate::{Made, OpAnswer};
 use rtc_peer_state::RtcError;
 use rtc_wire::Seq;
 
-/// What a step came to.
+/// The outcome of a step.
 #[derive(Debug, PartialEq, Eq, Drop)]
 pub enum Outcome {
     Negotiated { answers: Seq<OpAnswer>, made: Made },
-    /// The answer of this number was made.
+    /// The offer was accepted, and the answer of this number was made.
     Answered { text: u32 },
+    /// The answer was accepted.
     Finished,
     /// The peer refused.
     Refused(RtcError),
-    /// There is no such text or token at this side.
+    /// The other side made no such offer or answer, or this side holds no such token.
     NoSuch,
-    /// There was too little memory before the peer was called: the step did nothing.
+    /// Memory ran out before the peer was called: the step did nothing.
     Alloc,
 }

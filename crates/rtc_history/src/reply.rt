@@ -6,7 +6,7 @@ ghost use Rattle.rtc_history.specs.declared.op_answer.OpAnswer.{OpAnswer};
 use crate::{Made, OpAnswer, Outcome, Table};
 use rtc_peer_state::RtcError;
 
-/// What is replied to a step.
+/// The reply to a step.
 #[derive(Debug, PartialEq, Eq, Drop)]
 pub struct Reply {
     pub outcome: Outcome,
@@ -14,12 +14,12 @@ pub struct Reply {
     pub table: Option<Table>,
 }
 
-/// Whether an op lacked memory.
+/// Whether memory ran out in one of the ops.
 pub fn do_answers_lack(answers: &[OpAnswer]) -> bool
     ensures { result ≡ answers_lack answers.now }
 {
     for answer in answers {
-        if let OpAnswer::Alloc = answer {
+        if answer.is_out_of_memory() {
             return true;
         }
     }
@@ -39,7 +39,7 @@ fn does_outcome_lack(outcome: &Outcome) -> bool
 }
 
 impl Reply {
-    /// Whether it tells a want of memory.
+    /// Whether it tells that memory ran out, in the step or in one of its ops.
     pub fn is_out_of_memory(&self) -> bool
         ensures { result ≡ lacks_memory self.now }
     {

@@ -2,7 +2,7 @@
 use rtc_sdp_values::LineRow;
 use rtc_wire::Seq;
 
-/// What the acting peer holds after a step.
+/// The acting peer's rows after a step.
 #[derive(Debug, PartialEq, Eq, Drop)]
 pub struct Table {
     pub lines: Seq<LineRow>,

@@ -12,18 +12,20 @@ use Rattle.rtc_sdp_values.specs.declared.media_kind.MediaKind.{MediaKind}
 use Rattle.rtc_sdp_values.specs.declared.media_kind.MediaKind.TheVariants.{Audio as AudioMedia, Video as VideoMedia}
 use Rattle.rtc_sdp_values.specs.declared.line_kind.LineKind.{LineKind}
 use Rattle.rtc_sdp_values.specs.declared.line_kind.LineKind.TheVariants.{Audio, Video, Application, Unknown}
-use Rattle.rtc_change.specs.declared.said_line.SaidLine.{SaidLine}
+use Rattle.rtc_change.specs.declared.parsed_line.ParsedLine.{ParsedLine}
 use Rattle.rtc_change.specs.declared.new_line.NewLine.{NewLine}
 use Rattle.rtc_change.specs.declared.new_line.NewLine.TheVariants.{Count}
 use Rattle.rtc_change.specs.declared.why.Why.TheVariants.{WrongNewLines}
 use Rattle.rtc_change.specs.Table.{Rising, is_of, row_of, is_app, app_of}
-use Rattle.rtc_change.specs.Taken.{is_new, new_places}
-use Rattle.rtc_change.specs.Verdict.{or_else, is_application, first_refusal, line_refusal, media_refusal, app_refusal, place_refusal}
+use Rattle.rtc_change.specs.TableAfter.{is_new, new_places}
+use Rattle.std.specs.Option.{option_or}
+use Rattle.rtc_sdp_values.specs.Sdp.{is_application}
+use Rattle.rtc_change.specs.Verdict.{first_refusal, line_refusal, media_refusal, app_refusal, place_refusal}
 use Rattle.rtc_change.specs.Plans.{remote_refusal, wrong_news}
 use Rattle.rtc_change.proofs.TableLemmas.{row_at_place}
 
 -- a line of an answer that is allowed is new exactly past the rows
-record NewPast (rows : List LineRow) (place : ℕ) (line : SaidLine) : Type 0 where
+record NewPast (rows : List LineRow) (place : ℕ) (line : ParsedLine) : Type 0 where
   within : place < length rows → is_new rows line ≡ false
   past : length rows ≤ place → is_new rows line ≡ true
 
@@ -68,18 +70,18 @@ app_past rows came place mid (Some row) rising is allowed =
     let at : row_place row ≡ place = grind (arith, eqb-true) in
     found_within is_app rows place row rising is at
 
-line_past : (rows : List LineRow) (came : Bool) (place : ℕ) (line : SaidLine) → Rising 0 rows → line_refusal rows false came place line ≡ None → NewPast rows place line
+line_past : (rows : List LineRow) (came : Bool) (place : ℕ) (line : ParsedLine) → Rising 0 rows → line_refusal rows false came place line ≡ None → NewPast rows place line
 line_past rows came place line rising = by line.kind line.mid line.dir line.rejected
   where
     by : (kind : LineKind) (mid : List ℕ) (dir : Direction) (rejected : Bool)
-        → let line : SaidLine = record { kind = kind; mid = mid; dir = dir; rejected = rejected } in
+        → let line : ParsedLine = record { kind = kind; mid = mid; dir = dir; rejected = rejected } in
         line_refusal rows false came place line ≡ None → NewPast rows place line
     by Audio mid dir rejected allowed = let it = media_past rows place AudioMedia mid (row_of rows mid) rising refl allowed in record { within = it.within; past = it.past }
     by Video mid dir rejected allowed = let it = media_past rows place VideoMedia mid (row_of rows mid) rising refl allowed in record { within = it.within; past = it.past }
     by Application mid dir rejected allowed = let it = app_past rows came place mid (app_of rows) rising refl allowed in record { within = it.within; past = it.past }
     by Unknown mid dir rejected allowed = absurd (cc)
 
-neither : {A : Type 0} (one next : Option A) → or_else one next ≡ None → (one ≡ None) × (next ≡ None)
+neither : {A : Type 0} (one next : Option A) → option_or one next ≡ None → (one ≡ None) × (next ≡ None)
 neither None next none = (refl, none)
 neither (Some first) next none = absurd (cc)
 
@@ -87,7 +89,7 @@ at_least : (count place : ℕ) → (place < count → ⊥) → count ≤ place
 at_least count place never = let less : count < place + 1 = lt_of_not-le (λ most. never (omega arith)) in omega arith
 
 -- the new lines of an answer that is allowed are those past the rows
-pub new_count : (rows : List LineRow) (came : Bool) (place : ℕ) (said : List SaidLine) → Rising 0 rows → first_refusal rows false came place said ≡ None
+pub new_count : (rows : List LineRow) (came : Bool) (place : ℕ) (said : List ParsedLine) → Rising 0 rows → first_refusal rows false came place said ≡ None
     → length (new_places rows place said) ≡ (place + length said) - max place (length rows)
 new_count rows came place [] rising allowed = omega arith
 new_count rows came place (line ∷ said) rising allowed =
@@ -113,7 +115,7 @@ untold None none = refl
 untold (Some wrong) none = absurd (cc)
 
 -- an answer that is not refused has as many lines as its offer, where it has no fewer
-pub answer_count : (rows added : List LineRow) (said : List SaidLine) → Rising 0 rows → first_refusal rows false false 0 said ≡ None
+pub answer_count : (rows added : List LineRow) (said : List ParsedLine) → Rising 0 rows → first_refusal rows false false 0 said ≡ None
     → wrong_news rows (Some (record { added = added })) said ≡ None → length rows + length added ≤ length said → length said ≡ length rows + length added
 answer_count rows added said rising allowed news most =
     let count : length added ≡ length (new_places rows 0 said) = counted _ _ _ (untold _ news) in

@@ -8,12 +8,12 @@ use Rattle.rtc_sdp_values.specs.declared.direction.Direction.TheVariants.{Inacti
 use Rattle.rtc_sdp_values.specs.declared.line_row.LineRow.{LineRow}
 use Rattle.rtc_change.specs.declared.change.Change.{Change}
 use Rattle.rtc_change.specs.declared.change.Change.TheVariants.{AddMedia as Adding, Direction as Setting}
-use Rattle.rtc_change.specs.Distinct.{is_among}
+use Rattle.rtc_sdp_values.specs.Mids.{is_among}
 use Rattle.rtc_change.specs.PendingOffer.{added_mids}
-use Rattle.rtc_change.specs.RowChanges.{RowChange, turned, halted, is_changed, changed_at, changed_of}
+use Rattle.rtc_change.specs.RowChanges.{RowChange, directed_row, stopped_row, is_changed, changed_at, changed_of}
 use Rattle.rtc_change.specs.Table.{IsTable, has_mid}
 use Rattle.rtc_change.proofs.AddedLemmas.{added_mids-append}
-use Rattle.rtc_change.proofs.RowChangeLemmas.{KeepsRow, turned_keeps, halted_keeps, changed_of_alike, has_mid-alike, table_alike}
+use Rattle.rtc_change.proofs.RowChangeLemmas.{KeepsRow, directed_row_keeps, stopped_row_keeps, changed_of_alike, has_mid-alike, table_alike}
 use Rattle.rtc_peer_state.specs.declared.peer.Peer.{Peer}
 use Rattle.rtc_peer_state.specs.Draws.{Draws}
 use Rattle.rtc_peer_state.specs.Names.{is_held}
@@ -93,15 +93,15 @@ ops_answered draws p q (AddMedia kind dir ∷ ops) (Mid mid ∷ answers) held ta
           ∙ sym (ap (λ s. is_held p.lines s other) staged) ∙ sym (ap (λ l. is_held l h.0.staged other) lines))
           h.2),
     )
-ops_answered draws p q (AddMedia kind dir ∷ ops) (OpAlloc ∷ []) held table holds h = ap (λ r. r.lines) h
+ops_answered draws p q (AddMedia kind dir ∷ ops) (OpAlloc ∷ []) held table holds h = ap (λ r. r.lines) h.1
 ops_answered draws p q (SetDirection place dir ∷ ops) (NoLine ∷ answers) held table holds h = (h.0, ops_answered draws p q ops answers held table holds h.1)
 ops_answered draws p q (SetDirection place dir ∷ ops) (Changed changed ∷ answers) held table holds h =
-    let line = line_answered (turned dir) dir place p changed held h.0 (turned_keeps dir) table holds h.1 in
+    let line = line_answered (directed_row dir) dir place p changed held h.0 (directed_row_keeps dir) table holds h.1 in
     (line.tells, subst (λ (rows : List LineRow). OpsAnswered rows held ops answers q.lines) line.lines (ops_answered draws h.0 q ops answers held line.table line.holds h.2))
 ops_answered draws p q (SetDirection place dir ∷ ops) (OpAlloc ∷ []) held table holds h = ap (λ r. r.lines) h.called
 ops_answered draws p q (StopMedia place ∷ ops) (NoLine ∷ answers) held table holds h = (h.0, ops_answered draws p q ops answers held table holds h.1)
 ops_answered draws p q (StopMedia place ∷ ops) (Changed changed ∷ answers) held table holds h =
-    let line = line_answered halted Inactive place p changed held h.0 halted_keeps table holds h.1 in
+    let line = line_answered stopped_row Inactive place p changed held h.0 stopped_row_keeps table holds h.1 in
     (line.tells, subst (λ (rows : List LineRow). OpsAnswered rows held ops answers q.lines) line.lines (ops_answered draws h.0 q ops answers held line.table line.holds h.2))
 ops_answered draws p q (StopMedia place ∷ ops) (OpAlloc ∷ []) held table holds h = ap (λ r. r.lines) h.called
 ops_answered draws p q ops answers held table holds h = absurd h

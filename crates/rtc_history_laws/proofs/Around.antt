@@ -1,4 +1,4 @@
--- What surrounds what the acting peer of a step does, and steps that add no row and no text.
+-- What surrounds what the acting peer of a step does, and steps that add no row and no SDP.
 use Rattle.std.proofs.Common.{◌≡◌, ◌≤◌, ◌<◌, ◌+◌, ◌^◌, ℕ, List, ◌∷◌, length, Bool, true, false, not, ◌&&◌, cond, Option, Some, None, refl, sym, ◌∙◌, ap, arith}
 use Rattle.std.specs.Prelude.{slice_get, option_map}
 use Rattle.std.proofs.lemmas.List.{length-map}
@@ -11,19 +11,19 @@ use Rattle.rtc_history.specs.declared.outcome.Outcome.{Outcome}
 use Rattle.rtc_history.specs.declared.table.Table.{Table}
 use Rattle.rtc_history.specs.Sides.{same_side, other_side, side_of}
 use Rattle.rtc_history.specs.Sizes.{step_size}
-use Rattle.rtc_history.specs.Past.{Entry, Said, before, rows_or, texts, said_for, handed, spends, moves, makes}
+use Rattle.rtc_history.specs.Past.{Entry, MadeSdp, before, rows_or, sdps, sdp_for, remote_sdp, spends, moves, makes}
 use Rattle.rtc_history.specs.declared.kept.Kept.{Kept}
-use Rattle.rtc_history.specs.PairState.{PairState, peer_at, said_of, text_for, handed_text}
+use Rattle.rtc_history.specs.PairState.{PairState, peer_at, made_sdp, kept_remote_sdp}
 use Rattle.rtc_history.specs.Performs.{made_by}
 use Rattle.rtc_history_laws.proofs.Tells.{Tells}
 use Rattle.rtc_history_laws.proofs.Entries.{Goes, unmade_tells}
 use Rattle.rtc_history_laws.proofs.TokenEntries.{All-slice_get}
 
-abbrev pub entry : Step → Outcome → Option Table → List Said → Entry
+abbrev pub entry : Step → Outcome → Option Table → List MadeSdp → Entry
 entry step outcome table made = record { step = step; outcome = outcome; table = table; made = made }
 
 -- what is known of a step besides what its peer does
-pub record Around {N : Type 0} (step : Step) (made : List Said) (old new : PairState N) : Type 0 where
+pub record Around {N : Type 0} (step : Step) (made : List MadeSdp) (old new : PairState N) : Type 0 where
   pub other : peer_at (other_side (side_of step)) new ≡ peer_at (other_side (side_of step)) old
   pub size : new.size ≡ old.size + step_size step
   pub small : new.size < 2 ^ 32
@@ -34,10 +34,10 @@ one_at_least (Negotiate at ops apply) = omega arith
 one_at_least (AcceptOffer at offer) = omega arith
 one_at_least (AcceptAnswer at token answer) = omega arith
 
-pub size_grows : {N : Type 0} (step : Step) (made : List Said) (old new : PairState N) → Around step made old new → old.size + 1 ≤ new.size
+pub size_grows : {N : Type 0} (step : Step) (made : List MadeSdp) (old new : PairState N) → Around step made old new → old.size + 1 ≤ new.size
 size_grows step made old new around = omega (arith, one_at_least step, around.size)
 
-pub goes_on : {N : Type 0} (moved : Bool) (past : List Entry) (step : Step) (outcome : Outcome) (table : Option Table) (made : List Said) (old new : PairState N)
+pub goes_on : {N : Type 0} (moved : Bool) (past : List Entry) (step : Step) (outcome : Outcome) (table : Option Table) (made : List MadeSdp) (old new : PairState N)
     → (peer_at (side_of step) new).lines ≡ rows_or true table (before (side_of step) past)
     → (peer_at (side_of step) new).counter ≡ cond moved ((peer_at (side_of step) old).counter + 1) (peer_at (side_of step) old).counter
     → moves (side_of step) step outcome ≡ moved → moves (other_side (side_of step)) step outcome ≡ false
@@ -54,9 +54,9 @@ goes_on moved past step outcome table made old new rows counter mine theirs few 
   made = around.made_is;
 }
 
--- A step that leaves as many rows, and texts as they were.
-pub quiet_tells : {N : Type 0} (moved : Bool) (past : List Entry) (step : Step) (outcome : Outcome) (table : Option Table) (made : List Said) (old new : PairState N)
-    → length (peer_at (side_of step) new).lines ≡ length (peer_at (side_of step) old).lines → new.texts ≡ old.texts
+-- A step that leaves as many rows, and SDPs as they were.
+pub quiet_tells : {N : Type 0} (moved : Bool) (past : List Entry) (step : Step) (outcome : Outcome) (table : Option Table) (made : List MadeSdp) (old new : PairState N)
+    → length (peer_at (side_of step) new).lines ≡ length (peer_at (side_of step) old).lines → new.sdps ≡ old.sdps
     → (peer_at (side_of step) new).lines ≡ rows_or true table (before (side_of step) past)
     → (peer_at (side_of step) new).counter ≡ cond moved ((peer_at (side_of step) old).counter + 1) (peer_at (side_of step) old).counter
     → moves (side_of step) step outcome ≡ moved → moves (other_side (side_of step)) step outcome ≡ false
@@ -67,28 +67,24 @@ quiet_tells moved past step outcome table made old new lines kept rows counter m
     let grows : old.size + 1 ≤ new.size = size_grows step made old new around in
     unmade_tells moved past (entry step outcome table made) old new (goes_on moved past step outcome table made old new rows counter mine theirs (omega arith) around) lines kept unspent unmade tells
 
--- ---- texts that are handed over
+-- ---- SDPs that are delivered
 
--- what the past says of a text is what is kept of it
-pub handed-told : {N : Type 0} (past : List Entry) (pair : PairState N) (offer : Bool) (at : Side) (k : ℕ) → Tells past pair → handed offer at k past ≡ handed_text offer pair.texts at k
-handed-told past pair offer at k tells = ap (λ said. said_for offer at (slice_get said k)) (sym tells.says) ∙ ap (said_for offer at) (slice_get-map said_of pair.texts k) ∙ same (slice_get pair.texts k)
+-- what the past says of an SDP is what is kept of it
+pub remote_sdp-told : {N : Type 0} (past : List Entry) (pair : PairState N) (offer : Bool) (at : Side) (k : ℕ) → Tells past pair → remote_sdp offer at k past ≡ kept_remote_sdp offer pair.sdps at k
+remote_sdp-told past pair offer at k tells = ap (λ said. sdp_for offer at (slice_get said k)) (sym tells.says) ∙ ap (sdp_for offer at) (slice_get-map made_sdp pair.sdps k)
+
+-- how many SDPs there are
+pub length-told : {N : Type 0} (past : List Entry) (pair : PairState N) → Tells past pair → length (sdps past) ≡ length pair.sdps
+length-told past pair tells = ap length (sym tells.says) ∙ length-map pair.sdps made_sdp
+
+-- the SDP that is delivered is one of the pair's
+pub sdp_within : {N : Type 0} (past : List Entry) (pair : PairState N) (offer : Bool) (at : Side) (k : ℕ) (sdp : Sdp) → Tells past pair → kept_remote_sdp offer pair.sdps at k ≡ Some sdp → length sdp.lines ≤ pair.size
+sdp_within past pair offer at k sdp tells is = by (slice_get pair.sdps k) refl is
   where
-    same : (kept : Option Kept) → said_for offer at (option_map said_of kept) ≡ text_for offer at kept
-    same None = refl
-    same (Some kept) = refl
+    picked : (b : Bool) (kept : Kept) → slice_get pair.sdps k ≡ Some kept → cond b (Some kept.sdp) None ≡ Some sdp → length sdp.lines ≤ pair.size
+    picked true kept there e = let same : kept.sdp ≡ sdp = cc in rw (← same) (All-slice_get (λ (one : Kept). length one.sdp.lines ≤ pair.size) pair.sdps k kept there tells.each)
+    picked false kept there e = absurd (let f : None ≡ Some sdp = e in cc)
 
--- how many texts there are
-pub length-told : {N : Type 0} (past : List Entry) (pair : PairState N) → Tells past pair → length (texts past) ≡ length pair.texts
-length-told past pair tells = ap length (sym tells.says) ∙ length-map pair.texts said_of
-
--- the text that is handed over is one of the pair's
-pub text_within : {N : Type 0} (past : List Entry) (pair : PairState N) (offer : Bool) (at : Side) (k : ℕ) (text : Sdp) → Tells past pair → handed_text offer pair.texts at k ≡ Some text → length text.lines ≤ pair.size
-text_within past pair offer at k text tells is = by (slice_get pair.texts k) refl is
-  where
-    picked : (b : Bool) (kept : Kept) → slice_get pair.texts k ≡ Some kept → cond b (Some kept.text) None ≡ Some text → length text.lines ≤ pair.size
-    picked true kept there e = let same : kept.text ≡ text = cc in rw (← same) (All-slice_get (λ (one : Kept). length one.text.lines ≤ pair.size) pair.texts k kept there tells.each)
-    picked false kept there e = absurd (let f : None ≡ Some text = e in cc)
-
-    by : (found : Option Kept) → slice_get pair.texts k ≡ found → text_for offer at found ≡ Some text → length text.lines ≤ pair.size
-    by None there e = absurd (let f : None ≡ Some text = e in cc)
+    by : (found : Option Kept) → slice_get pair.sdps k ≡ found → sdp_for offer at (option_map made_sdp found) ≡ Some sdp → length sdp.lines ≤ pair.size
+    by None there e = absurd (let f : None ≡ Some sdp = e in cc)
     by (Some kept) there e = picked (cond offer kept.offer (not kept.offer) && not (same_side kept.at at)) kept there e

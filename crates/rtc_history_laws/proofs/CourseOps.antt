@@ -5,7 +5,7 @@ use Rattle.rtc_sdp_values.specs.Direction.{same_direction}
 use Rattle.rtc_sdp_values.specs.declared.direction.Direction.{Direction}
 use Rattle.rtc_sdp_values.specs.declared.line_row.LineRow.{LineRow}
 use Rattle.rtc_sdp_values.specs.declared.line_row.LineRow.TheVariants.{Media, App}
-use Rattle.rtc_change.specs.RowChanges.{RowChange, turned, halted, row_after_change, changed_at, is_changed, media_mid}
+use Rattle.rtc_change.specs.RowChanges.{RowChange, directed_row, stopped_row, row_after_change, changed_at, is_changed, media_mid}
 use Rattle.rtc_history.specs.declared.op.Op.{Op}
 use Rattle.rtc_history.specs.declared.op.Op.TheVariants.{AddMedia, SetDirection, StopMedia}
 use Rattle.rtc_history.specs.declared.op_answer.OpAnswer.{OpAnswer}
@@ -24,32 +24,32 @@ record IsSeen (change : RowChange) : Type 0 where
   same : (row : LineRow) → change (unnamed row) ≡ option_map unnamed (change row)
   media : (row : LineRow) → media_mid (Some row) ≡ None → change row ≡ None
 
-turned_seen : (dir : Direction) → IsSeen (turned dir)
+turned_seen : (dir : Direction) → IsSeen (directed_row dir)
 turned_seen dir = record { same = same; media = media }
   where
-    same : (row : LineRow) → turned dir (unnamed row) ≡ option_map unnamed (turned dir row)
+    same : (row : LineRow) → directed_row dir (unnamed row) ≡ option_map unnamed (directed_row dir row)
     same (Media place mid kind own true remote_created) = refl
     same (Media place mid kind own false remote_created) = by (same_direction own dir) refl
       where
         by : (alike : Bool) → same_direction own dir ≡ alike
-            → turned dir (unnamed (Media place mid kind own false remote_created)) ≡ option_map unnamed (turned dir (Media place mid kind own false remote_created))
+            → directed_row dir (unnamed (Media place mid kind own false remote_created)) ≡ option_map unnamed (directed_row dir (Media place mid kind own false remote_created))
         by true is = rw is refl
         by false is = rw is refl
     same (App place mid) = refl
 
-    media : (row : LineRow) → media_mid (Some row) ≡ None → turned dir row ≡ None
+    media : (row : LineRow) → media_mid (Some row) ≡ None → directed_row dir row ≡ None
     media (Media place mid kind own stopped remote_created) none = absurd (cc)
     media (App place mid) none = refl
 
-halted_seen : IsSeen halted
+halted_seen : IsSeen stopped_row
 halted_seen = record { same = same; media = media }
   where
-    same : (row : LineRow) → halted (unnamed row) ≡ option_map unnamed (halted row)
+    same : (row : LineRow) → stopped_row (unnamed row) ≡ option_map unnamed (stopped_row row)
     same (Media place mid kind own true remote_created) = refl
     same (Media place mid kind own false remote_created) = refl
     same (App place mid) = refl
 
-    media : (row : LineRow) → media_mid (Some row) ≡ None → halted row ≡ None
+    media : (row : LineRow) → media_mid (Some row) ≡ None → stopped_row row ≡ None
     media (Media place mid kind own stopped remote_created) none = absurd (cc)
     media (App place mid) none = refl
 
@@ -118,19 +118,19 @@ ops_seen rows held (AddMedia kind dir ∷ ops) (Mid mid ∷ answers) after answe
     record { left = rest.left; staged = refl; adds = λ place. ap (λ more. Media place [] kind dir false false ∷ more) (rest.adds (place + 1)) }
 ops_seen rows held (SetDirection at dir ∷ ops) (NoLine ∷ answers) after answered enough =
     let rest = ops_seen rows held ops answers after answered.1 enough in
-    let here = unset_seen (turned dir) (turned_seen dir) at rows ops answers after answered.0 rest in
+    let here = unset_seen (directed_row dir) (turned_seen dir) at rows ops answers after answered.0 rest in
     record { left = here.left; staged = here.staged; adds = rest.adds }
 ops_seen rows held (SetDirection at dir ∷ ops) (Changed changed ∷ answers) after answered enough =
-    let rest = ops_seen (changed_at (turned dir) at rows) held ops answers after answered.1 enough in
-    let here = set_seen (turned dir) (turned_seen dir) at rows ops answers after changed answered.0.1 rest in
+    let rest = ops_seen (changed_at (directed_row dir) at rows) held ops answers after answered.1 enough in
+    let here = set_seen (directed_row dir) (turned_seen dir) at rows ops answers after changed answered.0.1 rest in
     record { left = here.left; staged = here.staged; adds = rest.adds }
 ops_seen rows held (StopMedia at ∷ ops) (NoLine ∷ answers) after answered enough =
     let rest = ops_seen rows held ops answers after answered.1 enough in
-    let here = unset_seen halted halted_seen at rows ops answers after answered.0 rest in
+    let here = unset_seen stopped_row halted_seen at rows ops answers after answered.0 rest in
     record { left = here.left; staged = here.staged; adds = rest.adds }
 ops_seen rows held (StopMedia at ∷ ops) (Changed changed ∷ answers) after answered enough =
-    let rest = ops_seen (changed_at halted at rows) held ops answers after answered.1 enough in
-    let here = set_seen halted halted_seen at rows ops answers after changed answered.0.1 rest in
+    let rest = ops_seen (changed_at stopped_row at rows) held ops answers after answered.1 enough in
+    let here = set_seen stopped_row halted_seen at rows ops answers after changed answered.0.1 rest in
     record { left = here.left; staged = here.staged; adds = rest.adds }
 ops_seen rows held (AddMedia kind dir ∷ ops) (OpAlloc ∷ []) after answered enough = absurd (cc)
 ops_seen rows held (SetDirection at dir ∷ ops) (OpAlloc ∷ []) after answered enough = absurd (cc)
@@ -139,16 +139,16 @@ ops_seen rows held ops answers after answered enough = absurd answered
 
 -- ---- names
 
-turned_name : (dir : Direction) (first row : LineRow) → SameName first row → SameName first (row_after_change (turned dir) row)
+turned_name : (dir : Direction) (first row : LineRow) → SameName first row → SameName first (row_after_change (directed_row dir) row)
 turned_name dir (Media place mid kind own stopped remote_created) (Media p m k d true r) same = same
 turned_name dir (Media place mid kind own stopped remote_created) (Media p m k d false r) same = by (same_direction d dir) refl
   where
-    by : (alike : Bool) → same_direction d dir ≡ alike → SameName (Media place mid kind own stopped remote_created) (row_after_change (turned dir) (Media p m k d false r))
+    by : (alike : Bool) → same_direction d dir ≡ alike → SameName (Media place mid kind own stopped remote_created) (row_after_change (directed_row dir) (Media p m k d false r))
     by true is = rw is same
     by false is = rw is same
 turned_name dir first row same = absurd same
 
-halted_name : (first row : LineRow) → SameName first row → SameName first (row_after_change halted row)
+halted_name : (first row : LineRow) → SameName first row → SameName first (row_after_change stopped_row row)
 halted_name (Media place mid kind own stopped remote_created) (Media p m k d true r) same = same
 halted_name (Media place mid kind own stopped remote_created) (Media p m k d false r) same = same
 halted_name first row same = absurd same
@@ -163,4 +163,4 @@ names_kept change keeps first place rows same = absurd same
 -- ops leave the names of media rows
 pub ops_aligned : (rows : List LineRow) (held : List (List ℕ)) (ops : List Op) (answers : List OpAnswer) (after : List LineRow) → OpsAnswered rows held ops answers after → Aligned rows rows → Aligned rows after
 ops_aligned rows held ops answers after answered media =
-    ops_keep (Aligned rows) (λ dir. names_kept (turned dir) (turned_name dir) rows) (names_kept halted halted_name rows) rows held ops answers after answered media
+    ops_keep (Aligned rows) (λ dir. names_kept (directed_row dir) (turned_name dir) rows) (names_kept stopped_row halted_name rows) rows held ops answers after answered media

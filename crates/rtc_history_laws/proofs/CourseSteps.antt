@@ -6,7 +6,7 @@ use Rattle.rtc_history.specs.declared.side.Side.{Side}
 use Rattle.rtc_history.specs.declared.side.Side.TheVariants.{Left, Right}
 use Rattle.rtc_history.specs.declared.op.Op.{Op}
 use Rattle.rtc_history.specs.Sides.{same_side, other_side}
-use Rattle.rtc_history.specs.CourseRows.{must_offer, rows_added, do_stop_first, rows_taken}
+use Rattle.rtc_history.specs.CourseRows.{must_offer, rows_added, do_stop_first, course_rows_after}
 use Rattle.rtc_history.specs.Orderly.{Phase, Idle, AwaitsAnswer, AwaitsEnd, Course, course_rows, moved_on, after_offering, after_ops, after_offer, after_answer}
 use Rattle.rtc_history_laws.proofs.Tells.{same_side-true}
 
@@ -25,14 +25,14 @@ not_first apply at ops course course' rows is = by (do_stop_first ops) refl
 
 -- where ops that offer nothing lead
 pub quiet_course : (apply : Bool) (at : Side) (ops : List Op) (course course' : Course) (rows : List LineRow) → after_ops apply at ops course rows ≡ Some course' → (apply && must_offer ops (course_rows at course)) ≡ false
-    → moved_on at course rows course.texts course.phase ≡ course'
+    → moved_on at course rows course.sdps course.phase ≡ course'
 quiet_course apply at ops course course' rows is quiet =
-    same_course _ course' (let e : Some (moved_on at course rows course.texts course.phase) ≡ Some course' = rw (not_first apply at ops course course' rows is, quiet) at is in e)
+    same_course _ course' (let e : Some (moved_on at course rows course.sdps course.phase) ≡ Some course' = rw (not_first apply at ops course course' rows is, quiet) at is in e)
 
 -- where ops that offer lead
 pub record OffersAt (at : Side) (course course' : Course) (rows said : List LineRow) : Type 0 where
   pub idle : course.phase ≡ Idle
-  pub course_is : moved_on at course rows (course.texts + 1) (AwaitsAnswer at course.texts said) ≡ course'
+  pub course_is : moved_on at course rows (course.sdps + 1) (AwaitsAnswer at course.sdps said) ≡ course'
 
 pub offer_course : (apply : Bool) (at : Side) (ops : List Op) (course course' : Course) (rows : List LineRow) → after_ops apply at ops course rows ≡ Some course' → (apply && must_offer ops (course_rows at course)) ≡ true
     → OffersAt at course course' rows (rows ++ rows_added (length rows) ops)
@@ -51,7 +51,7 @@ pub record AcceptsAt (at : Side) (k : ℕ) (course : Course) (phase : Phase) (co
   pub said : List LineRow
   pub phase_is : phase ≡ AwaitsAnswer side k said
   pub at_is : other_side side ≡ at
-  pub course_is : moved_on at course (rows_taken true 0 (course_rows at course) said) (course.texts + 1) (AwaitsEnd side k course.texts (rows_taken true 0 (course_rows at course) said)) ≡ course'
+  pub course_is : moved_on at course (course_rows_after true 0 (course_rows at course) said) (course.sdps + 1) (AwaitsEnd side k course.sdps (course_rows_after true 0 (course_rows at course) said)) ≡ course'
 
 elsewhere : (side at : Side) → not (same_side side at) ≡ true → other_side side ≡ at
 elsewhere Left Left other = absurd (cc)
@@ -65,9 +65,9 @@ accept_course at k course (AwaitsEnd side n m said) course' is = absurd (cc)
 accept_course at k course (AwaitsAnswer side n said) course' is = by (not (same_side side at) && (k == n)) refl is
   where
     rows : List LineRow
-    rows = rows_taken true 0 (course_rows at course) said
+    rows = course_rows_after true 0 (course_rows at course) said
 
-    by : (here : Bool) → (not (same_side side at) && (k == n)) ≡ here → cond here (Some (moved_on at course rows (course.texts + 1) (AwaitsEnd side n course.texts rows))) None ≡ Some course'
+    by : (here : Bool) → (not (same_side side at) && (k == n)) ≡ here → cond here (Some (moved_on at course rows (course.sdps + 1) (AwaitsEnd side n course.sdps rows))) None ≡ Some course'
         → AcceptsAt at k course (AwaitsAnswer side n said) course'
     by false here is = absurd (let e : None ≡ Some course' = is in cc)
     by true here is =
@@ -78,21 +78,21 @@ accept_course at k course (AwaitsAnswer side n said) course' is = by (not (same_
           said = said;
           phase_is = ap (λ one. AwaitsAnswer side one said) (sym number);
           at_is = elsewhere side at parts.0;
-          course_is = ap (λ (one : ℕ). moved_on at course rows (course.texts + 1) (AwaitsEnd side one course.texts rows)) number ∙ same_course _ course' is;
+          course_is = ap (λ (one : ℕ). moved_on at course rows (course.sdps + 1) (AwaitsEnd side one course.sdps rows)) number ∙ same_course _ course' is;
         }
 
 -- Where an answer is accepted in a course.
 pub record EndsAt (at : Side) (t a : ℕ) (course : Course) (phase : Phase) (course' : Course) : Type 0 where
   pub said : List LineRow
   pub phase_is : phase ≡ AwaitsEnd at t a said
-  pub course_is : moved_on at course (rows_taken false 0 (course_rows at course) said) course.texts Idle ≡ course'
+  pub course_is : moved_on at course (course_rows_after false 0 (course_rows at course) said) course.sdps Idle ≡ course'
 
 pub end_course : (at : Side) (t a : ℕ) (course : Course) (phase : Phase) (course' : Course) → after_answer at t a course phase ≡ Some course' → EndsAt at t a course phase course'
 end_course at t a course Idle course' is = absurd (cc)
 end_course at t a course (AwaitsAnswer side n said) course' is = absurd (cc)
 end_course at t a course (AwaitsEnd side n m said) course' is = by (same_side side at && ((t == n) && (a == m))) refl is
   where
-    by : (here : Bool) → (same_side side at && ((t == n) && (a == m))) ≡ here → cond here (Some (moved_on at course (rows_taken false 0 (course_rows at course) said) course.texts Idle)) None ≡ Some course'
+    by : (here : Bool) → (same_side side at && ((t == n) && (a == m))) ≡ here → cond here (Some (moved_on at course (course_rows_after false 0 (course_rows at course) said) course.sdps Idle)) None ≡ Some course'
         → EndsAt at t a course (AwaitsEnd side n m said) course'
     by false here is = absurd (let e : None ≡ Some course' = is in cc)
     by true here is =

@@ -4,8 +4,8 @@ use Rattle.std.proofs.lemmas.List.{length-map}
 use Rattle.rtc_sdp_values.specs.LineRow.{row_mid}
 use Rattle.rtc_sdp_values.specs.declared.line_row.LineRow.{LineRow}
 use Rattle.rtc_sdp_values.specs.declared.sdp.Sdp.{Sdp}
-use Rattle.rtc_change.specs.SaidLines.{said_lines}
-use Rattle.rtc_change.specs.Taken.{table_after, rows_after}
+use Rattle.rtc_change.specs.ParsedLines.{parsed_lines}
+use Rattle.rtc_change.specs.TableAfter.{table_after, rows_after}
 use Rattle.rtc_change.specs.Plans.{verdict}
 use Rattle.rtc_history.specs.declared.side.Side.{Side}
 use Rattle.rtc_history.specs.declared.side.Side.TheVariants.{Left, Right}
@@ -15,10 +15,10 @@ use Rattle.rtc_history.specs.declared.outcome.Outcome.{Outcome}
 use Rattle.rtc_history.specs.declared.outcome.Outcome.TheVariants.{Answered, Finished}
 use Rattle.rtc_history.specs.declared.table.Table.{Table}
 use Rattle.rtc_history.specs.Sides.{same_side, other_side, side_of}
-use Rattle.rtc_history.specs.Past.{Entry, Said, before, rows_or, texts, said_for, handed, holds_token, is_right, added_by}
+use Rattle.rtc_history.specs.Past.{Entry, MadeSdp, before, rows_or, sdps, sdp_for, remote_sdp, holds_token, is_right, added_by}
 use Rattle.rtc_history.specs.Sound.{IsSound, asked_in}
-use Rattle.rtc_history.specs.SaidRows.{row_said, MakesText}
-use Rattle.rtc_history.specs.CourseRows.{unnamed, rows_taken}
+use Rattle.rtc_history.specs.SaidRows.{row_said, MakesSdp}
+use Rattle.rtc_history.specs.CourseRows.{unnamed, course_rows_after}
 use Rattle.rtc_history.specs.Orderly.{Phase, Idle, AwaitsAnswer, AwaitsEnd, Course, course_rows, moved_on}
 use Rattle.rtc_history.specs.Runs.{Sound}
 use Rattle.rtc_history_laws.proofs.Tells.{same_side-self, same_side-other}
@@ -27,10 +27,10 @@ use Rattle.rtc_history_laws.proofs.AddedRows.{among_mids}
 use Rattle.rtc_history_laws.proofs.PastTables.{past_table}
 use Rattle.rtc_history_laws.proofs.PastOffers.{stays_there, text_next}
 use Rattle.rtc_history_laws.proofs.PastAnswers.{answered}
-use Rattle.rtc_history_laws.proofs.FinishedRounds.{taken_whole, handed_answer, handed_offer, answer_taken}
+use Rattle.rtc_history_laws.proofs.FinishedRounds.{taken_whole, remote_answer, remote_offer, answer_taken}
 use Rattle.rtc_history_laws.proofs.RowsFollow.{Aligned, Follows, aligned_sym, aligned_trans, aligned_twice, has_mid-aligned, length-aligned, added_follow, follows_append, follows_media, after_aligned, answer_follows}
 use Rattle.rtc_history_laws.proofs.LiveRows.{KeepsLive, StartsLive, starts_are_live, starts_keep, text_live}
-use Rattle.rtc_history_laws.proofs.CourseTexts.{text_taken}
+use Rattle.rtc_history_laws.proofs.CourseSdps.{sdp_accepted}
 use Rattle.rtc_history_laws.proofs.RoundRows.{OfferSaid, AnswerSaid, HasOffered, IsOffered, IsAnswered, offer_passes, answer_passes}
 
 -- The rows of a side in a course: these without their mids, media rows alone, the first of them live.
@@ -45,7 +45,7 @@ InPhase (AwaitsAnswer at n said) past = IsOffered at n said past
 InPhase (AwaitsEnd at n m said) past = IsAnswered at n m said past
 
 pub record InCourse (course : Course) (past : List Entry) : Type 0 where
-  pub count : length (texts past) ≡ course.texts
+  pub count : length (sdps past) ≡ course.sdps
   pub sides : (side : Side) → IsSideOf (course_rows side course) (before side past)
   pub phase : InPhase course.phase past
 
@@ -72,8 +72,8 @@ sides_next Right course rows count phase table past mine sides Left = sides Left
 sides_next Right course rows count phase table past mine sides Right = mine
 
 -- A past is in the course where a side has moved on.
-pub moved_in : (at : Side) (course : Course) (rows : List LineRow) (count : ℕ) (phase : Phase) (step : Step) (outcome : Outcome) (table : Table) (made : List Said) (past : List Entry) → side_of step ≡ at
-    → IsSideOf rows table.lines → InCourse course past → length (texts past ++ made) ≡ count → InPhase phase (entry step outcome (Some table) made ∷ past)
+pub moved_in : (at : Side) (course : Course) (rows : List LineRow) (count : ℕ) (phase : Phase) (step : Step) (outcome : Outcome) (table : Table) (made : List MadeSdp) (past : List Entry) → side_of step ≡ at
+    → IsSideOf rows table.lines → InCourse course past → length (sdps past ++ made) ≡ count → InPhase phase (entry step outcome (Some table) made ∷ past)
     → InCourse (moved_on at course rows count phase) (entry step outcome (Some table) made ∷ past)
 moved_in at course rows count phase step outcome table made past here mine is counted in_phase = record {
   count = by_count at;
@@ -82,7 +82,7 @@ moved_in at course rows count phase step outcome table made past here mine is co
   phase = by_phase at;
 }
   where
-    by_count : (at : Side) → length (texts past ++ made) ≡ (moved_on at course rows count phase).texts
+    by_count : (at : Side) → length (sdps past ++ made) ≡ (moved_on at course rows count phase).sdps
     by_count Left = counted
     by_count Right = counted
 
@@ -95,11 +95,11 @@ some_same one other same = cc
 
 -- ---- an offer is accepted
 
--- The offer that is outstanding may be handed to the other side, which does not refuse it.
+-- The offer that is outstanding may be delivered to the other side, which does not refuse it.
 pub record MayAccept (offer : OfferSaid) (at : Side) (n : ℕ) (past : List Entry) : Type 0 where
-  pub handed_is : handed true (other_side at) n past ≡ Some offer.text
-  pub passes : verdict (record { lines = before (other_side at) past }) None offer.text ≡ None
-  pub leaves : table_after (before (other_side at) past) (said_lines offer.text) true ≡ rows_after (before (other_side at) past) true 0 (map row_said (offer.front ++ offer.more))
+  pub remote_is : remote_sdp true (other_side at) n past ≡ Some offer.sdp
+  pub passes : verdict (record { lines = before (other_side at) past }) None offer.sdp ≡ None
+  pub leaves : table_after (before (other_side at) past) (parsed_lines offer.sdp) true ≡ rows_after (before (other_side at) past) true 0 (map row_said (offer.front ++ offer.more))
   pub here : Follows (before at past) (before at past) (offer.front ++ offer.more)
   pub there : Follows (before (other_side at) past) (before (other_side at) past) (offer.front ++ offer.more)
 
@@ -117,20 +117,20 @@ may_accept at n said past sound it =
     let there : Follows theirs theirs (offer.front ++ offer.more) = offer_follows offer theirs same in
     let lines : length (map row_said (offer.front ++ offer.more)) ≡ length (offer.front ++ offer.more) = length-map (offer.front ++ offer.more) row_said in
     record {
-      handed_is = ap (said_for true (other_side at)) it.has.there ∙ handed_offer at offer.text;
-      passes = offer_passes theirs (offer.front ++ offer.more) offer.text (past_table past (other_side at) sound) there offer.says offer.fits offer.live;
+      remote_is = ap (sdp_for true (other_side at)) it.has.there ∙ remote_offer at offer.sdp;
+      passes = offer_passes theirs (offer.front ++ offer.more) offer.sdp (past_table past (other_side at) sound) there offer.says offer.fits offer.live;
       leaves = ap (λ list. table_after theirs list true) offer.says ∙ taken_whole theirs (map row_said (offer.front ++ offer.more)) true (omega (arith, length-aligned offer.front theirs same, length-append offer.front offer.more));
       here = offer_follows offer (before at past) it.has.kept;
       there = there;
     }
 
 -- an offer stays outstanding as the other side accepts it
-offer_stays : (offer : OfferSaid) (at : Side) (n : ℕ) (past : List Entry) (k j : ℕ) (table : Option Table) (made : List Said) → HasOffered offer at n past
+offer_stays : (offer : OfferSaid) (at : Side) (n : ℕ) (past : List Entry) (k j : ℕ) (table : Option Table) (made : List MadeSdp) → HasOffered offer at n past
     → HasOffered offer at n (entry (AcceptOffer (other_side at) k) (Answered j) table made ∷ past)
 offer_stays offer at n past k j table made has = record {
   right = rw (other_side-same at) has.right;
   unspent = has.unspent;
-  there = stays_there (texts past) made n _ has.there;
+  there = stays_there (sdps past) made n _ has.there;
   adds = has.adds;
   kept = rw (other_side-same at) has.kept;
 }
@@ -141,26 +141,26 @@ pub record Accepted (at : Side) (n m : ℕ) (said : List LineRow) (past : List E
   pub side : IsSideOf said table.lines
 
 -- The other side has accepted the offer.
-pub accepted_next : (at : Side) (n m : ℕ) (said seen : List LineRow) (past : List Entry) (j : ℕ) (table : Table) (made : List Said) → Sound past → IsOffered at n said past
-    → IsSideOf seen (before (other_side at) past) → m ≡ length (texts past)
-    → IsSound past (AcceptOffer (other_side at) n) (Answered j) (Some table) → MakesText (AcceptOffer (other_side at) n) (Answered j) (Some table) made
-    → Accepted at n m (rows_taken true 0 seen said) (entry (AcceptOffer (other_side at) n) (Answered j) (Some table) made ∷ past) table
+pub accepted_next : (at : Side) (n m : ℕ) (said seen : List LineRow) (past : List Entry) (j : ℕ) (table : Table) (made : List MadeSdp) → Sound past → IsOffered at n said past
+    → IsSideOf seen (before (other_side at) past) → m ≡ length (sdps past)
+    → IsSound past (AcceptOffer (other_side at) n) (Answered j) (Some table) → MakesSdp (AcceptOffer (other_side at) n) (Answered j) (Some table) made
+    → Accepted at n m (course_rows_after true 0 seen said) (entry (AcceptOffer (other_side at) n) (Answered j) (Some table) made ∷ past) table
 accepted_next at n m said seen past j table made sound out side count replied says =
     let may : MayAccept out.offer at n past = may_accept at n said past sound out in
-    let it = answered (handed true (other_side at) n past) theirs (length (texts past)) j table.lines replied in
-    let text_is : it.offer ≡ out.offer.text = some_same _ _ (sym it.is ∙ may.handed_is) in
-    let after : table.lines ≡ rows_after theirs true 0 (map row_said offered) = it.leaves ∙ ap (λ text. table_after theirs (said_lines text) true) text_is ∙ may.leaves in
+    let it = answered (remote_sdp true (other_side at) n past) theirs (length (sdps past)) j table.lines replied in
+    let text_is : it.offer ≡ out.offer.sdp = some_same _ _ (sym it.is ∙ may.remote_is) in
+    let after : table.lines ≡ rows_after theirs true 0 (map row_said offered) = it.leaves ∙ ap (λ sdp. table_after theirs (parsed_lines sdp) true) text_is ∙ may.leaves in
     let names : Aligned offered table.lines = rw after (after_aligned theirs true 0 offered offered (follows_media mine mine offered may.here)) in
     let follows : Follows mine mine table.lines = rw after (answer_follows mine theirs mine theirs offered 0 out.same may.here may.there) in
     let live : StartsLive table.lines = rw after (text_live theirs true offered (past_table past (other_side at) sound) may.there side.live out.offer.live) in
     let media : Aligned table.lines table.lines = aligned_twice table.lines offered (aligned_sym offered table.lines names) in
-    let are : map unnamed table.lines ≡ rows_taken true 0 seen said =
-    ap (map unnamed) after ∙ text_taken theirs true offered (past_table past (other_side at) sound) may.there
-    ∙ ap (λ list. rows_taken true 0 list (map unnamed offered)) side.are ∙ ap (λ list. rows_taken true 0 seen list) out.are in
+    let are : map unnamed table.lines ≡ course_rows_after true 0 seen said =
+    ap (map unnamed) after ∙ sdp_accepted theirs true offered (past_table past (other_side at) sound) may.there
+    ∙ ap (λ list. course_rows_after true 0 list (map unnamed offered)) side.are ∙ ap (λ list. course_rows_after true 0 seen list) out.are in
     record {
       phase = record {
         offer = out.offer;
-        answer = record { text = says.text; rows = table.lines; says = says.says; fits = says.fits (starts_are_live table.lines live); live = live };
+        answer = record { sdp = says.sdp; rows = table.lines; says = says.says; fits = says.fits (starts_are_live table.lines live); live = live };
         are = are;
         has = offer_stays out.offer at n past n j (Some table) made out.has;
         answered = record {
@@ -184,13 +184,13 @@ accepted_next at n m said seen past j table made sound out side count replied sa
 
 -- ---- an answer is accepted
 
--- The answer that is outstanding may be handed to the side that offered, which does not refuse it.
+-- The answer that is outstanding may be delivered to the side that offered, which does not refuse it.
 pub record MayEnd (answer : AnswerSaid) (at : Side) (n m : ℕ) (past : List Entry) : Type 0 where
   pub held : holds_token at n past ≡ true
   pub right : is_right at n past ≡ true
-  pub handed_is : handed false at m past ≡ Some answer.text
-  pub passes : verdict (record { lines = before at past }) (Some (asked_in at n past)) answer.text ≡ None
-  pub leaves : table_after (before at past) (said_lines answer.text) false ≡ rows_after (before at past) false 0 (map row_said answer.rows)
+  pub remote_is : remote_sdp false at m past ≡ Some answer.sdp
+  pub passes : verdict (record { lines = before at past }) (Some (asked_in at n past)) answer.sdp ≡ None
+  pub leaves : table_after (before at past) (parsed_lines answer.sdp) false ≡ rows_after (before at past) false 0 (map row_said answer.rows)
 
 pub may_end : (at : Side) (n m : ℕ) (said : List LineRow) (past : List Entry) → Sound past → (it : IsAnswered at n m said past) → MayEnd it.answer at n m past
 may_end at n m said past sound it =
@@ -203,8 +203,8 @@ may_end at n m said past sound it =
     record {
       held = rw (it.has.there, it.has.unspent, same_side-self at) refl;
       right = it.has.right;
-      handed_is = ap (said_for false at) it.answered.there ∙ handed_answer at answer.text;
-      passes = rw adds (answer_passes mine offer answer.rows answer.text (past_table past at sound) it.answered.mine it.answered.offered it.has.kept answer.says answer.fits);
+      remote_is = ap (sdp_for false at) it.answered.there ∙ remote_answer at answer.sdp;
+      passes = rw adds (answer_passes mine offer answer.rows answer.sdp (past_table past at sound) it.answered.mine it.answered.offered it.has.kept answer.says answer.fits);
       leaves = ap (λ list. table_after mine list false) answer.says
           ∙ taken_whole mine (map row_said answer.rows) false (omega (arith, length-aligned (offer.front ++ offer.more) answer.rows it.answered.offered, length-append offer.front offer.more));
     }
@@ -215,22 +215,22 @@ pub record Ended (said : List LineRow) (past : List Entry) (table : Table) : Typ
   pub side : IsSideOf said table.lines
 
 -- The side that offered has accepted the answer.
-pub ended_next : (at : Side) (n m : ℕ) (said seen : List LineRow) (past : List Entry) (table : Table) (made : List Said) → Sound past → IsAnswered at n m said past
+pub ended_next : (at : Side) (n m : ℕ) (said seen : List LineRow) (past : List Entry) (table : Table) (made : List MadeSdp) → Sound past → IsAnswered at n m said past
     → IsSideOf seen (before at past) → IsSound past (AcceptAnswer at n m) Finished (Some table)
-    → Ended (rows_taken false 0 seen said) (entry (AcceptAnswer at n m) Finished (Some table) made ∷ past) table
+    → Ended (course_rows_after false 0 seen said) (entry (AcceptAnswer at n m) Finished (Some table) made ∷ past) table
 ended_next at n m said seen past table made sound out side replied =
     let may : MayEnd out.answer at n m past = may_end at n m said past sound out in
-    let it = answer_taken (holds_token at n past) (is_right at n past) (asked_in at n past) (handed false at m past) mine table.lines replied in
-    let text_is : it.answer ≡ out.answer.text = some_same _ _ (sym it.is ∙ may.handed_is) in
-    let after : table.lines ≡ rows_after mine false 0 (map row_said rows) = it.leaves ∙ ap (λ text. table_after mine (said_lines text) false) text_is ∙ may.leaves in
+    let it = answer_taken (holds_token at n past) (is_right at n past) (asked_in at n past) (remote_sdp false at m past) mine table.lines replied in
+    let text_is : it.answer ≡ out.answer.sdp = some_same _ _ (sym it.is ∙ may.remote_is) in
+    let after : table.lines ≡ rows_after mine false 0 (map row_said rows) = it.leaves ∙ ap (λ sdp. table_after mine (parsed_lines sdp) false) text_is ∙ may.leaves in
     let media : Aligned rows rows = aligned_twice rows theirs out.answered.theirs in
     let names : Aligned rows table.lines = rw after (after_aligned mine false 0 rows rows media) in
     let live : StartsLive table.lines = rw after (text_live mine false rows (past_table past at sound) out.answered.mine side.live out.answer.live) in
     record {
       phase = aligned_from at (entry (AcceptAnswer at n m) Finished (Some table) made ∷ past) (rw (same_side-self at, same_side-other at) (aligned_trans theirs rows table.lines (aligned_sym rows theirs out.answered.theirs) names));
       side = record {
-        are = ap (map unnamed) after ∙ text_taken mine false rows (past_table past at sound) out.answered.mine
-            ∙ ap (λ list. rows_taken false 0 list (map unnamed rows)) side.are ∙ ap (λ list. rows_taken false 0 seen list) out.are;
+        are = ap (map unnamed) after ∙ sdp_accepted mine false rows (past_table past at sound) out.answered.mine
+            ∙ ap (λ list. course_rows_after false 0 list (map unnamed rows)) side.are ∙ ap (λ list. course_rows_after false 0 seen list) out.are;
         media = aligned_twice table.lines rows (aligned_sym rows table.lines names);
         live = starts_keep table.lines live;
       };

@@ -1,4 +1,4 @@
--- What a past says of a pair after a new entry: one that makes no text, makes an answer, spends a token, or makes an offer.
+-- What a past says of a pair after a new entry: one that makes no SDP, makes an answer, spends a token, or makes an offer.
 use Rattle.std.proofs.Common.{◌≡◌, ◌≤◌, ◌<◌, ◌+◌, ◌^◌, ◌==◌, ℕ, List, [], ◌∷◌, ◌++◌, map, length, drop, All, Bool, true, false, Option, Some, None, refl, sym, ◌∙◌, ap, arith, cond, append-nil, length-append, ◌⊎◌, inl, inr}
 use Rattle.std.specs.Prelude.{slice_get, option_map}
 use Rattle.std.proofs.Math.Seq.{drop-append_seam, drop-length}
@@ -10,12 +10,13 @@ use Rattle.rtc_change.specs.PendingOffer.{PendingOffer}
 use Rattle.rtc_peer_state.specs.declared.peer.Peer.{Peer}
 use Rattle.rtc_history.specs.declared.side.Side.{Side}
 use Rattle.rtc_history.specs.Sides.{same_side, other_side, side_of}
-use Rattle.rtc_history.specs.Past.{Entry, Said, before, rows_or, texts, spends, is_spent, is_offer_of, holds_token, moves, makes}
+use Rattle.rtc_history.specs.Past.{Entry, MadeSdp, before, rows_or, sdps, spends, is_spent, is_offer_of, holds_token, moves, makes}
 use Rattle.rtc_history.specs.declared.kept.Kept.{Kept}
-use Rattle.rtc_history.specs.PairState.{PairState, peer_at, said_of, token_for}
+use Rattle.rtc_history.specs.PairState.{PairState, peer_at, made_sdp, token_for}
 use Rattle.rtc_history.specs.Performs.{made_by}
-use Rattle.rtc_history_laws.proofs.TextLists.{push_places}
-use Rattle.rtc_history_laws.proofs.Tells.{TokenTells, SideTells, Tells, IsUntold, Fits, HeldBefore, both_sides, same_side-self, same_side-other, token_next, no_token, held_before, fits_moved, fits_same, side_next, side_stays}
+use Rattle.rtc_history_laws.proofs.PushedLists.{push_places}
+use Rattle.rtc_history.proofs.BothSides.{both_sides}
+use Rattle.rtc_history_laws.proofs.Tells.{TokenTells, SideTells, Tells, IsUntold, Fits, HeldBefore, same_side-self, same_side-other, token_next, no_token, held_before, fits_moved, fits_same, side_next, side_stays}
 
 -- What a new entry leaves, whatever it makes: rows and counter of its side, and the other side as it was.
 pub record Goes {N : Type 0} (moved : Bool) (past : List Entry) (e : Entry) (old new : PairState N) : Type 0 where
@@ -29,52 +30,52 @@ pub record Goes {N : Type 0} (moved : Bool) (past : List Entry) (e : Entry) (old
   pub small : new.size < 2 ^ 32
   pub made : e.made ≡ made_by old new
 
--- the texts that a pair keeps, after an entry
+-- the SDPs that a pair keeps, after an entry
 pub record TextsNext {N : Type 0} (past : List Entry) (e : Entry) (old new : PairState N) : Type 0 where
-  pub says : map said_of new.texts ≡ texts (e ∷ past)
-  pub later : (t : ℕ) → length (texts (e ∷ past)) ≤ t → is_spent t (e ∷ past) ≡ false
-  pub count : length new.texts ≤ length old.texts + 1
-  pub each : All (λ kept. length kept.text.lines ≤ new.size) new.texts
+  pub says : map made_sdp new.sdps ≡ sdps (e ∷ past)
+  pub later : (t : ℕ) → length (sdps (e ∷ past)) ≤ t → is_spent t (e ∷ past) ≡ false
+  pub count : length new.sdps ≤ length old.sdps + 1
+  pub each : All (λ kept. length kept.sdp.lines ≤ new.size) new.sdps
 
 pub rows_told : {N : Type 0} (moved : Bool) (past : List Entry) (e : Entry) (old new : PairState N) → Goes moved past e old new
     → (peer_at (side_of e.step) new).lines ≡ before (side_of e.step) (e ∷ past)
 rows_told moved past e old new goes = goes.rows ∙ sym (ap (λ b. rows_or b e.table (before (side_of e.step) past)) (same_side-self (side_of e.step)))
 
 pub tells_next : {N : Type 0} (moved : Bool) (past : List Entry) (e : Entry) (old new : PairState N) → Goes moved past e old new → TextsNext past e old new
-    → SideTells (e ∷ past) (side_of e.step) (peer_at (side_of e.step) new) new.texts new.size
-    → HeldBefore (other_side (side_of e.step)) old.texts new.texts
-    → ((t : ℕ) → TokenTells (e ∷ past) (other_side (side_of e.step)) (peer_at (other_side (side_of e.step)) old).counter t (slice_get new.texts t))
+    → SideTells (e ∷ past) (side_of e.step) (peer_at (side_of e.step) new) new.sdps new.size
+    → HeldBefore (other_side (side_of e.step)) old.sdps new.sdps
+    → ((t : ℕ) → TokenTells (e ∷ past) (other_side (side_of e.step)) (peer_at (other_side (side_of e.step)) old).counter t (slice_get new.sdps t))
     → Tells past old → Tells (e ∷ past) new
 tells_next moved past e old new goes kept mine was tokens tells =
     let at = side_of e.step in
-    let there : SideTells (e ∷ past) (other_side at) (peer_at (other_side at) old) new.texts new.size =
-    side_stays past e (other_side at) (peer_at (other_side at) old) old.texts new.texts old.size new.size (same_side-other at) goes.grows was tokens (tells.sides (other_side at)) in
-    let count : length old.texts ≤ old.size = tells.count in
+    let there : SideTells (e ∷ past) (other_side at) (peer_at (other_side at) old) new.sdps new.size =
+    side_stays past e (other_side at) (peer_at (other_side at) old) old.sdps new.sdps old.size new.size (same_side-other at) goes.grows was tokens (tells.sides (other_side at)) in
+    let count : length old.sdps ≤ old.size = tells.count in
     record {
-      sides = both_sides (λ side. SideTells (e ∷ past) side (peer_at side new) new.texts new.size) at mine (rw goes.other there);
+      sides = both_sides (λ side. SideTells (e ∷ past) side (peer_at side new) new.sdps new.size) at mine (rw goes.other there);
       says = kept.says;
       later = kept.later;
       count = omega (arith, kept.count, goes.grows);
       each = kept.each;
     }
 
-pub each_grown : (kept : List Kept) (size size' : ℕ) → size ≤ size' → All (λ kept. length kept.text.lines ≤ size) kept → All (λ kept. length kept.text.lines ≤ size') kept
+pub each_grown : (kept : List Kept) (size size' : ℕ) → size ≤ size' → All (λ kept. length kept.sdp.lines ≤ size) kept → All (λ kept. length kept.sdp.lines ≤ size') kept
 each_grown kept size size' grows each =
-    All-weaker (λ (one : Kept). length one.text.lines ≤ size) (λ (one : Kept). length one.text.lines ≤ size') (λ one few. at_most (length one.text.lines) few) kept each
+    All-weaker (λ (one : Kept). length one.sdp.lines ≤ size) (λ (one : Kept). length one.sdp.lines ≤ size') (λ one few. at_most (length one.sdp.lines) few) kept each
   where
     at_most : (n : ℕ) → n ≤ size → n ≤ size'
     at_most n few = omega arith
 
--- what a past says of a text is what is kept of it
-pub said_at : {N : Type 0} (past : List Entry) (pair : PairState N) (t : ℕ) → map said_of pair.texts ≡ texts past → slice_get (texts past) t ≡ option_map said_of (slice_get pair.texts t)
-said_at past pair t says = ap (λ said. slice_get said t) (sym says) ∙ slice_get-map said_of pair.texts t
+-- what a past says of an SDP is what is kept of it
+pub said_at : {N : Type 0} (past : List Entry) (pair : PairState N) (t : ℕ) → map made_sdp pair.sdps ≡ sdps past → slice_get (sdps past) t ≡ option_map made_sdp (slice_get pair.sdps t)
+said_at past pair t says = ap (λ said. slice_get said t) (sym says) ∙ slice_get-map made_sdp pair.sdps t
 
--- a text that is kept as it was
-pub same_offer : {N : Type 0} (past : List Entry) (e : Entry) (old new : PairState N) (side : Side) (t : ℕ) → map said_of old.texts ≡ texts past → map said_of new.texts ≡ texts (e ∷ past)
-    → option_map said_of (slice_get new.texts t) ≡ option_map said_of (slice_get old.texts t) → is_offer_of side (slice_get (texts (e ∷ past)) t) ≡ is_offer_of side (slice_get (texts past) t)
+-- an SDP that is kept as it was
+pub same_offer : {N : Type 0} (past : List Entry) (e : Entry) (old new : PairState N) (side : Side) (t : ℕ) → map made_sdp old.sdps ≡ sdps past → map made_sdp new.sdps ≡ sdps (e ∷ past)
+    → option_map made_sdp (slice_get new.sdps t) ≡ option_map made_sdp (slice_get old.sdps t) → is_offer_of side (slice_get (sdps (e ∷ past)) t) ≡ is_offer_of side (slice_get (sdps past) t)
 same_offer past e old new side t says says' same = ap (is_offer_of side) (said_at (e ∷ past) new t says' ∙ same ∙ sym (said_at past old t says))
 
--- ---- an entry that makes no text
+-- ---- an entry that makes no SDP
 
 fits_unmade : {N : Type 0} (moved : Bool) (past : List Entry) (at : Side) (old new : Peer N) (kept kept' : List Kept) (size size' : ℕ)
     → new.counter ≡ cond moved (old.counter + 1) old.counter → length new.lines ≡ length old.lines → size < 2 ^ 32 → size ≤ size' → HeldBefore at kept kept' → SideTells past at old kept size → Fits at new kept' size'
@@ -82,88 +83,88 @@ fits_unmade true past at old new kept kept' size size' counter lines small grows
 fits_unmade false past at old new kept kept' size size' counter lines small grows was told = fits_same past at old new kept kept' size size' counter lines grows was told
 
 pub unmade_tells : {N : Type 0} (moved : Bool) (past : List Entry) (e : Entry) (old new : PairState N) → Goes moved past e old new
-    → length (peer_at (side_of e.step) new).lines ≡ length (peer_at (side_of e.step) old).lines → new.texts ≡ old.texts
+    → length (peer_at (side_of e.step) new).lines ≡ length (peer_at (side_of e.step) old).lines → new.sdps ≡ old.sdps
     → ((t : ℕ) → spends t e.step e.outcome ≡ false) → ((t : ℕ) → makes t e.outcome ≡ false) → Tells past old → Tells (e ∷ past) new
 unmade_tells moved past e old new goes lines kept unspent unmade tells =
     let at = side_of e.step in
     let size : old.size ≤ new.size = omega (arith, goes.grows) in
     let small : old.size < 2 ^ 32 = omega (arith, goes.grows, goes.small) in
-    let none : e.made ≡ [] = goes.made ∙ ap (λ now. map said_of (drop (length old.texts) now)) kept ∙ ap (map said_of) (drop-length old.texts) in
-    let same_said : texts (e ∷ past) ≡ texts past = ap (λ made. texts past ++ made) none ∙ append-nil (texts past) in
-    let was : (side : Side) → HeldBefore side old.texts new.texts = λ side. held_before side old.texts new.texts (λ t. inl (ap (λ now. slice_get now t) kept)) in
+    let none : e.made ≡ [] = goes.made ∙ ap (λ now. map made_sdp (drop (length old.sdps) now)) kept ∙ ap (map made_sdp) (drop-length old.sdps) in
+    let same_said : sdps (e ∷ past) ≡ sdps past = ap (λ made. sdps past ++ made) none ∙ append-nil (sdps past) in
+    let was : (side : Side) → HeldBefore side old.sdps new.sdps = λ side. held_before side old.sdps new.sdps (λ t. inl (ap (λ now. slice_get now t) kept)) in
     let untold : (side : Side) (t : ℕ) → IsUntold past e side t = λ side t. record { same = ap (λ said. is_offer_of side (slice_get said t)) same_said; unspent = unspent t; unmade = unmade t } in
     tells_next moved past e old new goes
     (record {
-      says = ap (map said_of) kept ∙ tells.says ∙ sym same_said;
+      says = ap (map made_sdp) kept ∙ tells.says ∙ sym same_said;
       later = λ t most. rw (unspent t) (tells.later t (rw same_said at most));
-      count = let n : length new.texts ≡ length old.texts = ap length kept in omega arith;
-      each = rw kept (each_grown old.texts old.size new.size size tells.each);
+      count = let n : length new.sdps ≡ length old.sdps = ap length kept in omega arith;
+      each = rw kept (each_grown old.sdps old.size new.size size tells.each);
     })
-    (side_next moved past e at (peer_at at old) (peer_at at new) old.texts new.texts old.size new.size (rows_told moved past e old new goes) goes.counter goes.grows goes.few (was at)
+    (side_next moved past e at (peer_at at old) (peer_at at new) old.sdps new.sdps old.size new.size (rows_told moved past e old new goes) goes.counter goes.grows goes.few (was at)
     (λ t. rw kept (token_next moved past e at _ t _ (untold at t) goes.mine ((tells.sides at).tokens t)))
-    (fits_unmade moved past at (peer_at at old) (peer_at at new) old.texts new.texts old.size new.size goes.counter lines small size (was at) (tells.sides at))
+    (fits_unmade moved past at (peer_at at old) (peer_at at new) old.sdps new.sdps old.size new.size goes.counter lines small size (was at) (tells.sides at))
     (tells.sides at))
     (was (other_side at))
     (λ t. rw kept (token_next false past e (other_side at) _ t _ (untold (other_side at) t) goes.theirs ((tells.sides (other_side at)).tokens t)))
     tells
 
--- ---- an entry that makes a text
+-- ---- an entry that makes an SDP
 
--- the text that an entry makes is the last
-pub says_pushed : {N : Type 0} (past : List Entry) (e : Entry) (old new : PairState N) (kept : Kept) → e.made ≡ made_by old new → new.texts ≡ old.texts ++ kept ∷ []
-    → map said_of old.texts ≡ texts past → map said_of new.texts ≡ texts (e ∷ past)
+-- the SDP that an entry makes is the last
+pub says_pushed : {N : Type 0} (past : List Entry) (e : Entry) (old new : PairState N) (kept : Kept) → e.made ≡ made_by old new → new.sdps ≡ old.sdps ++ kept ∷ []
+    → map made_sdp old.sdps ≡ sdps past → map made_sdp new.sdps ≡ sdps (e ∷ past)
 says_pushed past e old new kept made pushed says =
-    ap (map said_of) pushed ∙ map-append said_of old.texts (kept ∷ []) ∙ ap (λ said. said ++ said_of kept ∷ []) says
-    ∙ sym (ap (λ more. texts past ++ more) (made ∙ ap (λ now. map said_of (drop (length old.texts) now)) pushed ∙ ap (map said_of) (drop-append_seam old.texts (kept ∷ []))))
+    ap (map made_sdp) pushed ∙ map-append made_sdp old.sdps (kept ∷ []) ∙ ap (λ said. said ++ made_sdp kept ∷ []) says
+    ∙ sym (ap (λ more. sdps past ++ more) (made ∙ ap (λ now. map made_sdp (drop (length old.sdps) now)) pushed ∙ ap (map made_sdp) (drop-append_seam old.sdps (kept ∷ []))))
 
-fewer : (xs ys : List Said) (t : ℕ) → length (xs ++ ys) ≤ t → length xs ≤ t
+fewer : (xs ys : List MadeSdp) (t : ℕ) → length (xs ++ ys) ≤ t → length xs ≤ t
 fewer xs ys t h = omega (arith, length-append xs ys)
 
-pub texts_pushed : {N : Type 0} (past : List Entry) (e : Entry) (old new : PairState N) (kept : Kept) → e.made ≡ made_by old new → new.texts ≡ old.texts ++ kept ∷ []
-    → old.size ≤ new.size → length kept.text.lines ≤ new.size → ((t : ℕ) → spends t e.step e.outcome ≡ false) → Tells past old → TextsNext past e old new
+pub texts_pushed : {N : Type 0} (past : List Entry) (e : Entry) (old new : PairState N) (kept : Kept) → e.made ≡ made_by old new → new.sdps ≡ old.sdps ++ kept ∷ []
+    → old.size ≤ new.size → length kept.sdp.lines ≤ new.size → ((t : ℕ) → spends t e.step e.outcome ≡ false) → Tells past old → TextsNext past e old new
 texts_pushed past e old new kept made pushed size few unspent tells = record {
   says = says_pushed past e old new kept made pushed tells.says;
-  later = λ t most. rw (unspent t) (tells.later t (fewer (texts past) e.made t most));
-  count = let n : length new.texts ≡ length old.texts + 1 = ap length pushed ∙ length-append old.texts (kept ∷ []) in omega arith;
-  each = rw pushed (All-push (λ (one : Kept). length one.text.lines ≤ new.size) old.texts kept (each_grown old.texts old.size new.size size tells.each) few);
+  later = λ t most. rw (unspent t) (tells.later t (fewer (sdps past) e.made t most));
+  count = let n : length new.sdps ≡ length old.sdps + 1 = ap length pushed ∙ length-append old.sdps (kept ∷ []) in omega arith;
+  each = rw pushed (All-push (λ (one : Kept). length one.sdp.lines ≤ new.size) old.sdps kept (each_grown old.sdps old.size new.size size tells.each) few);
 }
 
 pub no_choice : (b : Bool) → ◌≡◌ {A = Option PendingOffer} (cond b None None) None
 no_choice true = refl
 no_choice false = refl
 
--- a text without a token
+-- an SDP without a token
 tokenless : (at : Side) (kept : Kept) → kept.token ≡ None → token_for at (Some kept) ≡ None
 tokenless at kept none = ap (λ token. cond (same_side kept.at at) token None) none ∙ no_choice (same_side kept.at at)
 
--- the token of a text that is no offer of this side
-pub unheld : (past : List Entry) (side : Side) (t : ℕ) (said : Option Said) → slice_get (texts past) t ≡ said → is_offer_of side said ≡ false → holds_token side t past ≡ false
+-- the token of an SDP that is no offer of this side
+pub unheld : (past : List Entry) (side : Side) (t : ℕ) (said : Option MadeSdp) → slice_get (sdps past) t ≡ said → is_offer_of side said ≡ false → holds_token side t past ≡ false
 unheld past side t said is none = rw (is, none) refl
 
 pub answered_tells : {N : Type 0} (past : List Entry) (e : Entry) (old new : PairState N) (kept : Kept) → Goes true past e old new
-    → kept.offer ≡ false → kept.token ≡ None → length kept.text.lines ≤ new.size → new.texts ≡ old.texts ++ kept ∷ []
+    → kept.offer ≡ false → kept.token ≡ None → length kept.sdp.lines ≤ new.size → new.sdps ≡ old.sdps ++ kept ∷ []
     → ((t : ℕ) → spends t e.step e.outcome ≡ false) → ((t : ℕ) → makes t e.outcome ≡ false) → Tells past old → Tells (e ∷ past) new
 answered_tells past e old new kept goes answer none few pushed unspent unmade tells =
     let at = side_of e.step in
     let size : old.size ≤ new.size = omega (arith, goes.grows) in
     let small : old.size < 2 ^ 32 = omega (arith, goes.grows, goes.small) in
-    let says : map said_of new.texts ≡ texts (e ∷ past) = says_pushed past e old new kept goes.made pushed tells.says in
-    let place : (t : ℕ) → (((length old.texts == t) ≡ false) × (slice_get new.texts t ≡ slice_get old.texts t)) ⊎ ((t ≡ length old.texts) × ((length old.texts == t) ≡ true) × (slice_get new.texts t ≡ Some kept)) =
-    λ t. rw pushed (push_places old.texts kept t) in
-    let was : (side : Side) → HeldBefore side old.texts new.texts = λ side. held_before side old.texts new.texts
+    let says : map made_sdp new.sdps ≡ sdps (e ∷ past) = says_pushed past e old new kept goes.made pushed tells.says in
+    let place : (t : ℕ) → (((length old.sdps == t) ≡ false) × (slice_get new.sdps t ≡ slice_get old.sdps t)) ⊎ ((t ≡ length old.sdps) × ((length old.sdps == t) ≡ true) × (slice_get new.sdps t ≡ Some kept)) =
+    λ t. rw pushed (push_places old.sdps kept t) in
+    let was : (side : Side) → HeldBefore side old.sdps new.sdps = λ side. held_before side old.sdps new.sdps
     (λ t. elim (place t) [ inl h ↦ inl h.1 | inr h ↦ inr (ap (token_for side) h.2 ∙ tokenless side kept none) ]) in
-    let untold : (side : Side) (t : ℕ) → slice_get new.texts t ≡ slice_get old.texts t → IsUntold past e side t =
-    λ side t there. record { same = same_offer past e old new side t tells.says says (ap (option_map said_of) there); unspent = unspent t; unmade = unmade t } in
-    let last : (side : Side) (counter t : ℕ) → slice_get new.texts t ≡ Some kept → TokenTells (e ∷ past) side counter t (Some kept) =
+    let untold : (side : Side) (t : ℕ) → slice_get new.sdps t ≡ slice_get old.sdps t → IsUntold past e side t =
+    λ side t there. record { same = same_offer past e old new side t tells.says says (ap (option_map made_sdp) there); unspent = unspent t; unmade = unmade t } in
+    let last : (side : Side) (counter t : ℕ) → slice_get new.sdps t ≡ Some kept → TokenTells (e ∷ past) side counter t (Some kept) =
     λ side counter t there. no_token (e ∷ past) side counter t (Some kept) (tokenless side kept none)
-    (unheld (e ∷ past) side t (Some (said_of kept)) (said_at (e ∷ past) new t says ∙ ap (option_map said_of) there) (and_left kept.offer (same_side kept.at side) answer)) in
+    (unheld (e ∷ past) side t (Some (made_sdp kept)) (said_at (e ∷ past) new t says ∙ ap (option_map made_sdp) there) (and_left kept.offer (same_side kept.at side) answer)) in
     tells_next true past e old new goes (texts_pushed past e old new kept goes.made pushed size few unspent tells)
-    (side_next true past e at (peer_at at old) (peer_at at new) old.texts new.texts old.size new.size (rows_told true past e old new goes) goes.counter goes.grows goes.few (was at)
+    (side_next true past e at (peer_at at old) (peer_at at new) old.sdps new.sdps old.size new.size (rows_told true past e old new goes) goes.counter goes.grows goes.few (was at)
     (λ t. elim (place t) [
       | inl h ↦ rw h.1 (token_next true past e at _ t _ (untold at t h.1) goes.mine ((tells.sides at).tokens t))
       | inr h ↦ rw h.2 (last at _ t h.2)
     ])
-    (fits_moved past at (peer_at at old) (peer_at at new) old.texts new.texts old.size new.size goes.counter small (was at) (tells.sides at))
+    (fits_moved past at (peer_at at old) (peer_at at new) old.sdps new.sdps old.size new.size goes.counter small (was at) (tells.sides at))
     (tells.sides at))
     (was (other_side at))
     (λ t. elim (place t) [

@@ -8,15 +8,15 @@ use Rattle.rtc_sdp_values.specs.LineRow.{row_mid}
 use Rattle.rtc_sdp_values.specs.declared.line_row.LineRow.{LineRow}
 use Rattle.rtc_sdp_values.specs.declared.line_row.LineRow.TheVariants.{Media, App}
 use Rattle.rtc_sdp_values.specs.declared.sdp.Sdp.{Sdp}
-use Rattle.rtc_change.specs.declared.said_line.SaidLine.{SaidLine}
-use Rattle.rtc_change.specs.Distinct.{is_among}
+use Rattle.rtc_change.specs.declared.parsed_line.ParsedLine.{ParsedLine}
+use Rattle.rtc_sdp_values.specs.Mids.{is_among}
 use Rattle.rtc_change.specs.Held.{Asked}
 use Rattle.rtc_change.specs.Plans.{verdict}
-use Rattle.rtc_change.specs.SaidLines.{said_lines}
+use Rattle.rtc_change.specs.ParsedLines.{parsed_lines}
 use Rattle.rtc_change.specs.Table.{IsTable, Rising, has_mid, row_of}
-use Rattle.rtc_change.specs.Taken.{table_after, rows_after}
+use Rattle.rtc_change.specs.TableAfter.{table_after, rows_after}
 use Rattle.rtc_change.proofs.TableLemmas.{row_of_its_mid, has_mid_row_of}
-use Rattle.rtc_change.proofs.TakenTable.{length_taken, length_rows_after}
+use Rattle.rtc_change.proofs.TableAfterLemmas.{length_table_after, length_rows_after}
 use Rattle.rtc_change.proofs.VerdictLemmas.{unrefused}
 use Rattle.rtc_history.specs.declared.side.Side.{Side}
 use Rattle.rtc_history.specs.declared.side.Side.TheVariants.{Left, Right}
@@ -26,8 +26,8 @@ use Rattle.rtc_history.specs.declared.outcome.Outcome.{Outcome}
 use Rattle.rtc_history.specs.declared.outcome.Outcome.TheVariants.{Finished}
 use Rattle.rtc_history.specs.declared.table.Table.{Table}
 use Rattle.rtc_history.specs.Sides.{other_side}
-use Rattle.rtc_history.specs.Past.{Entry, before, texts, said_for, handed, is_offer_of, holds_token, is_spent, is_right}
-use Rattle.rtc_history.specs.Sound.{TakesAnswer, IsSound, asked_in}
+use Rattle.rtc_history.specs.Past.{Entry, before, sdps, sdp_for, remote_sdp, is_offer_of, holds_token, is_spent, is_right}
+use Rattle.rtc_history.specs.Sound.{RepliesToAnswer, IsSound, asked_in}
 use Rattle.rtc_history.specs.SaidRows.{row_said}
 use Rattle.rtc_history.specs.Finished.{FinishedRound}
 use Rattle.rtc_history.specs.Rounds.{is_own, has_set, rows_at_offer, EndsRound, FinishesRound}
@@ -83,8 +83,8 @@ offered_known offerer more table new = record {
 
 -- ---- both ends
 
--- a text with at least as many lines as there are rows leaves a row for each line
-pub taken_whole : (rows : List LineRow) (said : List SaidLine) (offer : Bool) → length rows ≤ length said → table_after rows said offer ≡ rows_after rows offer 0 said
+-- an SDP with at least as many lines as there are rows leaves a row for each line
+pub taken_whole : (rows : List LineRow) (said : List ParsedLine) (offer : Bool) → length rows ≤ length said → table_after rows said offer ≡ rows_after rows offer 0 said
 taken_whole rows said offer more = ap (λ rest. rows_after rows offer 0 said ++ rest) (drop_all (length said) rows more) ∙ append-nil (rows_after rows offer 0 said)
 
 -- What an offer that is table_after and an answer that is table_after leave, where the answer has a line for each line of the offer.
@@ -92,9 +92,9 @@ round_finished : (offerer added before : List LineRow) → OfferedRows offerer a
     → length (table_after before (map row_said (offerer ++ added)) true) ≡ length (offerer ++ added)
     → FinishedRound offerer added before (table_after before (map row_said (offerer ++ added)) true) (table_after offerer (map row_said (table_after before (map row_said (offerer ++ added)) true)) false)
 round_finished offerer added before rows count =
-    let said : List SaidLine = map row_said (offerer ++ added) in
+    let said : List ParsedLine = map row_said (offerer ++ added) in
     let lines : length said ≡ length (offerer ++ added) = length-map (offerer ++ added) row_said in
-    let few : length before ≤ length said = omega (arith, length_taken before said true) in
+    let few : length before ≤ length said = omega (arith, length_table_after before said true) in
     let answer_is : table_after before said true ≡ rows_after before true 0 said = taken_whole before said true few in
     let answer_lines : length (map row_said (rows_after before true 0 said)) ≡ length said = length-map (rows_after before true 0 said) row_said ∙ length_rows_after before true 0 said in
     let left_is : table_after offerer (map row_said (rows_after before true 0 said)) false ≡ rows_after offerer false 0 (map row_said (rows_after before true 0 said)) =
@@ -103,78 +103,78 @@ round_finished offerer added before rows count =
     rw (answer_is, left_is) (record { agreed = finished.agreed; equal = finished.equal; mirrored = finished.mirrored })
 
 -- an answer that is not refused has a line for each line of its offer
-answer_lines : (offerer added before : List LineRow) (text : Sdp) → OfferedRows offerer added
-    → said_lines text ≡ map row_said (table_after before (map row_said (offerer ++ added)) true) → verdict (record { lines = offerer }) (Some (record { added = added })) text ≡ None
+answer_lines : (offerer added before : List LineRow) (sdp : Sdp) → OfferedRows offerer added
+    → parsed_lines sdp ≡ map row_said (table_after before (map row_said (offerer ++ added)) true) → verdict (record { lines = offerer }) (Some (record { added = added })) sdp ≡ None
     → length (table_after before (map row_said (offerer ++ added)) true) ≡ length (offerer ++ added)
-answer_lines offerer added before text rows says passes =
-    let said : List SaidLine = map row_said (offerer ++ added) in
+answer_lines offerer added before sdp rows says passes =
+    let said : List ParsedLine = map row_said (offerer ++ added) in
     let answer : List LineRow = table_after before said true in
-    let free = unrefused (record { lines = offerer }) (Some (record { added = added })) text passes in
+    let free = unrefused (record { lines = offerer }) (Some (record { added = added })) sdp passes in
     let lines : length said ≡ length (offerer ++ added) = length-map (offerer ++ added) row_said in
     let both : length (offerer ++ added) ≡ length offerer + length added = length-append offerer added in
-    let most : length answer ≡ max (length before) (length said) = length_taken before said true in
-    let back : length (said_lines text) ≡ length answer = ap length says ∙ length-map answer row_said in
-    omega (arith, answer_count offerer added (said_lines text) rows.table.rising free.allowed free.news (omega arith))
+    let most : length answer ≡ max (length before) (length said) = length_table_after before said true in
+    let back : length (parsed_lines sdp) ≡ length answer = ap length says ∙ length-map answer row_said in
+    omega (arith, answer_count offerer added (parsed_lines sdp) rows.table.rising free.allowed free.news (omega arith))
 
 -- ---- the past
 
-same_text : (one other : Sdp) → Some one ≡ Some other → one ≡ other
-same_text one other same = cc
+same_sdp : (one other : Sdp) → Some one ≡ Some other → one ≡ other
+same_sdp one other same = cc
 
--- the answer of the other side is what is handed over
-pub handed_answer : (at : Side) (text : Sdp) → said_for false at (Some (record { at = other_side at; offer = false; text = text })) ≡ Some text
-handed_answer Left text = refl
-handed_answer Right text = refl
+-- the answer of the other side is what is delivered
+pub remote_answer : (at : Side) (sdp : Sdp) → sdp_for false at (Some (record { at = other_side at; offer = false; sdp = sdp })) ≡ Some sdp
+remote_answer Left sdp = refl
+remote_answer Right sdp = refl
 
--- the offer of a side is what the other one is handed
-pub handed_offer : (at : Side) (text : Sdp) → said_for true (other_side at) (Some (record { at = at; offer = true; text = text })) ≡ Some text
-handed_offer Left text = refl
-handed_offer Right text = refl
+-- the offer of a side is what the other one is delivered
+pub remote_offer : (at : Side) (sdp : Sdp) → sdp_for true (other_side at) (Some (record { at = at; offer = true; sdp = sdp })) ≡ Some sdp
+remote_offer Left sdp = refl
+remote_offer Right sdp = refl
 
 -- What an answer that is accepted came with.
-pub record AnswerTaken (held right : Bool) (asked : Asked) (text : Option Sdp) (rows after : List LineRow) : Type 0 where
+pub record AnswerAccepted (held right : Bool) (asked : Asked) (sdp : Option Sdp) (rows after : List LineRow) : Type 0 where
   pub answer : Sdp
   pub held_is : held ≡ true
   pub right_is : right ≡ true
-  pub is : text ≡ Some answer
+  pub is : sdp ≡ Some answer
   pub passes : verdict (record { lines = rows }) (Some asked) answer ≡ None
-  pub leaves : after ≡ table_after rows (said_lines answer) false
+  pub leaves : after ≡ table_after rows (parsed_lines answer) false
 
-pub answer_taken : (held right : Bool) (asked : Asked) (text : Option Sdp) (rows after : List LineRow) → TakesAnswer held right asked text (record { lines = rows }) Finished after → AnswerTaken held right asked text rows after
-answer_taken true true asked (Some text) rows after takes = record { answer = text; held_is = refl; right_is = refl; is = refl; passes = takes.0; leaves = takes.1 }
+pub answer_taken : (held right : Bool) (asked : Asked) (sdp : Option Sdp) (rows after : List LineRow) → RepliesToAnswer held right asked sdp (record { lines = rows }) Finished after → AnswerAccepted held right asked sdp rows after
+answer_taken true true asked (Some sdp) rows after takes = record { answer = sdp; held_is = refl; right_is = refl; is = refl; passes = takes.0; leaves = takes.1 }
 answer_taken true true asked None rows after takes = absurd takes
 answer_taken true false asked None rows after takes = absurd takes
-answer_taken true false asked (Some text) rows after takes = absurd takes
-answer_taken false right asked text rows after takes = absurd takes
+answer_taken true false asked (Some sdp) rows after takes = absurd takes
+answer_taken false right asked sdp rows after takes = absurd takes
 
--- the same of equal rows and texts
+-- the same of equal rows and SDPs
 ends_alike : (offerer added before answerer after : List LineRow) (offer answer : Sdp) → OfferedRows offerer added
-    → TookOffer before answerer offer answer → said_lines offer ≡ map row_said (offerer ++ added)
-    → verdict (record { lines = offerer }) (Some (record { added = added })) answer ≡ None → after ≡ table_after offerer (said_lines answer) false
+    → TookOffer before answerer offer answer → parsed_lines offer ≡ map row_said (offerer ++ added)
+    → verdict (record { lines = offerer }) (Some (record { added = added })) answer ≡ None → after ≡ table_after offerer (parsed_lines answer) false
     → FinishedRound offerer added before answerer after
 ends_alike offerer added before answerer after offer answer rows took says passes leaves =
     let answerer_is : answerer ≡ table_after before (map row_said (offerer ++ added)) true = took.leaves ∙ ap (λ said. table_after before said true) says in
-    let answer_says : said_lines answer ≡ map row_said (table_after before (map row_said (offerer ++ added)) true) = took.says ∙ ap (map row_said) answerer_is in
+    let answer_says : parsed_lines answer ≡ map row_said (table_after before (map row_said (offerer ++ added)) true) = took.says ∙ ap (map row_said) answerer_is in
     let after_is : after ≡ table_after offerer (map row_said (table_after before (map row_said (offerer ++ added)) true)) false = leaves ∙ ap (λ said. table_after offerer said false) answer_says in
     rw (answerer_is, after_is) (round_finished offerer added before rows (answer_lines offerer added before answer rows answer_says passes))
 
 ends_round : (past : List Entry) (at : Side) (t a : ℕ) (after : List LineRow) → Sound past
-    → AnswerTaken (holds_token at t past) (is_right at t past) (asked_in at t past) (handed false at a past) (before at past) after
+    → AnswerAccepted (holds_token at t past) (is_right at t past) (asked_in at t past) (remote_sdp false at a past) (before at past) after
     → is_own at t a past ≡ true → has_set at t past ≡ false → EndsRound at t a past after
-ends_round past at t a after sound table_after own unset =
-    let held = and_parts (is_offer_of at (slice_get (texts past) t)) (not (is_spent t past)) table_after.held_is in
-    let offer = past_offer at t past sound table_after.right_is held.0 in
+ends_round past at t a after sound accepts own unset =
+    let held = and_parts (is_offer_of at (slice_get (sdps past) t)) (not (is_spent t past)) accepts.held_is in
+    let offer = past_offer at t past sound accepts.right_is held.0 in
     let answer = past_answer at t a past sound own in
-    let rows : before at past ≡ rows_at_offer at t past = rows_since past at t sound table_after.right_is held.0 (not-true (is_spent t past) held.1) unset in
+    let rows : before at past ≡ rows_at_offer at t past = rows_since past at t sound accepts.right_is held.0 (not-true (is_spent t past) held.1) unset in
     let table : IsTable (rows_at_offer at t past) = subst IsTable rows (past_table past at sound) in
-    let answer_is : answer.text ≡ table_after.answer = same_text _ _ (sym (handed_answer at answer.text) ∙ ap (said_for false at) (sym answer.there) ∙ table_after.is) in
-    let offer_is : answer.offer ≡ offer.text = same_text _ _ (sym answer.offered ∙ ap (said_for true (other_side at)) offer.there ∙ handed_offer at offer.text) in
-    rw offer.adds (ends_alike (rows_at_offer at t past) offer.more _ _ after answer.offer answer.text
-    (offered_known (rows_at_offer at t past) offer.more table offer.new) answer.took (ap said_lines offer_is ∙ offer.says)
-    (rw answer_is (rw offer.adds at (rw rows at table_after.passes))) (rw answer_is (rw rows at table_after.leaves)))
+    let answer_is : answer.sdp ≡ accepts.answer = same_sdp _ _ (sym (remote_answer at answer.sdp) ∙ ap (sdp_for false at) (sym answer.there) ∙ accepts.is) in
+    let offer_is : answer.offer ≡ offer.sdp = same_sdp _ _ (sym answer.offered ∙ ap (sdp_for true (other_side at)) offer.there ∙ remote_offer at offer.sdp) in
+    rw offer.adds (ends_alike (rows_at_offer at t past) offer.more _ _ after answer.offer answer.sdp
+    (offered_known (rows_at_offer at t past) offer.more table offer.new) answer.took (ap parsed_lines offer_is ∙ offer.says)
+    (rw answer_is (rw offer.adds at (rw rows at accepts.passes))) (rw answer_is (rw rows at accepts.leaves)))
 
 -- Each accepted answer that is its token's own ends the round.
 pub finishes_round : (past : List Entry) (step : Step) (outcome : Outcome) (table : Option Table) → Sound past → IsSound past step outcome table → FinishesRound past step outcome table
 finishes_round past (AcceptAnswer at t a) Finished (Some table) sound replied =
-    λ own unset. ends_round past at t a table.lines sound (answer_taken (holds_token at t past) (is_right at t past) (asked_in at t past) (handed false at a past) (before at past) table.lines replied) own unset
+    λ own unset. ends_round past at t a table.lines sound (answer_taken (holds_token at t past) (is_right at t past) (asked_in at t past) (remote_sdp false at a past) (before at past) table.lines replied) own unset
 finishes_round past step outcome table sound replied = tt

@@ -1,4 +1,5 @@
 -- The rows that a round leaves at its two ends, where the answerer took the offer and the offerer takes the answer.
+use Rattle.std.specs.List.{AllZip}
 use Rattle.std.proofs.Common.{◌≡◌, ◌+◌, ℕ, Bool, true, false, not, ◌&&◌, ◌||◌, List, [], ◌∷◌, map, Option, Some, None, refl, sym, ◌∙◌, ap, subst, ◌⊎◌, inl, inr, zero, suc}
 use Rattle.std.specs.Prelude.{slice_get, if◌then◌else◌}
 use Rattle.rtc_sdp_values.specs.Direction.{inverse_of, inverse_of-inverse_of}
@@ -10,8 +11,8 @@ use Rattle.rtc_sdp_values.specs.declared.line_row.LineRow.TheVariants.{Media, Ap
 use Rattle.rtc_sdp_values.specs.declared.media_kind.MediaKind.{MediaKind}
 use Rattle.rtc_sdp_values.specs.declared.media_kind.MediaKind.TheVariants.{Audio, Video}
 use Rattle.rtc_change.specs.Table.{Rising, row_of}
-use Rattle.rtc_change.specs.Taken.{is_inactive, is_send_only, was_stopped, was_remote, stays_inactive, media_after, row_after, rows_after}
-use Rattle.rtc_history.specs.Finished.{AtEachPlace, AreSameLine, Equal, AreMirrored, is_recv_only, stays_silent, Agreed}
+use Rattle.rtc_change.specs.TableAfter.{is_inactive, is_send_only, was_stopped, was_remote, stays_inactive, media_after, row_after, rows_after}
+use Rattle.rtc_history.specs.Finished.{AreSameLine, Equal, AreMirrored, is_recv_only, stays_silent, Agreed}
 use Rattle.rtc_history.specs.SaidRows.{row_said}
 
 -- ---- directions
@@ -142,9 +143,9 @@ AllKnown offerer (row ∷ rows) = IsKnown offerer row × AllKnown offerer rows
 
 -- What offered rows become at the answerer, and then at the offerer.
 pub record RowsFinished (before rows answer left : List LineRow) : Type 0 where
-  pub agreed : AtEachPlace (λ row after. Agreed row (row_of before (row_mid row)) after) rows left
+  pub agreed : AllZip (λ row after. Agreed row (row_of before (row_mid row)) after) rows left
   pub equal : Equal answer left
-  pub mirrored : AtEachPlace AreMirrored answer left
+  pub mirrored : AllZip AreMirrored answer left
 
 pub rows_finished : (offerer before : List LineRow) (place : ℕ) (rows : List LineRow) → Rising place rows → AllKnown offerer rows
     → RowsFinished before rows (rows_after before true place (map row_said rows)) (rows_after offerer false place (map row_said (rows_after before true place (map row_said rows))))

@@ -1,9 +1,10 @@
+pub mod Bounds
 pub mod OpRows
 pub mod AddedRows
 pub mod PlacedRows
 pub mod Staging
 pub mod AnsweredOps
-pub mod TextLists
+pub mod PushedLists
 pub mod Tells
 pub mod Entries
 pub mod TokenEntries
@@ -11,9 +12,8 @@ pub mod Around
 pub mod OfferSteps
 pub mod AnswerSteps
 pub mod NegotiateSteps
-pub mod SaidTexts
-pub mod FormedSteps
-pub mod MakesTexts
+pub mod SaidSdps
+pub mod MakesSdps
 pub mod FinishedRows
 pub mod AnswerCounts
 pub mod PastTables
@@ -24,7 +24,7 @@ pub mod FinishedRounds
 pub mod RowsFollow
 pub mod LiveRows
 pub mod CourseOps
-pub mod CourseTexts
+pub mod CourseSdps
 pub mod RoundRows
 pub mod UnspentTokens
 pub mod Courses

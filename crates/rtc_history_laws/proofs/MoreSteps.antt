@@ -1,5 +1,5 @@
 -- A run goes on by a step that is performed.
-use Rattle.std.proofs.Common.{◌≡◌, ◌<◌, ◌+◌, ◌^◌, List, [], ◌∷◌, ◌++◌, refl, ap, arith}
+use Rattle.std.proofs.Common.{◌≡◌, ◌<◌, ◌+◌, ◌^◌, List, [], ◌∷◌, ◌++◌, map, refl, ap, arith}
 use Rattle.rtc_peer_state.specs.Draws.{Draws}
 use Rattle.rtc_history.specs.declared.side.Side.{Side}
 use Rattle.rtc_history.specs.declared.side.Side.TheVariants.{Left, Right}
@@ -7,15 +7,13 @@ use Rattle.rtc_history.specs.declared.step.Step.{Step}
 use Rattle.rtc_history.specs.declared.reply.Reply.{Reply}
 use Rattle.rtc_history.specs.Sizes.{step_size, steps_size}
 use Rattle.rtc_history.specs.Past.{Entry, before, steps_of}
-use Rattle.rtc_history.specs.PairState.{PairState, peer_at}
+use Rattle.rtc_history.specs.PairState.{PairState, peer_at, made_sdp}
 use Rattle.rtc_history.specs.Performs.{Performs, Enters, made_by}
 use Rattle.rtc_history.specs.Runs.{Reached, Runs}
 use Rattle.rtc_history.specs.Fresh.{IsFresh}
-use Rattle.rtc_history.specs.Bounds.{IsWithin}
-use Rattle.rtc_history.specs.Formed.{ArePeersFormed, AreCarried}
+use Rattle.rtc_history_laws.proofs.Bounds.{IsWithin}
 use Rattle.rtc_history_laws.proofs.Tells.{Tells}
 use Rattle.rtc_history_laws.proofs.Around.{entry}
-use Rattle.rtc_history_laws.proofs.FormedSteps.{plain_carried, reached_formed}
 use Rattle.rtc_history_laws.proofs.Reaches.{reached_within, reached_tells, sound_next}
 
 -- a run of no steps
@@ -26,6 +24,7 @@ runs_none draws start fresh = record {
   replies_are = refl;
   reached = refl;
   sound = tt;
+  kept = ap (map made_sdp) fresh.sdps;
   rows = by;
 }
   where
@@ -35,9 +34,9 @@ runs_none draws start fresh = record {
 
 -- a run of one more step
 pub runs_more : {N : Type 0} (draws : Draws N) (start old new : PairState N) (steps : List Step) (replies : List Reply) (step : Step) (reply : Reply)
-    → IsFresh start → ArePeersFormed start → Runs draws start steps replies old → Performs draws old step reply.outcome reply.table new → new.size < 2 ^ 32
+    → IsFresh start → Runs draws start steps replies old → Performs draws old step reply.outcome reply.table new → new.size < 2 ^ 32
     → Runs draws start (steps ++ step ∷ []) (replies ++ reply ∷ []) new
-runs_more draws start old new steps replies step reply fresh formed run performs small =
+runs_more draws start old new steps replies step reply fresh run performs small =
     let reached : Reached draws start (entry step reply.outcome reply.table (made_by old new) ∷ run.past) new = (old, run.reached, record { performs = performs; made = refl }) in
     let tells : Tells (entry step reply.outcome reply.table (made_by old new) ∷ run.past) new = reached_tells draws start new (entry step reply.outcome reply.table (made_by old new) ∷ run.past) fresh reached small in
     record {
@@ -45,7 +44,8 @@ runs_more draws start old new steps replies step reply fresh formed run performs
       steps_are = ap (λ before. before ++ step ∷ []) run.steps_are;
       replies_are = ap (λ before. before ++ reply ∷ []) run.replies_are;
       reached = reached;
-      sound = (sound_next draws start old new run.past step reply.outcome reply.table fresh formed run.reached run.sound performs small, run.sound);
+      sound = (sound_next draws start old new run.past step reply.outcome reply.table fresh run.reached run.sound performs small, run.sound);
+      kept = tells.says;
       rows = λ at. (tells.sides at).rows;
     }
 
@@ -68,7 +68,3 @@ runs_size draws start pair steps replies fresh run = omega (arith, reached_size 
 -- a pair is within the size of the steps of its run
 pub runs_within : {N : Type 0} (draws : Draws N) (start pair : PairState N) (steps : List Step) (replies : List Reply) → IsFresh start → Runs draws start steps replies pair → pair.size < 2 ^ 32 → IsWithin pair
 runs_within draws start pair steps replies fresh run small = reached_within draws start pair run.past fresh run.reached small
-
--- each text of a run is delivered as it is
-pub runs_carried : {N : Type 0} (draws : Draws N) (start pair : PairState N) (steps : List Step) (replies : List Reply) → IsFresh start → ArePeersFormed start → Runs draws start steps replies pair → AreCarried pair.texts
-runs_carried draws start pair steps replies fresh formed run = plain_carried pair.texts (reached_formed draws start pair run.past fresh formed run.reached).plain

@@ -12,7 +12,7 @@ use Rattle.rtc_change.proofs.AddedLemmas.{length-added_rows}
 use Rattle.rtc_peer_state.specs.declared.peer.Peer.{Peer}
 use Rattle.rtc_peer_state.specs.Draws.{Draws}
 use Rattle.rtc_peer_state.specs.Calls.{raised}
-use Rattle.rtc_peer_state.specs.Texts.{offer_text, offered_rows, row_line}
+use Rattle.rtc_peer_state.specs.MadeSdp.{offer_sdp, offered_rows, row_line}
 use Rattle.rtc_history.specs.declared.side.Side.{Side}
 use Rattle.rtc_history.specs.declared.op.Op.{Op}
 use Rattle.rtc_history.specs.declared.op_answer.OpAnswer.{OpAnswer}
@@ -24,7 +24,7 @@ use Rattle.rtc_history.specs.declared.outcome.Outcome.TheVariants.{Negotiated, A
 use Rattle.rtc_history.specs.declared.table.Table.{Table}
 use Rattle.rtc_history.specs.Memory.{answers_lack}
 use Rattle.rtc_history.specs.Sides.{same_side, other_side}
-use Rattle.rtc_history.specs.Past.{Entry, Said, before, texts, do_stage, is_applied, is_offer_numbered, added}
+use Rattle.rtc_history.specs.Past.{Entry, MadeSdp, before, sdps, do_stage, is_applied, is_offer_numbered, added}
 use Rattle.rtc_history.specs.Sound.{OpsAnswered, MadeOf, IsSound}
 use Rattle.rtc_history.specs.declared.kept.Kept.{Kept}
 use Rattle.rtc_history.specs.PairState.{PairState, peer_at}
@@ -66,7 +66,7 @@ or_false false = refl
 
 -- the reply to a step that negotiates
 pub negotiate_reply : {N : Type 0} (draws : Draws N) (past : List Entry) (at : Side) (ops : List Op) (apply : Bool) (old new : Peer N) (kept kept' : List Kept) (outcome : Outcome) (table : Option Table)
-    → before at past ≡ old.lines → IsTable (before at past) → length (texts past) ≡ length kept
+    → before at past ≡ old.lines → IsTable (before at past) → length (sdps past) ≡ length kept
     → Negotiates draws at ops apply old kept outcome table new kept' → IsSound past (Negotiate at ops apply) outcome table
 negotiate_reply draws past at ops apply old new kept kept' Alloc None rows table_before next h = tt
 negotiate_reply draws past at ops apply old new kept kept' (Negotiated answers made) (Some table) rows table_before next h =
@@ -75,26 +75,26 @@ negotiate_reply draws past at ops apply old new kept kept' (Negotiated answers m
     let answered : OpsAnswered old.lines (map row_mid old.lines) ops answers h.0.lines =
     ops_answered draws (lent old) h.0 ops answers (map row_mid old.lines) (subst IsTable rows table_before) (λ mid. among_mids old.lines mid ∙ or_false (has_mid mid old.lines)) h.1 in (
       subst (λ (lines : List LineRow). OpsAnswered lines (map row_mid lines) ops answers table.lines) (sym rows) (rw left answered),
-      made_of (apply && not (answers_lack answers)) at h.0 new kept kept' made (do_stage answers) (length (texts past)) staged.some next h.2,
+      made_of (apply && not (answers_lack answers)) at h.0 new kept kept' made (do_stage answers) (length (sdps past)) staged.some next h.2,
     )
 negotiate_reply draws past at ops apply old new kept kept' outcome table rows table_before next h = absurd h
 
-length-offer : {N : Type 0} (p : Peer N) → length (offer_text p).lines ≡ length p.lines + length (added_mids p.staged)
-unfolding offer_text
+length-offer : {N : Type 0} (p : Peer N) → length (offer_sdp p).lines ≡ length p.lines + length (added_mids p.staged)
+unfolding offer_sdp
 length-offer p =
     length-map (offered_rows p) (row_line p.identity ActPass) ∙ length-append p.lines (added_rows (length p.lines) p.staged)
     ∙ ap (λ n. length p.lines + n) (length-added_rows (length p.lines) p.staged)
 
 -- what is staged is not applied, or nothing is
-unapplied_tells : {N : Type 0} (past : List Entry) (at : Side) (ops : List Op) (apply : Bool) (answers : List OpAnswer) (what : Made) (table : Table) (made : List Said) (p : Peer N) (old new : PairState N)
-    → is_applied answers what ≡ false → ((t : ℕ) → is_offer_numbered t what ≡ false) → peer_at at new ≡ p → new.texts ≡ old.texts → Stages (lent (peer_at at old)) ops answers p → table.lines ≡ (peer_at at new).lines
+unapplied_tells : {N : Type 0} (past : List Entry) (at : Side) (ops : List Op) (apply : Bool) (answers : List OpAnswer) (what : Made) (table : Table) (made : List MadeSdp) (p : Peer N) (old new : PairState N)
+    → is_applied answers what ≡ false → ((t : ℕ) → is_offer_numbered t what ≡ false) → peer_at at new ≡ p → new.sdps ≡ old.sdps → Stages (lent (peer_at at old)) ops answers p → table.lines ≡ (peer_at at new).lines
     → Around (Negotiate at ops apply) made old new → Tells past old → Tells (entry (Negotiate at ops apply) (Negotiated answers what) (Some table) made ∷ past) new
 unapplied_tells past at ops apply answers what table made p old new unapplied unnumbered peer kept staged rows around tells =
     quiet_tells false past (Negotiate at ops apply) (Negotiated answers what) (Some table) made old new (ap (λ r. length r.lines) peer ∙ staged.rows) kept (sym rows) (ap (λ r. r.counter) peer ∙ staged.counter)
     (and_right (same_side at at) (is_applied answers what) unapplied) (and_right (same_side at (other_side at)) (is_applied answers what) unapplied) (λ t. refl) unnumbered around tells
 
-applied_tells : {N : Type 0} (past : List Entry) (at : Side) (ops : List Op) (apply asked : Bool) (answers : List OpAnswer) (what : Made) (table : Table) (made : List Said) (p : Peer N) (old new : PairState N)
-    → Stages (lent (peer_at at old)) ops answers p → MakesOf asked at p old.texts what (peer_at at new) new.texts → table.lines ≡ (peer_at at new).lines
+applied_tells : {N : Type 0} (past : List Entry) (at : Side) (ops : List Op) (apply asked : Bool) (answers : List OpAnswer) (what : Made) (table : Table) (made : List MadeSdp) (p : Peer N) (old new : PairState N)
+    → Stages (lent (peer_at at old)) ops answers p → MakesOf asked at p old.sdps what (peer_at at new) new.sdps → table.lines ≡ (peer_at at new).lines
     → Around (Negotiate at ops apply) made old new → Tells past old → Tells (entry (Negotiate at ops apply) (Negotiated answers what) (Some table) made ∷ past) new
 applied_tells past at ops apply false answers NotAsked table made p old new staged h rows around tells =
     unapplied_tells past at ops apply answers NotAsked table made p old new refl (λ t. refl) h.0 h.1 staged rows around tells
@@ -108,7 +108,7 @@ applied_tells past at ops apply true answers (Offer k) table made p old new stag
     let count : length (added_mids p.staged) ≤ 0 + length ops = staged.count in
     let lines : length p.lines ≡ length (peer_at at old).lines = staged.rows in
     let new_lines : length (peer_at at new).lines ≡ length p.lines = ap (λ r. length r.lines) h.1.3 in
-    let said : length h.0.0.0.lines ≡ length p.lines + length (added_mids p.staged) = ap (λ o. length o.0.lines) h.1.1 ∙ length-offer p in
+    let said : length h.0.0.lines ≡ length p.lines + length (added_mids p.staged) = ap (λ o. length o.lines) h.1.1 ∙ length-offer p in
     let changes : length (added_mids h.0.1.changes) ≡ length (added_mids p.staged) = ap (λ token. length (added_mids token.changes)) h.1.2 in
     offered_tells past (entry (Negotiate at ops apply) (Negotiated answers (Offer k)) (Some table) made) old new (kept_offer at h.0) h.0.1
     (goes_on true past (Negotiate at ops apply) (Negotiated answers (Offer k)) (Some table) made old new (sym rows)
@@ -120,11 +120,11 @@ applied_tells past at ops apply true answers (Offer k) table made p old new stag
 applied_tells past at ops apply asked answers what table made p old new staged h rows around tells = absurd h
 
 -- A step that negotiates.
-pub negotiate_tells : {N : Type 0} (draws : Draws N) (past : List Entry) (at : Side) (ops : List Op) (apply : Bool) (old new : PairState N) (outcome : Outcome) (table : Option Table) (made : List Said)
-    → Negotiates draws at ops apply (peer_at at old) old.texts outcome table (peer_at at new) new.texts
+pub negotiate_tells : {N : Type 0} (draws : Draws N) (past : List Entry) (at : Side) (ops : List Op) (apply : Bool) (old new : PairState N) (outcome : Outcome) (table : Option Table) (made : List MadeSdp)
+    → Negotiates draws at ops apply (peer_at at old) old.sdps outcome table (peer_at at new) new.sdps
     → Around (Negotiate at ops apply) made old new → Tells past old → Tells (entry (Negotiate at ops apply) outcome table made ∷ past) new
 negotiate_tells draws past at ops apply old new Alloc None made h around tells =
-    quiet_tells false past (Negotiate at ops apply) Alloc None made old new (ap (λ p. length p.lines) h.peer) h.texts_kept (ap (λ p. p.lines) h.peer ∙ (tells.sides at).rows) (ap (λ p. p.counter) h.peer)
+    quiet_tells false past (Negotiate at ops apply) Alloc None made old new (ap (λ p. length p.lines) h.peer) h.sdps_kept (ap (λ p. p.lines) h.peer ∙ (tells.sides at).rows) (ap (λ p. p.counter) h.peer)
     (and_right (same_side at at) false refl) (and_right (same_side at (other_side at)) false refl) (λ t. refl) (λ t. refl) around tells
 negotiate_tells draws past at ops apply old new (Negotiated answers what) (Some table) made h around tells =
     applied_tells past at ops apply (apply && not (answers_lack answers)) answers what table made h.0 old new (ops_stage draws (lent (peer_at at old)) h.0 ops answers h.1) h.2 h.3 around tells

@@ -16,9 +16,9 @@ use Rattle.rtc_history.specs.declared.outcome.Outcome.TheVariants.{Negotiated, A
 use Rattle.rtc_history.specs.declared.table.Table.{Table}
 use Rattle.rtc_history.specs.Memory.{answers_lack, outcome_lacks}
 use Rattle.rtc_history.specs.Sides.{same_side, other_side}
-use Rattle.rtc_history.specs.Past.{Entry, Said, before, rows_or, texts, is_applied, is_offer_numbered, do_stage, added}
+use Rattle.rtc_history.specs.Past.{Entry, MadeSdp, before, rows_or, sdps, is_applied, is_offer_numbered, do_stage, added}
 use Rattle.rtc_history.specs.Sound.{OpsAnswered, MadeOf, IsSound}
-use Rattle.rtc_history.specs.SaidRows.{MakesText}
+use Rattle.rtc_history.specs.SaidRows.{MakesSdp}
 use Rattle.rtc_history.specs.CourseRows.{unnamed, rows_after_ops, must_offer, rows_added, do_stop_first}
 use Rattle.rtc_history.specs.Orderly.{Phase, Idle, AwaitsAnswer, AwaitsEnd, Course, course_rows, moved_on, after_ops}
 use Rattle.rtc_history.specs.Runs.{Sound}
@@ -35,7 +35,7 @@ use Rattle.rtc_history_laws.proofs.RoundRows.{OfferSaid, AnswerSaid, HasOffered,
 use Rattle.rtc_history_laws.proofs.Courses.{IsSideOf, InPhase, InCourse, aligned_at, moved_in}
 use Rattle.rtc_history_laws.proofs.CourseSteps.{not_first, quiet_course, offer_course}
 
-abbrev ops_entry : Side → List Op → Bool → List OpAnswer → Made → Table → List Said → Entry
+abbrev ops_entry : Side → List Op → Bool → List OpAnswer → Made → Table → List MadeSdp → Entry
 ops_entry at ops apply answers what table made = entry (Negotiate at ops apply) (Negotiated answers what) (Some table) made
 
 -- Ops in order that are all answered, after a past in its course.
@@ -48,7 +48,7 @@ record OpsDone (past : List Entry) (at : Side) (ops : List Op) (answers : List O
 -- ---- rows
 
 -- the rows of either side keep their names
-names_go : (past : List Entry) (at : Side) (ops : List Op) (apply : Bool) (answers : List OpAnswer) (what : Made) (table : Table) (made : List Said) (course : Course) → OpsDone past at ops answers table course
+names_go : (past : List Entry) (at : Side) (ops : List Op) (apply : Bool) (answers : List OpAnswer) (what : Made) (table : Table) (made : List MadeSdp) (course : Course) → OpsDone past at ops answers table course
     → (side : Side) → Aligned (before side past) (before side (ops_entry at ops apply answers what table made ∷ past))
 names_go past at ops apply answers what table made course ops_are side = by (same_side at side) refl
   where
@@ -78,7 +78,7 @@ record OffersNothing (answers : List OpAnswer) (what : Made) : Type 0 where
   unnumbered : (t : ℕ) → is_offer_numbered t what ≡ false
 
 -- What is outstanding stays so, where rows keep their names.
-offered_kept : (past : List Entry) (at : Side) (ops : List Op) (apply : Bool) (answers : List OpAnswer) (what : Made) (table : Table) (made : List Said) (offer : OfferSaid) (side : Side) (n : ℕ) → OffersNothing answers what
+offered_kept : (past : List Entry) (at : Side) (ops : List Op) (apply : Bool) (answers : List OpAnswer) (what : Made) (table : Table) (made : List MadeSdp) (offer : OfferSaid) (side : Side) (n : ℕ) → OffersNothing answers what
     → Aligned (before side past) (before side (ops_entry at ops apply answers what table made ∷ past)) → HasOffered offer side n past → HasOffered offer side n (ops_entry at ops apply answers what table made ∷ past)
 offered_kept past at ops apply answers what table made offer side n nothing names has =
     let unnumbered : is_offer_numbered n what ≡ false = nothing.unnumbered n in
@@ -86,7 +86,7 @@ offered_kept past at ops apply answers what table made offer side n nothing name
     record {
       right = rw (unnumbered, still) has.right;
       unspent = has.unspent;
-      there = stays_there (texts past) made n _ has.there;
+      there = stays_there (sdps past) made n _ has.there;
       adds = rw unnumbered has.adds;
       kept = aligned_trans offer.front (before side past) _ has.kept names;
     }
@@ -94,7 +94,7 @@ offered_kept past at ops apply answers what table made offer side n nothing name
 answered_kept : (past : List Entry) (last : Entry) (offer : OfferSaid) (answer : AnswerSaid) (side : Side) (m : ℕ) → ((one : Side) → Aligned (before one past) (before one (last ∷ past)))
     → HasAnswered offer answer side m past → HasAnswered offer answer side m (last ∷ past)
 answered_kept past last offer answer side m names has = record {
-  there = stays_there (texts past) last.made m _ has.there;
+  there = stays_there (sdps past) last.made m _ has.there;
   offered = has.offered;
   mine = follows_alike (before side past) _ (before side past) _ answer.rows (names side) (names side) has.mine;
   theirs = aligned_trans answer.rows (before (other_side side) past) _ has.theirs (names (other_side side));
@@ -104,7 +104,7 @@ answered_kept past last offer answer side m names has = record {
 aligned_on : (mine mine' theirs theirs' : List LineRow) → Aligned mine mine' → Aligned theirs theirs' → Aligned mine theirs → Aligned mine' theirs'
 aligned_on mine mine' theirs theirs' same_mine same_theirs same = aligned_trans mine' mine theirs' (aligned_sym mine mine' same_mine) (aligned_trans mine theirs theirs' same same_theirs)
 
-phase_kept : (past : List Entry) (at : Side) (ops : List Op) (apply : Bool) (answers : List OpAnswer) (what : Made) (table : Table) (made : List Said) (phase : Phase) → OffersNothing answers what
+phase_kept : (past : List Entry) (at : Side) (ops : List Op) (apply : Bool) (answers : List OpAnswer) (what : Made) (table : Table) (made : List MadeSdp) (phase : Phase) → OffersNothing answers what
     → ((side : Side) → Aligned (before side past) (before side (ops_entry at ops apply answers what table made ∷ past))) → InPhase phase past → InPhase phase (ops_entry at ops apply answers what table made ∷ past)
 phase_kept past at ops apply answers what table made Idle nothing names same = aligned_on (before Left past) _ (before Right past) _ (names Left) (names Right) same
 phase_kept past at ops apply answers what table made (AwaitsAnswer side n said) nothing names out = record {
@@ -121,12 +121,12 @@ phase_kept past at ops apply answers what table made (AwaitsEnd side n m said) n
   answered = answered_kept past (ops_entry at ops apply answers what table made) out.offer out.answer side m names out.answered;
 }
 
-quiet_goes_on : (past : List Entry) (at : Side) (ops : List Op) (apply : Bool) (answers : List OpAnswer) (what : Made) (table : Table) (made : List Said) (course : Course) → OpsDone past at ops answers table course
+quiet_goes_on : (past : List Entry) (at : Side) (ops : List Op) (apply : Bool) (answers : List OpAnswer) (what : Made) (table : Table) (made : List MadeSdp) (course : Course) → OpsDone past at ops answers table course
     → OffersNothing answers what → made ≡ []
-    → InCourse (moved_on at course (rows_after_ops ops (course_rows at course)) course.texts course.phase) (ops_entry at ops apply answers what table made ∷ past)
+    → InCourse (moved_on at course (rows_after_ops ops (course_rows at course)) course.sdps course.phase) (ops_entry at ops apply answers what table made ∷ past)
 quiet_goes_on past at ops apply answers what table made course ops_are nothing none =
-    moved_in at course (rows_after_ops ops (course_rows at course)) course.texts course.phase (Negotiate at ops apply) (Negotiated answers what) table made past refl
-    (side_goes past at ops answers table course ops_are) ops_are.is (ap (λ more. length (texts past ++ more)) none ∙ ap length (append-nil (texts past)) ∙ ops_are.is.count)
+    moved_in at course (rows_after_ops ops (course_rows at course)) course.sdps course.phase (Negotiate at ops apply) (Negotiated answers what) table made past refl
+    (side_goes past at ops answers table course ops_are) ops_are.is (ap (λ more. length (sdps past ++ more)) none ∙ ap length (append-nil (sdps past)) ∙ ops_are.is.count)
     (phase_kept past at ops apply answers what table made course.phase nothing (names_go past at ops apply answers what table made course ops_are) ops_are.is.phase)
 
 -- ---- an offer
@@ -143,23 +143,23 @@ offer_seen rows lines ops more are adds =
     map-append unnamed lines (more (length lines)) ∙ ap (λ list. list ++ map unnamed (more (length lines))) are
     ∙ ap (λ list. rows ++ list) (adds (length lines) ∙ ap (λ (place : ℕ). rows_added place ops) few)
 
-offer_goes_on : (past : List Entry) (at : Side) (ops : List Op) (apply : Bool) (answers : List OpAnswer) (k : ℕ) (table : Table) (made : List Said) (course : Course) → Sound past → OpsDone past at ops answers table course
-    → do_stage answers ≡ true → course.phase ≡ Idle → k ≡ length (texts past) → MakesText (Negotiate at ops apply) (Negotiated answers (Offer k)) (Some table) made
+offer_goes_on : (past : List Entry) (at : Side) (ops : List Op) (apply : Bool) (answers : List OpAnswer) (k : ℕ) (table : Table) (made : List MadeSdp) (course : Course) → Sound past → OpsDone past at ops answers table course
+    → do_stage answers ≡ true → course.phase ≡ Idle → k ≡ length (sdps past) → MakesSdp (Negotiate at ops apply) (Negotiated answers (Offer k)) (Some table) made
     → let rows : List LineRow = rows_after_ops ops (course_rows at course) in
-    InCourse (moved_on at course rows (course.texts + 1) (AwaitsAnswer at course.texts (rows ++ rows_added (length rows) ops))) (ops_entry at ops apply answers (Offer k) table made ∷ past)
+    InCourse (moved_on at course rows (course.sdps + 1) (AwaitsAnswer at course.sdps (rows ++ rows_added (length rows) ops))) (ops_entry at ops apply answers (Offer k) table made ∷ past)
 offer_goes_on past at ops apply answers k table made course sound ops_are staged idle count says =
     let rows : List LineRow = rows_after_ops ops (course_rows at course) in
     let mine : IsSideOf rows table.lines = side_goes past at ops answers table course ops_are in
     let names = names_go past at ops apply answers (Offer k) table made course ops_are in
     let same : Aligned (before Left past) (before Right past) = subst (λ (phase : Phase). InPhase phase past) idle ops_are.is.phase in
-    let numbered : (k == course.texts) ≡ true = eq-eqb k course.texts (count ∙ ops_are.is.count) in
+    let numbered : (k == course.sdps) ≡ true = eq-eqb k course.sdps (count ∙ ops_are.is.count) in
     let live : StartsLive (table.lines ++ added (length table.lines) ops answers) =
     offer_live (before at past) (map row_mid (before at past)) ops answers table.lines (length table.lines) ops_are.answered mine.live staged in
-    moved_in at course rows (course.texts + 1) (AwaitsAnswer at course.texts (rows ++ rows_added (length rows) ops)) (Negotiate at ops apply) (Negotiated answers (Offer k)) table made past refl mine ops_are.is
-    (length-append (texts past) made ∙ ap (λ (n : ℕ). length (texts past) + n) (ap length says.one) ∙ ap (λ (n : ℕ). n + 1) ops_are.is.count)
+    moved_in at course rows (course.sdps + 1) (AwaitsAnswer at course.sdps (rows ++ rows_added (length rows) ops)) (Negotiate at ops apply) (Negotiated answers (Offer k)) table made past refl mine ops_are.is
+    (length-append (sdps past) made ∙ ap (λ (n : ℕ). length (sdps past) + n) (ap length says.one) ∙ ap (λ (n : ℕ). n + 1) ops_are.is.count)
     (record {
       offer = record {
-        text = says.text;
+        sdp = says.sdp;
         front = table.lines;
         more = added (length table.lines) ops answers;
         says = says.says;
@@ -171,8 +171,8 @@ offer_goes_on past at ops apply answers k table made course sound ops_are staged
       are = offer_seen rows table.lines ops (λ place. added place ops answers) mine.are ops_are.seen.adds;
       has = record {
         right = rw numbered refl;
-        unspent = unspent_later past course.texts sound (omega (arith, ops_are.is.count));
-        there = text_next past (ops_entry at ops apply answers (Offer k) table made) _ course.texts says.one (sym ops_are.is.count);
+        unspent = unspent_later past course.sdps sound (omega (arith, ops_are.is.count));
+        there = text_next past (ops_entry at ops apply answers (Offer k) table made) _ course.sdps says.one (sym ops_are.is.count);
         adds = rw numbered refl;
         kept = rw (same_side-self at) mine.media;
       };
@@ -181,9 +181,9 @@ offer_goes_on past at ops apply answers k table made course sound ops_are staged
 
 -- ---- where ops in order lead
 
-ops_go_on : (past : List Entry) (at : Side) (ops : List Op) (apply : Bool) (answers : List OpAnswer) (what : Made) (table : Table) (made : List Said) (course course' : Course) (lacked staged : Bool)
-    → Sound past → OpsDone past at ops answers table course → MadeOf (apply && not lacked) staged what (length (texts past)) → lacked ≡ false → do_stage answers ≡ staged → staged ≡ must_offer ops (course_rows at course)
-    → outcome_lacks (Negotiated answers what) ≡ false → MakesText (Negotiate at ops apply) (Negotiated answers what) (Some table) made
+ops_go_on : (past : List Entry) (at : Side) (ops : List Op) (apply : Bool) (answers : List OpAnswer) (what : Made) (table : Table) (made : List MadeSdp) (course course' : Course) (lacked staged : Bool)
+    → Sound past → OpsDone past at ops answers table course → MadeOf (apply && not lacked) staged what (length (sdps past)) → lacked ≡ false → do_stage answers ≡ staged → staged ≡ must_offer ops (course_rows at course)
+    → outcome_lacks (Negotiated answers what) ≡ false → MakesSdp (Negotiate at ops apply) (Negotiated answers what) (Some table) made
     → after_ops apply at ops course (rows_after_ops ops (course_rows at course)) ≡ Some course' → InCourse course' (ops_entry at ops apply answers what table made ∷ past)
 ops_go_on past at ops apply answers what table made course course' true staged sound ops_are makes unlacked stage_is staged_is enough says after = absurd (cc)
 ops_go_on past at ops false answers NotAsked table made course course' false staged sound ops_are makes unlacked stage_is staged_is enough says after =
@@ -204,8 +204,8 @@ ops_go_on past at ops false answers (Offer k) table made course course' false st
 ops_go_on past at ops true answers Nothing table made course course' false true sound ops_are makes unlacked stage_is staged_is enough says after = absurd makes
 ops_go_on past at ops true answers (Offer k) table made course course' false false sound ops_are makes unlacked stage_is staged_is enough says after = absurd makes
 
-pub negotiated_goes_on : (past : List Entry) (at : Side) (ops : List Op) (apply : Bool) (outcome : Outcome) (table : Option Table) (made : List Said) (course course' : Course) → Sound past → InCourse course past
-    → IsSound past (Negotiate at ops apply) outcome table → MakesText (Negotiate at ops apply) outcome table made
+pub negotiated_goes_on : (past : List Entry) (at : Side) (ops : List Op) (apply : Bool) (outcome : Outcome) (table : Option Table) (made : List MadeSdp) (course course' : Course) → Sound past → InCourse course past
+    → IsSound past (Negotiate at ops apply) outcome table → MakesSdp (Negotiate at ops apply) outcome table made
     → after_ops apply at ops course (rows_after_ops ops (course_rows at course)) ≡ Some course' → outcome_lacks outcome ≡ false
     → InCourse course' (entry (Negotiate at ops apply) outcome table made ∷ past)
 negotiated_goes_on past at ops apply Alloc None made course course' sound is replied says after enough = absurd (cc)

@@ -11,11 +11,11 @@ use Rattle.rtc_history.specs.declared.step.Step.TheVariants.{Negotiate, AcceptOf
 use Rattle.rtc_history.specs.declared.outcome.Outcome.{Outcome}
 use Rattle.rtc_history.specs.declared.table.Table.{Table}
 use Rattle.rtc_history.specs.Memory.{outcome_lacks}
-use Rattle.rtc_history.specs.Past.{Entry, Said, before, steps_of}
+use Rattle.rtc_history.specs.Past.{Entry, MadeSdp, before, steps_of}
 use Rattle.rtc_history.specs.Sound.{IsSound}
 use Rattle.rtc_history.specs.Finished.{AreSameLine, Equal}
-use Rattle.rtc_history.specs.SaidRows.{MakesText}
-use Rattle.rtc_history.specs.CourseRows.{rows_taken}
+use Rattle.rtc_history.specs.SaidRows.{MakesSdp}
+use Rattle.rtc_history.specs.CourseRows.{course_rows_after}
 use Rattle.rtc_history.specs.Orderly.{Phase, Idle, AwaitsAnswer, AwaitsEnd, Course, course_rows, moved_on, after_step, follow, course_of, has_lacked, IsIdle, OkWhereOrderly, InStepWhereOrderly}
 use Rattle.rtc_history.specs.Runs.{Sound}
 use Rattle.rtc_history_laws.proofs.Around.{entry}
@@ -27,8 +27,8 @@ use Rattle.rtc_history_laws.proofs.OrderlySteps.{IsOkOrLacks, negotiated_ok, Goe
 use Rattle.rtc_history_laws.proofs.OrderlyOps.{negotiated_goes_on}
 
 -- A step in order gives its Ok or tells a want of memory, and where none is told, the course goes on.
-step_goes_on : (past : List Entry) (step : Step) (outcome : Outcome) (table : Option Table) (made : List Said) (course course' : Course) → Sound past → InCourse course past
-    → IsSound past step outcome table → MakesText step outcome table made → after_step course step ≡ Some course' → GoesOn outcome course' (entry step outcome table made ∷ past)
+step_goes_on : (past : List Entry) (step : Step) (outcome : Outcome) (table : Option Table) (made : List MadeSdp) (course course' : Course) → Sound past → InCourse course past
+    → IsSound past step outcome table → MakesSdp step outcome table made → after_step course step ≡ Some course' → GoesOn outcome course' (entry step outcome table made ∷ past)
 step_goes_on past (Negotiate at ops apply) outcome table made course course' sound is replied says after = record {
   ok = negotiated_ok past at ops apply outcome table replied;
   next = λ enough. negotiated_goes_on past at ops apply outcome table made course course' sound is replied says after enough;
@@ -37,8 +37,8 @@ step_goes_on past (AcceptOffer at k) outcome table made course course' sound is 
     let it = accept_course at k course course.phase course' after in
     let out : IsOffered it.side k it.said past = subst (λ (phase : Phase). InPhase phase past) it.phase_is is.phase in
     subst (λ (c : Course). GoesOn outcome c (entry (AcceptOffer at k) outcome table made ∷ past)) it.course_is
-    (subst (λ (one : Side). IsSound past (AcceptOffer one k) outcome table → MakesText (AcceptOffer one k) outcome table made
-    → GoesOn outcome (moved_on one course (rows_taken true 0 (course_rows one course) it.said) (course.texts + 1) (AwaitsEnd it.side k course.texts (rows_taken true 0 (course_rows one course) it.said)))
+    (subst (λ (one : Side). IsSound past (AcceptOffer one k) outcome table → MakesSdp (AcceptOffer one k) outcome table made
+    → GoesOn outcome (moved_on one course (course_rows_after true 0 (course_rows one course) it.said) (course.sdps + 1) (AwaitsEnd it.side k course.sdps (course_rows_after true 0 (course_rows one course) it.said)))
     (entry (AcceptOffer one k) outcome table made ∷ past)) it.at_is
     (λ replied says. accept_goes_on past it.side k it.said course outcome table made sound is out replied says) replied says)
 step_goes_on past (AcceptAnswer at t a) outcome table made course course' sound is replied says after =
@@ -61,10 +61,10 @@ follow_last (Some course) (first ∷ steps) step = follow_last (after_step cours
 
 -- the same of a past with one more entry
 last_in_course : (past : List Entry) (last : Entry) (course : Course) → Sound past → ((c : Course) → course_of (steps_of past) ≡ Some c → InCourse c past)
-    → IsSound past last.step last.outcome last.table → MakesText last.step last.outcome last.table last.made → outcome_lacks last.outcome ≡ false
+    → IsSound past last.step last.outcome last.table → MakesSdp last.step last.outcome last.table last.made → outcome_lacks last.outcome ≡ false
     → course_of (steps_of (last ∷ past)) ≡ Some course → InCourse course (last ∷ past)
 last_in_course past last course sound earlier replied says enough is =
-    by (course_of (steps_of past)) refl (sym (follow_last (Some (record { left = []; right = []; texts = 0; phase = Idle })) (steps_of past) last.step) ∙ is)
+    by (course_of (steps_of past)) refl (sym (follow_last (Some (record { left = []; right = []; sdps = 0; phase = Idle })) (steps_of past) last.step) ∙ is)
   where
     by : (found : Option Course) → course_of (steps_of past) ≡ found → next_of found last.step ≡ Some course → InCourse course (last ∷ past)
     by None before_it after = absurd (cc)
@@ -73,10 +73,10 @@ last_in_course past last course sound earlier replied says enough is =
 -- A past of orderly steps, none of which told a want of memory, is in its course.
 in_course : (past : List Entry) (course : Course) → Sound past → has_lacked past ≡ false → course_of (steps_of past) ≡ Some course → InCourse course past
 in_course [] course sound enough is =
-    let same : record { left = []; right = []; texts = 0; phase = Idle } ≡ course = cc in
+    let same : record { left = []; right = []; sdps = 0; phase = Idle } ≡ course = cc in
     subst (λ (c : Course). InCourse c []) same (record { count = refl; sides = bare; phase = tt })
   where
-    bare : (side : Side) → IsSideOf (course_rows side (record { left = []; right = []; texts = 0; phase = Idle })) []
+    bare : (side : Side) → IsSideOf (course_rows side (record { left = []; right = []; sdps = 0; phase = Idle })) []
     bare Left = record { are = refl; media = tt; live = tt }
     bare Right = record { are = refl; media = tt; live = tt }
 in_course (last ∷ past) course sound enough is =
@@ -84,9 +84,9 @@ in_course (last ∷ past) course sound enough is =
     last_in_course past last course sound.1 (λ c is. in_course past c sound.1 parts.1 is) sound.0.replied sound.0.made parts.0 is
 
 -- Orderly steps give their Ok up to the first want of memory.
-pub ok_where_orderly : (past : List Entry) (step : Step) (outcome : Outcome) (table : Option Table) (made : List Said) → Sound past → IsSound past step outcome table → MakesText step outcome table made → OkWhereOrderly past step outcome
+pub ok_where_orderly : (past : List Entry) (step : Step) (outcome : Outcome) (table : Option Table) (made : List MadeSdp) → Sound past → IsSound past step outcome table → MakesSdp step outcome table made → OkWhereOrderly past step outcome
 ok_where_orderly past step outcome table made sound replied says =
-    λ orderly enough. by enough (course_of (steps_of past)) refl (ap is_some (sym (follow_last (Some (record { left = []; right = []; texts = 0; phase = Idle })) (steps_of past) step)) ∙ orderly)
+    λ orderly enough. by enough (course_of (steps_of past)) refl (ap is_some (sym (follow_last (Some (record { left = []; right = []; sdps = 0; phase = Idle })) (steps_of past) step)) ∙ orderly)
   where
     of_step : (c : Course) → InCourse c past → (found : Option Course) → after_step c step ≡ found → is_some found ≡ true → IsOkOrLacks outcome
     of_step c is None after some = absurd (cc)
@@ -111,7 +111,7 @@ idle_aligned (AwaitsAnswer side n said) past idle out = absurd idle
 idle_aligned (AwaitsEnd side n m said) past idle out = absurd idle
 
 -- Where nothing is outstanding after orderly steps, the tables are equal.
-pub in_step_where_orderly : (past : List Entry) (last : Entry) → Sound past → IsSound past last.step last.outcome last.table → MakesText last.step last.outcome last.table last.made → InStepWhereOrderly (last ∷ past)
+pub in_step_where_orderly : (past : List Entry) (last : Entry) → Sound past → IsSound past last.step last.outcome last.table → MakesSdp last.step last.outcome last.table last.made → InStepWhereOrderly (last ∷ past)
 in_step_where_orderly past last sound replied says =
     λ course is idle enough.
     let parts = or_parts (outcome_lacks last.outcome) (has_lacked past) enough in

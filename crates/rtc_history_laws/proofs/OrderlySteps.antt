@@ -4,7 +4,7 @@ use Rattle.rtc_sdp_values.specs.declared.line_row.LineRow.{LineRow}
 use Rattle.rtc_sdp_values.specs.declared.sdp.Sdp.{Sdp}
 use Rattle.rtc_change.specs.Held.{Held, Asked}
 use Rattle.rtc_change.specs.Plans.{verdict}
-use Rattle.rtc_peer_state.specs.declared.rtc_error.RtcError.TheVariants.{RemoteSdp, Sdp as TextRefused, Alloc as PeerAlloc}
+use Rattle.rtc_peer_state.specs.declared.rtc_error.RtcError.TheVariants.{RemoteSdp, Sdp as SdpRefused, Alloc as PeerAlloc}
 use Rattle.rtc_history.specs.declared.side.Side.{Side}
 use Rattle.rtc_history.specs.declared.op.Op.{Op}
 use Rattle.rtc_history.specs.declared.step.Step.TheVariants.{Negotiate, AcceptOffer, AcceptAnswer}
@@ -13,10 +13,10 @@ use Rattle.rtc_history.specs.declared.outcome.Outcome.TheVariants.{Negotiated, A
 use Rattle.rtc_history.specs.declared.table.Table.{Table}
 use Rattle.rtc_history.specs.Memory.{outcome_lacks}
 use Rattle.rtc_history.specs.Sides.{other_side}
-use Rattle.rtc_history.specs.Past.{Entry, Said, texts, handed}
-use Rattle.rtc_history.specs.Sound.{TakesOffer, TakesAnswer, IsSound, asked_in, view_in}
-use Rattle.rtc_history.specs.SaidRows.{MakesText}
-use Rattle.rtc_history.specs.CourseRows.{rows_taken}
+use Rattle.rtc_history.specs.Past.{Entry, MadeSdp, sdps, remote_sdp}
+use Rattle.rtc_history.specs.Sound.{RepliesToOffer, RepliesToAnswer, IsSound, asked_in, view_in}
+use Rattle.rtc_history.specs.SaidRows.{MakesSdp}
+use Rattle.rtc_history.specs.CourseRows.{course_rows_after}
 use Rattle.rtc_history.specs.Orderly.{Idle, AwaitsEnd, Course, course_rows, moved_on, is_ok}
 use Rattle.rtc_history.specs.Runs.{Sound}
 use Rattle.rtc_history_laws.proofs.Around.{entry}
@@ -34,46 +34,46 @@ negotiated_ok past at ops apply Alloc None replied = refl
 negotiated_ok past at ops apply (Negotiated answers made) (Some table) replied = refl
 negotiated_ok past at ops apply outcome table replied = absurd replied
 
-offer_ok : (text : Option Sdp) (said : Sdp) (view : Held) (next : ℕ) (outcome : Outcome) (after : List LineRow) → text ≡ Some said → verdict view None said ≡ None → TakesOffer text view next outcome after → IsOkOrLacks outcome
+offer_ok : (sdp : Option Sdp) (said : Sdp) (view : Held) (next : ℕ) (outcome : Outcome) (after : List LineRow) → sdp ≡ Some said → verdict view None said ≡ None → RepliesToOffer sdp view next outcome after → IsOkOrLacks outcome
 offer_ok None said view next outcome after is passes takes = absurd (cc)
-offer_ok (Some text) said view next (Answered k) after is passes takes = refl
-offer_ok (Some text) said view next (Refused (RemoteSdp why)) after is passes takes = absurd (let same : text ≡ said = cc in let e = rw same at takes.0 in cc)
-offer_ok (Some text) said view next (Refused (TextRefused error)) after is passes takes = absurd (let same : text ≡ said = cc in let e = rw same at takes.0 in cc)
-offer_ok (Some text) said view next (Refused PeerAlloc) after is passes takes = refl
-offer_ok (Some text) said view next outcome after is passes takes = absurd takes
+offer_ok (Some sdp) said view next (Answered k) after is passes takes = refl
+offer_ok (Some sdp) said view next (Refused (RemoteSdp why)) after is passes takes = absurd (let same : sdp ≡ said = cc in let e = rw same at takes.0 in cc)
+offer_ok (Some sdp) said view next (Refused (SdpRefused error)) after is passes takes = absurd (let same : sdp ≡ said = cc in let e = rw same at takes.0 in cc)
+offer_ok (Some sdp) said view next (Refused PeerAlloc) after is passes takes = refl
+offer_ok (Some sdp) said view next outcome after is passes takes = absurd takes
 
-answer_ok : (held right : Bool) (asked : Asked) (text : Option Sdp) (said : Sdp) (view : Held) (outcome : Outcome) (after : List LineRow) → held ≡ true → right ≡ true → text ≡ Some said
-    → verdict view (Some asked) said ≡ None → TakesAnswer held right asked text view outcome after → IsOkOrLacks outcome
-answer_ok false right asked text said view outcome after held_is right_is is passes takes = absurd (cc)
-answer_ok true false asked text said view outcome after held_is right_is is passes takes = absurd (cc)
+answer_ok : (held right : Bool) (asked : Asked) (sdp : Option Sdp) (said : Sdp) (view : Held) (outcome : Outcome) (after : List LineRow) → held ≡ true → right ≡ true → sdp ≡ Some said
+    → verdict view (Some asked) said ≡ None → RepliesToAnswer held right asked sdp view outcome after → IsOkOrLacks outcome
+answer_ok false right asked sdp said view outcome after held_is right_is is passes takes = absurd (cc)
+answer_ok true false asked sdp said view outcome after held_is right_is is passes takes = absurd (cc)
 answer_ok true true asked None said view outcome after held_is right_is is passes takes = absurd (cc)
-answer_ok true true asked (Some text) said view Finished after held_is right_is is passes takes = refl
-answer_ok true true asked (Some text) said view (Refused (RemoteSdp why)) after held_is right_is is passes takes = absurd (let same : text ≡ said = cc in let e = rw same at takes.0 in cc)
-answer_ok true true asked (Some text) said view (Refused (TextRefused error)) after held_is right_is is passes takes = absurd (let same : text ≡ said = cc in let e = rw same at takes.0 in cc)
-answer_ok true true asked (Some text) said view (Refused PeerAlloc) after held_is right_is is passes takes = refl
-answer_ok true true asked (Some text) said view outcome after held_is right_is is passes takes = absurd takes
+answer_ok true true asked (Some sdp) said view Finished after held_is right_is is passes takes = refl
+answer_ok true true asked (Some sdp) said view (Refused (RemoteSdp why)) after held_is right_is is passes takes = absurd (let same : sdp ≡ said = cc in let e = rw same at takes.0 in cc)
+answer_ok true true asked (Some sdp) said view (Refused (SdpRefused error)) after held_is right_is is passes takes = absurd (let same : sdp ≡ said = cc in let e = rw same at takes.0 in cc)
+answer_ok true true asked (Some sdp) said view (Refused PeerAlloc) after held_is right_is is passes takes = refl
+answer_ok true true asked (Some sdp) said view outcome after held_is right_is is passes takes = absurd takes
 
 -- an offer that is not refused is answered, where no memory lacks
-offer_answers : (text : Option Sdp) (said : Sdp) (view : Held) (next : ℕ) (outcome : Outcome) (after : List LineRow) → text ≡ Some said → verdict view None said ≡ None → TakesOffer text view next outcome after
+offer_answers : (sdp : Option Sdp) (said : Sdp) (view : Held) (next : ℕ) (outcome : Outcome) (after : List LineRow) → sdp ≡ Some said → verdict view None said ≡ None → RepliesToOffer sdp view next outcome after
     → outcome_lacks outcome ≡ false → (j : ℕ) × (outcome ≡ Answered j)
 offer_answers None said view next outcome after is passes takes enough = absurd (cc)
-offer_answers (Some text) said view next (Answered k) after is passes takes enough = (k, refl)
-offer_answers (Some text) said view next (Refused (RemoteSdp why)) after is passes takes enough = absurd (let same : text ≡ said = cc in let e = rw same at takes.0 in cc)
-offer_answers (Some text) said view next (Refused (TextRefused error)) after is passes takes enough = absurd (let same : text ≡ said = cc in let e = rw same at takes.0 in cc)
-offer_answers (Some text) said view next (Refused PeerAlloc) after is passes takes enough = absurd (cc)
-offer_answers (Some text) said view next outcome after is passes takes enough = absurd takes
+offer_answers (Some sdp) said view next (Answered k) after is passes takes enough = (k, refl)
+offer_answers (Some sdp) said view next (Refused (RemoteSdp why)) after is passes takes enough = absurd (let same : sdp ≡ said = cc in let e = rw same at takes.0 in cc)
+offer_answers (Some sdp) said view next (Refused (SdpRefused error)) after is passes takes enough = absurd (let same : sdp ≡ said = cc in let e = rw same at takes.0 in cc)
+offer_answers (Some sdp) said view next (Refused PeerAlloc) after is passes takes enough = absurd (cc)
+offer_answers (Some sdp) said view next outcome after is passes takes enough = absurd takes
 
 -- an answer that is not refused finishes, where no memory lacks
-answer_finishes : (held right : Bool) (asked : Asked) (text : Option Sdp) (said : Sdp) (view : Held) (outcome : Outcome) (after : List LineRow) → held ≡ true → right ≡ true → text ≡ Some said
-    → verdict view (Some asked) said ≡ None → TakesAnswer held right asked text view outcome after → outcome_lacks outcome ≡ false → outcome ≡ Finished
-answer_finishes false right asked text said view outcome after held_is right_is is passes takes enough = absurd (cc)
-answer_finishes true false asked text said view outcome after held_is right_is is passes takes enough = absurd (cc)
+answer_finishes : (held right : Bool) (asked : Asked) (sdp : Option Sdp) (said : Sdp) (view : Held) (outcome : Outcome) (after : List LineRow) → held ≡ true → right ≡ true → sdp ≡ Some said
+    → verdict view (Some asked) said ≡ None → RepliesToAnswer held right asked sdp view outcome after → outcome_lacks outcome ≡ false → outcome ≡ Finished
+answer_finishes false right asked sdp said view outcome after held_is right_is is passes takes enough = absurd (cc)
+answer_finishes true false asked sdp said view outcome after held_is right_is is passes takes enough = absurd (cc)
 answer_finishes true true asked None said view outcome after held_is right_is is passes takes enough = absurd (cc)
-answer_finishes true true asked (Some text) said view Finished after held_is right_is is passes takes enough = refl
-answer_finishes true true asked (Some text) said view (Refused (RemoteSdp why)) after held_is right_is is passes takes enough = absurd (let same : text ≡ said = cc in let e = rw same at takes.0 in cc)
-answer_finishes true true asked (Some text) said view (Refused (TextRefused error)) after held_is right_is is passes takes enough = absurd (let same : text ≡ said = cc in let e = rw same at takes.0 in cc)
-answer_finishes true true asked (Some text) said view (Refused PeerAlloc) after held_is right_is is passes takes enough = absurd (cc)
-answer_finishes true true asked (Some text) said view outcome after held_is right_is is passes takes enough = absurd takes
+answer_finishes true true asked (Some sdp) said view Finished after held_is right_is is passes takes enough = refl
+answer_finishes true true asked (Some sdp) said view (Refused (RemoteSdp why)) after held_is right_is is passes takes enough = absurd (let same : sdp ≡ said = cc in let e = rw same at takes.0 in cc)
+answer_finishes true true asked (Some sdp) said view (Refused (SdpRefused error)) after held_is right_is is passes takes enough = absurd (let same : sdp ≡ said = cc in let e = rw same at takes.0 in cc)
+answer_finishes true true asked (Some sdp) said view (Refused PeerAlloc) after held_is right_is is passes takes enough = absurd (cc)
+answer_finishes true true asked (Some sdp) said view outcome after held_is right_is is passes takes enough = absurd takes
 
 -- a step that gives its Ok where no memory lacks gives it or tells that memory lacks
 ok_or_lacks : (outcome : Outcome) → (outcome_lacks outcome ≡ false → is_ok outcome ≡ true) → IsOkOrLacks outcome
@@ -96,54 +96,54 @@ pub record GoesOn (outcome : Outcome) (course : Course) (past : List Entry) : Ty
 
 -- the course after the other side accepts an offer
 abbrev pub accepted_course : Side → ℕ → List LineRow → Course → Course
-accepted_course at n rows course = moved_on (other_side at) course rows (course.texts + 1) (AwaitsEnd at n course.texts rows)
+accepted_course at n rows course = moved_on (other_side at) course rows (course.sdps + 1) (AwaitsEnd at n course.sdps rows)
 
-pub accept_goes_on : (past : List Entry) (at : Side) (n : ℕ) (said : List LineRow) (course : Course) (outcome : Outcome) (table : Option Table) (made : List Said) → Sound past → InCourse course past → IsOffered at n said past
-    → IsSound past (AcceptOffer (other_side at) n) outcome table → MakesText (AcceptOffer (other_side at) n) outcome table made
-    → GoesOn outcome (accepted_course at n (rows_taken true 0 (course_rows (other_side at) course) said) course) (entry (AcceptOffer (other_side at) n) outcome table made ∷ past)
+pub accept_goes_on : (past : List Entry) (at : Side) (n : ℕ) (said : List LineRow) (course : Course) (outcome : Outcome) (table : Option Table) (made : List MadeSdp) → Sound past → InCourse course past → IsOffered at n said past
+    → IsSound past (AcceptOffer (other_side at) n) outcome table → MakesSdp (AcceptOffer (other_side at) n) outcome table made
+    → GoesOn outcome (accepted_course at n (course_rows_after true 0 (course_rows (other_side at) course) said) course) (entry (AcceptOffer (other_side at) n) outcome table made ∷ past)
 accept_goes_on past at n said course Alloc None made sound is out replied says = record { ok = refl; next = λ enough. absurd (cc) }
 accept_goes_on past at n said course outcome (Some table) made sound is out replied says =
     let may : MayAccept out.offer at n past = may_accept at n said past sound out in
     let takes = offer_taking past (other_side at) n outcome table replied in
     let comes : outcome_lacks outcome ≡ false → (j : ℕ) × (outcome ≡ Answered j) =
-    offer_answers (handed true (other_side at) n past) out.offer.text (view_in (other_side at) past) (length (texts past)) outcome table.lines may.handed_is may.passes takes in
+    offer_answers (remote_sdp true (other_side at) n past) out.offer.sdp (view_in (other_side at) past) (length (sdps past)) outcome table.lines may.remote_is may.passes takes in
     record { ok = ok_or_lacks outcome (λ enough. ap is_ok (comes enough).1); next = λ enough. by (comes enough).0 outcome (comes enough).1 replied says }
   where
     rows : List LineRow
-    rows = rows_taken true 0 (course_rows (other_side at) course) said
+    rows = course_rows_after true 0 (course_rows (other_side at) course) said
 
-    by : (j : ℕ) (outcome : Outcome) → outcome ≡ Answered j → IsSound past (AcceptOffer (other_side at) n) outcome (Some table) → MakesText (AcceptOffer (other_side at) n) outcome (Some table) made
+    by : (j : ℕ) (outcome : Outcome) → outcome ≡ Answered j → IsSound past (AcceptOffer (other_side at) n) outcome (Some table) → MakesSdp (AcceptOffer (other_side at) n) outcome (Some table) made
         → InCourse (accepted_course at n rows course) (entry (AcceptOffer (other_side at) n) outcome (Some table) made ∷ past)
     by j outcome same =
-        subst (λ (o : Outcome). IsSound past (AcceptOffer (other_side at) n) o (Some table) → MakesText (AcceptOffer (other_side at) n) o (Some table) made
+        subst (λ (o : Outcome). IsSound past (AcceptOffer (other_side at) n) o (Some table) → MakesSdp (AcceptOffer (other_side at) n) o (Some table) made
         → InCourse (accepted_course at n rows course) (entry (AcceptOffer (other_side at) n) o (Some table) made ∷ past)) (sym same)
         (λ replied says.
-        let next = accepted_next at n course.texts said (course_rows (other_side at) course) past j table made sound out (is.sides (other_side at)) (sym is.count) replied says in
-        moved_in (other_side at) course rows (course.texts + 1) (AwaitsEnd at n course.texts rows) (AcceptOffer (other_side at) n) (Answered j) table made past refl next.side is
-        (length-append (texts past) made ∙ ap (λ (k : ℕ). length (texts past) + k) (ap length says.one) ∙ ap (λ (k : ℕ). k + 1) is.count) next.phase)
+        let next = accepted_next at n course.sdps said (course_rows (other_side at) course) past j table made sound out (is.sides (other_side at)) (sym is.count) replied says in
+        moved_in (other_side at) course rows (course.sdps + 1) (AwaitsEnd at n course.sdps rows) (AcceptOffer (other_side at) n) (Answered j) table made past refl next.side is
+        (length-append (sdps past) made ∙ ap (λ (k : ℕ). length (sdps past) + k) (ap length says.one) ∙ ap (λ (k : ℕ). k + 1) is.count) next.phase)
 accept_goes_on past at n said course outcome table made sound is out replied says = absurd replied
 
-pub end_goes_on : (past : List Entry) (at : Side) (n m : ℕ) (said : List LineRow) (course : Course) (outcome : Outcome) (table : Option Table) (made : List Said) → Sound past → InCourse course past → IsAnswered at n m said past
-    → IsSound past (AcceptAnswer at n m) outcome table → MakesText (AcceptAnswer at n m) outcome table made
-    → GoesOn outcome (moved_on at course (rows_taken false 0 (course_rows at course) said) course.texts Idle) (entry (AcceptAnswer at n m) outcome table made ∷ past)
+pub end_goes_on : (past : List Entry) (at : Side) (n m : ℕ) (said : List LineRow) (course : Course) (outcome : Outcome) (table : Option Table) (made : List MadeSdp) → Sound past → InCourse course past → IsAnswered at n m said past
+    → IsSound past (AcceptAnswer at n m) outcome table → MakesSdp (AcceptAnswer at n m) outcome table made
+    → GoesOn outcome (moved_on at course (course_rows_after false 0 (course_rows at course) said) course.sdps Idle) (entry (AcceptAnswer at n m) outcome table made ∷ past)
 end_goes_on past at n m said course Alloc None made sound is out replied says = record { ok = refl; next = λ enough. absurd (cc) }
 end_goes_on past at n m said course outcome (Some table) made sound is out replied says =
     let may : MayEnd out.answer at n m past = may_end at n m said past sound out in
     let takes = answer_taking past at n m outcome table replied in
     let comes : outcome_lacks outcome ≡ false → outcome ≡ Finished =
-    answer_finishes _ _ (asked_in at n past) _ out.answer.text (view_in at past) outcome table.lines may.held may.right may.handed_is may.passes takes in
+    answer_finishes _ _ (asked_in at n past) _ out.answer.sdp (view_in at past) outcome table.lines may.held may.right may.remote_is may.passes takes in
     record { ok = ok_or_lacks outcome (λ enough. ap is_ok (comes enough)); next = λ enough. by outcome (comes enough) replied says }
   where
     rows : List LineRow
-    rows = rows_taken false 0 (course_rows at course) said
+    rows = course_rows_after false 0 (course_rows at course) said
 
-    by : (outcome : Outcome) → outcome ≡ Finished → IsSound past (AcceptAnswer at n m) outcome (Some table) → MakesText (AcceptAnswer at n m) outcome (Some table) made
-        → InCourse (moved_on at course rows course.texts Idle) (entry (AcceptAnswer at n m) outcome (Some table) made ∷ past)
+    by : (outcome : Outcome) → outcome ≡ Finished → IsSound past (AcceptAnswer at n m) outcome (Some table) → MakesSdp (AcceptAnswer at n m) outcome (Some table) made
+        → InCourse (moved_on at course rows course.sdps Idle) (entry (AcceptAnswer at n m) outcome (Some table) made ∷ past)
     by outcome same =
-        subst (λ (o : Outcome). IsSound past (AcceptAnswer at n m) o (Some table) → MakesText (AcceptAnswer at n m) o (Some table) made
-        → InCourse (moved_on at course rows course.texts Idle) (entry (AcceptAnswer at n m) o (Some table) made ∷ past)) (sym same)
+        subst (λ (o : Outcome). IsSound past (AcceptAnswer at n m) o (Some table) → MakesSdp (AcceptAnswer at n m) o (Some table) made
+        → InCourse (moved_on at course rows course.sdps Idle) (entry (AcceptAnswer at n m) o (Some table) made ∷ past)) (sym same)
         (λ replied says.
         let next = ended_next at n m said (course_rows at course) past table made sound out (is.sides at) replied in
-        moved_in at course rows course.texts Idle (AcceptAnswer at n m) Finished table made past refl next.side is
-        (ap (λ more. length (texts past ++ more)) says ∙ ap length (append-nil (texts past)) ∙ is.count) next.phase)
+        moved_in at course rows course.sdps Idle (AcceptAnswer at n m) Finished table made past refl next.side is
+        (ap (λ more. length (sdps past ++ more)) says ∙ ap length (append-nil (sdps past)) ∙ is.count) next.phase)
 end_goes_on past at n m said course outcome table made sound is out replied says = absurd replied

@@ -4,8 +4,8 @@ use Rattle.std.specs.Prelude.{slice_get}
 use Rattle.std.proofs.lemmas.Bool.{eqb-true, and_parts}
 use Rattle.rtc_sdp_values.specs.declared.line_row.LineRow.{LineRow}
 use Rattle.rtc_sdp_values.specs.declared.sdp.Sdp.{Sdp}
-use Rattle.rtc_change.specs.SaidLines.{said_lines}
-use Rattle.rtc_change.specs.Taken.{table_after}
+use Rattle.rtc_change.specs.ParsedLines.{parsed_lines}
+use Rattle.rtc_change.specs.TableAfter.{table_after}
 use Rattle.rtc_change.specs.Plans.{verdict}
 use Rattle.rtc_history.specs.declared.side.Side.{Side}
 use Rattle.rtc_history.specs.declared.side.Side.TheVariants.{Left, Right}
@@ -15,9 +15,9 @@ use Rattle.rtc_history.specs.declared.outcome.Outcome.{Outcome}
 use Rattle.rtc_history.specs.declared.outcome.Outcome.TheVariants.{Answered}
 use Rattle.rtc_history.specs.declared.table.Table.{Table}
 use Rattle.rtc_history.specs.Sides.{same_side, other_side}
-use Rattle.rtc_history.specs.Past.{Entry, Said, before, texts, said_for, handed}
-use Rattle.rtc_history.specs.Sound.{TakesOffer, IsSound}
-use Rattle.rtc_history.specs.SaidRows.{row_said, MakesText}
+use Rattle.rtc_history.specs.Past.{Entry, MadeSdp, before, sdps, sdp_for, remote_sdp}
+use Rattle.rtc_history.specs.Sound.{RepliesToOffer, IsSound}
+use Rattle.rtc_history.specs.SaidRows.{row_said, MakesSdp}
 use Rattle.rtc_history.specs.SoundEntry.{IsSoundEntry}
 use Rattle.rtc_history.specs.Rounds.{before_last, through_last, makes_answer, is_answer_to, is_own}
 use Rattle.rtc_history.specs.Runs.{Sound}
@@ -25,18 +25,18 @@ use Rattle.rtc_history_laws.proofs.Tells.{same_side-self}
 use Rattle.rtc_history_laws.proofs.PastOffers.{stays_there, text_next}
 
 -- What an answer says that a side made: the offer that it took, and the rows that it left.
-pub record TookOffer (rows after : List LineRow) (offer text : Sdp) : Type 0 where
+pub record TookOffer (rows after : List LineRow) (offer sdp : Sdp) : Type 0 where
   pub passes : verdict (record { lines = rows }) None offer ≡ None
-  pub leaves : after ≡ table_after rows (said_lines offer) true
-  pub says : said_lines text ≡ map row_said after
+  pub leaves : after ≡ table_after rows (parsed_lines offer) true
+  pub says : parsed_lines sdp ≡ map row_said after
 
 -- What a past says of the answer of a number to the offer of a number, by the other side than this one.
 pub record PastAnswer (at : Side) (t a : ℕ) (past : List Entry) : Type 0 where
   pub offer : Sdp
-  pub text : Sdp
-  pub offered : said_for true (other_side at) (slice_get (texts past) t) ≡ Some offer
-  pub there : slice_get (texts past) a ≡ Some (record { at = other_side at; offer = false; text = text })
-  pub took : TookOffer (before (other_side at) (before_last (makes_answer at t a) past)) (before (other_side at) (through_last (makes_answer at t a) past)) offer text
+  pub sdp : Sdp
+  pub offered : sdp_for true (other_side at) (slice_get (sdps past) t) ≡ Some offer
+  pub there : slice_get (sdps past) a ≡ Some (record { at = other_side at; offer = false; sdp = sdp })
+  pub took : TookOffer (before (other_side at) (before_last (makes_answer at t a) past)) (before (other_side at) (through_last (makes_answer at t a) past)) offer sdp
 
 pub another : (side at : Side) → not (same_side side at) ≡ true → side ≡ other_side at
 another Left Left other = absurd (cc)
@@ -47,56 +47,56 @@ another Right Right other = absurd (cc)
 -- What a step that made the answer of a number is.
 record AnswerEntry (past : List Entry) (entry : Entry) (side : Side) (t a : ℕ) : Type 0 where
   offer : Sdp
-  text : Sdp
-  offered : handed true side t past ≡ Some offer
-  count : a ≡ length (texts past)
-  one : entry.made ≡ record { at = side; offer = false; text = text } ∷ []
-  took : TookOffer (before side past) (before side (entry ∷ past)) offer text
+  sdp : Sdp
+  offered : remote_sdp true side t past ≡ Some offer
+  count : a ≡ length (sdps past)
+  one : entry.made ≡ record { at = side; offer = false; sdp = sdp } ∷ []
+  took : TookOffer (before side past) (before side (entry ∷ past)) offer sdp
 
 -- an offer that was answered
-pub record Answers (text : Option Sdp) (rows : List LineRow) (next k : ℕ) (after : List LineRow) : Type 0 where
+pub record Answers (sdp : Option Sdp) (rows : List LineRow) (next k : ℕ) (after : List LineRow) : Type 0 where
   pub offer : Sdp
-  pub is : text ≡ Some offer
+  pub is : sdp ≡ Some offer
   pub passes : verdict (record { lines = rows }) None offer ≡ None
-  pub leaves : after ≡ table_after rows (said_lines offer) true
+  pub leaves : after ≡ table_after rows (parsed_lines offer) true
   pub count : k ≡ next
 
-pub answered : (text : Option Sdp) (rows : List LineRow) (next k : ℕ) (after : List LineRow) → TakesOffer text (record { lines = rows }) next (Answered k) after → Answers text rows next k after
+pub answered : (sdp : Option Sdp) (rows : List LineRow) (next k : ℕ) (after : List LineRow) → RepliesToOffer sdp (record { lines = rows }) next (Answered k) after → Answers sdp rows next k after
 answered None rows next k after takes = absurd takes
-answered (Some text) rows next k after takes = record { offer = text; is = refl; passes = takes.0; leaves = takes.1; count = takes.2 }
+answered (Some sdp) rows next k after takes = record { offer = sdp; is = refl; passes = takes.0; leaves = takes.1; count = takes.2 }
 
 answer_entry : (past : List Entry) (entry : Entry) (at : Side) (t a : ℕ) → IsSoundEntry past entry → makes_answer at t a entry ≡ true → AnswerEntry past entry (other_side at) t a
 answer_entry past entry at t a sound makes_it = by entry.step entry.outcome entry.table entry.made sound.replied sound.made makes_it
   where
-    here : (side : Side) (offer k : ℕ) (table : Table) (made : List Said) → IsSound past (AcceptOffer side offer) (Answered k) (Some table) → MakesText (AcceptOffer side offer) (Answered k) (Some table) made
+    here : (side : Side) (offer k : ℕ) (table : Table) (made : List MadeSdp) → IsSound past (AcceptOffer side offer) (Answered k) (Some table) → MakesSdp (AcceptOffer side offer) (Answered k) (Some table) made
         → AnswerEntry past (record { step = AcceptOffer side offer; outcome = Answered k; table = Some table; made = made }) side offer k
-    here side offer k table made replied text =
-        let it = answered (handed true side offer past) (before side past) (length (texts past)) k table.lines replied in
+    here side offer k table made replied sdp =
+        let it = answered (remote_sdp true side offer past) (before side past) (length (sdps past)) k table.lines replied in
         record {
           offer = it.offer;
-          text = text.text;
+          sdp = sdp.sdp;
           offered = it.is;
           count = it.count;
-          one = text.one;
-          took = rw (same_side-self side) (record { passes = it.passes; leaves = it.leaves; says = text.says });
+          one = sdp.one;
+          took = rw (same_side-self side) (record { passes = it.passes; leaves = it.leaves; says = sdp.says });
         }
 
-    by : (step : Step) (outcome : Outcome) (table : Option Table) (made : List Said) → IsSound past step outcome table → MakesText step outcome table made → is_answer_to at t a step outcome ≡ true
+    by : (step : Step) (outcome : Outcome) (table : Option Table) (made : List MadeSdp) → IsSound past step outcome table → MakesSdp step outcome table made → is_answer_to at t a step outcome ≡ true
         → AnswerEntry past (record { step = step; outcome = outcome; table = table; made = made }) (other_side at) t a
-    by (AcceptOffer side offer) (Answered k) None made replied text makes_it = absurd replied
-    by (AcceptOffer side offer) (Answered k) (Some table) made replied text makes_it =
+    by (AcceptOffer side offer) (Answered k) None made replied sdp makes_it = absurd replied
+    by (AcceptOffer side offer) (Answered k) (Some table) made replied sdp makes_it =
         let parts = and_parts (not (same_side side at)) ((offer == t) && (k == a)) makes_it in
         let numbers = and_parts (offer == t) (k == a) parts.1 in
         let entry_of : Side → ℕ → ℕ → Type 0 = λ s o n. AnswerEntry past (record { step = AcceptOffer side offer; outcome = Answered k; table = Some table; made = made }) s o n in
         subst (λ (s : Side). entry_of s t a) (another side at parts.0)
         (subst (λ (o : ℕ). entry_of side o a) (eqb-true offer t numbers.0)
-        (subst (λ (n : ℕ). entry_of side offer n) (eqb-true k a numbers.1) (here side offer k table made replied text)))
-    by step outcome table made replied text makes_it = absurd (let e : false ≡ true = makes_it in cc)
+        (subst (λ (n : ℕ). entry_of side offer n) (eqb-true k a numbers.1) (here side offer k table made replied sdp)))
+    by step outcome table made replied sdp makes_it = absurd (let e : false ≡ true = makes_it in cc)
 
-handed_stays : (at : Side) (found : List Said) (more : List Said) (t : ℕ) (offer : Sdp) → said_for true at (slice_get found t) ≡ Some offer → said_for true at (slice_get (found ++ more) t) ≡ Some offer
-handed_stays at found more t offer there = by (slice_get found t) refl there
+remote_stays : (at : Side) (found : List MadeSdp) (more : List MadeSdp) (t : ℕ) (offer : Sdp) → sdp_for true at (slice_get found t) ≡ Some offer → sdp_for true at (slice_get (found ++ more) t) ≡ Some offer
+remote_stays at found more t offer there = by (slice_get found t) refl there
   where
-    by : (said : Option Said) → slice_get found t ≡ said → said_for true at said ≡ Some offer → said_for true at (slice_get (found ++ more) t) ≡ Some offer
+    by : (said : Option MadeSdp) → slice_get found t ≡ said → sdp_for true at said ≡ Some offer → sdp_for true at (slice_get (found ++ more) t) ≡ Some offer
     by None is there = absurd (cc)
     by (Some said) is there = rw (stays_there found more t said is) there
 
@@ -110,8 +110,8 @@ past_answer at t a (entry ∷ past) sound own = by (λ own. past_answer at t a p
         let it = answer_entry past entry at t a sound.0 is in
         record {
           offer = it.offer;
-          text = it.text;
-          offered = handed_stays (other_side at) (texts past) entry.made t it.offer it.offered;
+          sdp = it.sdp;
+          offered = remote_stays (other_side at) (sdps past) entry.made t it.offer it.offered;
           there = text_next past entry _ a it.one it.count;
           took = rw is it.took;
         }
@@ -119,8 +119,8 @@ past_answer at t a (entry ∷ past) sound own = by (λ own. past_answer at t a p
         let answer = earlier (rw is at own) in
         record {
           offer = answer.offer;
-          text = answer.text;
-          offered = handed_stays (other_side at) (texts past) entry.made t answer.offer answer.offered;
-          there = stays_there (texts past) entry.made a _ answer.there;
+          sdp = answer.sdp;
+          offered = remote_stays (other_side at) (sdps past) entry.made t answer.offer answer.offered;
+          there = stays_there (sdps past) entry.made a _ answer.there;
           took = rw is answer.took;
         }

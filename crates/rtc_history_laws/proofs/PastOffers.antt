@@ -6,7 +6,7 @@ use Rattle.rtc_sdp_values.specs.LineRow.{row_mid}
 use Rattle.rtc_sdp_values.specs.declared.line_row.LineRow.{LineRow}
 use Rattle.rtc_sdp_values.specs.declared.sdp.Sdp.{Sdp}
 use Rattle.rtc_change.specs.Held.{Asked}
-use Rattle.rtc_change.specs.SaidLines.{said_lines}
+use Rattle.rtc_change.specs.ParsedLines.{parsed_lines}
 use Rattle.rtc_history.specs.declared.side.Side.{Side}
 use Rattle.rtc_history.specs.declared.op.Op.{Op}
 use Rattle.rtc_history.specs.declared.op_answer.OpAnswer.{OpAnswer}
@@ -18,10 +18,10 @@ use Rattle.rtc_history.specs.declared.outcome.Outcome.{Outcome}
 use Rattle.rtc_history.specs.declared.outcome.Outcome.TheVariants.{Negotiated, Answered, Finished, Refused, NoSuch, Alloc}
 use Rattle.rtc_history.specs.declared.table.Table.{Table}
 use Rattle.rtc_history.specs.Sides.{side_of}
-use Rattle.rtc_history.specs.Past.{Entry, Said, before, texts, handed, is_offer_of, holds_token, is_right, moves, makes, do_stage, added, added_in, added_by}
+use Rattle.rtc_history.specs.Past.{Entry, MadeSdp, before, sdps, remote_sdp, is_offer_of, holds_token, is_right, moves, makes, do_stage, added, added_in, added_by}
 use Rattle.rtc_history.specs.Memory.{answers_lack}
-use Rattle.rtc_history.specs.Sound.{OpsAnswered, MadeOf, TakesOffer, TakesAnswer, IsSound, asked_in, view_in}
-use Rattle.rtc_history.specs.SaidRows.{row_said, MakesText}
+use Rattle.rtc_history.specs.Sound.{OpsAnswered, MadeOf, RepliesToOffer, RepliesToAnswer, IsSound, asked_in, view_in}
+use Rattle.rtc_history.specs.SaidRows.{row_said, MakesSdp}
 use Rattle.rtc_history.specs.SoundEntry.{IsSoundEntry}
 use Rattle.rtc_history.specs.Rounds.{makes_offer, rows_at_offer}
 use Rattle.rtc_history.specs.Runs.{Sound}
@@ -29,7 +29,7 @@ use Rattle.rtc_history_laws.proofs.Tells.{same_side-self, same_side-true}
 use Rattle.rtc_history_laws.proofs.OpRows.{ops_mids}
 use Rattle.rtc_history_laws.proofs.AddedRows.{AreAdded, ops_add}
 
--- ---- texts that stay
+-- ---- SDPs that stay
 
 -- an element of a list stays where it is behind which more come
 pub stays_there : {A : Type 0} (xs ys : List A) (t : ℕ) (x : A) → slice_get xs t ≡ Some x → slice_get (xs ++ ys) t ≡ Some x
@@ -54,13 +54,13 @@ next_there (y ∷ xs) x (suc t) at = next_there xs x t (omega arith)
 
 -- What a step that made the offer of a number is.
 pub record OfferEntry (past : List Entry) (entry : Entry) (t : ℕ) : Type 0 where
-  pub text : Sdp
+  pub sdp : Sdp
   pub more : List LineRow
-  pub count : t ≡ length (texts past)
-  pub one : entry.made ≡ record { at = side_of entry.step; offer = true; text = text } ∷ []
+  pub count : t ≡ length (sdps past)
+  pub one : entry.made ≡ record { at = side_of entry.step; offer = true; sdp = sdp } ∷ []
   pub adds : added_in (length (before (side_of entry.step) (entry ∷ past))) entry.step entry.outcome ≡ more
   pub new : AreAdded (map row_mid (before (side_of entry.step) (entry ∷ past))) (length (before (side_of entry.step) (entry ∷ past))) more
-  pub says : said_lines text ≡ map row_said (before (side_of entry.step) (entry ∷ past) ++ more)
+  pub says : parsed_lines sdp ≡ map row_said (before (side_of entry.step) (entry ∷ past) ++ more)
   pub moved : moves (side_of entry.step) entry.step entry.outcome ≡ true
 
 offer_count : (asked offers : Bool) (k next : ℕ) → MadeOf asked offers (Offer k) next → k ≡ next
@@ -68,15 +68,15 @@ offer_count true true k next made = made
 offer_count true false k next made = absurd made
 offer_count false offers k next made = absurd made
 
-no_offer : (text : Option Sdp) (past : List Entry) (at : Side) (next : ℕ) (answers : List OpAnswer) (made : Made) (after : List LineRow) → TakesOffer text (view_in at past) next (Negotiated answers made) after → ⊥
+no_offer : (sdp : Option Sdp) (past : List Entry) (at : Side) (next : ℕ) (answers : List OpAnswer) (made : Made) (after : List LineRow) → RepliesToOffer sdp (view_in at past) next (Negotiated answers made) after → ⊥
 no_offer None past at next answers made after takes = takes
-no_offer (Some text) past at next answers made after takes = takes
+no_offer (Some sdp) past at next answers made after takes = takes
 
-no_answer : (held right : Bool) (asked : Asked) (text : Option Sdp) (past : List Entry) (at : Side) (answers : List OpAnswer) (made : Made) (after : List LineRow) → TakesAnswer held right asked text (view_in at past) (Negotiated answers made) after → ⊥
-no_answer false right asked text past at answers made after takes = takes
+no_answer : (held right : Bool) (asked : Asked) (sdp : Option Sdp) (past : List Entry) (at : Side) (answers : List OpAnswer) (made : Made) (after : List LineRow) → RepliesToAnswer held right asked sdp (view_in at past) (Negotiated answers made) after → ⊥
+no_answer false right asked sdp past at answers made after takes = takes
 no_answer true right asked None past at answers made after takes = takes
-no_answer true false asked (Some text) past at answers made after takes = takes
-no_answer true true asked (Some text) past at answers made after takes = takes
+no_answer true false asked (Some sdp) past at answers made after takes = takes
+no_answer true true asked (Some sdp) past at answers made after takes = takes
 
 -- what ops stage is new beside the rows that they leave
 pub ops_new : (rows : List LineRow) (ops : List Op) (answers : List OpAnswer) (after : List LineRow) (place : ℕ) → OpsAnswered rows (map row_mid rows) ops answers after → AreAdded (map row_mid after) place (added place ops answers)
@@ -86,56 +86,56 @@ ops_new rows ops answers after place answered =
 pub offer_entry : (past : List Entry) (entry : Entry) (t : ℕ) → IsSoundEntry past entry → makes_offer t entry ≡ true → OfferEntry past entry t
 offer_entry past entry t sound makes_it = by entry.step entry.outcome entry.table entry.made sound.replied sound.made makes_it
   where
-    rows_of : (at : Side) (table : Table) (step : Step) (outcome : Outcome) (made : List Said) → side_of step ≡ at → before (side_of step) (record { step = step; outcome = outcome; table = Some table; made = made } ∷ past) ≡ table.lines
+    rows_of : (at : Side) (table : Table) (step : Step) (outcome : Outcome) (made : List MadeSdp) → side_of step ≡ at → before (side_of step) (record { step = step; outcome = outcome; table = Some table; made = made } ∷ past) ≡ table.lines
     rows_of at table step outcome made is = rw (same_side-self (side_of step)) refl
 
-    by : (step : Step) (outcome : Outcome) (table : Option Table) (made : List Said) → IsSound past step outcome table → MakesText step outcome table made → makes t outcome ≡ true
+    by : (step : Step) (outcome : Outcome) (table : Option Table) (made : List MadeSdp) → IsSound past step outcome table → MakesSdp step outcome table made → makes t outcome ≡ true
         → OfferEntry past (record { step = step; outcome = outcome; table = table; made = made }) t
-    by (Negotiate at ops apply) (Negotiated answers (Offer k)) (Some table) made replied text makes_it =
+    by (Negotiate at ops apply) (Negotiated answers (Offer k)) (Some table) made replied sdp makes_it =
         let rows = rows_of at table (Negotiate at ops apply) (Negotiated answers (Offer k)) made refl in
         record {
-          text = text.text;
+          sdp = sdp.sdp;
           more = added (length table.lines) ops answers;
-          count = sym (eqb-true k t makes_it) ∙ offer_count (apply && not (answers_lack answers)) (do_stage answers) k (length (texts past)) replied.1;
-          one = text.one;
+          count = sym (eqb-true k t makes_it) ∙ offer_count (apply && not (answers_lack answers)) (do_stage answers) k (length (sdps past)) replied.1;
+          one = sdp.one;
           adds = rw rows refl;
           new = rw rows (ops_new (before at past) ops answers table.lines (length table.lines) replied.0);
-          says = rw rows text.says;
+          says = rw rows sdp.says;
           moved = rw (same_side-self at) refl;
         }
-    by (Negotiate at ops apply) (Negotiated answers NotAsked) table made replied text makes_it = absurd (cc)
-    by (Negotiate at ops apply) (Negotiated answers Nothing) table made replied text makes_it = absurd (cc)
-    by (Negotiate at ops apply) (Negotiated answers MadeAlloc) table made replied text makes_it = absurd (cc)
-    by (Negotiate at ops apply) (Negotiated answers (Offer k)) None made replied text makes_it = absurd replied
-    by (AcceptOffer at offer) (Negotiated answers what) None made replied text makes_it = absurd replied
-    by (AcceptOffer at offer) (Negotiated answers what) (Some table) made replied text makes_it =
-        absurd (no_offer (handed true at offer past) past at (length (texts past)) answers what table.lines replied)
-    by (AcceptAnswer at token answer) (Negotiated answers what) None made replied text makes_it = absurd replied
-    by (AcceptAnswer at token answer) (Negotiated answers what) (Some table) made replied text makes_it =
-        absurd (no_answer (holds_token at token past) (is_right at token past) (asked_in at token past) (handed false at answer past) past at answers what table.lines replied)
-    by step (Answered k) table made replied text makes_it = absurd (cc)
-    by step Finished table made replied text makes_it = absurd (cc)
-    by step (Refused error) table made replied text makes_it = absurd (cc)
-    by step NoSuch table made replied text makes_it = absurd (cc)
-    by step Alloc table made replied text makes_it = absurd (cc)
+    by (Negotiate at ops apply) (Negotiated answers NotAsked) table made replied sdp makes_it = absurd (cc)
+    by (Negotiate at ops apply) (Negotiated answers Nothing) table made replied sdp makes_it = absurd (cc)
+    by (Negotiate at ops apply) (Negotiated answers MadeAlloc) table made replied sdp makes_it = absurd (cc)
+    by (Negotiate at ops apply) (Negotiated answers (Offer k)) None made replied sdp makes_it = absurd replied
+    by (AcceptOffer at offer) (Negotiated answers what) None made replied sdp makes_it = absurd replied
+    by (AcceptOffer at offer) (Negotiated answers what) (Some table) made replied sdp makes_it =
+        absurd (no_offer (remote_sdp true at offer past) past at (length (sdps past)) answers what table.lines replied)
+    by (AcceptAnswer at token answer) (Negotiated answers what) None made replied sdp makes_it = absurd replied
+    by (AcceptAnswer at token answer) (Negotiated answers what) (Some table) made replied sdp makes_it =
+        absurd (no_answer (holds_token at token past) (is_right at token past) (asked_in at token past) (remote_sdp false at answer past) past at answers what table.lines replied)
+    by step (Answered k) table made replied sdp makes_it = absurd (cc)
+    by step Finished table made replied sdp makes_it = absurd (cc)
+    by step (Refused error) table made replied sdp makes_it = absurd (cc)
+    by step NoSuch table made replied sdp makes_it = absurd (cc)
+    by step Alloc table made replied sdp makes_it = absurd (cc)
 
 -- ---- the offer of a number
 
 -- What a past says of the offer of a number, which a side made.
 pub record PastOffer (at : Side) (t : ℕ) (past : List Entry) : Type 0 where
-  pub text : Sdp
+  pub sdp : Sdp
   pub more : List LineRow
-  pub there : slice_get (texts past) t ≡ Some (record { at = at; offer = true; text = text })
+  pub there : slice_get (sdps past) t ≡ Some (record { at = at; offer = true; sdp = sdp })
   pub adds : added_by (length (rows_at_offer at t past)) t past ≡ more
   pub new : AreAdded (map row_mid (rows_at_offer at t past)) (length (rows_at_offer at t past)) more
-  pub says : said_lines text ≡ map row_said (rows_at_offer at t past ++ more)
+  pub says : parsed_lines sdp ≡ map row_said (rows_at_offer at t past ++ more)
 
--- the text of an entry is behind those before it
-pub text_next : (past : List Entry) (entry : Entry) (said : Said) (t : ℕ) → entry.made ≡ said ∷ [] → t ≡ length (texts past) → slice_get (texts (entry ∷ past)) t ≡ Some said
-text_next past entry said t one at = rw one (next_there (texts past) said t at)
+-- the SDP of an entry is behind those before it
+pub text_next : (past : List Entry) (entry : Entry) (said : MadeSdp) (t : ℕ) → entry.made ≡ said ∷ [] → t ≡ length (sdps past) → slice_get (sdps (entry ∷ past)) t ≡ Some said
+text_next past entry said t one at = rw one (next_there (sdps past) said t at)
 
-pub maker_side : (at : Side) (text : Sdp) (found : Option Said) (side : Side) → found ≡ Some (record { at = side; offer = true; text = text }) → is_offer_of at found ≡ true → side ≡ at
-maker_side at text found side there mine = same_side-true side at (let e : is_offer_of at (Some (record { at = side; offer = true; text = text })) ≡ true = ap (is_offer_of at) (sym there) ∙ mine in e)
+pub maker_side : (at : Side) (sdp : Sdp) (found : Option MadeSdp) (side : Side) → found ≡ Some (record { at = side; offer = true; sdp = sdp }) → is_offer_of at found ≡ true → side ≡ at
+maker_side at sdp found side there mine = same_side-true side at (let e : is_offer_of at (Some (record { at = side; offer = true; sdp = sdp })) ≡ true = ap (is_offer_of at) (sym there) ∙ mine in e)
 
 -- what a side has to do with the newest entry that made an offer, and with the ones before it
 pub right_parts : (at : Side) (t : ℕ) (past : List Entry) (entry : Entry) → makes_offer t entry ≡ false → is_right at t (entry ∷ past) ≡ true
@@ -149,31 +149,31 @@ right_parts at t past entry other right = by (moves at entry.step entry.outcome)
     by true is = absurd (let e = rw is at stands in cc)
     by false is = (is, rw is at stands)
 
--- the number of an offer that is right is that of a text
-pub right_within : (at : Side) (t : ℕ) (past : List Entry) → Sound past → is_right at t past ≡ true → t < length (texts past)
+-- the number of an offer that is right is that of an SDP
+pub right_within : (at : Side) (t : ℕ) (past : List Entry) → Sound past → is_right at t past ≡ true → t < length (sdps past)
 right_within at t [] sound right = absurd (cc)
 right_within at t (entry ∷ past) sound right = by (λ right. right_within at t past sound.1 right) (makes_offer t entry) refl
   where
-    by : (is_right at t past ≡ true → t < length (texts past)) → (made : Bool) → makes_offer t entry ≡ made → t < length (texts (entry ∷ past))
+    by : (is_right at t past ≡ true → t < length (sdps past)) → (made : Bool) → makes_offer t entry ≡ made → t < length (sdps (entry ∷ past))
     by earlier true is =
         let it = offer_entry past entry t sound.0 is in
         let one : length entry.made ≡ 1 = ap length it.one in
-        omega (arith, it.count, length-append (texts past) entry.made)
-    by earlier false is = omega (arith, earlier (right_parts at t past entry is right).1, length-append (texts past) entry.made)
+        omega (arith, it.count, length-append (sdps past) entry.made)
+    by earlier false is = omega (arith, earlier (right_parts at t past entry is right).1, length-append (sdps past) entry.made)
 
 -- The offer of a number that is right.
-pub past_offer : (at : Side) (t : ℕ) (past : List Entry) → Sound past → is_right at t past ≡ true → is_offer_of at (slice_get (texts past) t) ≡ true → PastOffer at t past
+pub past_offer : (at : Side) (t : ℕ) (past : List Entry) → Sound past → is_right at t past ≡ true → is_offer_of at (slice_get (sdps past) t) ≡ true → PastOffer at t past
 past_offer at t [] sound right mine = absurd (cc)
 past_offer at t (entry ∷ past) sound right mine = by (λ right mine. past_offer at t past sound.1 right mine) (makes_offer t entry) refl
   where
-    by : (is_right at t past ≡ true → is_offer_of at (slice_get (texts past) t) ≡ true → PastOffer at t past) → (made : Bool) → makes_offer t entry ≡ made → PastOffer at t (entry ∷ past)
+    by : (is_right at t past ≡ true → is_offer_of at (slice_get (sdps past) t) ≡ true → PastOffer at t past) → (made : Bool) → makes_offer t entry ≡ made → PastOffer at t (entry ∷ past)
     by earlier true is =
         let it = offer_entry past entry t sound.0 is in
         let there = text_next past entry _ t it.one it.count in
-        let here : side_of entry.step ≡ at = maker_side at it.text _ (side_of entry.step) there mine in
+        let here : side_of entry.step ≡ at = maker_side at it.sdp _ (side_of entry.step) there mine in
         subst (λ (side : Side). PastOffer side t (entry ∷ past)) here
         (record {
-          text = it.text;
+          sdp = it.sdp;
           more = it.more;
           there = there;
           adds = rw is it.adds;
@@ -182,11 +182,11 @@ past_offer at t (entry ∷ past) sound right mine = by (λ right mine. past_offe
         })
     by earlier false is =
         let before_it = (right_parts at t past entry is right).1 in
-        let same = within_there (texts past) entry.made t (right_within at t past sound.1 before_it) in
+        let same = within_there (sdps past) entry.made t (right_within at t past sound.1 before_it) in
         let offer = earlier before_it (ap (is_offer_of at) (sym same) ∙ mine) in
         let rows : rows_at_offer at t past ≡ rows_at_offer at t (entry ∷ past) = rw is refl in
         record {
-          text = offer.text;
+          sdp = offer.sdp;
           more = offer.more;
           there = same ∙ offer.there;
           adds = subst (λ (list : List LineRow). added_by (length list) t (entry ∷ past) ≡ offer.more) rows (rw is offer.adds);

@@ -6,7 +6,7 @@ use Rattle.rtc_sdp_values.specs.declared.sdp.Sdp.{Sdp}
 use Rattle.rtc_change.specs.Held.{Asked}
 use Rattle.rtc_change.specs.Table.{IsTable}
 use Rattle.rtc_change.proofs.VerdictLemmas.{unrefused_table}
-use Rattle.rtc_peer_state.specs.declared.rtc_error.RtcError.TheVariants.{RemoteSdp, Sdp as TextRefused, ChangesOutOfOrder, Alloc as PeerAlloc}
+use Rattle.rtc_peer_state.specs.declared.rtc_error.RtcError.TheVariants.{RemoteSdp, Sdp as SdpRefused, ChangesOutOfOrder, Alloc as PeerAlloc}
 use Rattle.rtc_history.specs.declared.side.Side.{Side}
 use Rattle.rtc_history.specs.declared.step.Step.{Step}
 use Rattle.rtc_history.specs.declared.step.Step.TheVariants.{Negotiate, AcceptOffer, AcceptAnswer}
@@ -14,8 +14,8 @@ use Rattle.rtc_history.specs.declared.outcome.Outcome.{Outcome}
 use Rattle.rtc_history.specs.declared.outcome.Outcome.TheVariants.{Negotiated, Answered, Finished, Refused, NoSuch, Alloc}
 use Rattle.rtc_history.specs.declared.table.Table.{Table}
 use Rattle.rtc_history.specs.Sides.{same_side, side_of}
-use Rattle.rtc_history.specs.Past.{Entry, before, rows_or, handed, holds_token, is_right}
-use Rattle.rtc_history.specs.Sound.{TakesOffer, TakesAnswer, IsSound, asked_in}
+use Rattle.rtc_history.specs.Past.{Entry, before, rows_or, remote_sdp, holds_token, is_right}
+use Rattle.rtc_history.specs.Sound.{RepliesToOffer, RepliesToAnswer, IsSound, asked_in}
 use Rattle.rtc_history.specs.Runs.{Sound}
 use Rattle.rtc_history_laws.proofs.Tells.{same_side-true}
 use Rattle.rtc_history_laws.proofs.OpRows.{ops_table}
@@ -23,33 +23,33 @@ use Rattle.rtc_history_laws.proofs.OpRows.{ops_table}
 same_table : (rows after : List LineRow) → after ≡ rows → IsTable rows → IsTable after
 same_table rows after same table = subst IsTable (sym same) table
 
-offer_table : (text : Option Sdp) (rows : List LineRow) (next : ℕ) (outcome : Outcome) (after : List LineRow) → TakesOffer text (record { lines = rows }) next outcome after → IsTable rows → IsTable after
+offer_table : (sdp : Option Sdp) (rows : List LineRow) (next : ℕ) (outcome : Outcome) (after : List LineRow) → RepliesToOffer sdp (record { lines = rows }) next outcome after → IsTable rows → IsTable after
 offer_table None rows next NoSuch after takes table = same_table rows after takes table
-offer_table (Some text) rows next (Answered k) after takes table = same_table _ after takes.1 (unrefused_table (record { lines = rows }) None text table takes.0)
-offer_table (Some text) rows next (Refused (RemoteSdp why)) after takes table = same_table rows after takes.1 table
-offer_table (Some text) rows next (Refused (TextRefused error)) after takes table = same_table rows after takes.1 table
-offer_table (Some text) rows next (Refused PeerAlloc) after takes table = same_table rows after takes table
-offer_table text rows next outcome after takes table = absurd takes
+offer_table (Some sdp) rows next (Answered k) after takes table = same_table _ after takes.1 (unrefused_table (record { lines = rows }) None sdp table takes.0)
+offer_table (Some sdp) rows next (Refused (RemoteSdp why)) after takes table = same_table rows after takes.1 table
+offer_table (Some sdp) rows next (Refused (SdpRefused error)) after takes table = same_table rows after takes.1 table
+offer_table (Some sdp) rows next (Refused PeerAlloc) after takes table = same_table rows after takes table
+offer_table sdp rows next outcome after takes table = absurd takes
 
-answer_table : (held right : Bool) (asked : Asked) (text : Option Sdp) (rows : List LineRow) (outcome : Outcome) (after : List LineRow)
-    → TakesAnswer held right asked text (record { lines = rows }) outcome after → IsTable rows → IsTable after
-answer_table false right asked text rows NoSuch after takes table = same_table rows after takes table
+answer_table : (held right : Bool) (asked : Asked) (sdp : Option Sdp) (rows : List LineRow) (outcome : Outcome) (after : List LineRow)
+    → RepliesToAnswer held right asked sdp (record { lines = rows }) outcome after → IsTable rows → IsTable after
+answer_table false right asked sdp rows NoSuch after takes table = same_table rows after takes table
 answer_table true right asked None rows NoSuch after takes table = same_table rows after takes table
-answer_table true false asked (Some text) rows (Refused ChangesOutOfOrder) after takes table = same_table rows after takes table
-answer_table true true asked (Some text) rows Finished after takes table = same_table _ after takes.1 (unrefused_table (record { lines = rows }) (Some asked) text table takes.0)
-answer_table true true asked (Some text) rows (Refused (RemoteSdp why)) after takes table = same_table rows after takes.1 table
-answer_table true true asked (Some text) rows (Refused (TextRefused error)) after takes table = same_table rows after takes.1 table
-answer_table true true asked (Some text) rows (Refused PeerAlloc) after takes table = same_table rows after takes table
-answer_table held right asked text rows outcome after takes table = absurd takes
+answer_table true false asked (Some sdp) rows (Refused ChangesOutOfOrder) after takes table = same_table rows after takes table
+answer_table true true asked (Some sdp) rows Finished after takes table = same_table _ after takes.1 (unrefused_table (record { lines = rows }) (Some asked) sdp table takes.0)
+answer_table true true asked (Some sdp) rows (Refused (RemoteSdp why)) after takes table = same_table rows after takes.1 table
+answer_table true true asked (Some sdp) rows (Refused (SdpRefused error)) after takes table = same_table rows after takes.1 table
+answer_table true true asked (Some sdp) rows (Refused PeerAlloc) after takes table = same_table rows after takes table
+answer_table held right asked sdp rows outcome after takes table = absurd takes
 
 -- a reply that is sound leaves a table of a table
 pub reply_table : (past : List Entry) (step : Step) (outcome : Outcome) (table : Option Table) → IsSound past step outcome table
     → IsTable (before (side_of step) past) → IsTable (rows_or true table (before (side_of step) past))
 reply_table past step Alloc None sound table = table
 reply_table past (Negotiate at ops apply) (Negotiated answers made) (Some after) sound table = ops_table (before at past) (map row_mid (before at past)) ops answers after.lines sound.0 table
-reply_table past (AcceptOffer at offer) outcome (Some after) sound table = offer_table (handed true at offer past) (before at past) _ outcome after.lines sound table
+reply_table past (AcceptOffer at offer) outcome (Some after) sound table = offer_table (remote_sdp true at offer past) (before at past) _ outcome after.lines sound table
 reply_table past (AcceptAnswer at token answer) outcome (Some after) sound table =
-    answer_table (holds_token at token past) (is_right at token past) (asked_in at token past) (handed false at answer past) (before at past) outcome after.lines sound table
+    answer_table (holds_token at token past) (is_right at token past) (asked_in at token past) (remote_sdp false at answer past) (before at past) outcome after.lines sound table
 reply_table past step outcome after sound table = absurd sound
 
 -- The rows of a side are a table.

@@ -11,53 +11,51 @@ use Rattle.rtc_history.specs.declared.step.Step.TheVariants.{Negotiate, AcceptOf
 use Rattle.rtc_history.specs.declared.outcome.Outcome.{Outcome}
 use Rattle.rtc_history.specs.declared.table.Table.{Table}
 use Rattle.rtc_history.specs.Sides.{side_of}
-use Rattle.rtc_history.specs.Past.{Entry, Said, before}
+use Rattle.rtc_history.specs.Past.{Entry, MadeSdp, before}
 use Rattle.rtc_history.specs.Sound.{IsSound}
-use Rattle.rtc_history.specs.SaidRows.{MakesText}
+use Rattle.rtc_history.specs.SaidRows.{MakesSdp}
 use Rattle.rtc_history.specs.SoundEntry.{IsSoundEntry}
 use Rattle.rtc_history.specs.declared.kept.Kept.{Kept}
-use Rattle.rtc_history.specs.PairState.{PairState, peer_at, handed_text, held_token}
+use Rattle.rtc_history.specs.PairState.{PairState, peer_at, kept_remote_sdp, held_token}
 use Rattle.rtc_history.specs.Performs.{Performs, Enters, made_by}
 use Rattle.rtc_history.specs.Runs.{Reached, Sound}
 use Rattle.rtc_history.specs.Fresh.{IsFresh, IsJustBuilt}
-use Rattle.rtc_history.specs.Bounds.{IsWithin}
-use Rattle.rtc_history.specs.Formed.{ArePeersFormed}
+use Rattle.rtc_history_laws.proofs.Bounds.{IsWithin}
 use Rattle.rtc_history_laws.proofs.Tells.{Tells, SideTells, within}
-use Rattle.rtc_history_laws.proofs.Around.{Around, entry, size_grows, handed-told, length-told, text_within}
+use Rattle.rtc_history_laws.proofs.Around.{Around, entry, size_grows, remote_sdp-told, length-told, sdp_within}
 use Rattle.rtc_history_laws.proofs.NegotiateSteps.{negotiate_reply, negotiate_tells}
 use Rattle.rtc_history_laws.proofs.OfferSteps.{offer_reply, offer_tells}
 use Rattle.rtc_history_laws.proofs.AnswerSteps.{answer_reply, answer_tells}
 use Rattle.rtc_history_laws.proofs.PastTables.{reply_table, past_table}
-use Rattle.rtc_history_laws.proofs.FormedSteps.{IsWellFormed, performs_formed, reached_formed}
-use Rattle.rtc_history_laws.proofs.MakesTexts.{makes_text}
+use Rattle.rtc_history_laws.proofs.MakesSdps.{makes_sdp}
 use Rattle.rtc_history_laws.proofs.FinishedRounds.{finishes_round}
 use Rattle.rtc_history_laws.proofs.OrderlyPasts.{ok_where_orderly, in_step_where_orderly}
 
 -- ---- one step
 
-around_of : {N : Type 0} (draws : Draws N) (old new : PairState N) (step : Step) (outcome : Outcome) (table : Option Table) (made : List Said)
+around_of : {N : Type 0} (draws : Draws N) (old new : PairState N) (step : Step) (outcome : Outcome) (table : Option Table) (made : List MadeSdp)
     → Performs draws old step outcome table new → made ≡ made_by old new → new.size < 2 ^ 32 → Around step made old new
-around_of draws old new step outcome table made performs made_is small = record { other = performs.other; size = performs.size; small = small; made_is = made_is }
+around_of draws old new step outcome table made performs made_is small = record { other = ap (λ rtc. rtc.core) performs.other; size = performs.size; small = small; made_is = made_is }
 
 pub step_sound : {N : Type 0} (draws : Draws N) (past : List Entry) (old new : PairState N) (step : Step) (outcome : Outcome) (table : Option Table)
     → Tells past old → IsTable (before (side_of step) past) → Performs draws old step outcome table new → new.size < 2 ^ 32 → IsSound past step outcome table
 step_sound draws past old new (Negotiate at ops apply) outcome table tells rows performs small =
-    negotiate_reply draws past at ops apply (peer_at at old) (peer_at at new) old.texts new.texts outcome table (sym (tells.sides at).rows) rows (length-told past old tells) performs.acts
+    negotiate_reply draws past at ops apply (peer_at at old) (peer_at at new) old.sdps new.sdps outcome table (sym (tells.sides at).rows) rows (length-told past old tells) performs.acts
 step_sound draws past old new (AcceptOffer at k) outcome table tells rows performs small =
-    offer_reply draws past at k (handed_text true old.texts at k) (peer_at at old) (peer_at at new) old.texts new.texts outcome table
-    (handed-told past old true at k tells) (sym (tells.sides at).rows) (length-told past old tells) performs.acts
+    offer_reply draws past at k (kept_remote_sdp true old.sdps at k) (peer_at at old) (peer_at at new) old.sdps new.sdps outcome table
+    (remote_sdp-told past old true at k tells) (sym (tells.sides at).rows) (length-told past old tells) performs.acts
 step_sound draws past old new (AcceptAnswer at t a) outcome table tells rows performs small =
-    answer_reply draws past at t a old.size (slice_get old.texts t) (held_token old.texts at t) (handed_text false old.texts at a) (peer_at at old) (peer_at at new) old.texts new.texts outcome table
-    refl ((tells.sides at).tokens t) (tells.sides at).counts (omega (arith, performs.size)) (handed-told past old false at a tells) (sym (tells.sides at).rows) performs.acts
+    answer_reply draws past at t a old.size (slice_get old.sdps t) (held_token old.sdps at t) (kept_remote_sdp false old.sdps at a) (peer_at at old) (peer_at at new) old.sdps new.sdps outcome table
+    refl ((tells.sides at).tokens t) (tells.sides at).counts (omega (arith, performs.size)) (remote_sdp-told past old false at a tells) (sym (tells.sides at).rows) performs.acts
 
-pub step_tells : {N : Type 0} (draws : Draws N) (past : List Entry) (old new : PairState N) (step : Step) (outcome : Outcome) (table : Option Table) (made : List Said)
+pub step_tells : {N : Type 0} (draws : Draws N) (past : List Entry) (old new : PairState N) (step : Step) (outcome : Outcome) (table : Option Table) (made : List MadeSdp)
     → Tells past old → Performs draws old step outcome table new → Around step made old new → Tells (entry step outcome table made ∷ past) new
 step_tells draws past old new (Negotiate at ops apply) outcome table made tells performs around =
     negotiate_tells draws past at ops apply old new outcome table made performs.acts around tells
 step_tells draws past old new (AcceptOffer at k) outcome table made tells performs around =
-    offer_tells draws past at k (handed_text true old.texts at k) old new outcome table made (λ text. text_within past old true at k text tells) performs.acts around tells
+    offer_tells draws past at k (kept_remote_sdp true old.sdps at k) old new outcome table made (λ sdp. sdp_within past old true at k sdp tells) performs.acts around tells
 step_tells draws past old new (AcceptAnswer at t a) outcome table made tells performs around =
-    answer_tells draws past at t a (held_token old.texts at t) (handed_text false old.texts at a) old new outcome table made (λ text. text_within past old false at a text tells) refl performs.acts around tells
+    answer_tells draws past at t a (held_token old.sdps at t) (kept_remote_sdp false old.sdps at a) old new outcome table made (λ sdp. sdp_within past old false at a sdp tells) refl performs.acts around tells
 
 -- ---- all steps
 
@@ -81,7 +79,7 @@ fresh_side at peer kept size built none =
 
 fresh_tells : {N : Type 0} (start : PairState N) → IsFresh start → Tells [] start
 fresh_tells {N} start fresh =
-    let none : start.texts ≡ [] = fresh.texts in
+    let none : start.sdps ≡ [] = fresh.sdps in
     record {
       sides = by;
       says = rw none refl;
@@ -90,9 +88,9 @@ fresh_tells {N} start fresh =
       each = rw none (λ k d below. absurd (omega arith));
     }
   where
-    by : (at : Side) → SideTells [] at (peer_at at start) start.texts start.size
-    by Left = fresh_side Left start.left.core start.texts start.size fresh.left fresh.texts
-    by Right = fresh_side Right start.right.core start.texts start.size fresh.right fresh.texts
+    by : (at : Side) → SideTells [] at (peer_at at start) start.sdps start.size
+    by Left = fresh_side Left start.left.core start.sdps start.size fresh.left fresh.sdps
+    by Right = fresh_side Right start.right.core start.sdps start.size fresh.right fresh.sdps
 
 -- what the past of a pair that is reached says of it
 pub reached_tells : {N : Type 0} (draws : Draws N) (start pair : PairState N) (past : List Entry) → IsFresh start → Reached draws start past pair → pair.size < 2 ^ 32 → Tells past pair
@@ -109,13 +107,12 @@ reached_within draws start pair past fresh reached small = within past pair (rea
 
 -- The entry of a step of a pair that is reached is sound.
 pub sound_next : {N : Type 0} (draws : Draws N) (start old new : PairState N) (past : List Entry) (step : Step) (outcome : Outcome) (table : Option Table)
-    → IsFresh start → ArePeersFormed start → Reached draws start past old → Sound past → Performs draws old step outcome table new → new.size < 2 ^ 32 → IsSoundEntry past (entry step outcome table (made_by old new))
-sound_next draws start old new past step outcome table fresh formed reached sound performs small =
+    → IsFresh start → Reached draws start past old → Sound past → Performs draws old step outcome table new → new.size < 2 ^ 32 → IsSoundEntry past (entry step outcome table (made_by old new))
+sound_next draws start old new past step outcome table fresh reached sound performs small =
     let tells : Tells past old = reached_tells draws start old past fresh reached (omega (arith, size_grows step (made_by old new) old new (around_of draws old new step outcome table (made_by old new) performs refl small))) in
     let rows : IsTable (before (side_of step) past) = past_table past (side_of step) sound in
     let replied : IsSound past step outcome table = step_sound draws past old new step outcome table tells rows performs small in
-    let made_formed : IsWellFormed new = performs_formed draws old new step outcome table performs (reached_formed draws start old past fresh formed reached) in
-    let says : MakesText step outcome table (made_by old new) = makes_text draws past old new step outcome table performs (reply_table past step outcome table replied rows) replied (sym (tells.sides (side_of step)).rows) made_formed.plain in
+    let says : MakesSdp step outcome table (made_by old new) = makes_sdp draws past old new step outcome table performs (reply_table past step outcome table replied rows) replied (sym (tells.sides (side_of step)).rows) in
     record {
       replied = replied;
       made = says;

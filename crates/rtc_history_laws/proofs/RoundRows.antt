@@ -7,14 +7,14 @@ use Rattle.rtc_sdp_values.specs.LineRow.{row_mid}
 use Rattle.rtc_sdp_values.specs.Sdp.{inconsistency}
 use Rattle.rtc_sdp_values.specs.declared.line_row.LineRow.{LineRow}
 use Rattle.rtc_sdp_values.specs.declared.sdp.Sdp.{Sdp}
-use Rattle.rtc_change.specs.SaidLines.{said_lines}
+use Rattle.rtc_change.specs.ParsedLines.{parsed_lines}
 use Rattle.rtc_change.specs.Table.{IsTable, Rising, row_of}
-use Rattle.rtc_change.specs.Taken.{new_places}
+use Rattle.rtc_change.specs.TableAfter.{new_places}
 use Rattle.rtc_change.specs.Plans.{verdict, head_verdict}
 use Rattle.rtc_change.proofs.TableLemmas.{row_of_its_mid}
 use Rattle.rtc_history.specs.declared.side.Side.{Side}
 use Rattle.rtc_history.specs.Sides.{other_side}
-use Rattle.rtc_history.specs.Past.{Entry, before, texts, is_spent, is_right, added_by}
+use Rattle.rtc_history.specs.Past.{Entry, before, sdps, is_spent, is_right, added_by}
 use Rattle.rtc_history.specs.SaidRows.{row_said}
 use Rattle.rtc_history.specs.CourseRows.{unnamed}
 use Rattle.rtc_history_laws.proofs.AddedRows.{AreAdded, added_rising, added_distinct, rising_append}
@@ -22,38 +22,38 @@ use Rattle.rtc_history_laws.proofs.AnswerCounts.{new_count}
 use Rattle.rtc_history_laws.proofs.RowsFollow.{Aligned, Follows, FindsNew, follows_allowed, follows_right, all_left, length-aligned}
 use Rattle.rtc_history_laws.proofs.LiveRows.{StartsLive}
 
--- ---- texts
+-- ---- SDPs
 
 -- What an offer says: the rows that its side had as it made it, then those that it added.
 pub record OfferSaid : Type 0 where
-  pub text : Sdp
+  pub sdp : Sdp
   pub front : List LineRow
   pub more : List LineRow
-  pub says : said_lines text ≡ map row_said (front ++ more)
-  pub fits : inconsistency text ≡ None
+  pub says : parsed_lines sdp ≡ map row_said (front ++ more)
+  pub fits : inconsistency sdp ≡ None
   pub live : StartsLive (front ++ more)
   pub table : IsTable front
   pub new : AreAdded (map row_mid front) (length front) more
 
 -- What an answer says: the rows that its side had as it made it.
 pub record AnswerSaid : Type 0 where
-  pub text : Sdp
+  pub sdp : Sdp
   pub rows : List LineRow
-  pub says : said_lines text ≡ map row_said rows
-  pub fits : inconsistency text ≡ None
+  pub says : parsed_lines sdp ≡ map row_said rows
+  pub fits : inconsistency sdp ≡ None
   pub live : StartsLive rows
 
 -- A side made the offer of a number, has its token, which is right, and its rows still have the names that it offered.
 pub record HasOffered (offer : OfferSaid) (at : Side) (n : ℕ) (past : List Entry) : Type 0 where
   pub right : is_right at n past ≡ true
   pub unspent : is_spent n past ≡ false
-  pub there : slice_get (texts past) n ≡ Some (record { at = at; offer = true; text = offer.text })
+  pub there : slice_get (sdps past) n ≡ Some (record { at = at; offer = true; sdp = offer.sdp })
   pub adds : added_by (length offer.front) n past ≡ offer.more
   pub kept : Aligned offer.front (before at past)
 
 -- The other side made the answer of a number to an offer, and the rows of both sides have the names that it says.
 pub record HasAnswered (offer : OfferSaid) (answer : AnswerSaid) (at : Side) (m : ℕ) (past : List Entry) : Type 0 where
-  pub there : slice_get (texts past) m ≡ Some (record { at = other_side at; offer = false; text = answer.text })
+  pub there : slice_get (sdps past) m ≡ Some (record { at = other_side at; offer = false; sdp = answer.sdp })
   pub offered : Aligned (offer.front ++ offer.more) answer.rows
   pub mine : Follows (before at past) (before at past) answer.rows
   pub theirs : Aligned answer.rows (before (other_side at) past)
@@ -99,17 +99,17 @@ offer_rising offer =
 -- ---- no cause holds
 
 -- an offer whose rows go on from those of a table is not refused
-pub offer_passes : (rows more : List LineRow) (text : Sdp) → IsTable rows → Follows rows rows more → said_lines text ≡ map row_said more → inconsistency text ≡ None → StartsLive more
-    → verdict (record { lines = rows }) None text ≡ None
+pub offer_passes : (rows more : List LineRow) (sdp : Sdp) → IsTable rows → Follows rows rows more → parsed_lines sdp ≡ map row_said more → inconsistency sdp ≡ None → StartsLive more
+    → verdict (record { lines = rows }) None sdp ≡ None
 unfolding verdict head_verdict
-offer_passes rows [] text table follows says fits live = absurd live
-offer_passes rows (row ∷ more) text table follows says fits live = rw (says, fits, follows_allowed rows true false 0 rows (row ∷ more) table (all_left rows) follows) refl
+offer_passes rows [] sdp table follows says fits live = absurd live
+offer_passes rows (row ∷ more) sdp table follows says fits live = rw (says, fits, follows_allowed rows true false 0 rows (row ∷ more) table (all_left rows) follows) refl
 
 -- an answer whose rows are those that were offered is not refused
-pub answer_passes : (rows : List LineRow) (offer : OfferSaid) (more : List LineRow) (text : Sdp) → IsTable rows → Follows rows rows more → Aligned (offer.front ++ offer.more) more → Aligned offer.front rows
-    → said_lines text ≡ map row_said more → inconsistency text ≡ None → verdict (record { lines = rows }) (Some (record { added = offer.more })) text ≡ None
+pub answer_passes : (rows : List LineRow) (offer : OfferSaid) (more : List LineRow) (sdp : Sdp) → IsTable rows → Follows rows rows more → Aligned (offer.front ++ offer.more) more → Aligned offer.front rows
+    → parsed_lines sdp ≡ map row_said more → inconsistency sdp ≡ None → verdict (record { lines = rows }) (Some (record { added = offer.more })) sdp ≡ None
 unfolding verdict head_verdict
-answer_passes rows offer more text table follows same kept says fits =
+answer_passes rows offer more sdp table follows same kept says fits =
     let allowed = follows_allowed rows false false 0 rows more table (all_left rows) follows in
     let count : length (new_places rows 0 (map row_said more)) ≡ (0 + length (map row_said more)) - max 0 (length rows) = new_count rows false 0 (map row_said more) table.rising allowed in
     let lines : length (map row_said more) ≡ length more = length-map more row_said in

@@ -1,4 +1,5 @@
--- Rows that go on from others, the same lines and then new ones: the text of such rows is refused for no cause.
+-- Rows that go on from others, the same lines and then new ones: the SDP of such rows is refused for no cause.
+use Rattle.std.specs.List.{AllZip}
 use Rattle.std.proofs.Common.{◌≡◌, ◌+◌, ◌==◌, ℕ, Bool, true, false, ◌||◌, List, [], ◌∷◌, ◌++◌, map, length, Some, None, refl, sym, ◌∙◌, ap, arith, suc}
 use Rattle.std.specs.Prelude.{slice_get}
 use Rattle.std.specs.Str.{bytes_eq}
@@ -9,13 +10,13 @@ use Rattle.rtc_sdp_values.specs.declared.line_row.LineRow.{LineRow}
 use Rattle.rtc_sdp_values.specs.declared.line_row.LineRow.TheVariants.{Media, App}
 use Rattle.rtc_sdp_values.specs.declared.media_kind.MediaKind.{MediaKind}
 use Rattle.rtc_sdp_values.specs.declared.media_kind.MediaKind.TheVariants.{Audio, Video}
-use Rattle.rtc_change.specs.Distinct.{is_among}
+use Rattle.rtc_sdp_values.specs.Mids.{is_among}
 use Rattle.rtc_change.specs.Table.{IsTable, Rising, has_mid, row_of}
-use Rattle.rtc_change.specs.Taken.{is_new, rows_after, row_after}
-use Rattle.rtc_change.specs.Verdict.{is_application, first_refusal, line_refusal}
+use Rattle.rtc_change.specs.TableAfter.{is_new, rows_after, row_after}
+use Rattle.rtc_sdp_values.specs.Sdp.{is_application}
+use Rattle.rtc_change.specs.Verdict.{first_refusal, line_refusal}
 use Rattle.rtc_change.specs.WrongLines.{wrong_line, by_added}
 use Rattle.rtc_change.proofs.TableLemmas.{row_of_its_mid, place_of_row}
-use Rattle.rtc_history.specs.Finished.{AtEachPlace}
 use Rattle.rtc_history.specs.SaidRows.{row_said}
 use Rattle.rtc_history_laws.proofs.AddedRows.{AreAdded}
 use Rattle.rtc_history_laws.proofs.FinishedRounds.{none_of_mid}
@@ -31,7 +32,7 @@ NewRow rows (Media place mid kind dir stopped remote_created) = has_mid mid rows
 NewRow rows (App place mid) = ⊥
 
 abbrev pub Aligned : List LineRow → List LineRow → Type 0
-Aligned rows others = AtEachPlace SameName rows others
+Aligned rows others = AllZip SameName rows others
 
 -- rows that go on from the ones that are left of a table, and then are new to it
 abbrev pub Follows : List LineRow → List LineRow → List LineRow → Type 0
@@ -117,14 +118,14 @@ follows_alike rows others (own ∷ left) (own' ∷ left') (row ∷ more) same sa
     (name_trans own' own row (name_sym own own' same_left.0) follows.0, follows_alike rows others left left' more same same_left.1 follows.1)
 follows_alike rows others left left' more same same_left follows = absurd same_left
 
--- ---- the rows that a text leaves
+-- ---- the rows that an SDP leaves
 
 name_after : (rows : List LineRow) (offer : Bool) (place : ℕ) (first row : LineRow) → SameName first row → SameName first (row_after rows offer place (row_said row))
 name_after rows offer place (Media p m k d s r) (Media at mid Audio dir stopped remote_created) same = (same.0, same.1)
 name_after rows offer place (Media p m k d s r) (Media at mid Video dir stopped remote_created) same = (same.0, same.1)
 name_after rows offer place first row same = absurd same
 
--- the rows that a text leaves have the names of its lines
+-- the rows that an SDP leaves have the names of its lines
 pub after_aligned : (rows : List LineRow) (offer : Bool) (place : ℕ) (first more : List LineRow) → Aligned first more → Aligned first (rows_after rows offer place (map row_said more))
 after_aligned rows offer place [] [] same = tt
 after_aligned rows offer place (row ∷ first) (other ∷ more) same = (name_after rows offer place row other same.0, after_aligned rows offer (place + 1) first more same.1)

@@ -7,9 +7,9 @@ use Rattle.rtc_sdp_values.specs.declared.line_row.LineRow.TheVariants.{Media as 
 use Rattle.rtc_change.specs.declared.change.Change.{Change}
 use Rattle.rtc_change.specs.declared.change.Change.TheVariants.{AddMedia as Adding, AddApp, Direction as Setting}
 use Rattle.rtc_change.specs.PendingOffer.{added_mids, added_rows}
-use Rattle.rtc_change.specs.RowChanges.{RowChange, turned, halted, changed_of}
+use Rattle.rtc_change.specs.RowChanges.{RowChange, directed_row, stopped_row, changed_of}
 use Rattle.rtc_change.proofs.AddedLemmas.{added_mids-append}
-use Rattle.rtc_change.proofs.RowChangeLemmas.{KeepsRow, turned_keeps, halted_keeps, changed_of_alike, length-alike}
+use Rattle.rtc_change.proofs.RowChangeLemmas.{KeepsRow, directed_row_keeps, stopped_row_keeps, changed_of_alike, length-alike}
 use Rattle.rtc_peer_state.specs.declared.peer.Peer.{Peer}
 use Rattle.rtc_peer_state.specs.Draws.{Draws}
 use Rattle.rtc_peer_state.specs.Calls.{ChangesLine, staged_media}
@@ -167,15 +167,15 @@ ops_stage draws p q (AddMedia kind dir ∷ ops) (Mid mid ∷ answers) h =
       some = rest.some ∙ ap (λ b. b || do_stage answers) (ap are_some staged ∙ some-push p.staged change) ∙ or_something (are_some p.staged);
     }
 ops_stage draws p q (AddMedia kind dir ∷ ops) (OpAlloc ∷ []) h =
-    stages_lacking p q (AddMedia kind dir) ops (λ place. added_none place ops) (ap (λ r. r.lines) h) (ap (λ r. r.counter) h) (ap (λ r. r.staged) h)
+    stages_lacking p q (AddMedia kind dir) ops (λ place. added_none place ops) (ap (λ r. r.lines) h.1) (ap (λ r. r.counter) h.1) (ap (λ r. r.staged) h.1)
 ops_stage draws p q (SetDirection at dir ∷ ops) (NoLine ∷ answers) h = stages_none p q (SetDirection at dir) ops answers (λ place. refl) (ops_stage draws p q ops answers h.1)
 ops_stage draws p q (SetDirection at dir ∷ ops) (Changed changed ∷ answers) h =
-    stages_line p h.0 q (SetDirection at dir) ops changed answers (λ place. refl) (line_staged (turned dir) dir p h.1.mid changed h.0 (turned_keeps dir) h.1.called) (ops_stage draws h.0 q ops answers h.2)
+    stages_line p h.0 q (SetDirection at dir) ops changed answers (λ place. refl) (line_staged (directed_row dir) dir p h.1.mid changed h.0 (directed_row_keeps dir) h.1.called) (ops_stage draws h.0 q ops answers h.2)
 ops_stage draws p q (SetDirection at dir ∷ ops) (OpAlloc ∷ []) h =
     stages_lacking p q (SetDirection at dir) ops (λ place. added_none place ops) (ap (λ r. r.lines) h.called) (ap (λ r. r.counter) h.called) (ap (λ r. r.staged) h.called)
 ops_stage draws p q (StopMedia at ∷ ops) (NoLine ∷ answers) h = stages_none p q (StopMedia at) ops answers (λ place. refl) (ops_stage draws p q ops answers h.1)
 ops_stage draws p q (StopMedia at ∷ ops) (Changed changed ∷ answers) h =
-    stages_line p h.0 q (StopMedia at) ops changed answers (λ place. refl) (line_staged halted Inactive p h.1.mid changed h.0 halted_keeps h.1.called) (ops_stage draws h.0 q ops answers h.2)
+    stages_line p h.0 q (StopMedia at) ops changed answers (λ place. refl) (line_staged stopped_row Inactive p h.1.mid changed h.0 stopped_row_keeps h.1.called) (ops_stage draws h.0 q ops answers h.2)
 ops_stage draws p q (StopMedia at ∷ ops) (OpAlloc ∷ []) h =
     stages_lacking p q (StopMedia at) ops (λ place. added_none place ops) (ap (λ r. r.lines) h.called) (ap (λ r. r.counter) h.called) (ap (λ r. r.staged) h.called)
 ops_stage draws p q ops answers h = absurd h

@@ -8,10 +8,10 @@ use Rattle.rtc_peer_state.specs.Calls.{raised}
 use Rattle.rtc_history.specs.declared.side.Side.{Side}
 use Rattle.rtc_history.specs.declared.side.Side.TheVariants.{Left, Right}
 use Rattle.rtc_history.specs.Sides.{same_side, other_side, side_of}
-use Rattle.rtc_history.specs.Past.{Entry, before, rows_or, texts, spends, is_spent, is_offer_of, holds_token, moves, makes, is_right, added_by}
+use Rattle.rtc_history.specs.Past.{Entry, before, rows_or, sdps, spends, is_spent, is_offer_of, holds_token, moves, makes, is_right, added_by}
 use Rattle.rtc_history.specs.declared.kept.Kept.{Kept}
-use Rattle.rtc_history.specs.PairState.{PairState, peer_at, said_of, token_for, held_token}
-use Rattle.rtc_history.specs.Bounds.{IsWithin}
+use Rattle.rtc_history.specs.PairState.{PairState, peer_at, made_sdp, token_for, held_token}
+use Rattle.rtc_history_laws.proofs.Bounds.{IsWithin}
 
 -- What a past says of the token of a number, at a side whose counter is this.
 pub record TokenTells (past : List Entry) (at : Side) (counter t : ℕ) (kept : Option Kept) : Type 0 where
@@ -35,29 +35,22 @@ pub record SideTells {N : Type 0} (past : List Entry) (at : Side) (peer : Peer N
   pub fits : Fits at peer kept size
 
 pub record Tells {N : Type 0} (past : List Entry) (pair : PairState N) : Type 0 where
-  pub sides : (at : Side) → SideTells past at (peer_at at pair) pair.texts pair.size
-  pub says : map said_of pair.texts ≡ texts past
-  -- no token past the texts is spent
-  pub later : (t : ℕ) → length (texts past) ≤ t → is_spent t past ≡ false
-  pub count : length pair.texts ≤ pair.size
-  pub each : All (λ kept. length kept.text.lines ≤ pair.size) pair.texts
+  pub sides : (at : Side) → SideTells past at (peer_at at pair) pair.sdps pair.size
+  pub says : map made_sdp pair.sdps ≡ sdps past
+  -- no token past the SDPs is spent
+  pub later : (t : ℕ) → length (sdps past) ≤ t → is_spent t past ≡ false
+  pub count : length pair.sdps ≤ pair.size
+  pub each : All (λ kept. length kept.sdp.lines ≤ pair.size) pair.sdps
 
 pub within : {N : Type 0} (past : List Entry) (pair : PairState N) → Tells past pair → IsWithin pair
 within past pair tells = record {
   rows = λ at. (tells.sides at).few;
-  texts = tells.count;
+  sdps = tells.count;
   each = tells.each;
   fits = λ at. (tells.sides at).fits;
 }
 
 -- ---- sides
-
--- a fact of one side and of the other is one of each side
-pub both_sides : (P : Side → Type 0) (at : Side) → P at → P (other_side at) → (side : Side) → P side
-both_sides P Left here there Left = here
-both_sides P Left here there Right = there
-both_sides P Right here there Left = there
-both_sides P Right here there Right = here
 
 pub same_side-self : (at : Side) → same_side at at ≡ true
 same_side-self Left = refl
@@ -80,7 +73,7 @@ raised-small counter size low few = omega arith
 
 -- a new entry made no offer of this number, and spent no token of it
 pub record IsUntold (past : List Entry) (e : Entry) (at : Side) (t : ℕ) : Type 0 where
-  pub same : is_offer_of at (slice_get (texts (e ∷ past)) t) ≡ is_offer_of at (slice_get (texts past) t)
+  pub same : is_offer_of at (slice_get (sdps (e ∷ past)) t) ≡ is_offer_of at (slice_get (sdps past) t)
   pub unspent : spends t e.step e.outcome ≡ false
   pub unmade : makes t e.outcome ≡ false
 
@@ -118,7 +111,7 @@ pub token_next : (moved : Bool) (past : List Entry) (e : Entry) (at : Side) (cou
 token_next true past e at counter t kept untold moved told = token_moved past e at counter t kept untold moved told
 token_next false past e at counter t kept untold moved told = token_kept past e at counter t kept untold moved told
 
--- a text whose token this side has not
+-- an SDP whose token this side has not
 pub no_token : (past : List Entry) (at : Side) (counter t : ℕ) (kept : Option Kept) → token_for at kept ≡ None → holds_token at t past ≡ false → TokenTells past at counter t kept
 no_token past at counter t kept none unheld = record {
   held = rw (none, unheld) refl;

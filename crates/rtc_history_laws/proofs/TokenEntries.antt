@@ -10,20 +10,20 @@ use Rattle.rtc_peer_state.specs.declared.peer.Peer.{Peer}
 use Rattle.rtc_peer_state.specs.Calls.{raised}
 use Rattle.rtc_history.specs.declared.side.Side.{Side}
 use Rattle.rtc_history.specs.Sides.{same_side, other_side, side_of}
-use Rattle.rtc_history.specs.Past.{Entry, texts, spends, is_spent, is_offer_of, holds_token, makes, added_in}
+use Rattle.rtc_history.specs.Past.{Entry, sdps, spends, is_spent, is_offer_of, holds_token, makes, added_in}
 use Rattle.rtc_history.specs.declared.kept.Kept.{Kept}
-use Rattle.rtc_history.specs.PairState.{PairState, peer_at, said_of, token_for, held_token}
-use Rattle.rtc_history_laws.proofs.TextLists.{push_places, set_places, map-slice_set}
+use Rattle.rtc_history.specs.PairState.{PairState, peer_at, made_sdp, token_for, held_token}
+use Rattle.rtc_history_laws.proofs.PushedLists.{push_places, set_places, map-slice_set}
 use Rattle.rtc_history_laws.proofs.Tells.{TokenTells, SideTells, Tells, IsUntold, Fits, HeldBefore, same_side-self, same_side-other, raised-small, token_next, no_token, held_before, fits_moved, fits_same, side_next}
 use Rattle.rtc_history_laws.proofs.Entries.{Goes, rows_told, tells_next, each_grown, said_at, same_offer, says_pushed, texts_pushed, no_choice, unheld}
 
 -- ---- an entry that spends a token
 
--- a text without its token
+-- an SDP without its token
 abbrev pub bare : Kept → Kept
 bare kept = record kept { token = None }
 
--- the text at a place is one of the texts
+-- the SDP at a place is one of the SDPs
 pub All-slice_get : {A : Type 0} (P : A → Type 0) (xs : List A) (k : ℕ) (x : A) → slice_get xs k ≡ Some x → All P xs → P x
 All-slice_get P xs k x there each = let e = get_or_from_slice_get xs k x x there in rw (← e) (All-get_or P xs k x (slice_get_within xs k x there) each)
 
@@ -52,22 +52,22 @@ fits_either past at old new kept kept' size size' k (inr right) counter small gr
     fits_spent past at old new kept kept' size size' k right.0 counter small right.1 spent right.2 was told
 
 pub spent_tells : {N : Type 0} (past : List Entry) (e : Entry) (old new : PairState N) (k : ℕ) (kept : Kept) → Goes false past e old new
-    → StaysOrRight (side_of e.step) (peer_at (side_of e.step) old) old.texts k (peer_at (side_of e.step) new)
-    → slice_get old.texts k ≡ Some kept → new.texts ≡ slice_set old.texts k (bare kept)
+    → StaysOrRight (side_of e.step) (peer_at (side_of e.step) old) old.sdps k (peer_at (side_of e.step) new)
+    → slice_get old.sdps k ≡ Some kept → new.sdps ≡ slice_set old.sdps k (bare kept)
     → ((t : ℕ) → spends t e.step e.outcome ≡ (k == t)) → ((t : ℕ) → makes t e.outcome ≡ false) → Tells past old → Tells (e ∷ past) new
 spent_tells past e old new k kept goes right there changed spends_k unmade tells =
     let at = side_of e.step in
     let size : old.size ≤ new.size = omega (arith, goes.grows) in
     let small : old.size < 2 ^ 32 = omega (arith, goes.grows, goes.small) in
-    let count : length new.texts ≡ length old.texts = ap length changed ∙ length-set old.texts k (bare kept) in
-    let none : e.made ≡ [] = goes.made ∙ ap (map said_of) (drop_all (length old.texts) new.texts (omega arith)) in
-    let same_said : texts (e ∷ past) ≡ texts past = ap (λ made. texts past ++ made) none ∙ append-nil (texts past) in
-    let place : (t : ℕ) → (((k == t) ≡ false) × (slice_get new.texts t ≡ slice_get old.texts t)) ⊎ ((t ≡ k) × ((k == t) ≡ true) × (slice_get new.texts t ≡ Some (bare kept))) =
-    λ t. rw changed (set_places old.texts k (bare kept) kept t there) in
+    let count : length new.sdps ≡ length old.sdps = ap length changed ∙ length-set old.sdps k (bare kept) in
+    let none : e.made ≡ [] = goes.made ∙ ap (map made_sdp) (drop_all (length old.sdps) new.sdps (omega arith)) in
+    let same_said : sdps (e ∷ past) ≡ sdps past = ap (λ made. sdps past ++ made) none ∙ append-nil (sdps past) in
+    let place : (t : ℕ) → (((k == t) ≡ false) × (slice_get new.sdps t ≡ slice_get old.sdps t)) ⊎ ((t ≡ k) × ((k == t) ≡ true) × (slice_get new.sdps t ≡ Some (bare kept))) =
+    λ t. rw changed (set_places old.sdps k (bare kept) kept t there) in
     let lost : (side : Side) → token_for side (Some (bare kept)) ≡ None = λ side. no_choice (same_side kept.at side) in
-    let was : (side : Side) → HeldBefore side old.texts new.texts = λ side. held_before side old.texts new.texts
+    let was : (side : Side) → HeldBefore side old.sdps new.sdps = λ side. held_before side old.sdps new.sdps
     (λ t. elim (place t) [ inl h ↦ inl h.1 | inr h ↦ inr (ap (token_for side) h.2 ∙ lost side) ]) in
-    let spent : (side : Side) → held_token new.texts side k ≡ None = λ side. elim (place k) [
+    let spent : (side : Side) → held_token new.sdps side k ≡ None = λ side. elim (place k) [
       | inl h ↦ absurd (both_ways (k == k) h.0 (eq-eqb k k refl))
       | inr h ↦ ap (token_for side) h.2 ∙ lost side
     ] in
@@ -76,25 +76,25 @@ spent_tells past e old new k kept goes right there changed spends_k unmade tells
     no_token (e ∷ past) side counter t (Some (bare kept)) (lost side) (unheld_spent side t (spends_k t ∙ here)) in
     tells_next false past e old new goes
     (record {
-      says = ap (map said_of) changed ∙ map-slice_set said_of old.texts k (bare kept) kept there refl ∙ tells.says ∙ sym same_said;
-      later = λ t most. let past_most : length (texts past) ≤ t = rw same_said at most in elim (place t) [
+      says = ap (map made_sdp) changed ∙ map-slice_set made_sdp old.sdps k (bare kept) kept there refl ∙ tells.says ∙ sym same_said;
+      later = λ t most. let past_most : length (sdps past) ≤ t = rw same_said at most in elim (place t) [
         | inl h ↦ rw (spends_k t, h.0) (tells.later t past_most)
         | inr h ↦ absurd (
-            let k_within : k < length old.texts = slice_get_within old.texts k kept there in
-            let said_count : length (texts past) ≡ length old.texts = ap length (sym tells.says) ∙ length-map old.texts said_of in
+            let k_within : k < length old.sdps = slice_get_within old.sdps k kept there in
+            let said_count : length (sdps past) ≡ length old.sdps = ap length (sym tells.says) ∙ length-map old.sdps made_sdp in
             omega (arith, h.0))
       ];
       count = omega arith;
-      each = rw changed (All-set (λ (one : Kept). length one.text.lines ≤ new.size) old.texts k (bare kept)
-          (All-slice_get (λ (one : Kept). length one.text.lines ≤ new.size) old.texts k kept there (each_grown old.texts old.size new.size size tells.each))
-          (each_grown old.texts old.size new.size size tells.each));
+      each = rw changed (All-set (λ (one : Kept). length one.sdp.lines ≤ new.size) old.sdps k (bare kept)
+          (All-slice_get (λ (one : Kept). length one.sdp.lines ≤ new.size) old.sdps k kept there (each_grown old.sdps old.size new.size size tells.each))
+          (each_grown old.sdps old.size new.size size tells.each));
     })
-    (side_next false past e at (peer_at at old) (peer_at at new) old.texts new.texts old.size new.size (rows_told false past e old new goes) goes.counter goes.grows goes.few (was at)
+    (side_next false past e at (peer_at at old) (peer_at at new) old.sdps new.sdps old.size new.size (rows_told false past e old new goes) goes.counter goes.grows goes.few (was at)
     (λ t. elim (place t) [
       | inl h ↦ rw h.1 (token_next false past e at _ t _ (untold at t h.0) goes.mine ((tells.sides at).tokens t))
       | inr h ↦ rw h.2 (gone at _ t h.1)
     ])
-    (fits_either past at (peer_at at old) (peer_at at new) old.texts new.texts old.size new.size k right goes.counter small size (spent at) (was at) (tells.sides at))
+    (fits_either past at (peer_at at old) (peer_at at new) old.sdps new.sdps old.size new.size k right goes.counter small size (spent at) (was at) (tells.sides at))
     (tells.sides at))
     (was (other_side at))
     (λ t. elim (place t) [
@@ -104,14 +104,14 @@ spent_tells past e old new k kept goes right there changed spends_k unmade tells
     tells
   where
     unheld_spent : (side : Side) (t : ℕ) → spends t e.step e.outcome ≡ true → holds_token side t (e ∷ past) ≡ false
-    unheld_spent side t spends_it = rw spends_it (and_right (is_offer_of side (slice_get (texts (e ∷ past)) t)) false refl)
+    unheld_spent side t spends_it = rw spends_it (and_right (is_offer_of side (slice_get (sdps (e ∷ past)) t)) false refl)
 
 -- ---- an entry that makes an offer
 
 -- The token of a new offer, at the side that made it.
 offer_token : (past : List Entry) (e : Entry) (at : Side) (counter t : ℕ) (kept : Kept) (token : PendingOffer) → same_side kept.at at ≡ true → kept.offer ≡ true
     → token_for at (Some kept) ≡ Some token → token.id ≡ counter → ((place : ℕ) → added_in place e.step e.outcome ≡ added_rows place token.changes)
-    → slice_get (texts (e ∷ past)) t ≡ Some (said_of kept) → spends t e.step e.outcome ≡ false → is_spent t past ≡ false → makes t e.outcome ≡ true
+    → slice_get (sdps (e ∷ past)) t ≡ Some (made_sdp kept) → spends t e.step e.outcome ≡ false → is_spent t past ≡ false → makes t e.outcome ≡ true
     → TokenTells (e ∷ past) at (counter + 1) t (Some kept)
 offer_token past e at counter t kept token mine offer found id adds said unspent never_spent makes_it =
     let it : (other : PendingOffer) → token_for at (Some kept) ≡ Some other → token ≡ other = λ other is. let same : Some token ≡ Some other = sym found ∙ is in cc in
@@ -148,24 +148,24 @@ fits_offered past at old new kept size size' token counter small fit told t othe
 pub offered_tells : {N : Type 0} (past : List Entry) (e : Entry) (old new : PairState N) (kept : Kept) (token : PendingOffer) → Goes true past e old new
     → kept.at ≡ side_of e.step → kept.offer ≡ true → kept.token ≡ Some token → token.id ≡ (peer_at (side_of e.step) old).counter
     → ((place : ℕ) → added_in place e.step e.outcome ≡ added_rows place token.changes)
-    → length kept.text.lines ≤ new.size → length (peer_at (side_of e.step) new).lines + length (added_mids token.changes) ≤ new.size → new.texts ≡ old.texts ++ kept ∷ []
-    → ((t : ℕ) → spends t e.step e.outcome ≡ false) → ((t : ℕ) → makes t e.outcome ≡ (length old.texts == t)) → Tells past old → Tells (e ∷ past) new
+    → length kept.sdp.lines ≤ new.size → length (peer_at (side_of e.step) new).lines + length (added_mids token.changes) ≤ new.size → new.sdps ≡ old.sdps ++ kept ∷ []
+    → ((t : ℕ) → spends t e.step e.outcome ≡ false) → ((t : ℕ) → makes t e.outcome ≡ (length old.sdps == t)) → Tells past old → Tells (e ∷ past) new
 offered_tells past e old new kept token goes by offer has id adds few fit pushed unspent makes_it tells =
     let at = side_of e.step in
     let size : old.size ≤ new.size = omega (arith, goes.grows) in
     let small : old.size < 2 ^ 32 = omega (arith, goes.grows, goes.small) in
-    let says : map said_of new.texts ≡ texts (e ∷ past) = says_pushed past e old new kept goes.made pushed tells.says in
-    let said_count : length (texts past) ≡ length old.texts = ap length (sym tells.says) ∙ length-map old.texts said_of in
+    let says : map made_sdp new.sdps ≡ sdps (e ∷ past) = says_pushed past e old new kept goes.made pushed tells.says in
+    let said_count : length (sdps past) ≡ length old.sdps = ap length (sym tells.says) ∙ length-map old.sdps made_sdp in
     let mine : same_side kept.at at ≡ true = ap (λ side. same_side side at) by ∙ same_side-self at in
     let theirs : same_side kept.at (other_side at) ≡ false = ap (λ side. same_side side (other_side at)) by ∙ same_side-other at in
     let found : token_for at (Some kept) ≡ Some token = ap (λ b. cond b kept.token None) mine ∙ has in
     let none : token_for (other_side at) (Some kept) ≡ None = ap (λ b. cond b kept.token None) theirs in
-    let place : (t : ℕ) → (((length old.texts == t) ≡ false) × (slice_get new.texts t ≡ slice_get old.texts t)) ⊎ ((t ≡ length old.texts) × ((length old.texts == t) ≡ true) × (slice_get new.texts t ≡ Some kept)) =
-    λ t. rw pushed (push_places old.texts kept t) in
-    let untold : (side : Side) (t : ℕ) → (length old.texts == t) ≡ false → slice_get new.texts t ≡ slice_get old.texts t → IsUntold past e side t =
-    λ side t other there. record { same = same_offer past e old new side t tells.says says (ap (option_map said_of) there); unspent = unspent t; unmade = makes_it t ∙ other } in
-    let last : (t : ℕ) → slice_get new.texts t ≡ Some kept → slice_get (texts (e ∷ past)) t ≡ Some (said_of kept) = λ t there. said_at (e ∷ past) new t says ∙ ap (option_map said_of) there in
-    let origin : (t : ℕ) (other : PendingOffer) → held_token new.texts at t ≡ Some other → Origin at old.texts token t other = λ t other is. elim (place t) [
+    let place : (t : ℕ) → (((length old.sdps == t) ≡ false) × (slice_get new.sdps t ≡ slice_get old.sdps t)) ⊎ ((t ≡ length old.sdps) × ((length old.sdps == t) ≡ true) × (slice_get new.sdps t ≡ Some kept)) =
+    λ t. rw pushed (push_places old.sdps kept t) in
+    let untold : (side : Side) (t : ℕ) → (length old.sdps == t) ≡ false → slice_get new.sdps t ≡ slice_get old.sdps t → IsUntold past e side t =
+    λ side t other there. record { same = same_offer past e old new side t tells.says says (ap (option_map made_sdp) there); unspent = unspent t; unmade = makes_it t ∙ other } in
+    let last : (t : ℕ) → slice_get new.sdps t ≡ Some kept → slice_get (sdps (e ∷ past)) t ≡ Some (made_sdp kept) = λ t there. said_at (e ∷ past) new t says ∙ ap (option_map made_sdp) there in
+    let origin : (t : ℕ) (other : PendingOffer) → held_token new.sdps at t ≡ Some other → Origin at old.sdps token t other = λ t other is. elim (place t) [
       | inl h ↦ inl (ap (token_for at) (sym h.1) ∙ is)
       | inr h ↦ inr (h.0, let same : Some token ≡ Some other = sym found ∙ sym (ap (token_for at) h.2) ∙ is in cc)
     ] in
@@ -178,12 +178,12 @@ offered_tells past e old new kept token goes by offer has id adds few fit pushed
       ]);
       counts = let c : (peer_at at old).counter ≤ old.size = (tells.sides at).counts in omega (arith, goes.counter, goes.grows);
       few = goes.few;
-      one_each = λ t u one other is is'. one_each_offered past at (peer_at at old) old.texts old.size token id (tells.sides at) t u one other (origin t one is) (origin u other is');
-      fits = λ t other is. fits_offered past at (peer_at at old) (peer_at at new) old.texts old.size new.size token goes.counter small fit (tells.sides at) t other (origin t other is);
+      one_each = λ t u one other is is'. one_each_offered past at (peer_at at old) old.sdps old.size token id (tells.sides at) t u one other (origin t one is) (origin u other is');
+      fits = λ t other is. fits_offered past at (peer_at at old) (peer_at at new) old.sdps old.size new.size token goes.counter small fit (tells.sides at) t other (origin t other is);
     })
-    (held_before (other_side at) old.texts new.texts (λ t. elim (place t) [ inl h ↦ inl h.1 | inr h ↦ inr (ap (token_for (other_side at)) h.2 ∙ none) ]))
+    (held_before (other_side at) old.sdps new.sdps (λ t. elim (place t) [ inl h ↦ inl h.1 | inr h ↦ inr (ap (token_for (other_side at)) h.2 ∙ none) ]))
     (λ t. elim (place t) [
       | inl h ↦ rw h.1 (token_next false past e (other_side at) _ t _ (untold (other_side at) t h.0 h.1) goes.theirs ((tells.sides (other_side at)).tokens t))
-      | inr h ↦ rw h.2 (no_token (e ∷ past) (other_side at) _ t (Some kept) none (unheld (e ∷ past) (other_side at) t (Some (said_of kept)) (last t h.2) (and_right kept.offer (same_side kept.at (other_side at)) theirs)))
+      | inr h ↦ rw h.2 (no_token (e ∷ past) (other_side at) _ t (Some kept) none (unheld (e ∷ past) (other_side at) t (Some (made_sdp kept)) (last t h.2) (and_right kept.offer (same_side kept.at (other_side at)) theirs)))
     ])
     tells

@@ -1,4 +1,4 @@
--- No token past the texts of a past is spent.
+-- No token past the SDPs of a past is spent.
 use Rattle.std.proofs.Common.{◌≡◌, ◌<◌, ◌≤◌, ◌==◌, ℕ, Bool, true, false, not, ◌&&◌, List, [], ◌∷◌, length, Option, Some, None, refl, arith, length-append}
 use Rattle.std.specs.Prelude.{slice_get}
 use Rattle.std.proofs.lemmas.Bool.{ne_eqb, and_parts}
@@ -12,18 +12,18 @@ use Rattle.rtc_history.specs.declared.step.Step.TheVariants.{Negotiate, AcceptOf
 use Rattle.rtc_history.specs.declared.outcome.Outcome.{Outcome}
 use Rattle.rtc_history.specs.declared.outcome.Outcome.TheVariants.{Negotiated, Answered, Finished, Refused, NoSuch, Alloc}
 use Rattle.rtc_history.specs.declared.table.Table.{Table}
-use Rattle.rtc_history.specs.Past.{Entry, Said, texts, handed, was_handed, is_offer_of, holds_token, spends, is_spent, is_right}
-use Rattle.rtc_history.specs.Sound.{TakesOffer, TakesAnswer, IsSound, asked_in, view_in}
+use Rattle.rtc_history.specs.Past.{Entry, MadeSdp, sdps, remote_sdp, was_called, is_offer_of, holds_token, spends, is_spent, is_right}
+use Rattle.rtc_history.specs.Sound.{RepliesToOffer, RepliesToAnswer, IsSound, asked_in, view_in}
 use Rattle.rtc_history.specs.Runs.{Sound}
 
-handed_held : (held right : Bool) (asked : Asked) (text : Option Sdp) (view : Held) (outcome : Outcome) (after : List LineRow) → TakesAnswer held right asked text view outcome after → was_handed outcome ≡ true → held ≡ true
-handed_held true right asked text view outcome after takes was = refl
-handed_held false right asked text view NoSuch after takes was = absurd (cc)
-handed_held false right asked text view outcome after takes was = absurd takes
+called_held : (held right : Bool) (asked : Asked) (sdp : Option Sdp) (view : Held) (outcome : Outcome) (after : List LineRow) → RepliesToAnswer held right asked sdp view outcome after → was_called outcome ≡ true → held ≡ true
+called_held true right asked sdp view outcome after takes was = refl
+called_held false right asked sdp view NoSuch after takes was = absurd (cc)
+called_held false right asked sdp view outcome after takes was = absurd takes
 
--- the reply to an offer, or to an answer, that was handed over
+-- the reply to an offer, or to an answer, that was delivered
 pub offer_taking : (past : List Entry) (at : Side) (k : ℕ) (outcome : Outcome) (table : Table) → IsSound past (AcceptOffer at k) outcome (Some table)
-    → TakesOffer (handed true at k past) (view_in at past) (length (texts past)) outcome table.lines
+    → RepliesToOffer (remote_sdp true at k past) (view_in at past) (length (sdps past)) outcome table.lines
 offer_taking past at k (Negotiated answers made) table sound = sound
 offer_taking past at k (Answered n) table sound = sound
 offer_taking past at k Finished table sound = sound
@@ -32,7 +32,7 @@ offer_taking past at k NoSuch table sound = sound
 offer_taking past at k Alloc table sound = sound
 
 pub answer_taking : (past : List Entry) (at : Side) (t a : ℕ) (outcome : Outcome) (table : Table) → IsSound past (AcceptAnswer at t a) outcome (Some table)
-    → TakesAnswer (holds_token at t past) (is_right at t past) (asked_in at t past) (handed false at a past) (view_in at past) outcome table.lines
+    → RepliesToAnswer (holds_token at t past) (is_right at t past) (asked_in at t past) (remote_sdp false at a past) (view_in at past) outcome table.lines
 answer_taking past at t a (Negotiated answers made) table sound = sound
 answer_taking past at t a (Answered k) table sound = sound
 answer_taking past at t a Finished table sound = sound
@@ -40,7 +40,7 @@ answer_taking past at t a (Refused error) table sound = sound
 answer_taking past at t a NoSuch table sound = sound
 answer_taking past at t a Alloc table sound = sound
 
-unspent_step : (past : List Entry) (step : Step) (outcome : Outcome) (table : Option Table) (n : ℕ) → IsSound past step outcome table → length (texts past) ≤ n → spends n step outcome ≡ false
+unspent_step : (past : List Entry) (step : Step) (outcome : Outcome) (table : Option Table) (n : ℕ) → IsSound past step outcome table → length (sdps past) ≤ n → spends n step outcome ≡ false
 unspent_step past (Negotiate at ops apply) outcome table n sound most = refl
 unspent_step past (AcceptOffer at k) outcome table n sound most = refl
 unspent_step past (AcceptAnswer at t a) Alloc None n sound most = and_false (t == n)
@@ -49,27 +49,27 @@ unspent_step past (AcceptAnswer at t a) Alloc None n sound most = and_false (t =
     and_false true = refl
     and_false false = refl
 unspent_step past (AcceptAnswer at t a) outcome (Some table) n sound most =
-    by (λ was. handed_held (holds_token at t past) (is_right at t past) (asked_in at t past) (handed false at a past) (view_in at past) outcome table.lines (answer_taking past at t a outcome table sound) was) (was_handed outcome) refl
+    by (λ was. called_held (holds_token at t past) (is_right at t past) (asked_in at t past) (remote_sdp false at a past) (view_in at past) outcome table.lines (answer_taking past at t a outcome table sound) was) (was_called outcome) refl
   where
     and_false : (b : Bool) → (b && false) ≡ false
     and_false true = refl
     and_false false = refl
 
-    within : (found : Option Said) → slice_get (texts past) t ≡ found → is_offer_of at found ≡ true → t < length (texts past)
+    within : (found : Option MadeSdp) → slice_get (sdps past) t ≡ found → is_offer_of at found ≡ true → t < length (sdps past)
     within None there mine = absurd (cc)
-    within (Some said) there mine = slice_get_within (texts past) t said there
+    within (Some said) there mine = slice_get_within (sdps past) t said there
 
-    by : (was_handed outcome ≡ true → holds_token at t past ≡ true) → (was : Bool) → was_handed outcome ≡ was → ((t == n) && was_handed outcome) ≡ false
+    by : (was_called outcome ≡ true → holds_token at t past ≡ true) → (was : Bool) → was_called outcome ≡ was → ((t == n) && was_called outcome) ≡ false
     by held false is = rw is (and_false (t == n))
     by held true is =
-        let parts = and_parts (is_offer_of at (slice_get (texts past) t)) (not (is_spent t past)) (held is) in
-        let less : t < length (texts past) = within (slice_get (texts past) t) refl parts.0 in
+        let parts = and_parts (is_offer_of at (slice_get (sdps past) t)) (not (is_spent t past)) (held is) in
+        let less : t < length (sdps past) = within (slice_get (sdps past) t) refl parts.0 in
         rw (ne_eqb t n (λ e. omega arith)) refl
 unspent_step past (AcceptAnswer at t a) outcome None n sound most = absurd sound
 
--- no token past the texts is spent
-pub unspent_later : (past : List Entry) (n : ℕ) → Sound past → length (texts past) ≤ n → is_spent n past ≡ false
+-- no token past the SDPs is spent
+pub unspent_later : (past : List Entry) (n : ℕ) → Sound past → length (sdps past) ≤ n → is_spent n past ≡ false
 unspent_later [] n sound most = refl
 unspent_later (last ∷ past) n sound most =
-    let fewer : length (texts past) ≤ n = omega (arith, length-append (texts past) last.made) in
+    let fewer : length (sdps past) ≤ n = omega (arith, length-append (sdps past) last.made) in
     rw (unspent_step past last.step last.outcome last.table n sound.0.replied fewer) (unspent_later past n sound.1 fewer)

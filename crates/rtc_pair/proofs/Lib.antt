@@ -1,4 +1,2 @@
-pub mod SmallScripts
 pub mod Scripts
 pub mod Words
-pub mod DueTexts

@@ -1,3 +1,1 @@
-pub mod Program
 pub mod Answers
-pub mod Due

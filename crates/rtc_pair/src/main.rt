@@ -1,31 +1,30 @@
 //! Reads a script of steps for two peers, performs it, and prints each reply with the acting peer's lines.
 #![tactic(auto)]
 
-mod answering;
-mod program;
+mod asking;
 mod top;
 
-pub use program::PlainPair;
 pub use rtc_history::{Made, Op, OpAnswer, Outcome, Reply, Side, Step, Table};
+use rtc_io::{OUT_OF_MEMORY, collect_words};
 pub use rtc_io::{MemSink, MemSource, Sink, Source, StdSink, StdSource};
-pub use rtc_run::{Pair, run_pair};
+pub use rtc_run::{Pair, PlainPair, run_pair};
 pub use rtc_script::{Script, ScriptError, read_script, write_report};
 use std::process::ExitCode;
-use std::{env, io};
 pub use top::pair_main;
 
-fn main(rt: HostRuntime) -> io::Result<ExitCode> {
-    let alloc = rt.alloc();
-    let mut words = Vec::new(alloc);
-    for word in env::args(&rt)?.skip(1) {
-        words.push(word)?;
-    }
+fn main(rt: HostRuntime) -> ExitCode {
+    let Ok(words) = collect_words(&rt) else {
+        return ExitCode::from(OUT_OF_MEMORY);
+    };
     let mut input = StdSource::new(rt.stdin());
     let mut output = StdSink::new(rt.stdout());
     let mut last = None;
-    let status = pair_main(alloc, words.as_slice(), &mut input, &mut output, &mut last);
-    Ok(ExitCode::from(status))
+    let status = pair_main(
+        rt.alloc(),
+        words.as_slice(),
+        &mut input,
+        &mut output,
+        &mut last,
+    );
+    ExitCode::from(status)
 }
-
-#[cfg(test)]
-mod tests;

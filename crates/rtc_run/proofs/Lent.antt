@@ -1,8 +1,7 @@
 -- What a call of a lent peer did, said of the peer.
 use Rattle.std.proofs.Common.{◌≡◌, ◌≤◌, ◌+◌, List, length, Result, sym, subst}
 use Rattle.rtc_sdp_values.specs.declared.line_row.LineRow.{LineRow}
-use Rattle.rtc_lines.specs.declared.sdp_offer.SdpOffer.{SdpOffer}
-use Rattle.rtc_lines.specs.declared.sdp_answer.SdpAnswer.{SdpAnswer}
+use Rattle.rtc_sdp_values.specs.declared.sdp.Sdp.{Sdp}
 use Rattle.rtc_change.specs.PendingOffer.{PendingOffer}
 use Rattle.rtc_peer_state.specs.declared.peer.Peer.{Peer}
 use Rattle.rtc_peer_state.specs.declared.rtc_error.RtcError.{RtcError}
@@ -11,27 +10,27 @@ use Rattle.rtc_peer_state.specs.Calls.{AcceptsOffer, AcceptsAnswer}
 use Rattle.rtc_history.specs.Performs.{lent}
 use Rattle.rtc_run.proofs.RowsLeft.{offer_rows, answer_rows}
 
-pub accepted_offer : {N : Type 0} (draws : Draws N) (old p r q : Peer N) (offer : SdpOffer) (result : Result SdpAnswer RtcError) → p ≡ lent old → AcceptsOffer draws p offer result r → q ≡ r → AcceptsOffer draws (lent old) offer result q
+pub accepted_offer : {N : Type 0} (draws : Draws N) (old p r q : Peer N) (offer : Sdp) (result : Result Sdp RtcError) → p ≡ lent old → AcceptsOffer draws p offer result r → q ≡ r → AcceptsOffer draws (lent old) offer result q
 accepted_offer {N} draws old p r q offer result p_is h same =
     let F : Peer N → Type 0 = λ (x : Peer N). AcceptsOffer draws x offer result r in
     let G : Peer N → Type 0 = λ (x : Peer N). AcceptsOffer draws (lent old) offer result x in
     subst G (sym same) (subst F p_is h)
 
-pub accepted_answer : {N : Type 0} (draws : Draws N) (old p r q : Peer N) (token : PendingOffer) (answer : SdpAnswer) (result : Result (Unit {0}) RtcError) → p ≡ lent old → AcceptsAnswer draws p token answer result r → q ≡ r → AcceptsAnswer draws (lent old) token answer result q
+pub accepted_answer : {N : Type 0} (draws : Draws N) (old p r q : Peer N) (token : PendingOffer) (answer : Sdp) (result : Result (Unit {0}) RtcError) → p ≡ lent old → AcceptsAnswer draws p token answer result r → q ≡ r → AcceptsAnswer draws (lent old) token answer result q
 accepted_answer {N} draws old p r q token answer result p_is h same =
     let F : Peer N → Type 0 = λ (x : Peer N). AcceptsAnswer draws x token answer result r in
     let G : Peer N → Type 0 = λ (x : Peer N). AcceptsAnswer draws (lent old) token answer result x in
     subst G (sym same) (subst F p_is h)
 
--- how many rows a text leaves
-pub rows_of_offer : {N : Type 0} (draws : Draws N) (old p r : Peer N) (offer : SdpOffer) (result : Result SdpAnswer RtcError) (rows : List LineRow) → p ≡ lent old → AcceptsOffer draws p offer result r → rows ≡ r.lines → length rows ≤ length old.lines + length offer.0.lines
+-- how many rows an SDP leaves
+pub rows_of_offer : {N : Type 0} (draws : Draws N) (old p r : Peer N) (offer : Sdp) (result : Result Sdp RtcError) (rows : List LineRow) → p ≡ lent old → AcceptsOffer draws p offer result r → rows ≡ r.lines → length rows ≤ length old.lines + length offer.lines
 rows_of_offer {N} draws old p r offer result rows p_is h same =
     let F : Peer N → Type 0 = λ (x : Peer N). AcceptsOffer draws x offer result r in
-    let G : List LineRow → Type 0 = λ (x : List LineRow). length x ≤ length old.lines + length offer.0.lines in
+    let G : List LineRow → Type 0 = λ (x : List LineRow). length x ≤ length old.lines + length offer.lines in
     subst G (sym same) (offer_rows draws (lent old) r offer result (subst F p_is h))
 
-pub rows_of_answer : {N : Type 0} (draws : Draws N) (old p r : Peer N) (token : PendingOffer) (answer : SdpAnswer) (result : Result (Unit {0}) RtcError) (rows : List LineRow) → p ≡ lent old → AcceptsAnswer draws p token answer result r → rows ≡ r.lines → length rows ≤ length old.lines + length answer.0.lines
+pub rows_of_answer : {N : Type 0} (draws : Draws N) (old p r : Peer N) (token : PendingOffer) (answer : Sdp) (result : Result (Unit {0}) RtcError) (rows : List LineRow) → p ≡ lent old → AcceptsAnswer draws p token answer result r → rows ≡ r.lines → length rows ≤ length old.lines + length answer.lines
 rows_of_answer {N} draws old p r token answer result rows p_is h same =
     let F : Peer N → Type 0 = λ (x : Peer N). AcceptsAnswer draws x token answer result r in
-    let G : List LineRow → Type 0 = λ (x : List LineRow). length x ≤ length old.lines + length answer.0.lines in
+    let G : List LineRow → Type 0 = λ (x : List LineRow). length x ≤ length old.lines + length answer.lines in
     subst G (sym same) (answer_rows draws (lent old) r token answer result (subst F p_is h))

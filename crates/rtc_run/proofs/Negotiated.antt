@@ -21,14 +21,14 @@ use Rattle.rtc_run.specs.declared.applied.Applied.TheVariants.{NotAsked, Nothing
 use Rattle.rtc_run.specs.Stages.{Stages, Becomes}
 
 -- an offer is made
-offer_makes : {N : Type 0} (asked : Bool) (at : Side) (p q : Peer N) (texts : List Kept) (offer : SdpOffer) (token : PendingOffer) → Becomes asked p (Offer offer token) q → MakesOf asked at p texts (MadeOffer (length texts)) q (texts ++ kept_offer at (offer, token) ∷ [])
-offer_makes true at p q texts offer token h = ((offer, token), h, refl, refl)
-offer_makes false at p q texts offer token h = absurd h
+offer_makes : {N : Type 0} (asked : Bool) (at : Side) (p q : Peer N) (sdps : List Kept) (offer : SdpOffer) (token : PendingOffer) → Becomes asked p (Offer offer token) q → MakesOf asked at p sdps (MadeOffer (length sdps)) q (sdps ++ kept_offer at (offer.0, token) ∷ [])
+offer_makes true at p q sdps offer token h = ((offer.0, token), h, refl, refl)
+offer_makes false at p q sdps offer token h = absurd h
 
-pub offered : {N : Type 0} (draws : Draws N) (at : Side) (ops : List Op) (apply : Bool) (old q : Peer N) (texts texts' : List Kept) (answers : List OpAnswer) (applied : Applied) (offer : SdpOffer) (token : PendingOffer) (k : ℕ) (rows : List LineRow) (outcome : Outcome) (table : Option Table) → applied ≡ Offer offer token → Stages draws old ops apply answers applied q → k ≡ length texts → rows ≡ q.lines → texts' ≡ texts ++ kept_offer at (offer, token) ∷ [] → outcome ≡ Negotiated answers (MadeOffer k) → table ≡ Some (record { lines = rows }) → Negotiates draws at ops apply old texts outcome table q texts'
-offered draws at ops apply old q texts texts' answers applied offer token k rows outcome table is stages k_is rows_is texts_are outcome_is table_is =
+pub offered : {N : Type 0} (draws : Draws N) (at : Side) (ops : List Op) (apply : Bool) (old q : Peer N) (sdps sdps' : List Kept) (answers : List OpAnswer) (applied : Applied) (offer : SdpOffer) (token : PendingOffer) (k : ℕ) (rows : List LineRow) (outcome : Outcome) (table : Option Table) → applied ≡ Offer offer token → Stages draws old ops apply answers applied q → k ≡ length sdps → rows ≡ q.lines → sdps' ≡ sdps ++ kept_offer at (offer.0, token) ∷ [] → outcome ≡ Negotiated answers (MadeOffer k) → table ≡ Some (record { lines = rows }) → Negotiates draws at ops apply old sdps outcome table q sdps'
+offered draws at ops apply old q sdps sdps' answers applied offer token k rows outcome table is stages k_is rows_is texts_are outcome_is table_is =
     let becomes : Becomes (apply && not (answers_lack answers)) stages.between (Offer offer token) q = rw is at stages.becomes in
-    rw (outcome_is, table_is, k_is, texts_are) (stages.between, stages.performs, offer_makes (apply && not (answers_lack answers)) at stages.between q texts offer token becomes, rows_is)
+    rw (outcome_is, table_is, k_is, texts_are) (stages.between, stages.performs, offer_makes (apply && not (answers_lack answers)) at stages.between q sdps offer token becomes, rows_is)
 
 abbrev pub IsToldAs : Applied → Made → Type 0
 IsToldAs NotAsked MadeNotAsked = Unit {0}
@@ -36,16 +36,16 @@ IsToldAs Nothing MadeNothing = Unit {0}
 IsToldAs Alloc MadeAlloc = Unit {0}
 IsToldAs applied made = ⊥
 
-other_makes : {N : Type 0} (asked : Bool) (at : Side) (p q : Peer N) (texts : List Kept) (applied : Applied) (made : Made) → IsToldAs applied made → Becomes asked p applied q → MakesOf asked at p texts made q texts
-other_makes true at p q texts NotAsked MadeNotAsked told h = absurd h
-other_makes true at p q texts Nothing MadeNothing told h = (h, refl)
-other_makes true at p q texts Alloc MadeAlloc told h = (h, refl)
-other_makes false at p q texts NotAsked MadeNotAsked told h = (h, refl)
-other_makes false at p q texts Nothing MadeNothing told h = absurd h
-other_makes false at p q texts Alloc MadeAlloc told h = absurd h
-other_makes asked at p q texts applied made told h = absurd told
+other_makes : {N : Type 0} (asked : Bool) (at : Side) (p q : Peer N) (sdps : List Kept) (applied : Applied) (made : Made) → IsToldAs applied made → Becomes asked p applied q → MakesOf asked at p sdps made q sdps
+other_makes true at p q sdps NotAsked MadeNotAsked told h = absurd h
+other_makes true at p q sdps Nothing MadeNothing told h = (h, refl)
+other_makes true at p q sdps Alloc MadeAlloc told h = (h, refl)
+other_makes false at p q sdps NotAsked MadeNotAsked told h = (h, refl)
+other_makes false at p q sdps Nothing MadeNothing told h = absurd h
+other_makes false at p q sdps Alloc MadeAlloc told h = absurd h
+other_makes asked at p q sdps applied made told h = absurd told
 
-pub not_offered : {N : Type 0} (draws : Draws N) (at : Side) (ops : List Op) (apply : Bool) (old q : Peer N) (texts texts' : List Kept) (answers : List OpAnswer) (applied known : Applied) (made : Made) (rows : List LineRow) (outcome : Outcome) (table : Option Table) → IsToldAs known made → applied ≡ known → Stages draws old ops apply answers applied q → rows ≡ q.lines → texts' ≡ texts → outcome ≡ Negotiated answers made → table ≡ Some (record { lines = rows }) → Negotiates draws at ops apply old texts outcome table q texts'
-not_offered draws at ops apply old q texts texts' answers applied known made rows outcome table told is stages rows_is texts_are outcome_is table_is =
+pub not_offered : {N : Type 0} (draws : Draws N) (at : Side) (ops : List Op) (apply : Bool) (old q : Peer N) (sdps sdps' : List Kept) (answers : List OpAnswer) (applied known : Applied) (made : Made) (rows : List LineRow) (outcome : Outcome) (table : Option Table) → IsToldAs known made → applied ≡ known → Stages draws old ops apply answers applied q → rows ≡ q.lines → sdps' ≡ sdps → outcome ≡ Negotiated answers made → table ≡ Some (record { lines = rows }) → Negotiates draws at ops apply old sdps outcome table q sdps'
+not_offered draws at ops apply old q sdps sdps' answers applied known made rows outcome table told is stages rows_is texts_are outcome_is table_is =
     let becomes : Becomes (apply && not (answers_lack answers)) stages.between known q = rw is at stages.becomes in
-    rw (outcome_is, table_is, texts_are) (stages.between, stages.performs, other_makes (apply && not (answers_lack answers)) at stages.between q texts known made told becomes, rows_is)
+    rw (outcome_is, table_is, texts_are) (stages.between, stages.performs, other_makes (apply && not (answers_lack answers)) at stages.between q sdps known made told becomes, rows_is)

@@ -6,7 +6,6 @@ use Rattle.std.proofs.Math.ListN.{drop_of_length-le}
 use Rattle.rtc_sdp_values.specs.declared.direction.Direction.{Direction}
 use Rattle.rtc_sdp_values.specs.declared.line_row.LineRow.{LineRow}
 use Rattle.rtc_sdp_values.specs.declared.media_kind.MediaKind.{MediaKind}
-use Rattle.rtc_change.specs.PendingOffer.{added_mids}
 use Rattle.rtc_change.specs.RowChanges.{media_mid}
 use Rattle.rtc_peer_state.specs.declared.peer.Peer.{Peer}
 use Rattle.rtc_peer_state.specs.Draws.{Draws}
@@ -17,7 +16,6 @@ use Rattle.rtc_history.specs.declared.op_answer.OpAnswer.{OpAnswer}
 use Rattle.rtc_history.specs.declared.op_answer.OpAnswer.TheVariants.{Mid, Changed, NoLine, Alloc}
 use Rattle.rtc_history.specs.Memory.{answer_lacks}
 use Rattle.rtc_history.specs.Performs.{PerformsOps, wanted}
-use Rattle.rtc_history_laws.proofs.Staging.{Stages, ops_stage}
 
 -- after an op that did not lack memory, the ops that are left go on
 pub op_done : {N : Type 0} (draws : Draws N) (p r q : Peer N) (op : Op) (answer : OpAnswer) (ops : List Op) (more : List OpAnswer) → answer ≢ Alloc → PerformsOps draws p (op ∷ []) (answer ∷ []) r → PerformsOps draws r ops more q → PerformsOps draws p (op ∷ ops) (answer ∷ more) q
@@ -55,24 +53,6 @@ set_once draws p r rows place dir found mid changed finds is h = (r, record { mi
 pub stop_once : {N : Type 0} (draws : Draws N) (p r : Peer N) (rows : List LineRow) (place : ℕ) (found : Option (List ℕ)) (mid : List ℕ) (changed : Bool)
     → Finds p rows place found → found ≡ Some mid → StopsMedia p mid (Ok changed) r → PerformsOps draws p (StopMedia place ∷ []) (Changed changed ∷ []) r
 stop_once draws p r rows place found mid changed finds is h = (r, record { mid = mid; there = finds_there p rows place found mid finds is; called = h }, refl)
-
--- one more op keeps the number of rows
-pub lines_go_on : {N : Type 0} (draws : Draws N) (start p r : Peer N) (ops : List Op) (index : ℕ) (d : Op) (answer : OpAnswer) → PerformsOps draws p (get_or ops index d ∷ []) (answer ∷ []) r → length p.lines ≡ length start.lines
-    → length r.lines ≡ length start.lines
-lines_go_on draws start p r ops index d answer h same =
-    let staged : Stages p (get_or ops index d ∷ []) (answer ∷ []) r = ops_stage draws p r (get_or ops index d ∷ []) (answer ∷ []) h in staged.rows ∙ same
-
--- one more op adds at most one line
-pub staged_go_on : {N : Type 0} (draws : Draws N) (start p r : Peer N) (ops : List Op) (index : ℕ) (d : Op) (answer : OpAnswer) → PerformsOps draws p (get_or ops index d ∷ []) (answer ∷ []) r
-    → length (added_mids p.staged) ≤ length (added_mids start.staged) + index → length (added_mids r.staged) ≤ length (added_mids start.staged) + (index + 1)
-staged_go_on draws start p r ops index d answer h few =
-    let staged : Stages p (get_or ops index d ∷ []) (answer ∷ []) r = ops_stage draws p r (get_or ops index d ∷ []) (answer ∷ []) h in
-    let one : length (added_mids r.staged) ≤ length (added_mids p.staged) + 1 = staged.count in omega (arith, few, one)
-
-pub staged_end : {N : Type 0} (draws : Draws N) (start p r : Peer N) (ops : List Op) (index : ℕ) (d : Op) (answer : OpAnswer) → index < length ops → PerformsOps draws p (get_or ops index d ∷ []) (answer ∷ []) r
-    → length (added_mids p.staged) ≤ length (added_mids start.staged) + index → length (added_mids r.staged) ≤ length (added_mids start.staged) + length ops
-staged_end draws start p r ops index d answer within h few =
-    let next : length (added_mids r.staged) ≤ length (added_mids start.staged) + (index + 1) = staged_go_on draws start p r ops index d answer h few in omega (arith, next, within)
 
 -- the ops go on after one more, in the form of the loop
 pub ops_go_on : {N : Type 0} (draws : Draws N) (start p r : Peer N) (ops : List Op) (index : ℕ) (d : Op) (answer : OpAnswer) (room room' : List OpAnswer) → index < length ops → answer_lacks answer ≡ false → room' ≡ room ++ answer ∷ [] → PerformsOps draws p (get_or ops index d ∷ []) (answer ∷ []) r → ((more : List OpAnswer) (q : Peer N) → PerformsOps draws p (drop index ops) more q → PerformsOps draws start ops (room ++ more) q) → (more : List OpAnswer) (q : Peer N) → PerformsOps draws r (drop (index + 1) ops) more q → PerformsOps draws start ops (room' ++ more) q

@@ -10,8 +10,7 @@ use Rattle.rtc_history.specs.PairState.{PairState}
 use Rattle.rtc_history.specs.Performs.{Performs}
 use Rattle.rtc_history.specs.Runs.{Runs}
 use Rattle.rtc_history.specs.Fresh.{IsFresh}
-use Rattle.rtc_history.specs.Bounds.{IsWithin}
-use Rattle.rtc_history.specs.Formed.{ArePeersFormed}
+use Rattle.rtc_history_laws.proofs.Bounds.{IsWithin}
 use Rattle.rtc_history_laws.proofs.MoreSteps.{runs_none, runs_more, runs_size, runs_within}
 
 sized : (steps : List Step) (i : ℕ) (d : Step) → i < length steps → steps_size (take i steps) + step_size (get_or steps i d) ≤ steps_size steps
@@ -20,24 +19,26 @@ sized (step ∷ steps) zero d h = omega arith
 sized (step ∷ steps) (suc i) d h = omega (arith, sized steps i d (omega arith))
 
 -- a pair in the middle of a run may perform the next step
-pub run_is_within : {N : Type 0} (draws : Draws N) (start old : PairState N) (steps : List Step) (i : ℕ) (step : Step) (replies : List Reply) → IsFresh start → i < length steps → step ≡ get_or steps i step → steps_size steps < 2 ^ 32 → Runs draws start (take i steps) replies old → IsWithin old × (old.size + step_size step < 2 ^ 32)
-run_is_within draws start old steps i step replies fresh inside is small run =
+pub run_has_room : {N : Type 0} (draws : Draws N) (start old : PairState N) (steps : List Step) (i : ℕ) (step : Step) (replies : List Reply) → IsFresh start → i < length steps → step ≡ get_or steps i step → steps_size steps < 2 ^ 32 → Runs draws start (take i steps) replies old → (length old.sdps < 2 ^ 32) × (old.size + step_size step < 2 ^ 32)
+run_has_room draws start old steps i step replies fresh inside is small run =
     let size : old.size ≡ steps_size (take i steps) = runs_size draws start old (take i steps) replies fresh run in
     let fits : steps_size (take i steps) + step_size (get_or steps i step) ≤ steps_size steps = sized steps i step inside in
     let same : step_size step ≡ step_size (get_or steps i step) = ap step_size is in
-    (runs_within draws start old (take i steps) replies fresh run (omega arith), omega arith)
+    let within : IsWithin old = runs_within draws start old (take i steps) replies fresh run (omega arith) in
+    let few : length old.sdps ≤ old.size = within.sdps in
+    (omega arith, omega arith)
 
 -- a run begins at a fresh pair
 pub run_begins : {N : Type 0} (draws : Draws N) (start : PairState N) (steps : List Step) (replies : List Reply) → IsFresh start → steps ≡ [] → replies ≡ [] → Runs draws start steps replies start
 run_begins draws start steps replies fresh none unreplied = rw (none, unreplied) (runs_none draws start fresh)
 
 -- a run goes on by the next step
-pub run_goes_on : {N : Type 0} (draws : Draws N) (start old new : PairState N) (steps : List Step) (i : ℕ) (step : Step) (replies replies' : List Reply) (reply : Reply) → IsFresh start → ArePeersFormed start → i < length steps → step ≡ get_or steps i step → steps_size steps < 2 ^ 32 → Runs draws start (take i steps) replies old → Performs draws old step reply.outcome reply.table new → replies' ≡ replies ++ reply ∷ [] → Runs draws start (take (i + 1) steps) replies' new
-run_goes_on {N} draws start old new steps i step replies replies' reply fresh formed inside is small run performs pushed =
-    let within : IsWithin old × (old.size + step_size step < 2 ^ 32) = run_is_within draws start old steps i step replies fresh inside is small run in
+pub run_goes_on : {N : Type 0} (draws : Draws N) (start old new : PairState N) (steps : List Step) (i : ℕ) (step : Step) (replies replies' : List Reply) (reply : Reply) → IsFresh start → i < length steps → step ≡ get_or steps i step → steps_size steps < 2 ^ 32 → Runs draws start (take i steps) replies old → Performs draws old step reply.outcome reply.table new → replies' ≡ replies ++ reply ∷ [] → Runs draws start (take (i + 1) steps) replies' new
+run_goes_on {N} draws start old new steps i step replies replies' reply fresh inside is small run performs pushed =
+    let within : (length old.sdps < 2 ^ 32) × (old.size + step_size step < 2 ^ 32) = run_has_room draws start old steps i step replies fresh inside is small run in
     let grows : new.size ≡ old.size + step_size step = performs.size in
     let few : new.size < 2 ^ 32 = omega (arith, within.1) in
-    let more : Runs draws start (take i steps ++ step ∷ []) (replies ++ reply ∷ []) new = runs_more draws start old new (take i steps) replies step reply fresh formed run performs few in
+    let more : Runs draws start (take i steps ++ step ∷ []) (replies ++ reply ∷ []) new = runs_more draws start old new (take i steps) replies step reply fresh run performs few in
     let front : take (i + 1) steps ≡ take i steps ++ step ∷ [] = take_more steps i step inside ∙ ap (λ (s : Step). take i steps ++ s ∷ []) (sym is) in
     let of_steps : Runs draws start (take (i + 1) steps) (replies ++ reply ∷ []) new = subst (λ (ss : List Step). Runs draws start ss (replies ++ reply ∷ []) new) (sym front) more in
     subst (λ (rs : List Reply). Runs draws start (take (i + 1) steps) rs new) (sym pushed) of_steps

@@ -1,2 +1,3 @@
 pub mod NoSuch
+pub mod ProgramPair
 pub mod Stages

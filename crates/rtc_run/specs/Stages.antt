@@ -1,5 +1,5 @@
 -- What a step stages at a peer, and what becomes of it.
-use Rattle.std.specs.Prelude.{◌≡◌, List, Bool, true, false, not, ◌&&◌, Some, None, Ok, Err, alloc_error}
+use Rattle.std.specs.Prelude.{◌≡◌, List, length, Bool, true, false, not, ◌&&◌, Some, None, Ok, Err, alloc_error}
 use Rattle.rtc_peer_state.specs.declared.peer.Peer.{Peer}
 use Rattle.rtc_peer_state.specs.Draws.{Draws}
 use Rattle.rtc_peer_state.specs.Calls.{Applies}
@@ -14,11 +14,13 @@ use Rattle.rtc_run.specs.declared.applied.Applied.TheVariants.{NotAsked, Nothing
 abbrev pub Becomes : {N : Type 0} → Bool → Peer N → Applied → Peer N → Type 0
 Becomes false p NotAsked q = q ≡ p
 Becomes true p Nothing q = Applies p (Ok None) q
-Becomes true p (Offer offer token) q = Applies p (Ok (Some (offer, token))) q
+Becomes true p (Offer offer token) q = Applies p (Ok (Some (offer.0, token))) q
 Becomes true p Alloc q = Applies p (Err alloc_error) q
 Becomes asked p applied q = ⊥
 
-pub record Stages {N : Type 0} (draws : Draws N) (old : Peer N) (ops : List Op) (apply : Bool) (answers : List OpAnswer) (applied : Applied) (new : Peer N) : Type 0 where
+pub record Stages {N : Type 0} (draws : Draws N) (old : Peer N) (ops : List Op) (apply : Bool)
+    (answers : List OpAnswer) (applied : Applied) (new : Peer N) : Type 0 where
   pub between : Peer N
   pub performs : PerformsOps draws (lent old) ops answers between
   pub becomes : Becomes (apply && not (answers_lack answers)) between applied new
+  pub rows : length new.lines ≡ length old.lines

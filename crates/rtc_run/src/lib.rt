@@ -1,19 +1,16 @@
 //! Two peers that perform steps through their public calls.
 #![tactic(auto)]
 
+mod accepting;
 mod applied;
-mod delivery;
-mod handing;
 mod negotiating;
 mod pair;
+mod performing;
+mod plain_pair;
 mod replying;
 mod running;
 
-pub use delivery::{deliver_answer, deliver_offer};
 pub use pair::Pair;
+pub use plain_pair::{PlainPair, make_pair};
+pub use rtc_delivery::{deliver_answer, deliver_offer};
 pub use running::run_pair;
-
-#[cfg(test)]
-mod line_tests;
-#[cfg(test)]
-mod tests;

@@ -1,24 +1,25 @@
 //! Ops of a step at one peer.
-ghost use Rattle.std.specs.Prelude.{◌≡◌, ◌+◌, ◌<◌, ◌≤◌, ◌^◌, ◌-◌, ◌++◌, [], ◌∷◌, length, slice_get, vec_capacity, vec_len, Some, IfOk, not, ◌&&◌, true, false};
-ghost use Rattle.rtc_change.specs.PendingOffer.{added_mids};
+ghost use Rattle.std.specs.Prelude.{◌≡◌, ◌+◌, ◌<◌, ◌≤◌, ◌^◌, ◌-◌, ◌++◌, [], ◌∷◌, length, slice_get, vec_capacity, vec_len};
+ghost use Rattle.std.specs.Prelude.{Some, IfOk, not, ◌&&◌, true, false};
 ghost use Rattle.rtc_change.specs.RowChanges.{media_mid};
-ghost use Rattle.rtc_history.specs.Memory.{answer_lacks, answers_lack};
+ghost use Rattle.rtc_history.specs.Memory.{answers_lack};
 ghost use Rattle.rtc_history.specs.declared.op.Op.TheVariants.{AddMedia, SetDirection, StopMedia};
 ghost use Rattle.rtc_history.specs.declared.outcome.Outcome.TheVariants.{Negotiated};
-ghost use Rattle.rtc_history.specs.Performs.{Negotiates, PerformsOps};
+ghost use Rattle.rtc_history.specs.Performs.{Negotiates, PerformsOps, kept_offer};
 ghost use Rattle.rtc_run.specs.Stages.{Stages};
 
 use crate::applied::Applied;
-use crate::replying::{room_for, tell, tell_no_memory};
+use crate::replying::{make_room, reply_no_memory, reply_with};
+use rtc_change::SdpPendingOffer;
 use rtc_history::{Kept, Made, Op, OpAnswer, Outcome, Reply, Side, do_answers_lack};
+use rtc_lines::SdpOffer;
 use rtc_peer::{Ids, Rtc, SdpApi};
 use rtc_sdp_values::{Direction, LineRow, MediaKind, Mid};
 use rtc_wire::Seq;
 use std::alloc::Global;
 
-// Stages a line with no names of its own.
+// Stages a media line whose stream and track names are drawn.
 fn add_line<N: Ids>(api: &mut SdpApi<'_, N>, kind: MediaKind, dir: Direction) -> OpAnswer
-    requires { length api.old.rtc.now.core.lines + length (added_mids api.old.rtc.now.core.staged) < 2 ^ 32 - 1 }
     ensures same_reference { api.new.rtc.ghost_name ≡ api.old.rtc.ghost_name }
     ensures performs { PerformsOps N.ids api.old.rtc.now.core (AddMedia kind dir ∷ []) (result ∷ []) api.new.rtc.now.core }
 {
@@ -70,7 +71,6 @@ fn stop_line<N: Ids>(api: &mut SdpApi<'_, N>, place: u32) -> OpAnswer
 }
 
 fn perform_op<N: Ids>(api: &mut SdpApi<'_, N>, op: &Op) -> OpAnswer
-    requires { length api.old.rtc.now.core.lines + length (added_mids api.old.rtc.now.core.staged) < 2 ^ 32 - 1 }
     ensures same_reference { api.new.rtc.ghost_name ≡ api.old.rtc.ghost_name }
     ensures performs { PerformsOps N.ids api.old.rtc.now.core (op.now ∷ []) (result ∷ []) api.new.rtc.now.core }
 {
@@ -81,32 +81,17 @@ fn perform_op<N: Ids>(api: &mut SdpApi<'_, N>, op: &Op) -> OpAnswer
     }
 }
 
-// Whether an op lacked memory.
-fn is_lack(answer: &OpAnswer) -> bool
-    ensures { result ≡ answer_lacks answer.now }
-{
-    match answer {
-        OpAnswer::Mid(_) => false,
-        OpAnswer::Changed(_) => false,
-        OpAnswer::NoLine => false,
-        OpAnswer::Alloc => true,
-    }
-}
-
-// Performs ops in order, up to the first that lacks memory.
+// Performs ops in order, up to the first that answers `Alloc`.
 fn perform_ops<N: Ids>(api: &mut SdpApi<'_, N>, ops: &[Op], room: Vec<OpAnswer>) -> Seq<OpAnswer>
     requires empty { room.items ≡ [] }
     requires room { length ops.now ≤ vec_capacity room }
-    requires few { length api.old.rtc.now.core.lines + length (added_mids api.old.rtc.now.core.staged) + length ops.now < 2 ^ 32 }
     ensures same_reference { api.new.rtc.ghost_name ≡ api.old.rtc.ghost_name }
     ensures performs { PerformsOps N.ids api.old.rtc.now.core ops.now result api.new.rtc.now.core }
-    ensures lines { length api.new.rtc.now.core.lines ≡ length api.old.rtc.now.core.lines }
-    ensures staged { length (added_mids api.new.rtc.now.core.staged) ≤ length (added_mids api.old.rtc.now.core.staged) + length ops.now }
 {
     let mut room = room;
     for op in ops {
         let answer = perform_op(api, op);
-        if is_lack(&answer) {
+        if answer.is_out_of_memory() {
             room.push_reserved(answer);
             return Seq::new(room);
         }
@@ -115,14 +100,14 @@ fn perform_ops<N: Ids>(api: &mut SdpApi<'_, N>, ops: &[Op], room: Vec<OpAnswer>)
     Seq::new(room)
 }
 
-// Whether what the ops staged is to be applied.
+// Whether what the ops staged is applied: the step asks for it, and no op ran out of memory.
 fn is_asked(apply: bool, answers: &[OpAnswer]) -> bool
     ensures { result ≡ (apply && not (answers_lack answers.now)) }
 {
     apply && !do_answers_lack(answers)
 }
 
-// Performs ops at a peer, and applies what they staged where that is asked.
+// Performs ops at a peer, and applies what they staged if the step asks for it.
 fn perform_and_apply<N: Ids>(
     rtc: &mut Rtc<N>,
     ops: &[Op],
@@ -131,9 +116,7 @@ fn perform_and_apply<N: Ids>(
 ) -> (Seq<OpAnswer>, Applied)
     requires empty { room.items ≡ [] }
     requires room { length ops.now ≤ vec_capacity room }
-    requires few { length rtc.old.core.lines + length ops.now < 2 ^ 32 - 1 }
-    ensures stages { Stages N.ids rtc.old.core ops.now apply result.0 result.1 rtc.new.core }
-    ensures lines { length rtc.new.core.lines ≡ length rtc.old.core.lines }
+    ensures { Stages N.ids rtc.old.core ops.now apply result.0 result.1 rtc.new.core }
 {
     let mut api = rtc.sdp_api();
     let answers = perform_ops(&mut api, ops, room);
@@ -147,60 +130,63 @@ fn perform_and_apply<N: Ids>(
     }
 }
 
-// The number of the text that is made next.
-fn next_number(texts: &Vec<Kept>) -> u32
-    requires { length texts.now.items < 2 ^ 32 }
-    ensures { result ≡ length texts.now.items }
+// The number of the next session description.
+fn next_number(sdps: &Vec<Kept>) -> u32
+    requires { length sdps.now.items < 2 ^ 32 }
+    ensures { result ≡ length sdps.now.items }
 {
-    texts.len() as u32
+    sdps.len() as u32
 }
 
-// The reply that tells what a step made, with the rows after it.
-fn tell_made(answers: Seq<OpAnswer>, made: Made, room: Vec<LineRow>, rows: &[LineRow]) -> Reply
+// The offer as the pair keeps it, with its token.
+fn keep_offer(at: Side, offer: SdpOffer, token: SdpPendingOffer) -> Kept
+    ensures { result ≡ kept_offer at (offer.0, token) }
+{
+    Kept {
+        at,
+        offer: true,
+        sdp: offer.0,
+        token: Some(token),
+    }
+}
+
+// The reply to a step of ops.
+fn reply_made(answers: Seq<OpAnswer>, made: Made, room: Vec<LineRow>, rows: &[LineRow]) -> Reply
     requires empty { room.items ≡ [] }
     requires room { length rows.now ≤ vec_capacity room }
     ensures outcome { result.outcome ≡ Negotiated answers made }
     ensures table { result.table ≡ Some (record { lines = rows.now }) }
 {
-    tell(Outcome::Negotiated { answers, made }, room, rows)
+    reply_with(Outcome::Negotiated { answers, made }, room, rows)
 }
 
-/// Performs ops at a peer, and applies what they staged where that is asked.
+/// Performs ops at a peer, and applies what they staged if the step asks for it.
 pub fn negotiate<N: Ids>(
     alloc: Global,
     rtc: &mut Rtc<N>,
-    texts: &mut Vec<Kept>,
+    sdps: &mut Vec<Kept>,
     at: Side,
     ops: &[Op],
     apply: bool,
 ) -> Reply
-    requires rows { length rtc.old.core.lines + length ops.now < 2 ^ 32 - 1 }
-    requires texts { length texts.old.items < 2 ^ 32 }
-    ensures { Negotiates N.ids at ops.now apply rtc.old.core texts.old.items result.outcome result.table rtc.new.core texts.new.items }
+    requires count { length sdps.old.items < 2 ^ 32 }
+    ensures { Negotiates N.ids at ops.now apply rtc.old.core sdps.old.items result.outcome result.table rtc.new.core sdps.new.items }
 {
-    let Ok(room) = room_for(alloc, rtc.lines().rows().len()) else {
-        return tell_no_memory();
-    };
     let Ok(answers) = Vec::with_capacity(alloc, ops.len()) else {
-        return tell_no_memory();
+        return reply_no_memory();
     };
-    if texts.reserve(1).is_err() {
-        return tell_no_memory();
-    }
+    let Ok(room) = make_room(alloc, rtc.lines().rows().len(), sdps) else {
+        return reply_no_memory();
+    };
     let (answers, applied) = perform_and_apply(rtc, ops, apply, answers);
     match applied {
-        Applied::NotAsked => tell_made(answers, Made::NotAsked, room, rtc.lines().rows()),
-        Applied::Nothing => tell_made(answers, Made::Nothing, room, rtc.lines().rows()),
-        Applied::Alloc => tell_made(answers, Made::Alloc, room, rtc.lines().rows()),
+        Applied::NotAsked => reply_made(answers, Made::NotAsked, room, rtc.lines().rows()),
+        Applied::Nothing => reply_made(answers, Made::Nothing, room, rtc.lines().rows()),
+        Applied::Alloc => reply_made(answers, Made::Alloc, room, rtc.lines().rows()),
         Applied::Offer(offer, token) => {
-            let number = next_number(texts);
-            texts.push_reserved(Kept {
-                at,
-                offer: true,
-                text: offer.0,
-                token: Some(token),
-            });
-            tell_made(answers, Made::Offer(number), room, rtc.lines().rows())
+            let number = next_number(sdps);
+            sdps.push_reserved(keep_offer(at, offer, token));
+            reply_made(answers, Made::Offer(number), room, rtc.lines().rows())
         }
     }
 }

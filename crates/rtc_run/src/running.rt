@@ -1,7 +1,7 @@
 //! Runs of pairs.
 ghost use Rattle.std.specs.Prelude.{◌≡◌, ◌+◌, ◌<◌, ◌≤◌, ◌^◌, ◌-◌, [], length, IfOk, OnErr, vec_capacity};
 ghost use Rattle.rtc_history.specs.Sizes.{steps_size};
-ghost use Rattle.rtc_history.specs.Formed.{ArePeersFormed};
+ghost use Rattle.rtc_delivery.specs.Delivered.{AllReadBack, ArePeersFormed};
 ghost use Rattle.rtc_history.specs.Fresh.{IsFresh};
 ghost use Rattle.rtc_history.specs.Runs.{Runs};
 
@@ -11,9 +11,10 @@ use rtc_peer::Ids;
 use rtc_wire::Seq;
 use std::alloc::{AllocError, Global};
 
-/// Performs steps in order, each by the public calls of the acting peer, with a reply for each.
+/// Performs steps in order, each by the public calls of the acting peer, and gives a reply for each.
 ///
-/// Room for the replies is made first: an error has left both peers as they were.
+/// Offers and answers reach the other peer as signalling delivers them: written, and read again. Room for the replies is made first,
+/// so an error leaves both peers as they were.
 pub fn run_pair<N: Ids>(
     alloc: Global,
     pair: &mut Pair<N>,
@@ -23,6 +24,7 @@ pub fn run_pair<N: Ids>(
     requires formed { ArePeersFormed pair.old }
     requires sizes { steps_size steps.now < 2 ^ 32 }
     ensures runs { IfOk result (λ replies. Runs N.ids pair.old steps.now replies pair.new) }
+    ensures read_back { IfOk result (λ replies. AllReadBack pair.new.sdps) }
     ensures untouched { OnErr result (pair.new ≡ pair.old) }
 {
     let mut replies = Vec::with_capacity(alloc, steps.len())?;

@@ -1,4 +1,5 @@
 pub mod LineLemmas
-pub mod Refusals
+pub mod RefusedScripts
 pub mod StepLines
 pub mod ZipLemmas
+pub mod SmallScripts

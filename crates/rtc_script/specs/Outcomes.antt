@@ -1,8 +1,7 @@
 -- The words of outcomes.
 use Rattle.std.specs.Prelude.{ℕ, Bool, true, false, List, [], ◌∷◌, ◌++◌, flat_map, codes}
 use Rattle.std.specs.Fmt.{decimal}
-use Rattle.rtc_change.specs.WhyText.{why_text}
-use Rattle.rtc_sdp_values.specs.SdpErrorText.{sdp_error_text}
+use Rattle.rtc_peer_state.specs.RtcErrorText.{rtc_error_text}
 use Rattle.rtc_peer_state.specs.declared.rtc_error.RtcError.{RtcError}
 use Rattle.rtc_peer_state.specs.declared.rtc_error.RtcError.TheVariants.{RemoteSdp, Sdp, ChangesOutOfOrder, Alloc as PeerAlloc}
 use Rattle.rtc_history.specs.declared.made.Made.{Made}
@@ -12,7 +11,7 @@ use Rattle.rtc_history.specs.declared.op_answer.OpAnswer.TheVariants.{Mid, Chang
 use Rattle.rtc_history.specs.declared.outcome.Outcome.{Outcome}
 use Rattle.rtc_history.specs.declared.outcome.Outcome.TheVariants.{Negotiated, Answered, Finished, Refused, NoSuch, Alloc}
 
--- the word of a want of memory
+-- the word where memory ran out
 abbrev pub no_memory : List ℕ
 no_memory = codes "nomemory"
 
@@ -44,18 +43,18 @@ made_text Nothing = codes "-"
 made_text (Offer number) = decimal number
 made_text MadeAlloc = no_memory
 
--- a refusal: its number and its printed text
-abbrev pub error_text : RtcError → List ℕ
-error_text (RemoteSdp why) = codes "refused 1 remote sdp: " ++ why_text why
-error_text (Sdp error) = codes "refused 2 " ++ sdp_error_text error
-error_text ChangesOutOfOrder = codes "refused 7 Changes made out of order"
-error_text PeerAlloc = no_memory
+-- a refusal: its number, and what the error prints
+abbrev pub refusal_text : RtcError → List ℕ
+refusal_text (RemoteSdp why) = codes "refused 1 " ++ rtc_error_text (RemoteSdp why)
+refusal_text (Sdp error) = codes "refused 2 " ++ rtc_error_text (Sdp error)
+refusal_text ChangesOutOfOrder = codes "refused 7 " ++ rtc_error_text ChangesOutOfOrder
+refusal_text PeerAlloc = no_memory
 
--- what a step came to
+-- the words of an outcome
 abbrev pub outcome_text : Outcome → List ℕ
 outcome_text (Negotiated answers made) = codes "ops " ++ answers_text answers ++ codes " text " ++ made_text made
 outcome_text (Answered text) = codes "answered " ++ decimal text
 outcome_text Finished = codes "finished"
-outcome_text (Refused error) = error_text error
+outcome_text (Refused error) = refusal_text error
 outcome_text NoSuch = codes "nosuch"
 outcome_text Alloc = no_memory

@@ -1,14 +1,11 @@
 -- Scripts: a header, and then a line for each step. Every line ends with LF, the last one too.
-use Rattle.std.specs.Prelude.{◌≡◌, ◌-◌, ◌^◌, ◌<◌, ℕ, ◌==◌, List, [], ◌∷◌, ◌++◌, length, take, min, codes}
-use Rattle.std.specs.List.{AllZip, slice_split}
+use Rattle.std.specs.Prelude.{◌≡◌, ◌-◌, ◌^◌, ◌<◌, ℕ, List, [], ◌∷◌, ◌++◌, length, take, min, codes}
+use Rattle.std.specs.List.{AllZip}
+use Rattle.rtc_fields.specs.Lines.{pieces}
 use Rattle.rtc_script.specs.Lines.{IsLine}
 use Rattle.rtc_script.specs.declared.script_error.ScriptError.{ScriptError}
 use Rattle.rtc_script.specs.declared.script_error.ScriptError.TheVariants.{Line, Alloc}
 use Rattle.rtc_history.specs.declared.step.Step.{Step}
-
--- a text as it is cut at its line feeds: its lines, and what stands behind the last line feed
-abbrev pub pieces : List ℕ → List (List ℕ)
-pieces text = slice_split (λ byte. byte == 10) text
 
 -- the first line
 abbrev pub header : List ℕ

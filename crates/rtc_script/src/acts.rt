@@ -1,4 +1,4 @@
-//! What a line says behind its side.
+//! The act of a line: its verb, and the words behind it.
 ghost use Rattle.std.specs.Prelude.{◌≡◌, List, IfOk, IfSome, IfNone, map};
 ghost use Rattle.rtc_script.specs.Lines.{IsAct, AreOps, ops_verb};
 ghost use Rattle.rtc_history.specs.Sides.{side_of};
@@ -10,14 +10,15 @@ use crate::ops::read_ops;
 use rtc_history::{Side, Step};
 use std::alloc::{AllocError, Global};
 
-// The step of a side whose ops words say.
+// The step whose ops the words name.
 fn read_negotiation(
     alloc: Global,
     at: Side,
     words: &[&[u8]],
     apply: bool,
 ) -> Result<Option<Step>, AllocError>
-    ensures some { IfOk result (λ read. IfSome read (λ step. (side_of step ≡ at) × IsAct (ops_verb apply) (map (λ word. word.now) words.now) step)) }
+    ensures some { IfOk result (λ read. IfSome read (λ step.
+        (side_of step ≡ at) × IsAct (ops_verb apply) (map (λ word. word.now) words.now) step)) }
     ensures none { IfOk result (λ read. IfNone read ((ops : List Op) → AreOps (map (λ word. word.now) words.now) ops → ⊥)) }
 {
     match read_ops(alloc, words)? {
@@ -26,7 +27,7 @@ fn read_negotiation(
     }
 }
 
-/// The step of a side that a verb and the words behind it say.
+/// The step of a verb and the words behind it, at a side.
 pub fn read_act(
     alloc: Global,
     at: Side,

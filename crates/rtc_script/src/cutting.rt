@@ -1,7 +1,7 @@
 //! Texts cut at a byte.
 ghost use Rattle.std.specs.Prelude.{◌≡◌, ◌<◌, IfOk, length, map};
+ghost use Rattle.rtc_fields.specs.Lines.{pieces};
 ghost use Rattle.rtc_fields.specs.Words.{parts, words};
-ghost use Rattle.rtc_script.specs.Script.{pieces};
 
 use std::alloc::{AllocError, Global};
 

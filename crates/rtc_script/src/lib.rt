@@ -4,7 +4,6 @@
 mod acts;
 mod cutting;
 mod directions;
-mod errors;
 mod kinds;
 mod lines;
 mod numbers;
@@ -12,6 +11,7 @@ mod ops;
 mod outcomes;
 mod pushing;
 mod reading;
+mod refusals;
 mod reports;
 mod rows;
 mod script;
@@ -23,8 +23,3 @@ pub use reading::read_script;
 pub use reports::write_report;
 pub use script::Script;
 pub use script_error::ScriptError;
-
-#[cfg(test)]
-mod report_tests;
-#[cfg(test)]
-mod tests;

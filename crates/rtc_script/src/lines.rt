@@ -22,7 +22,7 @@ fn read_words(alloc: Global, words: &[&[u8]]) -> Result<Option<Step>, AllocError
     read_act(alloc, at, verb, rest)
 }
 
-/// The step whose line it is.
+/// The step that a line names, if it is the line of one.
 pub fn read_line(alloc: Global, line: &[u8]) -> Result<Option<Step>, AllocError>
     ensures some { IfOk result (λ read. IfSome read (λ step. IsLine line.now step)) }
     ensures none { IfOk result (λ read. IfNone read ((step : Step) → IsLine line.now step → ⊥)) }

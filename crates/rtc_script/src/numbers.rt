@@ -6,7 +6,7 @@ ghost use Rattle.rtc_script.specs.Lines.{AreNumbers};
 use rtc_fields::read_decimal;
 use std::str;
 
-/// The number below 2^32 whose decimal a word is.
+/// The number below 2^32 that a word is the decimal of, without leading zeros.
 pub fn read_u32(word: &[u8]) -> Option<u32>
     ensures some { IfSome result (λ n. word.now ≡ decimal n) }
     ensures none { IfNone result ((n : ℕ) → n < 2 ^ 32 → word.now ≢ decimal n) }
@@ -22,7 +22,7 @@ pub fn read_u32(word: &[u8]) -> Option<u32>
     }
 }
 
-/// The number that one word says.
+/// The number of one word.
 pub fn read_one(words: &[&[u8]]) -> Option<u32>
     ensures some { IfSome result (λ n. AreNumbers (map (λ word. word.now) words.now) (n ∷ [])) }
     ensures none { IfNone result ((n : ℕ) → AreNumbers (map (λ word. word.now) words.now) (n ∷ []) → ⊥) }
@@ -33,7 +33,7 @@ pub fn read_one(words: &[&[u8]]) -> Option<u32>
     }
 }
 
-/// The numbers that two words say.
+/// The numbers of two words.
 pub fn read_two(words: &[&[u8]]) -> Option<(u32, u32)>
     ensures some { IfSome result (λ found. AreNumbers (map (λ word. word.now) words.now) (found.0 ∷ found.1 ∷ [])) }
     ensures none { IfNone result ((m n : ℕ) → AreNumbers (map (λ word. word.now) words.now) (m ∷ n ∷ []) → ⊥) }

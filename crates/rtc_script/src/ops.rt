@@ -11,7 +11,7 @@ use rtc_history::Op;
 use rtc_wire::Seq;
 use std::alloc::{AllocError, Global};
 
-// The op of two parts: a line that is added, or one that is stopped.
+// An op of two parts: it adds a line, or stops one.
 fn read_two_parts(word: &[u8], value: &[u8]) -> Option<Op>
     ensures some { IfSome result (λ op. AreOpParts (word.now ∷ value.now ∷ []) op) }
     ensures none { IfNone result ((op : Op) → AreOpParts (word.now ∷ value.now ∷ []) op → ⊥) }
@@ -25,7 +25,7 @@ fn read_two_parts(word: &[u8], value: &[u8]) -> Option<Op>
     Some(Op::AddMedia { kind, dir })
 }
 
-// The op of three parts: a direction that is set.
+// An op of three parts: it sets a direction.
 fn read_three_parts(word: &[u8], place: &[u8], value: &[u8]) -> Option<Op>
     ensures some { IfSome result (λ op. AreOpParts (word.now ∷ place.now ∷ value.now ∷ []) op) }
     ensures none { IfNone result ((op : Op) → AreOpParts (word.now ∷ place.now ∷ value.now ∷ []) op → ⊥) }
@@ -57,7 +57,7 @@ fn read_op(alloc: Global, word: &[u8]) -> Result<Option<Op>, AllocError>
     Ok(read_parts(parts.as_slice()))
 }
 
-/// The ops that words say.
+/// The ops of words, one each.
 pub fn read_ops(alloc: Global, words: &[&[u8]]) -> Result<Option<Seq<Op>>, AllocError>
     ensures some { IfOk result (λ read. IfSome read (λ ops. AreOps (map (λ word. word.now) words.now) ops)) }
     ensures none { IfOk result (λ read. IfNone read ((ops : List Op) → AreOps (map (λ word. word.now) words.now) ops → ⊥)) }

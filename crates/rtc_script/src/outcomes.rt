@@ -2,8 +2,8 @@
 ghost use Rattle.std.specs.Prelude.{◌≡◌, ◌++◌, OnOk, string_bytes};
 ghost use Rattle.rtc_script.specs.Outcomes.{op_answer_text, more_answers, answers_text, made_text, outcome_text};
 
-use crate::errors::push_error;
 use crate::pushing::push_number;
+use crate::refusals::push_refusal;
 use rtc_history::{Made, OpAnswer, Outcome};
 use std::alloc::AllocError;
 
@@ -68,7 +68,7 @@ pub fn push_outcome(out: &mut String, outcome: &Outcome) -> Result<(), AllocErro
             push_number(out, *text)
         }
         Outcome::Finished => out.push_str("finished"),
-        Outcome::Refused(error) => push_error(out, error),
+        Outcome::Refused(error) => push_refusal(out, error),
         Outcome::NoSuch => out.push_str("nosuch"),
         Outcome::Alloc => out.push_str("nomemory"),
     }

@@ -1,14 +1,15 @@
 //! Whole scripts.
-ghost use Rattle.std.specs.Prelude.{◌≡◌, ◌-◌, ◌^◌, [], ◌∷◌, ◌++◌, ◌↔◌, IsTrue, IfOk, IfErr, min, map};
+ghost use Rattle.std.specs.Prelude.{◌≡◌, ◌-◌, ◌^◌, [], ◌∷◌, ◌++◌, ◌↔◌, IsTrue, IfOk, IfErr, min, map, ◌≤◌, ◌<◌, length};
+ghost use Rattle.rtc_history.specs.Sizes.{steps_size};
 ghost use Rattle.rtc_script.specs.Script.{header, ArePieces, AreRefused, IsScript, IsRefused};
 
 use crate::cutting::cut_lines;
-use crate::steps::{Stop, read_steps};
+use crate::steps::{StepsError, read_steps};
 use crate::{Script, ScriptError};
 use rtc_wire::Seq;
 use std::alloc::Global;
 
-// The number of a line as it is told.
+// The number of a line, as far as a `u32` goes.
 fn line_number(n: usize) -> u32
     ensures { result ≡ min n (2 ^ 32 - 1) }
 {
@@ -21,7 +22,7 @@ fn is_header(line: &[u8]) -> bool
     line == b"str0m-pair 1".as_slice()
 }
 
-// The steps of the lines of a text, with what stands behind the last line feed.
+// Reads the lines of a text; `end` is what stands behind the last line feed.
 fn read_pieces(alloc: Global, lines: &[&[u8]], end: &[u8]) -> Result<Script, ScriptError>
     ensures some { IfOk result (λ script. ArePieces (map (λ line. line.now) lines.now ++ end.now ∷ []) script.steps) }
     ensures none { IfErr result (λ error. AreRefused (map (λ line. line.now) lines.now ++ end.now ∷ []) error) }
@@ -34,8 +35,8 @@ fn read_pieces(alloc: Global, lines: &[&[u8]], end: &[u8]) -> Result<Script, Scr
     }
     let steps = match read_steps(alloc, rest) {
         Ok(steps) => steps,
-        Err(Stop::At(place)) => return Err(ScriptError::Line(line_number(place + 2))),
-        Err(Stop::Alloc) => return Err(ScriptError::Alloc),
+        Err(StepsError::NotStep(place)) => return Err(ScriptError::Line(line_number(place + 2))),
+        Err(StepsError::Alloc) => return Err(ScriptError::Alloc),
     };
     if !end.is_empty() {
         return Err(ScriptError::Line(line_number(rest.len() + 2)));
@@ -45,12 +46,21 @@ fn read_pieces(alloc: Global, lines: &[&[u8]], end: &[u8]) -> Result<Script, Scr
     })
 }
 
-/// The steps of a script, or the first line that is refused.
-pub fn read_script(alloc: Global, bytes: &[u8]) -> Result<Script, ScriptError>
+// Cuts a text into its lines and reads them.
+fn read_lines(alloc: Global, bytes: &[u8]) -> Result<Script, ScriptError>
     ensures some { IfOk result (λ script. IsScript bytes.now script.steps) }
     ensures none { IfErr result (λ error. IsRefused bytes.now error) }
 {
     let pieces = cut_lines(alloc, bytes)?;
     let (end, lines) = pieces.as_slice().split_last().unwrap();
     read_pieces(alloc, lines, end)
+}
+
+/// Reads a script, or answers the first line that is refused.
+pub fn read_script(alloc: Global, bytes: &[u8]) -> Result<Script, ScriptError>
+    ensures some { IfOk result (λ script. IsScript bytes.now script.steps) }
+    ensures few { length bytes.now ≤ 2 ^ 20 → IfOk result (λ script. steps_size script.steps < 2 ^ 32) }
+    ensures none { IfErr result (λ error. IsRefused bytes.now error) }
+{
+    read_lines(alloc, bytes)
 }

@@ -31,7 +31,7 @@ fn push_step(out: &mut String, number: usize, step: &Step, reply: &Reply) -> Res
     push_table(out, &reply.table)
 }
 
-/// The report of steps and their replies: a line for each reply and, behind it, the rows of the peer that acted.
+/// The report of steps and their replies: a line for each reply, followed by the rows of the peer that acted.
 pub fn write_report(alloc: Global, steps: &[Step], replies: &[Reply]) -> Result<Vec<u8>, AllocError>
     ensures { IfOk result (λ bytes. bytes.items ≡ report steps.now replies.now) }
 {

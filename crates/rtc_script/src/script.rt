@@ -2,7 +2,7 @@
 use rtc_history::Step;
 use rtc_wire::Seq;
 
-/// What a script says.
+/// A script that was read.
 #[derive(Debug, PartialEq, Eq, Drop)]
 pub struct Script {
     pub steps: Seq<Step>,

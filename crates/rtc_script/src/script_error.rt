@@ -1,14 +1,14 @@
-//! Why a text is no script.
+//! Why bytes are no script.
 ghost use Rattle.std.specs.Prelude.{◌≡◌};
 ghost use Rattle.rtc_script.specs.declared.script_error.ScriptError.TheVariants.{Alloc};
 
 use std::alloc::{AllocError, AllocFailed};
 use thiserror::Error;
 
-/// Why a text is no script.
+/// Why bytes are no script.
 #[derive(Clone, Copy, Debug, PartialEq, Eq, Error)]
 pub enum ScriptError {
-    /// The number of the first refused line, from 1; `u32::MAX` where that is greater.
+    /// The number of the first refused line, counted from 1; `u32::MAX` where it is greater.
     #[error("script refused at line {0}")]
     Line(u32),
     /// There was too little memory.

@@ -1,46 +1,46 @@
 //! The steps of many lines.
 ghost use Rattle.std.specs.Prelude.{◌≡◌, IfOk, IfErr, map};
 ghost use Rattle.rtc_script.specs.Script.{HaveLines};
-ghost use Rattle.rtc_script.specs.Steps.{IsStop};
-ghost use Rattle.rtc_script.specs.declared.steps.Stop.TheVariants.{Alloc};
+ghost use Rattle.rtc_script.specs.Steps.{IsStepsError};
+ghost use Rattle.rtc_script.specs.declared.steps.StepsError.TheVariants.{Alloc};
 
 use crate::lines::read_line;
 use rtc_history::Step;
 use std::alloc::{AllocError, AllocFailed, Global};
 
-/// Why the lines behind a header are not those of steps.
+/// Why lines behind a header are not lines of steps.
 #[derive(Clone, Copy, Debug, PartialEq, Eq)]
-pub enum Stop {
-    /// The place of the first line that no step has.
-    At(usize),
+pub enum StepsError {
+    /// The line at this place, counted from 0, is the first that is no step's.
+    NotStep(usize),
     Alloc,
 }
 
-impl From<AllocError> for Stop {
+impl From<AllocError> for StepsError {
     ghost from_gives = { λ _ e. e ≡ Alloc };
 
-    fn from(_error: AllocError) -> Stop {
-        Stop::Alloc
+    fn from(_error: AllocError) -> StepsError {
+        StepsError::Alloc
     }
 }
 
-impl<T: Drop> From<AllocFailed<T>> for Stop {
+impl<T: Drop> From<AllocFailed<T>> for StepsError {
     ghost from_gives = { λ _ e. e ≡ Alloc };
 
-    fn from(_error: AllocFailed<T>) -> Stop {
-        Stop::Alloc
+    fn from(_error: AllocFailed<T>) -> StepsError {
+        StepsError::Alloc
     }
 }
 
-/// The steps of the lines behind a header.
-pub fn read_steps(alloc: Global, lines: &[&[u8]]) -> Result<Vec<Step>, Stop>
+/// Reads the lines behind a header, one step each.
+pub fn read_steps(alloc: Global, lines: &[&[u8]]) -> Result<Vec<Step>, StepsError>
     ensures ok { IfOk result (λ steps. HaveLines (map (λ line. line.now) lines.now) steps.items) }
-    ensures stop { IfErr result (λ stop. IsStop (map (λ line. line.now) lines.now) stop) }
+    ensures err { IfErr result (λ error. IsStepsError (map (λ line. line.now) lines.now) error) }
 {
     let mut steps = Vec::new(alloc);
     for (i, line) in lines.iter().enumerate() {
         let Some(step) = read_line(alloc, line)? else {
-            return Err(Stop::At(i));
+            return Err(StepsError::NotStep(i));
         };
         steps.push(step)?;
     }

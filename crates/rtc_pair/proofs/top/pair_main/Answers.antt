@@ -1,8 +1,10 @@
-use Rattle.std.proofs.Common.{◌<◌, ◌≤◌, ◌^◌, length, List, sym, subst, rules}
+use Rattle.std.proofs.Common.{◌≡◌, ◌≢◌, ◌<◌, ◌≤◌, ◌^◌, length, List, map, sym, subst, rules}
+use Rattle.std.specs.String.{string_bytes}
+use Rattle.rtc_io.proofs.Told.{answer_due, refusal_due, unread_due}
 use Rattle.rtc_history.specs.declared.step.Step.{Step}
 use Rattle.rtc_history.specs.Sizes.{steps_size}
-use Rattle.rtc_pair.proofs.DueTexts.{report_due, refusal_due}
-use Rattle.rtc_pair.proofs.SmallScripts.{script_small}
+use Rattle.rtc_pair.specs.Answers.{run_words, script_program}
+use Rattle.rtc_script.proofs.SmallScripts.{script_small}
 use Rattle.rtc_pair.proofs.Scripts.{reads_script, reads_no_script, runs_or}
 use Rattle.rtc_pair.proofs.top.pair_main.Goals as goal
 
@@ -13,25 +15,25 @@ perform_script-requires g c =
 
 pub returns-in-Ok-read_script-clause-done : goal.returns-in-Ok-read_script-clause-done
 returns-in-Ok-read_script-clause-done g c =
-    let read = reads_script _ _ c.in-Ok.text c.as_slice.result.now c.in-Ok-read_script.script.steps c.as_slice-in-Ok-read_script.result.now c.in-Ok.ensures.bytes c.in-Ok.ensures.end c.in-Ok.ensures.within (search rules) c.in-Ok-read_script.ensures.some c.as_slice-in-Ok-read_script.ensures in
-    λ ended. record { steps = _; read = read; performs = c.perform_script.ensures.done ended }
+    let read = reads_script _ _ c.in-Ok.bytes c.as_slice.result.now c.in-Ok-read_script.script.steps c.as_slice-in-Ok-read_script.result.now c.in-Ok.ensures.bytes c.in-Ok.ensures.end c.in-Ok.ensures.within (search rules) c.in-Ok-read_script.ensures.some c.as_slice-in-Ok-read_script.ensures in
+    λ ended. record { steps = _; read = read; performs = rw c.in-Ok.ensures.silent at (c.perform_script.ensures.done ended) }
 
 pub returns-in-Ok-read_script-clause-write : goal.returns-in-Ok-read_script-clause-write
 returns-in-Ok-read_script-clause-write g c =
-    let read = reads_script _ _ c.in-Ok.text c.as_slice.result.now c.in-Ok-read_script.script.steps c.as_slice-in-Ok-read_script.result.now c.in-Ok.ensures.bytes c.in-Ok.ensures.end c.in-Ok.ensures.within (search rules) c.in-Ok-read_script.ensures.some c.as_slice-in-Ok-read_script.ensures in
-    λ ended. report_due _ _ _ _ _ _ _ _ _ _ _ (search rules) read (c.perform_script.ensures.write ended)
+    let read = reads_script _ _ c.in-Ok.bytes c.as_slice.result.now c.in-Ok-read_script.script.steps c.as_slice-in-Ok-read_script.result.now c.in-Ok.ensures.bytes c.in-Ok.ensures.end c.in-Ok.ensures.within (search rules) c.in-Ok-read_script.ensures.some c.as_slice-in-Ok-read_script.ensures in
+    λ ended. answer_due (script_program c.args.alloc) _ _ _ _ _ _ _ _ _ _ _ (search rules) read (rw c.in-Ok.ensures.silent at (c.perform_script.ensures.write ended))
 
 pub returns-in-Ok-read_script-clause-memory : goal.returns-in-Ok-read_script-clause-memory
 returns-in-Ok-read_script-clause-memory g c =
-    let read = reads_script _ _ c.in-Ok.text c.as_slice.result.now c.in-Ok-read_script.script.steps c.as_slice-in-Ok-read_script.result.now c.in-Ok.ensures.bytes c.in-Ok.ensures.end c.in-Ok.ensures.within (search rules) c.in-Ok-read_script.ensures.some c.as_slice-in-Ok-read_script.ensures in
-    λ ended. runs_or _ _ _ _ _ _ _ _ read (c.perform_script.ensures.memory ended)
+    let read = reads_script _ _ c.in-Ok.bytes c.as_slice.result.now c.in-Ok-read_script.script.steps c.as_slice-in-Ok-read_script.result.now c.in-Ok.ensures.bytes c.in-Ok.ensures.end c.in-Ok.ensures.within (search rules) c.in-Ok-read_script.ensures.some c.as_slice-in-Ok-read_script.ensures in
+    λ ended. runs_or _ _ _ _ _ _ _ _ read (rw c.in-Ok.ensures.silent at (c.perform_script.ensures.memory ended))
 
 pub returns-in-Err-Line-clause-refused : goal.returns-in-Err-Line-clause-refused
 returns-in-Err-Line-clause-refused g c =
-    let read = reads_no_script _ _ c.in-Ok.text c.as_slice.result.now c.in-Err-Line.field-0 c.in-Err-Line.line c.in-Ok.ensures.bytes c.in-Ok.ensures.end c.in-Ok.ensures.within (search rules) c.in-Err-Line.ensures.none c.in-Err-Line.field-0-is in
-    λ ended. record { line = _; read = read; told = c.refuse_script.ensures.told ended }
+    let read = reads_no_script _ _ c.in-Ok.bytes c.as_slice.result.now c.in-Err-Line.field-0 c.in-Err-Line.line c.in-Ok.ensures.bytes c.in-Ok.ensures.end c.in-Ok.ensures.within (search rules) c.in-Err-Line.ensures.none c.in-Err-Line.field-0-is in
+    λ ended. record { line = _; read = read; told = rw c.in-Ok.ensures.silent at (c.refuse_input.ensures.told ended) }
 
 pub returns-in-Err-Line-clause-write : goal.returns-in-Err-Line-clause-write
 returns-in-Err-Line-clause-write g c =
-    let read = reads_no_script _ _ c.in-Ok.text c.as_slice.result.now c.in-Err-Line.field-0 c.in-Err-Line.line c.in-Ok.ensures.bytes c.in-Ok.ensures.end c.in-Ok.ensures.within (search rules) c.in-Err-Line.ensures.none c.in-Err-Line.field-0-is in
-    λ ended. refusal_due _ _ _ _ _ _ _ _ _ _ _ (search rules) read (c.refuse_script.ensures.write ended)
+    let read = reads_no_script _ _ c.in-Ok.bytes c.as_slice.result.now c.in-Err-Line.field-0 c.in-Err-Line.line c.in-Ok.ensures.bytes c.in-Ok.ensures.end c.in-Ok.ensures.within (search rules) c.in-Err-Line.ensures.none c.in-Err-Line.field-0-is in
+    λ ended. refusal_due (script_program c.args.alloc) _ _ _ _ _ _ _ _ _ _ _ (search rules) read (rw c.in-Ok.ensures.silent at (c.refuse_input.ensures.write ended))

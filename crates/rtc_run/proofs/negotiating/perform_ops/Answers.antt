@@ -1,27 +1,19 @@
 use Rattle.std.proofs.Common.{sym, ◌∙◌, rules, subst}
 use Rattle.rtc_history.specs.Performs.{PerformsOps}
-use Rattle.rtc_run.proofs.Ops.{lines_go_on, staged_go_on, staged_end, ops_go_on, ops_end, ops_all}
+use Rattle.rtc_run.proofs.Ops.{ops_go_on, ops_end, ops_all}
 use Rattle.rtc_run.proofs.negotiating.perform_ops.Goals as goal
 
 pub loop-op-preserved : goal.loop-op-preserved
 loop-op-preserved g c =
     record {
       same = search rules;
-      done = ops_go_on g.N.Ids.ids _ _ _ c.args.ops.now c.loop-op.op-index _ c.perform_op-answer.result _ _ c.loop-op-test.true (sym c.is_lack.ensures ∙ c.if-is_lack.false) c.push_reserved-in-loop-op.ensures.items c.perform_op-answer.ensures.performs c.loop-op.invariant.done;
+      done = ops_go_on g.N.Ids.ids _ _ _ c.args.ops.now c.loop-op.op-index _ c.perform_op-answer.result _ _ c.loop-op-test.true (sym c.is_out_of_memory.ensures ∙ c.if-is_out_of_memory.false) c.push_reserved-in-loop-op.ensures.items c.perform_op-answer.ensures.performs c.loop-op.invariant.done;
       count = search rules;
       room = search rules;
-      lines = lines_go_on g.N.Ids.ids c.args.api.now.rtc.now.core _ _ c.args.ops.now c.loop-op.op-index _ c.perform_op-answer.result c.perform_op-answer.ensures.performs c.loop-op.invariant.lines;
-      staged = staged_go_on g.N.Ids.ids c.args.api.now.rtc.now.core _ _ c.args.ops.now c.loop-op.op-index _ c.perform_op-answer.result c.perform_op-answer.ensures.performs c.loop-op.invariant.staged;
     }
 
-pub returns-then-is_lack-clause-performs : goal.returns-then-is_lack-clause-performs
-returns-then-is_lack-clause-performs g c = ops_end g.N.Ids.ids _ _ _ c.args.ops.now c.loop-op.op-index _ c.perform_op-answer.result c.loop-op.room.items _ c.loop-op-test.true (sym c.is_lack.ensures ∙ c.if-is_lack.true) (c.new.ensures ∙ c.push_reserved.ensures.items) c.perform_op-answer.ensures.performs c.loop-op.invariant.done
-
-pub returns-then-is_lack-clause-lines : goal.returns-then-is_lack-clause-lines
-returns-then-is_lack-clause-lines g c = lines_go_on g.N.Ids.ids c.args.api.now.rtc.now.core _ _ c.args.ops.now c.loop-op.op-index _ c.perform_op-answer.result c.perform_op-answer.ensures.performs c.loop-op.invariant.lines
-
-pub returns-then-is_lack-clause-staged : goal.returns-then-is_lack-clause-staged
-returns-then-is_lack-clause-staged g c = staged_end g.N.Ids.ids c.args.api.now.rtc.now.core _ _ c.args.ops.now c.loop-op.op-index _ c.perform_op-answer.result c.loop-op-test.true c.perform_op-answer.ensures.performs c.loop-op.invariant.staged
+pub returns-then-is_out_of_memory-clause-performs : goal.returns-then-is_out_of_memory-clause-performs
+returns-then-is_out_of_memory-clause-performs g c = ops_end g.N.Ids.ids _ _ _ c.args.ops.now c.loop-op.op-index _ c.perform_op-answer.result c.loop-op.room.items _ c.loop-op-test.true (sym c.is_out_of_memory.ensures ∙ c.if-is_out_of_memory.true) (c.new.ensures ∙ c.push_reserved.ensures.items) c.perform_op-answer.ensures.performs c.loop-op.invariant.done
 
 pub returns-clause-performs : goal.returns-clause-performs
 returns-clause-performs g c = subst (λ room. PerformsOps g.N.Ids.ids c.args.api.now.rtc.now.core c.args.ops.now room c.loop-op.api.rtc.now.core) (sym c.new-2.ensures) (ops_all g.N.Ids.ids _ _ c.args.ops.now c.loop-op.op-index c.loop-op.room.items c.loop-op-test.false c.loop-op.invariant.done)

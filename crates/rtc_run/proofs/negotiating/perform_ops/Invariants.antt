@@ -1,5 +1,4 @@
-use Rattle.std.proofs.Common.{◌≡◌, ◌≤◌, ◌+◌, ◌++◌, List, length, drop, vec_capacity}
-use Rattle.rtc_change.specs.PendingOffer.{added_mids}
+use Rattle.std.proofs.Common.{◌≡◌, ◌≤◌, ◌++◌, List, length, drop, vec_capacity}
 use Rattle.rtc_peer_state.specs.declared.peer.Peer.{Peer}
 use Rattle.rtc_history.specs.declared.op_answer.OpAnswer.{OpAnswer}
 use Rattle.rtc_history.specs.Performs.{PerformsOps}
@@ -13,6 +12,4 @@ invariant-loop-op g l =
       done : (more : List OpAnswer) (q : Peer g.row.N.Denot) → PerformsOps g.N.Ids.ids l.api.rtc.now.core (drop l.op-index l.ops) more q → PerformsOps g.N.Ids.ids l.fn.api.rtc.now.core l.ops (l.room.items ++ more) q;
       count : length l.room.items ≡ l.op-index;
       room : length l.ops ≤ vec_capacity l.room;
-      lines : length l.api.rtc.now.core.lines ≡ length l.fn.api.rtc.now.core.lines;
-      staged : length (added_mids l.api.rtc.now.core.staged) ≤ length (added_mids l.fn.api.rtc.now.core.staged) + l.op-index;
     }

@@ -2,14 +2,14 @@ use Rattle.std.proofs.Common.{◌≡◌, ◌≢◌, ◌+◌, ◌-◌, ◌^◌, [
 use Rattle.std.proofs.lemmas.Bool.Decides.{nat_tests}
 use Rattle.std.proofs.lemmas.List.{nil_from_length}
 use Rattle.rtc_script.specs.Script.{header}
-use Rattle.rtc_script.proofs.Refusals.{step_refused, end_refused, script_read}
+use Rattle.rtc_script.proofs.RefusedScripts.{step_refused, end_refused, script_read}
 use Rattle.rtc_script.proofs.reading.read_pieces.Goals as goal
 
-pub returns-in-Err-At-clause-none : goal.returns-in-Err-At-clause-none
-returns-in-Err-At-clause-none c =
+pub returns-in-Err-NotStep-clause-none : goal.returns-in-Err-NotStep-clause-none
+returns-in-Err-NotStep-clause-none c =
     let head : c.in-Some.first.now.now ≡ header = search rules in
-    let number : c.line_number.result ≡ min (c.in-Err-At.place + 2) (2 ^ 32 - 1) = c.line_number.ensures ∙ ap (λ (n : ℕ). min (n + 2) (2 ^ 32 - 1)) c.in-Err-At.place-is in
-    step_refused _ _ _ _ _ _ c.in-Some.ensures.cases.0 head (rw c.in-Err-At.field-0-is at c.in-Err-At.ensures.stop) number
+    let number : c.line_number.result ≡ min (c.in-Err-NotStep.place + 2) (2 ^ 32 - 1) = c.line_number.ensures ∙ ap (λ (n : ℕ). min (n + 2) (2 ^ 32 - 1)) c.in-Err-NotStep.place-is in
+    step_refused _ _ _ _ _ _ c.in-Some.ensures.cases.0 head (rw c.in-Err-NotStep.field-0-is at c.in-Err-NotStep.ensures.err) number
 
 pub returns-then-not-is_empty-clause-none : goal.returns-then-not-is_empty-clause-none
 returns-then-not-is_empty-clause-none c =

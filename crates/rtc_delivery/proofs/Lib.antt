@@ -1,0 +1,2 @@
+pub mod PlainSdps
+pub mod FormedSteps

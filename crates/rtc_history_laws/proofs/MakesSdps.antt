@@ -1,0 +1,157 @@
+-- The SDP that a step makes says the rows of its side.
+use Rattle.std.proofs.Common.{◌≡◌, ◌+◌, ℕ, Bool, true, false, not, ◌&&◌, List, [], ◌∷◌, ◌++◌, map, drop, length, Option, Some, None, refl, sym, ◌∙◌, ap, subst, arith, length-set}
+use Rattle.std.specs.Prelude.{slice_get}
+use Rattle.std.proofs.Math.Seq.{drop-append_seam, drop-length}
+use Rattle.std.proofs.lemmas.List.{drop_all}
+use Rattle.rtc_sdp_values.specs.LineRow.{row_mid}
+use Rattle.rtc_sdp_values.specs.Sdp.{inconsistency}
+use Rattle.rtc_sdp_values.specs.declared.line_row.LineRow.{LineRow}
+use Rattle.rtc_sdp_values.specs.declared.sdp.Sdp.{Sdp}
+use Rattle.rtc_sdp_values.specs.declared.setup.Setup.TheVariants.{ActPass, Passive}
+use Rattle.rtc_change.specs.PendingOffer.{PendingOffer, added_rows}
+use Rattle.rtc_change.specs.ParsedLines.{parsed_lines}
+use Rattle.rtc_change.specs.Table.{IsTable, Distinct}
+use Rattle.rtc_change.specs.TableAfter.{table_after}
+use Rattle.rtc_peer_state.specs.declared.peer.Peer.{Peer}
+use Rattle.rtc_peer_state.specs.Draws.{Draws}
+use Rattle.rtc_peer_state.specs.MadeSdp.{offer_sdp, answer_sdp, sdp_of_rows}
+use Rattle.rtc_history.specs.declared.side.Side.{Side}
+use Rattle.rtc_history.specs.declared.op.Op.{Op}
+use Rattle.rtc_history.specs.declared.op_answer.OpAnswer.{OpAnswer}
+use Rattle.rtc_history.specs.declared.made.Made.{Made}
+use Rattle.rtc_history.specs.declared.made.Made.TheVariants.{NotAsked, Nothing, Offer, Alloc as MadeAlloc}
+use Rattle.rtc_history.specs.declared.step.Step.{Step}
+use Rattle.rtc_history.specs.declared.step.Step.TheVariants.{Negotiate, AcceptOffer, AcceptAnswer}
+use Rattle.rtc_history.specs.declared.outcome.Outcome.{Outcome}
+use Rattle.rtc_history.specs.declared.outcome.Outcome.TheVariants.{Negotiated, Answered, Finished, Refused, NoSuch, Alloc}
+use Rattle.rtc_history.specs.declared.table.Table.{Table}
+use Rattle.rtc_history.specs.Memory.{answers_lack}
+use Rattle.rtc_history.specs.Sides.{side_of}
+use Rattle.rtc_history.specs.Past.{Entry, MadeSdp, before, rows_or, added}
+use Rattle.rtc_history.specs.Sound.{OpsAnswered, IsSound}
+use Rattle.rtc_history.specs.SaidRows.{row_said, are_live, MakesSdp}
+use Rattle.rtc_history.specs.declared.kept.Kept.{Kept}
+use Rattle.rtc_history.specs.PairState.{PairState, peer_at, made_sdp, kept_remote_sdp, held_token, spent}
+use Rattle.rtc_history.specs.Performs.{MakesOf, Negotiates, StepAcceptsOffer, StepAcceptsAnswer, Performs, kept_offer, kept_answer, lent, made_by}
+use Rattle.rtc_history_laws.proofs.Staging.{Stages, ops_stage}
+use Rattle.rtc_history_laws.proofs.NegotiateSteps.{made_lines}
+use Rattle.rtc_history_laws.proofs.OpRows.{ops_mids}
+use Rattle.rtc_history_laws.proofs.AddedRows.{AreAdded, ops_add}
+use Rattle.rtc_history_laws.proofs.SaidSdps.{sdp_says, sdp_fits, offered_distinct}
+
+-- the SDPs behind those that were there
+abbrev behind : List Kept → List Kept → List MadeSdp
+behind kept kept' = map made_sdp (drop (length kept) kept')
+
+none_behind : (kept kept' : List Kept) → kept' ≡ kept → behind kept kept' ≡ []
+none_behind kept kept' same = rw (same, drop-length kept) refl
+
+one_behind : (kept kept' : List Kept) (one : Kept) → kept' ≡ kept ++ one ∷ [] → behind kept kept' ≡ made_sdp one ∷ []
+one_behind kept kept' one pushed = rw (pushed, drop-append_seam kept (one ∷ [])) refl
+
+-- an offer says the rows of its side, then those that it adds
+offer_says : {N : Type 0} (p : Peer N) (more : List LineRow) → Distinct (p.lines ++ more) → added_rows (length p.lines) p.staged ≡ more → parsed_lines (offer_sdp p) ≡ map row_said (p.lines ++ more)
+unfolding offer_sdp
+offer_says p more distinct adds =
+    ap (λ added. parsed_lines (sdp_of_rows p.session_id p.identity ActPass (p.lines ++ added))) adds ∙ sdp_says p.session_id p.identity ActPass (p.lines ++ more) distinct
+
+-- an offer fits together where one of its rows is live
+offer_fits : {N : Type 0} (p : Peer N) (more : List LineRow) → Distinct (p.lines ++ more) → added_rows (length p.lines) p.staged ≡ more → are_live (p.lines ++ more) ≡ true → inconsistency (offer_sdp p) ≡ None
+unfolding offer_sdp
+offer_fits p more distinct adds live =
+    ap (λ added. inconsistency (sdp_of_rows p.session_id p.identity ActPass (p.lines ++ added))) adds ∙ sdp_fits p.session_id p.identity ActPass (p.lines ++ more) distinct live
+
+answer_fits : {N : Type 0} (p : Peer N) (sdp : Sdp) (rows : List LineRow) → table_after p.lines (parsed_lines sdp) true ≡ rows → IsTable rows → are_live rows ≡ true → inconsistency (answer_sdp p sdp) ≡ None
+unfolding answer_sdp
+answer_fits p sdp rows is table live = rw is (sdp_fits p.session_id p.identity Passive rows table.distinct live)
+
+-- an answer says the rows that it leaves
+answer_says : {N : Type 0} (p : Peer N) (sdp : Sdp) (rows : List LineRow) → table_after p.lines (parsed_lines sdp) true ≡ rows → IsTable rows → parsed_lines (answer_sdp p sdp) ≡ map row_said rows
+unfolding answer_sdp
+answer_says p sdp rows is table = rw is (sdp_says p.session_id p.identity Passive rows table.distinct)
+
+-- ---- each kind of step
+
+makes_of : {N : Type 0} (at : Side) (asked : Bool) (p q : Peer N) (ops : List Op) (answers : List OpAnswer) (apply : Bool) (kept kept' : List Kept) (made : Made) (table : Table)
+    → MakesOf asked at p kept made q kept' → table.lines ≡ p.lines → Distinct (table.lines ++ added (length table.lines) ops answers)
+    → added_rows (length table.lines) p.staged ≡ added (length table.lines) ops answers
+    → MakesSdp (Negotiate at ops apply) (Negotiated answers made) (Some table) (behind kept kept')
+makes_of at false p q ops answers apply kept kept' NotAsked table h rows distinct adds = none_behind kept kept' h.1
+makes_of at true p q ops answers apply kept kept' Nothing table h rows distinct adds = none_behind kept kept' h.1
+makes_of at true p q ops answers apply kept kept' MadeAlloc table h rows distinct adds = none_behind kept kept' h.1
+makes_of at true p q ops answers apply kept kept' (Offer k) table h rows distinct adds = record {
+  sdp = h.0.0;
+  one = one_behind kept kept' (kept_offer at h.0) h.2;
+  says = ap (λ (o : Sdp). parsed_lines o) h.1.1 ∙ (rw rows (offer_says p (added (length p.lines) ops answers) (rw (← rows) distinct) (rw (← rows) adds)));
+  fits = λ live. ap (λ (o : Sdp). inconsistency o) h.1.1 ∙ offer_fits p (added (length p.lines) ops answers) (rw (← rows) distinct) (rw (← rows) adds) (rw (← rows) live);
+}
+makes_of at asked p q ops answers apply kept kept' made table h rows distinct adds = absurd h
+
+-- the rows that ops leave, with those that they stage, have distinct mids
+ops_distinct : (rows after : List LineRow) (ops : List Op) (answers : List OpAnswer) (place : ℕ) → OpsAnswered rows (map row_mid rows) ops answers after → IsTable after → Distinct (after ++ added place ops answers)
+ops_distinct rows after ops answers place answered table =
+    let new : AreAdded (map row_mid after) place (added place ops answers) =
+    subst (λ (held : List (List ℕ)). AreAdded held place (added place ops answers)) (sym (ops_mids rows (map row_mid rows) ops answers after answered)) (ops_add rows (map row_mid rows) ops answers after place answered) in
+    offered_distinct after (added place ops answers) place table.distinct new
+
+negotiate_makes : {N : Type 0} (draws : Draws N) (at : Side) (ops : List Op) (apply : Bool) (old new : Peer N) (kept kept' : List Kept) (outcome : Outcome) (table : Option Table) (past : List Entry)
+    → Negotiates draws at ops apply old kept outcome table new kept' → IsTable (rows_or true table (before at past)) → IsSound past (Negotiate at ops apply) outcome table
+    → MakesSdp (Negotiate at ops apply) outcome table (behind kept kept')
+negotiate_makes draws at ops apply old new kept kept' Alloc None past h is sound = none_behind kept kept' h.sdps_kept
+negotiate_makes draws at ops apply old new kept kept' (Negotiated answers made) (Some table) past h is sound =
+    let staged : Stages (lent old) ops answers h.0 = ops_stage draws (lent old) h.0 ops answers h.1 in
+    let left : table.lines ≡ h.0.lines = h.3 ∙ made_lines (apply && not (answers_lack answers)) at h.0 new kept kept' made h.2 in
+    makes_of at (apply && not (answers_lack answers)) h.0 new ops answers apply kept kept' made table h.2 left
+    (ops_distinct (before at past) table.lines ops answers (length table.lines) sound.0 is)
+    (staged.adds (length table.lines) ∙ ap (λ n. added n ops answers) (let e : length table.lines + 0 ≡ length table.lines = omega arith in e))
+negotiate_makes draws at ops apply old new kept kept' outcome table past h is sound = absurd h
+
+offer_makes : {N : Type 0} (draws : Draws N) (at : Side) (k : ℕ) (offer : Option Sdp) (old new : Peer N) (kept kept' : List Kept) (outcome : Outcome) (table : Option Table)
+    → StepAcceptsOffer draws at offer old kept outcome table new kept' → IsTable (rows_or true table (old.lines)) → MakesSdp (AcceptOffer at k) outcome table (behind kept kept')
+offer_makes draws at k None old new kept kept' Alloc None h is = none_behind kept kept' h.sdps_kept
+offer_makes draws at k (Some sdp) old new kept kept' Alloc None h is = none_behind kept kept' h.sdps_kept
+offer_makes draws at k None old new kept kept' NoSuch (Some table) h is = none_behind kept kept' h.0.sdps_kept
+offer_makes draws at k (Some sdp) old new kept kept' (Answered n) (Some table) h is = record {
+  sdp = h.0;
+  one = one_behind kept kept' (kept_answer at h.0) h.2;
+  says = ap (λ (a : Sdp). parsed_lines a) h.1.answered ∙ answer_says (lent old) sdp table.lines (sym (h.4 ∙ ap (λ p. p.lines) h.1.rest)) is;
+  fits = λ live. ap (λ (a : Sdp). inconsistency a) h.1.answered ∙ answer_fits (lent old) sdp table.lines (sym (h.4 ∙ ap (λ p. p.lines) h.1.rest)) is live;
+}
+offer_makes draws at k (Some sdp) old new kept kept' (Refused error) (Some table) h is = none_behind kept kept' h.1
+offer_makes draws at k offer old new kept kept' outcome table h is = absurd h
+
+length-spent : (t : ℕ) (kept : List Kept) → length (spent t kept) ≡ length kept
+length-spent t kept = by (slice_get kept t) refl
+  where
+    by : (found : Option Kept) → slice_get kept t ≡ found → length (spent t kept) ≡ length kept
+    by None is = rw is refl
+    by (Some one) is = rw is (length-set kept t (record one { token = None }))
+
+spent_behind : (t : ℕ) (kept kept' : List Kept) → kept' ≡ spent t kept → behind kept kept' ≡ []
+spent_behind t kept kept' same =
+    let count : length kept' ≡ length kept = ap length same ∙ length-spent t kept in
+    ap (map made_sdp) (drop_all (length kept) kept' (omega arith))
+
+answer_makes : {N : Type 0} (draws : Draws N) (at : Side) (t a : ℕ) (token : Option PendingOffer) (answer : Option Sdp) (old new : Peer N) (kept kept' : List Kept) (outcome : Outcome) (table : Option Table)
+    → StepAcceptsAnswer draws t token answer old kept outcome table new kept' → MakesSdp (AcceptAnswer at t a) outcome table (behind kept kept')
+answer_makes draws at t a None None old new kept kept' Alloc None h = none_behind kept kept' h.sdps_kept
+answer_makes draws at t a None (Some sdp) old new kept kept' Alloc None h = none_behind kept kept' h.sdps_kept
+answer_makes draws at t a (Some token) None old new kept kept' Alloc None h = none_behind kept kept' h.sdps_kept
+answer_makes draws at t a (Some token) (Some sdp) old new kept kept' Alloc None h = none_behind kept kept' h.sdps_kept
+answer_makes draws at t a None None old new kept kept' NoSuch (Some table) h = none_behind kept kept' h.0.sdps_kept
+answer_makes draws at t a None (Some sdp) old new kept kept' NoSuch (Some table) h = none_behind kept kept' h.0.sdps_kept
+answer_makes draws at t a (Some token) None old new kept kept' NoSuch (Some table) h = none_behind kept kept' h.0.sdps_kept
+answer_makes draws at t a (Some token) (Some sdp) old new kept kept' Finished (Some table) h = spent_behind t kept kept' h.1
+answer_makes draws at t a (Some token) (Some sdp) old new kept kept' (Refused error) (Some table) h = spent_behind t kept kept' h.1
+answer_makes draws at t a token answer old new kept kept' outcome table h = absurd h
+
+-- A step that is performed makes the SDP that says the rows of its side.
+pub makes_sdp : {N : Type 0} (draws : Draws N) (past : List Entry) (old new : PairState N) (step : Step) (outcome : Outcome) (table : Option Table)
+    → Performs draws old step outcome table new → IsTable (rows_or true table (before (side_of step) past)) → IsSound past step outcome table
+    → before (side_of step) past ≡ (peer_at (side_of step) old).lines → MakesSdp step outcome table (made_by old new)
+makes_sdp draws past old new (Negotiate at ops apply) outcome table performs is sound rows =
+    negotiate_makes draws at ops apply (peer_at at old) (peer_at at new) old.sdps new.sdps outcome table past performs.acts is sound
+makes_sdp draws past old new (AcceptOffer at k) outcome table performs is sound rows =
+    offer_makes draws at k (kept_remote_sdp true old.sdps at k) (peer_at at old) (peer_at at new) old.sdps new.sdps outcome table performs.acts (rw (← rows) is)
+makes_sdp draws past old new (AcceptAnswer at t a) outcome table performs is sound rows =
+    answer_makes draws at t a (held_token old.sdps at t) (kept_remote_sdp false old.sdps at a) (peer_at at old) (peer_at at new) old.sdps new.sdps outcome table performs.acts

@@ -1,4 +1,0 @@
-use Rattle.rtc_pair.proofs.program.make_pair.Goals as goal
-
-pub returns-clause-formed : goal.returns-clause-formed
-returns-clause-formed c = rw c.new.ensures (record { left = c.in_ok-left.ensures.formed; right = c.in_ok-right.ensures.formed })

@@ -1,0 +1,163 @@
+//! Offers and answers that a peer accepts.
+ghost use Rattle.std.specs.Prelude.{◌≡◌, ◌+◌, ◌<◌, ◌≤◌, ◌^◌, ◌++◌, [], ◌∷◌, length, Some, None, true, false};
+ghost use Rattle.std.specs.Prelude.{IsTrue, IsSome, IfSome, IfNone, OnSome, is_some, slice_get};
+ghost use Rattle.std.specs.Option.{option_copied};
+ghost use Rattle.rtc_peer_state.specs.Calls.{AcceptsAnswer, AcceptsOffer};
+ghost use Rattle.rtc_peer.specs.Described.{sdp_of_answer};
+ghost use Rattle.rtc_delivery.specs.Delivered.{AllReadBack};
+ghost use Rattle.rtc_history.specs.Sides.{same_side};
+ghost use Rattle.rtc_history.specs.PairState.{kept_remote_sdp, held_token, spent};
+ghost use Rattle.rtc_history.specs.Performs.{StepAcceptsAnswer, StepAcceptsOffer, kept_answer, lent};
+
+use crate::replying::{make_room, reply_no_memory, reply_no_such, reply_with, room_for};
+use rtc_change::SdpPendingOffer;
+use rtc_delivery::{deliver_kept_answer, deliver_kept_offer};
+use rtc_history::{Kept, Outcome, Reply, Side};
+use rtc_lines::{SdpAnswer, SdpOffer};
+use rtc_peer::{Ids, Rtc, RtcError};
+use rtc_sdp_values::Sdp;
+use std::alloc::Global;
+
+fn is_same_side(a: Side, b: Side) -> bool
+    ensures { result ≡ same_side a b }
+{
+    a == b
+}
+
+// The offer (or answer) of a number, if the other side made it.
+fn find_sdp(sdps: &[Kept], offer: bool, at: Side, number: u32) -> Option<&Sdp>
+    ensures { option_copied result ≡ kept_remote_sdp offer sdps.now at number }
+{
+    match sdps.get(number as usize) {
+        None => None,
+        Some(kept) => {
+            if kept.offer == offer && !is_same_side(kept.at, at) {
+                Some(&kept.sdp)
+            } else {
+                None
+            }
+        }
+    }
+}
+
+// The answer as the pair keeps it.
+fn keep_answer(at: Side, answer: SdpAnswer) -> Kept
+    ensures { result ≡ kept_answer at answer.0 }
+{
+    Kept {
+        at,
+        offer: false,
+        sdp: answer.0,
+        token: None,
+    }
+}
+
+fn accept_offer<N: Ids>(rtc: &mut Rtc<N>, offer: SdpOffer) -> Result<SdpAnswer, RtcError>
+    ensures accepts { AcceptsOffer N.ids (lent rtc.old.core) offer.0 (sdp_of_answer result) rtc.new.core }
+    ensures rows { length rtc.new.core.lines ≤ length rtc.old.core.lines + length offer.0.lines }
+{
+    rtc.sdp_api().accept_offer(offer)
+}
+
+/// Delivers the offer of a number to a peer, which accepts or refuses it.
+pub fn deliver_and_accept_offer<N: Ids>(
+    alloc: Global,
+    rtc: &mut Rtc<N>,
+    sdps: &mut Vec<Kept>,
+    at: Side,
+    offer: u32,
+) -> Reply
+    requires count { length sdps.old.items < 2 ^ 32 }
+    requires read_back { AllReadBack sdps.old.items }
+    ensures { StepAcceptsOffer N.ids at (kept_remote_sdp true sdps.old.items at offer) rtc.old.core sdps.old.items
+        result.outcome result.table rtc.new.core sdps.new.items }
+{
+    let delivered = match find_sdp(sdps, true, at, offer) {
+        None => return reply_no_such(alloc, rtc.lines().rows()),
+        Some(sdp) => match deliver_kept_offer(alloc, sdp) {
+            Ok(delivered) => delivered,
+            Err(_) => return reply_no_memory(),
+        },
+    };
+    let rows = rtc.lines().rows().len() + delivered.0.lines.len();
+    let Ok(room) = make_room(alloc, rows, sdps) else {
+        return reply_no_memory();
+    };
+    match accept_offer(rtc, delivered) {
+        Ok(answer) => {
+            let text = sdps.len() as u32;
+            sdps.push_reserved(keep_answer(at, answer));
+            reply_with(Outcome::Answered { text }, room, rtc.lines().rows())
+        }
+        Err(error) => reply_with(Outcome::Refused(error), room, rtc.lines().rows()),
+    }
+}
+
+// Whether a side holds the token of a number.
+fn has_token(sdps: &[Kept], at: Side, number: u32) -> bool
+    ensures some { result ≡ is_some (held_token sdps.now at number) }
+    ensures within { IsTrue result → number < length sdps.now }
+    ensures side { IsTrue result → IfSome (slice_get sdps.now number) (λ kept. same_side kept.at at ≡ true) }
+{
+    match sdps.get(number as usize) {
+        None => false,
+        Some(kept) => is_same_side(kept.at, at) && kept.token.is_some(),
+    }
+}
+
+// The token of a number, if this side holds it. It is spent then.
+fn take_token(sdps: &mut Vec<Kept>, at: Side, number: u32) -> Option<SdpPendingOffer>
+    ensures token { result ≡ held_token sdps.old.items at number }
+    ensures spent { OnSome result (sdps.new.items ≡ spent number sdps.old.items) }
+    ensures none { IfNone result (sdps.new.items ≡ sdps.old.items) }
+{
+    if !has_token(sdps, at, number) {
+        return None;
+    }
+    let kept = &mut sdps[number as usize];
+    kept.token.take()
+}
+
+fn accept_answer<N: Ids>(
+    rtc: &mut Rtc<N>,
+    pending: SdpPendingOffer,
+    answer: SdpAnswer,
+) -> Result<(), RtcError>
+    ensures accepts { AcceptsAnswer N.ids (lent rtc.old.core) pending answer.0 result rtc.new.core }
+    ensures rows { length rtc.new.core.lines ≤ length rtc.old.core.lines + length answer.0.lines }
+{
+    rtc.sdp_api().accept_answer(pending, answer)
+}
+
+/// Delivers the answer of a number to a peer, which accepts or refuses it with the token of a number.
+pub fn deliver_and_accept_answer<N: Ids>(
+    alloc: Global,
+    rtc: &mut Rtc<N>,
+    sdps: &mut Vec<Kept>,
+    at: Side,
+    token: u32,
+    answer: u32,
+) -> Reply
+    requires read_back { AllReadBack sdps.old.items }
+    ensures { StepAcceptsAnswer N.ids token (held_token sdps.old.items at token) (kept_remote_sdp false sdps.old.items at answer)
+        rtc.old.core sdps.old.items result.outcome result.table rtc.new.core sdps.new.items }
+{
+    let delivered = match find_sdp(sdps, false, at, answer) {
+        None => return reply_no_such(alloc, rtc.lines().rows()),
+        Some(sdp) => match deliver_kept_answer(alloc, sdp) {
+            Ok(delivered) => delivered,
+            Err(_) => return reply_no_memory(),
+        },
+    };
+    let rows = rtc.lines().rows().len() + delivered.0.lines.len();
+    let Ok(room) = room_for(alloc, rows) else {
+        return reply_no_memory();
+    };
+    let Some(pending) = take_token(sdps, at, token) else {
+        return reply_with(Outcome::NoSuch, room, rtc.lines().rows());
+    };
+    match accept_answer(rtc, pending, delivered) {
+        Ok(()) => reply_with(Outcome::Finished, room, rtc.lines().rows()),
+        Err(error) => reply_with(Outcome::Refused(error), room, rtc.lines().rows()),
+    }
+}

@@ -1,0 +1,32 @@
+//! Steps at the peer that acts.
+ghost use Rattle.std.specs.Prelude.{◌<◌, ◌^◌, length};
+ghost use Rattle.rtc_delivery.specs.Delivered.{AllReadBack};
+ghost use Rattle.rtc_history.specs.Performs.{Acts};
+
+use crate::accepting::{deliver_and_accept_answer, deliver_and_accept_offer};
+use crate::negotiating::negotiate;
+use rtc_history::{Kept, Reply, Step};
+use rtc_peer::{Ids, Rtc};
+use std::alloc::Global;
+
+/// Performs a step at the peer that acts, with the session descriptions of both peers.
+pub fn perform_step<N: Ids>(
+    alloc: Global,
+    rtc: &mut Rtc<N>,
+    sdps: &mut Vec<Kept>,
+    step: &Step,
+) -> Reply
+    requires count { length sdps.old.items < 2 ^ 32 }
+    requires read_back { AllReadBack sdps.old.items }
+    ensures { Acts N.ids step.now rtc.old.core sdps.old.items result.outcome result.table rtc.new.core sdps.new.items }
+{
+    match step {
+        Step::Negotiate { at, ops, apply } => {
+            negotiate(alloc, rtc, sdps, *at, ops.as_slice(), *apply)
+        }
+        Step::AcceptOffer { at, offer } => deliver_and_accept_offer(alloc, rtc, sdps, *at, *offer),
+        Step::AcceptAnswer { at, token, answer } => {
+            deliver_and_accept_answer(alloc, rtc, sdps, *at, *token, *answer)
+        }
+    }
+}

@@ -1,0 +1,65 @@
+-- The steps of a script that is short enough are few.
+use Rattle.std.proofs.Common.{◌≡◌, ◌+◌, ◌≤◌, ◌<◌, ◌^◌, ◌==◌, ◌∙◌, ℕ, Bool, List, [], ◌∷◌, ◌++◌, length, ap, sym, arith, length-append, Result, Ok, Err, IfOk}
+use Rattle.std.specs.List.{count_by, join_with_byte}
+use Rattle.std.proofs.lemmas.List.Splits.{length-slice_split, join_with_byte-slice_split}
+use Rattle.std.proofs.lemmas.List.Sums.{count_by-le-length}
+use Rattle.std.proofs.lemmas.Slice.Zip.{AllZip-long}
+use Rattle.rtc_fields.specs.Lines.{pieces}
+use Rattle.rtc_fields.specs.Words.{words}
+use Rattle.rtc_script.specs.Lines.{IsOp, IsAct, IsLine, AreStepWords}
+use Rattle.rtc_script.specs.Script.{IsScript, HaveLines, header}
+use Rattle.rtc_script.specs.declared.script.Script.{Script}
+use Rattle.rtc_script.specs.declared.script_error.ScriptError.{ScriptError}
+use Rattle.rtc_history.specs.Sizes.{step_size, steps_size}
+use Rattle.rtc_history.specs.declared.step.Step.{Step}
+use Rattle.rtc_history.specs.declared.step.Step.TheVariants.{Negotiate, AcceptOffer, AcceptAnswer}
+
+-- a line has a word for its side, one for its verb, and one for each op
+words_small : (found : List (List ℕ)) (step : Step) → AreStepWords found step → step_size step + 1 ≤ length found
+words_small [] step h = absurd h
+words_small (side ∷ []) step h = absurd h
+words_small (side ∷ verb ∷ rest) (Negotiate at ops apply) h =
+    let act : IsAct verb rest (Negotiate at ops apply) = h.1 in
+    let each : length ops ≡ length rest = AllZip-long IsOp rest ops act.1 in
+    omega arith
+words_small (side ∷ verb ∷ rest) (AcceptOffer at offer) h = omega arith
+words_small (side ∷ verb ∷ rest) (AcceptAnswer at token answer) h = omega arith
+
+-- so a step is no greater than its line
+line_small : (line : List ℕ) (step : Step) → IsLine line step → step_size step ≤ length line
+line_small line step is =
+    let is_space : ℕ → Bool = λ (byte : ℕ). byte == 32 in
+    let all : length (words line) ≡ count_by is_space line + 1 = length-slice_split is_space line in
+    let most : count_by is_space line ≤ length line = count_by-le-length is_space line in
+    let few : step_size step + 1 ≤ length (words line) = words_small (words line) step is in
+    omega arith
+
+-- the text of lines that each end with LF
+abbrev text_of : List (List ℕ) → List ℕ
+text_of lines = join_with_byte 10 (lines ++ [] ∷ [])
+
+text_more : (line : List ℕ) (lines : List (List ℕ)) → length (text_of (line ∷ lines)) ≡ length line + 1 + length (text_of lines)
+text_more line [] = omega (arith, length-append line (10 ∷ []))
+text_more line (next ∷ lines) = omega (arith, length-append line (10 ∷ text_of (next ∷ lines)))
+
+lines_small : (lines : List (List ℕ)) (steps : List Step) → HaveLines lines steps → steps_size steps ≤ length (text_of lines)
+lines_small [] [] h = omega arith
+lines_small [] (step ∷ steps) h = absurd h
+lines_small (line ∷ lines) [] h = absurd h
+lines_small (line ∷ lines) (step ∷ steps) h =
+    let first : step_size step ≤ length line = line_small line step h.0 in
+    let others : steps_size steps ≤ length (text_of lines) = lines_small lines steps h.1 in
+    omega (arith, text_more line lines)
+
+-- so many bytes hold fewer steps and ops than a pair may perform
+pub script_small : (text : List ℕ) (steps : List Step) → IsScript text steps → length text ≤ 2 ^ 20 → steps_size steps < 2 ^ 32
+script_small text steps h short =
+    let all : join_with_byte 10 (pieces text) ≡ text = join_with_byte-slice_split 10 text in
+    let whole : length (text_of (header ∷ h.0)) ≡ length text = ap length (sym (ap (join_with_byte 10) h.1) ∙ all) in
+    let sizes : steps_size steps ≤ length (text_of h.0) = lines_small h.0 steps h.2 in
+    omega (arith, text_more header h.0)
+
+-- so a script that is read of so many bytes has few steps
+pub read_small : (text : List ℕ) (read : Result Script ScriptError) → IfOk read (λ (script : Script). IsScript text script.steps) → length text ≤ 2 ^ 20 → IfOk read (λ (script : Script). steps_size script.steps < 2 ^ 32)
+read_small text (Ok script) is short = script_small text script.steps is short
+read_small text (Err error) is short = tt
