@@ -3,13 +3,13 @@ use Rattle.std.proofs.Common.{ℕ, zero, suc, ◌≡◌, ◌&&◌, not, inl, inr
 use Rattle.std.specs.Prelude.{slice_get}
 use Rattle.rtc_association.specs.declared.ppi.Ppi.{Ppi}
 use Rattle.rtc_association.specs.Ppi.{ppi_number}
-use Rattle.rtc_association.specs.Why.{Timed, Other}
-use Rattle.rtc_association.specs.Among.{Member}
+use Rattle.rtc_parts_values.specs.Why.{Timed, Other}
+use Rattle.rtc_parts_values.specs.Among.{Member}
 use Rattle.rtc_association.specs.AssociationActs.{AssociationAct, Started, Opened, Wrote as WroteAct, Ended, Given, Taken, Read as ReadAct, Told, Stirred, ByConnect, ByAccept, ConnectRefused, AcceptRefused, OpenRefused, WriteRefused, ReadRefused, EndRefused, Acted, Moved, moved-one}
-use Rattle.rtc_association.specs.AssociationWords.{given, taken, written, read, told, completions}
-use Rattle.rtc_assoc_end.specs.Contents.{Contents, is_started, generation_of}
-use Rattle.rtc_assoc_end.specs.PlainMeaning.{plain_meaning}
-use Rattle.rtc_assoc_end.specs.PlainLaws.{plain_laws}
+use Rattle.rtc_association.specs.AssociationWords.{given, taken, written, read, told}
+use Rattle.rtc_assoc_state.specs.Contents.{Contents, is_started, generation_of}
+use Rattle.rtc_assoc_state.specs.PlainMeaning.{plain_meaning}
+use Rattle.rtc_assoc_state.proofs.PlainLaws.{plain_laws}
 use Rattle.rtc_assoc.specs.declared.sent.Sent.{Sent}
 use Rattle.rtc_assoc.specs.declared.assoc_step.AssocStep.{AssocStep}
 use Rattle.rtc_assoc.specs.declared.assoc_step.AssocStep.TheVariants.{Connect, Accept, Open, Write, CloseStream, Time, Transmit, Deliver, Poll, Read}
@@ -35,7 +35,7 @@ pub record Acts (s : AssocStep) (reply : AssocReply) (p q : Contents) (packets a
   pub takes : after ≡ packets ++ sents (at_left s) (taken acts)
   pub wrote : (t g : ℕ) → written t g acts ≡ wrote_by s reply (at_left s) t g
   pub read_is : (t g : ℕ) → read t g acts ≡ read_by s reply (at_left s) t g
-  pub told_is : (t : ℕ) → completions t (told acts) ≡ told_by s reply (at_left s) t
+  pub told_is : told acts ≡ told_by s reply (at_left s)
 
 same_self : (b : Bool) → same_end b b ≡ true
 same_self true = refl
@@ -45,19 +45,19 @@ same_self false = refl
 pub record Says (s : AssocStep) (reply : AssocReply) : Type 0 where
   pub writes : (left : Bool) (t g : ℕ) → wrote_by s reply left t g ≡ []
   pub reads : (left : Bool) (t g : ℕ) → read_by s reply left t g ≡ []
-  pub tells : (left : Bool) (t : ℕ) → told_by s reply left t ≡ 0
+  pub tells : (left : Bool) → told_by s reply left ≡ []
 
 says_no_such : (s : AssocStep) → Says s NoSuch
-says_no_such (Connect l) = record { writes = λ l t g. refl; reads = λ l t g. refl; tells = λ l t. refl }
-says_no_such (Accept l) = record { writes = λ l t g. refl; reads = λ l t g. refl; tells = λ l t. refl }
-says_no_such (Open l id) = record { writes = λ l t g. refl; reads = λ l t g. refl; tells = λ l t. refl }
-says_no_such (Write l id ppi bytes) = record { writes = λ l t g. refl; reads = λ l t g. refl; tells = λ l t. refl }
-says_no_such (CloseStream l id) = record { writes = λ l t g. refl; reads = λ l t g. refl; tells = λ l t. refl }
-says_no_such (Time l now) = record { writes = λ l t g. refl; reads = λ l t g. refl; tells = λ l t. refl }
-says_no_such (Transmit l) = record { writes = λ l t g. refl; reads = λ l t g. refl; tells = λ l t. refl }
-says_no_such (Deliver l n now) = record { writes = λ l t g. refl; reads = λ l t g. refl; tells = λ l t. refl }
-says_no_such (Poll l) = record { writes = λ l t g. refl; reads = λ l t g. refl; tells = λ l t. refl }
-says_no_such (Read l id) = record { writes = λ l t g. refl; reads = λ l t g. refl; tells = λ l t. refl }
+says_no_such (Connect l) = record { writes = λ l t g. refl; reads = λ l t g. refl; tells = λ l. refl }
+says_no_such (Accept l) = record { writes = λ l t g. refl; reads = λ l t g. refl; tells = λ l. refl }
+says_no_such (Open l id) = record { writes = λ l t g. refl; reads = λ l t g. refl; tells = λ l. refl }
+says_no_such (Write l id ppi bytes) = record { writes = λ l t g. refl; reads = λ l t g. refl; tells = λ l. refl }
+says_no_such (CloseStream l id) = record { writes = λ l t g. refl; reads = λ l t g. refl; tells = λ l. refl }
+says_no_such (Time l now) = record { writes = λ l t g. refl; reads = λ l t g. refl; tells = λ l. refl }
+says_no_such (Transmit l) = record { writes = λ l t g. refl; reads = λ l t g. refl; tells = λ l. refl }
+says_no_such (Deliver l n now) = record { writes = λ l t g. refl; reads = λ l t g. refl; tells = λ l. refl }
+says_no_such (Poll l) = record { writes = λ l t g. refl; reads = λ l t g. refl; tells = λ l. refl }
+says_no_such (Read l id) = record { writes = λ l t g. refl; reads = λ l t g. refl; tells = λ l. refl }
 
 -- no act
 acts_none : (s : AssocStep) (reply : AssocReply) (p q : Contents) (packets after : List Sent) → Says s reply → q ≡ p → after ≡ packets → Acts s reply p q packets after
@@ -68,7 +68,7 @@ acts_none s reply p q packets after n e f = record {
   takes = f ∙ sym (append-nil packets);
   wrote = λ t g. sym (n.writes (at_left s) t g);
   read_is = λ t g. sym (n.reads (at_left s) t g);
-  told_is = λ t. sym (n.tells (at_left s) t);
+  told_is = sym (n.tells (at_left s));
 }
 
 -- an act that is given and takes nothing
@@ -76,7 +76,7 @@ pub record Inner (act : AssociationAct) : Type 0 where
   pub gives : given (act ∷ []) ≡ []
   pub takes : taken (act ∷ []) ≡ []
 
-acts_one : (s : AssocStep) (reply : AssocReply) (p q : Contents) (packets after : List Sent) (act : AssociationAct) → Inner act → Acted plain_meaning p act q → after ≡ packets → ((t g : ℕ) → written t g (act ∷ []) ≡ wrote_by s reply (at_left s) t g) → ((t g : ℕ) → read t g (act ∷ []) ≡ read_by s reply (at_left s) t g) → ((t : ℕ) → completions t (told (act ∷ [])) ≡ told_by s reply (at_left s) t) → Acts s reply p q packets after
+acts_one : (s : AssocStep) (reply : AssocReply) (p q : Contents) (packets after : List Sent) (act : AssociationAct) → Inner act → Acted plain_meaning p act q → after ≡ packets → ((t g : ℕ) → written t g (act ∷ []) ≡ wrote_by s reply (at_left s) t g) → ((t g : ℕ) → read t g (act ∷ []) ≡ read_by s reply (at_left s) t g) → told (act ∷ []) ≡ told_by s reply (at_left s) → Acts s reply p q packets after
 acts_one s reply p q packets after act i h f w r t = record {
   acts = act ∷ [];
   moved = moved-one plain_meaning p q act h;
@@ -88,43 +88,43 @@ acts_one s reply p q packets after act i h f w r t = record {
 }
 
 acts_connect : (reply : AssocReply) (l : Bool) (p q : Contents) (packets : List Sent) → is_started p ≡ false → step.Connects reply p q → Acts (Connect l) reply p q packets packets
-acts_connect Done l p q packets f h = acts_one (Connect l) Done p q packets packets Started (record { gives = refl; takes = refl }) (f, ByConnect 0 4294967295 h) refl (λ t g. refl) (λ t g. refl) (λ t. refl)
-acts_connect (Refused e) l p q packets f h = acts_one (Connect l) (Refused e) p q packets packets (Stirred Other) (record { gives = refl; takes = refl }) (ConnectRefused 0 4294967295 e f h.1) refl (λ t g. refl) (λ t g. refl) (λ t. refl)
+acts_connect Done l p q packets f h = acts_one (Connect l) Done p q packets packets Started (record { gives = refl; takes = refl }) (f, ByConnect 0 4294967295 h) refl (λ t g. refl) (λ t g. refl) refl
+acts_connect (Refused e) l p q packets f h = acts_one (Connect l) (Refused e) p q packets packets (Stirred Other) (record { gives = refl; takes = refl }) (ConnectRefused 0 4294967295 e f h.1) refl (λ t g. refl) (λ t g. refl) refl
 acts_connect (_) l p q packets f h = absurd h
 
 acts_accept : (reply : AssocReply) (l : Bool) (p q : Contents) (packets : List Sent) → is_started p ≡ false → step.Accepts reply p q → Acts (Accept l) reply p q packets packets
-acts_accept Done l p q packets f h = acts_one (Accept l) Done p q packets packets Started (record { gives = refl; takes = refl }) (f, ByAccept 0 4294967295 h) refl (λ t g. refl) (λ t g. refl) (λ t. refl)
-acts_accept (Refused e) l p q packets f h = acts_one (Accept l) (Refused e) p q packets packets (Stirred Other) (record { gives = refl; takes = refl }) (AcceptRefused 0 4294967295 e f h.1) refl (λ t g. refl) (λ t g. refl) (λ t. refl)
+acts_accept Done l p q packets f h = acts_one (Accept l) Done p q packets packets Started (record { gives = refl; takes = refl }) (f, ByAccept 0 4294967295 h) refl (λ t g. refl) (λ t g. refl) refl
+acts_accept (Refused e) l p q packets f h = acts_one (Accept l) (Refused e) p q packets packets (Stirred Other) (record { gives = refl; takes = refl }) (AcceptRefused 0 4294967295 e f h.1) refl (λ t g. refl) (λ t g. refl) refl
 acts_accept (_) l p q packets f h = absurd h
 
 acts_open : (reply : AssocReply) (l : Bool) (id : ℕ) (p q : Contents) (packets : List Sent) → step.Opens id reply p q → Acts (Open l id) reply p q packets packets
-acts_open Done l id p q packets h = acts_one (Open l id) Done p q packets packets (Opened id (generation_of p id)) (record { gives = refl; takes = refl }) (h, refl) refl (λ t g. refl) (λ t g. refl) (λ t. refl)
-acts_open (Refused e) l id p q packets h = acts_one (Open l id) (Refused e) p q packets packets (Stirred Other) (record { gives = refl; takes = refl }) (OpenRefused id e h.1) refl (λ t g. refl) (λ t g. refl) (λ t. refl)
+acts_open Done l id p q packets h = acts_one (Open l id) Done p q packets packets (Opened id (generation_of p id)) (record { gives = refl; takes = refl }) (h, refl) refl (λ t g. refl) (λ t g. refl) refl
+acts_open (Refused e) l id p q packets h = acts_one (Open l id) (Refused e) p q packets packets (Stirred Other) (record { gives = refl; takes = refl }) (OpenRefused id e h.1) refl (λ t g. refl) (λ t g. refl) refl
 acts_open (_) l id p q packets h = absurd h
 
 acts_write : (reply : AssocReply) (l : Bool) (id : ℕ) (ppi : Ppi) (bytes : List ℕ) (p q : Contents) (packets : List Sent) → step.Writes id ppi bytes reply p q → Acts (Write l id ppi bytes) reply p q packets packets
-acts_write (Wrote n) l id ppi bytes p q packets h = acts_one (Write l id ppi bytes) (Wrote n) p q packets packets (WroteAct id n (ppi_number ppi) bytes) (record { gives = refl; takes = refl }) (ppi, (length bytes, (h.1, refl, h.0))) refl (λ t g. rw (same_self l) refl) (λ t g. refl) (λ t. refl)
-acts_write (Refused e) l id ppi bytes p q packets h = acts_one (Write l id ppi bytes) (Refused e) p q packets packets (Stirred Other) (record { gives = refl; takes = refl }) (WriteRefused id ppi bytes e h.1) refl (λ t g. refl) (λ t g. refl) (λ t. refl)
+acts_write (Wrote n) l id ppi bytes p q packets h = acts_one (Write l id ppi bytes) (Wrote n) p q packets packets (WroteAct id n (ppi_number ppi) bytes) (record { gives = refl; takes = refl }) (ppi, (length bytes, (h.1, refl, h.0))) refl (λ t g. rw (same_self l) refl) (λ t g. refl) refl
+acts_write (Refused e) l id ppi bytes p q packets h = acts_one (Write l id ppi bytes) (Refused e) p q packets packets (Stirred Other) (record { gives = refl; takes = refl }) (WriteRefused id ppi bytes e h.1) refl (λ t g. refl) (λ t g. refl) refl
 acts_write (_) l id ppi bytes p q packets h = absurd h
 
 acts_close : (reply : AssocReply) (l : Bool) (id : ℕ) (p q : Contents) (packets : List Sent) → step.ClosesStream id reply p q → Acts (CloseStream l id) reply p q packets packets
-acts_close Done l id p q packets h = acts_one (CloseStream l id) Done p q packets packets (Ended id (generation_of p id)) (record { gives = refl; takes = refl }) (h, refl) refl (λ t g. refl) (λ t g. refl) (λ t. refl)
-acts_close (Refused e) l id p q packets h = acts_one (CloseStream l id) (Refused e) p q packets packets (Stirred Other) (record { gives = refl; takes = refl }) (EndRefused id e h.1) refl (λ t g. refl) (λ t g. refl) (λ t. refl)
+acts_close Done l id p q packets h = acts_one (CloseStream l id) Done p q packets packets (Ended id (generation_of p id)) (record { gives = refl; takes = refl }) (h, refl) refl (λ t g. refl) (λ t g. refl) refl
+acts_close (Refused e) l id p q packets h = acts_one (CloseStream l id) (Refused e) p q packets packets (Stirred Other) (record { gives = refl; takes = refl }) (EndRefused id e h.1) refl (λ t g. refl) (λ t g. refl) refl
 acts_close (_) l id p q packets h = absurd h
 
 acts_time : (reply : AssocReply) (l : Bool) (now : ℕ) (p q : Contents) (packets : List Sent) → step.StepTimes now reply p q → Acts (Time l now) reply p q packets packets
-acts_time Done l now p q packets h = acts_one (Time l now) Done p q packets packets (Stirred (Timed now)) (record { gives = refl; takes = refl }) (Ok tt, h) refl (λ t g. refl) (λ t g. refl) (λ t. refl)
+acts_time Done l now p q packets h = acts_one (Time l now) Done p q packets packets (Stirred (Timed now)) (record { gives = refl; takes = refl }) (Ok tt, h) refl (λ t g. refl) (λ t g. refl) refl
 acts_time (_) l now p q packets h = absurd h
 
 acts_poll : (reply : AssocReply) (l : Bool) (p q : Contents) (packets : List Sent) → step.StepPolls reply p q → Acts (Poll l) reply p q packets packets
-acts_poll (Event None) l p q packets h = acts_none (Poll l) (Event None) p q packets packets (record { writes = λ l t g. refl; reads = λ l t g. refl; tells = λ l t. refl }) (plain_laws.event_none p q h) refl
-acts_poll (Event (Some e)) l p q packets h = acts_one (Poll l) (Event (Some e)) p q packets packets (Told e) (record { gives = refl; takes = refl }) h refl (λ t g. refl) (λ t g. refl) (λ t. rw (same_self l) refl)
+acts_poll (Event None) l p q packets h = acts_none (Poll l) (Event None) p q packets packets (record { writes = λ l t g. refl; reads = λ l t g. refl; tells = λ l. refl }) (plain_laws.event_none p q h) refl
+acts_poll (Event (Some e)) l p q packets h = acts_one (Poll l) (Event (Some e)) p q packets packets (Told e) (record { gives = refl; takes = refl }) h refl (λ t g. refl) (λ t g. refl) (rw (same_self l) refl)
 acts_poll (_) l p q packets h = absurd h
 
 acts_read : (reply : AssocReply) (l : Bool) (id : ℕ) (p q : Contents) (packets : List Sent) → step.StepReads id reply p q → Acts (Read l id) reply p q packets packets
-acts_read (Message n None) l id p q packets h = acts_none (Read l id) (Message n None) p q packets packets (record { writes = λ l t g. refl; reads = λ l t g. refl; tells = λ l t. refl }) (plain_laws.read_none p q id h.1) refl
-acts_read (Message n (Some m)) l id p q packets h = acts_one (Read l id) (Message n (Some m)) p q packets packets (ReadAct id n (ppi_number m.0) m.1) (record { gives = refl; takes = refl }) (m.0, (h.1, refl, h.0)) refl (λ t g. refl) (λ t g. rw (same_self l) refl) (λ t. refl)
-acts_read (Refused e) l id p q packets h = acts_one (Read l id) (Refused e) p q packets packets (Stirred Other) (record { gives = refl; takes = refl }) (ReadRefused id e h.1) refl (λ t g. refl) (λ t g. refl) (λ t. refl)
+acts_read (Message n None) l id p q packets h = acts_none (Read l id) (Message n None) p q packets packets (record { writes = λ l t g. refl; reads = λ l t g. refl; tells = λ l. refl }) (plain_laws.read_none p q id h.1) refl
+acts_read (Message n (Some m)) l id p q packets h = acts_one (Read l id) (Message n (Some m)) p q packets packets (ReadAct id n (ppi_number m.0) m.1) (record { gives = refl; takes = refl }) (m.0, (h.1, refl, h.0)) refl (λ t g. refl) (λ t g. rw (same_self l) refl) refl
+acts_read (Refused e) l id p q packets h = acts_one (Read l id) (Refused e) p q packets packets (Stirred Other) (record { gives = refl; takes = refl }) (ReadRefused id e h.1) refl (λ t g. refl) (λ t g. refl) refl
 acts_read (_) l id p q packets h = absurd h
 
 -- a packet that is for an end is among those that the other one sent
@@ -158,12 +158,12 @@ acts_deliver Done l n now p q packets f h =
       takes = sym (append-nil packets);
       wrote = λ t g. refl;
       read_is = λ t g. refl;
-      told_is = λ t. refl;
+      told_is = refl;
     }
 acts_deliver (_) l n now p q packets f h = absurd h
 
 acts_transmit : (reply : AssocReply) (l : Bool) (p q : Contents) (packets after : List Sent) → step.StepTransmits l reply p q packets after → Acts (Transmit l) reply p q packets after
-acts_transmit (Packet None) l p q packets after h = acts_none (Transmit l) (Packet None) p q packets after (record { writes = λ l t g. refl; reads = λ l t g. refl; tells = λ l t. refl }) (plain_laws.packet_none p q h.0) h.1
+acts_transmit (Packet None) l p q packets after h = acts_none (Transmit l) (Packet None) p q packets after (record { writes = λ l t g. refl; reads = λ l t g. refl; tells = λ l. refl }) (plain_laws.packet_none p q h.0) h.1
 acts_transmit (Packet (Some n)) l p q packets after h = record {
   acts = Taken h.bytes ∷ [];
   moved = moved-one plain_meaning p q (Taken h.bytes) h.gave;
@@ -171,7 +171,7 @@ acts_transmit (Packet (Some n)) l p q packets after h = record {
   takes = h.after_is;
   wrote = λ t g. refl;
   read_is = λ t g. refl;
-  told_is = λ t. refl;
+  told_is = refl;
 }
 acts_transmit (_) l p q packets after h = absurd h
 
@@ -212,30 +212,30 @@ same_not false = refl
 pub record Elsewhere (s : AssocStep) (reply : AssocReply) : Type 0 where
   pub writes : (t g : ℕ) → wrote_by s reply (not (at_left s)) t g ≡ []
   pub reads : (t g : ℕ) → read_by s reply (not (at_left s)) t g ≡ []
-  pub tells : (t : ℕ) → told_by s reply (not (at_left s)) t ≡ 0
+  pub tells : told_by s reply (not (at_left s)) ≡ []
 
 elsewhere_write : (reply : AssocReply) (l : Bool) (id : ℕ) (ppi : Ppi) (bytes : List ℕ) → Elsewhere (Write l id ppi bytes) reply
-elsewhere_write (Wrote n) l id ppi bytes = record { writes = λ t g. rw (same_not l) refl; reads = λ t g. refl; tells = λ t. refl }
-elsewhere_write (_) l id ppi bytes = record { writes = λ t g. refl; reads = λ t g. refl; tells = λ t. refl }
+elsewhere_write (Wrote n) l id ppi bytes = record { writes = λ t g. rw (same_not l) refl; reads = λ t g. refl; tells = refl }
+elsewhere_write (_) l id ppi bytes = record { writes = λ t g. refl; reads = λ t g. refl; tells = refl }
 
 elsewhere_poll : (reply : AssocReply) (l : Bool) → Elsewhere (Poll l) reply
-elsewhere_poll (Event None) l = record { writes = λ t g. refl; reads = λ t g. refl; tells = λ t. refl }
-elsewhere_poll (Event (Some e)) l = record { writes = λ t g. refl; reads = λ t g. refl; tells = λ t. rw (same_not l) refl }
-elsewhere_poll (_) l = record { writes = λ t g. refl; reads = λ t g. refl; tells = λ t. refl }
+elsewhere_poll (Event None) l = record { writes = λ t g. refl; reads = λ t g. refl; tells = refl }
+elsewhere_poll (Event (Some e)) l = record { writes = λ t g. refl; reads = λ t g. refl; tells = rw (same_not l) refl }
+elsewhere_poll (_) l = record { writes = λ t g. refl; reads = λ t g. refl; tells = refl }
 
 elsewhere_read : (reply : AssocReply) (l : Bool) (id : ℕ) → Elsewhere (Read l id) reply
-elsewhere_read (Message n None) l id = record { writes = λ t g. refl; reads = λ t g. refl; tells = λ t. refl }
-elsewhere_read (Message n (Some m)) l id = record { writes = λ t g. refl; reads = λ t g. rw (same_not l) refl; tells = λ t. refl }
-elsewhere_read (_) l id = record { writes = λ t g. refl; reads = λ t g. refl; tells = λ t. refl }
+elsewhere_read (Message n None) l id = record { writes = λ t g. refl; reads = λ t g. refl; tells = refl }
+elsewhere_read (Message n (Some m)) l id = record { writes = λ t g. refl; reads = λ t g. rw (same_not l) refl; tells = refl }
+elsewhere_read (_) l id = record { writes = λ t g. refl; reads = λ t g. refl; tells = refl }
 
 pub elsewhere : (s : AssocStep) (reply : AssocReply) → Elsewhere s reply
-elsewhere (Connect l) reply = record { writes = λ t g. refl; reads = λ t g. refl; tells = λ t. refl }
-elsewhere (Accept l) reply = record { writes = λ t g. refl; reads = λ t g. refl; tells = λ t. refl }
-elsewhere (Open l id) reply = record { writes = λ t g. refl; reads = λ t g. refl; tells = λ t. refl }
+elsewhere (Connect l) reply = record { writes = λ t g. refl; reads = λ t g. refl; tells = refl }
+elsewhere (Accept l) reply = record { writes = λ t g. refl; reads = λ t g. refl; tells = refl }
+elsewhere (Open l id) reply = record { writes = λ t g. refl; reads = λ t g. refl; tells = refl }
 elsewhere (Write l id ppi bytes) reply = elsewhere_write reply l id ppi bytes
-elsewhere (CloseStream l id) reply = record { writes = λ t g. refl; reads = λ t g. refl; tells = λ t. refl }
-elsewhere (Time l now) reply = record { writes = λ t g. refl; reads = λ t g. refl; tells = λ t. refl }
-elsewhere (Transmit l) reply = record { writes = λ t g. refl; reads = λ t g. refl; tells = λ t. refl }
-elsewhere (Deliver l n now) reply = record { writes = λ t g. refl; reads = λ t g. refl; tells = λ t. refl }
+elsewhere (CloseStream l id) reply = record { writes = λ t g. refl; reads = λ t g. refl; tells = refl }
+elsewhere (Time l now) reply = record { writes = λ t g. refl; reads = λ t g. refl; tells = refl }
+elsewhere (Transmit l) reply = record { writes = λ t g. refl; reads = λ t g. refl; tells = refl }
+elsewhere (Deliver l n now) reply = record { writes = λ t g. refl; reads = λ t g. refl; tells = refl }
 elsewhere (Poll l) reply = elsewhere_poll reply l
 elsewhere (Read l id) reply = elsewhere_read reply l id

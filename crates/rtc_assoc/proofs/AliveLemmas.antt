@@ -5,13 +5,13 @@ use Rattle.rtc_association.specs.declared.assoc_event.AssocEvent.TheVariants.{Re
 use Rattle.rtc_assoc_packets.specs.declared.item.Item.{Item}
 use Rattle.rtc_assoc_packets.specs.declared.item_part.ItemPart.{ItemPart}
 use Rattle.rtc_assoc_packets.specs.declared.item_part.ItemPart.TheVariants.{More, Last, Close}
-use Rattle.rtc_assoc_end.specs.declared.close_state.CloseState.{CloseState}
-use Rattle.rtc_assoc_end.specs.declared.close_state.CloseState.TheVariants.{Unclosed, Queued, Acknowledged}
-use Rattle.rtc_assoc_end.specs.declared.stream_row.StreamRow.{StreamRow}
-use Rattle.rtc_assoc_end.specs.Streams.{stream_of, put, reset_row, is_unclosed, is_closed_here, takes_messages}
-use Rattle.rtc_assoc_end.specs.Outbox.{bytes_for, buffered}
-use Rattle.rtc_assoc_end.specs.Settling.{Told, told_of, reaches, can_reset, close_settled, part_settled, item_settled, settled}
-use Rattle.rtc_assoc_end.specs.RaiseLemmas.{stream_of-stream, stream_of-put, stream_of-put_other}
+use Rattle.rtc_assoc_state.specs.declared.close_state.CloseState.{CloseState}
+use Rattle.rtc_assoc_state.specs.declared.close_state.CloseState.TheVariants.{Unclosed, Queued, Acknowledged}
+use Rattle.rtc_assoc_state.specs.declared.stream_row.StreamRow.{StreamRow}
+use Rattle.rtc_assoc_state.specs.Streams.{stream_of, put, reset_row, is_unclosed, is_closed_here, takes_messages}
+use Rattle.rtc_assoc_state.specs.Outbox.{bytes_for, buffered}
+use Rattle.rtc_assoc_state.specs.Settling.{Told, told_of, reaches, can_reset, close_settled, part_settled, item_settled, settled}
+use Rattle.rtc_assoc_state.proofs.RaiseLemmas.{stream_of-stream, stream_of-put, stream_of-put_other}
 
 -- whether messages of a generation of a stream are taken
 abbrev pub alive : List StreamRow → ℕ → ℕ → Bool

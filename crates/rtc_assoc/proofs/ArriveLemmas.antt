@@ -6,15 +6,15 @@ use Rattle.rtc_assoc_packets.specs.declared.item.Item.{Item}
 use Rattle.rtc_assoc_packets.specs.declared.item_part.ItemPart.{ItemPart}
 use Rattle.rtc_assoc_packets.specs.declared.item_part.ItemPart.TheVariants.{More, Last, Close}
 use Rattle.rtc_assoc_packets.specs.Pieces.{piece, close_of}
-use Rattle.rtc_assoc_end.specs.declared.close_state.CloseState.{CloseState}
-use Rattle.rtc_assoc_end.specs.declared.close_state.CloseState.TheVariants.{Unclosed, Queued, Acknowledged}
-use Rattle.rtc_assoc_end.specs.declared.stream_row.StreamRow.{StreamRow}
-use Rattle.rtc_assoc_end.specs.Streams.{stream_of, put, reset_row, is_unclosed, is_closed_here, takes_messages}
-use Rattle.rtc_assoc_end.specs.Inbox.{Inbox, bytes_so_far, with_bytes, without_part, without_messages, forgotten, message_of}
-use Rattle.rtc_assoc_end.specs.Settling.{can_reset}
-use Rattle.rtc_assoc_end.specs.Contents.{Contents}
-use Rattle.rtc_assoc_end.specs.Calls.{sent, item_counted, more_kept, last_kept, finished, reset_told, close_came_at, close_came, part_came, item_taken}
-use Rattle.rtc_assoc_end.specs.RaiseLemmas.{stream_of-stream}
+use Rattle.rtc_assoc_state.specs.declared.close_state.CloseState.{CloseState}
+use Rattle.rtc_assoc_state.specs.declared.close_state.CloseState.TheVariants.{Unclosed, Queued, Acknowledged}
+use Rattle.rtc_assoc_state.specs.declared.stream_row.StreamRow.{StreamRow}
+use Rattle.rtc_assoc_state.specs.Streams.{stream_of, put, reset_row, is_unclosed, is_closed_here, takes_messages}
+use Rattle.rtc_assoc_state.specs.Inbox.{Inbox, bytes_so_far, with_bytes, without_part, without_messages, forgotten, message_of}
+use Rattle.rtc_assoc_state.specs.Settling.{can_reset}
+use Rattle.rtc_assoc_state.specs.Contents.{Contents}
+use Rattle.rtc_assoc_state.specs.Calls.{sent, item_counted, more_kept, last_kept, finished, reset_told, close_came_at, close_came, part_came, item_taken}
+use Rattle.rtc_assoc_state.proofs.RaiseLemmas.{stream_of-stream}
 use Rattle.rtc_assoc.specs.Unread.{unread, IsPrefix}
 use Rattle.rtc_assoc.proofs.MessageLemmas.{is_pair, pair_tells, message, messages, left, HasClose}
 use Rattle.rtc_assoc.proofs.UnreadLemmas.{prefix_self, prefix_none, prefix_is, unread-append, unread-without, unread-forgotten, so_far-with, so_far-with_other, so_far-without_other, so_far-forgotten}

@@ -3,24 +3,24 @@ use Rattle.std.proofs.Common.{ℕ, ◌≡◌, ◌+◌, ◌-◌, ◌≤◌, ◌�
 use Rattle.std.proofs.lemmas.Bool.Decides.{eqb_tells}
 use Rattle.rtc_association.specs.declared.assoc_event.AssocEvent.{AssocEvent}
 use Rattle.rtc_association.specs.Ppi.{ppi_number, ppi_of}
-use Rattle.rtc_association.specs.Among.{Member}
-use Rattle.rtc_association.specs.Why.{Timed, Shut as ShutDown, Other}
+use Rattle.rtc_parts_values.specs.Among.{Member}
+use Rattle.rtc_parts_values.specs.Why.{Timed, Shut as ShutDown, Other}
 use Rattle.rtc_association.specs.AssociationActs.{AssociationAct, Started, Opened, Wrote, Ended, Given, Taken, Read, Told, Stirred}
 use Rattle.rtc_association.specs.AssociationWords.{AssociationMessage, written, read, ended}
 use Rattle.rtc_assoc_packets.specs.declared.item.Item.{Item}
 use Rattle.rtc_assoc_packets.specs.Packets.{frame_in}
 use Rattle.rtc_assoc_packets.specs.Pieces.{pieces_of, close_of}
-use Rattle.rtc_assoc_end.specs.declared.message.Message.{Message}
-use Rattle.rtc_assoc_end.specs.declared.close_state.CloseState.TheVariants.{Queued}
-use Rattle.rtc_assoc_end.specs.declared.stream_row.StreamRow.{StreamRow}
-use Rattle.rtc_assoc_end.specs.Streams.{stream_of, put}
-use Rattle.rtc_assoc_end.specs.Inbox.{Inbox, without_messages, forgotten}
-use Rattle.rtc_assoc_end.specs.Outbox.{Outbox}
-use Rattle.rtc_assoc_end.specs.Contents.{Contents}
-use Rattle.rtc_assoc_end.specs.Says.{Queues}
-use Rattle.rtc_assoc_end.specs.Calls as call
-use Rattle.rtc_assoc_end.specs.Calls.{limited, connected, accepted, snapped, started_as, said_hello, opened, sent, first_message_of, messages_behind, next_message, taken_out, thresholded, shut_down, greeted, welcomed, acknowledged, answered, lost, item_taken, item_came, framed, half_taken, at_moment, input_taken, timed, event_given, packet_given}
-use Rattle.rtc_assoc_end.specs.RaiseLemmas.{stream_of-stream}
+use Rattle.rtc_assoc_state.specs.declared.message.Message.{Message}
+use Rattle.rtc_assoc_state.specs.declared.close_state.CloseState.TheVariants.{Queued}
+use Rattle.rtc_assoc_state.specs.declared.stream_row.StreamRow.{StreamRow}
+use Rattle.rtc_assoc_state.specs.Streams.{stream_of, put}
+use Rattle.rtc_assoc_state.specs.Inbox.{Inbox, without_messages, forgotten}
+use Rattle.rtc_assoc_state.specs.Outbox.{Outbox}
+use Rattle.rtc_assoc_state.specs.Contents.{Contents}
+use Rattle.rtc_assoc_state.specs.Says.{Queues}
+use Rattle.rtc_assoc_state.specs.Calls as call
+use Rattle.rtc_assoc_state.specs.Calls.{limited, connected, accepted, snapped, started_as, said_hello, opened, sent, first_message_of, messages_behind, next_message, taken_out, thresholded, shut_down, greeted, welcomed, acknowledged, answered, lost, item_taken, item_came, framed, half_taken, at_moment, input_taken, timed, event_given, packet_given}
+use Rattle.rtc_assoc_state.proofs.RaiseLemmas.{stream_of-stream}
 use Rattle.rtc_assoc_end.proofs.SaysLemmas.{queues_same}
 use Rattle.rtc_assoc.specs.Unread.{unread, IsPrefix}
 use Rattle.rtc_assoc.proofs.MessageLemmas.{is_pair, pair_tells, message, messages, left, messages-written, left-written, HasClose, close-pieces}

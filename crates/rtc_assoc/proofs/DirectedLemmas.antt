@@ -1,16 +1,19 @@
 -- What one end sent and the other one took, and that each act of either keeps it.
-use Rattle.std.proofs.Common.{ℕ, ◌≡◌, ◌+◌, ◌≤◌, ◌||◌, ◌⊎◌, inl, inr, Bool, true, false, List, [], ◌∷◌, ◌++◌, length, take, drop, refl, sym, ap, subst, ◌∙◌, arith}
-use Rattle.std.proofs.lemmas.List.{take-append-drop, take_all}
+use Rattle.std.proofs.Common.{ℕ, zero, suc, ◌≡◌, ◌+◌, ◌-◌, ◌≤◌, ◌==◌, ◌||◌, ◌⊎◌, inl, inr, Bool, true, false, List, [], ◌∷◌, ◌++◌, length, take, drop, refl, sym, ap, subst, ◌∙◌, arith, append-nil}
+use Rattle.std.proofs.lemmas.List.{take-append-drop}
+use Rattle.std.proofs.Math.Seq.{drop-drop}
+use Rattle.std.proofs.lemmas.Bool.Decides.{eqb_tells}
+use Rattle.rtc_assoc_state.specs.Outbox.{has_unacknowledged}
 use Rattle.std.proofs.lemmas.Bool.{cases_Bool}
-use Rattle.rtc_association.specs.Among.{Member, Among}
+use Rattle.rtc_parts_values.specs.Among.{Member, Among}
 use Rattle.rtc_association.specs.AssociationActs.{AssociationAct, Given, Taken}
 use Rattle.rtc_association.specs.AssociationWords.{AssociationMessage, given, taken, written, read, ended}
 use Rattle.rtc_association.proofs.AmongLemmas.{member-append}
 use Rattle.rtc_association.proofs.AssociationLemmas.{taken-append, written-append, read-append, ended-append}
 use Rattle.rtc_assoc_packets.specs.declared.item.Item.{Item}
 use Rattle.rtc_assoc_packets.specs.Packets.{frame_in}
-use Rattle.rtc_assoc_end.specs.Contents.{Contents}
-use Rattle.rtc_assoc_end.specs.SaysPacket.{SaysPacket}
+use Rattle.rtc_assoc_state.specs.Contents.{Contents}
+use Rattle.rtc_assoc_state.specs.Says.{SaysPacket}
 use Rattle.rtc_assoc.specs.Unread.{unread, IsPrefix}
 use Rattle.rtc_assoc.proofs.MessageLemmas.{messages, left, messages-append, left-append, HasClose, close-append}
 use Rattle.rtc_assoc.proofs.UnreadLemmas.{prefix_more, prefix_front}
@@ -157,15 +160,40 @@ directed_prefix w a b v u s g h =
     let all : messages s g [] (take n w) ++ rest ≡ written s g v = sym (messages-append s g [] (take n w) (drop n w)) ∙ ap (messages s g []) (take-append-drop n w) ∙ h.wrote s g in
     subst (λ (l : List AssociationMessage). IsPrefix (read s g u) l) all (prefix_more (read s g u) (messages s g [] (take n w)) rest front)
 
--- where messages of the generation are taken and nothing is unacknowledged, what is read and unread is all that was
--- written
-pub directed_open : (w : List Item) (a b : Contents) (v u : List AssociationAct) (s g : ℕ) → Directed w a b v u → alive b.streams s g ≡ true → a.outbox.items ≡ [] → read s g u ++ unread s g b.inbox.unread ≡ written s g v
+-- items of other streams carry no message
+pub messages-none : (s g : ℕ) (front : List ℕ) (items : List Item) → has_unacknowledged s items ≡ false → messages s g front items ≡ []
+messages-none s g front [] e = refl
+messages-none s g front (item ∷ items) e =
+    elim (eqb_tells item.stream s) [
+      | inl h ↦ absurd (let k : true ≡ false = rw h.0 at e in cc)
+      | inr h ↦ rw h.0 (messages-none s g front items (rw h.0 at e))
+    ]
+
+none_dropped : (s n : ℕ) (items : List Item) → has_unacknowledged s items ≡ false → has_unacknowledged s (drop n items) ≡ false
+none_dropped s zero items e = e
+none_dropped s (suc n) [] e = refl
+none_dropped s (suc n) (item ∷ items) e = none_dropped s n items (rest (item.stream == s) (has_unacknowledged s items) e)
+  where
+    rest : (a b : Bool) → (a || b) ≡ false → b ≡ false
+    rest true b k = absurd cc
+    rest false b k = k
+
+-- where messages of the generation are taken and nothing of the stream is unacknowledged, what is read and unread is
+-- all that was written
+pub directed_open : (w : List Item) (a b : Contents) (v u : List AssociationAct) (s g : ℕ) → Directed w a b v u → alive b.streams s g ≡ true → has_unacknowledged s a.outbox.items ≡ false → read s g u ++ unread s g b.inbox.unread ≡ written s g v
 directed_open w a b v u s g h l e =
-    let n : length w ≤ b.inbox.received = omega (arith, h.sender.count, h.sender.behind, ap length e) in
-    h.receiver.exact s g l ∙ ap (messages s g []) (take_all b.inbox.received w n) ∙ h.wrote s g
+    let n = b.inbox.received in
+    let k = n - a.outbox.acked in
+    let behind : drop n w ≡ drop k a.outbox.items = ap (λ m. drop m w) (omega (arith, h.sender.behind)) ∙ sym (drop-drop k a.outbox.acked w) ∙ ap (drop k) (sym h.sender.rest) in
+    let none : has_unacknowledged s (drop n w) ≡ false = ap (has_unacknowledged s) behind ∙ none_dropped s k a.outbox.items e in
+    let all : messages s g [] w ≡ messages s g [] (take n w) =
+    ap (messages s g []) (sym (take-append-drop n w)) ∙ messages-append s g [] (take n w) (drop n w)
+    ∙ ap (λ l. messages s g [] (take n w) ++ l) (messages-none s g (left s g [] (take n w)) (drop n w) none)
+    ∙ append-nil (messages s g [] (take n w)) in
+    h.receiver.exact s g l ∙ sym all ∙ h.wrote s g
 
 -- they are where neither closed the generation
-pub directed_all : (w : List Item) (a b : Contents) (v u : List AssociationAct) (s g : ℕ) → Directed w a b v u → ended s g v ≡ false → ended s g u ≡ false → a.outbox.items ≡ [] → read s g u ++ unread s g b.inbox.unread ≡ written s g v
+pub directed_all : (w : List Item) (a b : Contents) (v u : List AssociationAct) (s g : ℕ) → Directed w a b v u → ended s g v ≡ false → ended s g u ≡ false → has_unacknowledged s a.outbox.items ≡ false → read s g u ++ unread s g b.inbox.unread ≡ written s g v
 directed_all w a b v u s g h x y e = directed_open w a b v u s g h (elim (cases_Bool (alive b.streams s g)) [ inl l ↦ l | inr l ↦ absurd (none (h.dead s g l)) ]) e
   where
     none : EitherEnded s g v u → ⊥

@@ -5,12 +5,12 @@ use Rattle.rtc_association.specs.declared.assoc_event.AssocEvent.TheVariants.{Co
 use Rattle.rtc_assoc_packets.specs.declared.item.Item.{Item}
 use Rattle.rtc_assoc_packets.specs.declared.frame.Frame.{Frame}
 use Rattle.rtc_assoc_packets.specs.declared.frame.Frame.TheVariants.{Hello, Welcome, Data, Acknowledgement, Shutdown}
-use Rattle.rtc_assoc_end.specs.declared.stream_row.StreamRow.{StreamRow}
-use Rattle.rtc_assoc_end.specs.Inbox.{Inbox}
-use Rattle.rtc_assoc_end.specs.Outbox.{Outbox, settled_count}
-use Rattle.rtc_assoc_end.specs.Settling.{told_of}
-use Rattle.rtc_assoc_end.specs.Contents.{Contents, is_ending, is_server}
-use Rattle.rtc_assoc_end.specs.Calls.{greeted, welcomed, acknowledged, answered, lost, item_taken, item_came, framed, half_taken, at_moment}
+use Rattle.rtc_assoc_state.specs.declared.stream_row.StreamRow.{StreamRow}
+use Rattle.rtc_assoc_state.specs.Inbox.{Inbox}
+use Rattle.rtc_assoc_state.specs.Outbox.{Outbox, settled_count}
+use Rattle.rtc_assoc_state.specs.Settling.{told_of}
+use Rattle.rtc_assoc_state.specs.Contents.{Contents, is_ending, is_server}
+use Rattle.rtc_assoc_state.specs.Calls.{greeted, welcomed, acknowledged, answered, lost, item_taken, item_came, framed, half_taken, at_moment}
 use Rattle.rtc_assoc_end.proofs.SendsLemmas.{packets-greeted, packets-acknowledged}
 use Rattle.rtc_assoc.proofs.MessageLemmas.{messages, left, HasClose}
 use Rattle.rtc_assoc.proofs.AliveLemmas.{alive, alive-settled}

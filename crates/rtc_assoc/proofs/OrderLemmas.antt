@@ -6,11 +6,11 @@ use Rattle.rtc_association.specs.AssociationWords.{AssociationMessage}
 use Rattle.rtc_assoc_packets.specs.declared.item.Item.{Item}
 use Rattle.rtc_assoc_packets.specs.declared.frame.Frame.{Frame}
 use Rattle.rtc_assoc_packets.specs.declared.frame.Frame.TheVariants.{Hello, Welcome, Data, Acknowledgement, Shutdown}
-use Rattle.rtc_assoc_end.specs.declared.stream_row.StreamRow.{StreamRow}
-use Rattle.rtc_assoc_end.specs.Inbox.{Inbox, bytes_so_far}
-use Rattle.rtc_assoc_end.specs.Outbox.{Outbox}
-use Rattle.rtc_assoc_end.specs.Contents.{Contents}
-use Rattle.rtc_assoc_end.specs.SaysPacket.{Numbered, SaysPacket}
+use Rattle.rtc_assoc_state.specs.declared.stream_row.StreamRow.{StreamRow}
+use Rattle.rtc_assoc_state.specs.Inbox.{Inbox, bytes_so_far}
+use Rattle.rtc_assoc_state.specs.Outbox.{Outbox}
+use Rattle.rtc_assoc_state.specs.Contents.{Contents}
+use Rattle.rtc_assoc_state.specs.Says.{Numbered, SaysPacket}
 use Rattle.rtc_assoc.specs.Unread.{unread, IsPrefix}
 use Rattle.rtc_assoc.proofs.MessageLemmas.{messages, left, messages-append, left-append, HasClose, close-left, close-right}
 use Rattle.rtc_assoc.proofs.UnreadLemmas.{prefix_is, prefix_then, prefix_more, prefix_behind}

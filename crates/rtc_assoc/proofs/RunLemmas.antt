@@ -1,14 +1,18 @@
 -- Runs of two ends.
 use Rattle.std.proofs.Common.{ℕ, ◌≡◌, ◌+◌, ◌⊎◌, ◌==◌, ◌&&◌, ◌||◌, nat_lt, inl, inr, true, false, List, [], ◌∷◌, ◌++◌, refl, sym, ap, subst, ◌∙◌, append_assoc, append-nil, arith}
 use Rattle.std.proofs.lemmas.Bool.Decides.{nat_tests}
-use Rattle.rtc_association.specs.Among.{Among}
+use Rattle.rtc_parts_values.specs.Among.{Member, Among}
+use Rattle.rtc_association.specs.declared.assoc_event.AssocEvent.{AssocEvent}
+use Rattle.rtc_association.specs.declared.assoc_event.AssocEvent.TheVariants.{Readable}
+use Rattle.rtc_association.specs.AssociationEvents.{InOrder}
+use Rattle.rtc_assoc_state.specs.Contents.{is_finished, has_unread}
 use Rattle.rtc_association.specs.AssociationActs.{AssociationAct, Given, Moved, moved-append}
 use Rattle.rtc_association.specs.AssociationWords.{given, taken, ended, told, completions}
-use Rattle.rtc_association.proofs.AssociationLemmas.{taken-append, completed}
+use Rattle.rtc_association.proofs.AssociationLemmas.{taken-append, completed, adds_all}
 use Rattle.rtc_assoc_packets.specs.declared.item.Item.{Item}
-use Rattle.rtc_assoc_end.specs.Contents.{Contents, fresh_contents, generation_of, untold_resets}
-use Rattle.rtc_assoc_end.specs.PlainMeaning.{plain_meaning}
-use Rattle.rtc_assoc_end.specs.PlainLaws.{plain_laws}
+use Rattle.rtc_assoc_state.specs.Contents.{Contents, fresh_contents, generation_of}
+use Rattle.rtc_assoc_state.specs.PlainMeaning.{plain_meaning}
+use Rattle.rtc_assoc_state.proofs.PlainLaws.{plain_laws}
 use Rattle.rtc_assoc.specs.Joined.{Ends, fresh_ends, Move, LeftMoves, RightMoves, Goes, Run, Joined}
 use Rattle.rtc_assoc.proofs.UnreadLemmas.{prefix_none}
 use Rattle.rtc_assoc.proofs.AliveLemmas.{alive}
@@ -17,8 +21,22 @@ use Rattle.rtc_assoc.proofs.StepLemmas.{step_of}
 use Rattle.rtc_assoc.proofs.DirectedLemmas.{Directed, sender_moves, receiver_moves, brings_of}
 
 -- what one end told, by its own acts
-pub resets_told : (p : Contents) (acts : List AssociationAct) (s : ℕ) → Moved plain_meaning fresh_contents acts p → completions s (told acts) + untold_resets p s ≡ generation_of p s
+pub resets_told : (p : Contents) (acts : List AssociationAct) (s : ℕ) → Moved plain_meaning fresh_contents acts p → completions s (told acts) + completions s p.events ≡ generation_of p s
 resets_told p acts s h = omega (arith, completed plain_meaning plain_laws fresh_contents p acts s h)
+
+-- the events that were told, with those that are due
+pub record Events (events : List AssocEvent) (p : Contents) : Type 0 where
+  pub in_order : (s : ℕ) → InOrder s false (events ++ p.events) (is_finished p s)
+  pub readable : (s g : ℕ) → has_unread p s g ≡ true → Member (Readable s) (events ++ p.events)
+
+pub events_by : (p : Contents) (acts : List AssociationAct) (events : List AssocEvent) → Moved plain_meaning fresh_contents acts p → told acts ≡ events → Events events p
+events_by p acts events m e =
+    let a = adds_all plain_meaning plain_laws fresh_contents p acts m in
+    let all : a.more ≡ events ++ p.events = sym a.due_is ∙ ap (λ l. l ++ p.events) e in
+    record {
+      in_order = λ s. subst (λ (l : List AssocEvent). InOrder s false l (is_finished p s)) all (a.in_order s);
+      readable = λ s g u. subst (λ (l : List AssocEvent). Member (Readable s) l) all (elim (a.readable s g u) [ inl n ↦ absurd (let k : false ≡ true = n in cc) | inr n ↦ n ]);
+    }
 
 -- two ends, each way
 pub record Both (a b : Contents) (v u : List AssociationAct) : Type 0 where

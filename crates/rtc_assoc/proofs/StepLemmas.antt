@@ -5,17 +5,17 @@ use Rattle.rtc_association.specs.declared.assoc_error.AssocError.{AssocError}
 use Rattle.rtc_association.specs.declared.assoc_event.AssocEvent.{AssocEvent}
 use Rattle.rtc_association.specs.declared.ppi.Ppi.{Ppi}
 use Rattle.rtc_association.specs.Ppi.{ppi_number, ppi_of}
-use Rattle.rtc_association.specs.Among.{Member}
-use Rattle.rtc_association.specs.Why.{Timed, Shut as ShutDown, Other}
+use Rattle.rtc_parts_values.specs.Among.{Member}
+use Rattle.rtc_parts_values.specs.Why.{Timed, Shut as ShutDown, Other}
 use Rattle.rtc_association.specs.AssociationActs.{AssociationAct, Started, Opened, Wrote, Ended, Given, Taken, Read, Told, Stirred, Starts, ByConnect, ByAccept, BySnap, Stirs, LimitsSet, ConnectRefused, AcceptRefused, SnapRefused, OpenRefused, WriteRefused, ReadRefused, EndRefused, ThresholdSet, ReliabilitySet, Acted}
 use Rattle.rtc_assoc_packets.specs.Packets.{frame_in}
-use Rattle.rtc_assoc_end.specs.Streams.{stream_of}
-use Rattle.rtc_assoc_end.specs.Contents.{Contents}
-use Rattle.rtc_assoc_end.specs.Calls as call
-use Rattle.rtc_assoc_end.specs.Calls.{limited, connected, accepted, snapped, started_as, said_hello, opened, sent, first_message_of, messages_behind, next_message, taken_out, thresholded, shut_down, greeted, welcomed, acknowledged, answered, lost, item_taken, item_came, framed, half_taken, at_moment, input_taken, timed, event_given, packet_given}
-use Rattle.rtc_assoc_end.specs.PlainMeaning.{plain_meaning, Leaves, Sends, Reads, Gives, ending_cause, open_cause, write_cause, end_cause, stream_cause}
-use Rattle.rtc_assoc_end.specs.RaiseLemmas.{stream_of-stream}
-use Rattle.rtc_assoc_end.specs.DoesLemmas.{refused_changes_nothing, does_leaves, polls_some, transmits_some, reads_some}
+use Rattle.rtc_assoc_state.specs.Streams.{stream_of}
+use Rattle.rtc_assoc_state.specs.Contents.{Contents}
+use Rattle.rtc_assoc_state.specs.Calls as call
+use Rattle.rtc_assoc_state.specs.Calls.{limited, connected, accepted, snapped, started_as, said_hello, opened, sent, first_message_of, messages_behind, next_message, taken_out, thresholded, shut_down, greeted, welcomed, acknowledged, answered, lost, item_taken, item_came, framed, half_taken, at_moment, input_taken, timed, event_given, packet_given}
+use Rattle.rtc_assoc_state.specs.PlainMeaning.{plain_meaning, Leaves, Sends, Reads, Gives, ending_cause, open_cause, write_cause, end_cause, stream_cause}
+use Rattle.rtc_assoc_state.proofs.RaiseLemmas.{stream_of-stream}
+use Rattle.rtc_assoc_state.proofs.DoesLemmas.{refused_changes_nothing, does_leaves, polls_some, transmits_some, reads_some}
 use Rattle.rtc_assoc_end.proofs.SaysLemmas.{queues_same, queues_more, all_say_one, says_hello, says_shutdown}
 use Rattle.rtc_assoc.proofs.AliveLemmas.{RowOf, alive-put_row}
 use Rattle.rtc_assoc.proofs.ArriveLemmas.{gets_none}

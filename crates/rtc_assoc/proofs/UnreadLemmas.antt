@@ -2,9 +2,9 @@
 use Rattle.std.proofs.Common.{ℕ, ◌≡◌, not, inl, inr, Bool, true, false, cond, List, [], ◌∷◌, ◌++◌, Some, None, refl, sym, ap, ◌∙◌, append_assoc, append-nil}
 use Rattle.std.proofs.lemmas.Bool.{cases_Bool}
 use Rattle.rtc_association.specs.AssociationWords.{AssociationMessage}
-use Rattle.rtc_assoc_end.specs.declared.message.Message.{Message}
-use Rattle.rtc_assoc_end.specs.Inbox.{MessagePart, is_part_of, is_message_of, bytes_so_far, with_bytes, without_part, without_messages}
-use Rattle.rtc_assoc_end.specs.Calls.{first_message_of, messages_behind}
+use Rattle.rtc_assoc_state.specs.declared.message.Message.{Message}
+use Rattle.rtc_assoc_state.specs.Inbox.{MessagePart, is_part_of, is_message_of, bytes_so_far, with_bytes, without_part, without_messages}
+use Rattle.rtc_assoc_state.specs.Calls.{first_message_of, messages_behind}
 use Rattle.rtc_assoc.specs.Unread.{unread, IsPrefix}
 use Rattle.rtc_assoc.proofs.MessageLemmas.{pair_tells, pair_same, message}
 

@@ -2,15 +2,15 @@
 use Rattle.std.proofs.Common.{ℕ, ◌≡◌, ◌+◌, ◌<◌, ◌≤◌, not, inl, inr, Bool, true, false, List, [], ◌∷◌, ◌++◌, length, take, get_or, Some, refl, sym, ap, subst, ◌∙◌, append_assoc, append-nil, arith}
 use Rattle.std.proofs.lemmas.List.{take_more, take_all}
 use Rattle.rtc_association.specs.declared.ppi.Ppi.{Ppi}
-use Rattle.rtc_association.specs.Among.{Member, Among}
-use Rattle.rtc_association.specs.Why.{Other}
+use Rattle.rtc_parts_values.specs.Among.{Member, Among}
+use Rattle.rtc_parts_values.specs.Why.{Other}
 use Rattle.rtc_association.specs.AssociationActs.{AssociationAct, Stirred, LimitsSet, Moved, moved-one}
 use Rattle.rtc_association.specs.AssociationWords.{AssociationMessage, given, taken, written, read, told, completions}
 use Rattle.rtc_association.proofs.AmongLemmas.{member-append, member-left, member-right}
-use Rattle.rtc_association.proofs.AssociationLemmas.{taken-append, written-append, read-append, told-append, completions-append}
-use Rattle.rtc_assoc_end.specs.Contents.{Contents, fresh_contents, generation_of}
-use Rattle.rtc_assoc_end.specs.Calls.{limited}
-use Rattle.rtc_assoc_end.specs.PlainMeaning.{plain_meaning}
+use Rattle.rtc_association.proofs.AssociationLemmas.{taken-append, written-append, read-append, told-append}
+use Rattle.rtc_assoc_state.specs.Contents.{Contents, fresh_contents, generation_of}
+use Rattle.rtc_assoc_state.specs.Calls.{limited}
+use Rattle.rtc_assoc_state.specs.PlainMeaning.{plain_meaning}
 use Rattle.rtc_assoc.specs.declared.sent.Sent.{Sent}
 use Rattle.rtc_assoc.specs.declared.assoc_step.AssocStep.{AssocStep}
 use Rattle.rtc_assoc.specs.declared.assoc_step.AssocStep.TheVariants.{Read}
@@ -19,11 +19,12 @@ use Rattle.rtc_assoc.specs.declared.assoc_reply.AssocReply.TheVariants.{Message,
 use Rattle.rtc_assoc.specs.Unread.{unread, IsPrefix}
 use Rattle.rtc_assoc.specs.Joined.{Ends, fresh_ends, Move, LeftMoves, RightMoves, Goes, Run}
 use Rattle.rtc_assoc.specs.Steps.{at_left, PerformsAssocStep, World, Steps, Ran, first_world}
+use Rattle.rtc_parts_values.specs.Among.{Member}
 use Rattle.rtc_assoc.specs.Replies.{wrote_by, read_by, told_by, written_in, read_in, told_in}
-use Rattle.rtc_assoc.specs.Law.{OneWay, ToldOnce}
+use Rattle.rtc_assoc.specs.Law.{OneWay, TellsEvents}
 use Rattle.rtc_assoc.proofs.ActLemmas.{sent, sents, acts_of, elsewhere}
 use Rattle.rtc_assoc.proofs.DirectedLemmas.{directed_prefix, directed_open}
-use Rattle.rtc_assoc.proofs.RunLemmas.{both_run, moved_run, resets_told}
+use Rattle.rtc_assoc.proofs.RunLemmas.{both_run, moved_run, resets_told, Events, events_by}
 
 -- one step more
 pub ran_more : (steps : List AssocStep) (replies : List AssocReply) (w u v : World) (step : AssocStep) (reply : AssocReply) → Ran steps replies w u → Steps (at_left step) step reply u v → Ran (steps ++ step ∷ []) (replies ++ reply ∷ []) w v
@@ -72,8 +73,8 @@ pub record OneStep (moves : List Move) (x y : List AssociationAct) (step : Assoc
   pub wrote_right : (s g : ℕ) → written s g right_more ≡ wrote_by step reply false s g
   pub read_left : (s g : ℕ) → read s g left_more ≡ read_by step reply true s g
   pub read_right : (s g : ℕ) → read s g right_more ≡ read_by step reply false s g
-  pub told_left : (s : ℕ) → completions s (told left_more) ≡ told_by step reply true s
-  pub told_right : (s : ℕ) → completions s (told right_more) ≡ told_by step reply false s
+  pub told_left : told left_more ≡ told_by step reply true
+  pub told_right : told right_more ≡ told_by step reply false
 
 abbrev ends : World → (x y : List AssociationAct) → Ends
 ends w x y = record { left = w.left; right = w.right; left_acts = x; right_acts = y }
@@ -106,8 +107,8 @@ one_left moves x y step reply w u e h same r k =
       wrote_right = λ s g. sym (o.writes s g) ∙ ap (λ b. wrote_by step reply (not b) s g) e;
       read_left = λ s g. a.read_is s g ∙ ap (λ b. read_by step reply b s g) e;
       read_right = λ s g. sym (o.reads s g) ∙ ap (λ b. read_by step reply (not b) s g) e;
-      told_left = λ s. a.told_is s ∙ ap (λ b. told_by step reply b s) e;
-      told_right = λ s. sym (o.tells s) ∙ ap (λ b. told_by step reply (not b) s) e;
+      told_left = a.told_is ∙ ap (λ b. told_by step reply b) e;
+      told_right = sym o.tells ∙ ap (λ b. told_by step reply (not b)) e;
     }
 
 one_right : (moves : List Move) (x y : List AssociationAct) (step : AssocStep) (reply : AssocReply) (w u : World) → at_left step ≡ false → PerformsAssocStep step reply w.right u.right w.packets u.packets → u.left ≡ w.left → Run moves (ends w x y) → SentSo w.packets x y → OneStep moves x y step reply u
@@ -138,8 +139,8 @@ one_right moves x y step reply w u e h same r k =
       wrote_right = λ s g. a.wrote s g ∙ ap (λ b. wrote_by step reply b s g) e;
       read_left = λ s g. sym (o.reads s g) ∙ ap (λ b. read_by step reply (not b) s g) e;
       read_right = λ s g. a.read_is s g ∙ ap (λ b. read_by step reply b s g) e;
-      told_left = λ s. sym (o.tells s) ∙ ap (λ b. told_by step reply (not b) s) e;
-      told_right = λ s. a.told_is s ∙ ap (λ b. told_by step reply b s) e;
+      told_left = sym o.tells ∙ ap (λ b. told_by step reply (not b)) e;
+      told_right = a.told_is ∙ ap (λ b. told_by step reply b) e;
     }
 
 one_step : (moves : List Move) (x y : List AssociationAct) (step : AssocStep) (reply : AssocReply) (w u : World) (b : Bool) → at_left step ≡ b → Steps b step reply w u → Run moves (ends w x y) → SentSo w.packets x y → OneStep moves x y step reply u
@@ -156,14 +157,11 @@ pub record Grew (x y : List AssociationAct) (steps : List AssocStep) (replies : 
   pub wrote_right : (s g : ℕ) → written s g right_acts ≡ written s g y ++ written_in steps replies false s g
   pub read_left : (s g : ℕ) → read s g left_acts ≡ read s g x ++ read_in steps replies true s g
   pub read_right : (s g : ℕ) → read s g right_acts ≡ read s g y ++ read_in steps replies false s g
-  pub told_left : (s : ℕ) → completions s (told left_acts) ≡ completions s (told x) + told_in steps replies true s
-  pub told_right : (s : ℕ) → completions s (told right_acts) ≡ completions s (told y) + told_in steps replies false s
+  pub told_left : told left_acts ≡ told x ++ told_in steps replies true
+  pub told_right : told right_acts ≡ told y ++ told_in steps replies false
 
 joins_lists : (all first own more rest : List AssociationMessage) → all ≡ (first ++ own) ++ rest → own ≡ more → all ≡ first ++ (more ++ rest)
 joins_lists all first own more rest e f = e ∙ append_assoc first own rest ∙ ap (λ l. first ++ (l ++ rest)) f
-
-told_joins : (s : ℕ) (x more : List AssociationAct) → completions s (told (x ++ more)) ≡ completions s (told x) + completions s (told more)
-told_joins s x more = ap (completions s) (told-append x more) ∙ completions-append s (told x) (told more)
 
 pub grew : (steps : List AssocStep) (replies : List AssocReply) (w v : World) (moves : List Move) (x y : List AssociationAct) → Ran steps replies w v → Run moves (ends w x y) → SentSo w.packets x y → Grew x y steps replies v
 grew [] [] w v moves x y h r k = subst (Grew x y [] []) (sym h) (record {
@@ -175,8 +173,8 @@ grew [] [] w v moves x y h r k = subst (Grew x y [] []) (sym h) (record {
   wrote_right = λ s g. sym (append-nil (written s g y));
   read_left = λ s g. sym (append-nil (read s g x));
   read_right = λ s g. sym (append-nil (read s g y));
-  told_left = λ s. omega arith;
-  told_right = λ s. omega arith;
+  told_left = sym (append-nil (told x));
+  told_right = sym (append-nil (told y));
 })
 grew [] (reply ∷ replies) w v moves x y h r k = absurd h
 grew (step ∷ steps) [] w v moves x y h r k = absurd h
@@ -192,8 +190,8 @@ grew (step ∷ steps) (reply ∷ replies) w v moves x y h r k =
       wrote_right = λ s g. joins_lists (written s g rest.right_acts) (written s g y) (written s g one.right_more) (wrote_by step reply false s g) (written_in steps replies false s g) (rest.wrote_right s g ∙ ap (λ l. l ++ written_in steps replies false s g) (written-append s g y one.right_more)) (one.wrote_right s g);
       read_left = λ s g. joins_lists (read s g rest.left_acts) (read s g x) (read s g one.left_more) (read_by step reply true s g) (read_in steps replies true s g) (rest.read_left s g ∙ ap (λ l. l ++ read_in steps replies true s g) (read-append s g x one.left_more)) (one.read_left s g);
       read_right = λ s g. joins_lists (read s g rest.right_acts) (read s g y) (read s g one.right_more) (read_by step reply false s g) (read_in steps replies false s g) (rest.read_right s g ∙ ap (λ l. l ++ read_in steps replies false s g) (read-append s g y one.right_more)) (one.read_right s g);
-      told_left = λ s. omega (arith, rest.told_left s, told_joins s x one.left_more, one.told_left s);
-      told_right = λ s. omega (arith, rest.told_right s, told_joins s y one.right_more, one.told_right s);
+      told_left = rest.told_left ∙ ap (λ l. l ++ told_in steps replies true) (told-append x one.left_more ∙ ap (λ l. told x ++ l) one.told_left) ∙ append_assoc (told x) (told_by step reply true) (told_in steps replies true);
+      told_right = rest.told_right ∙ ap (λ l. l ++ told_in steps replies false) (told-append y one.right_more ∙ ap (λ l. told y ++ l) one.told_right) ∙ append_assoc (told y) (told_by step reply false) (told_in steps replies false);
     }
 
 -- the limits are set at both ends first
@@ -238,15 +236,15 @@ abbrev end_at : Bool → World → Contents
 end_at true v = v.left
 end_at false v = v.right
 
-told_most : (at : Bool) (max_payload : ℕ) (steps : List AssocStep) (replies : List AssocReply) (v : World) (s : ℕ) → Ran steps replies (first_world max_payload) v → told_in steps replies at s ≤ generation_of (end_at at v) s
+told_most : (at : Bool) (max_payload : ℕ) (steps : List AssocStep) (replies : List AssocReply) (v : World) (s : ℕ) → Ran steps replies (first_world max_payload) v → completions s (told_in steps replies at) ≤ generation_of (end_at at v) s
 told_most true max_payload steps replies v s r =
     let k = grown max_payload steps replies v r in
     let m = moved_run k.moves (ends v k.left_acts k.right_acts) k.run in
-    omega (arith, k.told_left s, resets_told v.left k.left_acts s m.left_moved)
+    omega (arith, ap (completions s) k.told_left, resets_told v.left k.left_acts s m.left_moved)
 told_most false max_payload steps replies v s r =
     let k = grown max_payload steps replies v r in
     let m = moved_run k.moves (ends v k.left_acts k.right_acts) k.run in
-    omega (arith, k.told_right s, resets_told v.right k.right_acts s m.right_moved)
+    omega (arith, ap (completions s) k.told_right, resets_told v.right k.right_acts s m.right_moved)
 
 -- a step in the middle
 pub record Middle (earlier : List AssocStep) (said : List AssocReply) (step : AssocStep) (reply : AssocReply) (w : World) : Type 0 where
@@ -270,15 +268,25 @@ stepped_read : (at : Bool) (s g : ℕ) (message : Ppi × List ℕ) (w u : World)
 stepped_read true s g message w u h = read_generation true s g message w.left u.left w.packets u.packets h.0
 stepped_read false s g message w u h = read_generation false s g message w.right u.right w.packets u.packets h.0
 
-told_before : (at : Bool) (max_payload : ℕ) (steps : List AssocStep) (replies : List AssocReply) (v : World) (s g : ℕ) (message : Ppi × List ℕ) (earlier later : List AssocStep) (said after : List AssocReply) → Ran steps replies (first_world max_payload) v → steps ≡ earlier ++ Read at s ∷ later → replies ≡ said ++ Message g (Some message) ∷ after → length said ≡ length earlier → told_in earlier said at s ≤ g
+told_before : (at : Bool) (max_payload : ℕ) (steps : List AssocStep) (replies : List AssocReply) (v : World) (s g : ℕ) (message : Ppi × List ℕ) (earlier later : List AssocStep) (said after : List AssocReply) → Ran steps replies (first_world max_payload) v → steps ≡ earlier ++ Read at s ∷ later → replies ≡ said ++ Message g (Some message) ∷ after → length said ≡ length earlier → completions s (told_in earlier said at) ≤ g
 told_before at max_payload steps replies v s g message earlier later said after r e f n =
     let P : List AssocStep → Type 0 = λ l. Ran l replies (first_world max_payload) v in
     let Q : List AssocReply → Type 0 = λ l. Ran (earlier ++ Read at s ∷ later) l (first_world max_payload) v in
     let m = ran_split earlier later said after (Read at s) (Message g (Some message)) (first_world max_payload) v n (subst Q f (subst P e r)) in
     omega (arith, told_most at max_payload earlier said m.before s m.ran, stepped_read at s g message m.before m.after m.stepped)
 
-pub told_once : (at : Bool) (max_payload : ℕ) (steps : List AssocStep) (replies : List AssocReply) (v : World) → Ran steps replies (first_world max_payload) v → ToldOnce steps replies at (end_at at v)
+events_told : (at : Bool) (max_payload : ℕ) (steps : List AssocStep) (replies : List AssocReply) (v : World) → Ran steps replies (first_world max_payload) v → Events (told_in steps replies at) (end_at at v)
+events_told true max_payload steps replies v r =
+    let k = grown max_payload steps replies v r in
+    events_by v.left k.left_acts (told_in steps replies true) (moved_run k.moves (ends v k.left_acts k.right_acts) k.run).left_moved k.told_left
+events_told false max_payload steps replies v r =
+    let k = grown max_payload steps replies v r in
+    events_by v.right k.right_acts (told_in steps replies false) (moved_run k.moves (ends v k.left_acts k.right_acts) k.run).right_moved k.told_right
+
+pub told_once : (at : Bool) (max_payload : ℕ) (steps : List AssocStep) (replies : List AssocReply) (v : World) → Ran steps replies (first_world max_payload) v → TellsEvents steps replies at (end_at at v)
 told_once at max_payload steps replies v r = record {
   most = λ s. told_most at max_payload steps replies v s r;
+  in_order = (events_told at max_payload steps replies v r).in_order;
+  readable = (events_told at max_payload steps replies v r).readable;
   before = λ s g message earlier later said after e f n. told_before at max_payload steps replies v s g message earlier later said after r e f n;
 }

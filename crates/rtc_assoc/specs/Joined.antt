@@ -1,10 +1,10 @@
 -- Two ends, each of which was given packets that the other one had transmitted.
 use Rattle.std.specs.Prelude.{ℕ, ◌≡◌, List, [], ◌∷◌, ◌++◌}
-use Rattle.rtc_association.specs.Among.{Among}
+use Rattle.rtc_parts_values.specs.Among.{Among}
 use Rattle.rtc_association.specs.AssociationActs.{AssociationAct, Moved}
 use Rattle.rtc_association.specs.AssociationWords.{given, taken}
-use Rattle.rtc_assoc_end.specs.Contents.{Contents, fresh_contents}
-use Rattle.rtc_assoc_end.specs.PlainMeaning.{plain_meaning}
+use Rattle.rtc_assoc_state.specs.Contents.{Contents, fresh_contents}
+use Rattle.rtc_assoc_state.specs.PlainMeaning.{plain_meaning}
 
 -- two ends, and what was done to each since it was fresh
 pub record Ends : Type 0 where
@@ -24,8 +24,12 @@ pub data Move : Type 0 where
 -- the acts took that end from one state to the next, and each packet that they gave it is one that the other end
 -- transmitted before: whatever is lost, repeated or reordered between
 abbrev pub Goes : Ends → Move → Ends → Type 0
-Goes d (LeftMoves acts) e = Moved plain_meaning d.left acts e.left × Among (given acts) (taken d.right_acts) × (e ≡ record d { left = e.left; left_acts = d.left_acts ++ acts })
-Goes d (RightMoves acts) e = Moved plain_meaning d.right acts e.right × Among (given acts) (taken d.left_acts) × (e ≡ record d { right = e.right; right_acts = d.right_acts ++ acts })
+Goes d (LeftMoves acts) e =
+    Moved plain_meaning d.left acts e.left × Among (given acts) (taken d.right_acts)
+    × (e ≡ record d { left = e.left; left_acts = d.left_acts ++ acts })
+Goes d (RightMoves acts) e =
+    Moved plain_meaning d.right acts e.right × Among (given acts) (taken d.left_acts)
+    × (e ≡ record d { right = e.right; right_acts = d.right_acts ++ acts })
 
 -- moves, the last one first, took two fresh ends to these
 abbrev pub Run : List Move → Ends → Type 0

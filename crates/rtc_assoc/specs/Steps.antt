@@ -1,14 +1,17 @@
 -- Steps of two ends, and what each answers.
-use Rattle.std.specs.Prelude.{ℕ, ◌≡◌, ◌⊎◌, ◌&&◌, not, Bool, true, false, List, [], ◌∷◌, ◌++◌, length, Option, Some, None, Ok, Err, slice_get}
+use Rattle.std.specs.Prelude.{ℕ, ◌≡◌, ◌⊎◌, ◌&&◌, not, Bool, true, false, List, [], ◌∷◌, ◌++◌}
+use Rattle.std.specs.Prelude.{length, Option, Some, None, Ok, Err, slice_get}
 use Rattle.rtc_association.specs.declared.assoc_error.AssocError.{AssocError}
-use Rattle.rtc_association.specs.declared.assoc_error.AssocError.TheVariants.{StreamExists, ResetPending, NoStream, TooLong, Closing, Fault, Alloc}
+use Rattle.rtc_association.specs.declared.assoc_error.AssocError.TheVariants.{StreamExists, ResetPending, NoStream}
+use Rattle.rtc_association.specs.declared.assoc_error.AssocError.TheVariants.{TooLong, Closing, Fault, Alloc}
 use Rattle.rtc_association.specs.declared.ppi.Ppi.{Ppi}
-use Rattle.rtc_assoc_end.specs.Contents.{Contents, fresh_contents, is_started, generation_of}
-use Rattle.rtc_assoc_end.specs.Calls.{limited}
-use Rattle.rtc_assoc_end.specs.PlainMeaning.{plain_meaning}
+use Rattle.rtc_assoc_state.specs.Contents.{Contents, fresh_contents, is_started, generation_of}
+use Rattle.rtc_assoc_state.specs.Calls.{limited}
+use Rattle.rtc_assoc_state.specs.PlainMeaning.{plain_meaning}
 use Rattle.rtc_assoc.specs.declared.sent.Sent.{Sent}
 use Rattle.rtc_assoc.specs.declared.assoc_step.AssocStep.{AssocStep}
-use Rattle.rtc_assoc.specs.declared.assoc_step.AssocStep.TheVariants.{Connect, Accept, Open, Write, CloseStream, Time, Transmit, Deliver, Poll, Read}
+use Rattle.rtc_assoc.specs.declared.assoc_step.AssocStep.TheVariants.{Connect, Accept, Open, Write, CloseStream, Time}
+use Rattle.rtc_assoc.specs.declared.assoc_step.AssocStep.TheVariants.{Transmit, Deliver, Poll, Read}
 use Rattle.rtc_assoc.specs.declared.assoc_reply.AssocReply.{AssocReply}
 use Rattle.rtc_assoc.specs.declared.assoc_reply.AssocReply.TheVariants.{Done, Refused, Wrote, Packet, Event, Message, NoSuch}
 
@@ -25,7 +28,7 @@ at_left (Deliver left packet now) = left
 at_left (Poll left) = left
 at_left (Read left id) = left
 
--- whether a refusal is shown: neither a fault nor want of memory
+-- whether a refusal is shown: neither a fault nor `Alloc`
 abbrev pub is_refusal : AssocError → Bool
 is_refusal StreamExists = true
 is_refusal ResetPending = true
@@ -109,11 +112,17 @@ abbrev pub PerformsAssocStep : AssocStep → AssocReply → (p q : Contents) →
 PerformsAssocStep (Connect left) reply p q packets after = Tried (not (is_started p)) (Connects reply p q) reply p q × (after ≡ packets)
 PerformsAssocStep (Accept left) reply p q packets after = Tried (not (is_started p)) (Accepts reply p q) reply p q × (after ≡ packets)
 PerformsAssocStep (Open left id) reply p q packets after = Tried (is_started p) (Opens id reply p q) reply p q × (after ≡ packets)
-PerformsAssocStep (Write left id ppi bytes) reply p q packets after = Tried (is_started p) (Writes id ppi bytes reply p q) reply p q × (after ≡ packets)
-PerformsAssocStep (CloseStream left id) reply p q packets after = Tried (is_started p) (ClosesStream id reply p q) reply p q × (after ≡ packets)
+PerformsAssocStep (Write left id ppi bytes) reply p q packets after =
+    Tried (is_started p) (Writes id ppi bytes reply p q) reply p q × (after ≡ packets)
+PerformsAssocStep (CloseStream left id) reply p q packets after =
+    Tried (is_started p) (ClosesStream id reply p q) reply p q × (after ≡ packets)
 PerformsAssocStep (Time left now) reply p q packets after = Tried (is_started p) (StepTimes now reply p q) reply p q × (after ≡ packets)
-PerformsAssocStep (Transmit left) reply p q packets after = ((is_started p ≡ false) × (reply ≡ NoSuch) × (q ≡ p) × (after ≡ packets)) ⊎ ((is_started p ≡ true) × StepTransmits left reply p q packets after)
-PerformsAssocStep (Deliver left packet now) reply p q packets after = Tried (is_started p && is_packet_for left (slice_get packets packet)) (Delivers (bytes_of (slice_get packets packet)) now reply p q) reply p q × (after ≡ packets)
+PerformsAssocStep (Transmit left) reply p q packets after =
+    ((is_started p ≡ false) × (reply ≡ NoSuch) × (q ≡ p) × (after ≡ packets))
+    ⊎ ((is_started p ≡ true) × StepTransmits left reply p q packets after)
+PerformsAssocStep (Deliver left packet now) reply p q packets after =
+    let sent = slice_get packets packet in
+    Tried (is_started p && is_packet_for left sent) (Delivers (bytes_of sent) now reply p q) reply p q × (after ≡ packets)
 PerformsAssocStep (Poll left) reply p q packets after = Tried (is_started p) (StepPolls reply p q) reply p q × (after ≡ packets)
 PerformsAssocStep (Read left id) reply p q packets after = Tried (is_started p) (StepReads id reply p q) reply p q × (after ≡ packets)
 
@@ -122,6 +131,9 @@ pub record World : Type 0 where
   pub left : Contents
   pub right : Contents
   pub packets : List Sent
+
+abbrev pub world : (left right : Contents) → List Sent → World
+world left right packets = record { left = left; right = right; packets = packets }
 
 abbrev pub Steps : Bool → AssocStep → AssocReply → World → World → Type 0
 Steps true step reply w v = PerformsAssocStep step reply w.left v.left w.packets v.packets × (v.right ≡ w.right)
@@ -136,7 +148,7 @@ Ran (step ∷ steps) (reply ∷ replies) w v = (u : World) × (Steps (at_left st
 
 -- two fresh ends with packets of at most this size
 abbrev pub first_world : ℕ → World
-first_world max_payload = record { left = limited max_payload 262144 fresh_contents; right = limited max_payload 262144 fresh_contents; packets = [] }
+first_world max_payload = world (limited max_payload 262144 fresh_contents) (limited max_payload 262144 fresh_contents) []
 
 -- the steps gave these replies, and left these ends
 pub record RunsEnds (max_payload : ℕ) (steps : List AssocStep) (replies : List AssocReply) (left right : Contents) : Type 0 where

@@ -1,9 +1,12 @@
 //! One call at one end.
-ghost use Rattle.std.specs.Prelude.{◌≡◌, ◌&&◌, ◌<◌, ◌≤◌, ◌+◌, ◌^◌, not, length, [], ◌∷◌, ◌++◌, IfOk, OnOk, OnErr, IfSome, IsNone, Some, true, false, slice_get};
+ghost use Rattle.std.specs.Prelude.{◌≡◌, ◌&&◌, ◌<◌, ◌≤◌, ◌+◌, ◌^◌, not, length, [], ◌∷◌, ◌++◌, IfOk, OnOk};
+ghost use Rattle.std.specs.Prelude.{OnErr, IfSome, IsNone, Some, true, false, slice_get};
 ghost use Rattle.rtc_assoc.specs.declared.assoc_step.AssocStep.TheVariants.{Transmit};
 ghost use Rattle.std.specs.Option.{option_copied};
-ghost use Rattle.rtc_assoc_end.specs.Contents.{is_started};
-ghost use Rattle.rtc_assoc.specs.Steps.{is_refusal, Tried, Connects, Accepts, Opens, Writes, ClosesStream, StepTimes, Delivers, StepPolls, StepReads, StepTransmits, PerformsAssocStep, is_packet_for, bytes_of};
+ghost use Rattle.rtc_assoc_state.specs.Contents.{is_started};
+ghost use Rattle.rtc_assoc.specs.Steps.{is_refusal, Tried, Connects, Accepts, Opens, Writes, ClosesStream};
+ghost use Rattle.rtc_assoc.specs.Steps.{StepTimes, Delivers, StepPolls, StepReads, StepTransmits};
+ghost use Rattle.rtc_assoc.specs.Steps.{PerformsAssocStep, is_packet_for, bytes_of};
 
 use crate::assoc_reply::AssocReply;
 use crate::sent::Sent;
@@ -193,7 +196,8 @@ pub fn transmit(
 
 // The packet of a number, where it is one for this end.
 fn packet_for(packets: &[Sent], left: bool, number: u32) -> Option<&Sent>
-    ensures some { IfSome result (λ sent. (slice_get packets.now number ≡ Some sent.now) × (is_packet_for left (slice_get packets.now number) ≡ true)) }
+    ensures some { IfSome result (λ sent. (slice_get packets.now number ≡ Some sent.now)
+        × (is_packet_for left (slice_get packets.now number) ≡ true)) }
     ensures none { IsNone result → is_packet_for left (slice_get packets.now number) ≡ false }
 {
     match packets.get(number as usize) {
@@ -215,7 +219,9 @@ pub fn deliver(
     now: Moment,
     packets: &[Sent],
 ) -> Result<AssocReply, AllocError>
-    ensures { IfOk result (λ reply. Tried (is_started end.old && is_packet_for left (slice_get packets.now number)) (Delivers (bytes_of (slice_get packets.now number)) now reply end.old end.new) reply end.old end.new) }
+    ensures { IfOk result (λ reply. let sent = slice_get packets.now number in
+        Tried (is_started end.old && is_packet_for left sent)
+        (Delivers (bytes_of sent) now reply end.old end.new) reply end.old end.new) }
 {
     if !end.is_started() {
         return Ok(AssocReply::NoSuch);

@@ -2,13 +2,17 @@
 ghost use Rattle.std.specs.Prelude.{◌≡◌, ◌≤◌, ◌+◌, ℕ, List, ◌∷◌, ◌++◌};
 ghost use Rattle.rtc_association.specs.AssociationActs.{AssociationAct, Read, Moved};
 ghost use Rattle.rtc_association.specs.AssociationWords.{told, completions};
-ghost use Rattle.rtc_assoc_end.specs.Contents.{Contents, fresh_contents, generation_of, untold_resets};
-ghost use Rattle.rtc_assoc_end.specs.PlainMeaning.{plain_meaning};
+ghost use Rattle.rtc_assoc_state.specs.Contents.{Contents, fresh_contents, generation_of};
+ghost use Rattle.rtc_assoc_state.specs.PlainMeaning.{plain_meaning};
 
 /// An end tells each completed reset of a stream once. So the n-th one told, from 1, is that of generation n - 1: there
 /// are never more of them than the stream's generation, and no message of a generation is read after its own.
 pub fn each_reset_is_told_once()
-    ensures all { (p : Contents) (acts : List AssociationAct) (s : ℕ) → Moved plain_meaning fresh_contents acts p → completions s (told acts) + untold_resets p s ≡ generation_of p s }
-    ensures most { (p : Contents) (acts : List AssociationAct) (s : ℕ) → Moved plain_meaning fresh_contents acts p → completions s (told acts) ≤ generation_of p s }
-    ensures before { (p : Contents) (acts before after : List AssociationAct) (s g i : ℕ) (bytes : List ℕ) → Moved plain_meaning fresh_contents acts p → acts ≡ before ++ Read s g i bytes ∷ after → completions s (told before) ≤ g }
+    ensures all { (p : Contents) (acts : List AssociationAct) (s : ℕ) → Moved plain_meaning fresh_contents acts p
+        → completions s (told acts) + completions s p.events ≡ generation_of p s }
+    ensures most { (p : Contents) (acts : List AssociationAct) (s : ℕ) → Moved plain_meaning fresh_contents acts p
+        → completions s (told acts) ≤ generation_of p s }
+    ensures before { (p : Contents) (acts before after : List AssociationAct) (s g i : ℕ) (bytes : List ℕ)
+        → Moved plain_meaning fresh_contents acts p → acts ≡ before ++ Read s g i bytes ∷ after
+        → completions s (told before) ≤ g }
 {}

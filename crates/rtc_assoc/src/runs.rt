@@ -1,8 +1,8 @@
 //! Steps of two ends, one after the other.
 ghost use Rattle.std.specs.Prelude.{◌≡◌, ◌<◌, ◌≤◌, ◌^◌, ◌++◌, ◌∷◌, [], length, IfOk, OnOk, true, false};
-ghost use Rattle.rtc_assoc_end.specs.Contents.{fresh_contents};
+ghost use Rattle.rtc_assoc_state.specs.Contents.{fresh_contents};
 ghost use Rattle.rtc_assoc.specs.Steps.{RunsEnds};
-ghost use Rattle.rtc_assoc.specs.Law.{OneWay, ToldOnce};
+ghost use Rattle.rtc_assoc.specs.Law.{OneWay, TellsEvents};
 
 use crate::assoc_reply::AssocReply;
 use crate::assoc_step::AssocStep;
@@ -22,7 +22,7 @@ fn add(replies: &mut Vec<AssocReply>, reply: AssocReply) -> Result<(), AllocErro
 /// Takes the steps at two fresh ends, whose packets have at most `max_payload` bytes, and gives a reply for each.
 ///
 /// A start of an end that is started, every other step at one that is not, and the delivery of a packet that the other
-/// end did not transmit are answered `NoSuch`, and nothing is done. Want of memory in any step ends the run.
+/// end did not transmit are answered `NoSuch`, and nothing is done. A step that runs out of memory ends the run.
 pub fn run_assoc(
     alloc: Global,
     max_payload: usize,
@@ -38,8 +38,8 @@ pub fn run_assoc(
     ensures runs { IfOk result (λ replies. RunsEnds max_payload steps.now replies.items left.new right.new) }
     ensures from_left { IfOk result (λ replies. OneWay steps.now replies.items true left.new right.new) }
     ensures from_right { IfOk result (λ replies. OneWay steps.now replies.items false right.new left.new) }
-    ensures told_left { IfOk result (λ replies. ToldOnce steps.now replies.items true left.new) }
-    ensures told_right { IfOk result (λ replies. ToldOnce steps.now replies.items false right.new) }
+    ensures told_left { IfOk result (λ replies. TellsEvents steps.now replies.items true left.new) }
+    ensures told_right { IfOk result (λ replies. TellsEvents steps.now replies.items false right.new) }
 {
     left.set_limits(max_payload, LOCAL_MAX_MESSAGE_SIZE);
     right.set_limits(max_payload, LOCAL_MAX_MESSAGE_SIZE);

@@ -1,6 +1,6 @@
 //! One step of two ends.
 ghost use Rattle.std.specs.Prelude.{◌≡◌, ◌<◌, ◌≤◌, ◌+◌, ◌^◌, length, IfOk};
-ghost use Rattle.rtc_assoc.specs.Steps.{at_left, PerformsAssocStep, World, Steps};
+ghost use Rattle.rtc_assoc.specs.Steps.{at_left, PerformsAssocStep, Steps, world};
 
 use crate::assoc_reply::AssocReply;
 use crate::assoc_step::AssocStep;
@@ -49,7 +49,8 @@ pub fn perform(
     packets: &mut Vec<Sent>,
 ) -> Result<AssocReply, AllocError>
     requires { length packets.old.items < 2 ^ 32 }
-    ensures steps { IfOk result (λ reply. Steps (at_left step.now) step.now reply (record { left = left.old; right = right.old; packets = packets.old.items }) (record { left = left.new; right = right.new; packets = packets.new.items })) }
+    ensures steps { IfOk result (λ reply. Steps (at_left step.now) step.now reply
+        (world left.old right.old packets.old.items) (world left.new right.new packets.new.items)) }
     ensures few { length packets.new.items ≤ length packets.old.items + 1 }
 {
     if step.at_left() {

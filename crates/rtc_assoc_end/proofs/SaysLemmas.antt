@@ -1,6 +1,6 @@
 -- What queued packets say.
-use Rattle.std.proofs.Common.{ℕ, suc, ◌≡◌, ◌+◌, ◌-◌, ◌<◌, ◌≤◌, ◌⊎◌, inl, inr, List, [], ◌∷◌, ◌++◌, length, refl, sym, ap, subst, ◌∙◌, arith, append_assoc, append-nil, length-append, Option, Some, None}
-use Rattle.rtc_association.specs.Among.{Member}
+use Rattle.std.proofs.Common.{ℕ, ◌≡◌, ◌+◌, inl, inr, List, [], ◌∷◌, ◌++◌, length, refl, sym, ap, subst, ◌∙◌, arith, append_assoc, length-append, Option, Some, None}
+use Rattle.rtc_parts_values.specs.Among.{Member}
 use Rattle.rtc_association.proofs.AmongLemmas.{member-append}
 use Rattle.rtc_assoc_packets.specs.declared.item.Item.{Item}
 use Rattle.rtc_assoc_packets.specs.declared.frame.Frame.{Frame}
@@ -8,10 +8,10 @@ use Rattle.rtc_assoc_packets.specs.declared.frame.Frame.TheVariants.{Hello, Welc
 use Rattle.rtc_assoc_packets.specs.Packets.{frame_in, data_bytes, acknowledgement_bytes}
 use Rattle.rtc_assoc_packets.specs.Pieces.{packets_from, ReadBack}
 use Rattle.rtc_assoc_packets.proofs.PacketLemmas.{hello_reads_back, welcome_reads_back, shutdown_reads_back}
-use Rattle.rtc_assoc_end.specs.Inbox.{Inbox}
-use Rattle.rtc_assoc_end.specs.Outbox.{Outbox}
-use Rattle.rtc_assoc_end.specs.Contents.{Contents}
-use Rattle.rtc_assoc_end.specs.SaysPacket.{Numbered, SaysPacket, Queues}
+use Rattle.rtc_assoc_state.specs.Inbox.{Inbox}
+use Rattle.rtc_assoc_state.specs.Outbox.{Outbox}
+use Rattle.rtc_assoc_state.specs.Contents.{Contents}
+use Rattle.rtc_assoc_state.specs.Says.{Numbered, SaysPacket, Queues}
 
 -- packets that each say what is true
 pub record AllSay (q : Contents) (packets : List (List ℕ)) : Type 0 where

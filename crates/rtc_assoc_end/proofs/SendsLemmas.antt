@@ -1,14 +1,13 @@
 -- Calls that send, one after the other.
-use Rattle.std.proofs.Common.{ℕ, ◌+◌, arith, append-nil, append_assoc, ◌≡◌, ◌⊎◌, inl, inr, Bool, true, false, cond, List, [], ◌∷◌, ◌++◌, Result, Ok, Err, refl, sym, ap, subst, ◌∙◌}
+use Rattle.std.proofs.Common.{ℕ, ◌+◌, arith, append-nil, append_assoc, ◌≡◌, Bool, true, false, cond, List, [], ◌∷◌, ◌++◌, Result, Ok, Err, refl, sym, ap, subst, ◌∙◌}
 use Rattle.std.specs.Result.{OnOk}
 use Rattle.std.specs.Bool.{OnTrue}
 use Rattle.rtc_assoc_packets.specs.Pieces.{packets_from, ReadBack}
-use Rattle.rtc_assoc_end.specs.Inbox.{Inbox}
-use Rattle.rtc_assoc_end.specs.Outbox.{Outbox}
-use Rattle.rtc_assoc_end.specs.Contents.{Contents}
-use Rattle.rtc_assoc_end.specs.SaysPacket.{SaysPacket, Queues}
-use Rattle.rtc_assoc_end.specs.PlainMeaning.{Sends}
-use Rattle.rtc_assoc_end.specs.Calls.{greeted, acknowledged, lost, at_moment, timed, hello_due, items_due}
+use Rattle.rtc_assoc_state.specs.Inbox.{Inbox}
+use Rattle.rtc_assoc_state.specs.Outbox.{Outbox}
+use Rattle.rtc_assoc_state.specs.Contents.{Contents}
+use Rattle.rtc_assoc_state.specs.PlainMeaning.{Sends}
+use Rattle.rtc_assoc_state.specs.Calls.{greeted, acknowledged, lost, at_moment, timed, hello_due, items_due}
 use Rattle.rtc_assoc_end.proofs.SaysLemmas.{AllSay, all_say_none, all_say_one, all_say_both, all_say_items, says_hello, queues_same, queues_more, queues_from, queues_then}
 
 pub on_ok : {T E : Type 0} (r : Result T E) (P Q : Type 0) → (P → Q) → OnOk r P → OnOk r Q

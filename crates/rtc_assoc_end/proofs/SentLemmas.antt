@@ -1,17 +1,14 @@
 -- Items that are sent: their numbers fit, and the amounts count them.
-use Rattle.std.proofs.Common.{ℕ, zero, suc, ◌≡◌, ◌+◌, ◌-◌, ◌<◌, ◌≤◌, ◌==◌, ◌||◌, inl, inr, Bool, true, false, cond, leb, List, [], ◌∷◌, ◌++◌, length, take, drop, refl, sym, ap, subst, ◌∙◌, arith, length-append, length-drop}
+use Rattle.std.proofs.Common.{ℕ, ◌≡◌, ◌+◌, ◌-◌, ◌≤◌, ◌==◌, ◌||◌, Bool, true, false, cond, List, [], ◌∷◌, ◌++◌, length, refl, sym, ap, ◌∙◌, arith}
 use Rattle.std.proofs.lemmas.Bool.{ltb-false}
-use Rattle.std.proofs.lemmas.Bool.Decides.{eqb_tells, leb_tells}
-use Rattle.std.proofs.lemmas.List.{length-take-le, take-append-drop}
-use Rattle.rtc_assoc_packets.specs.declared.item_part.ItemPart.TheVariants.{More, Last, Close}
 use Rattle.rtc_assoc_packets.specs.declared.item.Item.{Item}
-use Rattle.rtc_assoc_packets.specs.Pieces.{piece, close_of, pieces_within, pieces_of}
-use Rattle.rtc_assoc_end.specs.declared.amounts.Amount.{Amount}
-use Rattle.rtc_assoc_end.specs.Outbox.{bytes_for, buffered, last_number}
-use Rattle.rtc_assoc_end.specs.Amounts.{amount_of, Agree}
-use Rattle.rtc_assoc_end.specs.BufferedLemmas.{buffered-append, buffered-pieces}
-use Rattle.rtc_assoc_end.specs.Streams.{any_worn}
-use Rattle.rtc_assoc_end.specs.Contents.{Contents, is_ending, is_closing, is_closed, few_numbers_left}
+use Rattle.rtc_assoc_packets.specs.Pieces.{close_of, pieces_of}
+use Rattle.rtc_assoc_state.specs.declared.amounts.Amount.{Amount}
+use Rattle.rtc_assoc_state.specs.Outbox.{last_number}
+use Rattle.rtc_assoc_state.specs.Amounts.{amount_of, Agree}
+use Rattle.rtc_assoc_state.proofs.BufferedLemmas.{buffered-append, buffered-pieces}
+use Rattle.rtc_assoc_state.specs.Streams.{any_at_last_generation}
+use Rattle.rtc_assoc_state.specs.Contents.{Contents, is_ending, is_closing, is_closed, few_numbers_left}
 
 or_parts : (a b : Bool) → (a || b) ≡ false → (a ≡ false) × (b ≡ false)
 or_parts true b e = absurd cc
@@ -21,7 +18,7 @@ or_parts false b e = (refl, e)
 pub numbers_left : (p : Contents) → is_ending p ≡ false → last_number p.outbox + 8589934592 ≤ 18446744073709551615
 numbers_left p e =
     let closing : is_closing p ≡ false = (or_parts (is_closing p) (is_closed p) e).0 in
-    let early : (p.standing.shut || few_numbers_left p.outbox) ≡ false = (or_parts (p.standing.shut || few_numbers_left p.outbox) (any_worn p.streams) closing).0 in
+    let early : (p.standing.shut || few_numbers_left p.outbox) ≡ false = (or_parts (p.standing.shut || few_numbers_left p.outbox) (any_at_last_generation p.streams) closing).0 in
     let few : few_numbers_left p.outbox ≡ false = (or_parts p.standing.shut (few_numbers_left p.outbox) early).1 in
     omega (arith, ltb-false (18446744073709551615 - last_number p.outbox) 8589934592 few)
 

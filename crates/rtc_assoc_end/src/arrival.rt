@@ -2,19 +2,18 @@
 ghost use Rattle.std.specs.Prelude.{◌≡◌, ◌<◌, ◌+◌, ◌^◌, ◌∷◌, [], ◌++◌, OnOk, OnErr, false, true, vec_len, vec_capacity};
 ghost use Rattle.std.specs.VecDeque.{deque_len, deque_capacity};
 ghost use Rattle.rtc_assoc_packets.specs.declared.item_part.ItemPart.TheVariants.{More, Last, Close};
-ghost use Rattle.rtc_assoc_end.specs.declared.close_state.CloseState.TheVariants.{Unclosed};
-ghost use Rattle.rtc_assoc_end.specs.Streams.{put, reset_row};
-ghost use Rattle.rtc_assoc_end.specs.Contents.{is_ending};
-ghost use Rattle.rtc_assoc_end.specs.Calls.{answered, item_counted, more_kept, last_kept, item_taken, piece_came, close_came, close_came_at, finished, reset_told};
-ghost use Rattle.rtc_assoc_end.specs.PlainMeaning.{Sends};
+ghost use Rattle.rtc_assoc_state.specs.declared.close_state.CloseState.TheVariants.{Unclosed};
+ghost use Rattle.rtc_assoc_state.specs.Streams.{put, reset_row};
+ghost use Rattle.rtc_assoc_state.specs.Contents.{is_ending};
+ghost use Rattle.rtc_assoc_state.specs.Calls.{answered, item_counted, more_kept, last_kept, item_taken, piece_came};
+ghost use Rattle.rtc_assoc_state.specs.Calls.{close_came, close_came_at, finished, reset_told};
+ghost use Rattle.rtc_assoc_state.specs.PlainMeaning.{Sends};
 
 use crate::association::PlainAssociation;
-use crate::close_state::CloseState;
-use crate::inbox::{forget, keep_last, keep_more};
-use crate::queues::{enqueue, set_row};
-use crate::rows::row_of;
-use crate::stream_row::StreamRow;
 use rtc_assoc_packets::{Item, ItemPart, Outgoing, Packet};
+use rtc_assoc_state::{
+    CloseState, StreamRow, enqueue, forget, keep_last, keep_more, row_of, set_row,
+};
 use rtc_association::AssocEvent;
 use rtc_wire::Moment;
 use std::alloc::AllocError;
@@ -42,7 +41,6 @@ fn count_item(
 
 impl PlainAssociation {
     /// An item came that changes nothing but the number, and the row of its stream.
-    #[tactic(auto, unfolding(crate::specs::Calls::item_counted, crate::specs::Calls::answered))]
     fn skip_item(&mut self, row: StreamRow) -> Result<(), AllocError>
         requires { self.old.inbox.received + 1 < 2 ^ 64 }
         ensures ok { OnOk result (Sends self.old (answered (item_counted row self.old)) self.new) }
@@ -62,7 +60,6 @@ impl PlainAssociation {
     }
 
     /// A piece of a message came, with more to come.
-    #[tactic(auto, unfolding(crate::specs::Calls::item_counted, crate::specs::Calls::more_kept, crate::specs::Calls::answered))]
     fn take_more(&mut self, row: StreamRow, item: Item) -> Result<(), AllocError>
         requires { self.old.inbox.received + 1 < 2 ^ 64 }
         ensures ok { OnOk result (Sends self.old (answered (more_kept item (item_counted row self.old))) self.new) }
@@ -83,7 +80,6 @@ impl PlainAssociation {
     }
 
     /// The last piece of a message came.
-    #[tactic(auto, unfolding(crate::specs::Calls::item_counted, crate::specs::Calls::last_kept, crate::specs::Calls::answered))]
     fn take_last(&mut self, row: StreamRow, item: Item) -> Result<(), AllocError>
         requires { self.old.inbox.received + 1 < 2 ^ 64 }
         ensures ok { OnOk result (Sends self.old (answered (last_kept item (item_counted row self.old))) self.new) }
@@ -123,7 +119,6 @@ impl PlainAssociation {
     }
 
     /// The close of a stream came, which this end did not close: it does now.
-    #[tactic(auto, unfolding(crate::specs::Calls::item_counted, crate::specs::Calls::finished, crate::specs::Calls::sent, crate::specs::Calls::answered))]
     fn take_first_close(&mut self, now: Moment, mut row: StreamRow) -> Result<(), AllocError>
         requires number { self.old.inbox.received + 1 < 2 ^ 64 }
         requires lives { is_ending self.old ≡ false }
@@ -160,10 +155,10 @@ impl PlainAssociation {
     }
 
     /// The close of a stream came, which this end closed. Its close was not acknowledged.
-    #[tactic(auto, unfolding(crate::specs::Calls::item_counted, crate::specs::Calls::finished, crate::specs::Calls::answered))]
     fn take_second_close(&mut self, mut row: StreamRow) -> Result<(), AllocError>
         requires { self.old.inbox.received + 1 < 2 ^ 64 }
-        ensures ok { OnOk result (Sends self.old (answered (item_counted (record row { finished = true }) (finished row self.old))) self.new) }
+        ensures ok { OnOk result (Sends self.old
+            (answered (item_counted (record row { finished = true }) (finished row self.old))) self.new) }
         ensures err { OnErr result (self.new ≡ self.old) }
     {
         let answer = Packet::acknowledgement(self.alloc, self.received + 1)?;
@@ -189,11 +184,11 @@ impl PlainAssociation {
     }
 
     /// The close of a stream came, after this end's was acknowledged: the reset is complete.
-    #[tactic(auto, unfolding(crate::specs::Calls::item_counted, crate::specs::Calls::finished, crate::specs::Calls::reset_told, crate::specs::Calls::answered))]
     fn take_last_close(&mut self, row: StreamRow) -> Result<(), AllocError>
         requires number { self.old.inbox.received + 1 < 2 ^ 64 }
         requires generation { row.generation < 4294967295 }
-        ensures ok { OnOk result (Sends self.old (answered (reset_told row (item_counted (reset_row row) (finished row self.old)))) self.new) }
+        ensures ok { OnOk result (Sends self.old
+            (answered (reset_told row (item_counted (reset_row row) (finished row self.old)))) self.new) }
         ensures err { OnErr result (self.new ≡ self.old) }
     {
         let answer = Packet::acknowledgement(self.alloc, self.received + 1)?;

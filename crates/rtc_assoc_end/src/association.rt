@@ -1,19 +1,14 @@
 //! The plain association.
 ghost use Rattle.std.specs.Prelude.{◌≡◌, ◌≤◌, ◌<◌, ◌+◌, ◌^◌, ◌⊎◌, IfOk, OnOk, OnErr, IfSome, Some, None, true, false, length, MatchOption};
-ghost use Rattle.rtc_assoc_end.specs.Contents.{Contents, fresh_contents, is_started, is_closing, is_closed, is_ending, has_stream, closed_here, is_stale, generation_of, buffered_of, wake_of, hello_wake, items_wake, waits};
-ghost use Rattle.rtc_assoc_end.specs.Says.{Queues};
-ghost use Rattle.rtc_assoc_end.specs.Calls as call;
-ghost use Rattle.rtc_assoc_end.specs.PlainMeaning.{Sends};
+ghost use Rattle.rtc_assoc_state.specs.Contents.{Contents, fresh_contents, is_started, is_closing, is_closed};
+ghost use Rattle.rtc_assoc_state.specs.Contents.{is_ending, has_stream, closed_here, is_stale, generation_of};
+ghost use Rattle.rtc_assoc_state.specs.Contents.{buffered_of, wake_of, hello_wake, items_wake, waits};
+ghost use Rattle.rtc_assoc_state.specs.Says.{Queues};
+ghost use Rattle.rtc_assoc_state.specs.Calls as call;
+ghost use Rattle.rtc_assoc_state.specs.PlainMeaning.{Sends};
 
-use crate::amounts::Amount;
-use crate::clock::Clock;
-use crate::limits::Limits;
-use crate::message::Message;
-use crate::partial::Partial;
-use crate::role::Role;
-use crate::standing::Standing;
-use crate::stream_row::StreamRow;
 use rtc_assoc_packets::{Outgoing, Packet};
+use rtc_assoc_state::{Amount, Clock, Limits, Message, Partial, Role, Standing, StreamRow};
 use rtc_association::AssocEvent;
 use rtc_wire::{LOCAL_MAX_MESSAGE_SIZE, Moment};
 use std::alloc::Global;
@@ -44,12 +39,21 @@ pub struct PlainAssociation {
 }
 
 impl Model for PlainAssociation {
-    ghost use Rattle.rtc_assoc_end.specs.Contents.{Contents};
+    ghost use Rattle.rtc_assoc_state.specs.Contents.{Contents};
     ghost use Rattle.rtc_assoc_end.specs.SoundContents.{SoundContents};
 
     ghost Value = { Contents };
 
-    ghost view = { λ a. record { limits = a.limits; standing = a.standing; clock = a.clock; outbox = record { acked = a.acked; items = a.items.items }; inbox = record { received = a.received; parts = a.parts.items; unread = a.unread.items }; streams = a.streams.items; events = a.events.items; packets = a.packets.items } };
+    ghost view = { λ a. record {
+      limits = a.limits;
+      standing = a.standing;
+      clock = a.clock;
+      outbox = record { acked = a.acked; items = a.items.items };
+      inbox = record { received = a.received; parts = a.parts.items; unread = a.unread.items };
+      streams = a.streams.items;
+      events = a.events.items;
+      packets = a.packets.items;
+    } };
 
     ghost use Rattle.std.specs.VecDeque.{deque_len};
 

@@ -1,23 +1,21 @@
 //! What the calls of an end do to it.
 ghost use Rattle.std.specs.Prelude.{◌≡◌, ◌≤◌, ◌<◌, ◌^◌, OnOk, OnErr, false, length};
-ghost use Rattle.rtc_assoc_end.specs.Contents.{is_ending};
-ghost use Rattle.rtc_assoc_end.specs.Calls.{limited, connected, accepted, snapped, opened, message_written, stream_ended, thresholded, shut_down, next_message, taken_out};
-ghost use Rattle.rtc_assoc_end.specs.PlainMeaning.{Sends};
+ghost use Rattle.rtc_assoc_state.specs.Contents.{is_ending};
+ghost use Rattle.rtc_assoc_state.specs.Calls.{limited, connected, accepted, snapped, opened, message_written};
+ghost use Rattle.rtc_assoc_state.specs.Calls.{stream_ended, thresholded, shut_down, next_message, taken_out};
+ghost use Rattle.rtc_assoc_state.specs.PlainMeaning.{Sends};
 
-use crate::amounts::raise;
 use crate::association::PlainAssociation;
-use crate::close_state::CloseState;
-use crate::inbox::{forget, take_out};
-use crate::message::Message;
-use crate::queues::{append_all, enqueue, set_row};
-use crate::role::Role;
-use crate::rows::{put_row, row_of};
 use rtc_assoc_packets::{DATA_OVERHEAD, Outgoing, Packet, cut_message, packets_of};
+use rtc_assoc_state::{
+    CloseState, Message, Role, append_all, enqueue, forget, put_row, raise, row_of, set_row,
+    take_out,
+};
 use rtc_wire::Moment;
 use std::alloc::AllocError;
 
 impl PlainAssociation {
-    #[tactic(auto, unfolding(crate::specs::Calls::limited))]
+    #[tactic(auto, unfolding(rtc_assoc_state::specs::Calls::limited))]
     pub(crate) fn limit(&mut self, max_payload: usize, local_max_message: u32)
         requires least { 29 ≤ max_payload }
         requires most { max_payload ≤ 1900 }
@@ -27,7 +25,7 @@ impl PlainAssociation {
         self.limits.local_max_message = local_max_message;
     }
 
-    #[tactic(auto, unfolding(crate::specs::Calls::started_as, crate::specs::Calls::said_hello))]
+    #[tactic(auto, unfolding(rtc_assoc_state::specs::Calls::started_as, rtc_assoc_state::specs::Calls::said_hello))]
     pub(crate) fn start_client(&mut self, now: Moment, max_send: u32) -> Result<(), AllocError>
         ensures ok { OnOk result (self.new ≡ connected now max_send self.old) }
         ensures err { OnErr result (self.new ≡ self.old) }
@@ -41,7 +39,7 @@ impl PlainAssociation {
         Ok(())
     }
 
-    #[tactic(auto, unfolding(crate::specs::Calls::started_as))]
+    #[tactic(auto, unfolding(rtc_assoc_state::specs::Calls::started_as))]
     pub(crate) fn start_server(&mut self, now: Moment, max_send: u32)
         ensures { self.new ≡ accepted now max_send self.old }
     {
@@ -50,7 +48,7 @@ impl PlainAssociation {
         self.clock.now = now;
     }
 
-    #[tactic(auto, unfolding(crate::specs::Calls::started_as, crate::specs::Calls::snapped))]
+    #[tactic(auto, unfolding(rtc_assoc_state::specs::Calls::started_as, rtc_assoc_state::specs::Calls::snapped))]
     pub(crate) fn start_snap(&mut self, now: Moment, max_send: u32)
         ensures { self.new ≡ snapped now max_send self.old }
     {
@@ -60,7 +58,7 @@ impl PlainAssociation {
         self.clock.now = now;
     }
 
-    #[tactic(auto, unfolding(crate::specs::Calls::opened))]
+    #[tactic(auto, unfolding(rtc_assoc_state::specs::Calls::opened))]
     pub(crate) fn open(&mut self, id: u16) -> Result<(), AllocError>
         ensures ok { OnOk result (self.new ≡ opened id self.old) }
         ensures err { OnErr result (self.new ≡ self.old) }
@@ -71,7 +69,7 @@ impl PlainAssociation {
         Ok(())
     }
 
-    #[tactic(auto, unfolding(crate::specs::Calls::thresholded))]
+    #[tactic(auto, unfolding(rtc_assoc_state::specs::Calls::thresholded))]
     pub(crate) fn set_low(&mut self, id: u16, n: usize) -> Result<(), AllocError>
         ensures ok { OnOk result (self.new ≡ thresholded id n self.old) }
         ensures err { OnErr result (self.new ≡ self.old) }
@@ -82,7 +80,7 @@ impl PlainAssociation {
         Ok(())
     }
 
-    #[tactic(auto, unfolding(crate::specs::Calls::shut_down))]
+    #[tactic(auto, unfolding(rtc_assoc_state::specs::Calls::shut_down))]
     pub(crate) fn shut(&mut self) -> Result<(), AllocError>
         ensures ok { OnOk result (self.new ≡ shut_down self.old) }
         ensures err { OnErr result (self.new ≡ self.old) }
@@ -93,7 +91,7 @@ impl PlainAssociation {
         Ok(())
     }
 
-    #[tactic(auto, unfolding(crate::specs::Calls::taken_out))]
+    #[tactic(auto, unfolding(rtc_assoc_state::specs::Calls::taken_out))]
     pub(crate) fn read(&mut self, id: u16) -> Option<Message>
         ensures message { result ≡ next_message id self.old }
         ensures rest { self.new ≡ taken_out id self.old }
@@ -102,7 +100,7 @@ impl PlainAssociation {
         take_out(&mut self.unread, id, generation)
     }
 
-    #[tactic(auto, unfolding(crate::specs::Calls::sent))]
+    #[tactic(auto, unfolding(rtc_assoc_state::specs::Calls::sent))]
     pub(crate) fn write(&mut self, id: u16, identifier: u32, bytes: &[u8]) -> Result<(), AllocError>
         requires lives { is_ending self.old ≡ false }
         requires short { length bytes.now < 2 ^ 32 }
@@ -123,7 +121,7 @@ impl PlainAssociation {
         Ok(())
     }
 
-    #[tactic(auto, unfolding(crate::specs::Calls::sent, crate::specs::Calls::stream_ended))]
+    #[tactic(auto, unfolding(rtc_assoc_state::specs::Calls::sent, rtc_assoc_state::specs::Calls::stream_ended))]
     pub(crate) fn end(&mut self, id: u16) -> Result<(), AllocError>
         requires { is_ending self.old ≡ false }
         ensures ok { OnOk result (Sends self.old (stream_ended self.old.clock.now id self.old) self.new) }

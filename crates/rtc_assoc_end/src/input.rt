@@ -1,23 +1,21 @@
 //! What packets and time do to an end.
-ghost use Rattle.std.specs.Prelude.{◌≡◌, ◌<◌, ◌+◌, ◌^◌, ◌-◌, ◌≤◌, ◌⊎◌, ◌++◌, ◌∷◌, [], min, if◌then◌else◌, Bool, OnOk, OnErr, IfOk, false, true, ◌||◌, Some};
+ghost use Rattle.std.specs.Prelude.{◌≡◌, ◌<◌, ◌+◌, ◌^◌, ◌-◌, ◌≤◌, ◌⊎◌, ◌++◌, ◌∷◌, [], min, if◌then◌else◌};
+ghost use Rattle.std.specs.Prelude.{Bool, OnOk, OnErr, IfOk, false, true, ◌||◌, Some};
 ghost use Rattle.std.specs.VecDeque.{deque_len, deque_capacity};
 ghost use Rattle.rtc_association.specs.declared.assoc_event.AssocEvent.TheVariants.{Connected};
 ghost use Rattle.rtc_assoc_packets.specs.Packets.{frame_in};
 ghost use Rattle.rtc_assoc_packets.specs.Pieces.{packets_from, ReadBack};
 ghost use Rattle.std.specs.Bool.{OnTrue};
-ghost use Rattle.rtc_assoc_end.specs.Contents.{is_ending, waits, is_client};
-ghost use Rattle.rtc_assoc_end.specs.declared.role.Role.TheVariants.{Server};
-ghost use Rattle.rtc_assoc_end.specs.Outbox.{settled_count};
-ghost use Rattle.rtc_assoc_end.specs.Calls.{greeted, welcomed, acknowledged, item_taken, item_came, answered, lost, framed, half_taken, input_taken, timed, hello_due, items_due, at_moment};
-ghost use Rattle.rtc_assoc_end.specs.PlainMeaning.{Sends, Gives, Times, Polls, Transmits};
+ghost use Rattle.rtc_assoc_state.specs.Contents.{is_ending, waits, is_client};
+ghost use Rattle.rtc_assoc_state.specs.declared.role.Role.TheVariants.{Server};
+ghost use Rattle.rtc_assoc_state.specs.Outbox.{settled_count};
+ghost use Rattle.rtc_assoc_state.specs.Calls.{greeted, welcomed, acknowledged, item_taken, item_came, answered, lost};
+ghost use Rattle.rtc_assoc_state.specs.Calls.{framed, half_taken, input_taken, timed, hello_due, items_due, at_moment};
+ghost use Rattle.rtc_assoc_state.specs.PlainMeaning.{Sends, Gives, Times, Polls, Transmits};
 
 use crate::association::PlainAssociation;
-use crate::queues::enqueue;
-use crate::readings::second_after;
-use crate::role::Role;
-use crate::settling::settle;
-use crate::standing::Standing;
 use rtc_assoc_packets::{Frame, Item, Packet, packets_of};
+use rtc_assoc_state::{Role, Standing, enqueue, second_after, settle};
 use rtc_association::AssocEvent;
 use rtc_wire::{Bytes, Moment};
 use std::alloc::AllocError;
@@ -63,7 +61,7 @@ impl PlainAssociation {
     }
 
     /// Takes an acknowledgement.
-    #[tactic(auto, unfolding(crate::specs::Calls::acknowledged))]
+    #[tactic(auto, unfolding(rtc_assoc_state::specs::Calls::acknowledged))]
     fn acknowledge(&mut self, number: u64) -> Result<(), AllocError>
         ensures ok { OnOk result (self.new ≡ acknowledged number self.old) }
         ensures err { OnErr result (self.new ≡ self.old) }
@@ -82,7 +80,7 @@ impl PlainAssociation {
     }
 
     /// Hears of the server by its answer.
-    #[tactic(auto, unfolding(crate::specs::Calls::greeted))]
+    #[tactic(auto, unfolding(rtc_assoc_state::specs::Calls::greeted))]
     fn hear(&mut self) -> Result<(), AllocError>
         ensures ok { OnOk result (self.new ≡ greeted self.old) }
         ensures err { OnErr result (self.new ≡ self.old) }
@@ -93,7 +91,7 @@ impl PlainAssociation {
     }
 
     /// Hears of the server by its data, with an acknowledgement.
-    #[tactic(auto, unfolding(crate::specs::Calls::greeted, crate::specs::Calls::acknowledged))]
+    #[tactic(auto, unfolding(rtc_assoc_state::specs::Calls::greeted, rtc_assoc_state::specs::Calls::acknowledged))]
     fn hear_data(&mut self, number: u64) -> Result<(), AllocError>
         ensures ok { OnOk result (self.new ≡ acknowledged number (greeted self.old)) }
         ensures err { OnErr result (self.new ≡ self.old) }
@@ -113,7 +111,7 @@ impl PlainAssociation {
     }
 
     /// Hears of the client.
-    #[tactic(auto, unfolding(crate::specs::Calls::welcomed))]
+    #[tactic(auto, unfolding(rtc_assoc_state::specs::Calls::welcomed))]
     fn welcome(&mut self) -> Result<(), AllocError>
         ensures ok { OnOk result (Sends self.old (welcomed self.old) self.new) }
         ensures err { OnErr result (self.new ≡ self.old) }
@@ -124,7 +122,7 @@ impl PlainAssociation {
         }
     }
 
-    #[tactic(auto, unfolding(crate::specs::Calls::welcomed))]
+    #[tactic(auto, unfolding(rtc_assoc_state::specs::Calls::welcomed))]
     fn welcome_client(&mut self) -> Result<(), AllocError>
         requires { self.old.standing.role ≡ Server }
         ensures ok { OnOk result (Sends self.old (welcomed self.old) self.new) }
@@ -138,7 +136,7 @@ impl PlainAssociation {
     }
 
     /// The other end shut down.
-    #[tactic(auto, unfolding(crate::specs::Calls::lost))]
+    #[tactic(auto, unfolding(rtc_assoc_state::specs::Calls::lost))]
     fn lose(&mut self) -> Result<(), AllocError>
         ensures ok { OnOk result (self.new ≡ lost self.old) }
         ensures err { OnErr result (self.new ≡ self.old) }
@@ -149,7 +147,7 @@ impl PlainAssociation {
     }
 
     /// Answers with the number up to which all came.
-    #[tactic(auto, unfolding(crate::specs::Calls::answered))]
+    #[tactic(auto, unfolding(rtc_assoc_state::specs::Calls::answered))]
     fn answer(&mut self) -> Result<(), AllocError>
         ensures ok { OnOk result (Sends self.old (answered self.old) self.new) }
         ensures err { OnErr result (self.new ≡ self.old) }
@@ -160,7 +158,7 @@ impl PlainAssociation {
     }
 
     /// A data packet came: its acknowledgement first, then its item where it is the next one, and an answer.
-    #[tactic(auto, unfolding(crate::specs::Calls::item_came))]
+    #[tactic(auto, unfolding(rtc_assoc_state::specs::Calls::item_came))]
     fn take_data(
         &mut self,
         now: Moment,
@@ -176,7 +174,7 @@ impl PlainAssociation {
     }
 
     /// An item came: it is taken where its number is the next one, and answered.
-    #[tactic(auto, unfolding(crate::specs::Calls::item_came))]
+    #[tactic(auto, unfolding(rtc_assoc_state::specs::Calls::item_came))]
     fn take_numbered(&mut self, now: Moment, number: u64, item: Item) -> Result<(), AllocError>
         ensures ok { OnOk result (Sends self.old (answered (item_came now number item self.old)) self.new) }
         ensures err { OnErr result (self.new ≡ self.old) }
@@ -205,7 +203,7 @@ impl PlainAssociation {
     }
 
     /// Takes a packet of the other end.
-    #[tactic(auto, unfolding(crate::specs::Calls::at_moment))]
+    #[tactic(auto, unfolding(rtc_assoc_state::specs::Calls::at_moment))]
     pub(crate) fn take(&mut self, now: Moment, bytes: &[u8]) -> Result<(), AllocError>
         ensures { Gives self.old now bytes.now result self.new }
     {
@@ -244,7 +242,9 @@ impl PlainAssociation {
 
     /// The unacknowledged items again, where they are due.
     fn items_again(&self, due: bool) -> Result<VecDeque<Packet>, AllocError>
-        ensures packets { IfOk result (λ packets. packets.items ≡ (if due then packets_from self.now.inbox.received (self.now.outbox.acked + 1) self.now.outbox.items else [])) }
+        ensures packets { IfOk result (λ packets. packets.items
+            ≡ (if due then packets_from self.now.inbox.received (self.now.outbox.acked + 1) self.now.outbox.items
+            else [])) }
         ensures reads { OnOk result (OnTrue due (ReadBack self.now.inbox.received (self.now.outbox.acked + 1) self.now.outbox.items)) }
     {
         if !due {
@@ -257,7 +257,7 @@ impl PlainAssociation {
     }
 
     /// Takes a moment: what is due is queued again.
-    #[tactic(auto, unfolding(crate::specs::Calls::timed))]
+    #[tactic(auto, unfolding(rtc_assoc_state::specs::Calls::timed))]
     pub(crate) fn time(&mut self, now: Moment) -> Result<(), AllocError>
         ensures { Times self.old now result self.new }
     {

@@ -5,8 +5,8 @@ use rtc_wire::{Bytes, Moment, ReliabilityType};
 use std::alloc::AllocError;
 
 impl Association for PlainAssociation {
-    ghost use Rattle.rtc_assoc_end.specs.PlainMeaning.{plain_meaning};
-    ghost use Rattle.rtc_assoc_end.specs.PlainLaws.{plain_laws};
+    ghost use Rattle.rtc_assoc_state.specs.PlainMeaning.{plain_meaning};
+    ghost use Rattle.rtc_assoc_state.proofs.PlainLaws.{plain_laws};
 
     ghost association = { plain_meaning };
 

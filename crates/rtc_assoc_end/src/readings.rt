@@ -1,62 +1,13 @@
 //! What an end answers of itself.
 ghost use Rattle.std.specs.Prelude.{◌≡◌, ◌+◌, ◌<◌, ◌^◌, nat_lt, Some, None};
 ghost use Rattle.std.specs.Bool.{OnFalse};
-ghost use Rattle.rtc_assoc_end.specs.Contents.{is_started, is_closing, is_closed, is_ending, has_stream, closed_here, is_stale, generation_of, buffered_of, wake_of, hello_wake, items_wake, waits, second_after, earlier, has_role};
+ghost use Rattle.rtc_assoc_state.specs.Contents.{is_started, is_closing, is_closed, is_ending, has_stream};
+ghost use Rattle.rtc_assoc_state.specs.Contents.{closed_here, is_stale, generation_of, buffered_of, wake_of};
+ghost use Rattle.rtc_assoc_state.specs.Contents.{hello_wake, items_wake};
 
-use crate::amounts::amount_in;
 use crate::association::PlainAssociation;
-use crate::role::Role;
-use crate::rows::{any_worn, row_of};
-use crate::standing::Standing;
-use rtc_wire::{Moment, Span};
-
-impl Role {
-    pub fn is_started(self) -> bool
-        ensures { result ≡ has_role self }
-    {
-        match self {
-            Role::Unstarted => false,
-            Role::Client | Role::Server | Role::Snap => true,
-        }
-    }
-}
-
-impl Standing {
-    /// Whether a client waits for its answer.
-    pub fn waits(&self) -> bool
-        ensures { result ≡ waits self.now }
-    {
-        match self.role {
-            Role::Client => !self.connected,
-            Role::Unstarted | Role::Server | Role::Snap => false,
-        }
-    }
-}
-
-/// One second after a moment.
-pub fn second_after(moment: Moment) -> Moment
-    ensures { result ≡ second_after moment }
-{
-    moment.plus(Span::from_secs(1))
-}
-
-fn earlier(a: Option<Moment>, b: Option<Moment>) -> Option<Moment>
-    ensures { result ≡ earlier a b }
-{
-    match a {
-        None => b,
-        Some(x) => match b {
-            None => Some(x),
-            Some(y) => {
-                if x.nanos() <= y.nanos() {
-                    Some(x)
-                } else {
-                    Some(y)
-                }
-            }
-        },
-    }
-}
+use rtc_assoc_state::{amount_in, any_at_last_generation, earlier, row_of, second_after};
+use rtc_wire::Moment;
 
 impl PlainAssociation {
     pub(crate) fn has_started(&self) -> bool
@@ -71,8 +22,8 @@ impl PlainAssociation {
     {
         let last = self.acked + self.items.len() as u64;
         let few = u64::MAX - last < 8_589_934_592;
-        let worn = any_worn(self.streams.as_slice());
-        self.standing.shut || few || worn
+        let at_last = any_at_last_generation(self.streams.as_slice());
+        self.standing.shut || few || at_last
     }
 
     pub(crate) fn is_lost(&self) -> bool
@@ -115,6 +66,9 @@ impl PlainAssociation {
     pub(crate) fn buffered(&self, id: u16) -> usize
         ensures { result ≡ buffered_of self.now id }
     {
+        if !self.has(id) {
+            return 0;
+        }
         amount_in(self.amounts.as_slice(), id)
     }
 

@@ -1,14 +1,12 @@
 -- A packet is read as what it was made of.
-use Rattle.std.proofs.Common.{ℕ, ◌≡◌, ◌+◌, ◌≤◌, ◌<◌, ◌^◌, List, [], ◌∷◌, ◌++◌, length, drop, slice_range, Option, Some, None, refl, sym, ◌∙◌, ap, arith}
-use Rattle.std.specs.Int.{w16, w32, w64, from_be_bytes}
+use Rattle.std.proofs.Common.{ℕ, ◌≡◌, ◌≤◌, ◌<◌, ◌^◌, List, [], ◌∷◌, length, Some, None, refl, arith}
 use Rattle.std.proofs.lemmas.Bool.{le-ltb}
 use Rattle.std.proofs.lemmas.Nat.{from_be_bytes-to_be_bytes_2, from_be_bytes-to_be_bytes_4, from_be_bytes-to_be_bytes_8}
 use Rattle.rtc_assoc_packets.specs.declared.item_part.ItemPart.{ItemPart}
 use Rattle.rtc_assoc_packets.specs.declared.item_part.ItemPart.TheVariants.{More, Last, Close}
 use Rattle.rtc_assoc_packets.specs.declared.item.Item.{Item}
-use Rattle.rtc_assoc_packets.specs.declared.frame.Frame.{Frame}
 use Rattle.rtc_assoc_packets.specs.declared.frame.Frame.TheVariants.{Hello, Welcome, Data, Acknowledgement, Shutdown}
-use Rattle.rtc_assoc_packets.specs.Packets.{part_byte, part_of, data_header, data_bytes, acknowledgement_bytes, Fits, item_in, data_with, data_in, frame_in}
+use Rattle.rtc_assoc_packets.specs.Packets.{part_byte, part_of, data_header, data_bytes, acknowledgement_bytes, Fits, data_in, frame_in}
 
 -- an item is its fields
 pub item_is : (s g i t h j : ℕ) (part : ItemPart) (b c : List ℕ) → s ≡ t → g ≡ h → i ≡ j → b ≡ c

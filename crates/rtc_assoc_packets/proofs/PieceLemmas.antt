@@ -1,5 +1,5 @@
 -- Cutting a message, and packets of items.
-use Rattle.std.proofs.Common.{ℕ, zero, suc, ◌≡◌, ◌+◌, ◌-◌, ◌≤◌, ◌<◌, inl, inr, List, [], ◌∷◌, ◌++◌, length, take, drop, cond, leb, get_or, Some, true, false, Bool, refl, sym, ◌∙◌, ap, subst, arith, append_assoc, length-drop, length-append}
+use Rattle.std.proofs.Common.{ℕ, zero, suc, ◌≡◌, ◌+◌, ◌≤◌, ◌<◌, inl, inr, List, [], ◌∷◌, ◌++◌, length, take, drop, get_or, Some, refl, sym, ◌∙◌, ap, subst, arith, append_assoc, length-drop}
 use Rattle.std.proofs.lemmas.Bool.{le-leb, lt-leb}
 use Rattle.std.proofs.lemmas.Bool.Decides.{leb_tells}
 use Rattle.std.proofs.lemmas.List.{take_more, length-take-le}

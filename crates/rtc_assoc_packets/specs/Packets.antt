@@ -1,5 +1,6 @@
 -- The packets of the plain association: their bytes, and what is read of bytes. Numbers are big-endian.
-use Rattle.std.specs.Prelude.{ℕ, ◌≡◌, ◌+◌, ◌≤◌, ◌<◌, ◌^◌, ◌==◌, ◌&&◌, not, nat_lt, if◌then◌else◌, Bool, List, [], ◌∷◌, ◌++◌, length, drop, slice_index, slice_range, Option, Some, None}
+use Rattle.std.specs.Prelude.{ℕ, ◌<◌, ◌^◌, ◌==◌, ◌&&◌, not, nat_lt, if◌then◌else◌, List, ◌∷◌}
+use Rattle.std.specs.Prelude.{◌++◌, length, drop, slice_index, slice_range, Option, Some, None}
 use Rattle.std.specs.Int.{w16, w32, w64, to_be_bytes, from_be_bytes}
 use Rattle.rtc_assoc_packets.specs.declared.item_part.ItemPart.{ItemPart}
 use Rattle.rtc_assoc_packets.specs.declared.item_part.ItemPart.TheVariants.{More, Last, Close}
@@ -48,7 +49,8 @@ item_in part bytes = record {
 -- what a data packet of at least 28 bytes says, by the part that its byte 23 says
 abbrev pub data_with : Option ItemPart → List ℕ → Option Frame
 data_with None bytes = None
-data_with (Some part) bytes = Some (Data (from_be_bytes w64 (slice_range bytes 1 9)) (from_be_bytes w64 (slice_range bytes 9 17)) (item_in part bytes))
+data_with (Some part) bytes =
+    Some (Data (from_be_bytes w64 (slice_range bytes 1 9)) (from_be_bytes w64 (slice_range bytes 9 17)) (item_in part bytes))
 
 unfoldable pub data_in : List ℕ → Option Frame
 data_in bytes = data_with (part_of (slice_index bytes 23)) bytes

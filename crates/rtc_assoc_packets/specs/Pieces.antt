@@ -1,5 +1,5 @@
 -- The pieces of a message.
-use Rattle.std.specs.Prelude.{ℕ, zero, suc, ◌+◌, nat_le, if◌then◌else◌, List, [], ◌∷◌, ◌++◌, length, take, drop, ◌≡◌, Some}
+use Rattle.std.specs.Prelude.{ℕ, zero, suc, ◌+◌, nat_le, if◌then◌else◌, List, [], ◌∷◌, length, take, drop, ◌≡◌, Some}
 use Rattle.rtc_assoc_packets.specs.declared.item_part.ItemPart.{ItemPart}
 use Rattle.rtc_assoc_packets.specs.declared.item_part.ItemPart.TheVariants.{More, Last, Close}
 use Rattle.rtc_assoc_packets.specs.declared.item.Item.{Item}
@@ -7,7 +7,8 @@ use Rattle.rtc_assoc_packets.specs.Packets.{data_bytes, frame_in}
 use Rattle.rtc_assoc_packets.specs.declared.frame.Frame.TheVariants.{Data}
 
 abbrev pub piece : ℕ → ℕ → ItemPart → ℕ → List ℕ → Item
-piece stream generation part identifier bytes = record { stream = stream; generation = generation; part = part; identifier = identifier; bytes = bytes }
+piece stream generation part identifier bytes =
+    record { stream = stream; generation = generation; part = part; identifier = identifier; bytes = bytes }
 
 -- the close of a generation of a stream
 abbrev pub close_of : ℕ → ℕ → Item
@@ -32,4 +33,6 @@ packets_from acknowledged number (item ∷ items) = data_bytes acknowledged numb
 -- these packets are read as what they were made of
 abbrev pub ReadBack : (acknowledged number : ℕ) → List Item → Type 0
 ReadBack acknowledged number [] = Unit {0}
-ReadBack acknowledged number (item ∷ items) = (frame_in (data_bytes acknowledged number item) ≡ Some (Data acknowledged number item)) × ReadBack acknowledged (number + 1) items
+ReadBack acknowledged number (item ∷ items) =
+    (frame_in (data_bytes acknowledged number item) ≡ Some (Data acknowledged number item))
+    × ReadBack acknowledged (number + 1) items

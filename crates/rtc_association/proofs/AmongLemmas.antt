@@ -1,6 +1,6 @@
 -- Members of lists, and lists whose members are in others.
 use Rattle.std.proofs.Common.{◌≡◌, ◌<◌, ◌⊎◌, ℕ, zero, suc, inl, inr, List, [], ◌∷◌, ◌++◌, length, get_or, arith}
-use Rattle.rtc_association.specs.Among.{Member, Among}
+use Rattle.rtc_parts_values.specs.Among.{Member, Among}
 
 -- a member of two lists joined is one of either
 pub member-append : {A : Type 0} (x : A) (xs ys : List A) → Member x (xs ++ ys) → Member x xs ⊎ Member x ys

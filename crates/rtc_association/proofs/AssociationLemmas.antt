@@ -1,9 +1,11 @@
 -- What lists of acts gave, took, wrote, read and told, part by part.
-use Rattle.std.proofs.Common.{◌≡◌, ℕ, ◌+◌, ◌≤◌, ◌==◌, ◌&&◌, ◌||◌, cond, Bool, true, false, List, [], ◌∷◌, ◌++◌, refl, ap, sym, ◌∙◌, subst, arith, zero-add}
+use Rattle.std.proofs.Common.{◌≡◌, ℕ, ◌+◌, ◌≤◌, ◌==◌, ◌&&◌, ◌||◌, inl, inr, not, cond, Bool, true, false, List, [], ◌∷◌, ◌++◌, refl, ap, sym, ◌∙◌, subst, arith, zero-add, append_assoc, append-nil}
 use Rattle.rtc_association.specs.declared.assoc_event.AssocEvent.{AssocEvent}
-use Rattle.rtc_association.specs.declared.assoc_event.AssocEvent.TheVariants.{ResetComplete}
-use Rattle.rtc_association.specs.AssociationActs.{AssociationAct, Wrote, Ended, Given, Taken, Read, Told, Moved}
+use Rattle.rtc_association.specs.declared.assoc_event.AssocEvent.TheVariants.{Readable, Finished, ResetComplete}
+use Rattle.rtc_association.specs.AssociationActs.{AssociationAct, Wrote, Ended, Given, Taken, Read, Told, Acted, Moved}
 use Rattle.rtc_association.specs.AssociationWords.{given, taken, written, read, ended, told, completions}
+use Rattle.rtc_association.specs.AssociationEvents.{InOrder, AddsEvents}
+use Rattle.rtc_association.proofs.AmongLemmas.{member-left, member-right}
 use Rattle.rtc_association.specs.AssociationMeaning.{AssociationMeaning}
 use Rattle.rtc_association.specs.AssociationLaws.{AssociationLaws}
 
@@ -51,15 +53,53 @@ completions-append s [] ys = sym (zero-add (completions s ys))
 completions-append s (ResetComplete t ∷ xs) ys = omega (arith, completions-append s xs ys)
 completions-append s (_ ∷ xs) ys = completions-append s xs ys
 
--- over a list of acts the completed resets told are those by which a generation rose and that were to be told
-pub completed : {S : Type 0} (m : AssociationMeaning S) → AssociationLaws m → (p q : S) (acts : List AssociationAct) (s : ℕ) → Moved m p acts q → m.untold q s + completions s (told acts) + m.generation p s ≡ m.untold p s + m.generation q s
-completed {S} m w p q [] s h = let P : S → Type 0 = λ x. m.untold x s + 0 + m.generation p s ≡ m.untold p s + m.generation x s in subst P (sym h) (omega arith)
-completed m w p q (act ∷ acts) s h =
-    let one = w.completes p h.0 act s h.1.0 in
-    let rest = completed m w h.0 q acts s h.1.1 in
-    let e : completions s (told (act ∷ acts)) ≡ completions s (told (act ∷ [])) + completions s (told acts) =
-    ap (completions s) (told-append (act ∷ []) acts) ∙ completions-append s (told (act ∷ [])) (told acts) in
-    omega (arith, one, rest, e)
+pub in_order-append : (s : ℕ) (a b c : Bool) (xs ys : List AssocEvent) → InOrder s a xs b → InOrder s b ys c → InOrder s a (xs ++ ys) c
+in_order-append s a b c [] ys h k = subst (λ (x : Bool). InOrder s x ys c) h k
+in_order-append s a b c (Finished t ∷ xs) ys h k = in_order-append s ((t == s) || a) b c xs ys h k
+in_order-append s a b c (ResetComplete t ∷ xs) ys h k = (h.0, in_order-append s (not (t == s) && a) b c xs ys h.1 k)
+in_order-append s a b c (_ ∷ xs) ys h k = in_order-append s a b c xs ys h k
+
+-- lists of acts add what each of them adds
+pub adds_all : {S : Type 0} (m : AssociationMeaning S) → AssociationLaws m → (p q : S) (acts : List AssociationAct) → Moved m p acts q → AddsEvents m p acts q
+adds_all {S} m w p q [] h = let P : S → Type 0 = λ x. AddsEvents m p [] x in subst P (sym h) (record {
+  more = [];
+  due_is = sym (append-nil (m.due p));
+  rises = λ id. omega arith;
+  in_order = λ id. refl;
+  readable = λ id g u. inl u;
+})
+adds_all m w p q (act ∷ acts) h =
+    let one = w.adds p h.0 act h.1.0 in
+    let rest = adds_all m w h.0 q acts h.1.1 in
+    record {
+      more = one.more ++ rest.more;
+      due_is = ap (λ l. l ++ m.due q) (told-append (act ∷ []) acts)
+          ∙ append_assoc (told (act ∷ [])) (told acts) (m.due q)
+          ∙ ap (λ l. told (act ∷ []) ++ l) rest.due_is
+          ∙ sym (append_assoc (told (act ∷ [])) (m.due h.0) rest.more)
+          ∙ ap (λ l. l ++ rest.more) one.due_is
+          ∙ append_assoc (m.due p) one.more rest.more;
+      rises = λ id. omega (arith, one.rises id, rest.rises id, completions-append id one.more rest.more);
+      in_order = λ id. in_order-append id (m.finished p id) (m.finished h.0 id) (m.finished q id) one.more rest.more (one.in_order id) (rest.in_order id);
+      readable = λ id g u. elim (rest.readable id g u) [
+        | inl k ↦ elim (one.readable id g k) [ inl j ↦ inl j | inr j ↦ inr (member-left (Readable id) one.more rest.more j) ]
+        | inr k ↦ inr (member-right (Readable id) one.more rest.more k)
+      ];
+    }
+
+-- a generation never falls
+pub generation_rises : {S : Type 0} (m : AssociationMeaning S) → AssociationLaws m → (p q : S) (act : AssociationAct) (id : ℕ) → Acted m p act q → m.generation p id ≤ m.generation q id
+generation_rises m w p q act id h = omega (arith, (w.adds p q act h).rises id)
+
+-- over a list of acts the completed resets told are those by which a generation rose and that were due
+pub completed : {S : Type 0} (m : AssociationMeaning S) → AssociationLaws m → (p q : S) (acts : List AssociationAct) (s : ℕ) → Moved m p acts q → completions s (told acts) + completions s (m.due q) + m.generation p s ≡ completions s (m.due p) + m.generation q s
+completed m w p q acts s h =
+    let all = adds_all m w p q acts h in
+    omega (arith, all.rises s, ap (completions s) all.due_is, completions-append s (told acts) (m.due q), completions-append s (m.due p) all.more)
+
+-- of a fresh part: the events that were told and those that are due
+pub fresh_adds : {S : Type 0} (m : AssociationMeaning S) → AssociationLaws m → (p q : S) (acts : List AssociationAct) → m.fresh p → (a : AddsEvents m p acts q) → told acts ++ m.due q ≡ a.more
+fresh_adds m w p q acts f a = a.due_is ∙ ap (λ l. l ++ a.more) (w.fresh_due p f)
 
 -- a move of joined lists goes by a part between
 pub moved-split : {S : Type 0} (m : AssociationMeaning S) (p q : S) (xs ys : List AssociationAct) → Moved m p (xs ++ ys) q → (r : S) × (Moved m p xs r × Moved m r ys q)
@@ -70,4 +110,4 @@ moved-split m p q (x ∷ xs) ys h = let rest = moved-split m h.0 q xs ys h.1.1 i
 pub completions_before_read : {S : Type 0} (m : AssociationMeaning S) → AssociationLaws m → (p q : S) (before after : List AssociationAct) (s g i : ℕ) (bytes : List ℕ) → m.fresh p → Moved m p (before ++ Read s g i bytes ∷ after) q → completions s (told before) ≤ g
 completions_before_read m w p q before after s g i bytes f h =
     let mid = moved-split m p q before (Read s g i bytes ∷ after) h in
-    omega (arith, completed m w p mid.0 before s mid.1.0, w.fresh_untold p s f, mid.1.1.1.0.1.2)
+    omega (arith, completed m w p mid.0 before s mid.1.0, w.fresh_generation p s f, ap (completions s) (w.fresh_due p f), mid.1.1.1.0.1.2)

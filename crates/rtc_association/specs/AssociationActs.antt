@@ -7,7 +7,7 @@ use Rattle.rtc_association.specs.declared.assoc_event.AssocEvent.{AssocEvent}
 use Rattle.rtc_association.specs.declared.ppi.Ppi.{Ppi}
 use Rattle.rtc_association.specs.Ppi.{ppi_number}
 use Rattle.rtc_association.specs.AssociationMeaning.{AssociationMeaning}
-use Rattle.rtc_association.specs.Why.{Why, Timed, Shut, Other}
+use Rattle.rtc_parts_values.specs.Why.{Why, Timed, Shut, Other}
 
 -- one act. A generation is that of the stream as the call begins, and a message has the number of its identifier
 pub data AssociationAct : Type 0 where
@@ -37,13 +37,15 @@ pub data Stirs {S : Type 0} (m : AssociationMeaning S) (p q : S) : Type 0 where
   LimitsSet : (max_payload local_max_message : ℕ) → m.limits_set p max_payload local_max_message q → Stirs m p q
   ConnectRefused : (now max_send : ℕ) (e : AssocError) → m.started p ≡ false → m.connected p now max_send (Err e) q → Stirs m p q
   AcceptRefused : (now max_send : ℕ) (e : AssocError) → m.started p ≡ false → m.accepted p now max_send (Err e) q → Stirs m p q
-  SnapRefused : (now max_send : ℕ) (local remote : List ℕ) (e : AssocError) → m.started p ≡ false → m.connected_snap p now max_send local remote (Err e) q → Stirs m p q
+  SnapRefused : (now max_send : ℕ) (local remote : List ℕ) (e : AssocError) → m.started p ≡ false
+      → m.connected_snap p now max_send local remote (Err e) q → Stirs m p q
   OpenRefused : (id : ℕ) (e : AssocError) → m.opened p id (Err e) q → Stirs m p q
   WriteRefused : (id : ℕ) (ppi : Ppi) (bytes : List ℕ) (e : AssocError) → m.wrote p id ppi bytes (Err e) q → Stirs m p q
   ReadRefused : (id : ℕ) (e : AssocError) → m.read p id (Err e) q → Stirs m p q
   EndRefused : (id : ℕ) (e : AssocError) → m.ended p id (Err e) q → Stirs m p q
   ThresholdSet : (id n : ℕ) (r : Result (Unit {0}) AssocError) → m.threshold_set p id n r q → Stirs m p q
-  ReliabilitySet : (id : ℕ) (unordered : Bool) (t : ReliabilityType) (n : ℕ) (r : Result (Unit {0}) AssocError) → m.reliability_set p id unordered t n r q → Stirs m p q
+  ReliabilitySet : (id : ℕ) (unordered : Bool) (t : ReliabilityType) (n : ℕ) (r : Result (Unit {0}) AssocError)
+      → m.reliability_set p id unordered t n r q → Stirs m p q
 
 -- an act took the part from p to q
 abbrev pub Acted : {S : Type 0} → AssociationMeaning S → S → AssociationAct → S → Type 0
@@ -65,7 +67,8 @@ Moved m p [] q = q ≡ p
 Moved {S} m p (act ∷ acts) q = (r : S) × (Acted m p act r × Moved m r acts q)
 
 -- two moves join to one
-pub moved-append : {S : Type 0} (m : AssociationMeaning S) (a b c : S) (xs ys : List AssociationAct) → Moved m a xs b → Moved m b ys c → Moved m a (xs ++ ys) c
+pub moved-append : {S : Type 0} (m : AssociationMeaning S) (a b c : S) (xs ys : List AssociationAct) → Moved m a xs b
+    → Moved m b ys c → Moved m a (xs ++ ys) c
 moved-append {S} m a b c [] ys h k = subst (λ (x : S). Moved m x ys c) h k
 moved-append m a b c (x ∷ xs) ys h k = (h.0, (h.1.0, moved-append m h.0 b c xs ys h.1.1 k))
 

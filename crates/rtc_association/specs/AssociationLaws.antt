@@ -8,7 +8,7 @@ use Rattle.rtc_association.specs.declared.ppi.Ppi.{Ppi}
 use Rattle.rtc_association.specs.AssociationMeaning.{AssociationMeaning}
 use Rattle.rtc_association.specs.AssociationNeeds.{Answered, closing_need, open_need, write_need, end_need, stream_need}
 use Rattle.rtc_association.specs.AssociationActs.{AssociationAct, starts, Acted}
-use Rattle.rtc_association.specs.AssociationWords.{told, completions}
+use Rattle.rtc_association.specs.AssociationEvents.{AddsEvents}
 
 -- what an answer of a starting call leaves: a started part with this limit, or one that is not started
 abbrev pub LeavesStarted : {S : Type 0} → AssociationMeaning S → ℕ → Result (Unit {0}) AssocError → S → Type 0
@@ -22,39 +22,61 @@ pub record Buffers {S : Type 0} (m : AssociationMeaning S) (p : S) (id count : �
   pub others : (other : ℕ) → other ≢ id → m.buffered q other ≡ m.buffered p other
 
 pub record AssociationLaws {S : Type 0} (m : AssociationMeaning S) : Type 0 where
-  -- a fresh part is not started, has no threshold and no completed reset that was told
+  -- a fresh part is not started and has no threshold, its streams are at generation 0 and not closed, and it has no
+  -- event that is due and no message
   pub fresh_not_started : (p : S) → m.fresh p → m.started p ≡ false
   pub fresh_no_threshold : (p : S) → m.fresh p → m.has_threshold p ≡ false
-  pub fresh_untold : (p : S) (id : ℕ) → m.fresh p → m.untold p id ≡ m.generation p id
+  pub fresh_due : (p : S) → m.fresh p → m.due p ≡ []
+  pub fresh_generation : (p : S) (id : ℕ) → m.fresh p → m.generation p id ≡ 0
+  pub fresh_finished : (p : S) (id : ℕ) → m.fresh p → m.finished p id ≡ false
+  pub fresh_unread : (p : S) (id g : ℕ) → m.fresh p → m.has_unread p id g ≡ false
   -- each call refuses exactly where one of its needs holds, with the first that does
   pub connect_answer : (p q : S) (now max_send : ℕ) (r : _) → m.connected p now max_send r q → Answered None (m.faults p) (m.faults q) r
   pub accept_answer : (p q : S) (now max_send : ℕ) (r : _) → m.accepted p now max_send r q → Answered None (m.faults p) (m.faults q) r
-  pub snap_answer : (p q : S) (now max_send : ℕ) (local remote : List ℕ) (r : _) → m.connected_snap p now max_send local remote r q → Answered None (m.faults p) (m.faults q) r
+  pub snap_answer : (p q : S) (now max_send : ℕ) (local remote : List ℕ) (r : _)
+      → m.connected_snap p now max_send local remote r q → Answered None (m.faults p) (m.faults q) r
   pub open_answer : (p q : S) (id : ℕ) (r : _) → m.opened p id r q → Answered (open_need m p id) (m.faults p) (m.faults q) r
-  pub write_answer : (p q : S) (id : ℕ) (ppi : Ppi) (bytes : List ℕ) (r : _) → m.wrote p id ppi bytes r q → Answered (write_need m p id bytes) (m.faults p) (m.faults q) r
+  pub write_answer : (p q : S) (id : ℕ) (ppi : Ppi) (bytes : List ℕ) (r : _) → m.wrote p id ppi bytes r q
+      → Answered (write_need m p id bytes) (m.faults p) (m.faults q) r
   pub read_answer : (p q : S) (id : ℕ) (r : _) → m.read p id r q → Answered (stream_need m p id) (m.faults p) (m.faults q) r
   pub end_answer : (p q : S) (id : ℕ) (r : _) → m.ended p id r q → Answered (end_need m p id) (m.faults p) (m.faults q) r
-  pub threshold_answer : (p q : S) (id n : ℕ) (r : _) → m.threshold_set p id n r q → Answered (stream_need m p id) (m.faults p) (m.faults q) r
-  pub reliability_answer : (p q : S) (id : ℕ) (unordered : Bool) (t : ReliabilityType) (n : ℕ) (r : _) → m.reliability_set p id unordered t n r q → Answered (stream_need m p id) (m.faults p) (m.faults q) r
+  pub threshold_answer : (p q : S) (id n : ℕ) (r : _) → m.threshold_set p id n r q
+      → Answered (stream_need m p id) (m.faults p) (m.faults q) r
+  pub reliability_answer : (p q : S) (id : ℕ) (unordered : Bool) (t : ReliabilityType) (n : ℕ) (r : _)
+      → m.reliability_set p id unordered t n r q → Answered (stream_need m p id) (m.faults p) (m.faults q) r
   pub shut_answer : (p q : S) (r : _) → m.shut p r q → Answered (closing_need m p) (m.faults p) (m.faults q) r
   -- an Ok starting call leaves the part started with its limit, a refused one leaves it not started, and no other
   -- call changes either
-  pub connect_starts : (p q : S) (now max_send : ℕ) (r : _) → m.started p ≡ false → m.connected p now max_send r q → LeavesStarted m max_send r q
-  pub accept_starts : (p q : S) (now max_send : ℕ) (r : _) → m.started p ≡ false → m.accepted p now max_send r q → LeavesStarted m max_send r q
-  pub snap_starts : (p q : S) (now max_send : ℕ) (local remote : List ℕ) (r : _) → m.started p ≡ false → m.connected_snap p now max_send local remote r q → LeavesStarted m max_send r q
-  pub same_start : (p q : S) (act : AssociationAct) → starts act ≡ false → Acted m p act q → (m.started q ≡ m.started p) × (m.max_send q ≡ m.max_send p)
+  pub connect_starts : (p q : S) (now max_send : ℕ) (r : _) → m.started p ≡ false → m.connected p now max_send r q
+      → LeavesStarted m max_send r q
+  pub accept_starts : (p q : S) (now max_send : ℕ) (r : _) → m.started p ≡ false → m.accepted p now max_send r q
+      → LeavesStarted m max_send r q
+  pub snap_starts : (p q : S) (now max_send : ℕ) (local remote : List ℕ) (r : _) → m.started p ≡ false
+      → m.connected_snap p now max_send local remote r q → LeavesStarted m max_send r q
+  pub same_start : (p q : S) (act : AssociationAct) → starts act ≡ false → Acted m p act q
+      → (m.started q ≡ m.started p) × (m.max_send q ≡ m.max_send p)
   -- a message is written whole
   pub write_count : (p q : S) (id : ℕ) (ppi : Ppi) (bytes : List ℕ) (n : ℕ) → m.wrote p id ppi bytes (Ok n) q → n ≡ length bytes
-  pub write_buffers : (p q : S) (id : ℕ) (ppi : Ppi) (bytes : List ℕ) (n : ℕ) → m.wrote p id ppi bytes (Ok n) q → Buffers m p id (length bytes) q
+  pub write_buffers : (p q : S) (id : ℕ) (ppi : Ppi) (bytes : List ℕ) (n : ℕ) → m.wrote p id ppi bytes (Ok n) q
+      → Buffers m p id (length bytes) q
   -- a reading that gives nothing, and an opening refused for the stream that is there or its outstanding reset,
-  -- change nothing and, want of memory aside, are answered so again
+  -- change nothing and, `Alloc` aside, are answered so again
   pub read_none : (p q : S) (id : ℕ) → m.read p id (Ok None) q → q ≡ p
   pub read_none_again : (p q o : S) (id : ℕ) (r : _) → m.read p id (Ok None) q → m.read p id r o → (r ≡ Ok None) ⊎ (r ≡ Err Alloc)
   pub open_refused : (p q : S) (id : ℕ) (e : AssocError) → (e ≡ StreamExists) ⊎ (e ≡ ResetPending) → m.opened p id (Err e) q → q ≡ p
-  pub open_refused_again : (p q o : S) (id : ℕ) (e : AssocError) (r : _) → (e ≡ StreamExists) ⊎ (e ≡ ResetPending) → m.opened p id (Err e) q → m.opened p id r o → (r ≡ Err e) ⊎ (r ≡ Err Alloc)
-  -- a generation never falls, and a completed reset that is told had raised it before
-  pub generation_rises : (p q : S) (act : AssociationAct) (id : ℕ) → Acted m p act q → m.generation p id ≤ m.generation q id
-  pub completes : (p q : S) (act : AssociationAct) (id : ℕ) → Acted m p act q → m.untold q id + completions id (told (act ∷ [])) + m.generation p id ≡ m.untold p id + m.generation q id
+  pub open_refused_again : (p q o : S) (id : ℕ) (e : AssocError) (r : _) → (e ≡ StreamExists) ⊎ (e ≡ ResetPending)
+      → m.opened p id (Err e) q → m.opened p id r o → (r ≡ Err e) ⊎ (r ≡ Err Alloc)
+  -- a reading gives a message exactly where one of the stream's generation stands unread
+  pub read_unread : (p q : S) (id : ℕ) (message : Ppi × List ℕ) → m.read p id (Ok (Some message)) q
+      → m.has_unread p id (m.generation p id) ≡ true
+  pub none_unread : (p q : S) (id : ℕ) → m.read p id (Ok None) q → m.has_unread p id (m.generation p id) ≡ false
+  -- a stream that is stale is there, and one that is not there has no unacknowledged bytes
+  pub stale_there : (p : S) (id : ℕ) → m.stale p id ≡ true → m.has_stream p id ≡ true
+  pub none_buffered : (p : S) (id : ℕ) → m.has_stream p id ≡ false → m.buffered p id ≡ 0
+  -- an act adds events behind those that are due, and a poll takes the first of these and adds none
+  pub adds : (p q : S) (act : AssociationAct) → Acted m p act q → AddsEvents m p (act ∷ []) q
+  pub poll_head : (p q : S) (event : AssocEvent) → m.polled p (Some event) q → m.due p ≡ event ∷ m.due q
+  pub poll_none : (p q : S) → m.polled p None q → m.due p ≡ []
   -- the count of faults never falls
   pub faults_rise : (p q : S) (act : AssociationAct) → Acted m p act q → m.faults p ≤ m.faults q
   -- a poll that gives nothing changes nothing, and the polls all give nothing exactly where nothing is held
@@ -73,10 +95,15 @@ pub record AssociationLaws {S : Type 0} (m : AssociationMeaning S) : Type 0 wher
   pub read_units : (p q : S) (id : ℕ) (message : Ppi × List ℕ) → m.read p id (Ok (Some message)) q → m.units q + 1 ≤ m.units p
   pub read_refused_units : (p q : S) (id : ℕ) (e : AssocError) → m.read p id (Err e) q → m.units q ≤ m.units p
   pub open_units : (p q : S) (id : ℕ) (r : _) → m.opened p id r q → m.units q ≤ m.units p
-  pub reliability_units : (p q : S) (id : ℕ) (unordered : Bool) (t : ReliabilityType) (n : ℕ) (r : _) → m.reliability_set p id unordered t n r q → m.units q ≤ m.units p
-  pub write_units : (p q : S) (id : ℕ) (ppi : Ppi) (bytes : List ℕ) (r : _) → m.wrote p id ppi bytes r q → m.units q ≤ m.units p + length bytes + 2
+  pub threshold_units : (p q : S) (id n : ℕ) (r : _) → m.threshold_set p id n r q → m.units q ≤ m.units p
+  pub reliability_units : (p q : S) (id : ℕ) (unordered : Bool) (t : ReliabilityType) (n : ℕ) (r : _)
+      → m.reliability_set p id unordered t n r q → m.units q ≤ m.units p
+  pub write_units : (p q : S) (id : ℕ) (ppi : Ppi) (bytes : List ℕ) (r : _) → m.wrote p id ppi bytes r q
+      → m.units q ≤ m.units p + length bytes + 2
   pub end_units : (p q : S) (id : ℕ) (r : _) → m.ended p id r q → m.units q ≤ m.units p + 2
   pub shut_units : (p q : S) (r : _) → m.shut p r q → m.units q ≤ m.units p + 2
-  pub given_units : (p q : S) (now : ℕ) (bytes : List ℕ) (r : _) → m.has_threshold p ≡ false → m.given p now bytes r q → m.units q ≤ m.units p + 16 * (1 + length bytes)
+  pub given_units : (p q : S) (now : ℕ) (bytes : List ℕ) (r : _) → m.has_threshold p ≡ false → m.given p now bytes r q
+      → m.units q ≤ m.units p + 16 * (1 + length bytes)
   -- only setting one brings a threshold
-  pub no_threshold : (p q : S) (act : AssociationAct) → Acted m p act q → m.has_threshold p ≡ false → m.has_threshold q ≡ true → (id : ℕ) × ((n : ℕ) × m.threshold_set p id n (Ok tt) q)
+  pub no_threshold : (p q : S) (act : AssociationAct) → Acted m p act q → m.has_threshold p ≡ false
+      → m.has_threshold q ≡ true → (id : ℕ) × ((n : ℕ) × m.threshold_set p id n (Ok tt) q)

@@ -45,5 +45,9 @@ pub record AssociationMeaning (S : Type 0) : Type 1 where
   pub faults : S → ℕ
   -- whether a threshold is set at a stream
   pub has_threshold : S → Bool
-  -- how many completed resets of a stream are still to be told
-  pub untold : S → (id : ℕ) → ℕ
+  -- the events that are to be polled, in order
+  pub due : S → List AssocEvent
+  -- whether the other end closed the generation that a stream has
+  pub finished : S → (id : ℕ) → Bool
+  -- whether a whole message of a generation of a stream stands unread
+  pub has_unread : S → (id generation : ℕ) → Bool

@@ -24,7 +24,8 @@ taken (_ ∷ acts) = taken acts
 -- the messages written to a generation of a stream, in order
 abbrev pub written : ℕ → ℕ → List AssociationAct → List AssociationMessage
 written s g [] = []
-written s g (Wrote t h i b ∷ acts) = if (t == s) && (h == g) then record { identifier = i; bytes = b } ∷ written s g acts else written s g acts
+written s g (Wrote t h i b ∷ acts) =
+    if (t == s) && (h == g) then record { identifier = i; bytes = b } ∷ written s g acts else written s g acts
 written s g (_ ∷ acts) = written s g acts
 
 -- the messages read of a generation of a stream, in order

@@ -1,8 +1,7 @@
 pub mod Ppi
-pub mod Why
-pub mod Among
 pub mod AssociationMeaning
 pub mod AssociationNeeds
 pub mod AssociationActs
 pub mod AssociationWords
+pub mod AssociationEvents
 pub mod AssociationLaws

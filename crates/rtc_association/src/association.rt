@@ -5,7 +5,7 @@ use std::alloc::AllocError;
 
 /// One end of a reliable transport of messages over streams that can be reset (RFC 8831, section 6).
 ///
-/// Packets and moments are handed in; packets, messages and events are polled. What a call does is its relation in the
+/// Packets and moments are given; packets, messages and events are polled. What a call does is its relation in the
 /// meaning of the part, and what holds of every part are the laws.
 pub trait Association {
     ghost use Rattle.std.specs.Prelude.{◌≡◌, ◌≤◌, true, false};
@@ -30,7 +30,7 @@ pub trait Association {
         requires { association.started self.old ≡ false }
         ensures { association.accepted self.old now max_send result self.new };
 
-    /// Starts with the initial chunks that the session texts carried (draft-hancke-tsvwg-snap).
+    /// Starts with the initial chunks that the session descriptions carried (draft-hancke-tsvwg-snap).
     fn connect_snap(
         &mut self,
         now: Moment,

@@ -43,6 +43,3 @@ impl Ppi {
         }
     }
 }
-
-#[cfg(test)]
-mod tests;

@@ -1,9 +1,9 @@
 use Rattle.std.proofs.Common.{subst, refl, arith, List}
 use Rattle.rtc_association.specs.AssociationActs.{AssociationAct, Moved}
 use Rattle.rtc_association.proofs.AssociationLemmas.{completions_before_read}
-use Rattle.rtc_assoc_end.specs.Contents.{fresh_contents}
-use Rattle.rtc_assoc_end.specs.PlainMeaning.{plain_meaning}
-use Rattle.rtc_assoc_end.specs.PlainLaws.{plain_laws}
+use Rattle.rtc_assoc_state.specs.Contents.{fresh_contents}
+use Rattle.rtc_assoc_state.specs.PlainMeaning.{plain_meaning}
+use Rattle.rtc_assoc_state.proofs.PlainLaws.{plain_laws}
 use Rattle.rtc_assoc.proofs.DirectedLemmas.{directed_prefix, directed_all}
 use Rattle.rtc_assoc.proofs.RunLemmas.{both_run, moved_run, resets_told}
 use Rattle.rtc_assoc.proofs.ends.what_is_read_was_written.Goals as goal

@@ -1,9 +1,9 @@
 use Rattle.std.proofs.Common.{subst, refl, arith, List}
 use Rattle.rtc_association.specs.AssociationActs.{AssociationAct, Moved}
 use Rattle.rtc_association.proofs.AssociationLemmas.{completions_before_read}
-use Rattle.rtc_assoc_end.specs.Contents.{fresh_contents}
-use Rattle.rtc_assoc_end.specs.PlainMeaning.{plain_meaning}
-use Rattle.rtc_assoc_end.specs.PlainLaws.{plain_laws}
+use Rattle.rtc_assoc_state.specs.Contents.{fresh_contents}
+use Rattle.rtc_assoc_state.specs.PlainMeaning.{plain_meaning}
+use Rattle.rtc_assoc_state.proofs.PlainLaws.{plain_laws}
 use Rattle.rtc_assoc.proofs.RunLemmas.{resets_told}
 use Rattle.rtc_assoc.proofs.resets.each_reset_is_told_once.Goals as goal
 

@@ -1,5 +1,5 @@
-use Rattle.std.proofs.Common.{◌≡◌, ◌++◌, ◌∷◌, [], refl, ap, ◌∙◌}
-use Rattle.rtc_assoc_end.specs.Calls.{answered}
+use Rattle.std.proofs.Common.{◌++◌, ◌∷◌, [], refl, ap, ◌∙◌}
+use Rattle.rtc_assoc_state.specs.Calls.{answered}
 use Rattle.rtc_assoc_end.proofs.SaysLemmas.{queues_acknowledgement}
 use Rattle.rtc_assoc_end.proofs.association.PlainAssociation.answer.Goals as goal
 

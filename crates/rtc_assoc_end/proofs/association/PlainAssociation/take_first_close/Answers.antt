@@ -1,7 +1,7 @@
-use Rattle.std.proofs.Common.{◌≡◌, ◌+◌, ◌++◌, ◌∷◌, List, [], ℕ, length, refl, sym, ap, ◌∙◌, arith}
-use Rattle.rtc_assoc_end.specs.Outbox.{last_number}
-use Rattle.rtc_assoc_end.specs.Contents.{Contents}
-use Rattle.rtc_assoc_end.specs.Calls.{item_counted, finished, sent, answered}
+use Rattle.std.proofs.Common.{◌≡◌, ◌+◌, ◌++◌, ◌∷◌, [], length, refl, sym, ap, ◌∙◌, arith}
+use Rattle.rtc_assoc_state.specs.Outbox.{last_number}
+use Rattle.rtc_assoc_state.specs.Contents.{Contents}
+use Rattle.rtc_assoc_state.specs.Calls.{item_counted, finished, sent, answered}
 use Rattle.rtc_assoc_end.proofs.SentLemmas.{numbers_left, agree-closed}
 use Rattle.rtc_assoc_end.proofs.SaysLemmas.{queues_close}
 use Rattle.rtc_assoc_end.proofs.association.PlainAssociation.take_first_close.Goals as goal

@@ -1,4 +1,3 @@
-use Rattle.std.proofs.Common.{refl}
 use Rattle.rtc_assoc_end.proofs.SendsLemmas.{on_ok, sends_greeted, sends_acknowledged, sends_lost}
 use Rattle.rtc_assoc_end.proofs.association.PlainAssociation.take_frame.Goals as goal
 

@@ -1,5 +1,5 @@
-use Rattle.std.proofs.Common.{◌≡◌, ◌+◌, ◌++◌, ◌∷◌, List, [], ℕ, length, refl, sym, ap, ◌∙◌, arith}
-use Rattle.rtc_assoc_end.specs.Calls.{item_counted, more_kept, answered}
+use Rattle.std.proofs.Common.{refl, sym}
+use Rattle.rtc_assoc_state.specs.Calls.{item_counted, more_kept, answered}
 use Rattle.rtc_assoc_end.proofs.SaysLemmas.{queues_acknowledgement}
 use Rattle.rtc_assoc_end.proofs.association.PlainAssociation.take_more.Goals as goal
 

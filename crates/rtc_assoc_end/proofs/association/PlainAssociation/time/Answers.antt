@@ -1,5 +1,5 @@
 use Rattle.std.proofs.Common.{refl, sym, ap, ◌∙◌, ◌++◌}
-use Rattle.rtc_assoc_end.specs.Calls.{hello_due, items_due}
+use Rattle.rtc_assoc_state.specs.Calls.{hello_due, items_due}
 use Rattle.rtc_assoc_end.proofs.SendsLemmas.{sends_timed}
 use Rattle.rtc_assoc_end.proofs.association.PlainAssociation.time.Goals as goal
 

@@ -1,6 +1,6 @@
 use Rattle.std.proofs.Common.{◌≡◌, ◌++◌, ◌∷◌, [], refl, ap, ◌∙◌}
-use Rattle.rtc_assoc_end.specs.declared.role.Role.TheVariants.{Server}
-use Rattle.rtc_assoc_end.specs.Calls.{welcomed}
+use Rattle.rtc_assoc_state.specs.declared.role.Role.TheVariants.{Server}
+use Rattle.rtc_assoc_state.specs.Calls.{welcomed}
 use Rattle.rtc_assoc_end.proofs.SaysLemmas.{queues_welcome}
 use Rattle.rtc_assoc_end.proofs.association.PlainAssociation.welcome_client.Goals as goal
 

@@ -1,9 +1,7 @@
-use Rattle.std.proofs.Common.{◌≡◌, ◌+◌, ◌-◌, ◌≤◌, ◌++◌, List, [], ℕ, length, refl, sym, ap, subst, ◌∙◌, arith, append-nil}
-use Rattle.rtc_assoc_packets.specs.Pieces.{pieces_of, packets_from}
-use Rattle.rtc_assoc_end.specs.Streams.{stream_of}
-use Rattle.rtc_assoc_end.specs.Outbox.{last_number}
-use Rattle.rtc_assoc_end.specs.Calls.{sent}
-use Rattle.rtc_assoc_end.specs.Contents.{Contents, is_ending}
+use Rattle.std.proofs.Common.{◌≡◌, ◌+◌, ◌++◌, [], length, refl, sym, ap, ◌∙◌, arith, append-nil}
+use Rattle.rtc_assoc_state.specs.Outbox.{last_number}
+use Rattle.rtc_assoc_state.specs.Calls.{sent}
+use Rattle.rtc_assoc_state.specs.Contents.{Contents}
 use Rattle.rtc_assoc_end.proofs.SentLemmas.{numbers_left, agree-written}
 use Rattle.rtc_assoc_end.proofs.SaysLemmas.{queues_more, all_say_items}
 use Rattle.rtc_assoc_end.proofs.association.PlainAssociation.write.Goals as goal

@@ -1,6 +1,6 @@
-use Rattle.std.proofs.Common.{◌≡◌, None, sym, ◌∙◌, refl, true, false, Bool}
-use Rattle.rtc_assoc_end.specs.Calls.{next_message}
-use Rattle.rtc_assoc_end.proofs.InboxLemmas.{taken_out-none}
+use Rattle.std.proofs.Common.{◌≡◌, None, sym, ◌∙◌, refl}
+use Rattle.rtc_assoc_state.specs.Calls.{next_message}
+use Rattle.rtc_assoc_state.proofs.InboxLemmas.{taken_out-none}
 use Rattle.rtc_assoc_end.proofs.part.PlainAssociationAssociation.stream_read.Goals as goal
 
 pub returns-in-None : goal.returns-in-None

@@ -1,0 +1,13 @@
+pub mod Firsts
+pub mod RowLemmas
+pub mod AmountLemmas
+pub mod InboxLemmas
+pub mod SettlingLemmas
+pub mod RaiseLemmas
+pub mod BufferedLemmas
+pub mod ReadableLemmas
+pub mod KeepLemmas
+pub mod WorkLemmas
+pub mod DoesLemmas
+pub mod StartLemmas
+pub mod PlainLaws

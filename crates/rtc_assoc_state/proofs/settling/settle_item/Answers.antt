@@ -1,0 +1,28 @@
+use Rattle.std.proofs.Common.{sym, ap, ◌∙◌, length}
+use Rattle.rtc_assoc_state.proofs.AmountLemmas.{agree-lent}
+use Rattle.rtc_assoc_state.proofs.SettlingLemmas.{item_settled-More, item_settled-Last, settled-piece, settled-close}
+use Rattle.rtc_assoc_state.proofs.settling.settle_item.Goals as goal
+
+pub returns-in-Close-clause-told : goal.returns-in-Close-clause-told
+returns-in-Close-clause-told c =
+    settled-close c.item-item.result.now _ _ _ _ _ _ c.item-item.ensures.value (ap (λ i. i.part) (sym c.item-item.ensures.value) ∙ c.in-Close.is) c.settle_close.ensures.told
+
+pub returns-in-More-clause-told : goal.returns-in-More-clause-told
+returns-in-More-clause-told c =
+    settled-piece c.item-item.result.now c.args.item.now c.args.behind.now.items _ _ c.args.streams.now.items c.args.events.now.items _ _ _
+    c.item-item.ensures.value c.requires.agree
+    (agree-lent _ _ c.item-item.result.now c.args.item.now _ _ c.item-item.ensures.value (ap length c.as_slice-2.ensures) c.requires.agree c.lower.ensures)
+    (rw c.as_slice.ensures.value at c.amount_in-before.ensures)
+    (rw c.as_slice-3.ensures.value at c.amount_in-after.ensures)
+    (rw c.as_slice-in-More.ensures.value at c.settle_piece.ensures.items)
+    ∙ sym (item_settled-More _ _ _ (ap (λ i. i.part) (sym c.item-item.ensures.value) ∙ c.in-More.is))
+
+pub returns-in-Last-clause-told : goal.returns-in-Last-clause-told
+returns-in-Last-clause-told c =
+    settled-piece c.item-item.result.now c.args.item.now c.args.behind.now.items _ _ c.args.streams.now.items c.args.events.now.items _ _ _
+    c.item-item.ensures.value c.requires.agree
+    (agree-lent _ _ c.item-item.result.now c.args.item.now _ _ c.item-item.ensures.value (ap length c.as_slice-2.ensures) c.requires.agree c.lower.ensures)
+    (rw c.as_slice.ensures.value at c.amount_in-before.ensures)
+    (rw c.as_slice-3.ensures.value at c.amount_in-after.ensures)
+    (rw c.as_slice-in-Last.ensures.value at c.settle_piece-in-Last.ensures.items)
+    ∙ sym (item_settled-Last _ _ _ (ap (λ i. i.part) (sym c.item-item.ensures.value) ∙ c.in-Last.is))

@@ -1,0 +1,60 @@
+-- The messages that came and are not read.
+use Rattle.std.specs.Prelude.{ℕ, ◌==◌, ◌&&◌, not, if◌then◌else◌, Bool, List, [], ◌∷◌, ◌++◌, filter}
+use Rattle.rtc_assoc_packets.specs.declared.item.Item.{Item}
+use Rattle.rtc_assoc_state.specs.declared.message.Message.{Message}
+pub use Rattle.rtc_assoc_state.specs.MessagePart.{MessagePart}
+
+-- the number up to which all items came, the messages whose last piece is to come, and the whole messages, in order
+pub record Inbox : Type 0 where
+  pub received : ℕ
+  pub parts : List MessagePart
+  pub unread : List Message
+
+abbrev pub part : ℕ → ℕ → List ℕ → MessagePart
+part stream generation bytes = record { stream = stream; generation = generation; bytes = bytes }
+
+abbrev pub is_part_of : ℕ → ℕ → MessagePart → Bool
+is_part_of stream generation p = (p.stream == stream) && (p.generation == generation)
+
+abbrev pub is_message_of : ℕ → ℕ → Message → Bool
+is_message_of stream generation message = (message.stream == stream) && (message.generation == generation)
+
+-- the bytes that came of the message of a generation of a stream
+abbrev pub bytes_so_far : ℕ → ℕ → List MessagePart → List ℕ
+bytes_so_far stream generation [] = []
+bytes_so_far stream generation (p ∷ parts) = if is_part_of stream generation p then p.bytes else bytes_so_far stream generation parts
+
+-- with more bytes of that message
+abbrev pub with_bytes : ℕ → ℕ → List ℕ → List MessagePart → List MessagePart
+with_bytes stream generation bytes [] = part stream generation bytes ∷ []
+with_bytes stream generation bytes (p ∷ parts) =
+    if is_part_of stream generation p then record p { bytes = p.bytes ++ bytes } ∷ parts
+    else p ∷ with_bytes stream generation bytes parts
+
+-- without a message of a generation of a stream
+abbrev pub without_part : ℕ → ℕ → List MessagePart → List MessagePart
+without_part stream generation parts = filter (λ p. not (is_part_of stream generation p)) parts
+
+abbrev pub without_messages : ℕ → ℕ → List Message → List Message
+without_messages stream generation messages = filter (λ m. not (is_message_of stream generation m)) messages
+
+-- nothing of a generation of a stream is left
+abbrev pub forgotten : ℕ → ℕ → Inbox → Inbox
+forgotten stream generation inbox =
+    record inbox {
+      parts = without_part stream generation inbox.parts;
+      unread = without_messages stream generation inbox.unread;
+    }
+
+abbrev pub message_of : Item → List ℕ → Message
+message_of item bytes = record { stream = item.stream; generation = item.generation; identifier = item.identifier; bytes = bytes }
+
+-- a piece with more to come, and a last piece
+abbrev pub kept_more : Item → Inbox → Inbox
+kept_more item inbox = record inbox { parts = with_bytes item.stream item.generation item.bytes inbox.parts }
+
+abbrev pub kept_last : Item → Inbox → Inbox
+kept_last item inbox = record inbox {
+  parts = without_part item.stream item.generation inbox.parts;
+  unread = inbox.unread ++ message_of item (bytes_so_far item.stream item.generation inbox.parts ++ item.bytes) ∷ [];
+}

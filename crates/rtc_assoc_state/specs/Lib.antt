@@ -1,0 +1,10 @@
+pub mod MessagePart
+pub mod Streams
+pub mod Inbox
+pub mod Outbox
+pub mod Amounts
+pub mod Contents
+pub mod Settling
+pub mod Says
+pub mod Calls
+pub mod PlainMeaning

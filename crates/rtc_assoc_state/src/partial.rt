@@ -1,0 +1,58 @@
+//! Messages of which the last piece is still to come.
+ghost use Rattle.std.specs.Prelude.{◌≡◌, ◌++◌, length, OnOk, OnErr};
+ghost use Rattle.rtc_assoc_state.specs.Inbox.{is_part_of, part};
+
+use rtc_assoc_packets::Item;
+use std::alloc::AllocError;
+use std::marker::Model;
+
+/// The pieces that came of a message whose last piece is still to come, joined.
+#[derive(Debug, Drop)]
+pub struct Partial {
+    stream: u16,
+    generation: u32,
+    bytes: Vec<u8>,
+}
+
+impl Model for Partial {
+    ghost use Rattle.rtc_assoc_state.specs.MessagePart.{MessagePart};
+
+    ghost Value = { MessagePart };
+
+    ghost view = { λ p. record { stream = p.stream; generation = p.generation; bytes = p.bytes.items } };
+}
+
+impl Partial {
+    /// What a first piece begins.
+    pub fn begun(item: Item) -> Partial
+        ensures { result ≡ part item.stream item.generation item.bytes }
+    {
+        Partial {
+            stream: item.stream,
+            generation: item.generation,
+            bytes: item.bytes.into_vec(),
+        }
+    }
+
+    pub fn is_of(&self, stream: u16, generation: u32) -> bool
+        ensures { result ≡ is_part_of stream generation self.now }
+    {
+        self.stream == stream && self.generation == generation
+    }
+
+    /// The bytes so far, lent.
+    pub fn bytes(&self) -> &[u8]
+        ensures { result.now ≡ self.now.bytes }
+    {
+        self.bytes.as_slice()
+    }
+
+    /// Puts the bytes of one more piece at the end.
+    pub fn extend(&mut self, bytes: &[u8]) -> Result<(), AllocError>
+        ensures ok { OnOk result (self.new ≡ record self.old { bytes = self.old.bytes ++ bytes.now }) }
+        ensures err { OnErr result (self.new ≡ self.old) }
+    {
+        self.bytes.extend_from_slice(bytes)?;
+        Ok(())
+    }
+}

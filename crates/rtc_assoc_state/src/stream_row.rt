@@ -1,0 +1,53 @@
+//! What is kept of a stream.
+ghost use Rattle.std.specs.Prelude.{◌≡◌, ◌<◌};
+ghost use Rattle.rtc_assoc_state.specs.Streams.{is_closed_here, takes_messages, reset_row};
+
+use crate::close_state::CloseState;
+
+/// What is kept of a stream, also where it is not there: its generation goes on.
+#[derive(Clone, Copy, Debug, PartialEq, Eq)]
+pub struct StreamRow {
+    pub stream: u16,
+    /// How many resets were completed.
+    pub generation: u32,
+    pub there: bool,
+    pub close: CloseState,
+    /// The other end's close came.
+    pub finished: bool,
+    pub threshold: Option<usize>,
+}
+
+impl StreamRow {
+    /// The row once the reset is complete.
+    pub fn reset(&self) -> StreamRow
+        requires { self.now.generation < 4294967295 }
+        ensures { result ≡ reset_row self.now }
+    {
+        StreamRow {
+            stream: self.stream,
+            generation: self.generation + 1,
+            there: false,
+            close: CloseState::Unclosed,
+            finished: false,
+            threshold: None,
+        }
+    }
+
+    /// Whether this end closed the stream.
+    pub fn is_closed_here(&self) -> bool
+        ensures { result ≡ is_closed_here self.now }
+    {
+        match self.close {
+            CloseState::Unclosed => false,
+            CloseState::Queued | CloseState::Acknowledged => true,
+        }
+    }
+
+    /// Whether messages of a generation are kept: of one that this end did not close.
+    pub fn takes_messages(&self, generation: u32) -> bool
+        ensures { result ≡ takes_messages self.now generation }
+    {
+        let closed = self.is_closed_here();
+        self.generation < generation || (self.generation == generation && !closed)
+    }
+}
