@@ -1,0 +1,6 @@
+pub mod DtlsDrawn
+pub mod DtlsMeaning
+pub mod DtlsActs
+pub mod DtlsWords
+pub mod DtlsLaws
+pub mod DtlsState

@@ -1,0 +1,5 @@
+pub mod IceConnectionState
+pub mod IceMeaning
+pub mod IceActs
+pub mod IceWords
+pub mod IceLaws

@@ -1,0 +1,7 @@
+pub mod MediaErrorText
+pub mod IngressStats
+pub mod NoStream
+pub mod MediaMeaning
+pub mod MediaActs
+pub mod MediaUpdates
+pub mod MediaLaws

@@ -1,0 +1,7 @@
+pub mod Places
+pub mod Messages
+pub mod Contents
+pub mod Calls
+pub mod Datagrams
+pub mod PlainMeaning
+pub mod PlainLaws

@@ -1,0 +1,91 @@
+//! The plain agent.
+ghost use Rattle.std.specs.Prelude.{◌≡◌};
+ghost use Rattle.rtc_plain_ice.specs.Contents.{fresh_ice};
+
+use crate::check::Check;
+use rtc_ice::{IceConnectionState, IceEvent};
+use rtc_sdp_values::{Candidate, IceCreds};
+use rtc_wire::{Addr, Span, Text, Transmit};
+use std::alloc::Global;
+use std::collections::VecDeque;
+use std::marker::Model;
+
+/// An ICE agent that keeps everything in memory and has no security: whoever knows the user name fragments can forge
+/// its messages.
+///
+/// It checks the pair of its first local and its first remote candidate until a response comes, which nominates the
+/// pair. A lite agent makes no check, and takes the pair by which the first one came.
+#[derive(Drop)]
+pub struct PlainIce {
+    pub(crate) alloc: Global,
+    pub(crate) lite: bool,
+    pub(crate) local: IceCreds,
+    pub(crate) remote: Option<IceCreds>,
+    pub(crate) candidates: Vec<Candidate>,
+    pub(crate) controlling: bool,
+    pub(crate) remote_candidates: Vec<Candidate>,
+    pub(crate) discovered: Vec<Addr>,
+    pub(crate) state: IceConnectionState,
+    pub(crate) rto: Span,
+    pub(crate) checks: u64,
+    pub(crate) check: Option<Check>,
+    pub(crate) nominated: bool,
+    pub(crate) rtt: Option<Span>,
+    pub(crate) events: VecDeque<IceEvent>,
+    pub(crate) transmits: VecDeque<Transmit>,
+}
+
+impl Model for PlainIce {
+    ghost use Rattle.rtc_plain_ice.specs.Contents.{IceContents};
+
+    ghost Value = { IceContents };
+
+    ghost view = { λ a. record {
+      settings = record {
+        lite = a.lite;
+        local = a.local;
+        remote = a.remote;
+        candidates = a.candidates.items;
+      };
+      controlling = a.controlling;
+      remote_candidates = a.remote_candidates.items;
+      discovered = a.discovered.items;
+      state = a.state;
+      rto = a.rto;
+      checks = a.checks;
+      check = a.check;
+      nominated = a.nominated;
+      rtt = a.rtt;
+      events = a.events.items;
+      transmits = a.transmits.items;
+    } };
+}
+
+impl PlainIce {
+    /// An agent with empty texts as local credentials and no candidate. No memory is taken.
+    pub fn new(alloc: Global) -> PlainIce
+        ensures { result ≡ fresh_ice }
+    {
+        PlainIce {
+            alloc,
+            lite: false,
+            local: IceCreds {
+                ufrag: Text::new(String::new(alloc)),
+                pass: Text::new(String::new(alloc)),
+            },
+            remote: None,
+            candidates: Vec::new(alloc),
+            controlling: false,
+            remote_candidates: Vec::new(alloc),
+            discovered: Vec::new(alloc),
+            state: IceConnectionState::New,
+            rto: Span::from_millis(250),
+            checks: 0,
+            check: None,
+            nominated: false,
+            rtt: None,
+            events: VecDeque::new(alloc),
+            transmits: VecDeque::new(alloc),
+        }
+    }
+}

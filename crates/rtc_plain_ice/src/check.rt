@@ -1,0 +1,19 @@
+//! Checks.
+use rtc_wire::{Addr, Moment, Protocol};
+
+/// The two ends of a pair, from here to the other side.
+#[derive(Clone, Copy, Debug, PartialEq, Eq)]
+pub struct Ends {
+    pub proto: Protocol,
+    pub source: Addr,
+    pub destination: Addr,
+}
+
+/// A check to which no response came, with the moments at which it was made and at which the next is due.
+#[derive(Clone, Copy, Debug, PartialEq, Eq)]
+pub struct Check {
+    pub number: u64,
+    pub ends: Ends,
+    pub made: Moment,
+    pub due: Moment,
+}

@@ -1,0 +1,54 @@
+-- What the part is once a mark that it lent is written.
+use Rattle.std.proofs.Common.{◌≡◌, ℕ, Bool, true, false, cond, Option, Some, None, List, [], ◌∷◌, refl, sym, ap, ◌∙◌}
+use Rattle.std.specs.Option.{OnSome}
+use Rattle.std.specs.Map.{lookup, set_value}
+use Rattle.rtc_plain_media.specs.declared.plain_mark.PlainMark.{PlainMark}
+use Rattle.rtc_plain_media.specs.declared.line_key.LineKey.{LineKey}
+use Rattle.rtc_plain_media.specs.declared.held_line.HeldLine.{HeldLine}
+use Rattle.rtc_plain_media.specs.Streams.{Streams}
+use Rattle.rtc_plain_media.specs.Lines.{Lines, same_key, key_of}
+use Rattle.rtc_plain_media.specs.MediaContents.{MediaContents}
+use Rattle.rtc_plain_media.specs.MediaCalls.{writer_marked}
+
+-- a table of the part was lent, and left changed
+pub rx_left : {X : Type 0} (r : Option X) (change : Streams → Streams) (l : Streams) (v p : MediaContents) → v ≡ p → OnSome r (l ≡ change v.rx) → OnSome r (record v { rx = l } ≡ record p { rx = change p.rx })
+rx_left None change l v p e h = tt
+rx_left (Some x) change l v p e h = ap (λ (m : Streams). record v { rx = m }) h ∙ ap (λ (c : MediaContents). record c { rx = change c.rx }) e
+
+pub tx_left : {X : Type 0} (r : Option X) (change : Streams → Streams) (l : Streams) (v p : MediaContents) → v ≡ p → OnSome r (l ≡ change v.tx) → OnSome r (record v { tx = l } ≡ record p { tx = change p.tx })
+tx_left None change l v p e h = tt
+tx_left (Some x) change l v p e h = ap (λ (m : Streams). record v { tx = m }) h ∙ ap (λ (c : MediaContents). record c { tx = change c.tx }) e
+
+-- or nothing was lent
+pub rx_stayed : (l : Streams) (v p : MediaContents) → l ≡ v.rx → v ≡ p → record v { rx = l } ≡ p
+rx_stayed l v p h e = ap (λ (m : Streams). record v { rx = m }) h ∙ e
+
+pub tx_stayed : (l : Streams) (v p : MediaContents) → l ≡ v.tx → v ≡ p → record v { tx = l } ≡ p
+tx_stayed l v p h e = ap (λ (m : Streams). record v { tx = m }) h ∙ e
+
+abbrev value_of : HeldLine → Option HeldLine → HeldLine
+value_of d None = d
+value_of d (Some x) = x
+
+-- the writer's mark in the line of a mid
+pub marked_line : (mid : List ℕ) (w : PlainMark) (line : HeldLine) (es : Lines) → Some line ≡ lookup (same_key (key_of mid)) es → set_value (same_key (key_of mid)) es (record line { mark = w }) ≡ writer_marked mid w es
+marked_line mid w line [] h = refl
+marked_line mid w line (e ∷ es) h = by (same_key (key_of mid) e.0) refl (λ rest. marked_line mid w line es rest)
+  where
+    by : (b : Bool) → same_key (key_of mid) e.0 ≡ b → (Some line ≡ lookup (same_key (key_of mid)) es → set_value (same_key (key_of mid)) es (record line { mark = w }) ≡ writer_marked mid w es) → set_value (same_key (key_of mid)) (e ∷ es) (record line { mark = w }) ≡ writer_marked mid w (e ∷ es)
+    by true is more =
+        let found : Some line ≡ Some e.1 = h ∙ ap (λ (t : Bool). cond t (Some e.1) (lookup (same_key (key_of mid)) es)) is in
+        let new : HeldLine → Lines = λ x. (e.0, record x { mark = w }) ∷ es in
+        ap (λ (t : Bool). cond t (new line) (e ∷ set_value (same_key (key_of mid)) es (record line { mark = w }))) is
+        ∙ ap (λ (x : Option HeldLine). new (value_of line x)) found
+        ∙ ap (λ (t : Bool). cond t (new e.1) (e ∷ writer_marked mid w es)) (sym is)
+    by false is more =
+        let later : Some line ≡ lookup (same_key (key_of mid)) es = h ∙ ap (λ (t : Bool). cond t (Some e.1) (lookup (same_key (key_of mid)) es)) is in
+        ap (λ (t : Bool). cond t ((e.0, record line { mark = w }) ∷ es) (e ∷ set_value (same_key (key_of mid)) es (record line { mark = w }))) is
+        ∙ ap (λ (l : Lines). e ∷ l) (more later)
+        ∙ ap (λ (t : Bool). cond t ((e.0, record e.1 { mark = w }) ∷ es) (e ∷ writer_marked mid w es)) (sym is)
+
+pub line_left : (mid : List ℕ) (w : PlainMark) (line : HeldLine) (l : Lines) (v p : MediaContents) → v ≡ p → Some line ≡ lookup (same_key (key_of mid)) v.lines → l ≡ set_value (same_key (key_of mid)) v.lines (record line { mark = w })
+    → record v { lines = l } ≡ record p { lines = writer_marked mid w p.lines }
+line_left mid w line l v p e found h =
+    ap (λ (m : Lines). record v { lines = m }) (h ∙ marked_line mid w line v.lines found) ∙ ap (λ (c : MediaContents). record c { lines = writer_marked mid w c.lines }) e

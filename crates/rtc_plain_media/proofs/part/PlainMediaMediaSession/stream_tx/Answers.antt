@@ -1,0 +1,11 @@
+use Rattle.std.proofs.Common.{◌≡◌, is_some, refl, ap, ◌∙◌, rules}
+use Rattle.std.specs.List.{list_any}
+use Rattle.rtc_plain_media.specs.Streams.{has_ssrc, marked}
+use Rattle.rtc_plain_media.specs.MediaContents.{MediaContents}
+use Rattle.rtc_plain_media.proofs.LendLemmas.{tx_left, tx_stayed}
+use Rattle.rtc_plain_media.proofs.part.PlainMediaMediaSession.stream_tx.Goals as goal
+
+pub returns : goal.returns
+returns c =
+    let found = c.mark.ensures.found ∙ ap (λ (p : MediaContents). list_any (has_ssrc c.args.ssrc) p.tx) c.self.view_is in
+    ((refl, (λ w. tx_left _ (marked (has_ssrc c.args.ssrc) w) _ _ _ c.self.view_is (c.mark.follows.holds w)), tx_stayed _ _ _ c.mark.follows.holds-at-none c.self.view_is), search (rules, found))

@@ -1,0 +1,9 @@
+use Rattle.std.proofs.Common.{refl, ◌∙◌, rules}
+use Rattle.rtc_plain_media.specs.Streams.{made_stream_row}
+use Rattle.rtc_plain_media.proofs.StreamLemmas.{put_row-marked}
+use Rattle.rtc_plain_media.proofs.stream_table.StreamTable.make.Goals as goal
+
+pub returns : goal.returns
+returns c =
+    let row = made_stream_row c.args.ssrc c.args.rtx c.args.mid c.args.rid in
+    ((refl, (λ w _. put_row-marked row _ w c.args.self.now c.self.inside.rows.items _ c.in_ok-at.ensures.place (c.self.view_is ∙ c.in_ok-at.ensures.ok) c.index_mut.ensures.value), tt), search rules)

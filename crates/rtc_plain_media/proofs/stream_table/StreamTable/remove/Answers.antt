@@ -1,0 +1,15 @@
+use Rattle.std.proofs.Common.{◌≡◌, Bool, not, filter, rules, ap, is_some, ◌∙◌}
+use Rattle.std.proofs.lemmas.Fn.{filter_same}
+use Rattle.rtc_plain_media.specs.declared.stream_row.StreamRow.{StreamRow}
+use Rattle.rtc_plain_media.specs.Streams.{has_ssrc}
+use Rattle.rtc_plain_media.proofs.StreamLemmas.{any-position}
+use Rattle.rtc_plain_media.proofs.stream_table.StreamTable.remove.Goals as goal
+
+pub returns-clause-answer : goal.returns-clause-answer
+returns-clause-answer c = c.is_some-there.ensures ∙ ap is_some c.place_of.ensures ∙ any-position (has_ssrc c.args.ssrc) _
+
+pub returns-clause-rest : goal.returns-clause-rest
+returns-clause-rest c =
+    let keeps : StreamRow → Bool = λ row. not (has_ssrc c.args.ssrc row) in
+    let kept : c.retain.new.self.items ≡ filter keeps c.self.inside.rows.items = filter_same _ _ _ (λ x b f' k. search rules) _ _ c.retain.ensures.filtered in
+    kept ∙ ap (filter keeps) c.self.view_is

@@ -1,0 +1,29 @@
+use Rattle.std.proofs.Common.{◌≡◌, true, false, refl, sym, ap, ◌∙◌, is_some, rules}
+use Rattle.std.specs.List.{list_any}
+use Rattle.rtc_plain_media.specs.Streams.{has_name, renumbered, row_can_renumber, can_renumber}
+use Rattle.rtc_plain_media.proofs.StreamLemmas.{renumbered-at, any-position, first_passes-at, first_passes-none}
+use Rattle.rtc_plain_media.proofs.stream_table.StreamTable.reset.Goals as goal
+
+pub returns-then-can_renumber : goal.returns-then-can_renumber
+returns-then-can_renumber c =
+    let a = c.args in
+    let fits = has_name a.mid a.rid in
+    let found : true ≡ can_renumber a.mid a.rid a.ssrc a.rtx a.self.now =
+    c.if-can_renumber.ensures ∙ first_passes-at fits (row_can_renumber a.ssrc a.rtx) _ _ _ c.in-Some.ensures c.index-row.ensures ∙ ap (can_renumber a.mid a.rid a.ssrc a.rtx) c.self.view_is in
+    ((refl, (λ w. renumbered-at a.mid a.rid a.ssrc a.rtx w _ _ _ _ _ c.in-Some.ensures c.index-row.ensures c.numbered-row.ensures c.index_mut-then-can_renumber.ensures.value ∙ ap (renumbered a.mid a.rid a.ssrc a.rtx w) c.self.view_is), refl), search (rules, found))
+
+pub returns-else-can_renumber : goal.returns-else-can_renumber
+returns-else-can_renumber c =
+    let a = c.args in
+    let fits = has_name a.mid a.rid in
+    let found : false ≡ can_renumber a.mid a.rid a.ssrc a.rtx a.self.now =
+    c.if-can_renumber.ensures ∙ first_passes-at fits (row_can_renumber a.ssrc a.rtx) _ _ _ c.in-Some.ensures c.index-row.ensures ∙ ap (can_renumber a.mid a.rid a.ssrc a.rtx) c.self.view_is in
+    ((refl, (λ _. tt), c.self.view_is), search (rules, found))
+
+pub returns-in-None : goal.returns-in-None
+returns-in-None c =
+    let a = c.args in
+    let fits = has_name a.mid a.rid in
+    let none : list_any fits a.self.now ≡ false = sym (ap (list_any fits) c.self.view_is) ∙ sym (any-position fits _) ∙ sym (ap is_some c.in-None.ensures) in
+    let found : false ≡ can_renumber a.mid a.rid a.ssrc a.rtx a.self.now = first_passes-none fits (row_can_renumber a.ssrc a.rtx) a.self.now none in
+    ((refl, (λ _. tt), c.self.view_is), search (rules, found))

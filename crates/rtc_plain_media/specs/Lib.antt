@@ -1,0 +1,12 @@
+pub mod Streams
+pub mod PlainMediaEvent
+pub mod Feedback
+pub mod Lines
+pub mod MediaContents
+pub mod MediaCalls
+pub mod PlainMediaMeaning
+pub mod UpdateLemmas
+pub mod UsedLemmas
+pub mod ActLemmas
+pub mod PlainMediaLaws
+pub mod Sendings

@@ -1,0 +1,32 @@
+-- The datagrams that the plain media part gives.
+use Rattle.std.proofs.Common.{◌≡◌, ℕ, List, [], ◌∷◌, sym, subst}
+use Rattle.rtc_media.specs.MediaActs.{MediaAct, MediaGiven, MediaTaken, MediaStirred, MediaActed, MediaMoved, Committed, LineRemoved}
+use Rattle.rtc_plain_media.specs.Feedback.{IsMarked, EachBegins}
+use Rattle.rtc_plain_media.specs.MediaContents.{MediaContents}
+use Rattle.rtc_plain_media.specs.PlainMediaMeaning.{plain_media_meaning}
+use Rattle.rtc_plain_media.specs.ActLemmas.{MediaEffect, Keeping, ChangingLines, Preparing, effect, leaves_with, gives_some}
+
+-- the datagrams that a list of acts took
+abbrev pub datagrams_taken : List MediaAct → List (List ℕ)
+datagrams_taken [] = []
+datagrams_taken (MediaTaken datagram ∷ acts) = datagram ∷ datagrams_taken acts
+datagrams_taken (MediaGiven packet ∷ acts) = datagrams_taken acts
+datagrams_taken (MediaStirred why ∷ acts) = datagrams_taken acts
+
+queued_begin : (p q : MediaContents) → MediaEffect p q → EachBegins p.datagrams → EachBegins q.datagrams
+queued_begin p q (Keeping k) b = k.begins b
+queued_begin p q (ChangingLines (Committed h)) b = subst (λ (c : MediaContents). EachBegins c.datagrams) (sym h) b
+queued_begin p q (ChangingLines (LineRemoved mid h)) b = subst (λ (c : MediaContents). EachBegins c.datagrams) (sym h) b
+queued_begin p q (Preparing updates r h) b = leaves_with (λ (c : MediaContents). EachBegins c.datagrams) p _ q r b b h
+
+-- where those that wait begin with 80, those that are taken do, too
+pub taken_begin : (p q : MediaContents) (acts : List MediaAct) → EachBegins p.datagrams → MediaMoved plain_media_meaning p acts q
+    → EachBegins (datagrams_taken acts)
+taken_begin p q [] b h = tt
+taken_begin p q (MediaTaken datagram ∷ acts) b (r, (a, more)) =
+    let t = gives_some p.datagrams p r datagram a.1 in
+    ((subst EachBegins t.0.is b).0, taken_begin r q acts (queued_begin p r (effect p r (MediaTaken datagram) a) b) more)
+taken_begin p q (MediaGiven packet
+    ∷ acts) b (r, (a, more)) = taken_begin r q acts (queued_begin p r (effect p r (MediaGiven packet) a) b) more
+taken_begin p q (MediaStirred why
+    ∷ acts) b (r, (a, more)) = taken_begin r q acts (queued_begin p r (effect p r (MediaStirred why) a) b) more

@@ -1,0 +1,181 @@
+//! Lines, and what updates make of them.
+ghost use Rattle.std.specs.Prelude.{◌≡◌, ◌≤◌, ◌<◌, ◌+◌, ◌++◌, []};
+ghost use Rattle.std.specs.List.{list_any};
+ghost use Rattle.std.specs.Option.{option_copied};
+ghost use Rattle.std.specs.VecDeque.{deque_len, deque_capacity};
+ghost use Rattle.indexmap.specs.IndexMap.{spare};
+ghost use Rattle.rtc_media.specs.MediaUpdates.{removed_by, removes, same_mid, update_mid};
+ghost use Rattle.rtc_plain_media.specs.Lines.{
+  set_line,
+  held_line,
+  writer_mark,
+  some_event,
+  tell_row,
+  tell_changed,
+  events_of,
+  lines_after,
+  events_after,
+  without_lines,
+};
+
+use crate::held_line::HeldLine;
+use crate::line_key::LineKey;
+use crate::{PlainMark, PlainMediaEvent};
+use indexmap::IndexMap;
+use rtc_media::MediaUpdate;
+use rtc_sdp_values::{Direction, LineRow, Mid};
+use std::collections::VecDeque;
+
+/// The lines by their mids.
+pub type Lines = IndexMap<LineKey, HeldLine>;
+
+/// That a line has another direction than it had.
+fn tell_changed(mid: Mid, dir: Direction, before: &LineRow) -> Option<PlainMediaEvent>
+    ensures { result ≡ tell_changed mid dir before.now }
+{
+    match before {
+        LineRow::Media { dir: held, .. } => {
+            if held.is_same(dir) {
+                None
+            } else {
+                Some(PlainMediaEvent::Changed(mid, dir))
+            }
+        }
+        LineRow::App { .. } => None,
+    }
+}
+
+/// What is told of a row, from the line of its mid before.
+fn tell_row(row: &LineRow, announce: bool, before: Option<&HeldLine>) -> Option<PlainMediaEvent>
+    ensures { result ≡ tell_row row.now announce (option_copied before.entry) }
+{
+    match row {
+        LineRow::Media { mid, kind, dir, .. } => {
+            if announce {
+                return Some(PlainMediaEvent::Added(*mid, *kind, *dir));
+            }
+            match before {
+                None => None,
+                Some(line) => tell_changed(*mid, *dir, &line.update.row),
+            }
+        }
+        LineRow::App { .. } => None,
+    }
+}
+
+/// The mark of the writer of a line, which starts at 0.
+fn mark_at(lines: &Lines, key: &LineKey) -> PlainMark
+    ensures { result ≡ writer_mark (held_line key.now.mid lines.now.entries) }
+{
+    match lines.get(key) {
+        Some(line) => line.mark,
+        None => PlainMark { count: 0 },
+    }
+}
+
+/// What is told of an update.
+fn event_at(lines: &Lines, key: &LineKey, update: &MediaUpdate) -> Option<PlainMediaEvent>
+    ensures { result ≡ tell_row update.now.row update.now.announce (held_line key.now.mid lines.now.entries) }
+{
+    tell_row(&update.row, update.announce, lines.get(key))
+}
+
+/// Queues an event, if there is one, in room that was made.
+fn tell(events: &mut VecDeque<PlainMediaEvent>, event: Option<PlainMediaEvent>)
+    requires { deque_len events.old < deque_capacity events.old }
+    ensures events { events.new.items ≡ events.old.items ++ some_event event }
+    ensures len { deque_len events.new ≤ deque_len events.old + 1 }
+    ensures capacity { deque_capacity events.old ≤ deque_capacity events.new }
+{
+    match event {
+        Some(event) => events.push_back_reserved(event),
+        None => {}
+    }
+}
+
+/// Puts an update in the place of the line of its mid, and tells of it. Room was made for both.
+fn apply(lines: &mut Lines, events: &mut VecDeque<PlainMediaEvent>, update: MediaUpdate)
+    requires lines { 0 < spare lines.old }
+    requires events { deque_len events.old < deque_capacity events.old }
+    ensures lines { lines.new.entries ≡ set_line update lines.old.entries }
+    ensures events { events.new.items ≡ events.old.items ++ events_of update lines.old.entries }
+    ensures spare { spare lines.old ≤ spare lines.new + 1 }
+    ensures len { deque_len events.new ≤ deque_len events.old + 1 }
+    ensures capacity { deque_capacity events.old ≤ deque_capacity events.new }
+{
+    let key = LineKey {
+        mid: update.row.mid(),
+    };
+    let event = event_at(lines, &key, &update);
+    let mark = mark_at(lines, &key);
+    tell(events, event);
+    if lines.insert(key, HeldLine { update, mark }).is_err() {
+        unreachable!();
+    }
+}
+
+/// Applies updates in turn. Room was made for all of them.
+pub fn apply_all(
+    lines: &mut Lines,
+    events: &mut VecDeque<PlainMediaEvent>,
+    pending: &mut VecDeque<MediaUpdate>,
+)
+    requires lines { deque_len pending.old ≤ spare lines.old }
+    requires events { deque_len events.old + deque_len pending.old ≤ deque_capacity events.old }
+    ensures lines { lines.new.entries ≡ lines_after pending.old.items lines.old.entries }
+    ensures events { events.new.items ≡ events.old.items ++ events_after pending.old.items lines.old.entries }
+    ensures pending { pending.new.items ≡ [] }
+    ensures empty { deque_len pending.new ≡ 0 }
+    ensures room { deque_len events.new ≤ deque_capacity events.new }
+{
+    while let Some(update) = pending.pop_front() {
+        apply(lines, events, update);
+    }
+}
+
+/// Whether an update removes a line.
+fn removes(update: &MediaUpdate, mid: Mid) -> bool
+    ensures { result ≡ removes mid update.now }
+{
+    match update.removed {
+        Some(other) => mid == other,
+        None => false,
+    }
+}
+
+/// Whether one of some updates removes a line.
+fn any_removes(updates: &VecDeque<MediaUpdate>, mid: Mid) -> bool
+    ensures { result ≡ list_any (removes mid) updates.now.items }
+{
+    updates.iter().any(|update| removes(update, mid))
+}
+
+/// Whether a row of some updates has a mid.
+fn any_names(updates: &VecDeque<MediaUpdate>, mid: Mid) -> bool
+    ensures { result ≡ list_any (λ u. same_mid mid (update_mid u)) updates.now.items }
+{
+    updates.iter().any(|update| mid == update.row.mid())
+}
+
+/// Whether a mid stands as removed in some updates, and in no row.
+pub fn is_removed(updates: &VecDeque<MediaUpdate>, mid: Mid) -> bool
+    ensures { result ≡ removed_by updates.now.items mid }
+{
+    any_removes(updates, mid) && !any_names(updates, mid)
+}
+
+/// Drops the lines that some updates remove.
+pub fn drop_removed(lines: &mut Lines, updates: &VecDeque<MediaUpdate>)
+    ensures lines { lines.new.entries ≡ without_lines (removed_by updates.now.items) lines.old.entries }
+    ensures spare { spare lines.old ≤ spare lines.new }
+{
+    lines.retain(|key, _line| !is_removed(updates, key.mid));
+}
+
+/// Drops a line.
+pub fn drop_line(lines: &mut Lines, mid: Mid)
+    ensures lines { lines.new.entries ≡ without_lines (λ other. same_mid other mid) lines.old.entries }
+    ensures spare { spare lines.old ≤ spare lines.new }
+{
+    lines.retain(|key, _line| key.mid != mid);
+}

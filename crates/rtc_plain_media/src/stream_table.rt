@@ -1,0 +1,206 @@
+//! Tables of streams.
+ghost use Rattle.std.specs.Prelude.{◌≡◌, ◌<◌, ◌==◌, length, IfOk, IfErr, OnOk, OnErr, OnSome, is_some, position, filter, not, [], false};
+ghost use Rattle.std.specs.Borrow.{LendsSo, LendsSoOk, sem};
+ghost use Rattle.std.specs.List.{list_any, position_or_len};
+ghost use Rattle.rtc_media.specs.NoStream.{StreamAnswers};
+ghost use Rattle.rtc_media.specs.MediaUpdates.{removed_by};
+ghost use Rattle.rtc_plain_media.specs.Streams.{
+  without_streams,
+  has_ssrc,
+  has_name,
+  is_of_line,
+  row_uses,
+  made_stream_row,
+  put_row,
+  marked,
+  renumbered,
+  can_renumber,
+};
+
+use crate::PlainMark;
+use crate::lines::is_removed;
+use crate::stream_row::StreamRow;
+use rtc_media::{MediaUpdate, NoStream};
+use rtc_sdp_values::{Mid, Rid, Ssrc};
+use std::alloc::{AllocError, Global};
+use std::collections::VecDeque;
+use std::marker::Model;
+
+/// The streams of one direction, in the order in which they were added. Look-ups take the first that fits.
+#[derive(Drop)]
+pub struct StreamTable {
+    rows: Vec<StreamRow>,
+}
+
+impl Model for StreamTable {
+    ghost use Rattle.rtc_plain_media.specs.Streams.{Streams};
+
+    ghost Value = { Streams };
+
+    ghost view = { λ t. t.rows.items };
+}
+
+impl StreamTable {
+    ghost use Rattle.rtc_plain_media.specs.contracts.plain_mark.PlainMark.{the_row as mark_row};
+    ghost use Rattle.rtc_plain_media.specs.contracts.stream_table.StreamTable.{the_row};
+
+    pub fn new(alloc: Global) -> StreamTable
+        ensures { result ≡ [] }
+    {
+        StreamTable {
+            rows: Vec::new(alloc),
+        }
+    }
+
+    fn place_of(&self, ssrc: Ssrc) -> Option<usize>
+        ensures { result ≡ position (has_ssrc ssrc) self.now }
+    {
+        self.rows.iter().position(|row| row.ssrc.0 == ssrc.0)
+    }
+
+    fn place_of_name(&self, mid: Mid, rid: Option<Rid>) -> Option<usize>
+        ensures { result ≡ position (has_name mid rid) self.now }
+    {
+        self.rows
+            .iter()
+            .position(|row| row.mid == mid && row.rid == rid)
+    }
+
+    /// Whether a stream is of a line.
+    pub fn has_line(&self, mid: Mid) -> bool
+        ensures { result ≡ list_any (is_of_line mid) self.now }
+    {
+        self.rows.iter().any(|row| row.mid == mid)
+    }
+
+    /// Whether a stream or its retransmissions have an ssrc.
+    pub fn uses(&self, ssrc: Ssrc) -> bool
+        ensures { result ≡ list_any (row_uses ssrc) self.now }
+    {
+        self.rows.iter().any(|row| row.uses(ssrc))
+    }
+
+    /// Puts a row in the place of the first of its ssrc, or else as a last one, and answers its place.
+    fn put(
+        &mut self,
+        ssrc: Ssrc,
+        rtx: Option<Ssrc>,
+        mid: Mid,
+        rid: Option<Rid>,
+    ) -> Result<usize, AllocError>
+        ensures place { IfOk result (λ at. at ≡ position_or_len (has_ssrc ssrc) self.old) }
+        ensures within { IfOk result (λ at. at < length self.new) }
+        ensures ok { OnOk result (self.new ≡ put_row (made_stream_row ssrc rtx mid rid) self.old) }
+        ensures err { OnErr result (self.new ≡ self.old) }
+    {
+        let row = StreamRow {
+            ssrc,
+            rtx,
+            mid,
+            rid,
+            mark: PlainMark { count: 0 },
+        };
+        match self.place_of(ssrc) {
+            Some(at) => {
+                self.rows[at] = row;
+                Ok(at)
+            }
+            None => {
+                let at = self.rows.len();
+                self.rows.push(row)?;
+                Ok(at)
+            }
+        }
+    }
+
+    /// Makes or replaces the stream of an ssrc, and lends its mark.
+    pub fn make(
+        &mut self,
+        ssrc: Ssrc,
+        rtx: Option<Ssrc>,
+        mid: Mid,
+        rid: Option<Rid>,
+    ) -> Result<&mut PlainMark, NoStream>
+        ensures* leaves { sem 𝓛 (LendsSoOk the_row mark_row self.entry result (λ n x. n
+            ≡ put_row (record (made_stream_row ssrc rtx mid rid) { mark = x }) self.old) (λ n. n ≡ self.old)) }
+        ensures answer { StreamAnswers false result }
+    {
+        let at = self.put(ssrc, rtx, mid, rid)?;
+        Ok(&mut self.rows[at].mark)
+    }
+
+    /// Drops the streams of an ssrc.
+    pub fn remove(&mut self, ssrc: Ssrc) -> bool
+        ensures answer { result ≡ list_any (has_ssrc ssrc) self.old }
+        ensures rest { self.new ≡ filter (λ row. not (has_ssrc ssrc row)) self.old }
+    {
+        let there = self.place_of(ssrc).is_some();
+        self.rows.retain(|row| !(row.ssrc.0 == ssrc.0));
+        there
+    }
+
+    /// Drops the streams of a line.
+    pub fn drop_line(&mut self, mid: Mid)
+        ensures { self.new ≡ filter (λ row. not (is_of_line mid row)) self.old }
+    {
+        self.rows.retain(|row| row.mid != mid);
+    }
+
+    /// Drops the streams of lines that some updates remove.
+    pub fn drop_removed(&mut self, updates: &VecDeque<MediaUpdate>)
+        ensures { self.new ≡ without_streams (removed_by updates.now.items) self.old }
+    {
+        self.rows.retain(|row| !is_removed(updates, row.mid));
+    }
+
+    /// The mark of the stream of an ssrc.
+    pub fn mark(&mut self, ssrc: Ssrc) -> Option<&mut PlainMark>
+        ensures* leaves { sem 𝓛 (LendsSo the_row mark_row self.entry result (λ n x. OnSome result (n
+            ≡ marked (has_ssrc ssrc) x self.old)) (λ n. n ≡ self.old)) }
+        ensures found { is_some result ≡ list_any (has_ssrc ssrc) self.old }
+    {
+        match self.place_of(ssrc) {
+            Some(at) => Some(&mut self.rows[at].mark),
+            None => None,
+        }
+    }
+
+    /// The mark of the stream of a line and a layer.
+    pub fn named_mark(&mut self, mid: Mid, rid: Option<Rid>) -> Option<&mut PlainMark>
+        ensures* leaves { sem 𝓛 (LendsSo the_row mark_row self.entry result (λ n x. OnSome result (n
+            ≡ marked (has_name mid rid) x self.old)) (λ n. n ≡ self.old)) }
+        ensures found { is_some result ≡ list_any (has_name mid rid) self.old }
+    {
+        match self.place_of_name(mid, rid) {
+            Some(at) => Some(&mut self.rows[at].mark),
+            None => None,
+        }
+    }
+
+    /// Gives the stream of a line and a layer a new ssrc and new retransmissions, and lends its mark.
+    pub fn reset(
+        &mut self,
+        mid: Mid,
+        rid: Option<Rid>,
+        ssrc: Ssrc,
+        rtx: Option<Ssrc>,
+    ) -> Option<&mut PlainMark>
+        ensures* leaves { sem 𝓛 (LendsSo the_row mark_row self.entry result (λ n x. OnSome result (n
+            ≡ renumbered mid rid ssrc rtx x self.old)) (λ n. n ≡ self.old)) }
+        ensures found { is_some result ≡ can_renumber mid rid ssrc rtx self.old }
+    {
+        match self.place_of_name(mid, rid) {
+            Some(at) => {
+                let row = &self.rows[at];
+                if row.can_renumber(ssrc, rtx) {
+                    let row = row.numbered(ssrc, rtx);
+                    self.rows[at] = row;
+                    Some(&mut self.rows[at].mark)
+                } else {
+                    None
+                }
+            }
+            None => None,
+        }
+    }
+}
