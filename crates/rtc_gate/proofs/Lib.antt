@@ -1,0 +1,5 @@
+pub mod ConnectionLemmas
+pub mod ParcelLemmas
+pub mod SortLemmas
+pub mod FeedLemmas
+pub mod GateLemmas
