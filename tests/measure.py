@@ -1,0 +1,101 @@
+#!/usr/bin/env python3
+"""Counts instructions of the proved programs by valgrind --tool=callgrind, so that growth is seen. It is no part of the gate.
+
+usage: tests/measure.py [PART..]     PART is descriptions, rounds or messages; without one all are counted
+
+The programs are those that the gate left in crates/*/out/. Each figure is a difference of two runs, so that the start of the
+program is not in it. docs/PERFORMANCE.md has the tables.
+"""
+import os
+import re
+import subprocess
+import sys
+import tempfile
+
+TOP = os.path.dirname(os.path.dirname(os.path.abspath(__file__)))
+OFFER_HEAD = b"v=0\r\no=- 4611731400430051336 2 IN IP4 127.0.0.1\r\ns=-\r\nt=0 0\r\na=extmap-allow-mixed\r\na=msid-semantic: WMS\r\n"
+
+
+def program(name):
+    return os.path.join(TOP, "crates", name, "out", name)
+
+
+def count(words, given):
+    with tempfile.TemporaryDirectory() as folder:
+        out = os.path.join(folder, "callgrind")
+        done = subprocess.run(
+            ["valgrind", "--tool=callgrind", f"--callgrind-out-file={out}", *words],
+            input=given, capture_output=True, timeout=1200, cwd=folder,
+        )
+        if done.returncode != 0:
+            sys.exit(f"measure: {words[0]} ended with status {done.returncode}: {done.stdout[:200]!r}")
+        return int(re.search(rb"Collected : (\d+)", done.stderr)[1]), done.stdout
+
+
+# The m-lines of a browser's offer, with further mids.
+def media(mid):
+    audio = [b"m=audio 9 UDP/TLS/RTP/SAVPF 111 63 9 0 8 13 110 126", b"c=IN IP4 0.0.0.0", b"a=rtcp:9 IN IP4 0.0.0.0"]
+    audio += [b"a=ice-ufrag:4ZcD", b"a=ice-pwd:2/1muCWoOi3uLifh0NuRHlgh", b"a=ice-options:trickle"]
+    audio += [b"a=fingerprint:sha-256 " + b":".join([b"BA"] * 32), b"a=setup:actpass", b"a=mid:%d" % mid]
+    audio += [b"a=extmap:1 urn:ietf:params:rtp-hdrext:ssrc-audio-level", b"a=extmap:4 urn:ietf:params:rtp-hdrext:sdes:mid"]
+    audio += [b"a=sendrecv", b"a=msid:s%d t%d" % (mid, mid), b"a=rtcp-mux", b"a=rtpmap:111 opus/48000/2"]
+    audio += [b"a=rtcp-fb:111 transport-cc", b"a=fmtp:111 minptime=10;useinbandfec=1", b"a=rtpmap:63 red/48000/2", b"a=fmtp:63 111/111"]
+    audio += [b"a=rtpmap:9 G722/8000", b"a=rtpmap:0 PCMU/8000", b"a=rtpmap:8 PCMA/8000", b"a=rtpmap:13 CN/8000"]
+    audio += [b"a=rtpmap:110 telephone-event/48000", b"a=rtpmap:126 telephone-event/8000", b"a=ssrc:%d cname:c%d" % (mid + 1, mid)]
+    return b"\r\n".join(audio) + b"\r\n"
+
+
+def offer(size):
+    lines, mids = [], []
+    while sum(map(len, lines)) + len(OFFER_HEAD) < size:
+        mids.append(len(mids))
+        lines.append(media(mids[-1]))
+    return OFFER_HEAD + b"a=group:BUNDLE " + b" ".join(b"%d" % mid for mid in mids) + b"\r\n" + b"".join(lines)
+
+
+def descriptions():
+    print("| Read | Written | Instructions | A byte read | A byte read or written |\n|---|---|---|---|---|")
+    start, _ = count([program("rtc_sdp_text"), "offer"], OFFER_HEAD)
+    for size in (1_000, 16_000, 64_000, 256_000, 1_000_000):
+        given = offer(size)
+        cost, written = count([program("rtc_sdp_text"), "offer"], given)
+        cost -= start
+        both = len(given) + len(written)
+        print(f"| {len(given):,} | {len(written):,} | {cost:,} | {cost / len(given):.1f} | {cost / both:.1f} |")
+
+
+# A round that adds n lines, and a second one in which each text names all of them.
+def script(lines, second):
+    text = "str0m-pair 1\nL offer" + " audio:sendrecv" * lines + "\nR accept 0\nL answer 0 1\n"
+    return (text + ("L offer dir:0:sendonly\nR accept 2\nL answer 2 3\n" if second else "")).encode()
+
+
+def rounds():
+    print("| Lines | First round | A line | Second round | A line |\n|---|---|---|---|---|")
+    start, _ = count([program("rtc_pair"), "run"], b"str0m-pair 1\n")
+    for lines in (1, 3, 10, 30, 100, 300):
+        one, _ = count([program("rtc_pair"), "run"], script(lines, False))
+        two, _ = count([program("rtc_pair"), "run"], script(lines, True))
+        print(f"| {lines} | {one - start:,} | {(one - start) // lines:,} | {two - one:,} | {(two - one) // lines:,} |")
+
+
+def messages():
+    print("| Bytes | Instructions | A byte |\n|---|---|---|")
+    start, _ = count([program("rtc_examples")], b"message 0\n")
+    for size in (1_024, 16_384, 65_536, 262_144):
+        cost, _ = count([program("rtc_examples")], b"message %d\n" % size)
+        print(f"| {size:,} | {cost - start:,} | {(cost - start) / size:.1f} |")
+
+
+def main():
+    parts = {"descriptions": descriptions, "rounds": rounds, "messages": messages}
+    wanted = sys.argv[1:] or list(parts)
+    if any(name not in parts for name in wanted):
+        sys.exit(__doc__)
+    for name in wanted:
+        print(f"\n## {name}\n")
+        parts[name]()
+
+
+if __name__ == "__main__":
+    main()
