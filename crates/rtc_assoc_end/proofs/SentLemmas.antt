@@ -3,7 +3,7 @@ use Rattle.std.proofs.Common.{ℕ, ◌≡◌, ◌+◌, ◌-◌, ◌≤◌, ◌==
 use Rattle.std.proofs.lemmas.Bool.{ltb-false}
 use Rattle.rtc_assoc_packets.specs.declared.item.Item.{Item}
 use Rattle.rtc_assoc_packets.specs.Pieces.{close_of, pieces_of}
-use Rattle.rtc_assoc_state.specs.declared.amounts.Amount.{Amount}
+use Rattle.std.specs.BTreeMap.{BTreeMap}
 use Rattle.rtc_assoc_state.specs.Outbox.{last_number}
 use Rattle.rtc_assoc_state.specs.Amounts.{amount_of, Agree}
 use Rattle.rtc_assoc_state.proofs.BufferedLemmas.{buffered-append, buffered-pieces}
@@ -23,7 +23,7 @@ numbers_left p e =
     omega (arith, ltb-false (18446744073709551615 - last_number p.outbox) 8589934592 few)
 
 -- the amounts after a message is written, and after a close is queued
-pub agree-written : (old new : List Amount) (items : List Item) (size id g i n : ℕ) (bytes : List ℕ) → Agree old items → n ≡ length bytes → ((s : ℕ) → amount_of s new ≡ amount_of s old + cond (id == s) n 0) → Agree new (items ++ pieces_of size id g i bytes)
+pub agree-written : (old new : BTreeMap ℕ ℕ) (items : List Item) (size id g i n : ℕ) (bytes : List ℕ) → Agree old items → n ≡ length bytes → ((s : ℕ) → amount_of s new ≡ amount_of s old + cond (id == s) n 0) → Agree new (items ++ pieces_of size id g i bytes)
 agree-written old new items size id g i n bytes a e h = record {
   each = λ s. h s ∙ ap (λ k. amount_of s old + cond (id == s) k 0) e ∙ omega (arith, a.each s, buffered-append s items (pieces_of size id g i bytes), buffered-pieces (length bytes) size id g i s bytes);
 }
@@ -32,5 +32,5 @@ nothing_for : (b : Bool) (n : ℕ) → n ≡ 0 → cond b n 0 ≡ n
 nothing_for true n e = refl
 nothing_for false n e = sym e
 
-pub agree-closed : (amounts : List Amount) (items : List Item) (id g : ℕ) → Agree amounts items → Agree amounts (items ++ close_of id g ∷ [])
+pub agree-closed : (amounts : BTreeMap ℕ ℕ) (items : List Item) (id g : ℕ) → Agree amounts items → Agree amounts (items ++ close_of id g ∷ [])
 agree-closed amounts items id g a = record { each = λ s. omega (arith, a.each s, buffered-append s items (close_of id g ∷ []), nothing_for (id == s) 0 refl) }

@@ -1,9 +1,12 @@
 //! What items do that come in their order.
-ghost use Rattle.std.specs.Prelude.{◌≡◌, ◌<◌, ◌+◌, ◌^◌, ◌∷◌, [], ◌++◌, OnOk, OnErr, false, true, vec_len, vec_capacity};
+ghost use Rattle.std.specs.Prelude.{◌≡◌, ◌<◌, ◌+◌, ◌^◌, ◌∷◌, [], ◌++◌, IsSome, OnOk, OnErr, false, true, vec_len, vec_capacity};
+ghost use Rattle.std.specs.Ordering.{nat_cmp};
+ghost use Rattle.std.specs.BTreeMap.{get};
 ghost use Rattle.std.specs.VecDeque.{deque_len, deque_capacity};
 ghost use Rattle.rtc_assoc_packets.specs.declared.item_part.ItemPart.TheVariants.{More, Last, Close};
 ghost use Rattle.rtc_assoc_state.specs.declared.close_state.CloseState.TheVariants.{Unclosed};
 ghost use Rattle.rtc_assoc_state.specs.Streams.{put, reset_row};
+ghost use Rattle.rtc_assoc_state.specs.StreamTable.{SoundTable};
 ghost use Rattle.rtc_assoc_state.specs.Contents.{is_ending};
 ghost use Rattle.rtc_assoc_state.specs.Calls.{answered, item_counted, more_kept, last_kept, item_taken, piece_came};
 ghost use Rattle.rtc_assoc_state.specs.Calls.{close_came, close_came_at, finished, reset_told};
@@ -11,9 +14,7 @@ ghost use Rattle.rtc_assoc_state.specs.PlainMeaning.{Sends};
 
 use crate::association::PlainAssociation;
 use rtc_assoc_packets::{Item, ItemPart, Outgoing, Packet};
-use rtc_assoc_state::{
-    CloseState, StreamRow, enqueue, forget, keep_last, keep_more, row_of, set_row,
-};
+use rtc_assoc_state::{CloseState, StreamRow, StreamTable, enqueue, forget, keep_last, keep_more};
 use rtc_association::AssocEvent;
 use rtc_wire::Moment;
 use std::alloc::AllocError;
@@ -22,20 +23,23 @@ use std::collections::VecDeque;
 /// One more item came: its stream has this row now, and it is answered, in room that was made.
 fn count_item(
     received: &mut u64,
-    streams: &mut Vec<StreamRow>,
+    streams: &mut StreamTable,
     packets: &mut VecDeque<Packet>,
     row: StreamRow,
     answer: Packet,
 )
     requires number { received.old + 1 < 2 ^ 64 }
-    requires rows { vec_len streams.old < vec_capacity streams.old }
+    requires sound { SoundTable streams.old.rows.items streams.old.places streams.old.at_last }
+    requires rows { vec_len streams.old.rows < vec_capacity streams.old.rows }
+    requires place { IsSome (get nat_cmp streams.old.places row.stream) }
     requires room { deque_len packets.old < deque_capacity packets.old }
     ensures received { received.new ≡ received.old + 1 }
-    ensures streams { streams.new.items ≡ put row streams.old.items }
+    ensures streams { streams.new.rows.items ≡ put row streams.old.rows.items }
+    ensures sound { SoundTable streams.new.rows.items streams.new.places streams.new.at_last }
     ensures packets { packets.new.items ≡ packets.old.items ++ answer ∷ [] }
 {
     *received += 1;
-    set_row(streams, row);
+    streams.set_row(row);
     enqueue(packets, answer);
 }
 
@@ -47,7 +51,7 @@ impl PlainAssociation {
         ensures err { OnErr result (self.new ≡ self.old) }
     {
         let answer = Packet::acknowledgement(self.alloc, self.received + 1)?;
-        self.streams.reserve(1)?;
+        self.streams.make_room(row.stream)?;
         self.packets.reserve(1)?;
         count_item(
             &mut self.received,
@@ -66,7 +70,7 @@ impl PlainAssociation {
         ensures err { OnErr result (self.new ≡ self.old) }
     {
         let answer = Packet::acknowledgement(self.alloc, self.received + 1)?;
-        self.streams.reserve(1)?;
+        self.streams.make_room(row.stream)?;
         self.packets.reserve(1)?;
         keep_more(&mut self.parts, item)?;
         count_item(
@@ -88,7 +92,7 @@ impl PlainAssociation {
         let answer = Packet::acknowledgement(self.alloc, self.received + 1)?;
         let stream = item.stream;
         self.events.reserve(1)?;
-        self.streams.reserve(1)?;
+        self.streams.make_room(row.stream)?;
         self.packets.reserve(1)?;
         keep_last(self.alloc, &mut self.parts, &mut self.unread, item)?;
         enqueue(&mut self.events, AssocEvent::Readable(stream));
@@ -130,7 +134,7 @@ impl PlainAssociation {
         let number = self.acked + self.items.len() as u64 + 1;
         let packet = Packet::data(self.alloc, self.received + 1, number, &close)?;
         self.events.reserve(1)?;
-        self.streams.reserve(1)?;
+        self.streams.make_room(row.stream)?;
         self.packets.reserve(2)?;
         self.items.push_back(close)?;
         enqueue(&mut self.events, AssocEvent::Finished(row.stream));
@@ -163,7 +167,7 @@ impl PlainAssociation {
     {
         let answer = Packet::acknowledgement(self.alloc, self.received + 1)?;
         self.events.reserve(1)?;
-        self.streams.reserve(1)?;
+        self.streams.make_room(row.stream)?;
         self.packets.reserve(1)?;
         enqueue(&mut self.events, AssocEvent::Finished(row.stream));
         forget(
@@ -193,7 +197,7 @@ impl PlainAssociation {
     {
         let answer = Packet::acknowledgement(self.alloc, self.received + 1)?;
         self.events.reserve(2)?;
-        self.streams.reserve(1)?;
+        self.streams.make_room(row.stream)?;
         self.packets.reserve(1)?;
         enqueue(&mut self.events, AssocEvent::Finished(row.stream));
         enqueue(&mut self.events, AssocEvent::ResetComplete(row.stream));
@@ -242,7 +246,7 @@ impl PlainAssociation {
         ensures ok { OnOk result (Sends self.old (answered (item_taken now item self.old)) self.new) }
         ensures err { OnErr result (self.new ≡ self.old) }
     {
-        let mut row = row_of(self.streams.as_slice(), item.stream);
+        let mut row = self.streams.row_of(item.stream);
         row.there = true;
         match item.part {
             ItemPart::Close => self.take_close(now, row, item.generation),

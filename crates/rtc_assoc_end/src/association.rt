@@ -8,11 +8,11 @@ ghost use Rattle.rtc_assoc_state.specs.Calls as call;
 ghost use Rattle.rtc_assoc_state.specs.PlainMeaning.{Sends};
 
 use rtc_assoc_packets::{Outgoing, Packet};
-use rtc_assoc_state::{Amount, Clock, Limits, Message, Partial, Role, Standing, StreamRow};
+use rtc_assoc_state::{Clock, Limits, Message, Partial, Role, Standing, StreamTable};
 use rtc_association::AssocEvent;
 use rtc_wire::{LOCAL_MAX_MESSAGE_SIZE, Moment};
 use std::alloc::Global;
-use std::collections::VecDeque;
+use std::collections::{BTreeMap, VecDeque};
 use std::marker::Model;
 
 /// One end of a reliable transport of messages over streams that can be reset. It keeps everything in memory and has
@@ -29,11 +29,11 @@ pub struct PlainAssociation {
     pub(crate) clock: Clock,
     pub(crate) acked: u64,
     pub(crate) items: VecDeque<Outgoing>,
-    pub(crate) amounts: Vec<Amount>,
+    pub(crate) amounts: BTreeMap<u16, usize>,
     pub(crate) received: u64,
     pub(crate) parts: Vec<Partial>,
     pub(crate) unread: VecDeque<Message>,
-    pub(crate) streams: Vec<StreamRow>,
+    pub(crate) streams: StreamTable,
     pub(crate) events: VecDeque<AssocEvent>,
     pub(crate) packets: VecDeque<Packet>,
 }
@@ -50,14 +50,15 @@ impl Model for PlainAssociation {
       clock = a.clock;
       outbox = record { acked = a.acked; items = a.items.items };
       inbox = record { received = a.received; parts = a.parts.items; unread = a.unread.items };
-      streams = a.streams.items;
+      streams = a.streams.rows.items;
       events = a.events.items;
       packets = a.packets.items;
     } };
 
     ghost use Rattle.std.specs.VecDeque.{deque_len};
 
-    ghost invariant = { λ a. SoundContents a.limits.max_payload a.acked (deque_len a.items) a.amounts.items a.items.items };
+    ghost invariant = { λ a. SoundContents a.limits.max_payload a.acked (deque_len a.items) a.amounts a.items.items
+        a.streams.rows.items a.streams.places a.streams.at_last };
 }
 
 impl PlainAssociation {
@@ -85,11 +86,11 @@ impl PlainAssociation {
             },
             acked: 0,
             items: VecDeque::new(alloc),
-            amounts: Vec::new(alloc),
+            amounts: BTreeMap::new(alloc),
             received: 0,
             parts: Vec::new(alloc),
             unread: VecDeque::new(alloc),
-            streams: Vec::new(alloc),
+            streams: StreamTable::new(alloc),
             events: VecDeque::new(alloc),
             packets: VecDeque::new(alloc),
         }

@@ -7,10 +7,7 @@ ghost use Rattle.rtc_assoc_state.specs.PlainMeaning.{Sends};
 
 use crate::association::PlainAssociation;
 use rtc_assoc_packets::{DATA_OVERHEAD, Outgoing, Packet, cut_message, packets_of};
-use rtc_assoc_state::{
-    CloseState, Message, Role, append_all, enqueue, forget, put_row, raise, row_of, set_row,
-    take_out,
-};
+use rtc_assoc_state::{CloseState, Message, Role, append_all, enqueue, forget, raise, take_out};
 use rtc_wire::Moment;
 use std::alloc::AllocError;
 
@@ -63,9 +60,9 @@ impl PlainAssociation {
         ensures ok { OnOk result (self.new ≡ opened id self.old) }
         ensures err { OnErr result (self.new ≡ self.old) }
     {
-        let mut row = row_of(self.streams.as_slice(), id);
+        let mut row = self.streams.row_of(id);
         row.there = true;
-        put_row(&mut self.streams, row)?;
+        self.streams.put_row(row)?;
         Ok(())
     }
 
@@ -74,9 +71,9 @@ impl PlainAssociation {
         ensures ok { OnOk result (self.new ≡ thresholded id n self.old) }
         ensures err { OnErr result (self.new ≡ self.old) }
     {
-        let mut row = row_of(self.streams.as_slice(), id);
+        let mut row = self.streams.row_of(id);
         row.threshold = Some(n);
-        put_row(&mut self.streams, row)?;
+        self.streams.put_row(row)?;
         Ok(())
     }
 
@@ -96,7 +93,7 @@ impl PlainAssociation {
         ensures message { result ≡ next_message id self.old }
         ensures rest { self.new ≡ taken_out id self.old }
     {
-        let generation = row_of(self.streams.as_slice(), id).generation;
+        let generation = self.streams.row_of(id).generation;
         take_out(&mut self.unread, id, generation)
     }
 
@@ -107,7 +104,7 @@ impl PlainAssociation {
         ensures ok { OnOk result (Sends self.old (message_written id identifier bytes.now self.old) self.new) }
         ensures err { OnErr result (self.new ≡ self.old) }
     {
-        let generation = row_of(self.streams.as_slice(), id).generation;
+        let generation = self.streams.row_of(id).generation;
         let size = self.limits.max_payload - DATA_OVERHEAD;
         let items = cut_message(self.alloc, size, id, generation, identifier, bytes)?;
         let first = self.acked + self.items.len() as u64 + 1;
@@ -127,17 +124,17 @@ impl PlainAssociation {
         ensures ok { OnOk result (Sends self.old (stream_ended self.old.clock.now id self.old) self.new) }
         ensures err { OnErr result (self.new ≡ self.old) }
     {
-        let mut row = row_of(self.streams.as_slice(), id);
+        let mut row = self.streams.row_of(id);
         let generation = row.generation;
         let close = Outgoing::close(self.alloc, id, generation);
         let number = self.acked + self.items.len() as u64 + 1;
         let packet = Packet::data(self.alloc, self.received, number, &close)?;
         self.packets.reserve(1)?;
-        self.streams.reserve(1)?;
+        self.streams.make_room(row.stream)?;
         self.items.push_back(close)?;
         enqueue(&mut self.packets, packet);
         row.close = CloseState::Queued;
-        set_row(&mut self.streams, row);
+        self.streams.set_row(row);
         forget(&mut self.parts, &mut self.unread, id, generation);
         self.clock.items_sent = self.clock.now;
         Ok(())

@@ -6,7 +6,7 @@ ghost use Rattle.rtc_assoc_state.specs.Contents.{closed_here, is_stale, generati
 ghost use Rattle.rtc_assoc_state.specs.Contents.{hello_wake, items_wake};
 
 use crate::association::PlainAssociation;
-use rtc_assoc_state::{amount_in, any_at_last_generation, earlier, row_of, second_after};
+use rtc_assoc_state::{amount_in, earlier, second_after};
 use rtc_wire::Moment;
 
 impl PlainAssociation {
@@ -22,8 +22,7 @@ impl PlainAssociation {
     {
         let last = self.acked + self.items.len() as u64;
         let few = u64::MAX - last < 8_589_934_592;
-        let at_last = any_at_last_generation(self.streams.as_slice());
-        self.standing.shut || few || at_last
+        self.standing.shut || few || self.streams.at_last
     }
 
     pub(crate) fn is_lost(&self) -> bool
@@ -42,13 +41,13 @@ impl PlainAssociation {
     pub(crate) fn has(&self, id: u16) -> bool
         ensures { result ≡ has_stream self.now id }
     {
-        row_of(self.streams.as_slice(), id).there
+        self.streams.row_of(id).there
     }
 
     pub(crate) fn has_closed(&self, id: u16) -> bool
         ensures { result ≡ closed_here self.now id }
     {
-        row_of(self.streams.as_slice(), id).is_closed_here()
+        self.streams.row_of(id).is_closed_here()
     }
 
     pub(crate) fn stale(&self, id: u16) -> bool
@@ -60,7 +59,7 @@ impl PlainAssociation {
     pub(crate) fn generation_of(&self, id: u16) -> u64
         ensures { result ≡ generation_of self.now id }
     {
-        row_of(self.streams.as_slice(), id).generation as u64
+        self.streams.row_of(id).generation as u64
     }
 
     pub(crate) fn buffered(&self, id: u16) -> usize
@@ -69,7 +68,7 @@ impl PlainAssociation {
         if !self.has(id) {
             return 0;
         }
-        amount_in(self.amounts.as_slice(), id)
+        amount_in(&self.amounts, id)
     }
 
     /// Whether a message of so many bytes is longer than the other end takes. One that is not has fewer than 2^32.

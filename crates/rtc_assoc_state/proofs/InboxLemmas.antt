@@ -1,8 +1,8 @@
 -- Messages that come, by the first of a generation of a stream.
-use Rattle.std.proofs.Common.{ℕ, ◌≡◌, ◌<◌, Bool, true, false, cond, ◌||◌, List, [], ◌∷◌, ◌++◌, length, set, get_or, remove, refl, sym, ap, ◌∙◌, Option, Some, None}
+use Rattle.std.proofs.Common.{ℕ, ◌≡◌, ◌==◌, ◌<◌, Bool, true, false, not, cond, ◌||◌, List, [], ◌∷◌, ◌++◌, length, set, get_or, remove, refl, sym, ap, ◌∙◌, arith, Option, Some, None}
 use Rattle.std.specs.List.{position, list_any}
 use Rattle.rtc_assoc_state.specs.declared.message.Message.{Message}
-use Rattle.rtc_assoc_state.specs.Inbox.{MessagePart, part, is_part_of, is_message_of, bytes_so_far, with_bytes}
+use Rattle.rtc_assoc_state.specs.Inbox.{MessagePart, part, is_part_of, is_message_of, bytes_so_far, with_bytes, without_part}
 use Rattle.rtc_assoc_state.specs.Streams.{stream_of}
 use Rattle.rtc_assoc_state.specs.Contents.{Contents}
 use Rattle.rtc_assoc_state.specs.Calls.{first_message_of, messages_behind, next_message, taken_out}
@@ -102,3 +102,47 @@ none_behind s g (m ∷ messages) e = by_test (is_message_of s g m) (λ f. none_b
 pub taken_out-none : (id : ℕ) (p : Contents) → next_message id p ≡ None → taken_out id p ≡ p
 unfolding taken_out
 taken_out-none id p e = let same = none_behind id (stream_of id p.streams).generation p.inbox.unread e in ap (λ l. record p { inbox = record p.inbox { unread = l } }) same
+
+-- a message whose pieces were taken out, and one that got a piece more
+without_part-middle : (s g : ℕ) (before after : List MessagePart) (p : MessagePart) → is_part_of s g p ≡ true → without_part s g (before ++ after) ≡ without_part s g (before ++ p ∷ after)
+without_part-middle s g [] after p e = rw e refl
+without_part-middle s g (b ∷ before) after p e = ap (λ l. cond (not (is_part_of s g b)) (b ∷ l) l) (without_part-middle s g before after p e)
+
+remove_part-middle : (before after : List MessagePart) (p : MessagePart) → remove (before ++ p ∷ after) (length before) ≡ before ++ after
+remove_part-middle [] after p = refl
+remove_part-middle (b ∷ before) after p = ap (λ l. b ∷ l) (remove_part-middle before after p)
+
+pub without_part-removed : (s g : ℕ) (parts : List MessagePart) (i : ℕ) → position (is_part_of s g) parts ≡ Some i → without_part s g (remove parts i) ≡ without_part s g parts
+without_part-removed s g parts i e =
+    let w = found_position (is_part_of s g) parts i e in
+    ap (λ l. without_part s g (remove l i)) w.1.is ∙ ap (λ j. without_part s g (remove (w.1.before ++ w.0 ∷ w.1.after) j)) (sym w.1.place)
+    ∙ ap (without_part s g) (remove_part-middle w.1.before w.1.after w.0) ∙ without_part-middle s g w.1.before w.1.after w.0 w.1.passes ∙ ap (without_part s g) (sym w.1.is)
+
+fails-without_part : (s g : ℕ) (parts : List MessagePart) → list_any (is_part_of s g) parts ≡ false → parts ≡ without_part s g parts
+fails-without_part s g [] f = refl
+fails-without_part s g (p ∷ parts) f = let h = head_fails (is_part_of s g) p parts f in rw h.0 (ap (λ l. p ∷ l) (fails-without_part s g parts h.1))
+
+pub without_part-none : (s g : ℕ) (parts : List MessagePart) → position (is_part_of s g) parts ≡ None → parts ≡ without_part s g parts
+without_part-none s g parts e = fails-without_part s g parts (none_position (is_part_of s g) parts e)
+
+same_number : (n : ℕ) → (n == n) ≡ true
+same_number n = grind arith
+
+own_part : (s g : ℕ) (bytes : List ℕ) → is_part_of s g (part s g bytes) ≡ true
+own_part s g bytes = rw (same_number s, same_number g) refl
+
+pub bytes_so_far-with : (s g : ℕ) (bytes : List ℕ) (parts : List MessagePart) → bytes_so_far s g (with_bytes s g bytes parts) ≡ bytes_so_far s g parts ++ bytes
+bytes_so_far-with s g bytes [] = rw (own_part s g bytes) refl
+bytes_so_far-with s g bytes (p ∷ parts) = by (is_part_of s g p) refl (bytes_so_far-with s g bytes parts)
+  where
+    by : (b : Bool) → is_part_of s g p ≡ b → bytes_so_far s g (with_bytes s g bytes parts) ≡ bytes_so_far s g parts ++ bytes → bytes_so_far s g (cond b (record p { bytes = p.bytes ++ bytes } ∷ parts) (p ∷ with_bytes s g bytes parts)) ≡ cond b p.bytes (bytes_so_far s g parts) ++ bytes
+    by true e h = rw e refl
+    by false e h = rw e h
+
+pub without_part-with : (s g : ℕ) (bytes : List ℕ) (parts : List MessagePart) → without_part s g (with_bytes s g bytes parts) ≡ without_part s g parts
+without_part-with s g bytes [] = rw (own_part s g bytes) refl
+without_part-with s g bytes (p ∷ parts) = by (is_part_of s g p) refl (without_part-with s g bytes parts)
+  where
+    by : (b : Bool) → is_part_of s g p ≡ b → without_part s g (with_bytes s g bytes parts) ≡ without_part s g parts → without_part s g (cond b (record p { bytes = p.bytes ++ bytes } ∷ parts) (p ∷ with_bytes s g bytes parts)) ≡ cond (not b) (p ∷ without_part s g parts) (without_part s g parts)
+    by true e h = rw e refl
+    by false e h = rw e (ap (λ l. p ∷ l) h)

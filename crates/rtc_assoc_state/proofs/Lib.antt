@@ -1,5 +1,6 @@
 pub mod Firsts
 pub mod RowLemmas
+pub mod TableLemmas
 pub mod AmountLemmas
 pub mod InboxLemmas
 pub mod SettlingLemmas

@@ -14,7 +14,7 @@ stream_of-middle id (b ∷ before) after row f e =
       | inr h ↦ rw h.0 (stream_of-middle id before after row (rw h.0 at f) e)
     ]
 
-put-middle : (new : StreamRow) (before after : List StreamRow) (row : StreamRow) → list_any (λ r. r.stream == new.stream) before ≡ false → (row.stream == new.stream) ≡ true → put new (before ++ row ∷ after) ≡ before ++ new ∷ after
+pub put-middle : (new : StreamRow) (before after : List StreamRow) (row : StreamRow) → list_any (λ r. r.stream == new.stream) before ≡ false → (row.stream == new.stream) ≡ true → put new (before ++ row ∷ after) ≡ before ++ new ∷ after
 put-middle new [] after row f e = rw e refl
 put-middle new (b ∷ before) after row f e =
     elim (eqb_tells b.stream new.stream) [

@@ -5,7 +5,7 @@ use Rattle.rtc_association.specs.declared.assoc_event.AssocEvent.TheVariants.{Bu
 use Rattle.rtc_assoc_packets.specs.declared.item.Item.{Item}
 use Rattle.rtc_assoc_packets.specs.declared.item_part.ItemPart.TheVariants.{More, Last, Close}
 use Rattle.rtc_assoc_state.specs.declared.stream_row.StreamRow.{StreamRow}
-use Rattle.rtc_assoc_state.specs.declared.amounts.Amount.{Amount}
+use Rattle.std.specs.BTreeMap.{BTreeMap}
 use Rattle.rtc_assoc_state.specs.Amounts.{amount_of, Agree}
 use Rattle.rtc_assoc_state.specs.Streams.{stream_of}
 use Rattle.rtc_assoc_state.specs.Outbox.{bytes_for, buffered}
@@ -49,7 +49,7 @@ piece_settled-by item behind streams events told before after b a e =
     by_test false = refl
 
 -- a piece that is settled, by the amounts that are kept
-pub settled-piece : (lent item : Item) (behind : List Item) (old new : List Amount) (streams : List StreamRow) (events told : List AssocEvent) (before after : ℕ) → lent ≡ item → Agree old (item ∷ behind) → Agree new behind
+pub settled-piece : (lent item : Item) (behind : List Item) (old new : BTreeMap ℕ ℕ) (streams : List StreamRow) (events told : List AssocEvent) (before after : ℕ) → lent ≡ item → Agree old (item ∷ behind) → Agree new behind
     → before ≡ amount_of lent.stream old → after ≡ amount_of lent.stream new
     → told ≡ cond (reaches (stream_of lent.stream streams).threshold before after) (events ++ BufferedAmountLow lent.stream ∷ []) events
     → told_of streams told ≡ piece_settled item (stream_of item.stream streams) behind (told_of streams events)

@@ -1,11 +1,12 @@
 //! Messages that came and are not read.
-ghost use Rattle.std.specs.Prelude.{◌≡◌, ◌∷◌, [], ◌++◌, IfOk, OnOk, OnErr, position};
+ghost use Rattle.std.specs.Prelude.{◌≡◌, ◌∷◌, [], ◌++◌, OnOk, OnErr, position};
 ghost use Rattle.rtc_assoc_state.specs.Inbox.{bytes_so_far, with_bytes, without_part, without_messages};
 ghost use Rattle.rtc_assoc_state.specs.Inbox.{message_of, is_part_of, is_message_of};
 ghost use Rattle.rtc_assoc_state.specs.Calls.{first_message_of, messages_behind};
 
 use crate::message::Message;
 use crate::partial::Partial;
+use crate::queues::enqueue;
 use rtc_assoc_packets::Item;
 use rtc_wire::Bytes;
 use std::alloc::{AllocError, Global};
@@ -33,22 +34,22 @@ pub fn keep_more(parts: &mut Vec<Partial>, item: Item) -> Result<(), AllocError>
     Ok(())
 }
 
-/// The bytes of a message, by its last piece and the pieces before.
-fn whole(alloc: Global, parts: &[Partial], item: Item) -> Result<Bytes, AllocError>
-    ensures { IfOk result (λ bytes. bytes ≡ bytes_so_far item.stream item.generation parts.now ++ item.bytes) }
+/// Takes out what came of a message: its bytes, joined.
+fn take_part(alloc: Global, parts: &mut Vec<Partial>, stream: u16, generation: u32) -> Bytes
+    ensures bytes { result ≡ bytes_so_far stream generation parts.old.items }
+    ensures rest { parts.new.items ≡ without_part stream generation parts.old.items }
 {
-    let Some(place) = place_of(parts, item.stream, item.generation) else {
-        return Ok(item.bytes);
-    };
-    let front = parts[place].bytes();
-    let last = item.bytes.as_slice();
-    let mut bytes = Vec::with_capacity(alloc, front.len())?;
-    bytes.extend_from_slice(front)?;
-    bytes.extend_from_slice(last)?;
-    Ok(Bytes::new(bytes))
+    match place_of(parts.as_slice(), stream, generation) {
+        None => Bytes::new(Vec::new(alloc)),
+        Some(place) => {
+            let part = parts.remove(place);
+            parts.retain(|p| !p.is_of(stream, generation));
+            part.into_bytes()
+        }
+    }
 }
 
-/// Keeps a last piece, which makes a whole message.
+/// Keeps a last piece, which makes a whole message. It is put behind the pieces before it, where they stand.
 pub fn keep_last(
     alloc: Global,
     parts: &mut Vec<Partial>,
@@ -64,14 +65,18 @@ pub fn keep_last(
     let stream = item.stream;
     let generation = item.generation;
     let identifier = item.identifier;
-    let bytes = whole(alloc, parts.as_slice(), item)?;
-    unread.push_back(Message {
-        stream,
-        generation,
-        identifier,
-        bytes,
-    })?;
-    parts.retain(|p| !p.is_of(stream, generation));
+    unread.reserve(1)?;
+    keep_more(parts, item)?;
+    let bytes = take_part(alloc, parts, stream, generation);
+    enqueue(
+        unread,
+        Message {
+            stream,
+            generation,
+            identifier,
+            bytes,
+        },
+    );
     Ok(())
 }
 

@@ -3,6 +3,7 @@ ghost use Rattle.std.specs.Prelude.{◌≡◌, ◌++◌, length, OnOk, OnErr};
 ghost use Rattle.rtc_assoc_state.specs.Inbox.{is_part_of, part};
 
 use rtc_assoc_packets::Item;
+use rtc_wire::Bytes;
 use std::alloc::AllocError;
 use std::marker::Model;
 
@@ -40,13 +41,6 @@ impl Partial {
         self.stream == stream && self.generation == generation
     }
 
-    /// The bytes so far, lent.
-    pub fn bytes(&self) -> &[u8]
-        ensures { result.now ≡ self.now.bytes }
-    {
-        self.bytes.as_slice()
-    }
-
     /// Puts the bytes of one more piece at the end.
     pub fn extend(&mut self, bytes: &[u8]) -> Result<(), AllocError>
         ensures ok { OnOk result (self.new ≡ record self.old { bytes = self.old.bytes ++ bytes.now }) }
@@ -54,5 +48,12 @@ impl Partial {
     {
         self.bytes.extend_from_slice(bytes)?;
         Ok(())
+    }
+
+    /// The bytes so far.
+    pub fn into_bytes(self) -> Bytes
+        ensures { result ≡ self.bytes }
+    {
+        Bytes::new(self.bytes)
     }
 }

@@ -2,19 +2,20 @@
 ghost use Rattle.std.specs.Prelude.{◌≡◌, ◌+◌, ◌≤◌, ◌<◌, [], ◌∷◌, ◌++◌, drop, false, if◌then◌else◌};
 ghost use Rattle.std.specs.VecDeque.{deque_len, deque_capacity};
 ghost use Rattle.rtc_assoc_state.specs.Amounts.{Agree};
+ghost use Rattle.rtc_assoc_state.specs.StreamTable.{SoundTable};
 ghost use Rattle.rtc_assoc_state.specs.Streams.{stream_of, is_unclosed};
 ghost use Rattle.rtc_assoc_state.specs.declared.close_state.CloseState.TheVariants.{Queued};
 ghost use Rattle.rtc_association.specs.declared.assoc_event.AssocEvent.TheVariants.{BufferedAmountLow};
 ghost use Rattle.rtc_assoc_state.specs.Settling.{told_of, reaches, close_settled, item_settled, settled};
 
-use crate::amounts::{Amount, amount_in, lower};
+use crate::amounts::{amount_in, lower};
 use crate::close_state::CloseState;
 use crate::queues::enqueue;
-use crate::rows::{replace_row, row_of};
 use crate::stream_row::StreamRow;
+use crate::stream_table::StreamTable;
 use rtc_assoc_packets::{ItemPart, Outgoing};
 use rtc_association::AssocEvent;
-use std::collections::VecDeque;
+use std::collections::{BTreeMap, VecDeque};
 
 fn is_reached(threshold: Option<usize>, before: usize, after: usize) -> bool
     ensures { result ≡ reaches threshold before after }
@@ -26,36 +27,37 @@ fn is_reached(threshold: Option<usize>, before: usize, after: usize) -> bool
 }
 
 /// This end's close of a stream, which was queued, was acknowledged.
-fn settle_queued(
-    mut row: StreamRow,
-    streams: &mut Vec<StreamRow>,
-    events: &mut VecDeque<AssocEvent>,
-)
+fn settle_queued(mut row: StreamRow, streams: &mut StreamTable, events: &mut VecDeque<AssocEvent>)
     requires room { deque_len events.old < deque_capacity events.old }
-    requires queued { is_unclosed (stream_of row.stream streams.old.items).close ≡ false }
-    ensures told { told_of streams.new.items events.new.items ≡ close_settled Queued row (told_of streams.old.items events.old.items) }
+    requires sound { SoundTable streams.old.rows.items streams.old.places streams.old.at_last }
+    requires queued { is_unclosed (stream_of row.stream streams.old.rows.items).close ≡ false }
+    ensures told { told_of streams.new.rows.items events.new.items
+        ≡ close_settled Queued row (told_of streams.old.rows.items events.old.items) }
+    ensures sound { SoundTable streams.new.rows.items streams.new.places streams.new.at_last }
     ensures len { deque_len events.new ≤ deque_len events.old + 1 }
     ensures capacity { deque_capacity events.old ≤ deque_capacity events.new }
 {
     if row.finished && row.generation < u32::MAX {
-        replace_row(streams, row.reset());
+        streams.replace_row(row.reset());
         enqueue(events, AssocEvent::ResetComplete(row.stream));
         return;
     }
     row.close = CloseState::Acknowledged;
-    replace_row(streams, row);
+    streams.replace_row(row);
 }
 
 /// This end's close of a stream was acknowledged.
-fn settle_close(stream: u16, streams: &mut Vec<StreamRow>, events: &mut VecDeque<AssocEvent>)
-    requires { deque_len events.old < deque_capacity events.old }
-    ensures told { told_of streams.new.items events.new.items
-        ≡ (let row = stream_of stream streams.old.items in
-        close_settled row.close row (told_of streams.old.items events.old.items)) }
+fn settle_close(stream: u16, streams: &mut StreamTable, events: &mut VecDeque<AssocEvent>)
+    requires room { deque_len events.old < deque_capacity events.old }
+    requires sound { SoundTable streams.old.rows.items streams.old.places streams.old.at_last }
+    ensures sound { SoundTable streams.new.rows.items streams.new.places streams.new.at_last }
+    ensures told { told_of streams.new.rows.items events.new.items
+        ≡ (let row = stream_of stream streams.old.rows.items in
+        close_settled row.close row (told_of streams.old.rows.items events.old.items)) }
     ensures len { deque_len events.new ≤ deque_len events.old + 1 }
     ensures capacity { deque_capacity events.old ≤ deque_capacity events.new }
 {
-    let row = row_of(streams.as_slice(), stream);
+    let row = streams.row_of(stream);
     match row.close {
         CloseState::Unclosed | CloseState::Acknowledged => {}
         CloseState::Queued => settle_queued(row, streams, events),
@@ -67,16 +69,17 @@ fn settle_piece(
     stream: u16,
     before: usize,
     after: usize,
-    streams: &[StreamRow],
+    streams: &StreamTable,
     events: &mut VecDeque<AssocEvent>,
 )
-    requires { deque_len events.old < deque_capacity events.old }
-    ensures items { events.new.items ≡ (if reaches (stream_of stream streams.now).threshold before after
+    requires room { deque_len events.old < deque_capacity events.old }
+    requires sound { SoundTable streams.now.rows.items streams.now.places streams.now.at_last }
+    ensures items { events.new.items ≡ (if reaches (stream_of stream streams.now.rows.items).threshold before after
         then events.old.items ++ BufferedAmountLow stream ∷ [] else events.old.items) }
     ensures len { deque_len events.new ≤ deque_len events.old + 1 }
     ensures capacity { deque_capacity events.old ≤ deque_capacity events.new }
 {
-    let row = row_of(streams, stream);
+    let row = streams.row_of(stream);
     if is_reached(row.threshold, before, after) {
         enqueue(events, AssocEvent::BufferedAmountLow(stream));
     }
@@ -86,27 +89,29 @@ fn settle_piece(
 fn settle_item(
     item: &Outgoing,
     behind: &VecDeque<Outgoing>,
-    amounts: &mut Vec<Amount>,
-    streams: &mut Vec<StreamRow>,
+    amounts: &mut BTreeMap<u16, usize>,
+    streams: &mut StreamTable,
     events: &mut VecDeque<AssocEvent>,
 )
     requires room { deque_len events.old < deque_capacity events.old }
-    requires agree { Agree amounts.old.items (item.now ∷ behind.now.items) }
-    ensures told { told_of streams.new.items events.new.items
-        ≡ item_settled item.now behind.now.items (told_of streams.old.items events.old.items) }
-    ensures agree { Agree amounts.new.items behind.now.items }
+    requires agree { Agree amounts.old (item.now ∷ behind.now.items) }
+    requires sound { SoundTable streams.old.rows.items streams.old.places streams.old.at_last }
+    ensures told { told_of streams.new.rows.items events.new.items
+        ≡ item_settled item.now behind.now.items (told_of streams.old.rows.items events.old.items) }
+    ensures agree { Agree amounts.new behind.now.items }
+    ensures sound { SoundTable streams.new.rows.items streams.new.places streams.new.at_last }
     ensures len { deque_len events.new ≤ deque_len events.old + 1 }
     ensures capacity { deque_capacity events.old ≤ deque_capacity events.new }
 {
     let item = item.item();
     let stream = item.stream;
-    let before = amount_in(amounts.as_slice(), stream);
+    let before = amount_in(amounts, stream);
     lower(amounts, stream, item.bytes.as_slice().len());
-    let after = amount_in(amounts.as_slice(), stream);
+    let after = amount_in(amounts, stream);
     match item.part {
         ItemPart::Close => settle_close(stream, streams, events),
-        ItemPart::More => settle_piece(stream, before, after, streams.as_slice(), events),
-        ItemPart::Last => settle_piece(stream, before, after, streams.as_slice(), events),
+        ItemPart::More => settle_piece(stream, before, after, streams, events),
+        ItemPart::Last => settle_piece(stream, before, after, streams, events),
     }
 }
 
@@ -114,16 +119,19 @@ fn settle_item(
 pub fn settle(
     count: usize,
     items: &mut VecDeque<Outgoing>,
-    amounts: &mut Vec<Amount>,
-    streams: &mut Vec<StreamRow>,
+    amounts: &mut BTreeMap<u16, usize>,
+    streams: &mut StreamTable,
     events: &mut VecDeque<AssocEvent>,
 )
     requires count { count ≤ deque_len items.old }
     requires room { deque_len events.old + count ≤ deque_capacity events.old }
-    requires agree { Agree amounts.old.items items.old.items }
-    ensures told { told_of streams.new.items events.new.items ≡ settled count items.old.items (told_of streams.old.items events.old.items) }
+    requires agree { Agree amounts.old items.old.items }
+    requires sound { SoundTable streams.old.rows.items streams.old.places streams.old.at_last }
+    ensures told { told_of streams.new.rows.items events.new.items
+        ≡ settled count items.old.items (told_of streams.old.rows.items events.old.items) }
     ensures items { items.new.items ≡ drop count items.old.items }
-    ensures agree { Agree amounts.new.items items.new.items }
+    ensures agree { Agree amounts.new items.new.items }
+    ensures sound { SoundTable streams.new.rows.items streams.new.places streams.new.at_last }
 {
     for _ in 0..count {
         let Some(item) = items.pop_front() else {

@@ -1,6 +1,6 @@
 //! What is kept of a stream.
 ghost use Rattle.std.specs.Prelude.{◌≡◌, ◌<◌};
-ghost use Rattle.rtc_assoc_state.specs.Streams.{is_closed_here, takes_messages, reset_row};
+ghost use Rattle.rtc_assoc_state.specs.Streams.{is_closed_here, takes_messages, reset_row, is_at_last_generation};
 
 use crate::close_state::CloseState;
 
@@ -31,6 +31,13 @@ impl StreamRow {
             finished: false,
             threshold: None,
         }
+    }
+
+    /// Whether the generation is the last, behind which no reset is completed.
+    pub fn is_at_last_generation(&self) -> bool
+        ensures { result ≡ is_at_last_generation self.now }
+    {
+        self.generation == u32::MAX
     }
 
     /// Whether this end closed the stream.

@@ -9,20 +9,20 @@ returns-in-Close-clause-told c =
 
 pub returns-in-More-clause-told : goal.returns-in-More-clause-told
 returns-in-More-clause-told c =
-    settled-piece c.item-item.result.now c.args.item.now c.args.behind.now.items _ _ c.args.streams.now.items c.args.events.now.items _ _ _
+    settled-piece c.item-item.result.now c.args.item.now c.args.behind.now.items c.args.amounts.now c.lower.new.amounts c.args.streams.now.rows.items c.args.events.now.items _ _ _
     c.item-item.ensures.value c.requires.agree
-    (agree-lent _ _ c.item-item.result.now c.args.item.now _ _ c.item-item.ensures.value (ap length c.as_slice-2.ensures) c.requires.agree c.lower.ensures)
-    (rw c.as_slice.ensures.value at c.amount_in-before.ensures)
-    (rw c.as_slice-3.ensures.value at c.amount_in-after.ensures)
-    (rw c.as_slice-in-More.ensures.value at c.settle_piece.ensures.items)
+    (agree-lent c.args.amounts.now c.lower.new.amounts c.item-item.result.now c.args.item.now _ _ c.item-item.ensures.value (ap length c.as_slice.ensures) c.requires.agree c.lower.ensures)
+    c.amount_in-before.ensures
+    c.amount_in-after.ensures
+    c.settle_piece.ensures.items
     ∙ sym (item_settled-More _ _ _ (ap (λ i. i.part) (sym c.item-item.ensures.value) ∙ c.in-More.is))
 
 pub returns-in-Last-clause-told : goal.returns-in-Last-clause-told
 returns-in-Last-clause-told c =
-    settled-piece c.item-item.result.now c.args.item.now c.args.behind.now.items _ _ c.args.streams.now.items c.args.events.now.items _ _ _
+    settled-piece c.item-item.result.now c.args.item.now c.args.behind.now.items c.args.amounts.now c.lower.new.amounts c.args.streams.now.rows.items c.args.events.now.items _ _ _
     c.item-item.ensures.value c.requires.agree
-    (agree-lent _ _ c.item-item.result.now c.args.item.now _ _ c.item-item.ensures.value (ap length c.as_slice-2.ensures) c.requires.agree c.lower.ensures)
-    (rw c.as_slice.ensures.value at c.amount_in-before.ensures)
-    (rw c.as_slice-3.ensures.value at c.amount_in-after.ensures)
-    (rw c.as_slice-in-Last.ensures.value at c.settle_piece-in-Last.ensures.items)
+    (agree-lent c.args.amounts.now c.lower.new.amounts c.item-item.result.now c.args.item.now _ _ c.item-item.ensures.value (ap length c.as_slice.ensures) c.requires.agree c.lower.ensures)
+    c.amount_in-before.ensures
+    c.amount_in-after.ensures
+    c.settle_piece-in-Last.ensures.items
     ∙ sym (item_settled-Last _ _ _ (ap (λ i. i.part) (sym c.item-item.ensures.value) ∙ c.in-Last.is))

@@ -15,6 +15,7 @@ invariant_of-self-2 c =
       most = c.self.invariant.most;
       numbers = omega (arith, left, last, c.in_ok-push_back.ensures.len);
       agree = rw (c.in_ok-push_back.ensures.items, c.close-close.ensures) (agree-closed _ _ _ _ c.self.invariant.agree);
+      table = c.count_item.ensures.sound;
     }
 
 pub returns-clause-ok : goal.returns-clause-ok
@@ -24,8 +25,8 @@ returns-clause-ok c =
     let number_is : c.self.inside.acked + c.len.result + 1 ≡ c.self.inside.acked + length c.self.inside.items.items + 1 = omega (arith, c.len.ensures) in
     let made = rw (number_is, c.close-close.ensures) at c.in_ok-packet.ensures.bytes in
     let reads = rw (number_is, c.close-close.ensures) at c.in_ok-packet.ensures.reads in
-    let packets_is = rw (c.enqueue-2.ensures.items, c.in_ok-reserve-3.ensures.items, made, c.in_ok-answer.ensures.bytes) at c.count_item.ensures.packets in
-    let streams_is = rw c.in_ok-reserve-2.ensures.items at c.count_item.ensures.streams in
+    let packets_is = rw (c.enqueue-2.ensures.items, c.in_ok-reserve-2.ensures.items, made, c.in_ok-answer.ensures.bytes) at c.count_item.ensures.packets in
+    let streams_is = rw c.in_ok-make_room.ensures.rows at c.count_item.ensures.streams in
     let events_is = rw c.in_ok-reserve.ensures.items at c.enqueue.ensures.items in
     rw (← c.self.view_is) (
       rw (items_is, packets_is, streams_is, events_is, c.count_item.ensures.received, c.forget.ensures.parts, c.forget.ensures.unread) refl,

@@ -16,12 +16,13 @@ invariant_of-self-2 c =
       numbers = omega (arith, left, last, c.append_all.ensures.len, c.in_ok-reserve.ensures.len, c.in_ok-items.ensures.count, c.requires.short);
       agree = rw (c.append_all.ensures.items, c.in_ok-reserve.ensures.items, c.in_ok-items.ensures.items)
           (agree-written _ _ _ _ _ _ _ _ _ c.self.invariant.agree refl c.in_ok-raise.ensures.ok);
+      table = c.self.invariant.table;
     }
 
 pub returns-clause-ok : goal.returns-clause-ok
 unfolding sent
 returns-clause-ok c =
-    let row_is = rw c.as_slice.ensures.value at c.row_of-generation.ensures in
+    let row_is = c.row_of-generation.ensures in
     let pieces = rw row_is at c.in_ok-items.ensures.items in
     let items_is = c.append_all.ensures.items ∙ ap (λ l. l ++ c.in_ok-items.items.items) c.in_ok-reserve.ensures.items ∙ ap (λ l. c.self.inside.items.items ++ l) pieces in
     let number_is : c.self.inside.acked + c.len.result + 1 ≡ c.self.inside.acked + length c.self.inside.items.items + 1 = omega (arith, c.len.ensures) in

@@ -1,0 +1,106 @@
+//! Two ends in one process.
+use rtc_assoc_end::PlainAssociation;
+use rtc_association::{AssocError, Association, Ppi};
+use rtc_wire::Moment;
+use std::alloc::Global;
+
+/// A client and its server, between which every packet arrives.
+#[derive(Drop)]
+pub struct TwoEnds {
+    left: PlainAssociation,
+    right: PlainAssociation,
+}
+
+impl TwoEnds {
+    /// Two ends that are connected.
+    pub fn connected(alloc: Global) -> Result<TwoEnds, AssocError> {
+        let mut left = PlainAssociation::new(alloc);
+        let mut right = PlainAssociation::new(alloc);
+        if left.is_started() || right.is_started() {
+            return Err(AssocError::Closing);
+        }
+        left.connect(Moment::FAR_PAST, u32::MAX)?;
+        right.accept(Moment::FAR_PAST, u32::MAX)?;
+        let mut ends = TwoEnds { left, right };
+        ends.exchange()?;
+        Ok(ends)
+    }
+
+    /// Hands over what each end has to send, twice, and drops the events.
+    pub fn exchange(&mut self) -> Result<(), AssocError> {
+        for _ in 0..2 {
+            carry(&mut self.left, &mut self.right)?;
+            carry(&mut self.right, &mut self.left)?;
+        }
+        drop_events(&mut self.left);
+        drop_events(&mut self.right);
+        Ok(())
+    }
+
+    /// Opens a stream at both ends.
+    pub fn open(&mut self, id: u16) -> Result<(), AssocError> {
+        open(&mut self.left, id)?;
+        open(&mut self.right, id)
+    }
+
+    /// Writes a message at the left end.
+    pub fn write(&mut self, id: u16, bytes: &[u8]) -> Result<(), AssocError> {
+        if !self.left.is_started() {
+            return Err(AssocError::Closing);
+        }
+        self.left.stream_write(id, Ppi::Binary, bytes)?;
+        Ok(())
+    }
+
+    /// The length of the next message at the right end; 0 where there is none.
+    pub fn read(&mut self, id: u16) -> Result<usize, AssocError> {
+        if !self.right.is_started() {
+            return Err(AssocError::Closing);
+        }
+        match self.right.stream_read(id)? {
+            None => Ok(0),
+            Some((_, bytes)) => Ok(bytes.as_slice().len()),
+        }
+    }
+
+    /// Closes a stream at the left end.
+    pub fn close(&mut self, id: u16) -> Result<(), AssocError> {
+        if !self.left.is_started() {
+            return Err(AssocError::Closing);
+        }
+        self.left.stream_close(id)
+    }
+
+    /// How many resets of a stream both ends completed.
+    pub fn generation(&self, id: u16) -> u64 {
+        self.left.generation(id).min(self.right.generation(id))
+    }
+}
+
+fn open(end: &mut PlainAssociation, id: u16) -> Result<(), AssocError> {
+    if !end.is_started() {
+        return Err(AssocError::Closing);
+    }
+    end.open_stream(id)
+}
+
+fn carry(from: &mut PlainAssociation, to: &mut PlainAssociation) -> Result<(), AssocError> {
+    for _ in 0..u32::MAX {
+        let Some(packet) = from.poll_transmit() else {
+            break;
+        };
+        if !to.is_started() {
+            return Err(AssocError::Closing);
+        }
+        to.handle_input(Moment::FAR_PAST, packet.as_slice())?;
+    }
+    Ok(())
+}
+
+fn drop_events(end: &mut PlainAssociation) {
+    for _ in 0..u32::MAX {
+        if end.poll().is_none() {
+            break;
+        }
+    }
+}

@@ -1,0 +1,9 @@
+use Rattle.std.proofs.Common.{sym}
+use Rattle.rtc_assoc_state.proofs.RowLemmas.{stream_of-found, stream_of-none}
+use Rattle.rtc_assoc_state.proofs.stream_table.StreamTable.row_of.Goals as goal
+
+pub returns-in-Some : goal.returns-in-Some
+returns-in-Some c = stream_of-found c.args.id c.args.self.now.rows.items c.in-Some.place c.index.result.now c.index.result.now (sym c.in-Some.ensures) c.index.ensures
+
+pub returns-in-None : goal.returns-in-None
+returns-in-None c = sym (stream_of-none c.args.id c.args.self.now.rows.items (sym c.in-None.ensures))
