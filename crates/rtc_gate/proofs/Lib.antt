@@ -1,5 +1,5 @@
-pub mod ConnectionLemmas
-pub mod ParcelLemmas
-pub mod SortLemmas
-pub mod FeedLemmas
-pub mod GateLemmas
+pub mod HexLemmas
+pub mod RefusedScripts
+pub mod StoppedLines
+pub mod ZipLemmas
+pub mod GateScripts

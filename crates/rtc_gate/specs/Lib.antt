@@ -1,6 +1,7 @@
-pub mod Grammar
-pub mod Routing
-pub mod GateState
-pub mod Connection
-pub mod Gate
-pub mod Delivering
+pub mod Asking
+pub mod HexWords
+pub mod CallLines
+pub mod GateScript
+pub mod LinesRead
+pub mod ReplyLines
+pub mod Answers

@@ -1,6 +1,0 @@
-use Rattle.rtc_gate.specs.Delivering.{advanced}
-use Rattle.rtc_gate.proofs.ConnectionLemmas.{write_at}
-use Rattle.rtc_gate.proofs.feeding.advance_at.Goals as goal
-
-pub returns : goal.returns
-returns c = write_at (advanced c.args.size c.args.stuck) c.args.connections.now c.args.place c.args.number c.index-connections-place.result c.advance.new.self c.requires.there c.advance.ensures

@@ -1,6 +1,0 @@
-use Rattle.rtc_gate.specs.Delivering.{with_piece}
-use Rattle.rtc_gate.proofs.ConnectionLemmas.{write_at}
-use Rattle.rtc_gate.proofs.feeding.keep_at.Goals as goal
-
-pub returns-clause-ok : goal.returns-clause-ok
-returns-clause-ok c = write_at (with_piece c.args.piece.now) c.args.connections.now c.args.place c.args.number c.index-connections-place.result c.keep.new.self c.requires c.in_ok-keep.ensures.ok

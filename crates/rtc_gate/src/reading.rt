@@ -1,0 +1,55 @@
+//! Whole scripts.
+ghost use Rattle.std.specs.Prelude.{◌≡◌, ◌-◌, ◌^◌, [], ◌∷◌, ◌++◌, ◌↔◌, IsTrue, IfOk, IfErr, min, map};
+ghost use Rattle.rtc_gate.specs.GateScript.{gate_header, AreGatePieces, AreRefusedPieces, IsGateScript, IsRefusedScript};
+
+use crate::ScriptError;
+use crate::call_lines::{LinesError, read_calls};
+use rtc_fields::pieces;
+use rtc_gate_calls::GateCall;
+use rtc_wire::Seq;
+use std::alloc::Global;
+
+// The number of a line, as far as a `u32` goes.
+fn line_number(n: usize) -> u32
+    ensures { result ≡ min n (2 ^ 32 - 1) }
+{
+    n.min(u32::MAX as usize) as u32
+}
+
+fn is_header(line: &[u8]) -> bool
+    ensures { IsTrue result ↔ (line.now ≡ gate_header) }
+{
+    line == b"str0m-gate 1".as_slice()
+}
+
+// Reads the lines of a text; `end` is what stands behind the last line feed.
+fn read_pieces(alloc: Global, lines: &[&[u8]], end: &[u8]) -> Result<Seq<GateCall>, ScriptError>
+    ensures some { IfOk result (λ calls. AreGatePieces (map (λ line. line.now) lines.now ++ end.now ∷ []) calls) }
+    ensures none { IfErr result (λ error. AreRefusedPieces (map (λ line. line.now) lines.now ++ end.now ∷ []) error) }
+{
+    let Some((first, rest)) = lines.split_first() else {
+        return Err(ScriptError::Line(1));
+    };
+    if !is_header(first) {
+        return Err(ScriptError::Line(1));
+    }
+    let calls = match read_calls(alloc, rest) {
+        Ok(calls) => calls,
+        Err(LinesError::NotCall(place)) => return Err(ScriptError::Line(line_number(place + 2))),
+        Err(LinesError::Alloc) => return Err(ScriptError::Alloc),
+    };
+    if !end.is_empty() {
+        return Err(ScriptError::Line(line_number(rest.len() + 2)));
+    }
+    Ok(Seq::new(calls))
+}
+
+/// The calls of a script, or the first line that is refused.
+pub fn read_script(alloc: Global, bytes: &[u8]) -> Result<Seq<GateCall>, ScriptError>
+    ensures some { IfOk result (λ calls. IsGateScript bytes.now calls) }
+    ensures none { IfErr result (λ error. IsRefusedScript bytes.now error) }
+{
+    let pieces = pieces(alloc, bytes)?;
+    let (end, lines) = pieces.as_slice().split_last().unwrap();
+    read_pieces(alloc, lines, end)
+}

@@ -1,0 +1,73 @@
+//! The top call.
+ghost use Rattle.std.specs.Prelude.{◌≡◌, ◌≢◌, ◌<◌, ◌⊎◌, true, false, map, string_bytes};
+ghost use Rattle.std.specs.Io.KnownBytes.{Appends};
+ghost use Rattle.rtc_io.specs.Faults.{Rose};
+ghost use Rattle.rtc_io.specs.Saying.{BreaksOff};
+ghost use Rattle.rtc_io.specs.Programs.{IsDue, IsTooLong, RefusesInput, fault_line, long_line};
+ghost use Rattle.rtc_gate.specs.Asking.{asks_to_run};
+ghost use Rattle.rtc_gate.specs.Answers.{AreRepliesTo, RunsGateScript, WritesReplies, gate_program};
+
+use crate::{ScriptError, ask_to_run, read_script, write_replies};
+use rtc_gate_calls::{Gate, GateCall, run_calls};
+use rtc_io::{OUT_OF_MEMORY, Sink, Source, USAGE, read_input, refuse_input, say};
+use std::alloc::Global;
+
+// Performs calls on a gateway that is empty, and writes its replies.
+fn perform_calls<W: Sink>(alloc: Global, calls: &[GateCall], output: &mut W) -> u8
+    ensures done { result ≡ 0 → WritesReplies calls.now (W.written output.old) (W.written output.new) }
+    ensures write { result ≡ 5
+        → BreaksOff (AreRepliesTo calls.now)
+        (W.written output.old) (W.written output.new) (W.faults output.old) (W.faults output.new) }
+    ensures memory { result ≡ 6 → output.new ≡ output.old }
+    ensures statuses { (result ≡ 0) ⊎ (result ≡ 5) ⊎ (result ≡ 6) }
+{
+    let mut gate = Gate::new(alloc);
+    let Ok(replies) = run_calls(alloc, &mut gate, calls) else {
+        return OUT_OF_MEMORY;
+    };
+    let Ok(text) = write_replies(alloc, replies.as_slice()) else {
+        return OUT_OF_MEMORY;
+    };
+    say(output, text.as_slice(), 0)
+}
+
+/// Reads a script of calls from `input`, performs them on a gateway, and writes the replies to `output`; answers the status to end with.
+///
+/// A fault of the sink (5) may come in place of any other status, and `OUT_OF_MEMORY` (6) in place of any but 2.
+pub fn gate_main<R: Source, W: Sink>(
+    alloc: Global,
+    words: &[String],
+    input: &mut R,
+    output: &mut W,
+) -> u8
+    ensures done { result ≡ 0 → RunsGateScript (R.left input.old) (R.left input.new) (W.written output.old) (W.written output.new) }
+    ensures usage { result ≡ 2 → (asks_to_run (map (λ word. string_bytes word) words.now) ≡ false)
+        × Appends (W.written output.old) (W.written output.new) gate_program.usage }
+    ensures refused { result ≡ 3
+        → RefusesInput gate_program (R.left input.old) (R.left input.new) (W.written output.old) (W.written output.new) }
+    ensures read { result ≡ 4
+        → Rose (R.faults input.old) (R.faults input.new) × Appends (W.written output.old) (W.written output.new) fault_line }
+    ensures write { let asked = asks_to_run (map (λ word. string_bytes word) words.now) in result ≡ 5 → BreaksOff
+        (IsDue gate_program (asked ≡ false) (asked ≡ true)
+        (R.left input.old) (R.left input.new) (R.faults input.old) (R.faults input.new))
+        (W.written output.old) (W.written output.new) (W.faults output.old) (W.faults output.new) }
+    ensures memory { result ≡ 6 → output.new ≡ output.old }
+    ensures long { result ≡ 7
+        → IsTooLong (R.left input.old) × Appends (W.written output.old) (W.written output.new) (long_line gate_program.subject) }
+    ensures unread { asks_to_run (map (λ word. string_bytes word) words.now) ≡ false → input.new ≡ input.old }
+    ensures asked { asks_to_run (map (λ word. string_bytes word) words.now) ≡ false → (result ≡ 2) ⊎ (result ≡ 5) }
+    ensures statuses { (result ≢ 1) × (result < 8) }
+{
+    if !ask_to_run(words) {
+        return say(output, b"usage: rtc_gate run\n", USAGE);
+    }
+    let bytes = match read_input(alloc, b"script too long\n", input, output) {
+        Ok(bytes) => bytes,
+        Err(status) => return status,
+    };
+    match read_script(alloc, bytes.as_slice()) {
+        Ok(calls) => perform_calls(alloc, calls.as_slice(), output),
+        Err(ScriptError::Line(line)) => refuse_input(alloc, "script", line, output),
+        Err(ScriptError::Alloc) => OUT_OF_MEMORY,
+    }
+}

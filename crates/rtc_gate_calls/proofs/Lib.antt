@@ -1,0 +1,13 @@
+pub mod ConnectionLemmas
+pub mod ParcelLemmas
+pub mod SortLemmas
+pub mod FeedLemmas
+pub mod GateLemmas
+pub mod CallLemmas
+pub mod CutLemmas
+pub mod FoundLemmas
+pub mod CutLaw
+pub mod DueSteps
+pub mod FedStep
+pub mod DueLaw
+pub mod RunLemmas

@@ -1,0 +1,9 @@
+pub mod Grammar
+pub mod Routing
+pub mod GateState
+pub mod Connection
+pub mod Gate
+pub mod Delivering
+pub mod Replies
+pub mod History
+pub mod Histories
