@@ -1,6 +1,10 @@
 -- The words of the command line: `run`, and how many records the receiver takes in each session.
-use Rattle.std.specs.Prelude.{ℕ, ◌≡◌, ◌<◌, ◌≤◌, ◌^◌, List, ◌∷◌, length, map, codes, All}
+use Rattle.std.specs.Prelude.{ℕ, ◌≡◌, ◌<◌, ◌≤◌, ◌^◌, List, ◌∷◌, length, map, codes, All, String, string_bytes}
 use Rattle.std.specs.Fmt.{decimal}
+
+-- the bytes of each word
+abbrev pub bytes_of_words : {Z : Type 0} → List (String Z) → List (List ℕ)
+bytes_of_words words = map (λ word. string_bytes word) words
 
 -- the words are the decimals of these sizes, which are below 2 ^ 32
 pub record AreSizes (words : List (List ℕ)) (sizes : List ℕ) : Type 0 where

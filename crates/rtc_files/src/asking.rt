@@ -1,7 +1,7 @@
 //! The words of the command line.
-ghost use Rattle.std.specs.Prelude.{◌≡◌, ◌≢◌, ◌<◌, ◌^◌, ℕ, List, map, string_bytes, IfOk, OnErr, IfSome, IfNone, MatchOption};
+ghost use Rattle.std.specs.Prelude.{◌≡◌, ◌≢◌, ◌<◌, ◌^◌, ℕ, List, IfOk, OnErr, IfSome, IfNone, MatchOption};
 ghost use Rattle.std.specs.Fmt.{decimal};
-ghost use Rattle.rtc_files.specs.Asking.{AreSizes, AskFor, AskForSessions};
+ghost use Rattle.rtc_files.specs.Asking.{AreSizes, AskFor, AskForSessions, bytes_of_words};
 
 use rtc_fields::read_decimal;
 use std::alloc::{AllocError, Global};
@@ -23,9 +23,9 @@ fn session_size(word: &str) -> Option<u32>
 // The sizes that words write. Where memory is lacking, the words behind are still looked at.
 fn sizes_of(alloc: Global, words: &[String]) -> Result<Option<Vec<u32>>, AllocError>
     ensures sizes { IfOk result (λ sizes. MatchOption sizes (¬ ((sizes : List ℕ)
-        × AreSizes (map (λ word. string_bytes word) words.now) sizes))
-        (λ sizes. AreSizes (map (λ word. string_bytes word) words.now) sizes.items)) }
-    ensures lacking { OnErr result ((sizes : List ℕ) × AreSizes (map (λ word. string_bytes word) words.now) sizes) }
+        × AreSizes (bytes_of_words words.now) sizes))
+        (λ sizes. AreSizes (bytes_of_words words.now) sizes.items)) }
+    ensures lacking { OnErr result ((sizes : List ℕ) × AreSizes (bytes_of_words words.now) sizes) }
 {
     let mut sizes = Vec::new(alloc);
     let mut lacking = false;
@@ -45,9 +45,9 @@ fn sizes_of(alloc: Global, words: &[String]) -> Result<Option<Vec<u32>>, AllocEr
 
 /// How many records the receiver is to take in each session; None where the words do not ask for sessions.
 pub fn session_sizes(alloc: Global, words: &[String]) -> Result<Option<Vec<u32>>, AllocError>
-    ensures sizes { IfOk result (λ sizes. MatchOption sizes (¬ (AskForSessions (map (λ word. string_bytes word) words.now)))
-        (λ sizes. AskFor (map (λ word. string_bytes word) words.now) sizes.items)) }
-    ensures lacking { OnErr result (AskForSessions (map (λ word. string_bytes word) words.now)) }
+    ensures sizes { IfOk result (λ sizes. MatchOption sizes (¬ (AskForSessions (bytes_of_words words.now)))
+        (λ sizes. AskFor (bytes_of_words words.now) sizes.items)) }
+    ensures lacking { OnErr result (AskForSessions (bytes_of_words words.now)) }
 {
     let Some((word, rest)) = words.split_first() else {
         return Ok(None);

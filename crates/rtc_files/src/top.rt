@@ -1,9 +1,9 @@
 //! The top call.
-ghost use Rattle.std.specs.Prelude.{◌≡◌, ◌≢◌, ◌<◌, ◌^◌, ◌⊎◌, map, string_bytes, IfSome, length};
+ghost use Rattle.std.specs.Prelude.{◌≡◌, ◌≢◌, ◌<◌, ◌^◌, ◌⊎◌, IfSome, length};
 ghost use Rattle.std.specs.Io.KnownBytes.{Appends};
 ghost use Rattle.rtc_io.specs.Faults.{Rose};
 ghost use Rattle.rtc_io.specs.Saying.{BreaksOff};
-ghost use Rattle.rtc_files.specs.Asking.{AskForSessions};
+ghost use Rattle.rtc_files.specs.Asking.{AskForSessions, bytes_of_words};
 ghost use Rattle.rtc_files.specs.Sessions.{front_sent};
 ghost use Rattle.rtc_files.specs.Answers.{
   WritesWhole,
@@ -53,26 +53,23 @@ pub fn file_main<R: Source, W: Sink>(
     input: &mut R,
     output: &mut W,
 ) -> u8
-    ensures whole { result ≡ 0
-        → SendsWhole (map (λ word. string_bytes word) words.now)
-        (R.left input.old) (R.left input.new) (W.written output.old) (W.written output.new) }
-    ensures usage { result ≡ 2 → (¬ (AskForSessions (map (λ word. string_bytes word) words.now)))
+    ensures whole { result ≡ 0 → SendsWhole (bytes_of_words words.now) (R.left input.old) (R.left input.new)
+        (W.written output.old) (W.written output.new) }
+    ensures usage { result ≡ 2 → (¬ (AskForSessions (bytes_of_words words.now)))
         × Appends (W.written output.old) (W.written output.new) files_usage_line }
     ensures read { result ≡ 4 → Rose (R.faults input.old) (R.faults input.new)
         × Appends (W.written output.old) (W.written output.new) files_fault_line }
-    ensures write { result ≡ 5
-        → BreaksOff
-        (IsFileDue (map (λ word. string_bytes word) words.now)
+    ensures write { result ≡ 5 → BreaksOff
+        (IsFileDue (bytes_of_words words.now)
         (R.left input.old) (R.left input.new) (R.faults input.old) (R.faults input.new))
         (W.written output.old) (W.written output.new) (W.faults output.old) (W.faults output.new) }
     ensures memory { result ≡ 6 → output.new ≡ output.old }
     ensures long { result ≡ 7 → IfSome (R.left input.old) (λ file. 2 ^ 20 < length file)
         × Appends (W.written output.old) (W.written output.new) files_long_line }
-    ensures front { result ≡ 8
-        → SendsFront (map (λ word. string_bytes word) words.now)
-        (R.left input.old) (R.left input.new) (W.written output.old) (W.written output.new) }
-    ensures unread { (¬ (AskForSessions (map (λ word. string_bytes word) words.now))) → input.new ≡ input.old }
-    ensures asked { (¬ (AskForSessions (map (λ word. string_bytes word) words.now))) → (result ≡ 2) ⊎ (result ≡ 5) }
+    ensures front { result ≡ 8 → SendsFront (bytes_of_words words.now) (R.left input.old) (R.left input.new)
+        (W.written output.old) (W.written output.new) }
+    ensures unread { (¬ (AskForSessions (bytes_of_words words.now))) → input.new ≡ input.old }
+    ensures asked { (¬ (AskForSessions (bytes_of_words words.now))) → (result ≡ 2) ⊎ (result ≡ 5) }
     ensures statuses { (result ≢ 1) × (result ≢ 3) × (result < 9) }
 {
     let Ok(asked) = session_sizes(alloc, words) else {

@@ -5,3 +5,4 @@ pub mod Calls
 pub mod PlainMeaning
 pub mod TakesLemmas
 pub mod PlainLaws
+pub mod PollLemmas

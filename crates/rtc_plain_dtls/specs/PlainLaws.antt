@@ -3,11 +3,9 @@ use Rattle.std.proofs.Common.{
   ℕ,
   ◌≡◌,
   ◌≤◌,
-  ◌<◌,
   ◌+◌,
   ◌-◌,
   ◌^◌,
-  ◌⊎◌,
   Bool,
   true,
   false,
@@ -15,11 +13,8 @@ use Rattle.std.proofs.Common.{
   inl,
   inr,
   List,
-  [],
   ◌∷◌,
-  ◌++◌,
   length,
-  max,
   Result,
   Ok,
   Err,
@@ -27,16 +22,16 @@ use Rattle.std.proofs.Common.{
   sym,
   ap,
   subst,
-  ◌∙◌,
   arith,
   append-nil,
   length-append,
+  [],
 }
 use Rattle.std.specs.Prelude.{nat_le}
 use Rattle.std.proofs.lemmas.Bool.Decides.{leb_tells}
 use Rattle.rtc_dtls.specs.declared.dtls_error.DtlsError.{DtlsError}
 use Rattle.rtc_dtls.specs.declared.dtls_error.DtlsError.TheVariants.{WouldBlock, Fault, Alloc}
-use Rattle.rtc_dtls.specs.DtlsDrawn.{DtlsDrawn, DrewPacket, DrewData, DrewTimeout, drawn_bytes, drawn_units, drawn_packets, draws_output}
+use Rattle.rtc_dtls.specs.DtlsDrawn.{DrewPacket, DrewData}
 use Rattle.rtc_dtls.specs.DtlsActs.{
   DtlsAct,
   DtlsCall,
@@ -56,8 +51,6 @@ use Rattle.rtc_dtls.specs.DtlsActs.{
   DtlsMoved,
 }
 use Rattle.rtc_dtls.specs.DtlsLaws.{DtlsLaws, DtlsAnswered, SendAnswered, IsLater}
-use Rattle.rtc_plain_dtls.specs.declared.output.Output.{Output}
-use Rattle.rtc_plain_dtls.specs.declared.output.Output.TheVariants.{PeerCert, Keying, Connected, Data, Close}
 use Rattle.rtc_plain_dtls.specs.declared.phase.Phase.{Phase}
 use Rattle.rtc_plain_dtls.specs.declared.phase.Phase.TheVariants.{
   NoRole,
@@ -68,22 +61,13 @@ use Rattle.rtc_plain_dtls.specs.declared.phase.Phase.TheVariants.{
   FinishedActive,
   FinishedPassive,
 }
-use Rattle.rtc_plain_dtls.specs.Held.{output_drawn, outputs_units}
-use Rattle.rtc_plain_dtls.specs.Frames as said
-use Rattle.rtc_plain_dtls.specs.Frames.{DtlsFrame, dtls_frame_in}
+use Rattle.rtc_plain_dtls.specs.Held.{outputs_units}
+use Rattle.rtc_plain_dtls.specs.Frames.{dtls_frame_in}
 use Rattle.rtc_plain_dtls.specs.Contents.{DtlsContents, phase_is_finished, resends, second_behind, asks_at, asks_of}
 use Rattle.rtc_plain_dtls.specs.Calls.{
   went_on,
   certificate_kept,
   role_set,
-  start_came,
-  hello_came,
-  certificate_came,
-  finish_came,
-  data_came,
-  close_told,
-  dtls_close_came,
-  frame_came,
   packet_came,
   data_queued,
   sent_again,
@@ -91,11 +75,19 @@ use Rattle.rtc_plain_dtls.specs.Calls.{
   dtls_time_passed,
   close_packets,
   dtls_shut_down,
-  dtls_packet_given,
-  dtls_output_given,
 }
-use Rattle.rtc_plain_dtls.specs.TakesLemmas.{Takes, frame_takes, Repeats, again_repeats}
-use Rattle.rtc_plain_dtls.specs.PlainMeaning.{plain_dtls, KeepsCert, LeavesDtls, SendsDtls, PollsDtls}
+use Rattle.rtc_plain_dtls.specs.TakesLemmas.{frame_takes, Repeats, again_repeats}
+use Rattle.rtc_plain_dtls.specs.PollLemmas.{
+  timeout_only,
+  empties,
+  polled_falls,
+  polled_short,
+  polled_input,
+  polled_output,
+  polled_keeps,
+  same_asks,
+}
+use Rattle.rtc_plain_dtls.specs.PlainMeaning.{plain_dtls, KeepsCert, LeavesDtls, SendsDtls}
 
 -- answers
 leaves_answered : (p done q : DtlsContents) (r : Result (Unit {0}) DtlsError) → LeavesDtls p done r q → DtlsAnswered 0 0 r
@@ -137,75 +129,6 @@ pub keeps_cert : (P : DtlsContents → Type 0) (p done q : DtlsContents) (r : _)
 keeps_cert P p done q (Ok x) a b h = subst P (sym h) b
 keeps_cert P p done q (Err x) a b h = subst P (sym h) a
 
--- polls
-output_gives : (output : Output) → draws_output (output_drawn output) ≡ true
-output_gives (PeerCert cert) = refl
-output_gives Keying = refl
-output_gives Connected = refl
-output_gives (Data bytes) = refl
-output_gives Close = refl
-
-output_packets : (output : Output) → drawn_packets (output_drawn output) ≡ 0
-output_packets (PeerCert cert) = refl
-output_packets Keying = refl
-output_packets Connected = refl
-output_packets (Data bytes) = refl
-output_packets Close = refl
-
-abbrev moment_in : DtlsDrawn → ℕ
-moment_in (DrewTimeout moment) = moment
-moment_in _ = 0
-
--- a timeout comes where both queues are empty
-timeout_only : (packets : List (List ℕ)) (outputs : List Output) (p q : DtlsContents) (moment : ℕ)
-    → PollsDtls packets outputs p (DrewTimeout moment) q → (length packets + length outputs ≡ 0) × (q ≡ p) × (moment ≡ asks_of p)
-timeout_only (x ∷ packets) outputs p q moment h = absurd (cc (h.0))
-timeout_only [] (x ∷ outputs) p q moment h = absurd (let e : false ≡ true = ap draws_output h.0 ∙ output_gives x in cc)
-timeout_only [] [] p q moment h = (refl, h.1, ap moment_in h.0)
-
-empties : (packets : List (List ℕ)) (outputs : List Output) (p : DtlsContents) → length packets + length outputs ≡ 0
-    → PollsDtls packets outputs p (DrewTimeout (asks_of p)) p
-empties (x ∷ packets) outputs p e = absurd (omega (arith, e))
-empties [] (x ∷ outputs) p e = absurd (omega (arith, e))
-empties [] [] p e = (refl, refl)
-
-abbrev held_by : DtlsContents → ℕ
-held_by p = length p.packets + length p.outputs
-
-polled_falls : (packets : List (List ℕ)) (outputs : List Output) (p q : DtlsContents) (drawn : DtlsDrawn) → p.packets ≡ packets
-    → p.outputs ≡ outputs → draws_output drawn ≡ true → PollsDtls packets outputs p drawn q → held_by q < held_by p
-polled_falls (x ∷ packets) outputs p q drawn e f g h = omega (arith, ap length e, ap held_by h.2)
-polled_falls [] (x ∷ outputs) p q drawn e f g h = omega (arith, ap length f, ap held_by h.2)
-polled_falls [] [] p q drawn e f g h = absurd (let k : false ≡ true = sym (ap draws_output h.0) ∙ g in cc)
-
-polled_short : (packets : List (List ℕ)) (outputs : List Output) (p q : DtlsContents) (drawn : DtlsDrawn)
-    → PollsDtls packets outputs p drawn q → length (drawn_bytes drawn) ≤ 2000
-polled_short (x ∷ packets) outputs p q drawn h = omega (arith, ap (λ d. length (drawn_bytes d)) h.0, h.1)
-polled_short [] (x ∷ outputs) p q drawn h = omega (arith, ap (λ d. length (drawn_bytes d)) h.0, h.1)
-polled_short [] [] p q drawn h = omega (arith, ap (λ d. length (drawn_bytes d)) h.0)
-
-polled_input : (packets : List (List ℕ)) (outputs : List Output) (p q : DtlsContents) (drawn : DtlsDrawn) → p.outputs ≡ outputs
-    → PollsDtls packets outputs p drawn q → outputs_units q.outputs + drawn_units drawn ≤ outputs_units p.outputs
-polled_input (x ∷ packets) outputs p q drawn f h = omega (arith, ap drawn_units h.0, ap (λ (c : DtlsContents). outputs_units c.outputs) h.2)
-polled_input [] (x ∷ outputs) p q drawn f h = omega (arith, ap drawn_units h.0, ap outputs_units f, ap (λ (c : DtlsContents). outputs_units c.outputs) h.2)
-polled_input [] [] p q drawn f h = omega (arith, ap drawn_units h.0, ap (λ (c : DtlsContents). outputs_units c.outputs) h.1)
-
-polled_output : (packets : List (List ℕ)) (outputs : List Output) (p q : DtlsContents) (drawn : DtlsDrawn) → p.packets ≡ packets
-    → PollsDtls packets outputs p drawn q → length q.packets + drawn_packets drawn ≤ length p.packets
-polled_output (x ∷ packets) outputs p q drawn e h = omega (arith, ap drawn_packets h.0, ap length e, ap (λ (c : DtlsContents). length c.packets) h.2)
-polled_output [] (x ∷ outputs) p q drawn e h = omega (arith, ap drawn_packets h.0 ∙ output_packets x, ap (λ (c : DtlsContents). length c.packets) h.2)
-polled_output [] [] p q drawn e h = omega (arith, ap drawn_packets h.0, ap (λ (c : DtlsContents). length c.packets) h.1)
-
-polled_keeps : (packets : List (List ℕ)) (outputs : List Output) (p q : DtlsContents) (drawn : DtlsDrawn)
-    → PollsDtls packets outputs p drawn q → (q.phase ≡ p.phase) × (q.greatest ≡ p.greatest)
-polled_keeps (x ∷ packets) outputs p q drawn h = (ap (λ (c : DtlsContents). c.phase) h.2, ap (λ (c : DtlsContents). c.greatest) h.2)
-polled_keeps [] (x ∷ outputs) p q drawn h = (ap (λ (c : DtlsContents). c.phase) h.2, ap (λ (c : DtlsContents). c.greatest) h.2)
-polled_keeps [] [] p q drawn h = (ap (λ (c : DtlsContents). c.phase) h.1, ap (λ (c : DtlsContents). c.greatest) h.1)
-
-same_asks : (p q : DtlsContents) → (q.phase ≡ p.phase) × (q.greatest ≡ p.greatest) → asks_of p ≤ asks_of q
-same_asks p q k = let e : asks_of q
-    ≡ asks_of p = ap (λ (x : Phase). asks_at (resends x) q.greatest) k.0 ∙ ap (λ (n : ℕ). asks_at (resends p.phase) n) k.1 in omega (arith, e)
-
 -- application data and a close keep the moments, and add a packet at most
 pub record Adds (p q : DtlsContents) : Type 0 where
   pub phase : q.phase ≡ p.phase
@@ -218,7 +141,12 @@ adds_none p = record { phase = refl; greatest = refl; outputs = refl; output = o
 
 pub adds_data : (bytes : List ℕ) (p : DtlsContents) → Adds p (data_queued bytes p)
 unfolding went_on
-adds_data bytes p = record { phase = refl; greatest = refl; outputs = append-nil p.outputs; output = omega (arith, length-append p.packets ((23 ∷ bytes) ∷ [])) }
+adds_data bytes p = record {
+  phase = refl;
+  greatest = refl;
+  outputs = append-nil p.outputs;
+  output = omega (arith, length-append p.packets ((23 ∷ bytes) ∷ []));
+}
 
 few_closes : (phase : Phase) → length (close_packets phase) ≤ 1
 few_closes NoRole = omega arith
@@ -231,7 +159,21 @@ few_closes FinishedPassive = omega arith
 
 pub adds_close : (p : DtlsContents) → Adds p (dtls_shut_down p)
 unfolding dtls_shut_down
-adds_close p = record { phase = refl; greatest = refl; outputs = refl; output = omega (arith, length-append p.packets (close_packets p.phase), few_closes p.phase) }
+adds_close p = record {
+  phase = refl;
+  greatest = refl;
+  outputs = refl;
+  output = omega (arith, length-append p.packets (close_packets p.phase), few_closes p.phase);
+}
+
+-- what the calls for application data and a close leave
+sent_adds : (p q : DtlsContents) (bytes : List ℕ) (r : Result (Unit {0}) DtlsError)
+    → SendsDtls (phase_is_finished p.phase) p (data_queued bytes p) r q → Adds p q
+sent_adds p q bytes r h =
+    sends (Adds p) (phase_is_finished p.phase) p (data_queued bytes p) q r (adds_none p) (adds_data bytes p) h
+
+shut_adds : (p q : DtlsContents) (r : Result (Unit {0}) DtlsError) → LeavesDtls p (dtls_shut_down p) r q → Adds p q
+shut_adds p q r h = leaves (Adds p) p (dtls_shut_down p) q r (adds_none p) (adds_close p) h
 
 -- time adds a packet at most, and its moment is kept
 pub record PassesTime (now : ℕ) (p q : DtlsContents) : Type 0 where
@@ -264,18 +206,25 @@ abbrev Later : DtlsContents → DtlsContents → Type 0
 Later p q = p.greatest ≤ q.greatest
 
 later_call : (p q : DtlsContents) (call : DtlsCall) → DtlsActed plain_dtls p (Stirred call) q → Later p q
-later_call p q (CertificateSet cert r) h = keeps_cert (Later p) p (certificate_kept cert p) q r (omega arith) (omega (arith, kept-greatest cert p)) h
+later_call p q (CertificateSet cert r) h =
+    keeps_cert (Later p) p (certificate_kept cert p) q r (omega arith) (omega (arith, kept-greatest cert p)) h
 later_call p q (Activated active) h = omega (arith, ap (λ (c : DtlsContents). c.greatest) h, role-greatest active p)
 later_call p q (VersionSet v) h = omega (arith, ap (λ (c : DtlsContents). c.greatest) h)
-later_call p q (SendRefused bytes e) h = sends (Later p) (phase_is_finished p.phase) p (data_queued bytes p) q (Err e) (omega arith) (omega (arith, (adds_data bytes p).greatest)) h
+later_call p q (SendRefused bytes e) h =
+    sends (Later p) (phase_is_finished p.phase) p (data_queued bytes p) q (Err e)
+    (omega arith) (omega (arith, (adds_data bytes p).greatest)) h
 later_call p q (TimedAt now r) h = leaves (Later p) p (dtls_time_passed now p) q r (omega arith) (timed_passes now p).greatest h
 later_call p q (Closed r) h = leaves (Later p) p (dtls_shut_down p) q r (omega arith) (omega (arith, (adds_close p).greatest)) h
 later_call p q (Showed drawn) h = omega (arith, (polled_keeps p.packets p.outputs p q drawn h.1).1)
 
 later_act : (p q : DtlsContents) (act : DtlsAct) → DtlsActed plain_dtls p act q → Later p q
-later_act p q (Given packet) h = leaves (Later p) p (packet_came packet p) q h.0 (omega arith) (omega (arith, (frame_takes (dtls_frame_in packet) p).greatest)) h.1
+later_act p q (Given packet) h =
+    leaves (Later p) p (packet_came packet p) q h.0
+    (omega arith) (omega (arith, (frame_takes (dtls_frame_in packet) p).greatest)) h.1
 later_act p q (Taken packet) h = omega (arith, (polled_keeps p.packets p.outputs p q (DrewPacket packet) h).1)
-later_act p q (Sent bytes) h = sends (Later p) (phase_is_finished p.phase) p (data_queued bytes p) q (Ok tt) (omega arith) (omega (arith, (adds_data bytes p).greatest)) h
+later_act p q (Sent bytes) h =
+    sends (Later p) (phase_is_finished p.phase) p (data_queued bytes p) q (Ok tt)
+    (omega arith) (omega (arith, (adds_data bytes p).greatest)) h
 later_act p q (Got bytes) h = omega (arith, (polled_keeps p.packets p.outputs p q (DrewData bytes) h).1)
 later_act p q (Stirred call) h = later_call p q call h
 
@@ -302,7 +251,8 @@ plain_dtls_laws = record {
   shut_answer = λ p q r h. leaves_answered p (dtls_shut_down p) q r h;
   sent_answer = λ p q bytes r h. sends_answered (phase_is_finished p.phase) p (data_queued bytes p) q r h;
   blocked = λ p q bytes h. (blocks (phase_is_finished p.phase) p (data_queued bytes p) q h).1;
-  blocked_again = λ p q o bytes others r h k. inl (blocks_again (phase_is_finished p.phase) p (data_queued others p) o r (blocks (phase_is_finished p.phase) p (data_queued bytes p) q h).0 k);
+  blocked_again = λ p q o bytes others r h k. inl (blocks_again (phase_is_finished p.phase) p (data_queued others p) o r
+      (blocks (phase_is_finished p.phase) p (data_queued bytes p) q h).0 k);
   faults_rise = λ p q act h. omega arith;
   timeout_none = λ p q moment h. (timeout_only p.packets p.outputs p q moment h).1;
   timeout_asks = λ p q moment h. (timeout_only p.packets p.outputs p q moment h).2;
@@ -312,18 +262,21 @@ plain_dtls_laws = record {
   drawn_short = λ p q drawn h. polled_short p.packets p.outputs p q drawn h;
   drawn_input = λ p q drawn h. polled_input p.packets p.outputs p q drawn refl h;
   drawn_output = λ p q drawn h. polled_output p.packets p.outputs p q drawn refl h;
-  sent_input = λ p q bytes r h. omega (arith, ap outputs_units (sends (Adds p) (phase_is_finished p.phase) p (data_queued bytes p) q r (adds_none p) (adds_data bytes p) h).outputs);
-  sent_output = λ p q bytes r h. (sends (Adds p) (phase_is_finished p.phase) p (data_queued bytes p) q r (adds_none p) (adds_data bytes p) h).output;
+  sent_input = λ p q bytes r h. omega (arith, ap outputs_units (sent_adds p q bytes r h).outputs);
+  sent_output = λ p q bytes r h. (sent_adds p q bytes r h).output;
   timed_input = λ p q now r h. omega (
     arith,
     ap outputs_units (leaves (λ c. c.outputs
         ≡ p.outputs) p (dtls_time_passed now p) q r refl (timed_passes now p).outputs h),
   );
-  timed_output = λ p q now r h. leaves (λ c. length c.packets ≤ length p.packets + 32) p (dtls_time_passed now p) q r (omega arith) (omega (arith, (timed_passes now p).output)) h;
-  shut_input = λ p q r h. omega (arith, ap outputs_units (leaves (Adds p) p (dtls_shut_down p) q r (adds_none p) (adds_close p) h).outputs);
-  shut_output = λ p q r h. omega (arith, (leaves (Adds p) p (dtls_shut_down p) q r (adds_none p) (adds_close p) h).output);
-  asks_later = λ p q r now acts h k. asks_behind (resends r.phase) now r.greatest (omega (arith, ap (λ (c : DtlsContents). c.greatest) h, (timed_passes now p).moment, later_moved q r acts k));
+  timed_output = λ p q now r h.
+      leaves (λ c. length c.packets ≤ length p.packets + 32) p (dtls_time_passed now p) q r
+      (omega arith) (omega (arith, (timed_passes now p).output)) h;
+  shut_input = λ p q r h. omega (arith, ap outputs_units (shut_adds p q r h).outputs);
+  shut_output = λ p q r h. omega (arith, (shut_adds p q r h).output);
+  asks_later = λ p q r now acts h k. asks_behind (resends r.phase) now r.greatest
+      (omega (arith, ap (λ (c : DtlsContents). c.greatest) h, (timed_passes now p).moment, later_moved q r acts k));
   drawn_asks = λ p q drawn h. same_asks p q (polled_keeps p.packets p.outputs p q drawn h);
-  sent_asks = λ p q bytes r h. let a = sends (Adds p) (phase_is_finished p.phase) p (data_queued bytes p) q r (adds_none p) (adds_data bytes p) h in same_asks p q (a.phase, a.greatest);
-  shut_asks = λ p q r h. let a = leaves (Adds p) p (dtls_shut_down p) q r (adds_none p) (adds_close p) h in same_asks p q (a.phase, a.greatest);
+  sent_asks = λ p q bytes r h. let a = sent_adds p q bytes r h in same_asks p q (a.phase, a.greatest);
+  shut_asks = λ p q r h. let a = shut_adds p q r h in same_asks p q (a.phase, a.greatest);
 }

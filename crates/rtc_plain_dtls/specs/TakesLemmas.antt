@@ -75,13 +75,29 @@ no_data kind rest bytes e h = let first : List ℕ → ℕ = λ l. first_of_list
     first_of_list (x ∷ xs) = x
 
 takes_none : (frame : DtlsFrame) (p : DtlsContents) → Takes frame p p
-takes_none frame p = record { told = []; sent = []; greatest = refl; outputs = sym (append-nil p.outputs); packets = sym (append-nil p.packets); got = λ b m. absurd m; unsent = λ b m. absurd m }
+takes_none frame p = record {
+  told = [];
+  sent = [];
+  greatest = refl;
+  outputs = sym (append-nil p.outputs);
+  packets = sym (append-nil p.packets);
+  got = λ b m. absurd m;
+  unsent = λ b m. absurd m;
+}
 
 takes_went : (frame : DtlsFrame) (phase : Phase) (told : List Output) (sent : List (List ℕ)) (p : DtlsContents)
     → ((bytes : List ℕ) → Member (Data bytes) told → frame ≡ said.Data bytes) → ((bytes : List ℕ) → Member (23 ∷ bytes) sent → ⊥)
     → Takes frame p (went_on phase told sent p)
 unfolding went_on
-takes_went frame phase told sent p g u = record { told = told; sent = sent; greatest = refl; outputs = refl; packets = refl; got = g; unsent = u }
+takes_went frame phase told sent p g u = record {
+  told = told;
+  sent = sent;
+  greatest = refl;
+  outputs = refl;
+  packets = refl;
+  got = g;
+  unsent = u;
+}
 
 -- one packet of the handshake is sent, and nothing is told
 takes_sent : (frame : DtlsFrame) (phase : Phase) (rest : List ℕ) (p : DtlsContents) → Takes frame p (went_on phase [] ((22 ∷ rest) ∷ []) p)
@@ -208,7 +224,11 @@ repeats_none p = record { takes = takes_none said.Unknown p; nothing = refl; few
 
 repeats_sent : (phase : Phase) (rest : List ℕ) (p : DtlsContents) → Repeats p (went_on phase [] ((22 ∷ rest) ∷ []) p)
 unfolding went_on
-repeats_sent phase rest p = record { takes = takes_sent said.Unknown phase rest p; nothing = append-nil p.outputs; few = omega (arith, length-append p.packets ((22 ∷ rest) ∷ [])) }
+repeats_sent phase rest p = record {
+  takes = takes_sent said.Unknown phase rest p;
+  nothing = append-nil p.outputs;
+  few = omega (arith, length-append p.packets ((22 ∷ rest) ∷ []));
+}
 
 pub again_repeats : (phase : Phase) (p : DtlsContents) → Repeats p (sent_again phase p)
 again_repeats NoRole p = repeats_none p

@@ -122,7 +122,10 @@ member_filter test x (y ∷ ys) m = filtered_member x y (filter test ys) ys (tes
 
 withdraws : (c : Candidate) (p : IceContents) → Withdraws p.settings (withdrawn c p).settings
 unfolding withdrawn
-withdraws c p = record { others = refl; candidates = record { each = λ x m. member_filter (λ y. not (is_same_place y c)) x p.settings.candidates m } }
+withdraws c p = record {
+  others = refl;
+  candidates = record { each = λ x m. member_filter (λ y. not (is_same_place y c)) x p.settings.candidates m };
+}
 
 -- messages and time keep the settings
 settings-nominated : (ends : Ends) (p : IceContents) → (nominated_with ends p).settings ≡ p.settings
@@ -170,8 +173,10 @@ settings-message (Some m) now proto source destination p =
     settings-cond (m.kind == CHECK) p.settings
     (cond (bytes_eq m.receiver p.settings.local.ufrag) (check_came proto source destination m p) p)
     (cond (m.kind == RESPONSE) (response_came p.check now m.number p) p)
-    (settings-cond (bytes_eq m.receiver p.settings.local.ufrag) p.settings (check_came proto source destination m p) p (settings-check_came proto source destination m p) refl)
-    (settings-cond (m.kind == RESPONSE) p.settings (response_came p.check now m.number p) p (settings-response_came p.check now m.number p) refl)
+    (settings-cond (bytes_eq m.receiver p.settings.local.ufrag) p.settings
+    (check_came proto source destination m p) p (settings-check_came proto source destination m p) refl)
+    (settings-cond (m.kind == RESPONSE) p.settings
+    (response_came p.check now m.number p) p (settings-response_came p.check now m.number p) refl)
 
 settings-timed : (ends : Option Ends) (now : ℕ) (p : IceContents) → (timed_with ends now p).settings ≡ p.settings
 settings-timed None now p = refl
@@ -246,7 +251,9 @@ plain_ice_laws = record {
   remote_added_settings = λ p q c r h. adds_settings p.remote_candidates c p (remote_added c p) q r (settings-remote_added c p) h;
   invalidated_settings = λ p q c h. subst (λ (x : IceContents). Withdraws p.settings x.settings) (sym h.1) (withdraws c p);
   not_found_settings = λ p q c h. ap set_of h.1;
-  given_settings = λ p q now proto source destination message r h. leaves_settings p (ice_input_taken now proto source destination message p) q r (settings-message (ice_message_in message) now proto source destination p) h;
+  given_settings = λ p q now proto source destination message r h.
+      leaves_settings p (ice_input_taken now proto source destination message p) q r
+      (settings-message (ice_message_in message) now proto source destination p) h;
   timed_settings = λ p q now r h. leaves_settings p (ice_time_passed now p) q r (settings-timed (next_ends p) now p) h;
   polled_settings = λ p q e h. let w = event_some p.events p q e h in ap set_of w.1;
   gave_settings = λ p q t h. let w = transmit_some p.transmits p q t h in ap set_of w.1;

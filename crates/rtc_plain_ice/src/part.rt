@@ -23,7 +23,6 @@ impl StunReader for PlainIce {
     }
 }
 
-#[tactic(auto, unfolding(crate::specs::Calls::lite_set, crate::specs::Calls::controlling_set, crate::specs::Calls::local_set, crate::specs::Calls::remote_set, crate::specs::Calls::rto_set, crate::specs::Calls::local_added, crate::specs::Calls::remote_added,))]
 impl IceAgent for PlainIce {
     ghost use Rattle.rtc_plain_ice.specs.PlainMeaning.{plain_ice};
     ghost use Rattle.rtc_plain_ice.specs.PlainLaws.{plain_ice_laws};
@@ -32,6 +31,7 @@ impl IceAgent for PlainIce {
 
     ghost laws = { plain_ice_laws };
 
+    #[tactic(auto, unfolding(crate::specs::Calls::lite_set))]
     fn set_ice_lite(&mut self, lite: bool) {
         self.lite = lite;
     }
@@ -40,6 +40,7 @@ impl IceAgent for PlainIce {
         self.lite
     }
 
+    #[tactic(auto, unfolding(crate::specs::Calls::controlling_set))]
     fn set_controlling(&mut self, on: bool) {
         self.controlling = on;
     }
@@ -48,6 +49,7 @@ impl IceAgent for PlainIce {
         self.controlling
     }
 
+    #[tactic(auto, unfolding(crate::specs::Calls::local_set))]
     fn set_local_credentials(&mut self, c: IceCreds) {
         self.local = c;
     }
@@ -56,6 +58,7 @@ impl IceAgent for PlainIce {
         &self.local
     }
 
+    #[tactic(auto, unfolding(crate::specs::Calls::remote_set))]
     fn set_remote_credentials(&mut self, c: IceCreds) {
         self.remote = Some(c);
     }
@@ -68,6 +71,7 @@ impl IceAgent for PlainIce {
         self.restart(c, keep_local_candidates)
     }
 
+    #[tactic(auto, unfolding(crate::specs::Calls::local_added))]
     fn add_local_candidate(&mut self, c: Candidate) -> Result<bool, AllocError> {
         add(&mut self.candidates, c)
     }
@@ -76,6 +80,7 @@ impl IceAgent for PlainIce {
         self.candidates.as_slice()
     }
 
+    #[tactic(auto, unfolding(crate::specs::Calls::remote_added))]
     fn add_remote_candidate(&mut self, c: Candidate) -> Result<bool, AllocError> {
         add(&mut self.remote_candidates, c)
     }
@@ -124,6 +129,7 @@ impl IceAgent for PlainIce {
     }
 
     /// Checks are repeated without bound, each time after the first span.
+    #[tactic(auto, unfolding(crate::specs::Calls::rto_set))]
     fn set_rto(&mut self, initial: Span, _max: Span, _retransmits: u32) {
         self.rto = initial;
     }

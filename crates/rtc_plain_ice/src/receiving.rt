@@ -1,7 +1,8 @@
 //! What messages and time do to an agent.
-ghost use Rattle.std.specs.Prelude.{◌≡◌, ◌≤◌, length, OnOk, OnErr, true};
+ghost use Rattle.std.specs.Prelude.{◌≡◌, ◌≤◌, length, IfOk, OnOk, OnErr, true};
 ghost use Rattle.rtc_plain_ice.specs.Contents.{ufrags_fit};
 ghost use Rattle.rtc_plain_ice.specs.Calls.{check_came, response_came, ice_input_taken, ice_time_passed, checked};
+ghost use Rattle.rtc_plain_ice.specs.Messages.{message_bytes};
 ghost use Rattle.rtc_plain_ice.specs.PlainMeaning.{PollsEvent, PollsTransmit};
 
 use crate::agent::PlainIce;
@@ -11,23 +12,26 @@ use crate::check::{Check, Ends};
 use crate::message::{CHECK, Message, RESPONSE, number_bytes, read, write};
 use crate::queues::{nominate, start_checking, tell};
 use rtc_ice::IceEvent;
-use rtc_wire::{Addr, Moment, Protocol, Span, Transmit};
-use std::alloc::AllocError;
+use rtc_wire::{Addr, DatagramSend, Moment, Protocol, Span, Transmit};
+use std::alloc::{AllocError, Global};
+
+// The response to a check, with its fragments exchanged.
+fn response_to(alloc: Global, check: &Message<'_>) -> Result<DatagramSend, AllocError>
+    requires receiver_fits { length check.now.receiver.now ≤ 255 }
+    requires sender_fits { length check.now.sender.now ≤ 255 }
+    ensures { IfOk result (λ m. m ≡ message_bytes 1 check.now.number.now check.now.sender.now check.now.receiver.now) }
+{
+    write(alloc, 1, check.number, check.sender, check.receiver)
+}
 
 impl PlainIce {
-    /// Answers a check of the other side. A lite agent without a pair takes the one by which it came.
+    /// Answers a check that came between these ends. A lite agent without a pair takes them as its pair.
     #[tactic(auto, unfolding(crate::specs::Calls::heard_check, crate::specs::Calls::nominated_with))]
-    fn take_check(
-        &mut self,
-        proto: Protocol,
-        source: Addr,
-        destination: Addr,
-        message: &Message<'_>,
-    ) -> Result<(), AllocError>
+    fn take_check(&mut self, ends: &Ends, message: &Message<'_>) -> Result<(), AllocError>
         requires receiver_fits { length message.now.receiver.now ≤ 255 }
         requires sender_fits { length message.now.sender.now ≤ 255 }
         ensures ok { OnOk result (self.new
-            ≡ check_came proto source destination (record {
+            ≡ check_came ends.now.proto ends.now.destination ends.now.source (record {
               kind = message.now.kind;
               number = message.now.number.now;
               receiver = message.now.receiver.now;
@@ -35,31 +39,21 @@ impl PlainIce {
             }) self.old) }
         ensures err { OnErr result (self.new ≡ self.old) }
     {
-        let contents = write(
-            self.alloc,
-            1,
-            message.number,
-            message.sender,
-            message.receiver,
-        )?;
+        let contents = response_to(self.alloc, message)?;
         self.events.reserve(3)?;
         self.discovered.reserve(1)?;
         self.transmits.push_back(Transmit {
-            proto,
-            source: destination,
-            destination: source,
+            proto: ends.proto,
+            source: ends.source,
+            destination: ends.destination,
             contents,
         })?;
+        let (proto, source) = (ends.proto, ends.destination);
         remember(&mut self.discovered, source);
         tell(&mut self.events, IceEvent::DiscoveredRecv { proto, source });
         if self.lite && !self.nominated {
-            let ends = Ends {
-                proto,
-                source: destination,
-                destination: source,
-            };
             nominate(
-                &ends,
+                ends,
                 &mut self.nominated,
                 &mut self.check,
                 &mut self.state,
@@ -111,7 +105,12 @@ impl PlainIce {
             if message.receiver != self.local.ufrag.as_str().as_bytes() {
                 return Ok(());
             }
-            return self.take_check(proto, source, destination, &message);
+            let ends = Ends {
+                proto,
+                source: destination,
+                destination: source,
+            };
+            return self.take_check(&ends, &message);
         }
         if message.kind == RESPONSE {
             return self.take_response(now, message.number);

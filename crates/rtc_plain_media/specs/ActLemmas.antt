@@ -140,7 +140,8 @@ pub data MediaEffect (p q : MediaContents) : Type 0 where
       → MediaLeaves p (record p { pending = updates }) r q → MediaEffect p q
 
 lent_effect : (p q : MediaContents) → LendsMedia plain_media_meaning p q → KeepsMedia p q
-lent_effect p q (WriterLent mid w h) = keeps_by p _ q (record { lines = λ m. update-writer_marked m mid w p.lines; pending = refl; begins = λ b. b }) h
+lent_effect p q (WriterLent mid w h) =
+    keeps_by p _ q (record { lines = λ m. update-writer_marked m mid w p.lines; pending = refl; begins = λ b. b }) h
 lent_effect p q (RxExpected ssrc rtx mid rid x h) = keeps_by p _ q (record { lines = λ m. refl; pending = refl; begins = λ b. b }) h
 lent_effect p q (TxDeclared ssrc rtx mid rid x h) = keeps_by p _ q (record { lines = λ m. refl; pending = refl; begins = λ b. b }) h
 lent_effect p q (RxLent ssrc x h) = keeps_by p _ q (record { lines = λ m. refl; pending = refl; begins = λ b. b }) h
@@ -152,22 +153,43 @@ lent_effect p q (TxReset mid rid ssrc rtx x h) = keeps_by p _ q (record { lines 
 stirred_effect : (p q : MediaContents) → StirsMedia plain_media_meaning p q → MediaEffect p q
 stirred_effect p q (Configured settings h) = Keeping (keeps_by p _ q (record { lines = λ m. refl; pending = refl; begins = λ b. b }) h)
 stirred_effect p q (Prepared updates r h) = Preparing updates r h
-stirred_effect p q (Keyed key profile active r h) = Keeping (keeps_left p _ q r (record { lines = λ m. refl; pending = refl; begins = λ b. b }) h)
-stirred_effect p q (EventTold e h) = let t = tells_some p.events p q e h in Keeping (keeps_by p _ q (record { lines = λ m. refl; pending = refl; begins = λ b. b }) t.1)
+stirred_effect p q (Keyed key profile active r h) =
+    Keeping (keeps_left p _ q r (record { lines = λ m. refl; pending = refl; begins = λ b. b }) h)
+stirred_effect p q (EventTold e h) =
+    let t = tells_some p.events p q e h in
+    Keeping (keeps_by p _ q (record { lines = λ m. refl; pending = refl; begins = λ b. b }) t.1)
 stirred_effect p q (FallibleTold now r h) = Keeping (keeps_by p p q (keeps_self p) (stays_same None p q r h))
 stirred_effect p q (FeedbackCleared h) = Keeping (keeps_by p _ q (record { lines = λ m. refl; pending = refl; begins = λ b. tt }) h)
 stirred_effect p q (StatsVisited now s r t h) = Keeping (keeps_by p p q (keeps_self p) (stays_same tt p q r h.0))
 stirred_effect p q (RedSet mid on b h) = Keeping (keeps_by p p q (keeps_self p) h.1)
 stirred_effect p q (TwccEnabled h) = Keeping (keeps_by p p q (keeps_self p) h)
-stirred_effect p q (AppFed sender media payload r h) = Keeping (keeps_left p _ q r (record { lines = λ m. refl; pending = refl; begins = λ b. begins_more p.datagrams (app_feedback payload) b refl }) h)
-stirred_effect p q (PliFed sender media r h) = Keeping (keeps_left p _ q r (record { lines = λ m. refl; pending = refl; begins = λ b. begins_more p.datagrams picture_asked b refl }) h)
+stirred_effect p q (AppFed sender media payload r h) =
+    Keeping (keeps_left p _ q r (record {
+      lines = λ m. refl;
+      pending = refl;
+      begins = λ b. begins_more p.datagrams (app_feedback payload) b refl;
+    }) h)
+stirred_effect p q (PliFed sender media r h) =
+    Keeping (keeps_left p _ q r (record {
+      lines = λ m. refl;
+      pending = refl;
+      begins = λ b. begins_more p.datagrams picture_asked b refl;
+    }) h)
 stirred_effect p q (RxRemoved ssrc b h) = Keeping (keeps_by p _ q (record { lines = λ m. refl; pending = refl; begins = λ b. b }) h.1)
 stirred_effect p q (TxRemoved ssrc b h) = Keeping (keeps_by p _ q (record { lines = λ m. refl; pending = refl; begins = λ b. b }) h.1)
 
 pub effect : (p q : MediaContents) (act : MediaAct) → MediaActed plain_media_meaning p act q → MediaEffect p q
-effect p q (MediaGiven packet) (now, (r, inl h)) = Keeping (keeps_left p _ q r (record { lines = λ m. refl; pending = refl; begins = λ b. b }) h)
-effect p q (MediaGiven packet) (now, (r, inr h)) = Keeping (keeps_left p _ q r (record { lines = λ m. refl; pending = refl; begins = λ b. b }) h)
-effect p q (MediaTaken datagram) (now, h) = let t = gives_some p.datagrams p q datagram h in Keeping (keeps_by p _ q (record { lines = λ m. refl; pending = refl; begins = λ b. (subst EachBegins t.0.is b).1 }) t.1)
+effect p q (MediaGiven packet) (now, (r, inl h)) =
+    Keeping (keeps_left p _ q r (record { lines = λ m. refl; pending = refl; begins = λ b. b }) h)
+effect p q (MediaGiven packet) (now, (r, inr h)) =
+    Keeping (keeps_left p _ q r (record { lines = λ m. refl; pending = refl; begins = λ b. b }) h)
+effect p q (MediaTaken datagram) (now, h) =
+    let t = gives_some p.datagrams p q datagram h in
+    Keeping (keeps_by p _ q (record {
+      lines = λ m. refl;
+      pending = refl;
+      begins = λ b. (subst EachBegins t.0.is b).1;
+    }) t.1)
 effect p q (MediaStirred (Timed now)) (r, h) = Keeping (keeps_by p p q (keeps_self p) (stays_same tt p q r h))
 effect p q (MediaStirred Shut) (r, h) = Keeping (keeps_left p _ q r (keeps_goodbye p) h)
 effect p q (MediaStirred Other) (inl h) = ChangingLines h

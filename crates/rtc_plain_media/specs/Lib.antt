@@ -10,3 +10,4 @@ pub mod UsedLemmas
 pub mod ActLemmas
 pub mod PlainMediaLaws
 pub mod Sendings
+pub mod QueueLemmas

@@ -6,22 +6,13 @@ use Rattle.std.proofs.Common.{
   inl,
   inr,
   ℕ,
-  ◌+◌,
-  ◌<◌,
   ◌≤◌,
-  ◌||◌,
   Bool,
   true,
   false,
-  cond,
   List,
-  [],
-  ◌∷◌,
-  ◌++◌,
   length,
   Option,
-  Some,
-  None,
   Result,
   Ok,
   Err,
@@ -31,16 +22,15 @@ use Rattle.std.proofs.Common.{
   subst,
   ◌∙◌,
   arith,
-  length-append,
+  ◌||◌,
 }
 use Rattle.std.specs.List.{list_any}
 use Rattle.std.specs.declared.alloc.AllocError.{AllocError}
 use Rattle.rtc_sdp_values.specs.declared.ssrc.Ssrc.{Ssrc}
-use Rattle.rtc_media.specs.declared.media_error.MediaError.{MediaError}
 use Rattle.rtc_media.specs.declared.media_update.MediaUpdate.{MediaUpdate}
 use Rattle.rtc_media.specs.MediaUpdates.{same_mid, removed_by}
 use Rattle.rtc_media.specs.MediaMeaning.{held_media}
-use Rattle.rtc_media.specs.MediaActs.{MediaAct, MediaActed, ChangesLines, Committed, LineRemoved}
+use Rattle.rtc_media.specs.MediaActs.{ChangesLines, Committed, LineRemoved}
 use Rattle.rtc_media.specs.MediaLaws.{MediaLaws, SameLines, UsesStream, ChangesPending, ByPrepare, ByCommit}
 use Rattle.rtc_plain_media.specs.declared.plain_mark.PlainMark.{PlainMark}
 use Rattle.rtc_plain_media.specs.declared.stream_row.StreamRow.{StreamRow}
@@ -58,10 +48,8 @@ use Rattle.rtc_plain_media.specs.Streams.{
   row_can_renumber,
   without_streams,
 }
-use Rattle.rtc_plain_media.specs.Feedback.{goodbye}
-use Rattle.rtc_plain_media.specs.MediaContents.{MediaContents, update_of, media_uses, line_uses, has_streams_of}
-use Rattle.rtc_plain_media.specs.MediaCalls.{applied, line_dropped, said_goodbye}
-use Rattle.rtc_plain_media.specs.PlainMediaMeaning.{MediaLeaves, MediaStays, TellsNext, GivesNext, plain_media_meaning}
+use Rattle.rtc_plain_media.specs.MediaContents.{MediaContents, update_of, line_uses, has_streams_of}
+use Rattle.rtc_plain_media.specs.PlainMediaMeaning.{MediaLeaves, plain_media_meaning}
 use Rattle.rtc_plain_media.specs.UpdateLemmas.{is_same, same_is, line-applied, line-dropped, line-dropped_other, update-writer_marked}
 use Rattle.rtc_plain_media.specs.UsedLemmas.{
   or_none,
@@ -81,6 +69,18 @@ use Rattle.rtc_plain_media.specs.UsedLemmas.{
   first_other,
   second_other,
 }
+use Rattle.rtc_plain_media.specs.QueueLemmas.{
+  event_fell,
+  datagram_fell,
+  no_length,
+  quiet_told,
+  quiet_gave,
+  fallible_only,
+  no_event,
+  cleared_quiet,
+  shut_most,
+  keyed_most,
+}
 use Rattle.rtc_plain_media.specs.ActLemmas.{
   MediaEffect,
   Keeping,
@@ -88,10 +88,7 @@ use Rattle.rtc_plain_media.specs.ActLemmas.{
   Preparing,
   effect,
   leaves_with,
-  stays_same,
-  tells_some,
   tells_none,
-  gives_some,
   gives_none,
 }
 
@@ -105,7 +102,9 @@ same_as p t q s h = subst (Plain p) (sym h) s
 -- preparing
 prepared_same : (p q : MediaContents) (updates : List MediaUpdate) (r : Result (Unit {0}) AllocError)
     → MediaLeaves p (record p { pending = updates }) r q → Plain p q
-prepared_same p q updates r h = leaves_with (Plain p) p (record p { pending = updates }) q r (record { lines = λ mid. refl; used = λ ssrc. refl }) (record { lines = λ mid. refl; used = λ ssrc. refl }) h
+prepared_same p q updates r h =
+    leaves_with (Plain p) p (record p { pending = updates }) q r
+    (record { lines = λ mid. refl; used = λ ssrc. refl }) (record { lines = λ mid. refl; used = λ ssrc. refl }) h
 
 -- what is pending, and what lines are, after each act
 pending_after : (p q : MediaContents) → MediaEffect p q → (q.pending ≡ p.pending) ⊎ ChangesPending plain_media_meaning p q
@@ -179,7 +178,8 @@ module _ (p : MediaContents) (ssrc : Ssrc) (rtx : Option Ssrc) (mid : List ℕ) 
   rx_made = record {
     lines = λ m. refl;
     own = first_uses _ (in_tx ssrc) (in_lines ssrc) (any-put_own (row_uses ssrc) row p.rx (own_ssrc ssrc rtx));
-    retransmissions = λ other e. first_uses _ (in_tx other) (in_lines other) (any-put_own (row_uses other) row p.rx (own_rtx ssrc rtx other e));
+    retransmissions = λ other e.
+        first_uses _ (in_tx other) (in_lines other) (any-put_own (row_uses other) row p.rx (own_rtx ssrc rtx other e));
     others = λ other h.
         elim (first_other (in_rx other) _ (in_tx other
         || in_lines other) (any-put_other (row_uses other) row p.rx) h) [ inl a ↦ inr (uses_is ssrc rtx other a) | inr a ↦ inl a ];
@@ -189,81 +189,28 @@ module _ (p : MediaContents) (ssrc : Ssrc) (rtx : Option Ssrc) (mid : List ℕ) 
   tx_made = record {
     lines = λ m. refl;
     own = second_uses (in_rx ssrc) _ (in_lines ssrc) (any-put_own (row_uses ssrc) row p.tx (own_ssrc ssrc rtx));
-    retransmissions = λ other e. second_uses (in_rx other) _ (in_lines other) (any-put_own (row_uses other) row p.tx (own_rtx ssrc rtx other e));
+    retransmissions = λ other e.
+        second_uses (in_rx other) _ (in_lines other) (any-put_own (row_uses other) row p.tx (own_rtx ssrc rtx other e));
     others = λ other h.
-        elim (second_other (in_rx other) (in_tx other) _ (in_lines other) (any-put_other (row_uses other) row p.tx) h) [ inl a ↦ inr (uses_is ssrc rtx other a) | inr a ↦ inl a ];
+        elim (second_other (in_rx other) (in_tx other) _ (in_lines other) (any-put_other (row_uses other) row p.tx) h)
+        [ inl a ↦ inr (uses_is ssrc rtx other a) | inr a ↦ inl a ];
   }
 
   tx_renumbered : plain_media_meaning.resets_tx p mid rid ssrc rtx ≡ true
       → UsesStream plain_media_meaning p ssrc rtx (record p { tx = change_first (has_name mid rid) (numbered ssrc rtx w) p.tx })
   tx_renumbered can = record {
     lines = λ m. refl;
-    own = second_uses (in_rx ssrc) _ (in_lines ssrc) (any-change_own (row_uses ssrc) (has_name mid rid) (row_can_renumber ssrc rtx) (numbered ssrc rtx w) p.tx (λ r. own_ssrc ssrc rtx) can);
-    retransmissions = λ other e. second_uses (in_rx other) _ (in_lines other) (any-change_own (row_uses other) (has_name mid rid) (row_can_renumber ssrc rtx) (numbered ssrc rtx w) p.tx (λ r. own_rtx ssrc rtx other e) can);
+    own = second_uses (in_rx ssrc) _ (in_lines ssrc)
+        (any-change_own (row_uses ssrc) (has_name mid rid) (row_can_renumber ssrc rtx) (numbered ssrc rtx w) p.tx
+        (λ r. own_ssrc ssrc rtx) can);
+    retransmissions = λ other e. second_uses (in_rx other) _ (in_lines other)
+        (any-change_own (row_uses other) (has_name mid rid) (row_can_renumber ssrc rtx) (numbered ssrc rtx w) p.tx
+        (λ r. own_rtx ssrc rtx other e) can);
     others = λ other h.
-        elim (second_other (in_rx other) (in_tx other) _ (in_lines other) (any-change_other (row_uses other) (has_name mid rid) (numbered ssrc rtx w) p.tx (λ r a. uses_is ssrc rtx other a)) h) [ inl a ↦ inr a | inr a ↦ inl a ];
+        elim (second_other (in_rx other) (in_tx other) _ (in_lines other)
+        (any-change_other (row_uses other) (has_name mid rid) (numbered ssrc rtx w) p.tx (λ r a. uses_is ssrc rtx other a)) h)
+        [ inl a ↦ inr a | inr a ↦ inl a ];
   }
-
--- polls
-event_fell : (p q : MediaContents) (e : PlainMediaEvent) → TellsNext p.events p (Some e) q
-    → held_media plain_media_meaning q < held_media plain_media_meaning p
-event_fell p q e h =
-    let t = tells_some p.events p q e h in
-    let a : length q.events ≡ length t.0.rest = ap (λ (c : MediaContents). length c.events) t.1 in
-    let b : length q.datagrams ≡ length p.datagrams = ap (λ (c : MediaContents). length c.datagrams) t.1 in
-    let d : length p.events ≡ length (e ∷ t.0.rest) = ap (λ (l : List PlainMediaEvent). length l) t.0.is in
-    omega (arith, a, b, d)
-
-datagram_fell : (p q : MediaContents) (d : List ℕ) → GivesNext p.datagrams p (Some d) q
-    → held_media plain_media_meaning q < held_media plain_media_meaning p
-datagram_fell p q x h =
-    let t = gives_some p.datagrams p q x h in
-    let a : length q.events ≡ length p.events = ap (λ (c : MediaContents). length c.events) t.1 in
-    let b : length q.datagrams ≡ length t.0.rest = ap (λ (c : MediaContents). length c.datagrams) t.1 in
-    let d : length p.datagrams ≡ length (x ∷ t.0.rest) = ap (λ (l : List (List ℕ)). length l) t.0.is in
-    omega (arith, a, b, d)
-
-no_length : {A : Type 0} (xs : List A) → length xs ≡ 0 → xs ≡ []
-no_length [] h = refl
-no_length (x ∷ xs) h = absurd (omega (arith, h))
-
-quiet_told : (queue : List PlainMediaEvent) (p q : MediaContents) (r : Option PlainMediaEvent) → queue ≡ []
-    → TellsNext queue p r q → r ≡ None
-quiet_told queue p q None e h = refl
-quiet_told queue p q (Some x) e h = absurd (subst (λ (l : List PlainMediaEvent). TellsNext l p (Some x) q) e h)
-
-quiet_gave : (queue : List (List ℕ)) (p q : MediaContents) (r : Option (List ℕ)) → queue ≡ [] → GivesNext queue p r q → r ≡ None
-quiet_gave queue p q None e h = refl
-quiet_gave queue p q (Some x) e h = absurd (subst (λ (l : List (List ℕ)). GivesNext l p (Some x) q) e h)
-
-never_fallible : {P : Type 0} (p q : MediaContents) (e : MediaError) → MediaStays {T = Option PlainMediaEvent} None p (Err e) q → P
-never_fallible p q e h = absurd h
-
-fallible_only : (p q : MediaContents) (r : Result (Option PlainMediaEvent) MediaError) → MediaStays None p r q → r ≡ Ok None
-fallible_only p q (Ok x) h = ap (λ (o : Option PlainMediaEvent). Ok o) h.0
-fallible_only p q (Err e) h = absurd h
-
-no_event : {P : Type 0} (e : PlainMediaEvent) → Some e ≡ None → P
-no_event e h = cc h
-
--- clearing and closing
-goodbye_held : (p : MediaContents) → held_media plain_media_meaning (said_goodbye p) ≤ held_media plain_media_meaning p + 32
-goodbye_held p = by p.is_shut refl
-  where
-    by : (b : Bool) → p.is_shut ≡ b → held_media plain_media_meaning (said_goodbye p) ≤ held_media plain_media_meaning p + 32
-    by true is = rw is (omega arith)
-    by false is = rw is (omega (arith, length-append p.datagrams (goodbye ∷ [])))
-
-cleared_quiet : (p q : MediaContents) → length p.events + length p.datagrams ≡ 0 → q ≡ record p { datagrams = [] } → q ≡ p
-cleared_quiet p q none h = h ∙ ap (λ (l : List (List ℕ)). record p { datagrams = l }) (sym (no_length p.datagrams (omega (arith, none))))
-
-shut_most : (p q : MediaContents) (r : Result (Unit {0}) AllocError) → MediaLeaves p (said_goodbye p) r q
-    → held_media plain_media_meaning q ≤ held_media plain_media_meaning p + 32
-shut_most p q r h = leaves_with (λ (c : MediaContents). held_media plain_media_meaning c ≤ held_media plain_media_meaning p + 32) p (said_goodbye p) q r (omega arith) (goodbye_held p) h
-
-keyed_most : (p q : MediaContents) (r : Result (Unit {0}) AllocError) → MediaLeaves p (record p { is_keyed = true }) r q
-    → held_media plain_media_meaning q ≤ held_media plain_media_meaning p + 32
-keyed_most p q r h = leaves_with (λ (c : MediaContents). held_media plain_media_meaning c ≤ held_media plain_media_meaning p + 32) p (record p { is_keyed = true }) q r (omega arith) (omega arith) h
 
 -- two mids that differ are told apart
 other_mid : (a b : List ℕ) → a ≢ b → same_mid a b ≡ false
@@ -279,11 +226,15 @@ plain_media_laws = record {
   prepare_same = prepared_same;
   prepare_pending = λ p q updates h. ap (λ (c : MediaContents). c.pending) h;
   commit_lines = λ p q mid h. ap (λ (c : MediaContents). update_of c mid) h ∙ line-applied p mid;
-  commit_streams = λ p q mid h gone. ap (λ (c : MediaContents). has_streams_of c mid) h ∙ no_streams p mid (removed_by p.pending) gone;
+  commit_streams = λ p q mid h gone.
+      ap (λ (c : MediaContents). has_streams_of c mid) h ∙ no_streams p mid (removed_by p.pending) gone;
   pending_stays = λ p q act h. pending_after p q (effect p q act h);
   removed_line = λ p q mid h. ap (λ (c : MediaContents). update_of c mid) h ∙ line-dropped p mid;
-  removed_streams = λ p q mid h. ap (λ (c : MediaContents). has_streams_of c mid) h ∙ no_streams p mid (λ other. same_mid other mid) (is_same mid mid refl);
-  removed_others = λ p q mid other n h. ap (λ (c : MediaContents). update_of c other) h ∙ line-dropped_other p mid other (other_mid other mid n);
+  removed_streams = λ p q mid h.
+      ap (λ (c : MediaContents). has_streams_of c mid) h
+      ∙ no_streams p mid (λ other. same_mid other mid) (is_same mid mid refl);
+  removed_others = λ p q mid other n h.
+      ap (λ (c : MediaContents). update_of c other) h ∙ line-dropped_other p mid other (other_mid other mid n);
   lines_stay = λ p q act mid h. lines_after_act p q mid (effect p q act h);
   writer_same = writer_kept;
   rx_same = λ p q ssrc x h. rx_marked p q (has_ssrc ssrc) x h;
@@ -293,8 +244,10 @@ plain_media_laws = record {
   rx_uses = λ p q ssrc rtx mid rid x h. uses_as p _ q ssrc rtx (rx_made p ssrc rtx mid rid x) h;
   tx_uses = λ p q ssrc rtx mid rid x h. uses_as p _ q ssrc rtx (tx_made p ssrc rtx mid rid x) h;
   reset_uses = λ p q mid rid ssrc rtx x can h. uses_as p _ q ssrc rtx (tx_renumbered p ssrc rtx mid rid x can) h;
-  rx_removal = λ p q ssrc b h. (h.0, ap (λ (c : MediaContents). list_any (has_ssrc ssrc) c.rx) h.1 ∙ any-dropped (has_ssrc ssrc) p.rx);
-  tx_removal = λ p q ssrc b h. (h.0, ap (λ (c : MediaContents). list_any (has_ssrc ssrc) c.tx) h.1 ∙ any-dropped (has_ssrc ssrc) p.tx);
+  rx_removal = λ p q ssrc b h.
+      (h.0, ap (λ (c : MediaContents). list_any (has_ssrc ssrc) c.rx) h.1 ∙ any-dropped (has_ssrc ssrc) p.rx);
+  tx_removal = λ p q ssrc b h.
+      (h.0, ap (λ (c : MediaContents). list_any (has_ssrc ssrc) c.tx) h.1 ∙ any-dropped (has_ssrc ssrc) p.tx);
   faults_rise = λ p q act h. omega arith;
   time_fault = λ p q now e n h. absurd h;
   event_fault = λ p q now e n h. absurd h;
@@ -311,7 +264,8 @@ plain_media_laws = record {
   fault_falls = λ p q now e n h. absurd h;
   lack_falls = λ p q now h. absurd h;
   datagram_falls = λ p q now d h. datagram_fell p q d h;
-  clear_held = λ p q h. subst (λ (c : MediaContents). held_media plain_media_meaning c ≤ held_media plain_media_meaning p) (sym h) (omega arith);
+  clear_held = λ p q h.
+      subst (λ (c : MediaContents). held_media plain_media_meaning c ≤ held_media plain_media_meaning p) (sym h) (omega arith);
   clear_quiets = λ p q none h. subst (λ (c : MediaContents). held_media plain_media_meaning c ≡ 0) (sym h) (omega (arith, none));
   clear_quiet = cleared_quiet;
   clear_wake = λ p q h. refl;

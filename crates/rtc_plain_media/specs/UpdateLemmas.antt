@@ -80,7 +80,8 @@ look_set mid k v (e ∷ es) = by (same_key k e.0) refl (look_set mid k v es)
     by true is more =
         ap (λ (t : Bool). lookup (same_key (key_of mid)) (cond t ((e.0, v) ∷ es) (e ∷ insert_entry same_key es k v))) is
         ∙ cond_again (same_mid mid e.0.mid) (Some v) (Some e.1) (lookup (same_key (key_of mid)) es)
-        ∙ ap (λ (m : List ℕ). cond (same_mid mid m) (Some v) (cond (same_mid mid e.0.mid) (Some e.1) (lookup (same_key (key_of mid)) es))) (sym (same_is k.mid e.0.mid is))
+        ∙ ap (λ (m : List ℕ). cond (same_mid mid m) (Some v) (cond (same_mid mid e.0.mid) (Some e.1) (lookup (same_key (key_of mid)) es)))
+        (sym (same_is k.mid e.0.mid is))
     by false is more =
         ap (λ (t : Bool). lookup (same_key (key_of mid)) (cond t ((e.0, v) ∷ es) (e ∷ insert_entry same_key es k v))) is
         ∙ ap (λ (l : Option HeldLine). cond (same_mid mid e.0.mid) (Some e.1) l) more
@@ -102,7 +103,8 @@ update-lines_after mid [] ls = refl
 update-lines_after mid (u ∷ us) ls =
     let v : HeldLine = record { update = u; mark = writer_mark (held_line (update_mid u) ls) } in
     update-lines_after mid us (set_line u ls)
-    ∙ ap (latest mid us) (ap its_update (look_set mid (key_of (update_mid u)) v ls) ∙ update_cond (same_mid mid (update_mid u)) v (held_line mid ls))
+    ∙ ap (latest mid us)
+    (ap its_update (look_set mid (key_of (update_mid u)) v ls) ∙ update_cond (same_mid mid (update_mid u)) v (held_line mid ls))
 
 -- a look-up after lines were dropped
 pub look_without : (mid : List ℕ) (gone : List ℕ → Bool) (ls : Lines) → lookup (same_key (key_of mid)) (without_lines gone ls)
@@ -115,11 +117,13 @@ look_without mid gone (e ∷ es) = by (gone e.0.mid) refl (look_without mid gone
         → lookup (same_key (key_of mid)) (without_lines gone (e ∷ es)) ≡ cond (gone mid) None (lookup (same_key (key_of mid)) (e ∷ es))
     by true is more =
         ap (λ (t : Bool). lookup (same_key (key_of mid)) (cond (not t) (e ∷ without_lines gone es) (without_lines gone es))) is ∙ more
-        ∙ cond_dropped (gone mid) (same_mid mid e.0.mid) None (Some e.1) (lookup (same_key (key_of mid)) es) (λ s. ap gone (same_is mid e.0.mid s) ∙ is)
+        ∙ cond_dropped (gone mid) (same_mid mid e.0.mid) None (Some e.1) (lookup (same_key (key_of mid)) es)
+        (λ s. ap gone (same_is mid e.0.mid s) ∙ is)
     by false is more =
         ap (λ (t : Bool). lookup (same_key (key_of mid)) (cond (not t) (e ∷ without_lines gone es) (without_lines gone es))) is
         ∙ ap (λ (l : Option HeldLine). cond (same_mid mid e.0.mid) (Some e.1) l) more
-        ∙ cond_kept (gone mid) (same_mid mid e.0.mid) None (Some e.1) (lookup (same_key (key_of mid)) es) (λ s. ap gone (same_is mid e.0.mid s) ∙ is)
+        ∙ cond_kept (gone mid) (same_mid mid e.0.mid) None (Some e.1) (lookup (same_key (key_of mid)) es)
+        (λ s. ap gone (same_is mid e.0.mid s) ∙ is)
 
 update_none : (b : Bool) (z : Option HeldLine) → its_update (cond b None z) ≡ cond b None (its_update z)
 update_none true z = refl

@@ -98,8 +98,10 @@ any-put_other test r (x ∷ xs) h = by (has_ssrc r.ssrc x) refl (any-put_other t
         [ inl a ↦ inl a | inr a ↦ inr (or_right (test x) (list_any test xs) a) ]
     by false is more =
         elim (or_case (test x) (list_any test (put_row r xs)) (sym (ap (λ (t : Bool). list_any test (cond t (r ∷ xs) (x
-        ∷ put_row r xs))) is) ∙ h))
-        [ inl a ↦ inr (or_left (test x) (list_any test xs) a) | inr a ↦ elim (more a) [ inl y ↦ inl y | inr y ↦ inr (or_right (test x) (list_any test xs) y) ] ]
+        ∷ put_row r xs))) is) ∙ h)) [
+          | inl a ↦ inr (or_left (test x) (list_any test xs) a)
+          | inr a ↦ elim (more a) [ inl y ↦ inl y | inr y ↦ inr (or_right (test x) (list_any test xs) y) ]
+        ]
 
 -- and after the first row that fits was changed
 pub any-change_own : (test fits passes : StreamRow → Bool) (change : StreamRow → StreamRow) (rows : Streams)
@@ -114,7 +116,8 @@ any-change_own test fits passes change (x ∷ xs) own h = by (fits x) refl (any-
         ∷ change_first fits change xs))) is ∙ or_left (test (change x)) (list_any test xs) (own x)
     by false is more =
         ap (λ (t : Bool). list_any test (cond t (change x ∷ xs) (x ∷ change_first fits change xs))) is
-        ∙ or_right (test x) (list_any test (change_first fits change xs)) (more (sym (ap (λ (t : Bool). cond t (passes x) (first_passes fits passes xs)) is) ∙ h))
+        ∙ or_right (test x) (list_any test (change_first fits change xs))
+        (more (sym (ap (λ (t : Bool). cond t (passes x) (first_passes fits passes xs)) is) ∙ h))
 
 pub any-change_other : {P : Type 0} (test fits : StreamRow → Bool) (change : StreamRow → StreamRow) (rows : Streams)
     → ((r : StreamRow) → test (change r) ≡ true → P) → list_any test (change_first fits change rows) ≡ true → P
@@ -129,8 +132,11 @@ any-change_other {P} test fits change (x ∷ xs) own h = by (fits x) refl (any-c
         ∷ change_first fits change xs))) is) ∙ h))
         [ inl a ↦ inl (own x a) | inr a ↦ inr (or_right (test x) (list_any test xs) a) ]
     by false is more =
-        elim (or_case (test x) (list_any test (change_first fits change xs)) (sym (ap (λ (t : Bool). list_any test (cond t (change x ∷ xs) (x ∷ change_first fits change xs))) is) ∙ h))
-        [ inl a ↦ inr (or_left (test x) (list_any test xs) a) | inr a ↦ elim (more a) [ inl y ↦ inl y | inr y ↦ inr (or_right (test x) (list_any test xs) y) ] ]
+        elim (or_case (test x) (list_any test (change_first fits change xs))
+        (sym (ap (λ (t : Bool). list_any test (cond t (change x ∷ xs) (x ∷ change_first fits change xs))) is) ∙ h)) [
+          | inl a ↦ inr (or_left (test x) (list_any test xs) a)
+          | inr a ↦ elim (more a) [ inl y ↦ inl y | inr y ↦ inr (or_right (test x) (list_any test xs) y) ]
+        ]
 
 -- what was dropped is not found
 pub any-dropped : (test : StreamRow → Bool) (rows : Streams) → list_any test (filter (λ row. not (test row)) rows) ≡ false
@@ -175,7 +181,9 @@ any-writer_marked ssrc mid w (e ∷ es) = by (same_key (key_of mid) e.0) refl (a
 -- an ssrc that a stream or its retransmissions have is one of the two
 pub uses_is : (ssrc : Ssrc) (rtx : Option Ssrc) (other : Ssrc) → ((ssrc.0 == other.0) || is_ssrc rtx other) ≡ true
     → (other ≡ ssrc) ⊎ (rtx ≡ Some other)
-uses_is ssrc rtx other h = elim (or_case (ssrc.0 == other.0) (is_ssrc rtx other) h) [ inl a ↦ inl (number other ssrc (sym ((Decides-eqb ssrc.0 other.0).0 a))) | inr a ↦ inr (held rtx a) ]
+uses_is ssrc rtx other h =
+    elim (or_case (ssrc.0 == other.0) (is_ssrc rtx other) h)
+    [ inl a ↦ inl (number other ssrc (sym ((Decides-eqb ssrc.0 other.0).0 a))) | inr a ↦ inr (held rtx a) ]
   where
     number : (a b : Ssrc) → a.0 ≡ b.0 → a ≡ b
     number a b e = ap (λ (n : ℕ). record { 0 = n }) e
@@ -188,7 +196,9 @@ pub own_ssrc : (ssrc : Ssrc) (rtx : Option Ssrc) → ((ssrc.0 == ssrc.0) || is_s
 own_ssrc ssrc rtx = or_left (ssrc.0 == ssrc.0) (is_ssrc rtx ssrc) ((Decides-eqb ssrc.0 ssrc.0).1 refl)
 
 pub own_rtx : (ssrc : Ssrc) (rtx : Option Ssrc) (other : Ssrc) → rtx ≡ Some other → ((ssrc.0 == other.0) || is_ssrc rtx other) ≡ true
-own_rtx ssrc rtx other e = or_right (ssrc.0 == other.0) (is_ssrc rtx other) (ap (λ (r : Option Ssrc). is_ssrc r other) e ∙ (Decides-eqb other.0 other.0).1 refl)
+own_rtx ssrc rtx other e =
+    or_right (ssrc.0 == other.0) (is_ssrc rtx other)
+    (ap (λ (r : Option Ssrc). is_ssrc r other) e ∙ (Decides-eqb other.0 other.0).1 refl)
 
 -- tests of both tables and of the lines
 pub first_uses : (a b c : Bool) → a ≡ true → a || (b || c) ≡ true
@@ -198,7 +208,9 @@ pub second_uses : (a b c : Bool) → b ≡ true → a || (b || c) ≡ true
 second_uses a b c h = or_right a (b || c) (or_left b c h)
 
 pub first_other : {P : Type 0} (a a' r : Bool) → (a' ≡ true → P ⊎ (a ≡ true)) → a' || r ≡ true → P ⊎ (a || r ≡ true)
-first_other a a' r f h = elim (or_case a' r h) [ inl x ↦ elim (f x) [ inl y ↦ inl y | inr y ↦ inr (or_left a r y) ] | inr x ↦ inr (or_right a r x) ]
+first_other a a' r f h =
+    elim (or_case a' r h)
+    [ inl x ↦ elim (f x) [ inl y ↦ inl y | inr y ↦ inr (or_left a r y) ] | inr x ↦ inr (or_right a r x) ]
 
 pub second_other : {P : Type 0} (a b b' c : Bool) → (b' ≡ true → P ⊎ (b ≡ true)) → a || (b' || c) ≡ true → P ⊎ (a || (b || c) ≡ true)
 second_other a b b' c f h =
