@@ -1,2 +1,3 @@
 pub mod ExtensionLemmas
 pub mod MidLemmas
+pub mod MidSetLemmas

@@ -8,3 +8,4 @@ pub mod MediaLine
 pub mod Mids
 pub mod Sdp
 pub mod SdpErrorText
+pub mod MidSets

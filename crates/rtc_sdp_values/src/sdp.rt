@@ -147,8 +147,9 @@ impl Sdp {
         Ok(found)
     }
 
-    /// Whether the mids and the BUNDLE group are consistent (RFC 8843, section 7.1). It takes time in the square of the
-    /// lines.
+    /// Whether the mids and the BUNDLE group are consistent (RFC 8843, section 7.1).
+    ///
+    /// Sets of mids are kept meanwhile. Where there is no memory for them, it takes time in the square of the lines.
     pub fn assert_consistency(&self) -> Result<(), SdpError>
         ensures { result ≡ spec.refusal (spec.inconsistency self.now) }
     {

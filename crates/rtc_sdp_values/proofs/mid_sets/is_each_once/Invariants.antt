@@ -1,0 +1,14 @@
+use Rattle.std.proofs.Common.{◌≡◌, ◌≤◌, true, drop, length}
+use Rattle.rtc_sdp_values.specs.MidSets.{HasMids}
+use Rattle.rtc_sdp_values.specs.Mids.{are_distinct}
+use Rattle.rtc_sdp_values.proofs.mid_sets.is_each_once.Given as goal
+
+abbrev pub invariant-loop-at : goal.invariant-loop-at
+invariant-loop-at l = record {
+  held : HasMids l.found (drop l.at l.mids);
+  within : l.at ≤ length l.mids;
+  distinct : are_distinct (drop l.at l.mids) ≡ true;
+}
+
+abbrev pub decreases-loop-at : goal.decreases-loop-at
+decreases-loop-at l = l.at
