@@ -1,0 +1,133 @@
+//! The channels of a peer.
+ghost use Rattle.std.specs.Prelude.{◌≡◌, ◌≤◌, true, length, map};
+ghost use Rattle.rtc_channels.specs.Channels.{
+  no_channels,
+  MakesChannel,
+  confirmed,
+  has_channel as HasChannel,
+  is_bad_channel as IsBadChannel,
+  is_overlong as IsOverlong,
+  numbered_stream,
+  channel_of_stream,
+  stream_of_channel,
+};
+
+use crate::ChannelError;
+use crate::kept::{Kept, find_channel, find_place, find_stream, is_claimed};
+use rtc_wire::{ChannelConfig, ChannelId, Text};
+use std::alloc::Global;
+use std::marker::Model;
+
+// An open message has two bytes for the length of a label or protocol (RFC 8832, section 5.1).
+const LONGEST_TEXT: usize = 65535;
+
+fn is_overlong(text: &Text) -> bool
+    ensures { result ≡ IsOverlong text.now }
+{
+    text.as_str().len() > LONGEST_TEXT
+}
+
+/// The channels of a peer, numbered as they were made.
+#[derive(Debug, Drop)]
+pub struct ChannelHandler {
+    given: u64,
+    rows: Vec<(ChannelId, Option<u16>)>,
+    kept: Vec<Kept>,
+}
+
+impl Model for ChannelHandler {
+    ghost use Rattle.rtc_channels.specs.Channels.{Channels};
+    ghost use Rattle.rtc_channels.specs.Kept.{channels_of, ArePaired};
+
+    ghost Value = { Channels };
+
+    ghost view = { λ handler. record { given = handler.given; rows = channels_of handler.rows.items handler.kept.items } };
+
+    ghost invariant = { λ handler. ArePaired handler.given handler.rows.items handler.kept.items };
+}
+
+impl ChannelHandler {
+    /// No channels.
+    pub fn new(alloc: Global) -> ChannelHandler
+        ensures { result ≡ no_channels }
+    {
+        ChannelHandler {
+            given: 0,
+            rows: Vec::new(alloc),
+            kept: Vec::new(alloc),
+        }
+    }
+
+    /// The channels by their numbers, each with its stream.
+    pub fn rows(&self) -> &[(ChannelId, Option<u16>)]
+        ensures { result.now ≡ map numbered_stream self.now.rows }
+    {
+        self.rows.as_slice()
+    }
+
+    /// Whether there is a channel of this number.
+    pub fn has_channel(&self, id: ChannelId) -> bool
+        ensures { result ≡ HasChannel id self.now.rows }
+    {
+        find_place(self.rows.as_slice(), id).is_some()
+    }
+
+    /// The channel that a stream was given to.
+    pub fn channel_id_by_stream_id(&self, s: u16) -> Option<ChannelId>
+        ensures { result ≡ channel_of_stream s (map numbered_stream self.now.rows) }
+    {
+        find_channel(self.rows.as_slice(), s)
+    }
+
+    /// The stream that a channel was given.
+    pub fn stream_id_by_channel_id(&self, id: ChannelId) -> Option<u16>
+        ensures { result ≡ stream_of_channel id (map numbered_stream self.now.rows) }
+    {
+        find_stream(self.rows.as_slice(), id)
+    }
+
+    // Whether no channel can be made of a config.
+    fn is_bad(&self, config: &ChannelConfig) -> bool
+        ensures { result ≡ IsBadChannel self.now config.now }
+    {
+        if is_overlong(&config.label) || is_overlong(&config.protocol) || self.given == u64::MAX {
+            return true;
+        }
+        match config.negotiated {
+            Some(stream) => is_claimed(self.rows.as_slice(), self.kept.as_slice(), stream),
+            None => false,
+        }
+    }
+
+    /// Makes a channel of a config. It has a number above all before, no stream, and waits to be confirmed.
+    pub fn new_channel(&mut self, config: &ChannelConfig) -> Result<ChannelId, ChannelError>
+        ensures { MakesChannel self.old config.now result self.new }
+    {
+        if self.is_bad(config) {
+            return Err(ChannelError::BadChannel);
+        }
+        self.rows.reserve(1)?;
+        self.kept.reserve(1)?;
+        let id = ChannelId::new(self.given);
+        self.rows.push_reserved((id, None));
+        self.kept.push_reserved(Kept {
+            negotiated: config.negotiated,
+            config: None,
+        });
+        self.given += 1;
+        Ok(id)
+    }
+
+    /// Keeps what a channel is to be opened with. Nothing is allocated.
+    pub fn confirm(&mut self, id: ChannelId, config: ChannelConfig)
+        requires channel { HasChannel id self.old.rows ≡ true }
+        requires label { length config.label ≤ 65535 }
+        requires protocol { length config.protocol ≤ 65535 }
+        ensures { self.new ≡ confirmed id config self.old }
+    {
+        let Some(place) = find_place(self.rows.as_slice(), id) else {
+            return;
+        };
+        self.kept[place].keep_config(config);
+    }
+}

@@ -1,0 +1,87 @@
+//! What is kept of channels beside their numbers and streams.
+ghost use Rattle.std.specs.Prelude.{◌≡◌, ◌||◌, length};
+ghost use Rattle.rtc_channels.specs.Kept.{channels_of, place_of_channel, kept_config};
+ghost use Rattle.rtc_channels.specs.Channels.{is_of_stream as IsStream, is_claimed as IsClaimed, channel_of_stream, stream_of_channel};
+
+use rtc_wire::{ChannelConfig, ChannelId};
+
+// What is kept of a channel beside its number and its stream.
+#[derive(Debug, Drop)]
+pub struct Kept {
+    pub negotiated: Option<u16>,
+    pub config: Option<ChannelConfig>,
+}
+
+fn is_of_stream(stream: u16, own: Option<u16>) -> bool
+    ensures { result ≡ IsStream stream own }
+{
+    match own {
+        Some(own) => own == stream,
+        None => false,
+    }
+}
+
+// Whether a channel with this row and what is kept beside it claims a stream.
+fn claims(row: &(ChannelId, Option<u16>), own: &Kept, stream: u16) -> bool
+    ensures { result ≡ (IsStream stream row.now.1 || IsStream stream own.now.negotiated) }
+{
+    is_of_stream(stream, row.1) || is_of_stream(stream, own.negotiated)
+}
+
+impl Kept {
+    /// Keeps what the channel is to be opened with.
+    pub fn keep_config(&mut self, config: ChannelConfig)
+        ensures { self.new ≡ kept_config config self.old }
+    {
+        self.config = Some(config);
+    }
+}
+
+/// Whether a stream was given to a channel, or is settled for one.
+pub fn is_claimed(rows: &[(ChannelId, Option<u16>)], kept: &[Kept], stream: u16) -> bool
+    requires { length rows.now ≡ length kept.now }
+    ensures { result ≡ IsClaimed stream (channels_of rows.now kept.now) }
+{
+    for (place, row) in rows.iter().enumerate() {
+        if claims(row, &kept[place], stream) {
+            return true;
+        }
+    }
+    false
+}
+
+/// The place of the row of a channel.
+pub fn find_place(rows: &[(ChannelId, Option<u16>)], id: ChannelId) -> Option<usize>
+    ensures { result ≡ place_of_channel 0 id rows.now }
+{
+    for (place, row) in rows.iter().enumerate() {
+        if row.0 == id {
+            return Some(place);
+        }
+    }
+    None
+}
+
+/// The channel that a stream was given to.
+pub fn find_channel(rows: &[(ChannelId, Option<u16>)], stream: u16) -> Option<ChannelId>
+    ensures { result ≡ channel_of_stream stream rows.now }
+{
+    for row in rows {
+        if is_of_stream(stream, row.1) {
+            return Some(row.0);
+        }
+    }
+    None
+}
+
+/// The stream that a channel was given.
+pub fn find_stream(rows: &[(ChannelId, Option<u16>)], id: ChannelId) -> Option<u16>
+    ensures { result ≡ stream_of_channel id rows.now }
+{
+    for row in rows {
+        if row.0 == id {
+            return row.1;
+        }
+    }
+    None
+}

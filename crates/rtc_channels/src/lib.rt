@@ -1,0 +1,14 @@
+//! The data channels of a peer by their numbers (RFC 8831, section 6.4).
+#![tactic(auto)]
+
+mod channel_error;
+mod channel_handler;
+mod channel_row;
+mod kept;
+
+pub use channel_error::ChannelError;
+pub use channel_handler::ChannelHandler;
+pub use channel_row::ChannelRow;
+
+#[cfg(test)]
+mod tests;
