@@ -1,5 +1,5 @@
 -- The mids of a consistent session description are distinct.
-use Rattle.std.proofs.Common.{◌≡◌, ℕ, true, false, List, [], ◌∷◌, map, Option, Some, None, refl, ap, arith}
+use Rattle.std.proofs.Common.{◌≡◌, ℕ, true, List, [], ◌∷◌, map, Option, Some, None, refl, ap, arith}
 use Rattle.std.specs.Prelude.{option_map}
 use Rattle.rtc_sdp_values.specs.Sdp.{inconsistency, judge, mids_of, first_cause, group_causes}
 use Rattle.rtc_sdp_values.specs.declared.media_line.MediaLine.{MediaLine}

@@ -4,3 +4,6 @@ pub mod AddedLemmas
 pub mod TableAfterLemmas
 pub mod ConsistentMids
 pub mod VerdictLemmas
+pub mod DeclaredLemmas
+pub mod MidIndexLemmas
+pub mod NamedLemmas

@@ -1,19 +1,17 @@
 -- Rows that are changed by their holder stay a table: each keeps its place, its mid, and whether it is that of the data channels.
 use Rattle.std.proofs.Common.{◌≡◌, ◌+◌, ◌<◌, ◌≤◌, ℕ, zero, suc, Bool, true, false, List, [], ◌∷◌, length, Option, Some, None, refl, sym, ◌∙◌, ap, subst, arith}
-use Rattle.std.specs.Prelude.{find, slice_get, slice_set}
+use Rattle.std.specs.Prelude.{slice_set}
 use Rattle.std.specs.Borrow.{Bor}
 use Rattle.std.specs.Option.{option_copied}
 use Rattle.std.specs.List.{list_any}
-use Rattle.std.specs.Str.{bytes_eq}
-use Rattle.std.proofs.lemmas.Slice.Eq.{bytes_eq-Decides}
 use Rattle.rtc_sdp_values.specs.Direction.{same_direction}
 use Rattle.rtc_sdp_values.specs.LineRow.{row_place, row_mid}
 use Rattle.rtc_sdp_values.specs.declared.direction.Direction.{Direction}
 use Rattle.rtc_sdp_values.specs.declared.line_row.LineRow.{LineRow}
 use Rattle.rtc_sdp_values.specs.declared.line_row.LineRow.TheVariants.{Media, App}
 use Rattle.rtc_change.specs.Table.{Rising, Distinct, OneApp, NoMore, IsTable, is_of, has_mid, row_of, is_app}
-use Rattle.rtc_change.specs.RowChanges.{RowChange, directed_row, stopped_row, row_after_change, changed_at, changed_of, is_changed}
-use Rattle.rtc_change.proofs.TableLemmas.{found_passes, place_from}
+use Rattle.rtc_change.specs.RowChanges.{RowChange, directed_row, stopped_row, row_after_change, changed_at, changed_of}
+use Rattle.rtc_change.proofs.TableLemmas.{place_from}
 
 -- a row keeps its place and its mid, and whether it is that of the data channels
 pub record AreAlikeRows (row other : LineRow) : Type 0 where

@@ -1,9 +1,7 @@
 -- What holds of a text that is not refused.
-use Rattle.std.proofs.Common.{◌≡◌, false, List, map, Option, Some, None, refl}
-use Rattle.std.specs.Prelude.{option_map}
+use Rattle.std.proofs.Common.{◌≡◌, false, map, Option, Some, None, refl}
 use Rattle.rtc_sdp_values.specs.declared.sdp.Sdp.{Sdp}
 use Rattle.rtc_change.specs.declared.why.Why.{Why}
-use Rattle.rtc_change.specs.declared.refusal.Refusal.{Refusal}
 use Rattle.rtc_sdp_values.specs.Mids.{AreDistinct}
 use Rattle.rtc_change.specs.Held.{Held, Asked}
 use Rattle.rtc_change.specs.ParsedLines.{parsed_lines}

@@ -2,7 +2,10 @@ pub mod PendingOffer
 pub mod Held
 pub mod Table
 pub mod RowChanges
+pub mod DeclaredMedia
 pub mod ParsedLines
+pub mod MidIndex
+pub mod NamedMids
 pub mod Verdict
 pub mod TableAfter
 pub mod WrongLines

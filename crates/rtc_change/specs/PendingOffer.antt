@@ -1,10 +1,12 @@
 -- What the side that made an offer keeps until its answer comes.
-use Rattle.std.specs.Prelude.{ℕ, ◌+◌, List, [], ◌∷◌, Bool, false, Option, Some, None}
+use Rattle.std.specs.Prelude.{ℕ, ◌+◌, List, [], ◌∷◌, Bool, true, false, not, Option, Some, None, filter, is_some}
+use Rattle.std.specs.List.{list_any}
+use Rattle.rtc_wire.specs.declared.channel_config.ChannelConfig.{ChannelConfig}
 use Rattle.rtc_sdp_values.specs.declared.line_row.LineRow.{LineRow}
 use Rattle.rtc_sdp_values.specs.declared.line_row.LineRow.TheVariants.{Media, App}
 use Rattle.rtc_sdp_values.specs.Mids.{is_among}
 use Rattle.rtc_change.specs.declared.change.Change.{Change}
-use Rattle.rtc_change.specs.declared.change.Change.TheVariants.{AddMedia, AddApp, Direction}
+use Rattle.rtc_change.specs.declared.change.Change.TheVariants.{AddMedia, AddApp, AddChannel, Direction}
 
 -- the counter as the offer was applied, and what the offer changed
 pub record PendingOffer : Type 0 where
@@ -15,6 +17,7 @@ pub record PendingOffer : Type 0 where
 abbrev pub new_mid : Change → Option (List ℕ)
 new_mid (AddMedia media) = Some media.mid
 new_mid (AddApp mid) = Some mid
+new_mid (AddChannel id config) = None
 new_mid (Direction mid dir) = None
 
 -- the mids of the lines that changes add
@@ -32,6 +35,7 @@ adds_mid mid changes = is_among (added_mids changes) mid
 abbrev pub new_row : ℕ → Change → Option LineRow
 new_row place (AddMedia media) = Some (Media place media.mid media.kind media.dir false false)
 new_row place (AddApp mid) = Some (App place mid)
+new_row place (AddChannel id config) = None
 new_row place (Direction mid dir) = None
 
 -- the rows of the lines that changes add, at places from this one on
@@ -41,3 +45,40 @@ added_rows place (change ∷ changes) = elim (new_row place change) [
   | None ↦ added_rows place changes
   | Some row ↦ row ∷ added_rows (place + 1) changes
 ]
+
+-- the channel that a change adds, by its number, with what it is to be opened with
+abbrev pub new_channel : Change → Option (ℕ × ChannelConfig)
+new_channel (AddMedia media) = None
+new_channel (AddApp mid) = None
+new_channel (AddChannel id config) = Some (id, config)
+new_channel (Direction mid dir) = None
+
+-- the channels that changes add, in order
+abbrev pub new_channels : List Change → List (ℕ × ChannelConfig)
+new_channels [] = []
+new_channels (change ∷ changes) = elim (new_channel change) [
+  | None ↦ new_channels changes
+  | Some channel ↦ channel ∷ new_channels changes
+]
+
+-- whether a change adds no channel: what no offer says is channels alone
+abbrev pub is_offered : Change → Bool
+is_offered change = not (is_some (new_channel change))
+
+-- whether changes make an offer
+abbrev pub do_offer : List Change → Bool
+do_offer changes = list_any is_offered changes
+
+-- the changes without the channels that they add
+abbrev pub without_channels : List Change → List Change
+without_channels changes = filter is_offered changes
+
+abbrev pub is_add_app : Change → Bool
+is_add_app (AddMedia media) = false
+is_add_app (AddApp mid) = true
+is_add_app (AddChannel id config) = false
+is_add_app (Direction mid dir) = false
+
+-- whether changes add the line of the data channels
+abbrev pub contains_add_app : List Change → Bool
+contains_add_app changes = list_any is_add_app changes

@@ -1,25 +1,6 @@
 -- Why a line of an offer or an answer is refused: by its kind, its place and the rows that are there (RFC 8829, section 5.2.2).
-use Rattle.std.specs.Prelude.{
-  ◌&&◌,
-  ◌||◌,
-  ◌+◌,
-  ◌==◌,
-  nat_lt,
-  not,
-  Bool,
-  true,
-  false,
-  ℕ,
-  List,
-  [],
-  ◌∷◌,
-  length,
-  if◌then◌else◌,
-  slice_get,
-  Option,
-  Some,
-  None,
-}
+use Rattle.std.specs.Prelude.{◌&&◌, ◌||◌, ◌+◌, ◌==◌, nat_lt, not, Bool, ℕ, List, [], ◌∷◌, length}
+use Rattle.std.specs.Prelude.{if◌then◌else◌, slice_get, Option, Some, None}
 use Rattle.std.specs.Option.{option_or}
 use Rattle.rtc_sdp_values.specs.LineRow.{row_place}
 use Rattle.rtc_sdp_values.specs.MediaKind.{same_kind}

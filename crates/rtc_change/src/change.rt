@@ -1,10 +1,10 @@
 //! Changes that are staged.
 ghost use Rattle.std.specs.Prelude.{◌≡◌};
-ghost use Rattle.rtc_change.specs.PendingOffer.{new_mid as NewMid, new_row as NewRow};
+ghost use Rattle.rtc_change.specs.PendingOffer.{new_mid as NewMid, new_row as NewRow, is_offered as IsOffered, is_add_app as IsAddApp};
 
 use crate::AddMedia;
 use rtc_sdp_values::{Direction, LineRow, Mid};
-use rtc_wire::TryCopy;
+use rtc_wire::{ChannelConfig, ChannelId, TryCopy};
 use std::alloc::AllocError;
 
 /// A change of a peer's lines that is staged and not yet negotiated.
@@ -13,6 +13,8 @@ pub enum Change {
     AddMedia(AddMedia),
     /// The line of the data channels.
     AddApp(Mid),
+    /// A data channel, by its number, with what it is to be opened with.
+    AddChannel(ChannelId, ChannelConfig),
     /// The line of a mid has this direction by now; inactive where it was stopped.
     Direction(Mid, Direction),
 }
@@ -22,6 +24,7 @@ impl TryCopy for Change {
         match self {
             Change::AddMedia(media) => Ok(Change::AddMedia(media.copy()?)),
             Change::AddApp(mid) => Ok(Change::AddApp(*mid)),
+            Change::AddChannel(id, config) => Ok(Change::AddChannel(*id, config.copy()?)),
             Change::Direction(mid, dir) => Ok(Change::Direction(*mid, *dir)),
         }
     }
@@ -35,7 +38,7 @@ impl Change {
         match self {
             Change::AddMedia(media) => Some(media.mid),
             Change::AddApp(mid) => Some(*mid),
-            Change::Direction(_, _) => None,
+            Change::AddChannel(_, _) | Change::Direction(_, _) => None,
         }
     }
 
@@ -53,7 +56,27 @@ impl Change {
                 remote_created: false,
             }),
             Change::AddApp(mid) => Some(LineRow::App { place, mid: *mid }),
-            Change::Direction(_, _) => None,
+            Change::AddChannel(_, _) | Change::Direction(_, _) => None,
+        }
+    }
+
+    /// Whether an offer says it: a channel alone makes no offer.
+    pub fn is_offered(&self) -> bool
+        ensures { result ≡ IsOffered self.now }
+    {
+        match self {
+            Change::AddMedia(_) | Change::AddApp(_) | Change::Direction(_, _) => true,
+            Change::AddChannel(_, _) => false,
+        }
+    }
+
+    /// Whether it adds the line of the data channels.
+    pub fn is_add_app(&self) -> bool
+        ensures { result ≡ IsAddApp self.now }
+    {
+        match self {
+            Change::AddApp(_) => true,
+            Change::AddMedia(_) | Change::AddChannel(_, _) | Change::Direction(_, _) => false,
         }
     }
 }

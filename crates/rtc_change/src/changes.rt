@@ -1,11 +1,22 @@
 //! Lists of staged changes.
-ghost use Rattle.std.specs.Prelude.{◌≡◌, ◌+◌, ◌<◌, ◌≤◌, ◌^◌, ◌-◌, IfOk, length};
-ghost use Rattle.rtc_change.specs.PendingOffer.{added_mids, added_rows, adds_mid};
+ghost use Rattle.std.specs.Prelude.{◌≡◌, ◌+◌, ◌++◌, [], ◌∷◌, ◌<◌, ◌≤◌, ◌^◌, ◌-◌, IfOk, OnOk, OnErr, length, reverse};
+ghost use Rattle.std.specs.Option.{option_to_list};
+ghost use Rattle.std.specs.Vec.{vec_len, vec_capacity};
+ghost use Rattle.rtc_change.specs.PendingOffer.{
+  added_mids,
+  added_rows,
+  adds_mid,
+  contains_add_app as ContainsAddApp,
+  new_channel,
+  new_channels,
+  without_channels,
+};
 
 use crate::Change;
 use rtc_sdp_values::{LineRow, Mid};
-use rtc_wire::{Seq, TryCopy};
+use rtc_wire::{ChannelConfig, ChannelId, Seq, TryCopy};
 use std::alloc::{AllocError, Global};
+use std::mem;
 
 /// Staged changes, in the order in which they were asked for.
 #[derive(Debug, PartialEq, Eq, Drop)]
@@ -39,6 +50,28 @@ pub fn is_added(changes: &[Change], mid: Mid) -> bool
     false
 }
 
+// Puts a change behind those of its sort: channels apart from the others.
+fn put_apart(
+    change: Change,
+    channels: &mut Vec<(ChannelId, ChannelConfig)>,
+    others: &mut Vec<Change>,
+)
+    requires channels_room { vec_len channels.old < vec_capacity channels.old }
+    requires others_room { vec_len others.old < vec_capacity others.old }
+    ensures channels { channels.new.items ≡ channels.old.items ++ option_to_list (new_channel change) }
+    ensures others { others.new.items ≡ others.old.items ++ without_channels (change ∷ []) }
+    ensures len { vec_len channels.new + vec_len others.new ≡ vec_len channels.old + vec_len others.old + 1 }
+    ensures channels_capacity { vec_capacity channels.new ≡ vec_capacity channels.old }
+    ensures others_capacity { vec_capacity others.new ≡ vec_capacity others.old }
+{
+    match change {
+        Change::AddChannel(id, config) => channels.push_reserved((id, config)),
+        Change::AddMedia(media) => others.push_reserved(Change::AddMedia(media)),
+        Change::AddApp(mid) => others.push_reserved(Change::AddApp(mid)),
+        Change::Direction(mid, dir) => others.push_reserved(Change::Direction(mid, dir)),
+    }
+}
+
 impl Changes {
     /// Whether one of them adds a line of this mid.
     pub fn has_mid(&self, mid: Mid) -> bool
@@ -47,13 +80,50 @@ impl Changes {
         is_added(self.0.as_slice(), mid)
     }
 
+    /// Whether one of them adds the line of the data channels.
+    pub fn contains_add_app(&self) -> bool
+        ensures { result ≡ ContainsAddApp self.now.0 }
+    {
+        for change in self.0.as_slice() {
+            if change.is_add_app() {
+                return true;
+            }
+        }
+        false
+    }
+
+    // Where the list takes its memory from.
+    fn allocator(&self) -> Global {
+        let nothing = self.0.empty_text().into_string();
+        *nothing.allocator()
+    }
+
+    #[tactic(auto, using(crate::proofs::AddedLemmas::channels_step, crate::proofs::AddedLemmas::others_step))]
+    /// Takes the channels out, the last first. The other changes stay in order.
+    pub fn take_new_channels(&mut self) -> Result<Seq<(ChannelId, ChannelConfig)>, AllocError>
+        ensures channels { IfOk result (λ channels. channels ≡ reverse (new_channels self.old.0)) }
+        ensures others { OnOk result (self.new.0 ≡ without_channels self.old.0) }
+        ensures err { OnErr result (self.new ≡ self.old) }
+    {
+        let alloc = self.allocator();
+        let mut channels = Vec::with_capacity(alloc, self.0.len())?;
+        let mut others = Vec::with_capacity(alloc, self.0.len())?;
+        let mut staged = mem::replace(&mut self.0, Seq::empty(alloc)).into_vec();
+        while let Some(change) = staged.pop() {
+            put_apart(change, &mut channels, &mut others);
+        }
+        others.reverse();
+        self.0 = Seq::new(others);
+        Ok(Seq::new(channels))
+    }
+
     /// The rows of the lines that they add, at places from `index_start` on.
-    pub fn as_new_medias(&self, alloc: Global, index_start: u32) -> Result<Seq<LineRow>, AllocError>
+    pub fn as_new_medias(&self, index_start: u32) -> Result<Seq<LineRow>, AllocError>
         requires { index_start + length (added_mids self.now.0) < 2 ^ 32 }
         ensures rows { IfOk result (λ rows. rows ≡ added_rows index_start self.now.0) }
         ensures count { IfOk result (λ rows. length rows ≡ length (added_mids self.now.0)) }
     {
-        let mut rows = Seq::empty(alloc);
+        let mut rows = Seq::empty(self.allocator());
         let mut place = index_start;
         for change in self.0.as_slice() {
             let Some(row) = change.new_row(place) else {

@@ -1,9 +1,11 @@
 //! Why a line is refused.
 ghost use Rattle.std.specs.Prelude.{◌≡◌, ◌<◌, ◌^◌, ◌-◌, ◌||◌, nat_lt, Bool, true, false, length, Some, None};
 ghost use Rattle.std.specs.Option.{option_copied};
-ghost use Rattle.rtc_change.specs.Table.{row_of, app_of, has_mid};
+ghost use Rattle.rtc_change.specs.Table.{Distinct, row_of, app_of, has_mid};
+ghost use Rattle.rtc_change.specs.DeclaredMedia.{media_place};
 ghost use Rattle.rtc_change.specs.Verdict.{app_refusal, known_refusal, place_refusal, media_refusal, line_refusal, first_refusal};
 
+use crate::mid_index::MidIndex;
 use crate::{ParsedLine, Why};
 use rtc_sdp_values::{LineKind, LineRow, MediaKind, Mid};
 
@@ -17,6 +19,16 @@ pub fn find_row(rows: &[LineRow], mid: Mid) -> Option<&LineRow>
         }
     }
     None
+}
+
+/// The place of the media row of a mid.
+pub fn find_media(rows: &[LineRow], mid: Mid) -> Option<u32>
+    ensures { result ≡ media_place (row_of rows.now mid) }
+{
+    match find_row(rows, mid) {
+        Some(LineRow::Media { place, .. }) => Some(*place),
+        _ => None,
+    }
 }
 
 /// The row of the data channels.
@@ -50,19 +62,23 @@ fn is_taken(rows: &[LineRow], place: u32, mid: Mid) -> bool
     (place as usize) < rows.len() || has_row(rows, mid)
 }
 
+// A second application line is refused before the rows are looked through, so that they are once at most.
 fn judge_app(rows: &[LineRow], came: bool, place: u32, mid: Mid) -> Option<Why>
     ensures { result ≡ app_refusal rows.now came place mid }
 {
+    if came {
+        return Some(Why::MovedLine(mid));
+    }
     match find_app(rows) {
         None => {
-            if came || is_taken(rows, place, mid) {
+            if is_taken(rows, place, mid) {
                 Some(Why::MovedLine(mid))
             } else {
                 None
             }
         }
         Some(row) => {
-            if row.place() == place && !came {
+            if row.place() == place {
                 None
             } else {
                 Some(Why::MovedLine(mid))
@@ -109,12 +125,19 @@ fn judge_place(offer: bool, mid: Mid, row: &LineRow) -> Option<Why>
     }
 }
 
-fn judge_media(rows: &[LineRow], offer: bool, place: u32, kind: MediaKind, mid: Mid) -> Option<Why>
+fn judge_media(
+    rows: &MidIndex<'_>,
+    offer: bool,
+    place: u32,
+    kind: MediaKind,
+    mid: Mid,
+) -> Option<Why>
+    requires { Distinct rows.now }
     ensures { result ≡ media_refusal rows.now offer place kind mid }
 {
-    match find_row(rows, mid) {
+    match rows.find_at(place as usize, mid) {
         Some(row) => judge_known(place, kind, mid, row),
-        None => match rows.get(place as usize) {
+        None => match rows.as_slice().get(place as usize) {
             Some(row) => judge_place(offer, mid, row),
             None => None,
         },
@@ -122,25 +145,27 @@ fn judge_media(rows: &[LineRow], offer: bool, place: u32, kind: MediaKind, mid: 
 }
 
 fn judge_line(
-    rows: &[LineRow],
+    rows: &MidIndex<'_>,
     offer: bool,
     came: bool,
     place: u32,
     parsed: &ParsedLine,
 ) -> Option<Why>
+    requires { Distinct rows.now }
     ensures { result ≡ line_refusal rows.now offer came place parsed.now }
 {
     match parsed.kind {
         LineKind::Audio => judge_media(rows, offer, place, MediaKind::Audio, parsed.mid),
         LineKind::Video => judge_media(rows, offer, place, MediaKind::Video, parsed.mid),
-        LineKind::Application => judge_app(rows, came, place, parsed.mid),
+        LineKind::Application => judge_app(rows.as_slice(), came, place, parsed.mid),
         LineKind::Unknown => Some(Why::MovedLine(parsed.mid)),
     }
 }
 
 /// The refusal of the first line that is refused.
-pub fn judge_lines(rows: &[LineRow], offer: bool, lines: &[ParsedLine]) -> Option<Why>
-    requires { length lines.now < 2 ^ 32 - 1 }
+pub fn judge_lines(rows: &MidIndex<'_>, offer: bool, lines: &[ParsedLine]) -> Option<Why>
+    requires few { length lines.now < 2 ^ 32 - 1 }
+    requires distinct { Distinct rows.now }
     ensures { result ≡ first_refusal rows.now offer false 0 lines.now }
 {
     let mut came = false;

@@ -2,10 +2,12 @@
 #![tactic(auto)]
 
 mod add_media;
+mod bundled;
 mod change;
 mod changes;
 mod judging;
 mod lines;
+mod mid_index;
 mod new_line;
 mod parsed_line;
 mod plan;

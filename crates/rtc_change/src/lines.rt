@@ -1,14 +1,16 @@
 //! The rows of a peer.
-ghost use Rattle.std.specs.Prelude.{◌≡◌, [], OnOk, OnErr, MatchOption, None, Some, option_map, IsTrue, IsFalse};
+ghost use Rattle.std.specs.Prelude.{◌≡◌, ◌<◌, ◌-◌, ◌^◌, [], length, OnOk, OnErr};
+ghost use Rattle.std.specs.Prelude.{MatchOption, None, Some, is_some, option_map, IsTrue, IsFalse};
 ghost use Rattle.std.specs.Option.{option_copied};
 ghost use Rattle.rtc_sdp_values.specs.LineRow.{row_place, row_mid};
 ghost use Rattle.rtc_change.specs.RowChanges.{directed_row, stopped_row, is_changed, changed_of};
+ghost use Rattle.rtc_change.specs.DeclaredMedia.{Declares, media_place, rows_without};
 ghost use Rattle.rtc_change.specs.Table.{IsTable, row_of, app_of, has_mid};
 
 use crate::Plan;
-use crate::judging::{find_app, find_row, has_row};
+use crate::judging::{find_app, find_media, find_row, has_row};
 use crate::row_changes::{direct_row, stop_row};
-use rtc_sdp_values::{Direction, LineRow, Mid};
+use rtc_sdp_values::{Direction, LineRow, MediaKind, Mid};
 use std::alloc::{AllocError, Global};
 use std::marker::Model;
 
@@ -103,6 +105,46 @@ impl Lines {
             return false;
         };
         self.rows[stopped_row.place() as usize] = stopped_row;
+        true
+    }
+
+    /// Declares a media line behind the others: it sends and receives, and was created here.
+    ///
+    /// Answers false, and changes nothing, where a row has the mid.
+    pub fn declare(&mut self, mid: Mid, kind: MediaKind) -> Result<bool, AllocError>
+        requires { length self.old < 2 ^ 32 - 1 }
+        ensures { Declares self.old mid kind result self.new }
+    {
+        if has_row(self.rows.as_slice(), mid) {
+            return Ok(false);
+        }
+        let row = LineRow::Media {
+            place: self.rows.len() as u32,
+            mid,
+            kind,
+            dir: Direction::SendRecv,
+            stopped: false,
+            remote_created: false,
+        };
+        self.rows.push(row)?;
+        Ok(true)
+    }
+
+    /// Removes the media row of a mid where it is the last, and else stops it for good. Nothing is allocated.
+    ///
+    /// Answers false, and changes nothing, where there is no such row.
+    pub fn remove(&mut self, mid: Mid) -> bool
+        ensures removed { result ≡ is_some (media_place (row_of self.old mid)) }
+        ensures rows { self.new ≡ rows_without mid self.old }
+    {
+        let Some(place) = find_media(self.rows.as_slice(), mid) else {
+            return false;
+        };
+        if place as usize + 1 == self.rows.len() {
+            self.rows.truncate(place as usize);
+        } else {
+            self.stop(mid);
+        }
         true
     }
 

@@ -1,9 +1,8 @@
 //! M-lines as negotiation reads them.
 ghost use Rattle.std.specs.Prelude.{◌≡◌, IfOk, List, ℕ, map};
-ghost use Rattle.rtc_sdp_values.specs.Mids.{is_bundled as IsBundled};
 
+use crate::bundled::Bundled;
 use rtc_sdp_values::{Direction, LineKind, MediaLine, Mid, Sdp};
-use rtc_wire::Seq;
 use std::alloc::{AllocError, Global};
 
 /// What negotiation reads of an m-line.
@@ -16,25 +15,13 @@ pub struct ParsedLine {
     pub rejected: bool,
 }
 
-// Whether a BUNDLE group names a mid.
-fn is_bundled(groups: &[Seq<Mid>], mid: Mid) -> bool
-    ensures { result ≡ IsBundled groups.now mid }
-{
-    for group in groups {
-        if mid.is_among(group.as_slice()) {
-            return true;
-        }
-    }
-    false
-}
-
 impl ParsedLine {
     ghost use Rattle.rtc_change.specs.ParsedLines.{parsed_line, parsed_lines};
 
-    fn of(groups: &[Seq<Mid>], line: &MediaLine) -> ParsedLine
+    fn of(groups: &Bundled<'_>, line: &MediaLine) -> ParsedLine
         ensures { result ≡ parsed_line groups.now line.now }
     {
-        let rejected = line.disabled && !is_bundled(groups, line.mid);
+        let rejected = line.disabled && !groups.names(line.mid);
         ParsedLine {
             kind: line.kind,
             mid: line.mid,
@@ -47,10 +34,10 @@ impl ParsedLine {
     pub fn all_of(alloc: Global, sdp: &Sdp) -> Result<Vec<ParsedLine>, AllocError>
         ensures { IfOk result (λ lines. lines.items ≡ parsed_lines sdp.now) }
     {
-        let groups = sdp.groups.as_slice();
+        let groups = Bundled::of(alloc, sdp)?;
         let mut lines = Vec::new(alloc);
         for line in sdp.lines.as_slice() {
-            lines.push(ParsedLine::of(groups, line))?;
+            lines.push(ParsedLine::of(&groups, line))?;
         }
         Ok(lines)
     }

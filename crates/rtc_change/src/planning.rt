@@ -9,10 +9,11 @@ ghost use Rattle.rtc_change.specs.Verdict.{first_refusal};
 ghost use Rattle.rtc_change.specs.Table.{IsTable};
 
 use crate::judging::judge_lines;
+use crate::mid_index::MidIndex;
 use crate::table_after::{find_new_places, find_removed, list_rows_after};
 use crate::wrong_lines::judge_new_lines;
 use crate::{ParsedLine, Plan, Refusal, SdpPendingOffer, View, Why};
-use rtc_sdp_values::{LineRow, Sdp};
+use rtc_sdp_values::Sdp;
 use std::alloc::{AllocError, Global};
 
 // Why a session description is inconsistent; a consistent one has distinct mids.
@@ -29,7 +30,7 @@ fn find_inconsistency(sdp: &Sdp) -> Option<Refusal>
 
 fn make_plan(
     alloc: Global,
-    rows: &[LineRow],
+    rows: &MidIndex<'_>,
     offer: bool,
     lines: &[ParsedLine],
 ) -> Result<Plan, AllocError>
@@ -65,11 +66,11 @@ pub fn plan_offer(alloc: Global, view: &View<'_>, offer: &Sdp) -> Result<Plan, R
     if let Some(refusal) = find_inconsistency(offer) {
         return Err(refusal);
     }
-    let rows = view.lines.rows();
-    if let Some(why) = judge_lines(rows, true, lines.as_slice()) {
+    let rows = MidIndex::for_lines(alloc, view.lines.rows(), lines.as_slice())?;
+    if let Some(why) = judge_lines(&rows, true, lines.as_slice()) {
         return Err(Refusal::RemoteSdp(why));
     }
-    let plan = make_plan(alloc, rows, true, lines.as_slice())?;
+    let plan = make_plan(alloc, &rows, true, lines.as_slice())?;
     Ok(plan)
 }
 
@@ -90,15 +91,16 @@ pub fn plan_answer(
     if let Some(refusal) = find_inconsistency(answer) {
         return Err(refusal);
     }
-    let rows = view.lines.rows();
-    if let Some(why) = judge_lines(rows, false, lines.as_slice()) {
+    let rows = MidIndex::for_lines(alloc, view.lines.rows(), lines.as_slice())?;
+    if let Some(why) = judge_lines(&rows, false, lines.as_slice()) {
         return Err(Refusal::RemoteSdp(why));
     }
-    let added = token.changes().as_new_medias(alloc, rows.len() as u32)?;
-    let new = find_new_places(alloc, rows, lines.as_slice())?;
-    if let Some(wrong) = judge_new_lines(rows, added.as_slice(), new.as_slice(), lines.as_slice()) {
+    let added = token.changes().as_new_medias(rows.as_slice().len() as u32)?;
+    let added = MidIndex::new(alloc, added.as_slice())?;
+    let new = find_new_places(alloc, &rows, lines.as_slice())?;
+    if let Some(wrong) = judge_new_lines(&rows, &added, new.as_slice(), lines.as_slice()) {
         return Err(Refusal::RemoteSdp(Why::WrongNewLines(wrong)));
     }
-    let plan = make_plan(alloc, rows, false, lines.as_slice())?;
+    let plan = make_plan(alloc, &rows, false, lines.as_slice())?;
     Ok(plan)
 }

@@ -1,6 +1,7 @@
 //! The table that an accepted offer or answer leaves.
 ghost use Rattle.std.specs.Prelude.{◌≡◌, ◌+◌, ◌<◌, ◌≤◌, ◌^◌, ◌-◌, Bool, length, IfOk, Option, max};
 ghost use Rattle.std.specs.Option.{option_copied};
+ghost use Rattle.rtc_change.specs.Table.{Distinct};
 ghost use Rattle.rtc_change.specs.TableAfter.{
   media_after,
   app_after,
@@ -15,7 +16,8 @@ ghost use Rattle.rtc_change.specs.TableAfter.{
 };
 
 use crate::ParsedLine;
-use crate::judging::{find_app, find_row};
+use crate::judging::find_app;
+use crate::mid_index::MidIndex;
 use rtc_sdp_values::{Direction, LineKind, LineRow, MediaKind, Mid};
 use rtc_wire::Seq;
 use std::alloc::{AllocError, Global};
@@ -91,7 +93,8 @@ fn app_row(rows: &[LineRow], place: u32, mid: Mid) -> LineRow
     }
 }
 
-fn row_of_line(rows: &[LineRow], offer: bool, place: u32, parsed: &ParsedLine) -> LineRow
+fn row_of_line(rows: &MidIndex<'_>, offer: bool, place: u32, parsed: &ParsedLine) -> LineRow
+    requires { Distinct rows.now }
     ensures { result ≡ row_after rows.now offer place parsed.now }
 {
     match parsed.kind {
@@ -100,16 +103,16 @@ fn row_of_line(rows: &[LineRow], offer: bool, place: u32, parsed: &ParsedLine) -
             place,
             MediaKind::Audio,
             parsed,
-            find_row(rows, parsed.mid),
+            rows.find_at(place as usize, parsed.mid),
         ),
         LineKind::Video => media_row(
             offer,
             place,
             MediaKind::Video,
             parsed,
-            find_row(rows, parsed.mid),
+            rows.find_at(place as usize, parsed.mid),
         ),
-        LineKind::Application => app_row(rows, place, parsed.mid),
+        LineKind::Application => app_row(rows.as_slice(), place, parsed.mid),
         LineKind::Unknown => LineRow::App {
             place,
             mid: parsed.mid,
@@ -120,30 +123,33 @@ fn row_of_line(rows: &[LineRow], offer: bool, place: u32, parsed: &ParsedLine) -
 /// The table afterwards.
 pub fn list_rows_after(
     alloc: Global,
-    rows: &[LineRow],
+    rows: &MidIndex<'_>,
     offer: bool,
     lines: &[ParsedLine],
 ) -> Result<Seq<LineRow>, AllocError>
-    requires { length lines.now < 2 ^ 32 - 1 }
+    requires few { length lines.now < 2 ^ 32 - 1 }
+    requires distinct { Distinct rows.now }
     ensures { IfOk result (λ after. after ≡ table_after rows.now lines.now offer) }
 {
     let mut after = Vec::new(alloc);
     for (place, parsed) in lines.iter().enumerate() {
         after.push(row_of_line(rows, offer, place as u32, parsed))?;
     }
-    if lines.len() < rows.len() {
-        after.extend_from_slice(&rows[lines.len()..])?;
+    let before = rows.as_slice();
+    if lines.len() < before.len() {
+        after.extend_from_slice(&before[lines.len()..])?;
     }
     Ok(Seq::new(after))
 }
 
-/// Whether a line adds a row.
-pub fn is_new_line(rows: &[LineRow], parsed: &ParsedLine) -> bool
+/// Whether a line at a place adds a row.
+pub fn is_new_line(rows: &MidIndex<'_>, place: usize, parsed: &ParsedLine) -> bool
+    requires { Distinct rows.now }
     ensures { result ≡ is_new rows.now parsed.now }
 {
     match parsed.kind {
-        LineKind::Audio | LineKind::Video => find_row(rows, parsed.mid).is_none(),
-        LineKind::Application => find_app(rows).is_none(),
+        LineKind::Audio | LineKind::Video => rows.find_at(place, parsed.mid).is_none(),
+        LineKind::Application => find_app(rows.as_slice()).is_none(),
         LineKind::Unknown => false,
     }
 }
@@ -151,16 +157,17 @@ pub fn is_new_line(rows: &[LineRow], parsed: &ParsedLine) -> bool
 /// The places of the lines that add a row.
 pub fn find_new_places(
     alloc: Global,
-    rows: &[LineRow],
+    rows: &MidIndex<'_>,
     lines: &[ParsedLine],
 ) -> Result<Seq<u32>, AllocError>
-    requires { length lines.now < 2 ^ 32 - 1 }
+    requires few { length lines.now < 2 ^ 32 - 1 }
+    requires distinct { Distinct rows.now }
     ensures places { IfOk result (λ places. places ≡ new_places rows.now 0 lines.now) }
     ensures count { IfOk result (λ places. length places ≤ length lines.now) }
 {
     let mut places = Vec::new(alloc);
     for (place, parsed) in lines.iter().enumerate() {
-        if is_new_line(rows, parsed) {
+        if is_new_line(rows, place, parsed) {
             places.push(place as u32)?;
         }
     }
@@ -168,13 +175,14 @@ pub fn find_new_places(
 }
 
 // The mid of the row whose place a line takes.
-fn removed_by(rows: &[LineRow], place: usize, parsed: &ParsedLine) -> Option<Mid>
+fn removed_by(rows: &MidIndex<'_>, place: usize, parsed: &ParsedLine) -> Option<Mid>
+    requires { Distinct rows.now }
     ensures { result ≡ removed_mid rows.now place parsed.now }
 {
-    if !is_new_line(rows, parsed) {
+    if !is_new_line(rows, place, parsed) {
         return None;
     }
-    match rows.get(place) {
+    match rows.as_slice().get(place) {
         Some(row) => Some(row.mid()),
         None => None,
     }
@@ -183,9 +191,10 @@ fn removed_by(rows: &[LineRow], place: usize, parsed: &ParsedLine) -> Option<Mid
 /// The mids of the rows whose place goes to another mid.
 pub fn find_removed(
     alloc: Global,
-    rows: &[LineRow],
+    rows: &MidIndex<'_>,
     lines: &[ParsedLine],
 ) -> Result<Seq<Mid>, AllocError>
+    requires { Distinct rows.now }
     ensures { IfOk result (λ mids. mids ≡ removed_mids rows.now 0 lines.now) }
 {
     let mut mids = Vec::new(alloc);

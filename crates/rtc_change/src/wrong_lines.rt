@@ -2,9 +2,10 @@
 ghost use Rattle.std.specs.Prelude.{◌≡◌, ◌<◌, ◌^◌, ◌-◌, length, Some};
 ghost use Rattle.std.specs.Option.{option_copied};
 ghost use Rattle.rtc_change.specs.WrongLines.{at_its_place, not_that_media, not_that_channel, by_added, wrong_line, wrong_lines};
+ghost use Rattle.rtc_change.specs.Table.{Distinct};
 ghost use Rattle.rtc_change.specs.TableAfter.{new_places};
 
-use crate::judging::find_row;
+use crate::mid_index::MidIndex;
 use crate::table_after::is_new_line;
 use crate::{NewLine, ParsedLine};
 use rtc_sdp_values::{LineKind, LineRow, MediaKind, Mid};
@@ -60,13 +61,18 @@ fn judge_new_line(place: u32, parsed: &ParsedLine, added: Option<&LineRow>) -> O
     }
 }
 
-fn find_wrong_line(rows: &[LineRow], added: &[LineRow], lines: &[ParsedLine]) -> Option<NewLine>
-    requires { length lines.now < 2 ^ 32 - 1 }
+fn find_wrong_line(
+    rows: &MidIndex<'_>,
+    added: &MidIndex<'_>,
+    lines: &[ParsedLine],
+) -> Option<NewLine>
+    requires few { length lines.now < 2 ^ 32 - 1 }
+    requires distinct { Distinct rows.now }
     ensures { result ≡ wrong_line rows.now added.now 0 lines.now }
 {
     for (place, parsed) in lines.iter().enumerate() {
-        if is_new_line(rows, parsed) {
-            let wrong = judge_new_line(place as u32, parsed, find_row(added, parsed.mid));
+        if is_new_line(rows, place, parsed) {
+            let wrong = judge_new_line(place as u32, parsed, added.find(parsed.mid));
             if wrong.is_some() {
                 return wrong;
             }
@@ -77,22 +83,24 @@ fn find_wrong_line(rows: &[LineRow], added: &[LineRow], lines: &[ParsedLine]) ->
 
 /// What is wrong with the new lines of an answer, whose offer added these rows.
 pub fn judge_new_lines(
-    rows: &[LineRow],
-    added: &[LineRow],
+    rows: &MidIndex<'_>,
+    added: &MidIndex<'_>,
     new: &[u32],
     lines: &[ParsedLine],
 ) -> Option<NewLine>
     requires few { length lines.now < 2 ^ 32 - 1 }
+    requires distinct { Distinct rows.now }
     requires few_added { length added.now < 2 ^ 32 }
     requires few_new { length new.now < 2 ^ 32 }
     requires new { new.now ≡ new_places rows.now 0 lines.now }
     ensures { result ≡ wrong_lines rows.now added.now lines.now }
 {
-    if added.len() == new.len() {
+    let offered = added.as_slice().len();
+    if offered == new.len() {
         find_wrong_line(rows, added, lines)
     } else {
         Some(NewLine::Count {
-            expected: added.len() as u32,
+            expected: offered as u32,
             got: new.len() as u32,
         })
     }
