@@ -2,3 +2,5 @@ pub mod Tries
 pub mod Tokens
 pub mod Counts
 pub mod Pairs
+pub mod ConfirmLemmas
+pub mod ShownLemmas

@@ -4,15 +4,19 @@ ghost use Rattle.rtc_change.specs.Held.{held_of};
 ghost use Rattle.rtc_change.specs.Plans.{PlansSdp, asked_by};
 ghost use Rattle.rtc_change.specs.Table.{IsTable};
 ghost use Rattle.rtc_peer_state.specs.Calls.{AcceptsOffer, AcceptsAnswer};
+ghost use Rattle.rtc_peer_state.specs.Sources.{added_sources};
 ghost use Rattle.rtc_negotiation.specs.Updates.{UpdatesSources};
 
+use crate::confirming::confirm_channels;
 use crate::describing::make_sdp;
-use crate::naming::count_lines;
 use crate::updating::{list_added, update_sources};
-use rtc_change::{Lines, Plan, Refusal, SdpPendingOffer, View, plan_answer, plan_offer};
-use rtc_peer_state::{Ids, Peer, RtcError};
+use rtc_change::{
+    Change, Lines, Plan, Refusal, SdpPendingOffer, View, count_added, plan_answer, plan_offer,
+};
+use rtc_peer_state::{Ids, LineSources, Peer, RtcError, count_lines};
 use rtc_sdp_values::{Sdp, Setup};
-use std::alloc::Global;
+use rtc_wire::{Seq, TryCopy};
+use std::alloc::{AllocError, Global};
 
 // A table has fewer rows than this.
 const MOST_LINES: usize = 4_294_967_295;
@@ -39,7 +43,7 @@ fn judge_answer(
     ensures table { IfOk result (λ plan. IsTable plan.rows) }
     ensures count { IfOk result (λ plan. length answer.now.lines ≤ length plan.rows) }
 {
-    count_lines(lines, token.changes().0.as_slice())?;
+    count_lines(lines, count_added(token.changes().0.as_slice()))?;
     if answer.lines.len() >= MOST_LINES {
         return Err(Refusal::Alloc);
     }
@@ -84,7 +88,24 @@ pub fn accept_offer<N: Ids>(peer: &mut Peer<N>, offer: Sdp) -> Result<Sdp, RtcEr
     Ok(answer)
 }
 
-/// Accepts the answer to the offer of a token, which is spent.
+// The sources once an answer is accepted: those that the token added come.
+#[tactic(auto, using(rtc_peer_state::proofs::LaterLemmas::later_none))]
+fn update_answered<N: Ids>(
+    alloc: Global,
+    ids: &mut N,
+    sources: &[LineSources],
+    changes: &[Change],
+    plan: &Plan,
+    count: usize,
+) -> Result<Seq<LineSources>, AllocError>
+    requires { count ≤ length plan.now.rows }
+    ensures { UpdatesSources N.ids ids.old sources.now (added_sources changes.now) plan.now count result ids.new }
+{
+    let added = list_added(alloc, changes)?;
+    update_sources(alloc, ids, sources, added.as_slice(), plan, count)
+}
+
+/// Accepts the answer to the offer of a token, which is spent. The channels that it adds are confirmed.
 #[tactic(auto, using(rtc_peer_state::proofs::LaterLemmas::later_none))]
 pub fn accept_answer<N: Ids>(
     peer: &mut Peer<N>,
@@ -103,14 +124,14 @@ pub fn accept_answer<N: Ids>(
         Err(Refusal::Sdp(error)) => return Err(RtcError::Sdp(error)),
         Err(Refusal::Alloc) => return Err(RtcError::Alloc),
     };
-    let Ok(added) = list_added(alloc, token.changes().0.as_slice()) else {
+    let Ok(changes) = token.changes().copy() else {
         return Err(RtcError::Alloc);
     };
-    let Ok(sources) = update_sources(
+    let Ok(sources) = update_answered(
         alloc,
         &mut peer.ids,
         peer.sources.as_slice(),
-        added.as_slice(),
+        changes.0.as_slice(),
         &plan,
         answer.lines.len(),
     ) else {
@@ -118,5 +139,6 @@ pub fn accept_answer<N: Ids>(
     };
     peer.sources = sources;
     peer.lines.commit(plan);
+    confirm_channels(&mut peer.channels, changes);
     Ok(())
 }

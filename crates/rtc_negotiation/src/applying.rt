@@ -1,27 +1,52 @@
-//! Staged changes that are offered.
+//! Staged changes that are applied.
 ghost use Rattle.std.specs.Prelude.{◌≡◌, ◌+◌, ◌<◌, ◌^◌, ◌-◌, length};
-ghost use Rattle.rtc_change.specs.PendingOffer.{added_mids};
-ghost use Rattle.rtc_peer_state.specs.Calls.{Applies};
+ghost use Rattle.rtc_change.specs.PendingOffer.{added_mids, do_offer};
+ghost use Rattle.rtc_peer_state.specs.Calls.{Applies, after_channels_alone};
 
+use crate::confirming::confirm_channels;
 use crate::describing::{list_offered_rows, make_sdp};
-use crate::naming::count_lines;
-use rtc_change::{Changes, SdpPendingOffer};
-use rtc_peer_state::Peer;
+use rtc_change::{Change, SdpPendingOffer};
+use rtc_peer_state::{Peer, count_lines};
 use rtc_sdp_values::{Sdp, Setup};
-use rtc_wire::Seq;
 use std::alloc::AllocError;
-use std::mem;
 
-/// Makes the offer of what is staged, with its token. None, and nothing happens, where nothing is staged.
+// Whether changes make an offer.
+fn makes_offer(changes: &[Change]) -> bool
+    ensures { result ≡ do_offer changes.now }
+{
+    for change in changes {
+        if change.is_offered() {
+            return true;
+        }
+    }
+    false
+}
+
+// Applies channels alone, which no offer tells of. Nothing happens where nothing is staged.
+fn apply_channels<N>(peer: &mut Peer<N>)
+    ensures { peer.new ≡ after_channels_alone peer.old.staged peer.old }
+{
+    if peer.staged.is_empty() {
+        return;
+    }
+    let changes = peer.staged.take(peer.alloc);
+    confirm_channels(&mut peer.channels, changes);
+    peer.counter = peer.counter.wrapping_add(1);
+}
+
+/// Makes the offer of what is staged, with its token.
+///
+/// None where nothing but channels is staged: these are confirmed. None, and nothing happens, where nothing is staged.
 #[tactic(auto, unfolding(rtc_peer_state::specs::MadeSdp::offer_sdp))]
 pub fn apply_staged<N>(peer: &mut Peer<N>) -> Result<Option<(Sdp, SdpPendingOffer)>, AllocError>
     ensures { Applies peer.old result peer.new }
 {
-    if peer.staged.is_empty() {
+    if !makes_offer(peer.staged.as_slice()) {
+        apply_channels(peer);
         return Ok(None);
     }
     let alloc = peer.alloc;
-    count_lines(&peer.lines, peer.staged.as_slice())?;
+    count_lines(&peer.lines, peer.staged.count_added())?;
     let rows = list_offered_rows(alloc, peer.lines.rows(), peer.staged.as_slice())?;
     let offer = make_sdp(
         alloc,
@@ -31,7 +56,7 @@ pub fn apply_staged<N>(peer: &mut Peer<N>) -> Result<Option<(Sdp, SdpPendingOffe
         rows.as_slice(),
     )?;
     let id = peer.counter;
-    let changes = mem::replace(&mut peer.staged, Seq::empty(alloc));
+    let changes = peer.staged.take(alloc);
     peer.counter = id.wrapping_add(1);
-    Ok(Some((offer, SdpPendingOffer::new(id, Changes(changes)))))
+    Ok(Some((offer, SdpPendingOffer::new(id, changes))))
 }

@@ -12,7 +12,8 @@ ghost use Rattle.rtc_peer_state.specs.Built.{
 ghost use Rattle.std.specs.Option.{option_copied};
 
 use rtc_change::Lines;
-use rtc_peer_state::{Identity, Ids, Peer, RtcConfig};
+use rtc_channels::ChannelHandler;
+use rtc_peer_state::{Identity, Ids, Peer, RtcConfig, Staged};
 use rtc_sdp_values::{Fingerprint, IceCreds};
 use rtc_wire::{Bytes, Moment, Seq, Text, TryCopy};
 use std::alloc::{AllocError, Global};
@@ -103,7 +104,8 @@ pub fn build_peer<N: Ids + Drop>(
     Ok(Peer {
         alloc,
         lines: Lines::new(alloc),
-        staged: Seq::empty(alloc),
+        staged: Staged::new(alloc),
+        channels: ChannelHandler::new(alloc),
         counter: 0,
         session_id,
         identity: Identity { creds, fingerprint },

@@ -4,7 +4,7 @@ ghost use Rattle.rtc_change.specs.RowChanges.{directed_row, stopped_row, is_chan
 ghost use Rattle.rtc_change.specs.Table.{row_of};
 ghost use Rattle.rtc_peer_state.specs.Calls.{SetsDirection, StopsMedia};
 
-use rtc_change::{Change, Lines, direct_row, stop_row};
+use rtc_change::{Lines, direct_row, stop_row};
 use rtc_peer_state::Peer;
 use rtc_sdp_values::{Direction, Mid};
 use std::alloc::AllocError;
@@ -36,7 +36,7 @@ pub fn set_direction<N>(peer: &mut Peer<N>, mid: Mid, dir: Direction) -> Result<
     if !can_direct(&peer.lines, mid, dir) {
         return Ok(false);
     }
-    peer.staged.push(Change::Direction(mid, dir))?;
+    peer.staged.push_direction(mid, dir)?;
     peer.lines.set_direction(mid, dir);
     Ok(true)
 }
@@ -48,8 +48,7 @@ pub fn stop_media<N>(peer: &mut Peer<N>, mid: Mid) -> Result<bool, AllocError>
     if !can_stop(&peer.lines, mid) {
         return Ok(false);
     }
-    peer.staged
-        .push(Change::Direction(mid, Direction::Inactive))?;
+    peer.staged.push_direction(mid, Direction::Inactive)?;
     peer.lines.stop(mid);
     Ok(true)
 }

@@ -1,15 +1,15 @@
-//! Media lines that are staged.
-ghost use Rattle.std.specs.Prelude.{◌≡◌, ◌+◌, ◌<◌, ◌^◌, ◌-◌, IfOk, OnOk, length, option_map, string_bytes};
-ghost use Rattle.rtc_change.specs.PendingOffer.{added_mids};
-ghost use Rattle.rtc_peer_state.specs.Calls.{AddsMedia};
+//! Lines and channels that are staged.
+ghost use Rattle.std.specs.Prelude.{◌≡◌, IfOk, OnOk, option_map, string_bytes};
+ghost use Rattle.rtc_peer_state.specs.Calls.{AddsMedia, AddsChannel};
 ghost use Rattle.rtc_peer_state.specs.Sources.{pair_count};
 
-use crate::naming::{draw_mid, draw_name, keep_name};
+use crate::naming::{draw_name, keep_name};
 use crate::sourcing::draw_pairs;
-use rtc_change::{AddMedia, Change};
-use rtc_peer_state::{Ids, Peer};
+use rtc_change::AddMedia;
+use rtc_channels::ChannelError;
+use rtc_peer_state::{Ids, Peer, RtcError};
 use rtc_sdp_values::{Direction, MediaKind, Mid, Msid, Simulcast};
-use rtc_wire::TryCopy;
+use rtc_wire::{ChannelConfig, ChannelId, TryCopy};
 use std::alloc::AllocError;
 
 // How many sources a line is to have.
@@ -41,7 +41,7 @@ pub fn stage_media<N: Ids>(
     }) result peer.new }
 {
     let alloc = peer.alloc;
-    let mid = draw_mid(alloc, &mut peer.ids, &peer.lines, peer.staged.as_slice())?;
+    let mid = peer.staged.draw_mid(&mut peer.ids, &peer.lines)?;
     let stream = keep_name(alloc, stream_id)?;
     let stream_id = draw_name(alloc, &mut peer.ids, "s", stream)?;
     let track = keep_name(alloc, track_id)?;
@@ -49,7 +49,7 @@ pub fn stage_media<N: Ids>(
     let cname = track_id.copy()?;
     let count = count_pairs(&simulcast);
     let ssrcs = draw_pairs(alloc, &mut peer.ids, peer.sources.as_slice(), kind, count)?;
-    peer.staged.push(Change::AddMedia(AddMedia {
+    peer.staged.push_media(AddMedia {
         mid,
         cname,
         msid: Msid {
@@ -60,6 +60,24 @@ pub fn stage_media<N: Ids>(
         dir,
         ssrcs,
         simulcast,
-    }))?;
+    })?;
     Ok(mid)
+}
+
+/// Stages a channel, with the line of the data channels where there is none yet, and answers its number.
+#[tactic(auto, using(rtc_peer_state::proofs::LaterLemmas::later_none))]
+pub fn stage_channel<N: Ids>(
+    peer: &mut Peer<N>,
+    config: ChannelConfig,
+) -> Result<ChannelId, RtcError>
+    ensures { AddsChannel N.ids peer.old config result peer.new }
+{
+    let made = peer
+        .staged
+        .push_channel(&mut peer.ids, &peer.lines, &mut peer.channels, config);
+    match made {
+        Ok(id) => Ok(id),
+        Err(ChannelError::BadChannel) => Err(RtcError::BadChannel),
+        Err(ChannelError::Alloc) => Err(RtcError::Alloc),
+    }
 }

@@ -8,6 +8,7 @@ mod sdp_api;
 
 pub use rtc::Rtc;
 pub use rtc_change::{AddMedia, Change, Changes, Lines, NewLine, SdpPendingOffer, Why};
+pub use rtc_channels::{ChannelError, ChannelRow};
 pub use rtc_lines::{
     Candidate, CandidateKind, CodecConfig, Direction, Extension, ExtensionMap, Fingerprint,
     IceCreds, Inconsistent, LineKind, LineRow, MediaKind, MediaLine, Mid, Msid, PayloadRow, Pt,

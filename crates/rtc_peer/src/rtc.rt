@@ -1,19 +1,23 @@
 //! The peer that callers hold.
-ghost use Rattle.std.specs.Prelude.{◌≡◌, ◌≢◌, IsTrue, ◌↔◌, [], IfOk};
-ghost use Rattle.rtc_peer_state.specs.Calls.{AcceptsOffer, AcceptsAnswer, AddsMedia, SetsDirection, StopsMedia, Applies};
+ghost use Rattle.std.specs.Prelude.{◌≡◌, ◌≢◌, IsTrue, ◌↔◌, [], IfOk, slice_get};
+ghost use Rattle.rtc_channels.specs.Channels.{channel_rows};
+ghost use Rattle.rtc_peer_state.specs.Calls.{AcceptsOffer, AcceptsAnswer, AddsMedia, AddsChannel, SetsDirection, StopsMedia, Applies};
 ghost use Rattle.rtc_peer_state.specs.Built.{built};
 ghost use Rattle.rtc_peer_state.specs.Formed.{IsFormed};
 ghost use Rattle.rtc_peer.specs.Described.{sdp_of_answer, sdp_of_offer};
+ghost use Rattle.rtc_peer.specs.Labelled.{labelled};
 ghost use Rattle.rtc_peer.specs.WantedLine.{wanted_line};
 
 use crate::SdpApi;
 use rtc_change::{Lines, SdpPendingOffer};
+use rtc_channels::ChannelRow;
 use rtc_lines::{Direction, MediaKind, Mid, SdpAnswer, SdpOffer, Simulcast};
 use rtc_negotiation::{
-    accept_answer, accept_offer, apply_staged, build_peer, set_direction, stage_media, stop_media,
+    accept_answer, accept_offer, apply_staged, build_peer, list_channels, set_direction,
+    show_channel, stage_channel, stage_media, stop_media,
 };
 use rtc_peer_state::{Ids, Peer, RtcConfig, RtcError};
-use rtc_wire::Moment;
+use rtc_wire::{ChannelConfig, ChannelId, Moment, Seq, Text};
 use std::alloc::{AllocError, Global};
 use std::marker::Model;
 
@@ -67,6 +71,20 @@ impl<N: Ids> Rtc<N> {
         &self.core.lines
     }
 
+    /// The rows of the data channels, in order of their numbers.
+    pub fn channels(&self) -> Result<Seq<ChannelRow>, AllocError>
+        ensures { IfOk result (λ rows. rows ≡ channel_rows self.now.core.channels) }
+    {
+        list_channels(&self.core)
+    }
+
+    /// The row of the data channel at a place of `channels`, from 0.
+    pub fn channel_row(&self, k: usize) -> Option<ChannelRow>
+        ensures { result ≡ slice_get (channel_rows self.now.core.channels) k }
+    {
+        show_channel(&self.core, k)
+    }
+
     pub(crate) fn has_staged(&self) -> bool
         ensures { IsTrue result ↔ (self.now.core.staged ≢ []) }
     {
@@ -103,6 +121,20 @@ impl<N: Ids> Rtc<N> {
         ensures { AddsMedia N.ids self.old.core (wanted_line kind dir stream_id track_id simulcast) result self.new.core }
     {
         stage_media(&mut self.core, kind, dir, stream_id, track_id, simulcast)
+    }
+
+    pub(crate) fn stage_channel(&mut self, config: ChannelConfig) -> Result<ChannelId, RtcError>
+        ensures { AddsChannel N.ids self.old.core config result self.new.core }
+    {
+        stage_channel(&mut self.core, config)
+    }
+
+    pub(crate) fn stage_labelled(&mut self, label: String) -> Result<ChannelId, RtcError>
+        ensures { AddsChannel N.ids self.old.core (labelled label) result self.new.core }
+    {
+        let mut config = ChannelConfig::new(self.core.alloc);
+        config.label = Text::new(label);
+        stage_channel(&mut self.core, config)
     }
 
     pub(crate) fn set_direction(&mut self, mid: Mid, dir: Direction) -> Result<bool, AllocError>

@@ -1,14 +1,16 @@
 //! Offers and answers of a peer.
 ghost use Rattle.std.specs.Prelude.{◌≡◌, ◌≢◌, IsTrue, ◌↔◌, []};
-ghost use Rattle.rtc_peer_state.specs.Calls.{AcceptsOffer, AcceptsAnswer, AddsMedia, SetsDirection, StopsMedia, Applies};
+ghost use Rattle.rtc_peer_state.specs.Calls.{AcceptsOffer, AcceptsAnswer, AddsMedia, AddsChannel, SetsDirection, StopsMedia, Applies};
 ghost use Rattle.rtc_peer_state.specs.Whole.{Whole};
 ghost use Rattle.rtc_peer.specs.Described.{sdp_of_answer, sdp_of_offer};
+ghost use Rattle.rtc_peer.specs.Labelled.{labelled};
 ghost use Rattle.rtc_peer.specs.WantedLine.{wanted_line};
 
 use crate::Rtc;
 use rtc_change::{Lines, SdpPendingOffer};
 use rtc_lines::{Direction, MediaKind, Mid, SdpAnswer, SdpOffer, Simulcast};
 use rtc_peer_state::{Ids, RtcError};
+use rtc_wire::{ChannelConfig, ChannelId};
 use std::alloc::AllocError;
 
 /// A handle on the negotiation of a peer.
@@ -71,6 +73,25 @@ impl<'a, N: Ids> SdpApi<'a, N> {
         self.rtc.stage(kind, dir, stream_id, track_id, simulcast)
     }
 
+    /// Stages a data channel with a label, and answers its number: ordered, reliable, announced by an open message.
+    pub fn add_channel(&mut self, label: String) -> Result<ChannelId, RtcError>
+        ensures same_reference { self.new.rtc.ghost_name ≡ self.old.rtc.ghost_name }
+        ensures adds { AddsChannel N.ids self.old.rtc.now.core (labelled label) result self.new.rtc.now.core }
+    {
+        self.rtc.stage_labelled(label)
+    }
+
+    /// Stages a data channel, and answers its number, which no channel of the peer had before (RFC 8831, section 6.4).
+    ///
+    /// The line of the data channels is staged with it where neither a row nor a staged line is one. A channel that was
+    /// staged and is not offered stays in the table, waits, and keeps its claim on a stream.
+    pub fn add_channel_with_config(&mut self, config: ChannelConfig) -> Result<ChannelId, RtcError>
+        ensures same_reference { self.new.rtc.ghost_name ≡ self.old.rtc.ghost_name }
+        ensures adds { AddsChannel N.ids self.old.rtc.now.core config result self.new.rtc.now.core }
+    {
+        self.rtc.stage_channel(config)
+    }
+
     /// Sets the direction of a live media line, and stages it (RFC 8829, section 4.2.3).
     ///
     /// It acts at once, before anything is applied, and answers whether the line changed, which str0m does not tell.
@@ -96,7 +117,8 @@ impl<'a, N: Ids> SdpApi<'a, N> {
 
     /// Makes the offer of what is staged, with the token that `accept_answer` takes with its answer.
     ///
-    /// None where nothing is staged.
+    /// None where nothing but channels is staged, which no offer tells of: these are confirmed, and an offer that awaits its
+    /// answer is superseded. None, and nothing happens, where nothing is staged.
     pub fn apply(self) -> Result<Option<(SdpOffer, SdpPendingOffer)>, AllocError>
         ensures { Applies self.entry.rtc.now.core (sdp_of_offer result) self.exit.0.now.core }
     {

@@ -147,3 +147,19 @@ drawn_mid_is_free rows staged n small few =
     let free : is_held rows staged (free_mid (is_held rows staged) (length (held_mids rows staged)) n) ≡ false =
     free_mid_is_free (is_held rows staged) (held_mids rows staged) n (held_among rows staged) small (omega (arith, length-held_mids rows staged)) in
     ap (λ (tries : ℕ). is_held rows staged (free_mid (is_held rows staged) tries n)) (sym (length-held_mids rows staged)) ∙ free
+
+-- tests that agree find the same mid
+pub free_mid-same : (held other : List ℕ → Bool) → ((mid : List ℕ) → held mid ≡ other mid) → (tries n : ℕ) → free_mid held tries n ≡ free_mid other tries n
+unfolding free_mid
+free_mid-same held other same zero n = refl
+free_mid-same held other same (suc tries) n = rw (same (drawn_mid n), free_mid-same held other same tries (following n)) refl
+
+-- one try of the search
+pub free_mid-held : (held : List ℕ → Bool) (tries more n : ℕ) → tries ≡ suc more → held (drawn_mid n) ≡ true → free_mid held tries n ≡ free_mid held more ((n + 1) % 2 ^ 32)
+free_mid-held held tries more n e taken = rw e (goes_on held more n taken)
+
+pub free_mid-free : (held : List ℕ → Bool) (tries more n : ℕ) → tries ≡ suc more → held (drawn_mid n) ≡ false → free_mid held tries n ≡ drawn_mid n
+free_mid-free held tries more n e free = rw e (stops held more n free)
+
+pub free_mid-none : (held : List ℕ → Bool) (n : ℕ) → free_mid held 0 n ≡ drawn_mid n
+free_mid-none held n = last_try held n

@@ -5,3 +5,5 @@ pub mod BuiltPeers
 pub mod TokenTables
 pub mod LaterLemmas
 pub mod FormedCalls
+pub mod StagedLemmas
+pub mod ChannelCalls

@@ -8,7 +8,7 @@ use Rattle.rtc_sdp_values.specs.declared.line_kind.LineKind.{LineKind}
 use Rattle.rtc_sdp_values.specs.declared.line_kind.LineKind.TheVariants.{Audio as AudioLine, Video as VideoLine, Application}
 use Rattle.rtc_sdp_values.specs.declared.line_row.LineRow.{LineRow}
 use Rattle.rtc_change.specs.declared.change.Change.{Change}
-use Rattle.rtc_change.specs.declared.change.Change.TheVariants.{AddMedia, AddApp, Direction as SetDirection}
+use Rattle.rtc_change.specs.declared.change.Change.TheVariants.{AddMedia, AddApp, AddChannel, Direction as SetDirection}
 use Rattle.rtc_change.specs.declared.parsed_line.ParsedLine.{ParsedLine}
 use Rattle.rtc_change.specs.PendingOffer.{added_rows}
 use Rattle.rtc_change.specs.Table.{is_app, app_of}
@@ -20,6 +20,7 @@ pub added_tokens : (place : ℕ) (changes : List Change) → AddTokens changes �
 added_tokens place [] h = tt
 added_tokens place (AddMedia media ∷ changes) h = (h.0, added_tokens (place + 1) changes h.1)
 added_tokens place (AddApp mid ∷ changes) h = (h.0, added_tokens (place + 1) changes h.1)
+added_tokens place (AddChannel id config ∷ changes) h = added_tokens place changes h
 added_tokens place (SetDirection mid dir ∷ changes) h = added_tokens place changes h
 
 -- the mid of each line is a short token

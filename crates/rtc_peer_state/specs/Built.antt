@@ -1,4 +1,5 @@
 -- The peer that is built.
+use Rattle.rtc_channels.specs.Channels.{no_channels}
 use Rattle.std.specs.Prelude.{ℕ, ◌+◌, ◌/◌, ◌%◌, zero, suc, List, [], ◌∷◌, ◌++◌, if◌then◌else◌, nat_lt, codes, Option, Some, None}
 use Rattle.std.specs.Int.{to_be_bytes, w64}
 use Rattle.std.specs.declared.alloc.Global.{Global}
@@ -42,6 +43,7 @@ module _ {N : Type 0} (draws : Draws N) where
     alloc = alloc;
     lines = [];
     staged = [];
+    channels = no_channels;
     counter = 0;
     session_id = draws.drawn ids;
     identity = record {

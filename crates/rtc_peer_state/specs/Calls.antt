@@ -17,6 +17,8 @@ use Rattle.std.specs.Prelude.{
   take,
   ◌||◌,
   codes,
+  filter,
+  not,
   Option,
   Some,
   None,
@@ -32,12 +34,15 @@ use Rattle.rtc_sdp_values.specs.declared.line_row.LineRow.{LineRow}
 use Rattle.rtc_sdp_values.specs.declared.sdp.Sdp.{Sdp}
 use Rattle.rtc_sdp_values.specs.declared.simulcast.Simulcast.{Simulcast}
 use Rattle.rtc_change.specs.declared.add_media.AddMedia.{AddMedia as Media}
-use Rattle.rtc_change.specs.declared.change.Change.TheVariants.{AddMedia, Direction as SetDirection}
+use Rattle.rtc_change.specs.declared.change.Change.{Change}
+use Rattle.rtc_change.specs.declared.change.Change.TheVariants.{AddMedia, AddChannel, Direction as SetDirection}
 use Rattle.rtc_change.specs.declared.refusal.Refusal.{Refusal}
 use Rattle.rtc_change.specs.declared.refusal.Refusal.TheVariants.{RemoteSdp as RefusedSdp, Sdp as RefusedText, Alloc as NoMemory}
-use Rattle.rtc_change.specs.PendingOffer.{PendingOffer, added_mids}
+use Rattle.rtc_change.specs.PendingOffer.{PendingOffer, do_offer, new_channels}
 use Rattle.rtc_change.specs.RowChanges.{RowChange, directed_row, stopped_row, is_changed, changed_of}
 use Rattle.rtc_change.specs.Table.{row_of}
+use Rattle.rtc_wire.specs.declared.channel_config.ChannelConfig.{ChannelConfig}
+use Rattle.rtc_channels.specs.Channels.{is_overlong, is_bad_channel, with_channel, all_confirmed}
 use Rattle.rtc_change.specs.Held.{Held, Asked, held_of}
 use Rattle.rtc_change.specs.ParsedLines.{parsed_lines}
 use Rattle.rtc_change.specs.TableAfter.{table_after, removed_mids}
@@ -45,9 +50,16 @@ use Rattle.rtc_change.specs.Plans.{verdict, asked_by}
 use Rattle.rtc_peer_state.specs.declared.line_sources.LineSources.{LineSources}
 use Rattle.rtc_peer_state.specs.declared.peer.Peer.{Peer}
 use Rattle.rtc_peer_state.specs.declared.rtc_error.RtcError.{RtcError}
-use Rattle.rtc_peer_state.specs.declared.rtc_error.RtcError.TheVariants.{RemoteSdp, Sdp as SdpRefused, ChangesOutOfOrder, Alloc}
+use Rattle.rtc_peer_state.specs.declared.rtc_error.RtcError.TheVariants.{
+  RemoteSdp,
+  Sdp as SdpRefused,
+  ChangesOutOfOrder,
+  BadChannel,
+  Alloc,
+}
 use Rattle.rtc_peer_state.specs.Draws.{Draws, Later}
-use Rattle.rtc_peer_state.specs.Names.{free_mid, is_held, kept_name, name_of, after_name}
+use Rattle.rtc_peer_state.specs.Names.{is_held, next_mid, kept_name, name_of, after_name}
+use Rattle.rtc_peer_state.specs.Staging.{lacks_app, lacking_app, after_app}
 use Rattle.rtc_peer_state.specs.Sources.{
   is_used,
   next_pairs,
@@ -102,7 +114,7 @@ module _ {N : Type 0} (draws : Draws N) where
   track_drawn ids wanted = after_name draws (kept_name wanted.track) (stream_drawn ids wanted)
 
   abbrev pub staged_mid : Peer N → List ℕ
-  staged_mid p = free_mid (is_held p.lines p.staged) (length p.lines + length (added_mids p.staged)) (draws.drawn p.ids % 2 ^ 32)
+  staged_mid p = next_mid draws p.lines p.staged p.ids
 
   abbrev pub track_name : Peer N → Wanted → List ℕ
   track_name p wanted = name_of draws (codes "t") (kept_name wanted.track) (stream_drawn p.ids wanted)
@@ -146,11 +158,54 @@ SetsDirection p mid dir result q = ChangesLine (directed_row dir) dir p mid resu
 abbrev pub StopsMedia : {N : Type 0} → Peer N → List ℕ → Result Bool AllocError → Peer N → Type 0
 StopsMedia p mid result q = ChangesLine stopped_row Inactive p mid result q
 
--- What is staged is offered.
+-- whether channels that are staged need a line: neither a row nor a staged line is one of data channels
+abbrev pub needs_app : {N : Type 0} → Peer N → Bool
+needs_app p = lacks_app p.lines p.staged
+
+module _ {N : Type 0} (draws : Draws N) where
+  -- the line of the data channels that a channel is staged with, where one is needed
+  abbrev pub app_changes : Peer N → Bool → List Change
+  app_changes p needed = lacking_app draws p.lines p.staged p.ids needed
+
+  -- A channel is staged, with the line of the data channels where one is needed.
+  abbrev pub AddsChannel : Peer N → ChannelConfig → Result ℕ RtcError → Peer N → Type 0
+  AddsChannel p config (Ok id) q =
+      (is_bad_channel p.channels config ≡ false)
+      × (id ≡ p.channels.given)
+      × (q ≡ record p {
+        channels = with_channel p.channels config;
+        staged = p.staged ++ (app_changes p (needs_app p) ++ AddChannel id config ∷ []);
+        ids = after_app draws p.ids (needs_app p);
+      })
+      × (needs_app p ≡ true → is_held p.lines p.staged (staged_mid draws p) ≡ false)
+  AddsChannel p config (Err BadChannel) q = (is_bad_channel p.channels config ≡ true) × (q ≡ p)
+  AddsChannel p config (Err Alloc) q = LacksMemory draws p q
+  AddsChannel p config (Err (RemoteSdp why)) q = ⊥
+  AddsChannel p config (Err (SdpRefused error)) q = ⊥
+  AddsChannel p config (Err ChangesOutOfOrder) q = ⊥
+
+-- whether an open message has room for the label and the protocol of a channel (RFC 8832, section 5.1)
+abbrev pub fits_open : ChannelConfig → Bool
+fits_open config = not (is_overlong config.label || is_overlong config.protocol)
+
+-- the channels that changes add, but those that no open message has room for; a peer stages none of these
+abbrev pub fitting_channels : List Change → List (ℕ × ChannelConfig)
+fitting_channels changes = filter (λ channel. fits_open channel.1) (new_channels changes)
+
+-- the peer once channels alone were applied: they are confirmed, and the counter is raised; nothing happens where nothing is staged
+abbrev pub after_channels_alone : {N : Type 0} → List Change → Peer N → Peer N
+after_channels_alone [] p = p
+after_channels_alone (change ∷ changes) p = record p {
+  staged = [];
+  counter = raised p.counter;
+  channels = all_confirmed (fitting_channels (change ∷ changes)) p.channels;
+}
+
+-- What is staged is applied: it is offered, unless it is channels alone.
 abbrev pub Applies : {N : Type 0} → Peer N → Result (Option (Sdp × PendingOffer)) AllocError → Peer N → Type 0
-Applies p (Ok None) q = (p.staged ≡ []) × (q ≡ p)
+Applies p (Ok None) q = (do_offer p.staged ≡ false) × (q ≡ after_channels_alone p.staged p)
 Applies p (Ok (Some made)) q =
-    (p.staged ≢ [])
+    (do_offer p.staged ≡ true)
     × (made.0 ≡ offer_sdp p)
     × (made.1 ≡ record { id = p.counter; changes = p.staged })
     × (q ≡ record p { staged = []; counter = raised p.counter })
@@ -191,9 +246,10 @@ module _ {N : Type 0} (draws : Draws N) where
   AcceptsOffer p offer (Err (RemoteSdp why)) q = Refuses p None offer (RefusedSdp why) q
   AcceptsOffer p offer (Err (SdpRefused error)) q = Refuses p None offer (RefusedText error) q
   AcceptsOffer p offer (Err ChangesOutOfOrder) q = ⊥
+  AcceptsOffer p offer (Err BadChannel) q = ⊥
   AcceptsOffer p offer (Err Alloc) q = LacksMemory draws (after_refusal None NoMemory p) q
 
-  -- an answer is accepted
+  -- an answer is accepted; the channels that were staged with its offer and are still there are confirmed
   pub record AnswerAccepted (p : Peer N) (token : PendingOffer) (answer : Sdp) (q : Peer N) : Type 0 where
     pub right : p.counter ≡ raised token.id
     pub passes : verdict (held_by p) (Some (asked_by p.lines token)) answer ≡ None
@@ -201,11 +257,13 @@ module _ {N : Type 0} (draws : Draws N) where
       lines = table_after p.lines (parsed_lines answer) false;
       sources = sources_after p false (added_sources token.changes) answer;
       ids = ids_after p false (added_sources token.changes) answer;
+      channels = all_confirmed (fitting_channels token.changes) p.channels;
     }
 
   -- A peer accepts an answer with the token of its offer, or refuses it.
   abbrev pub AcceptsAnswer : Peer N → PendingOffer → Sdp → Result (Unit {0}) RtcError → Peer N → Type 0
   AcceptsAnswer p token answer (Ok done) q = AnswerAccepted p token answer q
+  AcceptsAnswer p token answer (Err BadChannel) q = ⊥
   AcceptsAnswer p token answer (Err ChangesOutOfOrder) q = (p.counter ≢ raised token.id) × (q ≡ p)
   AcceptsAnswer p token answer (Err (RemoteSdp why)) q =
       (p.counter ≡ raised token.id) × Refuses p (Some (asked_by p.lines token)) answer (RefusedSdp why) q

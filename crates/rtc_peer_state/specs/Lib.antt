@@ -1,6 +1,8 @@
 pub mod Draws
 pub mod Config
 pub mod Names
+pub mod StagedIndex
+pub mod Staging
 pub mod Sources
 pub mod MadeSdp
 pub mod Calls

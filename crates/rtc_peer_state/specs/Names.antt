@@ -1,11 +1,12 @@
 -- Names that a peer draws.
-use Rattle.std.specs.Prelude.{◌+◌, ◌%◌, ◌^◌, ◌||◌, zero, suc, ℕ, Bool, List, [], ◌∷◌, ◌++◌, filter, take, if◌then◌else◌, Option, Some, None}
+use Rattle.std.specs.Prelude.{◌+◌, ◌%◌, ◌^◌, ◌||◌, zero, suc, ℕ, Bool, List, [], ◌∷◌, ◌++◌, length, filter, take}
+use Rattle.std.specs.Prelude.{if◌then◌else◌, Option, Some, None}
 use Rattle.std.specs.Fmt.{decimal}
 use Rattle.rtc_fields.specs.Tokens.{is_token_byte}
 use Rattle.rtc_sdp_values.specs.declared.line_row.LineRow.{LineRow}
 use Rattle.rtc_change.specs.declared.change.Change.{Change}
 use Rattle.rtc_change.specs.Table.{has_mid}
-use Rattle.rtc_change.specs.PendingOffer.{adds_mid}
+use Rattle.rtc_change.specs.PendingOffer.{added_mids, adds_mid}
 use Rattle.rtc_peer_state.specs.Draws.{Draws}
 
 -- the mid of a number: m and its decimal
@@ -20,6 +21,11 @@ is_held rows staged mid = has_mid mid rows || adds_mid mid staged
 unfoldable pub free_mid : (List ℕ → Bool) → ℕ → ℕ → List ℕ
 free_mid held zero n = drawn_mid n
 free_mid held (suc tries) n = if held (drawn_mid n) then free_mid held tries ((n + 1) % 2 ^ 32) else drawn_mid n
+
+-- the mid of a draw that no row and no staged line has
+abbrev pub next_mid : {N : Type 0} → Draws N → List LineRow → List Change → N → List ℕ
+next_mid draws rows staged ids =
+    free_mid (is_held rows staged) (length rows + length (added_mids staged)) (draws.drawn ids % 2 ^ 32)
 
 -- what is kept of a name that is given: its token bytes, at most 64
 abbrev pub kept_bytes : List ℕ → List ℕ

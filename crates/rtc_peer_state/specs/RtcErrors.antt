@@ -3,8 +3,10 @@ use Rattle.rtc_sdp_values.specs.declared.sdp_error.SdpError.{SdpError}
 use Rattle.rtc_sdp_values.specs.declared.sdp_error.SdpError.TheVariants.{Alloc as SdpAlloc, Parse, Inconsistent}
 use Rattle.rtc_change.specs.declared.refusal.Refusal.{Refusal}
 use Rattle.rtc_change.specs.declared.refusal.Refusal.TheVariants.{RemoteSdp as RefusedSdp, Sdp as RefusedText, Alloc as NoMemory}
+use Rattle.rtc_channels.specs.declared.channel_error.ChannelError.{ChannelError}
+use Rattle.rtc_channels.specs.declared.channel_error.ChannelError.TheVariants.{BadChannel as RefusedChannel, Alloc as ChannelAlloc}
 use Rattle.rtc_peer_state.specs.declared.rtc_error.RtcError.{RtcError}
-use Rattle.rtc_peer_state.specs.declared.rtc_error.RtcError.TheVariants.{RemoteSdp, Sdp, Alloc}
+use Rattle.rtc_peer_state.specs.declared.rtc_error.RtcError.TheVariants.{RemoteSdp, Sdp, BadChannel, Alloc}
 
 -- want of memory below is want of memory
 abbrev pub error_of_sdp : SdpError → RtcError
@@ -16,3 +18,7 @@ abbrev pub error_of_refusal : Refusal → RtcError
 error_of_refusal (RefusedSdp why) = RemoteSdp why
 error_of_refusal (RefusedText error) = error_of_sdp error
 error_of_refusal NoMemory = Alloc
+
+abbrev pub error_of_channel : ChannelError → RtcError
+error_of_channel RefusedChannel = BadChannel
+error_of_channel ChannelAlloc = Alloc

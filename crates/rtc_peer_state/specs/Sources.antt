@@ -35,7 +35,7 @@ use Rattle.rtc_sdp_values.specs.declared.media_kind.MediaKind.TheVariants.{Audio
 use Rattle.rtc_sdp_values.specs.declared.ssrc.Ssrc.{Ssrc}
 use Rattle.rtc_sdp_values.specs.declared.simulcast.Simulcast.{Simulcast}
 use Rattle.rtc_change.specs.declared.change.Change.{Change}
-use Rattle.rtc_change.specs.declared.change.Change.TheVariants.{AddMedia, AddApp, Direction as SetDirection}
+use Rattle.rtc_change.specs.declared.change.Change.TheVariants.{AddMedia, AddApp, AddChannel, Direction as SetDirection}
 use Rattle.rtc_sdp_values.specs.Mids.{is_among}
 use Rattle.rtc_peer_state.specs.declared.line_sources.LineSources.{LineSources}
 use Rattle.rtc_peer_state.specs.Draws.{Draws}
@@ -139,6 +139,7 @@ abbrev pub added_sources : List Change → List LineSources
 added_sources [] = []
 added_sources (AddMedia media ∷ changes) = record { mid = media.mid; ssrcs = media.ssrcs } ∷ added_sources changes
 added_sources (AddApp mid ∷ changes) = added_sources changes
+added_sources (AddChannel id config ∷ changes) = added_sources changes
 added_sources (SetDirection mid dir ∷ changes) = added_sources changes
 
 -- the sources but those of these mids

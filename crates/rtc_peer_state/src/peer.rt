@@ -1,6 +1,7 @@
 //! The state of a peer.
-use crate::{Identity, LineSources};
-use rtc_change::{Change, Lines};
+use crate::{Identity, LineSources, Staged};
+use rtc_change::Lines;
+use rtc_channels::ChannelHandler;
 use rtc_wire::{Bytes, Moment, Seq};
 use std::alloc::Global;
 
@@ -10,7 +11,8 @@ pub struct Peer<N> {
     pub alloc: Global,
     pub lines: Lines,
     /// What is staged and not yet applied.
-    pub staged: Seq<Change>,
+    pub staged: Staged,
+    pub channels: ChannelHandler,
     /// How many offers were made or given, also those refused; it wraps.
     pub counter: u64,
     /// The number of the session, of the `o=` line.

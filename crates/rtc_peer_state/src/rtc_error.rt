@@ -1,10 +1,11 @@
 //! Errors of a peer's calls.
 ghost use Rattle.std.specs.Prelude.{◌≡◌, Some};
 ghost use Rattle.rtc_peer_state.specs.declared.rtc_error.RtcError.TheVariants.{Alloc};
-ghost use Rattle.rtc_peer_state.specs.RtcErrors.{error_of_sdp, error_of_refusal};
+ghost use Rattle.rtc_peer_state.specs.RtcErrors.{error_of_channel, error_of_sdp, error_of_refusal};
 ghost use Rattle.rtc_peer_state.specs.RtcErrorText as text;
 
 use rtc_change::{Refusal, Why};
+use rtc_channels::ChannelError;
 use rtc_sdp_values::SdpError;
 use std::alloc::{AllocError, AllocFailed};
 use std::error::Error;
@@ -19,6 +20,8 @@ pub enum RtcError {
     Sdp(SdpError),
     /// An offer was made or given since the token was made, be it one that was refused.
     ChangesOutOfOrder,
+    /// No channel can be made of the config.
+    BadChannel,
     /// There was too little memory, or a table would have 2^32 - 1 lines or more.
     Alloc,
 }
@@ -32,6 +35,7 @@ impl fmt::Display for RtcError {
             RtcError::RemoteSdp(why) => write!(f, "remote sdp: {why}"),
             RtcError::Sdp(cause) => write!(f, "{cause}"),
             RtcError::ChangesOutOfOrder => f.write_str("Changes made out of order"),
+            RtcError::BadChannel => f.write_str("channel config refused"),
             RtcError::Alloc => f.write_str("out of memory"),
         }
     }
@@ -75,6 +79,17 @@ impl From<Refusal> for RtcError {
             Refusal::RemoteSdp(why) => RtcError::RemoteSdp(why),
             Refusal::Sdp(error) => RtcError::from(error),
             Refusal::Alloc => RtcError::Alloc,
+        }
+    }
+}
+
+impl From<ChannelError> for RtcError {
+    ghost from_gives = { λ lower e. e ≡ error_of_channel lower };
+
+    fn from(error: ChannelError) -> RtcError {
+        match error {
+            ChannelError::BadChannel => RtcError::BadChannel,
+            ChannelError::Alloc => RtcError::Alloc,
         }
     }
 }

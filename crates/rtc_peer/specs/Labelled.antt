@@ -1,0 +1,8 @@
+-- What a channel of a label alone is opened with.
+use Rattle.std.specs.Prelude.{String, string_bytes}
+use Rattle.rtc_wire.specs.ChannelConfig.{fresh}
+use Rattle.rtc_wire.specs.declared.channel_config.ChannelConfig.{ChannelConfig}
+
+-- ordered, reliable, announced by an open message, with this label and no protocol
+abbrev pub labelled : {Z : Type 0} → String Z → ChannelConfig
+labelled label = record fresh { label = string_bytes label }

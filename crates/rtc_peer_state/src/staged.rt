@@ -1,0 +1,170 @@
+//! Changes that are staged.
+ghost use Rattle.std.specs.Prelude.{◌≡◌, ◌≢◌, ◌↔◌, ◌+◌, ◌<◌, ◌-◌, ◌^◌, ◌||◌, [], ◌∷◌, ◌++◌, false, true, length, IfOk, OnOk, OnErr, IsTrue};
+ghost use Rattle.rtc_change.specs.declared.change.Change.TheVariants.{AddMedia as MediaAdded, Direction as DirectionSet};
+ghost use Rattle.rtc_change.specs.PendingOffer.{added_mids, adds_mid, contains_add_app};
+ghost use Rattle.rtc_peer_state.specs.Draws.{Later};
+ghost use Rattle.rtc_peer_state.specs.Names.{is_held, next_mid};
+ghost use Rattle.rtc_peer_state.specs.Staging.{StagesChannel};
+
+use crate::Ids;
+use crate::drawing::{count_lines, draw_mid, lacks_app};
+use rtc_change::{AddMedia, Change, Changes, Lines};
+use rtc_channels::{ChannelError, ChannelHandler};
+use rtc_sdp_values::{Direction, Mid};
+use rtc_wire::{ChannelConfig, ChannelId, Seq};
+use std::alloc::{AllocError, Global};
+use std::collections::BTreeSet;
+use std::marker::Model;
+use std::mem;
+
+/// The changes of a peer that are staged and not yet applied, in the order in which they were asked for.
+///
+/// A contract sees them as a list. The lines that they add are counted, and found by mid without a walk over the list.
+#[derive(Drop)]
+pub struct Staged {
+    changes: Vec<Change>,
+    // The mids of the media lines that they add.
+    mids: BTreeSet<Mid>,
+    // The mid of the line of the data channels that they add.
+    app: Option<Mid>,
+    // How many lines they add.
+    count: usize,
+}
+
+impl Model for Staged {
+    ghost use Rattle.std.specs.Prelude.{List};
+    ghost use Rattle.rtc_change.specs.declared.change.Change.{Change};
+    ghost use Rattle.rtc_peer_state.specs.StagedIndex.{IsIndexed};
+
+    ghost Value = { List Change };
+
+    ghost view = { λ staged. staged.changes.items };
+
+    ghost invariant = { λ staged. IsIndexed staged.changes.items staged.mids staged.app staged.count };
+}
+
+impl Staged {
+    /// Nothing is staged.
+    pub fn new(alloc: Global) -> Staged
+        ensures { result ≡ [] }
+    {
+        Staged {
+            changes: Vec::new(alloc),
+            mids: BTreeSet::new(alloc),
+            app: None,
+            count: 0,
+        }
+    }
+
+    /// The changes, lent.
+    pub fn as_slice(&self) -> &[Change]
+        ensures { result.now ≡ self.now }
+    {
+        self.changes.as_slice()
+    }
+
+    /// Whether nothing is staged.
+    pub fn is_empty(&self) -> bool
+        ensures { IsTrue result ↔ (self.now ≡ []) }
+    {
+        self.changes.is_empty()
+    }
+
+    /// How many lines they add.
+    pub fn count_added(&self) -> usize
+        ensures { result ≡ length (added_mids self.now) }
+    {
+        self.count
+    }
+
+    /// Whether they add the line of the data channels.
+    pub fn contains_add_app(&self) -> bool
+        ensures { result ≡ contains_add_app self.now }
+    {
+        self.app.is_some()
+    }
+
+    /// Lets every change go.
+    pub fn clear(&mut self)
+        ensures { self.new ≡ [] }
+    {
+        self.changes.clear();
+        self.mids.clear();
+        self.app = None;
+        self.count = 0;
+    }
+
+    /// The changes, of which none stays staged.
+    pub fn take(&mut self, alloc: Global) -> Changes
+        ensures changes { result.0 ≡ self.old }
+        ensures none { self.new ≡ [] }
+    {
+        let changes = mem::replace(&mut self.changes, Vec::new(alloc));
+        self.mids.clear();
+        self.app = None;
+        self.count = 0;
+        Changes(Seq::new(changes))
+    }
+
+    /// Draws a mid that no row and no staged line has.
+    #[tactic(auto, using(crate::proofs::LaterLemmas::later_none, crate::proofs::LaterLemmas::later_once))]
+    pub fn draw_mid<N: Ids>(&self, ids: &mut N, lines: &Lines) -> Result<Mid, AllocError>
+        ensures mid { IfOk result (λ mid. mid ≡ next_mid N.ids lines.now self.now ids.old) }
+        ensures free { IfOk result (λ mid. is_held lines.now self.now mid ≡ false) }
+        ensures after { OnOk result (ids.new ≡ N.ids.after ids.old) }
+        ensures err { OnErr result (ids.new ≡ ids.old) }
+        ensures later { Later N.ids ids.old ids.new }
+    {
+        let count = count_lines(lines, self.count)?;
+        Ok(draw_mid(ids, lines, &self.mids, &self.app, count))
+    }
+
+    /// Stages a media line.
+    pub fn push_media(&mut self, media: AddMedia) -> Result<(), AllocError>
+        ensures ok { OnOk result (self.new ≡ self.old ++ MediaAdded media ∷ []) }
+        ensures err { OnErr result (self.new ≡ self.old) }
+    {
+        let Some(count) = self.count.checked_add(1) else {
+            return Err(AllocError);
+        };
+        self.changes.reserve(1)?;
+        self.mids.insert(media.mid)?;
+        self.changes.push_reserved(Change::AddMedia(media));
+        self.count = count;
+        Ok(())
+    }
+
+    /// Stages the direction that a line has by now.
+    pub fn push_direction(&mut self, mid: Mid, dir: Direction) -> Result<(), AllocError>
+        ensures ok { OnOk result (self.new ≡ self.old ++ DirectionSet mid dir ∷ []) }
+        ensures err { OnErr result (self.new ≡ self.old) }
+    {
+        self.changes.push(Change::Direction(mid, dir))?;
+        Ok(())
+    }
+
+    /// Makes a channel and stages it, with the line of the data channels where neither a row nor a staged line is one.
+    pub fn push_channel<N: Ids>(
+        &mut self,
+        ids: &mut N,
+        lines: &Lines,
+        channels: &mut ChannelHandler,
+        config: ChannelConfig,
+    ) -> Result<ChannelId, ChannelError>
+        ensures { StagesChannel N.ids lines.now ids.old self.old channels.old config result ids.new self.new channels.new }
+    {
+        let count = count_lines(lines, self.count)?;
+        self.changes.reserve(2)?;
+        let id = channels.new_channel(&config)?;
+        if !lacks_app(lines, &self.app) {
+            self.changes.push_reserved(Change::AddChannel(id, config));
+            return Ok(id);
+        }
+        let mid = draw_mid(ids, lines, &self.mids, &self.app, count);
+        self.changes.push_reserved(Change::AddApp(mid));
+        self.changes.push_reserved(Change::AddChannel(id, config));
+        self.app = Some(mid);
+        self.count += 1;
+        Ok(id)
+    }
+}
