@@ -10,17 +10,18 @@ use Rattle.rtc_change.specs.PendingOffer.{PendingOffer}
 use Rattle.rtc_change.specs.RowChanges.{directed_row, stopped_row}
 use Rattle.rtc_change.proofs.RowChangeLemmas.{directed_row_keeps, stopped_row_keeps}
 use Rattle.rtc_peer_state.specs.declared.peer.Peer.{Peer}
+use Rattle.rtc_peer_state.specs.declared.rtc_error.RtcError.TheVariants.{BadChannel, Alloc as PeerAlloc}
 use Rattle.rtc_peer_state.specs.Draws.{Draws}
 use Rattle.rtc_peer_state.specs.Formed.{IsFormed}
-use Rattle.rtc_peer_state.proofs.Alls.{all-append, all_behind}
+use Rattle.rtc_peer_state.proofs.Alls.{all-append}
 use Rattle.rtc_delivery.proofs.PlainSdps.{offer_plain, answer_plain, plain_names_tokens}
-use Rattle.rtc_peer_state.proofs.FormedCalls.{lent_formed, adds_formed, changes_formed, applies_formed, offered_formed, answered_formed}
+use Rattle.rtc_peer_state.proofs.FormedCalls.{lent_formed, adds_formed, adds_channel_formed, changes_formed, applies_formed, offered_formed, answered_formed}
 use Rattle.rtc_history.specs.declared.side.Side.{Side}
 use Rattle.rtc_history.specs.declared.side.Side.TheVariants.{Left, Right}
 use Rattle.rtc_history.specs.declared.op.Op.{Op}
-use Rattle.rtc_history.specs.declared.op.Op.TheVariants.{AddMedia, SetDirection, StopMedia}
+use Rattle.rtc_history.specs.declared.op.Op.TheVariants.{AddMedia, SetDirection, StopMedia, AddChannel}
 use Rattle.rtc_history.specs.declared.op_answer.OpAnswer.{OpAnswer}
-use Rattle.rtc_history.specs.declared.op_answer.OpAnswer.TheVariants.{Mid, Changed, NoLine, Alloc as OpAlloc}
+use Rattle.rtc_history.specs.declared.op_answer.OpAnswer.TheVariants.{Mid, Changed, NoLine, Channel, BadChannel as NoChannel, Alloc as OpAlloc}
 use Rattle.rtc_history.specs.declared.made.Made.{Made}
 use Rattle.rtc_history.specs.declared.made.Made.TheVariants.{NotAsked, Nothing, Offer, Alloc as MadeAlloc}
 use Rattle.rtc_history.specs.declared.step.Step.{Step}
@@ -100,11 +101,14 @@ ops_formed draws p q (StopMedia place ∷ ops) (NoLine ∷ answers) h formed = o
 ops_formed draws p q (StopMedia place ∷ ops) (Changed changed ∷ answers) h formed =
     ops_formed draws h.0 q ops answers h.2 (changes_formed stopped_row Inactive p h.1.mid (Ok changed) h.0 stopped_row_keeps h.1.called formed)
 ops_formed draws p q (StopMedia place ∷ ops) (OpAlloc ∷ []) h formed = changes_formed stopped_row Inactive p h.mid (Err alloc_error) q stopped_row_keeps h.called formed
+ops_formed draws p q (AddChannel config ∷ ops) (Channel id ∷ answers) h formed = ops_formed draws h.0 q ops answers h.2 (adds_channel_formed draws p config (Ok id) h.0 h.1 formed)
+ops_formed draws p q (AddChannel config ∷ ops) (NoChannel ∷ answers) h formed = ops_formed draws h.0 q ops answers h.2 (adds_channel_formed draws p config (Err BadChannel) h.0 h.1 formed)
+ops_formed draws p q (AddChannel config ∷ ops) (OpAlloc ∷ []) h formed = adds_channel_formed draws p config (Err PeerAlloc) q h formed
 ops_formed draws p q ops answers h formed = absurd h
 
 makes_formed : {N : Type 0} (asked : Bool) (at : Side) (p q : Peer N) (kept kept' : List Kept) (made : Made) → MakesOf asked at p kept made q kept' → IsFormed p → ArePlain kept → IsFormed q × ArePlain kept'
 makes_formed false at p q kept kept' NotAsked h formed plain = (rw h.0 formed, rw h.1 plain)
-makes_formed true at p q kept kept' Nothing h formed plain = (rw h.0.1 formed, rw h.1 plain)
+makes_formed true at p q kept kept' Nothing h formed plain = (applies_formed p (Ok None) q h.0 formed, rw h.1 plain)
 makes_formed true at p q kept kept' MadeAlloc h formed plain = (rw h.0 formed, rw h.1 plain)
 makes_formed true at p q kept kept' (Offer k) h formed plain = (
   applies_formed p (Ok (Some h.0)) q h.1 formed,

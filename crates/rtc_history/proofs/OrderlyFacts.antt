@@ -1,11 +1,14 @@
 -- Lists of steps that are orderly, and lists that are not, computed.
 use Rattle.std.proofs.Common.{◌≡◌, ℕ, Bool, true, false, List, [], ◌∷◌, ◌++◌, Some, refl}
+use Rattle.std.specs.Prelude.{codes}
+use Rattle.rtc_wire.specs.declared.channel_config.ChannelConfig.{ChannelConfig}
+use Rattle.rtc_wire.specs.ChannelConfig.{fresh}
 use Rattle.rtc_sdp_values.specs.declared.direction.Direction.TheVariants.{SendRecv, SendOnly, RecvOnly, Inactive}
-use Rattle.rtc_sdp_values.specs.declared.line_row.LineRow.TheVariants.{Media}
+use Rattle.rtc_sdp_values.specs.declared.line_row.LineRow.TheVariants.{Media, App}
 use Rattle.rtc_sdp_values.specs.declared.media_kind.MediaKind.TheVariants.{Audio, Video}
 use Rattle.rtc_history.specs.declared.side.Side.{Side}
 use Rattle.rtc_history.specs.declared.side.Side.TheVariants.{Left, Right}
-use Rattle.rtc_history.specs.declared.op.Op.TheVariants.{AddMedia, SetDirection, StopMedia}
+use Rattle.rtc_history.specs.declared.op.Op.TheVariants.{AddMedia, SetDirection, StopMedia, AddChannel}
 use Rattle.rtc_history.specs.declared.step.Step.{Step}
 use Rattle.rtc_history.specs.declared.step.Step.TheVariants.{Negotiate, AcceptOffer, AcceptAnswer}
 use Rattle.rtc_history.specs.Orderly.{Idle, AwaitsAnswer, course_of, are_orderly}
@@ -122,3 +125,51 @@ offer_outstanding : course_of (both_lines ++ Negotiate Left (StopMedia 1 ∷ Add
       phase = AwaitsAnswer Left 2 (Media 0 [] Audio SendRecv false false ∷ Media 1 [] Video Inactive true false ∷ Media 2 [] Audio RecvOnly false false ∷ []);
     })
 offer_outstanding = refl
+
+-- ---- data channels
+
+abbrev labelled : List ℕ → ChannelConfig
+labelled label = record fresh { label = label }
+
+abbrev channels : Side → Bool → Step
+channels at apply = Negotiate at (AddChannel (labelled (codes "chat")) ∷ []) apply
+
+abbrev channel_round : List Step
+channel_round = channels Left true ∷ AcceptOffer Right 0 ∷ AcceptAnswer Left 0 1 ∷ []
+
+-- the first channel brings its line
+channel_offered : course_of channel_round ≡ Some (record { left = App 0 [] ∷ []; right = App 0 [] ∷ []; sdps = 2; phase = Idle })
+channel_offered = refl
+
+-- a line that is staged behind one of media, and brought once
+lines_offered :
+    course_of (Negotiate Left (AddMedia Audio SendRecv ∷ AddChannel (labelled []) ∷ AddChannel (labelled []) ∷ AddMedia Video SendRecv ∷ []) true ∷ [])
+    ≡ Some (record {
+      left = [];
+      right = [];
+      sdps = 1;
+      phase = AwaitsAnswer Left 0 (Media 0 [] Audio SendRecv false false ∷ App 1 [] ∷ Media 2 [] Video SendRecv false false ∷ []);
+    })
+lines_offered = refl
+
+-- a channel alone makes no offer once there is a line: the next offer has the number that this one would have had
+channel_alone : are_orderly (channel_round ++ channels Left true ∷ right_offers ∷ AcceptOffer Left 2 ∷ []) ≡ true
+channel_alone = refl
+
+-- the side whose offer is outstanding applies no channel, but may stage one
+superseded : are_orderly (channel_round ++ left_offers ∷ channels Left true ∷ []) ≡ false
+superseded = refl
+
+staged_alone : are_orderly (channel_round ++ left_offers ∷ channels Left false ∷ AcceptOffer Right 2 ∷ AcceptAnswer Left 2 3 ∷ []) ≡ true
+staged_alone = refl
+
+-- the other side may, once it has accepted the line
+answerer_applies : are_orderly (channels Left true ∷ AcceptOffer Right 0 ∷ channels Right true ∷ AcceptAnswer Left 0 1 ∷ []) ≡ true
+answerer_applies = refl
+
+answerer_offers : are_orderly (channels Left true ∷ channels Right true ∷ []) ≡ false
+answerer_offers = refl
+
+-- a channel whose stream is settled by other means may be refused, applied or not
+settled_elsewhere : are_orderly (Negotiate Left (AddChannel (record fresh { negotiated = Some 4 }) ∷ []) false ∷ []) ≡ false
+settled_elsewhere = refl

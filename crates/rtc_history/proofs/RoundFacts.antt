@@ -17,7 +17,7 @@ abbrev offered : List MadeSdp → Entry
 offered made = record {
   step = Negotiate Left (AddMedia Audio SendRecv ∷ []) true;
   outcome = Negotiated (Mid (codes "m3") ∷ []) (Offer 0);
-  table = Some (record { lines = [] });
+  table = Some (record { lines = []; channels = [] });
   made = made;
 }
 
@@ -25,7 +25,7 @@ abbrev answered : List MadeSdp → Entry
 answered made = record {
   step = AcceptOffer Right 0;
   outcome = Answered 1;
-  table = Some (record { lines = Media 0 (codes "m3") Audio SendRecv false true ∷ [] });
+  table = Some (record { lines = Media 0 (codes "m3") Audio SendRecv false true ∷ []; channels = [] });
   made = made;
 }
 

@@ -1,6 +1,7 @@
 pub mod Sides
 pub mod Memory
 pub mod Sizes
+pub mod Answers
 pub mod Past
 pub mod Sound
 pub mod Finished

@@ -2,9 +2,10 @@
 use Rattle.std.specs.Prelude.{Bool, true, false, ◌||◌, List}
 use Rattle.std.specs.List.{list_any}
 use Rattle.rtc_peer_state.specs.declared.rtc_error.RtcError.{RtcError}
-use Rattle.rtc_peer_state.specs.declared.rtc_error.RtcError.TheVariants.{RemoteSdp, Sdp, ChangesOutOfOrder, Alloc as PeerAlloc}
+use Rattle.rtc_peer_state.specs.declared.rtc_error.RtcError.TheVariants.{RemoteSdp, Sdp, ChangesOutOfOrder, BadChannel, Alloc as PeerAlloc}
 use Rattle.rtc_history.specs.declared.op_answer.OpAnswer.{OpAnswer}
-use Rattle.rtc_history.specs.declared.op_answer.OpAnswer.TheVariants.{Mid, Changed, NoLine, Alloc as OpAlloc}
+use Rattle.rtc_history.specs.declared.op_answer.OpAnswer.TheVariants.{Mid, Changed, NoLine, Channel}
+use Rattle.rtc_history.specs.declared.op_answer.OpAnswer.TheVariants.{BadChannel as NoChannel, Alloc as OpAlloc}
 use Rattle.rtc_history.specs.declared.made.Made.{Made}
 use Rattle.rtc_history.specs.declared.made.Made.TheVariants.{NotAsked, Nothing, Offer, Alloc as MadeAlloc}
 use Rattle.rtc_history.specs.declared.outcome.Outcome.{Outcome}
@@ -15,6 +16,8 @@ abbrev pub answer_lacks : OpAnswer → Bool
 answer_lacks (Mid mid) = false
 answer_lacks (Changed changed) = false
 answer_lacks NoLine = false
+answer_lacks (Channel id) = false
+answer_lacks NoChannel = false
 answer_lacks OpAlloc = true
 
 abbrev pub answers_lack : List OpAnswer → Bool
@@ -30,6 +33,7 @@ abbrev pub error_lacks : RtcError → Bool
 error_lacks (RemoteSdp why) = false
 error_lacks (Sdp error) = false
 error_lacks ChangesOutOfOrder = false
+error_lacks BadChannel = false
 error_lacks PeerAlloc = true
 
 abbrev pub outcome_lacks : Outcome → Bool

@@ -1,9 +1,11 @@
 -- Lists of steps that negotiate round by round (RFC 3264, section 4): an offer, its acceptance by the other side, and the acceptance of
 -- that answer.
-use Rattle.std.specs.Prelude.{◌≡◌, ◌+◌, ◌==◌, ℕ, Bool, true, false, not, ◌&&◌, ◌||◌, List, [], ◌∷◌, ◌++◌, length}
-use Rattle.std.specs.Prelude.{if◌then◌else◌, Option, Some, None, is_some}
+use Rattle.std.specs.Prelude.{◌≡◌, ◌+◌, ◌==◌, ℕ, Bool, true, false, not, ◌&&◌, ◌||◌, List, [], ◌∷◌, ◌++◌}
+use Rattle.std.specs.Prelude.{if◌then◌else◌, Option, Some, None, is_some, option_map}
 use Rattle.std.specs.List.{list_any}
 use Rattle.rtc_sdp_values.specs.declared.line_row.LineRow.{LineRow}
+use Rattle.rtc_sdp_values.specs.LineRow.{row_mid}
+use Rattle.rtc_change.specs.Table.{app_of}
 use Rattle.rtc_history.specs.declared.side.Side.{Side}
 use Rattle.rtc_history.specs.declared.side.Side.TheVariants.{Left, Right}
 use Rattle.rtc_history.specs.declared.op.Op.{Op}
@@ -13,9 +15,18 @@ use Rattle.rtc_history.specs.declared.outcome.Outcome.{Outcome}
 use Rattle.rtc_history.specs.declared.outcome.Outcome.TheVariants.{Negotiated, Answered, Finished, Refused, NoSuch, Alloc}
 use Rattle.rtc_history.specs.Sides.{same_side}
 use Rattle.rtc_history.specs.Memory.{outcome_lacks}
+use Rattle.rtc_history.specs.Answers.{is_bad}
 use Rattle.rtc_history.specs.Past.{Entry, steps_of, before}
 use Rattle.rtc_history.specs.Finished.{Equal}
-use Rattle.rtc_history.specs.CourseRows.{rows_after_ops, must_offer, rows_added, do_stop_first, course_rows_after}
+use Rattle.rtc_history.specs.CourseRows.{
+  rows_after_ops,
+  must_offer,
+  rows_added,
+  do_stop_first,
+  do_add_odd_channel,
+  do_add_channel,
+  course_rows_after,
+}
 
 -- What is outstanding: nothing; or the answer to the offer of this number, which describes these rows; or the acceptance of the answer
 -- to an offer, both by number, which describes these rows.
@@ -46,12 +57,28 @@ after_offering at course rows more Idle = Some (moved_on at course rows (course.
 after_offering at course rows more (AwaitsAnswer side n said) = None
 after_offering at course rows more (AwaitsEnd side n m said) = None
 
--- the course after ops; stopping the first line is not in order
+-- whether a side made the offer whose round is open
+abbrev pub is_offerer : Side → Phase → Bool
+is_offerer at Idle = false
+is_offerer at (AwaitsAnswer side n said) = same_side side at
+is_offerer at (AwaitsEnd side n m said) = same_side side at
+
+-- whether ops apply channels at the side whose offer is outstanding, which would supersede its token
+abbrev pub do_supersede : Bool → Side → List Op → Phase → Bool
+do_supersede apply at ops phase = is_offerer at phase && (apply && do_add_channel ops)
+
+-- the course after ops that are in order where they offer nothing while a round is open
+abbrev pub after_fitting : Bool → Side → List Op → Course → List LineRow → Option Course
+after_fitting apply at ops course rows =
+    if apply && must_offer ops (course_rows at course) then after_offering at course rows (rows_added rows ops) course.phase
+    else Some (moved_on at course rows course.sdps course.phase)
+
+-- The course after ops. It is not in order to stop the first line, to add a channel that a peer refuses, or to apply a channel where
+-- one's own offer is outstanding.
 abbrev pub after_ops : Bool → Side → List Op → Course → List LineRow → Option Course
 after_ops apply at ops course rows =
-    if do_stop_first ops then None
-    else (if apply && must_offer ops (course_rows at course) then after_offering at course rows (rows_added (length rows) ops) course.phase
-    else Some (moved_on at course rows course.sdps course.phase))
+    if do_stop_first ops || (do_add_odd_channel ops || do_supersede apply at ops course.phase) then None
+    else after_fitting apply at ops course rows
 
 -- the course after the other side accepts the outstanding offer
 abbrev pub after_offer : Side → ℕ → Course → Phase → Option Course
@@ -94,9 +121,9 @@ are_orderly steps = is_some (course_of steps)
 abbrev pub has_lacked : List Entry → Bool
 has_lacked past = list_any (λ entry. outcome_lacks entry.outcome) past
 
--- whether a step succeeded
+-- whether a step succeeded: it was not refused, and neither was a channel of it
 abbrev pub is_ok : Outcome → Bool
-is_ok (Negotiated answers made) = true
+is_ok (Negotiated answers made) = not (list_any is_bad answers)
 is_ok (Answered k) = true
 is_ok Finished = true
 is_ok (Refused error) = false
@@ -114,8 +141,17 @@ IsIdle Idle = Unit {0}
 IsIdle (AwaitsAnswer side n said) = ⊥
 IsIdle (AwaitsEnd side n m said) = ⊥
 
--- After orderly steps that leave no round open, both sides have the same lines, unless memory ran out.
+-- the mid of the line of data channels, if there is one
+abbrev pub mid_of_app : List LineRow → Option (List ℕ)
+mid_of_app rows = option_map row_mid (app_of rows)
+
+-- two sides with the same lines, also by the mid of the line of data channels
+pub record AreInStep (rows others : List LineRow) : Type 0 where
+  pub equal : Equal rows others
+  pub app : mid_of_app others ≡ mid_of_app rows
+
+-- After orderly steps that leave no round open, both sides are in step, unless memory ran out.
 abbrev pub InStepWhereOrderly : List Entry → Type 0
 InStepWhereOrderly past =
     (course : Course) → course_of (steps_of past) ≡ Some course → IsIdle course.phase → has_lacked past ≡ false
-    → Equal (before Left past) (before Right past)
+    → AreInStep (before Left past) (before Right past)

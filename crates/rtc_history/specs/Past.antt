@@ -1,17 +1,17 @@
--- What a list of past steps and replies tells: rows, session descriptions (SDPs) and tokens.
-use Rattle.std.specs.Prelude.{◌+◌, ℕ, ◌==◌, Bool, true, false, not, ◌&&◌, ◌||◌, List, [], ◌∷◌, ◌++◌, if◌then◌else◌}
+-- What a list of past steps and replies tells: rows, channels, session descriptions (SDPs) and tokens.
+use Rattle.std.specs.Prelude.{ℕ, ◌==◌, Bool, true, false, not, ◌&&◌, ◌||◌, List, [], ◌∷◌, ◌++◌, if◌then◌else◌}
 use Rattle.std.specs.Prelude.{Option, Some, None, slice_get}
-use Rattle.std.specs.List.{list_any}
+use Rattle.rtc_sdp_values.specs.Sdp.{is_application}
 use Rattle.rtc_sdp_values.specs.declared.line_row.LineRow.{LineRow}
-use Rattle.rtc_sdp_values.specs.declared.line_row.LineRow.TheVariants.{Media}
 use Rattle.rtc_sdp_values.specs.declared.sdp.Sdp.{Sdp}
+use Rattle.rtc_change.specs.declared.parsed_line.ParsedLine.{ParsedLine}
+use Rattle.rtc_change.specs.ParsedLines.{parsed_lines}
+use Rattle.rtc_channels.specs.Channels.{Channels, no_channels}
+use Rattle.rtc_channels.specs.declared.channel_row.ChannelRow.{ChannelRow}
 use Rattle.rtc_history.specs.declared.side.Side.{Side}
-use Rattle.rtc_history.specs.declared.op.Op.{Op}
-use Rattle.rtc_history.specs.declared.op.Op.TheVariants.{AddMedia}
 use Rattle.rtc_history.specs.declared.step.Step.{Step}
 use Rattle.rtc_history.specs.declared.step.Step.TheVariants.{Negotiate, AcceptOffer, AcceptAnswer}
 use Rattle.rtc_history.specs.declared.op_answer.OpAnswer.{OpAnswer}
-use Rattle.rtc_history.specs.declared.op_answer.OpAnswer.TheVariants.{Mid, Changed, NoLine, Alloc as OpAlloc}
 use Rattle.rtc_history.specs.declared.made.Made.{Made}
 use Rattle.rtc_history.specs.declared.made.Made.TheVariants.{NotAsked, Nothing, Offer, Alloc as MadeAlloc}
 use Rattle.rtc_history.specs.declared.outcome.Outcome.{Outcome}
@@ -19,6 +19,7 @@ use Rattle.rtc_history.specs.declared.outcome.Outcome.TheVariants.{Negotiated, A
 use Rattle.rtc_history.specs.declared.table.Table.{Table}
 use Rattle.rtc_history.specs.declared.reply.Reply.{Reply}
 use Rattle.rtc_history.specs.Sides.{same_side, side_of}
+use Rattle.rtc_history.specs.Answers.{do_stage, has_app_row, added, channels_answered}
 
 -- an SDP, with the side that made it and whether it is an offer
 pub record MadeSdp : Type 0 where
@@ -95,16 +96,6 @@ is_offer_of at (Some said) = said.offer && same_side said.at at
 abbrev pub holds_token : Side → ℕ → List Entry → Bool
 holds_token at t past = is_offer_of at (slice_get (sdps past) t) && not (is_spent t past)
 
--- whether an op staged something
-abbrev pub stages : OpAnswer → Bool
-stages (Mid mid) = true
-stages (Changed changed) = changed
-stages NoLine = false
-stages OpAlloc = false
-
-abbrev pub do_stage : List OpAnswer → Bool
-do_stage answers = list_any stages answers
-
 -- whether staged changes were applied
 abbrev pub is_applied : List OpAnswer → Made → Bool
 is_applied answers NotAsked = false
@@ -146,19 +137,47 @@ abbrev pub is_right : Side → ℕ → List Entry → Bool
 is_right at t [] = false
 is_right at t (entry ∷ past) = makes t entry.outcome || (not (moves at entry.step entry.outcome) && is_right at t past)
 
--- the rows that ops add, at places from this one on: one for each op that is answered by a mid
-abbrev pub added : ℕ → List Op → List OpAnswer → List LineRow
-added place [] answers = []
-added place (op ∷ ops) [] = []
-added place (AddMedia kind dir ∷ ops) (Mid mid ∷ answers) = Media place mid kind dir false false ∷ added (place + 1) ops answers
-added place (op ∷ ops) (answer ∷ answers) = added place ops answers
+-- the mid of the first application line; empty where there is none
+abbrev pub app_line_mid : List ParsedLine → List ℕ
+app_line_mid [] = []
+app_line_mid (line ∷ lines) = if is_application line.kind then line.mid else app_line_mid lines
 
--- the rows that a step adds
-abbrev pub added_in : ℕ → Step → Outcome → List LineRow
-added_in place (Negotiate at ops apply) (Negotiated answers made) = added place ops answers
-added_in place step outcome = []
+abbrev pub app_mid_said : List MadeSdp → Option (List ℕ)
+app_mid_said [] = None
+app_mid_said (said ∷ more) = Some (app_line_mid (parsed_lines said.sdp))
+
+-- the mid that the line of data channels gets where a step adds one: its side has none, and the SDP that the step made tells it
+abbrev pub new_app : List LineRow → List MadeSdp → Option (List ℕ)
+new_app rows made = if has_app_row rows then None else app_mid_said made
+
+-- the rows that a step adds, at places from this one on
+abbrev pub added_in : ℕ → Step → Outcome → Option Table → List MadeSdp → List LineRow
+added_in place (Negotiate at ops apply) (Negotiated answers what) (Some table) made = added (new_app table.lines made) place ops answers
+added_in place step outcome table made = []
 
 -- the rows that the offer of a number added, at places from this one on
 abbrev pub added_by : ℕ → ℕ → List Entry → List LineRow
 added_by place t [] = []
-added_by place t (entry ∷ past) = if makes t entry.outcome then added_in place entry.step entry.outcome else added_by place t past
+added_by place t (entry ∷ past) =
+    if makes t entry.outcome then added_in place entry.step entry.outcome entry.table entry.made else added_by place t past
+
+abbrev pub channel_rows_or : Bool → Option Table → List ChannelRow → List ChannelRow
+channel_rows_or true (Some table) earlier = table.channels
+channel_rows_or true None earlier = earlier
+channel_rows_or false table earlier = earlier
+
+-- the rows of the channels of a side, as its last reply with a table shows them
+abbrev pub channels_shown : Side → List Entry → List ChannelRow
+channels_shown at [] = []
+channels_shown at (entry ∷ past) = channel_rows_or (same_side (side_of entry.step) at) entry.table (channels_shown at past)
+
+-- the channels of a side after a step
+abbrev pub channels_after : Bool → Step → Outcome → Channels → Channels
+channels_after true (Negotiate at ops apply) (Negotiated answers made) held = channels_answered ops answers held
+channels_after true step outcome held = held
+channels_after false step outcome held = held
+
+-- The channels that a side was given, applied or not: none of them goes.
+abbrev pub channels_given : Side → List Entry → Channels
+channels_given at [] = no_channels
+channels_given at (entry ∷ past) = channels_after (same_side (side_of entry.step) at) entry.step entry.outcome (channels_given at past)

@@ -8,14 +8,17 @@ use Rattle.rtc_change.specs.PendingOffer.{PendingOffer}
 use Rattle.rtc_change.specs.RowChanges.{media_mid}
 use Rattle.rtc_peer_state.specs.declared.peer.Peer.{Peer}
 use Rattle.rtc_peer_state.specs.Draws.{Draws}
-use Rattle.rtc_peer_state.specs.Calls.{AcceptsOffer, AcceptsAnswer, AddsMedia, SetsDirection, StopsMedia, Applies, Wanted}
+use Rattle.rtc_peer_state.specs.declared.rtc_error.RtcError.TheVariants.{BadChannel, Alloc as PeerAlloc}
+use Rattle.rtc_peer_state.specs.Calls.{AcceptsOffer, AcceptsAnswer, AddsMedia, SetsDirection, StopsMedia, AddsChannel, Applies, Wanted}
+use Rattle.rtc_channels.specs.Channels.{channel_rows}
 use Rattle.rtc_history.specs.declared.side.Side.{Side}
 use Rattle.rtc_history.specs.declared.op.Op.{Op}
-use Rattle.rtc_history.specs.declared.op.Op.TheVariants.{AddMedia, SetDirection, StopMedia}
+use Rattle.rtc_history.specs.declared.op.Op.TheVariants.{AddMedia, SetDirection, StopMedia, AddChannel}
 use Rattle.rtc_history.specs.declared.step.Step.{Step}
 use Rattle.rtc_history.specs.declared.step.Step.TheVariants.{Negotiate, AcceptOffer, AcceptAnswer}
 use Rattle.rtc_history.specs.declared.op_answer.OpAnswer.{OpAnswer}
-use Rattle.rtc_history.specs.declared.op_answer.OpAnswer.TheVariants.{Mid, Changed, NoLine, Alloc as OpAlloc}
+use Rattle.rtc_history.specs.declared.op_answer.OpAnswer.TheVariants.{Mid, Changed, NoLine, Channel}
+use Rattle.rtc_history.specs.declared.op_answer.OpAnswer.TheVariants.{BadChannel as NoChannel, Alloc as OpAlloc}
 use Rattle.rtc_history.specs.declared.made.Made.{Made}
 use Rattle.rtc_history.specs.declared.made.Made.TheVariants.{NotAsked, Nothing, Offer, Alloc as MadeAlloc}
 use Rattle.rtc_history.specs.declared.outcome.Outcome.{Outcome}
@@ -47,6 +50,11 @@ pub record Stays {N : Type 0} (old : Peer N) (sdps : List Kept) (new : Peer N) (
   pub peer : new ≡ old
   pub sdps_kept : sdps' ≡ sdps
 
+-- a table shows the lines and the channels of a peer
+pub record Shows {N : Type 0} (table : Table) (peer : Peer N) : Type 0 where
+  pub lines : table.lines ≡ peer.lines
+  pub channels : table.channels ≡ channel_rows peer.channels
+
 -- a call on the line at a place, which it names by its mid
 pub record CallsLine {N : Type 0} (p : Peer N) (place : ℕ) (call : List ℕ → Type 0) : Type 0 where
   pub mid : List ℕ
@@ -69,6 +77,11 @@ PerformsOps draws p (StopMedia place ∷ ops) (NoLine ∷ answers) q =
 PerformsOps {N} draws p (StopMedia place ∷ ops) (Changed changed ∷ answers) q =
     (r : Peer N) × CallsLine p place (λ mid. StopsMedia p mid (Ok changed) r) × PerformsOps draws r ops answers q
 PerformsOps draws p (StopMedia place ∷ ops) (OpAlloc ∷ []) q = CallsLine p place (λ mid. StopsMedia p mid (Err alloc_error) q)
+PerformsOps {N} draws p (AddChannel config ∷ ops) (Channel id ∷ answers) q =
+    (r : Peer N) × AddsChannel draws p config (Ok id) r × PerformsOps draws r ops answers q
+PerformsOps {N} draws p (AddChannel config ∷ ops) (NoChannel ∷ answers) q =
+    (r : Peer N) × AddsChannel draws p config (Err BadChannel) r × PerformsOps draws r ops answers q
+PerformsOps draws p (AddChannel config ∷ ops) (OpAlloc ∷ []) q = AddsChannel draws p config (Err PeerAlloc) q
 PerformsOps draws p ops answers q = ⊥
 
 -- Staged changes are applied where the step asks for it: at a peer, with the SDPs before and after.
@@ -88,40 +101,40 @@ Negotiates {N} draws at ops apply old sdps (Negotiated answers made) (Some table
     (p : Peer N)
     × PerformsOps draws (lent old) ops answers p
     × MakesOf (apply && not (answers_lack answers)) at p sdps made new sdps'
-    × (table.lines ≡ new.lines)
+    × Shows table new
 Negotiates draws at ops apply old sdps outcome table new sdps' = ⊥
 
 -- A peer accepts or refuses an offer that the other side made.
 abbrev pub StepAcceptsOffer : {N : Type 0} → Draws N → Side → Option Sdp → Peer N → List Kept → Outcome → Option Table → Peer N
     → List Kept → Type 0
 StepAcceptsOffer draws at offer old sdps Alloc None new sdps' = Stays old sdps new sdps'
-StepAcceptsOffer draws at None old sdps NoSuch (Some table) new sdps' = Stays old sdps new sdps' × (table.lines ≡ old.lines)
+StepAcceptsOffer draws at None old sdps NoSuch (Some table) new sdps' = Stays old sdps new sdps' × Shows table old
 StepAcceptsOffer draws at (Some sdp) old sdps (Answered k) (Some table) new sdps' =
     (answer : Sdp)
     × AcceptsOffer draws (lent old) sdp (Ok answer) new
     × (sdps' ≡ sdps ++ kept_answer at answer ∷ [])
     × (k ≡ length sdps)
-    × (table.lines ≡ new.lines)
+    × Shows table new
 StepAcceptsOffer draws at (Some sdp) old sdps (Refused error) (Some table) new sdps' =
     AcceptsOffer draws (lent old) sdp (Err error) new
     × (sdps' ≡ sdps)
-    × (table.lines ≡ new.lines)
+    × Shows table new
 StepAcceptsOffer draws at offer old sdps outcome table new sdps' = ⊥
 
 -- A peer accepts or refuses an answer that the other side made; the token of its own offer is spent.
 abbrev pub StepAcceptsAnswer : {N : Type 0} → Draws N → ℕ → Option PendingOffer → Option Sdp → Peer N → List Kept → Outcome
     → Option Table → Peer N → List Kept → Type 0
 StepAcceptsAnswer draws t token answer old sdps Alloc None new sdps' = Stays old sdps new sdps'
-StepAcceptsAnswer draws t None answer old sdps NoSuch (Some table) new sdps' = Stays old sdps new sdps' × (table.lines ≡ old.lines)
-StepAcceptsAnswer draws t (Some token) None old sdps NoSuch (Some table) new sdps' = Stays old sdps new sdps' × (table.lines ≡ old.lines)
+StepAcceptsAnswer draws t None answer old sdps NoSuch (Some table) new sdps' = Stays old sdps new sdps' × Shows table old
+StepAcceptsAnswer draws t (Some token) None old sdps NoSuch (Some table) new sdps' = Stays old sdps new sdps' × Shows table old
 StepAcceptsAnswer draws t (Some token) (Some sdp) old sdps Finished (Some table) new sdps' =
     AcceptsAnswer draws (lent old) token sdp (Ok tt) new
     × (sdps' ≡ spent t sdps)
-    × (table.lines ≡ new.lines)
+    × Shows table new
 StepAcceptsAnswer draws t (Some token) (Some sdp) old sdps (Refused error) (Some table) new sdps' =
     AcceptsAnswer draws (lent old) token sdp (Err error) new
     × (sdps' ≡ spent t sdps)
-    × (table.lines ≡ new.lines)
+    × Shows table new
 StepAcceptsAnswer draws t token answer old sdps outcome table new sdps' = ⊥
 
 -- what the acting peer does

@@ -1,10 +1,11 @@
 -- Runs of a pair: from the pair at its start, step by step, each of them sound.
 use Rattle.std.specs.Prelude.{◌≡◌, List, [], ◌∷◌, map}
+use Rattle.rtc_channels.specs.Channels.{channel_rows}
 use Rattle.rtc_peer_state.specs.Draws.{Draws}
 use Rattle.rtc_history.specs.declared.side.Side.{Side}
 use Rattle.rtc_history.specs.declared.step.Step.{Step}
 use Rattle.rtc_history.specs.declared.reply.Reply.{Reply}
-use Rattle.rtc_history.specs.Past.{Entry, before, sdps, steps_of, replies_of}
+use Rattle.rtc_history.specs.Past.{Entry, before, channels_shown, sdps, steps_of, replies_of}
 use Rattle.rtc_history.specs.SoundEntry.{IsSoundEntry}
 use Rattle.rtc_history.specs.PairState.{PairState, peer_at, made_sdp}
 use Rattle.rtc_history.specs.Performs.{Enters}
@@ -33,5 +34,6 @@ pub record Runs {N : Type 0} (draws : Draws N) (start : PairState N) (steps : Li
   pub sound : Sound past
   -- the pair keeps the SDPs that the past says were made
   pub kept : map made_sdp pair.sdps ≡ sdps past
-  -- the peers hold the rows that the last replies show
+  -- the peers hold the rows and the channels that the last replies show
   pub rows : (at : Side) → (peer_at at pair).lines ≡ before at past
+  pub channels : (at : Side) → channel_rows (peer_at at pair).channels ≡ channels_shown at past

@@ -17,7 +17,8 @@ use Rattle.rtc_history.specs.declared.made.Made.TheVariants.{Offer}
 use Rattle.rtc_history.specs.declared.outcome.Outcome.{Outcome}
 use Rattle.rtc_history.specs.declared.outcome.Outcome.TheVariants.{Negotiated, Answered}
 use Rattle.rtc_history.specs.declared.table.Table.{Table}
-use Rattle.rtc_history.specs.Past.{MadeSdp, added}
+use Rattle.rtc_history.specs.Answers.{added}
+use Rattle.rtc_history.specs.Past.{MadeSdp, new_app}
 
 -- the line that says a row: a stopped one is rejected (RFC 8843, section 7)
 abbrev pub row_said : LineRow → ParsedLine
@@ -38,6 +39,6 @@ pub record SaysRows (at : Side) (offer : Bool) (rows : List LineRow) (made : Lis
 -- An offer says the rows of its side, then those that it adds; an answer says those that it leaves; no other SDP is made.
 abbrev pub MakesSdp : Step → Outcome → Option Table → List MadeSdp → Type 0
 MakesSdp (Negotiate at ops apply) (Negotiated answers (Offer k)) (Some table) made =
-    SaysRows at true (table.lines ++ added (length table.lines) ops answers) made
+    SaysRows at true (table.lines ++ added (new_app table.lines made) (length table.lines) ops answers) made
 MakesSdp (AcceptOffer at offer) (Answered k) (Some table) made = SaysRows at false table.lines made
 MakesSdp step outcome table made = made ≡ []

@@ -1,4 +1,4 @@
--- The size of steps: how many rows and session descriptions they can add.
+-- The size of steps: how many rows, channels and session descriptions they can add.
 use Rattle.std.specs.Prelude.{◌+◌, ℕ, List, [], ◌∷◌, length}
 use Rattle.rtc_history.specs.declared.step.Step.{Step}
 use Rattle.rtc_history.specs.declared.step.Step.TheVariants.{Negotiate, AcceptOffer, AcceptAnswer}

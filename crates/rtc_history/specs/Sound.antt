@@ -1,31 +1,47 @@
 -- Which replies a step may have, given the steps and replies before it.
-use Rattle.std.specs.Prelude.{◌≡◌, ℕ, Bool, true, false, not, ◌&&◌, List, [], ◌∷◌, map, length, Option, Some, None, is_some, slice_get}
+use Rattle.std.specs.Prelude.{◌≡◌, ℕ, Bool, true, false, not, ◌&&◌, List, [], ◌∷◌, ◌++◌, map, length}
+use Rattle.std.specs.Prelude.{Option, Some, None, is_some, slice_get}
+use Rattle.rtc_wire.specs.declared.channel_config.ChannelConfig.{ChannelConfig}
+use Rattle.rtc_channels.specs.Channels.{Channels, is_bad_channel, AreBelow}
 use Rattle.rtc_sdp_values.specs.LineRow.{row_mid}
 use Rattle.rtc_sdp_values.specs.declared.line_row.LineRow.{LineRow}
 use Rattle.rtc_sdp_values.specs.declared.sdp.Sdp.{Sdp}
 use Rattle.rtc_sdp_values.specs.Mids.{is_among}
-use Rattle.rtc_change.specs.Held.{Held, Asked}
+use Rattle.rtc_change.specs.Held.{Held, Asked, held_of}
 use Rattle.rtc_change.specs.RowChanges.{RowChange, directed_row, stopped_row, is_changed, changed_at, media_mid}
 use Rattle.rtc_change.specs.ParsedLines.{parsed_lines}
-use Rattle.rtc_change.specs.TableAfter.{table_after}
+use Rattle.rtc_change.specs.TableAfter.{table_after, with_front}
 use Rattle.rtc_change.specs.Plans.{verdict}
 use Rattle.rtc_change.specs.declared.refusal.Refusal.TheVariants.{RemoteSdp as RefusedSdp, Sdp as RefusedAsSdp}
 use Rattle.rtc_peer_state.specs.declared.rtc_error.RtcError.TheVariants.{RemoteSdp, Sdp as SdpRefused}
 use Rattle.rtc_peer_state.specs.declared.rtc_error.RtcError.TheVariants.{ChangesOutOfOrder, Alloc as PeerAlloc}
 use Rattle.rtc_history.specs.declared.side.Side.{Side}
 use Rattle.rtc_history.specs.declared.op.Op.{Op}
-use Rattle.rtc_history.specs.declared.op.Op.TheVariants.{AddMedia, SetDirection, StopMedia}
+use Rattle.rtc_history.specs.declared.op.Op.TheVariants.{AddMedia, SetDirection, StopMedia, AddChannel}
 use Rattle.rtc_history.specs.declared.step.Step.{Step}
 use Rattle.rtc_history.specs.declared.step.Step.TheVariants.{Negotiate, AcceptOffer, AcceptAnswer}
 use Rattle.rtc_history.specs.declared.op_answer.OpAnswer.{OpAnswer}
-use Rattle.rtc_history.specs.declared.op_answer.OpAnswer.TheVariants.{Mid, Changed, NoLine, Alloc as OpAlloc}
+use Rattle.rtc_history.specs.declared.op_answer.OpAnswer.TheVariants.{Mid, Changed, NoLine, Channel, BadChannel, Alloc as OpAlloc}
 use Rattle.rtc_history.specs.declared.made.Made.{Made}
 use Rattle.rtc_history.specs.declared.made.Made.TheVariants.{NotAsked, Nothing, Offer, Alloc as MadeAlloc}
 use Rattle.rtc_history.specs.declared.outcome.Outcome.{Outcome}
 use Rattle.rtc_history.specs.declared.outcome.Outcome.TheVariants.{Negotiated, Answered, Finished, Refused, NoSuch, Alloc}
 use Rattle.rtc_history.specs.declared.table.Table.{Table}
 use Rattle.rtc_history.specs.Memory.{answers_lack}
-use Rattle.rtc_history.specs.Past.{Entry, before, sdps, remote_sdp, holds_token, is_right, do_stage, added_by}
+use Rattle.rtc_history.specs.Answers.{has_app_row, do_need_offer, with_numbered, rows_waiting}
+use Rattle.rtc_history.specs.Past.{
+  Entry,
+  MadeSdp,
+  before,
+  channels_shown,
+  channels_given,
+  sdps,
+  remote_sdp,
+  holds_token,
+  is_right,
+  new_app,
+  added_by,
+}
 
 -- no media row stands at a place
 abbrev pub HasNoLine : ℕ → List LineRow → Type 0
@@ -36,21 +52,66 @@ abbrev pub TellsChange : RowChange → ℕ → List LineRow → Bool → Type 0
 TellsChange change place rows changed =
     (is_some (media_mid (slice_get rows place)) ≡ true) × (changed ≡ is_changed change (slice_get rows place))
 
--- Ops act in order, each on the rows that the one before left, and leave these rows. The mid of a staged line is in no row and no
--- earlier staged line of the step; the first `Alloc` ends the answers.
-abbrev pub OpsAnswered : List LineRow → List (List ℕ) → List Op → List OpAnswer → List LineRow → Type 0
-OpsAnswered rows held [] [] after = after ≡ rows
-OpsAnswered rows held (AddMedia kind dir ∷ ops) (Mid mid ∷ answers) after =
-    (is_among held mid ≡ false) × OpsAnswered rows (mid ∷ held) ops answers after
-OpsAnswered rows held (SetDirection place dir ∷ ops) (NoLine ∷ answers) after =
-    HasNoLine place rows × OpsAnswered rows held ops answers after
-OpsAnswered rows held (SetDirection place dir ∷ ops) (Changed changed ∷ answers) after =
-    TellsChange (directed_row dir) place rows changed × OpsAnswered (changed_at (directed_row dir) place rows) held ops answers after
-OpsAnswered rows held (StopMedia place ∷ ops) (NoLine ∷ answers) after = HasNoLine place rows × OpsAnswered rows held ops answers after
-OpsAnswered rows held (StopMedia place ∷ ops) (Changed changed ∷ answers) after =
-    TellsChange stopped_row place rows changed × OpsAnswered (changed_at stopped_row place rows) held ops answers after
-OpsAnswered rows held (op ∷ ops) (OpAlloc ∷ []) after = after ≡ rows
-OpsAnswered rows held ops answers after = ⊥
+-- What a side has midway through the ops of a step.
+pub record Midway : Type 0 where
+  pub rows : List LineRow
+  -- the mids of its rows, and of the lines that the step has staged
+  pub held : List (List ℕ)
+  -- the mid of the line of data channels that is still to be staged, where one is needed and its mid is told
+  pub app : Option (List ℕ)
+  pub channels : Channels
+
+-- with one more mid held
+abbrev pub holding_mid : List ℕ → Midway → Midway
+holding_mid mid m = record m { held = mid ∷ m.held }
+
+-- with other rows
+abbrev pub having_rows : List LineRow → Midway → Midway
+having_rows rows m = record m { rows = rows }
+
+-- with one more channel, and the line that it brings
+abbrev pub having_channel : ℕ → ChannelConfig → Midway → Midway
+having_channel id config m = record m { held = with_front m.app m.held; app = None; channels = with_numbered id config m.channels }
+
+-- a mid that may be there is in no row and no staged line
+abbrev pub IsUnheld : Option (List ℕ) → List (List ℕ) → Type 0
+IsUnheld None held = Unit {0}
+IsUnheld (Some mid) held = is_among held mid ≡ false
+
+-- a channel may be made of a config, and has a number above all that the side was given
+abbrev pub GivesNumber : Channels → ChannelConfig → ℕ → Type 0
+GivesNumber held config id = (is_bad_channel held config ≡ false) × AreBelow id held.rows
+
+-- Ops act in order, each on what the one before left, and leave these rows. The mid of a staged line is in no row and no earlier staged
+-- line of the step; a channel that brings a line stages it first; the first `Alloc` ends the answers.
+abbrev pub OpsAnswered : Midway → List Op → List OpAnswer → List LineRow → Type 0
+OpsAnswered m [] [] after = after ≡ m.rows
+OpsAnswered m (AddMedia kind dir ∷ ops) (Mid mid ∷ answers) after =
+    (is_among m.held mid ≡ false) × OpsAnswered (holding_mid mid m) ops answers after
+OpsAnswered m (SetDirection place dir ∷ ops) (NoLine ∷ answers) after = HasNoLine place m.rows × OpsAnswered m ops answers after
+OpsAnswered m (SetDirection place dir ∷ ops) (Changed changed ∷ answers) after =
+    TellsChange (directed_row dir) place m.rows changed
+    × OpsAnswered (having_rows (changed_at (directed_row dir) place m.rows) m) ops answers after
+OpsAnswered m (StopMedia place ∷ ops) (NoLine ∷ answers) after = HasNoLine place m.rows × OpsAnswered m ops answers after
+OpsAnswered m (StopMedia place ∷ ops) (Changed changed ∷ answers) after =
+    TellsChange stopped_row place m.rows changed × OpsAnswered (having_rows (changed_at stopped_row place m.rows) m) ops answers after
+OpsAnswered m (AddChannel config ∷ ops) (Channel id ∷ answers) after =
+    GivesNumber m.channels config id
+    × IsUnheld m.app m.held
+    × OpsAnswered (having_channel id config m) ops answers after
+OpsAnswered m (AddChannel config ∷ ops) (BadChannel ∷ answers) after =
+    (is_bad_channel m.channels config ≡ true) × OpsAnswered m ops answers after
+OpsAnswered m (op ∷ ops) (OpAlloc ∷ []) after = after ≡ m.rows
+OpsAnswered m ops answers after = ⊥
+
+-- what a side has before the ops of a step, given the mid of the line that its channels bring
+abbrev pub at_first : Side → List Entry → Option (List ℕ) → Midway
+at_first at past app = record {
+  rows = before at past;
+  held = map row_mid (before at past);
+  app = app;
+  channels = channels_given at past;
+}
 
 -- An offer is made exactly where the step applies staged changes and some have to be offered, unless memory lacks.
 abbrev pub MadeOf : Bool → Bool → Made → ℕ → Type 0
@@ -62,7 +123,7 @@ MadeOf asked offers made next = ⊥
 
 -- what a side judges session descriptions by, read from the past
 abbrev pub view_in : Side → List Entry → Held
-view_in at past = record { lines = before at past }
+view_in at past = held_of (before at past)
 
 -- The outcome of accepting an offer: its answer and the rows that it leaves, or the first cause that refuses it.
 abbrev pub RepliesToOffer : Option Sdp → Held → ℕ → Outcome → List LineRow → Type 0
@@ -93,16 +154,20 @@ RepliesToAnswer held right asked sdp view outcome after = ⊥
 abbrev pub asked_in : Side → ℕ → List Entry → Asked
 asked_in at t past = record { added = added_by (length (before at past)) t past }
 
--- The outcome and table of a step after this past.
-abbrev pub IsSound : List Entry → Step → Outcome → Option Table → Type 0
-IsSound past step Alloc None = Unit {0}
-IsSound past (Negotiate at ops apply) (Negotiated answers made) (Some table) =
-    OpsAnswered (before at past) (map row_mid (before at past)) ops answers table.lines
-    × MadeOf (apply && not (answers_lack answers)) (do_stage answers) made (length (sdps past))
-IsSound past (AcceptOffer at offer) outcome (Some table) =
+-- The outcome and table of a step after this past, given the SDP that it made. The channels that are shown are those before, and one
+-- more that waits for each that was added.
+abbrev pub IsSound : List Entry → Step → Outcome → Option Table → List MadeSdp → Type 0
+IsSound past step Alloc None said = Unit {0}
+IsSound past (Negotiate at ops apply) (Negotiated answers made) (Some table) said =
+    OpsAnswered (at_first at past (new_app table.lines said)) ops answers table.lines
+    × MadeOf (apply && not (answers_lack answers)) (do_need_offer (has_app_row (before at past)) answers) made (length (sdps past))
+    × (table.channels ≡ channels_shown at past ++ rows_waiting answers)
+IsSound past (AcceptOffer at offer) outcome (Some table) said =
     RepliesToOffer (remote_sdp true at offer past) (view_in at past) (length (sdps past)) outcome table.lines
-IsSound past (AcceptAnswer at token answer) outcome (Some table) =
+    × (table.channels ≡ channels_shown at past)
+IsSound past (AcceptAnswer at token answer) outcome (Some table) said =
     RepliesToAnswer
     (holds_token at token past) (is_right at token past) (asked_in at token past)
     (remote_sdp false at answer past) (view_in at past) outcome table.lines
-IsSound past step outcome table = ⊥
+    × (table.channels ≡ channels_shown at past)
+IsSound past step outcome table said = ⊥

@@ -2,6 +2,7 @@
 ghost use Rattle.std.specs.Prelude.{◌≡◌};
 
 use rtc_sdp_values::Mid;
+use rtc_wire::ChannelId;
 
 /// The answer to an op.
 #[derive(Clone, Copy, Debug, PartialEq, Eq)]
@@ -12,6 +13,10 @@ pub enum OpAnswer {
     Changed(bool),
     /// No media line stands at the place.
     NoLine,
+    /// The number of the channel that was staged.
+    Channel(ChannelId),
+    /// No channel is made of the config.
+    BadChannel,
     /// There was too little memory: nothing changed, and no further op is performed.
     Alloc,
 }
@@ -27,6 +32,8 @@ impl OpAnswer {
             OpAnswer::Mid(_) => false,
             OpAnswer::Changed(_) => false,
             OpAnswer::NoLine => false,
+            OpAnswer::Channel(_) => false,
+            OpAnswer::BadChannel => false,
             OpAnswer::Alloc => true,
         }
     }

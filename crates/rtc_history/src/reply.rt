@@ -10,7 +10,7 @@ use rtc_peer_state::RtcError;
 #[derive(Debug, PartialEq, Eq, Drop)]
 pub struct Reply {
     pub outcome: Outcome,
-    /// The acting peer's rows after the step; None exactly where the outcome is `Alloc`.
+    /// The acting peer's lines and channels after the step; None exactly where the outcome is `Alloc`.
     pub table: Option<Table>,
 }
 

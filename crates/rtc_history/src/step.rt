@@ -21,7 +21,7 @@ impl Step {
     ghost use Rattle.rtc_history.specs.Sides.{side_of};
     ghost use Rattle.rtc_history.specs.Sizes.{step_size};
 
-    /// One, and one more for each op: how many rows and session descriptions the step can add.
+    /// One, and one more for each op: how many rows, channels and session descriptions the step can add.
     pub fn size(&self) -> u64
         requires { step_size self.now < 2 ^ 64 }
         ensures { result ≡ step_size self.now }

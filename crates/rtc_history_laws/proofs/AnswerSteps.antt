@@ -11,23 +11,26 @@ use Rattle.rtc_change.specs.ParsedLines.{parsed_lines}
 use Rattle.rtc_change.specs.TableAfter.{table_after}
 use Rattle.rtc_peer_state.specs.declared.peer.Peer.{Peer}
 use Rattle.rtc_peer_state.specs.declared.rtc_error.RtcError.{RtcError}
-use Rattle.rtc_peer_state.specs.declared.rtc_error.RtcError.TheVariants.{RemoteSdp, Sdp as SdpRefused, ChangesOutOfOrder, Alloc as PeerAlloc}
+use Rattle.rtc_peer_state.specs.declared.rtc_error.RtcError.TheVariants.{RemoteSdp, Sdp as SdpRefused, ChangesOutOfOrder, BadChannel, Alloc as PeerAlloc}
 use Rattle.rtc_peer_state.specs.Draws.{Draws}
-use Rattle.rtc_peer_state.specs.Calls.{raised}
+use Rattle.rtc_peer_state.specs.Calls.{raised, fitting_channels}
 use Rattle.rtc_history.specs.declared.side.Side.{Side}
 use Rattle.rtc_history.specs.declared.step.Step.TheVariants.{AcceptAnswer}
 use Rattle.rtc_history.specs.declared.outcome.Outcome.{Outcome}
 use Rattle.rtc_history.specs.declared.outcome.Outcome.TheVariants.{Finished, Refused, NoSuch, Alloc}
 use Rattle.rtc_history.specs.declared.table.Table.{Table}
-use Rattle.rtc_history.specs.Past.{Entry, MadeSdp, before, rows_or, remote_sdp, is_right, was_called, makes}
+use Rattle.rtc_history.specs.Past.{Entry, MadeSdp, before, channels_shown, channel_rows_or, rows_or, remote_sdp, is_right, was_called, makes}
 use Rattle.rtc_history.specs.Sound.{RepliesToAnswer, IsSound, asked_in}
 use Rattle.rtc_history.specs.declared.kept.Kept.{Kept}
 use Rattle.rtc_history.specs.PairState.{PairState, peer_at, token_for, held_token, spent}
-use Rattle.rtc_history.specs.Performs.{StepAcceptsAnswer}
-use Rattle.rtc_history_laws.proofs.Tells.{Tells, TokenTells, raised-small}
+use Rattle.rtc_history.specs.Performs.{StepAcceptsAnswer, Shows}
+use Rattle.rtc_wire.specs.declared.channel_config.ChannelConfig.{ChannelConfig}
+use Rattle.rtc_channels.specs.Channels.{Channels, channel_rows, all_confirmed}
+use Rattle.rtc_history_laws.proofs.ToldChannels.{AreToldAlike, alike_told, all_confirmed_told}
+use Rattle.rtc_history_laws.proofs.Tells.{Tells, ChannelsTell, TokenTells, raised-small}
 use Rattle.rtc_history_laws.proofs.TokenEntries.{StaysOrRight, bare, spent_tells}
-use Rattle.rtc_history_laws.proofs.Around.{Around, entry, goes_on, quiet_tells}
-use Rattle.rtc_history_laws.proofs.OfferSteps.{taken_within}
+use Rattle.rtc_history_laws.proofs.Around.{Around, entry, goes_on, channels_kept, quiet_tells}
+use Rattle.rtc_history_laws.proofs.OfferSteps.{shown_by, taken_within}
 
 -- the same of equal tokens, SDPs and rows
 answer_by : (held held' right right' : Bool) (asked asked' : Asked) (sdp sdp' : Option Sdp) (rows rows' : List LineRow) (outcome : Outcome) (after : List LineRow)
@@ -56,50 +59,75 @@ asked_told past at counter t found token rows told is same =
     rw same (ap asked (sym (told.changes token is (length rows))))
 
 -- the reply to an answer that is delivered
-pub answer_reply : {N : Type 0} (draws : Draws N) (past : List Entry) (at : Side) (t a size : ℕ) (found : Option Kept) (token : Option PendingOffer) (sdp : Option Sdp) (old new : Peer N) (kept kept' : List Kept) (outcome : Outcome) (table : Option Table)
+pub answer_reply : {N : Type 0} (draws : Draws N) (past : List Entry) (at : Side) (t a size : ℕ) (found : Option Kept) (token : Option PendingOffer) (sdp : Option Sdp) (old new : Peer N) (kept kept' : List Kept) (outcome : Outcome) (table : Option Table) (made : List MadeSdp)
     → token_for at found ≡ token → TokenTells past at old.counter t found → old.counter ≤ size → size < 2 ^ 32 → remote_sdp false at a past ≡ sdp → before at past ≡ old.lines
-    → StepAcceptsAnswer draws t token sdp old kept outcome table new kept' → IsSound past (AcceptAnswer at t a) outcome table
-answer_reply draws past at t a size found None None old new kept kept' Alloc None is told low small said rows h = tt
-answer_reply draws past at t a size found None (Some sdp) old new kept kept' Alloc None is told low small said rows h = tt
-answer_reply draws past at t a size found (Some token) None old new kept kept' Alloc None is told low small said rows h = tt
-answer_reply draws past at t a size found (Some token) (Some sdp) old new kept kept' Alloc None is told low small said rows h = tt
-answer_reply draws past at t a size found None None old new kept kept' NoSuch (Some table) is told low small said rows h =
-    answer_by false _ (is_right at t past) _ (asked_in at t past) _ None _ old.lines _ NoSuch table.lines (sym told.held ∙ ap is_some is) refl refl said rows h.1
-answer_reply draws past at t a size found None (Some sdp) old new kept kept' NoSuch (Some table) is told low small said rows h =
-    answer_by false _ (is_right at t past) _ (asked_in at t past) _ (Some sdp) _ old.lines _ NoSuch table.lines (sym told.held ∙ ap is_some is) refl refl said rows h.1
-answer_reply draws past at t a size found (Some token) None old new kept kept' NoSuch (Some table) is told low small said rows h =
-    answer_by true _ (is_right at t past) _ (asked_in at t past) _ None _ old.lines _ NoSuch table.lines (sym told.held ∙ ap is_some is) refl refl said rows
-    (no_text (is_right at t past) (asked_in at t past) (record { lines = old.lines }) table.lines h.1)
-answer_reply draws past at t a size found (Some token) (Some sdp) old new kept kept' Finished (Some table) is told low small said rows h =
-    answer_by true _ true _ (asked_by old.lines token) _ (Some sdp) _ old.lines _ Finished table.lines (sym told.held ∙ ap is_some is)
-    (now_right old.counter size token.id (is_right at t past) h.0.right (told.right token is) (told.older token is) low small)
-    (asked_told past at old.counter t found token old.lines told is rows) said rows (h.0.passes, h.2 ∙ ap (λ p. p.lines) h.0.rest)
-answer_reply draws past at t a size found (Some token) (Some sdp) old new kept kept' (Refused (RemoteSdp why)) (Some table) is told low small said rows h =
-    answer_by true _ true _ (asked_by old.lines token) _ (Some sdp) _ old.lines _ (Refused (RemoteSdp why)) table.lines (sym told.held ∙ ap is_some is)
-    (now_right old.counter size token.id (is_right at t past) h.0.0 (told.right token is) (told.older token is) low small)
-    (asked_told past at old.counter t found token old.lines told is rows) said rows (h.0.1.0, h.2 ∙ ap (λ p. p.lines) h.0.1.1)
-answer_reply draws past at t a size found (Some token) (Some sdp) old new kept kept' (Refused (SdpRefused error)) (Some table) is told low small said rows h =
-    answer_by true _ true _ (asked_by old.lines token) _ (Some sdp) _ old.lines _ (Refused (SdpRefused error)) table.lines (sym told.held ∙ ap is_some is)
-    (now_right old.counter size token.id (is_right at t past) h.0.0 (told.right token is) (told.older token is) low small)
-    (asked_told past at old.counter t found token old.lines told is rows) said rows (h.0.1.0, h.2 ∙ ap (λ p. p.lines) h.0.1.1)
-answer_reply draws past at t a size found (Some token) (Some sdp) old new kept kept' (Refused PeerAlloc) (Some table) is told low small said rows h =
-    answer_by true _ true _ (asked_in at t past) _ (Some sdp) _ old.lines _ (Refused PeerAlloc) table.lines (sym told.held ∙ ap is_some is)
-    (now_right old.counter size token.id (is_right at t past) h.0.0 (told.right token is) (told.older token is) low small)
-    refl said rows (h.2 ∙ ap (λ p. p.lines) h.0.1.1)
-answer_reply draws past at t a size found (Some token) (Some sdp) old new kept kept' (Refused ChangesOutOfOrder) (Some table) is told low small said rows h =
-    answer_by true _ false _ (asked_in at t past) _ (Some sdp) _ old.lines _ (Refused ChangesOutOfOrder) table.lines (sym told.held ∙ ap is_some is)
-    (not_right old.counter size token.id (is_right at t past) h.0.0 (told.right token is) (told.older token is) low small)
-    refl said rows (h.2 ∙ ap (λ p. p.lines) h.0.1)
-answer_reply draws past at t a size found token sdp old new kept kept' outcome table is told low small said rows h = absurd h
+    → channels_shown at past ≡ channel_rows old.channels → StepAcceptsAnswer draws t token sdp old kept outcome table new kept' → IsSound past (AcceptAnswer at t a) outcome table made
+answer_reply draws past at t a size found None None old new kept kept' Alloc None made is told_it low small said rows shown h = tt
+answer_reply draws past at t a size found None (Some sdp) old new kept kept' Alloc None made is told_it low small said rows shown h = tt
+answer_reply draws past at t a size found (Some token) None old new kept kept' Alloc None made is told_it low small said rows shown h = tt
+answer_reply draws past at t a size found (Some token) (Some sdp) old new kept kept' Alloc None made is told_it low small said rows shown h = tt
+answer_reply draws past at t a size found None None old new kept kept' NoSuch (Some table) made is told_it low small said rows shown h = (
+  answer_by false _ (is_right at t past) _ (asked_in at t past) _ None _ old.lines _ NoSuch table.lines (sym told_it.held ∙ ap is_some is) refl refl said rows h.1.lines,
+  shown_by past at old old table shown refl h.1,
+)
+answer_reply draws past at t a size found None (Some sdp) old new kept kept' NoSuch (Some table) made is told_it low small said rows shown h = (
+  answer_by false _ (is_right at t past) _ (asked_in at t past) _ (Some sdp) _ old.lines _ NoSuch table.lines (sym told_it.held ∙ ap is_some is) refl refl said rows h.1.lines,
+  shown_by past at old old table shown refl h.1,
+)
+answer_reply draws past at t a size found (Some token) None old new kept kept' NoSuch (Some table) made is told_it low small said rows shown h = (
+  answer_by true _ (is_right at t past) _ (asked_in at t past) _ None _ old.lines _ NoSuch table.lines (sym told_it.held ∙ ap is_some is) refl refl said rows
+      (no_text (is_right at t past) (asked_in at t past) (record { lines = old.lines }) table.lines h.1.lines),
+  shown_by past at old old table shown refl h.1,
+)
+answer_reply draws past at t a size found (Some token) (Some sdp) old new kept kept' Finished (Some table) made is told_it low small said rows shown h = (
+  answer_by true _ true _ (asked_by old.lines token) _ (Some sdp) _ old.lines _ Finished table.lines (sym told_it.held ∙ ap is_some is)
+      (now_right old.counter size token.id (is_right at t past) h.0.right (told_it.right token is) (told_it.older token is) low small)
+      (asked_told past at old.counter t found token old.lines told_it is rows) said rows (h.0.passes, h.2.lines ∙ ap (λ p. p.lines) h.0.rest),
+  shown_by past at old new table shown (ap (λ p. channel_rows p.channels) h.0.rest ∙ (all_confirmed_told (fitting_channels token.changes) old.channels).shown) h.2,
+)
+answer_reply draws past at t a size found (Some token) (Some sdp) old new kept kept' (Refused (RemoteSdp why)) (Some table) made is told_it low small said rows shown h = (
+  answer_by true _ true _ (asked_by old.lines token) _ (Some sdp) _ old.lines _ (Refused (RemoteSdp why)) table.lines (sym told_it.held ∙ ap is_some is)
+      (now_right old.counter size token.id (is_right at t past) h.0.0 (told_it.right token is) (told_it.older token is) low small)
+      (asked_told past at old.counter t found token old.lines told_it is rows) said rows (h.0.1.0, h.2.lines ∙ ap (λ p. p.lines) h.0.1.1),
+  shown_by past at old new table shown (ap (λ p. channel_rows p.channels) h.0.1.1) h.2,
+)
+answer_reply draws past at t a size found (Some token) (Some sdp) old new kept kept' (Refused (SdpRefused error)) (Some table) made is told_it low small said rows shown h = (
+  answer_by true _ true _ (asked_by old.lines token) _ (Some sdp) _ old.lines _ (Refused (SdpRefused error)) table.lines (sym told_it.held ∙ ap is_some is)
+      (now_right old.counter size token.id (is_right at t past) h.0.0 (told_it.right token is) (told_it.older token is) low small)
+      (asked_told past at old.counter t found token old.lines told_it is rows) said rows (h.0.1.0, h.2.lines ∙ ap (λ p. p.lines) h.0.1.1),
+  shown_by past at old new table shown (ap (λ p. channel_rows p.channels) h.0.1.1) h.2,
+)
+answer_reply draws past at t a size found (Some token) (Some sdp) old new kept kept' (Refused PeerAlloc) (Some table) made is told_it low small said rows shown h = (
+  answer_by true _ true _ (asked_in at t past) _ (Some sdp) _ old.lines _ (Refused PeerAlloc) table.lines (sym told_it.held ∙ ap is_some is)
+      (now_right old.counter size token.id (is_right at t past) h.0.0 (told_it.right token is) (told_it.older token is) low small)
+      refl said rows (h.2.lines ∙ ap (λ p. p.lines) h.0.1.1),
+  shown_by past at old new table shown (ap (λ p. channel_rows p.channels) h.0.1.1) h.2,
+)
+answer_reply draws past at t a size found (Some token) (Some sdp) old new kept kept' (Refused ChangesOutOfOrder) (Some table) made is told_it low small said rows shown h = (
+  answer_by true _ false _ (asked_in at t past) _ (Some sdp) _ old.lines _ (Refused ChangesOutOfOrder) table.lines (sym told_it.held ∙ ap is_some is)
+      (not_right old.counter size token.id (is_right at t past) h.0.0 (told_it.right token is) (told_it.older token is) low small)
+      refl said rows (h.2.lines ∙ ap (λ p. p.lines) h.0.1),
+  shown_by past at old new table shown (ap (λ p. channel_rows p.channels) h.0.1) h.2,
+)
+answer_reply draws past at t a size found (Some token) (Some sdp) old new kept kept' (Refused BadChannel) (Some table) made is told_it low small said rows shown h = absurd h.0
+answer_reply draws past at t a size found token sdp old new kept kept' outcome table made is told_it low small said rows shown h = absurd h
 
 -- ---- what the entry leaves
+
+-- the channels that steps tell are those of before
+channels_go : {N : Type 0} (past : List Entry) (at : Side) (t a : ℕ) (outcome : Outcome) (table : Option Table) (made : List MadeSdp) (old new : PairState N) → AreToldAlike (peer_at at old).channels (peer_at at new).channels
+    → channel_rows_or true table (channels_shown at past) ≡ channel_rows (peer_at at new).channels → Tells past old → ChannelsTell (entry (AcceptAnswer at t a) outcome table made ∷ past) at (peer_at at new).channels
+channels_go past at t a outcome table made old new alike shown tells =
+    channels_kept past (AcceptAnswer at t a) outcome table made (peer_at at old).channels (peer_at at new).channels (λ held. refl) alike shown (tells.sides at).channels
 
 -- the peer was delivered nothing
 untouched_tells : {N : Type 0} (past : List Entry) (at : Side) (t a : ℕ) (outcome : Outcome) (table : Option Table) (made : List MadeSdp) (old new : PairState N)
     → was_called outcome ≡ false → ((u : ℕ) → makes u outcome ≡ false) → peer_at at new ≡ peer_at at old → new.sdps ≡ old.sdps → rows_or true table (before at past) ≡ (peer_at at old).lines
+    → channel_rows_or true table (channels_shown at past) ≡ channel_rows (peer_at at old).channels
     → Around (AcceptAnswer at t a) made old new → Tells past old → Tells (entry (AcceptAnswer at t a) outcome table made ∷ past) new
-untouched_tells past at t a outcome table made old new uncalled unmade peer kept rows around tells =
-    quiet_tells false past (AcceptAnswer at t a) outcome table made old new (ap (λ p. length p.lines) peer) kept (ap (λ p. p.lines) peer ∙ sym rows) (ap (λ p. p.counter) peer)
+untouched_tells past at t a outcome table made old new uncalled unmade peer kept rows shown around tells =
+    quiet_tells false past (AcceptAnswer at t a) outcome table made old new (ap (λ p. length p.lines) peer) kept (ap (λ p. p.lines) peer ∙ sym rows)
+    (channels_go past at t a outcome table made old new (alike_told (peer_at at old).channels (peer_at at new).channels (ap (λ p. p.channels) peer)) (shown ∙ ap (λ p. channel_rows p.channels) (sym peer)) tells) (ap (λ p. p.counter) peer)
     refl refl (λ u. and_right (t == u) (was_called outcome) uncalled) unmade around tells
 
 -- the SDP of a token that is held
@@ -117,24 +145,28 @@ and_true false = refl
 -- the token is spent
 spends_tells : {N : Type 0} (past : List Entry) (at : Side) (t a : ℕ) (token : PendingOffer) (outcome : Outcome) (table : Table) (made : List MadeSdp) (old new : PairState N)
     → held_token old.sdps at t ≡ Some token → was_called outcome ≡ true → ((u : ℕ) → makes u outcome ≡ false) → new.sdps ≡ spent t old.sdps
-    → (peer_at at new).counter ≡ (peer_at at old).counter → table.lines ≡ (peer_at at new).lines → length (peer_at at new).lines ≤ old.size
+    → (peer_at at new).counter ≡ (peer_at at old).counter → Shows table (peer_at at new) → AreToldAlike (peer_at at old).channels (peer_at at new).channels → length (peer_at at new).lines ≤ old.size
     → StaysOrRight at (peer_at at old) old.sdps t (peer_at at new)
     → Around (AcceptAnswer at t a) made old new → Tells past old → Tells (entry (AcceptAnswer at t a) outcome (Some table) made ∷ past) new
-spends_tells past at t a token outcome table made old new is was unmade kept counter rows few right around tells =
+spends_tells past at t a token outcome table made old new is was unmade kept counter shows alike few right around tells =
     let found : (kept : Kept) × (slice_get old.sdps t ≡ Some kept) = text_found at (slice_get old.sdps t) token is in
     spent_tells past (entry (AcceptAnswer at t a) outcome (Some table) made) old new t found.0
-    (goes_on false past (AcceptAnswer at t a) outcome (Some table) made old new (sym rows) counter refl refl (omega (arith, few, around.size)) around)
+    (goes_on false past (AcceptAnswer at t a) outcome (Some table) made old new (sym shows.lines) (channels_go past at t a outcome (Some table) made old new alike shows.channels tells) counter refl refl (omega (arith, few, around.size)) around)
     right found.1 (kept ∙ spent-is t old.sdps found.0 found.1) (λ u. ap (λ b. (t == u) && b) was ∙ and_true (t == u)) unmade tells
 
 -- the peer refused the answer
 refused_tells : {N : Type 0} (past : List Entry) (at : Side) (t a : ℕ) (token : PendingOffer) (error : RtcError) (table : Table) (made : List MadeSdp) (old new : PairState N)
     → held_token old.sdps at t ≡ Some token → new.sdps ≡ spent t old.sdps → (peer_at at new).lines ≡ (peer_at at old).lines
-    → (peer_at at new).counter ≡ (peer_at at old).counter → table.lines ≡ (peer_at at new).lines
+    → (peer_at at new).counter ≡ (peer_at at old).counter → (peer_at at new).channels ≡ (peer_at at old).channels → Shows table (peer_at at new)
     → Around (AcceptAnswer at t a) made old new → Tells past old → Tells (entry (AcceptAnswer at t a) (Refused error) (Some table) made ∷ past) new
-refused_tells past at t a token error table made old new is kept lines counter rows around tells =
+refused_tells past at t a token error table made old new is kept lines counter channels shows around tells =
     let few : length (peer_at at old).lines ≤ old.size = (tells.sides at).few in
     let same : length (peer_at at new).lines ≡ length (peer_at at old).lines = ap length lines in
-    spends_tells past at t a token (Refused error) table made old new is refl (λ u. refl) kept counter rows (omega arith) (inl same) around tells
+    spends_tells past at t a token (Refused error) table made old new is refl (λ u. refl) kept counter shows (alike_told (peer_at at old).channels (peer_at at new).channels channels) (omega arith) (inl same) around tells
+
+-- the channels that an answer confirms are told as before
+told_after : (held held' : Channels) (channels : List (ℕ × ChannelConfig)) → held' ≡ all_confirmed channels held → AreToldAlike held held'
+told_after held held' channels is = rw is (all_confirmed_told channels held)
 
 -- A step that hands over an answer.
 pub answer_tells : {N : Type 0} (draws : Draws N) (past : List Entry) (at : Side) (t a : ℕ) (token : Option PendingOffer) (sdp : Option Sdp) (old new : PairState N) (outcome : Outcome) (table : Option Table) (made : List MadeSdp)
@@ -142,29 +174,30 @@ pub answer_tells : {N : Type 0} (draws : Draws N) (past : List Entry) (at : Side
     → StepAcceptsAnswer draws t token sdp (peer_at at old) old.sdps outcome table (peer_at at new) new.sdps
     → Around (AcceptAnswer at t a) made old new → Tells past old → Tells (entry (AcceptAnswer at t a) outcome table made ∷ past) new
 answer_tells draws past at t a None None old new Alloc None made few is h around tells =
-    untouched_tells past at t a Alloc None made old new refl (λ u. refl) h.peer h.sdps_kept (sym (tells.sides at).rows) around tells
+    untouched_tells past at t a Alloc None made old new refl (λ u. refl) h.peer h.sdps_kept (sym (tells.sides at).rows) (sym (tells.sides at).channels.shown) around tells
 answer_tells draws past at t a None (Some sdp) old new Alloc None made few is h around tells =
-    untouched_tells past at t a Alloc None made old new refl (λ u. refl) h.peer h.sdps_kept (sym (tells.sides at).rows) around tells
+    untouched_tells past at t a Alloc None made old new refl (λ u. refl) h.peer h.sdps_kept (sym (tells.sides at).rows) (sym (tells.sides at).channels.shown) around tells
 answer_tells draws past at t a (Some token) None old new Alloc None made few is h around tells =
-    untouched_tells past at t a Alloc None made old new refl (λ u. refl) h.peer h.sdps_kept (sym (tells.sides at).rows) around tells
+    untouched_tells past at t a Alloc None made old new refl (λ u. refl) h.peer h.sdps_kept (sym (tells.sides at).rows) (sym (tells.sides at).channels.shown) around tells
 answer_tells draws past at t a (Some token) (Some sdp) old new Alloc None made few is h around tells =
-    untouched_tells past at t a Alloc None made old new refl (λ u. refl) h.peer h.sdps_kept (sym (tells.sides at).rows) around tells
+    untouched_tells past at t a Alloc None made old new refl (λ u. refl) h.peer h.sdps_kept (sym (tells.sides at).rows) (sym (tells.sides at).channels.shown) around tells
 answer_tells draws past at t a None None old new NoSuch (Some table) made few is h around tells =
-    untouched_tells past at t a NoSuch (Some table) made old new refl (λ u. refl) h.0.peer h.0.sdps_kept h.1 around tells
+    untouched_tells past at t a NoSuch (Some table) made old new refl (λ u. refl) h.0.peer h.0.sdps_kept h.1.lines h.1.channels around tells
 answer_tells draws past at t a None (Some sdp) old new NoSuch (Some table) made few is h around tells =
-    untouched_tells past at t a NoSuch (Some table) made old new refl (λ u. refl) h.0.peer h.0.sdps_kept h.1 around tells
+    untouched_tells past at t a NoSuch (Some table) made old new refl (λ u. refl) h.0.peer h.0.sdps_kept h.1.lines h.1.channels around tells
 answer_tells draws past at t a (Some token) None old new NoSuch (Some table) made few is h around tells =
-    untouched_tells past at t a NoSuch (Some table) made old new refl (λ u. refl) h.0.peer h.0.sdps_kept h.1 around tells
+    untouched_tells past at t a NoSuch (Some table) made old new refl (λ u. refl) h.0.peer h.0.sdps_kept h.1.lines h.1.channels around tells
 answer_tells draws past at t a (Some token) (Some sdp) old new Finished (Some table) made few is h around tells =
     let most : length (table_after (peer_at at old).lines (parsed_lines sdp) false) ≤ old.size = taken_within (peer_at at old).lines sdp false old.size (tells.sides at).few (few sdp refl) in
     let rows : length (peer_at at new).lines ≡ length (table_after (peer_at at old).lines (parsed_lines sdp) false) = ap (λ p. length p.lines) h.0.rest in
-    spends_tells past at t a token Finished table made old new is refl (λ u. refl) h.1 (ap (λ p. p.counter) h.0.rest) h.2 (omega (arith, most, rows)) (inr (token, is, h.0.right)) around tells
+    spends_tells past at t a token Finished table made old new is refl (λ u. refl) h.1 (ap (λ p. p.counter) h.0.rest) h.2 (told_after (peer_at at old).channels (peer_at at new).channels (fitting_channels token.changes) (ap (λ p. p.channels) h.0.rest)) (omega (arith, most, rows)) (inr (token, is, h.0.right)) around tells
 answer_tells draws past at t a (Some token) (Some sdp) old new (Refused (RemoteSdp why)) (Some table) made few is h around tells =
-    refused_tells past at t a token (RemoteSdp why) table made old new is h.1 (ap (λ p. p.lines) h.0.1.1) (ap (λ p. p.counter) h.0.1.1) h.2 around tells
+    refused_tells past at t a token (RemoteSdp why) table made old new is h.1 (ap (λ p. p.lines) h.0.1.1) (ap (λ p. p.counter) h.0.1.1) (ap (λ p. p.channels) h.0.1.1) h.2 around tells
 answer_tells draws past at t a (Some token) (Some sdp) old new (Refused (SdpRefused error)) (Some table) made few is h around tells =
-    refused_tells past at t a token (SdpRefused error) table made old new is h.1 (ap (λ p. p.lines) h.0.1.1) (ap (λ p. p.counter) h.0.1.1) h.2 around tells
+    refused_tells past at t a token (SdpRefused error) table made old new is h.1 (ap (λ p. p.lines) h.0.1.1) (ap (λ p. p.counter) h.0.1.1) (ap (λ p. p.channels) h.0.1.1) h.2 around tells
 answer_tells draws past at t a (Some token) (Some sdp) old new (Refused PeerAlloc) (Some table) made few is h around tells =
-    refused_tells past at t a token PeerAlloc table made old new is h.1 (ap (λ p. p.lines) h.0.1.1) (ap (λ p. p.counter) h.0.1.1) h.2 around tells
+    refused_tells past at t a token PeerAlloc table made old new is h.1 (ap (λ p. p.lines) h.0.1.1) (ap (λ p. p.counter) h.0.1.1) (ap (λ p. p.channels) h.0.1.1) h.2 around tells
 answer_tells draws past at t a (Some token) (Some sdp) old new (Refused ChangesOutOfOrder) (Some table) made few is h around tells =
-    refused_tells past at t a token ChangesOutOfOrder table made old new is h.1 (ap (λ p. p.lines) h.0.1) (ap (λ p. p.counter) h.0.1) h.2 around tells
+    refused_tells past at t a token ChangesOutOfOrder table made old new is h.1 (ap (λ p. p.lines) h.0.1) (ap (λ p. p.counter) h.0.1) (ap (λ p. p.channels) h.0.1) h.2 around tells
+answer_tells draws past at t a (Some token) (Some sdp) old new (Refused BadChannel) (Some table) made few is h around tells = absurd h.0
 answer_tells draws past at t a token sdp old new outcome table made few is h around tells = absurd h

@@ -1,15 +1,18 @@
 -- Ops that are performed are answered by what they find, each on the rows that the one before left.
-use Rattle.std.proofs.Common.{◌≡◌, ℕ, List, [], ◌∷◌, ◌++◌, Bool, true, false, ◌||◌, Ok, refl, sym, ◌∙◌, ap, subst, append-nil}
+use Rattle.std.proofs.Common.{◌≡◌, ℕ, List, [], ◌∷◌, ◌++◌, Bool, true, false, ◌||◌, Option, Some, None, Ok, refl, sym, ◌∙◌, ap, subst, append-nil}
 use Rattle.std.specs.Prelude.{slice_get, is_some}
 use Rattle.std.specs.Str.{bytes_eq}
 use Rattle.std.proofs.lemmas.List.Folds.{list_any-append}
+use Rattle.std.proofs.lemmas.Bool.{or_parts, or_from}
+use Rattle.rtc_wire.specs.declared.channel_config.ChannelConfig.{ChannelConfig}
+use Rattle.rtc_channels.specs.Channels.{Channels, is_bad_channel, with_channel, AreBelow}
 use Rattle.rtc_sdp_values.specs.declared.direction.Direction.{Direction}
 use Rattle.rtc_sdp_values.specs.declared.direction.Direction.TheVariants.{Inactive}
 use Rattle.rtc_sdp_values.specs.declared.line_row.LineRow.{LineRow}
 use Rattle.rtc_change.specs.declared.change.Change.{Change}
-use Rattle.rtc_change.specs.declared.change.Change.TheVariants.{AddMedia as Adding, Direction as Setting}
+use Rattle.rtc_change.specs.declared.change.Change.TheVariants.{AddMedia as Adding, AddApp, AddChannel as AddingChannel, Direction as Setting}
 use Rattle.rtc_sdp_values.specs.Mids.{is_among}
-use Rattle.rtc_change.specs.PendingOffer.{added_mids}
+use Rattle.rtc_change.specs.PendingOffer.{added_mids, contains_add_app}
 use Rattle.rtc_change.specs.RowChanges.{RowChange, directed_row, stopped_row, is_changed, changed_at, changed_of}
 use Rattle.rtc_change.specs.Table.{IsTable, has_mid}
 use Rattle.rtc_change.proofs.AddedLemmas.{added_mids-append}
@@ -17,33 +20,50 @@ use Rattle.rtc_change.proofs.RowChangeLemmas.{KeepsRow, directed_row_keeps, stop
 use Rattle.rtc_peer_state.specs.declared.peer.Peer.{Peer}
 use Rattle.rtc_peer_state.specs.Draws.{Draws}
 use Rattle.rtc_peer_state.specs.Names.{is_held}
-use Rattle.rtc_peer_state.specs.Calls.{ChangesLine, staged_media}
+use Rattle.rtc_peer_state.specs.Calls.{ChangesLine, AddsChannel, needs_app, staged_mid, staged_media}
 use Rattle.rtc_history.specs.declared.op.Op.{Op}
-use Rattle.rtc_history.specs.declared.op.Op.TheVariants.{AddMedia, SetDirection, StopMedia}
+use Rattle.rtc_history.specs.declared.op.Op.TheVariants.{AddMedia, SetDirection, StopMedia, AddChannel}
 use Rattle.rtc_history.specs.declared.op_answer.OpAnswer.{OpAnswer}
-use Rattle.rtc_history.specs.declared.op_answer.OpAnswer.TheVariants.{Mid, Changed, NoLine, Alloc as OpAlloc}
-use Rattle.rtc_history.specs.Sound.{TellsChange, OpsAnswered}
+use Rattle.rtc_history.specs.declared.op_answer.OpAnswer.TheVariants.{Mid, Changed, NoLine, Channel, BadChannel, Alloc as OpAlloc}
+use Rattle.rtc_history.specs.Sound.{Midway, IsUnheld, GivesNumber, TellsChange, OpsAnswered}
+use Rattle.rtc_change.specs.TableAfter.{with_front}
+use Rattle.rtc_history.specs.Answers.{has_app_row, with_numbered}
 use Rattle.rtc_history.specs.Performs.{PerformsOps, CallsLine, wanted}
+use Rattle.rtc_history_laws.proofs.OpRows.{has_app-alike}
+use Rattle.rtc_history_laws.proofs.ToldChannels.{told, told_more, bad_told, below_told}
+use Rattle.rtc_history_laws.proofs.StagedApps.{AppTold, contains-append, needs_same, told_same, ChannelStaged, channel_staged, app_mid_is}
 use Rattle.rtc_history_laws.proofs.PlacedRows.{IsPlaced, placed, unchanged_at}
 
--- the mids that a peer's rows and staged lines have
-abbrev Holds : {N : Type 0} → Peer N → List (List ℕ) → Type 0
-Holds p held = (mid : List ℕ) → is_among held mid ≡ is_held p.lines p.staged mid
+-- a mid that neither a row nor a staged line of a peer has is not held
+abbrev pub Holds : {N : Type 0} → Peer N → List (List ℕ) → Type 0
+Holds p held = (mid : List ℕ) → is_held p.lines p.staged mid ≡ false → is_among held mid ≡ false
 
-newest_last : (a b c : Bool) → (c || (a || b)) ≡ (a || (b || (c || false)))
-newest_last true b true = refl
-newest_last true b false = refl
-newest_last false true true = refl
-newest_last false true false = refl
-newest_last false false true = refl
-newest_last false false false = refl
+-- a mid that is not held with one more staged is another one, and was not held before
+held_more : (rows : List LineRow) (staged more : List Change) (own mid : List ℕ) → added_mids more ≡ own ∷ [] → is_held rows (staged ++ more) mid ≡ false → (bytes_eq own mid ≡ false) × (is_held rows staged mid ≡ false)
+held_more rows staged more own mid adds none =
+    let both = or_parts (has_mid mid rows) _ none in
+    let parts : (is_among (added_mids staged) mid || is_among (own ∷ []) mid) ≡ false =
+    sym (list_any-append (λ other. bytes_eq other mid) (added_mids staged) (own ∷ [])) ∙ ap (λ (mids : List (List ℕ)). is_among mids mid) (sym (added_mids-append staged more ∙ ap (λ (mids : List (List ℕ)). added_mids staged ++ mids) adds)) ∙ both.1 in
+    let two = or_parts (is_among (added_mids staged) mid) (is_among (own ∷ []) mid) parts in
+    ((or_parts (bytes_eq own mid) false two.1).0, or_from (has_mid mid rows) (is_among (added_mids staged) mid) both.0 two.0)
 
--- one more line is staged
-held_more : (rows : List LineRow) (staged : List Change) (change : Change) (own : List ℕ) (held : List (List ℕ)) (mid : List ℕ)
-    → added_mids (change ∷ []) ≡ own ∷ [] → is_among held mid ≡ is_held rows staged mid → is_among (own ∷ held) mid ≡ is_held rows (staged ++ change ∷ []) mid
-held_more rows staged change own held mid adds same =
-    rw (same, added_mids-append staged (change ∷ []), adds, list_any-append (λ other. bytes_eq other mid) (added_mids staged) (own ∷ []))
-    (newest_last (has_mid mid rows) (is_among (added_mids staged) mid) (bytes_eq own mid))
+-- with a line staged, its mid is held too
+holds_more : {N : Type 0} (p r : Peer N) (more : List Change) (own : List ℕ) (held : List (List ℕ)) → r.lines ≡ p.lines → r.staged ≡ p.staged ++ more → added_mids more ≡ own ∷ [] → Holds p held → Holds r (own ∷ held)
+holds_more p r more own held lines staged adds holds mid none =
+    let parts = held_more p.lines p.staged more own mid adds (rw (← lines) (rw (← staged) none)) in
+    or_from (bytes_eq own mid) (is_among held mid) parts.0 (holds mid parts.1)
+
+-- with changes staged that tell no mid of those held, they are held still
+holds_still : {N : Type 0} (p r : Peer N) (more : List Change) (held : List (List ℕ)) → r.lines ≡ p.lines → r.staged ≡ p.staged ++ more → Holds p held → Holds r held
+holds_still p r more held lines staged holds mid none =
+    let both = or_parts (has_mid mid p.lines) (is_among (added_mids (p.staged ++ more)) mid) (rw (← lines) (rw (← staged) none)) in
+    let parts : (is_among (added_mids p.staged) mid || is_among (added_mids more) mid) ≡ false =
+    sym (list_any-append (λ other. bytes_eq other mid) (added_mids p.staged) (added_mids more)) ∙ ap (λ (mids : List (List ℕ)). is_among mids mid) (sym (added_mids-append p.staged more)) ∙ both.1 in
+    holds mid (or_from (has_mid mid p.lines) (is_among (added_mids p.staged) mid) both.0 (or_parts (is_among (added_mids p.staged) mid) (is_among (added_mids more) mid) parts).0)
+
+or_nothing : (a : Bool) → (a || false) ≡ a
+or_nothing true = refl
+or_nothing false = refl
 
 -- What a call leaves that changes the line at a place.
 record AnswersLine {N : Type 0} (change : RowChange) (place : ℕ) (p : Peer N) (changed : Bool) (held : List (List ℕ)) (r : Peer N) : Type 0 where
@@ -51,6 +71,8 @@ record AnswersLine {N : Type 0} (change : RowChange) (place : ℕ) (p : Peer N) 
   lines : r.lines ≡ changed_at change place p.lines
   table : IsTable r.lines
   holds : Holds r held
+  needs : needs_app r ≡ needs_app p
+  channels : r.channels ≡ p.channels
 
 line_answered : {N : Type 0} (change : RowChange) (to : Direction) (place : ℕ) (p : Peer N) (changed : Bool) (held : List (List ℕ)) (r : Peer N) → KeepsRow change → IsTable p.lines → Holds p held
     → CallsLine p place (λ mid. ChangesLine change to p mid (Ok changed) r) → AnswersLine change place p changed held r
@@ -60,12 +82,15 @@ line_answered change to place p true held r keeps table holds call =
     let lines : r.lines ≡ changed_of change call.mid p.lines = ap (λ q. q.lines) call.called.1 in
     let staged : r.staged ≡ p.staged ++ Setting call.mid to ∷ [] = ap (λ q. q.staged) call.called.1 in
     let adds : added_mids r.staged ≡ added_mids p.staged = ap added_mids staged ∙ added_mids-append p.staged (Setting call.mid to ∷ []) ∙ append-nil (added_mids p.staged) in
+    let lined : contains_add_app r.staged ≡ contains_add_app p.staged = ap contains_add_app staged ∙ contains-append p.staged (Setting call.mid to ∷ []) ∙ or_nothing (contains_add_app p.staged) in
     record {
       tells = (ap is_some call.there, sym (ap (is_changed change) (sym here.found) ∙ call.called.0));
       lines = lines ∙ here.changed;
       table = subst IsTable (sym lines) (table_alike p.lines (changed_of change call.mid p.lines) alike table);
-      holds = λ mid. holds mid ∙ sym (ap (λ b. b || is_among (added_mids r.staged) mid) (ap (has_mid mid) lines ∙ has_mid-alike mid p.lines (changed_of change call.mid p.lines) alike)
-          ∙ ap (λ mids. has_mid mid p.lines || is_among mids mid) adds);
+      holds = λ mid none. holds mid (sym (ap (λ b. b || is_among (added_mids r.staged) mid) (ap (has_mid mid) lines ∙ has_mid-alike mid p.lines (changed_of change call.mid p.lines) alike)
+          ∙ ap (λ mids. has_mid mid p.lines || is_among mids mid) adds) ∙ none);
+      needs = needs_same p r (ap has_app_row lines ∙ has_app-alike p.lines (changed_of change call.mid p.lines) alike) lined;
+      channels = ap (λ q. q.channels) call.called.1;
     }
 line_answered change to place p false held r keeps table holds call =
     let here : IsPlaced change place call.mid p.lines = placed change place call.mid p.lines table.distinct call.there in
@@ -76,32 +101,121 @@ line_answered change to place p false held r keeps table holds call =
       lines = ap (λ q. q.lines) same ∙ sym (unchanged_at change place p.lines none);
       table = rw same table;
       holds = rw same holds;
+      needs = ap needs_app same;
+      channels = ap (λ q. q.channels) same;
     }
 
+-- ---- each op
+
+-- what a peer has midway through ops
+abbrev pub midway : {N : Type 0} → Peer N → List (List ℕ) → Option (List ℕ) → Midway
+midway p held app = record { rows = p.lines; held = held; app = app; channels = told p.channels }
+
+-- the same with other rows and channels
+midway_from : (rows rows' : List LineRow) (channels channels' : Channels) (held : List (List ℕ)) (app : Option (List ℕ)) (ops : List Op) (answers : List OpAnswer) (after : List LineRow) → rows' ≡ rows → channels' ≡ channels
+    → OpsAnswered (record { rows = rows'; held = held; app = app; channels = channels' }) ops answers after → OpsAnswered (record { rows = rows; held = held; app = app; channels = channels }) ops answers after
+midway_from rows rows' channels channels' held app ops answers after same_rows same_channels answered = rw (← same_rows) (rw (← same_channels) answered)
+
+-- What is known of a peer that performs ops.
+pub record MayAct {N : Type 0} (p : Peer N) (held : List (List ℕ)) (app : Option (List ℕ)) (q : Peer N) : Type 0 where
+  pub table : IsTable p.lines
+  pub holds : Holds p held
+  pub app_is : AppTold p app q
+  pub below : AreBelow p.channels.given p.channels.rows
+
+-- a channel has a number above all before
+gives_number : {N : Type 0} (p : Peer N) (config : ChannelConfig) (id : ℕ) → is_bad_channel p.channels config ≡ false → id ≡ p.channels.given → AreBelow p.channels.given p.channels.rows → GivesNumber (told p.channels) config id
+gives_number p config id fine numbered below = (bad_told p.channels config ∙ fine, rw numbered (below_told p.channels.given p.channels.rows below))
+
+-- what is told of channels with one more
+channels_more : {N : Type 0} (p r : Peer N) (config : ChannelConfig) (id : ℕ) → r.channels ≡ with_channel p.channels config → id ≡ p.channels.given → told r.channels ≡ with_numbered id config (told p.channels)
+channels_more p r config id is numbered = ap told is ∙ (told_more p.channels config).same ∙ ap (λ (n : ℕ). with_numbered n config (told p.channels)) (sym numbered)
+
+below_more : {N : Type 0} (p r : Peer N) (config : ChannelConfig) → r.channels ≡ with_channel p.channels config → AreBelow p.channels.given p.channels.rows → AreBelow r.channels.given r.channels.rows
+below_more p r config is below = rw is ((told_more p.channels config).below below)
+
+-- a channel is staged, alone or with its line
+channel_acts : {N : Type 0} (draws : Draws N) (p r q : Peer N) (config : ChannelConfig) (id : ℕ) (ops : List Op) (answers : List OpAnswer) (held : List (List ℕ)) (app : Option (List ℕ))
+    → AddsChannel draws p config (Ok id) r → PerformsOps draws r ops answers q → MayAct p held app q
+    → (IsUnheld app held) × MayAct r (with_front app held) None q
+channel_acts draws p r q config id ops answers held app h rest may = by (needs_app p) app refl may.app_is
+  where
+    staged : ChannelStaged draws p config id r
+    staged = channel_staged draws p config id r h
+
+    table : IsTable r.lines
+    table = subst IsTable (sym staged.lines) may.table
+
+    by : (needs : Bool) (app : Option (List ℕ)) → needs_app p ≡ needs → AppTold p app q → (IsUnheld app held) × MayAct r (with_front app held) None q
+    by false None is told_app =
+        (tt, record { table = table; holds = holds_still p r (AddingChannel id config ∷ []) held staged.lines (staged.alone is) may.holds; app_is = tt; below = below_more p r config staged.channels may.below })
+    by false (Some mid) is told_app = absurd (let e : true ≡ false = sym told_app.0 ∙ is in cc)
+    by true None is told_app =
+        (tt, record { table = table; holds = holds_still p r (AddApp (staged_mid draws p) ∷ AddingChannel id config ∷ []) held staged.lines (staged.lined is) may.holds; app_is = tt; below = below_more p r config staged.channels may.below })
+    by true (Some mid) is told_app =
+        let same : staged_mid draws p ≡ mid = told_app.1 (staged_mid draws p) (app_mid_is draws p r q config id ops answers is staged rest) in (
+          may.holds mid (subst (λ (own : List ℕ). is_held p.lines p.staged own ≡ false) same (h.3 is)),
+          record {
+            table = table;
+            holds = holds_more p r (AddApp (staged_mid draws p) ∷ AddingChannel id config ∷ []) mid held staged.lines (staged.lined is) (ap (λ (own : List ℕ). own ∷ []) same) may.holds;
+            app_is = tt;
+            below = below_more p r config staged.channels may.below;
+          },
+        )
+
+-- a line is changed
+line_acts : {N : Type 0} (change : RowChange) (place : ℕ) (p r q : Peer N) (changed : Bool) (held : List (List ℕ)) (app : Option (List ℕ)) → AnswersLine change place p changed held r → MayAct p held app q → MayAct r held app q
+line_acts change place p r q changed held app line may =
+    record { table = line.table; holds = line.holds; app_is = told_same p r app q line.needs may.app_is; below = rw line.channels may.below }
+
 -- Each op is answered by what it finds, up to the first that lacks memory.
-pub ops_answered : {N : Type 0} (draws : Draws N) (p q : Peer N) (ops : List Op) (answers : List OpAnswer) (held : List (List ℕ)) → IsTable p.lines
-    → ((mid : List ℕ) → is_among held mid ≡ is_held p.lines p.staged mid) → PerformsOps draws p ops answers q → OpsAnswered p.lines held ops answers q.lines
-ops_answered draws p q [] [] held table holds h = ap (λ r. r.lines) h
-ops_answered draws p q (AddMedia kind dir ∷ ops) (Mid mid ∷ answers) held table holds h =
+pub ops_answered : {N : Type 0} (draws : Draws N) (p q : Peer N) (ops : List Op) (answers : List OpAnswer) (held : List (List ℕ)) (app : Option (List ℕ)) → MayAct p held app q
+    → PerformsOps draws p ops answers q → OpsAnswered (midway p held app) ops answers q.lines
+ops_answered draws p q [] [] held app may h = ap (λ r. r.lines) h
+ops_answered draws p q (AddMedia kind dir ∷ ops) (Mid mid ∷ answers) held app may h =
     let change : Change = Adding (staged_media draws p (wanted kind dir)) in
     let staged : h.0.staged ≡ p.staged ++ change ∷ [] = ap (λ r. r.staged) h.1.1 in
-    let lines : h.0.lines ≡ p.lines = ap (λ r. r.lines) h.1.1 in (
-      holds mid ∙ h.1.2,
-      subst (λ (rows : List LineRow). OpsAnswered rows (mid ∷ held) ops answers q.lines) lines
-          (ops_answered draws h.0 q ops answers (mid ∷ held) (subst IsTable (sym lines) table)
-          (λ other. held_more p.lines p.staged change mid held other (ap (λ own. own ∷ []) (sym h.1.0)) (holds other)
-          ∙ sym (ap (λ s. is_held p.lines s other) staged) ∙ sym (ap (λ l. is_held l h.0.staged other) lines))
-          h.2),
+    let lines : h.0.lines ≡ p.lines = ap (λ r. r.lines) h.1.1 in
+    let channels : h.0.channels ≡ p.channels = ap (λ r. r.channels) h.1.1 in
+    let lined : contains_add_app h.0.staged ≡ contains_add_app p.staged = ap contains_add_app staged ∙ contains-append p.staged (change ∷ []) ∙ or_nothing (contains_add_app p.staged) in (
+      may.holds mid h.1.2,
+      midway_from p.lines h.0.lines (told p.channels) (told h.0.channels) (mid ∷ held) app ops answers q.lines lines (ap told channels)
+          (ops_answered draws h.0 q ops answers (mid ∷ held) app
+          (record {
+            table = subst IsTable (sym lines) may.table;
+            holds = holds_more p h.0 (change ∷ []) mid held lines staged (ap (λ (own : List ℕ). own ∷ []) (sym h.1.0)) may.holds;
+            app_is = told_same p h.0 app q (needs_same p h.0 (ap has_app_row lines) lined) may.app_is;
+            below = rw channels may.below;
+          }) h.2),
     )
-ops_answered draws p q (AddMedia kind dir ∷ ops) (OpAlloc ∷ []) held table holds h = ap (λ r. r.lines) h.1
-ops_answered draws p q (SetDirection place dir ∷ ops) (NoLine ∷ answers) held table holds h = (h.0, ops_answered draws p q ops answers held table holds h.1)
-ops_answered draws p q (SetDirection place dir ∷ ops) (Changed changed ∷ answers) held table holds h =
-    let line = line_answered (directed_row dir) dir place p changed held h.0 (directed_row_keeps dir) table holds h.1 in
-    (line.tells, subst (λ (rows : List LineRow). OpsAnswered rows held ops answers q.lines) line.lines (ops_answered draws h.0 q ops answers held line.table line.holds h.2))
-ops_answered draws p q (SetDirection place dir ∷ ops) (OpAlloc ∷ []) held table holds h = ap (λ r. r.lines) h.called
-ops_answered draws p q (StopMedia place ∷ ops) (NoLine ∷ answers) held table holds h = (h.0, ops_answered draws p q ops answers held table holds h.1)
-ops_answered draws p q (StopMedia place ∷ ops) (Changed changed ∷ answers) held table holds h =
-    let line = line_answered stopped_row Inactive place p changed held h.0 stopped_row_keeps table holds h.1 in
-    (line.tells, subst (λ (rows : List LineRow). OpsAnswered rows held ops answers q.lines) line.lines (ops_answered draws h.0 q ops answers held line.table line.holds h.2))
-ops_answered draws p q (StopMedia place ∷ ops) (OpAlloc ∷ []) held table holds h = ap (λ r. r.lines) h.called
-ops_answered draws p q ops answers held table holds h = absurd h
+ops_answered draws p q (AddMedia kind dir ∷ ops) (OpAlloc ∷ []) held app may h = ap (λ r. r.lines) h.1
+ops_answered draws p q (SetDirection place dir ∷ ops) (NoLine ∷ answers) held app may h = (h.0, ops_answered draws p q ops answers held app may h.1)
+ops_answered draws p q (SetDirection place dir ∷ ops) (Changed changed ∷ answers) held app may h =
+    let line = line_answered (directed_row dir) dir place p changed held h.0 (directed_row_keeps dir) may.table may.holds h.1 in (
+      line.tells,
+      midway_from _ h.0.lines (told p.channels) (told h.0.channels) held app ops answers q.lines line.lines (ap told line.channels)
+          (ops_answered draws h.0 q ops answers held app (line_acts (directed_row dir) place p h.0 q changed held app line may) h.2),
+    )
+ops_answered draws p q (SetDirection place dir ∷ ops) (OpAlloc ∷ []) held app may h = ap (λ r. r.lines) h.called
+ops_answered draws p q (StopMedia place ∷ ops) (NoLine ∷ answers) held app may h = (h.0, ops_answered draws p q ops answers held app may h.1)
+ops_answered draws p q (StopMedia place ∷ ops) (Changed changed ∷ answers) held app may h =
+    let line = line_answered stopped_row Inactive place p changed held h.0 stopped_row_keeps may.table may.holds h.1 in (
+      line.tells,
+      midway_from _ h.0.lines (told p.channels) (told h.0.channels) held app ops answers q.lines line.lines (ap told line.channels)
+          (ops_answered draws h.0 q ops answers held app (line_acts stopped_row place p h.0 q changed held app line may) h.2),
+    )
+ops_answered draws p q (StopMedia place ∷ ops) (OpAlloc ∷ []) held app may h = ap (λ r. r.lines) h.called
+ops_answered draws p q (AddChannel config ∷ ops) (Channel id ∷ answers) held app may h =
+    let acts = channel_acts draws p h.0 q config id ops answers held app h.1 h.2 may in
+    let staged : ChannelStaged draws p config id h.0 = channel_staged draws p config id h.0 h.1 in (
+      gives_number p config id h.1.0 h.1.1 may.below,
+      acts.0,
+      midway_from p.lines h.0.lines (with_numbered id config (told p.channels)) (told h.0.channels) (with_front app held) None ops answers q.lines staged.lines (channels_more p h.0 config id staged.channels staged.numbered)
+          (ops_answered draws h.0 q ops answers (with_front app held) None acts.1 h.2),
+    )
+ops_answered draws p q (AddChannel config ∷ ops) (BadChannel ∷ answers) held app may h = (
+  bad_told p.channels config ∙ h.1.0,
+  subst (λ (r : Peer _). PerformsOps draws r ops answers q → OpsAnswered (midway p held app) ops answers q.lines) (sym h.1.1) (λ rest. ops_answered draws p q ops answers held app may rest) h.2,
+)
+ops_answered draws p q (AddChannel config ∷ ops) (OpAlloc ∷ []) held app may h = ap (λ r. r.lines) h.1
+ops_answered draws p q ops answers held app may h = absurd h

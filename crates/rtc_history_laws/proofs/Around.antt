@@ -11,11 +11,13 @@ use Rattle.rtc_history.specs.declared.outcome.Outcome.{Outcome}
 use Rattle.rtc_history.specs.declared.table.Table.{Table}
 use Rattle.rtc_history.specs.Sides.{same_side, other_side, side_of}
 use Rattle.rtc_history.specs.Sizes.{step_size}
-use Rattle.rtc_history.specs.Past.{Entry, MadeSdp, before, rows_or, sdps, sdp_for, remote_sdp, spends, moves, makes}
+use Rattle.rtc_history.specs.Past.{Entry, MadeSdp, before, channels_shown, channel_rows_or, channels_given, channels_after, rows_or, sdps, sdp_for, remote_sdp, spends, moves, makes}
 use Rattle.rtc_history.specs.declared.kept.Kept.{Kept}
 use Rattle.rtc_history.specs.PairState.{PairState, peer_at, made_sdp, kept_remote_sdp}
 use Rattle.rtc_history.specs.Performs.{made_by}
-use Rattle.rtc_history_laws.proofs.Tells.{Tells}
+use Rattle.rtc_channels.specs.Channels.{Channels, channel_rows}
+use Rattle.rtc_history_laws.proofs.ToldChannels.{AreToldAlike}
+use Rattle.rtc_history_laws.proofs.Tells.{ChannelsTell, Tells, same_side-self}
 use Rattle.rtc_history_laws.proofs.Entries.{Goes, unmade_tells}
 use Rattle.rtc_history_laws.proofs.TokenEntries.{All-slice_get}
 
@@ -39,11 +41,13 @@ size_grows step made old new around = omega (arith, one_at_least step, around.si
 
 pub goes_on : {N : Type 0} (moved : Bool) (past : List Entry) (step : Step) (outcome : Outcome) (table : Option Table) (made : List MadeSdp) (old new : PairState N)
     → (peer_at (side_of step) new).lines ≡ rows_or true table (before (side_of step) past)
+    → ChannelsTell (entry step outcome table made ∷ past) (side_of step) (peer_at (side_of step) new).channels
     → (peer_at (side_of step) new).counter ≡ cond moved ((peer_at (side_of step) old).counter + 1) (peer_at (side_of step) old).counter
     → moves (side_of step) step outcome ≡ moved → moves (other_side (side_of step)) step outcome ≡ false
     → length (peer_at (side_of step) new).lines ≤ new.size → Around step made old new → Goes moved past (entry step outcome table made) old new
-goes_on moved past step outcome table made old new rows counter mine theirs few around = record {
+goes_on moved past step outcome table made old new rows channels counter mine theirs few around = record {
   rows = rows;
+  channels = channels;
   counter = counter;
   other = around.other;
   mine = mine;
@@ -54,18 +58,29 @@ goes_on moved past step outcome table made old new rows counter mine theirs few 
   made = around.made_is;
 }
 
+-- a step that gives no number leaves the channels that steps tell
+pub channels_kept : (past : List Entry) (step : Step) (outcome : Outcome) (table : Option Table) (made : List MadeSdp) (held held' : Channels)
+    → ((before_it : Channels) → channels_after true step outcome before_it ≡ before_it) → AreToldAlike held held' → channel_rows_or true table (channels_shown (side_of step) past) ≡ channel_rows held'
+    → ChannelsTell past (side_of step) held → ChannelsTell (entry step outcome table made ∷ past) (side_of step) held'
+channels_kept past step outcome table made held held' gives_none alike shown tell = record {
+  given = alike.same ∙ tell.given ∙ sym (gives_none (channels_given (side_of step) past)) ∙ sym (ap (λ b. channels_after b step outcome (channels_given (side_of step) past)) (same_side-self (side_of step)));
+  shown = sym shown ∙ sym (ap (λ b. channel_rows_or b table (channels_shown (side_of step) past)) (same_side-self (side_of step)));
+  below = alike.below tell.below;
+}
+
 -- A step that leaves as many rows, and SDPs as they were.
 pub quiet_tells : {N : Type 0} (moved : Bool) (past : List Entry) (step : Step) (outcome : Outcome) (table : Option Table) (made : List MadeSdp) (old new : PairState N)
     → length (peer_at (side_of step) new).lines ≡ length (peer_at (side_of step) old).lines → new.sdps ≡ old.sdps
     → (peer_at (side_of step) new).lines ≡ rows_or true table (before (side_of step) past)
+    → ChannelsTell (entry step outcome table made ∷ past) (side_of step) (peer_at (side_of step) new).channels
     → (peer_at (side_of step) new).counter ≡ cond moved ((peer_at (side_of step) old).counter + 1) (peer_at (side_of step) old).counter
     → moves (side_of step) step outcome ≡ moved → moves (other_side (side_of step)) step outcome ≡ false
     → ((t : ℕ) → spends t step outcome ≡ false) → ((t : ℕ) → makes t outcome ≡ false)
     → Around step made old new → Tells past old → Tells (entry step outcome table made ∷ past) new
-quiet_tells moved past step outcome table made old new lines kept rows counter mine theirs unspent unmade around tells =
+quiet_tells moved past step outcome table made old new lines kept rows channels counter mine theirs unspent unmade around tells =
     let few : length (peer_at (side_of step) old).lines ≤ old.size = (tells.sides (side_of step)).few in
     let grows : old.size + 1 ≤ new.size = size_grows step made old new around in
-    unmade_tells moved past (entry step outcome table made) old new (goes_on moved past step outcome table made old new rows counter mine theirs (omega arith) around) lines kept unspent unmade tells
+    unmade_tells moved past (entry step outcome table made) old new (goes_on moved past step outcome table made old new rows channels counter mine theirs (omega arith) around) lines kept unspent unmade tells
 
 -- ---- SDPs that are delivered
 

@@ -10,7 +10,8 @@ use Rattle.rtc_change.proofs.TableLemmas.{row_of_its_mid}
 use Rattle.rtc_history.specs.SaidRows.{row_said}
 use Rattle.rtc_history.specs.CourseRows.{unnamed, course_row_after, course_rows_after}
 use Rattle.rtc_history_laws.proofs.FinishedRounds.{none_of_mid}
-use Rattle.rtc_history_laws.proofs.RowsFollow.{SameName, NewRow, Follows, IsLeft, all_left, first_left, next_left, none_left}
+use Rattle.rtc_history_laws.proofs.RowNames.{SameName}
+use Rattle.rtc_history_laws.proofs.RowsFollow.{NewRow, Follows, IsLeft, all_left, first_left, next_left, none_left}
 
 known_taken : (rows : List LineRow) (offer : Bool) (place : ℕ) (own row : LineRow) → IsTable rows → slice_get rows place ≡ Some own → SameName own row
     → unnamed (row_after rows offer place (row_said row)) ≡ course_row_after offer place (Some (unnamed own)) (unnamed row)
@@ -18,12 +19,13 @@ known_taken rows offer place (Media p m k d s r) (Media at mid Audio dir stopped
     let found : row_of rows mid ≡ Some (Media p m k d s r) = ap (row_of rows) same.0 ∙ row_of_its_mid rows place (Media p m k d s r) table.distinct there in rw found refl
 known_taken rows offer place (Media p m k d s r) (Media at mid Video dir stopped remote_created) table there same =
     let found : row_of rows mid ≡ Some (Media p m k d s r) = ap (row_of rows) same.0 ∙ row_of_its_mid rows place (Media p m k d s r) table.distinct there in rw found refl
+known_taken rows offer place (App p m) (App at mid) table there same = refl
 known_taken rows offer place own row table there same = absurd same
 
 new_taken : (rows : List LineRow) (offer : Bool) (place : ℕ) (row : LineRow) → NewRow rows row → unnamed (row_after rows offer place (row_said row)) ≡ course_row_after offer place None (unnamed row)
 new_taken rows offer place (Media at mid Audio dir stopped remote_created) new = let found : row_of rows mid ≡ None = none_of_mid rows mid (row_of rows mid) refl new in rw found refl
 new_taken rows offer place (Media at mid Video dir stopped remote_created) new = let found : row_of rows mid ≡ None = none_of_mid rows mid (row_of rows mid) refl new in rw found refl
-new_taken rows offer place (App at mid) new = absurd new
+new_taken rows offer place (App at mid) new = refl
 
 left_taken : (rows : List LineRow) (offer : Bool) (place : ℕ) (left more : List LineRow) → IsTable rows → IsLeft rows place left → Follows rows left more
     → map unnamed (rows_after rows offer place (map row_said more)) ≡ course_rows_after offer place (map unnamed left) (map unnamed more)

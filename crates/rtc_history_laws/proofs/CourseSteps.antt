@@ -1,13 +1,13 @@
 -- Where a step that is in order leads in a course.
-use Rattle.std.proofs.Common.{◌≡◌, ◌+◌, ◌==◌, ℕ, Bool, true, false, not, ◌&&◌, List, ◌++◌, length, Some, None, refl, sym, ◌∙◌, ap, cond}
-use Rattle.std.proofs.lemmas.Bool.{eqb-true, and_parts}
+use Rattle.std.proofs.Common.{◌≡◌, ◌+◌, ◌==◌, ℕ, Bool, true, false, not, ◌&&◌, ◌||◌, List, ◌++◌, Some, None, refl, sym, ◌∙◌, ap, cond}
+use Rattle.std.proofs.lemmas.Bool.{eqb-true, and_parts, or_from}
 use Rattle.rtc_sdp_values.specs.declared.line_row.LineRow.{LineRow}
 use Rattle.rtc_history.specs.declared.side.Side.{Side}
 use Rattle.rtc_history.specs.declared.side.Side.TheVariants.{Left, Right}
 use Rattle.rtc_history.specs.declared.op.Op.{Op}
 use Rattle.rtc_history.specs.Sides.{same_side, other_side}
-use Rattle.rtc_history.specs.CourseRows.{must_offer, rows_added, do_stop_first, course_rows_after}
-use Rattle.rtc_history.specs.Orderly.{Phase, Idle, AwaitsAnswer, AwaitsEnd, Course, course_rows, moved_on, after_offering, after_ops, after_offer, after_answer}
+use Rattle.rtc_history.specs.CourseRows.{must_offer, rows_added, do_stop_first, do_add_odd_channel, course_rows_after}
+use Rattle.rtc_history.specs.Orderly.{Phase, Idle, AwaitsAnswer, AwaitsEnd, Course, course_rows, moved_on, after_offering, do_supersede, after_fitting, after_ops, after_offer, after_answer}
 use Rattle.rtc_history_laws.proofs.Tells.{same_side-true}
 
 same_course : (one other : Course) → Some one ≡ Some other → one ≡ other
@@ -15,19 +15,32 @@ same_course one other is = cc
 
 -- ---- ops
 
--- ops that are in order do not stop the first line
-pub not_first : (apply : Bool) (at : Side) (ops : List Op) (course course' : Course) (rows : List LineRow) → after_ops apply at ops course rows ≡ Some course' → do_stop_first ops ≡ false
-not_first apply at ops course course' rows is = by (do_stop_first ops) refl
+-- What ops that are in order do not do.
+pub record AreInOrder (apply : Bool) (at : Side) (ops : List Op) (phase : Phase) : Type 0 where
+  pub stays : do_stop_first ops ≡ false
+  pub plain : do_add_odd_channel ops ≡ false
+  pub right : do_supersede apply at ops phase ≡ false
+
+pub in_order : (apply : Bool) (at : Side) (ops : List Op) (course course' : Course) (rows : List LineRow) → after_ops apply at ops course rows ≡ Some course' → AreInOrder apply at ops course.phase
+in_order apply at ops course course' rows is = by (do_stop_first ops) (do_add_odd_channel ops) (do_supersede apply at ops course.phase) refl refl refl is
   where
-    by : (stops : Bool) → do_stop_first ops ≡ stops → do_stop_first ops ≡ false
-    by false stops = stops
-    by true stops = absurd (let e : None ≡ Some course' = rw stops at is in cc)
+    by : (stops odd late : Bool) → do_stop_first ops ≡ stops → do_add_odd_channel ops ≡ odd → do_supersede apply at ops course.phase ≡ late
+        → cond (do_stop_first ops || (do_add_odd_channel ops || do_supersede apply at ops course.phase)) None (after_fitting apply at ops course rows) ≡ Some course' → AreInOrder apply at ops course.phase
+    by false false false stops odd late is = record { stays = stops; plain = odd; right = late }
+    by true odd_is late_is stops odd late is = absurd (let e : None ≡ Some course' = rw stops at is in cc)
+    by false true late_is stops odd late is = absurd (let e : None ≡ Some course' = rw (stops, odd) at is in cc)
+    by false false true stops odd late is = absurd (let e : None ≡ Some course' = rw (stops, odd, late) at is in cc)
+
+fitting : (apply : Bool) (at : Side) (ops : List Op) (course course' : Course) (rows : List LineRow) → after_ops apply at ops course rows ≡ Some course' → after_fitting apply at ops course rows ≡ Some course'
+fitting apply at ops course course' rows is =
+    let order = in_order apply at ops course course' rows is in
+    sym (ap (λ b. cond b None (after_fitting apply at ops course rows)) (or_from (do_stop_first ops) _ order.stays (or_from (do_add_odd_channel ops) _ order.plain order.right))) ∙ is
 
 -- where ops that offer nothing lead
 pub quiet_course : (apply : Bool) (at : Side) (ops : List Op) (course course' : Course) (rows : List LineRow) → after_ops apply at ops course rows ≡ Some course' → (apply && must_offer ops (course_rows at course)) ≡ false
     → moved_on at course rows course.sdps course.phase ≡ course'
 quiet_course apply at ops course course' rows is quiet =
-    same_course _ course' (let e : Some (moved_on at course rows course.sdps course.phase) ≡ Some course' = rw (not_first apply at ops course course' rows is, quiet) at is in e)
+    same_course _ course' (sym (ap (λ b. cond b (after_offering at course rows (rows_added rows ops) course.phase) (Some (moved_on at course rows course.sdps course.phase))) quiet) ∙ fitting apply at ops course course' rows is)
 
 -- where ops that offer lead
 pub record OffersAt (at : Side) (course course' : Course) (rows said : List LineRow) : Type 0 where
@@ -35,10 +48,11 @@ pub record OffersAt (at : Side) (course course' : Course) (rows said : List Line
   pub course_is : moved_on at course rows (course.sdps + 1) (AwaitsAnswer at course.sdps said) ≡ course'
 
 pub offer_course : (apply : Bool) (at : Side) (ops : List Op) (course course' : Course) (rows : List LineRow) → after_ops apply at ops course rows ≡ Some course' → (apply && must_offer ops (course_rows at course)) ≡ true
-    → OffersAt at course course' rows (rows ++ rows_added (length rows) ops)
-offer_course apply at ops course course' rows is offers = by course.phase refl (rw (not_first apply at ops course course' rows is, offers) at is)
+    → OffersAt at course course' rows (rows ++ rows_added rows ops)
+offer_course apply at ops course course' rows is offers =
+    by course.phase refl (sym (ap (λ b. cond b (after_offering at course rows (rows_added rows ops) course.phase) (Some (moved_on at course rows course.sdps course.phase))) offers) ∙ fitting apply at ops course course' rows is)
   where
-    by : (phase : Phase) → course.phase ≡ phase → after_offering at course rows (rows_added (length rows) ops) phase ≡ Some course' → OffersAt at course course' rows (rows ++ rows_added (length rows) ops)
+    by : (phase : Phase) → course.phase ≡ phase → after_offering at course rows (rows_added rows ops) phase ≡ Some course' → OffersAt at course course' rows (rows ++ rows_added rows ops)
     by Idle is after = record { idle = is; course_is = same_course _ course' after }
     by (AwaitsAnswer side n said) is after = absurd (cc)
     by (AwaitsEnd side n m said) is after = absurd (cc)

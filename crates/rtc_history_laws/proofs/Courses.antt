@@ -5,6 +5,7 @@ use Rattle.rtc_sdp_values.specs.LineRow.{row_mid}
 use Rattle.rtc_sdp_values.specs.declared.line_row.LineRow.{LineRow}
 use Rattle.rtc_sdp_values.specs.declared.sdp.Sdp.{Sdp}
 use Rattle.rtc_change.specs.ParsedLines.{parsed_lines}
+use Rattle.rtc_change.specs.Table.{IsTable}
 use Rattle.rtc_change.specs.TableAfter.{table_after, rows_after}
 use Rattle.rtc_change.specs.Plans.{verdict}
 use Rattle.rtc_history.specs.declared.side.Side.{Side}
@@ -24,19 +25,19 @@ use Rattle.rtc_history.specs.Runs.{Sound}
 use Rattle.rtc_history_laws.proofs.Tells.{same_side-self, same_side-other}
 use Rattle.rtc_history_laws.proofs.Around.{entry}
 use Rattle.rtc_history_laws.proofs.AddedRows.{among_mids}
-use Rattle.rtc_history_laws.proofs.PastTables.{past_table}
+use Rattle.rtc_history_laws.proofs.PastTables.{reply_table, past_table}
 use Rattle.rtc_history_laws.proofs.PastOffers.{stays_there, text_next}
 use Rattle.rtc_history_laws.proofs.PastAnswers.{answered}
 use Rattle.rtc_history_laws.proofs.FinishedRounds.{taken_whole, remote_answer, remote_offer, answer_taken}
-use Rattle.rtc_history_laws.proofs.RowsFollow.{Aligned, Follows, aligned_sym, aligned_trans, aligned_twice, has_mid-aligned, length-aligned, added_follow, follows_append, follows_media, after_aligned, answer_follows}
+use Rattle.rtc_history_laws.proofs.RowNames.{Aligned, aligned_sym, aligned_trans, aligned_self, has_mid-aligned, has_app-aligned, length-aligned}
+use Rattle.rtc_history_laws.proofs.RowsFollow.{Follows, added_follow, follows_append, SayApps, follows_say, all_left, after_aligned, answer_follows}
 use Rattle.rtc_history_laws.proofs.LiveRows.{KeepsLive, StartsLive, starts_are_live, starts_keep, text_live}
 use Rattle.rtc_history_laws.proofs.CourseSdps.{sdp_accepted}
 use Rattle.rtc_history_laws.proofs.RoundRows.{OfferSaid, AnswerSaid, HasOffered, IsOffered, IsAnswered, offer_passes, answer_passes}
 
--- The rows of a side in a course: these without their mids, media rows alone, the first of them live.
+-- The rows of a side in a course: these without their mids, the first of them live.
 pub record IsSideOf (seen rows : List LineRow) : Type 0 where
   pub are : map unnamed rows ≡ seen
-  pub media : Aligned rows rows
   pub live : KeepsLive rows
 
 abbrev pub InPhase : Phase → List Entry → Type 0
@@ -107,7 +108,8 @@ pub record MayAccept (offer : OfferSaid) (at : Side) (n : ℕ) (past : List Entr
 offer_follows : (offer : OfferSaid) (rows : List LineRow) → Aligned offer.front rows → Follows rows rows (offer.front ++ offer.more)
 offer_follows offer rows same =
     follows_append rows rows offer.front offer.more (aligned_sym offer.front rows same)
-    (added_follow rows (map row_mid offer.front) (length offer.front) offer.more offer.new (λ mid free. has_mid-aligned offer.front rows mid same ∙ sym (among_mids offer.front mid) ∙ free))
+    (added_follow rows offer.may (map row_mid offer.front) (length offer.front) offer.more offer.new (λ mid free. has_mid-aligned offer.front rows mid same ∙ sym (among_mids offer.front mid) ∙ free)
+    (λ may. has_app-aligned offer.front rows same ∙ offer.first may))
 
 pub may_accept : (at : Side) (n : ℕ) (said : List LineRow) (past : List Entry) → Sound past → (it : IsOffered at n said past) → MayAccept it.offer at n past
 may_accept at n said past sound it =
@@ -118,7 +120,7 @@ may_accept at n said past sound it =
     let lines : length (map row_said (offer.front ++ offer.more)) ≡ length (offer.front ++ offer.more) = length-map (offer.front ++ offer.more) row_said in
     record {
       remote_is = ap (sdp_for true (other_side at)) it.has.there ∙ remote_offer at offer.sdp;
-      passes = offer_passes theirs (offer.front ++ offer.more) offer.sdp (past_table past (other_side at) sound) there offer.says offer.fits offer.live;
+      passes = offer_passes theirs (offer.front ++ offer.more) offer.sdp (past_table past (other_side at) sound) there offer.whole.one_app offer.says offer.fits offer.live;
       leaves = ap (λ list. table_after theirs list true) offer.says ∙ taken_whole theirs (map row_said (offer.front ++ offer.more)) true (omega (arith, length-aligned offer.front theirs same, length-append offer.front offer.more));
       here = offer_follows offer (before at past) it.has.kept;
       there = there;
@@ -143,34 +145,36 @@ pub record Accepted (at : Side) (n m : ℕ) (said : List LineRow) (past : List E
 -- The other side has accepted the offer.
 pub accepted_next : (at : Side) (n m : ℕ) (said seen : List LineRow) (past : List Entry) (j : ℕ) (table : Table) (made : List MadeSdp) → Sound past → IsOffered at n said past
     → IsSideOf seen (before (other_side at) past) → m ≡ length (sdps past)
-    → IsSound past (AcceptOffer (other_side at) n) (Answered j) (Some table) → MakesSdp (AcceptOffer (other_side at) n) (Answered j) (Some table) made
+    → IsSound past (AcceptOffer (other_side at) n) (Answered j) (Some table) made → MakesSdp (AcceptOffer (other_side at) n) (Answered j) (Some table) made
     → Accepted at n m (course_rows_after true 0 seen said) (entry (AcceptOffer (other_side at) n) (Answered j) (Some table) made ∷ past) table
 accepted_next at n m said seen past j table made sound out side count replied says =
     let may : MayAccept out.offer at n past = may_accept at n said past sound out in
-    let it = answered (remote_sdp true (other_side at) n past) theirs (length (sdps past)) j table.lines replied in
+    let it = answered (remote_sdp true (other_side at) n past) theirs (length (sdps past)) j table.lines replied.0 in
     let text_is : it.offer ≡ out.offer.sdp = some_same _ _ (sym it.is ∙ may.remote_is) in
     let after : table.lines ≡ rows_after theirs true 0 (map row_said offered) = it.leaves ∙ ap (λ sdp. table_after theirs (parsed_lines sdp) true) text_is ∙ may.leaves in
-    let names : Aligned offered table.lines = rw after (after_aligned theirs true 0 offered offered (follows_media mine mine offered may.here)) in
-    let follows : Follows mine mine table.lines = rw after (answer_follows mine theirs mine theirs offered 0 out.same may.here may.there) in
+    let table_of : IsTable theirs = past_table past (other_side at) sound in
+    let apps : SayApps theirs offered = follows_say theirs 0 theirs offered table_of (all_left theirs) may.there in
+    let names : Aligned offered table.lines = rw after (after_aligned theirs true 0 offered offered apps (aligned_self offered)) in
+    let follows : Follows mine mine table.lines = rw after (answer_follows mine theirs mine theirs offered 0 apps out.same may.here may.there) in
     let live : StartsLive table.lines = rw after (text_live theirs true offered (past_table past (other_side at) sound) may.there side.live out.offer.live) in
-    let media : Aligned table.lines table.lines = aligned_twice table.lines offered (aligned_sym offered table.lines names) in
+    let left : IsTable table.lines = reply_table past (AcceptOffer (other_side at) n) (Answered j) (Some table) made replied table_of in
     let are : map unnamed table.lines ≡ course_rows_after true 0 seen said =
     ap (map unnamed) after ∙ sdp_accepted theirs true offered (past_table past (other_side at) sound) may.there
     ∙ ap (λ list. course_rows_after true 0 list (map unnamed offered)) side.are ∙ ap (λ list. course_rows_after true 0 seen list) out.are in
     record {
       phase = record {
         offer = out.offer;
-        answer = record { sdp = says.sdp; rows = table.lines; says = says.says; fits = says.fits (starts_are_live table.lines live); live = live };
+        answer = record { sdp = says.sdp; rows = table.lines; says = says.says; fits = says.fits (starts_are_live table.lines live); live = live; table = left };
         are = are;
         has = offer_stays out.offer at n past n j (Some table) made out.has;
         answered = record {
           there = text_next past (entry (AcceptOffer (other_side at) n) (Answered j) (Some table) made) _ m says.one count;
           offered = names;
           mine = rw (other_side-same at) follows;
-          theirs = rw (same_side-self (other_side at)) media;
+          theirs = rw (same_side-self (other_side at)) (aligned_self table.lines);
         };
       };
-      side = record { are = are; media = media; live = starts_keep table.lines live };
+      side = record { are = are; live = starts_keep table.lines live };
     }
   where
     mine : List LineRow
@@ -204,7 +208,7 @@ may_end at n m said past sound it =
       held = rw (it.has.there, it.has.unspent, same_side-self at) refl;
       right = it.has.right;
       remote_is = ap (sdp_for false at) it.answered.there ∙ remote_answer at answer.sdp;
-      passes = rw adds (answer_passes mine offer answer.rows answer.sdp (past_table past at sound) it.answered.mine it.answered.offered it.has.kept answer.says answer.fits);
+      passes = rw adds (answer_passes mine offer answer.rows answer.sdp (past_table past at sound) it.answered.mine answer.table.one_app it.answered.offered it.has.kept answer.says answer.fits);
       leaves = ap (λ list. table_after mine list false) answer.says
           ∙ taken_whole mine (map row_said answer.rows) false (omega (arith, length-aligned (offer.front ++ offer.more) answer.rows it.answered.offered, length-append offer.front offer.more));
     }
@@ -216,22 +220,21 @@ pub record Ended (said : List LineRow) (past : List Entry) (table : Table) : Typ
 
 -- The side that offered has accepted the answer.
 pub ended_next : (at : Side) (n m : ℕ) (said seen : List LineRow) (past : List Entry) (table : Table) (made : List MadeSdp) → Sound past → IsAnswered at n m said past
-    → IsSideOf seen (before at past) → IsSound past (AcceptAnswer at n m) Finished (Some table)
+    → IsSideOf seen (before at past) → IsSound past (AcceptAnswer at n m) Finished (Some table) made
     → Ended (course_rows_after false 0 seen said) (entry (AcceptAnswer at n m) Finished (Some table) made ∷ past) table
 ended_next at n m said seen past table made sound out side replied =
     let may : MayEnd out.answer at n m past = may_end at n m said past sound out in
-    let it = answer_taken (holds_token at n past) (is_right at n past) (asked_in at n past) (remote_sdp false at m past) mine table.lines replied in
+    let it = answer_taken (holds_token at n past) (is_right at n past) (asked_in at n past) (remote_sdp false at m past) mine table.lines replied.0 in
     let text_is : it.answer ≡ out.answer.sdp = some_same _ _ (sym it.is ∙ may.remote_is) in
     let after : table.lines ≡ rows_after mine false 0 (map row_said rows) = it.leaves ∙ ap (λ sdp. table_after mine (parsed_lines sdp) false) text_is ∙ may.leaves in
-    let media : Aligned rows rows = aligned_twice rows theirs out.answered.theirs in
-    let names : Aligned rows table.lines = rw after (after_aligned mine false 0 rows rows media) in
+    let apps : SayApps mine rows = follows_say mine 0 mine rows (past_table past at sound) (all_left mine) out.answered.mine in
+    let names : Aligned rows table.lines = rw after (after_aligned mine false 0 rows rows apps (aligned_self rows)) in
     let live : StartsLive table.lines = rw after (text_live mine false rows (past_table past at sound) out.answered.mine side.live out.answer.live) in
     record {
       phase = aligned_from at (entry (AcceptAnswer at n m) Finished (Some table) made ∷ past) (rw (same_side-self at, same_side-other at) (aligned_trans theirs rows table.lines (aligned_sym rows theirs out.answered.theirs) names));
       side = record {
         are = ap (map unnamed) after ∙ sdp_accepted mine false rows (past_table past at sound) out.answered.mine
             ∙ ap (λ list. course_rows_after false 0 list (map unnamed rows)) side.are ∙ ap (λ list. course_rows_after false 0 seen list) out.are;
-        media = aligned_twice table.lines rows (aligned_sym rows table.lines names);
         live = starts_keep table.lines live;
       };
     }

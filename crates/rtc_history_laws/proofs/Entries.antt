@@ -16,11 +16,12 @@ use Rattle.rtc_history.specs.PairState.{PairState, peer_at, made_sdp, token_for}
 use Rattle.rtc_history.specs.Performs.{made_by}
 use Rattle.rtc_history_laws.proofs.PushedLists.{push_places}
 use Rattle.rtc_history.proofs.BothSides.{both_sides}
-use Rattle.rtc_history_laws.proofs.Tells.{TokenTells, SideTells, Tells, IsUntold, Fits, HeldBefore, same_side-self, same_side-other, token_next, no_token, held_before, fits_moved, fits_same, side_next, side_stays}
+use Rattle.rtc_history_laws.proofs.Tells.{TokenTells, ChannelsTell, SideTells, Tells, IsUntold, Fits, HeldBefore, same_side-self, same_side-other, token_next, no_token, held_before, fits_moved, fits_same, side_next, side_stays}
 
 -- What a new entry leaves, whatever it makes: rows and counter of its side, and the other side as it was.
 pub record Goes {N : Type 0} (moved : Bool) (past : List Entry) (e : Entry) (old new : PairState N) : Type 0 where
   pub rows : (peer_at (side_of e.step) new).lines ≡ rows_or true e.table (before (side_of e.step) past)
+  pub channels : ChannelsTell (e ∷ past) (side_of e.step) (peer_at (side_of e.step) new).channels
   pub counter : (peer_at (side_of e.step) new).counter ≡ cond moved ((peer_at (side_of e.step) old).counter + 1) (peer_at (side_of e.step) old).counter
   pub other : peer_at (other_side (side_of e.step)) new ≡ peer_at (other_side (side_of e.step)) old
   pub mine : moves (side_of e.step) e.step e.outcome ≡ moved
@@ -103,7 +104,7 @@ unmade_tells moved past e old new goes lines kept unspent unmade tells =
     (side_next moved past e at (peer_at at old) (peer_at at new) old.sdps new.sdps old.size new.size (rows_told moved past e old new goes) goes.counter goes.grows goes.few (was at)
     (λ t. rw kept (token_next moved past e at _ t _ (untold at t) goes.mine ((tells.sides at).tokens t)))
     (fits_unmade moved past at (peer_at at old) (peer_at at new) old.sdps new.sdps old.size new.size goes.counter lines small size (was at) (tells.sides at))
-    (tells.sides at))
+    goes.channels (tells.sides at))
     (was (other_side at))
     (λ t. rw kept (token_next false past e (other_side at) _ t _ (untold (other_side at) t) goes.theirs ((tells.sides (other_side at)).tokens t)))
     tells
@@ -165,7 +166,7 @@ answered_tells past e old new kept goes answer none few pushed unspent unmade te
       | inr h ↦ rw h.2 (last at _ t h.2)
     ])
     (fits_moved past at (peer_at at old) (peer_at at new) old.sdps new.sdps old.size new.size goes.counter small (was at) (tells.sides at))
-    (tells.sides at))
+    goes.channels (tells.sides at))
     (was (other_side at))
     (λ t. elim (place t) [
       | inl h ↦ rw h.1 (token_next false past e (other_side at) _ t _ (untold (other_side at) t h.1) goes.theirs ((tells.sides (other_side at)).tokens t))

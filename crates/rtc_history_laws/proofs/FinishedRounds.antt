@@ -26,7 +26,7 @@ use Rattle.rtc_history.specs.declared.outcome.Outcome.{Outcome}
 use Rattle.rtc_history.specs.declared.outcome.Outcome.TheVariants.{Finished}
 use Rattle.rtc_history.specs.declared.table.Table.{Table}
 use Rattle.rtc_history.specs.Sides.{other_side}
-use Rattle.rtc_history.specs.Past.{Entry, before, sdps, sdp_for, remote_sdp, is_offer_of, holds_token, is_spent, is_right}
+use Rattle.rtc_history.specs.Past.{Entry, MadeSdp, before, sdps, sdp_for, remote_sdp, is_offer_of, holds_token, is_spent, is_right}
 use Rattle.rtc_history.specs.Sound.{RepliesToAnswer, IsSound, asked_in}
 use Rattle.rtc_history.specs.SaidRows.{row_said}
 use Rattle.rtc_history.specs.Finished.{FinishedRound}
@@ -56,14 +56,15 @@ known_append offerer [] more known other = other
 known_append offerer (row ∷ rows) more known other = (known.0, known_append offerer rows more known.1 other)
 
 -- added rows are new
-added_known : (offerer : List LineRow) (held : List (List ℕ)) (place : ℕ) (rows : List LineRow) → AreAdded held place rows
+added_known : (offerer : List LineRow) (may : Bool) (held : List (List ℕ)) (place : ℕ) (rows : List LineRow) → AreAdded may held place rows
     → ((mid : List ℕ) → is_among held mid ≡ false → has_mid mid offerer ≡ false) → AllKnown offerer rows
-added_known offerer held place [] new apart = tt
-added_known offerer held place (Media at mid kind dir stopped remote_created ∷ rows) new apart = (
+added_known offerer may held place [] new apart = tt
+added_known offerer may held place (Media at mid kind dir stopped remote_created ∷ rows) new apart = (
   inr (none_of_mid offerer mid (row_of offerer mid) refl (apart mid new.0.free), new.0.live, new.0.own),
-  added_known offerer (mid ∷ held) (place + 1) rows new.1 (λ other apart_it. apart other (or_parts (bytes_eq mid other) (is_among held other) apart_it).1),
+  added_known offerer may (mid ∷ held) (place + 1) rows new.1 (λ other apart_it. apart other (or_parts (bytes_eq mid other) (is_among held other) apart_it).1),
 )
-added_known offerer held place (App at mid ∷ rows) new apart = absurd new
+added_known offerer may held place (App at mid ∷ rows) new apart =
+    (tt, added_known offerer false (mid ∷ held) (place + 1) rows new.1 (λ other apart_it. apart other (or_parts (bytes_eq mid other) (is_among held other) apart_it).1))
 
 -- What is known of the rows of an offer at its side.
 record OfferedRows (offerer added : List LineRow) : Type 0 where
@@ -71,14 +72,14 @@ record OfferedRows (offerer added : List LineRow) : Type 0 where
   known : AllKnown offerer (offerer ++ added)
   rising : Rising 0 (offerer ++ added)
 
-offered_known : (offerer more : List LineRow) → IsTable offerer → AreAdded (map row_mid offerer) (length offerer) more → OfferedRows offerer more
-offered_known offerer more table new = record {
+offered_known : (offerer more : List LineRow) (may : Bool) → IsTable offerer → AreAdded may (map row_mid offerer) (length offerer) more → OfferedRows offerer more
+offered_known offerer more may table new = record {
   table = table;
   known = known_append offerer offerer more
       (known_each offerer offerer (λ k row there. row_known offerer row (row_of_its_mid offerer k row table.distinct there)))
-      (added_known offerer (map row_mid offerer) (length offerer) more new (λ mid apart. sym (among_mids offerer mid) ∙ apart));
+      (added_known offerer may (map row_mid offerer) (length offerer) more new (λ mid apart. sym (among_mids offerer mid) ∙ apart));
   rising = rising_append 0 offerer more table.rising
-      (subst (λ (n : ℕ). Rising n more) (let e : length offerer ≡ 0 + length offerer = omega arith in e) (added_rising (map row_mid offerer) (length offerer) more new));
+      (subst (λ (n : ℕ). Rising n more) (let e : length offerer ≡ 0 + length offerer = omega arith in e) (added_rising may (map row_mid offerer) (length offerer) more new));
 }
 
 -- ---- both ends
@@ -170,11 +171,11 @@ ends_round past at t a after sound accepts own unset =
     let answer_is : answer.sdp ≡ accepts.answer = same_sdp _ _ (sym (remote_answer at answer.sdp) ∙ ap (sdp_for false at) (sym answer.there) ∙ accepts.is) in
     let offer_is : answer.offer ≡ offer.sdp = same_sdp _ _ (sym answer.offered ∙ ap (sdp_for true (other_side at)) offer.there ∙ remote_offer at offer.sdp) in
     rw offer.adds (ends_alike (rows_at_offer at t past) offer.more _ _ after answer.offer answer.sdp
-    (offered_known (rows_at_offer at t past) offer.more table offer.new) answer.took (ap parsed_lines offer_is ∙ offer.says)
+    (offered_known (rows_at_offer at t past) offer.more offer.may table offer.new) answer.took (ap parsed_lines offer_is ∙ offer.says)
     (rw answer_is (rw offer.adds at (rw rows at accepts.passes))) (rw answer_is (rw rows at accepts.leaves)))
 
 -- Each accepted answer that is its token's own ends the round.
-pub finishes_round : (past : List Entry) (step : Step) (outcome : Outcome) (table : Option Table) → Sound past → IsSound past step outcome table → FinishesRound past step outcome table
-finishes_round past (AcceptAnswer at t a) Finished (Some table) sound replied =
-    λ own unset. ends_round past at t a table.lines sound (answer_taken (holds_token at t past) (is_right at t past) (asked_in at t past) (remote_sdp false at a past) (before at past) table.lines replied) own unset
-finishes_round past step outcome table sound replied = tt
+pub finishes_round : (past : List Entry) (step : Step) (outcome : Outcome) (table : Option Table) (made : List MadeSdp) → Sound past → IsSound past step outcome table made → FinishesRound past step outcome table
+finishes_round past (AcceptAnswer at t a) Finished (Some table) made sound replied =
+    λ own unset. ends_round past at t a table.lines sound (answer_taken (holds_token at t past) (is_right at t past) (asked_in at t past) (remote_sdp false at a past) (before at past) table.lines replied.0) own unset
+finishes_round past step outcome table made sound replied = tt

@@ -2,6 +2,9 @@ pub mod Bounds
 pub mod OpRows
 pub mod AddedRows
 pub mod PlacedRows
+pub mod ToldChannels
+pub mod StagedApps
+pub mod StagedChanges
 pub mod Staging
 pub mod AnsweredOps
 pub mod PushedLists
@@ -11,8 +14,11 @@ pub mod TokenEntries
 pub mod Around
 pub mod OfferSteps
 pub mod AnswerSteps
+pub mod OfferApps
 pub mod NegotiateSteps
 pub mod SaidSdps
+pub mod OfferTables
+pub mod Takings
 pub mod MakesSdps
 pub mod FinishedRows
 pub mod AnswerCounts
@@ -21,9 +27,11 @@ pub mod PastOffers
 pub mod PastRows
 pub mod PastAnswers
 pub mod FinishedRounds
+pub mod RowNames
 pub mod RowsFollow
 pub mod LiveRows
 pub mod CourseOps
+pub mod ChannelCounts
 pub mod CourseSdps
 pub mod RoundRows
 pub mod UnspentTokens

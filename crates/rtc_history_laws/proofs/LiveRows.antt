@@ -1,5 +1,7 @@
 -- The first row of each side stays live where no op stops it, so that each SDP of a round has a live line.
-use Rattle.std.proofs.Common.{◌≡◌, ℕ, Bool, true, false, List, [], ◌∷◌, ◌++◌, map, Some, refl, sym, ◌∙◌, ap, subst, arith, zero, suc}
+use Rattle.std.proofs.Common.{◌≡◌, ℕ, Bool, true, false, List, [], ◌∷◌, ◌++◌, map, Option, Some, None, refl, sym, ◌∙◌, ap, subst, arith, zero, suc}
+use Rattle.std.specs.Prelude.{is_some}
+use Rattle.rtc_channels.specs.Channels.{Channels}
 use Rattle.rtc_sdp_values.specs.Direction.{same_direction}
 use Rattle.rtc_sdp_values.specs.LineRow.{row_mid}
 use Rattle.rtc_sdp_values.specs.declared.direction.Direction.{Direction}
@@ -12,15 +14,16 @@ use Rattle.rtc_change.specs.TableAfter.{rows_after, row_after}
 use Rattle.rtc_change.proofs.TableLemmas.{row_of_its_mid}
 use Rattle.rtc_peer_state.specs.MadeSdp.{is_stopped}
 use Rattle.rtc_history.specs.declared.op.Op.{Op}
-use Rattle.rtc_history.specs.declared.op.Op.TheVariants.{AddMedia, SetDirection, StopMedia}
+use Rattle.rtc_history.specs.declared.op.Op.TheVariants.{AddMedia, SetDirection, StopMedia, AddChannel}
 use Rattle.rtc_history.specs.declared.op_answer.OpAnswer.{OpAnswer}
-use Rattle.rtc_history.specs.declared.op_answer.OpAnswer.TheVariants.{Mid, Changed, NoLine, Alloc as OpAlloc}
+use Rattle.rtc_history.specs.declared.op_answer.OpAnswer.TheVariants.{Mid, Changed, NoLine, Channel, BadChannel, Alloc as OpAlloc}
 use Rattle.rtc_history.specs.CourseRows.{do_stop_first}
-use Rattle.rtc_history.specs.Past.{added, do_stage}
+use Rattle.rtc_history.specs.Answers.{has_app_row, added, do_need_offer}
 use Rattle.rtc_history.specs.SaidRows.{row_said, are_live}
-use Rattle.rtc_history.specs.Sound.{OpsAnswered}
+use Rattle.rtc_history.specs.Sound.{Midway, holding_mid, having_rows, having_channel, OpsAnswered}
 use Rattle.rtc_history_laws.proofs.OpRows.{ops_length}
-use Rattle.rtc_history_laws.proofs.RowsFollow.{SameName, Follows}
+use Rattle.rtc_history_laws.proofs.RowNames.{SameName}
+use Rattle.rtc_history_laws.proofs.RowsFollow.{Follows}
 
 -- the first row, if there is one, is live
 abbrev pub KeepsLive : List LineRow → Type 0
@@ -61,41 +64,48 @@ halted_keep place [] live = tt
 halted_keep place (row ∷ rows) live = live
 
 -- ops that do not stop the first row leave it live
-pub ops_live : (rows : List LineRow) (held : List (List ℕ)) (ops : List Op) (answers : List OpAnswer) (after : List LineRow) → OpsAnswered rows held ops answers after → do_stop_first ops ≡ false
-    → KeepsLive rows → KeepsLive after
-ops_live rows held [] [] after answered stays live = subst KeepsLive (sym answered) live
-ops_live rows held (AddMedia kind dir ∷ ops) (Mid mid ∷ answers) after answered stays live = ops_live rows (mid ∷ held) ops answers after answered.1 stays live
-ops_live rows held (AddMedia kind dir ∷ ops) (OpAlloc ∷ []) after answered stays live = subst KeepsLive (sym answered) live
-ops_live rows held (SetDirection place dir ∷ ops) (NoLine ∷ answers) after answered stays live = ops_live rows held ops answers after answered.1 stays live
-ops_live rows held (SetDirection place dir ∷ ops) (Changed changed ∷ answers) after answered stays live =
-    ops_live (changed_at (directed_row dir) place rows) held ops answers after answered.1 stays (turned_keep dir place rows live)
-ops_live rows held (SetDirection place dir ∷ ops) (OpAlloc ∷ []) after answered stays live = subst KeepsLive (sym answered) live
-ops_live rows held (StopMedia zero ∷ ops) answers after answered stays live = absurd (cc)
-ops_live rows held (StopMedia (suc place) ∷ ops) (NoLine ∷ answers) after answered stays live = ops_live rows held ops answers after answered.1 stays live
-ops_live rows held (StopMedia (suc place) ∷ ops) (Changed changed ∷ answers) after answered stays live =
-    ops_live (changed_at stopped_row (suc place) rows) held ops answers after answered.1 stays (halted_keep place rows live)
-ops_live rows held (StopMedia (suc place) ∷ ops) (OpAlloc ∷ []) after answered stays live = subst KeepsLive (sym answered) live
-ops_live rows held ops answers after answered stays live = absurd answered
+pub ops_live : (m : Midway) (ops : List Op) (answers : List OpAnswer) (after : List LineRow) → OpsAnswered m ops answers after → do_stop_first ops ≡ false → KeepsLive m.rows → KeepsLive after
+ops_live m [] [] after answered stays live = subst KeepsLive (sym answered) live
+ops_live m (AddMedia kind dir ∷ ops) (Mid mid ∷ answers) after answered stays live = ops_live (holding_mid mid m) ops answers after answered.1 stays live
+ops_live m (AddMedia kind dir ∷ ops) (OpAlloc ∷ []) after answered stays live = subst KeepsLive (sym answered) live
+ops_live m (SetDirection place dir ∷ ops) (NoLine ∷ answers) after answered stays live = ops_live m ops answers after answered.1 stays live
+ops_live m (SetDirection place dir ∷ ops) (Changed changed ∷ answers) after answered stays live = ops_live (having_rows (changed_at (directed_row dir) place m.rows) m) ops answers after answered.1 stays (turned_keep dir place m.rows live)
+ops_live m (SetDirection place dir ∷ ops) (OpAlloc ∷ []) after answered stays live = subst KeepsLive (sym answered) live
+ops_live m (StopMedia zero ∷ ops) answers after answered stays live = absurd (cc)
+ops_live m (StopMedia (suc place) ∷ ops) (NoLine ∷ answers) after answered stays live = ops_live m ops answers after answered.1 stays live
+ops_live m (StopMedia (suc place) ∷ ops) (Changed changed ∷ answers) after answered stays live = ops_live (having_rows (changed_at stopped_row (suc place) m.rows) m) ops answers after answered.1 stays (halted_keep place m.rows live)
+ops_live m (StopMedia (suc place) ∷ ops) (OpAlloc ∷ []) after answered stays live = subst KeepsLive (sym answered) live
+ops_live m (AddChannel config ∷ ops) (Channel id ∷ answers) after answered stays live = ops_live (having_channel id config m) ops answers after answered.2 stays live
+ops_live m (AddChannel config ∷ ops) (BadChannel ∷ answers) after answered stays live = ops_live m ops answers after answered.1 stays live
+ops_live m (AddChannel config ∷ ops) (OpAlloc ∷ []) after answered stays live = subst KeepsLive (sym answered) live
+ops_live m ops answers after answered stays live = absurd answered
 
--- where there is no row, what ops stage starts with a live one
-bare_live : (held : List (List ℕ)) (ops : List Op) (answers : List OpAnswer) (after : List LineRow) (place : ℕ) → OpsAnswered [] held ops answers after → do_stage answers ≡ true → StartsLive (added place ops answers)
-bare_live held [] [] after place answered staged = absurd (cc)
-bare_live held (AddMedia kind dir ∷ ops) (Mid mid ∷ answers) after place answered staged = refl
-bare_live held (AddMedia kind dir ∷ ops) (OpAlloc ∷ []) after place answered staged = absurd (cc)
-bare_live held (SetDirection at dir ∷ ops) (NoLine ∷ answers) after place answered staged = bare_live held ops answers after place answered.1 staged
-bare_live held (SetDirection at dir ∷ ops) (Changed changed ∷ answers) after place answered staged = absurd (let e : false ≡ true = answered.0.0 in cc)
-bare_live held (SetDirection at dir ∷ ops) (OpAlloc ∷ []) after place answered staged = absurd (cc)
-bare_live held (StopMedia at ∷ ops) (NoLine ∷ answers) after place answered staged = bare_live held ops answers after place answered.1 staged
-bare_live held (StopMedia at ∷ ops) (Changed changed ∷ answers) after place answered staged = absurd (let e : false ≡ true = answered.0.0 in cc)
-bare_live held (StopMedia at ∷ ops) (OpAlloc ∷ []) after place answered staged = absurd (cc)
-bare_live held ops answers after place answered staged = absurd answered
+-- where there is no row, and the mid of a line of data channels is told, what ops offer starts with a live row
+bare_live : (held : List (List ℕ)) (app : List ℕ) (channels : Channels) (ops : List Op) (answers : List OpAnswer) (after : List LineRow) (place : ℕ)
+    → OpsAnswered (record { rows = []; held = held; app = Some app; channels = channels }) ops answers after → do_need_offer false answers ≡ true → StartsLive (added (Some app) place ops answers)
+bare_live held app channels [] [] after place answered staged = absurd (cc)
+bare_live held app channels (AddMedia kind dir ∷ ops) (Mid mid ∷ answers) after place answered staged = refl
+bare_live held app channels (AddMedia kind dir ∷ ops) (OpAlloc ∷ []) after place answered staged = absurd (cc)
+bare_live held app channels (SetDirection at dir ∷ ops) (NoLine ∷ answers) after place answered staged = bare_live held app channels ops answers after place answered.1 staged
+bare_live held app channels (SetDirection at dir ∷ ops) (Changed changed ∷ answers) after place answered staged = absurd (let e : false ≡ true = answered.0.0 in cc)
+bare_live held app channels (SetDirection at dir ∷ ops) (OpAlloc ∷ []) after place answered staged = absurd (cc)
+bare_live held app channels (StopMedia at ∷ ops) (NoLine ∷ answers) after place answered staged = bare_live held app channels ops answers after place answered.1 staged
+bare_live held app channels (StopMedia at ∷ ops) (Changed changed ∷ answers) after place answered staged = absurd (let e : false ≡ true = answered.0.0 in cc)
+bare_live held app channels (StopMedia at ∷ ops) (OpAlloc ∷ []) after place answered staged = absurd (cc)
+bare_live held app channels (AddChannel config ∷ ops) (Channel id ∷ answers) after place answered staged = refl
+bare_live held app channels (AddChannel config ∷ ops) (BadChannel ∷ answers) after place answered staged = bare_live held app channels ops answers after place answered.1 staged
+bare_live held app channels (AddChannel config ∷ ops) (OpAlloc ∷ []) after place answered staged = absurd (cc)
+bare_live held app channels ops answers after place answered staged = absurd answered
 
--- where something is staged, an offer starts with a live row
-pub offer_live : (rows : List LineRow) (held : List (List ℕ)) (ops : List Op) (answers : List OpAnswer) (after : List LineRow) (place : ℕ) → OpsAnswered rows held ops answers after → KeepsLive after
-    → do_stage answers ≡ true → StartsLive (after ++ added place ops answers)
-offer_live rows held ops answers (row ∷ after) place answered live staged = live
-offer_live [] held ops answers [] place answered live staged = bare_live held ops answers [] place answered staged
-offer_live (row ∷ rows) held ops answers [] place answered live staged = absurd (omega (arith, ops_length (row ∷ rows) held ops answers [] answered))
+-- where something is offered, an offer starts with a live row
+pub offer_live : (rows : List LineRow) (held : List (List ℕ)) (app : Option (List ℕ)) (channels : Channels) (ops : List Op) (answers : List OpAnswer) (after : List LineRow) (place : ℕ)
+    → OpsAnswered (record { rows = rows; held = held; app = app; channels = channels }) ops answers after → (has_app_row rows ≡ false → is_some app ≡ true) → KeepsLive after
+    → do_need_offer (has_app_row rows) answers ≡ true → StartsLive (after ++ added app place ops answers)
+offer_live rows held app channels ops answers (row ∷ after) place answered told_app live staged = live
+offer_live [] held (Some app) channels ops answers [] place answered told_app live staged = bare_live held app channels ops answers [] place answered staged
+offer_live [] held None channels ops answers [] place answered told_app live staged = absurd (let e : false ≡ true = told_app refl in cc)
+offer_live (row ∷ rows) held app channels ops answers [] place answered told_app live staged =
+    absurd (omega (arith, ops_length (record { rows = row ∷ rows; held = held; app = app; channels = channels }) ops answers [] answered))
 
 -- ---- SDPs
 
@@ -105,6 +115,7 @@ known_live rows offer (Media p m k d s r) (Media at mid Audio dir stopped remote
     let found : row_of rows mid ≡ Some (Media p m k d s r) = ap (row_of rows) same.0 ∙ there in rw (found, live, own_live) refl
 known_live rows offer (Media p m k d s r) (Media at mid Video dir stopped remote_created) there same own_live live =
     let found : row_of rows mid ≡ Some (Media p m k d s r) = ap (row_of rows) same.0 ∙ there in rw (found, live, own_live) refl
+known_live rows offer (App p m) (App at mid) there same own_live live = refl
 known_live rows offer own row there same own_live live = absurd same
 
 -- an SDP that goes on from rows, and starts with a live line, leaves a live first row where theirs was live
@@ -113,4 +124,4 @@ text_live rows offer [] table follows live starts = absurd starts
 text_live (own ∷ rows) offer (row ∷ more) table follows live starts = known_live (own ∷ rows) offer own row (row_of_its_mid (own ∷ rows) 0 own table.distinct refl) follows.0 live starts
 text_live [] offer (Media at mid Audio dir stopped remote_created ∷ more) table follows live starts = rw starts refl
 text_live [] offer (Media at mid Video dir stopped remote_created ∷ more) table follows live starts = rw starts refl
-text_live [] offer (App at mid ∷ more) table follows live starts = absurd follows.0
+text_live [] offer (App at mid ∷ more) table follows live starts = refl

@@ -1,9 +1,7 @@
 -- The SDP that a step makes says the rows of its side.
-use Rattle.std.proofs.Common.{◌≡◌, ◌+◌, ℕ, Bool, true, false, not, ◌&&◌, List, [], ◌∷◌, ◌++◌, map, drop, length, Option, Some, None, refl, sym, ◌∙◌, ap, subst, arith, length-set}
+use Rattle.std.proofs.Common.{◌≡◌, ◌+◌, ℕ, Bool, true, false, not, ◌&&◌, List, [], ◌++◌, map, length, Option, Some, None, refl, sym, ◌∙◌, ap, subst, arith, length-set}
 use Rattle.std.specs.Prelude.{slice_get}
-use Rattle.std.proofs.Math.Seq.{drop-append_seam, drop-length}
 use Rattle.std.proofs.lemmas.List.{drop_all}
-use Rattle.rtc_sdp_values.specs.LineRow.{row_mid}
 use Rattle.rtc_sdp_values.specs.Sdp.{inconsistency}
 use Rattle.rtc_sdp_values.specs.declared.line_row.LineRow.{LineRow}
 use Rattle.rtc_sdp_values.specs.declared.sdp.Sdp.{Sdp}
@@ -27,27 +25,19 @@ use Rattle.rtc_history.specs.declared.outcome.Outcome.TheVariants.{Negotiated, A
 use Rattle.rtc_history.specs.declared.table.Table.{Table}
 use Rattle.rtc_history.specs.Memory.{answers_lack}
 use Rattle.rtc_history.specs.Sides.{side_of}
-use Rattle.rtc_history.specs.Past.{Entry, MadeSdp, before, rows_or, added}
-use Rattle.rtc_history.specs.Sound.{OpsAnswered, IsSound}
+use Rattle.rtc_history.specs.Answers.{added}
+use Rattle.rtc_history.specs.Past.{Entry, before, rows_or, new_app}
+use Rattle.rtc_history.specs.Sound.{IsSound}
 use Rattle.rtc_history.specs.SaidRows.{row_said, are_live, MakesSdp}
 use Rattle.rtc_history.specs.declared.kept.Kept.{Kept}
 use Rattle.rtc_history.specs.PairState.{PairState, peer_at, made_sdp, kept_remote_sdp, held_token, spent}
 use Rattle.rtc_history.specs.Performs.{MakesOf, Negotiates, StepAcceptsOffer, StepAcceptsAnswer, Performs, kept_offer, kept_answer, lent, made_by}
 use Rattle.rtc_history_laws.proofs.Staging.{Stages, ops_stage}
 use Rattle.rtc_history_laws.proofs.NegotiateSteps.{made_lines}
-use Rattle.rtc_history_laws.proofs.OpRows.{ops_mids}
-use Rattle.rtc_history_laws.proofs.AddedRows.{AreAdded, ops_add}
-use Rattle.rtc_history_laws.proofs.SaidSdps.{sdp_says, sdp_fits, offered_distinct}
-
--- the SDPs behind those that were there
-abbrev behind : List Kept → List Kept → List MadeSdp
-behind kept kept' = map made_sdp (drop (length kept) kept')
-
-none_behind : (kept kept' : List Kept) → kept' ≡ kept → behind kept kept' ≡ []
-none_behind kept kept' same = rw (same, drop-length kept) refl
-
-one_behind : (kept kept' : List Kept) (one : Kept) → kept' ≡ kept ++ one ∷ [] → behind kept kept' ≡ made_sdp one ∷ []
-one_behind kept kept' one pushed = rw (pushed, drop-append_seam kept (one ∷ [])) refl
+use Rattle.rtc_history_laws.proofs.OfferApps.{behind, none_behind, one_behind, app_is_told}
+use Rattle.rtc_history_laws.proofs.OfferTables.{offer_table}
+use Rattle.rtc_history_laws.proofs.PastTables.{reply_table}
+use Rattle.rtc_history_laws.proofs.SaidSdps.{sdp_says, sdp_fits}
 
 -- an offer says the rows of its side, then those that it adds
 offer_says : {N : Type 0} (p : Peer N) (more : List LineRow) → Distinct (p.lines ++ more) → added_rows (length p.lines) p.staged ≡ more → parsed_lines (offer_sdp p) ≡ map row_said (p.lines ++ more)
@@ -73,37 +63,38 @@ answer_says p sdp rows is table = rw is (sdp_says p.session_id p.identity Passiv
 -- ---- each kind of step
 
 makes_of : {N : Type 0} (at : Side) (asked : Bool) (p q : Peer N) (ops : List Op) (answers : List OpAnswer) (apply : Bool) (kept kept' : List Kept) (made : Made) (table : Table)
-    → MakesOf asked at p kept made q kept' → table.lines ≡ p.lines → Distinct (table.lines ++ added (length table.lines) ops answers)
-    → added_rows (length table.lines) p.staged ≡ added (length table.lines) ops answers
+    → MakesOf asked at p kept made q kept' → table.lines ≡ p.lines
+    → ((k : ℕ) → made ≡ Offer k → added_rows (length table.lines) p.staged ≡ added (new_app table.lines (behind kept kept')) (length table.lines) ops answers)
+    → Distinct (table.lines ++ added (new_app table.lines (behind kept kept')) (length table.lines) ops answers)
     → MakesSdp (Negotiate at ops apply) (Negotiated answers made) (Some table) (behind kept kept')
-makes_of at false p q ops answers apply kept kept' NotAsked table h rows distinct adds = none_behind kept kept' h.1
-makes_of at true p q ops answers apply kept kept' Nothing table h rows distinct adds = none_behind kept kept' h.1
-makes_of at true p q ops answers apply kept kept' MadeAlloc table h rows distinct adds = none_behind kept kept' h.1
-makes_of at true p q ops answers apply kept kept' (Offer k) table h rows distinct adds = record {
-  sdp = h.0.0;
-  one = one_behind kept kept' (kept_offer at h.0) h.2;
-  says = ap (λ (o : Sdp). parsed_lines o) h.1.1 ∙ (rw rows (offer_says p (added (length p.lines) ops answers) (rw (← rows) distinct) (rw (← rows) adds)));
-  fits = λ live. ap (λ (o : Sdp). inconsistency o) h.1.1 ∙ offer_fits p (added (length p.lines) ops answers) (rw (← rows) distinct) (rw (← rows) adds) (rw (← rows) live);
-}
-makes_of at asked p q ops answers apply kept kept' made table h rows distinct adds = absurd h
-
--- the rows that ops leave, with those that they stage, have distinct mids
-ops_distinct : (rows after : List LineRow) (ops : List Op) (answers : List OpAnswer) (place : ℕ) → OpsAnswered rows (map row_mid rows) ops answers after → IsTable after → Distinct (after ++ added place ops answers)
-ops_distinct rows after ops answers place answered table =
-    let new : AreAdded (map row_mid after) place (added place ops answers) =
-    subst (λ (held : List (List ℕ)). AreAdded held place (added place ops answers)) (sym (ops_mids rows (map row_mid rows) ops answers after answered)) (ops_add rows (map row_mid rows) ops answers after place answered) in
-    offered_distinct after (added place ops answers) place table.distinct new
+makes_of at false p q ops answers apply kept kept' NotAsked table h rows adds distinct = none_behind kept kept' h.1
+makes_of at true p q ops answers apply kept kept' Nothing table h rows adds distinct = none_behind kept kept' h.1
+makes_of at true p q ops answers apply kept kept' MadeAlloc table h rows adds distinct = none_behind kept kept' h.1
+makes_of at true p q ops answers apply kept kept' (Offer k) table h rows adds distinct =
+    let more : List LineRow = added (new_app table.lines (behind kept kept')) (length table.lines) ops answers in
+    let apart : Distinct (p.lines ++ more) = subst (λ (list : List LineRow). Distinct (list ++ more)) rows distinct in
+    let adds_more : added_rows (length p.lines) p.staged ≡ more = ap (λ (list : List LineRow). added_rows (length list) p.staged) (sym rows) ∙ adds k refl in
+    record {
+      sdp = h.0.0;
+      one = one_behind kept kept' (kept_offer at h.0) h.2;
+      says = ap (λ (o : Sdp). parsed_lines o) h.1.1 ∙ offer_says p more apart adds_more ∙ ap (λ (list : List LineRow). map row_said (list ++ more)) (sym rows);
+      fits = λ live. ap (λ (o : Sdp). inconsistency o) h.1.1 ∙ offer_fits p more apart adds_more (subst (λ (list : List LineRow). are_live (list ++ more) ≡ true) rows live);
+    }
+makes_of at asked p q ops answers apply kept kept' made table h rows adds distinct = absurd h
 
 negotiate_makes : {N : Type 0} (draws : Draws N) (at : Side) (ops : List Op) (apply : Bool) (old new : Peer N) (kept kept' : List Kept) (outcome : Outcome) (table : Option Table) (past : List Entry)
-    → Negotiates draws at ops apply old kept outcome table new kept' → IsTable (rows_or true table (before at past)) → IsSound past (Negotiate at ops apply) outcome table
+    → Negotiates draws at ops apply old kept outcome table new kept' → IsTable (before at past) → IsSound past (Negotiate at ops apply) outcome table (behind kept kept')
     → MakesSdp (Negotiate at ops apply) outcome table (behind kept kept')
 negotiate_makes draws at ops apply old new kept kept' Alloc None past h is sound = none_behind kept kept' h.sdps_kept
 negotiate_makes draws at ops apply old new kept kept' (Negotiated answers made) (Some table) past h is sound =
+    let asked : Bool = apply && not (answers_lack answers) in
     let staged : Stages (lent old) ops answers h.0 = ops_stage draws (lent old) h.0 ops answers h.1 in
-    let left : table.lines ≡ h.0.lines = h.3 ∙ made_lines (apply && not (answers_lack answers)) at h.0 new kept kept' made h.2 in
-    makes_of at (apply && not (answers_lack answers)) h.0 new ops answers apply kept kept' made table h.2 left
-    (ops_distinct (before at past) table.lines ops answers (length table.lines) sound.0 is)
-    (staged.adds (length table.lines) ∙ ap (λ n. added n ops answers) (let e : length table.lines + 0 ≡ length table.lines = omega arith in e))
+    let left : table.lines ≡ h.0.lines = h.3.lines ∙ made_lines asked at h.0 new kept kept' made h.2 in
+    let app : Option (List ℕ) = new_app table.lines (behind kept kept') in
+    let app_told = app_is_told asked at (lent old) h.0 new kept kept' made table.lines h.2 left staged.app refl in
+    makes_of at asked h.0 new ops answers apply kept kept' made table h.2 left
+    (λ k is. staged.adds app app_told.told_app (app_told.offered k is) (length table.lines) ∙ ap (λ n. added app n ops answers) (let e : length table.lines + 0 ≡ length table.lines = omega arith in e))
+    (offer_table past at ops answers table (behind kept kept') is sound.0).distinct
 negotiate_makes draws at ops apply old new kept kept' outcome table past h is sound = absurd h
 
 offer_makes : {N : Type 0} (draws : Draws N) (at : Side) (k : ℕ) (offer : Option Sdp) (old new : Peer N) (kept kept' : List Kept) (outcome : Outcome) (table : Option Table)
@@ -114,8 +105,8 @@ offer_makes draws at k None old new kept kept' NoSuch (Some table) h is = none_b
 offer_makes draws at k (Some sdp) old new kept kept' (Answered n) (Some table) h is = record {
   sdp = h.0;
   one = one_behind kept kept' (kept_answer at h.0) h.2;
-  says = ap (λ (a : Sdp). parsed_lines a) h.1.answered ∙ answer_says (lent old) sdp table.lines (sym (h.4 ∙ ap (λ p. p.lines) h.1.rest)) is;
-  fits = λ live. ap (λ (a : Sdp). inconsistency a) h.1.answered ∙ answer_fits (lent old) sdp table.lines (sym (h.4 ∙ ap (λ p. p.lines) h.1.rest)) is live;
+  says = ap (λ (a : Sdp). parsed_lines a) h.1.answered ∙ answer_says (lent old) sdp table.lines (sym (h.4.lines ∙ ap (λ p. p.lines) h.1.rest)) is;
+  fits = λ live. ap (λ (a : Sdp). inconsistency a) h.1.answered ∙ answer_fits (lent old) sdp table.lines (sym (h.4.lines ∙ ap (λ p. p.lines) h.1.rest)) is live;
 }
 offer_makes draws at k (Some sdp) old new kept kept' (Refused error) (Some table) h is = none_behind kept kept' h.1
 offer_makes draws at k offer old new kept kept' outcome table h is = absurd h
@@ -147,11 +138,12 @@ answer_makes draws at t a token answer old new kept kept' outcome table h = absu
 
 -- A step that is performed makes the SDP that says the rows of its side.
 pub makes_sdp : {N : Type 0} (draws : Draws N) (past : List Entry) (old new : PairState N) (step : Step) (outcome : Outcome) (table : Option Table)
-    → Performs draws old step outcome table new → IsTable (rows_or true table (before (side_of step) past)) → IsSound past step outcome table
+    → Performs draws old step outcome table new → IsTable (before (side_of step) past) → IsSound past step outcome table (made_by old new)
     → before (side_of step) past ≡ (peer_at (side_of step) old).lines → MakesSdp step outcome table (made_by old new)
 makes_sdp draws past old new (Negotiate at ops apply) outcome table performs is sound rows =
     negotiate_makes draws at ops apply (peer_at at old) (peer_at at new) old.sdps new.sdps outcome table past performs.acts is sound
 makes_sdp draws past old new (AcceptOffer at k) outcome table performs is sound rows =
-    offer_makes draws at k (kept_remote_sdp true old.sdps at k) (peer_at at old) (peer_at at new) old.sdps new.sdps outcome table performs.acts (rw (← rows) is)
+    offer_makes draws at k (kept_remote_sdp true old.sdps at k) (peer_at at old) (peer_at at new) old.sdps new.sdps outcome table performs.acts
+    (subst (λ (list : List LineRow). IsTable (rows_or true table list)) rows (reply_table past (AcceptOffer at k) outcome table (made_by old new) sound is))
 makes_sdp draws past old new (AcceptAnswer at t a) outcome table performs is sound rows =
     answer_makes draws at t a (held_token old.sdps at t) (kept_remote_sdp false old.sdps at a) (peer_at at old) (peer_at at new) old.sdps new.sdps outcome table performs.acts

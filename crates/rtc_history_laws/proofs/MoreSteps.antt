@@ -1,20 +1,21 @@
 -- A run goes on by a step that is performed.
-use Rattle.std.proofs.Common.{◌≡◌, ◌<◌, ◌+◌, ◌^◌, List, [], ◌∷◌, ◌++◌, map, refl, ap, arith}
+use Rattle.std.proofs.Common.{◌≡◌, ◌<◌, ◌^◌, List, [], ◌∷◌, ◌++◌, map, refl, ap, arith}
 use Rattle.rtc_peer_state.specs.Draws.{Draws}
 use Rattle.rtc_history.specs.declared.side.Side.{Side}
 use Rattle.rtc_history.specs.declared.side.Side.TheVariants.{Left, Right}
 use Rattle.rtc_history.specs.declared.step.Step.{Step}
 use Rattle.rtc_history.specs.declared.reply.Reply.{Reply}
-use Rattle.rtc_history.specs.Sizes.{step_size, steps_size}
-use Rattle.rtc_history.specs.Past.{Entry, before, steps_of}
+use Rattle.rtc_channels.specs.Channels.{channel_rows}
+use Rattle.rtc_history.specs.Sizes.{steps_size}
+use Rattle.rtc_history.specs.Past.{before, channels_shown}
 use Rattle.rtc_history.specs.PairState.{PairState, peer_at, made_sdp}
-use Rattle.rtc_history.specs.Performs.{Performs, Enters, made_by}
+use Rattle.rtc_history.specs.Performs.{Performs, made_by}
 use Rattle.rtc_history.specs.Runs.{Reached, Runs}
 use Rattle.rtc_history.specs.Fresh.{IsFresh}
 use Rattle.rtc_history_laws.proofs.Bounds.{IsWithin}
 use Rattle.rtc_history_laws.proofs.Tells.{Tells}
 use Rattle.rtc_history_laws.proofs.Around.{entry}
-use Rattle.rtc_history_laws.proofs.Reaches.{reached_within, reached_tells, sound_next}
+use Rattle.rtc_history_laws.proofs.Reaches.{reached_within, reached_tells, reached_size, sound_next}
 
 -- a run of no steps
 pub runs_none : {N : Type 0} (draws : Draws N) (start : PairState N) → IsFresh start → Runs draws start [] [] start
@@ -26,11 +27,16 @@ runs_none draws start fresh = record {
   sound = tt;
   kept = ap (map made_sdp) fresh.sdps;
   rows = by;
+  channels = none;
 }
   where
     by : (at : Side) → (peer_at at start).lines ≡ before at []
     by Left = fresh.left.lines
     by Right = fresh.right.lines
+
+    none : (at : Side) → channel_rows (peer_at at start).channels ≡ channels_shown at []
+    none Left = ap channel_rows fresh.left.channels
+    none Right = ap channel_rows fresh.right.channels
 
 -- a run of one more step
 pub runs_more : {N : Type 0} (draws : Draws N) (start old new : PairState N) (steps : List Step) (replies : List Reply) (step : Step) (reply : Reply)
@@ -47,19 +53,10 @@ runs_more draws start old new steps replies step reply fresh run performs small 
       sound = (sound_next draws start old new run.past step reply.outcome reply.table fresh run.reached run.sound performs small, run.sound);
       kept = tells.says;
       rows = λ at. (tells.sides at).rows;
+      channels = λ at. (tells.sides at).channels.shown;
     }
 
 -- ---- sizes
-
-steps_size-append : (steps : List Step) (step : Step) → steps_size (steps ++ step ∷ []) ≡ steps_size steps + step_size step
-steps_size-append [] step = omega arith
-steps_size-append (first ∷ steps) step = omega (arith, steps_size-append steps step)
-
-reached_size : {N : Type 0} (draws : Draws N) (start pair : PairState N) (past : List Entry) → Reached draws start past pair → pair.size ≡ start.size + steps_size (steps_of past)
-reached_size draws start pair [] reached = let same : pair.size ≡ start.size = ap (λ p. p.size) reached in omega arith
-reached_size draws start pair (last ∷ past) reached =
-    let enters : Enters draws reached.0 last pair = reached.2 in
-    omega (arith, enters.performs.size, reached_size draws start reached.0 past reached.1, steps_size-append (steps_of past) last.step)
 
 -- the size of a pair is that of the steps of its run
 pub runs_size : {N : Type 0} (draws : Draws N) (start pair : PairState N) (steps : List Step) (replies : List Reply) → IsFresh start → Runs draws start steps replies pair → pair.size ≡ steps_size steps

@@ -1,5 +1,5 @@
 -- Orderly steps give their Ok, up to the first want of memory.
-use Rattle.std.proofs.Common.{◌≡◌, ◌+◌, ℕ, Bool, true, false, ◌||◌, List, ◌∷◌, ◌++◌, length, Option, Some, None, refl, sym, ◌∙◌, ap, subst, length-append, append-nil}
+use Rattle.std.proofs.Common.{◌≡◌, ◌≤◌, ◌<◌, ◌+◌, ◌-◌, ◌^◌, arith, ℕ, Bool, true, false, ◌||◌, List, ◌∷◌, ◌++◌, length, Option, Some, None, refl, sym, ◌∙◌, ap, subst, length-append, append-nil}
 use Rattle.rtc_sdp_values.specs.declared.line_row.LineRow.{LineRow}
 use Rattle.rtc_sdp_values.specs.declared.sdp.Sdp.{Sdp}
 use Rattle.rtc_change.specs.Held.{Held, Asked}
@@ -13,14 +13,18 @@ use Rattle.rtc_history.specs.declared.outcome.Outcome.TheVariants.{Negotiated, A
 use Rattle.rtc_history.specs.declared.table.Table.{Table}
 use Rattle.rtc_history.specs.Memory.{outcome_lacks}
 use Rattle.rtc_history.specs.Sides.{other_side}
-use Rattle.rtc_history.specs.Past.{Entry, MadeSdp, sdps, remote_sdp}
-use Rattle.rtc_history.specs.Sound.{RepliesToOffer, RepliesToAnswer, IsSound, asked_in, view_in}
+use Rattle.rtc_history.specs.Sizes.{steps_size}
+use Rattle.rtc_history.specs.Past.{Entry, MadeSdp, steps_of, sdps, remote_sdp, new_app, channels_given}
+use Rattle.rtc_history.specs.Sound.{RepliesToOffer, RepliesToAnswer, IsSound, asked_in, view_in, at_first}
 use Rattle.rtc_history.specs.SaidRows.{MakesSdp}
 use Rattle.rtc_history.specs.CourseRows.{course_rows_after}
-use Rattle.rtc_history.specs.Orderly.{Idle, AwaitsEnd, Course, course_rows, moved_on, is_ok}
+use Rattle.rtc_history.specs.Orderly.{Idle, AwaitsEnd, Course, course_rows, moved_on, after_ops, is_ok}
 use Rattle.rtc_history.specs.Runs.{Sound}
 use Rattle.rtc_history_laws.proofs.Around.{entry}
-use Rattle.rtc_history_laws.proofs.UnspentTokens.{offer_taking, answer_taking}
+use Rattle.rtc_history_laws.proofs.Takings.{offer_taking, answer_taking}
+use Rattle.rtc_history_laws.proofs.ChannelCounts.{given_within, ops_fine}
+use Rattle.rtc_history_laws.proofs.CourseOps.{AreFine}
+use Rattle.rtc_history_laws.proofs.CourseSteps.{in_order}
 use Rattle.rtc_history_laws.proofs.RoundRows.{IsOffered, IsAnswered}
 use Rattle.rtc_history_laws.proofs.Courses.{InCourse, moved_in, MayAccept, may_accept, accepted_next, MayEnd, may_end, ended_next}
 
@@ -29,10 +33,14 @@ use Rattle.rtc_history_laws.proofs.Courses.{InCourse, moved_in, MayAccept, may_a
 abbrev pub IsOkOrLacks : Outcome → Type 0
 IsOkOrLacks outcome = (is_ok outcome || outcome_lacks outcome) ≡ true
 
-pub negotiated_ok : (past : List Entry) (at : Side) (ops : List Op) (apply : Bool) (outcome : Outcome) (table : Option Table) → IsSound past (Negotiate at ops apply) outcome table → IsOkOrLacks outcome
-negotiated_ok past at ops apply Alloc None replied = refl
-negotiated_ok past at ops apply (Negotiated answers made) (Some table) replied = refl
-negotiated_ok past at ops apply outcome table replied = absurd replied
+pub negotiated_ok : (past : List Entry) (at : Side) (ops : List Op) (apply : Bool) (outcome : Outcome) (table : Option Table) (made : List MadeSdp) (course course' : Course) (rows : List LineRow)
+    → steps_size (steps_of past) + length ops < 2 ^ 64 - 1 → after_ops apply at ops course rows ≡ Some course' → IsSound past (Negotiate at ops apply) outcome table made → IsOkOrLacks outcome
+negotiated_ok past at ops apply Alloc None made course course' rows few after replied = refl
+negotiated_ok past at ops apply (Negotiated answers what) (Some table) made course course' rows few after replied =
+    let given : (channels_given at past).given ≤ steps_size (steps_of past) = given_within at past in
+    let fine : AreFine answers = ops_fine (at_first at past (new_app table.lines made)) ops answers table.lines replied.0 (in_order apply at ops course course' rows after).plain (omega arith) in
+    rw fine refl
+negotiated_ok past at ops apply outcome table made course course' rows few after replied = absurd replied
 
 offer_ok : (sdp : Option Sdp) (said : Sdp) (view : Held) (next : ℕ) (outcome : Outcome) (after : List LineRow) → sdp ≡ Some said → verdict view None said ≡ None → RepliesToOffer sdp view next outcome after → IsOkOrLacks outcome
 offer_ok None said view next outcome after is passes takes = absurd (cc)
@@ -99,12 +107,12 @@ abbrev pub accepted_course : Side → ℕ → List LineRow → Course → Course
 accepted_course at n rows course = moved_on (other_side at) course rows (course.sdps + 1) (AwaitsEnd at n course.sdps rows)
 
 pub accept_goes_on : (past : List Entry) (at : Side) (n : ℕ) (said : List LineRow) (course : Course) (outcome : Outcome) (table : Option Table) (made : List MadeSdp) → Sound past → InCourse course past → IsOffered at n said past
-    → IsSound past (AcceptOffer (other_side at) n) outcome table → MakesSdp (AcceptOffer (other_side at) n) outcome table made
+    → IsSound past (AcceptOffer (other_side at) n) outcome table made → MakesSdp (AcceptOffer (other_side at) n) outcome table made
     → GoesOn outcome (accepted_course at n (course_rows_after true 0 (course_rows (other_side at) course) said) course) (entry (AcceptOffer (other_side at) n) outcome table made ∷ past)
 accept_goes_on past at n said course Alloc None made sound is out replied says = record { ok = refl; next = λ enough. absurd (cc) }
 accept_goes_on past at n said course outcome (Some table) made sound is out replied says =
     let may : MayAccept out.offer at n past = may_accept at n said past sound out in
-    let takes = offer_taking past (other_side at) n outcome table replied in
+    let takes = offer_taking past (other_side at) n outcome table made replied in
     let comes : outcome_lacks outcome ≡ false → (j : ℕ) × (outcome ≡ Answered j) =
     offer_answers (remote_sdp true (other_side at) n past) out.offer.sdp (view_in (other_side at) past) (length (sdps past)) outcome table.lines may.remote_is may.passes takes in
     record { ok = ok_or_lacks outcome (λ enough. ap is_ok (comes enough).1); next = λ enough. by (comes enough).0 outcome (comes enough).1 replied says }
@@ -112,10 +120,10 @@ accept_goes_on past at n said course outcome (Some table) made sound is out repl
     rows : List LineRow
     rows = course_rows_after true 0 (course_rows (other_side at) course) said
 
-    by : (j : ℕ) (outcome : Outcome) → outcome ≡ Answered j → IsSound past (AcceptOffer (other_side at) n) outcome (Some table) → MakesSdp (AcceptOffer (other_side at) n) outcome (Some table) made
+    by : (j : ℕ) (outcome : Outcome) → outcome ≡ Answered j → IsSound past (AcceptOffer (other_side at) n) outcome (Some table) made → MakesSdp (AcceptOffer (other_side at) n) outcome (Some table) made
         → InCourse (accepted_course at n rows course) (entry (AcceptOffer (other_side at) n) outcome (Some table) made ∷ past)
     by j outcome same =
-        subst (λ (o : Outcome). IsSound past (AcceptOffer (other_side at) n) o (Some table) → MakesSdp (AcceptOffer (other_side at) n) o (Some table) made
+        subst (λ (o : Outcome). IsSound past (AcceptOffer (other_side at) n) o (Some table) made → MakesSdp (AcceptOffer (other_side at) n) o (Some table) made
         → InCourse (accepted_course at n rows course) (entry (AcceptOffer (other_side at) n) o (Some table) made ∷ past)) (sym same)
         (λ replied says.
         let next = accepted_next at n course.sdps said (course_rows (other_side at) course) past j table made sound out (is.sides (other_side at)) (sym is.count) replied says in
@@ -124,12 +132,12 @@ accept_goes_on past at n said course outcome (Some table) made sound is out repl
 accept_goes_on past at n said course outcome table made sound is out replied says = absurd replied
 
 pub end_goes_on : (past : List Entry) (at : Side) (n m : ℕ) (said : List LineRow) (course : Course) (outcome : Outcome) (table : Option Table) (made : List MadeSdp) → Sound past → InCourse course past → IsAnswered at n m said past
-    → IsSound past (AcceptAnswer at n m) outcome table → MakesSdp (AcceptAnswer at n m) outcome table made
+    → IsSound past (AcceptAnswer at n m) outcome table made → MakesSdp (AcceptAnswer at n m) outcome table made
     → GoesOn outcome (moved_on at course (course_rows_after false 0 (course_rows at course) said) course.sdps Idle) (entry (AcceptAnswer at n m) outcome table made ∷ past)
 end_goes_on past at n m said course Alloc None made sound is out replied says = record { ok = refl; next = λ enough. absurd (cc) }
 end_goes_on past at n m said course outcome (Some table) made sound is out replied says =
     let may : MayEnd out.answer at n m past = may_end at n m said past sound out in
-    let takes = answer_taking past at n m outcome table replied in
+    let takes = answer_taking past at n m outcome table made replied in
     let comes : outcome_lacks outcome ≡ false → outcome ≡ Finished =
     answer_finishes _ _ (asked_in at n past) _ out.answer.sdp (view_in at past) outcome table.lines may.held may.right may.remote_is may.passes takes in
     record { ok = ok_or_lacks outcome (λ enough. ap is_ok (comes enough)); next = λ enough. by outcome (comes enough) replied says }
@@ -137,10 +145,10 @@ end_goes_on past at n m said course outcome (Some table) made sound is out repli
     rows : List LineRow
     rows = course_rows_after false 0 (course_rows at course) said
 
-    by : (outcome : Outcome) → outcome ≡ Finished → IsSound past (AcceptAnswer at n m) outcome (Some table) → MakesSdp (AcceptAnswer at n m) outcome (Some table) made
+    by : (outcome : Outcome) → outcome ≡ Finished → IsSound past (AcceptAnswer at n m) outcome (Some table) made → MakesSdp (AcceptAnswer at n m) outcome (Some table) made
         → InCourse (moved_on at course rows course.sdps Idle) (entry (AcceptAnswer at n m) outcome (Some table) made ∷ past)
     by outcome same =
-        subst (λ (o : Outcome). IsSound past (AcceptAnswer at n m) o (Some table) → MakesSdp (AcceptAnswer at n m) o (Some table) made
+        subst (λ (o : Outcome). IsSound past (AcceptAnswer at n m) o (Some table) made → MakesSdp (AcceptAnswer at n m) o (Some table) made
         → InCourse (moved_on at course rows course.sdps Idle) (entry (AcceptAnswer at n m) o (Some table) made ∷ past)) (sym same)
         (λ replied says.
         let next = ended_next at n m said (course_rows at course) past table made sound out (is.sides at) replied in

@@ -68,10 +68,10 @@ answered (Some sdp) rows next k after takes = record { offer = sdp; is = refl; p
 answer_entry : (past : List Entry) (entry : Entry) (at : Side) (t a : ℕ) → IsSoundEntry past entry → makes_answer at t a entry ≡ true → AnswerEntry past entry (other_side at) t a
 answer_entry past entry at t a sound makes_it = by entry.step entry.outcome entry.table entry.made sound.replied sound.made makes_it
   where
-    here : (side : Side) (offer k : ℕ) (table : Table) (made : List MadeSdp) → IsSound past (AcceptOffer side offer) (Answered k) (Some table) → MakesSdp (AcceptOffer side offer) (Answered k) (Some table) made
+    here : (side : Side) (offer k : ℕ) (table : Table) (made : List MadeSdp) → IsSound past (AcceptOffer side offer) (Answered k) (Some table) made → MakesSdp (AcceptOffer side offer) (Answered k) (Some table) made
         → AnswerEntry past (record { step = AcceptOffer side offer; outcome = Answered k; table = Some table; made = made }) side offer k
     here side offer k table made replied sdp =
-        let it = answered (remote_sdp true side offer past) (before side past) (length (sdps past)) k table.lines replied in
+        let it = answered (remote_sdp true side offer past) (before side past) (length (sdps past)) k table.lines replied.0 in
         record {
           offer = it.offer;
           sdp = sdp.sdp;
@@ -81,7 +81,7 @@ answer_entry past entry at t a sound makes_it = by entry.step entry.outcome entr
           took = rw (same_side-self side) (record { passes = it.passes; leaves = it.leaves; says = sdp.says });
         }
 
-    by : (step : Step) (outcome : Outcome) (table : Option Table) (made : List MadeSdp) → IsSound past step outcome table → MakesSdp step outcome table made → is_answer_to at t a step outcome ≡ true
+    by : (step : Step) (outcome : Outcome) (table : Option Table) (made : List MadeSdp) → IsSound past step outcome table made → MakesSdp step outcome table made → is_answer_to at t a step outcome ≡ true
         → AnswerEntry past (record { step = step; outcome = outcome; table = table; made = made }) (other_side at) t a
     by (AcceptOffer side offer) (Answered k) None made replied sdp makes_it = absurd replied
     by (AcceptOffer side offer) (Answered k) (Some table) made replied sdp makes_it =

@@ -1,6 +1,6 @@
 -- The offer of a number in a past: which step made it, what it says, and which rows it added.
 use Rattle.std.proofs.Common.{◌≡◌, ◌<◌, ℕ, Bool, true, false, not, ◌&&◌, List, [], ◌∷◌, ◌++◌, map, length, Option, Some, None, refl, sym, ◌∙◌, ap, subst, arith, length-append, zero, suc}
-use Rattle.std.specs.Prelude.{slice_get}
+use Rattle.std.specs.Prelude.{slice_get, is_some}
 use Rattle.std.proofs.lemmas.Bool.{eqb-true}
 use Rattle.rtc_sdp_values.specs.LineRow.{row_mid}
 use Rattle.rtc_sdp_values.specs.declared.line_row.LineRow.{LineRow}
@@ -8,7 +8,6 @@ use Rattle.rtc_sdp_values.specs.declared.sdp.Sdp.{Sdp}
 use Rattle.rtc_change.specs.Held.{Asked}
 use Rattle.rtc_change.specs.ParsedLines.{parsed_lines}
 use Rattle.rtc_history.specs.declared.side.Side.{Side}
-use Rattle.rtc_history.specs.declared.op.Op.{Op}
 use Rattle.rtc_history.specs.declared.op_answer.OpAnswer.{OpAnswer}
 use Rattle.rtc_history.specs.declared.made.Made.{Made}
 use Rattle.rtc_history.specs.declared.made.Made.TheVariants.{NotAsked, Nothing, Offer, Alloc as MadeAlloc}
@@ -18,16 +17,17 @@ use Rattle.rtc_history.specs.declared.outcome.Outcome.{Outcome}
 use Rattle.rtc_history.specs.declared.outcome.Outcome.TheVariants.{Negotiated, Answered, Finished, Refused, NoSuch, Alloc}
 use Rattle.rtc_history.specs.declared.table.Table.{Table}
 use Rattle.rtc_history.specs.Sides.{side_of}
-use Rattle.rtc_history.specs.Past.{Entry, MadeSdp, before, sdps, remote_sdp, is_offer_of, holds_token, is_right, moves, makes, do_stage, added, added_in, added_by}
+use Rattle.rtc_history.specs.Past.{Entry, MadeSdp, before, sdps, remote_sdp, is_offer_of, holds_token, is_right, moves, makes, new_app, added_in, added_by}
+use Rattle.rtc_history.specs.Answers.{has_app_row, do_need_offer, added}
 use Rattle.rtc_history.specs.Memory.{answers_lack}
-use Rattle.rtc_history.specs.Sound.{OpsAnswered, MadeOf, RepliesToOffer, RepliesToAnswer, IsSound, asked_in, view_in}
+use Rattle.rtc_history.specs.Sound.{MadeOf, RepliesToOffer, RepliesToAnswer, IsSound, asked_in, view_in}
 use Rattle.rtc_history.specs.SaidRows.{row_said, MakesSdp}
 use Rattle.rtc_history.specs.SoundEntry.{IsSoundEntry}
 use Rattle.rtc_history.specs.Rounds.{makes_offer, rows_at_offer}
 use Rattle.rtc_history.specs.Runs.{Sound}
 use Rattle.rtc_history_laws.proofs.Tells.{same_side-self, same_side-true}
-use Rattle.rtc_history_laws.proofs.OpRows.{ops_mids}
-use Rattle.rtc_history_laws.proofs.AddedRows.{AreAdded, ops_add}
+use Rattle.rtc_history_laws.proofs.AddedRows.{AreAdded}
+use Rattle.rtc_history_laws.proofs.OfferTables.{ops_new}
 
 -- ---- SDPs that stay
 
@@ -58,8 +58,9 @@ pub record OfferEntry (past : List Entry) (entry : Entry) (t : ℕ) : Type 0 whe
   pub more : List LineRow
   pub count : t ≡ length (sdps past)
   pub one : entry.made ≡ record { at = side_of entry.step; offer = true; sdp = sdp } ∷ []
-  pub adds : added_in (length (before (side_of entry.step) (entry ∷ past))) entry.step entry.outcome ≡ more
-  pub new : AreAdded (map row_mid (before (side_of entry.step) (entry ∷ past))) (length (before (side_of entry.step) (entry ∷ past))) more
+  pub adds : added_in (length (before (side_of entry.step) (entry ∷ past))) entry.step entry.outcome entry.table entry.made ≡ more
+  pub may : Bool
+  pub new : AreAdded may (map row_mid (before (side_of entry.step) (entry ∷ past))) (length (before (side_of entry.step) (entry ∷ past))) more
   pub says : parsed_lines sdp ≡ map row_said (before (side_of entry.step) (entry ∷ past) ++ more)
   pub moved : moves (side_of entry.step) entry.step entry.outcome ≡ true
 
@@ -78,28 +79,24 @@ no_answer true right asked None past at answers made after takes = takes
 no_answer true false asked (Some sdp) past at answers made after takes = takes
 no_answer true true asked (Some sdp) past at answers made after takes = takes
 
--- what ops stage is new beside the rows that they leave
-pub ops_new : (rows : List LineRow) (ops : List Op) (answers : List OpAnswer) (after : List LineRow) (place : ℕ) → OpsAnswered rows (map row_mid rows) ops answers after → AreAdded (map row_mid after) place (added place ops answers)
-ops_new rows ops answers after place answered =
-    subst (λ (held : List (List ℕ)). AreAdded held place (added place ops answers)) (sym (ops_mids rows (map row_mid rows) ops answers after answered)) (ops_add rows (map row_mid rows) ops answers after place answered)
-
 pub offer_entry : (past : List Entry) (entry : Entry) (t : ℕ) → IsSoundEntry past entry → makes_offer t entry ≡ true → OfferEntry past entry t
 offer_entry past entry t sound makes_it = by entry.step entry.outcome entry.table entry.made sound.replied sound.made makes_it
   where
     rows_of : (at : Side) (table : Table) (step : Step) (outcome : Outcome) (made : List MadeSdp) → side_of step ≡ at → before (side_of step) (record { step = step; outcome = outcome; table = Some table; made = made } ∷ past) ≡ table.lines
     rows_of at table step outcome made is = rw (same_side-self (side_of step)) refl
 
-    by : (step : Step) (outcome : Outcome) (table : Option Table) (made : List MadeSdp) → IsSound past step outcome table → MakesSdp step outcome table made → makes t outcome ≡ true
+    by : (step : Step) (outcome : Outcome) (table : Option Table) (made : List MadeSdp) → IsSound past step outcome table made → MakesSdp step outcome table made → makes t outcome ≡ true
         → OfferEntry past (record { step = step; outcome = outcome; table = table; made = made }) t
     by (Negotiate at ops apply) (Negotiated answers (Offer k)) (Some table) made replied sdp makes_it =
         let rows = rows_of at table (Negotiate at ops apply) (Negotiated answers (Offer k)) made refl in
         record {
           sdp = sdp.sdp;
-          more = added (length table.lines) ops answers;
-          count = sym (eqb-true k t makes_it) ∙ offer_count (apply && not (answers_lack answers)) (do_stage answers) k (length (sdps past)) replied.1;
+          more = added (new_app table.lines made) (length table.lines) ops answers;
+          count = sym (eqb-true k t makes_it) ∙ offer_count (apply && not (answers_lack answers)) (do_need_offer (has_app_row (before at past)) answers) k (length (sdps past)) replied.1;
           one = sdp.one;
           adds = rw rows refl;
-          new = rw rows (ops_new (before at past) ops answers table.lines (length table.lines) replied.0);
+          may = is_some (new_app table.lines made);
+          new = rw rows (ops_new past at (new_app table.lines made) ops answers table.lines (length table.lines) replied.0);
           says = rw rows sdp.says;
           moved = rw (same_side-self at) refl;
         }
@@ -109,10 +106,10 @@ offer_entry past entry t sound makes_it = by entry.step entry.outcome entry.tabl
     by (Negotiate at ops apply) (Negotiated answers (Offer k)) None made replied sdp makes_it = absurd replied
     by (AcceptOffer at offer) (Negotiated answers what) None made replied sdp makes_it = absurd replied
     by (AcceptOffer at offer) (Negotiated answers what) (Some table) made replied sdp makes_it =
-        absurd (no_offer (remote_sdp true at offer past) past at (length (sdps past)) answers what table.lines replied)
+        absurd (no_offer (remote_sdp true at offer past) past at (length (sdps past)) answers what table.lines replied.0)
     by (AcceptAnswer at token answer) (Negotiated answers what) None made replied sdp makes_it = absurd replied
     by (AcceptAnswer at token answer) (Negotiated answers what) (Some table) made replied sdp makes_it =
-        absurd (no_answer (holds_token at token past) (is_right at token past) (asked_in at token past) (remote_sdp false at answer past) past at answers what table.lines replied)
+        absurd (no_answer (holds_token at token past) (is_right at token past) (asked_in at token past) (remote_sdp false at answer past) past at answers what table.lines replied.0)
     by step (Answered k) table made replied sdp makes_it = absurd (cc)
     by step Finished table made replied sdp makes_it = absurd (cc)
     by step (Refused error) table made replied sdp makes_it = absurd (cc)
@@ -127,7 +124,8 @@ pub record PastOffer (at : Side) (t : ℕ) (past : List Entry) : Type 0 where
   pub more : List LineRow
   pub there : slice_get (sdps past) t ≡ Some (record { at = at; offer = true; sdp = sdp })
   pub adds : added_by (length (rows_at_offer at t past)) t past ≡ more
-  pub new : AreAdded (map row_mid (rows_at_offer at t past)) (length (rows_at_offer at t past)) more
+  pub may : Bool
+  pub new : AreAdded may (map row_mid (rows_at_offer at t past)) (length (rows_at_offer at t past)) more
   pub says : parsed_lines sdp ≡ map row_said (rows_at_offer at t past ++ more)
 
 -- the SDP of an entry is behind those before it
@@ -177,6 +175,7 @@ past_offer at t (entry ∷ past) sound right mine = by (λ right mine. past_offe
           more = it.more;
           there = there;
           adds = rw is it.adds;
+          may = it.may;
           new = rw is it.new;
           says = rw is it.says;
         })
@@ -190,6 +189,7 @@ past_offer at t (entry ∷ past) sound right mine = by (λ right mine. past_offe
           more = offer.more;
           there = same ∙ offer.there;
           adds = subst (λ (list : List LineRow). added_by (length list) t (entry ∷ past) ≡ offer.more) rows (rw is offer.adds);
+          may = offer.may;
           new = rw is offer.new;
           says = rw is offer.says;
         }

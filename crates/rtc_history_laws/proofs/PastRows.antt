@@ -1,8 +1,7 @@
 -- At most one token of a side is right, and while it is, the rows of the side stay as its offer left them where its ops set and stop no line.
-use Rattle.std.proofs.Common.{◌≡◌, ℕ, Bool, true, false, not, List, [], ◌∷◌, map, length, Option, Some, None, refl, sym, ◌∙◌, ap, subst, ◌⊎◌, inl, inr}
+use Rattle.std.proofs.Common.{◌≡◌, ℕ, Bool, true, false, not, List, [], ◌∷◌, length, Option, Some, None, refl, sym, ◌∙◌, ap, subst, ◌⊎◌, inl, inr}
 use Rattle.std.specs.Prelude.{slice_get}
 use Rattle.std.proofs.lemmas.Bool.{eq-eqb, both_ways, or_parts, and_parts}
-use Rattle.rtc_sdp_values.specs.LineRow.{row_mid}
 use Rattle.rtc_sdp_values.specs.declared.line_row.LineRow.{LineRow}
 use Rattle.rtc_sdp_values.specs.declared.sdp.Sdp.{Sdp}
 use Rattle.rtc_change.specs.Held.{Asked}
@@ -14,13 +13,14 @@ use Rattle.rtc_history.specs.declared.outcome.Outcome.{Outcome}
 use Rattle.rtc_history.specs.declared.outcome.Outcome.TheVariants.{Negotiated, Answered, Finished, Refused, NoSuch, Alloc}
 use Rattle.rtc_history.specs.declared.table.Table.{Table}
 use Rattle.rtc_history.specs.Sides.{same_side, side_of}
-use Rattle.rtc_history.specs.Past.{Entry, before, rows_or, sdps, remote_sdp, is_offer_of, holds_token, is_spent, spends, was_called, is_right, moves}
-use Rattle.rtc_history.specs.Sound.{RepliesToOffer, RepliesToAnswer, IsSound, asked_in, view_in}
+use Rattle.rtc_history.specs.Past.{Entry, MadeSdp, new_app, before, rows_or, sdps, remote_sdp, is_offer_of, holds_token, is_spent, spends, was_called, is_right, moves}
+use Rattle.rtc_history.specs.Sound.{RepliesToOffer, RepliesToAnswer, IsSound, asked_in, view_in, at_first}
 use Rattle.rtc_history.specs.SoundEntry.{IsSoundEntry}
 use Rattle.rtc_history.specs.Rounds.{makes_offer, sets_lines, has_set, rows_at_offer}
 use Rattle.rtc_history.specs.Runs.{Sound}
 use Rattle.rtc_history_laws.proofs.Tells.{same_side-self, same_side-true}
 use Rattle.rtc_history_laws.proofs.OpRows.{unset_rows}
+use Rattle.rtc_history_laws.proofs.Takings.{offer_taking, answer_taking}
 use Rattle.rtc_history_laws.proofs.PastOffers.{offer_entry, right_parts, right_within, within_there, text_next, maker_side}
 
 -- a step of a side that made an offer moved the side
@@ -76,23 +76,23 @@ answer_rows past at true true asked (Some sdp) (Refused PeerAlloc) after takes =
 answer_rows past at held right asked sdp outcome after takes = absurd takes
 
 -- a step of a side whose token is right, that moves nothing and does not spend it, leaves the rows
-stayed : (past : List Entry) (step : Step) (outcome : Outcome) (table : Option Table) (t : ℕ) → Sound past → IsSound past step outcome table
+stayed : (past : List Entry) (step : Step) (outcome : Outcome) (table : Option Table) (made : List MadeSdp) (t : ℕ) → Sound past → IsSound past step outcome table made
     → is_right (side_of step) t past ≡ true → is_offer_of (side_of step) (slice_get (sdps past) t) ≡ true → moves (side_of step) step outcome ≡ false → spends t step outcome ≡ false
     → sets_lines (side_of step) step ≡ false → rows_or true table (before (side_of step) past) ≡ before (side_of step) past
-stayed past step Alloc None t sound replied right mine still unspent unset = refl
-stayed past (Negotiate at ops apply) (Negotiated answers made) (Some table) t sound replied right mine still unspent unset =
-    unset_rows (before at past) (map row_mid (before at past)) ops answers table.lines replied.0 (rw (← unset) (rw (same_side-self at) refl))
-stayed past (AcceptOffer at offer) outcome (Some table) t sound replied right mine still unspent unset =
-    uncalled_rows past at (remote_sdp true at offer past) (length (sdps past)) outcome table.lines replied (rw (← still) (rw (same_side-self at) refl))
-stayed past (AcceptAnswer at u answer) outcome (Some table) t sound replied right mine still unspent unset =
-    elim (answer_rows past at (holds_token at u past) (is_right at u past) (asked_in at u past) (remote_sdp false at answer past) outcome table.lines replied) [
+stayed past step Alloc None made t sound replied right mine still unspent unset = refl
+stayed past (Negotiate at ops apply) (Negotiated answers what) (Some table) made t sound replied right mine still unspent unset =
+    unset_rows (at_first at past (new_app table.lines made)) ops answers table.lines replied.0 (rw (← unset) (rw (same_side-self at) refl))
+stayed past (AcceptOffer at offer) outcome (Some table) made t sound replied right mine still unspent unset =
+    uncalled_rows past at (remote_sdp true at offer past) (length (sdps past)) outcome table.lines (offer_taking past at offer outcome table made replied) (rw (← still) (rw (same_side-self at) refl))
+stayed past (AcceptAnswer at u answer) outcome (Some table) made t sound replied right mine still unspent unset =
+    elim (answer_rows past at (holds_token at u past) (is_right at u past) (asked_in at u past) (remote_sdp false at answer past) outcome table.lines (answer_taking past at u answer outcome table made replied)) [
       | inl same ↦ same
       | inr taken ↦ absurd (
           let held = and_parts (is_offer_of at (slice_get (sdps past) u)) (not (is_spent u past)) taken.1 in
           let one : u ≡ t = one_right past at u t sound taken.2 right held.0 mine in
           both_ways (spends t (AcceptAnswer at u answer) outcome) unspent (rw (taken.0, eq-eqb u t one) refl))
     ]
-stayed past step outcome table t sound replied right mine still unspent unset = absurd replied
+stayed past step outcome table made t sound replied right mine still unspent unset = absurd replied
 
 -- the same of a step of either side
 rows_stay : (past : List Entry) (entry : Entry) (at : Side) (t : ℕ) → Sound (entry ∷ past) → is_right at t past ≡ true → is_offer_of at (slice_get (sdps past) t) ≡ true
@@ -104,7 +104,7 @@ rows_stay past entry at t sound right mine still unspent unset = by (same_side (
         subst (λ (side : Side). is_right side t past ≡ true → is_offer_of side (slice_get (sdps past) t) ≡ true → moves side entry.step entry.outcome ≡ false
         → sets_lines side entry.step ≡ false → rows_or true entry.table (before side past) ≡ before side past)
         (same_side-true (side_of entry.step) at is)
-        (λ right mine still unset. stayed past entry.step entry.outcome entry.table t sound.1 sound.0.replied right mine still unspent unset)
+        (λ right mine still unset. stayed past entry.step entry.outcome entry.table entry.made t sound.1 sound.0.replied right mine still unspent unset)
         right mine still unset
     by false is = refl
 

@@ -1,5 +1,5 @@
 -- A pair that is reached by its steps stays within their sizes, and each reply is sound.
-use Rattle.std.proofs.Common.{◌≡◌, ◌<◌, ◌^◌, ℕ, List, [], ◌∷◌, length, true, false, Option, Some, None, refl, sym, ap, arith}
+use Rattle.std.proofs.Common.{◌≡◌, ◌<◌, ◌+◌, ◌-◌, ◌^◌, ℕ, List, [], ◌∷◌, length, true, false, Option, Some, None, refl, sym, ap, arith}
 use Rattle.std.specs.Prelude.{slice_get}
 use Rattle.rtc_change.specs.Table.{IsTable}
 use Rattle.rtc_peer_state.specs.declared.peer.Peer.{Peer}
@@ -11,7 +11,8 @@ use Rattle.rtc_history.specs.declared.step.Step.TheVariants.{Negotiate, AcceptOf
 use Rattle.rtc_history.specs.declared.outcome.Outcome.{Outcome}
 use Rattle.rtc_history.specs.declared.table.Table.{Table}
 use Rattle.rtc_history.specs.Sides.{side_of}
-use Rattle.rtc_history.specs.Past.{Entry, MadeSdp, before}
+use Rattle.rtc_history.specs.Sizes.{step_size, steps_size}
+use Rattle.rtc_history.specs.Past.{Entry, MadeSdp, before, steps_of}
 use Rattle.rtc_history.specs.Sound.{IsSound}
 use Rattle.rtc_history.specs.SaidRows.{MakesSdp}
 use Rattle.rtc_history.specs.SoundEntry.{IsSoundEntry}
@@ -21,12 +22,13 @@ use Rattle.rtc_history.specs.Performs.{Performs, Enters, made_by}
 use Rattle.rtc_history.specs.Runs.{Reached, Sound}
 use Rattle.rtc_history.specs.Fresh.{IsFresh, IsJustBuilt}
 use Rattle.rtc_history_laws.proofs.Bounds.{IsWithin}
+use Rattle.rtc_history_laws.proofs.ChannelCounts.{steps_size-append}
 use Rattle.rtc_history_laws.proofs.Tells.{Tells, SideTells, within}
 use Rattle.rtc_history_laws.proofs.Around.{Around, entry, size_grows, remote_sdp-told, length-told, sdp_within}
 use Rattle.rtc_history_laws.proofs.NegotiateSteps.{negotiate_reply, negotiate_tells}
 use Rattle.rtc_history_laws.proofs.OfferSteps.{offer_reply, offer_tells}
 use Rattle.rtc_history_laws.proofs.AnswerSteps.{answer_reply, answer_tells}
-use Rattle.rtc_history_laws.proofs.PastTables.{reply_table, past_table}
+use Rattle.rtc_history_laws.proofs.PastTables.{past_table}
 use Rattle.rtc_history_laws.proofs.MakesSdps.{makes_sdp}
 use Rattle.rtc_history_laws.proofs.FinishedRounds.{finishes_round}
 use Rattle.rtc_history_laws.proofs.OrderlyPasts.{ok_where_orderly, in_step_where_orderly}
@@ -38,15 +40,15 @@ around_of : {N : Type 0} (draws : Draws N) (old new : PairState N) (step : Step)
 around_of draws old new step outcome table made performs made_is small = record { other = ap (λ rtc. rtc.core) performs.other; size = performs.size; small = small; made_is = made_is }
 
 pub step_sound : {N : Type 0} (draws : Draws N) (past : List Entry) (old new : PairState N) (step : Step) (outcome : Outcome) (table : Option Table)
-    → Tells past old → IsTable (before (side_of step) past) → Performs draws old step outcome table new → new.size < 2 ^ 32 → IsSound past step outcome table
+    → Tells past old → IsTable (before (side_of step) past) → Performs draws old step outcome table new → new.size < 2 ^ 32 → IsSound past step outcome table (made_by old new)
 step_sound draws past old new (Negotiate at ops apply) outcome table tells rows performs small =
-    negotiate_reply draws past at ops apply (peer_at at old) (peer_at at new) old.sdps new.sdps outcome table (sym (tells.sides at).rows) rows (length-told past old tells) performs.acts
+    negotiate_reply draws past at ops apply (peer_at at old) (peer_at at new) old.sdps new.sdps outcome table (sym (tells.sides at).rows) (tells.sides at).channels rows (length-told past old tells) performs.acts
 step_sound draws past old new (AcceptOffer at k) outcome table tells rows performs small =
-    offer_reply draws past at k (kept_remote_sdp true old.sdps at k) (peer_at at old) (peer_at at new) old.sdps new.sdps outcome table
-    (remote_sdp-told past old true at k tells) (sym (tells.sides at).rows) (length-told past old tells) performs.acts
+    offer_reply draws past at k (kept_remote_sdp true old.sdps at k) (peer_at at old) (peer_at at new) old.sdps new.sdps outcome table (made_by old new)
+    (remote_sdp-told past old true at k tells) (sym (tells.sides at).rows) (sym (tells.sides at).channels.shown) (length-told past old tells) performs.acts
 step_sound draws past old new (AcceptAnswer at t a) outcome table tells rows performs small =
-    answer_reply draws past at t a old.size (slice_get old.sdps t) (held_token old.sdps at t) (kept_remote_sdp false old.sdps at a) (peer_at at old) (peer_at at new) old.sdps new.sdps outcome table
-    refl ((tells.sides at).tokens t) (tells.sides at).counts (omega (arith, performs.size)) (remote_sdp-told past old false at a tells) (sym (tells.sides at).rows) performs.acts
+    answer_reply draws past at t a old.size (slice_get old.sdps t) (held_token old.sdps at t) (kept_remote_sdp false old.sdps at a) (peer_at at old) (peer_at at new) old.sdps new.sdps outcome table (made_by old new)
+    refl ((tells.sides at).tokens t) (tells.sides at).counts (omega (arith, performs.size)) (remote_sdp-told past old false at a tells) (sym (tells.sides at).rows) (sym (tells.sides at).channels.shown) performs.acts
 
 pub step_tells : {N : Type 0} (draws : Draws N) (past : List Entry) (old new : PairState N) (step : Step) (outcome : Outcome) (table : Option Table) (made : List MadeSdp)
     → Tells past old → Performs draws old step outcome table new → Around step made old new → Tells (entry step outcome table made ∷ past) new
@@ -75,6 +77,7 @@ fresh_side at peer kept size built none =
       few = omega arith;
       one_each = λ t u token other is. absurd (let e : None ≡ Some token = is in cc);
       fits = λ t token is. absurd (let e : None ≡ Some token = is in cc);
+      channels = rw built.channels (record { given = refl; shown = refl; below = tt });
     })
 
 fresh_tells : {N : Type 0} (start : PairState N) → IsFresh start → Tells [] start
@@ -105,18 +108,26 @@ reached_tells draws start pair (last ∷ past) fresh reached small =
 pub reached_within : {N : Type 0} (draws : Draws N) (start pair : PairState N) (past : List Entry) → IsFresh start → Reached draws start past pair → pair.size < 2 ^ 32 → IsWithin pair
 reached_within draws start pair past fresh reached small = within past pair (reached_tells draws start pair past fresh reached small)
 
+-- the size of a pair that is reached is that of its steps
+pub reached_size : {N : Type 0} (draws : Draws N) (start pair : PairState N) (past : List Entry) → Reached draws start past pair → pair.size ≡ start.size + steps_size (steps_of past)
+reached_size draws start pair [] reached = let same : pair.size ≡ start.size = ap (λ p. p.size) reached in omega arith
+reached_size draws start pair (last ∷ past) reached =
+    let enters : Enters draws reached.0 last pair = reached.2 in
+    omega (arith, enters.performs.size, reached_size draws start reached.0 past reached.1, steps_size-append (steps_of past) last.step)
+
 -- The entry of a step of a pair that is reached is sound.
 pub sound_next : {N : Type 0} (draws : Draws N) (start old new : PairState N) (past : List Entry) (step : Step) (outcome : Outcome) (table : Option Table)
     → IsFresh start → Reached draws start past old → Sound past → Performs draws old step outcome table new → new.size < 2 ^ 32 → IsSoundEntry past (entry step outcome table (made_by old new))
 sound_next draws start old new past step outcome table fresh reached sound performs small =
     let tells : Tells past old = reached_tells draws start old past fresh reached (omega (arith, size_grows step (made_by old new) old new (around_of draws old new step outcome table (made_by old new) performs refl small))) in
     let rows : IsTable (before (side_of step) past) = past_table past (side_of step) sound in
-    let replied : IsSound past step outcome table = step_sound draws past old new step outcome table tells rows performs small in
-    let says : MakesSdp step outcome table (made_by old new) = makes_sdp draws past old new step outcome table performs (reply_table past step outcome table replied rows) replied (sym (tells.sides (side_of step)).rows) in
+    let few : steps_size (steps_of past) + step_size step < 2 ^ 64 - 1 = omega (arith, reached_size draws start old past reached, performs.size) in
+    let replied : IsSound past step outcome table (made_by old new) = step_sound draws past old new step outcome table tells rows performs small in
+    let says : MakesSdp step outcome table (made_by old new) = makes_sdp draws past old new step outcome table performs rows replied (sym (tells.sides (side_of step)).rows) in
     record {
       replied = replied;
       made = says;
-      finished = finishes_round past step outcome table sound replied;
-      orderly = ok_where_orderly past step outcome table (made_by old new) sound replied says;
-      in_step = in_step_where_orderly past (entry step outcome table (made_by old new)) sound replied says;
+      finished = finishes_round past step outcome table (made_by old new) sound replied;
+      orderly = ok_where_orderly past step outcome table (made_by old new) sound few replied says;
+      in_step = in_step_where_orderly past (entry step outcome table (made_by old new)) sound (omega (arith, few, steps_size-append (steps_of past) step)) replied says;
     }

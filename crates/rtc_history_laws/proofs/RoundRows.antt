@@ -1,5 +1,5 @@
 -- What the offer of a round and its answer say, and that neither is refused.
-use Rattle.std.proofs.Common.{◌≡◌, ◌+◌, ◌-◌, ◌==◌, ℕ, true, false, List, [], ◌∷◌, ◌++◌, map, length, Some, None, refl, subst, arith, max, zero, suc, length-append}
+use Rattle.std.proofs.Common.{◌≡◌, ◌+◌, ◌-◌, ◌==◌, ℕ, Bool, true, false, List, [], ◌∷◌, ◌++◌, map, length, Some, None, refl, arith, max, zero, suc, length-append}
 use Rattle.std.specs.Prelude.{slice_get}
 use Rattle.std.proofs.lemmas.Bool.{eq-eqb}
 use Rattle.std.proofs.lemmas.List.{length-map}
@@ -8,18 +8,20 @@ use Rattle.rtc_sdp_values.specs.Sdp.{inconsistency}
 use Rattle.rtc_sdp_values.specs.declared.line_row.LineRow.{LineRow}
 use Rattle.rtc_sdp_values.specs.declared.sdp.Sdp.{Sdp}
 use Rattle.rtc_change.specs.ParsedLines.{parsed_lines}
-use Rattle.rtc_change.specs.Table.{IsTable, Rising, row_of}
+use Rattle.rtc_change.specs.Table.{IsTable, OneApp, row_of}
 use Rattle.rtc_change.specs.TableAfter.{new_places}
 use Rattle.rtc_change.specs.Plans.{verdict, head_verdict}
 use Rattle.rtc_change.proofs.TableLemmas.{row_of_its_mid}
 use Rattle.rtc_history.specs.declared.side.Side.{Side}
 use Rattle.rtc_history.specs.Sides.{other_side}
 use Rattle.rtc_history.specs.Past.{Entry, before, sdps, is_spent, is_right, added_by}
+use Rattle.rtc_history.specs.Answers.{has_app_row}
 use Rattle.rtc_history.specs.SaidRows.{row_said}
 use Rattle.rtc_history.specs.CourseRows.{unnamed}
-use Rattle.rtc_history_laws.proofs.AddedRows.{AreAdded, added_rising, added_distinct, rising_append}
+use Rattle.rtc_history_laws.proofs.AddedRows.{AreAdded, added_distinct}
 use Rattle.rtc_history_laws.proofs.AnswerCounts.{new_count}
-use Rattle.rtc_history_laws.proofs.RowsFollow.{Aligned, Follows, FindsNew, follows_allowed, follows_right, all_left, length-aligned}
+use Rattle.rtc_history_laws.proofs.RowNames.{Aligned, length-aligned}
+use Rattle.rtc_history_laws.proofs.RowsFollow.{Follows, FindsNew, follows_allowed, follows_right, all_left}
 use Rattle.rtc_history_laws.proofs.LiveRows.{StartsLive}
 
 -- ---- SDPs
@@ -33,7 +35,10 @@ pub record OfferSaid : Type 0 where
   pub fits : inconsistency sdp ≡ None
   pub live : StartsLive (front ++ more)
   pub table : IsTable front
-  pub new : AreAdded (map row_mid front) (length front) more
+  pub whole : IsTable (front ++ more)
+  pub may : Bool
+  pub new : AreAdded may (map row_mid front) (length front) more
+  pub first : may ≡ true → has_app_row front ≡ false
 
 -- What an answer says: the rows that its side had as it made it.
 pub record AnswerSaid : Type 0 where
@@ -42,6 +47,7 @@ pub record AnswerSaid : Type 0 where
   pub says : parsed_lines sdp ≡ map row_said rows
   pub fits : inconsistency sdp ≡ None
   pub live : StartsLive rows
+  pub table : IsTable rows
 
 -- A side made the offer of a number, has its token, which is right, and its rows still have the names that it offered.
 pub record HasOffered (offer : OfferSaid) (at : Side) (n : ℕ) (past : List Entry) : Type 0 where
@@ -89,32 +95,27 @@ finds_past news front rows same finds = absurd same
 pub offer_finds : (offer : OfferSaid) (rows : List LineRow) → Aligned offer.front rows → FindsNew offer.more rows (offer.front ++ offer.more)
 offer_finds offer rows same =
     finds_past offer.more offer.front rows same
-    (finds_each offer.more offer.more (λ k row there. row_of_its_mid offer.more k row (added_distinct (map row_mid offer.front) (length offer.front) offer.more offer.new) there))
-
-pub offer_rising : (offer : OfferSaid) → Rising 0 (offer.front ++ offer.more)
-offer_rising offer =
-    rising_append 0 offer.front offer.more offer.table.rising
-    (subst (λ (k : ℕ). Rising k offer.more) (let e : length offer.front ≡ 0 + length offer.front = omega arith in e) (added_rising (map row_mid offer.front) (length offer.front) offer.more offer.new))
+    (finds_each offer.more offer.more (λ k row there. row_of_its_mid offer.more k row (added_distinct offer.may (map row_mid offer.front) (length offer.front) offer.more offer.new) there))
 
 -- ---- no cause holds
 
 -- an offer whose rows go on from those of a table is not refused
-pub offer_passes : (rows more : List LineRow) (sdp : Sdp) → IsTable rows → Follows rows rows more → parsed_lines sdp ≡ map row_said more → inconsistency sdp ≡ None → StartsLive more
+pub offer_passes : (rows more : List LineRow) (sdp : Sdp) → IsTable rows → Follows rows rows more → OneApp more → parsed_lines sdp ≡ map row_said more → inconsistency sdp ≡ None → StartsLive more
     → verdict (record { lines = rows }) None sdp ≡ None
 unfolding verdict head_verdict
-offer_passes rows [] sdp table follows says fits live = absurd live
-offer_passes rows (row ∷ more) sdp table follows says fits live = rw (says, fits, follows_allowed rows true false 0 rows (row ∷ more) table (all_left rows) follows) refl
+offer_passes rows [] sdp table follows one says fits live = absurd live
+offer_passes rows (row ∷ more) sdp table follows one says fits live = rw (says, fits, follows_allowed rows true false 0 rows (row ∷ more) table (all_left rows) follows one tt) refl
 
 -- an answer whose rows are those that were offered is not refused
-pub answer_passes : (rows : List LineRow) (offer : OfferSaid) (more : List LineRow) (sdp : Sdp) → IsTable rows → Follows rows rows more → Aligned (offer.front ++ offer.more) more → Aligned offer.front rows
+pub answer_passes : (rows : List LineRow) (offer : OfferSaid) (more : List LineRow) (sdp : Sdp) → IsTable rows → Follows rows rows more → OneApp more → Aligned (offer.front ++ offer.more) more → Aligned offer.front rows
     → parsed_lines sdp ≡ map row_said more → inconsistency sdp ≡ None → verdict (record { lines = rows }) (Some (record { added = offer.more })) sdp ≡ None
 unfolding verdict head_verdict
-answer_passes rows offer more sdp table follows same kept says fits =
-    let allowed = follows_allowed rows false false 0 rows more table (all_left rows) follows in
+answer_passes rows offer more sdp table follows one same kept says fits =
+    let allowed = follows_allowed rows false false 0 rows more table (all_left rows) follows one tt in
     let count : length (new_places rows 0 (map row_said more)) ≡ (0 + length (map row_said more)) - max 0 (length rows) = new_count rows false 0 (map row_said more) table.rising allowed in
     let lines : length (map row_said more) ≡ length more = length-map more row_said in
     let all : length more ≡ length (offer.front ++ offer.more) = length-aligned (offer.front ++ offer.more) more same in
     let both : length (offer.front ++ offer.more) ≡ length offer.front + length offer.more = length-append offer.front offer.more in
     let few : length rows ≡ length offer.front = length-aligned offer.front rows kept in
     let right : (length offer.more == length (new_places rows 0 (map row_said more))) ≡ true = eq-eqb (length offer.more) (length (new_places rows 0 (map row_said more))) (omega arith) in
-    rw (says, fits, allowed, right, follows_right rows offer.more 0 rows (offer.front ++ offer.more) more table (all_left rows) follows same (offer_rising offer) (offer_finds offer rows kept)) refl
+    rw (says, fits, allowed, right, follows_right rows offer.more 0 rows (offer.front ++ offer.more) more table (all_left rows) follows same offer.whole.rising (offer_finds offer rows kept)) refl

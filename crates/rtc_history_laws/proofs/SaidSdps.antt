@@ -17,7 +17,7 @@ use Rattle.rtc_change.specs.Table.{Distinct, is_of, has_mid}
 use Rattle.rtc_peer_state.specs.declared.identity.Identity.{Identity}
 use Rattle.rtc_peer_state.specs.MadeSdp.{is_stopped, row_line, live_mids, sdp_of_rows}
 use Rattle.rtc_history.specs.SaidRows.{row_said, are_live}
-use Rattle.rtc_history_laws.proofs.AddedRows.{AreAdded, among_mids, added_apart, added_distinct}
+use Rattle.rtc_history_laws.proofs.AddedRows.{among_mids}
 
 -- ---- what an SDP says of rows
 
@@ -167,21 +167,3 @@ pub sdp_fits : (session : ℕ) (identity : Identity) (setup : Setup) (rows : Lis
 unfolding inconsistency
 sdp_fits session identity setup rows distinct live =
     rw (some_live rows live, mids_of_rows identity setup rows, live_known rows, lines_grouped identity setup (live_mids rows) rows (rows_grouped rows), distinct_mids rows distinct) refl
-
--- ---- the rows of an offer
-
-distinct_append : (rows more : List LineRow) → Distinct rows → Distinct more → ((mid : List ℕ) → is_among (map row_mid rows) mid ≡ true → has_mid mid more ≡ false) → Distinct (rows ++ more)
-distinct_append [] more distinct other apart = other
-distinct_append (row ∷ rows) more distinct other apart = (
-  rw (list_any-append (is_of (row_mid row)) rows more) (or_from _ _ distinct.0 (apart (row_mid row) (rw ((bytes_eq-Decides (row_mid row) (row_mid row)).1 refl) refl))),
-  distinct_append rows more distinct.1 other (λ mid among. apart mid (either (bytes_eq (row_mid row) mid) among)),
-)
-  where
-    either : {b : Bool} → (a : Bool) → b ≡ true → (a || b) ≡ true
-    either true is = refl
-    either false is = is
-
--- the rows of an offer have distinct mids
-pub offered_distinct : (rows more : List LineRow) (place : ℕ) → Distinct rows → AreAdded (map row_mid rows) place more → Distinct (rows ++ more)
-offered_distinct rows more place distinct new =
-    distinct_append rows more distinct (added_distinct (map row_mid rows) place more new) (λ mid among. added_apart (map row_mid rows) place more mid new among)

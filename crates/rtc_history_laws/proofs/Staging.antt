@@ -1,181 +1,282 @@
 -- What the ops of a step stage.
-use Rattle.std.proofs.Common.{◌≡◌, ◌≤◌, ◌+◌, ℕ, suc, List, [], ◌∷◌, ◌++◌, length, Bool, true, false, ◌||◌, Ok, refl, sym, ◌∙◌, ap, arith, append-nil, append_assoc, length-append}
-use Rattle.rtc_sdp_values.specs.declared.direction.Direction.{Direction}
+use Rattle.std.proofs.Common.{◌≡◌, ◌≤◌, ◌+◌, ℕ, List, [], ◌∷◌, ◌++◌, length, Bool, true, false, not, ◌||◌, Option, Some, None, refl, sym, ◌∙◌, ap, subst, arith, append-nil, append_assoc}
 use Rattle.rtc_sdp_values.specs.declared.direction.Direction.TheVariants.{Inactive}
 use Rattle.rtc_sdp_values.specs.declared.line_row.LineRow.{LineRow}
 use Rattle.rtc_sdp_values.specs.declared.line_row.LineRow.TheVariants.{Media as MediaRow, App}
 use Rattle.rtc_change.specs.declared.change.Change.{Change}
-use Rattle.rtc_change.specs.declared.change.Change.TheVariants.{AddMedia as Adding, AddApp, Direction as Setting}
-use Rattle.rtc_change.specs.PendingOffer.{added_mids, added_rows}
-use Rattle.rtc_change.specs.RowChanges.{RowChange, directed_row, stopped_row, changed_of}
-use Rattle.rtc_change.proofs.AddedLemmas.{added_mids-append}
-use Rattle.rtc_change.proofs.RowChangeLemmas.{KeepsRow, directed_row_keeps, stopped_row_keeps, changed_of_alike, length-alike}
+use Rattle.rtc_change.specs.declared.change.Change.TheVariants.{AddMedia as Adding, AddApp, AddChannel as AddingChannel}
+use Rattle.rtc_change.specs.PendingOffer.{added_mids, added_rows, do_offer, contains_add_app}
+use Rattle.rtc_wire.specs.declared.channel_config.ChannelConfig.{ChannelConfig}
+use Rattle.rtc_channels.specs.Channels.{with_channel, channel_rows, AreBelow}
+use Rattle.rtc_change.specs.RowChanges.{directed_row, stopped_row}
+use Rattle.rtc_change.proofs.RowChangeLemmas.{directed_row_keeps, stopped_row_keeps}
 use Rattle.rtc_peer_state.specs.declared.peer.Peer.{Peer}
 use Rattle.rtc_peer_state.specs.Draws.{Draws}
-use Rattle.rtc_peer_state.specs.Calls.{ChangesLine, staged_media}
+use Rattle.rtc_peer_state.specs.Calls.{needs_app, staged_mid, staged_media}
 use Rattle.rtc_history.specs.declared.op.Op.{Op}
-use Rattle.rtc_history.specs.declared.op.Op.TheVariants.{AddMedia, SetDirection, StopMedia}
+use Rattle.rtc_history.specs.declared.op.Op.TheVariants.{AddMedia, SetDirection, StopMedia, AddChannel}
 use Rattle.rtc_history.specs.declared.op_answer.OpAnswer.{OpAnswer}
-use Rattle.rtc_history.specs.declared.op_answer.OpAnswer.TheVariants.{Mid, Changed, NoLine, Alloc as OpAlloc}
-use Rattle.rtc_history.specs.Past.{added, do_stage}
+use Rattle.rtc_history.specs.declared.op_answer.OpAnswer.TheVariants.{Mid, Changed, NoLine, Channel, BadChannel, Alloc as OpAlloc}
+use Rattle.rtc_history.specs.Answers.{has_app_row, added, do_stage, do_need_offer, channels_answered, waiting_row, rows_waiting}
 use Rattle.rtc_history.specs.Performs.{PerformsOps, wanted}
 use Rattle.rtc_history_laws.proofs.AddedRows.{added_none}
+use Rattle.rtc_history_laws.proofs.ToldChannels.{told, told_more}
+use Rattle.rtc_history_laws.proofs.StagedApps.{AppTold, contains-append, needs_same, told_same, ChannelStaged, channel_staged, none_there, app_mid_is}
+use Rattle.rtc_history_laws.proofs.StagedChanges.{are_some, some-push, some_two, or_nothing, or_something, or_three, added_rows-append, adds_next, count_next, offer-append, StagesLine, line_staged, channels_none, or_early, lined_offers}
 
--- whether something is staged
-abbrev pub are_some : List Change → Bool
-are_some [] = false
-are_some (change ∷ changes) = true
+-- What ops leave of a peer's channels.
+pub record ChannelsStaged {N : Type 0} (p : Peer N) (ops : List Op) (answers : List OpAnswer) (q : Peer N) : Type 0 where
+  pub same : told q.channels ≡ channels_answered ops answers (told p.channels)
+  pub shown : channel_rows q.channels ≡ channel_rows p.channels ++ rows_waiting answers
+  pub below : AreBelow p.channels.given p.channels.rows → AreBelow q.channels.given q.channels.rows
+
+-- the rows that are staged are those that ops add, where the mid of a line of data channels is told that is still to be staged
+abbrev pub AddsRows : {N : Type 0} → Peer N → List Op → List OpAnswer → Peer N → Type 0
+AddsRows p ops answers q =
+    (app : Option (List ℕ)) → AppTold p app q → (app ≡ None → needs_app p ≡ false)
+    → (place : ℕ) → added_rows place q.staged ≡ added_rows place p.staged ++ added app (place + length (added_mids p.staged)) ops answers
 
 -- What ops leave of a peer: as many rows, and what is staged more.
 pub record Stages {N : Type 0} (p : Peer N) (ops : List Op) (answers : List OpAnswer) (q : Peer N) : Type 0 where
   pub rows : length q.lines ≡ length p.lines
+  pub app : has_app_row q.lines ≡ has_app_row p.lines
   pub counter : q.counter ≡ p.counter
-  pub adds : (place : ℕ) → added_rows place q.staged ≡ added_rows place p.staged ++ added (place + length (added_mids p.staged)) ops answers
+  pub adds : AddsRows p ops answers q
   pub count : length (added_mids q.staged) ≤ length (added_mids p.staged) + length ops
   pub some : are_some q.staged ≡ (are_some p.staged || do_stage answers)
+  pub offers : do_offer q.staged ≡ (do_offer p.staged || do_need_offer (has_app_row p.lines) answers)
+  pub channels : ChannelsStaged p ops answers q
 
--- ---- what is staged, change by change
-
-some-push : (staged : List Change) (change : Change) → are_some (staged ++ change ∷ []) ≡ true
-some-push [] change = refl
-some-push (first ∷ staged) change = refl
-
-or_nothing : (a : Bool) → a ≡ (a || false)
-or_nothing true = refl
-or_nothing false = refl
-
-or_something : (a : Bool) → true ≡ (a || true)
-or_something true = refl
-or_something false = refl
-
-or_three : (a b c : Bool) → ((a || b) || c) ≡ (a || (b || c))
-or_three true b c = refl
-or_three false b c = refl
-
-one_on : (place count : ℕ) → place + 1 + count ≡ place + suc count
-one_on place count = omega arith
-
--- the rows of changes are those of the first ones, then those of the rest
-added_rows-append : (place : ℕ) (staged more : List Change) → added_rows place (staged ++ more) ≡ added_rows place staged ++ added_rows (place + length (added_mids staged)) more
-added_rows-append place [] more = ap (λ n. added_rows n more) (let e : place ≡ place + 0 = omega arith in e)
-added_rows-append place (Adding media ∷ staged) more =
-    ap (λ rows. MediaRow place media.mid media.kind media.dir false false ∷ rows) (added_rows-append (place + 1) staged more ∙ ap (λ n. added_rows (place + 1) staged ++ added_rows n more) (one_on place (length (added_mids staged))))
-added_rows-append place (AddApp mid ∷ staged) more =
-    ap (λ rows. App place mid ∷ rows) (added_rows-append (place + 1) staged more ∙ ap (λ n. added_rows (place + 1) staged ++ added_rows n more) (one_on place (length (added_mids staged))))
-added_rows-append place (Setting mid dir ∷ staged) more = added_rows-append place staged more
-
--- ---- a line that is added
-
--- a row that is added, and those after it
-adds_next : (place : ℕ) (staged staged' : List Change) (change : Change) (ops : List Op) (answers : List OpAnswer) (rows : List LineRow) (row : LineRow)
-    → staged' ≡ staged ++ change ∷ [] → length (added_mids staged') ≡ length (added_mids staged) + 1 → added_rows (place + length (added_mids staged)) (change ∷ []) ≡ row ∷ []
-    → rows ≡ added_rows place staged' ++ added (place + length (added_mids staged')) ops answers
-    → rows ≡ added_rows place staged ++ row ∷ added (place + length (added_mids staged) + 1) ops answers
-adds_next place staged staged' change ops answers rows row pushed count is rest =
-    let n : ℕ = length (added_mids staged) in
-    let next : place + length (added_mids staged') ≡ place + n + 1 = omega (arith, count) in
-    rest
-    ∙ ap (λ m. added_rows place staged' ++ added m ops answers) next
-    ∙ ap (λ (s : List Change). added_rows place s ++ added (place + n + 1) ops answers) pushed
-    ∙ ap (λ (front : List LineRow). front ++ added (place + n + 1) ops answers) (added_rows-append place staged (change ∷ []) ∙ ap (λ (last : List LineRow). added_rows place staged ++ last) is)
-    ∙ append_assoc (added_rows place staged) (row ∷ []) (added (place + n + 1) ops answers)
+same_channels : {N : Type 0} (p r q : Peer N) (op : Op) (ops : List Op) (answer : OpAnswer) (answers : List OpAnswer) → r.channels ≡ p.channels
+    → channels_answered (op ∷ ops) (answer ∷ answers) (told p.channels) ≡ channels_answered ops answers (told p.channels) → rows_waiting (answer ∷ answers) ≡ rows_waiting answers
+    → ChannelsStaged r ops answers q → ChannelsStaged p (op ∷ ops) (answer ∷ answers) q
+same_channels p r q op ops answer answers same none no_row rest = record {
+  same = rest.same ∙ ap (λ held. channels_answered ops answers (told held)) same ∙ sym none;
+  shown = rest.shown ∙ ap (λ held. channel_rows held ++ rows_waiting answers) same ∙ ap (λ rows. channel_rows p.channels ++ rows) (sym no_row);
+  below = λ below. rest.below (rw same below);
+}
 
 -- ---- a line that is changed
 
--- What a change of a line leaves of a peer.
-record StagesLine {N : Type 0} (p : Peer N) (changed : Bool) (r : Peer N) : Type 0 where
-  rows : length r.lines ≡ length p.lines
-  counter : r.counter ≡ p.counter
-  adds : (place : ℕ) → added_rows place r.staged ≡ added_rows place p.staged
-  count : length (added_mids r.staged) ≡ length (added_mids p.staged)
-  some : are_some r.staged ≡ (are_some p.staged || changed)
-
-line_staged : {N : Type 0} (change : RowChange) (to : Direction) (p : Peer N) (mid : List ℕ) (changed : Bool) (r : Peer N) → KeepsRow change → ChangesLine change to p mid (Ok changed) r → StagesLine p changed r
-line_staged change to p mid true r keeps h =
-    let staged : r.staged ≡ p.staged ++ Setting mid to ∷ [] = ap (λ q. q.staged) h.1 in
-    record {
-      rows = ap (λ q. length q.lines) h.1 ∙ length-alike p.lines (changed_of change mid p.lines) (changed_of_alike change keeps mid p.lines);
-      counter = ap (λ q. q.counter) h.1;
-      adds = λ place. ap (added_rows place) staged ∙ added_rows-append place p.staged (Setting mid to ∷ []) ∙ append-nil (added_rows place p.staged);
-      count = ap (λ changes. length (added_mids changes)) staged ∙ ap length (added_mids-append p.staged (Setting mid to ∷ []) ∙ append-nil (added_mids p.staged));
-      some = ap are_some staged ∙ some-push p.staged (Setting mid to) ∙ or_something (are_some p.staged);
-    }
-line_staged change to p mid false r keeps h = record {
-  rows = ap (λ q. length q.lines) h.1;
-  counter = ap (λ q. q.counter) h.1;
-  adds = λ place. ap (λ q. added_rows place q.staged) h.1;
-  count = ap (λ q. length (added_mids q.staged)) h.1;
-  some = ap (λ q. are_some q.staged) h.1 ∙ or_nothing (are_some p.staged);
-}
-
 -- the ops after a change of a line
-stages_line : {N : Type 0} (p r q : Peer N) (op : Op) (ops : List Op) (changed : Bool) (answers : List OpAnswer) → ((place : ℕ) → added place (op ∷ ops) (Changed changed ∷ answers) ≡ added place ops answers)
+stages_line : {N : Type 0} (p r q : Peer N) (op : Op) (ops : List Op) (changed : Bool) (answers : List OpAnswer)
+    → ((app : Option (List ℕ)) (place : ℕ) → added app place (op ∷ ops) (Changed changed ∷ answers) ≡ added app place ops answers)
+    → channels_answered (op ∷ ops) (Changed changed ∷ answers) (told p.channels) ≡ channels_answered ops answers (told p.channels)
     → StagesLine p changed r → Stages r ops answers q → Stages p (op ∷ ops) (Changed changed ∷ answers) q
-stages_line p r q op ops changed answers none line rest = record {
-  rows = rest.rows ∙ line.rows;
-  counter = rest.counter ∙ line.counter;
-  adds = λ place. rest.adds place ∙ ap (λ (front : List LineRow). front ++ added (place + length (added_mids r.staged)) ops answers) (line.adds place)
-      ∙ ap (λ n. added_rows place p.staged ++ added (place + n) ops answers) line.count
-      ∙ ap (λ (more : List LineRow). added_rows place p.staged ++ more) (sym (none (place + length (added_mids p.staged))));
-  count = let most : length (added_mids q.staged) ≤ length (added_mids r.staged) + length ops = rest.count in
-      let same : length (added_mids r.staged) ≡ length (added_mids p.staged) = line.count in omega arith;
-  some = rest.some ∙ ap (λ b. b || do_stage answers) line.some ∙ or_three (are_some p.staged) changed (do_stage answers);
-}
+stages_line p r q op ops changed answers none no_channel line rest =
+    let needs : needs_app r ≡ needs_app p = needs_same p r line.app line.lined in
+    record {
+      rows = rest.rows ∙ line.rows;
+      app = rest.app ∙ line.app;
+      counter = rest.counter ∙ line.counter;
+      adds = λ app is unneeded place. rest.adds app (told_same p r app q needs is) (λ no. needs ∙ unneeded no) place
+          ∙ ap (λ (front : List LineRow). front ++ added app (place + length (added_mids r.staged)) ops answers) (line.adds place)
+          ∙ ap (λ n. added_rows place p.staged ++ added app (place + n) ops answers) line.count
+          ∙ ap (λ (more : List LineRow). added_rows place p.staged ++ more) (sym (none app (place + length (added_mids p.staged))));
+      count = let most : length (added_mids q.staged) ≤ length (added_mids r.staged) + length ops = rest.count in
+          let same : length (added_mids r.staged) ≡ length (added_mids p.staged) = line.count in omega arith;
+      some = rest.some ∙ ap (λ b. b || do_stage answers) line.some ∙ or_three (are_some p.staged) changed (do_stage answers);
+      offers = rest.offers ∙ ap (λ b. do_offer r.staged || do_need_offer b answers) line.app
+          ∙ ap (λ b. b || do_need_offer (has_app_row p.lines) answers) line.offers ∙ or_three (do_offer p.staged) changed (do_need_offer (has_app_row p.lines) answers);
+      channels = same_channels p r q op ops (Changed changed) answers line.channels no_channel refl rest.channels;
+    }
 
--- the ops after one that found no line
-stages_none : {N : Type 0} (p q : Peer N) (op : Op) (ops : List Op) (answers : List OpAnswer) → ((place : ℕ) → added place (op ∷ ops) (NoLine ∷ answers) ≡ added place ops answers)
-    → Stages p ops answers q → Stages p (op ∷ ops) (NoLine ∷ answers) q
-stages_none p q op ops answers none rest = record {
-  rows = rest.rows;
-  counter = rest.counter;
-  adds = λ place. rest.adds place ∙ ap (λ (more : List LineRow). added_rows place p.staged ++ more) (sym (none (place + length (added_mids p.staged))));
-  count = let most : length (added_mids q.staged) ≤ length (added_mids p.staged) + length ops = rest.count in omega arith;
-  some = rest.some;
+-- ---- ops that leave a peer as it was
+
+-- an op that is answered by no line, or no channel, and the ops after it
+stages_none : {N : Type 0} (p r q : Peer N) (op : Op) (ops : List Op) (answer : OpAnswer) (answers : List OpAnswer) → r ≡ p
+    → ((app : Option (List ℕ)) (place : ℕ) → added app place (op ∷ ops) (answer ∷ answers) ≡ added app place ops answers)
+    → do_stage (answer ∷ answers) ≡ do_stage answers → ((has : Bool) → do_need_offer has (answer ∷ answers) ≡ do_need_offer has answers)
+    → channels_answered (op ∷ ops) (answer ∷ answers) (told p.channels) ≡ channels_answered ops answers (told p.channels) → rows_waiting (answer ∷ answers) ≡ rows_waiting answers
+    → Stages r ops answers q → Stages p (op ∷ ops) (answer ∷ answers) q
+stages_none {N} p r q op ops answer answers same none unstaged unoffered no_channel no_row rest = record {
+  rows = rest.rows ∙ ap (λ s. length s.lines) same;
+  app = rest.app ∙ ap (λ s. has_app_row s.lines) same;
+  counter = rest.counter ∙ ap (λ s. s.counter) same;
+  adds = λ app is unneeded place. subst (λ (s : Peer N). AddsRows s ops answers q) same rest.adds app is unneeded place ∙ ap (λ (more : List LineRow). added_rows place p.staged ++ more) (sym (none app (place + length (added_mids p.staged))));
+  count = let most : length (added_mids q.staged) ≤ length (added_mids r.staged) + length ops = rest.count in
+      let e : length (added_mids r.staged) ≡ length (added_mids p.staged) = ap (λ s. length (added_mids s.staged)) same in omega arith;
+  some = rest.some ∙ ap (λ s. are_some s.staged || do_stage answers) same ∙ ap (λ b. are_some p.staged || b) (sym unstaged);
+  offers = rest.offers ∙ ap (λ s. do_offer s.staged || do_need_offer (has_app_row s.lines) answers) same ∙ ap (λ b. do_offer p.staged || b) (sym (unoffered (has_app_row p.lines)));
+  channels = same_channels p r q op ops answer answers (ap (λ s. s.channels) same) no_channel no_row rest.channels;
 }
 
 -- an op that lacked memory
-stages_lacking : {N : Type 0} (p q : Peer N) (op : Op) (ops : List Op) → ((place : ℕ) → added place (op ∷ ops) (OpAlloc ∷ []) ≡ []) → q.lines ≡ p.lines → q.counter ≡ p.counter → q.staged ≡ p.staged
-    → Stages p (op ∷ ops) (OpAlloc ∷ []) q
-stages_lacking p q op ops none lines counter staged = record {
+stages_lacking : {N : Type 0} (p q : Peer N) (op : Op) (ops : List Op) → ((app : Option (List ℕ)) (place : ℕ) → added app place (op ∷ ops) (OpAlloc ∷ []) ≡ [])
+    → channels_answered (op ∷ ops) (OpAlloc ∷ []) (told p.channels) ≡ told p.channels
+    → q.lines ≡ p.lines → q.counter ≡ p.counter → q.staged ≡ p.staged → q.channels ≡ p.channels → Stages p (op ∷ ops) (OpAlloc ∷ []) q
+stages_lacking p q op ops none no_channel lines counter staged channels = record {
   rows = ap length lines;
+  app = ap has_app_row lines;
   counter = counter;
-  adds = λ place. ap (added_rows place) staged ∙ sym (append-nil (added_rows place p.staged)) ∙ ap (λ (more : List LineRow). added_rows place p.staged ++ more) (sym (none (place + length (added_mids p.staged))));
+  adds = λ app is unneeded place. ap (added_rows place) staged ∙ sym (append-nil (added_rows place p.staged)) ∙ ap (λ (more : List LineRow). added_rows place p.staged ++ more) (sym (none app (place + length (added_mids p.staged))));
   count = let e : length (added_mids q.staged) ≡ length (added_mids p.staged) = ap (λ changes. length (added_mids changes)) staged in omega arith;
   some = ap are_some staged ∙ or_nothing (are_some p.staged);
+  offers = ap do_offer staged ∙ or_nothing (do_offer p.staged);
+  channels = record {
+    same = ap told channels ∙ sym no_channel;
+    shown = ap channel_rows channels ∙ sym (append-nil (channel_rows p.channels));
+    below = λ below. rw channels below;
+  };
 }
+
+-- ---- a channel that is staged
+
+with_channel_staged : {N : Type 0} (p r q : Peer N) (config : ChannelConfig) (id : ℕ) (ops : List Op) (answers : List OpAnswer) → r.channels ≡ with_channel p.channels config → id ≡ p.channels.given
+    → ChannelsStaged r ops answers q → ChannelsStaged p (AddChannel config ∷ ops) (Channel id ∷ answers) q
+with_channel_staged p r q config id ops answers is numbered rest =
+    let one = told_more p.channels config in
+    record {
+      same = rest.same ∙ ap (λ held. channels_answered ops answers (told held)) is ∙ ap (channels_answered ops answers) one.same ∙ (rw numbered refl);
+      shown = rest.shown ∙ ap (λ held. channel_rows held ++ rows_waiting answers) is ∙ ap (λ rows. rows ++ rows_waiting answers) one.shown
+          ∙ append_assoc (channel_rows p.channels) (waiting_row p.channels.given ∷ []) (rows_waiting answers) ∙ (rw numbered refl);
+      below = λ below. rest.below (rw is (one.below below));
+    }
+
+-- a channel that is staged alone
+stages_alone : {N : Type 0} (draws : Draws N) (p r q : Peer N) (config : ChannelConfig) (id : ℕ) (ops : List Op) (answers : List OpAnswer) → ChannelStaged draws p config id r → needs_app p ≡ false
+    → Stages r ops answers q → Stages p (AddChannel config ∷ ops) (Channel id ∷ answers) q
+stages_alone draws p r q config id ops answers staged unneeded rest =
+    let pushed : r.staged ≡ p.staged ++ AddingChannel id config ∷ [] = staged.alone unneeded in
+    let count : length (added_mids r.staged) ≡ length (added_mids p.staged) + 0 = count_next p.staged r.staged (AddingChannel id config ∷ []) 0 pushed refl in
+    let app : has_app_row r.lines ≡ has_app_row p.lines = ap has_app_row staged.lines in
+    let lined : contains_add_app r.staged ≡ contains_add_app p.staged = ap contains_add_app pushed ∙ contains-append p.staged (AddingChannel id config ∷ []) ∙ sym (or_nothing (contains_add_app p.staged)) in
+    let needs : needs_app r ≡ needs_app p = needs_same p r app lined in
+    let offers : do_offer r.staged ≡ do_offer p.staged = ap do_offer pushed ∙ offer-append p.staged (AddingChannel id config ∷ []) ∙ sym (or_nothing (do_offer p.staged)) in
+    record {
+      rows = rest.rows ∙ ap length staged.lines;
+      app = rest.app ∙ ap has_app_row staged.lines;
+      counter = rest.counter ∙ staged.counter;
+      adds = λ told_app is none place. by told_app is needs (rest.adds) pushed count place;
+      count = let most : length (added_mids q.staged) ≤ length (added_mids r.staged) + length ops = rest.count in omega arith;
+      some = rest.some ∙ ap (λ b. b || do_stage answers) (ap are_some pushed ∙ some-push p.staged (AddingChannel id config)) ∙ or_early (are_some p.staged) (do_stage answers);
+      offers = rest.offers ∙ ap (λ b. do_offer r.staged || do_need_offer b answers) app ∙ ap (λ b. b || do_need_offer (has_app_row p.lines) answers) offers ∙ kept_or (has_app_row p.lines) refl;
+      channels = with_channel_staged p r q config id ops answers staged.channels staged.numbered rest.channels;
+    }
+  where
+    by : (app : Option (List ℕ)) → AppTold p app q → needs_app r ≡ needs_app p → AddsRows r ops answers q → r.staged ≡ p.staged ++ AddingChannel id config ∷ [] → length (added_mids r.staged) ≡ length (added_mids p.staged) + 0
+        → (place : ℕ) → added_rows place q.staged ≡ added_rows place p.staged ++ added app (place + length (added_mids p.staged)) (AddChannel config ∷ ops) (Channel id ∷ answers)
+    by (Some mid) is needs adds pushed count place = absurd (let e : true ≡ false = sym is.0 ∙ unneeded in cc)
+    by None is needs adds pushed count place =
+        adds None tt (λ no. needs ∙ unneeded) place
+        ∙ ap (λ (s : List Change). added_rows place s ++ added None (place + length (added_mids r.staged)) ops answers) pushed
+        ∙ ap (λ (front : List LineRow). front ++ added None (place + length (added_mids r.staged)) ops answers) (added_rows-append place p.staged (AddingChannel id config ∷ []) ∙ append-nil (added_rows place p.staged))
+        ∙ ap (λ n. added_rows place p.staged ++ added None n ops answers) (let e : place + length (added_mids r.staged) ≡ place + length (added_mids p.staged) = omega (arith, count) in e)
+
+    -- a channel without a line of its own is offered by what else is staged, or not at all
+    kept_or : (has : Bool) → has_app_row p.lines ≡ has → (do_offer p.staged || do_need_offer (has_app_row p.lines) answers) ≡ (do_offer p.staged || (not (has_app_row p.lines) || do_need_offer (has_app_row p.lines) answers))
+    kept_or true is = rw is refl
+    kept_or false is = rw (is, lined_offers p.staged (rw is at unneeded)) refl
+
+-- a channel that is staged with its line
+stages_lined : {N : Type 0} (draws : Draws N) (p r q : Peer N) (config : ChannelConfig) (id : ℕ) (ops : List Op) (answers : List OpAnswer) → ChannelStaged draws p config id r → needs_app p ≡ true
+    → PerformsOps draws r ops answers q → Stages r ops answers q → Stages p (AddChannel config ∷ ops) (Channel id ∷ answers) q
+stages_lined draws p r q config id ops answers staged needed h rest =
+    let more : List Change = AddApp (staged_mid draws p) ∷ AddingChannel id config ∷ [] in
+    let pushed : r.staged ≡ p.staged ++ more = staged.lined needed in
+    let count : length (added_mids r.staged) ≡ length (added_mids p.staged) + 1 = count_next p.staged r.staged more 1 pushed refl in
+    let none = none_there p needed in
+    let app : has_app_row r.lines ≡ false = ap has_app_row staged.lines ∙ none.0 in
+    let lined : contains_add_app r.staged ≡ true = ap contains_add_app pushed ∙ contains-append p.staged more ∙ sym (or_something (contains_add_app p.staged)) in
+    let offers : do_offer r.staged ≡ true = ap do_offer pushed ∙ offer-append p.staged more ∙ sym (or_something (do_offer p.staged)) in
+    record {
+      rows = rest.rows ∙ ap length staged.lines;
+      app = rest.app ∙ ap has_app_row staged.lines;
+      counter = rest.counter ∙ staged.counter;
+      adds = λ told_app is unneeded place. by told_app is unneeded (rw (app, lined) refl) rest.adds pushed count place;
+      count = let most : length (added_mids q.staged) ≤ length (added_mids r.staged) + length ops = rest.count in omega arith;
+      some = rest.some ∙ ap (λ b. b || do_stage answers) (ap are_some pushed ∙ some_two p.staged (AddApp (staged_mid draws p)) (AddingChannel id config)) ∙ or_early (are_some p.staged) (do_stage answers);
+      offers = rest.offers ∙ ap (λ b. b || do_need_offer (has_app_row r.lines) answers) offers ∙ (rw none.0 (or_early (do_offer p.staged) (do_need_offer false answers)));
+      channels = with_channel_staged p r q config id ops answers staged.channels staged.numbered rest.channels;
+    }
+  where
+    by : (app : Option (List ℕ)) → AppTold p app q → (app ≡ None → needs_app p ≡ false) → needs_app r ≡ false → AddsRows r ops answers q
+        → r.staged ≡ p.staged ++ AddApp (staged_mid draws p) ∷ AddingChannel id config ∷ [] → length (added_mids r.staged) ≡ length (added_mids p.staged) + 1
+        → (place : ℕ) → added_rows place q.staged ≡ added_rows place p.staged ++ added app (place + length (added_mids p.staged)) (AddChannel config ∷ ops) (Channel id ∷ answers)
+    by None is unneeded later adds pushed count place = absurd (let e : true ≡ false = sym needed ∙ unneeded refl in cc)
+    by (Some mid) is unneeded later adds pushed count place =
+        let same : staged_mid draws p ≡ mid = is.1 (staged_mid draws p) (app_mid_is draws p r q config id ops answers needed staged h) in
+        let n : ℕ = length (added_mids p.staged) in
+        let next : place + length (added_mids r.staged) ≡ place + n + 1 = omega (arith, count) in
+        adds_next place p.staged r.staged (AddApp (staged_mid draws p) ∷ AddingChannel id config ∷ []) (added_rows place q.staged) (App (place + n) mid) (added None (place + n + 1) ops answers)
+        pushed (ap (λ m. App (place + n) m ∷ []) same) (adds None tt (λ no. later) place ∙ ap (λ m. added_rows place r.staged ++ added None m ops answers) next)
+
+-- a channel that is staged, alone or with its line
+stages_channel : {N : Type 0} (draws : Draws N) (p r q : Peer N) (config : ChannelConfig) (id : ℕ) (ops : List Op) (answers : List OpAnswer) → ChannelStaged draws p config id r
+    → PerformsOps draws r ops answers q → Stages r ops answers q → Stages p (AddChannel config ∷ ops) (Channel id ∷ answers) q
+stages_channel draws p r q config id ops answers staged h rest = by (needs_app p) refl
+  where
+    by : (needs : Bool) → needs_app p ≡ needs → Stages p (AddChannel config ∷ ops) (Channel id ∷ answers) q
+    by true is = stages_lined draws p r q config id ops answers staged is h rest
+    by false is = stages_alone draws p r q config id ops answers staged is rest
+
+-- ---- all ops
 
 pub ops_stage : {N : Type 0} (draws : Draws N) (p q : Peer N) (ops : List Op) (answers : List OpAnswer) → PerformsOps draws p ops answers q → Stages p ops answers q
 ops_stage draws p q [] [] h = record {
   rows = ap (λ r. length r.lines) h;
+  app = ap (λ r. has_app_row r.lines) h;
   counter = ap (λ r. r.counter) h;
-  adds = λ place. ap (λ r. added_rows place r.staged) h ∙ sym (append-nil (added_rows place p.staged));
+  adds = λ app is unneeded place. ap (λ r. added_rows place r.staged) h ∙ sym (append-nil (added_rows place p.staged));
   count = let e : length (added_mids q.staged) ≡ length (added_mids p.staged) = ap (λ r. length (added_mids r.staged)) h in omega arith;
   some = ap (λ r. are_some r.staged) h ∙ or_nothing (are_some p.staged);
+  offers = ap (λ r. do_offer r.staged) h ∙ or_nothing (do_offer p.staged);
+  channels = record {
+    same = ap (λ r. told r.channels) h;
+    shown = ap (λ r. channel_rows r.channels) h ∙ sym (append-nil (channel_rows p.channels));
+    below = λ below. rw h below;
+  };
 }
 ops_stage draws p q (AddMedia kind dir ∷ ops) (Mid mid ∷ answers) h =
     let change : Change = Adding (staged_media draws p (wanted kind dir)) in
     let staged : h.0.staged ≡ p.staged ++ change ∷ [] = ap (λ r. r.staged) h.1.1 in
-    let count : length (added_mids h.0.staged) ≡ length (added_mids p.staged) + 1 =
-    ap (λ changes. length (added_mids changes)) staged ∙ ap length (added_mids-append p.staged (change ∷ [])) ∙ length-append (added_mids p.staged) (added_mids (change ∷ [])) in
+    let lines : h.0.lines ≡ p.lines = ap (λ r. r.lines) h.1.1 in
+    let count : length (added_mids h.0.staged) ≡ length (added_mids p.staged) + 1 = count_next p.staged h.0.staged (change ∷ []) 1 staged refl in
+    let lined : contains_add_app h.0.staged ≡ contains_add_app p.staged = ap contains_add_app staged ∙ contains-append p.staged (change ∷ []) ∙ sym (or_nothing (contains_add_app p.staged)) in
+    let needs : needs_app h.0 ≡ needs_app p = needs_same p h.0 (ap has_app_row lines) lined in
     let rest : Stages h.0 ops answers q = ops_stage draws h.0 q ops answers h.2 in
     record {
-      rows = rest.rows ∙ ap (λ r. length r.lines) h.1.1;
+      rows = rest.rows ∙ ap length lines;
+      app = rest.app ∙ ap has_app_row lines;
       counter = rest.counter ∙ ap (λ r. r.counter) h.1.1;
-      adds = λ place. adds_next place p.staged h.0.staged change ops answers (added_rows place q.staged) (MediaRow (place + length (added_mids p.staged)) mid kind dir false false) staged count
-          (ap (λ m. MediaRow (place + length (added_mids p.staged)) m kind dir false false ∷ []) (sym h.1.0)) (rest.adds place);
+      adds = λ app is unneeded place.
+          let n : ℕ = length (added_mids p.staged) in
+          adds_next place p.staged h.0.staged (change ∷ []) (added_rows place q.staged) (MediaRow (place + n) mid kind dir false false) (added app (place + n + 1) ops answers) staged
+          (ap (λ m. MediaRow (place + n) m kind dir false false ∷ []) (sym h.1.0))
+          (rest.adds app (told_same p h.0 app q needs is) (λ no. needs ∙ unneeded no) place
+          ∙ ap (λ m. added_rows place h.0.staged ++ added app m ops answers) (let e : place + length (added_mids h.0.staged) ≡ place + n + 1 = omega (arith, count) in e));
       count = let most : length (added_mids q.staged) ≤ length (added_mids h.0.staged) + length ops = rest.count in omega arith;
-      some = rest.some ∙ ap (λ b. b || do_stage answers) (ap are_some staged ∙ some-push p.staged change) ∙ or_something (are_some p.staged);
+      some = rest.some ∙ ap (λ b. b || do_stage answers) (ap are_some staged ∙ some-push p.staged change) ∙ or_early (are_some p.staged) (do_stage answers);
+      offers = rest.offers ∙ ap (λ b. b || do_need_offer (has_app_row h.0.lines) answers) (ap do_offer staged ∙ offer-append p.staged (change ∷ []) ∙ sym (or_something (do_offer p.staged)))
+          ∙ or_early (do_offer p.staged) (do_need_offer (has_app_row p.lines) answers);
+      channels = same_channels p h.0 q (AddMedia kind dir) ops (Mid mid) answers (ap (λ r. r.channels) h.1.1) refl refl rest.channels;
     }
 ops_stage draws p q (AddMedia kind dir ∷ ops) (OpAlloc ∷ []) h =
-    stages_lacking p q (AddMedia kind dir) ops (λ place. added_none place ops) (ap (λ r. r.lines) h.1) (ap (λ r. r.counter) h.1) (ap (λ r. r.staged) h.1)
-ops_stage draws p q (SetDirection at dir ∷ ops) (NoLine ∷ answers) h = stages_none p q (SetDirection at dir) ops answers (λ place. refl) (ops_stage draws p q ops answers h.1)
+    stages_lacking p q (AddMedia kind dir) ops (λ app place. added_none app place ops) (channels_none (AddMedia kind dir) ops (told p.channels)) (ap (λ r. r.lines) h.1) (ap (λ r. r.counter) h.1) (ap (λ r. r.staged) h.1) (ap (λ r. r.channels) h.1)
+ops_stage draws p q (SetDirection at dir ∷ ops) (NoLine ∷ answers) h =
+    stages_none p p q (SetDirection at dir) ops NoLine answers refl (λ app place. refl) refl (λ has. refl) refl refl (ops_stage draws p q ops answers h.1)
 ops_stage draws p q (SetDirection at dir ∷ ops) (Changed changed ∷ answers) h =
-    stages_line p h.0 q (SetDirection at dir) ops changed answers (λ place. refl) (line_staged (directed_row dir) dir p h.1.mid changed h.0 (directed_row_keeps dir) h.1.called) (ops_stage draws h.0 q ops answers h.2)
+    stages_line p h.0 q (SetDirection at dir) ops changed answers (λ app place. refl) refl (line_staged (directed_row dir) dir p h.1.mid changed h.0 (directed_row_keeps dir) h.1.called) (ops_stage draws h.0 q ops answers h.2)
 ops_stage draws p q (SetDirection at dir ∷ ops) (OpAlloc ∷ []) h =
-    stages_lacking p q (SetDirection at dir) ops (λ place. added_none place ops) (ap (λ r. r.lines) h.called) (ap (λ r. r.counter) h.called) (ap (λ r. r.staged) h.called)
-ops_stage draws p q (StopMedia at ∷ ops) (NoLine ∷ answers) h = stages_none p q (StopMedia at) ops answers (λ place. refl) (ops_stage draws p q ops answers h.1)
+    stages_lacking p q (SetDirection at dir) ops (λ app place. added_none app place ops) (channels_none (SetDirection at dir) ops (told p.channels)) (ap (λ r. r.lines) h.called) (ap (λ r. r.counter) h.called) (ap (λ r. r.staged) h.called) (ap (λ r. r.channels) h.called)
+ops_stage draws p q (StopMedia at ∷ ops) (NoLine ∷ answers) h =
+    stages_none p p q (StopMedia at) ops NoLine answers refl (λ app place. refl) refl (λ has. refl) refl refl (ops_stage draws p q ops answers h.1)
 ops_stage draws p q (StopMedia at ∷ ops) (Changed changed ∷ answers) h =
-    stages_line p h.0 q (StopMedia at) ops changed answers (λ place. refl) (line_staged stopped_row Inactive p h.1.mid changed h.0 stopped_row_keeps h.1.called) (ops_stage draws h.0 q ops answers h.2)
+    stages_line p h.0 q (StopMedia at) ops changed answers (λ app place. refl) refl (line_staged stopped_row Inactive p h.1.mid changed h.0 stopped_row_keeps h.1.called) (ops_stage draws h.0 q ops answers h.2)
 ops_stage draws p q (StopMedia at ∷ ops) (OpAlloc ∷ []) h =
-    stages_lacking p q (StopMedia at) ops (λ place. added_none place ops) (ap (λ r. r.lines) h.called) (ap (λ r. r.counter) h.called) (ap (λ r. r.staged) h.called)
+    stages_lacking p q (StopMedia at) ops (λ app place. added_none app place ops) (channels_none (StopMedia at) ops (told p.channels)) (ap (λ r. r.lines) h.called) (ap (λ r. r.counter) h.called) (ap (λ r. r.staged) h.called) (ap (λ r. r.channels) h.called)
+ops_stage draws p q (AddChannel config ∷ ops) (Channel id ∷ answers) h =
+    stages_channel draws p h.0 q config id ops answers (channel_staged draws p config id h.0 h.1) h.2 (ops_stage draws h.0 q ops answers h.2)
+ops_stage draws p q (AddChannel config ∷ ops) (BadChannel ∷ answers) h =
+    stages_none p h.0 q (AddChannel config) ops BadChannel answers h.1.1 (λ app place. bad_adds app place) refl (λ has. refl) refl refl (ops_stage draws h.0 q ops answers h.2)
+  where
+    bad_adds : (app : Option (List ℕ)) (place : ℕ) → added app place (AddChannel config ∷ ops) (BadChannel ∷ answers) ≡ added app place ops answers
+    bad_adds None place = refl
+    bad_adds (Some mid) place = refl
+ops_stage draws p q (AddChannel config ∷ ops) (OpAlloc ∷ []) h =
+    stages_lacking p q (AddChannel config) ops lacking_adds (channels_none (AddChannel config) ops (told p.channels)) (ap (λ r. r.lines) h.1) (ap (λ r. r.counter) h.1) (ap (λ r. r.staged) h.1) (ap (λ r. r.channels) h.1)
+  where
+    lacking_adds : (app : Option (List ℕ)) (place : ℕ) → added app place (AddChannel config ∷ ops) (OpAlloc ∷ []) ≡ []
+    lacking_adds None place = added_none None place ops
+    lacking_adds (Some mid) place = added_none (Some mid) place ops
 ops_stage draws p q ops answers h = absurd h

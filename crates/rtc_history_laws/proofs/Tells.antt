@@ -3,15 +3,17 @@ use Rattle.std.proofs.Common.{◌≡◌, ◌≤◌, ◌<◌, ◌+◌, ◌^◌, �
 use Rattle.std.specs.Prelude.{slice_get, is_some}
 use Rattle.std.proofs.lemmas.Bool.{ne_eqb}
 use Rattle.rtc_change.specs.PendingOffer.{PendingOffer, added_mids, added_rows}
+use Rattle.rtc_channels.specs.Channels.{Channels, channel_rows, AreBelow}
 use Rattle.rtc_peer_state.specs.declared.peer.Peer.{Peer}
 use Rattle.rtc_peer_state.specs.Calls.{raised}
 use Rattle.rtc_history.specs.declared.side.Side.{Side}
 use Rattle.rtc_history.specs.declared.side.Side.TheVariants.{Left, Right}
 use Rattle.rtc_history.specs.Sides.{same_side, other_side, side_of}
-use Rattle.rtc_history.specs.Past.{Entry, before, rows_or, sdps, spends, is_spent, is_offer_of, holds_token, moves, makes, is_right, added_by}
+use Rattle.rtc_history.specs.Past.{Entry, before, rows_or, sdps, spends, is_spent, is_offer_of, holds_token, moves, makes, is_right, added_by, channels_given, channels_shown, channel_rows_or, channels_after}
 use Rattle.rtc_history.specs.declared.kept.Kept.{Kept}
 use Rattle.rtc_history.specs.PairState.{PairState, peer_at, made_sdp, token_for, held_token}
 use Rattle.rtc_history_laws.proofs.Bounds.{IsWithin}
+use Rattle.rtc_history_laws.proofs.ToldChannels.{told}
 
 -- What a past says of the token of a number, at a side whose counter is this.
 pub record TokenTells (past : List Entry) (at : Side) (counter t : ℕ) (kept : Option Kept) : Type 0 where
@@ -24,6 +26,12 @@ pub record TokenTells (past : List Entry) (at : Side) (counter t : ℕ) (kept : 
 abbrev pub Fits : {N : Type 0} → Side → Peer N → List Kept → ℕ → Type 0
 Fits at peer kept size = (t : ℕ) (token : PendingOffer) → held_token kept at t ≡ Some token → peer.counter ≡ raised token.id → length peer.lines + length (added_mids token.changes) ≤ size
 
+-- What a past says of the channels of a side.
+pub record ChannelsTell (past : List Entry) (at : Side) (held : Channels) : Type 0 where
+  pub given : told held ≡ channels_given at past
+  pub shown : channel_rows held ≡ channels_shown at past
+  pub below : AreBelow held.given held.rows
+
 -- What a past says of a side.
 pub record SideTells {N : Type 0} (past : List Entry) (at : Side) (peer : Peer N) (kept : List Kept) (size : ℕ) : Type 0 where
   pub rows : peer.lines ≡ before at past
@@ -33,6 +41,7 @@ pub record SideTells {N : Type 0} (past : List Entry) (at : Side) (peer : Peer N
   -- no two tokens have one id
   pub one_each : (t u : ℕ) (token other : PendingOffer) → held_token kept at t ≡ Some token → held_token kept at u ≡ Some other → token.id ≡ other.id → t ≡ u
   pub fits : Fits at peer kept size
+  pub channels : ChannelsTell past at peer.channels
 
 pub record Tells {N : Type 0} (past : List Entry) (pair : PairState N) : Type 0 where
   pub sides : (at : Side) → SideTells past at (peer_at at pair) pair.sdps pair.size
@@ -155,21 +164,30 @@ at_most_one false counter size size' low grows = omega arith
 pub side_next : {N : Type 0} (moved : Bool) (past : List Entry) (e : Entry) (at : Side) (old new : Peer N) (kept kept' : List Kept) (size size' : ℕ)
     → new.lines ≡ before at (e ∷ past) → new.counter ≡ cond moved (old.counter + 1) old.counter → size + 1 ≤ size' → length new.lines ≤ size'
     → HeldBefore at kept kept' → ((t : ℕ) → TokenTells (e ∷ past) at (cond moved (old.counter + 1) old.counter) t (slice_get kept' t))
-    → Fits at new kept' size' → SideTells past at old kept size → SideTells (e ∷ past) at new kept' size'
-side_next moved past e at old new kept kept' size size' rows counter grows few was tokens fits told = record {
+    → Fits at new kept' size' → ChannelsTell (e ∷ past) at new.channels → SideTells past at old kept size → SideTells (e ∷ past) at new kept' size'
+side_next moved past e at old new kept kept' size size' rows counter grows few was tokens fits channels told_it = record {
   rows = rows;
   tokens = λ t. rw counter (tokens t);
-  counts = rw counter (at_most_one moved old.counter size size' told.counts grows);
+  counts = rw counter (at_most_one moved old.counter size size' told_it.counts grows);
   few = few;
-  one_each = λ t u token other is is'. told.one_each t u token other (was t token is) (was u other is');
+  one_each = λ t u token other is is'. told_it.one_each t u token other (was t token is) (was u other is');
   fits = fits;
+  channels = channels;
+}
+
+-- the channels of the side that does not act
+channels_stay : (past : List Entry) (e : Entry) (at : Side) (held : Channels) → same_side (side_of e.step) at ≡ false → ChannelsTell past at held → ChannelsTell (e ∷ past) at held
+channels_stay past e at held another tell = record {
+  given = tell.given ∙ sym (ap (λ b. channels_after b e.step e.outcome (channels_given at past)) another);
+  shown = tell.shown ∙ sym (ap (λ b. channel_rows_or b e.table (channels_shown at past)) another);
+  below = tell.below;
 }
 
 -- the side that does not act
 pub side_stays : {N : Type 0} (past : List Entry) (e : Entry) (at : Side) (peer : Peer N) (kept kept' : List Kept) (size size' : ℕ)
     → same_side (side_of e.step) at ≡ false → size + 1 ≤ size' → HeldBefore at kept kept'
     → ((t : ℕ) → TokenTells (e ∷ past) at peer.counter t (slice_get kept' t)) → SideTells past at peer kept size → SideTells (e ∷ past) at peer kept' size'
-side_stays past e at peer kept kept' size size' another grows was tokens told =
-    let few : length peer.lines ≤ size = told.few in
-    side_next false past e at peer peer kept kept' size size' (told.rows ∙ sym (ap (λ b. rows_or b e.table (before at past)) another)) refl grows (omega arith) was tokens
-    (fits_same past at peer peer kept kept' size size' refl refl (omega arith) was told) told
+side_stays past e at peer kept kept' size size' another grows was tokens told_it =
+    let few : length peer.lines ≤ size = told_it.few in
+    side_next false past e at peer peer kept kept' size size' (told_it.rows ∙ sym (ap (λ b. rows_or b e.table (before at past)) another)) refl grows (omega arith) was tokens
+    (fits_same past at peer peer kept kept' size size' refl refl (omega arith) was told_it) (channels_stay past e at peer.channels another told_it.channels) told_it

@@ -95,7 +95,7 @@ spent_tells past e old new k kept goes right there changed spends_k unmade tells
       | inr h ↦ rw h.2 (gone at _ t h.1)
     ])
     (fits_either past at (peer_at at old) (peer_at at new) old.sdps new.sdps old.size new.size k right goes.counter small size (spent at) (was at) (tells.sides at))
-    (tells.sides at))
+    goes.channels (tells.sides at))
     (was (other_side at))
     (λ t. elim (place t) [
       | inl h ↦ rw h.1 (token_next false past e (other_side at) _ t _ (untold (other_side at) t h.0) goes.theirs ((tells.sides (other_side at)).tokens t))
@@ -110,7 +110,7 @@ spent_tells past e old new k kept goes right there changed spends_k unmade tells
 
 -- The token of a new offer, at the side that made it.
 offer_token : (past : List Entry) (e : Entry) (at : Side) (counter t : ℕ) (kept : Kept) (token : PendingOffer) → same_side kept.at at ≡ true → kept.offer ≡ true
-    → token_for at (Some kept) ≡ Some token → token.id ≡ counter → ((place : ℕ) → added_in place e.step e.outcome ≡ added_rows place token.changes)
+    → token_for at (Some kept) ≡ Some token → token.id ≡ counter → ((place : ℕ) → added_in place e.step e.outcome e.table e.made ≡ added_rows place token.changes)
     → slice_get (sdps (e ∷ past)) t ≡ Some (made_sdp kept) → spends t e.step e.outcome ≡ false → is_spent t past ≡ false → makes t e.outcome ≡ true
     → TokenTells (e ∷ past) at (counter + 1) t (Some kept)
 offer_token past e at counter t kept token mine offer found id adds said unspent never_spent makes_it =
@@ -147,7 +147,7 @@ fits_offered past at old new kept size size' token counter small fit told t othe
 
 pub offered_tells : {N : Type 0} (past : List Entry) (e : Entry) (old new : PairState N) (kept : Kept) (token : PendingOffer) → Goes true past e old new
     → kept.at ≡ side_of e.step → kept.offer ≡ true → kept.token ≡ Some token → token.id ≡ (peer_at (side_of e.step) old).counter
-    → ((place : ℕ) → added_in place e.step e.outcome ≡ added_rows place token.changes)
+    → ((place : ℕ) → added_in place e.step e.outcome e.table e.made ≡ added_rows place token.changes)
     → length kept.sdp.lines ≤ new.size → length (peer_at (side_of e.step) new).lines + length (added_mids token.changes) ≤ new.size → new.sdps ≡ old.sdps ++ kept ∷ []
     → ((t : ℕ) → spends t e.step e.outcome ≡ false) → ((t : ℕ) → makes t e.outcome ≡ (length old.sdps == t)) → Tells past old → Tells (e ∷ past) new
 offered_tells past e old new kept token goes by offer has id adds few fit pushed unspent makes_it tells =
@@ -180,6 +180,7 @@ offered_tells past e old new kept token goes by offer has id adds few fit pushed
       few = goes.few;
       one_each = λ t u one other is is'. one_each_offered past at (peer_at at old) old.sdps old.size token id (tells.sides at) t u one other (origin t one is) (origin u other is');
       fits = λ t other is. fits_offered past at (peer_at at old) (peer_at at new) old.sdps old.size new.size token goes.counter small fit (tells.sides at) t other (origin t other is);
+      channels = goes.channels;
     })
     (held_before (other_side at) old.sdps new.sdps (λ t. elim (place t) [ inl h ↦ inl h.1 | inr h ↦ inr (ap (token_for (other_side at)) h.2 ∙ none) ]))
     (λ t. elim (place t) [

@@ -6,50 +6,31 @@ use Rattle.std.proofs.lemmas.Option.{slice_get_within}
 use Rattle.rtc_sdp_values.specs.declared.line_row.LineRow.{LineRow}
 use Rattle.rtc_sdp_values.specs.declared.sdp.Sdp.{Sdp}
 use Rattle.rtc_change.specs.Held.{Held, Asked}
-use Rattle.rtc_history.specs.declared.side.Side.{Side}
 use Rattle.rtc_history.specs.declared.step.Step.{Step}
 use Rattle.rtc_history.specs.declared.step.Step.TheVariants.{Negotiate, AcceptOffer, AcceptAnswer}
 use Rattle.rtc_history.specs.declared.outcome.Outcome.{Outcome}
-use Rattle.rtc_history.specs.declared.outcome.Outcome.TheVariants.{Negotiated, Answered, Finished, Refused, NoSuch, Alloc}
+use Rattle.rtc_history.specs.declared.outcome.Outcome.TheVariants.{NoSuch, Alloc}
 use Rattle.rtc_history.specs.declared.table.Table.{Table}
 use Rattle.rtc_history.specs.Past.{Entry, MadeSdp, sdps, remote_sdp, was_called, is_offer_of, holds_token, spends, is_spent, is_right}
-use Rattle.rtc_history.specs.Sound.{RepliesToOffer, RepliesToAnswer, IsSound, asked_in, view_in}
+use Rattle.rtc_history.specs.Sound.{RepliesToAnswer, IsSound, asked_in, view_in}
 use Rattle.rtc_history.specs.Runs.{Sound}
+use Rattle.rtc_history_laws.proofs.Takings.{answer_taking}
 
 called_held : (held right : Bool) (asked : Asked) (sdp : Option Sdp) (view : Held) (outcome : Outcome) (after : List LineRow) → RepliesToAnswer held right asked sdp view outcome after → was_called outcome ≡ true → held ≡ true
 called_held true right asked sdp view outcome after takes was = refl
 called_held false right asked sdp view NoSuch after takes was = absurd (cc)
 called_held false right asked sdp view outcome after takes was = absurd takes
 
--- the reply to an offer, or to an answer, that was delivered
-pub offer_taking : (past : List Entry) (at : Side) (k : ℕ) (outcome : Outcome) (table : Table) → IsSound past (AcceptOffer at k) outcome (Some table)
-    → RepliesToOffer (remote_sdp true at k past) (view_in at past) (length (sdps past)) outcome table.lines
-offer_taking past at k (Negotiated answers made) table sound = sound
-offer_taking past at k (Answered n) table sound = sound
-offer_taking past at k Finished table sound = sound
-offer_taking past at k (Refused error) table sound = sound
-offer_taking past at k NoSuch table sound = sound
-offer_taking past at k Alloc table sound = sound
-
-pub answer_taking : (past : List Entry) (at : Side) (t a : ℕ) (outcome : Outcome) (table : Table) → IsSound past (AcceptAnswer at t a) outcome (Some table)
-    → RepliesToAnswer (holds_token at t past) (is_right at t past) (asked_in at t past) (remote_sdp false at a past) (view_in at past) outcome table.lines
-answer_taking past at t a (Negotiated answers made) table sound = sound
-answer_taking past at t a (Answered k) table sound = sound
-answer_taking past at t a Finished table sound = sound
-answer_taking past at t a (Refused error) table sound = sound
-answer_taking past at t a NoSuch table sound = sound
-answer_taking past at t a Alloc table sound = sound
-
-unspent_step : (past : List Entry) (step : Step) (outcome : Outcome) (table : Option Table) (n : ℕ) → IsSound past step outcome table → length (sdps past) ≤ n → spends n step outcome ≡ false
-unspent_step past (Negotiate at ops apply) outcome table n sound most = refl
-unspent_step past (AcceptOffer at k) outcome table n sound most = refl
-unspent_step past (AcceptAnswer at t a) Alloc None n sound most = and_false (t == n)
+unspent_step : (past : List Entry) (step : Step) (outcome : Outcome) (table : Option Table) (made : List MadeSdp) (n : ℕ) → IsSound past step outcome table made → length (sdps past) ≤ n → spends n step outcome ≡ false
+unspent_step past (Negotiate at ops apply) outcome table made n sound most = refl
+unspent_step past (AcceptOffer at k) outcome table made n sound most = refl
+unspent_step past (AcceptAnswer at t a) Alloc None made n sound most = and_false (t == n)
   where
     and_false : (b : Bool) → (b && false) ≡ false
     and_false true = refl
     and_false false = refl
-unspent_step past (AcceptAnswer at t a) outcome (Some table) n sound most =
-    by (λ was. called_held (holds_token at t past) (is_right at t past) (asked_in at t past) (remote_sdp false at a past) (view_in at past) outcome table.lines (answer_taking past at t a outcome table sound) was) (was_called outcome) refl
+unspent_step past (AcceptAnswer at t a) outcome (Some table) made n sound most =
+    by (λ was. called_held (holds_token at t past) (is_right at t past) (asked_in at t past) (remote_sdp false at a past) (view_in at past) outcome table.lines (answer_taking past at t a outcome table made sound) was) (was_called outcome) refl
   where
     and_false : (b : Bool) → (b && false) ≡ false
     and_false true = refl
@@ -65,11 +46,11 @@ unspent_step past (AcceptAnswer at t a) outcome (Some table) n sound most =
         let parts = and_parts (is_offer_of at (slice_get (sdps past) t)) (not (is_spent t past)) (held is) in
         let less : t < length (sdps past) = within (slice_get (sdps past) t) refl parts.0 in
         rw (ne_eqb t n (λ e. omega arith)) refl
-unspent_step past (AcceptAnswer at t a) outcome None n sound most = absurd sound
+unspent_step past (AcceptAnswer at t a) outcome None made n sound most = absurd sound
 
 -- no token past the SDPs is spent
 pub unspent_later : (past : List Entry) (n : ℕ) → Sound past → length (sdps past) ≤ n → is_spent n past ≡ false
 unspent_later [] n sound most = refl
 unspent_later (last ∷ past) n sound most =
     let fewer : length (sdps past) ≤ n = omega (arith, length-append (sdps past) last.made) in
-    rw (unspent_step past last.step last.outcome last.table n sound.0.replied fewer) (unspent_later past n sound.1 fewer)
+    rw (unspent_step past last.step last.outcome last.table last.made n sound.0.replied fewer) (unspent_later past n sound.1 fewer)

@@ -1,0 +1,123 @@
+-- Steps with data channels, computed: what their answers tell, and which replies they may have.
+use Rattle.std.proofs.Common.{◌≡◌, ◌<◌, ℕ, true, false, List, [], ◌∷◌, map, Some, refl, sym, ap, arith}
+use Rattle.std.specs.Prelude.{codes}
+use Rattle.rtc_wire.specs.declared.channel_config.ChannelConfig.{ChannelConfig}
+use Rattle.rtc_wire.specs.ChannelConfig.{fresh}
+use Rattle.rtc_sdp_values.specs.declared.direction.Direction.TheVariants.{SendRecv}
+use Rattle.rtc_sdp_values.specs.declared.media_kind.MediaKind.TheVariants.{Audio}
+use Rattle.rtc_sdp_values.specs.declared.line_row.LineRow.TheVariants.{Media, App}
+use Rattle.rtc_sdp_values.specs.declared.setup.Setup.TheVariants.{ActPass}
+use Rattle.rtc_sdp_values.specs.declared.sdp.Sdp.{Sdp}
+use Rattle.rtc_change.specs.declared.parsed_line.ParsedLine.{ParsedLine}
+use Rattle.rtc_change.specs.ParsedLines.{parsed_lines}
+use Rattle.rtc_channels.specs.Channels.{is_overlong}
+use Rattle.rtc_peer_state.specs.declared.identity.Identity.{Identity}
+use Rattle.rtc_peer_state.specs.declared.rtc_error.RtcError.TheVariants.{ChangesOutOfOrder}
+use Rattle.rtc_peer_state.specs.MadeSdp.{sdp_of_rows}
+use Rattle.rtc_history.specs.declared.side.Side.{Side}
+use Rattle.rtc_history.specs.declared.side.Side.TheVariants.{Left, Right}
+use Rattle.rtc_history.specs.declared.op.Op.TheVariants.{AddMedia, AddChannel}
+use Rattle.rtc_history.specs.declared.op_answer.OpAnswer.TheVariants.{Mid, Channel, BadChannel}
+use Rattle.rtc_history.specs.declared.made.Made.{Made}
+use Rattle.rtc_history.specs.declared.made.Made.TheVariants.{Nothing, Offer}
+use Rattle.rtc_history.specs.declared.step.Step.{Step}
+use Rattle.rtc_history.specs.declared.step.Step.TheVariants.{Negotiate, AcceptOffer, AcceptAnswer}
+use Rattle.rtc_history.specs.declared.outcome.Outcome.TheVariants.{Negotiated, Answered, Finished, Refused}
+use Rattle.rtc_history.specs.declared.table.Table.{Table}
+use Rattle.rtc_history.specs.Answers.{waiting_row}
+use Rattle.rtc_history.specs.Past.{Entry, MadeSdp, is_right, added_by}
+use Rattle.rtc_history.specs.SaidRows.{MakesSdp}
+use Rattle.rtc_history.proofs.WorkedEntries.{says, entry}
+use Rattle.rtc_history.specs.Sound.{IsSound}
+
+abbrev labelled : List ℕ → ChannelConfig
+labelled label = record fresh { label = label }
+
+abbrev offers_channel : Side → Step
+offers_channel at = Negotiate at (AddChannel (labelled (codes "chat")) ∷ []) true
+
+-- ---- both sides offer a channel, and accept each other's offer
+
+abbrev left_mid : List ℕ
+left_mid = codes "m3"
+
+abbrev right_mid : List ℕ
+right_mid = codes "m1000003"
+
+abbrev crossed : Identity → List Entry
+crossed i =
+    entry (AcceptOffer Right 0) (Answered 3) (App 0 left_mid ∷ []) (0 ∷ []) (says i Right false (App 0 left_mid ∷ []))
+    ∷ entry (AcceptOffer Left 1) (Answered 2) (App 0 right_mid ∷ []) (0 ∷ []) (says i Left false (App 0 right_mid ∷ []))
+    ∷ entry (offers_channel Right) (Negotiated (Channel 0 ∷ []) (Offer 1)) [] (0 ∷ []) (says i Right true (App 0 right_mid ∷ []))
+    ∷ entry (offers_channel Left) (Negotiated (Channel 0 ∷ []) (Offer 0)) [] (0 ∷ []) (says i Left true (App 0 left_mid ∷ []))
+    ∷ []
+
+-- the offer of a channel adds the line of data channels, with the mid that it says
+crossed_line : (i : Identity) → added_by 0 0 (crossed i) ≡ App 0 left_mid ∷ []
+crossed_line i = refl
+
+-- accepting the other offer superseded the token
+crossed_token : (i : Identity) → is_right Left 0 (crossed i) ≡ false
+crossed_token i = refl
+
+crossed_refused : (i : Identity) (made : List MadeSdp)
+    → IsSound (crossed i) (AcceptAnswer Left 0 3) (Refused ChangesOutOfOrder) (Some (record { lines = App 0 right_mid ∷ []; channels = waiting_row 0 ∷ [] })) made
+crossed_refused i made = (refl, refl)
+
+-- ---- a channel alone, once there is a line
+
+abbrev with_line : Identity → List Entry
+with_line i =
+    entry (AcceptAnswer Left 0 1) Finished (App 0 left_mid ∷ []) (0 ∷ []) []
+    ∷ entry (AcceptOffer Right 0) (Answered 1) (App 0 left_mid ∷ []) [] (says i Right false (App 0 left_mid ∷ []))
+    ∷ entry (offers_channel Left) (Negotiated (Channel 0 ∷ []) (Offer 0)) [] (0 ∷ []) (says i Left true (App 0 left_mid ∷ []))
+    ∷ []
+
+abbrev more_audio : Identity → List Entry
+more_audio i =
+    entry (Negotiate Left (AddMedia Audio SendRecv ∷ []) true) (Negotiated (Mid (codes "m4") ∷ []) (Offer 2)) (App 0 left_mid ∷ []) (0 ∷ [])
+    (says i Left true (App 0 left_mid ∷ Media 1 (codes "m4") Audio SendRecv false false ∷ []))
+    ∷ with_line i
+
+abbrev more_channels : Identity → List Entry
+more_channels i = entry (offers_channel Left) (Negotiated (Channel 1 ∷ []) Nothing) (App 0 left_mid ∷ []) (0 ∷ 1 ∷ []) [] ∷ more_audio i
+
+-- it makes no offer
+channel_alone : (i : Identity)
+    → IsSound (more_audio i) (offers_channel Left) (Negotiated (Channel 1 ∷ []) Nothing) (Some (record { lines = App 0 left_mid ∷ []; channels = waiting_row 0 ∷ waiting_row 1 ∷ [] })) []
+channel_alone i = (((refl, (omega arith, tt)), tt, refl), tt, refl)
+
+channel_alone_offered : (i : Identity) (made : List MadeSdp) (table : Table) → IsSound (more_audio i) (offers_channel Left) (Negotiated (Channel 1 ∷ []) (Offer 3)) (Some table) made → ⊥
+channel_alone_offered i made table sound = sound.1
+
+-- it supersedes the token that was outstanding
+token_before : (i : Identity) → is_right Left 2 (more_audio i) ≡ true
+token_before i = refl
+
+token_after : (i : Identity) → is_right Left 2 (more_channels i) ≡ false
+token_after i = refl
+
+-- ops that stage nothing supersede no token
+token_kept : (i : Identity) → is_right Left 2 (entry (Negotiate Left [] true) (Negotiated [] Nothing) (App 0 left_mid ∷ []) (0 ∷ []) [] ∷ more_audio i) ≡ true
+token_kept i = refl
+
+-- a number is not given twice
+number_again : (i : Identity) (what : Made) (table : Table) (made : List MadeSdp) → IsSound (more_audio i) (offers_channel Left) (Negotiated (Channel 0 ∷ []) what) (Some table) made → ⊥
+number_again i what table made sound = let same : 0 < 0 = sound.0.0.1.0 in absurd (omega arith)
+
+-- ---- a channel that is refused
+
+-- a label that is too long gets no channel and no line, and there is nothing to offer
+overlong : (label : List ℕ) → is_overlong label ≡ true
+    → IsSound [] (Negotiate Left (AddChannel (labelled label) ∷ []) true) (Negotiated (BadChannel ∷ []) Nothing) (Some (record { lines = []; channels = [] })) []
+overlong label long = ((rw long refl, refl), tt, refl)
+
+offer_is : (one other : Sdp) → ◌≡◌ {A = List MadeSdp} (record { at = Left; offer = true; sdp = one } ∷ []) (record { at = Left; offer = true; sdp = other } ∷ []) → one ≡ other
+offer_is one other same = let e : one ∷ [] ≡ other ∷ [] = ap (map (λ (made : MadeSdp). made.sdp)) same in cc
+
+none_said : (lines : List ParsedLine) (line : ParsedLine) → lines ≡ [] → lines ≡ line ∷ [] → ⊥
+none_said lines line none one = absurd (cc)
+
+-- a channel that is offered needs a line of data channels in the offer
+line_missing : (i : Identity) → MakesSdp (offers_channel Left) (Negotiated (Channel 0 ∷ []) (Offer 0)) (Some (record { lines = []; channels = waiting_row 0 ∷ [] })) (says i Left true []) → ⊥
+line_missing i made = none_said (parsed_lines made.sdp) _ (ap parsed_lines (sym (offer_is (sdp_of_rows 1 i ActPass []) made.sdp made.one))) made.says
