@@ -1,8 +1,9 @@
 -- What the program does and answers.
-use Rattle.std.specs.Prelude.{◌≡◌, ℕ, Bool, List, [], ◌∷◌, codes, Option, Some}
+use Rattle.std.specs.Prelude.{◌≡◌, ◌≤◌, ◌^◌, ◌⊎◌, ℕ, Bool, List, [], ◌∷◌, length, codes, Option, Some, None}
 use Rattle.std.specs.List.{list_any}
 use Rattle.std.specs.declared.alloc.Global.{Global}
 use Rattle.std.specs.Io.KnownBytes.{Appends}
+use Rattle.rtc_io.specs.Faults.{Rose}
 use Rattle.rtc_io.specs.Programs.{Program, ReadsInput}
 use Rattle.rtc_history.specs.declared.step.Step.{Step}
 use Rattle.rtc_history.specs.declared.reply.Reply.{Reply}
@@ -58,3 +59,13 @@ pub record RunsScript (alloc : Global) (lacking : Bool) (left left' written writ
   pub steps : List Step
   pub read : ReadsInput left left' (λ bytes. IsScript bytes steps)
   pub performs : PerformsSteps alloc lacking steps written written' last
+
+-- what is left of a source is known to be a script that is not too long
+abbrev pub TellsScript : Option (List ℕ) → Type 0
+TellsScript None = ⊥
+TellsScript (Some bytes) = (length bytes ≤ 2 ^ 20) × ((steps : List Step) × IsScript bytes steps)
+
+-- A script is performed, unless memory runs out, where a run is asked for and neither the source nor the sink fails.
+abbrev pub CompletesScript : List (List ℕ) → Option (List ℕ) → (faults faults' taken taken' status : ℕ) → Type 0
+CompletesScript words left faults faults' taken taken' status =
+    words ≡ run_words → TellsScript left → (Rose faults faults' → ⊥) → (Rose taken taken' → ⊥) → (status ≡ 0) ⊎ (status ≡ 6)

@@ -5,7 +5,7 @@ ghost use Rattle.rtc_io.specs.Faults.{Rose};
 ghost use Rattle.rtc_io.specs.Saying.{BreaksOff};
 ghost use Rattle.rtc_io.specs.Programs.{IsDue, IsTooLong, RefusesInput, fault_line, long_line};
 ghost use Rattle.rtc_history.specs.Sizes.{steps_size};
-ghost use Rattle.rtc_pair.specs.Answers.{run_words, script_program, IsReport, PerformsSteps, RunsScript, lack_memory};
+ghost use Rattle.rtc_pair.specs.Answers.{run_words, script_program, IsReport, PerformsSteps, RunsScript, CompletesScript, lack_memory};
 
 use crate::asking::ask_for_run;
 use rtc_history::{Reply, Step};
@@ -95,6 +95,8 @@ pub fn pair_main<R: Source, W: Sink>(
     ensures asked { (map (λ word. string_bytes word) words.now ≢ run_words) → (result ≡ 2) ⊎ (result ≡ 5) }
     ensures kept { result ≢ 0 → result ≢ 6 → last.new ≡ last.old }
     ensures statuses { (result ≢ 1) × (result < 8) }
+    ensures complete { CompletesScript (map (λ word. string_bytes word) words.now) (R.left input.old)
+        (R.faults input.old) (R.faults input.new) (W.faults output.old) (W.faults output.new) result }
 {
     if !ask_for_run(words) {
         return say(output, b"usage: rtc_pair run | rtc_pair demo N S\n", USAGE);

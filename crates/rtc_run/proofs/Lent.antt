@@ -1,13 +1,15 @@
 -- What a call of a lent peer did, said of the peer.
-use Rattle.std.proofs.Common.{◌≡◌, ◌≤◌, ◌+◌, List, length, Result, sym, subst}
+use Rattle.std.proofs.Common.{◌≡◌, ◌≤◌, ◌+◌, List, length, map, Result, sym, subst, ap, ◌∙◌}
 use Rattle.rtc_sdp_values.specs.declared.line_row.LineRow.{LineRow}
 use Rattle.rtc_sdp_values.specs.declared.sdp.Sdp.{Sdp}
+use Rattle.rtc_channels.specs.Channels.{Channel, channel_row, channel_rows}
 use Rattle.rtc_change.specs.PendingOffer.{PendingOffer}
 use Rattle.rtc_peer_state.specs.declared.peer.Peer.{Peer}
 use Rattle.rtc_peer_state.specs.declared.rtc_error.RtcError.{RtcError}
 use Rattle.rtc_peer_state.specs.Draws.{Draws}
 use Rattle.rtc_peer_state.specs.Calls.{AcceptsOffer, AcceptsAnswer}
 use Rattle.rtc_history.specs.Performs.{lent}
+use Rattle.rtc_run.proofs.ChannelCounts.{offer_channels, answer_channels}
 use Rattle.rtc_run.proofs.RowsLeft.{offer_rows, answer_rows}
 
 pub accepted_offer : {N : Type 0} (draws : Draws N) (old p r q : Peer N) (offer : Sdp) (result : Result Sdp RtcError) → p ≡ lent old → AcceptsOffer draws p offer result r → q ≡ r → AcceptsOffer draws (lent old) offer result q
@@ -34,3 +36,12 @@ rows_of_answer {N} draws old p r token answer result rows p_is h same =
     let F : Peer N → Type 0 = λ (x : Peer N). AcceptsAnswer draws x token answer result r in
     let G : List LineRow → Type 0 = λ (x : List LineRow). length x ≤ length old.lines + length answer.lines in
     subst G (sym same) (answer_rows draws (lent old) r token answer result (subst F p_is h))
+
+-- the channels that an SDP leaves show as before
+pub channels_of_offer : {N : Type 0} (draws : Draws N) (old p r : Peer N) (offer : Sdp) (result : Result Sdp RtcError) (channels : List Channel) → p ≡ lent old → AcceptsOffer draws p offer result r → channels ≡ r.channels.rows → map channel_row channels ≡ channel_rows old.channels
+channels_of_offer {N} draws old p r offer result channels p_is h same =
+    ap (λ (rows : List Channel). map channel_row rows) same ∙ (offer_channels draws p r offer result h ∙ ap (λ (x : Peer N). channel_rows x.channels) p_is)
+
+pub channels_of_answer : {N : Type 0} (draws : Draws N) (old p r : Peer N) (token : PendingOffer) (answer : Sdp) (result : Result (Unit {0}) RtcError) (channels : List Channel) → p ≡ lent old → AcceptsAnswer draws p token answer result r → channels ≡ r.channels.rows → map channel_row channels ≡ channel_rows old.channels
+channels_of_answer {N} draws old p r token answer result channels p_is h same =
+    ap (λ (rows : List Channel). map channel_row rows) same ∙ (answer_channels draws p r token answer result h ∙ ap (λ (x : Peer N). channel_rows x.channels) p_is)

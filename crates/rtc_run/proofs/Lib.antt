@@ -1,7 +1,9 @@
 pub mod Ops
+pub mod ChannelCounts
 pub mod Staged
 pub mod Negotiated
 pub mod Sized
 pub mod Lent
 pub mod RowsLeft
 pub mod Paired
+pub mod FaultlessSdps

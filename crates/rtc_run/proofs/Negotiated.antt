@@ -1,6 +1,5 @@
 -- What a reply to a step of ops tells.
 use Rattle.std.proofs.Common.{◌≡◌, ℕ, List, [], ◌∷◌, ◌++◌, length, Bool, true, false, not, ◌&&◌, Option, Some, refl}
-use Rattle.rtc_sdp_values.specs.declared.line_row.LineRow.{LineRow}
 use Rattle.rtc_lines.specs.declared.sdp_offer.SdpOffer.{SdpOffer}
 use Rattle.rtc_change.specs.PendingOffer.{PendingOffer}
 use Rattle.rtc_peer_state.specs.declared.peer.Peer.{Peer}
@@ -18,6 +17,7 @@ use Rattle.rtc_history.specs.declared.kept.Kept.{Kept}
 use Rattle.rtc_history.specs.Performs.{Negotiates, MakesOf, kept_offer}
 use Rattle.rtc_run.specs.declared.applied.Applied.{Applied}
 use Rattle.rtc_run.specs.declared.applied.Applied.TheVariants.{NotAsked, Nothing, Offer, Alloc}
+use Rattle.rtc_run.specs.ShownTable.{shown_table}
 use Rattle.rtc_run.specs.Stages.{Stages, Becomes}
 
 -- an offer is made
@@ -25,10 +25,10 @@ offer_makes : {N : Type 0} (asked : Bool) (at : Side) (p q : Peer N) (sdps : Lis
 offer_makes true at p q sdps offer token h = ((offer.0, token), h, refl, refl)
 offer_makes false at p q sdps offer token h = absurd h
 
-pub offered : {N : Type 0} (draws : Draws N) (at : Side) (ops : List Op) (apply : Bool) (old q : Peer N) (sdps sdps' : List Kept) (answers : List OpAnswer) (applied : Applied) (offer : SdpOffer) (token : PendingOffer) (k : ℕ) (rows : List LineRow) (outcome : Outcome) (table : Option Table) → applied ≡ Offer offer token → Stages draws old ops apply answers applied q → k ≡ length sdps → rows ≡ q.lines → sdps' ≡ sdps ++ kept_offer at (offer.0, token) ∷ [] → outcome ≡ Negotiated answers (MadeOffer k) → table ≡ Some (record { lines = rows }) → Negotiates draws at ops apply old sdps outcome table q sdps'
-offered draws at ops apply old q sdps sdps' answers applied offer token k rows outcome table is stages k_is rows_is texts_are outcome_is table_is =
+pub offered : {N : Type 0} (draws : Draws N) (at : Side) (ops : List Op) (apply : Bool) (old q : Peer N) (sdps sdps' : List Kept) (answers : List OpAnswer) (applied : Applied) (offer : SdpOffer) (token : PendingOffer) (k : ℕ) (outcome : Outcome) (table : Option Table) → applied ≡ Offer offer token → Stages draws old ops apply answers applied q → k ≡ length sdps → sdps' ≡ sdps ++ kept_offer at (offer.0, token) ∷ [] → outcome ≡ Negotiated answers (MadeOffer k) → table ≡ Some (shown_table q) → Negotiates draws at ops apply old sdps outcome table q sdps'
+offered draws at ops apply old q sdps sdps' answers applied offer token k outcome table is stages k_is texts_are outcome_is table_is =
     let becomes : Becomes (apply && not (answers_lack answers)) stages.between (Offer offer token) q = rw is at stages.becomes in
-    rw (outcome_is, table_is, k_is, texts_are) (stages.between, stages.performs, offer_makes (apply && not (answers_lack answers)) at stages.between q sdps offer token becomes, rows_is)
+    rw (outcome_is, table_is, k_is, texts_are) (stages.between, stages.performs, offer_makes (apply && not (answers_lack answers)) at stages.between q sdps offer token becomes, record { lines = refl; channels = refl })
 
 abbrev pub IsToldAs : Applied → Made → Type 0
 IsToldAs NotAsked MadeNotAsked = Unit {0}
@@ -45,7 +45,7 @@ other_makes false at p q sdps Nothing MadeNothing told h = absurd h
 other_makes false at p q sdps Alloc MadeAlloc told h = absurd h
 other_makes asked at p q sdps applied made told h = absurd told
 
-pub not_offered : {N : Type 0} (draws : Draws N) (at : Side) (ops : List Op) (apply : Bool) (old q : Peer N) (sdps sdps' : List Kept) (answers : List OpAnswer) (applied known : Applied) (made : Made) (rows : List LineRow) (outcome : Outcome) (table : Option Table) → IsToldAs known made → applied ≡ known → Stages draws old ops apply answers applied q → rows ≡ q.lines → sdps' ≡ sdps → outcome ≡ Negotiated answers made → table ≡ Some (record { lines = rows }) → Negotiates draws at ops apply old sdps outcome table q sdps'
-not_offered draws at ops apply old q sdps sdps' answers applied known made rows outcome table told is stages rows_is texts_are outcome_is table_is =
+pub not_offered : {N : Type 0} (draws : Draws N) (at : Side) (ops : List Op) (apply : Bool) (old q : Peer N) (sdps sdps' : List Kept) (answers : List OpAnswer) (applied known : Applied) (made : Made) (outcome : Outcome) (table : Option Table) → IsToldAs known made → applied ≡ known → Stages draws old ops apply answers applied q → sdps' ≡ sdps → outcome ≡ Negotiated answers made → table ≡ Some (shown_table q) → Negotiates draws at ops apply old sdps outcome table q sdps'
+not_offered draws at ops apply old q sdps sdps' answers applied known made outcome table told is stages texts_are outcome_is table_is =
     let becomes : Becomes (apply && not (answers_lack answers)) stages.between known q = rw is at stages.becomes in
-    rw (outcome_is, table_is, texts_are) (stages.between, stages.performs, other_makes (apply && not (answers_lack answers)) at stages.between q sdps known made told becomes, rows_is)
+    rw (outcome_is, table_is, texts_are) (stages.between, stages.performs, other_makes (apply && not (answers_lack answers)) at stages.between q sdps known made told becomes, record { lines = refl; channels = refl })

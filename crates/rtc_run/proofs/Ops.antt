@@ -1,21 +1,26 @@
 -- Ops are performed one after another.
-use Rattle.std.proofs.Common.{◌≡◌, ◌≢◌, ◌+◌, ◌≤◌, ◌<◌, ℕ, Bool, true, false, List, [], ◌∷◌, ◌++◌, length, Option, Some, Ok, refl, sym, ap, ◌∙◌, subst, arith, append_assoc, append-nil, get_or, drop}
+use Rattle.std.proofs.Common.{◌≡◌, ◌≢◌, ◌+◌, ◌≤◌, ◌<◌, ℕ, Bool, true, false, List, [], ◌∷◌, ◌++◌, length, Option, Some, Ok, Err, refl, sym, ap, ◌∙◌, subst, arith, append_assoc, append-nil, get_or, drop}
 use Rattle.std.specs.Prelude.{slice_get}
 use Rattle.std.proofs.lemmas.List.{drop_more}
 use Rattle.std.proofs.Math.ListN.{drop_of_length-le}
+use Rattle.rtc_wire.specs.declared.channel_config.ChannelConfig.{ChannelConfig}
 use Rattle.rtc_sdp_values.specs.declared.direction.Direction.{Direction}
 use Rattle.rtc_sdp_values.specs.declared.line_row.LineRow.{LineRow}
 use Rattle.rtc_sdp_values.specs.declared.media_kind.MediaKind.{MediaKind}
 use Rattle.rtc_change.specs.RowChanges.{media_mid}
 use Rattle.rtc_peer_state.specs.declared.peer.Peer.{Peer}
+use Rattle.rtc_peer_state.specs.declared.rtc_error.RtcError.{RtcError}
+use Rattle.rtc_peer_state.specs.declared.rtc_error.RtcError.TheVariants.{RemoteSdp, Sdp, ChangesOutOfOrder, BadChannel, Alloc as PeerAlloc}
 use Rattle.rtc_peer_state.specs.Draws.{Draws}
-use Rattle.rtc_peer_state.specs.Calls.{AddsMedia, SetsDirection, StopsMedia}
+use Rattle.rtc_peer_state.proofs.LaterLemmas.{later_none}
+use Rattle.rtc_peer_state.specs.Calls.{AddsMedia, AddsChannel, SetsDirection, StopsMedia}
 use Rattle.rtc_history.specs.declared.op.Op.{Op}
-use Rattle.rtc_history.specs.declared.op.Op.TheVariants.{AddMedia, SetDirection, StopMedia}
+use Rattle.rtc_history.specs.declared.op.Op.TheVariants.{AddMedia, SetDirection, StopMedia, AddChannel}
 use Rattle.rtc_history.specs.declared.op_answer.OpAnswer.{OpAnswer}
-use Rattle.rtc_history.specs.declared.op_answer.OpAnswer.TheVariants.{Mid, Changed, NoLine, Alloc}
+use Rattle.rtc_history.specs.declared.op_answer.OpAnswer.TheVariants.{Mid, Changed, NoLine, Channel, BadChannel as NoChannel, Alloc}
 use Rattle.rtc_history.specs.Memory.{answer_lacks}
 use Rattle.rtc_history.specs.Performs.{PerformsOps, wanted}
+use Rattle.rtc_run.specs.RefusedChannel.{refused_channel}
 
 -- after an op that did not lack memory, the ops that are left go on
 pub op_done : {N : Type 0} (draws : Draws N) (p r q : Peer N) (op : Op) (answer : OpAnswer) (ops : List Op) (more : List OpAnswer) → answer ≢ Alloc → PerformsOps draws p (op ∷ []) (answer ∷ []) r → PerformsOps draws r ops more q → PerformsOps draws p (op ∷ ops) (answer ∷ more) q
@@ -24,6 +29,8 @@ op_done {N} draws p r q (SetDirection place dir) (Changed changed) ops more some
 op_done {N} draws p r q (SetDirection place dir) NoLine ops more some first then = (first.0, subst (λ (s : Peer N). PerformsOps draws s ops more q) first.1 then)
 op_done {N} draws p r q (StopMedia place) (Changed changed) ops more some first then = (first.0, first.1, subst (λ (s : Peer N). PerformsOps draws s ops more q) first.2 then)
 op_done {N} draws p r q (StopMedia place) NoLine ops more some first then = (first.0, subst (λ (s : Peer N). PerformsOps draws s ops more q) first.1 then)
+op_done {N} draws p r q (AddChannel config) (Channel id) ops more some first then = (first.0, first.1, subst (λ (s : Peer N). PerformsOps draws s ops more q) first.2 then)
+op_done {N} draws p r q (AddChannel config) NoChannel ops more some first then = (first.0, first.1, subst (λ (s : Peer N). PerformsOps draws s ops more q) first.2 then)
 op_done draws p r q op Alloc ops more some first then = absurd (some refl)
 op_done draws p r q op answer ops more some first then = absurd first
 
@@ -32,6 +39,7 @@ pub op_ends : {N : Type 0} (draws : Draws N) (p r : Peer N) (op : Op) (ops : Lis
 op_ends draws p r (AddMedia kind dir) ops h = h
 op_ends draws p r (SetDirection place dir) ops h = h
 op_ends draws p r (StopMedia place) ops h = h
+op_ends draws p r (AddChannel config) ops h = h
 
 -- one op that staged a line
 pub op_once : {N : Type 0} (draws : Draws N) (p r : Peer N) (kind : MediaKind) (dir : Direction) (mid : List ℕ) → AddsMedia draws p (wanted kind dir) (Ok mid) r → PerformsOps draws p (AddMedia kind dir ∷ []) (Mid mid ∷ []) r
@@ -54,13 +62,33 @@ pub stop_once : {N : Type 0} (draws : Draws N) (p r : Peer N) (rows : List LineR
     → Finds p rows place found → found ≡ Some mid → StopsMedia p mid (Ok changed) r → PerformsOps draws p (StopMedia place ∷ []) (Changed changed ∷ []) r
 stop_once draws p r rows place found mid changed finds is h = (r, record { mid = mid; there = finds_there p rows place found mid finds is; called = h }, refl)
 
+-- one op that staged a channel
+pub channel_once : {N : Type 0} (draws : Draws N) (p r : Peer N) (config copy : ChannelConfig) (id : ℕ) → copy ≡ config → AddsChannel draws p copy (Ok id) r → PerformsOps draws p (AddChannel config ∷ []) (Channel id ∷ []) r
+channel_once draws p r config copy id same h = (r, subst (λ (opened : ChannelConfig). AddsChannel draws p opened (Ok id) r) same h, refl)
+
+-- and one that staged none
+no_channel : {N : Type 0} (draws : Draws N) (p r : Peer N) (config : ChannelConfig) (error : RtcError) → AddsChannel draws p config (Err error) r → PerformsOps draws p (AddChannel config ∷ []) (refused_channel error ∷ []) r
+no_channel draws p r config (RemoteSdp why) h = absurd h
+no_channel draws p r config (Sdp error) h = absurd h
+no_channel draws p r config ChangesOutOfOrder h = absurd h
+no_channel draws p r config BadChannel h = (r, h, refl)
+no_channel draws p r config PeerAlloc h = h
+
+pub channel_refused : {N : Type 0} (draws : Draws N) (p r : Peer N) (config copy : ChannelConfig) (error : RtcError) (answer : OpAnswer) → copy ≡ config → AddsChannel draws p copy (Err error) r → answer ≡ refused_channel error → PerformsOps draws p (AddChannel config ∷ []) (answer ∷ []) r
+channel_refused draws p r config copy error answer same h is =
+    rw is (no_channel draws p r config error (subst (λ (opened : ChannelConfig). AddsChannel draws p opened (Err error) r) same h))
+
+-- where memory lacks before the peer is called, it stays
+pub channel_uncopied : {N : Type 0} (draws : Draws N) (p q : Peer N) (config : ChannelConfig) → q ≡ p → PerformsOps draws p (AddChannel config ∷ []) (Alloc ∷ []) q
+channel_uncopied draws p q config same = rw same (later_none draws p.ids, refl)
+
 -- the ops go on after one more, in the form of the loop
-pub ops_go_on : {N : Type 0} (draws : Draws N) (start p r : Peer N) (ops : List Op) (index : ℕ) (d : Op) (answer : OpAnswer) (room room' : List OpAnswer) → index < length ops → answer_lacks answer ≡ false → room' ≡ room ++ answer ∷ [] → PerformsOps draws p (get_or ops index d ∷ []) (answer ∷ []) r → ((more : List OpAnswer) (q : Peer N) → PerformsOps draws p (drop index ops) more q → PerformsOps draws start ops (room ++ more) q) → (more : List OpAnswer) (q : Peer N) → PerformsOps draws r (drop (index + 1) ops) more q → PerformsOps draws start ops (room' ++ more) q
-ops_go_on {N} draws start p r ops index d answer room room' within is pushed first done more q then =
-    let here : drop index ops ≡ get_or ops index d ∷ drop (index + 1) ops = drop_more ops index d within in
+pub ops_go_on : {N : Type 0} (draws : Draws N) (start p r : Peer N) (ops : List Op) (index : ℕ) (op : Op) (answer : OpAnswer) (room room' : List OpAnswer) → index < length ops → op ≡ get_or ops index op → answer_lacks answer ≡ false → room' ≡ room ++ answer ∷ [] → PerformsOps draws p (op ∷ []) (answer ∷ []) r → ((more : List OpAnswer) (q : Peer N) → PerformsOps draws p (drop index ops) more q → PerformsOps draws start ops (room ++ more) q) → (more : List OpAnswer) (q : Peer N) → PerformsOps draws r (drop (index + 1) ops) more q → PerformsOps draws start ops (room' ++ more) q
+ops_go_on {N} draws start p r ops index op answer room room' within at is pushed first done more q then =
+    let here : drop index ops ≡ op ∷ drop (index + 1) ops = drop_more ops index op within ∙ ap (λ (o : Op). o ∷ drop (index + 1) ops) (sym at) in
     let some : answer ≢ Alloc = λ none. let bad : true ≡ false = sym (ap answer_lacks none) ∙ is in cc in
     let P : List Op → Type 0 = λ (os : List Op). PerformsOps draws p os (answer ∷ more) q in
-    let rest : PerformsOps draws p (drop index ops) (answer ∷ more) q = subst P (sym here) (op_done draws p r q (get_or ops index d) answer (drop (index + 1) ops) more some first then) in
+    let rest : PerformsOps draws p (drop index ops) (answer ∷ more) q = subst P (sym here) (op_done draws p r q op answer (drop (index + 1) ops) more some first then) in
     let Q : List OpAnswer → Type 0 = λ (xs : List OpAnswer). PerformsOps draws start ops xs q in
     subst Q (sym (ap (λ (xs : List OpAnswer). xs ++ more) pushed ∙ append_assoc room (answer ∷ []) more)) (done (answer ∷ more) q rest)
 
@@ -68,15 +96,17 @@ lacking : (answer : OpAnswer) → answer_lacks answer ≡ true → answer ≡ Al
 lacking (Mid mid) h = absurd cc
 lacking (Changed changed) h = absurd cc
 lacking NoLine h = absurd cc
+lacking (Channel id) h = absurd cc
+lacking NoChannel h = absurd cc
 lacking Alloc h = refl
 
 -- the first want of memory ends the loop
-pub ops_end : {N : Type 0} (draws : Draws N) (start p r : Peer N) (ops : List Op) (index : ℕ) (d : Op) (answer : OpAnswer) (room room' : List OpAnswer) → index < length ops → answer_lacks answer ≡ true → room' ≡ room ++ answer ∷ [] → PerformsOps draws p (get_or ops index d ∷ []) (answer ∷ []) r → ((more : List OpAnswer) (q : Peer N) → PerformsOps draws p (drop index ops) more q → PerformsOps draws start ops (room ++ more) q) → PerformsOps draws start ops room' r
-ops_end {N} draws start p r ops index d answer room room' within lacks pushed first done =
-    let here : drop index ops ≡ get_or ops index d ∷ drop (index + 1) ops = drop_more ops index d within in
+pub ops_end : {N : Type 0} (draws : Draws N) (start p r : Peer N) (ops : List Op) (index : ℕ) (op : Op) (answer : OpAnswer) (room room' : List OpAnswer) → index < length ops → op ≡ get_or ops index op → answer_lacks answer ≡ true → room' ≡ room ++ answer ∷ [] → PerformsOps draws p (op ∷ []) (answer ∷ []) r → ((more : List OpAnswer) (q : Peer N) → PerformsOps draws p (drop index ops) more q → PerformsOps draws start ops (room ++ more) q) → PerformsOps draws start ops room' r
+ops_end {N} draws start p r ops index op answer room room' within at lacks pushed first done =
+    let here : drop index ops ≡ op ∷ drop (index + 1) ops = drop_more ops index op within ∙ ap (λ (o : Op). o ∷ drop (index + 1) ops) (sym at) in
     let is : answer ≡ Alloc = lacking answer lacks in
-    let F : OpAnswer → Type 0 = λ (a : OpAnswer). PerformsOps draws p (get_or ops index d ∷ []) (a ∷ []) r in
-    let ends : PerformsOps draws p (get_or ops index d ∷ drop (index + 1) ops) (Alloc ∷ []) r = op_ends draws p r (get_or ops index d) (drop (index + 1) ops) (subst F is first) in
+    let F : OpAnswer → Type 0 = λ (a : OpAnswer). PerformsOps draws p (op ∷ []) (a ∷ []) r in
+    let ends : PerformsOps draws p (op ∷ drop (index + 1) ops) (Alloc ∷ []) r = op_ends draws p r op (drop (index + 1) ops) (subst F is first) in
     let P : List Op → Type 0 = λ (os : List Op). PerformsOps draws p os (Alloc ∷ []) r in
     let rest : PerformsOps draws p (drop index ops) (Alloc ∷ []) r = subst P (sym here) ends in
     let Q : List OpAnswer → Type 0 = λ (xs : List OpAnswer). PerformsOps draws start ops xs r in

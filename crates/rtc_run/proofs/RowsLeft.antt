@@ -7,7 +7,7 @@ use Rattle.rtc_change.specs.ParsedLines.{parsed_lines}
 use Rattle.rtc_change.specs.TableAfter.{table_after}
 use Rattle.rtc_peer_state.specs.declared.peer.Peer.{Peer}
 use Rattle.rtc_peer_state.specs.declared.rtc_error.RtcError.{RtcError}
-use Rattle.rtc_peer_state.specs.declared.rtc_error.RtcError.TheVariants.{RemoteSdp, Sdp as SdpRefused, ChangesOutOfOrder, Alloc as PeerAlloc}
+use Rattle.rtc_peer_state.specs.declared.rtc_error.RtcError.TheVariants.{RemoteSdp, Sdp as SdpRefused, ChangesOutOfOrder, BadChannel, Alloc as PeerAlloc}
 use Rattle.rtc_peer_state.specs.Draws.{Draws}
 use Rattle.rtc_peer_state.specs.Calls.{AcceptsOffer, AcceptsAnswer}
 use Rattle.rtc_history_laws.proofs.OfferSteps.{taken_within}
@@ -26,6 +26,7 @@ offer_rows draws p q offer (Ok answer) h =
 offer_rows draws p q offer (Err (RemoteSdp why)) h = same_rows p q offer (ap (λ p. p.lines) h.1)
 offer_rows draws p q offer (Err (SdpRefused error)) h = same_rows p q offer (ap (λ p. p.lines) h.1)
 offer_rows draws p q offer (Err ChangesOutOfOrder) h = absurd h
+offer_rows draws p q offer (Err BadChannel) h = absurd h
 offer_rows draws p q offer (Err PeerAlloc) h = same_rows p q offer (ap (λ p. p.lines) h.1)
 
 pub answer_rows : {N : Type 0} (draws : Draws N) (p q : Peer N) (token : PendingOffer) (answer : Sdp) (result : Result (Unit {0}) RtcError) → AcceptsAnswer draws p token answer result q → length q.lines ≤ length p.lines + length answer.lines
@@ -35,5 +36,6 @@ answer_rows draws p q token answer (Ok done) h =
     omega (arith, most, rows)
 answer_rows draws p q token answer (Err (RemoteSdp why)) h = same_rows p q answer (ap (λ p. p.lines) h.1.1)
 answer_rows draws p q token answer (Err (SdpRefused error)) h = same_rows p q answer (ap (λ p. p.lines) h.1.1)
+answer_rows draws p q token answer (Err BadChannel) h = absurd h
 answer_rows draws p q token answer (Err ChangesOutOfOrder) h = same_rows p q answer (ap (λ p. p.lines) h.1)
 answer_rows draws p q token answer (Err PeerAlloc) h = same_rows p q answer (ap (λ p. p.lines) h.1.1)

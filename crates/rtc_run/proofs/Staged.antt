@@ -1,6 +1,7 @@
 -- What is staged is applied where that is asked.
-use Rattle.std.proofs.Common.{◌≡◌, List, length, Bool, true, false, not, ◌&&◌, Option, Some, None, Ok, Err, Result, sym, ◌∙◌, subst, ap}
+use Rattle.std.proofs.Common.{◌≡◌, List, length, Bool, true, false, not, ◌&&◌, Option, Some, None, Ok, Err, Result, sym, ◌∙◌, subst, ap, arith}
 use Rattle.std.specs.declared.alloc.AllocError.{AllocError}
+use Rattle.rtc_channels.specs.Channels.{channel_rows}
 use Rattle.rtc_lines.specs.declared.sdp_offer.SdpOffer.{SdpOffer}
 use Rattle.rtc_change.specs.PendingOffer.{PendingOffer}
 use Rattle.rtc_peer_state.specs.declared.peer.Peer.{Peer}
@@ -15,14 +16,23 @@ use Rattle.rtc_run.specs.declared.applied.Applied.{Applied}
 use Rattle.rtc_run.specs.declared.applied.Applied.TheVariants.{NotAsked, Nothing, Offer, Alloc}
 use Rattle.rtc_history_laws.proofs.Staging.{Stages as StagesOps, ops_stage}
 use Rattle.rtc_run.specs.Stages.{Stages, Becomes}
+use Rattle.rtc_run.proofs.ChannelCounts.{ops_channels, alone_channels, alone_lines}
 
 -- what is made of staged changes keeps the number of rows
 becomes_rows : {N : Type 0} (asked : Bool) (p q : Peer N) (applied : Applied) → Becomes asked p applied q → length q.lines ≡ length p.lines
 becomes_rows false p q NotAsked h = ap (λ r. length r.lines) h
-becomes_rows true p q Nothing h = ap (λ r. length r.lines) h.1
+becomes_rows true p q Nothing h = ap (λ r. length r.lines) h.1 ∙ ap length (alone_lines p.staged p)
 becomes_rows true p q (Offer offer token) h = ap (λ r. length r.lines) h.3
 becomes_rows true p q Alloc h = ap (λ r. length r.lines) h
 becomes_rows asked p q applied h = absurd h
+
+-- and the channels that are shown
+becomes_channels : {N : Type 0} (asked : Bool) (p q : Peer N) (applied : Applied) → Becomes asked p applied q → channel_rows q.channels ≡ channel_rows p.channels
+becomes_channels false p q NotAsked h = ap (λ r. channel_rows r.channels) h
+becomes_channels true p q Nothing h = ap (λ r. channel_rows r.channels) h.1 ∙ alone_channels p.staged p
+becomes_channels true p q (Offer offer token) h = ap (λ r. channel_rows r.channels) h.3
+becomes_channels true p q Alloc h = ap (λ r. channel_rows r.channels) h
+becomes_channels asked p q applied h = absurd h
 
 stages : {N : Type 0} (draws : Draws N) (old p between q : Peer N) (ops : List Op) (apply asked : Bool) (answers slice : List OpAnswer) (applied : Applied) → p ≡ lent old → PerformsOps draws p ops answers between → slice ≡ answers → asked ≡ (apply && not (answers_lack slice)) → Becomes asked between applied q → Stages draws old ops apply answers applied q
 stages {N} draws old p between q ops apply asked answers slice applied p_is performs slice_is asked_is becomes =
@@ -30,11 +40,13 @@ stages {N} draws old p between q ops apply asked answers slice applied p_is perf
     let here : PerformsOps draws (lent old) ops answers between = subst (λ (x : Peer N). PerformsOps draws x ops answers between) p_is performs in
     let then : Becomes (apply && not (answers_lack answers)) between applied q = subst (λ (b : Bool). Becomes b between applied q) (asked_is ∙ ap F slice_is) becomes in
     let staged : StagesOps (lent old) ops answers between = ops_stage draws (lent old) between ops answers here in
+    let told : length (channel_rows q.channels) ≡ length (channel_rows between.channels) = ap length (becomes_channels (apply && not (answers_lack answers)) between q applied then) in
     record {
       between = between;
       performs = here;
       becomes = then;
       rows = becomes_rows (apply && not (answers_lack answers)) between q applied then ∙ staged.rows;
+      channels = omega (arith, told, ops_channels draws (lent old) between ops answers here);
     }
 
 pub stages_not : {N : Type 0} (draws : Draws N) (old p between q : Peer N) (ops : List Op) (apply : Bool) (answers slice : List OpAnswer) → p ≡ lent old → PerformsOps draws p ops answers between → slice ≡ answers → false ≡ (apply && not (answers_lack slice)) → q ≡ between → Stages draws old ops apply answers NotAsked q

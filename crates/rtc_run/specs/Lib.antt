@@ -1,3 +1,6 @@
+pub mod Completeness
 pub mod NoSuch
 pub mod ProgramPair
+pub mod RefusedChannel
+pub mod ShownTable
 pub mod Stages

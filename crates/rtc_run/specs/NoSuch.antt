@@ -1,11 +1,12 @@
--- The reply where there is no such thing: the rows are told, or there is no memory.
-use Rattle.std.specs.Prelude.{◌≡◌, List, Option, Some, None}
-use Rattle.rtc_sdp_values.specs.declared.line_row.LineRow.{LineRow}
+-- The reply where there is no such thing: the table is told, or there is no memory.
+use Rattle.std.specs.Prelude.{◌≡◌, Option, Some, None}
+use Rattle.rtc_peer_state.specs.declared.peer.Peer.{Peer}
 use Rattle.rtc_history.specs.declared.outcome.Outcome.{Outcome}
 use Rattle.rtc_history.specs.declared.outcome.Outcome.TheVariants.{NoSuch, Alloc}
 use Rattle.rtc_history.specs.declared.table.Table.{Table}
+use Rattle.rtc_history.specs.Performs.{Shows}
 
-abbrev pub IsNoSuch : List LineRow → Outcome → Option Table → Type 0
-IsNoSuch rows NoSuch (Some table) = table.lines ≡ rows
-IsNoSuch rows Alloc None = Unit {0}
-IsNoSuch rows outcome table = ⊥
+abbrev pub IsNoSuch : {N : Type 0} → Peer N → Outcome → Option Table → Type 0
+IsNoSuch p NoSuch (Some table) = Shows table p
+IsNoSuch p Alloc None = Unit {0}
+IsNoSuch p outcome table = ⊥

@@ -1,5 +1,6 @@
 -- What a step stages at a peer, and what becomes of it.
-use Rattle.std.specs.Prelude.{◌≡◌, List, length, Bool, true, false, not, ◌&&◌, Some, None, Ok, Err, alloc_error}
+use Rattle.std.specs.Prelude.{◌≡◌, ◌≤◌, ◌+◌, List, length, Bool, true, false, not, ◌&&◌, Some, None, Ok, Err, alloc_error}
+use Rattle.rtc_channels.specs.Channels.{channel_rows}
 use Rattle.rtc_peer_state.specs.declared.peer.Peer.{Peer}
 use Rattle.rtc_peer_state.specs.Draws.{Draws}
 use Rattle.rtc_peer_state.specs.Calls.{Applies}
@@ -24,3 +25,4 @@ pub record Stages {N : Type 0} (draws : Draws N) (old : Peer N) (ops : List Op) 
   pub performs : PerformsOps draws (lent old) ops answers between
   pub becomes : Becomes (apply && not (answers_lack answers)) between applied new
   pub rows : length new.lines ≡ length old.lines
+  pub channels : length (channel_rows new.channels) ≤ length (channel_rows old.channels) + length ops

@@ -2,6 +2,7 @@
 ghost use Rattle.std.specs.Prelude.{◌≡◌, ◌+◌, ◌<◌, ◌≤◌, ◌^◌, ◌++◌, [], ◌∷◌, length, Some, None, true, false};
 ghost use Rattle.std.specs.Prelude.{IsTrue, IsSome, IfSome, IfNone, OnSome, is_some, slice_get};
 ghost use Rattle.std.specs.Option.{option_copied};
+ghost use Rattle.rtc_channels.specs.Channels.{channel_rows};
 ghost use Rattle.rtc_peer_state.specs.Calls.{AcceptsAnswer, AcceptsOffer};
 ghost use Rattle.rtc_peer.specs.Described.{sdp_of_answer};
 ghost use Rattle.rtc_delivery.specs.Delivered.{AllReadBack};
@@ -55,6 +56,7 @@ fn keep_answer(at: Side, answer: SdpAnswer) -> Kept
 fn accept_offer<N: Ids>(rtc: &mut Rtc<N>, offer: SdpOffer) -> Result<SdpAnswer, RtcError>
     ensures accepts { AcceptsOffer N.ids (lent rtc.old.core) offer.0 (sdp_of_answer result) rtc.new.core }
     ensures rows { length rtc.new.core.lines ≤ length rtc.old.core.lines + length offer.0.lines }
+    ensures channels { channel_rows rtc.new.core.channels ≡ channel_rows rtc.old.core.channels }
 {
     rtc.sdp_api().accept_offer(offer)
 }
@@ -73,23 +75,22 @@ pub fn deliver_and_accept_offer<N: Ids>(
         result.outcome result.table rtc.new.core sdps.new.items }
 {
     let delivered = match find_sdp(sdps, true, at, offer) {
-        None => return reply_no_such(alloc, rtc.lines().rows()),
+        None => return reply_no_such(alloc, rtc),
         Some(sdp) => match deliver_kept_offer(alloc, sdp) {
             Ok(delivered) => delivered,
             Err(_) => return reply_no_memory(),
         },
     };
-    let rows = rtc.lines().rows().len() + delivered.0.lines.len();
-    let Ok(room) = make_room(alloc, rows, sdps) else {
+    let Ok(room) = make_room(alloc, rtc, delivered.0.lines.len(), 0, sdps) else {
         return reply_no_memory();
     };
     match accept_offer(rtc, delivered) {
         Ok(answer) => {
             let text = sdps.len() as u32;
             sdps.push_reserved(keep_answer(at, answer));
-            reply_with(Outcome::Answered { text }, room, rtc.lines().rows())
+            reply_with(Outcome::Answered { text }, room, rtc)
         }
-        Err(error) => reply_with(Outcome::Refused(error), room, rtc.lines().rows()),
+        Err(error) => reply_with(Outcome::Refused(error), room, rtc),
     }
 }
 
@@ -125,6 +126,7 @@ fn accept_answer<N: Ids>(
 ) -> Result<(), RtcError>
     ensures accepts { AcceptsAnswer N.ids (lent rtc.old.core) pending answer.0 result rtc.new.core }
     ensures rows { length rtc.new.core.lines ≤ length rtc.old.core.lines + length answer.0.lines }
+    ensures channels { channel_rows rtc.new.core.channels ≡ channel_rows rtc.old.core.channels }
 {
     rtc.sdp_api().accept_answer(pending, answer)
 }
@@ -143,21 +145,20 @@ pub fn deliver_and_accept_answer<N: Ids>(
         rtc.old.core sdps.old.items result.outcome result.table rtc.new.core sdps.new.items }
 {
     let delivered = match find_sdp(sdps, false, at, answer) {
-        None => return reply_no_such(alloc, rtc.lines().rows()),
+        None => return reply_no_such(alloc, rtc),
         Some(sdp) => match deliver_kept_answer(alloc, sdp) {
             Ok(delivered) => delivered,
             Err(_) => return reply_no_memory(),
         },
     };
-    let rows = rtc.lines().rows().len() + delivered.0.lines.len();
-    let Ok(room) = room_for(alloc, rows) else {
+    let Ok(room) = room_for(alloc, rtc, delivered.0.lines.len(), 0) else {
         return reply_no_memory();
     };
     let Some(pending) = take_token(sdps, at, token) else {
-        return reply_with(Outcome::NoSuch, room, rtc.lines().rows());
+        return reply_with(Outcome::NoSuch, room, rtc);
     };
     match accept_answer(rtc, pending, delivered) {
-        Ok(()) => reply_with(Outcome::Finished, room, rtc.lines().rows()),
-        Err(error) => reply_with(Outcome::Refused(error), room, rtc.lines().rows()),
+        Ok(()) => reply_with(Outcome::Finished, room, rtc),
+        Err(error) => reply_with(Outcome::Refused(error), room, rtc),
     }
 }

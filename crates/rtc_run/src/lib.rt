@@ -3,6 +3,7 @@
 
 mod accepting;
 mod applied;
+mod laws;
 mod negotiating;
 mod pair;
 mod performing;
@@ -10,6 +11,7 @@ mod plain_pair;
 mod replying;
 mod running;
 
+pub use laws::faultless_descriptions_pass;
 pub use pair::Pair;
 pub use plain_pair::{PlainPair, make_pair};
 pub use rtc_delivery::{deliver_answer, deliver_offer};

@@ -2,20 +2,23 @@
 ghost use Rattle.std.specs.Prelude.{◌≡◌, ◌+◌, ◌<◌, ◌≤◌, ◌^◌, ◌-◌, ◌++◌, [], ◌∷◌, length, slice_get, vec_capacity, vec_len};
 ghost use Rattle.std.specs.Prelude.{Some, IfOk, not, ◌&&◌, true, false};
 ghost use Rattle.rtc_change.specs.RowChanges.{media_mid};
+ghost use Rattle.rtc_channels.specs.Channels.{channel_rows};
 ghost use Rattle.rtc_history.specs.Memory.{answers_lack};
-ghost use Rattle.rtc_history.specs.declared.op.Op.TheVariants.{AddMedia, SetDirection, StopMedia};
+ghost use Rattle.rtc_history.specs.declared.op.Op.TheVariants.{AddMedia, SetDirection, StopMedia, AddChannel};
 ghost use Rattle.rtc_history.specs.declared.outcome.Outcome.TheVariants.{Negotiated};
 ghost use Rattle.rtc_history.specs.Performs.{Negotiates, PerformsOps, kept_offer};
+ghost use Rattle.rtc_run.specs.RefusedChannel.{refused_channel};
+ghost use Rattle.rtc_run.specs.ShownTable.{shown_table};
 ghost use Rattle.rtc_run.specs.Stages.{Stages};
 
 use crate::applied::Applied;
-use crate::replying::{make_room, reply_no_memory, reply_with};
+use crate::replying::{Room, make_room, reply_no_memory, reply_with};
 use rtc_change::SdpPendingOffer;
 use rtc_history::{Kept, Made, Op, OpAnswer, Outcome, Reply, Side, do_answers_lack};
 use rtc_lines::SdpOffer;
-use rtc_peer::{Ids, Rtc, SdpApi};
+use rtc_peer::{Ids, Rtc, RtcError, SdpApi};
 use rtc_sdp_values::{Direction, LineRow, MediaKind, Mid};
-use rtc_wire::Seq;
+use rtc_wire::{ChannelConfig, Seq, TryCopy};
 use std::alloc::Global;
 
 // Stages a media line whose stream and track names are drawn.
@@ -70,14 +73,39 @@ fn stop_line<N: Ids>(api: &mut SdpApi<'_, N>, place: u32) -> OpAnswer
     }
 }
 
+// The answer where no channel is staged.
+fn answer_refusal(error: &RtcError) -> OpAnswer
+    ensures { result ≡ refused_channel error.now }
+{
+    match error {
+        RtcError::BadChannel => OpAnswer::BadChannel,
+        _ => OpAnswer::Alloc,
+    }
+}
+
+// Stages a channel that is opened with a copy of the config.
+fn add_channel<N: Ids>(api: &mut SdpApi<'_, N>, config: &ChannelConfig) -> OpAnswer
+    ensures same_reference { api.new.rtc.ghost_name ≡ api.old.rtc.ghost_name }
+    ensures performs { PerformsOps N.ids api.old.rtc.now.core (AddChannel config.now ∷ []) (result ∷ []) api.new.rtc.now.core }
+{
+    let Ok(config) = config.copy() else {
+        return OpAnswer::Alloc;
+    };
+    match api.add_channel_with_config(config) {
+        Ok(id) => OpAnswer::Channel(id),
+        Err(error) => answer_refusal(&error),
+    }
+}
+
 fn perform_op<N: Ids>(api: &mut SdpApi<'_, N>, op: &Op) -> OpAnswer
     ensures same_reference { api.new.rtc.ghost_name ≡ api.old.rtc.ghost_name }
     ensures performs { PerformsOps N.ids api.old.rtc.now.core (op.now ∷ []) (result ∷ []) api.new.rtc.now.core }
 {
-    match *op {
-        Op::AddMedia { kind, dir } => add_line(api, kind, dir),
-        Op::SetDirection { place, dir } => set_line(api, place, dir),
-        Op::StopMedia { place } => stop_line(api, place),
+    match op {
+        Op::AddMedia { kind, dir } => add_line(api, *kind, *dir),
+        Op::SetDirection { place, dir } => set_line(api, *place, *dir),
+        Op::StopMedia { place } => stop_line(api, *place),
+        Op::AddChannel { config } => add_channel(api, config),
     }
 }
 
@@ -151,13 +179,15 @@ fn keep_offer(at: Side, offer: SdpOffer, token: SdpPendingOffer) -> Kept
 }
 
 // The reply to a step of ops.
-fn reply_made(answers: Seq<OpAnswer>, made: Made, room: Vec<LineRow>, rows: &[LineRow]) -> Reply
-    requires empty { room.items ≡ [] }
-    requires room { length rows.now ≤ vec_capacity room }
+fn reply_made<N: Ids>(answers: Seq<OpAnswer>, made: Made, room: Room, rtc: &Rtc<N>) -> Reply
+    requires no_lines { room.lines.items ≡ [] }
+    requires no_channels { room.channels.items ≡ [] }
+    requires lines { length rtc.now.core.lines ≤ vec_capacity room.lines }
+    requires channels { length (channel_rows rtc.now.core.channels) ≤ vec_capacity room.channels }
     ensures outcome { result.outcome ≡ Negotiated answers made }
-    ensures table { result.table ≡ Some (record { lines = rows.now }) }
+    ensures table { result.table ≡ Some (shown_table rtc.now.core) }
 {
-    reply_with(Outcome::Negotiated { answers, made }, room, rows)
+    reply_with(Outcome::Negotiated { answers, made }, room, rtc)
 }
 
 /// Performs ops at a peer, and applies what they staged if the step asks for it.
@@ -175,18 +205,18 @@ pub fn negotiate<N: Ids>(
     let Ok(answers) = Vec::with_capacity(alloc, ops.len()) else {
         return reply_no_memory();
     };
-    let Ok(room) = make_room(alloc, rtc.lines().rows().len(), sdps) else {
+    let Ok(room) = make_room(alloc, rtc, 0, ops.len(), sdps) else {
         return reply_no_memory();
     };
     let (answers, applied) = perform_and_apply(rtc, ops, apply, answers);
     match applied {
-        Applied::NotAsked => reply_made(answers, Made::NotAsked, room, rtc.lines().rows()),
-        Applied::Nothing => reply_made(answers, Made::Nothing, room, rtc.lines().rows()),
-        Applied::Alloc => reply_made(answers, Made::Alloc, room, rtc.lines().rows()),
+        Applied::NotAsked => reply_made(answers, Made::NotAsked, room, rtc),
+        Applied::Nothing => reply_made(answers, Made::Nothing, room, rtc),
+        Applied::Alloc => reply_made(answers, Made::Alloc, room, rtc),
         Applied::Offer(offer, token) => {
             let number = next_number(sdps);
             sdps.push_reserved(keep_offer(at, offer, token));
-            reply_made(answers, Made::Offer(number), room, rtc.lines().rows())
+            reply_made(answers, Made::Offer(number), room, rtc)
         }
     }
 }

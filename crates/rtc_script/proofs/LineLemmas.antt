@@ -7,11 +7,12 @@ use Rattle.rtc_sdp_values.specs.declared.direction.Direction.{Direction}
 use Rattle.rtc_sdp_values.specs.declared.direction.Direction.TheVariants.{SendRecv, SendOnly, RecvOnly, Inactive}
 use Rattle.rtc_sdp_values.specs.declared.media_kind.MediaKind.{MediaKind}
 use Rattle.rtc_sdp_values.specs.declared.media_kind.MediaKind.TheVariants.{Audio, Video}
-use Rattle.rtc_script.specs.Lines.{IsOp, IsAct, AreStepWords, IsLine, ops_verb}
+use Rattle.rtc_script.specs.Lines.{IsOp, with_label, IsAct, AreStepWords, IsLine, ops_verb}
+use Rattle.rtc_script.proofs.LabelLemmas.{one_label}
 use Rattle.rtc_script.proofs.ZipLemmas.{one_zip}
 use Rattle.rtc_history.specs.Sides.{side_of}
 use Rattle.rtc_history.specs.declared.op.Op.{Op}
-use Rattle.rtc_history.specs.declared.op.Op.TheVariants.{AddMedia, SetDirection, StopMedia}
+use Rattle.rtc_history.specs.declared.op.Op.TheVariants.{AddMedia, SetDirection, StopMedia, AddChannel}
 use Rattle.rtc_history.specs.declared.side.Side.{Side}
 use Rattle.rtc_history.specs.declared.side.Side.TheVariants.{Left, Right}
 use Rattle.rtc_history.specs.declared.step.Step.{Step}
@@ -76,6 +77,15 @@ no_stop : (kind : MediaKind) → kind_text kind ≡ codes "stop" → ⊥
 no_stop Audio same = absurd (omega (arith, same_letter 0 (codes "audio") (codes "audio") (codes "stop") refl same))
 no_stop Video same = absurd (omega (arith, same_letter 0 (codes "video") (codes "video") (codes "stop") refl same))
 
+-- and none is named channel
+pub no_channel : (kind : MediaKind) → kind_text kind ≡ codes "channel" → ⊥
+no_channel Audio same = absurd (omega (arith, same_letter 0 (codes "audio") (codes "audio") (codes "channel") refl same))
+no_channel Video same = absurd (omega (arith, same_letter 0 (codes "video") (codes "video") (codes "channel") refl same))
+
+-- a channel is not added where a line is stopped
+pub no_stopped : codes "stop" ≡ codes "channel" → ⊥
+no_stopped same = absurd (omega (arith, same_letter 0 (codes "stop") (codes "stop") (codes "channel") refl same))
+
 -- a word is that of one op
 one_op : (word : List ℕ) (a b : Op) → IsOp word a → IsOp word b → a ≡ b
 one_op word (AddMedia kind dir) (AddMedia kind' dir') is is' =
@@ -97,6 +107,17 @@ one_op word (StopMedia place) (SetDirection place' to) is is' = absurd (two_or_t
 one_op word (StopMedia place) (StopMedia place') is is' =
     let places = one_number place place' is.1 is'.1 (first_same _ _ _ _ (rest_same _ _ _ _ (sym is.0 ∙ is'.0))) in
     rw places refl
+one_op word (AddMedia kind dir) (AddChannel config) is is' = absurd (no_channel kind (first_same _ _ _ _ (sym is ∙ is'.0)))
+one_op word (AddChannel config) (AddMedia kind dir) is is' = absurd (no_channel kind (first_same _ _ _ _ (sym is' ∙ is.0)))
+one_op word (SetDirection place to) (AddChannel config) is is' = absurd (two_or_three _ _ _ _ _ (sym is'.0 ∙ is.0))
+one_op word (AddChannel config) (SetDirection place to) is is' = absurd (two_or_three _ _ _ _ _ (sym is.0 ∙ is'.0))
+one_op word (StopMedia place) (AddChannel config) is is' = absurd (no_stopped (first_same _ _ _ _ (sym is.0 ∙ is'.0)))
+one_op word (AddChannel config) (StopMedia place) is is' = absurd (no_stopped (first_same _ _ _ _ (sym is'.0 ∙ is.0)))
+one_op word (AddChannel config) (AddChannel config') is is' =
+    let words = first_same _ _ _ _ (rest_same _ _ _ _ (sym is.0 ∙ is'.0)) in
+    let label = one_label config.label config'.label is.1 is'.1 words in
+    let same : config ≡ config' = is.2 ∙ ap with_label label ∙ sym is'.2 in
+    rw same refl
 
 applied_from : List ℕ → Bool
 applied_from text = eqb (get_or text 0 0) 111

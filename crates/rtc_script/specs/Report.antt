@@ -2,17 +2,17 @@
 use Rattle.std.specs.Prelude.{◌+◌, ℕ, List, [], ◌∷◌, ◌++◌, Option, Some, None, codes}
 use Rattle.std.specs.Fmt.{decimal}
 use Rattle.rtc_script.specs.Outcomes.{outcome_text}
-use Rattle.rtc_script.specs.Rows.{row_lines}
+use Rattle.rtc_script.specs.Rows.{row_lines, channel_lines}
 use Rattle.rtc_history.specs.Sides.{side_of}
 use Rattle.rtc_history.specs.declared.reply.Reply.{Reply}
 use Rattle.rtc_history.specs.declared.step.Step.{Step}
 use Rattle.rtc_history.specs.declared.table.Table.{Table}
 use Rattle.rtc_script.specs.Words.{side_text}
 
--- the rows of a table, where there is one
+-- the lines and then the channels of a table, where there is one
 abbrev pub table_lines : Option Table → List ℕ
 table_lines None = []
-table_lines (Some table) = row_lines table.lines
+table_lines (Some table) = row_lines table.lines ++ channel_lines table.channels
 
 -- a step by its number and side, its outcome, and the rows after it
 abbrev pub step_lines : ℕ → Step → Reply → List ℕ

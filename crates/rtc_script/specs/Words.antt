@@ -1,5 +1,6 @@
 -- The words that scripts and reports share.
-use Rattle.std.specs.Prelude.{ℕ, List, codes}
+use Rattle.std.specs.Prelude.{ℕ, List, [], ◌∷◌, codes}
+use Rattle.hex.specs.Hex.{encode_lower}
 use Rattle.rtc_sdp_values.specs.declared.direction.Direction.{Direction}
 use Rattle.rtc_sdp_values.specs.declared.direction.Direction.TheVariants.{SendRecv, SendOnly, RecvOnly, Inactive}
 use Rattle.rtc_sdp_values.specs.declared.media_kind.MediaKind.{MediaKind}
@@ -23,3 +24,8 @@ direction_text Inactive = codes "inactive"
 abbrev pub kind_text : MediaKind → List ℕ
 kind_text Audio = codes "audio"
 kind_text Video = codes "video"
+
+-- bytes as lower-case hex digits, two each; a dash for no bytes
+abbrev pub hex_word : List ℕ → List ℕ
+hex_word [] = codes "-"
+hex_word (byte ∷ bytes) = encode_lower (byte ∷ bytes)

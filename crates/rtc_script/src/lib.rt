@@ -2,9 +2,11 @@
 #![tactic(auto)]
 
 mod acts;
+mod channels;
 mod cutting;
 mod directions;
 mod kinds;
+mod labels;
 mod lines;
 mod numbers;
 mod ops;

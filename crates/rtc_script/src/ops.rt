@@ -1,18 +1,20 @@
 //! Ops of a line.
-ghost use Rattle.std.specs.Prelude.{◌≡◌, ◌<◌, ◌^◌, [], ◌∷◌, List, IfOk, IfSome, IfNone, map};
+ghost use Rattle.std.specs.Prelude.{◌≡◌, ◌≢◌, ◌<◌, ◌^◌, [], ◌∷◌, List, IfOk, IfSome, IfNone, map, codes};
 ghost use Rattle.rtc_script.specs.Lines.{AreOpParts, IsOp, AreOps};
 ghost use Rattle.rtc_history.specs.declared.op.Op.{Op};
 
 use crate::cutting::cut_parts;
 use crate::directions::read_direction;
 use crate::kinds::read_kind;
+use crate::labels::read_label;
 use crate::numbers::read_u32;
 use rtc_history::Op;
-use rtc_wire::Seq;
+use rtc_wire::{ChannelConfig, Seq};
 use std::alloc::{AllocError, Global};
 
-// An op of two parts: it adds a line, or stops one.
+// An op of two parts that adds no channel: it adds a line, or stops one.
 fn read_two_parts(word: &[u8], value: &[u8]) -> Option<Op>
+    requires { word.now ≢ codes "channel" }
     ensures some { IfSome result (λ op. AreOpParts (word.now ∷ value.now ∷ []) op) }
     ensures none { IfNone result ((op : Op) → AreOpParts (word.now ∷ value.now ∷ []) op → ⊥) }
 {
@@ -38,14 +40,38 @@ fn read_three_parts(word: &[u8], place: &[u8], value: &[u8]) -> Option<Op>
     Some(Op::SetDirection { place, dir })
 }
 
-fn read_parts(parts: &[&[u8]]) -> Option<Op>
-    ensures some { IfSome result (λ op. AreOpParts (map (λ part. part.now) parts.now) op) }
-    ensures none { IfNone result ((op : Op) → AreOpParts (map (λ part. part.now) parts.now) op → ⊥) }
+// An op that adds a channel with the label that a word writes.
+fn read_channel(alloc: Global, value: &[u8]) -> Result<Option<Op>, AllocError>
+    ensures some { IfOk result (λ read. IfSome read (λ op. AreOpParts (codes "channel" ∷ value.now ∷ []) op)) }
+    ensures none { IfOk result (λ read. IfNone read ((op : Op) → AreOpParts (codes "channel" ∷ value.now ∷ []) op → ⊥)) }
+{
+    let Some(label) = read_label(alloc, value)? else {
+        return Ok(None);
+    };
+    let mut config = ChannelConfig::new(alloc);
+    config.label = label;
+    Ok(Some(Op::AddChannel { config }))
+}
+
+// An op of two parts.
+fn read_pair(alloc: Global, word: &[u8], value: &[u8]) -> Result<Option<Op>, AllocError>
+    ensures some { IfOk result (λ read. IfSome read (λ op. AreOpParts (word.now ∷ value.now ∷ []) op)) }
+    ensures none { IfOk result (λ read. IfNone read ((op : Op) → AreOpParts (word.now ∷ value.now ∷ []) op → ⊥)) }
+{
+    if word == b"channel".as_slice() {
+        return read_channel(alloc, value);
+    }
+    Ok(read_two_parts(word, value))
+}
+
+fn read_parts(alloc: Global, parts: &[&[u8]]) -> Result<Option<Op>, AllocError>
+    ensures some { IfOk result (λ read. IfSome read (λ op. AreOpParts (map (λ part. part.now) parts.now) op)) }
+    ensures none { IfOk result (λ read. IfNone read ((op : Op) → AreOpParts (map (λ part. part.now) parts.now) op → ⊥)) }
 {
     match parts {
-        [word, value] => read_two_parts(word, value),
-        [word, place, value] => read_three_parts(word, place, value),
-        _ => None,
+        [word, value] => read_pair(alloc, word, value),
+        [word, place, value] => Ok(read_three_parts(word, place, value)),
+        _ => Ok(None),
     }
 }
 
@@ -54,7 +80,7 @@ fn read_op(alloc: Global, word: &[u8]) -> Result<Option<Op>, AllocError>
     ensures none { IfOk result (λ read. IfNone read ((op : Op) → IsOp word.now op → ⊥)) }
 {
     let parts = cut_parts(alloc, word)?;
-    Ok(read_parts(parts.as_slice()))
+    read_parts(alloc, parts.as_slice())
 }
 
 /// The ops of words, one each.

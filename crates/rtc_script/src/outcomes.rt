@@ -2,7 +2,7 @@
 ghost use Rattle.std.specs.Prelude.{◌≡◌, ◌++◌, OnOk, string_bytes};
 ghost use Rattle.rtc_script.specs.Outcomes.{op_answer_text, more_answers, answers_text, made_text, outcome_text};
 
-use crate::pushing::push_number;
+use crate::pushing::{push_long, push_number};
 use crate::refusals::push_refusal;
 use rtc_history::{Made, OpAnswer, Outcome};
 use std::alloc::AllocError;
@@ -15,6 +15,11 @@ fn push_answer(out: &mut String, answer: &OpAnswer) -> Result<(), AllocError>
         OpAnswer::Changed(true) => out.push_str("true"),
         OpAnswer::Changed(false) => out.push_str("false"),
         OpAnswer::NoLine => out.push_str("none"),
+        OpAnswer::Channel(id) => {
+            out.push_str("c")?;
+            push_long(out, id.number())
+        }
+        OpAnswer::BadChannel => out.push_str("bad"),
         OpAnswer::Alloc => out.push_str("nomemory"),
     }
 }

@@ -17,3 +17,10 @@ pub fn push_count(out: &mut String, n: usize) -> Result<(), AllocError>
 {
     write!(out, "{n}")
 }
+
+/// Puts a number of up to 64 bits behind a text.
+pub fn push_long(out: &mut String, n: u64) -> Result<(), AllocError>
+    ensures { OnOk result (string_bytes out.new ≡ string_bytes out.old ++ decimal n) }
+{
+    write!(out, "{n}")
+}

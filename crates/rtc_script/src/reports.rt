@@ -2,6 +2,7 @@
 ghost use Rattle.std.specs.Prelude.{◌≡◌, ◌++◌, OnOk, IfOk, string_bytes};
 ghost use Rattle.rtc_script.specs.Report.{table_lines, step_lines, report};
 
+use crate::channels::push_channels;
 use crate::outcomes::push_outcome;
 use crate::pushing::push_count;
 use crate::rows::push_rows;
@@ -14,7 +15,10 @@ fn push_table(out: &mut String, table: &Option<Table>) -> Result<(), AllocError>
 {
     match table {
         None => Ok(()),
-        Some(table) => push_rows(out, table.lines.as_slice()),
+        Some(table) => {
+            push_rows(out, table.lines.as_slice())?;
+            push_channels(out, table.channels.as_slice())
+        }
     }
 }
 
@@ -31,7 +35,7 @@ fn push_step(out: &mut String, number: usize, step: &Step, reply: &Reply) -> Res
     push_table(out, &reply.table)
 }
 
-/// The report of steps and their replies: a line for each reply, followed by the rows of the peer that acted.
+/// The report of steps and their replies: a line for each reply, followed by the lines and channels of the peer that acted.
 pub fn write_report(alloc: Global, steps: &[Step], replies: &[Reply]) -> Result<Vec<u8>, AllocError>
     ensures { IfOk result (λ bytes. bytes.items ≡ report steps.now replies.now) }
 {

@@ -1,6 +1,6 @@
 use Rattle.std.proofs.Common.{rules}
 use Rattle.rtc_peer.specs.Described.{sdp_of_answer}
-use Rattle.rtc_run.proofs.Lent.{accepted_offer, rows_of_offer}
+use Rattle.rtc_run.proofs.Lent.{accepted_offer, rows_of_offer, channels_of_offer}
 use Rattle.rtc_run.proofs.accepting.accept_offer.Goals as goal
 
 pub returns-clause-accepts : goal.returns-clause-accepts
@@ -8,3 +8,6 @@ returns-clause-accepts g c = accepted_offer g.N.Ids.ids c.args.rtc.now.core c.sd
 
 pub returns-clause-rows : goal.returns-clause-rows
 returns-clause-rows g c = rows_of_offer g.N.Ids.ids c.args.rtc.now.core c.sdp_api.result.rtc.now.core c.accept_offer.new.self.0.core c.args.offer.0 (sdp_of_answer c.accept_offer.result) _ c.sdp_api.ensures.peer c.accept_offer.ensures (search rules)
+
+pub returns-clause-channels : goal.returns-clause-channels
+returns-clause-channels g c = channels_of_offer g.N.Ids.ids c.args.rtc.now.core c.sdp_api.result.rtc.now.core c.accept_offer.new.self.0.core c.args.offer.0 (sdp_of_answer c.accept_offer.result) _ c.sdp_api.ensures.peer c.accept_offer.ensures (search rules)

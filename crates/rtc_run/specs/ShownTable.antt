@@ -1,0 +1,7 @@
+-- The table of a peer: its lines and its channels.
+use Rattle.rtc_channels.specs.Channels.{channel_rows}
+use Rattle.rtc_peer_state.specs.declared.peer.Peer.{Peer}
+use Rattle.rtc_history.specs.declared.table.Table.{Table}
+
+abbrev pub shown_table : {N : Type 0} → Peer N → Table
+shown_table p = record { lines = p.lines; channels = channel_rows p.channels }
