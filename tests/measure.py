@@ -1,7 +1,7 @@
 #!/usr/bin/env python3
 """Counts instructions of the proved programs by valgrind --tool=callgrind, so that growth is seen. It is no part of the gate.
 
-usage: tests/measure.py [PART..]     PART is descriptions, rounds or messages; without one all are counted
+usage: tests/measure.py [PART..]     PART is descriptions, rounds, messages, associations or frames; without one all are counted
 
 The programs are those that the gate left in crates/*/out/. Each figure is a difference of two runs, so that the start of the
 program is not in it. docs/PERFORMANCE.md has the tables.
@@ -81,14 +81,54 @@ def rounds():
 
 def messages():
     print("| Bytes | Instructions | A byte |\n|---|---|---|")
-    start, _ = count([program("rtc_examples")], b"message 0\n")
+    start, _ = count([program("rtc_association_examples")], b"messages of 0 bytes\n")
     for size in (1_024, 16_384, 65_536, 262_144):
-        cost, _ = count([program("rtc_examples")], b"message %d\n" % size)
+        cost, _ = count([program("rtc_association_examples")], b"messages of %d bytes\n" % size)
         print(f"| {size:,} | {cost - start:,} | {(cost - start) / size:.1f} |")
 
 
+# Two plain associations: a message over one of so many open streams, and streams that are opened, used and reset in turn.
+def associations():
+    def cost(*words):
+        return count([program("rtc_assoc_measure"), *map(str, words)], b"")[0]
+
+    print("| Open streams | Bytes | Instructions over those for 0 bytes | A byte |\n|---|---|---|---|")
+    for streams in (1, 100, 10_000):
+        start = cost("message", 0, streams)
+        for size in (16_384, 262_144):
+            more = cost("message", size, streams) - start
+            print(f"| {streams:,} | {size:,} | {more:,} | {more / size:.1f} |")
+    print("\n| Streams reset one after another | Instructions | A stream |\n|---|---|---|")
+    start = cost("resets", 0)
+    for streams in (300, 3_000, 30_000):
+        more = cost("resets", streams) - start
+        print(f"| {streams:,} | {more:,} | {more // streams:,} |")
+
+
+# Frames of n bytes, passed from one connection to another, each fed whole or a byte at a time. The words of the script are longer
+# where pieces are short, so that a script of empty pieces is counted beside it.
+def calls_of(size, count, piece):
+    body = b"\x03\x01b" + b"x" * (size - 7)
+    stream = (len(body).to_bytes(4, "big") + body) * count
+    cuts = range(0, len(stream), piece)
+    lines = [f"feed 0 {stream[at : at + piece].hex()}\n" for at in cuts]
+    head = "str0m-gate 1\njoin a\njoin b\n"
+    return (head + "".join(lines)).encode(), (head + "".join("feed 0 -\n" for _ in cuts)).encode(), len(stream)
+
+
+def frames():
+    print("| Bytes of a frame | Frames | Fed | Instructions | A byte | Of empty pieces | A byte over those |\n|---|---|---|---|---|---|---|")
+    start, _ = count([program("rtc_gate"), "run"], b"str0m-gate 1\njoin a\njoin b\n")
+    for size, number in ((100, 100), (100, 600), (65_540, 1)):
+        for how, piece in (("whole", size), ("byte by byte", 1)):
+            given, empty, fed = calls_of(size, number, piece)
+            cost, _ = count([program("rtc_gate"), "run"], given)
+            base, _ = count([program("rtc_gate"), "run"], empty)
+            print(f"| {size:,} | {number} | {how} | {cost - start:,} | {(cost - start) / fed:.1f} | {base - start:,} | {(cost - base) / fed:.1f} |")
+
+
 def main():
-    parts = {"descriptions": descriptions, "rounds": rounds, "messages": messages}
+    parts = {"descriptions": descriptions, "rounds": rounds, "messages": messages, "associations": associations, "frames": frames}
     wanted = sys.argv[1:] or list(parts)
     if any(name not in parts for name in wanted):
         sys.exit(__doc__)

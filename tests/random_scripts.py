@@ -4,8 +4,8 @@
 usage: tests/random_scripts.py crates/rtc_pair/out/rtc_pair [SEED [COUNT]]
 
 It is no part of the gate. The model below is written from the rules of docs/FORMATS.md and not from the program: lists of
-rows, what an offer and an answer say, by which cause a text is refused, and which numbers are drawn. A random script goes
-round by round for the most part, with steps in between that cross, repeat or lose texts.
+rows, what an offer and an answer say, by which cause a text is refused, which numbers are drawn, and which channels wait. A
+random script goes round by round for the most part, with steps in between that cross, repeat or lose texts.
 """
 import random
 import subprocess
@@ -14,6 +14,7 @@ import sys
 INVERSE = {"sendrecv": "sendrecv", "sendonly": "recvonly", "recvonly": "sendonly", "inactive": "inactive"}
 DIRECTIONS = list(INVERSE)
 OTHER = {"L": "R", "R": "L"}
+NAMES = {"audio": "Audio", "video": "Video", "app": "Application"}
 
 
 class Refused(Exception):
@@ -24,6 +25,7 @@ def moved(mid):
     return Refused(f"1 remote sdp: Changed order for m-line with mid: {mid}")
 
 
+# The row of the data channels has the kind "app" and no direction; it is never stopped.
 class Row:
     def __init__(self, mid, kind, direction, stopped=False, remote=False):
         self.mid, self.kind, self.direction, self.stopped, self.remote = mid, kind, direction, stopped, remote
@@ -35,6 +37,7 @@ class Row:
 class Peer:
     def __init__(self, first):
         self.next, self.rows, self.staged, self.counter, self.sources = first, [], [], 0, {}
+        self.channels = 0
         self.draw(), self.draw()  # the number of the session, the credentials
 
     def draw(self):
@@ -55,45 +58,70 @@ class Peer:
             drawn.append(self.draw_source(earlier + drawn))
         return drawn
 
-    def add(self, kind, direction):
+    def draw_mid(self):
         number = self.draw() % 2**32
-        held = {row.mid for row in self.rows} | {row.mid for row, _ in self.staged if row}
+        held = {row.mid for row in self.rows} | {row.mid for _, row, _ in self.staged if row}
         while f"m{number}" in held:
             number = (number + 1) % 2**32
-        self.draw(), self.draw()  # the names of the stream and of the track
-        self.staged.append((Row(f"m{number}", kind, direction), self.draw_sources(kind, [])))
         return f"m{number}"
 
+    def add(self, kind, direction):
+        mid = self.draw_mid()
+        self.draw(), self.draw()  # the names of the stream and of the track
+        self.staged.append(("line", Row(mid, kind, direction), self.draw_sources(kind, [])))
+        return mid
+
+    def add_channel(self, label):
+        if len(label) > 65535:
+            return "bad"
+        number, self.channels = self.channels, self.channels + 1
+        if not any(row.kind == "app" for row in self.rows + [row for _, row, _ in self.staged if row]):
+            self.staged.append(("line", Row(self.draw_mid(), "app", None), []))
+        self.staged.append(("channel", None, None))
+        return f"c{number}"
+
     def change(self, place, direction, stop):
-        if place >= len(self.rows):
+        if place >= len(self.rows) or self.rows[place].kind == "app":
             return "none"
         row = self.rows[place]
         if row.stopped or (not stop and row.direction == direction):
             return "false"
         row.direction, row.stopped = direction, stop
-        self.staged.append((None, None))
+        self.staged.append(("direction", None, None))
         return "true"
 
+    # Channels alone make no offer, and supersede the token that is outstanding all the same.
     def apply(self):
         if not self.staged:
             return None
-        added = [(row, sources) for row, sources in self.staged if row]
+        staged, counter = self.staged, self.counter
+        self.counter, self.staged = counter + 1, []
+        if all(what == "channel" for what, _, _ in staged):
+            return None
+        added = [(row, sources) for what, row, sources in staged if what == "line"]
         text = [row.copy() for row in self.rows] + [row.copy() for row, _ in added]
-        token = (self.counter, added)
-        self.counter, self.staged = self.counter + 1, []
-        return text, token
+        return text, (counter, added)
 
     # The places of the new lines, where no cause refuses the text.
     def judge(self, text, offer):
         if all(line.stopped for line in text):
             raise Refused("2 BUNDLE group is empty")
-        new = []
+        new, apps = [], [place for place, row in enumerate(self.rows) if row.kind == "app"]
         for place, line in enumerate(text):
             found = [i for i, row in enumerate(self.rows) if row.mid == line.mid]
+            if line.kind == "app":
+                if any(earlier.kind == "app" for earlier in text[:place]) or (apps and apps[0] != place):
+                    raise moved(line.mid)
+                if not apps and (found or place < len(self.rows)):
+                    raise moved(line.mid)
+                new += [] if apps else [place]
+                continue
             if found:
                 if found[0] != place or self.rows[place].kind != line.kind:
                     raise moved(line.mid)
                 continue
+            if place in apps:
+                raise moved(line.mid)
             if place < len(self.rows) and not offer:
                 told = "Answer recycles stopped m-line (not permitted per RFC 8829 §5.2.2)"
                 raise Refused(f"1 remote sdp: {told}: {line.mid}")
@@ -111,12 +139,18 @@ class Peer:
             line = text[place]
             if line.mid not in places:
                 raise Refused(f"1 remote sdp: Mid in answer is not in offer: {line.mid}")
+            if kinds[line.mid] != line.kind and "app" in (kinds[line.mid], line.kind):
+                told = "a data channel" if kinds[line.mid] == "app" else "of media type"
+                raise Refused(f"1 remote sdp: Answer m-line for mid ({line.mid}) is not {told}: {NAMES[line.kind]}")
             if kinds[line.mid] != line.kind:
                 raise Refused(f"1 remote sdp: Answer m-line for mid ({line.mid}) is of another kind")
             if places[line.mid] != place:
                 raise moved(line.mid)
 
     def row_after(self, line, before, offer):
+        if line.kind == "app":
+            own = [row for row in self.rows if row.kind == "app"]
+            return own[0] if own else Row(line.mid, "app", None)
         if line.stopped or (before and before.stopped):
             return Row(line.mid, line.kind, "inactive", True, before.remote if before else offer)
         direction = INVERSE[line.direction]
@@ -169,6 +203,8 @@ class Pair:
                 answers.append(peer.change(int(parts[1]), parts[2], False))
             elif parts[0] == "stop":
                 answers.append(peer.change(int(parts[1]), "inactive", True))
+            elif parts[0] == "channel":
+                answers.append(peer.add_channel(b"" if parts[1] == "-" else bytes.fromhex(parts[1])))
             else:
                 answers.append(peer.add(parts[0], parts[1]))
         made = peer.apply() if verb == "offer" else None
@@ -211,10 +247,19 @@ class Pair:
             outcome = f"refused {refusal}"
         self.report += f"step {len(self.lines)} {at} {outcome}\n"
         for place, row in enumerate(self.peers[at].rows):
+            if row.kind == "app":
+                self.report += f"line {place} {row.mid} app\n"
+                continue
             state = "stopped" if row.stopped else "live"
             side = "remote" if row.remote else "local"
             self.report += f"line {place} {row.mid} {row.kind} {row.direction} {state} {side}\n"
+        self.report += "".join(f"channel {number} - 0 waiting\n" for number in range(self.peers[at].channels))
         self.lines.append(line)
+
+
+# A label, now and then the longest one or one that is too long.
+def random_label(chance):
+    return chance.choices(["-", "61", "c3a9", "f09f98802d", "61" * 65535, "61" * 65536], [40, 100, 40, 20, 1, 1])[0]
 
 
 def random_ops(chance, rows):
@@ -224,7 +269,8 @@ def random_ops(chance, rows):
         kind = chance.choice(["audio", "video"])
         added = f"{kind}:{chance.choice(DIRECTIONS)}"
         set_to = f"dir:{place}:{chance.choice(DIRECTIONS)}"
-        ops += " " + chance.choices([added, set_to, f"stop:{place}"], [3 if rows else 9, 4, 2])[0]
+        channel = f"channel:{random_label(chance)}"
+        ops += " " + chance.choices([added, set_to, f"stop:{place}", channel], [3 if rows else 9, 4, 2, 2])[0]
     return ops
 
 
