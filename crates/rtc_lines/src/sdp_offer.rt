@@ -3,7 +3,8 @@ ghost use Rattle.std.specs.Prelude.{◌≡◌, IfOk, Ok};
 ghost use Rattle.rtc_lines.specs.SdpReads.{ReadsOffer};
 ghost use Rattle.rtc_sdp_reader.specs.Reading.{reading};
 ghost use Rattle.rtc_sdp_values.specs.Sdp.{inconsistency, refusal};
-ghost use Rattle.rtc_sdp_writer.specs.Plain.{IsPlain};
+ghost use Rattle.rtc_sdp_writer.specs.AsRead.{as_read};
+ghost use Rattle.rtc_sdp_writer.specs.Plain.{IsLegible, IsPlain};
 ghost use Rattle.rtc_sdp_writer.specs.SessionRows.{written_sdp};
 
 use crate::sdp_text::sdp_text;
@@ -27,9 +28,10 @@ impl SdpOffer {
         }
     }
 
-    /// The offer as text. Every offer has one; that of a plain one reads as it.
+    /// The offer as text. Every offer has one; that of a legible one reads as it, with the sources that its lines give.
     pub fn to_sdp_string(&self) -> Result<Text, AllocError>
         ensures text { IfOk result (λ text. text ≡ written_sdp self.now.0) }
+        ensures read_again { IsLegible self.now.0 → IfOk result (λ text. reading text ≡ Ok (as_read self.now.0)) }
         ensures read_back { IsPlain self.now.0 → IfOk result (λ text. reading text ≡ Ok self.now.0) }
     {
         sdp_text(&self.0)

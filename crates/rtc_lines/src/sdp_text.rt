@@ -1,19 +1,22 @@
 //! The text of offers and answers, which have one grammar.
 ghost use Rattle.std.specs.Prelude.{◌≡◌, IfOk, Ok};
 ghost use Rattle.rtc_sdp_reader.specs.Reading.{reading};
-ghost use Rattle.rtc_sdp_writer.specs.Plain.{IsPlain};
+ghost use Rattle.rtc_sdp_writer.specs.AsRead.{as_read};
+ghost use Rattle.rtc_sdp_writer.specs.Plain.{IsLegible, IsPlain};
 ghost use Rattle.rtc_sdp_writer.specs.SessionRows.{written_sdp};
 
 use rtc_sdp_values::Sdp;
-use rtc_sdp_writer::{write, written_text_reads_back};
+use rtc_sdp_writer::{write, written_text_reads_again, written_text_reads_back};
 use rtc_wire::Text;
 use std::alloc::AllocError;
 
-/// A session description as text; that of a plain one reads as it.
+/// A session description as text; that of a legible one reads as it, with the sources that its lines give.
 pub(crate) fn sdp_text(sdp: &Sdp) -> Result<Text, AllocError>
     ensures text { IfOk result (λ text. text ≡ written_sdp sdp.now) }
+    ensures read_again { IsLegible sdp.now → IfOk result (λ text. reading text ≡ Ok (as_read sdp.now)) }
     ensures read_back { IsPlain sdp.now → IfOk result (λ text. reading text ≡ Ok sdp.now) }
 {
+    written_text_reads_again();
     written_text_reads_back();
     write(sdp)
 }

@@ -1,5 +1,9 @@
 -- A mapped extension that is written is read back.
-use Rattle.std.proofs.Common.{◌≡◌, ℕ, ◌^◌, ◌<◌, ◌≤◌, true, ltb, ◌∷◌, Some, refl, ap, ◌∙◌, arith}
+use Rattle.rtc_fields.specs.Numbers.{number_up_to}
+use Rattle.rtc_sdp_values.specs.declared.direction.Direction.TheVariants.{SendRecv}
+use Rattle.rtc_sdp_values.specs.declared.direction.Direction.{Direction}
+use Rattle.std.specs.Prelude.{option_map}
+use Rattle.std.proofs.Common.{◌≡◌, ℕ, ◌^◌, ◌<◌, ◌≤◌, true, ltb, ◌∷◌, Some, refl, ap, ◌∙◌, arith, Option, ◌++◌}
 use Rattle.std.specs.Fmt.{decimal}
 use Rattle.std.proofs.lemmas.Bool.{ne_eqb, lt-ltb}
 use Rattle.rtc_fields.specs.Cuts.{Lacks}
@@ -7,23 +11,31 @@ use Rattle.rtc_fields.proofs.CutLemmas.{cut-append, cut_none, no_digit, lacks-ap
 use Rattle.rtc_fields.proofs.NumberLemmas.{number_up_to-decimal, decimal_lacks}
 use Rattle.rtc_sdp_values.specs.declared.extension.Extension.{Extension}
 use Rattle.rtc_sdp_values.specs.declared.extension.Extension.TheVariants.{AudioLevel, AbsoluteSendTime, TransportSequenceNumber, RtpMid, RtpStreamId, RepairedRtpStreamId, VideoOrientation}
-use Rattle.rtc_sdp_values.specs.Extension.{uri_of}
+use Rattle.rtc_sdp_values.specs.Extension.{uri_of, of_uri}
 use Rattle.rtc_sdp_values.proofs.ExtensionLemmas.{of_uri-uri_of}
-use Rattle.rtc_sdp_attributes.specs.ExtmapValue.{extmap_id_of, extmap_parts, extmap_of, extmap_text}
+use Rattle.rtc_sdp_attributes.specs.Forms.{Form, one_of, positive_up_to, tailed}
+use Rattle.rtc_sdp_attributes.specs.AttributeForms.{direction_words, extmap as extmap_form, extmap_made}
+use Rattle.rtc_sdp_attributes.specs.AttributeTexts.{extmap_text}
+use Rattle.rtc_sdp_attributes.proofs.FormLemmas.{parted_again, tailed_bare}
 
 small : (id : ℕ) → id ≤ 255 → id < 2 ^ 64
 small id le = omega arith
 
-id_again : (id : ℕ) → 0 < id → id ≤ 255 → extmap_id_of (decimal id) ≡ Some id
-id_again id some le =
+number_again : (id : ℕ) → 0 < id → id ≤ 255 → positive_up_to 255 (decimal id) ≡ Some id
+number_again id some le =
     let positive : ltb 0 id ≡ true = lt-ltb _ _ some in
-    rw (cut_none 47 (decimal id) (decimal_lacks 47 refl id (small id le)), number_up_to-decimal 255 id le (small id le), positive) refl
+    rw (number_up_to-decimal 255 id le (small id le), positive) refl
 
-pub extmap_again : (id : ℕ) (extension : Extension) → 0 < id → id ≤ 255 → extmap_of (extmap_text id extension) ≡ Some (id, extension)
+abbrev id_form : Form (ℕ × Direction)
+id_form = tailed 47 (positive_up_to 255) SendRecv (one_of direction_words)
+
+id_again : (id : ℕ) → 0 < id → id ≤ 255 → id_form (decimal id) ≡ Some (id, SendRecv)
+id_again id some le = tailed_bare 47 (positive_up_to 255) SendRecv (one_of direction_words) (decimal id) id (decimal_lacks 47 refl id (small id le)) (number_again id some le)
+
+pub extmap_again : (id : ℕ) (extension : Extension) → 0 < id → id ≤ 255 → extmap_form (extmap_text id extension) ≡ Some (id, extension)
 unfolding extmap_text
 extmap_again id extension some le =
-    ap extmap_parts (cut-append 32 (decimal id) (uri_of extension) (decimal_lacks 32 refl id (small id le)))
-    ∙ rw (id_again id some le, of_uri-uri_of extension) refl
+    ap (option_map extmap_made) (parted_again 32 id_form of_uri (decimal id) (uri_of extension) (id, SendRecv) extension (decimal_lacks 32 refl id (small id le)) (id_again id some le) (of_uri-uri_of extension))
 
 uri_printable : (extension : Extension) → is_printable (uri_of extension) ≡ true
 uri_printable AudioLevel = refl

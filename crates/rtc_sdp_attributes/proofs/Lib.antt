@@ -1,4 +1,4 @@
-pub mod ShapeLemmas
+pub mod FormLemmas
 pub mod WordLemmas
 pub mod FingerprintLemmas
 pub mod CandidateLemmas

@@ -1,6 +1,7 @@
 -- A restricted layer that is written is read back.
-use Rattle.std.proofs.Common.{◌≡◌, ℕ, ◌<◌, List, [], ◌∷◌, ◌++◌, map, Option, Some, refl, ap, ◌∙◌, arith, rules}
-use Rattle.std.specs.Prelude.{codes, filter}
+use Rattle.rtc_fields.specs.Tokens.{is_short_token}
+use Rattle.std.proofs.Common.{◌≡◌, ℕ, ◌<◌, List, [], ◌∷◌, ◌++◌, map, Option, Some, refl, ap, ◌∙◌, arith, rules, true}
+use Rattle.std.specs.Prelude.{codes, filter, option_map}
 use Rattle.std.specs.List.{AllByRecursion}
 use Rattle.std.proofs.lemmas.Bool.{ne_eqb}
 use Rattle.std.proofs.lemmas.List.{append-nil}
@@ -10,12 +11,16 @@ use Rattle.rtc_fields.specs.Words.{joined}
 use Rattle.rtc_fields.proofs.CutLemmas.{cut-append, cut_none, parts-after_each, short_token_lacks, no_token_byte, lacks-append, lacks-joined, printable_lacks}
 use Rattle.rtc_sdp_attributes.specs.declared.rid_direction.RidDirection.{RidDirection}
 use Rattle.rtc_sdp_attributes.specs.declared.rid_direction.RidDirection.TheVariants.{Send, Recv}
-use Rattle.rtc_sdp_attributes.specs.RidValue.{rid_direction_of, rid_direction_word, rid_pair_of, is_kept, kept_pairs, rid_pairs_of, rid_made, rid_rest, rid_parts, rid_of, pair_text, pairs_text, rid_text, IsPlainPair, IsPlainRid}
+use Rattle.rtc_sdp_attributes.specs.Forms.{Form, short_token, one_of, tailed, each_part}
+use Rattle.rtc_sdp_attributes.specs.AttributeForms.{rid_direction_words, is_kept, rid_pair, rid_pairs, rid as rid_form, rid_made}
+use Rattle.rtc_sdp_attributes.specs.AttributeTexts.{rid_direction_word, pair_text, pairs_text, rid_text}
+use Rattle.rtc_sdp_attributes.specs.PlainValues.{IsPlainPair, IsPlainRid}
+use Rattle.rtc_sdp_attributes.proofs.FormLemmas.{passing_again, parted_again, tailed_bare, tailed_again}
 
 abbrev Pairs : Type 0
 Pairs = List (List ℕ × List ℕ)
 
-pub direction_again : (direction : RidDirection) → rid_direction_of (rid_direction_word direction) ≡ Some direction
+pub direction_again : (direction : RidDirection) → one_of rid_direction_words (rid_direction_word direction) ≡ Some direction
 direction_again Send = refl
 direction_again Recv = refl
 
@@ -27,10 +32,10 @@ direction_lacks : (byte : ℕ) → byte < 32 → (direction : RidDirection) → 
 direction_lacks byte low Send = printable_lacks byte low (codes "send") refl
 direction_lacks byte low Recv = printable_lacks byte low (codes "recv") refl
 
-pair_again : (p : List ℕ × List ℕ) → IsPlainPair p → rid_pair_of (pair_text p) ≡ Some p
+pair_again : (p : List ℕ × List ℕ) → IsPlainPair p → rid_pair (pair_text p) ≡ Some p
 pair_again p h = rw (cut-append 61 p.0 p.1 h.key_equals, cut_none 61 p.1 h.value_equals) refl
 
-pairs_each : (ps : Pairs) → AllByRecursion IsPlainPair ps → each rid_pair_of (map pair_text ps) ≡ Some ps
+pairs_each : (ps : Pairs) → AllByRecursion IsPlainPair ps → each rid_pair (map pair_text ps) ≡ Some ps
 pairs_each [] h = refl
 pairs_each (p ∷ ps) h = rw (pair_again p h.0, pairs_each ps h.1) refl
 
@@ -45,30 +50,27 @@ pairs_lack_semicolon : (ps : Pairs) → AllByRecursion IsPlainPair ps → AllByR
 pairs_lack_semicolon [] h = tt
 pairs_lack_semicolon (p ∷ ps) h = (pair_lacks_semicolon p h.0, pairs_lack_semicolon ps h.1)
 
-pairs_again : (p : List ℕ × List ℕ) (ps : Pairs) → AllByRecursion IsPlainPair (p ∷ ps) → rid_pairs_of (joined 59 (map pair_text (p ∷ ps))) ≡ Some (p ∷ ps)
+pairs_again : (p : List ℕ × List ℕ) (ps : Pairs) → AllByRecursion IsPlainPair (p ∷ ps) → rid_pairs (joined 59 (map pair_text (p ∷ ps))) ≡ Some (p ∷ ps)
 pairs_again p ps h =
-    ap (λ (l : List (List ℕ)). kept_pairs (each rid_pair_of l)) (parts-after_each 59 (pair_text p) (map pair_text ps) (pair_lacks_semicolon p h.0) (pairs_lack_semicolon ps h.1))
-    ∙ ap kept_pairs (pairs_each (p ∷ ps) h)
+    ap (λ (l : List (List ℕ)). option_map (filter is_kept) (each rid_pair l)) (parts-after_each 59 (pair_text p) (map pair_text ps) (pair_lacks_semicolon p h.0) (pairs_lack_semicolon ps h.1))
+    ∙ ap (option_map (filter is_kept)) (pairs_each (p ∷ ps) h)
     ∙ ap Some (all_kept (p ∷ ps) h)
 
-rest_again : (rid : List ℕ) (direction : RidDirection) (ps : Pairs) → AllByRecursion IsPlainPair ps
-    → rid_rest rid (rid_direction_word direction ++ pairs_text ps) (cut 32 (rid_direction_word direction ++ pairs_text ps)) ≡ rid_made rid (Some direction) (Some ps)
-rest_again rid direction [] h =
-    ap (λ (rest : List ℕ). rid_rest rid rest (cut 32 rest)) (append-nil (rid_direction_word direction))
-    ∙ ap (rid_rest rid (rid_direction_word direction)) (cut_none 32 (rid_direction_word direction) (direction_lacks_space direction))
-    ∙ ap (λ (d : Option RidDirection). rid_made rid d (Some [])) (direction_again direction)
-rest_again rid direction (p ∷ ps) h =
-    ap (rid_rest rid (rid_direction_word direction ++ pairs_text (p ∷ ps))) (cut-append 32 (rid_direction_word direction) (joined 59 (map pair_text (p ∷ ps))) (direction_lacks_space direction))
-    ∙ ap (λ (d : Option RidDirection). rid_made rid d (rid_pairs_of (joined 59 (map pair_text (p ∷ ps))))) (direction_again direction)
-    ∙ ap (λ (o : Option Pairs). rid_made rid (Some direction) o) (pairs_again p ps h)
+abbrev rest_form : Form (RidDirection × Pairs)
+rest_form = tailed 32 (one_of rid_direction_words) [] rid_pairs
+
+rest_again : (direction : RidDirection) (ps : Pairs) → AllByRecursion IsPlainPair ps → rest_form (rid_direction_word direction ++ pairs_text ps) ≡ Some (direction, ps)
+rest_again direction [] h =
+    ap rest_form (append-nil (rid_direction_word direction))
+    ∙ tailed_bare 32 (one_of rid_direction_words) [] rid_pairs (rid_direction_word direction) direction (direction_lacks_space direction) (direction_again direction)
+rest_again direction (p ∷ ps) h =
+    tailed_again 32 (one_of rid_direction_words) [] rid_pairs (rid_direction_word direction) (joined 59 (map pair_text (p ∷ ps))) direction (p ∷ ps) (direction_lacks_space direction) (direction_again direction) (pairs_again p ps h)
 
 pub rid_again : (rid : List ℕ) (direction : RidDirection) (attributes : Pairs) → IsPlainRid rid attributes
-    → rid_of (rid_text rid direction attributes) ≡ Some (record { rid = rid; direction = direction; attributes = attributes })
+    → rid_form (rid_text rid direction attributes) ≡ Some (record { rid = rid; direction = direction; attributes = attributes })
 unfolding rid_text
 rid_again rid direction ps h =
-    ap rid_parts (cut-append 32 rid (rid_direction_word direction ++ pairs_text ps) (short_token_lacks 32 refl rid h.token))
-    ∙ rest_again rid direction ps h.pairs
-    ∙ rw h.token refl
+    ap (option_map rid_made) (parted_again 32 short_token rest_form rid (rid_direction_word direction ++ pairs_text ps) rid (direction, ps) (short_token_lacks 32 refl rid h.token) (passing_again is_short_token rid h.token) (rest_again direction ps h.pairs))
 
 -- no pair ends a line
 abbrev pub ArePairsFree : ℕ → Pairs → Type 0

@@ -15,7 +15,9 @@ use Rattle.rtc_fields.proofs.OnceLemmas.{each_once_apart, bytes_tell}
 use Rattle.std.proofs.lemmas.List.{append-nil}
 use Rattle.rtc_sdp_values.specs.declared.simulcast.Simulcast.{Simulcast}
 use Rattle.rtc_sdp_attributes.specs.declared.rid_direction.RidDirection.TheVariants.{Send, Recv}
-use Rattle.rtc_sdp_attributes.specs.SimulcastValue.{layer_rid, rids_of, one_way, simulcast_words, simulcast_of, list_text, ways_text, rids_in, simulcast_text, is_listed, IsPlainList}
+use Rattle.rtc_sdp_attributes.specs.AttributeForms.{layer_name, layer_names, one_way, simulcast_words, simulcast as simulcast_form}
+use Rattle.rtc_sdp_attributes.specs.AttributeTexts.{list_text, ways_text, rids_in, simulcast_text}
+use Rattle.rtc_sdp_attributes.specs.PlainValues.{is_listed, IsPlainList}
 
 listed_token : (rid : List ℕ) → is_listed rid ≡ true → is_short_token rid ≡ true
 listed_token [] h = absurd cc
@@ -33,12 +35,12 @@ listed_front (b ∷ bs) h = go (eqb b 126) refl h
     go true e k = absurd cc
     go false e k = rw e refl
 
-rid_again : (rid : List ℕ) → is_listed rid ≡ true → layer_rid rid ≡ Some rid
+rid_again : (rid : List ℕ) → is_listed rid ≡ true → layer_name rid ≡ Some rid
 rid_again rid h =
     let token = listed_token rid h in
     rw (cut_none 44 rid (short_token_lacks 44 refl rid token), listed_front rid h, token) refl
 
-rids_each : (rids : List (List ℕ)) → AllByRecursion (λ rid. is_listed rid ≡ true) rids → each layer_rid rids ≡ Some rids
+rids_each : (rids : List (List ℕ)) → AllByRecursion (λ rid. is_listed rid ≡ true) rids → each layer_name rids ≡ Some rids
 rids_each [] h = refl
 rids_each (r ∷ rs) h = rw (rid_again r h.0, rids_each rs h.1) refl
 
@@ -46,10 +48,10 @@ rids_lack : (byte : ℕ) → is_token_byte byte ≡ false → (rids : List (List
 rids_lack byte out [] h = tt
 rids_lack byte out (r ∷ rs) h = (short_token_lacks byte out r (listed_token r h.0), rids_lack byte out rs h.1)
 
-rids_again : (r : List ℕ) (rs : List (List ℕ)) → IsPlainList (r ∷ rs) → rids_of (joined 59 (r ∷ rs)) ≡ Some (r ∷ rs)
+rids_again : (r : List ℕ) (rs : List (List ℕ)) → IsPlainList (r ∷ rs) → layer_names (joined 59 (r ∷ rs)) ≡ Some (r ∷ rs)
 rids_again r rs h =
     let lack = rids_lack 59 refl (r ∷ rs) h.listed in
-    ap (λ (l : List (List ℕ)). option_map (each_once bytes_eq) (each layer_rid l)) (parts-after_each 59 r rs lack.0 lack.1)
+    ap (λ (l : List (List ℕ)). option_map (each_once bytes_eq) (each layer_name l)) (parts-after_each 59 r rs lack.0 lack.1)
     ∙ ap (option_map (each_once bytes_eq)) (rids_each (r ∷ rs) h.listed)
     ∙ ap Some (each_once_apart bytes_eq bytes_tell (r ∷ rs) h.apart)
 
@@ -72,7 +74,7 @@ two_lists s ss r rs h k =
     ∙ words-spaced (codes "send") (a ∷ codes "recv" ∷ b ∷ []) (search rules) (list_lacks_space s ss h, (search rules, (list_lacks_space r rs k, tt)))
 
 -- what the two lists of a text say
-ways_again : (send recv : List (List ℕ)) → IsPlainList send → IsPlainList recv → (send ++ recv ≢ []) → simulcast_of (ways_text send recv) ≡ Some (record { send = send; recv = recv })
+ways_again : (send recv : List (List ℕ)) → IsPlainList send → IsPlainList recv → (send ++ recv ≢ []) → simulcast_form (ways_text send recv) ≡ Some (record { send = send; recv = recv })
 ways_again [] [] h k some = absurd (some refl)
 ways_again (s ∷ ss) [] h k some = ap simulcast_words (one_list (codes "send") s ss (search rules) h) ∙ ap (one_way (Some Send)) (rids_again s ss h)
 ways_again [] (r ∷ rs) h k some = ap simulcast_words (one_list (codes "recv") r rs (search rules) k) ∙ ap (one_way (Some Recv)) (rids_again r rs k)
@@ -81,7 +83,7 @@ ways_again (s ∷ ss) (r ∷ rs) h k some =
     ∙ rw (rids_again s ss h, rids_again r rs k) refl
 
 pub simulcast_again : (simulcast : Simulcast) → IsPlainList (rids_in simulcast.send) → IsPlainList (rids_in simulcast.recv) → (rids_in simulcast.send ++ rids_in simulcast.recv ≢ [])
-    → simulcast_of (simulcast_text simulcast) ≡ Some (record { send = rids_in simulcast.send; recv = rids_in simulcast.recv })
+    → simulcast_form (simulcast_text simulcast) ≡ Some (record { send = rids_in simulcast.send; recv = rids_in simulcast.recv })
 unfolding simulcast_text
 simulcast_again simulcast h k some = ways_again (rids_in simulcast.send) (rids_in simulcast.recv) h k some
 

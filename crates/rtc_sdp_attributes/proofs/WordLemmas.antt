@@ -1,12 +1,10 @@
--- Words are read back, and lack the bytes that end lines where they are said to.
-use Rattle.std.proofs.Common.{◌≡◌, ℕ, true, List, Some, refl}
-use Rattle.rtc_sdp_attributes.specs.WordValue.{is_word_up_to, is_spaceless, ufrag_of, password_of, sctp_init_of}
+-- Words are read back.
+use Rattle.std.proofs.Common.{◌≡◌, ℕ, true, List, Some}
+use Rattle.rtc_sdp_attributes.specs.Forms.{is_word_up_to, is_spaceless, word_up_to, spaceless}
+use Rattle.rtc_sdp_attributes.proofs.FormLemmas.{passing_again}
 
-pub ufrag_again : (text : List ℕ) → is_word_up_to 255 text ≡ true → ufrag_of text ≡ Some text
-ufrag_again text h = rw h refl
+pub word_again : (most : ℕ) (text : List ℕ) → is_word_up_to most text ≡ true → word_up_to most text ≡ Some text
+word_again most text h = passing_again (is_word_up_to most) text h
 
-pub password_again : (text : List ℕ) → is_word_up_to 256 text ≡ true → password_of text ≡ Some text
-password_again text h = rw h refl
-
-pub sctp_init_again : (text : List ℕ) → is_spaceless text ≡ true → sctp_init_of text ≡ Some text
-sctp_init_again text h = rw h refl
+pub spaceless_again : (text : List ℕ) → is_spaceless text ≡ true → spaceless text ≡ Some text
+spaceless_again text h = passing_again is_spaceless text h

@@ -1,10 +1,4 @@
-pub mod WordValue
-pub mod FingerprintValue
-pub mod CandidateValue
-pub mod RtpmapValue
-pub mod FmtpValue
-pub mod ExtmapValue
-pub mod MsidValue
-pub mod RidValue
-pub mod SimulcastValue
-pub mod SsrcValue
+pub mod Forms
+pub mod AttributeForms
+pub mod AttributeTexts
+pub mod PlainValues

@@ -1,15 +1,17 @@
 //! Values of `candidate`.
-ghost use Rattle.std.specs.Prelude.{◌≡◌, ◌++◌, IfOk, OnOk, Some, string_bytes};
-ghost use Rattle.rtc_sdp_attributes.specs.CandidateValue as spec;
+ghost use Rattle.std.specs.Prelude.{◌≡◌, ◌++◌, IfOk, OnOk, option_map, string_bytes};
+ghost use Rattle.rtc_sdp_attributes.specs.Forms;
+ghost use Rattle.rtc_sdp_attributes.specs.AttributeForms as form;
+ghost use Rattle.rtc_sdp_attributes.specs.AttributeTexts as written;
 
-use rtc_fields::{is_token, number_up_to, parts, same_letters, words};
+use rtc_fields::{cut, is_token, number_up_to, same_letters};
 use rtc_sdp_values::{Candidate, CandidateKind};
 use rtc_wire::{Addr, Protocol, Text};
 use std::alloc::{AllocError, Global};
 use std::fmt::Write;
 
 fn protocol_of(word: &str) -> Option<Protocol>
-    ensures { result ≡ spec.protocol_of word.now }
+    ensures { result ≡ Forms.in_lower (Forms.one_of form.protocol_words) word.now }
 {
     if same_letters(word, "udp") {
         Some(Protocol::Udp)
@@ -21,7 +23,7 @@ fn protocol_of(word: &str) -> Option<Protocol>
 }
 
 fn protocol_word(proto: Protocol) -> &'static str
-    ensures { result.now ≡ spec.protocol_word proto }
+    ensures { result.now ≡ written.protocol_word proto }
 {
     match proto {
         Protocol::Udp => "udp",
@@ -31,44 +33,21 @@ fn protocol_word(proto: Protocol) -> &'static str
     }
 }
 
-fn ip_of(alloc: Global, word: &str) -> Result<Option<[u8; 4]>, AllocError>
-    ensures { IfOk result (λ ip. ip ≡ spec.ip_of word.now) }
+fn ip_of(word: &str) -> Option<[u8; 4]>
+    ensures { result ≡ form.ip word.now }
 {
-    let fields = parts(alloc, word, '.')?;
-    let [a, b, c, d, more @ ..] = fields.as_slice() else {
-        return Ok(None);
-    };
-    if !more.is_empty() {
-        return Ok(None);
-    }
-    let (Some(a), Some(b), Some(c), Some(d)) = (
-        number_up_to(255, a),
-        number_up_to(255, b),
-        number_up_to(255, c),
-        number_up_to(255, d),
-    ) else {
-        return Ok(None);
-    };
-    Ok(Some([a as u8, b as u8, c as u8, d as u8]))
-}
-
-fn addr_of(alloc: Global, ip: &str, port: &str) -> Result<Option<Addr>, AllocError>
-    ensures { IfOk result (λ addr. addr ≡ spec.addr_of ip.now port.now) }
-{
-    let Some(ip) = ip_of(alloc, ip)? else {
-        return Ok(None);
-    };
-    let Some(port) = number_up_to(65535, port) else {
-        return Ok(None);
-    };
-    Ok(Some(Addr {
-        ip,
-        port: port as u16,
-    }))
+    let (a, rest) = cut(word, '.')?;
+    let a = number_up_to(255, a)?;
+    let (b, rest) = cut(rest, '.')?;
+    let b = number_up_to(255, b)?;
+    let (c, rest) = cut(rest, '.')?;
+    let c = number_up_to(255, c)?;
+    let d = number_up_to(255, rest)?;
+    Some([a as u8, b as u8, c as u8, d as u8])
 }
 
 fn kind_of(word: &str) -> Option<CandidateKind>
-    ensures { result ≡ spec.candidate_kind_of word.now }
+    ensures { result ≡ Forms.one_of form.candidate_kind_words word.now }
 {
     if word == "host" {
         Some(CandidateKind::Host)
@@ -84,7 +63,7 @@ fn kind_of(word: &str) -> Option<CandidateKind>
 }
 
 fn kind_word(kind: CandidateKind) -> &'static str
-    ensures { result.now ≡ spec.candidate_kind_word kind }
+    ensures { result.now ≡ written.candidate_kind_word kind }
 {
     match kind {
         CandidateKind::Host => "host",
@@ -94,84 +73,79 @@ fn kind_word(kind: CandidateKind) -> &'static str
     }
 }
 
-fn typed_kind(typ: &str, word: &str) -> Option<CandidateKind>
-    ensures { result ≡ spec.typed_kind typ.now word.now }
+/// The kind of a candidate, behind its address. What follows it does not count.
+fn end_of(text: &str) -> Option<CandidateKind>
+    ensures { result ≡ form.candidate_end text.now }
 {
-    if typ == "typ" { kind_of(word) } else { None }
+    let Some((label, kind)) = cut(text, ' ') else {
+        return None;
+    };
+    if label != "typ" {
+        return None;
+    }
+    match cut(kind, ' ') {
+        Some((kind, _)) => kind_of(kind),
+        None => kind_of(kind),
+    }
 }
 
-fn candidate_made(
-    alloc: Global,
-    foundation: &str,
-    component: u16,
-    proto: Protocol,
-    priority: u32,
-    addr: Option<Addr>,
-    kind: Option<CandidateKind>,
-) -> Result<Option<Candidate>, AllocError>
-    ensures { IfOk result (λ made. made ≡ spec.candidate_parts foundation.now (Some component) (Some proto) (Some priority) addr kind) }
+/// The address and the kind of a candidate.
+fn addr_of(text: &str) -> Option<(Addr, CandidateKind)>
+    ensures { option_map (λ read. (read.0.ip, (read.0.port, read.1))) result ≡ form.candidate_addr text.now }
 {
-    let Some(addr) = addr else {
-        return Ok(None);
-    };
-    let Some(kind) = kind else {
+    let (ip, rest) = cut(text, ' ')?;
+    let ip = ip_of(ip)?;
+    let (port, rest) = cut(rest, ' ')?;
+    let port = number_up_to(65535, port)?;
+    let kind = end_of(rest)?;
+    let port = port as u16;
+    Some((Addr { ip, port }, kind))
+}
+
+/// The candidate that a value writes, where its address is of IPv4 (RFC 8839, section 5.1). What follows the kind is ignored.
+pub fn read_candidate(alloc: Global, value: &str) -> Result<Option<Candidate>, AllocError>
+    ensures { IfOk result (λ read. read ≡ form.candidate value.now) }
+{
+    let Some((foundation, rest)) = cut(value, ' ') else {
         return Ok(None);
     };
     if !is_token(foundation) {
         return Ok(None);
     }
+    let Some((component, rest)) = cut(rest, ' ') else {
+        return Ok(None);
+    };
+    let Some(component) = number_up_to(65535, component) else {
+        return Ok(None);
+    };
+    let Some((proto, rest)) = cut(rest, ' ') else {
+        return Ok(None);
+    };
+    let Some(proto) = protocol_of(proto) else {
+        return Ok(None);
+    };
+    let Some((priority, rest)) = cut(rest, ' ') else {
+        return Ok(None);
+    };
+    let Some(priority) = number_up_to(4_294_967_295, priority) else {
+        return Ok(None);
+    };
+    let Some((addr, kind)) = addr_of(rest) else {
+        return Ok(None);
+    };
     let foundation = Text::from_str(alloc, foundation)?;
     Ok(Some(Candidate {
         foundation,
-        component,
+        component: component as u16,
         proto,
-        priority,
+        priority: priority as u32,
         addr,
         kind,
     }))
 }
 
-/// The candidate that a value writes, where its address is of IPv4 (RFC 8839, section 5.1). What follows the kind is ignored.
-pub fn read_candidate(alloc: Global, value: &str) -> Result<Option<Candidate>, AllocError>
-    ensures { IfOk result (λ read. read ≡ spec.candidate_of value.now) }
-{
-    let fields = words(alloc, value)?;
-    let [
-        foundation,
-        component,
-        proto,
-        priority,
-        ip,
-        port,
-        typ,
-        kind,
-        ..
-    ] = fields.as_slice()
-    else {
-        return Ok(None);
-    };
-    let (Some(component), Some(proto), Some(priority)) = (
-        number_up_to(65535, component),
-        protocol_of(proto),
-        number_up_to(4_294_967_295, priority),
-    ) else {
-        return Ok(None);
-    };
-    let addr = addr_of(alloc, ip, port)?;
-    let made = candidate_made(
-        alloc,
-        foundation,
-        component as u16,
-        proto,
-        priority as u32,
-        addr,
-        typed_kind(typ, kind),
-    )?;
-    Ok(made)
-}
-
 fn put_ip(out: &mut String, ip: [u8; 4]) -> Result<(), AllocError>
-    ensures { OnOk result (string_bytes out.new ≡ string_bytes out.old ++ spec.ip_text ip) }
+    ensures { OnOk result (string_bytes out.new ≡ string_bytes out.old ++ written.ip_text ip) }
 {
     let [a, b, c, d] = ip;
     write!(out, "{a}.{b}.{c}.{d}")?;
@@ -179,9 +153,9 @@ fn put_ip(out: &mut String, ip: [u8; 4]) -> Result<(), AllocError>
 }
 
 /// Appends a candidate's value.
-#[tactic(auto, unfolding(crate::specs::CandidateValue::candidate_text))]
+#[tactic(auto, unfolding(crate::specs::AttributeTexts::candidate_text))]
 pub fn put_candidate(out: &mut String, candidate: &Candidate) -> Result<(), AllocError>
-    ensures { OnOk result (string_bytes out.new ≡ string_bytes out.old ++ spec.candidate_text candidate.now) }
+    ensures { OnOk result (string_bytes out.new ≡ string_bytes out.old ++ written.candidate_text candidate.now) }
 {
     let foundation = candidate.foundation.as_str();
     let component = candidate.component;

@@ -1,20 +1,32 @@
 //! Values of `extmap`.
-ghost use Rattle.std.specs.Prelude.{◌≡◌, ◌++◌, OnOk, string_bytes};
-ghost use Rattle.rtc_sdp_attributes.specs.ExtmapValue as spec;
+ghost use Rattle.std.specs.Prelude.{◌≡◌, ◌++◌, OnOk, string_bytes, option_map};
+ghost use Rattle.rtc_sdp_attributes.specs.Forms;
+ghost use Rattle.rtc_sdp_attributes.specs.AttributeForms as form;
+ghost use Rattle.rtc_sdp_attributes.specs.AttributeTexts as written;
 
 use rtc_fields::{cut, number_up_to};
-use rtc_sdp_values::Extension;
+use rtc_sdp_values::{Direction, Extension};
 use std::alloc::AllocError;
 use std::fmt::Write;
 
-fn is_direction_word(word: &str) -> bool
-    ensures { result ≡ spec.is_direction_word word.now }
+fn direction_of(word: &str) -> Option<Direction>
+    ensures { result ≡ Forms.one_of form.direction_words word.now }
 {
-    word == "sendrecv" || word == "sendonly" || word == "recvonly" || word == "inactive"
+    if word == "sendrecv" {
+        Some(Direction::SendRecv)
+    } else if word == "sendonly" {
+        Some(Direction::SendOnly)
+    } else if word == "recvonly" {
+        Some(Direction::RecvOnly)
+    } else if word == "inactive" {
+        Some(Direction::Inactive)
+    } else {
+        None
+    }
 }
 
 fn extension_id(word: &str) -> Option<u64>
-    ensures { result ≡ spec.extension_id word.now }
+    ensures { result ≡ Forms.positive_up_to 255 word.now }
 {
     match number_up_to(255, word) {
         Some(id) if id > 0 => Some(id),
@@ -23,21 +35,21 @@ fn extension_id(word: &str) -> Option<u64>
 }
 
 fn id_of(word: &str) -> Option<u64>
-    ensures { result ≡ spec.extmap_id_of word.now }
+    ensures { result ≡ option_map (λ fields. fields.0) (form.extmap_id word.now) }
 {
     match cut(word, '/') {
         None => extension_id(word),
-        Some((id, direction)) => if is_direction_word(direction) {
-            extension_id(id)
-        } else {
-            None
-        },
+        Some((id, direction)) => {
+            let id = extension_id(id)?;
+            direction_of(direction)?;
+            Some(id)
+        }
     }
 }
 
 /// The header extension that a value maps, with its number (RFC 8285, section 8); None also where its URI is not known.
 pub fn read_extmap(value: &str) -> Option<(u8, Extension)>
-    ensures { result ≡ spec.extmap_of value.now }
+    ensures { result ≡ form.extmap value.now }
 {
     let Some((id, uri)) = cut(value, ' ') else {
         return None;
@@ -49,9 +61,9 @@ pub fn read_extmap(value: &str) -> Option<(u8, Extension)>
 }
 
 /// Appends the value that maps a header extension.
-#[tactic(auto, unfolding(crate::specs::ExtmapValue::extmap_text))]
+#[tactic(auto, unfolding(crate::specs::AttributeTexts::extmap_text))]
 pub fn put_extmap(out: &mut String, id: u8, extension: Extension) -> Result<(), AllocError>
-    ensures { OnOk result (string_bytes out.new ≡ string_bytes out.old ++ spec.extmap_text id extension) }
+    ensures { OnOk result (string_bytes out.new ≡ string_bytes out.old ++ written.extmap_text id extension) }
 {
     let uri = extension.uri();
     write!(out, "{id} {uri}")?;

@@ -1,6 +1,7 @@
 //! Values of `fingerprint`.
 ghost use Rattle.std.specs.Prelude.{◌≡◌, ◌++◌, IfOk, OnOk, string_bytes};
-ghost use Rattle.rtc_sdp_attributes.specs.FingerprintValue as spec;
+ghost use Rattle.rtc_sdp_attributes.specs.AttributeForms as form;
+ghost use Rattle.rtc_sdp_attributes.specs.AttributeTexts as written;
 
 use rtc_fields::{cut, hex_bytes, is_token, lower, push_hex};
 use rtc_sdp_values::Fingerprint;
@@ -8,7 +9,7 @@ use std::alloc::{AllocError, Global};
 
 /// The fingerprint that a value writes (RFC 8122, section 5). The name of the hash function is read in lower case.
 pub fn read_fingerprint(alloc: Global, value: &str) -> Result<Option<Fingerprint>, AllocError>
-    ensures { IfOk result (λ read. read ≡ spec.fingerprint_of value.now) }
+    ensures { IfOk result (λ read. read ≡ form.fingerprint value.now) }
 {
     let Some((name, digits)) = cut(value, ' ') else {
         return Ok(None);
@@ -24,9 +25,9 @@ pub fn read_fingerprint(alloc: Global, value: &str) -> Result<Option<Fingerprint
 }
 
 /// Appends a fingerprint's value, its hash in upper-case hex.
-#[tactic(auto, unfolding(crate::specs::FingerprintValue::fingerprint_text))]
+#[tactic(auto, unfolding(crate::specs::AttributeTexts::fingerprint_text))]
 pub fn put_fingerprint(out: &mut String, fingerprint: &Fingerprint) -> Result<(), AllocError>
-    ensures { OnOk result (string_bytes out.new ≡ string_bytes out.old ++ spec.fingerprint_text fingerprint.now) }
+    ensures { OnOk result (string_bytes out.new ≡ string_bytes out.old ++ written.fingerprint_text fingerprint.now) }
 {
     out.push_str(fingerprint.hash_func.as_str())?;
     out.push_str(" ")?;

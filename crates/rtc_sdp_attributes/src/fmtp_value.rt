@@ -1,7 +1,8 @@
 //! Values of `fmtp`.
 ghost use Rattle.std.specs.Prelude.{◌≡◌, ◌++◌, IfOk, OnOk, string_bytes, map};
 ghost use Rattle.rtc_fields.specs.Fields.{first};
-ghost use Rattle.rtc_sdp_attributes.specs.FmtpValue as spec;
+ghost use Rattle.rtc_sdp_attributes.specs.AttributeForms as form;
+ghost use Rattle.rtc_sdp_attributes.specs.AttributeTexts as written;
 
 use crate::Fmtp;
 use rtc_fields::{cut, number_up_to, parts, without_blanks};
@@ -12,7 +13,7 @@ use std::fmt::Write;
 
 /// The parameters that a value gives to a payload type (RFC 8866, section 6.15), at least one byte.
 pub fn read_fmtp(alloc: Global, value: &str) -> Result<Option<Fmtp>, AllocError>
-    ensures { IfOk result (λ read. read ≡ spec.fmtp_of value.now) }
+    ensures { IfOk result (λ read. read ≡ form.fmtp value.now) }
 {
     let Some((pt, text)) = cut(value, ' ') else {
         return Ok(None);
@@ -31,9 +32,9 @@ pub fn read_fmtp(alloc: Global, value: &str) -> Result<Option<Fmtp>, AllocError>
 }
 
 /// Appends the value that gives parameters to a payload type.
-#[tactic(auto, unfolding(crate::specs::FmtpValue::fmtp_text))]
+#[tactic(auto, unfolding(crate::specs::AttributeTexts::fmtp_text))]
 pub fn put_fmtp(out: &mut String, pt: Pt, text: &str) -> Result<(), AllocError>
-    ensures { OnOk result (string_bytes out.new ≡ string_bytes out.old ++ spec.fmtp_text pt.0 text.now) }
+    ensures { OnOk result (string_bytes out.new ≡ string_bytes out.old ++ written.fmtp_text pt.0 text.now) }
 {
     let number = pt.0;
     write!(out, "{number} {text}")?;
@@ -41,7 +42,7 @@ pub fn put_fmtp(out: &mut String, pt: Pt, text: &str) -> Result<(), AllocError>
 }
 
 fn apt_pair(pair: &str) -> Option<u64>
-    ensures { result ≡ spec.apt_pair pair.now }
+    ensures { result ≡ form.apt_pair pair.now }
 {
     match cut(without_blanks(pair), '=') {
         Some((name, number)) => if name == "apt" {
@@ -54,7 +55,7 @@ fn apt_pair(pair: &str) -> Option<u64>
 }
 
 fn first_apt(pairs: &[&str]) -> Option<u64>
-    ensures { result ≡ first spec.apt_pair (map (λ pair. pair.now) pairs.now) }
+    ensures { result ≡ first form.apt_pair (map (λ pair. pair.now) pairs.now) }
 {
     for pair in pairs {
         if let Some(number) = apt_pair(pair) {
@@ -66,16 +67,16 @@ fn first_apt(pairs: &[&str]) -> Option<u64>
 
 /// The payload type that the parameters of a retransmission name as theirs (RFC 4588, section 8.1).
 pub fn read_apt(alloc: Global, text: &str) -> Result<Option<u64>, AllocError>
-    ensures { IfOk result (λ read. read ≡ spec.apt_of text.now) }
+    ensures { IfOk result (λ read. read ≡ form.apt text.now) }
 {
     let pairs = parts(alloc, text, ';')?;
     Ok(first_apt(pairs.as_slice()))
 }
 
 /// Appends the parameters of the retransmission of a payload type.
-#[tactic(auto, unfolding(crate::specs::FmtpValue::apt_text))]
+#[tactic(auto, unfolding(crate::specs::AttributeTexts::apt_text))]
 pub fn put_apt(out: &mut String, pt: Pt) -> Result<(), AllocError>
-    ensures { OnOk result (string_bytes out.new ≡ string_bytes out.old ++ spec.apt_text pt.0) }
+    ensures { OnOk result (string_bytes out.new ≡ string_bytes out.old ++ written.apt_text pt.0) }
 {
     let number = pt.0;
     write!(out, "apt={number}")?;
@@ -84,7 +85,7 @@ pub fn put_apt(out: &mut String, pt: Pt) -> Result<(), AllocError>
 
 /// The payload type that the parameters of redundant packets name first (RFC 2198, section 5).
 pub fn read_red_primary(text: &str) -> Option<u64>
-    ensures { result ≡ spec.red_primary_of text.now }
+    ensures { result ≡ form.red_primary text.now }
 {
     match cut(text, '/') {
         None => number_up_to(127, text),
@@ -93,9 +94,9 @@ pub fn read_red_primary(text: &str) -> Option<u64>
 }
 
 /// Appends the parameters of redundant packets of a payload type.
-#[tactic(auto, unfolding(crate::specs::FmtpValue::red_text))]
+#[tactic(auto, unfolding(crate::specs::AttributeTexts::red_text))]
 pub fn put_red(out: &mut String, pt: Pt) -> Result<(), AllocError>
-    ensures { OnOk result (string_bytes out.new ≡ string_bytes out.old ++ spec.red_text pt.0) }
+    ensures { OnOk result (string_bytes out.new ≡ string_bytes out.old ++ written.red_text pt.0) }
 {
     let number = pt.0;
     write!(out, "{number}/{number}")?;

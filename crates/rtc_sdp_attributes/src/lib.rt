@@ -40,4 +40,4 @@ pub use simulcast_line::SimulcastLine;
 pub use simulcast_value::{put_simulcast, read_simulcast};
 pub use ssrc_name::SsrcName;
 pub use ssrc_value::{put_ssrc_msid, put_ssrc_name, put_ssrc_pair, read_ssrc_name, read_ssrc_pair};
-pub use word_value::{read_password, read_sctp_init, read_ufrag};
+pub use word_value::{read_password, read_sctp_init, read_setup, read_ufrag};

@@ -1,6 +1,7 @@
 //! Values of `msid`.
 ghost use Rattle.std.specs.Prelude.{◌≡◌, ◌++◌, IfOk, OnOk, string_bytes};
-ghost use Rattle.rtc_sdp_attributes.specs.MsidValue as spec;
+ghost use Rattle.rtc_sdp_attributes.specs.AttributeForms as form;
+ghost use Rattle.rtc_sdp_attributes.specs.AttributeTexts as written;
 
 use rtc_fields::{cut, is_token};
 use rtc_sdp_values::Msid;
@@ -10,7 +11,7 @@ use std::fmt::Write;
 
 /// The stream and the track that a value names (RFC 8830, section 2).
 pub fn read_msid(alloc: Global, value: &str) -> Result<Option<Msid>, AllocError>
-    ensures { IfOk result (λ read. read ≡ spec.msid_of value.now) }
+    ensures { IfOk result (λ read. read ≡ form.msid value.now) }
 {
     let Some((stream, track)) = cut(value, ' ') else {
         return Ok(None);
@@ -27,9 +28,9 @@ pub fn read_msid(alloc: Global, value: &str) -> Result<Option<Msid>, AllocError>
 }
 
 /// Appends the value that names a stream and a track.
-#[tactic(auto, unfolding(crate::specs::MsidValue::msid_text))]
+#[tactic(auto, unfolding(crate::specs::AttributeTexts::msid_text))]
 pub fn put_msid(out: &mut String, msid: &Msid) -> Result<(), AllocError>
-    ensures { OnOk result (string_bytes out.new ≡ string_bytes out.old ++ spec.msid_text msid.now) }
+    ensures { OnOk result (string_bytes out.new ≡ string_bytes out.old ++ written.msid_text msid.now) }
 {
     out.push_str(msid.stream_id.as_str())?;
     out.push_str(" ")?;

@@ -1,16 +1,18 @@
 //! Values of `rid`.
-ghost use Rattle.std.specs.Prelude.{◌≡◌, ◌++◌, IfOk, OnOk, string_bytes, map, option_map};
+ghost use Rattle.std.specs.Prelude.{◌≡◌, ◌++◌, IfOk, OnOk, string_bytes, [], ◌∷◌, filter, map, option_map};
+ghost use Rattle.rtc_sdp_attributes.specs.Forms;
 ghost use Rattle.rtc_fields.specs.Fields.{each};
-ghost use Rattle.rtc_sdp_attributes.specs.RidValue as spec;
+ghost use Rattle.rtc_sdp_attributes.specs.AttributeForms as form;
+ghost use Rattle.rtc_sdp_attributes.specs.AttributeTexts as written;
 
 use crate::{RidDirection, RidLine};
-use rtc_fields::{cut, is_short_token, parts};
+use rtc_fields::{cut, parts};
 use rtc_sdp_values::Rid;
 use rtc_wire::{Seq, Text};
 use std::alloc::{AllocError, Global};
 
 pub(crate) fn direction_of(word: &str) -> Option<RidDirection>
-    ensures { result ≡ spec.rid_direction_of word.now }
+    ensures { result ≡ Forms.one_of form.rid_direction_words word.now }
 {
     if word == "send" {
         Some(RidDirection::Send)
@@ -22,7 +24,7 @@ pub(crate) fn direction_of(word: &str) -> Option<RidDirection>
 }
 
 fn direction_word(direction: RidDirection) -> &'static str
-    ensures { result.now ≡ spec.rid_direction_word direction }
+    ensures { result.now ≡ written.rid_direction_word direction }
 {
     match direction {
         RidDirection::Send => "send",
@@ -31,7 +33,7 @@ fn direction_word(direction: RidDirection) -> &'static str
 }
 
 fn pair_of(part: &str) -> Option<(&str, &str)>
-    ensures { option_map (λ pair. (pair.0.now, pair.1.now)) result ≡ spec.rid_pair_of part.now }
+    ensures { option_map (λ pair. (pair.0.now, pair.1.now)) result ≡ form.rid_pair part.now }
 {
     match cut(part, '=') {
         Some((key, value)) => if cut(value, '=').is_none() {
@@ -49,7 +51,7 @@ fn push_kept(
     key: &str,
     value: &str,
 ) -> Result<(), AllocError>
-    ensures { OnOk result (pairs.new.items ≡ spec.grown (spec.is_kept (key.now, value.now)) pairs.old.items (key.now, value.now)) }
+    ensures { OnOk result (pairs.new.items ≡ pairs.old.items ++ filter form.is_kept ((key.now, value.now) ∷ [])) }
 {
     if key == "pt" {
         return Ok(());
@@ -62,7 +64,7 @@ fn push_kept(
 
 fn kept_pairs(alloc: Global, parts: &[&str]) -> Result<Option<Vec<(Text, Text)>>, AllocError>
     ensures { IfOk result (λ read. option_map (λ pairs. pairs.items) read
-        ≡ spec.kept_pairs (each spec.rid_pair_of (map (λ part. part.now) parts.now))) }
+        ≡ option_map (filter form.is_kept) (each form.rid_pair (map (λ part. part.now) parts.now))) }
 {
     let mut pairs = Vec::new(alloc);
     for part in parts {
@@ -75,7 +77,7 @@ fn kept_pairs(alloc: Global, parts: &[&str]) -> Result<Option<Vec<(Text, Text)>>
 }
 
 fn pairs_of(alloc: Global, text: &str) -> Result<Option<Seq<(Text, Text)>>, AllocError>
-    ensures { IfOk result (λ read. read ≡ spec.rid_pairs_of text.now) }
+    ensures { IfOk result (λ read. read ≡ form.rid_pairs text.now) }
 {
     let parts = parts(alloc, text, ';')?;
     match kept_pairs(alloc, parts.as_slice())? {
@@ -84,42 +86,50 @@ fn pairs_of(alloc: Global, text: &str) -> Result<Option<Seq<(Text, Text)>>, Allo
     }
 }
 
+/// The direction of a layer and its pairs, behind its name.
+fn rest_of(
+    alloc: Global,
+    text: &str,
+) -> Result<Option<(RidDirection, Seq<(Text, Text)>)>, AllocError>
+    ensures { IfOk result (λ read. read ≡ Forms.tailed 32 (Forms.one_of form.rid_direction_words) [] form.rid_pairs text.now) }
+{
+    let Some((direction, pairs)) = cut(text, ' ') else {
+        return match direction_of(text) {
+            Some(direction) => Ok(Some((direction, Seq::empty(alloc)))),
+            None => Ok(None),
+        };
+    };
+    let Some(direction) = direction_of(direction) else {
+        return Ok(None);
+    };
+    match pairs_of(alloc, pairs)? {
+        Some(pairs) => Ok(Some((direction, pairs))),
+        None => Ok(None),
+    }
+}
+
 /// The layer that a value restricts (RFC 8851, section 4). A pair `pt` is dropped.
 pub fn read_rid(alloc: Global, value: &str) -> Result<Option<RidLine>, AllocError>
-    ensures { IfOk result (λ read. read ≡ spec.rid_of value.now) }
+    ensures { IfOk result (λ read. read ≡ form.rid value.now) }
 {
     let Some((rid, rest)) = cut(value, ' ') else {
         return Ok(None);
     };
-    let Some((direction, pairs)) = cut(rest, ' ') else {
-        return Ok(made(rid, direction_of(rest), Some(Seq::empty(alloc))));
+    let Some(rid) = Rid::read(rid) else {
+        return Ok(None);
     };
-    let pairs = pairs_of(alloc, pairs)?;
-    Ok(made(rid, direction_of(direction), pairs))
-}
-
-fn made(
-    rid: &str,
-    direction: Option<RidDirection>,
-    attributes: Option<Seq<(Text, Text)>>,
-) -> Option<RidLine>
-    ensures { result ≡ spec.rid_made rid.now direction attributes }
-{
-    let (Some(direction), Some(attributes)) = (direction, attributes) else {
-        return None;
-    };
-    match Rid::read(rid) {
-        Some(rid) => Some(RidLine {
+    match rest_of(alloc, rest)? {
+        Some((direction, attributes)) => Ok(Some(RidLine {
             rid,
             direction,
             attributes,
-        }),
-        None => None,
+        })),
+        None => Ok(None),
     }
 }
 
 fn put_pair(out: &mut String, pair: &(Text, Text)) -> Result<(), AllocError>
-    ensures { OnOk result (string_bytes out.new ≡ string_bytes out.old ++ spec.pair_text pair.now) }
+    ensures { OnOk result (string_bytes out.new ≡ string_bytes out.old ++ written.pair_text pair.now) }
 {
     out.push_str(pair.0.as_str())?;
     out.push_str("=")?;
@@ -127,7 +137,7 @@ fn put_pair(out: &mut String, pair: &(Text, Text)) -> Result<(), AllocError>
 }
 
 fn put_pairs(out: &mut String, pairs: &[(Text, Text)]) -> Result<(), AllocError>
-    ensures { OnOk result (string_bytes out.new ≡ string_bytes out.old ++ spec.pairs_text pairs.now) }
+    ensures { OnOk result (string_bytes out.new ≡ string_bytes out.old ++ written.pairs_text pairs.now) }
 {
     let [first, rest @ ..] = pairs else {
         return Ok(());
@@ -142,14 +152,14 @@ fn put_pairs(out: &mut String, pairs: &[(Text, Text)]) -> Result<(), AllocError>
 }
 
 /// Appends the value that restricts a layer.
-#[tactic(auto, unfolding(crate::specs::RidValue::rid_text))]
+#[tactic(auto, unfolding(crate::specs::AttributeTexts::rid_text))]
 pub fn put_rid(
     out: &mut String,
     rid: &Rid,
     direction: RidDirection,
     pairs: &[(Text, Text)],
 ) -> Result<(), AllocError>
-    ensures { OnOk result (string_bytes out.new ≡ string_bytes out.old ++ spec.rid_text rid.now direction pairs.now) }
+    ensures { OnOk result (string_bytes out.new ≡ string_bytes out.old ++ written.rid_text rid.now direction pairs.now) }
 {
     out.push_str(rid.as_str())?;
     out.push_str(" ")?;

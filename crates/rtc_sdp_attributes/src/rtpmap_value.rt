@@ -1,6 +1,7 @@
 //! Values of `rtpmap`.
 ghost use Rattle.std.specs.Prelude.{◌≡◌, ◌++◌, IfOk, OnOk, string_bytes};
-ghost use Rattle.rtc_sdp_attributes.specs.RtpmapValue as spec;
+ghost use Rattle.rtc_sdp_attributes.specs.AttributeForms as form;
+ghost use Rattle.rtc_sdp_attributes.specs.AttributeTexts as written;
 
 use crate::Rtpmap;
 use rtc_fields::{cut, is_token, number_up_to};
@@ -9,35 +10,42 @@ use rtc_wire::Text;
 use std::alloc::{AllocError, Global};
 use std::fmt::Write;
 
-fn rate_of(text: &str) -> (Option<u64>, Option<u64>)
-    ensures { result ≡ spec.rate_of text.now }
+/// The clock and the channels, one where none are named.
+fn rate_of(text: &str) -> Option<(u64, u64)>
+    ensures { result ≡ form.rtpmap_rate text.now }
 {
     match cut(text, '/') {
-        None => (number_up_to(4_294_967_295, text), Some(1)),
-        Some((clock, channels)) => (
-            number_up_to(4_294_967_295, clock),
-            number_up_to(255, channels),
-        ),
+        None => {
+            let clock = number_up_to(4_294_967_295, text)?;
+            Some((clock, 1))
+        }
+        Some((clock, channels)) => {
+            let clock = number_up_to(4_294_967_295, clock)?;
+            let channels = number_up_to(255, channels)?;
+            Some((clock, channels))
+        }
     }
 }
 
 /// The codec that a value gives to a payload type (RFC 8866, section 6.6).
 pub fn read_rtpmap(alloc: Global, value: &str) -> Result<Option<Rtpmap>, AllocError>
-    ensures { IfOk result (λ read. read ≡ spec.rtpmap_of value.now) }
+    ensures { IfOk result (λ read. read ≡ form.rtpmap value.now) }
 {
     let Some((pt, rest)) = cut(value, ' ') else {
+        return Ok(None);
+    };
+    let Some(pt) = number_up_to(127, pt) else {
         return Ok(None);
     };
     let Some((codec, rate)) = cut(rest, '/') else {
         return Ok(None);
     };
-    let (clock, channels) = rate_of(rate);
-    let (Some(pt), Some(clock), Some(channels)) = (number_up_to(127, pt), clock, channels) else {
-        return Ok(None);
-    };
     if !is_token(codec) {
         return Ok(None);
     }
+    let Some((clock, channels)) = rate_of(rate) else {
+        return Ok(None);
+    };
     let codec = Text::from_str(alloc, codec)?;
     Ok(Some(Rtpmap {
         pt: Pt(pt as u8),
@@ -48,7 +56,7 @@ pub fn read_rtpmap(alloc: Global, value: &str) -> Result<Option<Rtpmap>, AllocEr
 }
 
 /// Appends the value that gives a codec to a payload type.
-#[tactic(auto, unfolding(crate::specs::RtpmapValue::rtpmap_text))]
+#[tactic(auto, unfolding(crate::specs::AttributeTexts::rtpmap_text))]
 pub fn put_rtpmap(
     out: &mut String,
     pt: Pt,
@@ -56,7 +64,7 @@ pub fn put_rtpmap(
     clock: u32,
     channels: u8,
 ) -> Result<(), AllocError>
-    ensures { OnOk result (string_bytes out.new ≡ string_bytes out.old ++ spec.rtpmap_text pt.0 codec.now clock channels) }
+    ensures { OnOk result (string_bytes out.new ≡ string_bytes out.old ++ written.rtpmap_text pt.0 codec.now clock channels) }
 {
     let number = pt.0;
     write!(out, "{number} {codec}/{clock}")?;

@@ -5,7 +5,11 @@ ghost use Rattle.rtc_fields.specs.Fields.{each};
 ghost use Rattle.rtc_fields.specs.Once.{each_once as spec_each_once};
 ghost use Rattle.rtc_fields.specs.Words.{joined};
 ghost use Rattle.rtc_fields.proofs.OnceLemmas.{among, grown};
-ghost use Rattle.rtc_sdp_attributes.specs.SimulcastValue as spec;
+ghost use Rattle.rtc_fields.specs.Cuts.{cut as cut_at};
+ghost use Rattle.rtc_fields.specs.Fronts.{from_first, is_byte};
+ghost use Rattle.rtc_sdp_attributes.specs.Forms;
+ghost use Rattle.rtc_sdp_attributes.specs.AttributeForms as form;
+ghost use Rattle.rtc_sdp_attributes.specs.AttributeTexts as written;
 
 use crate::rid_value::direction_of;
 use crate::{RidDirection, SimulcastLine};
@@ -16,7 +20,7 @@ use std::alloc::{AllocError, Global};
 use std::collections::BTreeSet;
 
 fn layer_name(part: &str) -> &str
-    ensures { result.now ≡ spec.layer_name part.now }
+    ensures { result.now ≡ from_first (is_byte 126) (Forms.front_of part.now (cut_at 44 part.now)) }
 {
     match cut(part, ',') {
         Some((name, _)) => without_first(name, '~'),
@@ -25,13 +29,13 @@ fn layer_name(part: &str) -> &str
 }
 
 fn layer_rid(part: &str) -> Option<Rid>
-    ensures { result ≡ spec.layer_rid part.now }
+    ensures { result ≡ form.layer_name part.now }
 {
     Rid::read(layer_name(part))
 }
 
 fn layer_rids(alloc: Global, parts: &[&str]) -> Result<Option<Vec<Rid>>, AllocError>
-    ensures { IfOk result (λ read. option_map (λ rids. rids.items) read ≡ each spec.layer_rid (map (λ part. part.now) parts.now)) }
+    ensures { IfOk result (λ read. option_map (λ rids. rids.items) read ≡ each form.layer_name (map (λ part. part.now) parts.now)) }
 {
     let mut rids = Vec::new(alloc);
     for part in parts {
@@ -58,7 +62,7 @@ fn each_once(alloc: Global, rids: &[Rid]) -> Result<Vec<Rid>, AllocError>
 }
 
 fn rids_of(alloc: Global, list: &str) -> Result<Option<Seq<Rid>>, AllocError>
-    ensures { IfOk result (λ read. read ≡ spec.rids_of list.now) }
+    ensures { IfOk result (λ read. read ≡ form.layer_names list.now) }
 {
     let parts = parts(alloc, list, ';')?;
     match layer_rids(alloc, parts.as_slice())? {
@@ -75,7 +79,7 @@ fn one_way(
     direction: Option<RidDirection>,
     rids: Option<Seq<Rid>>,
 ) -> Option<SimulcastLine>
-    ensures { result ≡ spec.one_way direction rids }
+    ensures { result ≡ form.one_way direction rids }
 {
     let (Some(direction), Some(rids)) = (direction, rids) else {
         return None;
@@ -98,7 +102,7 @@ fn both_ways(
     other: Option<RidDirection>,
     rest: Option<Seq<Rid>>,
 ) -> Option<SimulcastLine>
-    ensures { result ≡ spec.both_ways direction rids other rest }
+    ensures { result ≡ form.both_ways direction rids other rest }
 {
     let (Some(rids), Some(rest)) = (rids, rest) else {
         return None;
@@ -118,7 +122,7 @@ fn both_ways(
 
 /// The layers that a value lists (RFC 8853, section 5.1), without alternatives; whether one starts paused is not kept.
 pub fn read_simulcast(alloc: Global, value: &str) -> Result<Option<SimulcastLine>, AllocError>
-    ensures { IfOk result (λ read. read ≡ spec.simulcast_of value.now) }
+    ensures { IfOk result (λ read. read ≡ form.simulcast value.now) }
 {
     let fields = words(alloc, value)?;
     let [direction, list, more @ ..] = fields.as_slice() else {
@@ -140,7 +144,7 @@ pub fn read_simulcast(alloc: Global, value: &str) -> Result<Option<SimulcastLine
 }
 
 fn put_rids(out: &mut String, layers: &[SimulcastLayer]) -> Result<(), AllocError>
-    ensures { OnOk result (string_bytes out.new ≡ string_bytes out.old ++ joined 59 (spec.rids_in layers.now)) }
+    ensures { OnOk result (string_bytes out.new ≡ string_bytes out.old ++ joined 59 (written.rids_in layers.now)) }
 {
     let [first, rest @ ..] = layers else {
         return Ok(());
@@ -154,7 +158,7 @@ fn put_rids(out: &mut String, layers: &[SimulcastLayer]) -> Result<(), AllocErro
 }
 
 fn put_list(out: &mut String, word: &str, layers: &[SimulcastLayer]) -> Result<(), AllocError>
-    ensures { OnOk result (string_bytes out.new ≡ string_bytes out.old ++ spec.list_text word.now (spec.rids_in layers.now)) }
+    ensures { OnOk result (string_bytes out.new ≡ string_bytes out.old ++ written.list_text word.now (written.rids_in layers.now)) }
 {
     out.push_str(word)?;
     out.push_str(" ")?;
@@ -166,7 +170,8 @@ fn put_ways(
     send: &[SimulcastLayer],
     recv: &[SimulcastLayer],
 ) -> Result<(), AllocError>
-    ensures { OnOk result (string_bytes out.new ≡ string_bytes out.old ++ spec.ways_text (spec.rids_in send.now) (spec.rids_in recv.now)) }
+    ensures { OnOk result (string_bytes out.new
+        ≡ string_bytes out.old ++ written.ways_text (written.rids_in send.now) (written.rids_in recv.now)) }
 {
     match (send, recv) {
         ([], []) => Ok(()),
@@ -181,9 +186,9 @@ fn put_ways(
 }
 
 /// Appends the value that lists layers: those that are sent, then those that are received.
-#[tactic(auto, unfolding(crate::specs::SimulcastValue::simulcast_text))]
+#[tactic(auto, unfolding(crate::specs::AttributeTexts::simulcast_text))]
 pub fn put_simulcast(out: &mut String, simulcast: &Simulcast) -> Result<(), AllocError>
-    ensures { OnOk result (string_bytes out.new ≡ string_bytes out.old ++ spec.simulcast_text simulcast.now) }
+    ensures { OnOk result (string_bytes out.new ≡ string_bytes out.old ++ written.simulcast_text simulcast.now) }
 {
     put_ways(out, simulcast.send.as_slice(), simulcast.recv.as_slice())
 }

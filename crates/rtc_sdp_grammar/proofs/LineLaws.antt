@@ -23,7 +23,11 @@ use Rattle.rtc_sdp_grammar.specs.declared.item.Item.{Item}
 use Rattle.rtc_sdp_grammar.specs.declared.item.Item.TheVariants.{Origin, Media, Says, Skipped}
 use Rattle.rtc_fields.specs.Once.{IsApart}
 use Rattle.rtc_sdp_grammar.specs.MediaForm.{media_words, with_numbers}
-use Rattle.rtc_sdp_grammar.specs.AttributeForm.{mid_of, group_words}
+use Rattle.rtc_sdp_attributes.specs.Forms.{short_token}
+use Rattle.rtc_sdp_grammar.specs.Table.{attribute_item, group_words, row_item}
+use Rattle.rtc_sdp_grammar.specs.Table.{Refuses}
+use Rattle.rtc_sdp_grammar.specs.declared.strict.Strict.TheVariants.{Group}
+use Rattle.rtc_sdp_grammar.specs.declared.level.Level.TheVariants.{SessionLevel, MediaLevel, AnyLevel}
 use Rattle.rtc_sdp_grammar.specs.ItemForm.{item_of, origin_words}
 use Rattle.rtc_sdp_grammar.specs.LineTexts.{origin_line, group_line, mid_line, setup_line, direction_line, port_word, transport_words, media_line}
 use Rattle.rtc_fields.proofs.OnceLemmas.{each_once_apart}
@@ -59,30 +63,30 @@ mids_lack : (byte : ℕ) → is_token_byte byte ≡ false → (mids : List (List
 mids_lack byte out [] h = tt
 mids_lack byte out (mid ∷ rest) h = (short_token_lacks byte out mid h.0, mids_lack byte out rest h.1)
 
-each_mid : (mids : List (List ℕ)) → AreMids mids → each mid_of mids ≡ Some mids
+each_mid : (mids : List (List ℕ)) → AreMids mids → each short_token mids ≡ Some mids
 each_mid [] h = refl
 each_mid (mid ∷ rest) h = rw (h.0, each_mid rest h.1) refl
 
-pub group_line_is : (mids : List (List ℕ)) → AreMids mids → IsLineOf (group_line mids) (Says (GroupLine (Some mids)))
-unfolding item_of group_line
+pub group_line_is : (mids : List (List ℕ)) → AreMids mids → IsLineOf (group_line mids) (Says SessionLevel (GroupLine mids))
+unfolding item_of attribute_item group_line
 group_line_is mids h = record {
-  again = ap group_words (words_again (codes "BUNDLE") mids (search rules) (mids_lack 32 refl mids h)) ∙ rw (each_mid mids h) refl;
+  again = ap (λ ws. row_item SessionLevel (Refuses Group) (group_words ws)) (words_again (codes "BUNDLE") mids (search rules) (mids_lack 32 refl mids h)) ∙ rw (each_mid mids h) refl;
   one = lacks_spaced 10 (codes "a=group:BUNDLE") mids refl (search rules) (mids_lack 10 refl mids h);
 }
 
 -- ---- attributes of one word
-pub mid_line_is : (mid : List ℕ) → is_short_token mid ≡ true → IsLineOf (mid_line mid) (Says (MidLine (Some mid)))
-unfolding item_of mid_line
+pub mid_line_is : (mid : List ℕ) → is_short_token mid ≡ true → IsLineOf (mid_line mid) (Says MediaLevel (MidLine mid))
+unfolding item_of attribute_item mid_line
 mid_line_is mid h = record { again = rw h refl; one = lacks-append 10 (codes "a=mid:") mid (search rules) (short_token_lacks 10 refl mid h) }
 
-pub setup_line_is : (setup : Setup) → IsLineOf (setup_line setup) (Says (SetupLine (Some setup)))
-unfolding item_of setup_line
+pub setup_line_is : (setup : Setup) → IsLineOf (setup_line setup) (Says AnyLevel (SetupLine setup))
+unfolding item_of attribute_item setup_line
 setup_line_is ActPass = record { again = refl; one = search rules }
 setup_line_is Active = record { again = refl; one = search rules }
 setup_line_is Passive = record { again = refl; one = search rules }
 
-pub direction_line_is : (dir : Direction) → IsLineOf (direction_line dir) (Says (DirectionLine dir))
-unfolding item_of direction_line
+pub direction_line_is : (dir : Direction) → IsLineOf (direction_line dir) (Says MediaLevel (DirectionLine dir))
+unfolding item_of attribute_item direction_line
 direction_line_is SendRecv = record { again = refl; one = search rules }
 direction_line_is SendOnly = record { again = refl; one = search rules }
 direction_line_is RecvOnly = record { again = refl; one = search rules }

@@ -6,7 +6,7 @@ use Rattle.std.proofs.lemmas.List.Folds.{list_all-map}
 use Rattle.rtc_fields.specs.Cuts.{cut}
 use Rattle.rtc_fields.specs.Tokens.{is_token}
 use Rattle.rtc_sdp_grammar.specs.declared.item.Item.TheVariants.{Blank}
-use Rattle.rtc_sdp_grammar.specs.MediaForm.{is_filled}
+use Rattle.rtc_sdp_attributes.specs.Forms.{is_filled}
 use Rattle.rtc_sdp_grammar.specs.ItemForm.{item_of, line_parts}
 
 pub tokens_shown : (words : List (Bor (List ℕ))) → list_all is_token (map (λ word. word.now) words) ≡ list_all (λ word. is_token word.now) words

@@ -3,8 +3,8 @@ use Rattle.std.specs.Prelude.{ℕ, List, ◌++◌, codes}
 use Rattle.std.specs.Fmt.{decimal}
 use Rattle.rtc_sdp_values.specs.declared.candidate.Candidate.{Candidate}
 use Rattle.rtc_sdp_values.specs.declared.fingerprint.Fingerprint.{Fingerprint}
-use Rattle.rtc_sdp_attributes.specs.CandidateValue.{candidate_text}
-use Rattle.rtc_sdp_attributes.specs.FingerprintValue.{fingerprint_text}
+use Rattle.rtc_sdp_attributes.specs.AttributeTexts.{candidate_text}
+use Rattle.rtc_sdp_attributes.specs.AttributeTexts.{fingerprint_text}
 
 -- a=ice-ufrag:U (RFC 8839, section 5.4)
 unfoldable pub ufrag_line : List ℕ → List ℕ

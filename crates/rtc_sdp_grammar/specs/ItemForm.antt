@@ -7,8 +7,9 @@ use Rattle.rtc_fields.specs.Cuts.{cut}
 use Rattle.rtc_fields.specs.Lines.{lines}
 use Rattle.rtc_fields.specs.Words.{words}
 use Rattle.rtc_fields.specs.Numbers.{number}
-use Rattle.rtc_sdp_grammar.specs.MediaForm.{is_filled, media}
-use Rattle.rtc_sdp_grammar.specs.AttributeForm.{attribute}
+use Rattle.rtc_sdp_attributes.specs.Forms.{is_filled, COLON, EQUALS}
+use Rattle.rtc_sdp_grammar.specs.MediaForm.{media}
+use Rattle.rtc_sdp_grammar.specs.Table.{attribute_item}
 use Rattle.rtc_sdp_grammar.specs.declared.item.Item.{Item}
 use Rattle.rtc_sdp_grammar.specs.declared.item.Item.TheVariants.{Blank, Bad, Skipped, Version, Origin}
 
@@ -28,6 +29,14 @@ origin_words _ = Skipped
 
 abbrev pub origin : List ℕ → Item
 origin value = origin_words (words value)
+
+-- ---- a=NAME and a=NAME:VALUE: the first colon ends the name (RFC 8866, section 5.13)
+abbrev pub attribute_parts : List ℕ → Option (List ℕ × List ℕ) → Item
+attribute_parts name None = attribute_item name None
+attribute_parts name (Some parts) = attribute_item parts.0 (Some parts.1)
+
+abbrev pub attribute : List ℕ → Item
+attribute value = attribute_parts value (cut COLON value)
 
 -- ---- a line by its letter
 abbrev pub is_letter : List ℕ → Bool
@@ -49,7 +58,7 @@ line_parts (Some parts) = lettered parts.0 parts.1
 -- what a line says
 unfoldable pub item_of : List ℕ → Item
 item_of [] = Blank
-item_of (byte ∷ rest) = line_parts (cut 61 (byte ∷ rest))
+item_of (byte ∷ rest) = line_parts (cut EQUALS (byte ∷ rest))
 
 -- what the lines of a text say, one by one
 abbrev pub items_of : List ℕ → List Item

@@ -1,5 +1,6 @@
 pub mod MediaForm
-pub mod AttributeForm
+pub mod Table
+pub mod NameLengths
 pub mod ItemForm
 pub mod LineTexts
 pub mod ConnectionTexts

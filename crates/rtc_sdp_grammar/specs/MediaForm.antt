@@ -1,5 +1,5 @@
 -- The line that begins a line part: m=KIND PORT PROTO FORMATS (RFC 8866, section 5.14; the protocols are our profile's).
-use Rattle.std.specs.Prelude.{ℕ, ◌==◌, Bool, ◌&&◌, ◌||◌, nat_lt, eqb, List, [], ◌∷◌, length, Option, Some, None, if◌then◌else◌, codes}
+use Rattle.std.specs.Prelude.{ℕ, ◌==◌, Bool, ◌&&◌, ◌||◌, eqb, List, [], ◌∷◌, Option, Some, None, if◌then◌else◌, codes}
 use Rattle.std.specs.List.{list_all}
 use Rattle.std.specs.Str.{bytes_eq}
 use Rattle.rtc_fields.specs.Cuts.{cut}
@@ -7,15 +7,12 @@ use Rattle.rtc_fields.specs.Fields.{each}
 use Rattle.rtc_fields.specs.Words.{words}
 use Rattle.rtc_fields.specs.Tokens.{is_token}
 use Rattle.rtc_fields.specs.Numbers.{is_numeral, number_up_to}
+use Rattle.rtc_sdp_attributes.specs.Forms.{is_filled, SLASH}
 use Rattle.rtc_sdp_values.specs.declared.line_kind.LineKind.{LineKind}
 use Rattle.rtc_sdp_values.specs.declared.line_kind.LineKind.TheVariants.{Audio, Video, Application, Unknown}
 use Rattle.rtc_fields.specs.Once.{each_once}
 use Rattle.rtc_sdp_grammar.specs.declared.item.Item.{Item}
 use Rattle.rtc_sdp_grammar.specs.declared.item.Item.TheVariants.{BadMedia, Media}
-
--- at least one byte
-abbrev pub is_filled : List ℕ → Bool
-is_filled word = nat_lt 0 (length word)
 
 -- ---- KIND: a token, of which three are known
 abbrev pub line_kind_of : List ℕ → LineKind
@@ -31,7 +28,7 @@ port_parts word None = number_up_to 65535 word
 port_parts word (Some parts) = if is_numeral parts.1 then number_up_to 65535 parts.0 else None
 
 abbrev pub port_of : List ℕ → Option ℕ
-port_of word = port_parts word (cut 47 word)
+port_of word = port_parts word (cut SLASH word)
 
 -- ---- PROTO and FORMATS, by kind
 abbrev pub head : LineKind → Bool → List ℕ → Item

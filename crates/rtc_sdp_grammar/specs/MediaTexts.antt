@@ -10,13 +10,13 @@ use Rattle.rtc_sdp_attributes.specs.declared.fmtp.Fmtp.{Fmtp}
 use Rattle.rtc_sdp_attributes.specs.declared.rid_line.RidLine.{RidLine}
 use Rattle.rtc_sdp_attributes.specs.declared.rtpmap.Rtpmap.{Rtpmap}
 use Rattle.rtc_sdp_attributes.specs.declared.ssrc_name.SsrcName.{SsrcName}
-use Rattle.rtc_sdp_attributes.specs.ExtmapValue.{extmap_text}
-use Rattle.rtc_sdp_attributes.specs.FmtpValue.{fmtp_text}
-use Rattle.rtc_sdp_attributes.specs.MsidValue.{msid_text}
-use Rattle.rtc_sdp_attributes.specs.RidValue.{rid_text}
-use Rattle.rtc_sdp_attributes.specs.RtpmapValue.{rtpmap_text}
-use Rattle.rtc_sdp_attributes.specs.SimulcastValue.{simulcast_text}
-use Rattle.rtc_sdp_attributes.specs.SsrcValue.{ssrc_name_text, ssrc_msid_text, ssrc_pair_text}
+use Rattle.rtc_sdp_attributes.specs.AttributeTexts.{extmap_text}
+use Rattle.rtc_sdp_attributes.specs.AttributeTexts.{fmtp_text}
+use Rattle.rtc_sdp_attributes.specs.AttributeTexts.{msid_text}
+use Rattle.rtc_sdp_attributes.specs.AttributeTexts.{rid_text}
+use Rattle.rtc_sdp_attributes.specs.AttributeTexts.{rtpmap_text}
+use Rattle.rtc_sdp_attributes.specs.AttributeTexts.{simulcast_text}
+use Rattle.rtc_sdp_attributes.specs.AttributeTexts.{ssrc_name_text, ssrc_msid_text, ssrc_pair_text}
 
 -- a=msid-semantic: WMS S S (the names of streams; no standard has it any more)
 unfoldable pub semantic_line : List (List ℕ) → List ℕ

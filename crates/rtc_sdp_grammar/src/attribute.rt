@@ -3,17 +3,17 @@ use rtc_sdp_attributes::{Fmtp, RidLine, Rtpmap, SimulcastLine, SsrcName};
 use rtc_sdp_values::{Candidate, Direction, Extension, Fingerprint, Mid, Msid, Setup, Ssrc};
 use rtc_wire::{Seq, Text};
 
-/// What an `a=` line says by itself (RFC 8866, section 5.13).
-///
-/// None stands for an attribute that has not its form. Attributes that are only skipped then have no such case.
+/// What a well-formed `a=` line says by itself (RFC 8866, section 5.13).
 #[derive(Debug, Drop)]
 pub enum Attribute {
     /// `mid` (RFC 5888, section 4).
-    MidLine(Option<Mid>),
+    MidLine(Mid),
     /// `group:BUNDLE` (RFC 8843, section 7.1).
-    GroupLine(Option<Seq<Mid>>),
+    GroupLine(Seq<Mid>),
+    /// `group` of another name, which has no use here.
+    OtherGroup,
     /// `setup` (RFC 4145, section 4; RFC 8842, section 5).
-    SetupLine(Option<Setup>),
+    SetupLine(Setup),
     /// `sendrecv`, `sendonly`, `recvonly`, `inactive` (RFC 8866, section 6.7).
     DirectionLine(Direction),
     /// `ice-ufrag` (RFC 8839, section 5.4).
@@ -23,11 +23,11 @@ pub enum Attribute {
     /// `ice-lite` (RFC 8839, section 5.3).
     LiteLine,
     /// `fingerprint` (RFC 8122, section 5).
-    FingerprintLine(Option<Fingerprint>),
+    FingerprintLine(Fingerprint),
     /// `candidate` (RFC 8839, section 5.1).
     CandidateLine(Candidate),
     /// `max-message-size` (RFC 8841, section 6).
-    MessageSizeLine(Option<u64>),
+    MessageSizeLine(u64),
     /// `sctp-init` (draft-hancke-tsvwg-snap).
     SctpInitLine(Text),
     /// `rtpmap` (RFC 8866, section 6.6).

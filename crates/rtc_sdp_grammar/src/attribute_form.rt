@@ -1,60 +1,220 @@
-//! The form of `a=` lines.
+//! Attributes by their names, which are told apart by length first.
 ghost use Rattle.std.specs.Prelude.{◌≡◌, IfOk};
-ghost use Rattle.rtc_sdp_grammar.specs.AttributeForm as spec;
+ghost use Rattle.rtc_sdp_attributes.specs.Forms as forms;
+ghost use Rattle.rtc_sdp_grammar.specs.declared.attribute.Attribute.TheVariants.{DirectionLine, LiteLine};
+ghost use Rattle.rtc_sdp_grammar.specs.ItemForm.{attribute as attribute_line};
+ghost use Rattle.rtc_sdp_grammar.specs.NameLengths as names;
+ghost use Rattle.rtc_sdp_grammar.specs.Table as spec;
 
-use crate::connection_form::connection_valued;
-use crate::direction_word::direction_of;
+use crate::connection_form::{
+    candidate, fingerprint, message_size, mid, password, sctp_init, setup, ufrag,
+};
 use crate::group_form::group;
-use crate::setup_word::setup_of;
-use crate::{Attribute, Item};
+use crate::media_attribute_form::{
+    codec, extension, layer, layer_list, parameters, source, source_pair, stream,
+};
+use crate::{Attribute, Item, Level, Strict};
 use rtc_fields::cut;
-use rtc_sdp_values::Mid;
+use rtc_sdp_values::Direction;
 use std::alloc::{AllocError, Global};
 
-fn bare(name: &str) -> Item
-    ensures { result ≡ spec.bare name.now }
+fn or_refused(level: Level, what: Strict, read: Option<Attribute>) -> Item
+    ensures { result ≡ spec.row_item level (spec.Refuses what) read }
 {
-    if name == "mid" {
-        return Item::Says(Attribute::MidLine(None));
-    }
-    if name == "setup" {
-        return Item::Says(Attribute::SetupLine(None));
-    }
-    if name == "fingerprint" {
-        return Item::Says(Attribute::FingerprintLine(None));
-    }
-    if name == "max-message-size" {
-        return Item::Says(Attribute::MessageSizeLine(None));
-    }
-    if name == "ice-lite" {
-        return Item::Says(Attribute::LiteLine);
-    }
-    match direction_of(name) {
-        None => Item::Skipped,
-        Some(dir) => Item::Says(Attribute::DirectionLine(dir)),
+    match read {
+        Some(attribute) => Item::Says(level, attribute),
+        None => Item::Malformed(level, what),
     }
 }
 
-fn valued(alloc: Global, name: &str, value: &str) -> Result<Item, AllocError>
-    ensures { IfOk result (λ item. item ≡ spec.valued name.now value.now) }
+fn or_skipped(level: Level, read: Option<Attribute>) -> Item
+    ensures { result ≡ spec.row_item level spec.IsSkipped read }
+{
+    match read {
+        Some(attribute) => Item::Says(level, attribute),
+        None => Item::Skipped,
+    }
+}
+
+fn lite(value: Option<&str>) -> Option<Attribute>
+    ensures { result ≡ forms.bare LiteLine (names.bytes_shown value.entry) }
+{
+    match value {
+        Some(_) => None,
+        None => Some(Attribute::LiteLine),
+    }
+}
+
+fn direction(dir: Direction, value: Option<&str>) -> Option<Attribute>
+    ensures { result ≡ forms.bare (DirectionLine dir) (names.bytes_shown value.entry) }
+{
+    match value {
+        Some(_) => None,
+        None => Some(Attribute::DirectionLine(dir)),
+    }
+}
+
+fn of_3(alloc: Global, name: &str, value: Option<&str>) -> Result<Item, AllocError>
+    ensures { IfOk result (λ item. item ≡ spec.looked_up (names.of_length 3 spec.table) name.now (names.bytes_shown value.entry)) }
 {
     if name == "mid" {
-        Ok(Item::Says(Attribute::MidLine(Mid::read(value))))
-    } else if name == "group" {
-        group(alloc, value)
-    } else if name == "setup" {
-        Ok(Item::Says(Attribute::SetupLine(setup_of(value))))
+        Ok(or_refused(Level::MediaLevel, Strict::Mid, mid(value)))
+    } else if name == "rid" {
+        let read = layer(alloc, value)?;
+        Ok(or_skipped(Level::MediaLevel, read))
     } else {
-        connection_valued(alloc, name, value)
+        Ok(Item::Skipped)
+    }
+}
+
+fn of_4(alloc: Global, name: &str, value: Option<&str>) -> Result<Item, AllocError>
+    ensures { IfOk result (λ item. item ≡ spec.looked_up (names.of_length 4 spec.table) name.now (names.bytes_shown value.entry)) }
+{
+    if name == "fmtp" {
+        let read = parameters(alloc, value)?;
+        Ok(or_skipped(Level::MediaLevel, read))
+    } else if name == "msid" {
+        let read = stream(alloc, value)?;
+        Ok(or_skipped(Level::MediaLevel, read))
+    } else if name == "ssrc" {
+        let read = source(alloc, value)?;
+        Ok(or_skipped(Level::MediaLevel, read))
+    } else {
+        Ok(Item::Skipped)
+    }
+}
+
+fn of_5(alloc: Global, name: &str, value: Option<&str>) -> Result<Item, AllocError>
+    ensures { IfOk result (λ item. item ≡ spec.looked_up (names.of_length 5 spec.table) name.now (names.bytes_shown value.entry)) }
+{
+    if name == "group" {
+        let read = group(alloc, value)?;
+        Ok(or_refused(Level::SessionLevel, Strict::Group, read))
+    } else if name == "setup" {
+        Ok(or_refused(Level::AnyLevel, Strict::Setup, setup(value)))
+    } else {
+        Ok(Item::Skipped)
+    }
+}
+
+fn of_6(alloc: Global, name: &str, value: Option<&str>) -> Result<Item, AllocError>
+    ensures { IfOk result (λ item. item ≡ spec.looked_up (names.of_length 6 spec.table) name.now (names.bytes_shown value.entry)) }
+{
+    if name == "rtpmap" {
+        let read = codec(alloc, value)?;
+        Ok(or_skipped(Level::MediaLevel, read))
+    } else if name == "extmap" {
+        Ok(or_skipped(Level::MediaLevel, extension(value)))
+    } else {
+        Ok(Item::Skipped)
+    }
+}
+
+fn of_7(alloc: Global, name: &str, value: Option<&str>) -> Result<Item, AllocError>
+    ensures { IfOk result (λ item. item ≡ spec.looked_up (names.of_length 7 spec.table) name.now (names.bytes_shown value.entry)) }
+{
+    if name == "ice-pwd" {
+        let read = password(alloc, value)?;
+        Ok(or_skipped(Level::AnyLevel, read))
+    } else {
+        Ok(Item::Skipped)
+    }
+}
+
+fn of_8(name: &str, value: Option<&str>) -> Item
+    ensures { result ≡ spec.looked_up (names.of_length 8 spec.table) name.now (names.bytes_shown value.entry) }
+{
+    if name == "ice-lite" {
+        or_skipped(Level::SessionLevel, lite(value))
+    } else if name == "sendrecv" {
+        or_skipped(Level::MediaLevel, direction(Direction::SendRecv, value))
+    } else if name == "sendonly" {
+        or_skipped(Level::MediaLevel, direction(Direction::SendOnly, value))
+    } else if name == "recvonly" {
+        or_skipped(Level::MediaLevel, direction(Direction::RecvOnly, value))
+    } else if name == "inactive" {
+        or_skipped(Level::MediaLevel, direction(Direction::Inactive, value))
+    } else {
+        Item::Skipped
+    }
+}
+
+fn of_9(alloc: Global, name: &str, value: Option<&str>) -> Result<Item, AllocError>
+    ensures { IfOk result (λ item. item ≡ spec.looked_up (names.of_length 9 spec.table) name.now (names.bytes_shown value.entry)) }
+{
+    if name == "ice-ufrag" {
+        let read = ufrag(alloc, value)?;
+        Ok(or_skipped(Level::AnyLevel, read))
+    } else if name == "candidate" {
+        let read = candidate(alloc, value)?;
+        Ok(or_skipped(Level::MediaLevel, read))
+    } else if name == "simulcast" {
+        let read = layer_list(alloc, value)?;
+        Ok(or_skipped(Level::MediaLevel, read))
+    } else if name == "sctp-init" {
+        let read = sctp_init(alloc, value)?;
+        Ok(or_skipped(Level::MediaLevel, read))
+    } else {
+        Ok(Item::Skipped)
+    }
+}
+
+fn of_10(name: &str, value: Option<&str>) -> Item
+    ensures { result ≡ spec.looked_up (names.of_length 10 spec.table) name.now (names.bytes_shown value.entry) }
+{
+    if name == "ssrc-group" {
+        or_skipped(Level::MediaLevel, source_pair(value))
+    } else {
+        Item::Skipped
+    }
+}
+
+fn of_11(alloc: Global, name: &str, value: Option<&str>) -> Result<Item, AllocError>
+    ensures { IfOk result (λ item. item ≡ spec.looked_up (names.of_length 11 spec.table) name.now (names.bytes_shown value.entry)) }
+{
+    if name == "fingerprint" {
+        let read = fingerprint(alloc, value)?;
+        Ok(or_refused(Level::AnyLevel, Strict::Fingerprint, read))
+    } else {
+        Ok(Item::Skipped)
+    }
+}
+
+fn of_16(name: &str, value: Option<&str>) -> Item
+    ensures { result ≡ spec.looked_up (names.of_length 16 spec.table) name.now (names.bytes_shown value.entry) }
+{
+    if name == "max-message-size" {
+        or_refused(Level::MediaLevel, Strict::MessageSize, message_size(value))
+    } else {
+        Item::Skipped
+    }
+}
+
+/// What an attribute of this name says: `a=NAME:VALUE`, or `a=NAME`.
+fn attribute_item(alloc: Global, name: &str, value: Option<&str>) -> Result<Item, AllocError>
+    ensures { IfOk result (λ item. item ≡ spec.attribute_item name.now (names.bytes_shown value.entry)) }
+{
+    match name.len() {
+        3 => of_3(alloc, name, value),
+        4 => of_4(alloc, name, value),
+        5 => of_5(alloc, name, value),
+        6 => of_6(alloc, name, value),
+        7 => of_7(alloc, name, value),
+        8 => Ok(of_8(name, value)),
+        9 => of_9(alloc, name, value),
+        10 => Ok(of_10(name, value)),
+        11 => of_11(alloc, name, value),
+        16 => Ok(of_16(name, value)),
+        _ => Ok(Item::Skipped),
     }
 }
 
 /// What an `a=` line says (RFC 8866, section 5.13).
 pub(crate) fn attribute(alloc: Global, value: &str) -> Result<Item, AllocError>
-    ensures { IfOk result (λ item. item ≡ spec.attribute value.now) }
+    ensures { IfOk result (λ item. item ≡ attribute_line value.now) }
 {
     match cut(value, ':') {
-        None => Ok(bare(value)),
-        Some((name, value)) => valued(alloc, name, value),
+        None => attribute_item(alloc, value, None),
+        Some((name, value)) => attribute_item(alloc, name, Some(value)),
     }
 }

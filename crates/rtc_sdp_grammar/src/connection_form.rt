@@ -1,72 +1,116 @@
-//! The form of the attributes of a connection.
+//! The attributes of a connection, each by its row of the table.
 ghost use Rattle.std.specs.Prelude.{◌≡◌, IfOk};
-ghost use Rattle.rtc_sdp_attributes.specs.WordValue.{ufrag_of, password_of, sctp_init_of};
-ghost use Rattle.rtc_sdp_attributes.specs.CandidateValue.{candidate_of};
-ghost use Rattle.rtc_sdp_grammar.specs.declared.attribute.Attribute.TheVariants.{UfragLine, PasswordLine, CandidateLine, SctpInitLine};
-ghost use Rattle.rtc_sdp_grammar.specs.AttributeForm as spec;
+ghost use Rattle.rtc_fields.specs.Numbers.{number as spec_number};
+ghost use Rattle.rtc_sdp_attributes.specs.Forms as forms;
+ghost use Rattle.rtc_sdp_attributes.specs.AttributeForms as form;
+ghost use Rattle.rtc_sdp_grammar.specs.declared.attribute.Attribute.TheVariants.{
+  MidLine,
+  SetupLine,
+  UfragLine,
+  PasswordLine,
+  FingerprintLine,
+  CandidateLine,
+  MessageSizeLine,
+  SctpInitLine,
+};
+ghost use Rattle.rtc_sdp_grammar.specs.NameLengths.{bytes_shown};
 
-use crate::media_attribute_form::media_valued;
-use crate::{Attribute, Item};
+use crate::Attribute;
 use rtc_fields::number;
 use rtc_sdp_attributes::{
-    read_candidate, read_fingerprint, read_password, read_sctp_init, read_ufrag,
+    read_candidate, read_fingerprint, read_password, read_sctp_init, read_setup, read_ufrag,
 };
+use rtc_sdp_values::Mid;
 use std::alloc::{AllocError, Global};
 
-fn ufrag(alloc: Global, value: &str) -> Result<Item, AllocError>
-    ensures { IfOk result (λ item. item ≡ spec.said_if UfragLine (ufrag_of value.now)) }
+/// What a `mid` attribute says (RFC 5888, section 4).
+pub(crate) fn mid(value: Option<&str>) -> Option<Attribute>
+    ensures { result ≡ forms.valued (forms.saying MidLine forms.short_token) (bytes_shown value.entry) }
 {
-    match read_ufrag(alloc, value)? {
-        Some(ufrag) => Ok(Item::Says(Attribute::UfragLine(ufrag))),
-        None => Ok(Item::Skipped),
-    }
+    let mid = Mid::read(value?)?;
+    Some(Attribute::MidLine(mid))
 }
 
-fn password(alloc: Global, value: &str) -> Result<Item, AllocError>
-    ensures { IfOk result (λ item. item ≡ spec.said_if PasswordLine (password_of value.now)) }
+/// What a `setup` attribute says (RFC 4145, section 4).
+pub(crate) fn setup(value: Option<&str>) -> Option<Attribute>
+    ensures { result ≡ forms.valued (forms.saying SetupLine (forms.one_of form.setup_words)) (bytes_shown value.entry) }
 {
-    match read_password(alloc, value)? {
-        Some(password) => Ok(Item::Says(Attribute::PasswordLine(password))),
-        None => Ok(Item::Skipped),
-    }
+    let setup = read_setup(value?)?;
+    Some(Attribute::SetupLine(setup))
 }
 
-fn candidate(alloc: Global, value: &str) -> Result<Item, AllocError>
-    ensures { IfOk result (λ item. item ≡ spec.said_if CandidateLine (candidate_of value.now)) }
+/// What a `max-message-size` attribute says (RFC 8841, section 6).
+pub(crate) fn message_size(value: Option<&str>) -> Option<Attribute>
+    ensures { result ≡ forms.valued (forms.saying MessageSizeLine spec_number) (bytes_shown value.entry) }
 {
-    let Some(candidate) = read_candidate(alloc, value)? else {
-        return Ok(Item::Skipped);
+    let size = number(value?)?;
+    Some(Attribute::MessageSizeLine(size))
+}
+
+/// What an `ice-ufrag` attribute says (RFC 8839, section 5.4).
+pub(crate) fn ufrag(alloc: Global, value: Option<&str>) -> Result<Option<Attribute>, AllocError>
+    ensures { IfOk result (λ read. read ≡ forms.valued (forms.saying UfragLine (forms.word_up_to 255)) (bytes_shown value.entry)) }
+{
+    let Some(value) = value else {
+        return Ok(None);
     };
-    Ok(Item::Says(Attribute::CandidateLine(candidate)))
-}
-
-fn sctp_init(alloc: Global, value: &str) -> Result<Item, AllocError>
-    ensures { IfOk result (λ item. item ≡ spec.said_if SctpInitLine (sctp_init_of value.now)) }
-{
-    match read_sctp_init(alloc, value)? {
-        Some(chunk) => Ok(Item::Says(Attribute::SctpInitLine(chunk))),
-        None => Ok(Item::Skipped),
+    match read_ufrag(alloc, value)? {
+        Some(ufrag) => Ok(Some(Attribute::UfragLine(ufrag))),
+        None => Ok(None),
     }
 }
 
-/// What an attribute of a connection, or else of a media line, says.
-pub(crate) fn connection_valued(alloc: Global, name: &str, value: &str) -> Result<Item, AllocError>
-    ensures { IfOk result (λ item. item ≡ spec.connection_valued name.now value.now) }
+/// What an `ice-pwd` attribute says (RFC 8839, section 5.4).
+pub(crate) fn password(alloc: Global, value: Option<&str>) -> Result<Option<Attribute>, AllocError>
+    ensures { IfOk result (λ read. read ≡ forms.valued (forms.saying PasswordLine (forms.word_up_to 256)) (bytes_shown value.entry)) }
 {
-    if name == "ice-ufrag" {
-        ufrag(alloc, value)
-    } else if name == "ice-pwd" {
-        password(alloc, value)
-    } else if name == "fingerprint" {
-        let fingerprint = read_fingerprint(alloc, value)?;
-        Ok(Item::Says(Attribute::FingerprintLine(fingerprint)))
-    } else if name == "candidate" {
-        candidate(alloc, value)
-    } else if name == "max-message-size" {
-        Ok(Item::Says(Attribute::MessageSizeLine(number(value))))
-    } else if name == "sctp-init" {
-        sctp_init(alloc, value)
-    } else {
-        media_valued(alloc, name, value)
+    let Some(value) = value else {
+        return Ok(None);
+    };
+    match read_password(alloc, value)? {
+        Some(password) => Ok(Some(Attribute::PasswordLine(password))),
+        None => Ok(None),
+    }
+}
+
+/// What a `fingerprint` attribute says (RFC 8122, section 5).
+pub(crate) fn fingerprint(
+    alloc: Global,
+    value: Option<&str>,
+) -> Result<Option<Attribute>, AllocError>
+    ensures { IfOk result (λ read. read ≡ forms.valued (forms.saying FingerprintLine form.fingerprint) (bytes_shown value.entry)) }
+{
+    let Some(value) = value else {
+        return Ok(None);
+    };
+    match read_fingerprint(alloc, value)? {
+        Some(fingerprint) => Ok(Some(Attribute::FingerprintLine(fingerprint))),
+        None => Ok(None),
+    }
+}
+
+/// What a `candidate` attribute says (RFC 8839, section 5.1).
+pub(crate) fn candidate(alloc: Global, value: Option<&str>) -> Result<Option<Attribute>, AllocError>
+    ensures { IfOk result (λ read. read ≡ forms.valued (forms.saying CandidateLine form.candidate) (bytes_shown value.entry)) }
+{
+    let Some(value) = value else {
+        return Ok(None);
+    };
+    match read_candidate(alloc, value)? {
+        Some(candidate) => Ok(Some(Attribute::CandidateLine(candidate))),
+        None => Ok(None),
+    }
+}
+
+/// What an `sctp-init` attribute says (draft-hancke-tsvwg-snap).
+pub(crate) fn sctp_init(alloc: Global, value: Option<&str>) -> Result<Option<Attribute>, AllocError>
+    ensures { IfOk result (λ read. read ≡ forms.valued (forms.saying SctpInitLine forms.spaceless) (bytes_shown value.entry)) }
+{
+    let Some(value) = value else {
+        return Ok(None);
+    };
+    match read_sctp_init(alloc, value)? {
+        Some(chunk) => Ok(Some(Attribute::SctpInitLine(chunk))),
+        None => Ok(None),
     }
 }

@@ -1,16 +1,19 @@
 //! The form of BUNDLE groups.
-ghost use Rattle.std.specs.Prelude.{◌≡◌, IfOk, map};
+ghost use Rattle.std.specs.Prelude.{◌≡◌, IfOk, map, option_map};
 ghost use Rattle.rtc_fields.specs.Fields.{each};
-ghost use Rattle.rtc_sdp_grammar.specs.AttributeForm as spec;
+ghost use Rattle.rtc_sdp_attributes.specs.Forms.{short_token};
+ghost use Rattle.rtc_sdp_grammar.specs.declared.attribute.Attribute.TheVariants.{GroupLine};
+ghost use Rattle.rtc_sdp_grammar.specs.Table as spec;
+ghost use Rattle.rtc_sdp_grammar.specs.NameLengths.{bytes_shown};
 
-use crate::{Attribute, Item};
+use crate::Attribute;
 use rtc_fields::words;
 use rtc_sdp_values::Mid;
 use rtc_wire::Seq;
 use std::alloc::{AllocError, Global};
 
 fn mids_of(alloc: Global, words: &[&str]) -> Result<Option<Seq<Mid>>, AllocError>
-    ensures { IfOk result (λ read. read ≡ each spec.mid_of (map (λ word. word.now) words.now)) }
+    ensures { IfOk result (λ read. read ≡ each short_token (map (λ word. word.now) words.now)) }
 {
     let mut mids = Vec::new(alloc);
     for word in words {
@@ -22,15 +25,25 @@ fn mids_of(alloc: Global, words: &[&str]) -> Result<Option<Seq<Mid>>, AllocError
     Ok(Some(Seq::new(mids)))
 }
 
-/// What the value of a `group` attribute says (RFC 8843, section 7.1).
-pub(crate) fn group(alloc: Global, value: &str) -> Result<Item, AllocError>
-    ensures { IfOk result (λ item. item ≡ spec.group value.now) }
+fn bundle(alloc: Global, mids: &[&str]) -> Result<Option<Attribute>, AllocError>
+    ensures { IfOk result (λ read. read ≡ option_map GroupLine (each short_token (map (λ word. word.now) mids.now))) }
 {
+    match mids_of(alloc, mids)? {
+        Some(mids) => Ok(Some(Attribute::GroupLine(mids))),
+        None => Ok(None),
+    }
+}
+
+/// What a `group` attribute says (RFC 8843, section 7.1); None where a mid of its BUNDLE is malformed.
+pub(crate) fn group(alloc: Global, value: Option<&str>) -> Result<Option<Attribute>, AllocError>
+    ensures { IfOk result (λ read. read ≡ spec.group (bytes_shown value.entry)) }
+{
+    let Some(value) = value else {
+        return Ok(Some(Attribute::OtherGroup));
+    };
     let fields = words(alloc, value)?;
     match fields.as_slice() {
-        [first, rest @ ..] if *first == "BUNDLE" => Ok(Item::Says(Attribute::GroupLine(mids_of(
-            alloc, rest,
-        )?))),
-        _ => Ok(Item::Skipped),
+        [first, rest @ ..] if *first == "BUNDLE" => bundle(alloc, rest),
+        _ => Ok(Some(Attribute::OtherGroup)),
     }
 }

@@ -1,5 +1,5 @@
 //! What lines say.
-use crate::{Attribute, MediaHead};
+use crate::{Attribute, Level, MediaHead, Strict};
 
 /// What one line of a session description says by itself (RFC 8866, section 5).
 #[derive(Debug, Drop)]
@@ -18,6 +18,8 @@ pub enum Item {
     Origin(u64),
     /// What an `m=` line says.
     Media(MediaHead),
-    /// What an `a=` line says.
-    Says(Attribute),
+    /// What an `a=` line says, where it counts.
+    Says(Level, Attribute),
+    /// A malformed `a=` line, which refuses the text where it counts.
+    Malformed(Level, Strict),
 }

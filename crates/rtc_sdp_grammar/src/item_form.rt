@@ -1,5 +1,5 @@
 //! The form of lines.
-ghost use Rattle.std.specs.Prelude.{◌≡◌, IfOk, map};
+ghost use Rattle.std.specs.Prelude.{◌≡◌, IfOk};
 ghost use Rattle.std.specs.Char.{is_ascii_lowercase};
 ghost use Rattle.std.specs.List.{list_all};
 ghost use Rattle.rtc_sdp_grammar.specs.ItemForm as spec;
@@ -7,7 +7,7 @@ ghost use Rattle.rtc_sdp_grammar.specs.ItemForm as spec;
 use crate::Item;
 use crate::attribute_form::attribute;
 use crate::media_form::{is_filled, media};
-use rtc_fields::{cut, lines, number, words};
+use rtc_fields::{cut, number, words};
 use std::alloc::{AllocError, Global};
 
 fn origin(alloc: Global, value: &str) -> Result<Item, AllocError>
@@ -66,8 +66,9 @@ fn lettered(alloc: Global, name: &str, value: &str) -> Result<Item, AllocError>
     }
 }
 
+/// What one line says (RFC 8866, section 5).
 #[tactic(auto, using(crate::proofs::WordLemmas::blank_line, crate::proofs::WordLemmas::other_line))]
-fn item_of(alloc: Global, line: &str) -> Result<Item, AllocError>
+pub fn item_of(alloc: Global, line: &str) -> Result<Item, AllocError>
     ensures { IfOk result (λ item. item ≡ spec.item_of line.now) }
 {
     if line.is_empty() {
@@ -77,17 +78,4 @@ fn item_of(alloc: Global, line: &str) -> Result<Item, AllocError>
         None => Ok(Item::Bad),
         Some((name, value)) => lettered(alloc, name, value),
     }
-}
-
-/// What the lines of a text say, one by one (RFC 8866, section 5).
-pub fn items_of(alloc: Global, text: &str) -> Result<Vec<Item>, AllocError>
-    ensures { IfOk result (λ items. items.items ≡ spec.items_of text.now) }
-{
-    let lines = lines(alloc, text)?;
-    let mut items = Vec::with_capacity(alloc, lines.len())?;
-    for line in &lines {
-        let item = item_of(alloc, line)?;
-        items.push(item)?;
-    }
-    Ok(items)
 }

@@ -1,12 +1,7 @@
-//! The form of the attributes of a media line.
+//! The attributes of a media line, each by its row of the table.
 ghost use Rattle.std.specs.Prelude.{◌≡◌, IfOk};
-ghost use Rattle.rtc_sdp_attributes.specs.RtpmapValue.{rtpmap_of};
-ghost use Rattle.rtc_sdp_attributes.specs.FmtpValue.{fmtp_of};
-ghost use Rattle.rtc_sdp_attributes.specs.ExtmapValue.{extmap_of};
-ghost use Rattle.rtc_sdp_attributes.specs.MsidValue.{msid_of};
-ghost use Rattle.rtc_sdp_attributes.specs.RidValue.{rid_of};
-ghost use Rattle.rtc_sdp_attributes.specs.SimulcastValue.{simulcast_of};
-ghost use Rattle.rtc_sdp_attributes.specs.SsrcValue.{ssrc_name_of, ssrc_pair_of};
+ghost use Rattle.rtc_sdp_attributes.specs.Forms as forms;
+ghost use Rattle.rtc_sdp_attributes.specs.AttributeForms as form;
 ghost use Rattle.rtc_sdp_grammar.specs.declared.attribute.Attribute.TheVariants.{
   CodecLine,
   ParametersLine,
@@ -17,108 +12,111 @@ ghost use Rattle.rtc_sdp_grammar.specs.declared.attribute.Attribute.TheVariants.
   SourceLine,
   SourcePairLine,
 };
-ghost use Rattle.rtc_sdp_grammar.specs.AttributeForm as spec;
+ghost use Rattle.rtc_sdp_grammar.specs.NameLengths.{bytes_shown};
 
-use crate::{Attribute, Item};
+use crate::Attribute;
 use rtc_sdp_attributes::{
     read_extmap, read_fmtp, read_msid, read_rid, read_rtpmap, read_simulcast, read_ssrc_name,
     read_ssrc_pair,
 };
 use std::alloc::{AllocError, Global};
 
-fn codec(alloc: Global, value: &str) -> Result<Item, AllocError>
-    ensures { IfOk result (λ item. item ≡ spec.said_if CodecLine (rtpmap_of value.now)) }
+/// What an `rtpmap` attribute says (RFC 8866, section 6.6).
+pub(crate) fn codec(alloc: Global, value: Option<&str>) -> Result<Option<Attribute>, AllocError>
+    ensures { IfOk result (λ read. read ≡ forms.valued (forms.saying CodecLine form.rtpmap) (bytes_shown value.entry)) }
 {
+    let Some(value) = value else {
+        return Ok(None);
+    };
     match read_rtpmap(alloc, value)? {
-        Some(codec) => Ok(Item::Says(Attribute::CodecLine(codec))),
-        None => Ok(Item::Skipped),
+        Some(codec) => Ok(Some(Attribute::CodecLine(codec))),
+        None => Ok(None),
     }
 }
 
-fn parameters(alloc: Global, value: &str) -> Result<Item, AllocError>
-    ensures { IfOk result (λ item. item ≡ spec.said_if ParametersLine (fmtp_of value.now)) }
+/// What an `fmtp` attribute says (RFC 8866, section 6.15).
+pub(crate) fn parameters(
+    alloc: Global,
+    value: Option<&str>,
+) -> Result<Option<Attribute>, AllocError>
+    ensures { IfOk result (λ read. read ≡ forms.valued (forms.saying ParametersLine form.fmtp) (bytes_shown value.entry)) }
 {
+    let Some(value) = value else {
+        return Ok(None);
+    };
     match read_fmtp(alloc, value)? {
-        Some(fmtp) => Ok(Item::Says(Attribute::ParametersLine(fmtp))),
-        None => Ok(Item::Skipped),
+        Some(fmtp) => Ok(Some(Attribute::ParametersLine(fmtp))),
+        None => Ok(None),
     }
 }
 
-fn extension(value: &str) -> Item
-    ensures { result ≡ spec.said_if ExtensionLine (extmap_of value.now) }
+/// What an `extmap` attribute says (RFC 8285, section 8).
+pub(crate) fn extension(value: Option<&str>) -> Option<Attribute>
+    ensures { result ≡ forms.valued (forms.saying ExtensionLine form.extmap) (bytes_shown value.entry) }
 {
-    match read_extmap(value) {
-        Some(row) => Item::Says(Attribute::ExtensionLine(row)),
-        None => Item::Skipped,
-    }
+    let row = read_extmap(value?)?;
+    Some(Attribute::ExtensionLine(row))
 }
 
-fn stream(alloc: Global, value: &str) -> Result<Item, AllocError>
-    ensures { IfOk result (λ item. item ≡ spec.said_if StreamLine (msid_of value.now)) }
+/// What an `msid` attribute says (RFC 8830, section 2).
+pub(crate) fn stream(alloc: Global, value: Option<&str>) -> Result<Option<Attribute>, AllocError>
+    ensures { IfOk result (λ read. read ≡ forms.valued (forms.saying StreamLine form.msid) (bytes_shown value.entry)) }
 {
+    let Some(value) = value else {
+        return Ok(None);
+    };
     match read_msid(alloc, value)? {
-        Some(msid) => Ok(Item::Says(Attribute::StreamLine(msid))),
-        None => Ok(Item::Skipped),
+        Some(msid) => Ok(Some(Attribute::StreamLine(msid))),
+        None => Ok(None),
     }
 }
 
-fn layer(alloc: Global, value: &str) -> Result<Item, AllocError>
-    ensures { IfOk result (λ item. item ≡ spec.said_if LayerLine (rid_of value.now)) }
+/// What a `rid` attribute says (RFC 8851, section 4).
+pub(crate) fn layer(alloc: Global, value: Option<&str>) -> Result<Option<Attribute>, AllocError>
+    ensures { IfOk result (λ read. read ≡ forms.valued (forms.saying LayerLine form.rid) (bytes_shown value.entry)) }
 {
+    let Some(value) = value else {
+        return Ok(None);
+    };
     match read_rid(alloc, value)? {
-        Some(layer) => Ok(Item::Says(Attribute::LayerLine(layer))),
-        None => Ok(Item::Skipped),
+        Some(layer) => Ok(Some(Attribute::LayerLine(layer))),
+        None => Ok(None),
     }
 }
 
-fn layer_list(alloc: Global, value: &str) -> Result<Item, AllocError>
-    ensures { IfOk result (λ item. item ≡ spec.said_if LayerListLine (simulcast_of value.now)) }
+/// What a `simulcast` attribute says (RFC 8853, section 5.1).
+pub(crate) fn layer_list(
+    alloc: Global,
+    value: Option<&str>,
+) -> Result<Option<Attribute>, AllocError>
+    ensures { IfOk result (λ read. read ≡ forms.valued (forms.saying LayerListLine form.simulcast) (bytes_shown value.entry)) }
 {
+    let Some(value) = value else {
+        return Ok(None);
+    };
     match read_simulcast(alloc, value)? {
-        Some(list) => Ok(Item::Says(Attribute::LayerListLine(list))),
-        None => Ok(Item::Skipped),
+        Some(list) => Ok(Some(Attribute::LayerListLine(list))),
+        None => Ok(None),
     }
 }
 
-fn source(alloc: Global, value: &str) -> Result<Item, AllocError>
-    ensures { IfOk result (λ item. item ≡ spec.said_if SourceLine (ssrc_name_of value.now)) }
+/// What an `ssrc` attribute says (RFC 5576, section 6.1).
+pub(crate) fn source(alloc: Global, value: Option<&str>) -> Result<Option<Attribute>, AllocError>
+    ensures { IfOk result (λ read. read ≡ forms.valued (forms.saying SourceLine form.source) (bytes_shown value.entry)) }
 {
+    let Some(value) = value else {
+        return Ok(None);
+    };
     match read_ssrc_name(alloc, value)? {
-        Some(source) => Ok(Item::Says(Attribute::SourceLine(source))),
-        None => Ok(Item::Skipped),
+        Some(source) => Ok(Some(Attribute::SourceLine(source))),
+        None => Ok(None),
     }
 }
 
-fn source_pair(alloc: Global, value: &str) -> Result<Item, AllocError>
-    ensures { IfOk result (λ item. item ≡ spec.said_if SourcePairLine (ssrc_pair_of value.now)) }
+/// What an `ssrc-group` attribute says (RFC 5576, section 4.2).
+pub(crate) fn source_pair(value: Option<&str>) -> Option<Attribute>
+    ensures { result ≡ forms.valued (forms.saying SourcePairLine form.source_pair_form) (bytes_shown value.entry) }
 {
-    match read_ssrc_pair(alloc, value)? {
-        Some(pair) => Ok(Item::Says(Attribute::SourcePairLine(pair))),
-        None => Ok(Item::Skipped),
-    }
-}
-
-/// What an attribute of a media line says; others are skipped.
-pub(crate) fn media_valued(alloc: Global, name: &str, value: &str) -> Result<Item, AllocError>
-    ensures { IfOk result (λ item. item ≡ spec.media_valued name.now value.now) }
-{
-    if name == "rtpmap" {
-        codec(alloc, value)
-    } else if name == "fmtp" {
-        parameters(alloc, value)
-    } else if name == "extmap" {
-        Ok(extension(value))
-    } else if name == "msid" {
-        stream(alloc, value)
-    } else if name == "rid" {
-        layer(alloc, value)
-    } else if name == "simulcast" {
-        layer_list(alloc, value)
-    } else if name == "ssrc" {
-        source(alloc, value)
-    } else if name == "ssrc-group" {
-        source_pair(alloc, value)
-    } else {
-        Ok(Item::Skipped)
-    }
+    let pair = read_ssrc_pair(value?)?;
+    Some(Attribute::SourcePairLine(pair))
 }

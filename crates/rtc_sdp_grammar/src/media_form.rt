@@ -4,6 +4,7 @@ ghost use Rattle.std.specs.List.{list_all};
 ghost use Rattle.rtc_fields.specs.Fields.{each};
 ghost use Rattle.rtc_fields.specs.Numbers.{number_up_to as spec_number_up_to};
 ghost use Rattle.rtc_fields.specs.Tokens.{is_token as IsToken};
+ghost use Rattle.rtc_sdp_attributes.specs.Forms as filled;
 ghost use Rattle.rtc_sdp_grammar.specs.MediaForm as spec;
 ghost use Rattle.rtc_fields.specs.Once.{each_once as spec_each_once};
 
@@ -119,13 +120,13 @@ fn application_of(alloc: Global, disabled: bool, protocol: &str, formats: &[&str
 }
 
 pub(crate) fn is_filled(word: &str) -> bool
-    ensures { result ≡ spec.is_filled word.now }
+    ensures { result ≡ filled.is_filled word.now }
 {
     !word.is_empty()
 }
 
 fn are_filled(words: &[&str]) -> bool
-    ensures { result ≡ list_all (λ word. spec.is_filled word.now) words.now }
+    ensures { result ≡ list_all (λ word. filled.is_filled word.now) words.now }
 {
     words.iter().all(|word| is_filled(word))
 }

@@ -11,8 +11,8 @@ use Rattle.rtc_sdp_values.specs.declared.simulcast_layer.SimulcastLayer.{Simulca
 use Rattle.rtc_sdp_attributes.specs.declared.rid_direction.RidDirection.{RidDirection}
 use Rattle.rtc_sdp_attributes.specs.declared.rid_direction.RidDirection.TheVariants.{Send, Recv}
 use Rattle.rtc_sdp_attributes.specs.declared.rid_line.RidLine.{RidLine}
-use Rattle.rtc_sdp_attributes.specs.RidValue.{same_rid_direction}
-use Rattle.rtc_sdp_attributes.specs.SimulcastValue.{rids_in}
+use Rattle.rtc_sdp_reader.specs.Layers.{same_rid_direction}
+use Rattle.rtc_sdp_attributes.specs.AttributeTexts.{rids_in}
 use Rattle.rtc_sdp_reader.specs.Layers.{pairs_in, layers, simulcast_value}
 use Rattle.rtc_sdp_reader.specs.PlainLayers.{rid_line, rid_lines, listed, AreNamesApart}
 

@@ -5,3 +5,6 @@ pub mod PlaceLemmas
 pub mod SourceLaw
 pub mod NumberLemmas
 pub mod FirstRefusedLaw
+pub mod PutLaws
+pub mod Resume
+mod StandardFacts

@@ -9,7 +9,7 @@ use Rattle.rtc_sdp_values.specs.declared.pt.Pt.{Pt}
 use Rattle.rtc_sdp_values.specs.declared.payload_row.PayloadRow.{PayloadRow}
 use Rattle.rtc_sdp_attributes.specs.declared.fmtp.Fmtp.{Fmtp}
 use Rattle.rtc_sdp_attributes.specs.declared.rtpmap.Rtpmap.{Rtpmap}
-use Rattle.rtc_sdp_attributes.specs.FmtpValue.{apt_text, red_text}
+use Rattle.rtc_sdp_attributes.specs.AttributeTexts.{apt_text, red_text}
 use Rattle.rtc_sdp_attributes.proofs.FmtpLemmas.{apt_again, red_again}
 use Rattle.rtc_sdp_reader.specs.declared.link.Link.{Link}
 use Rattle.rtc_sdp_reader.specs.Payloads.{PayloadEntry, codec_for, fmtp_text_for, fmtp_for, entry_of, entries, link, link_of, rtx_among, red_among, payload_row_of, rows_of, payload_rows}

@@ -9,7 +9,7 @@ use Rattle.rtc_sdp_values.specs.declared.pt.Pt.{Pt}
 use Rattle.rtc_sdp_values.specs.declared.payload_row.PayloadRow.{PayloadRow}
 use Rattle.rtc_sdp_attributes.specs.declared.fmtp.Fmtp.{Fmtp}
 use Rattle.rtc_sdp_attributes.specs.declared.rtpmap.Rtpmap.{Rtpmap}
-use Rattle.rtc_sdp_attributes.specs.FmtpValue.{apt_text, red_text}
+use Rattle.rtc_sdp_attributes.specs.AttributeTexts.{apt_text, red_text}
 use Rattle.rtc_sdp_reader.specs.Payloads.{codec_for, fmtp_text_for, or_empty, fmtp_for}
 use Rattle.rtc_sdp_reader.specs.PlainPayloads.{optional_number, itself, codec_row, rtx_row, fmtp_row, own_fmtp, row_formats, formats_of, fmtps_of}
 

@@ -14,7 +14,7 @@ use Rattle.rtc_fields.specs.Fields.{first}
 use Rattle.rtc_fields.proofs.OnceLemmas.{bytes_tell}
 use Rattle.rtc_sdp_attributes.specs.declared.rid_direction.RidDirection.{RidDirection}
 use Rattle.rtc_sdp_attributes.specs.declared.rid_line.RidLine.{RidLine}
-use Rattle.rtc_sdp_attributes.specs.RidValue.{same_rid_direction}
+use Rattle.rtc_sdp_reader.specs.Layers.{same_rid_direction}
 use Rattle.rtc_sdp_reader.specs.Layers.{Pairs, pairs_in, or_no_pairs, pairs_for}
 use Rattle.rtc_sdp_reader.specs.Places.{pairs_at, AreFirst}
 

@@ -1,5 +1,5 @@
 -- The layers of a media line, from its first `simulcast` attribute and its `rid` attributes.
-use Rattle.std.specs.Prelude.{ℕ, Bool, ◌&&◌, List, [], map, Option, Some, None, if◌then◌else◌}
+use Rattle.std.specs.Prelude.{ℕ, Bool, true, false, ◌&&◌, List, [], map, Option, Some, None, if◌then◌else◌}
 use Rattle.std.specs.Str.{bytes_eq}
 use Rattle.rtc_fields.specs.Fields.{first}
 use Rattle.rtc_sdp_values.specs.declared.simulcast.Simulcast.{Simulcast}
@@ -8,10 +8,15 @@ use Rattle.rtc_sdp_attributes.specs.declared.rid_direction.RidDirection.{RidDire
 use Rattle.rtc_sdp_attributes.specs.declared.rid_direction.RidDirection.TheVariants.{Send, Recv}
 use Rattle.rtc_sdp_attributes.specs.declared.rid_line.RidLine.{RidLine}
 use Rattle.rtc_sdp_attributes.specs.declared.simulcast_line.SimulcastLine.{SimulcastLine}
-use Rattle.rtc_sdp_attributes.specs.RidValue.{same_rid_direction}
 
 abbrev pub Pairs : Type 0
 Pairs = List (List ℕ × List ℕ)
+
+abbrev pub same_rid_direction : RidDirection → RidDirection → Bool
+same_rid_direction Send Send = true
+same_rid_direction Send Recv = false
+same_rid_direction Recv Send = false
+same_rid_direction Recv Recv = true
 
 -- a `rid` attribute of a name and a direction
 abbrev pub is_rid_for : RidDirection → List ℕ → RidLine → Bool

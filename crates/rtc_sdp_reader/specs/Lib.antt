@@ -12,3 +12,4 @@ pub mod LineValue
 pub mod SessionValue
 pub mod Reading
 pub mod FirstRefused
+pub mod Putting

@@ -8,7 +8,7 @@ use Rattle.rtc_sdp_values.specs.declared.pt.Pt.{Pt}
 use Rattle.rtc_sdp_values.specs.declared.payload_row.PayloadRow.{PayloadRow}
 use Rattle.rtc_sdp_attributes.specs.declared.fmtp.Fmtp.{Fmtp}
 use Rattle.rtc_sdp_attributes.specs.declared.rtpmap.Rtpmap.{Rtpmap}
-use Rattle.rtc_sdp_attributes.specs.FmtpValue.{apt_of, red_primary_of}
+use Rattle.rtc_sdp_attributes.specs.AttributeForms.{apt, red_primary}
 use Rattle.rtc_sdp_reader.specs.declared.link.Link.{Link}
 
 -- ---- what a payload type is: the first `rtpmap` and the first `fmtp` of its number count
@@ -54,8 +54,8 @@ link pt rtx_of red_of = record { pt = pt; rtx_of = rtx_of; red_of = red_of }
 
 abbrev pub link_of : PayloadEntry → Link
 link_of entry =
-    if is_rtx_codec entry.codec.codec then link entry.codec.pt.0 (apt_of entry.fmtp) None
-    else if is_red entry.codec.codec then link entry.codec.pt.0 None (red_primary_of entry.fmtp)
+    if is_rtx_codec entry.codec.codec then link entry.codec.pt.0 (apt entry.fmtp) None
+    else if is_red entry.codec.codec then link entry.codec.pt.0 None (red_primary entry.fmtp)
     else link entry.codec.pt.0 None None
 
 abbrev pub serves : ℕ → Option ℕ → Bool

@@ -8,7 +8,7 @@ use Rattle.rtc_sdp_attributes.specs.declared.rid_direction.RidDirection.{RidDire
 use Rattle.rtc_sdp_attributes.specs.declared.rid_direction.RidDirection.TheVariants.{Send, Recv}
 use Rattle.rtc_sdp_attributes.specs.declared.rid_line.RidLine.{RidLine}
 use Rattle.rtc_sdp_attributes.specs.declared.simulcast_line.SimulcastLine.{SimulcastLine}
-use Rattle.rtc_sdp_attributes.specs.SimulcastValue.{rids_in}
+use Rattle.rtc_sdp_attributes.specs.AttributeTexts.{rids_in}
 
 abbrev pub rid_line : RidDirection → SimulcastLayer → RidLine
 rid_line direction layer = record { rid = layer.rid; direction = direction; attributes = layer.attributes }

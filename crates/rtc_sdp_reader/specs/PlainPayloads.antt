@@ -5,7 +5,7 @@ use Rattle.rtc_sdp_values.specs.declared.pt.Pt.{Pt}
 use Rattle.rtc_sdp_values.specs.declared.payload_row.PayloadRow.{PayloadRow}
 use Rattle.rtc_sdp_attributes.specs.declared.fmtp.Fmtp.{Fmtp}
 use Rattle.rtc_sdp_attributes.specs.declared.rtpmap.Rtpmap.{Rtpmap}
-use Rattle.rtc_sdp_attributes.specs.FmtpValue.{apt_text, red_text}
+use Rattle.rtc_sdp_attributes.specs.AttributeTexts.{apt_text, red_text}
 use Rattle.rtc_sdp_reader.specs.Payloads.{is_rtx_codec, is_red}
 
 -- one for a number that is there

@@ -1,26 +1,10 @@
 -- Which line refuses a text: a function of where the line stands, what it says, and the lines behind it.
-use Rattle.std.specs.Prelude.{ℕ, ◌+◌, Bool, true, false, not, List, [], ◌∷◌, Option, Some, None, if◌then◌else◌}
-use Rattle.rtc_sdp_grammar.specs.declared.attribute.Attribute.{Attribute}
-use Rattle.rtc_sdp_grammar.specs.declared.attribute.Attribute.TheVariants.{MidLine, GroupLine, SetupLine, FingerprintLine, MessageSizeLine}
+use Rattle.std.specs.Prelude.{ℕ, ◌+◌, ◌-◌, ◌^◌, min, Bool, true, false, not, List, [], ◌∷◌, Option, Some, None, if◌then◌else◌}
 use Rattle.rtc_sdp_grammar.specs.declared.item.Item.{Item}
-use Rattle.rtc_sdp_grammar.specs.declared.item.Item.TheVariants.{Blank, Bad, BadMedia, Version, Origin, Media, Says}
+use Rattle.rtc_sdp_grammar.specs.declared.item.Item.TheVariants.{Blank, Bad, BadMedia, Version, Origin, Media, Malformed}
 use Rattle.rtc_sdp_reader.specs.declared.place.Place.{Place}
 use Rattle.rtc_sdp_reader.specs.declared.place.Place.TheVariants.{First, Second, Session, Line}
-use Rattle.rtc_sdp_reader.specs.Parting.{has_one_mid}
-
--- ---- the attributes that refuse the text where they have not their form
-abbrev pub is_malformed_in_session : Attribute → Bool
-is_malformed_in_session (GroupLine None) = true
-is_malformed_in_session (SetupLine None) = true
-is_malformed_in_session (FingerprintLine None) = true
-is_malformed_in_session _ = false
-
-abbrev pub is_malformed_in_line : Attribute → Bool
-is_malformed_in_line (MidLine None) = true
-is_malformed_in_line (SetupLine None) = true
-is_malformed_in_line (FingerprintLine None) = true
-is_malformed_in_line (MessageSizeLine None) = true
-is_malformed_in_line _ = false
+use Rattle.rtc_sdp_reader.specs.Parting.{counts, has_one_mid}
 
 -- ---- one line
 -- the first line that is not empty is `v=0`
@@ -36,19 +20,19 @@ is_refused_second (Origin id) = false
 is_refused_second _ = true
 
 -- later ones have a form, and a line part has one `mid` line
-abbrev pub is_refused_later : (Attribute → Bool) → Item → List Item → Bool
-is_refused_later is_malformed Bad after = true
-is_refused_later is_malformed BadMedia after = true
-is_refused_later is_malformed (Media head) after = not (has_one_mid after)
-is_refused_later is_malformed (Says attribute) after = is_malformed attribute
-is_refused_later is_malformed _ after = false
+abbrev pub is_refused_later : Bool → Item → List Item → Bool
+is_refused_later in_line Bad after = true
+is_refused_later in_line BadMedia after = true
+is_refused_later in_line (Media head) after = not (has_one_mid after)
+is_refused_later in_line (Malformed level what) after = counts level in_line
+is_refused_later in_line _ after = false
 
 -- whether a line is refused where it stands, with the lines `after` behind it
 abbrev pub is_refused : Place → Item → List Item → Bool
 is_refused First item after = is_refused_first item
 is_refused Second item after = is_refused_second item
-is_refused Session item after = is_refused_later is_malformed_in_session item after
-is_refused Line item after = is_refused_later is_malformed_in_line item after
+is_refused Session item after = is_refused_later false item after
+is_refused Line item after = is_refused_later true item after
 
 -- where the line behind it stands
 abbrev pub next : Place → Item → Place
@@ -66,10 +50,15 @@ is_short Session = false
 is_short Line = false
 
 -- ---- the text
+-- numbers of lines stop at the greatest of 32 bits
+abbrev pub next_number : ℕ → ℕ
+next_number n = min (n + 1) (2 ^ 32 - 1)
+
 -- the number of the first refused line, where the line in front has number `n`
 abbrev pub refused_from : Place → ℕ → List Item → Option ℕ
-refused_from place n [] = if is_short place then Some (n + 1) else None
-refused_from place n (item ∷ rest) = if is_refused place item rest then Some (n + 1) else refused_from (next place item) (n + 1) rest
+refused_from place n [] = if is_short place then Some (next_number n) else None
+refused_from place n (item ∷ rest) =
+    if is_refused place item rest then Some (next_number n) else refused_from (next place item) (next_number n) rest
 
 -- the number of the first refused line, from 1; a text without its first two lines is refused behind its last
 abbrev pub refused : List Item → Option ℕ

@@ -1,5 +1,7 @@
--- What single attributes give to the value of a session description.
-use Rattle.std.specs.Prelude.{ℕ, Bool, true, List, Option, Some, None}
+-- What single attributes give to the value of a part, and the part that attributes make.
+use Rattle.std.specs.Prelude.{ℕ, Bool, true, false, List, Option, Some, None}
+use Rattle.std.specs.List.{filter_map, list_any}
+use Rattle.rtc_fields.specs.Fields.{first}
 use Rattle.rtc_sdp_values.specs.declared.extension.Extension.{Extension}
 use Rattle.rtc_sdp_values.specs.declared.msid.Msid.{Msid}
 use Rattle.rtc_sdp_values.specs.declared.ssrc.Ssrc.{Ssrc}
@@ -11,6 +13,7 @@ use Rattle.rtc_sdp_values.specs.declared.candidate.Candidate.{Candidate}
 use Rattle.rtc_sdp_values.specs.declared.direction.Direction.{Direction}
 use Rattle.rtc_sdp_values.specs.declared.fingerprint.Fingerprint.{Fingerprint}
 use Rattle.rtc_sdp_values.specs.declared.setup.Setup.{Setup}
+use Rattle.rtc_sdp_reader.specs.declared.part.Part.{Part}
 use Rattle.rtc_sdp_grammar.specs.declared.attribute.Attribute.{Attribute}
 use Rattle.rtc_sdp_grammar.specs.declared.attribute.Attribute.TheVariants.{
   MidLine,
@@ -35,13 +38,6 @@ use Rattle.rtc_sdp_grammar.specs.declared.attribute.Attribute.TheVariants.{
   SourceLine,
   SourcePairLine,
 }
-use Rattle.rtc_sdp_grammar.specs.declared.item.Item.{Item}
-use Rattle.rtc_sdp_grammar.specs.declared.item.Item.TheVariants.{Says}
-
--- what a line gives, where it says an attribute
-abbrev pub said : {B : Type 0} → (Attribute → Option B) → Item → Option B
-said gives (Says attribute) = gives attribute
-said gives _ = None
 
 abbrev pub value_or : {A : Type 0} → A → Option A → A
 value_or default None = default
@@ -49,15 +45,15 @@ value_or default (Some value) = value
 
 -- ---- the frame
 abbrev pub said_mid : Attribute → Option (List ℕ)
-said_mid (MidLine mid) = mid
+said_mid (MidLine mid) = Some mid
 said_mid _ = None
 
 abbrev pub group_of : Attribute → Option (List (List ℕ))
-group_of (GroupLine mids) = mids
+group_of (GroupLine mids) = Some mids
 group_of _ = None
 
 abbrev pub said_setup : Attribute → Option Setup
-said_setup (SetupLine setup) = setup
+said_setup (SetupLine setup) = Some setup
 said_setup _ = None
 
 abbrev pub said_direction : Attribute → Option Direction
@@ -73,12 +69,12 @@ abbrev pub said_password : Attribute → Option (List ℕ)
 said_password (PasswordLine password) = Some password
 said_password _ = None
 
-abbrev pub lite_of : Attribute → Option Bool
-lite_of LiteLine = Some true
-lite_of _ = None
+abbrev pub is_lite : Attribute → Bool
+is_lite LiteLine = true
+is_lite _ = false
 
 abbrev pub said_fingerprint : Attribute → Option Fingerprint
-said_fingerprint (FingerprintLine fingerprint) = fingerprint
+said_fingerprint (FingerprintLine fingerprint) = Some fingerprint
 said_fingerprint _ = None
 
 abbrev pub said_candidate : Attribute → Option Candidate
@@ -86,7 +82,7 @@ said_candidate (CandidateLine candidate) = Some candidate
 said_candidate _ = None
 
 abbrev pub message_size_of : Attribute → Option ℕ
-message_size_of (MessageSizeLine size) = size
+message_size_of (MessageSizeLine size) = Some size
 message_size_of _ = None
 
 abbrev pub said_sctp_init : Attribute → Option (List ℕ)
@@ -129,3 +125,28 @@ said_source _ = None
 abbrev pub source_pair_of : Attribute → Option (Ssrc × Ssrc)
 source_pair_of (SourcePairLine pair) = Some pair
 source_pair_of _ = None
+
+-- ---- the part: of an attribute that counts once, the first counts
+abbrev pub part_said : List Attribute → Part
+part_said said = record {
+  mid = first said_mid said;
+  groups = filter_map group_of said;
+  setup = first said_setup said;
+  dir = first said_direction said;
+  ufrag = first said_ufrag said;
+  pass = first said_password said;
+  lite = list_any is_lite said;
+  fingerprint = first said_fingerprint said;
+  candidates = filter_map said_candidate said;
+  max_message_size = first message_size_of said;
+  sctp_init = first said_sctp_init said;
+  codecs = filter_map codec_of said;
+  parameters = filter_map parameters_of said;
+  exts = filter_map extension_of said;
+  msid = first said_stream said;
+  layers = filter_map layer_of said;
+  layer_list = first layer_list_of said;
+  cname = first cname_of said;
+  sources = filter_map said_source said;
+  pairs = filter_map source_pair_of said;
+}

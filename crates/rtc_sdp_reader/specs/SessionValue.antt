@@ -1,26 +1,30 @@
 -- The value of a session description.
-use Rattle.std.specs.Prelude.{ℕ, List, Option, Some, None, false}
-use Rattle.std.specs.List.{filter_map}
+use Rattle.std.specs.Prelude.{ℕ, false, List, Option, Some, None}
 use Rattle.rtc_fields.specs.Fields.{first}
+use Rattle.rtc_sdp_values.specs.declared.media_line.MediaLine.{MediaLine}
 use Rattle.rtc_sdp_values.specs.declared.sdp.Sdp.{Sdp}
 use Rattle.rtc_sdp_grammar.specs.declared.item.Item.{Item}
 use Rattle.rtc_sdp_grammar.specs.declared.item.Item.TheVariants.{Origin}
-use Rattle.rtc_sdp_reader.specs.Parting.{inner}
-use Rattle.rtc_sdp_reader.specs.Said.{said, value_or, group_of, said_setup, lite_of, said_fingerprint}
-use Rattle.rtc_sdp_reader.specs.LineValue.{creds_in, lines_of}
+use Rattle.rtc_sdp_reader.specs.declared.part.Part.{Part}
+use Rattle.rtc_sdp_reader.specs.Parting.{attributes}
+use Rattle.rtc_sdp_reader.specs.Said.{value_or, part_said}
+use Rattle.rtc_sdp_reader.specs.LineValue.{creds_made, lines_of}
 
 abbrev pub origin_of : Item → Option ℕ
 origin_of (Origin id) = Some id
 origin_of _ = None
 
+abbrev pub sdp_made : Option ℕ → Part → List MediaLine → Sdp
+sdp_made id session lines = record {
+  id = value_or 0 id;
+  groups = session.groups;
+  ice_lite = session.lite;
+  creds = creds_made session.ufrag session.pass;
+  fingerprint = session.fingerprint;
+  setup = session.setup;
+  lines = lines;
+}
+
 -- the value that lines give: attributes in front of the first `m=` line are those of the session
 unfoldable pub sdp_of : List Item → Sdp
-sdp_of items = record {
-  id = value_or 0 (first origin_of items);
-  groups = filter_map (said group_of) (inner items);
-  ice_lite = value_or false (first (said lite_of) (inner items));
-  creds = creds_in (inner items);
-  fingerprint = first (said said_fingerprint) (inner items);
-  setup = first (said said_setup) (inner items);
-  lines = lines_of items;
-}
+sdp_of items = sdp_made (first origin_of items) (part_said (attributes false items)) (lines_of items)

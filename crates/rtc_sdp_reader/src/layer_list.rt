@@ -1,7 +1,7 @@
 //! The layers of a media line.
 ghost use Rattle.rtc_sdp_reader.specs.Places.{AreFirst, pairs_at as PairsAt};
 ghost use Rattle.std.specs.Prelude.{length, ◌≡◌, map, IfOk};
-ghost use Rattle.rtc_sdp_attributes.specs.RidValue.{same_rid_direction};
+ghost use Rattle.rtc_sdp_reader.specs.Layers.{same_rid_direction};
 ghost use Rattle.rtc_sdp_reader.specs.Layers as spec;
 
 use rtc_sdp_attributes::{RidDirection, RidLine, SimulcastLine};

@@ -1,29 +1,29 @@
 -- Groups of written lines, each with what its lines say.
-use Rattle.std.proofs.Common.{◌≡◌, ℕ, Bool, true, false, cond, eqb, List, [], ◌∷◌, ◌++◌, map, Option, Some, None, refl, sym, ap, subst, ◌∙◌, inl, inr, length}
+use Rattle.std.proofs.Common.{◌≡◌, ℕ, Bool, true, false, cond, eqb, List, [], ◌∷◌, ◌++◌, map, Option, Some, None, refl, sym, ap, subst, ◌∙◌, inl, inr}
 use Rattle.std.specs.Prelude.{filter, IfSome}
-use Rattle.std.specs.List.{AllByRecursion, filter_map, count_by, list_any}
+use Rattle.std.specs.List.{AllByRecursion, filter_map, list_any}
 use Rattle.std.proofs.lemmas.Bool.Decides.{eqb_tells}
 use Rattle.std.proofs.lemmas.List.{map-append}
 use Rattle.std.proofs.lemmas.List.Elements.{filter_map-append, filter-append}
-use Rattle.std.proofs.lemmas.List.Sums.{length-filter}
 use Rattle.std.specs.Option.{option_or}
 use Rattle.rtc_fields.specs.Fields.{first}
 use Rattle.rtc_fields.specs.Lines.{AreLines}
 use Rattle.rtc_fields.proofs.LineLemmas.{AreLines-append}
 use Rattle.rtc_sdp_grammar.specs.declared.attribute.Attribute.{Attribute}
-use Rattle.rtc_sdp_grammar.specs.declared.attribute.Attribute.TheVariants.{MidLine, GroupLine, SetupLine, DirectionLine, UfragLine, PasswordLine, LiteLine, FingerprintLine, CandidateLine, MessageSizeLine, SctpInitLine}
+use Rattle.rtc_sdp_grammar.specs.declared.attribute.Attribute.TheVariants.{MidLine, GroupLine, OtherGroup, SetupLine, DirectionLine, UfragLine, PasswordLine, LiteLine, FingerprintLine, CandidateLine, MessageSizeLine, SctpInitLine}
 use Rattle.rtc_sdp_grammar.specs.declared.attribute.Attribute.TheVariants.{CodecLine, ParametersLine, ExtensionLine, StreamLine, LayerLine, LayerListLine, SourceLine, SourcePairLine}
 use Rattle.rtc_sdp_grammar.specs.declared.item.Item.{Item}
-use Rattle.rtc_sdp_grammar.specs.declared.item.Item.TheVariants.{Skipped, Says}
+use Rattle.rtc_sdp_grammar.specs.declared.item.Item.TheVariants.{Skipped, Says, Malformed}
 use Rattle.rtc_sdp_grammar.specs.ItemForm.{item_of}
 use Rattle.rtc_sdp_grammar.proofs.LineLaws.{IsLineOf}
-use Rattle.rtc_sdp_reader.specs.Refusal.{is_malformed_in_session, is_malformed_in_line}
+use Rattle.rtc_sdp_reader.specs.Parting.{counts}
 use Rattle.rtc_sdp_writer.specs.Rows.{single, optional}
 
 -- ---- the table of attributes: a number for each
 abbrev pub attribute_tag : Attribute → ℕ
 attribute_tag (MidLine mid) = 1
 attribute_tag (GroupLine mids) = 2
+attribute_tag OtherGroup = 2
 attribute_tag (SetupLine setup) = 3
 attribute_tag (DirectionLine dir) = 4
 attribute_tag (UfragLine ufrag) = 5
@@ -44,14 +44,27 @@ attribute_tag (SourcePairLine pair) = 19
 
 -- that of the attribute that a line says
 abbrev pub tag_of : Item → ℕ
-tag_of (Says attribute) = attribute_tag attribute
+tag_of (Says level attribute) = attribute_tag attribute
+tag_of (Malformed level what) = 1
 tag_of _ = 0
 
--- a line inside of a part that no place refuses
+-- attributes of line parts
+abbrev pub is_for_lines : Attribute → Bool
+is_for_lines (GroupLine mids) = false
+is_for_lines OtherGroup = false
+is_for_lines LiteLine = false
+is_for_lines _ = true
+
+-- a line inside of a part that counts there
 abbrev pub IsSaid : Item → Type 0
 IsSaid Skipped = Unit {0}
-IsSaid (Says attribute) = (is_malformed_in_session attribute ≡ false) × (is_malformed_in_line attribute ≡ false)
+IsSaid (Says level attribute) = counts level (is_for_lines attribute) ≡ true
 IsSaid _ = ⊥
+
+-- what a line gives, where it says an attribute
+abbrev pub said : {B : Type 0} → (Attribute → Option B) → Item → Option B
+said gives (Says level attribute) = gives attribute
+said gives _ = None
 
 -- a number among these
 abbrev pub has_tag : ℕ → List ℕ → Bool
@@ -281,7 +294,3 @@ module _ (tag : ℕ) (test : Item → Bool) (tests : TestsOnly tag test) where
       go : (b : Bool) → has_tag tag block.tags ≡ b → filter test (items_in rest) ≡ filter test (items_in (of_tag tag rest)) → filter test (block.items ++ items_in rest) ≡ filter test (items_in (cond b (block ∷ of_tag tag rest) (of_tag tag rest)))
       go true t ih = filter-append test block.items (items_in rest) ∙ ap (λ (l : List Item). filter test block.items ++ l) ih ∙ sym (filter-append test block.items (items_in (of_tag tag rest)))
       go false t ih = filter-append test block.items (items_in rest) ∙ rw (none_kept block.tags t block.items block.tagged) ih
-
-  -- how many pass
-  pub count_in : (blocks : List Block) → count_by test (items_in blocks) ≡ length (filter test (items_in (of_tag tag blocks)))
-  count_in blocks = sym (length-filter test (items_in blocks)) ∙ ap length (kept_in blocks)

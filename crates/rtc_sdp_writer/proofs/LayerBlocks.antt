@@ -8,8 +8,9 @@ use Rattle.rtc_sdp_values.specs.declared.simulcast_layer.SimulcastLayer.{Simulca
 use Rattle.rtc_sdp_attributes.specs.declared.rid_direction.RidDirection.{RidDirection}
 use Rattle.rtc_sdp_attributes.specs.declared.rid_direction.RidDirection.TheVariants.{Send, Recv}
 use Rattle.rtc_sdp_attributes.specs.declared.rid_line.RidLine.{RidLine}
-use Rattle.rtc_sdp_attributes.specs.RidValue.{IsPlainPair}
-use Rattle.rtc_sdp_attributes.specs.SimulcastValue.{is_listed, rids_in}
+use Rattle.rtc_sdp_attributes.specs.PlainValues.{IsPlainPair}
+use Rattle.rtc_sdp_attributes.specs.AttributeTexts.{rids_in}
+use Rattle.rtc_sdp_attributes.specs.PlainValues.{is_listed}
 use Rattle.rtc_sdp_attributes.proofs.RidLemmas.{ArePairsFree}
 use Rattle.rtc_sdp_reader.specs.Layers.{simulcast_value}
 use Rattle.rtc_sdp_reader.specs.PlainLayers.{rid_line, listed}

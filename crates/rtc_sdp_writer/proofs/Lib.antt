@@ -1,9 +1,13 @@
 pub mod Blocks
+pub mod Counted
 pub mod PayloadBlocks
 pub mod SourceBlocks
 pub mod LayerBlocks
 pub mod LineBlocks
 pub mod AttributesFound
+pub mod KindFacts
 pub mod LineFound
 pub mod Orders
+pub mod Passing
 pub mod Law
+pub mod StreamLemmas

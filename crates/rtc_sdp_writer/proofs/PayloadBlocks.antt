@@ -10,19 +10,20 @@ use Rattle.rtc_sdp_values.specs.declared.line_kind.LineKind.{LineKind}
 use Rattle.rtc_sdp_values.specs.declared.line_kind.LineKind.TheVariants.{Audio, Video, Application, Unknown}
 use Rattle.rtc_sdp_attributes.specs.declared.fmtp.Fmtp.{Fmtp}
 use Rattle.rtc_sdp_attributes.specs.declared.rtpmap.Rtpmap.{Rtpmap}
-use Rattle.rtc_sdp_attributes.specs.FmtpValue.{apt_text, red_text}
+use Rattle.rtc_sdp_attributes.specs.AttributeTexts.{apt_text, red_text}
 use Rattle.rtc_sdp_attributes.proofs.FmtpLemmas.{apt_filled, apt_lacks, red_filled, red_lacks}
 use Rattle.rtc_sdp_reader.specs.PlainPayloads.{optional_number as made_of, codec_row, rtx_row, fmtp_row, own_fmtp, codecs_of, fmtps_of, IsPayloadType}
+use Rattle.rtc_sdp_grammar.specs.declared.level.Level.TheVariants.{MediaLevel}
 use Rattle.rtc_sdp_grammar.specs.declared.attribute.Attribute.TheVariants.{CodecLine, ParametersLine}
 use Rattle.rtc_sdp_grammar.specs.declared.item.Item.{Item}
 use Rattle.rtc_sdp_grammar.specs.declared.item.Item.TheVariants.{Skipped, Says}
 use Rattle.rtc_sdp_grammar.specs.MediaTexts.{codec_line, parameters_line, feedback_line}
 use Rattle.rtc_sdp_grammar.proofs.MediaLineLaws.{IsPlainCodec, codec_line_is, IsPlainFmtp, parameters_line_is, feedback_line_is}
-use Rattle.rtc_sdp_reader.specs.Said.{said, codec_of, parameters_of}
+use Rattle.rtc_sdp_reader.specs.Said.{codec_of, parameters_of}
 use Rattle.rtc_sdp_writer.specs.MediaRows.{feedback_kinds, all_payload_lines}
 use Rattle.rtc_sdp_writer.specs.Plain.{IsPlainRow}
 use Rattle.rtc_sdp_writer.specs.Rows.{optional}
-use Rattle.rtc_sdp_writer.proofs.Blocks.{Block, AllTagged, single_block, optional_block, list_block, items_if, all_if, all_each, rows_in, items_in, has_tag, tag_of}
+use Rattle.rtc_sdp_writer.proofs.Blocks.{said, Block, AllTagged, single_block, optional_block, list_block, items_if, all_if, all_each, rows_in, items_in, has_tag, tag_of}
 
 -- ---- each line has its form
 pub own_plain : (row : PayloadRow) → IsPlainRow row → IsPlainCodec (codec_row row row.codec row.pt.0)
@@ -52,21 +53,21 @@ kinds_lack Unknown = tt
 
 -- ---- the blocks of rows
 abbrev says_codec : Rtpmap → Item
-says_codec codec = Says (CodecLine codec)
+says_codec codec = Says MediaLevel (CodecLine codec)
 
 abbrev says_parameters : Fmtp → Item
-says_parameters fmtp = Says (ParametersLine fmtp)
+says_parameters fmtp = Says MediaLevel (ParametersLine fmtp)
 
 abbrev pub payload_blocks : (kind : LineKind) (rows : List PayloadRow) → AllByRecursion IsPlainRow rows → List Block
 payload_blocks kind [] h = []
 payload_blocks kind (row ∷ rest) h =
-    single_block 12 (codec_line (codec_row row row.codec row.pt.0)) (says_codec (codec_row row row.codec row.pt.0)) (codec_line_is (codec_row row row.codec row.pt.0) (own_plain row h.0)) (refl, refl) refl
+    single_block 12 (codec_line (codec_row row row.codec row.pt.0)) (says_codec (codec_row row row.codec row.pt.0)) (codec_line_is (codec_row row row.codec row.pt.0) (own_plain row h.0)) refl refl
     ∷ (list_block 0 (feedback_line row.pt.0) (λ k. Skipped) (Lacks 10) (λ k lacks. feedback_line_is row.pt.0 k h.0.numbers.pt lacks) (λ k. tt) (λ k. refl) (feedback_kinds kind) (kinds_lack kind)
-    ∷ (list_block 13 parameters_line says_parameters IsPlainFmtp parameters_line_is (λ f. (refl, refl)) (λ f. refl) (own_fmtp row.pt.0 row.fmtp) (own_parameters row.pt.0 row.fmtp h.0.numbers.pt h.0.fmtp)
-    ∷ (optional_block 12 (λ (pt : Pt). codec_line (codec_row row (codes "red") pt.0)) (λ pt. says_codec (codec_row row (codes "red") pt.0)) IsPayloadType (λ pt k. codec_line_is (codec_row row (codes "red") pt.0) (red_plain row h.0 pt k)) (λ pt. (refl, refl)) (λ pt. refl) row.red h.0.numbers.red
-    ∷ (optional_block 13 (λ (pt : Pt). parameters_line (fmtp_row (red_text row.pt.0) pt.0)) (λ pt. says_parameters (fmtp_row (red_text row.pt.0) pt.0)) IsPayloadType (λ pt k. parameters_line_is (fmtp_row (red_text row.pt.0) pt.0) (red_parameters row.pt.0 h.0.numbers.pt pt k)) (λ pt. (refl, refl)) (λ pt. refl) row.red h.0.numbers.red
-    ∷ (optional_block 12 (λ (pt : Pt). codec_line (rtx_row row pt.0)) (λ pt. says_codec (rtx_row row pt.0)) IsPayloadType (λ pt k. codec_line_is (rtx_row row pt.0) (rtx_plain row h.0 pt k)) (λ pt. (refl, refl)) (λ pt. refl) row.rtx h.0.numbers.rtx
-    ∷ (optional_block 13 (λ (pt : Pt). parameters_line (fmtp_row (apt_text row.pt.0) pt.0)) (λ pt. says_parameters (fmtp_row (apt_text row.pt.0) pt.0)) IsPayloadType (λ pt k. parameters_line_is (fmtp_row (apt_text row.pt.0) pt.0) (rtx_parameters row.pt.0 h.0.numbers.pt pt k)) (λ pt. (refl, refl)) (λ pt. refl) row.rtx h.0.numbers.rtx
+    ∷ (list_block 13 parameters_line says_parameters IsPlainFmtp parameters_line_is (λ f. refl) (λ f. refl) (own_fmtp row.pt.0 row.fmtp) (own_parameters row.pt.0 row.fmtp h.0.numbers.pt h.0.fmtp)
+    ∷ (optional_block 12 (λ (pt : Pt). codec_line (codec_row row (codes "red") pt.0)) (λ pt. says_codec (codec_row row (codes "red") pt.0)) IsPayloadType (λ pt k. codec_line_is (codec_row row (codes "red") pt.0) (red_plain row h.0 pt k)) (λ pt. refl) (λ pt. refl) row.red h.0.numbers.red
+    ∷ (optional_block 13 (λ (pt : Pt). parameters_line (fmtp_row (red_text row.pt.0) pt.0)) (λ pt. says_parameters (fmtp_row (red_text row.pt.0) pt.0)) IsPayloadType (λ pt k. parameters_line_is (fmtp_row (red_text row.pt.0) pt.0) (red_parameters row.pt.0 h.0.numbers.pt pt k)) (λ pt. refl) (λ pt. refl) row.red h.0.numbers.red
+    ∷ (optional_block 12 (λ (pt : Pt). codec_line (rtx_row row pt.0)) (λ pt. says_codec (rtx_row row pt.0)) IsPayloadType (λ pt k. codec_line_is (rtx_row row pt.0) (rtx_plain row h.0 pt k)) (λ pt. refl) (λ pt. refl) row.rtx h.0.numbers.rtx
+    ∷ (optional_block 13 (λ (pt : Pt). parameters_line (fmtp_row (apt_text row.pt.0) pt.0)) (λ pt. says_parameters (fmtp_row (apt_text row.pt.0) pt.0)) IsPayloadType (λ pt k. parameters_line_is (fmtp_row (apt_text row.pt.0) pt.0) (rtx_parameters row.pt.0 h.0.numbers.pt pt k)) (λ pt. refl) (λ pt. refl) row.rtx h.0.numbers.rtx
     ∷ payload_blocks kind rest h.1))))))
 
 regroup : (a b c d e f g rest : List (List ℕ)) → a ++ (b ++ (c ++ (d ++ (e ++ (f ++ (g ++ rest)))))) ≡ (a ++ (b ++ (c ++ ((d ++ e) ++ (f ++ g))))) ++ rest

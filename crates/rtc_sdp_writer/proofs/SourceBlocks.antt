@@ -5,18 +5,19 @@ use Rattle.std.specs.List.{AllByRecursion, filter_map}
 use Rattle.rtc_fields.specs.Fields.{first}
 use Rattle.rtc_sdp_values.specs.declared.msid.Msid.{Msid}
 use Rattle.rtc_sdp_values.specs.declared.ssrc.Ssrc.{Ssrc}
-use Rattle.rtc_sdp_attributes.specs.MsidValue.{IsPlainMsid}
+use Rattle.rtc_sdp_attributes.specs.PlainValues.{IsPlainMsid}
 use Rattle.rtc_sdp_reader.specs.PlainSources.{numbers_of, source_pairs}
 use Rattle.rtc_sdp_values.specs.declared.media_line.MediaLine.{MediaLine}
+use Rattle.rtc_sdp_grammar.specs.declared.level.Level.TheVariants.{MediaLevel}
 use Rattle.rtc_sdp_grammar.specs.declared.attribute.Attribute.TheVariants.{SourceLine}
 use Rattle.rtc_sdp_grammar.specs.declared.item.Item.{Item}
 use Rattle.rtc_sdp_grammar.specs.declared.item.Item.TheVariants.{Skipped, Says}
 use Rattle.rtc_sdp_grammar.specs.MediaTexts.{source_line, source_stream_line}
 use Rattle.rtc_sdp_grammar.proofs.MediaLineLaws.{IsPlainSource, source_line_is, source_stream_line_is, IsPlainPair}
-use Rattle.rtc_sdp_reader.specs.Said.{said, cname_of, said_source}
+use Rattle.rtc_sdp_reader.specs.Said.{cname_of, said_source}
 use Rattle.rtc_sdp_writer.specs.MediaRows.{named, number_lines, all_source_lines}
 use Rattle.rtc_sdp_writer.specs.Plain.{IsPlainName, AreNamed}
-use Rattle.rtc_sdp_writer.proofs.Blocks.{Block, AllTagged, optional_block, items_if, all_if, rows_in, items_in, has_tag, tag_of}
+use Rattle.rtc_sdp_writer.proofs.Blocks.{said, Block, AllTagged, optional_block, items_if, all_if, rows_in, items_in, has_tag, tag_of}
 
 abbrev pub AreNumbers : List ℕ → Type 0
 AreNumbers numbers = AllByRecursion (λ ssrc. ssrc ≤ 4294967295) numbers
@@ -25,14 +26,14 @@ pub name_plain : (ssrc : ℕ) → ssrc ≤ 4294967295 → (cname : List ℕ) →
 name_plain ssrc small cname h = record { ssrc = small; some = h.some; line = h.line }
 
 abbrev says_name : ℕ → List ℕ → Item
-says_name ssrc cname = Says (SourceLine (named ssrc cname))
+says_name ssrc cname = Says MediaLevel (SourceLine (named ssrc cname))
 
 -- ---- the blocks of numbers
 module _ (cname : Option (List ℕ)) (name : IfSome cname IsPlainName) (msid : Option Msid) (stream : IfSome msid IsPlainMsid) where
   abbrev pub number_blocks : (numbers : List ℕ) → AreNumbers numbers → List Block
   number_blocks [] h = []
   number_blocks (n ∷ ns) h =
-      optional_block 18 (λ (c : List ℕ). source_line (named n c)) (says_name n) IsPlainName (λ c k. source_line_is (named n c) (name_plain n h.0 c k)) (λ c. (refl, refl)) (λ c. refl) cname name
+      optional_block 18 (λ (c : List ℕ). source_line (named n c)) (says_name n) IsPlainName (λ c k. source_line_is (named n c) (name_plain n h.0 c k)) (λ c. refl) (λ c. refl) cname name
       ∷ (optional_block 0 (source_stream_line n) (λ m. Skipped) IsPlainMsid (λ m k. source_stream_line_is n m h.0 k) (λ m. tt) (λ m. refl) msid stream
       ∷ number_blocks ns h.1)
 

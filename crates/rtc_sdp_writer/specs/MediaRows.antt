@@ -10,7 +10,7 @@ use Rattle.rtc_sdp_values.specs.declared.simulcast.Simulcast.{Simulcast}
 use Rattle.rtc_sdp_values.specs.declared.ssrc.Ssrc.{Ssrc}
 use Rattle.rtc_sdp_attributes.specs.declared.rid_line.RidLine.{RidLine}
 use Rattle.rtc_sdp_attributes.specs.declared.ssrc_name.SsrcName.{SsrcName}
-use Rattle.rtc_sdp_attributes.specs.FmtpValue.{apt_text, red_text}
+use Rattle.rtc_sdp_attributes.specs.AttributeTexts.{apt_text, red_text}
 use Rattle.rtc_sdp_reader.specs.PlainLayers.{rid_lines}
 use Rattle.rtc_sdp_reader.specs.PlainPayloads.{codec_row, rtx_row, fmtp_row, own_fmtp}
 use Rattle.rtc_sdp_grammar.specs.MediaTexts.{codec_line, parameters_line, feedback_line, source_line, source_stream_line}

@@ -8,14 +8,15 @@ use Rattle.rtc_sdp_values.specs.declared.payload_row.PayloadRow.{PayloadRow}
 use Rattle.rtc_sdp_values.specs.declared.simulcast.Simulcast.{Simulcast}
 use Rattle.rtc_sdp_values.specs.declared.simulcast_layer.SimulcastLayer.{SimulcastLayer}
 use Rattle.rtc_sdp_values.specs.declared.ssrc.Ssrc.{Ssrc}
-use Rattle.rtc_sdp_attributes.specs.MsidValue.{IsPlainMsid}
-use Rattle.rtc_sdp_attributes.specs.RidValue.{IsPlainPair}
-use Rattle.rtc_sdp_attributes.specs.SimulcastValue.{IsPlainList, rids_in}
+use Rattle.rtc_sdp_attributes.specs.PlainValues.{IsPlainMsid}
+use Rattle.rtc_sdp_attributes.specs.PlainValues.{IsPlainPair}
+use Rattle.rtc_sdp_attributes.specs.AttributeTexts.{rids_in}
+use Rattle.rtc_sdp_attributes.specs.PlainValues.{IsPlainList}
 use Rattle.rtc_sdp_reader.specs.PlainPayloads.{IsPlainPayload, AreApart}
-use Rattle.rtc_sdp_reader.specs.PlainSources.{numbers_of, AreNumbersApart}
-use Rattle.rtc_sdp_attributes.specs.CandidateValue.{IsPlainCandidate}
-use Rattle.rtc_sdp_attributes.specs.FingerprintValue.{IsPlainFingerprint}
-use Rattle.rtc_sdp_attributes.specs.WordValue.{is_word_up_to, is_spaceless}
+use Rattle.rtc_sdp_reader.specs.PlainSources.{numbers_of}
+use Rattle.rtc_sdp_attributes.specs.PlainValues.{IsPlainCandidate}
+use Rattle.rtc_sdp_attributes.specs.PlainValues.{IsPlainFingerprint}
+use Rattle.rtc_sdp_attributes.specs.Forms.{is_word_up_to, is_spaceless}
 use Rattle.rtc_sdp_values.specs.declared.candidate.Candidate.{Candidate}
 use Rattle.rtc_sdp_values.specs.declared.candidate_kind.CandidateKind.TheVariants.{Host}
 use Rattle.rtc_sdp_values.specs.declared.direction.Direction.TheVariants.{SendRecv}
@@ -26,6 +27,7 @@ use Rattle.rtc_sdp_values.specs.declared.line_kind.LineKind.TheVariants.{Audio, 
 use Rattle.rtc_sdp_values.specs.declared.media_line.MediaLine.{MediaLine}
 use Rattle.rtc_sdp_values.specs.declared.sdp.Sdp.{Sdp}
 use Rattle.rtc_wire.specs.declared.protocol.Protocol.TheVariants.{Udp}
+use Rattle.rtc_sdp_writer.specs.AsRead.{AreSourcesApart}
 use Rattle.rtc_sdp_writer.specs.SessionRows.{enabled_mids}
 
 -- ---- texts and numbers have the form that is read; none holds a line's end
@@ -113,7 +115,7 @@ SuitsKind Video line = IsMediumLine line
 SuitsKind Application line = IsChannelLine line
 SuitsKind Unknown line = ⊥
 
-pub record IsPlainLine (line : MediaLine) : Type 0 where
+pub record IsLegibleLine (line : MediaLine) : Type 0 where
   pub kind : SuitsKind line.kind line
   pub mid : is_short_token line.mid ≡ true
   pub candidates : AllByRecursion IsHost line.candidates
@@ -129,7 +131,6 @@ pub record IsPlainLine (line : MediaLine) : Type 0 where
   pub msid : IfSome line.msid IsPlainMsid
   pub cname : IfSome line.cname IsPlainName
   pub ssrcs : AllByRecursion (λ ssrc. ssrc ≤ 4294967295) (numbers_of line.ssrcs)
-  pub ssrcs_apart : AreNumbersApart line.ssrcs
   pub max_message_size : IfSome line.max_message_size (λ size. size < 2 ^ 64)
   pub sctp_init : IfSome line.sctp_init IsPlainChunk
 
@@ -141,11 +142,17 @@ abbrev pub StandFirst : List MediaLine → Type 0
 StandFirst [] = Unit {0}
 StandFirst (line ∷ rest) = AreBare rest
 
-pub record IsPlain (sdp : Sdp) : Type 0 where
+-- what is written of a value is read again; its sources may repeat
+pub record IsLegible (sdp : Sdp) : Type 0 where
   pub id : sdp.id < 2 ^ 64
   pub groups : sdp.groups ≡ enabled_mids sdp.lines ∷ []
   pub creds : sdp.creds ≡ None
   pub fingerprint : sdp.fingerprint ≡ None
   pub setup : sdp.setup ≡ None
-  pub lines : AllByRecursion IsPlainLine sdp.lines
+  pub lines : AllByRecursion IsLegibleLine sdp.lines
   pub candidates : StandFirst sdp.lines
+
+-- and as it is, where no source of a line stands twice
+pub record IsPlain (sdp : Sdp) : Type 0 where
+  pub legible : IsLegible sdp
+  pub apart : AreSourcesApart sdp.lines

@@ -1,11 +1,18 @@
-//! The law of writing and reading.
+//! The laws of writing and reading.
 ghost use Rattle.std.specs.Prelude.{◌≡◌, Ok};
 ghost use Rattle.rtc_sdp_values.specs.declared.sdp.Sdp.{Sdp};
 ghost use Rattle.rtc_sdp_reader.specs.Reading.{reading};
-ghost use Rattle.rtc_sdp_writer.specs.Plain.{IsPlain};
+ghost use Rattle.rtc_sdp_writer.specs.AsRead.{as_read};
+ghost use Rattle.rtc_sdp_writer.specs.Plain.{IsLegible, IsPlain};
 ghost use Rattle.rtc_sdp_writer.specs.SessionRows.{written_sdp};
+
+/// The text of a legible value reads as that value with the sources that its lines give, also where sources repeat.
+pub fn written_text_reads_again()
+    ensures { (sdp : Sdp) → IsLegible sdp → reading (written_sdp sdp) ≡ Ok (as_read sdp) }
+{}
 
 /// The text of a plain value reads as that value.
 pub fn written_text_reads_back()
-    ensures { (sdp : Sdp) → IsPlain sdp → reading (written_sdp sdp) ≡ Ok sdp }
+    ensures back { (sdp : Sdp) → IsPlain sdp → reading (written_sdp sdp) ≡ Ok sdp }
+    ensures itself { (sdp : Sdp) → IsPlain sdp → as_read sdp ≡ sdp }
 {}

@@ -2,7 +2,7 @@
 ghost use Rattle.std.specs.Prelude.{◌≡◌, ◌++◌, OnOk, string_bytes, map};
 ghost use Rattle.rtc_fields.specs.Lines.{crlf, text_of};
 ghost use Rattle.rtc_sdp_grammar.specs.MediaTexts as spec;
-ghost use Rattle.rtc_sdp_attributes.specs.FmtpValue.{red_text, apt_text};
+ghost use Rattle.rtc_sdp_attributes.specs.AttributeTexts.{red_text, apt_text};
 ghost use Rattle.rtc_sdp_reader.specs.PlainPayloads.{fmtp_row, own_fmtp};
 ghost use Rattle.rtc_sdp_values.specs.declared.line_kind.LineKind.TheVariants.{Video};
 ghost use Rattle.rtc_sdp_writer.specs.MediaRows as rows;
@@ -69,7 +69,7 @@ fn put_feedback(out: &mut String, kind: LineKind, pt: Pt) -> Result<(), AllocErr
     }
 }
 
-#[tactic(auto, unfolding(rtc_sdp_grammar::specs::MediaTexts::parameters_line, rtc_sdp_attributes::specs::FmtpValue::fmtp_text))]
+#[tactic(auto, unfolding(rtc_sdp_grammar::specs::MediaTexts::parameters_line, rtc_sdp_attributes::specs::AttributeTexts::fmtp_text))]
 fn put_red_parameters(out: &mut String, red: Pt, primary: Pt) -> Result<(), AllocError>
     ensures { OnOk result (string_bytes out.new ≡ string_bytes out.old
         ++ crlf (spec.parameters_line (fmtp_row (red_text primary.0) red.0))) }
@@ -80,7 +80,7 @@ fn put_red_parameters(out: &mut String, red: Pt, primary: Pt) -> Result<(), Allo
     out.push_str("\r\n")
 }
 
-#[tactic(auto, unfolding(rtc_sdp_grammar::specs::MediaTexts::parameters_line, rtc_sdp_attributes::specs::FmtpValue::fmtp_text))]
+#[tactic(auto, unfolding(rtc_sdp_grammar::specs::MediaTexts::parameters_line, rtc_sdp_attributes::specs::AttributeTexts::fmtp_text))]
 fn put_rtx_parameters(out: &mut String, rtx: Pt, primary: Pt) -> Result<(), AllocError>
     ensures { OnOk result (string_bytes out.new ≡ string_bytes out.old
         ++ crlf (spec.parameters_line (fmtp_row (apt_text primary.0) rtx.0))) }

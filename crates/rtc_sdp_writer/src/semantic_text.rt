@@ -1,53 +1,49 @@
 //! The names of streams, put behind a text.
-ghost use Rattle.std.specs.Prelude.{◌≡◌, ◌++◌, OnOk, string_bytes};
-ghost use Rattle.std.specs.List.{list_any};
+ghost use Rattle.std.specs.Prelude.{◌≡◌, ◌++◌, ◌||◌, ℕ, List, OnOk, option_map, string_bytes};
 ghost use Rattle.rtc_fields.specs.Lines.{crlf};
 ghost use Rattle.rtc_fields.specs.Words.{spaced};
 ghost use Rattle.rtc_sdp_grammar.specs.MediaTexts.{semantic_line};
 ghost use Rattle.rtc_sdp_writer.specs.MediaRows.{shown_stream};
-ghost use Rattle.rtc_sdp_writer.specs.SessionRows as spec;
+ghost use Rattle.rtc_sdp_writer.specs.SessionRows.{is_stream, stream_names};
+ghost use Rattle.rtc_sdp_writer.specs.StreamNames as spec;
 
 use rtc_sdp_values::MediaLine;
 use std::alloc::AllocError;
+use std::collections::BTreeMap;
 use std::fmt::Write;
 
-fn has_stream(line: &MediaLine, name: &str) -> bool
-    ensures { result ≡ spec.is_stream name.now (shown_stream line.now) }
+/// The name of a line's stream, where the line shows it.
+fn shown_name(line: &MediaLine) -> Option<&str>
+    ensures { option_map (λ name. name.now) result ≡ option_map (λ msid. msid.stream_id) (shown_stream line.now) }
 {
     if line.disabled {
-        return false;
+        return None;
     }
     match &line.msid {
-        Some(msid) => msid.stream_id.as_str() == name,
-        None => false,
+        Some(msid) => Some(msid.stream_id.as_str()),
+        None => None,
     }
 }
 
-fn is_known(front: &[MediaLine], name: &str) -> bool
-    ensures { result ≡ list_any (λ line. spec.is_stream name.now (shown_stream line)) front.now }
+/// The name of the stream of the line at a place, unless a line in front has it. A map keeps the places of the names, so that the
+/// time is not in the square of the lines.
+fn put_new_name<'a>(
+    out: &mut String,
+    found: &mut BTreeMap<&'a str, usize>,
+    place: usize,
+    line: &'a MediaLine,
+) -> Result<(), AllocError>
+    ensures put { OnOk result (string_bytes out.new ≡ string_bytes out.old ++ spaced (spec.new_to found.old (shown_stream line.now))) }
+    ensures found { OnOk result ((name : List ℕ) → spec.is_found found.new name
+        ≡ (spec.is_found found.old name || is_stream name (shown_stream line.now))) }
 {
-    for line in front {
-        if has_stream(line, name) {
-            return true;
-        }
-    }
-    false
-}
-
-/// The name of a line's stream, unless a line in front has it.
-fn put_new_name(out: &mut String, front: &[MediaLine], line: &MediaLine) -> Result<(), AllocError>
-    ensures { OnOk result (string_bytes out.new ≡ string_bytes out.old ++ spaced (spec.new_name front.now (shown_stream line.now))) }
-{
-    if line.disabled {
-        return Ok(());
-    }
-    let Some(msid) = &line.msid else {
+    let Some(name) = shown_name(line) else {
         return Ok(());
     };
-    let name = msid.stream_id.as_str();
-    if is_known(front, name) {
+    if found.contains_key(name) {
         return Ok(());
     }
+    found.insert(name, place)?;
     write!(out, " {name}")?;
     Ok(())
 }
@@ -55,11 +51,12 @@ fn put_new_name(out: &mut String, front: &[MediaLine], line: &MediaLine) -> Resu
 /// The line that names the streams of the lines that are not disabled.
 #[tactic(auto, unfolding(rtc_sdp_grammar::specs::MediaTexts::semantic_line))]
 pub(crate) fn put_semantic(out: &mut String, lines: &[MediaLine]) -> Result<(), AllocError>
-    ensures { OnOk result (string_bytes out.new ≡ string_bytes out.old ++ crlf (semantic_line (spec.stream_names lines.now))) }
+    ensures { OnOk result (string_bytes out.new ≡ string_bytes out.old ++ crlf (semantic_line (stream_names lines.now))) }
 {
     out.push_str("a=msid-semantic: WMS")?;
+    let mut found = BTreeMap::new(*out.allocator());
     for i in 0..lines.len() {
-        put_new_name(out, &lines[..i], &lines[i])?;
+        put_new_name(out, &mut found, i, &lines[i])?;
     }
     out.push_str("\r\n")
 }

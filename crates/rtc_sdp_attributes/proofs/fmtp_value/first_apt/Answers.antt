@@ -1,5 +1,5 @@
 use Rattle.rtc_fields.proofs.FieldLemmas.{looks_found, looks_more}
-use Rattle.rtc_sdp_attributes.specs.FmtpValue.{apt_pair}
+use Rattle.rtc_sdp_attributes.specs.AttributeForms.{apt_pair}
 use Rattle.rtc_sdp_attributes.proofs.fmtp_value.first_apt.Goals as goal
 
 pub returns-in-Some : goal.returns-in-Some

@@ -1,7 +1,7 @@
 use Rattle.std.proofs.Common.{◌≡◌, ◌++◌, map, drop}
 use Rattle.std.specs.Prelude.{string_bytes}
 use Rattle.rtc_fields.specs.Words.{after_each}
-use Rattle.rtc_sdp_attributes.specs.RidValue.{pair_text, pairs_text}
+use Rattle.rtc_sdp_attributes.specs.AttributeTexts.{pair_text, pairs_text}
 use Rattle.rtc_sdp_attributes.proofs.rid_value.put_pairs.Given as goal
 
 abbrev pub invariant-loop-pair : goal.invariant-loop-pair

@@ -1,7 +1,7 @@
 use Rattle.std.proofs.Common.{◌≡◌, ◌++◌, drop}
 use Rattle.std.specs.Prelude.{string_bytes}
 use Rattle.rtc_fields.specs.Words.{after_each, joined}
-use Rattle.rtc_sdp_attributes.specs.SimulcastValue.{rids_in}
+use Rattle.rtc_sdp_attributes.specs.AttributeTexts.{rids_in}
 use Rattle.rtc_sdp_attributes.proofs.simulcast_value.put_rids.Given as goal
 
 abbrev pub invariant-loop-layer : goal.invariant-loop-layer

@@ -1,8 +1,8 @@
 use Rattle.std.proofs.Common.{◌≡◌, drop}
 use Rattle.rtc_fields.specs.Fields.{each}
 use Rattle.rtc_fields.proofs.FieldLemmas.{so_far, shown}
-use Rattle.rtc_sdp_grammar.specs.AttributeForm.{mid_of}
+use Rattle.rtc_sdp_attributes.specs.Forms.{short_token}
 use Rattle.rtc_sdp_grammar.proofs.group_form.mids_of.Given as goal
 
 abbrev pub invariant-loop-word : goal.invariant-loop-word
-invariant-loop-word l = so_far l.mids.items (each mid_of (drop l.word-index (shown l.words))) ≡ each mid_of (shown l.words)
+invariant-loop-word l = so_far l.mids.items (each short_token (drop l.word-index (shown l.words))) ≡ each short_token (shown l.words)

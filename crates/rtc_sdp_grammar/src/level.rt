@@ -1,0 +1,11 @@
+//! Where attributes count.
+
+/// Where an attribute counts (RFC 8866, section 5.13).
+#[derive(Clone, Copy, Debug, PartialEq, Eq)]
+pub enum Level {
+    /// In front of the first `m=` line.
+    SessionLevel,
+    /// In a line part.
+    MediaLevel,
+    AnyLevel,
+}

@@ -1,0 +1,153 @@
+//! The state of a reading.
+ghost use Rattle.std.specs.Prelude.{◌≡◌, ◌++◌, [], IfOk, OnOk};
+ghost use Rattle.std.specs.List.{cons_option};
+ghost use Rattle.rtc_sdp_reader.specs.Putting as spec;
+ghost use Rattle.rtc_sdp_reader.specs.Reading.{GivesReading};
+
+use crate::line_value::line_of;
+use crate::session_value::sdp_made;
+use crate::{Part, Place, Stage};
+use rtc_sdp_grammar::MediaHead;
+use rtc_sdp_values::{MediaLine, Sdp, SdpError};
+use rtc_wire::Seq;
+use std::alloc::{AllocError, Global};
+
+/// What was read so far.
+#[derive(Debug, Drop)]
+pub struct Reader {
+    pub(crate) stage: Stage,
+    /// How many lines were read.
+    pub(crate) number: u32,
+    /// The number of the session.
+    pub(crate) id: Option<u64>,
+    pub(crate) session: Part,
+    /// The line parts that have ended.
+    pub(crate) lines: Seq<MediaLine>,
+    /// The line part that is being built.
+    pub(crate) part: Part,
+    /// How many `mid` lines it has.
+    pub(crate) mids: u32,
+    /// The number of its `m=` line.
+    pub(crate) begun: u32,
+    /// The number of its first line that is refused.
+    pub(crate) refused: Option<u32>,
+}
+
+/// The line part that ends here, if one does.
+fn line_at(alloc: Global, stage: &Stage, part: Part) -> Result<Option<MediaLine>, AllocError>
+    ensures { IfOk result (λ line. line ≡ spec.line_at stage.now part) }
+{
+    match stage {
+        Stage::InLine(own) => line_of(alloc, own, part),
+        _ => Ok(None),
+    }
+}
+
+/// The part, which leaves an empty one.
+fn take_part(alloc: Global, part: &mut Part) -> Part
+    ensures taken { result ≡ part.old }
+    ensures left { part.new ≡ spec.empty_part }
+{
+    std::mem::replace(part, Part::empty(alloc))
+}
+
+fn push_line(lines: &mut Seq<MediaLine>, line: Option<MediaLine>) -> Result<(), AllocError>
+    ensures { OnOk result (lines.new ≡ lines.old ++ cons_option line []) }
+{
+    match line {
+        Some(line) => lines.push(line)?,
+        None => {}
+    }
+    Ok(())
+}
+
+impl Reader {
+    pub(crate) fn new(alloc: Global) -> Reader
+        ensures { result ≡ spec.start }
+    {
+        Reader {
+            stage: Stage::AwaitVersion,
+            number: 0,
+            id: None,
+            session: Part::empty(alloc),
+            lines: Seq::empty(alloc),
+            part: Part::empty(alloc),
+            mids: 0,
+            begun: 0,
+            refused: None,
+        }
+    }
+
+    pub(crate) fn place(&self) -> Place
+        ensures { result ≡ spec.place_of self.now.stage }
+    {
+        match self.stage {
+            Stage::AwaitVersion => Place::First,
+            Stage::AwaitOrigin => Place::Second,
+            Stage::InSession => Place::Session,
+            Stage::InLine(_) => Place::Line,
+        }
+    }
+
+    /// The number of the line that refuses the line part that ends.
+    pub(crate) fn part_refusal(&self) -> Option<u32>
+        ensures { result ≡ spec.part_refusal self.now }
+    {
+        if self.mids == 1 {
+            self.refused
+        } else {
+            Some(self.begun)
+        }
+    }
+
+    /// Begins a line part.
+    pub(crate) fn begin(&mut self, alloc: Global, head: MediaHead)
+        ensures { self.new ≡ spec.begun_line self.old head }
+    {
+        self.stage = Stage::InLine(head);
+        self.part = Part::empty(alloc);
+        self.mids = 0;
+        self.begun = self.number;
+        self.refused = None;
+    }
+
+    /// Ends the line part that is being built.
+    pub(crate) fn end(&mut self, alloc: Global) -> Result<(), AllocError>
+        ensures { OnOk result (self.new ≡ spec.part_ended self.old) }
+    {
+        let part = take_part(alloc, &mut self.part);
+        let line = line_at(alloc, &self.stage, part)?;
+        push_line(&mut self.lines, line)
+    }
+
+    /// The value, without a line part that is being built.
+    fn made(self) -> Sdp
+        ensures { result ≡ spec.made self }
+    {
+        let Reader {
+            id,
+            session,
+            lines,
+            ..
+        } = self;
+        sdp_made(id, session, lines)
+    }
+
+    /// The value, at the end of the text.
+    pub(crate) fn finish(self, alloc: Global) -> Result<Sdp, SdpError>
+        ensures { GivesReading result (spec.finish self) }
+    {
+        let mut reader = self;
+        match reader.place() {
+            Place::First | Place::Second => Err(SdpError::Parse(reader.number.saturating_add(1))),
+            Place::Session => Ok(reader.made()),
+            Place::Line => {
+                if let Some(number) = reader.part_refusal() {
+                    return Err(SdpError::Parse(number));
+                }
+                reader.end(alloc)?;
+                Ok(reader.made())
+            }
+        }
+    }
+}
