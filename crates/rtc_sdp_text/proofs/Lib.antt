@@ -1,1 +1,2 @@
 pub mod DueSdp
+pub mod RowSteps

@@ -1,29 +1,35 @@
 //! The words of the command line.
 ghost use Rattle.std.specs.Prelude.{◌≡◌, map, string_bytes};
-ghost use Rattle.rtc_sdp_text.specs.Asking.{asked_kind, asked};
+ghost use Rattle.rtc_sdp_text.specs.Asking as spec;
 
-/// Which kind of session description is to be read.
+use crate::SdpKind;
+
+/// What is to be done with a session description.
 #[derive(Clone, Copy, Debug, PartialEq, Eq)]
 pub enum Asked {
-    Offer,
-    Answer,
+    /// To read it, and write it again.
+    Rewrite(SdpKind),
+    /// To write what becomes of each of its lines.
+    Explain,
 }
 
 fn asked_by_word(word: &str) -> Option<Asked>
-    ensures { result ≡ asked_kind word.now }
+    ensures { result ≡ spec.asked_by_word word.now }
 {
     if word == "offer" {
-        Some(Asked::Offer)
+        Some(Asked::Rewrite(SdpKind::Offer))
     } else if word == "answer" {
-        Some(Asked::Answer)
+        Some(Asked::Rewrite(SdpKind::Answer))
+    } else if word == "explain" {
+        Some(Asked::Explain)
     } else {
         None
     }
 }
 
-/// The kind that the words ask for; None where they ask for neither.
+/// What the words ask for; None where they ask for nothing that the program does.
 pub fn asked_for(words: &[String]) -> Option<Asked>
-    ensures { result ≡ asked (map (λ word. string_bytes word) words.now) }
+    ensures { result ≡ spec.asked (map (λ word. string_bytes word) words.now) }
 {
     match words {
         [word] => asked_by_word(word.as_str()),

@@ -4,7 +4,7 @@ ghost use Rattle.rtc_sdp_text.specs.Repair.{bytes_reading};
 ghost use Rattle.rtc_sdp_text.specs.Rewrite.{Rewrites};
 
 use crate::repairing::{repair, utf8_of};
-use crate::{Asked, TextError};
+use crate::{SdpKind, TextError};
 use rtc_lines::{SdpAnswer, SdpOffer};
 use rtc_sdp_values::SdpError;
 use rtc_wire::Text;
@@ -38,24 +38,24 @@ fn rewrite_answer(alloc: Global, text: &str) -> Result<Text, TextError>
     }
 }
 
-fn rewrite_text(alloc: Global, asked: Asked, text: &str) -> Result<Text, TextError>
+fn rewrite_text(alloc: Global, kind: SdpKind, text: &str) -> Result<Text, TextError>
     ensures { Rewrites result (reading text.now) }
 {
-    match asked {
-        Asked::Offer => rewrite_offer(alloc, text),
-        Asked::Answer => rewrite_answer(alloc, text),
+    match kind {
+        SdpKind::Offer => rewrite_offer(alloc, text),
+        SdpKind::Answer => rewrite_answer(alloc, text),
     }
 }
 
 /// The session description that bytes are read as, written again, or the line that refuses them.
-pub fn rewrite(alloc: Global, asked: Asked, bytes: &[u8]) -> Result<Text, TextError>
+pub fn rewrite(alloc: Global, kind: SdpKind, bytes: &[u8]) -> Result<Text, TextError>
     ensures { Rewrites result (bytes_reading bytes.now) }
 {
     match utf8_of(bytes) {
-        Some(text) => rewrite_text(alloc, asked, text),
+        Some(text) => rewrite_text(alloc, kind, text),
         None => {
             let text = repair(alloc, bytes)?;
-            rewrite_text(alloc, asked, text.as_str())
+            rewrite_text(alloc, kind, text.as_str())
         }
     }
 }

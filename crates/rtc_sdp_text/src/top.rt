@@ -3,15 +3,51 @@ ghost use Rattle.std.specs.Prelude.{◌≡◌, ◌≢◌, ◌<◌, ◌⊎◌, No
 ghost use Rattle.std.specs.Io.KnownBytes.{Appends};
 ghost use Rattle.rtc_io.specs.Faults.{Rose};
 ghost use Rattle.rtc_io.specs.Saying.{BreaksOff};
-ghost use Rattle.rtc_io.specs.Programs.{IsDue, IsTooLong, RefusesInput, fault_line, long_line};
+ghost use Rattle.rtc_io.specs.Programs.{IsTooLong, fault_line, long_line};
 ghost use Rattle.rtc_sdp_text.specs.Asking.{asked};
-ghost use Rattle.rtc_sdp_text.specs.Answers.{WritesSdp, text_program};
+ghost use Rattle.rtc_sdp_text.specs.Answers.{IsDone, IsDueText, IsRefusedInput, text_program, usage};
 
-use crate::{TextError, asked_for, rewrite};
-use rtc_io::{OUT_OF_MEMORY, Sink, Source, USAGE, read_input, refuse_input, say};
+use crate::answering::{explain_input, rewrite_input};
+use crate::{Asked, asked_for};
+use rtc_io::{Sink, Source, USAGE, say};
 use std::alloc::Global;
 
-/// Reads a session description from `input` and writes to `output` what it is read as; answers the status to end with.
+/// Does what was asked for, if anything was; answers the status to end with.
+fn perform<R: Source, W: Sink>(
+    alloc: Global,
+    asked: Option<Asked>,
+    input: &mut R,
+    output: &mut W,
+) -> u8
+    ensures done { result ≡ 0 → IsDone asked (R.left input.old) (R.left input.new) (W.written output.old) (W.written output.new) }
+    ensures usage { result ≡ 2 → (asked ≡ None) × Appends (W.written output.old) (W.written output.new) usage }
+    ensures refused { result ≡ 3
+        → IsRefusedInput asked (R.left input.old) (R.left input.new) (W.written output.old) (W.written output.new) }
+    ensures read { result ≡ 4
+        → Rose (R.faults input.old) (R.faults input.new) × Appends (W.written output.old) (W.written output.new) fault_line }
+    ensures write { result ≡ 5
+        → BreaksOff (IsDueText asked (R.left input.old) (R.left input.new) (R.faults input.old) (R.faults input.new))
+        (W.written output.old) (W.written output.new) (W.faults output.old) (W.faults output.new) }
+    ensures memory { result ≡ 6 → output.new ≡ output.old }
+    ensures long { result ≡ 7
+        → IsTooLong (R.left input.old) × Appends (W.written output.old) (W.written output.new) (long_line text_program.subject) }
+    ensures unread { asked ≡ None → input.new ≡ input.old }
+    ensures asked { asked ≡ None → (result ≡ 2) ⊎ (result ≡ 5) }
+    ensures statuses { (result ≢ 1) × (result < 8) }
+{
+    match asked {
+        None => say(
+            output,
+            b"usage: rtc_sdp_text offer | rtc_sdp_text answer | rtc_sdp_text explain\n",
+            USAGE,
+        ),
+        Some(Asked::Rewrite(kind)) => rewrite_input(alloc, kind, input, output),
+        Some(Asked::Explain) => explain_input(alloc, input, output),
+    }
+}
+
+/// Reads a session description from `input`, and writes to `output` what it is read as, or what becomes of each of its lines; answers
+/// the status to end with.
 ///
 /// A fault of the sink (5) may come in place of any other status, and `OUT_OF_MEMORY` (6) in place of any but 2.
 pub fn text_main<R: Source, W: Sink>(
@@ -20,15 +56,16 @@ pub fn text_main<R: Source, W: Sink>(
     input: &mut R,
     output: &mut W,
 ) -> u8
-    ensures done { result ≡ 0 → WritesSdp (R.left input.old) (R.left input.new) (W.written output.old) (W.written output.new) }
+    ensures done { let kind = asked (map (λ word. string_bytes word) words.now) in result ≡ 0
+        → IsDone kind (R.left input.old) (R.left input.new) (W.written output.old) (W.written output.new) }
     ensures usage { result ≡ 2 → (asked (map (λ word. string_bytes word) words.now) ≡ None)
-        × Appends (W.written output.old) (W.written output.new) text_program.usage }
-    ensures refused { result ≡ 3
-        → RefusesInput text_program (R.left input.old) (R.left input.new) (W.written output.old) (W.written output.new) }
+        × Appends (W.written output.old) (W.written output.new) usage }
+    ensures refused { let kind = asked (map (λ word. string_bytes word) words.now) in result ≡ 3
+        → IsRefusedInput kind (R.left input.old) (R.left input.new) (W.written output.old) (W.written output.new) }
     ensures read { result ≡ 4
         → Rose (R.faults input.old) (R.faults input.new) × Appends (W.written output.old) (W.written output.new) fault_line }
-    ensures write { let kind = asked (map (λ word. string_bytes word) words.now) in result ≡ 5 → BreaksOff
-        (IsDue text_program (kind ≡ None) (kind ≢ None) (R.left input.old) (R.left input.new) (R.faults input.old) (R.faults input.new))
+    ensures write { let kind = asked (map (λ word. string_bytes word) words.now) in result ≡ 5
+        → BreaksOff (IsDueText kind (R.left input.old) (R.left input.new) (R.faults input.old) (R.faults input.new))
         (W.written output.old) (W.written output.new) (W.faults output.old) (W.faults output.new) }
     ensures memory { result ≡ 6 → output.new ≡ output.old }
     ensures long { result ≡ 7
@@ -37,20 +74,6 @@ pub fn text_main<R: Source, W: Sink>(
     ensures asked { asked (map (λ word. string_bytes word) words.now) ≡ None → (result ≡ 2) ⊎ (result ≡ 5) }
     ensures statuses { (result ≢ 1) × (result < 8) }
 {
-    let Some(asked) = asked_for(words) else {
-        return say(
-            output,
-            b"usage: rtc_sdp_text offer | rtc_sdp_text answer\n",
-            USAGE,
-        );
-    };
-    let bytes = match read_input(alloc, b"text too long\n", input, output) {
-        Ok(bytes) => bytes,
-        Err(status) => return status,
-    };
-    match rewrite(alloc, asked, bytes.as_slice()) {
-        Ok(text) => say(output, text.as_str().as_bytes(), 0),
-        Err(TextError::Line(line)) => refuse_input(alloc, "text", line, output),
-        Err(TextError::Alloc) => OUT_OF_MEMORY,
-    }
+    let asked = asked_for(words);
+    perform(alloc, asked, input, output)
 }

@@ -1,0 +1,8 @@
+//! Kinds of session descriptions.
+
+/// Which kind of session description is to be read. Both have one grammar.
+#[derive(Clone, Copy, Debug, PartialEq, Eq)]
+pub enum SdpKind {
+    Offer,
+    Answer,
+}
