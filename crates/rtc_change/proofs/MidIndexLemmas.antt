@@ -12,7 +12,8 @@ use Rattle.rtc_sdp_values.specs.LineRow.{row_mid}
 use Rattle.rtc_sdp_values.specs.declared.line_row.LineRow.{LineRow}
 use Rattle.rtc_change.specs.Table.{Distinct, is_of, row_of}
 use Rattle.rtc_change.proofs.TableLemmas.{row_of_its_mid}
-use Rattle.rtc_change.specs.MidIndex.{position_of, HasPositions}
+use Rattle.rtc_change.specs.MidIndex.{position_of, HasPositions, Serves}
+use Rattle.rtc_change.proofs.RowChangeLemmas.{AreAlike}
 
 -- one row more in front of those that the map has
 pub position_put : (positions positions' : BTreeMap (List ℕ) ℕ) (at : ℕ) (row : LineRow) (rows : List LineRow) → HasPositions positions (at + 1) rows
@@ -90,3 +91,15 @@ pub at_first : (rows : List LineRow) (mid : List ℕ) (i : ℕ) → position_of 
 at_first rows mid i found =
     let more : i ≡ 0 + i = omega arith in
     at_position 0 rows mid i (found ∙ ap (λ (n : ℕ). Some n) more)
+
+-- rows with the same mids have them at the same positions
+position_alike : (at : ℕ) (rows others : List LineRow) (mid : List ℕ) → AreAlike rows others → position_of at others mid ≡ position_of at rows mid
+position_alike at [] [] mid alike = refl
+position_alike at (row ∷ rows) (other ∷ others) mid alike = rw (alike.0.mid, position_alike (at + 1) rows others mid alike.1) refl
+position_alike at [] (other ∷ others) mid alike = absurd alike
+position_alike at (row ∷ rows) [] mid alike = absurd alike
+
+-- and the same map serves them
+pub served_alike : (positions : Option (BTreeMap (List ℕ) ℕ)) (rows others : List LineRow) → AreAlike rows others → Serves positions rows → Serves positions others
+served_alike None rows others alike served = tt
+served_alike (Some positions) rows others alike served = λ mid. served mid ∙ sym (position_alike 0 rows others mid alike)

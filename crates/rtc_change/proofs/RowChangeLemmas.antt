@@ -185,6 +185,7 @@ pub record IsReplaced (change : RowChange) (mid : List ℕ) (rows : List LineRow
   pub within : row_place changed < length rows
   pub set : slice_set rows (row_place changed) changed ≡ changed_of change mid rows
   pub table : IsTable (slice_set rows (row_place changed) changed)
+  pub alike : AreAlike rows (slice_set rows (row_place changed) changed)
 
 pub is_replaced : (change : RowChange) → KeepsRow change → (mid : List ℕ) (rows : List LineRow) (row changed : LineRow) → IsTable rows → row_of rows mid ≡ Some row → change row ≡ Some changed
     → IsReplaced change mid rows changed
@@ -195,5 +196,6 @@ is_replaced change keeps mid rows row changed table found makes =
     record {
       within = placed.0;
       set = placed.1;
+      alike = subst (λ (list : List LineRow). AreAlike rows list) (sym placed.1) (changed_of_alike change keeps mid rows);
       table = subst (λ (list : List LineRow). IsTable list) (sym placed.1) (table_alike rows (changed_of change mid rows) (changed_of_alike change keeps mid rows) table);
     }

@@ -5,7 +5,7 @@ use Rattle.std.specs.BTreeMap.{BTreeMap}
 use Rattle.std.specs.Cmp.Lexicographic.{slice_cmp}
 use Rattle.std.specs.Ordering.{nat_cmp}
 use Rattle.rtc_sdp_values.specs.declared.line_row.LineRow.{LineRow}
-use Rattle.rtc_change.specs.Table.{is_of}
+use Rattle.rtc_change.specs.Table.{IsTable, is_of}
 
 -- the position of the first row of a mid, the rows being at positions from this one on
 abbrev pub position_of : ℕ → List LineRow → List ℕ → Option ℕ
@@ -20,3 +20,8 @@ HasPositions positions at rows = (mid : List ℕ) → map.get (slice_cmp nat_cmp
 abbrev pub Serves : Option (BTreeMap (List ℕ) ℕ) → List LineRow → Type 0
 Serves None rows = Unit {0}
 Serves (Some positions) rows = HasPositions positions 0 rows
+
+-- a table, and a map that serves it where there is one
+pub record IsServedTable (positions : Option (BTreeMap (List ℕ) ℕ)) (rows : List LineRow) : Type 0 where
+  pub table : IsTable rows
+  pub served : Serves positions rows

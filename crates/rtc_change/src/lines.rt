@@ -8,28 +8,40 @@ ghost use Rattle.rtc_change.specs.DeclaredMedia.{Declares, media_place, rows_wit
 ghost use Rattle.rtc_change.specs.Table.{IsTable, row_of, app_of, has_mid};
 
 use crate::Plan;
-use crate::judging::{find_app, find_media, find_row, has_row};
+use crate::judging::{find_app, find_media, has_row};
+use crate::mid_index::{find_positions, find_served};
 use crate::row_changes::{direct_row, stop_row};
 use rtc_sdp_values::{Direction, LineRow, MediaKind, Mid};
 use std::alloc::{AllocError, Global};
+use std::collections::BTreeMap;
 use std::marker::Model;
+
+// Up to this many rows, a search costs less than an index.
+const FEW_ROWS: usize = 32;
+
+// This many searches cost about as much as an index.
+const FEW_WALKS: u8 = 8;
 
 /// The rows of a peer, by place.
 #[derive(Debug, Drop)]
 pub struct Lines {
     rows: Vec<LineRow>,
+    // The position of the row of each mid; None while rows are few or seldom searched.
+    positions: Option<BTreeMap<Mid, usize>>,
+    // How many searches there were since a row was added or removed.
+    walks: u8,
 }
 
 impl Model for Lines {
     ghost use Rattle.std.specs.Prelude.{List};
     ghost use Rattle.rtc_sdp_values.specs.declared.line_row.LineRow.{LineRow};
-    ghost use Rattle.rtc_change.specs.Table.{IsTable};
+    ghost use Rattle.rtc_change.specs.MidIndex.{IsServedTable};
 
     ghost Value = { List LineRow };
 
     ghost view = { λ lines. lines.rows.items };
 
-    ghost invariant = { λ lines. IsTable lines.rows.items };
+    ghost invariant = { λ lines. IsServedTable lines.positions lines.rows.items };
 }
 
 impl Lines {
@@ -39,7 +51,27 @@ impl Lines {
     {
         Lines {
             rows: Vec::new(alloc),
+            positions: None,
+            walks: 0,
         }
+    }
+
+    /// Prepares for a look-up by mid: rows that are searched often get an index, where there is memory for it.
+    pub fn expect_look_up(&mut self)
+        ensures { self.new ≡ self.old }
+    {
+        if self.positions.is_some() || self.rows.len() < FEW_ROWS {
+            return;
+        }
+        if self.walks < FEW_WALKS {
+            self.walks += 1;
+            return;
+        }
+        let alloc = *self.rows.allocator();
+        let Ok(positions) = find_positions(alloc, self.rows.as_slice()) else {
+            return;
+        };
+        self.positions = Some(positions);
     }
 
     /// The rows, lent.
@@ -64,14 +96,14 @@ impl Lines {
     pub fn find(&self, mid: Mid) -> Option<&LineRow>
         ensures { option_copied result ≡ row_of self.now mid }
     {
-        find_row(self.rows.as_slice(), mid)
+        find_served(&self.positions, self.rows.as_slice(), mid)
     }
 
     /// Whether a row has a mid.
     pub fn has_mid(&self, mid: Mid) -> bool
         ensures { result ≡ has_mid mid self.now }
     {
-        has_row(self.rows.as_slice(), mid)
+        self.find(mid).is_some()
     }
 
     /// Sets the direction of the live media row of a mid.
@@ -81,7 +113,15 @@ impl Lines {
         ensures changed { result ≡ is_changed (directed_row dir) (row_of self.old mid) }
         ensures rows { self.new ≡ changed_of (directed_row dir) mid self.old }
     {
-        let Some(row) = find_row(self.rows.as_slice(), mid) else {
+        self.expect_look_up();
+        self.direct(mid, dir)
+    }
+
+    fn direct(&mut self, mid: Mid, dir: Direction) -> bool
+        ensures changed { result ≡ is_changed (directed_row dir) (row_of self.old mid) }
+        ensures rows { self.new ≡ changed_of (directed_row dir) mid self.old }
+    {
+        let Some(row) = find_served(&self.positions, self.rows.as_slice(), mid) else {
             return false;
         };
         let Some(directed_row) = direct_row(row, dir) else {
@@ -98,7 +138,15 @@ impl Lines {
         ensures changed { result ≡ is_changed stopped_row (row_of self.old mid) }
         ensures rows { self.new ≡ changed_of stopped_row mid self.old }
     {
-        let Some(row) = find_row(self.rows.as_slice(), mid) else {
+        self.expect_look_up();
+        self.stop_found(mid)
+    }
+
+    fn stop_found(&mut self, mid: Mid) -> bool
+        ensures changed { result ≡ is_changed stopped_row (row_of self.old mid) }
+        ensures rows { self.new ≡ changed_of stopped_row mid self.old }
+    {
+        let Some(row) = find_served(&self.positions, self.rows.as_slice(), mid) else {
             return false;
         };
         let Some(stopped_row) = stop_row(row) else {
@@ -127,6 +175,8 @@ impl Lines {
             remote_created: false,
         };
         self.rows.push(row)?;
+        self.positions = None;
+        self.walks = 0;
         Ok(true)
     }
 
@@ -142,6 +192,8 @@ impl Lines {
         };
         if place as usize + 1 == self.rows.len() {
             self.rows.truncate(place as usize);
+            self.positions = None;
+            self.walks = 0;
         } else {
             self.stop(mid);
         }
@@ -164,5 +216,7 @@ impl Lines {
         ensures { self.new ≡ plan.rows }
     {
         self.rows = plan.rows.into_vec();
+        self.positions = None;
+        self.walks = 0;
     }
 }

@@ -1,7 +1,7 @@
 //! Rows that are found by mid.
 ghost use Rattle.std.specs.Prelude.{◌≡◌, IfOk, slice_get};
 ghost use Rattle.std.specs.Option.{option_copied};
-ghost use Rattle.rtc_change.specs.MidIndex.{HasPositions};
+ghost use Rattle.rtc_change.specs.MidIndex.{HasPositions, Serves};
 ghost use Rattle.rtc_change.specs.Table.{Distinct, row_of};
 
 use crate::ParsedLine;
@@ -31,7 +31,8 @@ impl<'a> Model for MidIndex<'a> {
     ghost invariant = { λ index. Serves index.positions index.rows.now };
 }
 
-fn find_positions(alloc: Global, rows: &[LineRow]) -> Result<BTreeMap<Mid, usize>, AllocError>
+/// The position of the first row of each mid.
+pub fn find_positions(alloc: Global, rows: &[LineRow]) -> Result<BTreeMap<Mid, usize>, AllocError>
     ensures { IfOk result (λ positions. HasPositions positions 0 rows.now) }
 {
     let mut positions = BTreeMap::new(alloc);
@@ -61,6 +62,21 @@ fn look_up<'a>(
         return None;
     };
     row_at(rows, *at)
+}
+
+/// The row of a mid, by a map where there is one.
+pub fn find_served<'a>(
+    positions: &Option<BTreeMap<Mid, usize>>,
+    rows: &'a [LineRow],
+    mid: Mid,
+) -> Option<&'a LineRow>
+    requires { Serves positions.now rows.now }
+    ensures { option_copied result ≡ row_of rows.now mid }
+{
+    match positions {
+        Some(positions) => look_up(positions, rows, mid),
+        None => find_row(rows, mid),
+    }
 }
 
 // Whether each line has the mid of the row at its place: then no line is looked for by its mid.
@@ -116,10 +132,7 @@ impl<'a> MidIndex<'a> {
     pub fn find(&self, mid: Mid) -> Option<&LineRow>
         ensures { option_copied result ≡ row_of self.now mid }
     {
-        match &self.positions {
-            Some(positions) => look_up(positions, self.rows, mid),
-            None => find_row(self.rows, mid),
-        }
+        find_served(&self.positions, self.rows, mid)
     }
 
     /// The row of the mid of a line at a place, where it is looked for first.

@@ -43,4 +43,11 @@ impl SdpPendingOffer {
     {
         &self.changes
     }
+
+    /// The changes, without a copy. The token is spent.
+    pub fn into_changes(self) -> Changes
+        ensures { result.0 ≡ self.changes }
+    {
+        self.changes
+    }
 }

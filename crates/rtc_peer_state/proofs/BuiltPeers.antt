@@ -12,7 +12,7 @@ use Rattle.rtc_fields.specs.Tokens.{is_token_byte, is_token}
 use Rattle.rtc_peer_state.specs.declared.peer.Peer.{Peer}
 use Rattle.rtc_peer_state.specs.Built.{lower_hex_digit, hex_digits, drawn_creds, sha256_fingerprint, built}
 use Rattle.rtc_peer_state.specs.Config.{Config}
-use Rattle.rtc_peer_state.specs.Draws.{Draws}
+use Rattle.rtc_ids.specs.Draws.{Draws}
 use Rattle.rtc_peer_state.specs.Formed.{AreTokenCreds, IsSha256, IsFormed}
 use Rattle.rtc_peer_state.proofs.Alls.{all-append, all_token}
 

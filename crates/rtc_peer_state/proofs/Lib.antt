@@ -3,7 +3,6 @@ pub mod Alls
 pub mod DrawnMids
 pub mod BuiltPeers
 pub mod TokenTables
-pub mod LaterLemmas
 pub mod FormedCalls
 pub mod StagedLemmas
 pub mod ChannelCalls

@@ -20,7 +20,7 @@ use Rattle.rtc_change.proofs.AddedLemmas.{added_mids-append}
 use Rattle.rtc_change.specs.Table.{app_of, has_mid}
 use Rattle.rtc_sdp_values.specs.declared.line_row.LineRow.{LineRow}
 use Rattle.rtc_channels.specs.Channels.{Channels, MakesChannel}
-use Rattle.rtc_peer_state.specs.Draws.{Draws}
+use Rattle.rtc_ids.specs.Draws.{Draws}
 use Rattle.rtc_peer_state.specs.Names.{free_mid, is_held, next_mid}
 use Rattle.rtc_peer_state.specs.Staging.{StagesChannel, lacks_app, lacking_app, after_app}
 use Rattle.rtc_peer_state.proofs.FreeMid.{free_mid-same, drawn_mid_is_free}

@@ -57,7 +57,7 @@ use Rattle.rtc_peer_state.specs.declared.rtc_error.RtcError.TheVariants.{
   BadChannel,
   Alloc,
 }
-use Rattle.rtc_peer_state.specs.Draws.{Draws, Later}
+use Rattle.rtc_ids.specs.Draws.{Draws, Later}
 use Rattle.rtc_peer_state.specs.Names.{is_held, next_mid, kept_name, name_of, after_name}
 use Rattle.rtc_peer_state.specs.Staging.{lacks_app, lacking_app, after_app}
 use Rattle.rtc_peer_state.specs.Sources.{

@@ -1,4 +1,3 @@
-pub mod Draws
 pub mod Config
 pub mod Names
 pub mod StagedIndex

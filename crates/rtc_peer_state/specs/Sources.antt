@@ -38,7 +38,7 @@ use Rattle.rtc_change.specs.declared.change.Change.{Change}
 use Rattle.rtc_change.specs.declared.change.Change.TheVariants.{AddMedia, AddApp, AddChannel, Direction as SetDirection}
 use Rattle.rtc_sdp_values.specs.Mids.{is_among}
 use Rattle.rtc_peer_state.specs.declared.line_sources.LineSources.{LineSources}
-use Rattle.rtc_peer_state.specs.Draws.{Draws}
+use Rattle.rtc_ids.specs.Draws.{Draws}
 
 -- a source, with that of its retransmissions
 abbrev pub Pair : Type 0

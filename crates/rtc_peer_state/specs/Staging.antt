@@ -9,7 +9,7 @@ use Rattle.rtc_change.specs.Table.{app_of}
 use Rattle.rtc_change.specs.declared.change.Change.{Change}
 use Rattle.rtc_change.specs.declared.change.Change.TheVariants.{AddApp, AddChannel}
 use Rattle.rtc_change.specs.PendingOffer.{contains_add_app}
-use Rattle.rtc_peer_state.specs.Draws.{Draws, Later}
+use Rattle.rtc_ids.specs.Draws.{Draws, Later}
 use Rattle.rtc_peer_state.specs.Names.{is_held, next_mid}
 
 -- whether neither a row nor a staged line is one of data channels

@@ -4,10 +4,10 @@ ghost use Rattle.rtc_change.specs.Table.{app_of, has_mid};
 ghost use Rattle.rtc_peer_state.specs.Names.{drawn_mid, free_mid};
 ghost use Rattle.rtc_peer_state.specs.StagedIndex.{is_indexed_mid};
 
-use crate::Ids;
 use arrayvec::ArrayString;
 use itoa::Buffer;
 use rtc_change::Lines;
+use rtc_ids::Ids;
 use rtc_sdp_values::Mid;
 use std::alloc::AllocError;
 use std::collections::BTreeSet;
@@ -48,7 +48,7 @@ pub fn count_lines(lines: &Lines, added: usize) -> Result<u32, AllocError>
 pub fn lacks_app(lines: &Lines, app: &Option<Mid>) -> bool
     ensures { result ≡ not (is_some (app_of lines.now) || is_some app.now) }
 {
-    lines.app().is_none() && app.is_none()
+    app.is_none() && lines.app().is_none()
 }
 
 // The first mid counted on from a number that no row and no staged line has.

@@ -2,14 +2,14 @@
 ghost use Rattle.std.specs.Prelude.{◌≡◌, ◌≢◌, ◌↔◌, ◌+◌, ◌<◌, ◌-◌, ◌^◌, ◌||◌, [], ◌∷◌, ◌++◌, false, true, length, IfOk, OnOk, OnErr, IsTrue};
 ghost use Rattle.rtc_change.specs.declared.change.Change.TheVariants.{AddMedia as MediaAdded, Direction as DirectionSet};
 ghost use Rattle.rtc_change.specs.PendingOffer.{added_mids, adds_mid, contains_add_app};
-ghost use Rattle.rtc_peer_state.specs.Draws.{Later};
+ghost use Rattle.rtc_ids.specs.Draws.{Later};
 ghost use Rattle.rtc_peer_state.specs.Names.{is_held, next_mid};
 ghost use Rattle.rtc_peer_state.specs.Staging.{StagesChannel};
 
-use crate::Ids;
 use crate::drawing::{count_lines, draw_mid, lacks_app};
 use rtc_change::{AddMedia, Change, Changes, Lines};
 use rtc_channels::{ChannelError, ChannelHandler};
+use rtc_ids::Ids;
 use rtc_sdp_values::{Direction, Mid};
 use rtc_wire::{ChannelConfig, ChannelId, Seq};
 use std::alloc::{AllocError, Global};
@@ -107,7 +107,7 @@ impl Staged {
     }
 
     /// Draws a mid that no row and no staged line has.
-    #[tactic(auto, using(crate::proofs::LaterLemmas::later_none, crate::proofs::LaterLemmas::later_once))]
+    #[tactic(auto, using(rtc_ids::proofs::LaterLemmas::later_none, rtc_ids::proofs::LaterLemmas::later_once))]
     pub fn draw_mid<N: Ids>(&self, ids: &mut N, lines: &Lines) -> Result<Mid, AllocError>
         ensures mid { IfOk result (λ mid. mid ≡ next_mid N.ids lines.now self.now ids.old) }
         ensures free { IfOk result (λ mid. is_held lines.now self.now mid ≡ false) }
