@@ -4,3 +4,5 @@ pub mod Counts
 pub mod Pairs
 pub mod ConfirmLemmas
 pub mod ShownLemmas
+pub mod SourcedLemmas
+pub mod NumberLemmas

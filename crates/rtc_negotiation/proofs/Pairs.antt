@@ -1,7 +1,7 @@
 -- One more pair of sources.
 use Rattle.std.proofs.Common.{◌≡◌, suc, ℕ, List, [], ◌∷◌, ◌++◌, Bool, append_assoc}
 use Rattle.rtc_sdp_values.specs.declared.media_kind.MediaKind.{MediaKind}
-use Rattle.rtc_peer_state.specs.Draws.{Draws}
+use Rattle.rtc_ids.specs.Draws.{Draws}
 use Rattle.rtc_peer_state.specs.Sources.{Pair, pair_numbers, next_pair, next_pairs, after_pair, after_pairs}
 
 pub one_pair : {N : Type 0} (draws : Draws N) (used : ℕ → Bool) (kind : MediaKind) (done : List Pair) (pair : Pair) (earlier later : List ℕ) (left more : ℕ) (ids after : N) (all : List Pair) → left ≡ suc more → pair ≡ next_pair draws used kind earlier ids → later ≡ earlier ++ pair_numbers pair → after ≡ after_pair draws used kind ids → done ++ next_pairs draws used kind earlier left ids ≡ all → (done ++ pair ∷ []) ++ next_pairs draws used kind later more after ≡ all

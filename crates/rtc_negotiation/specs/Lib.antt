@@ -1,2 +1,4 @@
 pub mod Updates
 pub mod ShownChannels
+pub mod ListedMids
+pub mod TakenNumbers

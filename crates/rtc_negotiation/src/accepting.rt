@@ -13,7 +13,8 @@ use crate::updating::{list_added, update_sources};
 use rtc_change::{
     Change, Lines, Plan, Refusal, SdpPendingOffer, View, count_added, plan_answer, plan_offer,
 };
-use rtc_peer_state::{Ids, LineSources, Peer, RtcError, count_lines};
+use rtc_ids::Ids;
+use rtc_peer_state::{LineSources, Peer, RtcError, count_lines};
 use rtc_sdp_values::{Sdp, Setup};
 use rtc_wire::{Seq, TryCopy};
 use std::alloc::{AllocError, Global};
@@ -52,7 +53,7 @@ fn judge_answer(
 }
 
 /// Accepts an offer, and answers it; the token of an own offer is superseded, also where the offer is refused.
-#[tactic(auto, unfolding(rtc_peer_state::specs::MadeSdp::answer_sdp), using(rtc_peer_state::proofs::LaterLemmas::later_none))]
+#[tactic(auto, unfolding(rtc_peer_state::specs::MadeSdp::answer_sdp), using(rtc_ids::proofs::LaterLemmas::later_none))]
 pub fn accept_offer<N: Ids>(peer: &mut Peer<N>, offer: Sdp) -> Result<Sdp, RtcError>
     ensures { AcceptsOffer N.ids peer.old offer result peer.new }
 {
@@ -73,40 +74,39 @@ pub fn accept_offer<N: Ids>(peer: &mut Peer<N>, offer: Sdp) -> Result<Sdp, RtcEr
     ) else {
         return Err(RtcError::Alloc);
     };
-    let Ok(sources) = update_sources(
+    let Ok(()) = update_sources(
         alloc,
         &mut peer.ids,
-        peer.sources.as_slice(),
-        &[],
+        &mut peer.sources,
+        Vec::new(alloc),
         &plan,
         offer.lines.len(),
     ) else {
         return Err(RtcError::Alloc);
     };
-    peer.sources = sources;
     peer.lines.commit(plan);
     Ok(answer)
 }
 
-// The sources once an answer is accepted: those that the token added come.
-#[tactic(auto, using(rtc_peer_state::proofs::LaterLemmas::later_none))]
+// The sources once an answer is accepted: those of the lines that changes add come.
+#[tactic(auto, using(rtc_ids::proofs::LaterLemmas::later_none))]
 fn update_answered<N: Ids>(
     alloc: Global,
     ids: &mut N,
-    sources: &[LineSources],
+    sources: &mut Seq<LineSources>,
     changes: &[Change],
     plan: &Plan,
     count: usize,
-) -> Result<Seq<LineSources>, AllocError>
+) -> Result<(), AllocError>
     requires { count ≤ length plan.now.rows }
-    ensures { UpdatesSources N.ids ids.old sources.now (added_sources changes.now) plan.now count result ids.new }
+    ensures { UpdatesSources N.ids ids.old sources.old (added_sources changes.now) plan.now count result ids.new sources.new }
 {
     let added = list_added(alloc, changes)?;
-    update_sources(alloc, ids, sources, added.as_slice(), plan, count)
+    update_sources(alloc, ids, sources, added, plan, count)
 }
 
 /// Accepts the answer to the offer of a token, which is spent. The channels that it adds are confirmed.
-#[tactic(auto, using(rtc_peer_state::proofs::LaterLemmas::later_none))]
+#[tactic(auto, using(rtc_ids::proofs::LaterLemmas::later_none))]
 pub fn accept_answer<N: Ids>(
     peer: &mut Peer<N>,
     token: SdpPendingOffer,
@@ -124,20 +124,17 @@ pub fn accept_answer<N: Ids>(
         Err(Refusal::Sdp(error)) => return Err(RtcError::Sdp(error)),
         Err(Refusal::Alloc) => return Err(RtcError::Alloc),
     };
-    let Ok(changes) = token.changes().copy() else {
-        return Err(RtcError::Alloc);
-    };
-    let Ok(sources) = update_answered(
+    let changes = token.into_changes();
+    let Ok(()) = update_answered(
         alloc,
         &mut peer.ids,
-        peer.sources.as_slice(),
+        &mut peer.sources,
         changes.0.as_slice(),
         &plan,
         answer.lines.len(),
     ) else {
         return Err(RtcError::Alloc);
     };
-    peer.sources = sources;
     peer.lines.commit(plan);
     confirm_channels(&mut peer.channels, changes);
     Ok(())

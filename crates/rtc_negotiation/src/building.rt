@@ -13,7 +13,8 @@ ghost use Rattle.std.specs.Option.{option_copied};
 
 use rtc_change::Lines;
 use rtc_channels::ChannelHandler;
-use rtc_peer_state::{Identity, Ids, Peer, RtcConfig, Staged};
+use rtc_ids::Ids;
+use rtc_peer_state::{Identity, Peer, RtcConfig, Staged};
 use rtc_sdp_values::{Fingerprint, IceCreds};
 use rtc_wire::{Bytes, Moment, Seq, Text, TryCopy};
 use std::alloc::{AllocError, Global};

@@ -33,6 +33,7 @@ fn can_stop(lines: &Lines, mid: Mid) -> bool
 pub fn set_direction<N>(peer: &mut Peer<N>, mid: Mid, dir: Direction) -> Result<bool, AllocError>
     ensures { SetsDirection peer.old mid dir result peer.new }
 {
+    peer.lines.expect_look_up();
     if !can_direct(&peer.lines, mid, dir) {
         return Ok(false);
     }
@@ -45,6 +46,7 @@ pub fn set_direction<N>(peer: &mut Peer<N>, mid: Mid, dir: Direction) -> Result<
 pub fn stop_media<N>(peer: &mut Peer<N>, mid: Mid) -> Result<bool, AllocError>
     ensures { StopsMedia peer.old mid result peer.new }
 {
+    peer.lines.expect_look_up();
     if !can_stop(&peer.lines, mid) {
         return Ok(false);
     }

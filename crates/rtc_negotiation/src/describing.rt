@@ -88,7 +88,7 @@ fn list_lines(
 ) -> Result<Seq<MediaLine>, AllocError>
     ensures { IfOk result (λ lines. lines ≡ map (row_line identity.now setup) rows.now) }
 {
-    let mut lines = Vec::new(alloc);
+    let mut lines = Vec::with_capacity(alloc, rows.len())?;
     for row in rows {
         let line = line_of_row(alloc, identity, setup, row)?;
         lines.push(line)?;
@@ -100,7 +100,7 @@ fn list_lines(
 fn list_live_mids(alloc: Global, rows: &[LineRow]) -> Result<Seq<Mid>, AllocError>
     ensures { IfOk result (λ mids. mids ≡ live_mids rows.now) }
 {
-    let mut mids = Vec::new(alloc);
+    let mut mids = Vec::with_capacity(alloc, rows.len())?;
     for row in rows {
         if !is_stopped_row(row) {
             mids.push(row.mid())?;

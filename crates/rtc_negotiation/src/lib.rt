@@ -7,10 +7,12 @@ mod building;
 mod changing;
 mod confirming;
 mod describing;
+mod listed_mids;
 mod naming;
 mod showing;
 mod sourcing;
 mod staging;
+mod taken_numbers;
 mod updating;
 
 pub use accepting::{accept_answer, accept_offer};

@@ -1,10 +1,10 @@
 //! Draws of names.
 ghost use Rattle.std.specs.Prelude.{◌≡◌, IfOk, OnOk, option_map, string_bytes};
-ghost use Rattle.rtc_peer_state.specs.Draws.{Later};
+ghost use Rattle.rtc_ids.specs.Draws.{Later};
 ghost use Rattle.rtc_peer_state.specs.Names.{kept_bytes, kept_name, name_of, after_name};
 
 use rtc_fields::is_token_byte;
-use rtc_peer_state::Ids;
+use rtc_ids::Ids;
 use rtc_wire::Text;
 use std::alloc::{AllocError, Global};
 
@@ -45,7 +45,7 @@ pub fn keep_name(alloc: Global, name: Option<String>) -> Result<Option<Text>, Al
 }
 
 /// The name that is given, or else one that is drawn.
-#[tactic(auto, using(rtc_peer_state::proofs::LaterLemmas::later_none, rtc_peer_state::proofs::LaterLemmas::later_once))]
+#[tactic(auto, using(rtc_ids::proofs::LaterLemmas::later_none, rtc_ids::proofs::LaterLemmas::later_once))]
 pub fn draw_name<N: Ids>(
     alloc: Global,
     ids: &mut N,

@@ -1,10 +1,8 @@
 //! Draws of synchronization sources.
-ghost use Rattle.std.specs.Prelude.{◌≡◌, ◌||◌, ◌++◌, [], ℕ, Bool, IfOk, OnOk};
-ghost use Rattle.std.specs.List.{list_any};
-ghost use Rattle.rtc_peer_state.specs.Draws.{Later};
+ghost use Rattle.std.specs.Prelude.{◌≡◌, ◌++◌, [], IfOk, OnOk};
+ghost use Rattle.rtc_ids.specs.Draws.{Later};
 ghost use Rattle.rtc_peer_state.specs.Sources.{
   pair_numbers,
-  is_number,
   is_used,
   drawn_source,
   next_source,
@@ -14,70 +12,22 @@ ghost use Rattle.rtc_peer_state.specs.Sources.{
   after_pairs,
 };
 
-use rtc_peer_state::{Ids, LineSources};
+use crate::taken_numbers::TakenNumbers;
+use rtc_ids::Ids;
+use rtc_peer_state::LineSources;
 use rtc_sdp_values::{MediaKind, Ssrc};
 use rtc_wire::Seq;
 use std::alloc::{AllocError, Global};
 
 const ALL_NUMBERS: u64 = 1 << 32;
 
-// Whether a pair has a number.
-fn has_number(pair: &(Ssrc, Option<Ssrc>), n: u32) -> bool
-    ensures { result ≡ is_number n (pair_numbers pair.now) }
-{
-    match pair.1 {
-        None => pair.0.0 == n,
-        Some(rtx) => rtx.0 == n || pair.0.0 == n,
-    }
-}
-
-// Whether one of the pairs has a number.
-fn have_number(pairs: &[(Ssrc, Option<Ssrc>)], n: u32) -> bool
-    ensures { result ≡ list_any (λ pair. is_number n (pair_numbers pair)) pairs.now }
-{
-    for pair in pairs {
-        if has_number(pair, n) {
-            return true;
-        }
-    }
-    false
-}
-
-fn is_used_number(sources: &[LineSources], n: u32) -> bool
-    ensures { result ≡ is_used sources.now n }
-{
-    for line in sources {
-        if have_number(line.ssrcs.as_slice(), n) {
-            return true;
-        }
-    }
-    false
-}
-
-fn is_earlier(earlier: &[u32], n: u32) -> bool
-    ensures { result ≡ is_number n earlier.now }
-{
-    for m in earlier {
-        if *m == n {
-            return true;
-        }
-    }
-    false
-}
-
-fn is_taken(sources: &[LineSources], earlier: &[u32], n: u32) -> bool
-    ensures { result ≡ (is_used sources.now n || is_number n earlier.now) }
-{
-    is_used_number(sources, n) || is_earlier(earlier, n)
-}
-
 // The first number counted on that is not taken; where all are, the first.
-fn find_source(sources: &[LineSources], earlier: &[u32], first: u32) -> u32
-    ensures { result ≡ drawn_source (is_used sources.now) earlier.now first }
+fn find_source(taken: &TakenNumbers<'_>, first: u32) -> u32
+    ensures { result ≡ drawn_source (is_used taken.now.0) taken.now.1 first }
 {
     let mut n = first;
     for _ in 0..ALL_NUMBERS {
-        if !is_taken(sources, earlier, n) {
+        if !taken.has(n) {
             return n;
         }
         n = n.wrapping_add(1);
@@ -85,45 +35,44 @@ fn find_source(sources: &[LineSources], earlier: &[u32], first: u32) -> u32
     first
 }
 
-fn draw_source<N: Ids>(ids: &mut N, sources: &[LineSources], earlier: &[u32]) -> Ssrc
-    ensures source { result ≡ record { 0 = next_source N.ids (is_used sources.now) earlier.now ids.old } }
+fn draw_source<N: Ids>(ids: &mut N, taken: &TakenNumbers<'_>) -> Ssrc
+    ensures source { result ≡ record { 0 = next_source N.ids (is_used taken.now.0) taken.now.1 ids.old } }
     ensures after { ids.new ≡ N.ids.after ids.old }
 {
     let first = (ids.draw() % ALL_NUMBERS) as u32;
-    Ssrc(find_source(sources, earlier, first))
+    Ssrc(find_source(taken, first))
 }
 
-/// A source for a line of a kind, with that of its retransmissions; its numbers go to the end of `earlier`.
-#[tactic(auto, using(rtc_peer_state::proofs::LaterLemmas::later_once, rtc_peer_state::proofs::LaterLemmas::later_twice))]
+/// A source for a line of a kind, with that of its retransmissions; its numbers are taken from then on.
+#[tactic(auto, using(rtc_ids::proofs::LaterLemmas::later_once, rtc_ids::proofs::LaterLemmas::later_twice))]
 pub fn draw_pair<N: Ids>(
     ids: &mut N,
-    sources: &[LineSources],
-    earlier: &mut Vec<u32>,
+    taken: &mut TakenNumbers<'_>,
     kind: MediaKind,
 ) -> Result<(Ssrc, Option<Ssrc>), AllocError>
-    ensures pair { IfOk result (λ pair. pair ≡ next_pair N.ids (is_used sources.now) kind earlier.old.items ids.old) }
-    ensures earlier { IfOk result (λ pair. earlier.new.items ≡ earlier.old.items ++ pair_numbers pair) }
-    ensures after { OnOk result (ids.new ≡ after_pair N.ids (is_used sources.now) kind ids.old) }
+    ensures pair { IfOk result (λ pair. pair ≡ next_pair N.ids (is_used taken.old.0) kind taken.old.1 ids.old) }
+    ensures taken { IfOk result (λ pair. taken.new ≡ (taken.old.0, taken.old.1 ++ pair_numbers pair)) }
+    ensures after { OnOk result (ids.new ≡ after_pair N.ids (is_used taken.old.0) kind ids.old) }
     ensures later { Later N.ids ids.old ids.new }
 {
     match kind {
         MediaKind::Audio => {
-            let ssrc = draw_source(ids, sources, earlier.as_slice());
-            earlier.push(ssrc.0)?;
+            let ssrc = draw_source(ids, taken);
+            taken.push(ssrc.0)?;
             Ok((ssrc, None))
         }
         MediaKind::Video => {
-            let rtx = draw_source(ids, sources, earlier.as_slice());
-            earlier.push(rtx.0)?;
-            let ssrc = draw_source(ids, sources, earlier.as_slice());
-            earlier.push(ssrc.0)?;
+            let rtx = draw_source(ids, taken);
+            taken.push(rtx.0)?;
+            let ssrc = draw_source(ids, taken);
+            taken.push(ssrc.0)?;
             Ok((ssrc, Some(rtx)))
         }
     }
 }
 
 /// So many pairs for a line of a kind.
-#[tactic(auto, using(rtc_peer_state::proofs::LaterLemmas::later_none, rtc_peer_state::proofs::LaterLemmas::later_join))]
+#[tactic(auto, using(rtc_ids::proofs::LaterLemmas::later_none, rtc_ids::proofs::LaterLemmas::later_join))]
 pub fn draw_pairs<N: Ids>(
     alloc: Global,
     ids: &mut N,
@@ -136,9 +85,9 @@ pub fn draw_pairs<N: Ids>(
     ensures later { Later N.ids ids.old ids.new }
 {
     let mut pairs = Vec::new(alloc);
-    let mut earlier = Vec::new(alloc);
+    let mut taken = TakenNumbers::of_lines(alloc, sources);
     for _ in 0..count {
-        let pair = draw_pair(ids, sources, &mut earlier, kind)?;
+        let pair = draw_pair(ids, &mut taken, kind)?;
         pairs.push(pair)?;
     }
     Ok(Seq::new(pairs))

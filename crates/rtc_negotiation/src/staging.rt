@@ -7,7 +7,8 @@ use crate::naming::{draw_name, keep_name};
 use crate::sourcing::draw_pairs;
 use rtc_change::AddMedia;
 use rtc_channels::ChannelError;
-use rtc_peer_state::{Ids, Peer, RtcError};
+use rtc_ids::Ids;
+use rtc_peer_state::{Peer, RtcError};
 use rtc_sdp_values::{Direction, MediaKind, Mid, Msid, Simulcast};
 use rtc_wire::{ChannelConfig, ChannelId, TryCopy};
 use std::alloc::AllocError;
@@ -23,7 +24,7 @@ fn count_pairs(simulcast: &Option<Simulcast>) -> usize
 }
 
 /// Stages a media line, and answers its mid.
-#[tactic(auto, using(rtc_peer_state::proofs::LaterLemmas::later_none, rtc_peer_state::proofs::LaterLemmas::later_join))]
+#[tactic(auto, using(rtc_ids::proofs::LaterLemmas::later_none, rtc_ids::proofs::LaterLemmas::later_join))]
 pub fn stage_media<N: Ids>(
     peer: &mut Peer<N>,
     kind: MediaKind,
@@ -41,6 +42,7 @@ pub fn stage_media<N: Ids>(
     }) result peer.new }
 {
     let alloc = peer.alloc;
+    peer.lines.expect_look_up();
     let mid = peer.staged.draw_mid(&mut peer.ids, &peer.lines)?;
     let stream = keep_name(alloc, stream_id)?;
     let stream_id = draw_name(alloc, &mut peer.ids, "s", stream)?;
@@ -65,7 +67,7 @@ pub fn stage_media<N: Ids>(
 }
 
 /// Stages a channel, with the line of the data channels where there is none yet, and answers its number.
-#[tactic(auto, using(rtc_peer_state::proofs::LaterLemmas::later_none))]
+#[tactic(auto, using(rtc_ids::proofs::LaterLemmas::later_none))]
 pub fn stage_channel<N: Ids>(
     peer: &mut Peer<N>,
     config: ChannelConfig,

@@ -22,15 +22,21 @@ ghost use Rattle.std.specs.Prelude.{
   filter,
   IfOk,
   OnOk,
+  OnErr,
   Some,
   None,
+  map,
+  vec_len,
+  vec_capacity,
 };
 ghost use Rattle.rtc_sdp_values.specs.LineRow.{row_mid};
+ghost use Rattle.rtc_sdp_values.specs.Mids.{is_among};
+ghost use Rattle.rtc_negotiation.specs.ListedMids.{sourced_mids};
 ghost use Rattle.rtc_change.specs.declared.change.Change.{Change};
 ghost use Rattle.rtc_peer_state.specs.declared.line_sources.LineSources.{LineSources};
 ghost use Rattle.rtc_change.specs.declared.plan.Plan.{Plan};
 ghost use Rattle.rtc_peer_state.specs.Calls.{is_sourced};
-ghost use Rattle.rtc_peer_state.specs.Draws.{Later};
+ghost use Rattle.rtc_ids.specs.Draws.{Later};
 ghost use Rattle.rtc_negotiation.specs.Updates.{UpdatesSources};
 ghost use Rattle.rtc_peer_state.specs.Sources.{
   is_used,
@@ -47,38 +53,55 @@ ghost use Rattle.rtc_peer_state.specs.Sources.{
   pair_numbers,
 };
 
+use crate::listed_mids::{ListedMids, count_out_of_order};
 use crate::sourcing::draw_pair;
+use crate::taken_numbers::TakenNumbers;
 use rtc_change::{Change, Plan};
-use rtc_peer_state::{Ids, LineSources};
+use rtc_ids::Ids;
+use rtc_peer_state::LineSources;
 use rtc_sdp_values::{LineRow, MediaKind, Mid};
 use rtc_wire::{Seq, TryCopy};
 use std::alloc::{AllocError, Global};
+use std::mem;
 
-// Whether a line has sources.
-fn is_known(sources: &[LineSources], mid: Mid) -> bool
-    ensures { result ≡ has_sources sources.now mid }
+// So few draws walk over the numbers that are taken.
+const FEW_DRAWS: usize = 8;
+
+fn append_mids(mids: &mut Vec<Mid>, sources: &[LineSources]) -> Result<(), AllocError>
+    ensures { OnOk result (mids.new.items ≡ mids.old.items ++ map (λ line. line.mid) sources.now) }
 {
     for line in sources {
-        if line.mid == mid {
-            return true;
-        }
+        mids.push(line.mid)?;
     }
-    false
+    Ok(())
 }
 
-fn has_line_sources(sources: &[LineSources], added: &[LineSources], mid: Mid) -> bool
-    ensures { result ≡ is_sourced sources.now added.now mid }
+// The mids of the lines with sources, and then of those that get the sources of a token.
+fn list_sourced_mids(
+    alloc: Global,
+    sources: &[LineSources],
+    added: &[LineSources],
+) -> Result<Vec<Mid>, AllocError>
+    ensures { IfOk result (λ mids. mids.items ≡ sourced_mids sources.now added.now) }
 {
-    is_known(sources, mid) || is_known(added, mid)
+    let mut mids = Vec::with_capacity(alloc, sources.len())?;
+    append_mids(&mut mids, sources)?;
+    append_mids(&mut mids, added)?;
+    Ok(mids)
 }
 
-// Whether a row sends and has no source yet.
-fn wants_line_sources(sources: &[LineSources], added: &[LineSources], row: &LineRow) -> bool
-    ensures { result ≡ wants_sources (is_sourced sources.now added.now) row.now }
+// Whether a row sends and has no source yet. The lines with sources mostly come in the order of the rows, so that the one at
+// `place` is looked at first.
+fn wants_line_sources(sourced: &ListedMids<'_>, place: &mut usize, row: &LineRow) -> bool
+    ensures { result ≡ wants_sources (is_among sourced.now) row.now }
 {
     match row {
-        LineRow::Media { mid, dir, .. } => dir.is_sending()
-            && !has_line_sources(sources, added, *mid),
+        LineRow::Media { mid, dir, .. } => {
+            if sourced.is_next(place, *mid) {
+                return false;
+            }
+            dir.is_sending() && !sourced.has(*mid)
+        }
         LineRow::App { .. } => false,
     }
 }
@@ -96,21 +119,19 @@ fn kind_of_row(row: &LineRow) -> MediaKind
 fn draw_row<N: Ids>(
     alloc: Global,
     ids: &mut N,
-    sources: &[LineSources],
-    earlier: &mut Vec<u32>,
+    taken: &mut TakenNumbers<'_>,
     row: &LineRow,
 ) -> Result<LineSources, AllocError>
     ensures line { IfOk result (λ line. line ≡ record {
       mid = row_mid row.now;
-      ssrcs = next_pair N.ids (is_used sources.now) (row_kind row.now) earlier.old.items ids.old ∷ [];
+      ssrcs = next_pair N.ids (is_used taken.old.0) (row_kind row.now) taken.old.1 ids.old ∷ [];
     }) }
-    ensures earlier { OnOk result (earlier.new.items
-        ≡ earlier.old.items
-        ++ pair_numbers (next_pair N.ids (is_used sources.now) (row_kind row.now) earlier.old.items ids.old)) }
-    ensures after { OnOk result (ids.new ≡ after_pair N.ids (is_used sources.now) (row_kind row.now) ids.old) }
+    ensures taken { OnOk result (taken.new
+        ≡ (taken.old.0, taken.old.1 ++ pair_numbers (next_pair N.ids (is_used taken.old.0) (row_kind row.now) taken.old.1 ids.old))) }
+    ensures after { OnOk result (ids.new ≡ after_pair N.ids (is_used taken.old.0) (row_kind row.now) ids.old) }
     ensures later { Later N.ids ids.old ids.new }
 {
-    let pair = draw_pair(ids, sources, earlier, kind_of_row(row))?;
+    let pair = draw_pair(ids, taken, kind_of_row(row))?;
     let mut ssrcs = Seq::empty(alloc);
     ssrcs.push(pair)?;
     Ok(LineSources {
@@ -119,8 +140,23 @@ fn draw_row<N: Ids>(
     })
 }
 
+// The numbers that lines use, where so many rows may draw more.
+fn take_numbers<'a>(
+    alloc: Global,
+    sources: &'a [LineSources],
+    count: usize,
+) -> Result<TakenNumbers<'a>, AllocError>
+    ensures { IfOk result (λ taken. taken ≡ (sources.now, [])) }
+{
+    if count <= FEW_DRAWS {
+        Ok(TakenNumbers::of_lines(alloc, sources))
+    } else {
+        TakenNumbers::indexed(alloc, sources)
+    }
+}
+
 // The sources that rows draw, where they send and have none.
-#[tactic(auto, using(rtc_peer_state::proofs::LaterLemmas::later_none, rtc_peer_state::proofs::LaterLemmas::later_join))]
+#[tactic(auto, using(rtc_ids::proofs::LaterLemmas::later_none, rtc_ids::proofs::LaterLemmas::later_join))]
 fn draw_sources<N: Ids>(
     alloc: Global,
     ids: &mut N,
@@ -133,13 +169,17 @@ fn draw_sources<N: Ids>(
     ensures after { OnOk result (ids.new ≡ after_sources N.ids (is_used sources.now) (is_sourced sources.now added.now) rows.now ids.old) }
     ensures later { Later N.ids ids.old ids.new }
 {
+    let mids = list_sourced_mids(alloc, sources, added)?;
+    let others = count_out_of_order(mids.as_slice(), rows);
+    let sourced = ListedMids::new(alloc, mids.as_slice(), others)?;
     let mut drawn = Vec::new(alloc);
-    let mut earlier = Vec::new(alloc);
+    let mut taken = take_numbers(alloc, sources, others)?;
+    let mut place = 0;
     for row in rows {
-        if !wants_line_sources(sources, added, row) {
+        if !wants_line_sources(&sourced, &mut place, row) {
             continue;
         }
-        let line = draw_row(alloc, ids, sources, &mut earlier, row)?;
+        let line = draw_row(alloc, ids, &mut taken, row)?;
         drawn.push(line)?;
     }
     Ok(drawn)
@@ -162,69 +202,62 @@ pub fn list_added(alloc: Global, changes: &[Change]) -> Result<Vec<LineSources>,
     Ok(added)
 }
 
-fn copy_kept(
-    alloc: Global,
-    sources: &[LineSources],
-    removed: &[Mid],
-) -> Result<Vec<LineSources>, AllocError>
-    ensures { IfOk result (λ kept. kept.items ≡ without removed.now sources.now) }
+// Puts the sources behind others, but those of removed lines.
+fn move_kept(all: &mut Vec<LineSources>, sources: Vec<LineSources>, removed: &ListedMids<'_>)
+    requires { vec_len all.old + vec_len sources ≤ vec_capacity all.old }
+    ensures items { all.new.items ≡ all.old.items ++ without removed.now sources.items }
+    ensures len { vec_len all.new ≤ vec_len all.old + vec_len sources }
+    ensures capacity { vec_capacity all.new ≡ vec_capacity all.old }
 {
-    let mut kept = Vec::new(alloc);
     for line in sources {
-        if !line.mid.is_among(removed) {
-            let copied = line.copy()?;
-            kept.push(copied)?;
+        if !removed.has(line.mid) {
+            all.push_reserved(line);
         }
     }
-    Ok(kept)
 }
 
-fn append(all: &mut Vec<LineSources>, more: &[LineSources]) -> Result<(), AllocError>
-    ensures { OnOk result (all.new.items ≡ all.old.items ++ more.now) }
+// The sources but those of removed lines, and then more. Nothing is copied.
+fn replace_sources(
+    alloc: Global,
+    sources: &mut Seq<LineSources>,
+    removed: &ListedMids<'_>,
+    more: Vec<LineSources>,
+) -> Result<(), AllocError>
+    ensures ok { OnOk result (sources.new ≡ without removed.now sources.old ++ more.items) }
+    ensures err { OnErr result (sources.new ≡ sources.old) }
 {
-    for line in more {
-        let copied = line.copy()?;
-        all.push(copied)?;
-    }
+    let Some(count) = sources.len().checked_add(more.len()) else {
+        return Err(AllocError);
+    };
+    let mut all = Vec::with_capacity(alloc, count)?;
+    let mut more = more;
+    let before = mem::replace(sources, Seq::empty(alloc)).into_vec();
+    move_kept(&mut all, before, removed);
+    let Ok(()) = all.append(&mut more) else {
+        unreachable!()
+    };
+    *sources = Seq::new(all);
     Ok(())
 }
 
-// The sources but those of removed lines, then those that are added, then those that are drawn.
-fn join_sources(
-    alloc: Global,
-    sources: &[LineSources],
-    removed: &[Mid],
-    added: &[LineSources],
-    drawn: &[LineSources],
-) -> Result<Seq<LineSources>, AllocError>
-    ensures { IfOk result (λ all. all ≡ without removed.now sources.now ++ added.now ++ drawn.now) }
-{
-    let mut all = copy_kept(alloc, sources, removed)?;
-    append(&mut all, added)?;
-    append(&mut all, drawn)?;
-    Ok(Seq::new(all))
-}
-
-/// The sources that a peer has once a plan is carried out, whose first `count` rows are those of the lines.
+/// Gives a peer the sources that it has once a plan is carried out, whose first `count` rows are those of the lines.
+///
+/// Where there is no memory for them they stay as they were.
 pub fn update_sources<N: Ids>(
     alloc: Global,
     ids: &mut N,
-    sources: &[LineSources],
-    added: &[LineSources],
+    sources: &mut Seq<LineSources>,
+    added: Vec<LineSources>,
     plan: &Plan,
     count: usize,
-) -> Result<Seq<LineSources>, AllocError>
+) -> Result<(), AllocError>
     requires { count ≤ length plan.now.rows }
-    ensures { UpdatesSources N.ids ids.old sources.now added.now plan.now count result ids.new }
+    ensures { UpdatesSources N.ids ids.old sources.old added.items plan.now count result ids.new sources.new }
 {
     let rows = &plan.rows.as_slice()[..count];
-    let drawn = draw_sources(alloc, ids, sources, added, rows)?;
-    let all = join_sources(
-        alloc,
-        sources,
-        plan.removed.as_slice(),
-        added,
-        drawn.as_slice(),
-    )?;
-    Ok(all)
+    let mut drawn = draw_sources(alloc, ids, sources.as_slice(), added.as_slice(), rows)?;
+    let mut more = added;
+    more.append(&mut drawn)?;
+    let removed = ListedMids::new(alloc, plan.removed.as_slice(), sources.len())?;
+    replace_sources(alloc, sources, &removed, more)
 }

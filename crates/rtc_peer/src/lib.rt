@@ -1,6 +1,6 @@
 //! A WebRTC peer that does no I/O of its own.
 //!
-//! The crate passes on all that its callers name, so that a program lists `rtc_peer` and `rtc_wire` alone.
+//! The crate passes on all that its callers name, so that a program lists `rtc_peer`, `rtc_wire` and a crate with a source of numbers.
 #![tactic(auto)]
 
 mod rtc;
@@ -9,10 +9,11 @@ mod sdp_api;
 pub use rtc::Rtc;
 pub use rtc_change::{AddMedia, Change, Changes, Lines, NewLine, SdpPendingOffer, Why};
 pub use rtc_channels::{ChannelError, ChannelRow};
+pub use rtc_ids::Ids;
 pub use rtc_lines::{
     Candidate, CandidateKind, CodecConfig, Direction, Extension, ExtensionMap, Fingerprint,
     IceCreds, Inconsistent, LineKind, LineRow, MediaKind, MediaLine, Mid, Msid, PayloadRow, Pt,
     Rid, Sdp, SdpAnswer, SdpError, SdpOffer, Setup, Simulcast, SimulcastLayer, Ssrc,
 };
-pub use rtc_peer_state::{CountIds, Ids, RtcConfig, RtcError};
+pub use rtc_peer_state::{RtcConfig, RtcError};
 pub use sdp_api::SdpApi;

@@ -5,18 +5,19 @@ ghost use Rattle.rtc_peer_state.specs.Calls.{AcceptsOffer, AcceptsAnswer, AddsMe
 ghost use Rattle.rtc_peer_state.specs.Built.{built};
 ghost use Rattle.rtc_peer_state.specs.Formed.{IsFormed};
 ghost use Rattle.rtc_peer.specs.Described.{sdp_of_answer, sdp_of_offer};
-ghost use Rattle.rtc_peer.specs.Labelled.{labelled};
+ghost use Rattle.rtc_peer.specs.Labelled.{labelled_config};
 ghost use Rattle.rtc_peer.specs.WantedLine.{wanted_line};
 
 use crate::SdpApi;
 use rtc_change::{Lines, SdpPendingOffer};
 use rtc_channels::ChannelRow;
+use rtc_ids::Ids;
 use rtc_lines::{Direction, MediaKind, Mid, SdpAnswer, SdpOffer, Simulcast};
 use rtc_negotiation::{
     accept_answer, accept_offer, apply_staged, build_peer, list_channels, set_direction,
     show_channel, stage_channel, stage_media, stop_media,
 };
-use rtc_peer_state::{Ids, Peer, RtcConfig, RtcError};
+use rtc_peer_state::{Peer, RtcConfig, RtcError};
 use rtc_wire::{ChannelConfig, ChannelId, Moment, Seq, Text};
 use std::alloc::{AllocError, Global};
 use std::marker::Model;
@@ -130,7 +131,7 @@ impl<N: Ids> Rtc<N> {
     }
 
     pub(crate) fn stage_labelled(&mut self, label: String) -> Result<ChannelId, RtcError>
-        ensures { AddsChannel N.ids self.old.core (labelled label) result self.new.core }
+        ensures { AddsChannel N.ids self.old.core (labelled_config label) result self.new.core }
     {
         let mut config = ChannelConfig::new(self.core.alloc);
         config.label = Text::new(label);

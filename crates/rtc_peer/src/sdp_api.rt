@@ -3,13 +3,14 @@ ghost use Rattle.std.specs.Prelude.{◌≡◌, ◌≢◌, IsTrue, ◌↔◌, []}
 ghost use Rattle.rtc_peer_state.specs.Calls.{AcceptsOffer, AcceptsAnswer, AddsMedia, AddsChannel, SetsDirection, StopsMedia, Applies};
 ghost use Rattle.rtc_peer_state.specs.Whole.{Whole};
 ghost use Rattle.rtc_peer.specs.Described.{sdp_of_answer, sdp_of_offer};
-ghost use Rattle.rtc_peer.specs.Labelled.{labelled};
+ghost use Rattle.rtc_peer.specs.Labelled.{labelled_config};
 ghost use Rattle.rtc_peer.specs.WantedLine.{wanted_line};
 
 use crate::Rtc;
 use rtc_change::{Lines, SdpPendingOffer};
+use rtc_ids::Ids;
 use rtc_lines::{Direction, MediaKind, Mid, SdpAnswer, SdpOffer, Simulcast};
-use rtc_peer_state::{Ids, RtcError};
+use rtc_peer_state::RtcError;
 use rtc_wire::{ChannelConfig, ChannelId};
 use std::alloc::AllocError;
 
@@ -76,7 +77,7 @@ impl<'a, N: Ids> SdpApi<'a, N> {
     /// Stages a data channel with a label, and answers its number: ordered, reliable, announced by an open message.
     pub fn add_channel(&mut self, label: String) -> Result<ChannelId, RtcError>
         ensures same_reference { self.new.rtc.ghost_name ≡ self.old.rtc.ghost_name }
-        ensures adds { AddsChannel N.ids self.old.rtc.now.core (labelled label) result self.new.rtc.now.core }
+        ensures adds { AddsChannel N.ids self.old.rtc.now.core (labelled_config label) result self.new.rtc.now.core }
     {
         self.rtc.stage_labelled(label)
     }
