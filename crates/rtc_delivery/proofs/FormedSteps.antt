@@ -11,7 +11,7 @@ use Rattle.rtc_change.specs.RowChanges.{directed_row, stopped_row}
 use Rattle.rtc_change.proofs.RowChangeLemmas.{directed_row_keeps, stopped_row_keeps}
 use Rattle.rtc_peer_state.specs.declared.peer.Peer.{Peer}
 use Rattle.rtc_peer_state.specs.declared.rtc_error.RtcError.TheVariants.{BadChannel, Alloc as PeerAlloc}
-use Rattle.rtc_peer_state.specs.Draws.{Draws}
+use Rattle.rtc_ids.specs.Draws.{Draws}
 use Rattle.rtc_peer_state.specs.Formed.{IsFormed}
 use Rattle.rtc_peer_state.proofs.Alls.{all-append}
 use Rattle.rtc_delivery.proofs.PlainSdps.{offer_plain, answer_plain, plain_names_tokens}

@@ -21,8 +21,10 @@ use Rattle.rtc_sdp_values.specs.declared.media_kind.MediaKind.TheVariants.{Audio
 use Rattle.rtc_sdp_values.specs.declared.sdp.Sdp.{Sdp}
 use Rattle.rtc_sdp_values.specs.declared.setup.Setup.{Setup}
 use Rattle.rtc_sdp_values.specs.declared.setup.Setup.TheVariants.{ActPass, Passive}
-use Rattle.rtc_sdp_attributes.specs.WordValue.{is_spaceless, is_word_up_to}
-use Rattle.rtc_sdp_writer.specs.Plain.{IsPlain, IsPlainCreds, IsPlainHash, IsPlainLine, IsMediumLine, SuitsKind, StandFirst}
+use Rattle.rtc_sdp_attributes.specs.Forms.{is_spaceless, is_word_up_to}
+use Rattle.rtc_sdp_reader.specs.PlainSources.{AreNumbersApart}
+use Rattle.rtc_sdp_writer.specs.AsRead.{AreSourcesApart}
+use Rattle.rtc_sdp_writer.specs.Plain.{IsPlain, IsPlainCreds, IsPlainHash, IsLegibleLine, IsMediumLine, SuitsKind, StandFirst}
 use Rattle.rtc_sdp_writer.specs.SessionRows.{enabled_mids as named_mids}
 use Rattle.rtc_change.specs.PendingOffer.{added_rows}
 use Rattle.rtc_change.specs.ParsedLines.{parsed_line, parsed_lines}
@@ -84,7 +86,7 @@ peer_line identity setup kind disabled mid dir most = record (bare_line kind mid
 }
 
 plain_bare : (identity : Identity) (setup : Setup) (kind : LineKind) (disabled : Bool) (mid : List ℕ) (dir : Direction) (most : Option ℕ) → IsFormedIdentity identity → is_short_token mid ≡ true
-    → IfSome most (λ size. size < 2 ^ 64) → SuitsKind kind (peer_line identity setup kind disabled mid dir most) → IsPlainLine (peer_line identity setup kind disabled mid dir most)
+    → IfSome most (λ size. size < 2 ^ 64) → SuitsKind kind (peer_line identity setup kind disabled mid dir most) → IsLegibleLine (peer_line identity setup kind disabled mid dir most)
 plain_bare identity setup kind disabled mid dir most plain token limit suits = record {
   kind = suits;
   mid = token;
@@ -101,7 +103,6 @@ plain_bare identity setup kind disabled mid dir most plain token limit suits = r
   msid = tt;
   cname = tt;
   ssrcs = tt;
-  ssrcs_apart = tt;
   max_message_size = limit;
   sctp_init = tt;
 }
@@ -114,7 +115,7 @@ medium identity setup kind disabled mid dir = record {
   quiet = λ off. record { msid = refl; cname = refl; ssrcs = refl };
 }
 
-row_plain : (identity : Identity) (setup : Setup) → IsFormedIdentity identity → (row : LineRow) → is_short_token (row_mid row) ≡ true → IsPlainLine (row_line identity setup row)
+row_plain : (identity : Identity) (setup : Setup) → IsFormedIdentity identity → (row : LineRow) → is_short_token (row_mid row) ≡ true → IsLegibleLine (row_line identity setup row)
 row_plain identity setup plain (Media place mid Audio dir stopped remote_created) token =
     plain_bare identity setup AudioLine stopped mid dir None plain token tt (medium identity setup AudioLine stopped mid dir)
 row_plain identity setup plain (Media place mid Video dir stopped remote_created) token =
@@ -155,16 +156,29 @@ bare_rows : (identity : Identity) (setup : Setup) (rows : List LineRow) → AllB
 bare_rows identity setup [] = tt
 bare_rows identity setup (row ∷ rows) = (row_bare identity setup row, bare_rows identity setup rows)
 
+-- the lines of a peer have no source
+row_apart : (identity : Identity) (setup : Setup) (row : LineRow) → AreNumbersApart (row_line identity setup row).ssrcs
+row_apart identity setup (Media place mid Audio dir stopped remote_created) = tt
+row_apart identity setup (Media place mid Video dir stopped remote_created) = tt
+row_apart identity setup (App place mid) = tt
+
+rows_apart : (identity : Identity) (setup : Setup) (rows : List LineRow) → AreSourcesApart (map (row_line identity setup) rows)
+rows_apart identity setup [] = tt
+rows_apart identity setup (row ∷ rows) = (row_apart identity setup row, rows_apart identity setup rows)
+
 -- the session description of rows
 pub sdp_plain : (session : ℕ) (identity : Identity) (setup : Setup) (rows : List LineRow) → session < 2 ^ 64 → IsFormedIdentity identity → HaveTokens rows → IsPlain (sdp_of_rows session identity setup rows)
 sdp_plain session identity setup rows small plain tokens = record {
-  id = small;
-  groups = ap (λ mids. mids ∷ []) (live_mids-same identity setup rows);
-  creds = refl;
-  fingerprint = refl;
-  setup = refl;
-  lines = all-map (λ row. is_short_token (row_mid row) ≡ true) IsPlainLine (row_line identity setup) (row_plain identity setup plain) rows tokens;
-  candidates = first rows;
+  legible = record {
+    id = small;
+    groups = ap (λ mids. mids ∷ []) (live_mids-same identity setup rows);
+    creds = refl;
+    fingerprint = refl;
+    setup = refl;
+    lines = all-map (λ row. is_short_token (row_mid row) ≡ true) IsLegibleLine (row_line identity setup) (row_plain identity setup plain) rows tokens;
+    candidates = first rows;
+  };
+  apart = rows_apart identity setup rows;
 }
   where
     first : (some : List LineRow) → StandFirst (map (row_line identity setup) some)
@@ -176,7 +190,7 @@ sdp_plain session identity setup rows small plain tokens = record {
 -- the mids of the lines of a plain session description are short tokens
 pub plain_names_tokens : (sdp : Sdp) → IsPlain sdp → NameTokens (parsed_lines sdp)
 plain_names_tokens sdp plain =
-    all-map IsPlainLine (λ line. is_short_token line.mid ≡ true) (parsed_line sdp.groups) (λ line is. is.mid) sdp.lines plain.lines
+    all-map IsLegibleLine (λ line. is_short_token line.mid ≡ true) (parsed_line sdp.groups) (λ line is. is.mid) sdp.lines plain.legible.lines
 
 -- ---- what a peer makes
 

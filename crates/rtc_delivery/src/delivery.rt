@@ -2,13 +2,15 @@
 ghost use Rattle.std.specs.Prelude.{◌≡◌, IfOk};
 ghost use Rattle.rtc_lines.specs.SdpReads.{ReadsAnswer, ReadsOffer};
 ghost use Rattle.rtc_sdp_reader.specs.Reading.{reading};
-ghost use Rattle.rtc_sdp_writer.specs.Plain.{IsPlain};
+ghost use Rattle.rtc_sdp_writer.specs.AsRead.{as_read};
+ghost use Rattle.rtc_sdp_writer.specs.Plain.{IsLegible, IsPlain};
 ghost use Rattle.rtc_sdp_writer.specs.SessionRows.{written_sdp};
 ghost use Rattle.rtc_delivery.specs.Delivered.{ReadsBack};
 
 use rtc_lines::{SdpAnswer, SdpOffer};
+use rtc_sdp_reader::read;
 use rtc_sdp_values::{Sdp, SdpError};
-use rtc_wire::TryCopy;
+use rtc_sdp_writer::write;
 use std::alloc::{AllocError, Global};
 
 /// The offer that arrives where this one is sent (RFC 8829, section 5.8, in our profile).
@@ -16,6 +18,7 @@ use std::alloc::{AllocError, Global};
 /// It may differ from what was sent: a session description does not say what our profile has no line for.
 pub fn deliver_offer(alloc: Global, offer: &SdpOffer) -> Result<SdpOffer, SdpError>
     ensures reading { ReadsOffer result (reading (written_sdp offer.now.0)) }
+    ensures legible { IsLegible offer.now.0 → IfOk result (λ delivered. delivered.0 ≡ as_read offer.now.0) }
     ensures plain { IsPlain offer.now.0 → IfOk result (λ delivered. delivered.0 ≡ offer.now.0) }
 {
     let text = offer.to_sdp_string()?;
@@ -25,10 +28,25 @@ pub fn deliver_offer(alloc: Global, offer: &SdpOffer) -> Result<SdpOffer, SdpErr
 /// The answer that arrives where this one is sent (RFC 8829, section 5.8, in our profile).
 pub fn deliver_answer(alloc: Global, answer: &SdpAnswer) -> Result<SdpAnswer, SdpError>
     ensures reading { ReadsAnswer result (reading (written_sdp answer.now.0)) }
+    ensures legible { IsLegible answer.now.0 → IfOk result (λ delivered. delivered.0 ≡ as_read answer.now.0) }
     ensures plain { IsPlain answer.now.0 → IfOk result (λ delivered. delivered.0 ≡ answer.now.0) }
 {
     let text = answer.to_sdp_string()?;
     SdpAnswer::from_sdp_string(alloc, text.as_str())
+}
+
+// What arrives where a session description is sent that reads back as it is.
+fn deliver_kept(alloc: Global, sdp: &Sdp) -> Result<Sdp, AllocError>
+    requires { ReadsBack sdp.now }
+    ensures { IfOk result (λ delivered. delivered ≡ sdp.now) }
+{
+    let text = write(sdp)?;
+    match read(alloc, text.as_str()) {
+        Ok(delivered) => Ok(delivered),
+        Err(SdpError::Alloc) => Err(AllocError),
+        Err(SdpError::Parse(_)) => unreachable!(),
+        Err(SdpError::Inconsistent(_)) => unreachable!(),
+    }
 }
 
 /// The offer that arrives where a kept one is sent that reads back as it is.
@@ -36,13 +54,8 @@ pub fn deliver_kept_offer(alloc: Global, sdp: &Sdp) -> Result<SdpOffer, AllocErr
     requires { ReadsBack sdp.now }
     ensures { IfOk result (λ offer. offer.0 ≡ sdp.now) }
 {
-    let offer = SdpOffer(sdp.copy()?);
-    match deliver_offer(alloc, &offer) {
-        Ok(delivered) => Ok(delivered),
-        Err(SdpError::Alloc) => Err(AllocError),
-        Err(SdpError::Parse(_)) => unreachable!(),
-        Err(SdpError::Inconsistent(_)) => unreachable!(),
-    }
+    let delivered = deliver_kept(alloc, sdp)?;
+    Ok(SdpOffer(delivered))
 }
 
 /// The answer that arrives where a kept one is sent that reads back as it is.
@@ -50,11 +63,6 @@ pub fn deliver_kept_answer(alloc: Global, sdp: &Sdp) -> Result<SdpAnswer, AllocE
     requires { ReadsBack sdp.now }
     ensures { IfOk result (λ answer. answer.0 ≡ sdp.now) }
 {
-    let answer = SdpAnswer(sdp.copy()?);
-    match deliver_answer(alloc, &answer) {
-        Ok(delivered) => Ok(delivered),
-        Err(SdpError::Alloc) => Err(AllocError),
-        Err(SdpError::Parse(_)) => unreachable!(),
-        Err(SdpError::Inconsistent(_)) => unreachable!(),
-    }
+    let delivered = deliver_kept(alloc, sdp)?;
+    Ok(SdpAnswer(delivered))
 }

@@ -18,7 +18,7 @@ use Rattle.rtc_change.specs.Table.{IsTable, has_mid}
 use Rattle.rtc_change.proofs.AddedLemmas.{added_mids-append}
 use Rattle.rtc_change.proofs.RowChangeLemmas.{KeepsRow, directed_row_keeps, stopped_row_keeps, changed_of_alike, has_mid-alike, table_alike}
 use Rattle.rtc_peer_state.specs.declared.peer.Peer.{Peer}
-use Rattle.rtc_peer_state.specs.Draws.{Draws}
+use Rattle.rtc_ids.specs.Draws.{Draws}
 use Rattle.rtc_peer_state.specs.Names.{is_held}
 use Rattle.rtc_peer_state.specs.Calls.{ChangesLine, AddsChannel, needs_app, staged_mid, staged_media}
 use Rattle.rtc_history.specs.declared.op.Op.{Op}

@@ -11,7 +11,7 @@ use Rattle.rtc_change.specs.ParsedLines.{parsed_lines}
 use Rattle.rtc_change.specs.Table.{IsTable, Distinct}
 use Rattle.rtc_change.specs.TableAfter.{table_after}
 use Rattle.rtc_peer_state.specs.declared.peer.Peer.{Peer}
-use Rattle.rtc_peer_state.specs.Draws.{Draws}
+use Rattle.rtc_ids.specs.Draws.{Draws}
 use Rattle.rtc_peer_state.specs.MadeSdp.{offer_sdp, answer_sdp, sdp_of_rows}
 use Rattle.rtc_history.specs.declared.side.Side.{Side}
 use Rattle.rtc_history.specs.declared.op.Op.{Op}

@@ -10,7 +10,7 @@ use Rattle.rtc_change.specs.PendingOffer.{added_mids, added_rows, do_offer}
 use Rattle.rtc_change.specs.Table.{IsTable, has_mid}
 use Rattle.rtc_change.proofs.AddedLemmas.{length-added_rows}
 use Rattle.rtc_peer_state.specs.declared.peer.Peer.{Peer}
-use Rattle.rtc_peer_state.specs.Draws.{Draws}
+use Rattle.rtc_ids.specs.Draws.{Draws}
 use Rattle.rtc_peer_state.specs.Calls.{raised, after_channels_alone, fitting_channels}
 use Rattle.rtc_peer_state.specs.MadeSdp.{offer_sdp, offered_rows, row_line}
 use Rattle.rtc_history.specs.declared.side.Side.{Side}

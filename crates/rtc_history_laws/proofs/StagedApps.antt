@@ -10,7 +10,7 @@ use Rattle.rtc_change.specs.declared.change.Change.TheVariants.{AddMedia as Addi
 use Rattle.rtc_change.specs.PendingOffer.{is_add_app, contains_add_app}
 use Rattle.rtc_change.specs.RowChanges.{RowChange, directed_row, stopped_row}
 use Rattle.rtc_peer_state.specs.declared.peer.Peer.{Peer}
-use Rattle.rtc_peer_state.specs.Draws.{Draws}
+use Rattle.rtc_ids.specs.Draws.{Draws}
 use Rattle.rtc_peer_state.specs.Calls.{ChangesLine, AddsChannel, needs_app, app_changes, staged_mid, staged_media}
 use Rattle.rtc_history.specs.declared.op.Op.{Op}
 use Rattle.rtc_history.specs.declared.op.Op.TheVariants.{AddMedia, SetDirection, StopMedia, AddChannel}

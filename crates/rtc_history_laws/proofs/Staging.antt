@@ -11,7 +11,7 @@ use Rattle.rtc_channels.specs.Channels.{with_channel, channel_rows, AreBelow}
 use Rattle.rtc_change.specs.RowChanges.{directed_row, stopped_row}
 use Rattle.rtc_change.proofs.RowChangeLemmas.{directed_row_keeps, stopped_row_keeps}
 use Rattle.rtc_peer_state.specs.declared.peer.Peer.{Peer}
-use Rattle.rtc_peer_state.specs.Draws.{Draws}
+use Rattle.rtc_ids.specs.Draws.{Draws}
 use Rattle.rtc_peer_state.specs.Calls.{needs_app, staged_mid, staged_media}
 use Rattle.rtc_history.specs.declared.op.Op.{Op}
 use Rattle.rtc_history.specs.declared.op.Op.TheVariants.{AddMedia, SetDirection, StopMedia, AddChannel}

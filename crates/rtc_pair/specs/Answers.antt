@@ -4,7 +4,7 @@ use Rattle.std.specs.List.{list_any}
 use Rattle.std.specs.declared.alloc.Global.{Global}
 use Rattle.std.specs.Io.KnownBytes.{Appends}
 use Rattle.rtc_io.specs.Faults.{Rose}
-use Rattle.rtc_io.specs.Programs.{Program, ReadsInput}
+use Rattle.rtc_io.specs.Programs.{Program, ReadsInput, IsTooLong, fault_line, long_line}
 use Rattle.rtc_history.specs.declared.step.Step.{Step}
 use Rattle.rtc_history.specs.declared.reply.Reply.{Reply}
 use Rattle.rtc_history.specs.Memory.{lacks_memory}
@@ -41,6 +41,14 @@ script_program alloc = record {
   IsRefusedAt = λ bytes line. IsRefused bytes (Line line);
   IsAnswer = IsReport alloc;
 }
+
+-- The source failed, and the line of its fault was written.
+abbrev pub TellsFault : ℕ → ℕ → Option (List ℕ) → Option (List ℕ) → Type 0
+TellsFault faults faults' written written' = Rose faults faults' × Appends written written' fault_line
+
+-- More bytes were left than a program reads, and the line of their length was written.
+abbrev pub TellsLength : Global → Option (List ℕ) → Option (List ℕ) → Option (List ℕ) → Type 0
+TellsLength alloc left written written' = IsTooLong left × Appends written written' (long_line (script_program alloc).subject)
 
 -- Steps were performed on the program's pair, which is left, and their report was written.
 pub record PerformsSteps (alloc : Global) (lacking : Bool) (steps : List Step) (written written' : Option (List ℕ))

@@ -1,11 +1,20 @@
 //! The top call.
 ghost use Rattle.std.specs.Prelude.{◌≡◌, ◌≢◌, ◌<◌, ◌≤◌, ◌^◌, ◌⊎◌, true, false, Some, None, map, string_bytes, IfOk, length};
 ghost use Rattle.std.specs.Io.KnownBytes.{Appends};
-ghost use Rattle.rtc_io.specs.Faults.{Rose};
 ghost use Rattle.rtc_io.specs.Saying.{BreaksOff};
-ghost use Rattle.rtc_io.specs.Programs.{IsDue, IsTooLong, RefusesInput, fault_line, long_line};
+ghost use Rattle.rtc_io.specs.Programs.{IsDue, RefusesInput};
 ghost use Rattle.rtc_history.specs.Sizes.{steps_size};
-ghost use Rattle.rtc_pair.specs.Answers.{run_words, script_program, IsReport, PerformsSteps, RunsScript, CompletesScript, lack_memory};
+ghost use Rattle.rtc_pair.specs.Answers.{
+  run_words,
+  script_program,
+  IsReport,
+  PerformsSteps,
+  RunsScript,
+  CompletesScript,
+  TellsFault,
+  TellsLength,
+  lack_memory,
+};
 
 use crate::asking::ask_for_run;
 use rtc_history::{Reply, Step};
@@ -82,15 +91,13 @@ pub fn pair_main<R: Source, W: Sink>(
         × Appends (W.written output.old) (W.written output.new) (script_program alloc).usage }
     ensures refused { result ≡ 3
         → RefusesInput (script_program alloc) (R.left input.old) (R.left input.new) (W.written output.old) (W.written output.new) }
-    ensures read { result ≡ 4
-        → Rose (R.faults input.old) (R.faults input.new) × Appends (W.written output.old) (W.written output.new) fault_line }
+    ensures read { result ≡ 4 → TellsFault (R.faults input.old) (R.faults input.new) (W.written output.old) (W.written output.new) }
     ensures write { let words = map (λ word. string_bytes word) words.now in result ≡ 5 → BreaksOff (IsDue (script_program alloc)
         (words ≢ run_words) (words ≡ run_words) (R.left input.old) (R.left input.new) (R.faults input.old) (R.faults input.new))
         (W.written output.old) (W.written output.new) (W.faults output.old) (W.faults output.new) }
     ensures memory { result ≡ 6 → RunsScript alloc true (R.left input.old) (R.left input.new) (W.written output.old)
         (W.written output.new) last.new ⊎ ((output.new ≡ output.old) × (last.new ≡ last.old)) }
-    ensures long { result ≡ 7 → IsTooLong (R.left input.old)
-        × Appends (W.written output.old) (W.written output.new) (long_line (script_program alloc).subject) }
+    ensures long { result ≡ 7 → TellsLength alloc (R.left input.old) (W.written output.old) (W.written output.new) }
     ensures unread { (map (λ word. string_bytes word) words.now ≢ run_words) → input.new ≡ input.old }
     ensures asked { (map (λ word. string_bytes word) words.now ≢ run_words) → (result ≡ 2) ⊎ (result ≡ 5) }
     ensures kept { result ≢ 0 → result ≢ 6 → last.new ≡ last.old }

@@ -16,7 +16,7 @@ use Rattle.rtc_change.specs.RowChanges.{RowChange, directed_row, stopped_row}
 use Rattle.rtc_peer_state.specs.declared.peer.Peer.{Peer}
 use Rattle.rtc_peer_state.specs.declared.rtc_error.RtcError.{RtcError}
 use Rattle.rtc_peer_state.specs.declared.rtc_error.RtcError.TheVariants.{RemoteSdp, Sdp as SdpRefused, ChangesOutOfOrder, BadChannel, Alloc as PeerAlloc}
-use Rattle.rtc_peer_state.specs.Draws.{Draws}
+use Rattle.rtc_ids.specs.Draws.{Draws}
 use Rattle.rtc_peer_state.specs.Calls.{ChangesLine, AcceptsOffer, AcceptsAnswer, after_channels_alone, fitting_channels}
 use Rattle.rtc_history.specs.declared.op.Op.{Op}
 use Rattle.rtc_history.specs.declared.op.Op.TheVariants.{AddMedia, SetDirection, StopMedia, AddChannel}

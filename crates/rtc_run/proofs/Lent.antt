@@ -6,7 +6,7 @@ use Rattle.rtc_channels.specs.Channels.{Channel, channel_row, channel_rows}
 use Rattle.rtc_change.specs.PendingOffer.{PendingOffer}
 use Rattle.rtc_peer_state.specs.declared.peer.Peer.{Peer}
 use Rattle.rtc_peer_state.specs.declared.rtc_error.RtcError.{RtcError}
-use Rattle.rtc_peer_state.specs.Draws.{Draws}
+use Rattle.rtc_ids.specs.Draws.{Draws}
 use Rattle.rtc_peer_state.specs.Calls.{AcceptsOffer, AcceptsAnswer}
 use Rattle.rtc_history.specs.Performs.{lent}
 use Rattle.rtc_run.proofs.ChannelCounts.{offer_channels, answer_channels}

@@ -11,8 +11,8 @@ use Rattle.rtc_change.specs.RowChanges.{media_mid}
 use Rattle.rtc_peer_state.specs.declared.peer.Peer.{Peer}
 use Rattle.rtc_peer_state.specs.declared.rtc_error.RtcError.{RtcError}
 use Rattle.rtc_peer_state.specs.declared.rtc_error.RtcError.TheVariants.{RemoteSdp, Sdp, ChangesOutOfOrder, BadChannel, Alloc as PeerAlloc}
-use Rattle.rtc_peer_state.specs.Draws.{Draws}
-use Rattle.rtc_peer_state.proofs.LaterLemmas.{later_none}
+use Rattle.rtc_ids.specs.Draws.{Draws}
+use Rattle.rtc_ids.proofs.LaterLemmas.{later_none}
 use Rattle.rtc_peer_state.specs.Calls.{AddsMedia, AddsChannel, SetsDirection, StopsMedia}
 use Rattle.rtc_history.specs.declared.op.Op.{Op}
 use Rattle.rtc_history.specs.declared.op.Op.TheVariants.{AddMedia, SetDirection, StopMedia, AddChannel}

@@ -1,6 +1,6 @@
 -- What a side does is what the step does, where this side acts.
 use Rattle.std.proofs.Common.{◌≡◌, ◌+◌, Option}
-use Rattle.rtc_peer_state.specs.Draws.{Draws}
+use Rattle.rtc_ids.specs.Draws.{Draws}
 use Rattle.rtc_history.specs.declared.side.Side.{Side}
 use Rattle.rtc_history.specs.declared.step.Step.{Step}
 use Rattle.rtc_history.specs.declared.outcome.Outcome.{Outcome}

@@ -5,7 +5,7 @@ use Rattle.rtc_channels.specs.Channels.{channel_rows}
 use Rattle.rtc_lines.specs.declared.sdp_offer.SdpOffer.{SdpOffer}
 use Rattle.rtc_change.specs.PendingOffer.{PendingOffer}
 use Rattle.rtc_peer_state.specs.declared.peer.Peer.{Peer}
-use Rattle.rtc_peer_state.specs.Draws.{Draws}
+use Rattle.rtc_ids.specs.Draws.{Draws}
 use Rattle.rtc_peer_state.specs.Calls.{Applies}
 use Rattle.rtc_peer.specs.Described.{sdp_of_offer}
 use Rattle.rtc_history.specs.declared.op.Op.{Op}

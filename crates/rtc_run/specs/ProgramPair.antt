@@ -1,7 +1,7 @@
 -- The pair that scripts are performed on.
 use Rattle.std.specs.Prelude.{◌+◌, ◌%◌, ◌^◌, ℕ, [], ◌∷◌, Some, codes}
 use Rattle.std.specs.declared.alloc.Global.{Global}
-use Rattle.rtc_peer_state.specs.Draws.{Draws}
+use Rattle.rtc_ids.specs.Draws.{Draws}
 use Rattle.rtc_peer_state.specs.Built.{built}
 use Rattle.rtc_history.specs.PairState.{PairState}
 

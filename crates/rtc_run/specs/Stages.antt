@@ -2,7 +2,7 @@
 use Rattle.std.specs.Prelude.{◌≡◌, ◌≤◌, ◌+◌, List, length, Bool, true, false, not, ◌&&◌, Some, None, Ok, Err, alloc_error}
 use Rattle.rtc_channels.specs.Channels.{channel_rows}
 use Rattle.rtc_peer_state.specs.declared.peer.Peer.{Peer}
-use Rattle.rtc_peer_state.specs.Draws.{Draws}
+use Rattle.rtc_ids.specs.Draws.{Draws}
 use Rattle.rtc_peer_state.specs.Calls.{Applies}
 use Rattle.rtc_history.specs.declared.op.Op.{Op}
 use Rattle.rtc_history.specs.declared.op_answer.OpAnswer.{OpAnswer}

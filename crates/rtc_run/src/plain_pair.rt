@@ -7,7 +7,8 @@ ghost use Rattle.rtc_history.specs.Fresh.{IsFresh};
 ghost use Rattle.rtc_run.specs.ProgramPair.{counting, program_pair};
 
 use crate::Pair;
-use rtc_peer::{CountIds, Rtc, RtcConfig};
+use rtc_peer::{Rtc, RtcConfig};
+use rtc_plain_ids::CountIds;
 use rtc_wire::{Addr, Moment};
 use std::alloc::{AllocError, Global};
 
