@@ -10,14 +10,14 @@ use Rattle.rtc_assoc_state.specs.declared.close_state.CloseState.{CloseState}
 use Rattle.rtc_assoc_state.specs.declared.close_state.CloseState.TheVariants.{Unclosed, Queued, Acknowledged}
 use Rattle.rtc_assoc_state.specs.declared.stream_row.StreamRow.{StreamRow}
 use Rattle.rtc_assoc_state.specs.Streams.{stream_of, put, reset_row, is_unclosed, is_closed_here, takes_messages}
-use Rattle.rtc_assoc_state.specs.Inbox.{Inbox, bytes_so_far, with_bytes, without_part, without_messages, forgotten, message_of}
+use Rattle.rtc_assoc_state.specs.Inbox.{Inbox, bytes_so_far, with_bytes, without_part, without_messages, with_message, forgotten, message_of}
 use Rattle.rtc_assoc_state.specs.Settling.{can_reset}
 use Rattle.rtc_assoc_state.specs.Contents.{Contents}
 use Rattle.rtc_assoc_state.specs.Calls.{sent, item_counted, more_kept, last_kept, finished, reset_told, close_came_at, close_came, part_came, item_taken}
 use Rattle.rtc_assoc_state.proofs.RaiseLemmas.{stream_of-stream}
 use Rattle.rtc_assoc.specs.Unread.{unread, IsPrefix}
 use Rattle.rtc_assoc.proofs.MessageLemmas.{is_pair, pair_tells, message, messages, left, HasClose}
-use Rattle.rtc_assoc.proofs.UnreadLemmas.{prefix_self, prefix_none, prefix_is, unread-append, unread-without, unread-forgotten, so_far-with, so_far-with_other, so_far-without_other, so_far-forgotten}
+use Rattle.rtc_assoc.proofs.UnreadLemmas.{prefix_self, prefix_none, prefix_is, unread-with, unread-without, unread-forgotten, so_far-with, so_far-with_other, so_far-without_other, so_far-forgotten}
 use Rattle.rtc_assoc.proofs.AliveLemmas.{alive, RowOf, takes-row, alive-put_as, alive-put_row, closed_not_own, reset-takes, Shut, shut-fewer, shut-dies, shut-own}
 
 -- an end got some items, and these messages of each generation of each stream were read: what is kept of a generation
@@ -74,13 +74,13 @@ gets_more a x y id h i bytes e = record {
 }
 
 -- a last piece, which makes a whole message
-pub gets_last : (a : Inbox) (x y : List StreamRow) (id h i : ℕ) (bytes : List ℕ) → alive x id h ≡ true → ((s g : ℕ) → alive y s g ≡ alive x s g) → Gets a x (piece id h Last i bytes ∷ []) no_reads (record a { received = a.received + 1; parts = without_part id h a.parts; unread = a.unread ++ message_of (piece id h Last i bytes) (bytes_so_far id h a.parts ++ bytes) ∷ [] }) y
+pub gets_last : (a : Inbox) (x y : List StreamRow) (id h i : ℕ) (bytes : List ℕ) → alive x id h ≡ true → ((s g : ℕ) → alive y s g ≡ alive x s g) → Gets a x (piece id h Last i bytes ∷ []) no_reads (record a { received = a.received + 1; parts = without_part id h a.parts; unread = with_message (message_of (piece id h Last i bytes) (bytes_so_far id h a.parts ++ bytes)) a.unread }) y
 gets_last a x y id h i bytes t e =
     let new = message_of (piece id h Last i bytes) (bytes_so_far id h a.parts ++ bytes) in
     record {
       count = refl;
       fewer = λ s g l. sym (e s g) ∙ l;
-      unread_is = λ s g l. unread-append s g a.unread (new ∷ []) ∙ elim (pair_tells id h s g) [
+      unread_is = λ s g l. unread-with s g new a.unread ∙ elim (pair_tells id h s g) [
         | inl p ↦ rw p.0 (ap (λ k. unread s g a.unread ++ message i (bytes_so_far k h a.parts ++ bytes) ∷ []) p.1 ∙ ap (λ k. unread s g a.unread ++ message i (bytes_so_far s k a.parts ++ bytes) ∷ []) p.2)
         | inr p ↦ rw p.0 refl
       ];
@@ -90,7 +90,7 @@ gets_last a x y id h i bytes t e =
       ];
       gone = λ s g l. elim (pair_tells id h s g) [
         | inl p ↦ absurd (let k : true ≡ false = sym t ∙ ap (λ k. alive x k h) p.1 ∙ ap (λ k. alive x s k) p.2 ∙ sym (e s g) ∙ l in cc)
-        | inr p ↦ prefix_is (unread s g (a.unread ++ new ∷ [])) (unread s g a.unread) (unread-append s g a.unread (new ∷ []) ∙ rw p.0 (append-nil (unread s g a.unread)))
+        | inr p ↦ prefix_is (unread s g (with_message new a.unread)) (unread s g a.unread) (unread-with s g new a.unread ∙ rw p.0 (append-nil (unread s g a.unread)))
       ];
     }
 

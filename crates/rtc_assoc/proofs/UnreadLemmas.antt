@@ -1,10 +1,12 @@
 -- What is kept of a generation of a stream while messages come, are read and are dropped.
-use Rattle.std.proofs.Common.{ℕ, ◌≡◌, not, inl, inr, Bool, true, false, cond, List, [], ◌∷◌, ◌++◌, Some, None, refl, sym, ap, ◌∙◌, append_assoc, append-nil}
+use Rattle.std.proofs.Common.{ℕ, ◌≡◌, not, nat_lt, inl, inr, Bool, true, false, cond, List, [], ◌∷◌, ◌++◌, filter, Some, None, refl, sym, ap, ◌∙◌, append_assoc, append-nil}
 use Rattle.std.proofs.lemmas.Bool.{cases_Bool}
 use Rattle.rtc_association.specs.AssociationWords.{AssociationMessage}
 use Rattle.rtc_assoc_state.specs.declared.message.Message.{Message}
-use Rattle.rtc_assoc_state.specs.Inbox.{MessagePart, is_part_of, is_message_of, bytes_so_far, with_bytes, without_part, without_messages}
+use Rattle.rtc_assoc_state.specs.Inbox.{MessagePart, is_part_of, is_message_of, is_of_later, with_message, bytes_so_far, with_bytes, without_part, without_messages}
 use Rattle.rtc_assoc_state.specs.Calls.{first_message_of, messages_behind}
+use Rattle.rtc_assoc_state.proofs.ReadableLemmas.{message_stream}
+use Rattle.rtc_assoc_state.proofs.MessageLists.{not_later_self}
 use Rattle.rtc_assoc.specs.Unread.{unread, IsPrefix}
 use Rattle.rtc_assoc.proofs.MessageLemmas.{pair_tells, pair_same, message}
 
@@ -38,6 +40,41 @@ cond-append false x us vs ws e = e
 pub unread-append : (s g : ℕ) (xs ys : List Message) → unread s g (xs ++ ys) ≡ unread s g xs ++ unread s g ys
 unread-append s g [] ys = refl
 unread-append s g (x ∷ xs) ys = cond-append (is_message_of s g x) _ _ _ _ (unread-append s g xs ys)
+
+-- one more message, behind those of its stream
+unread-kept : (s g : ℕ) (q : Message → Bool) (xs : List Message) → ((m : Message) → is_message_of s g m ≡ true → q m ≡ true) → unread s g (filter q xs) ≡ unread s g xs
+unread-kept s g q [] f = refl
+unread-kept s g q (x ∷ xs) f = by (q x) (f x) (unread-kept s g q xs f)
+  where
+    by : (b : Bool) → (is_message_of s g x ≡ true → b ≡ true) → unread s g (filter q xs) ≡ unread s g xs → unread s g (cond b (x ∷ filter q xs) (filter q xs)) ≡ unread s g (x ∷ xs)
+    by true h e = ap (λ l. cond (is_message_of s g x) (message x.identifier x.bytes ∷ l) l) e
+    by false h e = elim (cases_Bool (is_message_of s g x)) [ inl k ↦ absurd (let z : false ≡ true = h k in cc) | inr k ↦ rw k e ]
+
+unread-left_out : (s g : ℕ) (q : Message → Bool) (xs : List Message) → ((m : Message) → is_message_of s g m ≡ true → q m ≡ false) → unread s g (filter q xs) ≡ []
+unread-left_out s g q [] f = refl
+unread-left_out s g q (x ∷ xs) f = by (q x) (f x) (unread-left_out s g q xs f)
+  where
+    by : (b : Bool) → (is_message_of s g x ≡ true → b ≡ false) → unread s g (filter q xs) ≡ [] → unread s g (cond b (x ∷ filter q xs) (filter q xs)) ≡ []
+    by true h e = elim (cases_Bool (is_message_of s g x)) [ inl k ↦ absurd (let z : true ≡ false = h k in cc) | inr k ↦ rw k e ]
+    by false h e = e
+
+pub unread-with : (s g : ℕ) (m : Message) (xs : List Message) → unread s g (with_message m xs) ≡ unread s g xs ++ unread s g (m ∷ [])
+unread-with s g m xs =
+    let front = filter (λ x. not (is_of_later m.stream x)) xs in
+    let back = filter (is_of_later m.stream) xs in
+    unread-append s g front (m ∷ back) ∙ elim (cases_Bool (nat_lt m.stream s)) [
+      | inl l ↦ let other : is_message_of s g m ≡ false = elim (cases_Bool (is_message_of s g m)) [
+        | inl k ↦ absurd (let z : false ≡ true = sym (not_later_self m.stream m.stream refl) ∙ ap (λ n. nat_lt m.stream n) (message_stream s g m k) ∙ l in cc)
+        | inr k ↦ k
+      ] in
+          rw other (
+          ap (λ us. us ++ unread s g back) (unread-left_out s g (λ x. not (is_of_later m.stream x)) xs (λ x h. ap (λ n. not (nat_lt m.stream n)) (message_stream s g x h) ∙ ap not l))
+          ∙ unread-kept s g (is_of_later m.stream) xs (λ x h. ap (λ n. nat_lt m.stream n) (message_stream s g x h) ∙ l)
+          ∙ sym (append-nil (unread s g xs)))
+      | inr l ↦
+          ap (λ us. us ++ unread s g (m ∷ back)) (unread-kept s g (λ x. not (is_of_later m.stream x)) xs (λ x h. ap (λ n. not (nat_lt m.stream n)) (message_stream s g x h) ∙ ap not l))
+          ∙ ap (λ us. unread s g xs ++ cond (is_message_of s g m) (message m.identifier m.bytes ∷ us) us) (unread-left_out s g (is_of_later m.stream) xs (λ x h. ap (λ n. nat_lt m.stream n) (message_stream s g x h) ∙ l))
+    ]
 
 unread-dropped : (s g t h : ℕ) (m : Message) (b : Bool) (us vs : List AssociationMessage) (xs : List Message) → unread s g xs ≡ us → (b ≡ true → is_message_of s g m ≡ false) → unread s g (cond (not b) (m ∷ xs) xs) ≡ cond (is_message_of s g m) (message m.identifier m.bytes ∷ us) us
 unread-dropped s g t h m true us vs xs e f = rw (f refl) e

@@ -3,6 +3,7 @@ ghost use Rattle.std.specs.Prelude.{◌≡◌, ◌<◌, ◌+◌, ◌^◌, ◌∷
 ghost use Rattle.std.specs.Ordering.{nat_cmp};
 ghost use Rattle.std.specs.BTreeMap.{get};
 ghost use Rattle.std.specs.VecDeque.{deque_len, deque_capacity};
+ghost use Rattle.rtc_assoc_packets.specs.Headers.{item_with};
 ghost use Rattle.rtc_assoc_packets.specs.declared.item_part.ItemPart.TheVariants.{More, Last, Close};
 ghost use Rattle.rtc_assoc_state.specs.declared.close_state.CloseState.TheVariants.{Unclosed};
 ghost use Rattle.rtc_assoc_state.specs.Streams.{put, reset_row};
@@ -13,8 +14,8 @@ ghost use Rattle.rtc_assoc_state.specs.Calls.{close_came, close_came_at, finishe
 ghost use Rattle.rtc_assoc_state.specs.PlainMeaning.{Sends};
 
 use crate::association::PlainAssociation;
-use rtc_assoc_packets::{Item, ItemPart, Outgoing, Packet};
-use rtc_assoc_state::{CloseState, StreamRow, StreamTable, enqueue, forget, keep_last, keep_more};
+use rtc_assoc_packets::{ItemHeader, ItemPart, Outgoing, Packet};
+use rtc_assoc_state::{CloseState, StreamRow, StreamTable, enqueue, keep_more};
 use rtc_association::AssocEvent;
 use rtc_wire::Moment;
 use std::alloc::AllocError;
@@ -64,15 +65,20 @@ impl PlainAssociation {
     }
 
     /// A piece of a message came, with more to come.
-    fn take_more(&mut self, row: StreamRow, item: Item) -> Result<(), AllocError>
+    fn take_more(
+        &mut self,
+        row: StreamRow,
+        item: ItemHeader,
+        bytes: &[u8],
+    ) -> Result<(), AllocError>
         requires { self.old.inbox.received + 1 < 2 ^ 64 }
-        ensures ok { OnOk result (Sends self.old (answered (more_kept item (item_counted row self.old))) self.new) }
+        ensures ok { OnOk result (Sends self.old (answered (more_kept (item_with item bytes.now) (item_counted row self.old))) self.new) }
         ensures err { OnErr result (self.new ≡ self.old) }
     {
         let answer = Packet::acknowledgement(self.alloc, self.received + 1)?;
         self.streams.make_room(row.stream)?;
         self.packets.reserve(1)?;
-        keep_more(&mut self.parts, item)?;
+        keep_more(self.alloc, &mut self.parts, item, bytes)?;
         count_item(
             &mut self.received,
             &mut self.streams,
@@ -84,9 +90,14 @@ impl PlainAssociation {
     }
 
     /// The last piece of a message came.
-    fn take_last(&mut self, row: StreamRow, item: Item) -> Result<(), AllocError>
+    fn take_last(
+        &mut self,
+        row: StreamRow,
+        item: ItemHeader,
+        bytes: &[u8],
+    ) -> Result<(), AllocError>
         requires { self.old.inbox.received + 1 < 2 ^ 64 }
-        ensures ok { OnOk result (Sends self.old (answered (last_kept item (item_counted row self.old))) self.new) }
+        ensures ok { OnOk result (Sends self.old (answered (last_kept (item_with item bytes.now) (item_counted row self.old))) self.new) }
         ensures err { OnErr result (self.new ≡ self.old) }
     {
         let answer = Packet::acknowledgement(self.alloc, self.received + 1)?;
@@ -94,7 +105,8 @@ impl PlainAssociation {
         self.events.reserve(1)?;
         self.streams.make_room(row.stream)?;
         self.packets.reserve(1)?;
-        keep_last(self.alloc, &mut self.parts, &mut self.unread, item)?;
+        self.unread
+            .keep_last(self.alloc, &mut self.parts, item, bytes)?;
         enqueue(&mut self.events, AssocEvent::Readable(stream));
         count_item(
             &mut self.received,
@@ -107,18 +119,23 @@ impl PlainAssociation {
     }
 
     /// A piece of a message came.
-    fn take_piece(&mut self, row: StreamRow, item: Item) -> Result<(), AllocError>
+    fn take_piece(
+        &mut self,
+        row: StreamRow,
+        item: ItemHeader,
+        bytes: &[u8],
+    ) -> Result<(), AllocError>
         requires { self.old.inbox.received + 1 < 2 ^ 64 }
-        ensures ok { OnOk result (Sends self.old (answered (piece_came item row self.old)) self.new) }
+        ensures ok { OnOk result (Sends self.old (answered (piece_came (item_with item bytes.now) row self.old)) self.new) }
         ensures err { OnErr result (self.new ≡ self.old) }
     {
         if !row.takes_messages(item.generation) {
             return self.skip_item(row);
         }
         match item.part {
-            ItemPart::More => self.take_more(row, item),
-            ItemPart::Last => self.take_last(row, item),
-            ItemPart::Close => self.take_more(row, item),
+            ItemPart::More => self.take_more(row, item, bytes),
+            ItemPart::Last => self.take_last(row, item, bytes),
+            ItemPart::Close => self.take_more(row, item, bytes),
         }
     }
 
@@ -139,12 +156,8 @@ impl PlainAssociation {
         self.items.push_back(close)?;
         enqueue(&mut self.events, AssocEvent::Finished(row.stream));
         enqueue(&mut self.packets, packet);
-        forget(
-            &mut self.parts,
-            &mut self.unread,
-            row.stream,
-            row.generation,
-        );
+        self.unread
+            .forget(&mut self.parts, row.stream, row.generation);
         self.clock.items_sent = now;
         row.close = CloseState::Queued;
         row.finished = true;
@@ -170,12 +183,8 @@ impl PlainAssociation {
         self.streams.make_room(row.stream)?;
         self.packets.reserve(1)?;
         enqueue(&mut self.events, AssocEvent::Finished(row.stream));
-        forget(
-            &mut self.parts,
-            &mut self.unread,
-            row.stream,
-            row.generation,
-        );
+        self.unread
+            .forget(&mut self.parts, row.stream, row.generation);
         row.finished = true;
         count_item(
             &mut self.received,
@@ -201,12 +210,8 @@ impl PlainAssociation {
         self.packets.reserve(1)?;
         enqueue(&mut self.events, AssocEvent::Finished(row.stream));
         enqueue(&mut self.events, AssocEvent::ResetComplete(row.stream));
-        forget(
-            &mut self.parts,
-            &mut self.unread,
-            row.stream,
-            row.generation,
-        );
+        self.unread
+            .forget(&mut self.parts, row.stream, row.generation);
         count_item(
             &mut self.received,
             &mut self.streams,
@@ -240,18 +245,23 @@ impl PlainAssociation {
     }
 
     /// The next item came: its stream is there.
-    pub(crate) fn take_item(&mut self, now: Moment, item: Item) -> Result<(), AllocError>
+    pub(crate) fn take_item(
+        &mut self,
+        now: Moment,
+        item: ItemHeader,
+        bytes: &[u8],
+    ) -> Result<(), AllocError>
         requires number { self.old.inbox.received + 1 < 2 ^ 64 }
         requires lives { is_ending self.old ≡ false }
-        ensures ok { OnOk result (Sends self.old (answered (item_taken now item self.old)) self.new) }
+        ensures ok { OnOk result (Sends self.old (answered (item_taken now (item_with item bytes.now) self.old)) self.new) }
         ensures err { OnErr result (self.new ≡ self.old) }
     {
         let mut row = self.streams.row_of(item.stream);
         row.there = true;
         match item.part {
             ItemPart::Close => self.take_close(now, row, item.generation),
-            ItemPart::More => self.take_piece(row, item),
-            ItemPart::Last => self.take_piece(row, item),
+            ItemPart::More => self.take_piece(row, item, bytes),
+            ItemPart::Last => self.take_piece(row, item, bytes),
         }
     }
 }

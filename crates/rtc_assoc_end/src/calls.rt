@@ -7,7 +7,7 @@ ghost use Rattle.rtc_assoc_state.specs.PlainMeaning.{Sends};
 
 use crate::association::PlainAssociation;
 use rtc_assoc_packets::{DATA_OVERHEAD, Outgoing, Packet, cut_message, packets_of};
-use rtc_assoc_state::{CloseState, Message, Role, append_all, enqueue, forget, raise, take_out};
+use rtc_assoc_state::{CloseState, Message, Role, append_all, enqueue, raise};
 use rtc_wire::Moment;
 use std::alloc::AllocError;
 
@@ -94,7 +94,7 @@ impl PlainAssociation {
         ensures rest { self.new ≡ taken_out id self.old }
     {
         let generation = self.streams.row_of(id).generation;
-        take_out(&mut self.unread, id, generation)
+        self.unread.take_out(id, generation)
     }
 
     #[tactic(auto, unfolding(rtc_assoc_state::specs::Calls::sent))]
@@ -135,7 +135,7 @@ impl PlainAssociation {
         enqueue(&mut self.packets, packet);
         row.close = CloseState::Queued;
         self.streams.set_row(row);
-        forget(&mut self.parts, &mut self.unread, id, generation);
+        self.unread.forget(&mut self.parts, id, generation);
         self.clock.items_sent = self.clock.now;
         Ok(())
     }

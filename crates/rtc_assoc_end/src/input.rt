@@ -4,18 +4,19 @@ ghost use Rattle.std.specs.Prelude.{Bool, OnOk, OnErr, IfOk, false, true, ◌||�
 ghost use Rattle.std.specs.VecDeque.{deque_len, deque_capacity};
 ghost use Rattle.rtc_association.specs.declared.assoc_event.AssocEvent.TheVariants.{Connected};
 ghost use Rattle.rtc_assoc_packets.specs.Packets.{frame_in};
+ghost use Rattle.rtc_assoc_packets.specs.Headers.{frame_with, item_with};
 ghost use Rattle.rtc_assoc_packets.specs.Pieces.{packets_from, ReadBack};
 ghost use Rattle.std.specs.Bool.{OnTrue};
 ghost use Rattle.rtc_assoc_state.specs.Contents.{is_ending, waits, is_client};
 ghost use Rattle.rtc_assoc_state.specs.declared.role.Role.TheVariants.{Server};
 ghost use Rattle.rtc_assoc_state.specs.Outbox.{settled_count};
 ghost use Rattle.rtc_assoc_state.specs.Calls.{greeted, welcomed, acknowledged, item_taken, item_came, answered, lost};
-ghost use Rattle.rtc_assoc_state.specs.Calls.{framed, half_taken, input_taken, timed, hello_due, items_due, at_moment};
+ghost use Rattle.rtc_assoc_state.specs.Calls.{framed, half_taken, input_taken, timed, at_moment};
 ghost use Rattle.rtc_assoc_state.specs.PlainMeaning.{Sends, Gives, Times, Polls, Transmits};
 
 use crate::association::PlainAssociation;
-use rtc_assoc_packets::{Frame, Item, Packet, packets_of};
-use rtc_assoc_state::{Role, Standing, enqueue, second_after, settle};
+use rtc_assoc_packets::{Header, ItemHeader, Packet, content_of, packets_of};
+use rtc_assoc_state::{Role, Standing, enqueue, settle};
 use rtc_association::AssocEvent;
 use rtc_wire::{Bytes, Moment};
 use std::alloc::AllocError;
@@ -164,41 +165,50 @@ impl PlainAssociation {
         now: Moment,
         heard: u64,
         number: u64,
-        item: Item,
+        item: ItemHeader,
+        bytes: &[u8],
     ) -> Result<(), AllocError>
-        ensures ok { OnOk result (Sends self.old (answered (item_came now number item (acknowledged heard (greeted self.old)))) self.new) }
+        ensures ok { OnOk result (Sends self.old
+            (answered (item_came now number (item_with item bytes.now) (acknowledged heard (greeted self.old)))) self.new) }
         ensures err { OnErr result ((self.new ≡ self.old) ⊎ (self.new ≡ acknowledged heard (greeted self.old))) }
     {
         self.hear_data(heard)?;
-        self.take_numbered(now, number, item)
+        self.take_numbered(now, number, item, bytes)
     }
 
     /// An item came: it is taken where its number is the next one, and answered.
     #[tactic(auto, unfolding(rtc_assoc_state::specs::Calls::item_came))]
-    fn take_numbered(&mut self, now: Moment, number: u64, item: Item) -> Result<(), AllocError>
-        ensures ok { OnOk result (Sends self.old (answered (item_came now number item self.old)) self.new) }
+    fn take_numbered(
+        &mut self,
+        now: Moment,
+        number: u64,
+        item: ItemHeader,
+        bytes: &[u8],
+    ) -> Result<(), AllocError>
+        ensures ok { OnOk result (Sends self.old (answered (item_came now number (item_with item bytes.now) self.old)) self.new) }
         ensures err { OnErr result (self.new ≡ self.old) }
     {
-        if number == 0 || number - 1 != self.received || self.ends() {
+        if number == 0 || number - 1 != self.received || self.refuses(item) {
             return self.answer();
         }
-        self.take_item(now, item)
+        self.take_item(now, item, bytes)
     }
 
-    fn take_frame(&mut self, now: Moment, frame: Frame) -> Result<(), AllocError>
-        ensures ok { OnOk result (Sends self.old (framed now (Some frame) self.old) self.new) }
-        ensures err { OnErr result ((self.new ≡ self.old) ⊎ (self.new ≡ half_taken (Some frame) self.old)) }
+    /// Takes what a packet says, by its header.
+    fn take_packet(&mut self, now: Moment, header: Header, bytes: &[u8]) -> Result<(), AllocError>
+        ensures ok { OnOk result (Sends self.old (framed now (Some (frame_with header bytes.now)) self.old) self.new) }
+        ensures err { OnErr result ((self.new ≡ self.old) ⊎ (self.new ≡ half_taken (Some (frame_with header bytes.now)) self.old)) }
     {
-        match frame {
-            Frame::Hello => self.welcome(),
-            Frame::Welcome => self.hear(),
-            Frame::Data {
+        match header {
+            Header::Hello => self.welcome(),
+            Header::Welcome => self.hear(),
+            Header::Data {
                 acknowledged,
                 number,
                 item,
-            } => self.take_data(now, acknowledged, number, item),
-            Frame::Acknowledgement(number) => self.acknowledge(number),
-            Frame::Shutdown => self.lose(),
+            } => self.take_data(now, acknowledged, number, item, content_of(bytes)),
+            Header::Acknowledgement(number) => self.acknowledge(number),
+            Header::Shutdown => self.lose(),
         }
     }
 
@@ -207,25 +217,13 @@ impl PlainAssociation {
     pub(crate) fn take(&mut self, now: Moment, bytes: &[u8]) -> Result<(), AllocError>
         ensures { Gives self.old now bytes.now result self.new }
     {
-        if let Some(frame) = Frame::read(self.alloc, bytes)? {
-            self.take_frame(now, frame)?;
+        if let Some(header) = Header::read(bytes) {
+            self.take_packet(now, header, bytes)?;
             self.clock.now = now;
             return Ok(());
         }
         self.clock.now = now;
         Ok(())
-    }
-
-    fn is_hello_due(&self, now: Moment) -> bool
-        ensures { result ≡ hello_due now self.now }
-    {
-        self.standing.waits() && second_after(self.clock.hello_sent).nanos() <= now.nanos()
-    }
-
-    fn are_items_due(&self, now: Moment) -> bool
-        ensures { result ≡ items_due now self.now }
-    {
-        !self.items.is_empty() && second_after(self.clock.items_sent).nanos() <= now.nanos()
     }
 
     /// The hello again, where it is due.

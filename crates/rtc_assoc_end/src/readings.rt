@@ -1,11 +1,14 @@
 //! What an end answers of itself.
-ghost use Rattle.std.specs.Prelude.{◌≡◌, ◌+◌, ◌<◌, ◌^◌, nat_lt, Some, None};
+ghost use Rattle.std.specs.Prelude.{◌≡◌, ◌+◌, ◌<◌, ◌^◌, ◌||◌, nat_lt, Some, None, false, []};
 ghost use Rattle.std.specs.Bool.{OnFalse};
+ghost use Rattle.rtc_assoc_packets.specs.Headers.{item_with};
 ghost use Rattle.rtc_assoc_state.specs.Contents.{is_started, is_closing, is_closed, is_ending, has_stream};
 ghost use Rattle.rtc_assoc_state.specs.Contents.{closed_here, is_stale, generation_of, buffered_of, wake_of};
 ghost use Rattle.rtc_assoc_state.specs.Contents.{hello_wake, items_wake};
+ghost use Rattle.rtc_assoc_state.specs.Calls.{is_ahead, hello_due, items_due};
 
 use crate::association::PlainAssociation;
+use rtc_assoc_packets::ItemHeader;
 use rtc_assoc_state::{amount_in, earlier, second_after};
 use rtc_wire::Moment;
 
@@ -36,6 +39,22 @@ impl PlainAssociation {
         ensures { result ≡ is_ending self.now }
     {
         self.closes() || self.is_lost()
+    }
+
+    /// Whether an item is of a generation that its stream has not come to.
+    fn is_ahead(&self, item: ItemHeader) -> bool
+        ensures { result ≡ is_ahead (item_with item []) self.now }
+    {
+        let row = self.streams.row_of(item.stream);
+        row.generation < item.generation
+    }
+
+    /// Whether an item is not taken even where its number is the next one.
+    pub(crate) fn refuses(&self, item: ItemHeader) -> bool
+        ensures value { result ≡ (is_ending self.now || is_ahead (item_with item []) self.now) }
+        ensures lives { OnFalse result (is_ending self.now ≡ false) }
+    {
+        self.ends() || self.is_ahead(item)
     }
 
     pub(crate) fn has(&self, id: u16) -> bool
@@ -105,5 +124,17 @@ impl PlainAssociation {
         ensures { result ≡ wake_of self.now }
     {
         earlier(self.hello_wake(), self.items_wake())
+    }
+
+    pub(crate) fn is_hello_due(&self, now: Moment) -> bool
+        ensures { result ≡ hello_due now self.now }
+    {
+        self.standing.waits() && second_after(self.clock.hello_sent).nanos() <= now.nanos()
+    }
+
+    pub(crate) fn are_items_due(&self, now: Moment) -> bool
+        ensures { result ≡ items_due now self.now }
+    {
+        !self.items.is_empty() && second_after(self.clock.items_sent).nanos() <= now.nanos()
     }
 }

@@ -7,13 +7,21 @@ mod work;
 use rtc_io::{OUT_OF_MEMORY, collect_words};
 use std::process::ExitCode;
 pub use two_ends::TwoEnds;
-pub use work::{message, resets};
+pub use work::{forged, message, resets};
 
 /// A number of the command line; 0 where it is none.
 fn number(words: &[String], place: usize) -> u32 {
     match words.get(place) {
         None => 0,
         Some(word) => word.as_str().parse::<u32>().unwrap_or(0),
+    }
+}
+
+/// Whether the command line begins with a word.
+fn is_asked(words: &[String], what: &str) -> bool {
+    match words.first() {
+        None => false,
+        Some(word) => word.as_str() == what,
     }
 }
 
@@ -24,12 +32,10 @@ fn main(rt: HostRuntime) -> ExitCode {
     let words = words.as_slice();
     let first = number(words, 1);
     let second = number(words, 2);
-    let is_message = match words.first() {
-        None => false,
-        Some(word) => word.as_str() == "message",
-    };
-    let done = if is_message {
+    let done = if is_asked(words, "message") {
         message(rt.alloc(), first, second)
+    } else if is_asked(words, "forged") {
+        forged(rt.alloc(), first)
     } else {
         resets(rt.alloc(), first)
     };

@@ -2,7 +2,7 @@
 use rtc_assoc_end::PlainAssociation;
 use rtc_association::{AssocError, Association, Ppi};
 use rtc_wire::Moment;
-use std::alloc::Global;
+use std::alloc::{AllocError, Global};
 
 /// A client and its server, between which every packet arrives.
 #[derive(Drop)]
@@ -71,9 +71,57 @@ impl TwoEnds {
         self.left.stream_close(id)
     }
 
+    /// Gives the right end so many packets that somebody else made, each with a message of another generation to come of
+    /// stream 0, under the number that it waits for. It answers how many of them were taken.
+    pub fn forge(&mut self, alloc: Global, packets: u32) -> Result<usize, AssocError> {
+        let mut number = 1u64;
+        for generation in 1..=packets {
+            let packet = forged(alloc, number, generation)?;
+            give(&mut self.right, packet.as_slice())?;
+            number = awaited(&mut self.right);
+            drop_events(&mut self.right);
+        }
+        Ok(number.saturating_sub(1) as usize)
+    }
+
     /// How many resets of a stream both ends completed.
     pub fn generation(&self, id: u16) -> u64 {
         self.left.generation(id).min(self.right.generation(id))
+    }
+}
+
+/// A data packet with a message of 100 bytes.
+fn forged(alloc: Global, number: u64, generation: u32) -> Result<Vec<u8>, AllocError> {
+    let mut bytes = Vec::with_capacity(alloc, 128)?;
+    bytes.push(3)?;
+    bytes.extend_from_slice(&0u64.to_be_bytes())?;
+    bytes.extend_from_slice(&number.to_be_bytes())?;
+    bytes.extend_from_slice(&0u16.to_be_bytes())?;
+    bytes.extend_from_slice(&generation.to_be_bytes())?;
+    bytes.push(1)?;
+    bytes.extend_from_slice(&53u32.to_be_bytes())?;
+    bytes.extend_from_slice(&[7; 100])?;
+    Ok(bytes)
+}
+
+fn give(to: &mut PlainAssociation, bytes: &[u8]) -> Result<(), AssocError> {
+    if !to.is_started() {
+        return Err(AssocError::Closing);
+    }
+    to.handle_input(Moment::FAR_PAST, bytes)?;
+    Ok(())
+}
+
+/// The number that an end waits for, by its answer.
+fn awaited(end: &mut PlainAssociation) -> u64 {
+    let Some(packet) = end.poll_transmit() else {
+        return 1;
+    };
+    match packet.as_slice() {
+        [4, a, b, c, d, e, f, g, h] => {
+            u64::from_be_bytes([*a, *b, *c, *d, *e, *f, *g, *h]).saturating_add(1)
+        }
+        _ => 1,
     }
 }
 

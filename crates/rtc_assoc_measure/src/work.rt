@@ -16,6 +16,12 @@ pub fn message(alloc: Global, bytes: u32, streams: u32) -> Result<usize, AssocEr
     ends.read(0)
 }
 
+/// So many packets that somebody else made, each of another generation to come. It answers how many were taken.
+pub fn forged(alloc: Global, packets: u32) -> Result<usize, AssocError> {
+    let mut ends = TwoEnds::connected(alloc)?;
+    ends.forge(alloc, packets)
+}
+
 /// So many streams, each opened, used, closed and reset before the next. It answers how many were reset.
 pub fn resets(alloc: Global, streams: u32) -> Result<usize, AssocError> {
     let mut ends = TwoEnds::connected(alloc)?;

@@ -3,7 +3,7 @@ ghost use Rattle.std.specs.Prelude.{◌≡◌, ◌≤◌, ◌<◌, ◌^◌, leng
 ghost use Rattle.rtc_assoc_packets.specs.Packets.{frame_in, data_header, data_bytes, acknowledgement_bytes, Fits};
 ghost use Rattle.rtc_assoc_packets.specs.declared.frame.Frame.TheVariants.{Data, Acknowledgement};
 
-use crate::frame::{ACKNOWLEDGEMENT, DATA, DATA_OVERHEAD, HELLO, SHUTDOWN, WELCOME};
+use crate::header::{ACKNOWLEDGEMENT, DATA, DATA_OVERHEAD, HELLO, SHUTDOWN, WELCOME};
 use crate::{ItemPart, Outgoing};
 use rtc_wire::Bytes;
 use std::alloc::{AllocError, Global};

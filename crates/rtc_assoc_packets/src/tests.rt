@@ -1,7 +1,7 @@
 //! Packets and items, byte by byte, as the format has them.
-use crate::{Frame, Item, ItemPart, Outgoing, Packet, cut_message, packets_of};
+use crate::{Header, Item, ItemPart, Outgoing, Packet, content_of, cut_message, packets_of};
 use rtc_wire::Bytes;
-use std::alloc::{AllocError, Global};
+use std::alloc::AllocError;
 use std::test::Fail;
 
 // The data packet of a first piece of stream 258 in generation 0x01020304, with all its fields told apart.
@@ -23,10 +23,10 @@ fn is_item(item: &Item, stream: u16, part: ItemPart, bytes: &[u8]) -> bool {
     item.stream == stream && item.part == part && item.bytes.as_slice() == bytes
 }
 
-fn is_data(frame: &Option<Frame>) -> bool {
-    match frame {
+fn is_data(header: &Option<Header>) -> bool {
+    match header {
         Some(
-            Frame::Data {
+            Header::Data {
                 acknowledged,
                 number,
                 item,
@@ -34,9 +34,10 @@ fn is_data(frame: &Option<Frame>) -> bool {
         ) => {
             *acknowledged == ACKNOWLEDGED
                 && *number == NUMBER
+                && item.stream == 258
                 && item.generation == 0x01020304
+                && item.part == ItemPart::More
                 && item.identifier == 51
-                && is_item(item, 258, ItemPart::More, b"abc")
         }
         _ => false,
     }
@@ -51,10 +52,14 @@ fn a_data_packet_has_each_field_at_its_place(rt: HostRuntime) -> Result<(), Fail
 }
 
 #[test]
-fn a_data_packet_is_read_field_by_field(rt: HostRuntime) -> Result<(), Fail> {
-    let frame = Frame::read(rt.alloc(), &DATA)?;
-    assert!(rt; is_data(&frame));
-    Ok(())
+fn a_data_packet_is_read_field_by_field(rt: HostRuntime) {
+    assert!(rt; is_data(&Header::read(&DATA)));
+    assert!(rt; content_of(&DATA) == b"abc".as_slice());
+}
+
+#[test]
+fn a_short_packet_has_no_item_bytes(rt: HostRuntime) {
+    assert!(rt; content_of(&DATA[..27]).is_empty());
 }
 
 #[test]
@@ -70,41 +75,19 @@ fn the_short_packets_have_their_marks(rt: HostRuntime) -> Result<(), Fail> {
     Ok(())
 }
 
-fn reads(alloc: Global, bytes: &[u8], want: Frame) -> bool {
-    match Frame::read(alloc, bytes) {
-        Ok(Some(frame)) => frame == want,
-        _ => false,
-    }
-}
-
-fn is_none(alloc: Global, bytes: &[u8]) -> bool {
-    match Frame::read(alloc, bytes) {
-        Ok(None) => true,
-        _ => false,
-    }
+fn reads(bytes: &[u8], want: Header) -> bool {
+    Header::read(bytes) == Some(want)
 }
 
 #[test]
 fn the_short_packets_are_read(rt: HostRuntime) {
-    assert!(rt; reads(rt.alloc(), &[1], Frame::Hello));
-    assert!(rt; reads(rt.alloc(), &[2], Frame::Welcome));
-    assert!(rt; reads(rt.alloc(), &[5], Frame::Shutdown));
-    let acknowledgement = Frame::Acknowledgement(ACKNOWLEDGED);
-    assert!(rt;
-        reads(
-            rt.alloc(),
-            &[4, 17, 18, 19, 20, 21, 22, 23, 24],
-            acknowledgement
-        )
-    );
-    let last = Frame::Acknowledgement(u64::MAX);
-    assert!(rt;
-        reads(
-            rt.alloc(),
-            &[4, 255, 255, 255, 255, 255, 255, 255, 255],
-            last
-        )
-    );
+    assert!(rt; reads(&[1], Header::Hello));
+    assert!(rt; reads(&[2], Header::Welcome));
+    assert!(rt; reads(&[5], Header::Shutdown));
+    let acknowledgement = Header::Acknowledgement(ACKNOWLEDGED);
+    assert!(rt; reads(&[4, 17, 18, 19, 20, 21, 22, 23, 24], acknowledgement));
+    let last = Header::Acknowledgement(u64::MAX);
+    assert!(rt; reads(&[4, 255, 255, 255, 255, 255, 255, 255, 255], last));
 }
 
 // Each length and mark off by one.
@@ -128,7 +111,7 @@ const NONE: [&[u8]; 12] = [
 #[test]
 fn other_bytes_are_no_packet(rt: HostRuntime) {
     for bytes in NONE {
-        assert!(rt; is_none(rt.alloc(), bytes), "{:?}", bytes);
+        assert!(rt; Header::read(bytes).is_none(), "{:?}", bytes);
     }
 }
 
@@ -137,7 +120,7 @@ fn a_part_above_two_is_no_packet(rt: HostRuntime) {
     for part in [3, 4, 255] {
         let mut bytes = DATA;
         bytes[23] = part;
-        assert!(rt; is_none(rt.alloc(), &bytes), "{part}");
+        assert!(rt; Header::read(&bytes).is_none(), "{part}");
     }
 }
 

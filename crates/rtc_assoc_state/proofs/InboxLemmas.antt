@@ -8,7 +8,7 @@ use Rattle.rtc_assoc_state.specs.Contents.{Contents}
 use Rattle.rtc_assoc_state.specs.Calls.{first_message_of, messages_behind, next_message, taken_out}
 use Rattle.rtc_assoc_state.proofs.Firsts.{at_position, at_get, at_within, found_position, none_position, set-middle}
 
-head_fails : {X : Type 0} (p : X → Bool) (x : X) (xs : List X) → list_any p (x ∷ xs) ≡ false → (p x ≡ false) × (list_any p xs ≡ false)
+pub head_fails : {X : Type 0} (p : X → Bool) (x : X) (xs : List X) → list_any p (x ∷ xs) ≡ false → (p x ≡ false) × (list_any p xs ≡ false)
 head_fails p x xs f = split (p x) (list_any p xs) f
   where
     split : (a b : Bool) → (a || b) ≡ false → (a ≡ false) × (b ≡ false)
@@ -57,11 +57,11 @@ messages_behind-middle : (s g : ℕ) (before after : List Message) (m : Message)
 messages_behind-middle s g [] after m f e = rw e refl
 messages_behind-middle s g (b ∷ before) after m f e = let h = head_fails (is_message_of s g) b before f in rw h.0 (ap (λ l. b ∷ l) (messages_behind-middle s g before after m h.1 e))
 
-none-message_in : (s g : ℕ) (messages : List Message) → list_any (is_message_of s g) messages ≡ false → first_message_of s g messages ≡ None
+pub none-message_in : (s g : ℕ) (messages : List Message) → list_any (is_message_of s g) messages ≡ false → first_message_of s g messages ≡ None
 none-message_in s g [] f = refl
 none-message_in s g (m ∷ messages) f = let h = head_fails (is_message_of s g) m messages f in rw h.0 (none-message_in s g messages h.1)
 
-none-messages_behind : (s g : ℕ) (messages : List Message) → list_any (is_message_of s g) messages ≡ false → messages_behind s g messages ≡ messages
+pub none-messages_behind : (s g : ℕ) (messages : List Message) → list_any (is_message_of s g) messages ≡ false → messages_behind s g messages ≡ messages
 none-messages_behind s g [] f = refl
 none-messages_behind s g (m ∷ messages) f = let h = head_fails (is_message_of s g) m messages f in rw h.0 (ap (λ l. m ∷ l) (none-messages_behind s g messages h.1))
 

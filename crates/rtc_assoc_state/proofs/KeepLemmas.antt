@@ -1,5 +1,5 @@
 -- What each call keeps: the start, and the course of generations, completed resets and thresholds.
-use Rattle.std.proofs.Common.{ℕ, ◌≡◌, ◌+◌, ◌==◌, ◌&&◌, ◌⊎◌, not, inl, inr, Bool, true, false, cond, List, [], ◌∷◌, ◌++◌, Option, Some, None, refl, sym, ap, ◌∙◌}
+use Rattle.std.proofs.Common.{ℕ, ◌≡◌, ◌+◌, ◌==◌, ◌&&◌, ◌||◌, ◌⊎◌, not, inl, inr, Bool, true, false, cond, List, [], ◌∷◌, ◌++◌, Option, Some, None, refl, sym, ap, ◌∙◌}
 use Rattle.rtc_association.specs.declared.assoc_event.AssocEvent.TheVariants.{Connected, Lost, Readable}
 use Rattle.std.specs.Prelude.{is_some}
 use Rattle.rtc_parts_values.specs.Among.{Member}
@@ -7,7 +7,7 @@ use Rattle.rtc_association.proofs.AmongLemmas.{member-left, member-right}
 use Rattle.rtc_assoc_state.specs.Inbox.{is_message_of, bytes_so_far, message_of}
 use Rattle.rtc_assoc_state.specs.Contents.{has_unread}
 use Rattle.rtc_assoc_state.specs.Streams.{any_threshold}
-use Rattle.rtc_assoc_state.proofs.ReadableLemmas.{any-behind, any-filter, any-taken, message_stream}
+use Rattle.rtc_assoc_state.proofs.ReadableLemmas.{any-with, any-filter, any-taken, message_stream}
 use Rattle.rtc_assoc_packets.specs.declared.item.Item.{Item}
 use Rattle.rtc_assoc_packets.specs.declared.item_part.ItemPart.{ItemPart}
 use Rattle.rtc_assoc_packets.specs.declared.item_part.ItemPart.TheVariants.{More, Last, Close}
@@ -22,7 +22,7 @@ use Rattle.rtc_assoc_state.specs.Streams.{stream_of, reset_row, takes_messages}
 use Rattle.rtc_assoc_state.specs.Outbox.{settled_count}
 use Rattle.rtc_assoc_state.specs.Settling.{told_of, can_reset}
 use Rattle.rtc_assoc_state.specs.Contents.{Contents, is_started, is_ending, is_server, waits}
-use Rattle.rtc_assoc_state.specs.Calls.{limited, opened, sent, taken_out, stream_ended, shut_down, greeted, welcomed, acknowledged, item_counted, more_kept, last_kept, piece_kept, finished, reset_told, close_came_at, part_came, item_taken, item_came, answered, lost, framed, half_taken, at_moment, input_taken, timed}
+use Rattle.rtc_assoc_state.specs.Calls.{limited, opened, sent, taken_out, stream_ended, shut_down, greeted, welcomed, acknowledged, item_counted, more_kept, last_kept, piece_kept, finished, reset_told, close_came_at, part_came, item_taken, is_ahead, item_came, answered, lost, framed, half_taken, at_moment, input_taken, timed}
 use Rattle.rtc_assoc_state.proofs.RaiseLemmas.{Raises, raises_none, raises_join, raises_told, raises_put, raises_settled, own_generation, own_close, raises_finished, raises_finished_reset, SaysNothing, threshold-stream_of}
 use Rattle.rtc_assoc_state.proofs.RaiseLemmas.{stream_of-stream}
 
@@ -155,7 +155,7 @@ keeps_kept Last item p = record {
   started = refl;
   max_send = refl;
   raises = raises_told p.streams p.events (Readable item.stream ∷ []) (record { completes = λ id. refl; in_order = λ id b. refl });
-  readable = λ id g u. elim (any-behind (is_message_of id g) p.inbox.unread (message_of item (bytes_so_far item.stream item.generation p.inbox.parts ++ item.bytes)) u) [
+  readable = λ id g u. elim (any-with (is_message_of id g) p.inbox.unread (message_of item (bytes_so_far item.stream item.generation p.inbox.parts ++ item.bytes)) u) [
     | inl h ↦ inl h
     | inr h ↦ inr (inl (ap Readable (sym (message_stream id g (message_of item (bytes_so_far item.stream item.generation p.inbox.parts ++ item.bytes)) h))))
   ];
@@ -216,7 +216,7 @@ keeps_item_if false now item p = keeps_none p
 
 pub keeps_item_came : (now number : ℕ) (item : Item) (p : Contents) → KeepsContents p (item_came now number item p)
 unfolding item_came
-keeps_item_came now number item p = keeps_item_if ((number == p.inbox.received + 1) && not (is_ending p)) now item p
+keeps_item_came now number item p = keeps_item_if ((number == p.inbox.received + 1) && not (is_ending p || is_ahead item p)) now item p
 
 keeps_data : (n : ℕ) (p : Contents) → KeepsContents p (acknowledged n (greeted p))
 keeps_data n p = keeps_join p (greeted p) (acknowledged n (greeted p)) (keeps_greeted p) (keeps_acknowledged n (greeted p))

@@ -3,6 +3,8 @@ pub mod RowLemmas
 pub mod TableLemmas
 pub mod AmountLemmas
 pub mod InboxLemmas
+pub mod MessageLists
+pub mod QueueLemmas
 pub mod SettlingLemmas
 pub mod RaiseLemmas
 pub mod BufferedLemmas

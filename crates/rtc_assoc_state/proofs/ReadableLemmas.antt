@@ -1,9 +1,9 @@
 -- Which generations have a message unread, while messages come and go.
-use Rattle.std.proofs.Common.{ℕ, ◌≡◌, ◌||◌, ◌⊎◌, inl, inr, Bool, true, false, cond, List, [], ◌∷◌, ◌++◌, filter, Some, None, refl, ap}
+use Rattle.std.proofs.Common.{ℕ, suc, ◌≡◌, ◌+◌, ◌||◌, ◌⊎◌, inl, inr, Bool, true, false, not, cond, List, [], ◌∷◌, ◌++◌, length, filter, Some, None, refl, ap, arith, length-append}
 use Rattle.std.specs.List.{list_any}
 use Rattle.std.proofs.lemmas.Bool.Decides.{eqb_tells}
 use Rattle.rtc_assoc_state.specs.declared.message.Message.{Message}
-use Rattle.rtc_assoc_state.specs.Inbox.{is_message_of}
+use Rattle.rtc_assoc_state.specs.Inbox.{is_message_of, is_of_later, with_message}
 use Rattle.rtc_assoc_state.specs.Calls.{first_message_of, messages_behind}
 
 either : (a b : Bool) → (a || b) ≡ true → (a ≡ true) ⊎ (b ≡ true)
@@ -18,14 +18,6 @@ or_some : (a b c : Bool) → (b ≡ true → c ≡ true) → (a || b) ≡ true �
 or_some true b c f e = refl
 or_some false b c f e = f e
 
--- a message put behind the others
-pub any-behind : (p : Message → Bool) (xs : List Message) (m : Message) → list_any p (xs ++ m ∷ []) ≡ true → (list_any p xs ≡ true) ⊎ (p m ≡ true)
-any-behind p [] m e = elim (either (p m) false e) [ inl h ↦ inr h | inr h ↦ absurd (let k : false ≡ true = h in cc) ]
-any-behind p (x ∷ xs) m e = elim (either (p x) (list_any p (xs ++ m ∷ [])) e) [
-  | inl h ↦ inl (ap (λ b. b || list_any p xs) h)
-  | inr h ↦ elim (any-behind p xs m h) [ inl k ↦ inl (or_true (p x) (list_any p xs) k) | inr k ↦ inr k ]
-]
-
 -- messages that were dropped
 pub any-filter : (p q : Message → Bool) (xs : List Message) → list_any p (filter q xs) ≡ true → list_any p xs ≡ true
 any-filter p q [] e = e
@@ -34,6 +26,36 @@ any-filter p q (x ∷ xs) e = by_test (q x) (any-filter p q xs) e
     by_test : (b : Bool) → (list_any p (filter q xs) ≡ true → list_any p xs ≡ true) → list_any p (cond b (x ∷ filter q xs) (filter q xs)) ≡ true → (p x || list_any p xs) ≡ true
     by_test true f k = or_some (p x) (list_any p (filter q xs)) (list_any p xs) f k
     by_test false f k = or_true (p x) (list_any p xs) (f k)
+
+-- one more message among the others
+any-among : (p : Message → Bool) (xs ys : List Message) → list_any p (xs ++ ys) ≡ true → (list_any p xs ≡ true) ⊎ (list_any p ys ≡ true)
+any-among p [] ys e = inr e
+any-among p (x ∷ xs) ys e = elim (either (p x) (list_any p (xs ++ ys)) e) [
+  | inl h ↦ inl (ap (λ b. b || list_any p xs) h)
+  | inr h ↦ elim (any-among p xs ys h) [ inl k ↦ inl (or_true (p x) (list_any p xs) k) | inr k ↦ inr k ]
+]
+
+pub any-with : (p : Message → Bool) (xs : List Message) (m : Message) → list_any p (with_message m xs) ≡ true → (list_any p xs ≡ true) ⊎ (p m ≡ true)
+any-with p xs m e =
+    let front = filter (λ x. not (is_of_later m.stream x)) xs in
+    let back = filter (is_of_later m.stream) xs in
+    elim (any-among p front (m ∷ back) e) [
+      | inl h ↦ inl (any-filter p (λ x. not (is_of_later m.stream x)) xs h)
+      | inr h ↦ elim (either (p m) (list_any p back) h) [ inl k ↦ inr k | inr k ↦ inl (any-filter p (is_of_later m.stream) xs k) ]
+    ]
+
+-- how many messages there are with one more
+length-parts : (q : Message → Bool) (xs : List Message) → length (filter (λ m. not (q m)) xs) + length (filter q xs) ≡ length xs
+length-parts q [] = refl
+length-parts q (x ∷ xs) = by_test (q x) (length-parts q xs)
+  where
+    by_test : (b : Bool) → length (filter (λ m. not (q m)) xs) + length (filter q xs) ≡ length xs → length (cond (not b) (x ∷ filter (λ m. not (q m)) xs) (filter (λ m. not (q m)) xs)) + length (cond b (x ∷ filter q xs) (filter q xs)) ≡ suc (length xs)
+    by_test true h = omega (arith, h)
+    by_test false h = omega (arith, h)
+
+pub length-with : (m : Message) (xs : List Message) → length (with_message m xs) ≡ length xs + 1
+length-with m xs =
+    omega (arith, length-append (filter (λ x. not (is_of_later m.stream x)) xs) (m ∷ filter (is_of_later m.stream) xs), length-parts (is_of_later m.stream) xs)
 
 -- a message that was taken out
 pub any-taken : (p : Message → Bool) (s g : ℕ) (xs : List Message) → list_any p (messages_behind s g xs) ≡ true → list_any p xs ≡ true

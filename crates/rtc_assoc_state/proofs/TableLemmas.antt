@@ -1,6 +1,6 @@
 -- That a table of streams finds its rows.
-use Rattle.std.proofs.Common.{ℕ, ◌≡◌, ◌==◌, ◌||◌, ◌<◌, ◌⊎◌, Bool, true, false, cond, inl, inr, Option, List, [], ◌∷◌, ◌++◌, length, get_or, Some, None, refl, sym, ap, subst, ◌∙◌, arith}
-use Rattle.std.specs.List.{position, list_any}
+use Rattle.std.proofs.Common.{ℕ, ◌≡◌, ◌==◌, ◌||◌, ◌<◌, ◌⊎◌, Bool, true, false, cond, inl, inr, Option, List, [], ◌∷◌, length, get_or, Some, None, refl, sym, ap, subst, ◌∙◌}
+use Rattle.std.specs.List.{position}
 use Rattle.std.specs.Ordering.{nat_cmp, is_eq}
 use Rattle.std.specs.BTreeMap.{BTreeMap, get}
 use Rattle.std.proofs.Math.Bool.{or-true}
@@ -9,7 +9,7 @@ use Rattle.std.proofs.lemmas.List.Folds.{list_any_at}
 use Rattle.rtc_assoc_state.specs.declared.stream_row.StreamRow.{StreamRow}
 use Rattle.rtc_assoc_state.specs.Streams.{stream_of, put, is_at_last_generation, any_at_last_generation}
 use Rattle.rtc_assoc_state.specs.StreamTable.{SoundTable}
-use Rattle.rtc_assoc_state.proofs.Firsts.{at_position, found_position, none_position, at_get, at_within, position-push, position-replaced}
+use Rattle.rtc_assoc_state.proofs.Firsts.{found_position, none_position, at_get, at_within, position-push, position-replaced}
 use Rattle.rtc_assoc_state.proofs.RowLemmas.{put-middle, put-none, stream_of-none}
 use Rattle.rtc_assoc_state.proofs.AmountLemmas.{is_eq-nat_cmp}
 

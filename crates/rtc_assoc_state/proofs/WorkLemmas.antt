@@ -1,5 +1,5 @@
 -- How much work each call adds.
-use Rattle.std.proofs.Common.{ℕ, zero, suc, ◌≡◌, ◌+◌, ◌-◌, ◌*◌, ◌≤◌, ◌==◌, ◌&&◌, not, inl, inr, Bool, true, false, cond, List, [], ◌∷◌, ◌++◌, length, drop, Option, Some, None, refl, sym, ap, ◌∙◌, arith, length-append}
+use Rattle.std.proofs.Common.{ℕ, zero, suc, ◌≡◌, ◌+◌, ◌-◌, ◌*◌, ◌≤◌, ◌==◌, ◌&&◌, ◌||◌, not, inl, inr, Bool, true, false, cond, List, [], ◌∷◌, ◌++◌, length, drop, Option, Some, None, refl, sym, ap, ◌∙◌, arith, length-append}
 use Rattle.std.specs.Prelude.{is_some}
 use Rattle.std.proofs.lemmas.Bool.Decides.{eqb_tells, leb_tells}
 use Rattle.rtc_association.specs.declared.assoc_event.AssocEvent.{AssocEvent}
@@ -21,7 +21,8 @@ use Rattle.rtc_assoc_state.specs.Inbox.{is_message_of, without_messages, message
 use Rattle.rtc_assoc_state.specs.Outbox.{bytes_for, buffered, last_number, settled_count}
 use Rattle.rtc_assoc_state.specs.Settling.{Told, told_of, reaches, can_reset, close_settled, part_settled, item_settled, settled}
 use Rattle.rtc_assoc_state.specs.Contents.{Contents, work, is_ending, is_server, waits}
-use Rattle.rtc_assoc_state.specs.Calls.{opened, thresholded, sent, message_written, first_message_of, messages_behind, next_message, taken_out, stream_ended, shut_down, greeted, welcomed, acknowledged, item_counted, more_kept, last_kept, piece_kept, finished, reset_told, close_came_at, part_came, item_taken, item_came, answered, lost, framed, half_taken, at_moment, input_taken}
+use Rattle.rtc_assoc_state.proofs.ReadableLemmas.{length-with}
+use Rattle.rtc_assoc_state.specs.Calls.{opened, thresholded, sent, message_written, first_message_of, messages_behind, next_message, taken_out, stream_ended, shut_down, greeted, welcomed, acknowledged, item_counted, more_kept, last_kept, piece_kept, finished, reset_told, close_came_at, part_came, item_taken, is_ahead, item_came, answered, lost, framed, half_taken, at_moment, input_taken}
 use Rattle.rtc_assoc_state.proofs.RaiseLemmas.{raises_item, threshold-stream_of}
 use Rattle.rtc_assoc_state.proofs.RaiseLemmas.{stream_of-stream}
 
@@ -189,7 +190,7 @@ at_most_one false = omega arith
 
 work-kept : (part : ItemPart) (item : Item) (p : Contents) → work (piece_kept part item p) ≤ work p + 9
 unfolding more_kept last_kept
-work-kept Last item p = omega (arith, length-append p.events (Readable item.stream ∷ []), length-append p.inbox.unread (message_of item (bytes_so_far item.stream item.generation p.inbox.parts ++ item.bytes) ∷ []))
+work-kept Last item p = omega (arith, length-append p.events (Readable item.stream ∷ []), length-with (message_of item (bytes_so_far item.stream item.generation p.inbox.parts ++ item.bytes)) p.inbox.unread)
 work-kept More item p = omega arith
 work-kept Close item p = omega arith
 
@@ -231,7 +232,7 @@ work-item_if false now item p = omega arith
 
 work-item_came : (now number : ℕ) (item : Item) (p : Contents) → work (item_came now number item p) ≤ work p + 17
 unfolding item_came
-work-item_came now number item p = work-item_if ((number == p.inbox.received + 1) && not (is_ending p)) now item p
+work-item_came now number item p = work-item_if ((number == p.inbox.received + 1) && not (is_ending p || is_ahead item p)) now item p
 
 same_threshold : (p : Contents) → any_threshold p.streams ≡ false → any_threshold (greeted p).streams ≡ false
 unfolding greeted

@@ -1,5 +1,5 @@
 -- What each call leaves of the contents.
-use Rattle.std.specs.Prelude.{ℕ, ◌+◌, ◌-◌, ◌==◌, ◌&&◌, ◌||◌, not, nat_le, if◌then◌else◌, Bool, true}
+use Rattle.std.specs.Prelude.{ℕ, ◌+◌, ◌-◌, ◌==◌, ◌&&◌, ◌||◌, not, nat_le, nat_lt, if◌then◌else◌, Bool, true}
 use Rattle.std.specs.Prelude.{List, [], ◌∷◌, ◌++◌, drop, Option, Some, None}
 use Rattle.rtc_association.specs.declared.assoc_event.AssocEvent.{AssocEvent}
 use Rattle.rtc_association.specs.declared.assoc_event.AssocEvent.TheVariants.{Connected, Lost, Readable, Finished, ResetComplete}
@@ -173,10 +173,15 @@ part_came _ now item row p = piece_came item row p
 abbrev pub item_taken : ℕ → Item → Contents → Contents
 item_taken now item p = part_came item.part now item (record (stream_of item.stream p.streams) { there = true }) p
 
--- an item is taken where its number is the next one, and never while the association is closing or closed
+-- whether an item is of a generation that its stream has not come to
+abbrev pub is_ahead : Item → Contents → Bool
+is_ahead item p = nat_lt (stream_of item.stream p.streams).generation item.generation
+
+-- an item is taken where its number is the next one, unless it is of a generation to come, which keeps nothing of it, and
+-- never while the association is closing or closed
 unfoldable pub item_came : (now number : ℕ) → Item → Contents → Contents
 item_came now number item p =
-    if (number == p.inbox.received + 1) && not (is_ending p) then item_taken now item p else p
+    if (number == p.inbox.received + 1) && not (is_ending p || is_ahead item p) then item_taken now item p else p
 
 unfoldable pub answered : Contents → Contents
 answered p = record p { packets = p.packets ++ acknowledgement_bytes p.inbox.received ∷ [] }

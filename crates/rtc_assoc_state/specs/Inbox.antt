@@ -1,10 +1,11 @@
 -- The messages that came and are not read.
-use Rattle.std.specs.Prelude.{ℕ, ◌==◌, ◌&&◌, not, if◌then◌else◌, Bool, List, [], ◌∷◌, ◌++◌, filter}
+use Rattle.std.specs.Prelude.{ℕ, ◌==◌, ◌&&◌, not, nat_lt, if◌then◌else◌, Bool, List, [], ◌∷◌, ◌++◌, filter}
 use Rattle.rtc_assoc_packets.specs.declared.item.Item.{Item}
 use Rattle.rtc_assoc_state.specs.declared.message.Message.{Message}
 pub use Rattle.rtc_assoc_state.specs.MessagePart.{MessagePart}
 
--- the number up to which all items came, the messages whose last piece is to come, and the whole messages, in order
+-- the number up to which all items came, the messages whose last piece is to come, and the whole messages: by stream, and
+-- those of a stream as they came
 pub record Inbox : Type 0 where
   pub received : ℕ
   pub parts : List MessagePart
@@ -38,6 +39,15 @@ without_part stream generation parts = filter (λ p. not (is_part_of stream gene
 abbrev pub without_messages : ℕ → ℕ → List Message → List Message
 without_messages stream generation messages = filter (λ m. not (is_message_of stream generation m)) messages
 
+-- whether a message is of a stream behind this one
+abbrev pub is_of_later : ℕ → Message → Bool
+is_of_later stream message = nat_lt stream message.stream
+
+-- with one more message, behind those of its stream
+abbrev pub with_message : Message → List Message → List Message
+with_message new messages =
+    filter (λ m. not (is_of_later new.stream m)) messages ++ new ∷ filter (is_of_later new.stream) messages
+
 -- nothing of a generation of a stream is left
 abbrev pub forgotten : ℕ → ℕ → Inbox → Inbox
 forgotten stream generation inbox =
@@ -56,5 +66,5 @@ kept_more item inbox = record inbox { parts = with_bytes item.stream item.genera
 abbrev pub kept_last : Item → Inbox → Inbox
 kept_last item inbox = record inbox {
   parts = without_part item.stream item.generation inbox.parts;
-  unread = inbox.unread ++ message_of item (bytes_so_far item.stream item.generation inbox.parts ++ item.bytes) ∷ [];
+  unread = with_message (message_of item (bytes_so_far item.stream item.generation inbox.parts ++ item.bytes)) inbox.unread;
 }

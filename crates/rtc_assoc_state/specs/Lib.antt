@@ -9,3 +9,4 @@ pub mod Settling
 pub mod Says
 pub mod Calls
 pub mod PlainMeaning
+pub mod Queued

@@ -1,13 +1,12 @@
 //! Messages that came and are not read.
-ghost use Rattle.std.specs.Prelude.{◌≡◌, ◌∷◌, [], ◌++◌, OnOk, OnErr, position};
+ghost use Rattle.std.specs.Prelude.{◌≡◌, OnOk, OnErr, position};
 ghost use Rattle.rtc_assoc_state.specs.Inbox.{bytes_so_far, with_bytes, without_part, without_messages};
-ghost use Rattle.rtc_assoc_state.specs.Inbox.{message_of, is_part_of, is_message_of};
+ghost use Rattle.rtc_assoc_state.specs.Inbox.{is_part_of, is_message_of};
 ghost use Rattle.rtc_assoc_state.specs.Calls.{first_message_of, messages_behind};
 
 use crate::message::Message;
 use crate::partial::Partial;
-use crate::queues::enqueue;
-use rtc_assoc_packets::Item;
+use rtc_assoc_packets::ItemHeader;
 use rtc_wire::Bytes;
 use std::alloc::{AllocError, Global};
 use std::collections::VecDeque;
@@ -19,23 +18,31 @@ fn place_of(parts: &[Partial], stream: u16, generation: u32) -> Option<usize>
     parts.iter().position(|p| p.is_of(stream, generation))
 }
 
-/// Keeps a piece with more to come.
-pub fn keep_more(parts: &mut Vec<Partial>, item: Item) -> Result<(), AllocError>
-    ensures ok { OnOk result (parts.new.items ≡ with_bytes item.stream item.generation item.bytes parts.old.items) }
+/// Keeps a piece with more to come: its bytes are copied behind those before it.
+pub fn keep_more(
+    alloc: Global,
+    parts: &mut Vec<Partial>,
+    item: ItemHeader,
+    bytes: &[u8],
+) -> Result<(), AllocError>
+    ensures ok { OnOk result (parts.new.items ≡ with_bytes item.stream item.generation bytes.now parts.old.items) }
     ensures err { OnErr result (parts.new.items ≡ parts.old.items) }
 {
     match place_of(parts.as_slice(), item.stream, item.generation) {
         Some(place) => {
             let part = &mut parts[place];
-            part.extend(item.bytes.as_slice())?;
+            part.extend(bytes)?;
         }
-        None => parts.push(Partial::begun(item))?,
+        None => {
+            let part = Partial::begun(alloc, item, bytes)?;
+            parts.push(part)?;
+        }
     }
     Ok(())
 }
 
 /// Takes out what came of a message: its bytes, joined.
-fn take_part(alloc: Global, parts: &mut Vec<Partial>, stream: u16, generation: u32) -> Bytes
+pub fn take_part(alloc: Global, parts: &mut Vec<Partial>, stream: u16, generation: u32) -> Bytes
     ensures bytes { result ≡ bytes_so_far stream generation parts.old.items }
     ensures rest { parts.new.items ≡ without_part stream generation parts.old.items }
 {
@@ -49,48 +56,10 @@ fn take_part(alloc: Global, parts: &mut Vec<Partial>, stream: u16, generation: u
     }
 }
 
-/// Keeps a last piece, which makes a whole message. It is put behind the pieces before it, where they stand.
-pub fn keep_last(
-    alloc: Global,
-    parts: &mut Vec<Partial>,
-    unread: &mut VecDeque<Message>,
-    item: Item,
-) -> Result<(), AllocError>
-    ensures parts { OnOk result (parts.new.items ≡ without_part item.stream item.generation parts.old.items) }
-    ensures unread { OnOk result (unread.new.items ≡ unread.old.items
-        ++ message_of item (bytes_so_far item.stream item.generation parts.old.items ++ item.bytes) ∷ []) }
-    ensures same_parts { OnErr result (parts.new.items ≡ parts.old.items) }
-    ensures same_unread { OnErr result (unread.new.items ≡ unread.old.items) }
+/// Drops the messages of a generation of a stream.
+pub fn drop_messages(unread: &mut VecDeque<Message>, stream: u16, generation: u32)
+    ensures { unread.new.items ≡ without_messages stream generation unread.old.items }
 {
-    let stream = item.stream;
-    let generation = item.generation;
-    let identifier = item.identifier;
-    unread.reserve(1)?;
-    keep_more(parts, item)?;
-    let bytes = take_part(alloc, parts, stream, generation);
-    enqueue(
-        unread,
-        Message {
-            stream,
-            generation,
-            identifier,
-            bytes,
-        },
-    );
-    Ok(())
-}
-
-/// Drops what came of a generation of a stream.
-pub fn forget(
-    parts: &mut Vec<Partial>,
-    unread: &mut VecDeque<Message>,
-    stream: u16,
-    generation: u32,
-)
-    ensures parts { parts.new.items ≡ without_part stream generation parts.old.items }
-    ensures unread { unread.new.items ≡ without_messages stream generation unread.old.items }
-{
-    parts.retain(|p| !p.is_of(stream, generation));
     unread.retain(|m| !m.is_of(stream, generation));
 }
 

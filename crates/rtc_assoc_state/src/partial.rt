@@ -1,10 +1,10 @@
 //! Messages of which the last piece is still to come.
-ghost use Rattle.std.specs.Prelude.{◌≡◌, ◌++◌, length, OnOk, OnErr};
+ghost use Rattle.std.specs.Prelude.{◌≡◌, ◌++◌, length, IfOk, OnOk, OnErr};
 ghost use Rattle.rtc_assoc_state.specs.Inbox.{is_part_of, part};
 
-use rtc_assoc_packets::Item;
+use rtc_assoc_packets::ItemHeader;
 use rtc_wire::Bytes;
-use std::alloc::AllocError;
+use std::alloc::{AllocError, Global};
 use std::marker::Model;
 
 /// The pieces that came of a message whose last piece is still to come, joined.
@@ -25,14 +25,14 @@ impl Model for Partial {
 
 impl Partial {
     /// What a first piece begins.
-    pub fn begun(item: Item) -> Partial
-        ensures { result ≡ part item.stream item.generation item.bytes }
+    pub fn begun(alloc: Global, item: ItemHeader, bytes: &[u8]) -> Result<Partial, AllocError>
+        ensures { IfOk result (λ begun. begun ≡ part item.stream item.generation bytes.now) }
     {
-        Partial {
+        Ok(Partial {
             stream: item.stream,
             generation: item.generation,
-            bytes: item.bytes.into_vec(),
-        }
+            bytes: Vec::from_slice(alloc, bytes)?,
+        })
     }
 
     pub fn is_of(&self, stream: u16, generation: u32) -> bool

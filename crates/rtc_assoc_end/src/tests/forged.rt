@@ -116,7 +116,7 @@ fn hello_and_shutdown_do_what_the_format_says(rt: HostRuntime) {
 }
 
 // Number, generation, part, and what is seen.
-const FORGED: [(u64, u32, u8, Seen); 9] = [
+const FORGED: [(u64, u32, u8, Seen); 10] = [
     (0, 0, 1, DROPPED),
     (2, 0, 1, DROPPED),
     (u64::MAX, 0, 1, DROPPED),
@@ -130,16 +130,7 @@ const FORGED: [(u64, u32, u8, Seen); 9] = [
             last: Some(1),
         },
     ),
-    (
-        1,
-        u32::MAX,
-        1,
-        Seen {
-            event: Some(AssocEvent::Readable(7)),
-            packets: 1,
-            last: Some(1),
-        },
-    ),
+    (1, u32::MAX, 1, DROPPED),
     (
         1,
         0,
@@ -150,16 +141,8 @@ const FORGED: [(u64, u32, u8, Seen); 9] = [
             last: Some(1),
         },
     ),
-    (
-        1,
-        1,
-        2,
-        Seen {
-            event: None,
-            packets: 1,
-            last: Some(1),
-        },
-    ),
+    (1, 1, 0, DROPPED),
+    (1, 1, 2, DROPPED),
     (1, 0, 3, NOTHING),
     (
         1,
@@ -186,13 +169,13 @@ fn forged_items_do_what_the_format_says(rt: HostRuntime) -> Result<(), Fail> {
 }
 
 #[test]
-fn a_message_of_another_generation_is_not_read(rt: HostRuntime) -> Result<(), Fail> {
+fn a_message_of_a_generation_to_come_leaves_no_stream(rt: HostRuntime) -> Result<(), Fail> {
     let bytes = packet(rt.alloc(), 1, 1, 1, b"later")?;
     let mut end = match server(rt.alloc()) {
         Ok(end) => end,
         Err(_) => return Err(AllocError)?,
     };
     assert!(rt; give(&mut end, 0, bytes.as_slice()).is_ok());
-    assert!(rt; is_none(&read(&mut end, 7)));
+    assert!(rt; !end.has_stream(7));
     Ok(())
 }

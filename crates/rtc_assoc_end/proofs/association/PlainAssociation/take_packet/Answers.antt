@@ -1,5 +1,5 @@
 use Rattle.rtc_assoc_end.proofs.SendsLemmas.{on_ok, sends_greeted, sends_acknowledged, sends_lost}
-use Rattle.rtc_assoc_end.proofs.association.PlainAssociation.take_frame.Goals as goal
+use Rattle.rtc_assoc_end.proofs.association.PlainAssociation.take_packet.Goals as goal
 
 pub returns-in-Welcome-clause-ok : goal.returns-in-Welcome-clause-ok
 returns-in-Welcome-clause-ok c = rw c.in-Welcome.is (on_ok c.hear.result _ _ (sends_greeted c.args.self.now _) c.hear.ensures.ok)
