@@ -3,7 +3,6 @@ use Rattle.std.proofs.Common.{◌≡◌, ℕ, Bool, true, false, cond, Option, S
 use Rattle.std.specs.Option.{OnSome}
 use Rattle.std.specs.Map.{lookup, set_value}
 use Rattle.rtc_plain_media.specs.declared.plain_mark.PlainMark.{PlainMark}
-use Rattle.rtc_plain_media.specs.declared.line_key.LineKey.{LineKey}
 use Rattle.rtc_plain_media.specs.declared.held_line.HeldLine.{HeldLine}
 use Rattle.rtc_plain_media.specs.Streams.{Streams}
 use Rattle.rtc_plain_media.specs.Lines.{Lines, same_key, key_of}

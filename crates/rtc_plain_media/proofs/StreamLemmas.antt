@@ -1,5 +1,5 @@
 -- The first row that fits, by its place.
-use Rattle.std.proofs.Common.{◌≡◌, ◌==◌, ◌<◌, ◌≤◌, ◌++◌, ℕ, zero, suc, Bool, true, false, not, Option, Some, None, List, [], ◌∷◌, length, slice_set, slice_index_or, position, is_some, refl, sym, ap, subst, ◌∙◌, arith}
+use Rattle.std.proofs.Common.{◌≡◌, ◌<◌, ◌≤◌, ◌++◌, ℕ, zero, suc, Bool, false, Option, Some, None, List, [], ◌∷◌, length, slice_set, slice_index_or, position, is_some, refl, ap, ◌∙◌, arith}
 use Rattle.std.proofs.lemmas.Grind.{common_steps}
 use Rattle.std.specs.List.{list_any, position_or_len}
 use Rattle.rtc_sdp_values.specs.declared.ssrc.Ssrc.{Ssrc}

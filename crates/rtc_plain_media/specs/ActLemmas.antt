@@ -1,31 +1,7 @@
 -- What each act leaves of lines, of what was prepared and of the datagrams.
-use Rattle.std.proofs.Common.{
-  ◌≡◌,
-  ◌⊎◌,
-  inl,
-  inr,
-  ℕ,
-  Bool,
-  true,
-  false,
-  List,
-  [],
-  ◌∷◌,
-  Option,
-  Some,
-  None,
-  Result,
-  Ok,
-  Err,
-  ◌++◌,
-  refl,
-  sym,
-  ap,
-  subst,
-}
+use Rattle.std.proofs.Common.{◌≡◌, inl, inr, ℕ, Bool, true, false, List, [], ◌∷◌, Some, None, Result, Ok, Err, ◌++◌, refl, sym, ap, subst}
 use Rattle.std.specs.declared.alloc.AllocError.{AllocError}
 use Rattle.rtc_parts_values.specs.Why.{Timed, Shut, Other}
-use Rattle.rtc_media.specs.declared.media_error.MediaError.{MediaError}
 use Rattle.rtc_media.specs.declared.media_update.MediaUpdate.{MediaUpdate}
 use Rattle.rtc_media.specs.MediaActs.{
   MediaAct,
@@ -34,8 +10,6 @@ use Rattle.rtc_media.specs.MediaActs.{
   MediaStirred,
   MediaActed,
   ChangesLines,
-  Committed,
-  LineRemoved,
   LendsMedia,
   WriterLent,
   RxExpected,

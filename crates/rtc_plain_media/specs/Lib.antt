@@ -1,4 +1,5 @@
 pub mod Streams
+pub mod StreamPlaces
 pub mod PlainMediaEvent
 pub mod Feedback
 pub mod Lines

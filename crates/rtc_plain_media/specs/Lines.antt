@@ -1,5 +1,6 @@
 -- Lines of the plain media part, and what updates make of them.
 use Rattle.std.specs.Prelude.{ℕ, Bool, true, false, not, filter, List, [], ◌∷◌, ◌++◌, Option, Some, None, if◌then◌else◌}
+use Rattle.std.specs.Option.{is_some}
 use Rattle.std.specs.Map.{lookup}
 use Rattle.indexmap.specs.IndexMap.{insert_entry}
 use Rattle.rtc_sdp_values.specs.Direction.{same_direction}
@@ -7,7 +8,7 @@ use Rattle.rtc_sdp_values.specs.declared.direction.Direction.{Direction}
 use Rattle.rtc_sdp_values.specs.declared.line_row.LineRow.{LineRow}
 use Rattle.rtc_sdp_values.specs.declared.line_row.LineRow.TheVariants.{Media, App}
 use Rattle.rtc_media.specs.declared.media_update.MediaUpdate.{MediaUpdate}
-use Rattle.rtc_media.specs.MediaUpdates.{same_mid, update_mid, removed_by}
+use Rattle.rtc_media.specs.MediaUpdates.{same_mid, update_mid}
 use Rattle.rtc_plain_media.specs.declared.plain_mark.PlainMark.{PlainMark}
 use Rattle.rtc_plain_media.specs.declared.line_key.LineKey.{LineKey}
 use Rattle.rtc_plain_media.specs.declared.held_line.HeldLine.{HeldLine}
@@ -70,3 +71,7 @@ events_after (u ∷ us) lines = events_of u lines ++ events_after us (set_line u
 -- the lines whose mids are not gone
 abbrev pub without_lines : (List ℕ → Bool) → Lines → Lines
 without_lines gone lines = filter (λ e. not (gone e.0.mid)) lines
+
+-- an update removes a line
+abbrev pub removes_some : MediaUpdate → Bool
+removes_some update = is_some update.removed

@@ -1,14 +1,10 @@
 -- What each call leaves of the contents.
 use Rattle.std.specs.Prelude.{ℕ, Bool, true, false, not, filter, List, [], ◌∷◌, ◌++◌, length, Option, Some, None, if◌then◌else◌}
 use Rattle.rtc_sdp_values.specs.declared.ssrc.Ssrc.{Ssrc}
-use Rattle.rtc_media.specs.declared.media_update.MediaUpdate.{MediaUpdate}
 use Rattle.rtc_media.specs.declared.raw_packet.RawPacket.{RawPacket}
 use Rattle.rtc_media.specs.declared.raw_packet.RawPacket.TheVariants.{RtpRx, RtcpRx}
 use Rattle.rtc_media.specs.MediaUpdates.{same_mid, removed_by}
 use Rattle.rtc_plain_media.specs.declared.plain_mark.PlainMark.{PlainMark}
-use Rattle.rtc_plain_media.specs.declared.line_key.LineKey.{LineKey}
-use Rattle.rtc_plain_media.specs.declared.held_line.HeldLine.{HeldLine}
-use Rattle.rtc_plain_media.specs.declared.stream_row.StreamRow.{StreamRow}
 use Rattle.rtc_plain_media.specs.declared.plain_media_event.PlainMediaEvent.{PlainMediaEvent}
 use Rattle.rtc_plain_media.specs.declared.plain_media_event.PlainMediaEvent.TheVariants.{Rtp, Rtcp}
 use Rattle.rtc_plain_media.specs.PlainMediaEvent.{raw_event}

@@ -1,9 +1,7 @@
 -- The plain media part as a part: what each call does, exactly.
-use Rattle.std.specs.Prelude.{ℕ, ◌≡◌, Bool, true, false, List, [], ◌∷◌, length, Option, Some, None, Result, Ok, Err}
+use Rattle.std.specs.Prelude.{ℕ, ◌≡◌, true, false, List, [], ◌∷◌, length, Option, Some, None, Result, Ok, Err}
 use Rattle.std.specs.Option.{is_some}
 use Rattle.std.specs.List.{list_any}
-use Rattle.std.specs.declared.alloc.AllocError.{AllocError}
-use Rattle.rtc_media.specs.declared.media_error.MediaError.{MediaError}
 use Rattle.rtc_media.specs.MediaMeaning.{MediaMeaning}
 use Rattle.rtc_plain_media.specs.declared.plain_mark.PlainMark.{PlainMark}
 use Rattle.rtc_plain_media.specs.declared.plain_media_event.PlainMediaEvent.{PlainMediaEvent}

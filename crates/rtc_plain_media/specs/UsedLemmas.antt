@@ -30,19 +30,7 @@ use Rattle.std.proofs.lemmas.Bool.Decides.{Decides-eqb}
 use Rattle.rtc_sdp_values.specs.declared.ssrc.Ssrc.{Ssrc}
 use Rattle.rtc_plain_media.specs.declared.plain_mark.PlainMark.{PlainMark}
 use Rattle.rtc_plain_media.specs.declared.stream_row.StreamRow.{StreamRow}
-use Rattle.rtc_plain_media.specs.declared.line_key.LineKey.{LineKey}
-use Rattle.rtc_plain_media.specs.declared.held_line.HeldLine.{HeldLine}
-use Rattle.rtc_plain_media.specs.Streams.{
-  Streams,
-  has_ssrc,
-  is_ssrc,
-  is_of_line,
-  row_uses,
-  put_row,
-  change_first,
-  first_passes,
-  without_streams,
-}
+use Rattle.rtc_plain_media.specs.Streams.{Streams, has_ssrc, is_ssrc, is_of_line, put_row, change_first, first_passes, without_streams}
 use Rattle.rtc_plain_media.specs.Lines.{Lines, same_key, key_of}
 use Rattle.rtc_plain_media.specs.MediaContents.{line_uses}
 use Rattle.rtc_plain_media.specs.MediaCalls.{writer_marked}

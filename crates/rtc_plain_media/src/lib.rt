@@ -13,6 +13,7 @@ mod plain_media;
 mod plain_media_event;
 mod readings;
 mod sendings;
+mod stream_places;
 mod stream_row;
 mod stream_table;
 

@@ -16,6 +16,7 @@ ghost use Rattle.rtc_plain_media.specs.Lines.{
   lines_after,
   events_after,
   without_lines,
+  removes_some,
 };
 
 use crate::held_line::HeldLine;
@@ -164,11 +165,21 @@ pub fn is_removed(updates: &VecDeque<MediaUpdate>, mid: Mid) -> bool
     any_removes(updates, mid) && !any_names(updates, mid)
 }
 
-/// Drops the lines that some updates remove.
+/// Whether one of some updates removes a line.
+pub fn any_removal(updates: &VecDeque<MediaUpdate>) -> bool
+    ensures { result ≡ list_any removes_some updates.now.items }
+{
+    updates.iter().any(|update| update.removed.is_some())
+}
+
+/// Drops the lines that some updates remove. The lines are looked through only where one does.
 pub fn drop_removed(lines: &mut Lines, updates: &VecDeque<MediaUpdate>)
     ensures lines { lines.new.entries ≡ without_lines (removed_by updates.now.items) lines.old.entries }
     ensures spare { spare lines.old ≤ spare lines.new }
 {
+    if !any_removal(updates) {
+        return;
+    }
     lines.retain(|key, _line| !is_removed(updates, key.mid));
 }
 

@@ -1,5 +1,24 @@
 //! Tables of streams.
-ghost use Rattle.std.specs.Prelude.{◌≡◌, ◌<◌, ◌==◌, length, IfOk, IfErr, OnOk, OnErr, OnSome, is_some, position, filter, not, [], false};
+ghost use Rattle.std.specs.Prelude.{
+  ◌≡◌,
+  ◌<◌,
+  ◌==◌,
+  ◌++◌,
+  ◌∷◌,
+  None,
+  length,
+  IfOk,
+  IfErr,
+  OnOk,
+  OnErr,
+  OnSome,
+  is_some,
+  position,
+  filter,
+  not,
+  [],
+  false,
+};
 ghost use Rattle.std.specs.Borrow.{LendsSo, LendsSoOk, sem};
 ghost use Rattle.std.specs.List.{list_any, position_or_len};
 ghost use Rattle.rtc_media.specs.NoStream.{StreamAnswers};
@@ -18,26 +37,35 @@ ghost use Rattle.rtc_plain_media.specs.Streams.{
 };
 
 use crate::PlainMark;
-use crate::lines::is_removed;
+use crate::lines::{any_removal, is_removed};
+use crate::stream_places::{
+    StreamPlaces, add_place, find_places, forget_places, keep_places, place_of,
+};
 use crate::stream_row::StreamRow;
 use rtc_media::{MediaUpdate, NoStream};
 use rtc_sdp_values::{Mid, Rid, Ssrc};
 use std::alloc::{AllocError, Global};
-use std::collections::VecDeque;
+use std::collections::{BTreeMap, VecDeque};
 use std::marker::Model;
+use std::mem;
 
 /// The streams of one direction, in the order in which they were added. Look-ups take the first that fits.
 #[derive(Drop)]
 pub struct StreamTable {
+    alloc: Global,
     rows: Vec<StreamRow>,
+    places: StreamPlaces,
 }
 
 impl Model for StreamTable {
+    ghost use Rattle.rtc_plain_media.specs.StreamPlaces.{ServesStreams};
     ghost use Rattle.rtc_plain_media.specs.Streams.{Streams};
 
     ghost Value = { Streams };
 
     ghost view = { λ t. t.rows.items };
+
+    ghost invariant = { λ t. ServesStreams t.places t.rows.items };
 }
 
 impl StreamTable {
@@ -48,14 +76,16 @@ impl StreamTable {
         ensures { result ≡ [] }
     {
         StreamTable {
+            alloc,
             rows: Vec::new(alloc),
+            places: Some(BTreeMap::new(alloc)),
         }
     }
 
     fn place_of(&self, ssrc: Ssrc) -> Option<usize>
         ensures { result ≡ position (has_ssrc ssrc) self.now }
     {
-        self.rows.iter().position(|row| row.ssrc.0 == ssrc.0)
+        place_of(&self.places, self.rows.as_slice(), ssrc)
     }
 
     fn place_of_name(&self, mid: Mid, rid: Option<Rid>) -> Option<usize>
@@ -106,11 +136,25 @@ impl StreamTable {
                 Ok(at)
             }
             None => {
-                let at = self.rows.len();
-                self.rows.push(row)?;
+                let at = self.push(row)?;
                 Ok(at)
             }
         }
+    }
+
+    /// Puts a row behind the others, none of which has its ssrc, and answers its place.
+    fn push(&mut self, row: StreamRow) -> Result<usize, AllocError>
+        requires { position (has_ssrc row.ssrc) self.old ≡ None }
+        ensures place { IfOk result (λ at. at ≡ length self.old) }
+        ensures ok { OnOk result (self.new ≡ self.old ++ row ∷ []) }
+        ensures err { OnErr result (self.new ≡ self.old) }
+    {
+        let at = self.rows.len();
+        let ssrc = row.ssrc;
+        self.rows.push(row)?;
+        let places = mem::replace(&mut self.places, None);
+        self.places = add_place(places, self.alloc, self.rows.as_slice(), ssrc, at);
+        Ok(at)
     }
 
     /// Makes or replaces the stream of an ssrc, and lends its mark.
@@ -135,7 +179,9 @@ impl StreamTable {
         ensures rest { self.new ≡ filter (λ row. not (has_ssrc ssrc row)) self.old }
     {
         let there = self.place_of(ssrc).is_some();
+        let count = self.rows.len();
         self.rows.retain(|row| !(row.ssrc.0 == ssrc.0));
+        keep_places(&mut self.places, self.rows.as_slice(), self.alloc, count);
         there
     }
 
@@ -143,14 +189,21 @@ impl StreamTable {
     pub fn drop_line(&mut self, mid: Mid)
         ensures { self.new ≡ filter (λ row. not (is_of_line mid row)) self.old }
     {
+        let count = self.rows.len();
         self.rows.retain(|row| row.mid != mid);
+        keep_places(&mut self.places, self.rows.as_slice(), self.alloc, count);
     }
 
-    /// Drops the streams of lines that some updates remove.
+    /// Drops the streams of lines that some updates remove. The streams are looked through only where one does.
     pub fn drop_removed(&mut self, updates: &VecDeque<MediaUpdate>)
         ensures { self.new ≡ without_streams (removed_by updates.now.items) self.old }
     {
+        if !any_removal(updates) {
+            return;
+        }
+        let count = self.rows.len();
         self.rows.retain(|row| !is_removed(updates, row.mid));
+        forget_places(&mut self.places, self.rows.as_slice(), count);
     }
 
     /// The mark of the stream of an ssrc.
@@ -195,6 +248,7 @@ impl StreamTable {
                 if row.can_renumber(ssrc, rtx) {
                     let row = row.numbered(ssrc, rtx);
                     self.rows[at] = row;
+                    self.places = find_places(self.alloc, self.rows.as_slice());
                     Some(&mut self.rows[at].mark)
                 } else {
                     None

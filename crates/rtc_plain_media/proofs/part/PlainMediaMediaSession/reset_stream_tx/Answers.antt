@@ -1,4 +1,4 @@
-use Rattle.std.proofs.Common.{◌≡◌, is_some, refl, ap, ◌∙◌, rules}
+use Rattle.std.proofs.Common.{refl, ap, ◌∙◌, rules}
 use Rattle.rtc_plain_media.specs.Streams.{can_renumber, renumbered}
 use Rattle.rtc_plain_media.specs.MediaContents.{MediaContents}
 use Rattle.rtc_plain_media.proofs.LendLemmas.{tx_left, tx_stayed}

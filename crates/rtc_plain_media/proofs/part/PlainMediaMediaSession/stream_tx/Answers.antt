@@ -1,4 +1,4 @@
-use Rattle.std.proofs.Common.{◌≡◌, is_some, refl, ap, ◌∙◌, rules}
+use Rattle.std.proofs.Common.{refl, ap, ◌∙◌, rules}
 use Rattle.std.specs.List.{list_any}
 use Rattle.rtc_plain_media.specs.Streams.{has_ssrc, marked}
 use Rattle.rtc_plain_media.specs.MediaContents.{MediaContents}

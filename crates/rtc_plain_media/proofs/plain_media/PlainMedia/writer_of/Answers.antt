@@ -1,4 +1,4 @@
-use Rattle.std.proofs.Common.{◌≡◌, true, is_some, refl, ap, ◌∙◌, rules}
+use Rattle.std.proofs.Common.{is_some, refl, ap, ◌∙◌, rules}
 use Rattle.rtc_plain_media.specs.Lines.{held_line}
 use Rattle.rtc_plain_media.specs.MediaContents.{MediaContents}
 use Rattle.rtc_plain_media.proofs.LendLemmas.{line_left}

@@ -1,6 +1,8 @@
-use Rattle.std.proofs.Common.{◌≡◌, true, false, refl, sym, ap, ◌∙◌, is_some, rules}
+use Rattle.std.proofs.Common.{◌≡◌, true, false, slice_set, refl, sym, ap, subst, ◌∙◌, is_some, rules}
 use Rattle.std.specs.List.{list_any}
-use Rattle.rtc_plain_media.specs.Streams.{has_name, renumbered, row_can_renumber, can_renumber}
+use Rattle.rtc_plain_media.specs.StreamPlaces.{ServesStreams}
+use Rattle.rtc_plain_media.specs.Streams.{Streams, has_name, renumbered, row_can_renumber, can_renumber}
+use Rattle.rtc_plain_media.proofs.PlaceLemmas.{serves_marked}
 use Rattle.rtc_plain_media.proofs.StreamLemmas.{renumbered-at, any-position, first_passes-at, first_passes-none}
 use Rattle.rtc_plain_media.proofs.stream_table.StreamTable.reset.Goals as goal
 
@@ -27,3 +29,9 @@ returns-in-None c =
     let none : list_any fits a.self.now ≡ false = sym (ap (list_any fits) c.self.view_is) ∙ sym (any-position fits _) ∙ sym (ap is_some c.in-None.ensures) in
     let found : false ≡ can_renumber a.mid a.rid a.ssrc a.rtx a.self.now = first_passes-none fits (row_can_renumber a.ssrc a.rtx) a.self.now none in
     ((refl, (λ _. tt), c.self.view_is), search (rules, found))
+
+pub invariant_of-self-lent : goal.invariant_of-self-lent
+invariant_of-self-lent c = λ w.
+    let made = slice_set c.self.inside.rows.items c.in-Some.at c.numbered-row.result in
+    let served = subst (λ (l : Streams). ServesStreams c.find_places.result l) c.as_slice.ensures.value c.find_places.ensures in
+    serves_marked c.find_places.result made c.in-Some.at c.index_mut-then-can_renumber.result.now w c.index_mut-then-can_renumber.ensures.value served
