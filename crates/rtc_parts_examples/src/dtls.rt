@@ -1,0 +1,231 @@
+//! Two DTLS connections over plain parts, with packets that are lost, repeated and forged.
+use crate::connections::{
+    SECOND, Seen, buffer, connect, is_empty, sends, shown, shows_cert, shows_finished, waits,
+};
+use rtc_dtls::{Dtls, DtlsError, DtlsInstance};
+use rtc_wire::Moment;
+use std::alloc::{AllocError, Global};
+
+// The hello of the active side and the answer of the passive one, and what comes behind them.
+fn hello() -> &'static [u8] {
+    b"\x16\x01abc"
+}
+
+fn answer() -> &'static [u8] {
+    b"\x16\x02def"
+}
+
+fn finish() -> &'static [u8] {
+    b"\x16\x03"
+}
+
+fn close() -> &'static [u8] {
+    b"\x15\x01"
+}
+
+// The active side sends its hello where it is given a packet of no bytes.
+fn says_hello<D: DtlsInstance>(left: &mut Dtls<D>, buf: &mut [u8]) -> Result<bool, DtlsError> {
+    left.set_active(true);
+    left.handle_receive(&[])?;
+    let waiting = waits(left, buf, SECOND);
+    let sent = sends(left, hello());
+    Ok(waiting && sent)
+}
+
+// The passive side answers a hello.
+fn answers<D: DtlsInstance>(right: &mut Dtls<D>, buf: &mut [u8]) -> Result<bool, DtlsError> {
+    right.set_active(false);
+    right.handle_receive(hello())?;
+    let told = shows_cert(right, buf, b"abc");
+    let waiting = waits(right, buf, SECOND);
+    let sent = sends(right, answer());
+    Ok(told && waiting && sent)
+}
+
+// The active side is given the answer, is told of the end of the handshake, and sends its finish.
+fn finishes<D: DtlsInstance>(left: &mut Dtls<D>, buf: &mut [u8]) -> Result<bool, DtlsError> {
+    left.handle_receive(answer())?;
+    let told = shows_cert(left, buf, b"def");
+    let finished = shows_finished(left, buf);
+    let resting = waits(left, buf, u64::MAX);
+    let sent = sends(left, finish());
+    Ok(told && finished && resting && sent)
+}
+
+// The passive side is given the finish.
+fn is_finished<D: DtlsInstance>(right: &mut Dtls<D>, buf: &mut [u8]) -> Result<bool, DtlsError> {
+    right.handle_receive(finish())?;
+    let finished = shows_finished(right, buf);
+    let resting = waits(right, buf, u64::MAX);
+    Ok(finished && resting)
+}
+
+fn shake_hands<D: DtlsInstance>(
+    left: &mut Dtls<D>,
+    right: &mut Dtls<D>,
+    buf: &mut [u8],
+) -> Result<bool, DtlsError> {
+    let greeted = says_hello(left, buf)?;
+    let answered = answers(right, buf)?;
+    let ended = finishes(left, buf)?;
+    let ended_too = is_finished(right, buf)?;
+    let begun = greeted && answered;
+    Ok(begun && ended && ended_too)
+}
+
+fn succeeds(answer: Result<bool, DtlsError>) -> bool {
+    match answer {
+        Ok(holds) => holds,
+        Err(_) => false,
+    }
+}
+
+// Whether a handshake ends on both sides.
+fn handshakes(alloc: Global) -> Result<bool, AllocError> {
+    let mut buf = buffer(alloc)?;
+    let mut left = connect(alloc, b"abc")?;
+    let mut right = connect(alloc, b"def")?;
+    let ended = shake_hands(&mut left, &mut right, &mut buf);
+    Ok(succeeds(ended))
+}
+
+fn wait_until<D: DtlsInstance>(left: &mut Dtls<D>, seconds: u64) -> Result<(), DtlsError> {
+    left.handle_timeout(Moment::from_nanos(seconds.saturating_mul(SECOND)))
+}
+
+// The hello goes at the first due timer, and again one second later.
+fn repeats_hello<D: DtlsInstance>(left: &mut Dtls<D>, buf: &mut [u8]) -> Result<bool, DtlsError> {
+    left.set_active(true);
+    wait_until(left, 1)?;
+    wait_until(left, 2)?;
+    let waiting = waits(left, buf, 3_000_000_000);
+    let sent = sends(left, hello());
+    let again = sends(left, hello());
+    let rest = is_empty(left);
+    Ok(waiting && sent && again && rest)
+}
+
+// Whether the hello is sent again until it is answered.
+fn repeated(alloc: Global) -> Result<bool, AllocError> {
+    let mut buf = buffer(alloc)?;
+    let mut left = connect(alloc, b"abc")?;
+    let sent = repeats_hello(&mut left, &mut buf);
+    Ok(succeeds(sent))
+}
+
+// Data that comes too early is lost, and each hello is taken.
+fn takes_hellos<D: DtlsInstance>(right: &mut Dtls<D>) -> Result<(), DtlsError> {
+    right.set_active(false);
+    right.handle_receive(b"\x17early")?;
+    right.handle_receive(hello())?;
+    right.handle_receive(hello())
+}
+
+// The certificate is told once, and each hello is answered.
+fn answers_twice<D: DtlsInstance>(right: &mut Dtls<D>, buf: &mut [u8]) -> Result<bool, DtlsError> {
+    takes_hellos(right)?;
+    let told = shows_cert(right, buf, b"abc");
+    let waiting = waits(right, buf, SECOND);
+    let sent = sends(right, answer());
+    let again = sends(right, answer());
+    Ok(told && waiting && sent && again)
+}
+
+// Application data stands in for a finish that was lost.
+fn takes_data<D: DtlsInstance>(right: &mut Dtls<D>, buf: &mut [u8]) -> Result<bool, DtlsError> {
+    right.handle_receive(b"\x17hi")?;
+    let finished = shows_finished(right, buf);
+    let got = shown(right, buf, b"hi", 0) == Seen::Data;
+    Ok(finished && got)
+}
+
+fn makes_good<D: DtlsInstance>(right: &mut Dtls<D>, buf: &mut [u8]) -> Result<bool, DtlsError> {
+    let answered = answers_twice(right, buf)?;
+    let got = takes_data(right, buf)?;
+    Ok(answered && got)
+}
+
+// Whether lost and repeated packets are made good.
+fn losses(alloc: Global) -> Result<bool, AllocError> {
+    let mut buf = buffer(alloc)?;
+    let mut right = connect(alloc, b"def")?;
+    let good = makes_good(&mut right, &mut buf);
+    Ok(succeeds(good))
+}
+
+fn is_blocked<D: DtlsInstance>(end: &mut Dtls<D>) -> bool {
+    match end.handle_input(b"hi") {
+        Err(DtlsError::WouldBlock) => true,
+        _ => false,
+    }
+}
+
+// Data waits until the handshake is finished, and the first role stays.
+fn blocks<D: DtlsInstance>(left: &mut Dtls<D>, buf: &mut [u8]) -> bool {
+    let before = is_blocked(left);
+    let resting = waits(left, buf, u64::MAX);
+    left.set_active(true);
+    left.set_active(false);
+    let active = left.is_active() == Some(true);
+    let still = is_blocked(left);
+    before && resting && active && still
+}
+
+// Whether data waits for the handshake.
+fn blocked(alloc: Global) -> Result<bool, AllocError> {
+    let mut buf = buffer(alloc)?;
+    let mut left = connect(alloc, b"abc")?;
+    Ok(blocks(&mut left, &mut buf))
+}
+
+// A side with a finished handshake sends data and a close, and is given the other side's close twice.
+fn sends_and_closes<D: DtlsInstance>(left: &mut Dtls<D>) -> Result<(), DtlsError> {
+    left.handle_input(b"hi")?;
+    left.close()?;
+    left.handle_receive(close())?;
+    left.handle_receive(close())
+}
+
+fn ends<D: DtlsInstance>(left: &mut Dtls<D>, buf: &mut [u8]) -> Result<bool, DtlsError> {
+    left.set_active(true);
+    let finished = finishes(left, buf)?;
+    sends_and_closes(left)?;
+    let told = shown(left, buf, &[], 0) == Seen::Closed;
+    let resting = waits(left, buf, u64::MAX);
+    Ok(finished && told && resting)
+}
+
+// It is closed once its packets are given out.
+fn gives_out<D: DtlsInstance>(left: &mut Dtls<D>) -> bool {
+    let open = !left.is_closed();
+    let sent = sends(left, b"\x17hi");
+    let closing = sends(left, close());
+    let closed = left.is_closed();
+    open && sent && closing && closed
+}
+
+fn closes<D: DtlsInstance>(left: &mut Dtls<D>, buf: &mut [u8]) -> Result<bool, DtlsError> {
+    let ended = ends(left, buf)?;
+    let given = gives_out(left);
+    Ok(ended && given)
+}
+
+// Whether a close is told once.
+fn closings(alloc: Global) -> Result<bool, AllocError> {
+    let mut buf = buffer(alloc)?;
+    let mut left = connect(alloc, b"abc")?;
+    let closed = closes(&mut left, &mut buf);
+    Ok(succeeds(closed))
+}
+
+/// Whether an example of DTLS connections gives what is expected.
+pub fn does_agree(alloc: Global, example: &str) -> Result<bool, AllocError> {
+    match example {
+        "close is told once" => closings(alloc),
+        "data waits for the handshake" => blocked(alloc),
+        "handshake ends on both sides" => handshakes(alloc),
+        "hello is sent again" => repeated(alloc),
+        "lost packets are made good" => losses(alloc),
+        _ => Ok(false),
+    }
+}
