@@ -3,3 +3,4 @@ pub mod RefusedScripts
 pub mod StoppedLines
 pub mod ZipLemmas
 pub mod GateScripts
+pub mod SmallScripts

@@ -45,6 +45,6 @@ digits_of [] = []
 digits_of (byte ∷ bytes) = glyphs byte ++ digits_of bytes
 
 -- the word of bytes
-abbrev pub hex_word : List ℕ → List ℕ
-hex_word [] = codes "-"
-hex_word (byte ∷ bytes) = digits_of (byte ∷ bytes)
+abbrev pub word_of_bytes : List ℕ → List ℕ
+word_of_bytes [] = codes "-"
+word_of_bytes (byte ∷ bytes) = digits_of (byte ∷ bytes)

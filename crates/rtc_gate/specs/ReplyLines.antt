@@ -5,7 +5,7 @@ use Rattle.rtc_gate_calls.specs.declared.gate_error.GateError.{GateError}
 use Rattle.rtc_gate_calls.specs.declared.gate_error.GateError.TheVariants.{BadName, NameTaken, Full, NoSuch, BadFrame, Alloc}
 use Rattle.rtc_gate_calls.specs.declared.gate_reply.GateReply.{GateReply}
 use Rattle.rtc_gate_calls.specs.declared.gate_reply.GateReply.TheVariants.{Joined, Left, Fed, Took, Refused}
-use Rattle.rtc_gate.specs.HexWords.{hex_word}
+use Rattle.rtc_gate.specs.HexWords.{word_of_bytes}
 
 -- the words of a refusal; want of memory ends the program before it is written
 abbrev pub refusal_words : GateError → List ℕ
@@ -18,7 +18,7 @@ refusal_words Alloc = codes "nomemory"
 
 abbrev pub taken_words : Option (List ℕ) → List ℕ
 taken_words None = codes "none"
-taken_words (Some frame) = codes "took " ++ hex_word frame
+taken_words (Some frame) = codes "took " ++ word_of_bytes frame
 
 abbrev pub reply_words : GateReply → List ℕ
 reply_words (Joined number) = codes "joined " ++ decimal number

@@ -86,7 +86,7 @@ fn push_digits(out: &mut String, bytes: &[u8]) -> Result<(), AllocError>
 
 /// Puts the word of bytes behind a text.
 pub fn push_hex(out: &mut String, bytes: &[u8]) -> Result<(), AllocError>
-    ensures { OnOk result (string_bytes out.new ≡ string_bytes out.old ++ spec.hex_word bytes.now) }
+    ensures { OnOk result (string_bytes out.new ≡ string_bytes out.old ++ spec.word_of_bytes bytes.now) }
 {
     match bytes {
         [] => out.push_str("-"),

@@ -1,5 +1,6 @@
 //! Whole scripts.
-ghost use Rattle.std.specs.Prelude.{◌≡◌, ◌-◌, ◌^◌, [], ◌∷◌, ◌++◌, ◌↔◌, IsTrue, IfOk, IfErr, min, map};
+ghost use Rattle.std.specs.Prelude.{◌≡◌, ◌-◌, ◌^◌, ◌≤◌, ◌<◌, [], ◌∷◌, ◌++◌, ◌↔◌, IsTrue, IfOk, IfErr, min, map, length};
+ghost use Rattle.rtc_gate_calls.specs.Sizes.{calls_size};
 ghost use Rattle.rtc_gate.specs.GateScript.{gate_header, AreGatePieces, AreRefusedPieces, IsGateScript, IsRefusedScript};
 
 use crate::ScriptError;
@@ -44,12 +45,21 @@ fn read_pieces(alloc: Global, lines: &[&[u8]], end: &[u8]) -> Result<Seq<GateCal
     Ok(Seq::new(calls))
 }
 
-/// The calls of a script, or the first line that is refused.
-pub fn read_script(alloc: Global, bytes: &[u8]) -> Result<Seq<GateCall>, ScriptError>
+// Cuts a text into its lines and reads them.
+fn read_lines(alloc: Global, bytes: &[u8]) -> Result<Seq<GateCall>, ScriptError>
     ensures some { IfOk result (λ calls. IsGateScript bytes.now calls) }
     ensures none { IfErr result (λ error. IsRefusedScript bytes.now error) }
 {
     let pieces = pieces(alloc, bytes)?;
     let (end, lines) = pieces.as_slice().split_last().unwrap();
     read_pieces(alloc, lines, end)
+}
+
+/// The calls of a script, or the first line that is refused.
+pub fn read_script(alloc: Global, bytes: &[u8]) -> Result<Seq<GateCall>, ScriptError>
+    ensures some { IfOk result (λ calls. IsGateScript bytes.now calls) }
+    ensures few { length bytes.now ≤ 2 ^ 20 → IfOk result (λ calls. calls_size calls < 2 ^ 32) }
+    ensures none { IfErr result (λ error. IsRefusedScript bytes.now error) }
+{
+    read_lines(alloc, bytes)
 }

@@ -1,9 +1,10 @@
 //! The top call.
-ghost use Rattle.std.specs.Prelude.{◌≡◌, ◌≢◌, ◌<◌, ◌⊎◌, true, false, map, string_bytes};
+ghost use Rattle.std.specs.Prelude.{◌≡◌, ◌≢◌, ◌<◌, ◌^◌, ◌⊎◌, true, false, map, string_bytes};
 ghost use Rattle.std.specs.Io.KnownBytes.{Appends};
 ghost use Rattle.rtc_io.specs.Faults.{Rose};
 ghost use Rattle.rtc_io.specs.Saying.{BreaksOff};
 ghost use Rattle.rtc_io.specs.Programs.{IsDue, IsTooLong, RefusesInput, fault_line, long_line};
+ghost use Rattle.rtc_gate_calls.specs.Sizes.{calls_size};
 ghost use Rattle.rtc_gate.specs.Asking.{asks_to_run};
 ghost use Rattle.rtc_gate.specs.Answers.{AreRepliesTo, RunsGateScript, WritesReplies, gate_program};
 
@@ -14,6 +15,7 @@ use std::alloc::Global;
 
 // Performs calls on a gateway that is empty, and writes its replies.
 fn perform_calls<W: Sink>(alloc: Global, calls: &[GateCall], output: &mut W) -> u8
+    requires { calls_size calls.now < 2 ^ 32 }
     ensures done { result ≡ 0 → WritesReplies calls.now (W.written output.old) (W.written output.new) }
     ensures write { result ≡ 5
         → BreaksOff (AreRepliesTo calls.now)

@@ -10,4 +10,5 @@ pub mod CutLaw
 pub mod DueSteps
 pub mod FedStep
 pub mod DueLaw
+pub mod SizeLemmas
 pub mod RunLemmas

@@ -1,12 +1,14 @@
 -- Calls that are performed one after another.
-use Rattle.std.proofs.Common.{◌≡◌, ℕ, ◌+◌, ◌<◌, ◌≤◌, ◌∙◌, zero, suc, Bool, false, List, [], ◌∷◌, ◌++◌, length, drop, get_or, refl, ap, sym, subst, cond, arith, append_assoc, append-nil}
+use Rattle.std.proofs.Common.{◌≡◌, ℕ, ◌+◌, ◌<◌, ◌≤◌, ◌^◌, ◌∙◌, zero, suc, false, List, [], ◌∷◌, ◌++◌, length, drop, get_or, refl, ap, sym, subst, arith, append_assoc, append-nil}
 use Rattle.rtc_gate_calls.specs.GateState.{GateState}
-use Rattle.rtc_gate_calls.specs.Replies.{IsReplyTo, gate_behind, after_call, ran_out}
+use Rattle.rtc_gate_calls.specs.Replies.{IsPossible, IsReplyTo, gate_behind, ran_out}
+use Rattle.rtc_gate_calls.specs.Sizes.{call_size, calls_size}
 use Rattle.rtc_gate_calls.specs.History.{GateEvent, calls_made, replies_given}
 use Rattle.rtc_gate_calls.specs.Histories.{empty_gate, gate_after, WereAnswered, NeverRanOut, RunsCalls}
 use Rattle.rtc_gate_calls.specs.declared.gate_call.GateCall.{GateCall}
 use Rattle.rtc_gate_calls.specs.declared.gate_reply.GateReply.{GateReply}
 use Rattle.rtc_gate_calls.proofs.DueLaw.{delivered}
+use Rattle.rtc_gate_calls.proofs.SizeLemmas.{calls_size-append, few_are_possible}
 
 -- the calls so far, and those that are left
 pub record RunsSoFar (calls left : List GateCall) (replies : List GateReply) (gate : GateState) : Type 0 where
@@ -33,6 +35,15 @@ drop_over [] zero over = refl
 drop_over [] (suc i) over = refl
 drop_over (c ∷ calls) zero over = absurd (omega arith)
 drop_over (c ∷ calls) (suc i) over = drop_over calls i (omega (arith, over))
+
+-- the next call is possible
+pub run_has_room : (calls : List GateCall) (i : ℕ) (d : GateCall) (call : GateCall) (replies : List GateReply) (gate : GateState) → i < length calls → call ≡ get_or calls i d → calls_size calls < 2 ^ 32 → RunsSoFar calls (drop i calls) replies gate → IsPossible gate call
+run_has_room calls i d call replies gate below is few so_far =
+    let left : drop i calls ≡ call ∷ drop (i + 1) calls = drop_here calls i d below ∙ ap (λ (c : GateCall). c ∷ drop (i + 1) calls) (sym is) in
+    let whole : calls_made so_far.past ++ call ∷ drop (i + 1) calls ≡ calls = ap (λ (cs : List GateCall). calls_made so_far.past ++ cs) (sym left) ∙ so_far.calls_are in
+    let sizes : calls_size (calls_made so_far.past ++ call ∷ drop (i + 1) calls) ≡ calls_size calls = ap calls_size whole in
+    let small : calls_size (calls_made so_far.past) + call_size call < 2 ^ 32 = omega (arith, calls_size-append (calls_made so_far.past) (call ∷ drop (i + 1) calls)) in
+    subst (λ (g : GateState). IsPossible g call) (sym so_far.leaves) (few_are_possible so_far.past call so_far.answered small)
 
 pub run_goes_on : (calls : List GateCall) (i : ℕ) (d : GateCall) (call : GateCall) (replies replies' : List GateReply) (reply : GateReply) (gate gate' : GateState) → i < length calls → call ≡ get_or calls i d → ran_out reply ≡ false → IsReplyTo gate call reply → gate' ≡ gate_behind gate call reply → replies' ≡ replies ++ reply ∷ [] → RunsSoFar calls (drop i calls) replies gate → RunsSoFar calls (drop (i + 1) calls) replies' gate'
 run_goes_on calls i d call replies replies' reply gate gate' below is had answered left grown so_far = record {

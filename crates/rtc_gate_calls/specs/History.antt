@@ -1,4 +1,4 @@
--- What a past of calls says of each connection, by the calls and replies alone: the stream that came in, the frames that were frames_taken,
+-- What a past of calls says of each connection, by the calls and replies alone: the stream that came in, the frames that were taken,
 -- and those that were due. No state of a gate and no queue occurs in it.
 use Rattle.std.specs.Prelude.{
   ◌≡◌,

@@ -5,5 +5,6 @@ pub mod Connection
 pub mod Gate
 pub mod Delivering
 pub mod Replies
+pub mod Sizes
 pub mod History
 pub mod Histories

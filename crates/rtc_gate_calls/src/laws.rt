@@ -1,7 +1,10 @@
 //! Laws over whole pasts of calls, over the definitions alone.
-ghost use Rattle.std.specs.Prelude.{◌≡◌, List};
+ghost use Rattle.std.specs.Prelude.{◌≡◌, ◌+◌, ◌<◌, ◌^◌, List};
 ghost use Rattle.rtc_gate_calls.specs.History.{GateEvent, calls_made};
 ghost use Rattle.rtc_gate_calls.specs.Histories.{AreCutApart, DeliversDue, NeverRanOut, WereAnswered, gate_after};
+ghost use Rattle.rtc_gate_calls.specs.Replies.{IsPossible};
+ghost use Rattle.rtc_gate_calls.specs.Sizes.{call_size, calls_size};
+ghost use Rattle.rtc_gate_calls.specs.declared.gate_call.GateCall.{GateCall};
 
 /// For every list of calls, want of memory in any of them: a connection that is here took what is due to it, up to what waits for it,
 /// and one that has left took a front of it.
@@ -14,4 +17,10 @@ pub fn due_is_delivered()
 pub fn same_wherever_cut()
     ensures { (past cut : List GateEvent) → NeverRanOut past → NeverRanOut cut → AreCutApart (calls_made past) (calls_made cut)
         → gate_after past ≡ gate_after cut }
+{}
+
+/// Calls that ask for fewer than 2^32 connections and bytes together are possible, each on the gate that those before it leave.
+pub fn few_calls_are_possible()
+    ensures { (past : List GateEvent) (call : GateCall) → WereAnswered past → calls_size (calls_made past) + call_size call < 2 ^ 32
+        → IsPossible (gate_after past) call }
 {}

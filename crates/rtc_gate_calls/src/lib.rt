@@ -21,6 +21,6 @@ pub use gate::Gate;
 pub use gate_call::GateCall;
 pub use gate_error::GateError;
 pub use gate_reply::GateReply;
-pub use laws::{due_is_delivered, same_wherever_cut};
+pub use laws::{due_is_delivered, few_calls_are_possible, same_wherever_cut};
 pub use performing::{can_perform, perform};
 pub use running::run_calls;

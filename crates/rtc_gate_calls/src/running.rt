@@ -1,8 +1,9 @@
 //! Calls in order.
-ghost use Rattle.std.specs.Prelude.{◌≡◌, IfOk};
+ghost use Rattle.std.specs.Prelude.{◌≡◌, ◌<◌, ◌^◌, IfOk};
 ghost use Rattle.rtc_gate_calls.specs.Histories.{RunsCalls, empty_gate};
+ghost use Rattle.rtc_gate_calls.specs.Sizes.{calls_size};
 
-use crate::{Gate, GateCall, GateReply, can_perform, perform};
+use crate::{Gate, GateCall, GateReply, perform};
 use rtc_wire::Seq;
 use std::alloc::{AllocError, Global};
 
@@ -12,14 +13,12 @@ pub fn run_calls(
     gate: &mut Gate,
     calls: &[GateCall],
 ) -> Result<Seq<GateReply>, AllocError>
-    requires { gate.old ≡ empty_gate }
+    requires empty { gate.old ≡ empty_gate }
+    requires sizes { calls_size calls.now < 2 ^ 32 }
     ensures { IfOk result (λ replies. RunsCalls calls.now replies gate.new) }
 {
     let mut replies = Vec::new(alloc);
     for call in calls {
-        if !can_perform(gate, call) {
-            return Err(AllocError);
-        }
         let reply = perform(gate, call);
         if reply.is_out_of_memory() {
             return Err(AllocError);

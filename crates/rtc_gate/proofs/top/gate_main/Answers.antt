@@ -1,8 +1,16 @@
-use Rattle.std.proofs.Common.{rules}
+use Rattle.std.proofs.Common.{◌<◌, ◌≤◌, ◌^◌, length, List, sym, subst, rules}
 use Rattle.rtc_io.proofs.Told.{answer_due, refusal_due}
+use Rattle.rtc_gate_calls.specs.Sizes.{calls_size}
+use Rattle.rtc_gate_calls.specs.declared.gate_call.GateCall.{GateCall}
 use Rattle.rtc_gate.specs.Answers.{gate_program}
+use Rattle.rtc_gate.proofs.SmallScripts.{script_small}
 use Rattle.rtc_gate.proofs.GateScripts.{reads_calls, reads_no_calls}
 use Rattle.rtc_gate.proofs.top.gate_main.Goals as goal
+
+pub perform_calls-requires : goal.perform_calls-requires
+perform_calls-requires g c =
+    let short : length c.as_slice.result.now ≤ 2 ^ 20 = search rules in
+    subst (λ (calls : List GateCall). calls_size calls < 2 ^ 32) (sym c.as_slice-in-Ok-read_script.ensures) (script_small c.as_slice.result.now c.in-Ok-read_script.calls c.in-Ok-read_script.ensures.some short)
 
 pub returns-in-Ok-read_script-clause-write : goal.returns-in-Ok-read_script-clause-write
 returns-in-Ok-read_script-clause-write g c =

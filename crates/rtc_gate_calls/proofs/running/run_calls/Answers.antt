@@ -1,7 +1,10 @@
 use Rattle.std.proofs.Common.{rules, arith, ◌≤◌, length}
 use Rattle.std.proofs.lemmas.Bool.Decides.{nat_tests}
-use Rattle.rtc_gate_calls.proofs.RunLemmas.{run_goes_on, run_ends}
+use Rattle.rtc_gate_calls.proofs.RunLemmas.{run_has_room, run_goes_on, run_ends}
 use Rattle.rtc_gate_calls.proofs.running.run_calls.Goals as goal
+
+pub perform-reply-requires : goal.perform-reply-requires
+perform-reply-requires c = run_has_room c.args.calls.now c.loop-call.call-index c.call-item.result c.call-item.result c.loop-call.replies.items c.loop-call.gate (search rules) (search rules) c.requires.sizes c.loop-call.invariant
 
 pub loop-call-preserved : goal.loop-call-preserved
 loop-call-preserved c =
