@@ -1,5 +1,6 @@
 #!/usr/bin/env python3
-"""Writes `stdin` and `stdout` of the programs that the gate runs over stored examples, crates/rtc_*_examples. `stdin` names each
+"""Writes `stdin` and `stdout` of the programs that the gate runs over stored examples, those of crates/rtc_*_examples that have
+`data/calls`. `stdin` names each
 example of the crate's `data/`: the lines of `data/calls`, and the scripts and descriptions, each beside what it expects. `stdout` has
 each of these lines behind `agrees`. With --check nothing is written, and what is not current is refused, as are an example without
 what it expects and a call that `data/calls` leaves out.
@@ -46,7 +47,8 @@ def main():
     if sys.argv[1:] and not check:
         sys.exit(__doc__)
     wrong = []
-    for crate in sorted(glob.glob(os.path.join(TOP, "crates", "rtc_*_examples"))):
+    for calls in sorted(glob.glob(os.path.join(TOP, "crates", "rtc_*_examples", "data", "calls"))):
+        crate = os.path.dirname(os.path.dirname(calls))
         name = os.path.basename(crate)
         lines, found = examples(crate)
         wrong += [f"{name}: {what}" for what in found]

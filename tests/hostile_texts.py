@@ -5,7 +5,8 @@ usage: tests/hostile_texts.py crates/rtc_sdp_text/out/rtc_sdp_text [FOLDER of go
 
 It is no part of the gate. Each input is written to the program's standard input; the program has to end by itself with
 status 0 and a text, or with status 3 and one line that names a line of the input, within a time that grows with the
-length. What status 0 wrote is fed once more, and has to be written as it stands.
+length. What status 0 wrote is fed once more, and has to be written as it stands. The word `explain` has to end with the same
+status, with a row for each line, and of a refused text for each up to the line that is told.
 """
 import os
 import random
@@ -21,10 +22,26 @@ LINE = b"m=audio 9 UDP/TLS/RTP/SAVPF 0\r\nc=IN IP4 0.0.0.0\r\na=mid:0\r\na=sendr
 START, EACH_MIB = 1.0, 4.0
 
 
-def run(program, bytes_in):
+def run(program, bytes_in, word="offer"):
     begun = time.monotonic()
-    done = subprocess.run([program, "offer"], input=bytes_in, capture_output=True, timeout=120)
+    done = subprocess.run([program, word], input=bytes_in, capture_output=True, timeout=120)
     return done.returncode, done.stdout, time.monotonic() - begun
+
+
+def lines_in(bytes_in):
+    return bytes_in.count(b"\n") + (1 if bytes_in and not bytes_in.endswith(b"\n") else 0)
+
+
+# What is wrong with the rows of a text, of which `offer` ended with this status and told this line.
+def wrong_rows(program, bytes_in, status, told):
+    end, rows, _ = run(program, bytes_in, "explain")
+    wanted = told if status == 3 else lines_in(bytes_in)
+    if end != status:
+        return [f"explained with status {end}"]
+    if rows.count(b"\n") != wanted:
+        return [f"explained by {rows.count(bytes([10]))} rows and not {wanted}"]
+    last = rows.split(b"\n")[-2] if rows else b""
+    return [] if last.startswith(b"refused (") == (status == 3) else [f"last row {last[:60]!r}"]
 
 
 def check(program, name, bytes_in):
@@ -41,7 +58,10 @@ def check(program, name, bytes_in):
         # A text that ends before its second line is refused behind its last.
         if not told or not 1 <= int(told[1]) <= bytes_in.count(b"\n") + 2:
             wrong.append(f"told {out[:60]!r}")
+        else:
+            wrong += wrong_rows(program, bytes_in, status, int(told[1]))
     elif status == 0:
+        wrong += wrong_rows(program, bytes_in, status, 0)
         again, twice, _ = run(program, out) if len(out) <= LIMIT else (0, out, 0.0)
         if (again, twice) != (0, out):
             wrong.append("what was written is not read as it stands")

@@ -1,7 +1,7 @@
 #!/usr/bin/env python3
 """Counts instructions of the proved programs by valgrind --tool=callgrind, so that growth is seen. It is no part of the gate.
 
-usage: tests/measure.py [PART..]     PART is descriptions, rounds, messages, associations or frames; without one all are counted
+usage: tests/measure.py [PART..]     PART is descriptions, rounds, messages, associations, forged or frames; without one all are counted
 
 The programs are those that the gate left in crates/*/out/. Each figure is a difference of two runs, so that the start of the
 program is not in it. docs/PERFORMANCE.md has the tables.
@@ -73,10 +73,10 @@ def script(lines, second):
 def rounds():
     print("| Lines | First round | A line | Second round | A line |\n|---|---|---|---|---|")
     start, _ = count([program("rtc_pair"), "run"], b"str0m-pair 1\n")
-    for lines in (1, 3, 10, 30, 100, 300):
+    for lines in (1, 3, 10, 30, 100, 300, 3_000, 10_000):
         one, _ = count([program("rtc_pair"), "run"], script(lines, False))
         two, _ = count([program("rtc_pair"), "run"], script(lines, True))
-        print(f"| {lines} | {one - start:,} | {(one - start) // lines:,} | {two - one:,} | {(two - one) // lines:,} |")
+        print(f"| {lines:,} | {one - start:,} | {(one - start) // lines:,} | {two - one:,} | {(two - one) // lines:,} |")
 
 
 def messages():
@@ -105,6 +105,23 @@ def associations():
         print(f"| {streams:,} | {more:,} | {more // streams:,} |")
 
 
+# The greatest memory of a program, in KiB.
+def memory(words):
+    with open(os.devnull, "wb") as nothing:
+        child = subprocess.Popen(words, stdin=subprocess.DEVNULL, stdout=nothing)
+        _, status, usage = os.wait4(child.pid, 0)
+    if status != 0:
+        sys.exit(f"measure: {words[0]} ended with status {status}")
+    return usage.ru_maxrss
+
+
+# Packets that somebody else made, each with a message of another generation to come.
+def forged():
+    print("| Forged packets | Greatest memory, KiB |\n|---|---|")
+    for packets in (1, 1_000, 100_000):
+        print(f"| {packets:,} | {memory([program('rtc_assoc_measure'), 'forged', str(packets)]):,} |")
+
+
 # Frames of n bytes, passed from one connection to another, each fed whole or a byte at a time. The words of the script are longer
 # where pieces are short, so that a script of empty pieces is counted beside it.
 def calls_of(size, count, piece):
@@ -128,7 +145,7 @@ def frames():
 
 
 def main():
-    parts = {"descriptions": descriptions, "rounds": rounds, "messages": messages, "associations": associations, "frames": frames}
+    parts = {"descriptions": descriptions, "rounds": rounds, "messages": messages, "associations": associations, "forged": forged, "frames": frames}
     wanted = sys.argv[1:] or list(parts)
     if any(name not in parts for name in wanted):
         sys.exit(__doc__)

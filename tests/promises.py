@@ -13,8 +13,9 @@ OUT = os.path.join(TOP, "docs", "PROMISES.md")
 HEAD = """# Promises
 
 From each public call to its clauses and to the definitions that they cite, made from the sources by `tests/promises.py`. A clause
-is what the call promises, whatever stands in its body; a definition is what the clause means. Each crate's README says in words
-what is proved. Calls without a clause are proved to be safe and to end, and promise no more.
+is what the call promises, whatever stands in its body; a definition is what the clause means. A call with an empty body is a law
+over definitions. Each crate's README says in words what is proved. Calls without a clause are proved to be safe and to end, and
+promise no more.
 """
 
 
@@ -77,7 +78,7 @@ def calls(path, public):
         owner = max(((at, name) for at, name in owners if at < found.start()), default=(0, ""))[1] if found[1] else ""
         if (not found[2] and owner not in traits) or (owner or found[3]) not in public:
             continue
-        end = re.search(r"^ *\{$|;$", text[found.start() :], re.M)
+        end = re.search(r"^ *\{\}?$|;$|^(?! *(?:ensures|requires)\b).* \{\}?$", text[found.start() :], re.M)
         contract = text[found.start() : found.start() + (end.start() if end else 0)]
         ensured = list(clauses(contract))
         if ensured:
