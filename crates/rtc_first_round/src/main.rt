@@ -1,47 +1,106 @@
 //! Two peers in one process agree on an audio line, and the lines of both are printed.
 #![tactic(auto)]
 
-use rtc_peer::{CountIds, Direction, MediaKind, Rtc, RtcConfig, RtcError, SdpAnswer, SdpOffer};
-use rtc_wire::Moment;
-use std::alloc::Global;
+use rtc_peer::{
+    Direction, Ids, Lines, MediaKind, Mid, Rtc, RtcConfig, RtcError, SdpAnswer, SdpApi, SdpOffer,
+    SdpPendingOffer,
+};
+use rtc_plain_ids::CountIds;
+use rtc_wire::{Moment, Text};
+use std::alloc::{AllocError, Global};
 use std::io;
 
-type Peer = Rtc<CountIds>;
-
-fn build(alloc: Global, first: u64) -> Result<Peer, RtcError> {
+fn build<N: Ids + Drop>(alloc: Global, ids: N) -> Result<Rtc<N>, AllocError> {
     let config = RtcConfig::new(alloc)?;
-    let rtc = Rtc::build(alloc, config, Moment::FAR_PAST, CountIds::starting(first))?;
-    Ok(rtc)
+    Rtc::build(alloc, config, Moment::FAR_PAST, ids)
 }
 
-fn negotiate(alloc: Global, left: &mut Peer, right: &mut Peer) -> Result<(), RtcError> {
+fn stage<N: Ids>(
+    api: &mut SdpApi<'_, N>,
+    kind: MediaKind,
+    dir: Direction,
+) -> Result<Mid, AllocError> {
+    api.add_media(kind, dir, None, None, None)
+}
+
+fn offer<N: Ids + Drop>(
+    left: &mut Rtc<N>,
+    kind: MediaKind,
+    dir: Direction,
+) -> Result<Option<(SdpOffer, SdpPendingOffer)>, AllocError> {
     let mut api = left.sdp_api();
-    api.add_media(MediaKind::Audio, Direction::SendOnly, None, None, None)?;
-    let Some((offer, token)) = api.apply()? else {
-        return Ok(());
-    };
-    // The text of each goes to the other side by signalling.
-    let text = offer.to_sdp_string()?;
-    let offer = SdpOffer::from_sdp_string(alloc, text.as_str())?;
+    stage(&mut api, kind, dir)?;
+    api.apply()
+}
+
+fn answer<N: Ids + Drop>(alloc: Global, right: &mut Rtc<N>, text: &str) -> Result<Text, RtcError> {
+    let offer = SdpOffer::from_sdp_string(alloc, text)?;
     let answer = right.sdp_api().accept_offer(offer)?;
-    let text = answer.to_sdp_string()?;
-    let answer = SdpAnswer::from_sdp_string(alloc, text.as_str())?;
+    Ok(answer.to_sdp_string()?)
+}
+
+fn finish<N: Ids + Drop>(
+    alloc: Global,
+    left: &mut Rtc<N>,
+    token: SdpPendingOffer,
+    text: &str,
+) -> Result<(), RtcError> {
+    let answer = SdpAnswer::from_sdp_string(alloc, text)?;
     left.sdp_api().accept_answer(token, answer)
 }
 
-fn main(rt: HostRuntime) -> io::Result<()> {
-    let alloc = rt.alloc();
-    let (Ok(mut left), Ok(mut right)) = (build(alloc, 1), build(alloc, 1_000_001)) else {
-        return println!(rt; "out of memory");
+// The text of each goes to the other side by signalling.
+fn negotiate<N: Ids + Drop>(
+    alloc: Global,
+    left: &mut Rtc<N>,
+    right: &mut Rtc<N>,
+) -> Result<(), RtcError> {
+    let Some((offer, token)) = offer(left, MediaKind::Audio, Direction::SendOnly)? else {
+        return Ok(());
     };
-    if let Err(error) = negotiate(alloc, &mut left, &mut right) {
-        return println!(rt; "{error}");
-    }
-    for row in left.lines().rows() {
-        println!(rt; "left: line {} is {}", row.place(), row.mid().as_str())?;
-    }
-    for row in right.lines().rows() {
-        println!(rt; "right: line {} is {}", row.place(), row.mid().as_str())?;
+    let text = offer.to_sdp_string()?;
+    let text = answer(alloc, right, text.as_str())?;
+    finish(alloc, left, token, text.as_str())
+}
+
+fn describe(text: &mut String, side: &str, lines: &Lines) -> Result<(), AllocError> {
+    for row in lines.rows() {
+        let place = row.place();
+        let mid = row.mid();
+        writeln!(text, "{side}: line {place} is {}", mid.as_str())?;
     }
     Ok(())
+}
+
+fn show(alloc: Global, left: &Lines, right: &Lines) -> Result<String, AllocError> {
+    let mut text = String::new(alloc);
+    describe(&mut text, "left", left)?;
+    describe(&mut text, "right", right)?;
+    Ok(text)
+}
+
+fn meet<N: Ids + Drop>(
+    alloc: Global,
+    left: &mut Rtc<N>,
+    right: &mut Rtc<N>,
+) -> Result<String, RtcError> {
+    negotiate(alloc, left, right)?;
+    Ok(show(alloc, left.lines(), right.lines())?)
+}
+
+fn run<N: Ids + Drop>(alloc: Global, left: N, right: N) -> Result<String, RtcError> {
+    let mut left = build(alloc, left)?;
+    let mut right = build(alloc, right)?;
+    meet(alloc, &mut left, &mut right)
+}
+
+fn main(rt: HostRuntime) -> io::Result<()> {
+    match run(
+        rt.alloc(),
+        CountIds::starting(1),
+        CountIds::starting(1_000_001),
+    ) {
+        Ok(text) => print!(rt; "{text}"),
+        Err(error) => println!(rt; "{error}"),
+    }
 }
