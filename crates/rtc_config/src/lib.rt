@@ -1,0 +1,9 @@
+//! The statistics that a peer reports.
+#![tactic(auto)]
+
+mod stats;
+
+pub use stats::Stats;
+
+#[cfg(test)]
+mod tests;
