@@ -1,0 +1,9 @@
+use Rattle.rtc_sctp.specs.Polls.{book}
+use Rattle.rtc_sctp.proofs.StepLemmas.{event_handled}
+use Rattle.rtc_sctp.proofs.streams.RtcSctp.take_event.Goals as goal
+
+pub returns : goal.returns
+returns g c =
+    event_handled g.S.Association.association _ c.args.self.now c.take_event.result c.take_event.new.association
+    (book c.take_event.new.state c.take_event.new.entries.items c.take_event.new.resets.items c.take_event.new.completed.items)
+    c.self.view_is c.take_event.ensures

@@ -1,0 +1,216 @@
+-- What the calls of streams do, but for polls.
+use Rattle.std.specs.Prelude.{
+  ℕ,
+  ◌≡◌,
+  ◌+◌,
+  ◌-◌,
+  ◌^◌,
+  ◌==◌,
+  ◌&&◌,
+  ◌||◌,
+  not,
+  min,
+  Bool,
+  true,
+  false,
+  List,
+  [],
+  ◌∷◌,
+  length,
+  slice_get,
+  slice_set,
+  Option,
+  Some,
+  None,
+  is_some,
+  if◌then◌else◌,
+  Result,
+  Ok,
+  Err,
+}
+use Rattle.std.specs.List.{filter, list_any}
+use Rattle.std.specs.declared.alloc.AllocError.{AllocError}
+use Rattle.rtc_wire.specs.declared.channel_config.ChannelConfig.{ChannelConfig}
+use Rattle.rtc_association.specs.declared.assoc_error.AssocError.{AssocError}
+use Rattle.rtc_association.specs.declared.assoc_error.AssocError.TheVariants as assoc
+use Rattle.rtc_association.specs.declared.ppi.Ppi.{Ppi}
+use Rattle.rtc_association.specs.declared.ppi.Ppi.TheVariants as ppi
+use Rattle.rtc_association.specs.AssociationMeaning.{AssociationMeaning}
+use Rattle.rtc_ready.specs.Signals.{Signals}
+use Rattle.rtc_sctp.specs.declared.asked.Asked.{Asked}
+use Rattle.rtc_sctp.specs.declared.asked.Asked.TheVariants as did
+use Rattle.rtc_sctp.specs.declared.proto_error.ProtoError.{ProtoError}
+use Rattle.rtc_sctp.specs.declared.proto_error.ProtoError.TheVariants as proto
+use Rattle.rtc_sctp.specs.declared.sctp_error.SctpError.{SctpError}
+use Rattle.rtc_sctp.specs.declared.sctp_error.SctpError.TheVariants as sctp
+use Rattle.rtc_sctp.specs.declared.rtc_sctp_state.RtcSctpState.{RtcSctpState}
+use Rattle.rtc_sctp.specs.declared.rtc_sctp_state.RtcSctpState.TheVariants.{Uninited, AwaitRemoteAssociation}
+use Rattle.rtc_sctp.specs.declared.rtc_sctp_state.RtcSctpState.TheVariants.{AwaitAssociationEstablished, Established}
+use Rattle.rtc_sctp.specs.declared.stream_entry_state.StreamEntryState.{StreamEntryState}
+use Rattle.rtc_sctp.specs.declared.stream_entry_state.StreamEntryState.TheVariants as entry
+use Rattle.rtc_sctp.specs.declared.stream_entry.StreamEntry.{StreamEntry}
+use Rattle.rtc_sctp.specs.Part.{AsksStart, AsksShutdown, AsksEnd, AsksReliability}
+use Rattle.rtc_sctp.specs.Entries.{entry_place, with_entry, new_entry, marked_entry, with_reset, has_open, is_open_state, is_retrying}
+use Rattle.rtc_sctp.specs.Streams.{SctpStreams, is_attached, is_established}
+
+-- the state of an association that was started as client or as server
+abbrev pub started_state : Bool → RtcSctpState
+started_state true = AwaitAssociationEstablished
+started_state false = AwaitRemoteAssociation
+
+-- the limit of the other end, which is 65536 where it announced none (RFC 8841, section 6.1)
+abbrev pub limit_or_default : Option ℕ → ℕ
+limit_or_default None = 65536
+limit_or_default (Some max) = max
+
+-- the identifier of a message to be written (RFC 8831, section 8)
+abbrev pub written_ppi : (binary empty : Bool) → Ppi
+written_ppi true true = ppi.EmptyBinary
+written_ppi true false = ppi.Binary
+written_ppi false true = ppi.EmptyText
+written_ppi false false = ppi.Text
+
+abbrev pub is_nil : List ℕ → Bool
+is_nil [] = true
+is_nil (x ∷ xs) = false
+
+-- why a write is refused, by what the association answers
+abbrev pub write_refusal : (id len max : ℕ) → AssocError → SctpError
+write_refusal id len max assoc.NoStream = sctp.Proto (proto.NoStream id)
+write_refusal id len max assoc.TooLong = sctp.Proto (proto.TooLong len max)
+write_refusal id len max assoc.Closing = sctp.WriteBeforeEstablished
+write_refusal id len max assoc.Alloc = sctp.Alloc
+write_refusal id len max assoc.Fault = sctp.Proto proto.Fault
+write_refusal id len max assoc.StreamExists = sctp.Proto proto.Fault
+write_refusal id len max assoc.ResetPending = sctp.Proto proto.Fault
+
+abbrev pub write_answer : (id len max : ℕ) → Result ℕ AssocError → Result ℕ SctpError
+write_answer id len max (Ok n) = Ok len
+write_answer id len max (Err e) = Err (write_refusal id len max e)
+
+-- the entries that are not closed
+abbrev pub is_closed_state : StreamEntryState → Bool
+is_closed_state entry.AwaitOpen = false
+is_closed_state entry.AwaitConfig = false
+is_closed_state entry.AwaitDcepAck = false
+is_closed_state entry.Open = false
+is_closed_state entry.Closed = true
+
+abbrev pub unclosed : List StreamEntry → List StreamEntry
+unclosed entries = filter (λ own. not (is_closed_state own.state)) entries
+
+-- the earlier of two moments, where there are any
+abbrev pub earlier_of : Option ℕ → Option ℕ → Option ℕ
+earlier_of None b = b
+earlier_of (Some a) None = Some a
+earlier_of (Some a) (Some b) = Some (min a b)
+
+-- the state where a packet of the other end comes: a server's first one is what it waits for
+abbrev pub state_on_input : RtcSctpState → RtcSctpState
+state_on_input AwaitRemoteAssociation = AwaitAssociationEstablished
+state_on_input Uninited = Uninited
+state_on_input AwaitAssociationEstablished = AwaitAssociationEstablished
+state_on_input Established = Established
+
+-- a moment is kept, and closed entries are dropped
+abbrev pub timed_streams : {S : Type 0} → ℕ → SctpStreams S → SctpStreams S
+timed_streams now p = record p { last = now; entries = unclosed p.entries }
+
+-- when an opening is tried again: half a second after the last moment
+abbrev pub retry_wake : List StreamEntry → ℕ → Option ℕ
+retry_wake entries last =
+    if list_any is_retrying entries then Some (min (last + 500_000_000) (2 ^ 64 - 1)) else None
+
+-- a stream is open: the association is established, and so is the stream
+abbrev pub is_open_stream : {S : Type 0} → ℕ → SctpStreams S → Bool
+is_open_stream id p = is_established p.state && has_open id p.entries
+
+module _ {S : Type 0} (m : AssociationMeaning S) where
+  -- the association is started; a second start is refused, and a refusal leaves everything but the association
+  abbrev pub Inits : Bool → (now max : ℕ) → SctpStreams S → Result (Unit {0}) SctpError → SctpStreams S → Type 0
+  Inits client now max p (Ok x) q =
+      (m.started p.association ≡ false)
+      × AsksStart m client p.association now max did.Done q.association
+      × (q ≡ record p { association = q.association; client = client; remote_max = max; state = started_state client })
+  Inits client now max p (Err (sctp.Proto proto.Started)) q = (m.started p.association ≡ true) × (q ≡ p)
+  Inits client now max p (Err (sctp.Proto proto.Fault)) q =
+      (m.started p.association ≡ false)
+      × AsksStart m client p.association now max did.Refused q.association
+      × (q ≡ record p { association = q.association })
+  Inits client now max p (Err sctp.Alloc) q =
+      (m.started p.association ≡ false)
+      × AsksStart m client p.association now max did.OutOfMemory q.association
+      × (q ≡ record p { association = q.association })
+  Inits client now max p (Err e) q = ⊥
+
+  -- whether there is nothing to shut down: the association is not started, closing or closed
+  abbrev pub is_ended : S → Bool
+  is_ended p = not (m.started p) || (m.closing p || m.closed p)
+
+  -- the association is shut down, where it is not yet
+  abbrev pub ShutBy : Bool → SctpStreams S → Result (Unit {0}) SctpError → SctpStreams S → Type 0
+  ShutBy true p r q = (r ≡ Ok tt) × (q ≡ p)
+  ShutBy false p (Ok x) q = AsksShutdown m p.association did.Done q.association × (q ≡ record p { association = q.association })
+  ShutBy false p (Err (sctp.Proto proto.Fault)) q =
+      AsksShutdown m p.association did.Refused q.association × (q ≡ record p { association = q.association })
+  ShutBy false p (Err sctp.Alloc) q =
+      AsksShutdown m p.association did.OutOfMemory q.association × (q ≡ record p { association = q.association })
+  ShutBy false p (Err e) q = ⊥
+
+  abbrev pub Shuts : SctpStreams S → Result (Unit {0}) SctpError → SctpStreams S → Type 0
+  Shuts p r q = ShutBy (is_ended p.association) p r q
+
+  -- a stream takes messages: it is open, and the association neither closing nor closed
+  abbrev pub can_write : ℕ → SctpStreams S → Bool
+  can_write id p = is_open_stream id p && not (is_ended p.association)
+
+  -- a message is written
+  abbrev pub WrittenIf : Bool → (id : ℕ) → Bool → List ℕ → SctpStreams S → Result ℕ SctpError → SctpStreams S → Type 0
+  WrittenIf false id binary bytes p r q = (r ≡ Err sctp.WriteBeforeEstablished) × (q ≡ p)
+  WrittenIf true id binary bytes p r q =
+      (answer : Result ℕ AssocError)
+      × m.wrote p.association id (written_ppi binary (is_nil bytes)) bytes answer q.association
+      × (r ≡ write_answer id (length bytes) p.remote_max answer)
+      × (q ≡ record p { association = q.association })
+
+  abbrev pub WritesStream : (id : ℕ) → Bool → List ℕ → SctpStreams S → Result ℕ SctpError → SctpStreams S → Type 0
+  WritesStream id binary bytes p r q = WrittenIf (can_write id p) id binary bytes p r q
+
+  -- how many bytes of the streams in use are not acknowledged
+  abbrev pub buffered_sum : S → List StreamEntry → ℕ
+  buffered_sum p [] = 0
+  buffered_sum p (own ∷ entries) = m.buffered p own.id + buffered_sum p entries
+
+  -- a packet of the other end comes; before a start it changes nothing
+  abbrev pub InputIf : Bool → ℕ → List ℕ → SctpStreams S → Result (Unit {0}) AllocError → SctpStreams S → Type 0
+  InputIf false now bytes p r q = (r ≡ Ok tt) × (q ≡ p)
+  InputIf true now bytes p r q =
+      m.given p.association now bytes r q.association
+      × (q ≡ record p { association = q.association; state = state_on_input p.state })
+
+  abbrev pub TakesInput : ℕ → List ℕ → SctpStreams S → Result (Unit {0}) AllocError → SctpStreams S → Type 0
+  TakesInput now bytes p r q = InputIf (m.started p.association) now bytes p r q
+
+  -- a moment comes: where the association has had a packet or was to send one, it is handed the moment
+  abbrev pub TimedBy : RtcSctpState → ℕ → SctpStreams S → Signals → Result (Unit {0}) AllocError → SctpStreams S → Signals → Type 0
+  TimedBy Uninited now p wake r q wake' =
+      (r ≡ Ok tt) × (q ≡ p) × (wake' ≡ record { events = false; timeout = false })
+  TimedBy AwaitRemoteAssociation now p wake r q wake' =
+      (r ≡ Ok tt) × (q ≡ timed_streams now p) × (wake' ≡ record wake { events = false })
+  TimedBy AwaitAssociationEstablished now p wake r q wake' =
+      m.timed p.association now r q.association
+      × (q ≡ record (timed_streams now p) { association = q.association }) × (wake' ≡ wake)
+  TimedBy Established now p wake r q wake' =
+      m.timed p.association now r q.association
+      × (q ≡ record (timed_streams now p) { association = q.association }) × (wake' ≡ wake)
+
+  abbrev pub TakesTimeout : ℕ → SctpStreams S → Signals → Result (Unit {0}) AllocError → SctpStreams S → Signals → Type 0
+  TakesTimeout now p wake r q wake' = TimedBy p.state now p wake r q wake'
+
+  -- when the association wants a moment, where its wake is read
+  abbrev pub attached_wake : Bool → S → Option ℕ
+  attached_wake true p = m.wake p
+  attached_wake false p = None
+
+  abbrev pub streams_wake : SctpStreams S → Option ℕ
+  streams_wake p = earlier_of (attached_wake (is_attached p.state) p.association) (retry_wake p.entries p.last)

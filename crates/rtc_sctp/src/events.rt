@@ -1,0 +1,120 @@
+//! What the events of an association do.
+ghost use Rattle.std.specs.Prelude.{◌≡◌, ◌<◌, true, None, vec_len, vec_capacity};
+ghost use Rattle.rtc_sctp.specs.declared.stream_entry_state.StreamEntryState.TheVariants.{AwaitConfig};
+ghost use Rattle.rtc_sctp.specs.Entries.{entry_place, new_entry as NewEntry};
+ghost use Rattle.rtc_sctp.specs.Polls.{with_expected, finished_entry, FinishesAt, book, event_met, AfterEvent};
+
+use crate::entries::{place_of, put_reserved};
+use crate::met::Met;
+use crate::resets::{drop_reset, note_reset};
+use crate::{BufferedThresholdConfig, RtcSctpState, SctpEvent, StreamEntry, StreamEntryState};
+use rtc_association::AssocEvent;
+
+fn opened_there(id: u16) -> StreamEntry
+    ensures { result ≡ NewEntry id AwaitConfig None }
+{
+    StreamEntry {
+        id,
+        state: StreamEntryState::AwaitConfig,
+        config: None,
+        marked: false,
+        threshold: BufferedThresholdConfig::Unconfigured,
+        refused: None,
+    }
+}
+
+/// The other end uses a stream, for whose entry there is room.
+pub fn expect_entry(entries: &mut Vec<StreamEntry>, id: u16)
+    requires { vec_len entries.old < vec_capacity entries.old }
+    ensures { entries.new.items ≡ with_expected id entries.old.items }
+{
+    if place_of(entries.as_slice(), id).is_some() {
+        return;
+    }
+    put_reserved(entries, opened_there(id));
+}
+
+fn finish_entry(entry: &mut StreamEntry)
+    ensures { entry.new ≡ finished_entry entry.old }
+{
+    match entry.state {
+        StreamEntryState::AwaitOpen => {}
+        StreamEntryState::AwaitConfig => entry.marked = true,
+        StreamEntryState::AwaitDcepAck => entry.marked = true,
+        StreamEntryState::Open => entry.marked = true,
+        StreamEntryState::Closed => entry.marked = true,
+    }
+}
+
+/// The other end closed a stream.
+pub fn finish_stream(entries: &mut Vec<StreamEntry>, id: u16)
+    ensures { FinishesAt (entry_place id entries.old.items) entries.old.items entries.new.items }
+{
+    match place_of(entries.as_slice(), id) {
+        None => {}
+        Some(place) => finish_entry(&mut entries[place]),
+    }
+}
+
+/// Makes room for what an event may add.
+pub fn make_room(
+    entries: &mut Vec<StreamEntry>,
+    resets: &mut Vec<u16>,
+    completed: &mut Vec<u16>,
+) -> bool
+    ensures entries { entries.new.items ≡ entries.old.items }
+    ensures resets { resets.new.items ≡ resets.old.items }
+    ensures completed { completed.new.items ≡ completed.old.items }
+    ensures entry_room { result ≡ true → vec_len entries.new < vec_capacity entries.new }
+    ensures reset_room { result ≡ true → vec_len resets.new < vec_capacity resets.new }
+    ensures completed_room { result ≡ true → vec_len completed.new < vec_capacity completed.new }
+{
+    entries.reserve(1).is_ok() && (resets.reserve(1).is_ok() && completed.reserve(1).is_ok())
+}
+
+/// Does what an event does, where there is room for what it adds.
+pub fn apply_event(
+    event: AssocEvent,
+    state: &mut RtcSctpState,
+    entries: &mut Vec<StreamEntry>,
+    resets: &mut Vec<u16>,
+    completed: &mut Vec<u16>,
+) -> Met
+    requires entry_room { vec_len entries.old < vec_capacity entries.old }
+    requires reset_room { vec_len resets.old < vec_capacity resets.old }
+    requires completed_room { vec_len completed.old < vec_capacity completed.old }
+    ensures met { result ≡ event_met event }
+    ensures after { AfterEvent event (book state.old entries.old.items resets.old.items completed.old.items)
+        (book state.new entries.new.items resets.new.items completed.new.items) }
+{
+    match event {
+        AssocEvent::Connected => {
+            *state = RtcSctpState::Established;
+            Met::Again
+        }
+        AssocEvent::Lost => {
+            resets.clear();
+            completed.clear();
+            Met::Output(SctpEvent::AssociationLost)
+        }
+        AssocEvent::Readable(id) => {
+            expect_entry(entries, id);
+            Met::Again
+        }
+        AssocEvent::Writable(id) => {
+            expect_entry(entries, id);
+            Met::Again
+        }
+        AssocEvent::Finished(id) => {
+            finish_stream(entries, id);
+            note_reset(id, resets);
+            Met::Again
+        }
+        AssocEvent::ResetComplete(id) => {
+            drop_reset(id, resets);
+            completed.push_reserved(id);
+            Met::Again
+        }
+        AssocEvent::BufferedAmountLow(id) => Met::Output(SctpEvent::BufferedAmountLow { id }),
+    }
+}

@@ -1,0 +1,19 @@
+//! How far a stream has come.
+
+/// How far the opening of a stream has come (RFC 8832, section 6).
+///
+/// ```text
+/// opened here, in-band         AwaitOpen -> AwaitDcepAck -> Open
+/// opened here, out-of-band     AwaitOpen -> Open
+/// opened there, in-band        AwaitConfig -> Open, by the open message
+/// opened there, out-of-band    AwaitConfig -> Open, by open_stream
+/// each of them                 -> Closed, and the entry is dropped
+/// ```
+#[derive(Clone, Copy, Debug, PartialEq, Eq)]
+pub enum StreamEntryState {
+    AwaitOpen,
+    AwaitConfig,
+    AwaitDcepAck,
+    Open,
+    Closed,
+}

@@ -1,0 +1,108 @@
+//! Packets and moments that are handed in.
+ghost use Rattle.std.specs.Prelude.{◌≡◌};
+ghost use Rattle.rtc_sctp.specs.Streams.{is_attached};
+ghost use Rattle.rtc_sctp.specs.Calls.{TakesInput, TakesTimeout, timed_streams, streams_wake};
+ghost use Rattle.rtc_sctp.specs.Calls.{state_on_input as StateOnInput, earlier_of as EarlierOf};
+ghost use Rattle.rtc_sctp.specs.Calls.{attached_wake as AttachedWake, retry_wake as RetryWake};
+
+use crate::RtcSctpState;
+use crate::entries::{any_retrying, drop_closed};
+use crate::streams::RtcSctp;
+use rtc_association::Association;
+use rtc_ready::Wake;
+use rtc_wire::{Moment, STREAM_OPEN_RETRY_INTERVAL};
+use std::alloc::AllocError;
+
+fn state_on_input(state: RtcSctpState) -> RtcSctpState
+    ensures { result ≡ StateOnInput state }
+{
+    match state {
+        RtcSctpState::Uninited => RtcSctpState::Uninited,
+        RtcSctpState::AwaitRemoteAssociation => RtcSctpState::AwaitAssociationEstablished,
+        RtcSctpState::AwaitAssociationEstablished => RtcSctpState::AwaitAssociationEstablished,
+        RtcSctpState::Established => RtcSctpState::Established,
+    }
+}
+
+// The earlier of two moments, where there are any.
+fn earlier_of(a: Option<Moment>, b: Option<Moment>) -> Option<Moment>
+    ensures { result ≡ EarlierOf a b }
+{
+    match a {
+        None => b,
+        Some(first) => match b {
+            None => Some(first),
+            Some(second) => Some(first.min(second)),
+        },
+    }
+}
+
+impl<S: Association> RtcSctp<S> {
+    /// Hands the association a packet of the other end. Before an `init` that is Ok nothing happens.
+    pub fn handle_input(&mut self, now: Moment, bytes: &[u8]) -> Result<(), AllocError>
+        ensures { TakesInput S.association now bytes.now self.old result self.new }
+    {
+        if self.association.is_started() {
+            self.state = state_on_input(self.state);
+            self.association.handle_input(now, bytes)?;
+        }
+        Ok(())
+    }
+
+    /// Hands the association a moment, and says which signals stay as they were.
+    pub fn handle_timeout(&mut self, now: Moment, wake: &mut Wake) -> Result<(), AllocError>
+        ensures { TakesTimeout S.association now self.old wake.old result self.new wake.new }
+    {
+        match self.state {
+            RtcSctpState::Uninited => {
+                wake.no_events();
+                wake.no_timeout();
+                Ok(())
+            }
+            RtcSctpState::AwaitRemoteAssociation => {
+                self.last = now;
+                drop_closed(&mut self.entries);
+                wake.no_events();
+                Ok(())
+            }
+            RtcSctpState::AwaitAssociationEstablished => self.hand_moment(now),
+            RtcSctpState::Established => self.hand_moment(now),
+        }
+    }
+
+    // Keeps a moment, and hands it to the association.
+    fn hand_moment(&mut self, now: Moment) -> Result<(), AllocError>
+        ensures timed { S.association.timed self.old.association now result self.new.association }
+        ensures kept { self.new ≡ record (timed_streams now self.old) { association = self.new.association } }
+    {
+        self.last = now;
+        drop_closed(&mut self.entries);
+        self.association.handle_timeout(now)?;
+        Ok(())
+    }
+
+    fn attached_wake(&self) -> Option<Moment>
+        ensures { result ≡ AttachedWake S.association (is_attached self.now.state) self.now.association }
+    {
+        if self.state.propagate_endpoint_to_assoc() {
+            return self.association.poll_timeout();
+        }
+        None
+    }
+
+    fn retry_wake(&self) -> Option<Moment>
+        ensures { result ≡ RetryWake self.now.entries self.now.last }
+    {
+        if any_retrying(self.entries.as_slice()) {
+            return Some(self.last.plus(STREAM_OPEN_RETRY_INTERVAL));
+        }
+        None
+    }
+
+    /// When `handle_timeout` is wanted.
+    pub fn poll_timeout(&self) -> Option<Moment>
+        ensures { result ≡ streams_wake S.association self.now }
+    {
+        earlier_of(self.attached_wake(), self.retry_wake())
+    }
+}

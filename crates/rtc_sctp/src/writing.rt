@@ -1,0 +1,92 @@
+//! Messages to the other end.
+ghost use Rattle.std.specs.Prelude.{◌≡◌, ◌-◌, if◌then◌else◌, true};
+ghost use Rattle.rtc_sctp.specs.Calls.{is_open_stream, can_write as CanWrite, WritesStream, WrittenIf, buffered_sum};
+ghost use Rattle.rtc_sctp.specs.Calls.{written_ppi as WrittenPpi, write_refusal as WriteRefusal};
+
+use crate::entries::has_open;
+use crate::streams::RtcSctp;
+use crate::{ProtoError, SctpError};
+use rtc_association::{AssocError, Association, Ppi};
+
+fn written_ppi(binary: bool, empty: bool) -> Ppi
+    ensures { result ≡ WrittenPpi binary empty }
+{
+    match (binary, empty) {
+        (true, true) => Ppi::EmptyBinary,
+        (true, false) => Ppi::Binary,
+        (false, true) => Ppi::EmptyText,
+        (false, false) => Ppi::Text,
+    }
+}
+
+fn write_refusal(id: u16, len: usize, max: u32, why: AssocError) -> SctpError
+    ensures { result ≡ WriteRefusal id len max why }
+{
+    match why {
+        AssocError::NoStream => SctpError::Proto(ProtoError::NoStream(id)),
+        AssocError::TooLong => SctpError::Proto(ProtoError::TooLong { len, max }),
+        AssocError::Closing => SctpError::WriteBeforeEstablished,
+        AssocError::Alloc => SctpError::Alloc,
+        AssocError::Fault => SctpError::Proto(ProtoError::Fault),
+        AssocError::StreamExists => SctpError::Proto(ProtoError::Fault),
+        AssocError::ResetPending => SctpError::Proto(ProtoError::Fault),
+    }
+}
+
+impl<S: Association> RtcSctp<S> {
+    /// Whether a stream is open: the association is established, and so is the stream.
+    pub fn is_open(&self, id: u16) -> bool
+        ensures { result ≡ is_open_stream id self.now }
+    {
+        self.state.is_established() && has_open(self.entries.as_slice(), id)
+    }
+
+    /// How many bytes may be buffered yet.
+    pub fn available(&self) -> usize
+        ensures { result ≡ (if S.association.started self.now.association
+            then self.now.max_buffered - buffered_sum S.association self.now.association self.now.entries else 0) }
+    {
+        if self.association.is_started() {
+            return self.left();
+        }
+        0
+    }
+
+    fn left(&self) -> usize
+        ensures { result ≡ self.now.max_buffered - buffered_sum S.association self.now.association self.now.entries }
+    {
+        let entries = self.entries.as_slice();
+        let mut left = self.max_buffered;
+        for own in entries {
+            left = left.saturating_sub(self.association.buffered_amount(own.id));
+        }
+        left
+    }
+
+    fn can_write(&self, id: u16) -> bool
+        ensures { result ≡ CanWrite S.association id self.now }
+    {
+        self.is_open(id) && !self.is_ended()
+    }
+
+    fn write_open(&mut self, id: u16, binary: bool, buf: &[u8]) -> Result<usize, SctpError>
+        requires { S.association.started self.old.association ≡ true }
+        ensures { WrittenIf S.association true id binary buf.now self.old result self.new }
+    {
+        let ppi = written_ppi(binary, buf.is_empty());
+        match self.association.stream_write(id, ppi, buf) {
+            Ok(_) => Ok(buf.len()),
+            Err(why) => Err(write_refusal(id, buf.len(), self.remote_max, why)),
+        }
+    }
+
+    /// Writes a message, and answers the number of its bytes.
+    pub fn write(&mut self, id: u16, binary: bool, buf: &[u8]) -> Result<usize, SctpError>
+        ensures { WritesStream S.association id binary buf.now self.old result self.new }
+    {
+        if self.can_write(id) {
+            return self.write_open(id, binary, buf);
+        }
+        Err(SctpError::WriteBeforeEstablished)
+    }
+}
