@@ -1,8 +1,8 @@
 //! What the events of an association do.
-ghost use Rattle.std.specs.Prelude.{◌≡◌, ◌<◌, true, None, vec_len, vec_capacity};
+ghost use Rattle.std.specs.Prelude.{◌≡◌, ◌<◌, ◌++◌, ◌∷◌, [], true, None, vec_len, vec_capacity};
 ghost use Rattle.rtc_sctp.specs.declared.stream_entry_state.StreamEntryState.TheVariants.{AwaitConfig};
 ghost use Rattle.rtc_sctp.specs.Entries.{entry_place, new_entry as NewEntry};
-ghost use Rattle.rtc_sctp.specs.Polls.{with_expected, finished_entry, FinishesAt, book, event_met, AfterEvent};
+ghost use Rattle.rtc_sctp.specs.Polls.{with_expected, finished_entry, FinishesAt, book, event_met, AfterEvent, without_reset};
 
 use crate::entries::{place_of, put_reserved};
 use crate::met::Met;
@@ -72,6 +72,16 @@ pub fn make_room(
     entries.reserve(1).is_ok() && (resets.reserve(1).is_ok() && completed.reserve(1).is_ok())
 }
 
+// The reset of a stream is outstanding no longer, and is to be told as completed.
+fn complete_reset(id: u16, resets: &mut Vec<u16>, completed: &mut Vec<u16>)
+    requires { vec_len completed.old < vec_capacity completed.old }
+    ensures resets { resets.new.items ≡ without_reset id resets.old.items }
+    ensures completed { completed.new.items ≡ completed.old.items ++ id ∷ [] }
+{
+    drop_reset(id, resets);
+    completed.push_reserved(id);
+}
+
 /// Does what an event does, where there is room for what it adds.
 pub fn apply_event(
     event: AssocEvent,
@@ -97,11 +107,7 @@ pub fn apply_event(
             completed.clear();
             Met::Output(SctpEvent::AssociationLost)
         }
-        AssocEvent::Readable(id) => {
-            expect_entry(entries, id);
-            Met::Again
-        }
-        AssocEvent::Writable(id) => {
+        AssocEvent::Readable(id) | AssocEvent::Writable(id) => {
             expect_entry(entries, id);
             Met::Again
         }
@@ -111,8 +117,7 @@ pub fn apply_event(
             Met::Again
         }
         AssocEvent::ResetComplete(id) => {
-            drop_reset(id, resets);
-            completed.push_reserved(id);
+            complete_reset(id, resets, completed);
             Met::Again
         }
         AssocEvent::BufferedAmountLow(id) => Met::Output(SctpEvent::BufferedAmountLow { id }),
