@@ -7,6 +7,7 @@ use Rattle.rtc_assoc_state.specs.Inbox.{MessagePart, is_part_of, is_message_of, 
 use Rattle.rtc_assoc_state.specs.Calls.{first_message_of, messages_behind}
 use Rattle.rtc_assoc_state.proofs.ReadableLemmas.{message_stream}
 use Rattle.rtc_assoc_state.proofs.MessageLists.{not_later_self}
+use Rattle.rtc_assoc_state.proofs.PartLemmas.{bytes_so_far-with, bytes_so_far-with_other}
 use Rattle.rtc_assoc.specs.Unread.{unread, IsPrefix}
 use Rattle.rtc_assoc.proofs.MessageLemmas.{pair_tells, pair_same, message}
 
@@ -125,12 +126,7 @@ unread-taken_other s g t h (x ∷ xs) n = by (is_message_of t h x) (λ e. other_
 
 -- the bytes that came of a message
 pub so_far-with : (s g : ℕ) (bytes : List ℕ) (parts : List MessagePart) → bytes_so_far s g (with_bytes s g bytes parts) ≡ bytes_so_far s g parts ++ bytes
-so_far-with s g bytes [] = rw (pair_same s g) refl
-so_far-with s g bytes (p ∷ parts) =
-    elim (cases_Bool (is_part_of s g p)) [
-      | inl b ↦ rw (b, b) refl
-      | inr b ↦ rw (b, b) (so_far-with s g bytes parts)
-    ]
+so_far-with s g bytes parts = bytes_so_far-with s g bytes parts
 
 other_part : (s g t h : ℕ) (m : MessagePart) → (t ≡ s → h ≡ g → ⊥) → is_part_of t h m ≡ true → is_part_of s g m ≡ false
 other_part s g t h m n e =
@@ -143,12 +139,7 @@ other_part s g t h m n e =
     ]
 
 pub so_far-with_other : (s g t h : ℕ) (bytes : List ℕ) (parts : List MessagePart) → (t ≡ s → h ≡ g → ⊥) → bytes_so_far s g (with_bytes t h bytes parts) ≡ bytes_so_far s g parts
-so_far-with_other s g t h bytes [] n = elim (pair_tells t h s g) [ inl p ↦ absurd (n p.1 p.2) | inr p ↦ rw p.0 refl ]
-so_far-with_other s g t h bytes (p ∷ parts) n = by (is_part_of t h p) (λ e. other_part s g t h p n e) (so_far-with_other s g t h bytes parts n)
-  where
-    by : (b : Bool) → (b ≡ true → is_part_of s g p ≡ false) → bytes_so_far s g (with_bytes t h bytes parts) ≡ bytes_so_far s g parts → bytes_so_far s g (cond b ((record p { bytes = p.bytes ++ bytes }) ∷ parts) (p ∷ with_bytes t h bytes parts)) ≡ bytes_so_far s g (p ∷ parts)
-    by true f e = rw (f refl) refl
-    by false f e = ap (λ l. cond (is_part_of s g p) p.bytes l) e
+so_far-with_other s g t h bytes parts n = bytes_so_far-with_other s g t h bytes parts n
 
 so_far-dropped : (s g : ℕ) (m : MessagePart) (b : Bool) (us : List ℕ) (xs : List MessagePart) → bytes_so_far s g xs ≡ us → (b ≡ true → is_part_of s g m ≡ false) → bytes_so_far s g (cond (not b) (m ∷ xs) xs) ≡ cond (is_part_of s g m) m.bytes us
 so_far-dropped s g m true us xs e f = rw (f refl) e

@@ -15,7 +15,7 @@ ghost use Rattle.rtc_assoc_state.specs.PlainMeaning.{Sends};
 
 use crate::association::PlainAssociation;
 use rtc_assoc_packets::{ItemHeader, ItemPart, Outgoing, Packet};
-use rtc_assoc_state::{CloseState, StreamRow, StreamTable, enqueue, keep_more};
+use rtc_assoc_state::{CloseState, StreamRow, StreamTable, enqueue};
 use rtc_association::AssocEvent;
 use rtc_wire::Moment;
 use std::alloc::AllocError;
@@ -78,7 +78,7 @@ impl PlainAssociation {
         let answer = Packet::acknowledgement(self.alloc, self.received + 1)?;
         self.streams.make_room(row.stream)?;
         self.packets.reserve(1)?;
-        keep_more(self.alloc, &mut self.parts, item, bytes)?;
+        self.parts.keep_more(self.alloc, item, bytes)?;
         count_item(
             &mut self.received,
             &mut self.streams,

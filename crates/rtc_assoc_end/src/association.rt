@@ -8,7 +8,7 @@ ghost use Rattle.rtc_assoc_state.specs.Calls as call;
 ghost use Rattle.rtc_assoc_state.specs.PlainMeaning.{Sends};
 
 use rtc_assoc_packets::{Outgoing, Packet};
-use rtc_assoc_state::{Clock, Limits, Partial, Role, Standing, StreamTable, Unread};
+use rtc_assoc_state::{Clock, Limits, Parts, Role, Standing, StreamTable, Unread};
 use rtc_association::AssocEvent;
 use rtc_wire::{LOCAL_MAX_MESSAGE_SIZE, Moment};
 use std::alloc::Global;
@@ -31,7 +31,7 @@ pub struct PlainAssociation {
     pub(crate) items: VecDeque<Outgoing>,
     pub(crate) amounts: BTreeMap<u16, usize>,
     pub(crate) received: u64,
-    pub(crate) parts: Vec<Partial>,
+    pub(crate) parts: Parts,
     pub(crate) unread: Unread,
     pub(crate) streams: StreamTable,
     pub(crate) events: VecDeque<AssocEvent>,
@@ -49,7 +49,7 @@ impl Model for PlainAssociation {
       standing = a.standing;
       clock = a.clock;
       outbox = record { acked = a.acked; items = a.items.items };
-      inbox = record { received = a.received; parts = a.parts.items; unread = a.unread };
+      inbox = record { received = a.received; parts = a.parts; unread = a.unread };
       streams = a.streams.rows.items;
       events = a.events.items;
       packets = a.packets.items;
@@ -88,7 +88,7 @@ impl PlainAssociation {
             items: VecDeque::new(alloc),
             amounts: BTreeMap::new(alloc),
             received: 0,
-            parts: Vec::new(alloc),
+            parts: Parts::new(alloc),
             unread: Unread::new(alloc),
             streams: StreamTable::new(alloc),
             events: VecDeque::new(alloc),

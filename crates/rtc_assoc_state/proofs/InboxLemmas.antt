@@ -2,7 +2,7 @@
 use Rattle.std.proofs.Common.{ℕ, ◌≡◌, ◌==◌, ◌<◌, Bool, true, false, not, cond, ◌||◌, List, [], ◌∷◌, ◌++◌, length, set, get_or, remove, refl, sym, ap, ◌∙◌, arith, Option, Some, None}
 use Rattle.std.specs.List.{position, list_any}
 use Rattle.rtc_assoc_state.specs.declared.message.Message.{Message}
-use Rattle.rtc_assoc_state.specs.Inbox.{MessagePart, part, is_part_of, is_message_of, bytes_so_far, with_bytes, without_part}
+use Rattle.rtc_assoc_state.specs.Inbox.{MessagePart, part, is_part_of, is_message_of, bytes_so_far, with_more, without_part}
 use Rattle.rtc_assoc_state.specs.Streams.{stream_of}
 use Rattle.rtc_assoc_state.specs.Contents.{Contents}
 use Rattle.rtc_assoc_state.specs.Calls.{first_message_of, messages_behind, next_message, taken_out}
@@ -19,35 +19,35 @@ bytes_so_far-middle : (s g : ℕ) (before after : List MessagePart) (p : Message
 bytes_so_far-middle s g [] after p f e = rw e refl
 bytes_so_far-middle s g (b ∷ before) after p f e = let h = head_fails (is_part_of s g) b before f in rw h.0 (bytes_so_far-middle s g before after p h.1 e)
 
-with_bytes-middle : (s g : ℕ) (bytes : List ℕ) (before after : List MessagePart) (p : MessagePart) → list_any (is_part_of s g) before ≡ false → is_part_of s g p ≡ true → with_bytes s g bytes (before ++ p ∷ after) ≡ before ++ (record p { bytes = p.bytes ++ bytes }) ∷ after
-with_bytes-middle s g bytes [] after p f e = rw e refl
-with_bytes-middle s g bytes (b ∷ before) after p f e = let h = head_fails (is_part_of s g) b before f in rw h.0 (ap (λ l. b ∷ l) (with_bytes-middle s g bytes before after p h.1 e))
+with_more-middle : (s g : ℕ) (bytes : List ℕ) (before after : List MessagePart) (p : MessagePart) → list_any (is_part_of s g) before ≡ false → is_part_of s g p ≡ true → with_more s g bytes (before ++ p ∷ after) ≡ before ++ (record p { bytes = p.bytes ++ bytes }) ∷ after
+with_more-middle s g bytes [] after p f e = rw e refl
+with_more-middle s g bytes (b ∷ before) after p f e = let h = head_fails (is_part_of s g) b before f in rw h.0 (ap (λ l. b ∷ l) (with_more-middle s g bytes before after p h.1 e))
 
-none-bytes_so_far : (s g : ℕ) (parts : List MessagePart) → list_any (is_part_of s g) parts ≡ false → bytes_so_far s g parts ≡ []
+pub none-bytes_so_far : (s g : ℕ) (parts : List MessagePart) → list_any (is_part_of s g) parts ≡ false → bytes_so_far s g parts ≡ []
 none-bytes_so_far s g [] f = refl
 none-bytes_so_far s g (p ∷ parts) f = let h = head_fails (is_part_of s g) p parts f in rw h.0 (none-bytes_so_far s g parts h.1)
 
-none-with_bytes : (s g : ℕ) (bytes : List ℕ) (parts : List MessagePart) → list_any (is_part_of s g) parts ≡ false → with_bytes s g bytes parts ≡ parts ++ part s g bytes ∷ []
-none-with_bytes s g bytes [] f = refl
-none-with_bytes s g bytes (p ∷ parts) f = let h = head_fails (is_part_of s g) p parts f in rw h.0 (ap (λ l. p ∷ l) (none-with_bytes s g bytes parts h.1))
+none-with_more : (s g : ℕ) (bytes : List ℕ) (parts : List MessagePart) → list_any (is_part_of s g) parts ≡ false → with_more s g bytes parts ≡ parts ++ part s g bytes ∷ []
+none-with_more s g bytes [] f = refl
+none-with_more s g bytes (p ∷ parts) f = let h = head_fails (is_part_of s g) p parts f in rw h.0 (ap (λ l. p ∷ l) (none-with_more s g bytes parts h.1))
 
 pub bytes_so_far-found : (s g : ℕ) (parts : List MessagePart) (i : ℕ) (p d : MessagePart) → position (is_part_of s g) parts ≡ Some i → p ≡ get_or parts i d → bytes_so_far s g parts ≡ p.bytes
 bytes_so_far-found s g parts i p d e k =
     let w = at_position (is_part_of s g) parts i p d e k in
     ap (bytes_so_far s g) w.is ∙ bytes_so_far-middle s g w.before w.after p w.fails w.passes
 
-pub with_bytes-found : (s g : ℕ) (bytes : List ℕ) (parts : List MessagePart) (i : ℕ) (p d q : MessagePart) → position (is_part_of s g) parts ≡ Some i → p ≡ get_or parts i d → q ≡ record p { bytes = p.bytes ++ bytes } → set parts i q ≡ with_bytes s g bytes parts
-with_bytes-found s g bytes parts i p d q e k n =
+pub with_more-found : (s g : ℕ) (bytes : List ℕ) (parts : List MessagePart) (i : ℕ) (p d q : MessagePart) → position (is_part_of s g) parts ≡ Some i → p ≡ get_or parts i d → q ≡ record p { bytes = p.bytes ++ bytes } → set parts i q ≡ with_more s g bytes parts
+with_more-found s g bytes parts i p d q e k n =
     let w = at_position (is_part_of s g) parts i p d e k in
     ap (λ l. set l i q) w.is ∙ ap (λ j. set (w.before ++ p ∷ w.after) j q) (sym w.place) ∙ set-middle w.before w.after p q
     ∙ ap (λ x. w.before ++ x ∷ w.after) n
-    ∙ sym (ap (with_bytes s g bytes) w.is ∙ with_bytes-middle s g bytes w.before w.after p w.fails w.passes)
+    ∙ sym (ap (with_more s g bytes) w.is ∙ with_more-middle s g bytes w.before w.after p w.fails w.passes)
 
 pub bytes_so_far-none : (s g : ℕ) (parts : List MessagePart) → position (is_part_of s g) parts ≡ None → bytes_so_far s g parts ≡ []
 bytes_so_far-none s g parts e = none-bytes_so_far s g parts (none_position (is_part_of s g) parts e)
 
-pub with_bytes-none : (s g : ℕ) (bytes : List ℕ) (parts : List MessagePart) → position (is_part_of s g) parts ≡ None → parts ++ part s g bytes ∷ [] ≡ with_bytes s g bytes parts
-with_bytes-none s g bytes parts e = sym (none-with_bytes s g bytes parts (none_position (is_part_of s g) parts e))
+pub with_more-none : (s g : ℕ) (bytes : List ℕ) (parts : List MessagePart) → position (is_part_of s g) parts ≡ None → parts ++ part s g bytes ∷ [] ≡ with_more s g bytes parts
+with_more-none s g bytes parts e = sym (none-with_more s g bytes parts (none_position (is_part_of s g) parts e))
 
 message_in-middle : (s g : ℕ) (before after : List Message) (m : Message) → list_any (is_message_of s g) before ≡ false → is_message_of s g m ≡ true → first_message_of s g (before ++ m ∷ after) ≡ Some m
 message_in-middle s g [] after m f e = rw e refl
@@ -118,7 +118,7 @@ without_part-removed s g parts i e =
     ap (λ l. without_part s g (remove l i)) w.1.is ∙ ap (λ j. without_part s g (remove (w.1.before ++ w.0 ∷ w.1.after) j)) (sym w.1.place)
     ∙ ap (without_part s g) (remove_part-middle w.1.before w.1.after w.0) ∙ without_part-middle s g w.1.before w.1.after w.0 w.1.passes ∙ ap (without_part s g) (sym w.1.is)
 
-fails-without_part : (s g : ℕ) (parts : List MessagePart) → list_any (is_part_of s g) parts ≡ false → parts ≡ without_part s g parts
+pub fails-without_part : (s g : ℕ) (parts : List MessagePart) → list_any (is_part_of s g) parts ≡ false → parts ≡ without_part s g parts
 fails-without_part s g [] f = refl
 fails-without_part s g (p ∷ parts) f = let h = head_fails (is_part_of s g) p parts f in rw h.0 (ap (λ l. p ∷ l) (fails-without_part s g parts h.1))
 
@@ -128,21 +128,21 @@ without_part-none s g parts e = fails-without_part s g parts (none_position (is_
 same_number : (n : ℕ) → (n == n) ≡ true
 same_number n = grind arith
 
-own_part : (s g : ℕ) (bytes : List ℕ) → is_part_of s g (part s g bytes) ≡ true
+pub own_part : (s g : ℕ) (bytes : List ℕ) → is_part_of s g (part s g bytes) ≡ true
 own_part s g bytes = rw (same_number s, same_number g) refl
 
-pub bytes_so_far-with : (s g : ℕ) (bytes : List ℕ) (parts : List MessagePart) → bytes_so_far s g (with_bytes s g bytes parts) ≡ bytes_so_far s g parts ++ bytes
-bytes_so_far-with s g bytes [] = rw (own_part s g bytes) refl
-bytes_so_far-with s g bytes (p ∷ parts) = by (is_part_of s g p) refl (bytes_so_far-with s g bytes parts)
+pub bytes_so_far-with_more : (s g : ℕ) (bytes : List ℕ) (parts : List MessagePart) → bytes_so_far s g (with_more s g bytes parts) ≡ bytes_so_far s g parts ++ bytes
+bytes_so_far-with_more s g bytes [] = rw (own_part s g bytes) refl
+bytes_so_far-with_more s g bytes (p ∷ parts) = by (is_part_of s g p) refl (bytes_so_far-with_more s g bytes parts)
   where
-    by : (b : Bool) → is_part_of s g p ≡ b → bytes_so_far s g (with_bytes s g bytes parts) ≡ bytes_so_far s g parts ++ bytes → bytes_so_far s g (cond b (record p { bytes = p.bytes ++ bytes } ∷ parts) (p ∷ with_bytes s g bytes parts)) ≡ cond b p.bytes (bytes_so_far s g parts) ++ bytes
+    by : (b : Bool) → is_part_of s g p ≡ b → bytes_so_far s g (with_more s g bytes parts) ≡ bytes_so_far s g parts ++ bytes → bytes_so_far s g (cond b (record p { bytes = p.bytes ++ bytes } ∷ parts) (p ∷ with_more s g bytes parts)) ≡ cond b p.bytes (bytes_so_far s g parts) ++ bytes
     by true e h = rw e refl
     by false e h = rw e h
 
-pub without_part-with : (s g : ℕ) (bytes : List ℕ) (parts : List MessagePart) → without_part s g (with_bytes s g bytes parts) ≡ without_part s g parts
-without_part-with s g bytes [] = rw (own_part s g bytes) refl
-without_part-with s g bytes (p ∷ parts) = by (is_part_of s g p) refl (without_part-with s g bytes parts)
+pub without_part-with_more : (s g : ℕ) (bytes : List ℕ) (parts : List MessagePart) → without_part s g (with_more s g bytes parts) ≡ without_part s g parts
+without_part-with_more s g bytes [] = rw (own_part s g bytes) refl
+without_part-with_more s g bytes (p ∷ parts) = by (is_part_of s g p) refl (without_part-with_more s g bytes parts)
   where
-    by : (b : Bool) → is_part_of s g p ≡ b → without_part s g (with_bytes s g bytes parts) ≡ without_part s g parts → without_part s g (cond b (record p { bytes = p.bytes ++ bytes } ∷ parts) (p ∷ with_bytes s g bytes parts)) ≡ cond (not b) (p ∷ without_part s g parts) (without_part s g parts)
+    by : (b : Bool) → is_part_of s g p ≡ b → without_part s g (with_more s g bytes parts) ≡ without_part s g parts → without_part s g (cond b (record p { bytes = p.bytes ++ bytes } ∷ parts) (p ∷ with_more s g bytes parts)) ≡ cond (not b) (p ∷ without_part s g parts) (without_part s g parts)
     by true e h = rw e refl
     by false e h = rw e (ap (λ l. p ∷ l) h)

@@ -4,7 +4,9 @@ pub mod TableLemmas
 pub mod AmountLemmas
 pub mod InboxLemmas
 pub mod MessageLists
+pub mod SplitLemmas
 pub mod QueueLemmas
+pub mod PartLemmas
 pub mod SettlingLemmas
 pub mod RaiseLemmas
 pub mod BufferedLemmas

@@ -21,12 +21,12 @@ key_is s k t = elim (eqb_tells s k) [ inl h ↦ h.1 | inr h ↦ absurd (let x : 
 pub less : (k y : ℕ) → nat_cmp k y ≡ Less → k < y
 less k y e = ranked k y Less (sym e)
 
--- what holds of all messages of a list
-pub all_join : (P : Message → Type 0) (xs ys : List Message) → AllByRecursion P xs → AllByRecursion P ys → AllByRecursion P (xs ++ ys)
+-- what holds of all items of a list
+pub all_join : {M : Type 0} (P : M → Type 0) (xs ys : List M) → AllByRecursion P xs → AllByRecursion P ys → AllByRecursion P (xs ++ ys)
 all_join P [] ys a b = b
 all_join P (x ∷ xs) ys a b = (a.0, all_join P xs ys a.1 b)
 
-pub all_so : (P Q : Message → Type 0) → ((m : Message) → P m → Q m) → (xs : List Message) → AllByRecursion P xs → AllByRecursion Q xs
+pub all_so : {M : Type 0} (P Q : M → Type 0) → ((m : M) → P m → Q m) → (xs : List M) → AllByRecursion P xs → AllByRecursion Q xs
 all_so P Q f [] a = tt
 all_so P Q f (x ∷ xs) a = (f x a.0, all_so P Q f xs a.1)
 
@@ -38,7 +38,7 @@ all_behind P s g (x ∷ xs) a = by (is_message_of s g x) (all_behind P s g xs a.
     by true h = a.1
     by false h = (a.0, h)
 
-all_kept : (P : Message → Type 0) (q : Message → Bool) (xs : List Message) → AllByRecursion P xs → AllByRecursion P (filter q xs)
+pub all_kept : {M : Type 0} (P : M → Type 0) (q : M → Bool) (xs : List M) → AllByRecursion P xs → AllByRecursion P (filter q xs)
 all_kept P q [] a = tt
 all_kept P q (x ∷ xs) a = by (q x) (all_kept P q xs a.1)
   where

@@ -4,8 +4,8 @@ use Rattle.rtc_assoc_packets.specs.declared.item.Item.{Item}
 use Rattle.rtc_assoc_state.specs.declared.message.Message.{Message}
 pub use Rattle.rtc_assoc_state.specs.MessagePart.{MessagePart}
 
--- the number up to which all items came, the messages whose last piece is to come, and the whole messages: by stream, and
--- those of a stream as they came
+-- the number up to which all items came, the messages whose last piece is to come, and the whole messages: each by stream,
+-- and those of a stream as they came
 pub record Inbox : Type 0 where
   pub received : ℕ
   pub parts : List MessagePart
@@ -25,12 +25,27 @@ abbrev pub bytes_so_far : ℕ → ℕ → List MessagePart → List ℕ
 bytes_so_far stream generation [] = []
 bytes_so_far stream generation (p ∷ parts) = if is_part_of stream generation p then p.bytes else bytes_so_far stream generation parts
 
--- with more bytes of that message
-abbrev pub with_bytes : ℕ → ℕ → List ℕ → List MessagePart → List MessagePart
-with_bytes stream generation bytes [] = part stream generation bytes ∷ []
-with_bytes stream generation bytes (p ∷ parts) =
+-- whether a message whose last piece is to come is of a lesser stream, of this one, or of a greater one
+abbrev pub is_part_below : ℕ → MessagePart → Bool
+is_part_below stream p = nat_lt p.stream stream
+
+abbrev pub is_part_on : ℕ → MessagePart → Bool
+is_part_on stream p = p.stream == stream
+
+abbrev pub is_part_above : ℕ → MessagePart → Bool
+is_part_above stream p = nat_lt stream p.stream
+
+-- the messages of one stream, with more bytes of that of a generation
+abbrev pub with_more : ℕ → ℕ → List ℕ → List MessagePart → List MessagePart
+with_more stream generation bytes [] = part stream generation bytes ∷ []
+with_more stream generation bytes (p ∷ parts) =
     if is_part_of stream generation p then record p { bytes = p.bytes ++ bytes } ∷ parts
-    else p ∷ with_bytes stream generation bytes parts
+    else p ∷ with_more stream generation bytes parts
+
+-- the messages of all streams, by stream, with more bytes of that of a generation of one
+abbrev pub with_bytes : ℕ → ℕ → List ℕ → List MessagePart → List MessagePart
+with_bytes stream generation bytes parts =
+    filter (is_part_below stream) parts ++ (with_more stream generation bytes (filter (is_part_on stream) parts) ++ filter (is_part_above stream) parts)
 
 -- without a message of a generation of a stream
 abbrev pub without_part : ℕ → ℕ → List MessagePart → List MessagePart

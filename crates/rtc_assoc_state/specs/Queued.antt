@@ -1,20 +1,28 @@
--- The unread messages as they are kept: a queue for each stream that has some.
+-- What came and is not read, as it is kept: a queue for each stream that has some.
 use Rattle.std.specs.Prelude.{ℕ, ◌≡◌, ◌<◌, List, [], ◌∷◌, ◌++◌, Some}
 use Rattle.std.specs.List.{AllByRecursion}
 use Rattle.std.specs.Ordering.{nat_cmp}
 use Rattle.std.specs.BTreeMap.{BTreeMap, IsOrdered, get}
 use Rattle.rtc_assoc_state.specs.declared.message.Message.{Message}
+use Rattle.rtc_assoc_state.specs.MessagePart.{MessagePart}
 
-module _ {Q : Type 0} (items : Q → List Message) where
-  -- the messages of all queues, one queue after the other
-  abbrev pub all_queued : List (ℕ × Q) → List Message
+-- the streams of which messages are
+abbrev pub stream_of_message : Message → ℕ
+stream_of_message m = m.stream
+
+abbrev pub stream_of_part : MessagePart → ℕ
+stream_of_part p = p.stream
+
+module _ {M Q : Type 0} (items : Q → List M) where
+  -- what is in all queues, one queue after the other
+  abbrev pub all_queued : List (ℕ × Q) → List M
   all_queued [] = []
   all_queued (e ∷ entries) = items e.1 ++ all_queued entries
 
-  -- the queues stand by stream, and each has messages of its stream alone
-  pub record SoundQueues (queues : BTreeMap ℕ Q) : Type 0 where
+  -- the queues stand by stream, and what is in each is of its stream alone
+  pub record SoundQueues (stream : M → ℕ) (queues : BTreeMap ℕ Q) : Type 0 where
     pub ordered : IsOrdered nat_cmp queues
-    pub own : AllByRecursion (λ e. AllByRecursion (λ m. m.stream ≡ e.0) (items e.1)) queues.entries
+    pub own : AllByRecursion (λ e. AllByRecursion (λ m. stream m ≡ e.0) (items e.1)) queues.entries
 
 -- the queue of a stream has room for one more message
 pub record TakesOneMore {Q : Type 0} (len capacity : Q → ℕ) (stream : ℕ) (queues : BTreeMap ℕ Q) : Type 0 where

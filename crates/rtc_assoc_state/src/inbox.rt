@@ -1,6 +1,6 @@
 //! Messages that came and are not read.
 ghost use Rattle.std.specs.Prelude.{◌≡◌, OnOk, OnErr, position};
-ghost use Rattle.rtc_assoc_state.specs.Inbox.{bytes_so_far, with_bytes, without_part, without_messages};
+ghost use Rattle.rtc_assoc_state.specs.Inbox.{bytes_so_far, with_more, without_part, without_messages};
 ghost use Rattle.rtc_assoc_state.specs.Inbox.{is_part_of, is_message_of};
 ghost use Rattle.rtc_assoc_state.specs.Calls.{first_message_of, messages_behind};
 
@@ -25,7 +25,7 @@ pub fn keep_more(
     item: ItemHeader,
     bytes: &[u8],
 ) -> Result<(), AllocError>
-    ensures ok { OnOk result (parts.new.items ≡ with_bytes item.stream item.generation bytes.now parts.old.items) }
+    ensures ok { OnOk result (parts.new.items ≡ with_more item.stream item.generation bytes.now parts.old.items) }
     ensures err { OnErr result (parts.new.items ≡ parts.old.items) }
 {
     match place_of(parts.as_slice(), item.stream, item.generation) {
@@ -41,7 +41,7 @@ pub fn keep_more(
     Ok(())
 }
 
-/// Takes out what came of a message: its bytes, joined.
+/// Takes out what came of a message: its bytes, joined where they stand.
 pub fn take_part(alloc: Global, parts: &mut Vec<Partial>, stream: u16, generation: u32) -> Bytes
     ensures bytes { result ≡ bytes_so_far stream generation parts.old.items }
     ensures rest { parts.new.items ≡ without_part stream generation parts.old.items }
@@ -54,6 +54,13 @@ pub fn take_part(alloc: Global, parts: &mut Vec<Partial>, stream: u16, generatio
             part.into_bytes()
         }
     }
+}
+
+/// Drops what came of a message.
+pub fn drop_part(parts: &mut Vec<Partial>, stream: u16, generation: u32)
+    ensures { parts.new.items ≡ without_part stream generation parts.old.items }
+{
+    parts.retain(|p| !p.is_of(stream, generation));
 }
 
 /// Drops the messages of a generation of a stream.

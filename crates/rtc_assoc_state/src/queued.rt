@@ -6,7 +6,7 @@ ghost use Rattle.std.specs.BTreeMap.{get};
 ghost use Rattle.std.specs.VecDeque.{deque_items, deque_len, deque_capacity};
 ghost use Rattle.rtc_assoc_state.specs.Inbox.{with_message, without_messages};
 ghost use Rattle.rtc_assoc_state.specs.Calls.{first_message_of, messages_behind};
-ghost use Rattle.rtc_assoc_state.specs.Queued.{all_queued, SoundQueues, TakesOneMore};
+ghost use Rattle.rtc_assoc_state.specs.Queued.{all_queued, SoundQueues, TakesOneMore, stream_of_message};
 
 use crate::inbox::{drop_messages, take_out};
 use crate::message::Message;
@@ -20,10 +20,10 @@ fn begin(
     queues: &mut BTreeMap<u16, VecDeque<Message>>,
     stream: u16,
 ) -> Result<(), AllocError>
-    requires sound { SoundQueues deque_items queues.old }
+    requires sound { SoundQueues deque_items stream_of_message queues.old }
     requires absent { get nat_cmp queues.old stream ≡ None }
     ensures same { all_queued deque_items queues.new.entries ≡ all_queued deque_items queues.old.entries }
-    ensures sound { SoundQueues deque_items queues.new }
+    ensures sound { SoundQueues deque_items stream_of_message queues.new }
     ensures room { OnOk result (TakesOneMore deque_len deque_capacity stream queues.new) }
 {
     let queue = VecDeque::with_capacity(alloc, 1)?;
@@ -33,9 +33,9 @@ fn begin(
 
 /// Makes room in the queue of a stream that has one.
 fn grow(queues: &mut BTreeMap<u16, VecDeque<Message>>, stream: u16) -> Result<(), AllocError>
-    requires { SoundQueues deque_items queues.old }
+    requires { SoundQueues deque_items stream_of_message queues.old }
     ensures same { all_queued deque_items queues.new.entries ≡ all_queued deque_items queues.old.entries }
-    ensures sound { SoundQueues deque_items queues.new }
+    ensures sound { SoundQueues deque_items stream_of_message queues.new }
     ensures room { OnOk result (TakesOneMore deque_len deque_capacity stream queues.new) }
 {
     match queues.get_mut(&stream) {
@@ -50,9 +50,9 @@ pub fn make_room(
     queues: &mut BTreeMap<u16, VecDeque<Message>>,
     stream: u16,
 ) -> Result<(), AllocError>
-    requires { SoundQueues deque_items queues.old }
+    requires { SoundQueues deque_items stream_of_message queues.old }
     ensures same { all_queued deque_items queues.new.entries ≡ all_queued deque_items queues.old.entries }
-    ensures sound { SoundQueues deque_items queues.new }
+    ensures sound { SoundQueues deque_items stream_of_message queues.new }
     ensures room { OnOk result (TakesOneMore deque_len deque_capacity stream queues.new) }
 {
     if queues.contains_key(&stream) {
@@ -63,11 +63,11 @@ pub fn make_room(
 
 /// Puts a message at the end of the queue of its stream, in room that was made.
 pub fn put(queues: &mut BTreeMap<u16, VecDeque<Message>>, message: Message)
-    requires sound { SoundQueues deque_items queues.old }
+    requires sound { SoundQueues deque_items stream_of_message queues.old }
     requires room { TakesOneMore deque_len deque_capacity message.stream queues.old }
     ensures messages { all_queued deque_items queues.new.entries
         ≡ with_message message (all_queued deque_items queues.old.entries) }
-    ensures sound { SoundQueues deque_items queues.new }
+    ensures sound { SoundQueues deque_items stream_of_message queues.new }
 {
     match queues.get_mut(&message.stream) {
         None => unreachable!(),
@@ -81,11 +81,11 @@ fn take_first(
     stream: u16,
     generation: u32,
 ) -> Option<Message>
-    requires { SoundQueues deque_items queues.old }
+    requires { SoundQueues deque_items stream_of_message queues.old }
     ensures message { result ≡ first_message_of stream generation (all_queued deque_items queues.old.entries) }
     ensures rest { all_queued deque_items queues.new.entries
         ≡ messages_behind stream generation (all_queued deque_items queues.old.entries) }
-    ensures sound { SoundQueues deque_items queues.new }
+    ensures sound { SoundQueues deque_items stream_of_message queues.new }
 {
     match queues.get_mut(&stream) {
         None => None,
@@ -95,10 +95,10 @@ fn take_first(
 
 /// Drops the messages of a generation of a stream.
 fn drop_all(queues: &mut BTreeMap<u16, VecDeque<Message>>, stream: u16, generation: u32)
-    requires { SoundQueues deque_items queues.old }
+    requires { SoundQueues deque_items stream_of_message queues.old }
     ensures rest { all_queued deque_items queues.new.entries
         ≡ without_messages stream generation (all_queued deque_items queues.old.entries) }
-    ensures sound { SoundQueues deque_items queues.new }
+    ensures sound { SoundQueues deque_items stream_of_message queues.new }
 {
     match queues.get_mut(&stream) {
         None => {}
@@ -118,9 +118,9 @@ fn is_drained(queues: &BTreeMap<u16, VecDeque<Message>>, stream: u16) -> bool
 
 /// Lets the queue of a stream go where it is empty.
 fn release(queues: &mut BTreeMap<u16, VecDeque<Message>>, stream: u16)
-    requires { SoundQueues deque_items queues.old }
+    requires { SoundQueues deque_items stream_of_message queues.old }
     ensures same { all_queued deque_items queues.new.entries ≡ all_queued deque_items queues.old.entries }
-    ensures sound { SoundQueues deque_items queues.new }
+    ensures sound { SoundQueues deque_items stream_of_message queues.new }
 {
     if is_drained(queues, stream) {
         queues.remove(&stream);
@@ -133,11 +133,11 @@ pub fn take(
     stream: u16,
     generation: u32,
 ) -> Option<Message>
-    requires { SoundQueues deque_items queues.old }
+    requires { SoundQueues deque_items stream_of_message queues.old }
     ensures message { result ≡ first_message_of stream generation (all_queued deque_items queues.old.entries) }
     ensures rest { all_queued deque_items queues.new.entries
         ≡ messages_behind stream generation (all_queued deque_items queues.old.entries) }
-    ensures sound { SoundQueues deque_items queues.new }
+    ensures sound { SoundQueues deque_items stream_of_message queues.new }
 {
     let message = take_first(queues, stream, generation);
     release(queues, stream);
@@ -146,10 +146,10 @@ pub fn take(
 
 /// Drops the messages of a generation of a stream, and its queue where nothing is left of it.
 pub fn forget_messages(queues: &mut BTreeMap<u16, VecDeque<Message>>, stream: u16, generation: u32)
-    requires { SoundQueues deque_items queues.old }
+    requires { SoundQueues deque_items stream_of_message queues.old }
     ensures rest { all_queued deque_items queues.new.entries
         ≡ without_messages stream generation (all_queued deque_items queues.old.entries) }
-    ensures sound { SoundQueues deque_items queues.new }
+    ensures sound { SoundQueues deque_items stream_of_message queues.new }
 {
     drop_all(queues, stream, generation);
     release(queues, stream);

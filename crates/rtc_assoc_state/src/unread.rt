@@ -4,9 +4,8 @@ ghost use Rattle.rtc_assoc_packets.specs.Headers.{item_with};
 ghost use Rattle.rtc_assoc_state.specs.Inbox.{bytes_so_far, without_part, with_message, without_messages, message_of};
 ghost use Rattle.rtc_assoc_state.specs.Calls.{first_message_of, messages_behind};
 
-use crate::inbox::{keep_more, take_part};
 use crate::message::Message;
-use crate::partial::Partial;
+use crate::parts::Parts;
 use crate::queued::{forget_messages, make_room, put, take};
 use rtc_assoc_packets::ItemHeader;
 use std::alloc::{AllocError, Global};
@@ -23,13 +22,13 @@ impl Model for Unread {
     ghost use Rattle.std.specs.Prelude.{List};
     ghost use Rattle.std.specs.VecDeque.{deque_items};
     ghost use Rattle.rtc_assoc_state.specs.declared.message.Message.{Message};
-    ghost use Rattle.rtc_assoc_state.specs.Queued.{all_queued, SoundQueues};
+    ghost use Rattle.rtc_assoc_state.specs.Queued.{all_queued, SoundQueues, stream_of_message};
 
     ghost Value = { List Message };
 
     ghost view = { λ u. all_queued deque_items u.queues.entries };
 
-    ghost invariant = { λ u. SoundQueues deque_items u.queues };
+    ghost invariant = { λ u. SoundQueues deque_items stream_of_message u.queues };
 }
 
 impl Unread {
@@ -46,23 +45,23 @@ impl Unread {
     pub fn keep_last(
         &mut self,
         alloc: Global,
-        parts: &mut Vec<Partial>,
+        parts: &mut Parts,
         item: ItemHeader,
         bytes: &[u8],
     ) -> Result<(), AllocError>
-        ensures parts { OnOk result (parts.new.items ≡ without_part item.stream item.generation parts.old.items) }
+        ensures parts { OnOk result (parts.new ≡ without_part item.stream item.generation parts.old) }
         ensures unread { OnOk result (self.new
             ≡ with_message (message_of (item_with item bytes.now)
-            (bytes_so_far item.stream item.generation parts.old.items ++ bytes.now)) self.old) }
-        ensures same_parts { OnErr result (parts.new.items ≡ parts.old.items) }
+            (bytes_so_far item.stream item.generation parts.old ++ bytes.now)) self.old) }
+        ensures same_parts { OnErr result (parts.new ≡ parts.old) }
         ensures same_unread { OnErr result (self.new ≡ self.old) }
     {
         let stream = item.stream;
         let generation = item.generation;
         let identifier = item.identifier;
         make_room(alloc, &mut self.queues, stream)?;
-        keep_more(alloc, parts, item, bytes)?;
-        let bytes = take_part(alloc, parts, stream, generation);
+        parts.keep_more(alloc, item, bytes)?;
+        let bytes = parts.take(alloc, stream, generation);
         put(
             &mut self.queues,
             Message {
@@ -76,11 +75,11 @@ impl Unread {
     }
 
     /// Drops what came of a generation of a stream.
-    pub fn forget(&mut self, parts: &mut Vec<Partial>, stream: u16, generation: u32)
-        ensures parts { parts.new.items ≡ without_part stream generation parts.old.items }
+    pub fn forget(&mut self, parts: &mut Parts, stream: u16, generation: u32)
+        ensures parts { parts.new ≡ without_part stream generation parts.old }
         ensures unread { self.new ≡ without_messages stream generation self.old }
     {
-        parts.retain(|p| !p.is_of(stream, generation));
+        parts.forget(stream, generation);
         forget_messages(&mut self.queues, stream, generation);
     }
 

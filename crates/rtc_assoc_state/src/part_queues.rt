@@ -1,0 +1,153 @@
+//! Queues of messages whose last piece is to come, by stream.
+ghost use Rattle.std.specs.Prelude.{◌≡◌, [], None, IsSome, OnOk, OnErr, IfSome};
+ghost use Rattle.std.specs.Bool.{OnTrue};
+ghost use Rattle.std.specs.Ordering.{nat_cmp};
+ghost use Rattle.std.specs.BTreeMap.{get};
+ghost use Rattle.std.specs.Vec.{vec_items};
+ghost use Rattle.rtc_assoc_state.specs.Inbox.{bytes_so_far, with_bytes, without_part};
+ghost use Rattle.rtc_assoc_state.specs.Queued.{all_queued, SoundQueues, stream_of_part};
+
+use crate::inbox::{drop_part, keep_more, take_part};
+use crate::partial::Partial;
+use rtc_assoc_packets::ItemHeader;
+use rtc_wire::Bytes;
+use std::alloc::{AllocError, Global};
+use std::collections::BTreeMap;
+
+/// Begins the queue of a stream that has none.
+fn begin(
+    alloc: Global,
+    queues: &mut BTreeMap<u16, Vec<Partial>>,
+    stream: u16,
+) -> Result<(), AllocError>
+    requires sound { SoundQueues vec_items stream_of_part queues.old }
+    requires absent { get nat_cmp queues.old stream ≡ None }
+    ensures same { all_queued vec_items queues.new.entries ≡ all_queued vec_items queues.old.entries }
+    ensures sound { SoundQueues vec_items stream_of_part queues.new }
+    ensures there { OnOk result (IsSome (get nat_cmp queues.new stream)) }
+{
+    let queue = Vec::new(alloc);
+    queues.insert(stream, queue)?;
+    Ok(())
+}
+
+/// Begins the queue of a stream where it has none.
+pub fn begin_parts(
+    alloc: Global,
+    queues: &mut BTreeMap<u16, Vec<Partial>>,
+    stream: u16,
+) -> Result<(), AllocError>
+    requires { SoundQueues vec_items stream_of_part queues.old }
+    ensures same { all_queued vec_items queues.new.entries ≡ all_queued vec_items queues.old.entries }
+    ensures sound { SoundQueues vec_items stream_of_part queues.new }
+    ensures there { OnOk result (IsSome (get nat_cmp queues.new stream)) }
+{
+    if queues.contains_key(&stream) {
+        return Ok(());
+    }
+    begin(alloc, queues, stream)
+}
+
+/// Keeps a piece with more to come in the queue of its stream, which was begun.
+pub fn add_piece(
+    alloc: Global,
+    queues: &mut BTreeMap<u16, Vec<Partial>>,
+    item: ItemHeader,
+    bytes: &[u8],
+) -> Result<(), AllocError>
+    requires sound { SoundQueues vec_items stream_of_part queues.old }
+    requires there { IsSome (get nat_cmp queues.old item.stream) }
+    ensures ok { OnOk result (all_queued vec_items queues.new.entries
+        ≡ with_bytes item.stream item.generation bytes.now (all_queued vec_items queues.old.entries)) }
+    ensures left { OnOk result (without_part item.stream item.generation (all_queued vec_items queues.new.entries)
+        ≡ without_part item.stream item.generation (all_queued vec_items queues.old.entries)) }
+    ensures err { OnErr result (all_queued vec_items queues.new.entries ≡ all_queued vec_items queues.old.entries) }
+    ensures sound { SoundQueues vec_items stream_of_part queues.new }
+{
+    match queues.get_mut(&item.stream) {
+        None => unreachable!(),
+        Some(parts) => keep_more(alloc, parts, item, bytes),
+    }
+}
+
+/// Takes out what came of a message: its bytes, joined.
+fn take_joined(
+    alloc: Global,
+    queues: &mut BTreeMap<u16, Vec<Partial>>,
+    stream: u16,
+    generation: u32,
+) -> Bytes
+    requires { SoundQueues vec_items stream_of_part queues.old }
+    ensures bytes { result ≡ bytes_so_far stream generation (all_queued vec_items queues.old.entries) }
+    ensures rest { all_queued vec_items queues.new.entries
+        ≡ without_part stream generation (all_queued vec_items queues.old.entries) }
+    ensures sound { SoundQueues vec_items stream_of_part queues.new }
+{
+    match queues.get_mut(&stream) {
+        None => Bytes::new(Vec::new(alloc)),
+        Some(parts) => take_part(alloc, parts, stream, generation),
+    }
+}
+
+/// Drops what came of a message.
+fn drop_joined(queues: &mut BTreeMap<u16, Vec<Partial>>, stream: u16, generation: u32)
+    requires { SoundQueues vec_items stream_of_part queues.old }
+    ensures rest { all_queued vec_items queues.new.entries
+        ≡ without_part stream generation (all_queued vec_items queues.old.entries) }
+    ensures sound { SoundQueues vec_items stream_of_part queues.new }
+{
+    match queues.get_mut(&stream) {
+        None => {}
+        Some(parts) => drop_part(parts, stream, generation),
+    }
+}
+
+/// Whether a stream has a queue that is empty.
+fn has_no_parts(queues: &BTreeMap<u16, Vec<Partial>>, stream: u16) -> bool
+    ensures { OnTrue result (IfSome (get nat_cmp queues.now stream) (λ queue. queue.items ≡ [])) }
+{
+    match queues.get(&stream) {
+        None => false,
+        Some(queue) => queue.is_empty(),
+    }
+}
+
+/// Lets the queue of a stream go where it is empty.
+fn release_parts(queues: &mut BTreeMap<u16, Vec<Partial>>, stream: u16)
+    requires { SoundQueues vec_items stream_of_part queues.old }
+    ensures same { all_queued vec_items queues.new.entries ≡ all_queued vec_items queues.old.entries }
+    ensures sound { SoundQueues vec_items stream_of_part queues.new }
+{
+    if has_no_parts(queues, stream) {
+        queues.remove(&stream);
+    }
+}
+
+/// Takes out what came of a message, joined; the last message of a stream takes its queue along.
+pub fn join_parts(
+    alloc: Global,
+    queues: &mut BTreeMap<u16, Vec<Partial>>,
+    stream: u16,
+    generation: u32,
+) -> Bytes
+    requires { SoundQueues vec_items stream_of_part queues.old }
+    ensures bytes { result ≡ bytes_so_far stream generation (all_queued vec_items queues.old.entries) }
+    ensures rest { all_queued vec_items queues.new.entries
+        ≡ without_part stream generation (all_queued vec_items queues.old.entries) }
+    ensures sound { SoundQueues vec_items stream_of_part queues.new }
+{
+    let bytes = take_joined(alloc, queues, stream, generation);
+    release_parts(queues, stream);
+    bytes
+}
+
+/// Drops what came of a message, and the queue of its stream where nothing is left of it.
+pub fn forget_part(queues: &mut BTreeMap<u16, Vec<Partial>>, stream: u16, generation: u32)
+    requires { SoundQueues vec_items stream_of_part queues.old }
+    ensures rest { all_queued vec_items queues.new.entries
+        ≡ without_part stream generation (all_queued vec_items queues.old.entries) }
+    ensures sound { SoundQueues vec_items stream_of_part queues.new }
+{
+    drop_joined(queues, stream, generation);
+    release_parts(queues, stream);
+}
