@@ -98,6 +98,11 @@ def associations():
         for size in (16_384, 262_144):
             more = cost("message", size, streams) - start
             print(f"| {streams:,} | {size:,} | {more:,} | {more / size:.1f} |")
+    print("\n| Streams with a piece to come each | Instructions | A stream |\n|---|---|---|")
+    start = cost("pieces", 0)
+    for streams in (300, 3_000, 30_000):
+        more = cost("pieces", streams) - start
+        print(f"| {streams:,} | {more:,} | {more // streams:,} |")
     print("\n| Streams reset one after another | Instructions | A stream |\n|---|---|---|")
     start = cost("resets", 0)
     for streams in (300, 3_000, 30_000):

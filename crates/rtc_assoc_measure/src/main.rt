@@ -7,7 +7,7 @@ mod work;
 use rtc_io::{OUT_OF_MEMORY, collect_words};
 use std::process::ExitCode;
 pub use two_ends::TwoEnds;
-pub use work::{forged, message, resets};
+pub use work::{forged, message, pieces, resets};
 
 /// A number of the command line; 0 where it is none.
 fn number(words: &[String], place: usize) -> u32 {
@@ -36,6 +36,8 @@ fn main(rt: HostRuntime) -> ExitCode {
         message(rt.alloc(), first, second)
     } else if is_asked(words, "forged") {
         forged(rt.alloc(), first)
+    } else if is_asked(words, "pieces") {
+        pieces(rt.alloc(), first)
     } else {
         resets(rt.alloc(), first)
     };

@@ -76,12 +76,48 @@ impl TwoEnds {
     pub fn forge(&mut self, alloc: Global, packets: u32) -> Result<usize, AssocError> {
         let mut number = 1u64;
         for generation in 1..=packets {
-            let packet = forged(alloc, number, generation)?;
+            let packet = piece(alloc, number, 0, generation, 1)?;
             give(&mut self.right, packet.as_slice())?;
             number = awaited(&mut self.right);
             drop_events(&mut self.right);
         }
         Ok(number.saturating_sub(1) as usize)
+    }
+
+    /// Gives the right end a message of two pieces on each of so many streams, first every first piece and then every last
+    /// one. It answers how many of the messages are read whole.
+    pub fn interleave(&mut self, alloc: Global, streams: u16) -> Result<usize, AssocError> {
+        let mut number = 1u64;
+        for id in 0..streams {
+            self.give_piece(alloc, number, id, 0)?;
+            number = number.saturating_add(1);
+        }
+        for id in 0..streams {
+            self.give_piece(alloc, number, id, 1)?;
+            number = number.saturating_add(1);
+        }
+        let mut count = 0usize;
+        for id in 0..streams {
+            if self.read(id)? == 200 {
+                count = count.saturating_add(1);
+            }
+        }
+        Ok(count)
+    }
+
+    /// Gives the right end a piece that somebody else made, and drops what it answers.
+    fn give_piece(
+        &mut self,
+        alloc: Global,
+        number: u64,
+        id: u16,
+        part: u8,
+    ) -> Result<(), AssocError> {
+        let packet = piece(alloc, number, id, 0, part)?;
+        give(&mut self.right, packet.as_slice())?;
+        let _ = self.right.poll_transmit();
+        drop_events(&mut self.right);
+        Ok(())
     }
 
     /// How many resets of a stream both ends completed.
@@ -90,15 +126,21 @@ impl TwoEnds {
     }
 }
 
-/// A data packet with a message of 100 bytes.
-fn forged(alloc: Global, number: u64, generation: u32) -> Result<Vec<u8>, AllocError> {
+/// A data packet with 100 bytes of a message.
+fn piece(
+    alloc: Global,
+    number: u64,
+    id: u16,
+    generation: u32,
+    part: u8,
+) -> Result<Vec<u8>, AllocError> {
     let mut bytes = Vec::with_capacity(alloc, 128)?;
     bytes.push(3)?;
     bytes.extend_from_slice(&0u64.to_be_bytes())?;
     bytes.extend_from_slice(&number.to_be_bytes())?;
-    bytes.extend_from_slice(&0u16.to_be_bytes())?;
+    bytes.extend_from_slice(&id.to_be_bytes())?;
     bytes.extend_from_slice(&generation.to_be_bytes())?;
-    bytes.push(1)?;
+    bytes.push(part)?;
     bytes.extend_from_slice(&53u32.to_be_bytes())?;
     bytes.extend_from_slice(&[7; 100])?;
     Ok(bytes)

@@ -22,6 +22,13 @@ pub fn forged(alloc: Global, packets: u32) -> Result<usize, AssocError> {
     ends.forge(alloc, packets)
 }
 
+/// A message of two pieces on each of so many streams, of which every first piece comes before every last one. It answers
+/// how many came whole.
+pub fn pieces(alloc: Global, streams: u32) -> Result<usize, AssocError> {
+    let mut ends = TwoEnds::connected(alloc)?;
+    ends.interleave(alloc, streams.min(65_535) as u16)
+}
+
 /// So many streams, each opened, used, closed and reset before the next. It answers how many were reset.
 pub fn resets(alloc: Global, streams: u32) -> Result<usize, AssocError> {
     let mut ends = TwoEnds::connected(alloc)?;

@@ -45,7 +45,8 @@ with_more stream generation bytes (p ∷ parts) =
 -- the messages of all streams, by stream, with more bytes of that of a generation of one
 abbrev pub with_bytes : ℕ → ℕ → List ℕ → List MessagePart → List MessagePart
 with_bytes stream generation bytes parts =
-    filter (is_part_below stream) parts ++ (with_more stream generation bytes (filter (is_part_on stream) parts) ++ filter (is_part_above stream) parts)
+    filter (is_part_below stream) parts
+    ++ (with_more stream generation bytes (filter (is_part_on stream) parts) ++ filter (is_part_above stream) parts)
 
 -- without a message of a generation of a stream
 abbrev pub without_part : ℕ → ℕ → List MessagePart → List MessagePart
