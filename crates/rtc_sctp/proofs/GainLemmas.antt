@@ -28,6 +28,7 @@ use Rattle.rtc_sctp.specs.Entries.{config_or_fresh, is_short_entry, is_out_of_ba
 use Rattle.rtc_sctp.specs.Visits.{
   Turn,
   turn_work,
+  given_config,
   Marks,
   Starves,
   TellsClose,
@@ -223,7 +224,7 @@ module _ {S : Type 0} (m : AssociationMeaning S) (w : AssociationLaws m) where
 
   taken_as : (r : ReadMessage) (t : Turn S) (met : Met) (t' : Turn S) → t.entry.state ≡ AwaitConfig → t.entry.marked ≡ false → TakenAs m r t met t' → Gains met 0 (turn_work m t) (turn_work m t')
   taken_as (read.Open label config) t met t' c n h =
-      let u = record t { entry = record t.entry { config = Some config } } in
+      let u = record t { entry = record t.entry { config = given_config t.entry.config config } } in
       let before = config_credit t c in
       let behind = config_credit u c in
       gains_from met 0 0 (turn_work m t) (turn_work m u) (turn_work m t') (omega (arith, before, behind)) (omega (arith, before, behind)) (takes_up label u met t' c n h)

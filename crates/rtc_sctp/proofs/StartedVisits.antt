@@ -20,6 +20,7 @@ use Rattle.rtc_sctp.specs.declared.met.Met.{Met}
 use Rattle.rtc_sctp.specs.Entries.{is_short_entry, is_out_of_band}
 use Rattle.rtc_sctp.specs.Visits.{
   Turn,
+  given_config,
   ClosedBy,
   Closes,
   NoRoom,
@@ -138,7 +139,7 @@ module _ {S : Type 0} (m : AssociationMeaning S) (w : AssociationLaws m) where
   takes_up label t met t' s h = taken_up h.answer label (record t { association = h.between }) met t' (started_reliability m w t.association h.between t.entry.id _ _ _ h.asks.result s h.asks.called) h.then
 
   taken_as : (r : ReadMessage) (t : Turn S) (met : Met) (t' : Turn S) → m.started t.association ≡ true → TakenAs m r t met t' → m.started t'.association ≡ true
-  taken_as (read.Open label config) t met t' s h = takes_up label (record t { entry = record t.entry { config = Some config } }) met t' s h
+  taken_as (read.Open label config) t met t' s h = takes_up label (record t { entry = record t.entry { config = given_config t.entry.config config } }) met t' s h
   taken_as read.Malformed t met t' s h = same _ t' h.1 s
   taken_as read.OutOfMemory t met t' s h = same _ t' h.1 s
 

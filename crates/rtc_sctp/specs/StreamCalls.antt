@@ -57,9 +57,14 @@ module _ {S : Type 0} (m : AssociationMeaning S) where
     Answered : (answer : Asked) → can_take p e.id config ≡ true → AsksReliability m p e.id config answer q
         → ConfigBy answer config e r e' → TakesConfig config p e r q e'
 
+  -- a stream that waits for its config is opened: one that has a config, which its reliability was refused for, is marked
+  abbrev pub OpensAwaiting : Bool → ChannelConfig → S → StreamEntry → Result (Unit {0}) AllocError → S → StreamEntry → Type 0
+  OpensAwaiting true config p e r q e' = (r ≡ Ok tt) × (q ≡ p) × (e' ≡ marked_entry e)
+  OpensAwaiting false config p e r q e' = TakesConfig config p e r q e'
+
   -- a stream that has an entry is opened: it is marked, but for one that waits for its config
   abbrev pub OpensOver : StreamEntryState → ChannelConfig → S → StreamEntry → Result (Unit {0}) AllocError → S → StreamEntry → Type 0
-  OpensOver AwaitConfig config p e r q e' = TakesConfig config p e r q e'
+  OpensOver AwaitConfig config p e r q e' = OpensAwaiting (is_some e.config) config p e r q e'
   OpensOver AwaitOpen config p e r q e' = (r ≡ Ok tt) × (q ≡ p) × (e' ≡ marked_entry e)
   OpensOver AwaitDcepAck config p e r q e' = (r ≡ Ok tt) × (q ≡ p) × (e' ≡ marked_entry e)
   OpensOver Open config p e r q e' = (r ≡ Ok tt) × (q ≡ p) × (e' ≡ marked_entry e)

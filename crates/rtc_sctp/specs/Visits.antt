@@ -93,6 +93,11 @@ ReadsOpen bytes (read.Open label config) =
 ReadsOpen bytes read.Malformed = refusal_of bytes ≢ None
 ReadsOpen bytes read.OutOfMemory = Unit {0}
 
+-- the open message of the other end gives an entry its config, where it has none
+abbrev pub given_config : Option ChannelConfig → ChannelConfig → Option ChannelConfig
+given_config None config = Some config
+given_config (Some own) config = Some own
+
 -- what only an entry has to do with
 abbrev pub ForEntry : {S : Type 0} → (StreamEntry → Met → StreamEntry → Type 0) → Turn S → Met → Turn S → Type 0
 ForEntry R t met t' = R t.entry met t'.entry × (t' ≡ record t { entry = t'.entry })
@@ -203,9 +208,11 @@ module _ {S : Type 0} (m : AssociationMeaning S) where
     pub asks : AsksReliability m t.association t.entry.id (config_or_fresh t.entry.config) answer between
     pub then : TakenUpBy answer label (record t { association = between }) met t'
 
-  -- an open message is taken: the config that it gives is taken up, and a malformed one marks the entry
+  -- an open message is taken: the config of the entry, which it gives where there was none, is taken up, and a malformed
+  -- message marks the entry
   abbrev pub TakenAs : ReadMessage → Turn S → Met → Turn S → Type 0
-  TakenAs (read.Open label config) t met t' = TakesUp label (record t { entry = record t.entry { config = Some config } }) met t'
+  TakenAs (read.Open label config) t met t' =
+      TakesUp label (record t { entry = record t.entry { config = given_config t.entry.config config } }) met t'
   TakenAs read.Malformed t met t' = Marks t met t'
   TakenAs read.OutOfMemory t met t' = Starves t met t'
 

@@ -2,7 +2,7 @@
 ghost use Rattle.std.specs.Prelude.{◌≡◌, true};
 ghost use Rattle.rtc_sctp.specs.declared.met.Met.TheVariants.{Output};
 ghost use Rattle.rtc_sctp.specs.declared.sctp_event.SctpEvent.TheVariants.{Data};
-ghost use Rattle.rtc_sctp.specs.Visits.{turn, Acknowledges, TakesUp, TakesOpen, TakesAck, TakesDcep, TakesStreamMessage, ReadsOpen};
+ghost use Rattle.rtc_sctp.specs.Visits.{turn, Acknowledges, TakesUp, TakesOpen, TakesAck, TakesDcep, TakesStreamMessage, ReadsOpen, given_config};
 
 use crate::asked::Asked;
 use crate::closing::{close_entry, mark};
@@ -74,6 +74,16 @@ fn read_open(alloc: Global, bytes: &[u8]) -> ReadMessage
     }
 }
 
+// The open message of the other end gives an entry its config, where it has none.
+fn give_config(entry: &mut StreamEntry, config: ChannelConfig)
+    ensures { entry.new ≡ record entry.old { config = given_config entry.old.config config } }
+{
+    match &entry.config {
+        None => entry.config = Some(config),
+        Some(_) => {}
+    }
+}
+
 // Takes an open message.
 fn take_open<S: Association>(
     alloc: Global,
@@ -88,7 +98,7 @@ fn take_open<S: Association>(
 {
     match read_open(alloc, bytes) {
         ReadMessage::Open(label, config) => {
-            entry.config = Some(config);
+            give_config(entry, config);
             take_up(alloc, label, association, entry, resets)
         }
         ReadMessage::Malformed => mark(entry),

@@ -1,8 +1,9 @@
 //! The opening and closing of streams from here.
-ghost use Rattle.std.specs.Prelude.{◌≡◌, ◌≤◌, ◌<◌, true, IsSome, Some, Ok, length, vec_len};
+ghost use Rattle.std.specs.Prelude.{◌≡◌, ◌≤◌, ◌<◌, true, is_some, IsSome, Some, Ok, length, vec_len};
 ghost use Rattle.rtc_sctp.specs.Entries.{entry_place, new_entry, marked_entry};
 ghost use Rattle.rtc_sctp.specs.declared.stream_entry_state.StreamEntryState.TheVariants.{AwaitOpen};
-ghost use Rattle.rtc_sctp.specs.StreamCalls.{can_take as CanTake, TakesConfig, OpensOver, OpensAt, OpensStream, MarksAt};
+ghost use Rattle.rtc_sctp.specs.StreamCalls.{can_take as CanTake, TakesConfig, OpensAwaiting, OpensOver};
+ghost use Rattle.rtc_sctp.specs.StreamCalls.{OpensAt, OpensStream, MarksAt};
 ghost use Rattle.rtc_sctp.specs.StreamCalls.{EndsStream, EndsIf, ClosesAt, ClosesDataStream, SetsThreshold};
 
 use crate::asked::Asked;
@@ -68,6 +69,21 @@ fn mark_here(entry: &mut StreamEntry) -> Result<(), AllocError>
     Ok(())
 }
 
+// A stream that waits for its config is to be opened. One that has a config is to be closed already.
+fn open_awaiting<S: Association>(
+    association: &mut S,
+    entry: &mut StreamEntry,
+    config: ChannelConfig,
+) -> Result<(), AllocError>
+    ensures { OpensAwaiting S.association (is_some entry.old.config) config association.old entry.old
+        result association.new entry.new }
+{
+    if entry.config.is_some() {
+        return mark_here(entry);
+    }
+    take_config(association, entry, config)
+}
+
 // A stream that has an entry is to be opened.
 fn open_over<S: Association>(
     association: &mut S,
@@ -77,7 +93,7 @@ fn open_over<S: Association>(
     ensures { OpensOver S.association entry.old.state config association.old entry.old result association.new entry.new }
 {
     match entry.state {
-        StreamEntryState::AwaitConfig => take_config(association, entry, config),
+        StreamEntryState::AwaitConfig => open_awaiting(association, entry, config),
         StreamEntryState::AwaitOpen => mark_here(entry),
         StreamEntryState::AwaitDcepAck => mark_here(entry),
         StreamEntryState::Open => mark_here(entry),
@@ -169,7 +185,7 @@ fn close_in<S: Association>(
 
 impl<S: Association> RtcSctp<S> {
     /// Opens a stream with a config. One that has an entry already is closed, but for one that the other end opened and
-    /// that both ends settled by other means.
+    /// that has no config yet, which an out-of-band config opens.
     pub fn open_stream(&mut self, id: u16, config: ChannelConfig) -> Result<(), AllocError>
         requires label { length config.label ≤ 65535 }
         requires protocol { length config.protocol ≤ 65535 }
