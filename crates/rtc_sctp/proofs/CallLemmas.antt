@@ -4,10 +4,10 @@ use Rattle.std.specs.Prelude.{OnOk, OnErr, is_some}
 use Rattle.std.specs.declared.alloc.AllocError.{AllocError}
 use Rattle.rtc_wire.specs.declared.channel_config.ChannelConfig.{ChannelConfig}
 use Rattle.rtc_association.specs.AssociationMeaning.{AssociationMeaning}
-use Rattle.rtc_sctp.specs.declared.stream_entry_state.StreamEntryState.{StreamEntryState}
-use Rattle.rtc_sctp.specs.declared.stream_entry_state.StreamEntryState.TheVariants.{AwaitOpen, AwaitConfig}
-use Rattle.rtc_sctp.specs.declared.stream_entry.StreamEntry.{StreamEntry}
-use Rattle.rtc_sctp.specs.Entries.{with_entry, new_entry}
+use Rattle.rtc_sctp_entries.specs.declared.stream_entry_state.StreamEntryState.{StreamEntryState}
+use Rattle.rtc_sctp_entries.specs.declared.stream_entry_state.StreamEntryState.TheVariants.{AwaitOpen, AwaitConfig}
+use Rattle.rtc_sctp_entries.specs.declared.stream_entry.StreamEntry.{StreamEntry}
+use Rattle.rtc_sctp_entries.specs.Entries.{with_entry, new_entry}
 use Rattle.rtc_sctp.specs.StreamCalls.{TakesConfig, OpensAwaiting, OpensOver, OpensAt, EndsStream, EndsIf}
 
 module _ {S : Type 0} (m : AssociationMeaning S) where

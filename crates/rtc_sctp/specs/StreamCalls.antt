@@ -3,13 +3,13 @@ use Rattle.std.specs.Prelude.{ℕ, ◌≡◌, ◌&&◌, Bool, true, false, List,
 use Rattle.std.specs.declared.alloc.AllocError.{AllocError}
 use Rattle.rtc_wire.specs.declared.channel_config.ChannelConfig.{ChannelConfig}
 use Rattle.rtc_association.specs.AssociationMeaning.{AssociationMeaning}
-use Rattle.rtc_sctp.specs.declared.asked.Asked.{Asked}
-use Rattle.rtc_sctp.specs.declared.asked.Asked.TheVariants as did
-use Rattle.rtc_sctp.specs.declared.stream_entry_state.StreamEntryState.{StreamEntryState}
-use Rattle.rtc_sctp.specs.declared.stream_entry_state.StreamEntryState.TheVariants.{AwaitOpen, AwaitConfig, AwaitDcepAck, Open, Closed}
-use Rattle.rtc_sctp.specs.declared.stream_entry.StreamEntry.{StreamEntry}
-use Rattle.rtc_sctp.specs.Part.{AsksEnd, AsksReliability}
-use Rattle.rtc_sctp.specs.Entries.{entry_place, with_entry, new_entry, marked_entry, with_reset, threshold_set}
+use Rattle.rtc_sctp_entries.specs.declared.asked.Asked.{Asked}
+use Rattle.rtc_sctp_entries.specs.declared.asked.Asked.TheVariants as did
+use Rattle.rtc_sctp_entries.specs.declared.stream_entry_state.StreamEntryState.{StreamEntryState}
+use Rattle.rtc_sctp_entries.specs.declared.stream_entry_state.StreamEntryState.TheVariants.{AwaitOpen, AwaitConfig, AwaitDcepAck, Open, Closed}
+use Rattle.rtc_sctp_entries.specs.declared.stream_entry.StreamEntry.{StreamEntry}
+use Rattle.rtc_sctp_entries.specs.Part.{AsksEnd, AsksReliability}
+use Rattle.rtc_sctp_entries.specs.Entries.{entry_place, with_entry, new_entry, marked_entry, with_reset, threshold_set}
 use Rattle.rtc_sctp.specs.Streams.{SctpStreams}
 
 -- by the answer of the association, the entry of a stream that the other end opened is open with a config, or marked

@@ -1,14 +1,14 @@
 //! What the events of an association do.
 ghost use Rattle.std.specs.Prelude.{◌≡◌, ◌<◌, ◌++◌, ◌∷◌, [], true, None, vec_len, vec_capacity};
-ghost use Rattle.rtc_sctp.specs.declared.stream_entry_state.StreamEntryState.TheVariants.{AwaitConfig};
-ghost use Rattle.rtc_sctp.specs.Entries.{entry_place, new_entry as NewEntry};
-ghost use Rattle.rtc_sctp.specs.Polls.{with_expected, finished_entry, FinishesAt, book, event_met, AfterEvent, without_reset};
+ghost use Rattle.rtc_sctp_entries.specs.declared.stream_entry_state.StreamEntryState.TheVariants.{AwaitConfig};
+ghost use Rattle.rtc_sctp_entries.specs.Entries.{entry_place, new_entry as NewEntry, without_reset};
+ghost use Rattle.rtc_sctp.specs.Polls.{with_expected, finished_entry, FinishesAt, book, event_met, AfterEvent};
 
-use crate::entries::{place_of, put_reserved};
-use crate::met::Met;
-use crate::resets::{drop_reset, note_reset};
 use crate::{BufferedThresholdConfig, RtcSctpState, SctpEvent, StreamEntry, StreamEntryState};
 use rtc_association::AssocEvent;
+use rtc_sctp_entries::Met;
+use rtc_sctp_entries::entries::{place_of, put_reserved};
+use rtc_sctp_entries::resets::{drop_reset, note_reset};
 
 fn opened_there(id: u16) -> StreamEntry
     ensures { result ≡ NewEntry id AwaitConfig None }

@@ -3,13 +3,13 @@ ghost use Rattle.std.specs.Prelude.{◌≡◌, true, false};
 ghost use Rattle.rtc_sctp.specs.Polls.{TakesPacket, GivesTransmit, TakesEvent, HandlesEvent, book, VisitsAll, VisitsEntries};
 ghost use Rattle.rtc_sctp.specs.Polls.{GivesCompletion, Else, MakesPass, PollsStreams, unclosed_streams};
 
-use crate::entries::drop_closed;
 use crate::events::{apply_event, make_room};
-use crate::met::Met;
 use crate::streams::RtcSctp;
-use crate::visit::visit;
 use crate::{RtcSctpState, SctpEvent, StreamEntry};
 use rtc_association::Association;
+use rtc_sctp_entries::Met;
+use rtc_sctp_entries::entries::drop_closed;
+use rtc_sctp_entries::visit::visit;
 use rtc_wire::{Bytes, Moment, Seq};
 use std::alloc::{AllocError, Global};
 

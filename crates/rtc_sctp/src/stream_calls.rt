@@ -1,17 +1,17 @@
 //! The opening and closing of streams from here.
 ghost use Rattle.std.specs.Prelude.{◌≡◌, ◌≤◌, ◌<◌, true, is_some, IsSome, Some, Ok, length, vec_len};
-ghost use Rattle.rtc_sctp.specs.Entries.{entry_place, new_entry, marked_entry};
-ghost use Rattle.rtc_sctp.specs.declared.stream_entry_state.StreamEntryState.TheVariants.{AwaitOpen};
+ghost use Rattle.rtc_sctp_entries.specs.Entries.{entry_place, new_entry, marked_entry};
+ghost use Rattle.rtc_sctp_entries.specs.declared.stream_entry_state.StreamEntryState.TheVariants.{AwaitOpen};
 ghost use Rattle.rtc_sctp.specs.StreamCalls.{can_take as CanTake, TakesConfig, OpensAwaiting, OpensOver};
 ghost use Rattle.rtc_sctp.specs.StreamCalls.{OpensAt, OpensStream, MarksAt};
 ghost use Rattle.rtc_sctp.specs.StreamCalls.{EndsStream, EndsIf, ClosesAt, ClosesDataStream, SetsThreshold};
 
-use crate::asked::Asked;
-use crate::entries::{place_of, put_entry};
-use crate::resets::note_reset;
 use crate::streams::RtcSctp;
-use crate::{BufferedThresholdConfig, StreamEntry, StreamEntryState, part};
+use crate::{BufferedThresholdConfig, StreamEntry, StreamEntryState};
 use rtc_association::Association;
+use rtc_sctp_entries::entries::{place_of, put_entry};
+use rtc_sctp_entries::resets::note_reset;
+use rtc_sctp_entries::{Asked, part};
 use rtc_wire::ChannelConfig;
 use std::alloc::AllocError;
 
