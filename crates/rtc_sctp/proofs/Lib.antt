@@ -2,3 +2,4 @@ pub mod CallLemmas
 pub mod TourLemmas
 pub mod PassLemmas
 pub mod StepLemmas
+pub mod OrderKept

@@ -1,33 +1,7 @@
 -- What a poll of streams does: six steps in order, over again after a step that made work.
-use Rattle.std.specs.Prelude.{
-  ℕ,
-  zero,
-  suc,
-  ◌≡◌,
-  ◌+◌,
-  ◌==◌,
-  ◌&&◌,
-  not,
-  Bool,
-  true,
-  false,
-  List,
-  [],
-  ◌∷◌,
-  ◌++◌,
-  length,
-  slice_get,
-  slice_set,
-  if◌then◌else◌,
-  Option,
-  Some,
-  None,
-  is_some,
-  Result,
-  Ok,
-  Err,
-}
-use Rattle.std.specs.List.{filter, sum_by}
+use Rattle.std.specs.Prelude.{ℕ, zero, suc, ◌≡◌, ◌+◌, ◌&&◌, Bool, true, false, List, [], ◌∷◌, ◌++◌, length, slice_get}
+use Rattle.std.specs.Prelude.{slice_set, if◌then◌else◌, Option, Some, None, is_some, Result, Ok, Err}
+use Rattle.std.specs.List.{sum_by}
 use Rattle.std.specs.declared.alloc.AllocError.{AllocError}
 use Rattle.rtc_association.specs.declared.assoc_event.AssocEvent.{AssocEvent}
 use Rattle.rtc_association.specs.declared.assoc_event.AssocEvent.TheVariants as assoc

@@ -6,7 +6,8 @@ use Rattle.rtc_association.specs.AssociationMeaning.{AssociationMeaning}
 use Rattle.rtc_sctp_entries.specs.declared.asked.Asked.{Asked}
 use Rattle.rtc_sctp_entries.specs.declared.asked.Asked.TheVariants as did
 use Rattle.rtc_sctp_entries.specs.declared.stream_entry_state.StreamEntryState.{StreamEntryState}
-use Rattle.rtc_sctp_entries.specs.declared.stream_entry_state.StreamEntryState.TheVariants.{AwaitOpen, AwaitConfig, AwaitDcepAck, Open, Closed}
+use Rattle.rtc_sctp_entries.specs.declared.stream_entry_state.StreamEntryState.TheVariants.{AwaitOpen, AwaitConfig}
+use Rattle.rtc_sctp_entries.specs.declared.stream_entry_state.StreamEntryState.TheVariants.{AwaitDcepAck, Open, Closed}
 use Rattle.rtc_sctp_entries.specs.declared.stream_entry.StreamEntry.{StreamEntry}
 use Rattle.rtc_sctp_entries.specs.Part.{AsksEnd, AsksReliability}
 use Rattle.rtc_sctp_entries.specs.Entries.{entry_place, with_entry, new_entry, marked_entry, with_reset, threshold_set}
@@ -33,6 +34,13 @@ EndedBy did.OutOfMemory id resets (Err x) resets' = resets' ≡ resets
 abbrev pub is_err : Result (Unit {0}) AllocError → Bool
 is_err (Ok x) = false
 is_err (Err x) = true
+
+-- the threshold of the entry at a place is asked for
+abbrev pub SetsThresholdAt : (n place : ℕ) → List StreamEntry → List StreamEntry → Type 0
+SetsThresholdAt n place es es' =
+    (e : StreamEntry)
+    × (slice_get es place ≡ Some e)
+    × (es' ≡ slice_set es place (record e { threshold = threshold_set n e.threshold }))
 
 -- the threshold of an entry is asked for
 abbrev pub SetsThreshold : (S : Type 0) → ℕ → Option ℕ → SctpStreams S → SctpStreams S → Type 0

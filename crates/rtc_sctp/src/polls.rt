@@ -1,5 +1,6 @@
 //! The polls of streams.
 ghost use Rattle.std.specs.Prelude.{◌≡◌, true, false};
+ghost use Rattle.rtc_sctp_entries.specs.Entries.{Ascend};
 ghost use Rattle.rtc_sctp.specs.Polls.{TakesPacket, GivesTransmit, TakesEvent, HandlesEvent, book, VisitsAll, VisitsEntries};
 ghost use Rattle.rtc_sctp.specs.Polls.{GivesCompletion, Else, MakesPass, PollsStreams, unclosed_streams};
 
@@ -38,6 +39,7 @@ fn take_event<S: Association>(
     resets: &mut Vec<u16>,
     completed: &mut Vec<u16>,
 ) -> Met
+    requires { Ascend entries.old.items }
     ensures { TakesEvent S.association
         association.old (book state.old entries.old.items resets.old.items completed.old.items) result
         association.new (book state.new entries.new.items resets.new.items completed.new.items) }

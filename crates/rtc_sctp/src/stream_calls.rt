@@ -1,10 +1,10 @@
 //! The opening and closing of streams from here.
 ghost use Rattle.std.specs.Prelude.{◌≡◌, ◌≤◌, ◌<◌, true, is_some, IsSome, Some, Ok, length, vec_len};
-ghost use Rattle.rtc_sctp_entries.specs.Entries.{entry_place, new_entry, marked_entry};
+ghost use Rattle.rtc_sctp_entries.specs.Entries.{Ascend, entry_place, new_entry, marked_entry};
 ghost use Rattle.rtc_sctp_entries.specs.declared.stream_entry_state.StreamEntryState.TheVariants.{AwaitOpen};
 ghost use Rattle.rtc_sctp.specs.StreamCalls.{can_take as CanTake, TakesConfig, OpensAwaiting, OpensOver};
 ghost use Rattle.rtc_sctp.specs.StreamCalls.{OpensAt, OpensStream, MarksAt};
-ghost use Rattle.rtc_sctp.specs.StreamCalls.{EndsStream, EndsIf, ClosesAt, ClosesDataStream, SetsThreshold};
+ghost use Rattle.rtc_sctp.specs.StreamCalls.{EndsStream, EndsIf, ClosesAt, ClosesDataStream, SetsThreshold, SetsThresholdAt};
 
 use crate::streams::RtcSctp;
 use crate::{BufferedThresholdConfig, StreamEntry, StreamEntryState};
@@ -150,12 +150,21 @@ fn mark_at(entries: &mut Vec<StreamEntry>, place: usize)
     mark_entry(&mut entries[place]);
 }
 
+// Asks for the threshold of the entry at a place.
+fn set_threshold_at(entries: &mut Vec<StreamEntry>, place: usize, n: usize)
+    requires { place < vec_len entries.old }
+    ensures { SetsThresholdAt n place entries.old.items entries.new.items }
+{
+    entries[place].threshold.set(n);
+}
+
 fn open_in<S: Association>(
     association: &mut S,
     entries: &mut Vec<StreamEntry>,
     id: u16,
     config: ChannelConfig,
 ) -> Result<(), AllocError>
+    requires { Ascend entries.old.items }
     ensures { OpensAt S.association (entry_place id entries.old.items) id config association.old entries.old.items
         result association.new entries.new.items }
 {
@@ -171,6 +180,7 @@ fn close_in<S: Association>(
     resets: &mut Vec<u16>,
     id: u16,
 ) -> Result<(), AllocError>
+    requires { Ascend entries.old.items }
     ensures { ClosesAt S.association (entry_place id entries.old.items) id
         association.old entries.old.items resets.old.items result association.new entries.new.items resets.new.items }
 {
@@ -213,7 +223,7 @@ impl<S: Association> RtcSctp<S> {
     {
         match place_of(self.entries.as_slice(), id) {
             None => {}
-            Some(place) => self.entries[place].threshold.set(n),
+            Some(place) => set_threshold_at(&mut self.entries, place, n),
         }
     }
 }

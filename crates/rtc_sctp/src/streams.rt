@@ -35,6 +35,7 @@ pub struct RtcSctp<S> {
 
 impl<S> Model for RtcSctp<S> {
     ghost use Rattle.rtc_sctp.specs.Streams.{SctpStreams};
+    ghost use Rattle.rtc_sctp_entries.specs.Entries.{Ascend};
 
     ghost Value = { SctpStreams S };
 
@@ -52,6 +53,8 @@ impl<S> Model for RtcSctp<S> {
       resets = s.resets.items;
       completed = s.completed.items;
     } };
+
+    ghost invariant = { λ s. Ascend s.entries.items };
 }
 
 impl<S: Association> RtcSctp<S> {

@@ -1,5 +1,5 @@
 -- A visit takes work away.
-use Rattle.std.proofs.Common.{◌≡◌, ℕ, ◌+◌, ◌≤◌, Bool, true, false, List, [], ◌∷◌, ◌++◌, length, length-append, Option, Some, None, Result, Ok, Err, refl, sym, ap, subst, ◌∙◌, arith}
+use Rattle.std.proofs.Common.{◌≡◌, ℕ, ◌+◌, ◌≤◌, Bool, true, false, List, ◌++◌, length, length-append, Option, Some, None, refl, sym, ap, subst, arith}
 use Rattle.std.specs.Prelude.{nat_le}
 use Rattle.rtc_association.specs.declared.ppi.Ppi.{Ppi}
 use Rattle.rtc_association.specs.declared.ppi.Ppi.TheVariants as ppi
@@ -25,50 +25,7 @@ use Rattle.rtc_sctp_entries.specs.declared.met.Met.{Met}
 use Rattle.rtc_sctp_entries.specs.declared.met.Met.TheVariants.{Nothing, Again, Output, OutOfMemory}
 use Rattle.rtc_sctp_entries.specs.Part.{ReadUnits}
 use Rattle.rtc_sctp_entries.specs.Entries.{config_or_fresh, is_short_entry, is_out_of_band, state_credit, mark_credit, threshold_credit, entry_credit, closed_entry}
-use Rattle.rtc_sctp_entries.specs.Visits.{
-  Turn,
-  turn_work,
-  given_config,
-  Marks,
-  Starves,
-  TellsClose,
-  Settles,
-  TakesAck,
-  ForEntry,
-  ClosedBy,
-  Closes,
-  NoRoom,
-  Ended,
-  AnnouncedBy,
-  Announces,
-  NoMessage,
-  Written,
-  AnnouncesIf,
-  BegunAs,
-  BegunBy,
-  Begins,
-  RetriedIf,
-  RetriedAt,
-  is_adopted,
-  AdoptedIf,
-  OpenedBy,
-  OpensEntry,
-  AcknowledgedBy,
-  Acknowledges,
-  TakenUpBy,
-  TakesUp,
-  TakenAs,
-  TakesDcep,
-  TakesStreamMessage,
-  ReadBy,
-  ReadsEntry,
-  HandedBy,
-  AttendsBy,
-  AttendsIf,
-  VisitsIn,
-  Visits,
-  opening_ends,
-}
+use Rattle.rtc_sctp_entries.specs.Visits.{Turn, turn_work, given_config, Marks, Settles, TakesAck, ForEntry, ClosedBy, Closes, NoRoom, Ended, AnnouncedBy, Announces, NoMessage, Written, AnnouncesIf, BegunAs, BegunBy, Begins, RetriedIf, RetriedAt, is_adopted, AdoptedIf, OpenedBy, OpensEntry, AcknowledgedBy, Acknowledges, TakenUpBy, TakesUp, TakenAs, TakesDcep, TakesStreamMessage, ReadBy, ReadsEntry, HandedBy, AttendsBy, AttendsIf, VisitsIn, Visits, opening_ends}
 use Rattle.rtc_sctp_entries.proofs.PartLemmas.{units_read}
 
 -- what is met takes this much work away; where nothing is met none comes

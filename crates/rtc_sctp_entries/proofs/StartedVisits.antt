@@ -18,47 +18,7 @@ use Rattle.rtc_sctp_entries.specs.declared.stream_entry_state.StreamEntryState.{
 use Rattle.rtc_sctp_entries.specs.declared.stream_entry_state.StreamEntryState.TheVariants.{AwaitOpen, AwaitConfig, AwaitDcepAck, Open, Closed}
 use Rattle.rtc_sctp_entries.specs.declared.met.Met.{Met}
 use Rattle.rtc_sctp_entries.specs.Entries.{is_short_entry, is_out_of_band}
-use Rattle.rtc_sctp_entries.specs.Visits.{
-  Turn,
-  given_config,
-  ClosedBy,
-  Closes,
-  NoRoom,
-  Ended,
-  AnnouncedBy,
-  Announces,
-  NoMessage,
-  Written,
-  AnnouncesIf,
-  BegunAs,
-  BegunBy,
-  Begins,
-  RetriedIf,
-  RetriedAt,
-  Retries,
-  is_adopted,
-  AdoptedIf,
-  OpenedBy,
-  OpensEntry,
-  AcknowledgedBy,
-  Acknowledges,
-  TakenUpBy,
-  TakesUp,
-  TakenAs,
-  TakesOpen,
-  TakesDcep,
-  TakesStreamMessage,
-  ReadBy,
-  ReadsEntry,
-  HandedBy,
-  HandsThreshold,
-  AttendsBy,
-  AttendsIf,
-  Attends,
-  VisitsIn,
-  Visits,
-  opening_ends,
-}
+use Rattle.rtc_sctp_entries.specs.Visits.{Turn, given_config, ClosedBy, Closes, NoRoom, Ended, AnnouncedBy, Announces, NoMessage, Written, AnnouncesIf, BegunAs, BegunBy, Begins, RetriedIf, RetriedAt, is_adopted, AdoptedIf, OpenedBy, OpensEntry, AcknowledgedBy, Acknowledges, TakenUpBy, TakesUp, TakenAs, TakesDcep, TakesStreamMessage, ReadBy, ReadsEntry, HandedBy, AttendsBy, AttendsIf, VisitsIn, Visits, opening_ends}
 use Rattle.std.specs.Prelude.{nat_le}
 use Rattle.rtc_sctp_entries.proofs.PartLemmas.{started_opened, started_wrote, started_read, started_ended, started_threshold, started_reliability}
 

@@ -1,5 +1,5 @@
 -- Steps of a visit, by what was tested before them.
-use Rattle.std.proofs.Common.{◌≡◌, ℕ, Bool, true, false, List, Option, Some, None, Result, Ok, Err, refl, ap}
+use Rattle.std.proofs.Common.{◌≡◌, ℕ, Bool, true, false, Option, Some, None, Ok, Err, refl}
 use Rattle.std.specs.Prelude.{IfSome, IfNone, IsErrOf, nat_le}
 use Rattle.rtc_wire.specs.declared.dcep_error.DcepError.{DcepError}
 use Rattle.rtc_wire.specs.declared.dcep_open.DcepOpen.{DcepOpen}

@@ -2,6 +2,7 @@
 use Rattle.std.specs.Prelude.{
   ℕ,
   ◌+◌,
+  ◌≤◌,
   ◌==◌,
   ◌&&◌,
   nat_le,
@@ -30,7 +31,8 @@ use Rattle.rtc_wire.specs.ChannelConfig.{fresh}
 use Rattle.rtc_sctp_entries.specs.declared.buffered_threshold_config.BufferedThresholdConfig.{BufferedThresholdConfig}
 use Rattle.rtc_sctp_entries.specs.declared.buffered_threshold_config.BufferedThresholdConfig.TheVariants.{Unconfigured, Desired, Configured}
 use Rattle.rtc_sctp_entries.specs.declared.stream_entry_state.StreamEntryState.{StreamEntryState}
-use Rattle.rtc_sctp_entries.specs.declared.stream_entry_state.StreamEntryState.TheVariants.{AwaitOpen, AwaitConfig, AwaitDcepAck, Open, Closed}
+use Rattle.rtc_sctp_entries.specs.declared.stream_entry_state.StreamEntryState.TheVariants.{AwaitOpen, AwaitConfig}
+use Rattle.rtc_sctp_entries.specs.declared.stream_entry_state.StreamEntryState.TheVariants.{AwaitDcepAck, Open, Closed}
 use Rattle.rtc_sctp_entries.specs.declared.stream_entry.StreamEntry.{StreamEntry}
 
 -- a threshold where a number of bytes is asked for
@@ -107,6 +109,14 @@ new_place id entries = unwrap_or (position (λ entry. nat_lt id entry.id) entrie
 
 abbrev pub with_entry : StreamEntry → List StreamEntry → List StreamEntry
 with_entry entry entries = insert entries (new_place entry.id entries) entry
+
+-- the entries from a number on stand in order of their numbers, each of another stream
+abbrev pub AscendFrom : ℕ → List StreamEntry → Type 0
+AscendFrom low [] = Unit {0}
+AscendFrom low (entry ∷ entries) = (low ≤ entry.id) × AscendFrom (entry.id + 1) entries
+
+abbrev pub Ascend : List StreamEntry → Type 0
+Ascend entries = AscendFrom 0 entries
 
 abbrev pub new_entry : ℕ → StreamEntryState → Option ChannelConfig → StreamEntry
 new_entry id state config =

@@ -1,7 +1,10 @@
 //! Lists of streams in use, in order of their numbers.
-ghost use Rattle.std.specs.Prelude.{◌≡◌, ◌<◌, nat_lt, position, OnOk, OnErr, IsOk, MatchOption, None, Some, vec_len, vec_capacity};
+ghost use Rattle.std.specs.Prelude.{◌≡◌, ◌<◌, ◌≤◌, ℕ, length, slice_index_or, OnOk, OnErr, IsOk, MatchOption, None, Some, vec_len};
+ghost use Rattle.std.specs.Prelude.{vec_capacity};
+ghost use Rattle.rtc_sctp_entries.specs.declared.stream_entry.StreamEntry.{StreamEntry};
 ghost use Rattle.std.specs.List.{list_any};
-ghost use Rattle.rtc_sctp_entries.specs.Entries.{entry_place, new_place, with_entry, has_open as HasOpen, stream_config, is_retrying as IsRetrying};
+ghost use Rattle.rtc_sctp_entries.specs.Entries.{Ascend, entry_place, new_place, with_entry, has_open as HasOpen};
+ghost use Rattle.rtc_sctp_entries.specs.Entries.{stream_config, is_retrying as IsRetrying};
 ghost use Rattle.rtc_sctp_entries.specs.Entries.{is_open_state as IsOpenState};
 ghost use Rattle.rtc_sctp_entries.specs.Entries.{unclosed, is_closed_state as IsClosedState};
 
@@ -45,30 +48,44 @@ fn is_retrying(entry: &StreamEntry) -> bool
     }
 }
 
+// The place before which the entries have lower numbers.
+fn place_from(entries: &[StreamEntry], id: u16) -> usize
+    requires { Ascend entries.now }
+    ensures bound { result ≤ length entries.now }
+    ensures before { (k : ℕ) (d : StreamEntry) → k < result → (slice_index_or entries.now k d).id < id }
+    ensures behind { (k : ℕ) (d : StreamEntry) → result ≤ k → k < length entries.now
+        → id ≤ (slice_index_or entries.now k d).id }
+{
+    entries.partition_point(|own| own.id < id)
+}
+
 /// Where the entry of a stream is, if there is one.
 pub fn place_of(entries: &[StreamEntry], id: u16) -> Option<usize>
+    requires { Ascend entries.now }
     ensures { result ≡ entry_place id entries.now }
 {
-    entries.iter().position(|own| own.id == id)
-}
-
-fn place_behind(entries: &[StreamEntry], id: u16) -> Option<usize>
-    ensures { result ≡ position (λ own. nat_lt id own.id) entries.now }
-{
-    entries.iter().position(|own| id < own.id)
-}
-
-fn place_for(entries: &[StreamEntry], id: u16) -> usize
-    ensures { result ≡ new_place id entries.now }
-{
-    match place_behind(entries, id) {
-        Some(place) => place,
-        None => entries.len(),
+    let place = place_from(entries, id);
+    if entries.len() <= place {
+        return None;
     }
+    if entries[place].id == id {
+        return Some(place);
+    }
+    None
+}
+
+// Where the entry of a stream is put in.
+fn place_for(entries: &[StreamEntry], id: u16) -> usize
+    requires { Ascend entries.now }
+    ensures place { result ≡ new_place id entries.now }
+    ensures bound { result ≤ length entries.now }
+{
+    entries.partition_point(|own| own.id <= id)
 }
 
 /// Puts in the entry of a stream.
 pub fn put_entry(entries: &mut Vec<StreamEntry>, entry: StreamEntry) -> Result<(), AllocError>
+    requires { Ascend entries.old.items }
     ensures ok { OnOk result (entries.new.items ≡ with_entry entry entries.old.items) }
     ensures err { OnErr result (entries.new.items ≡ entries.old.items) }
     ensures room { vec_len entries.old < vec_capacity entries.old → IsOk result }
@@ -80,11 +97,17 @@ pub fn put_entry(entries: &mut Vec<StreamEntry>, entry: StreamEntry) -> Result<(
 
 /// Whether the entry of a stream is open.
 pub fn has_open(entries: &[StreamEntry], id: u16) -> bool
+    requires { Ascend entries.now }
     ensures { result ≡ HasOpen id entries.now }
 {
-    entries
-        .iter()
-        .any(|own| own.id == id && is_open_state(own.state))
+    let place = place_from(entries, id);
+    if entries.len() <= place {
+        return false;
+    }
+    if entries[place].id == id {
+        return is_open_state(entries[place].state);
+    }
+    false
 }
 
 /// Whether the opening of a stream is tried again.
@@ -103,19 +126,23 @@ pub fn drop_closed(entries: &mut Vec<StreamEntry>)
 
 /// The config of a stream's entry.
 pub fn config_of(entries: &[StreamEntry], id: u16) -> Option<&ChannelConfig>
+    requires { Ascend entries.now }
     ensures { MatchOption result (stream_config id entries.now ≡ None) (λ config. stream_config id entries.now ≡ Some config.now) }
 {
-    for own in entries {
-        if own.id == id {
-            return own.config.as_ref();
-        }
+    let place = place_from(entries, id);
+    if entries.len() <= place {
+        return None;
+    }
+    if entries[place].id == id {
+        return entries[place].config.as_ref();
     }
     None
 }
 
 /// Puts in the entry of a stream, for which there is room.
 pub fn put_reserved(entries: &mut Vec<StreamEntry>, entry: StreamEntry)
-    requires { vec_len entries.old < vec_capacity entries.old }
+    requires ascend { Ascend entries.old.items }
+    requires room { vec_len entries.old < vec_capacity entries.old }
     ensures { entries.new.items ≡ with_entry entry entries.old.items }
 {
     if put_entry(entries, entry).is_err() {

@@ -2,7 +2,8 @@
 ghost use Rattle.std.specs.Prelude.{◌≡◌, true};
 ghost use Rattle.rtc_sctp_entries.specs.declared.met.Met.TheVariants.{Output};
 ghost use Rattle.rtc_sctp_entries.specs.declared.sctp_event.SctpEvent.TheVariants.{Data};
-ghost use Rattle.rtc_sctp_entries.specs.Visits.{turn, Acknowledges, TakesUp, TakesOpen, TakesAck, TakesDcep, TakesStreamMessage, ReadsOpen, given_config};
+ghost use Rattle.rtc_sctp_entries.specs.Visits.{turn, Acknowledges, TakesUp, TakesOpen, TakesAck, TakesDcep};
+ghost use Rattle.rtc_sctp_entries.specs.Visits.{TakesStreamMessage, ReadsOpen, given_config};
 
 use crate::asked::Asked;
 use crate::closing::{close_entry, mark};

@@ -6,7 +6,8 @@ use Rattle.rtc_ready.specs.Signals.{Signals}
 use Rattle.rtc_wire.specs.declared.channel_config.ChannelConfig.{ChannelConfig}
 use Rattle.rtc_association.specs.AssociationMeaning.{AssociationMeaning}
 use Rattle.rtc_sctp_entries.specs.declared.stream_entry_state.StreamEntryState.{StreamEntryState}
-use Rattle.rtc_sctp_entries.specs.declared.stream_entry_state.StreamEntryState.TheVariants.{AwaitOpen, AwaitConfig, AwaitDcepAck, Open, Closed}
+use Rattle.rtc_sctp_entries.specs.declared.stream_entry_state.StreamEntryState.TheVariants.{AwaitOpen, AwaitConfig}
+use Rattle.rtc_sctp_entries.specs.declared.stream_entry_state.StreamEntryState.TheVariants.{AwaitDcepAck, Open, Closed}
 use Rattle.rtc_sctp_entries.specs.declared.stream_entry.StreamEntry.{StreamEntry}
 use Rattle.rtc_sctp_entries.specs.declared.sctp_event.SctpEvent.{SctpEvent}
 use Rattle.rtc_sctp_entries.specs.declared.sctp_event.SctpEvent.TheVariants as event
@@ -24,7 +25,8 @@ event_of (Ok (Some e)) = e ∷ []
 event_of (Err x) = []
 
 -- one call on streams, and the events that it answers
-pub data CallsStreams {S : Type 0} (m : AssociationMeaning S) (p : SctpStreams S) (events : List SctpEvent) (q : SctpStreams S) : Type 0 where
+pub data CallsStreams {S : Type 0} (m : AssociationMeaning S) (p : SctpStreams S) (events : List SctpEvent) (q : SctpStreams S)
+    : Type 0 where
   Inited : (client : Bool) (now max : ℕ) (r : Result (Unit {0}) SctpError) → Inits m client now max p r q → events ≡ []
       → CallsStreams m p events q
   ShutDown : (r : Result (Unit {0}) SctpError) → Shuts m p r q → events ≡ [] → CallsStreams m p events q

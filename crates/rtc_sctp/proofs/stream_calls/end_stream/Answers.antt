@@ -1,4 +1,4 @@
-use Rattle.std.proofs.Common.{◌∙◌, refl, ap}
+use Rattle.std.proofs.Common.{◌∙◌, ap}
 use Rattle.rtc_sctp_entries.specs.Entries.{with_reset}
 use Rattle.rtc_sctp_entries.specs.declared.asked.Asked.TheVariants.{Done, Refused, OutOfMemory}
 use Rattle.rtc_sctp.specs.StreamCalls.{Ended}
