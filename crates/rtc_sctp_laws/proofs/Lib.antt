@@ -6,3 +6,4 @@ pub mod CallActs
 pub mod EndingLemmas
 pub mod ClosingPolls
 pub mod ClosingRuns
+pub mod MarkLemmas
