@@ -1,9 +1,5 @@
-pub mod PartLemmas
-pub mod VisitLemmas
 pub mod CallLemmas
-pub mod StartedVisits
-pub mod GainLemmas
 pub mod TourLemmas
 pub mod PassLemmas
 pub mod StepLemmas
-pub mod StreamLaws
+pub mod OrderKept

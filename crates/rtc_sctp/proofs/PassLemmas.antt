@@ -1,7 +1,6 @@
 -- A pass takes work away.
-use Rattle.std.proofs.Common.{◌≡◌, ℕ, ◌+◌, ◌<◌, ◌≤◌, Bool, true, false, not, List, [], ◌∷◌, ◌++◌, length, length-append, Option, Some, None, get_or, set, insert, refl, sym, ap, subst, ◌∙◌, arith}
+use Rattle.std.proofs.Common.{◌≡◌, ℕ, ◌+◌, ◌<◌, ◌≤◌, Bool, true, false, not, List, [], ◌∷◌, length, length-append, Option, Some, None, get_or, insert, refl, sym, ap, subst, arith}
 use Rattle.std.specs.Prelude.{slice_get, is_some, ◌&&◌, if◌then◌else◌}
-use Rattle.std.specs.List.{filter, sum_by}
 use Rattle.std.proofs.lemmas.List.Sums.{sum_by-insert, sum_by-set, sum_by-cons}
 use Rattle.std.proofs.lemmas.Option.{slice_get_within, get_or_from_slice_get}
 use Rattle.std.proofs.lemmas.List.Filters.{sum_by-filter_both}
@@ -9,50 +8,17 @@ use Rattle.rtc_association.specs.declared.assoc_event.AssocEvent.{AssocEvent}
 use Rattle.rtc_association.specs.declared.assoc_event.AssocEvent.TheVariants as assoc
 use Rattle.rtc_association.specs.AssociationMeaning.{AssociationMeaning}
 use Rattle.rtc_association.specs.AssociationLaws.{AssociationLaws}
-use Rattle.rtc_sctp.specs.declared.stream_entry_state.StreamEntryState.{StreamEntryState}
-use Rattle.rtc_sctp.specs.declared.stream_entry_state.StreamEntryState.TheVariants.{AwaitConfig}
-use Rattle.rtc_sctp.specs.declared.stream_entry.StreamEntry.{StreamEntry}
-use Rattle.rtc_sctp.specs.declared.sctp_event.SctpEvent.{SctpEvent}
-use Rattle.rtc_sctp.specs.declared.sctp_event.SctpEvent.TheVariants as event
-use Rattle.rtc_sctp.specs.declared.met.Met.{Met}
-use Rattle.rtc_sctp.specs.declared.met.Met.TheVariants.{Nothing, Again, Output, OutOfMemory}
-use Rattle.rtc_sctp.specs.Entries.{entry_place, new_entry, new_place, entry_credit, is_open_awaited, marked_entry, mark_credit}
+use Rattle.rtc_sctp_entries.specs.declared.stream_entry_state.StreamEntryState.TheVariants.{AwaitConfig}
+use Rattle.rtc_sctp_entries.specs.declared.stream_entry.StreamEntry.{StreamEntry}
+use Rattle.rtc_sctp_entries.specs.declared.sctp_event.SctpEvent.TheVariants as event
+use Rattle.rtc_sctp_entries.specs.declared.met.Met.{Met}
+use Rattle.rtc_sctp_entries.specs.declared.met.Met.TheVariants.{Nothing, Again, Output, OutOfMemory}
+use Rattle.rtc_sctp_entries.specs.Entries.{entry_place, new_entry, new_place, entry_credit, is_open_awaited, marked_entry}
 use Rattle.rtc_sctp.specs.Streams.{SctpStreams, is_established}
-use Rattle.rtc_sctp.specs.Visits.{Turn, turn, Visits}
-use Rattle.rtc_sctp.specs.Calls.{unclosed, is_closed_state}
-use Rattle.rtc_sctp.specs.Polls.{
-  with_expected,
-  finished_entry,
-  FinishesAt,
-  Book,
-  book_of,
-  AfterEvent,
-  event_met,
-  Else,
-  ThenBy,
-  unclosed_streams,
-  CompletionOf,
-  GivesCompletion,
-  TakesPacket,
-  TransmitIf,
-  TransmitOf,
-  GivesTransmit,
-  TakesEvent,
-  HandlesEvent,
-  NotStarted,
-  NoRoom,
-  NoEvent,
-  Event,
-  VisitedThen,
-  VisitsAll,
-  VisitsIf,
-  VisitsEntries,
-  MakesPass,
-  credits,
-  pushed_count,
-  streams_work,
-}
-use Rattle.rtc_sctp.proofs.GainLemmas.{Gains, gains_from, visits_gain}
+use Rattle.rtc_sctp_entries.specs.Visits.{Turn, turn}
+use Rattle.rtc_sctp_entries.specs.Entries.{unclosed, is_closed_state}
+use Rattle.rtc_sctp.specs.Polls.{finished_entry, FinishesAt, Book, book_of, AfterEvent, event_met, Else, ThenBy, unclosed_streams, CompletionOf, TakesPacket, TransmitIf, TransmitOf, TakesEvent, HandlesEvent, NotStarted, NoRoom, NoEvent, Event, VisitedThen, VisitsAll, VisitsIf, MakesPass, credits, pushed_count, streams_work}
+use Rattle.rtc_sctp_entries.proofs.GainLemmas.{Gains, gains_from, visits_gain}
 
 -- what stands at a place
 got : (es : List StreamEntry) (place : ℕ) (e : StreamEntry) → slice_get es place ≡ Some e → (place < length es) × (get_or es place e ≡ e)

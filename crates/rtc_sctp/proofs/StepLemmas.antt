@@ -2,8 +2,8 @@
 use Rattle.std.proofs.Common.{◌≡◌, refl, subst, ap, Option, Some}
 use Rattle.rtc_association.specs.declared.assoc_event.AssocEvent.{AssocEvent}
 use Rattle.rtc_association.specs.AssociationMeaning.{AssociationMeaning}
-use Rattle.rtc_sctp.specs.declared.met.Met.{Met}
-use Rattle.rtc_sctp.specs.declared.met.Met.TheVariants.{Nothing, Again, Output, OutOfMemory}
+use Rattle.rtc_sctp_entries.specs.declared.met.Met.{Met}
+use Rattle.rtc_sctp_entries.specs.declared.met.Met.TheVariants.{Nothing, Again, Output, OutOfMemory}
 use Rattle.rtc_sctp.specs.Streams.{SctpStreams}
 use Rattle.rtc_sctp.specs.Polls.{Book, book_of, with_book, event_met, AfterEvent, TakesEvent, Event, Else, GivesTransmit}
 use Rattle.rtc_sctp.specs.Polls.{HandlesEvent, VisitsEntries, GivesCompletion, MakesPass, unclosed_streams}

@@ -1,56 +1,24 @@
 -- What the calls of streams do, but for polls.
-use Rattle.std.specs.Prelude.{
-  ℕ,
-  ◌≡◌,
-  ◌+◌,
-  ◌-◌,
-  ◌^◌,
-  ◌==◌,
-  ◌&&◌,
-  ◌||◌,
-  not,
-  min,
-  Bool,
-  true,
-  false,
-  List,
-  [],
-  ◌∷◌,
-  length,
-  slice_get,
-  slice_set,
-  Option,
-  Some,
-  None,
-  is_some,
-  if◌then◌else◌,
-  Result,
-  Ok,
-  Err,
-}
-use Rattle.std.specs.List.{filter, list_any}
+use Rattle.std.specs.Prelude.{ℕ, ◌≡◌, ◌+◌, ◌-◌, ◌^◌, ◌&&◌, ◌||◌, not, min, Bool, true, false, List, [], ◌∷◌, length}
+use Rattle.std.specs.Prelude.{Option, Some, None, if◌then◌else◌, Result, Ok, Err}
+use Rattle.std.specs.List.{list_any}
 use Rattle.std.specs.declared.alloc.AllocError.{AllocError}
-use Rattle.rtc_wire.specs.declared.channel_config.ChannelConfig.{ChannelConfig}
 use Rattle.rtc_association.specs.declared.assoc_error.AssocError.{AssocError}
 use Rattle.rtc_association.specs.declared.assoc_error.AssocError.TheVariants as assoc
 use Rattle.rtc_association.specs.declared.ppi.Ppi.{Ppi}
 use Rattle.rtc_association.specs.declared.ppi.Ppi.TheVariants as ppi
 use Rattle.rtc_association.specs.AssociationMeaning.{AssociationMeaning}
 use Rattle.rtc_ready.specs.Signals.{Signals}
-use Rattle.rtc_sctp.specs.declared.asked.Asked.{Asked}
-use Rattle.rtc_sctp.specs.declared.asked.Asked.TheVariants as did
-use Rattle.rtc_sctp.specs.declared.proto_error.ProtoError.{ProtoError}
+use Rattle.rtc_sctp_entries.specs.declared.asked.Asked.TheVariants as did
 use Rattle.rtc_sctp.specs.declared.proto_error.ProtoError.TheVariants as proto
 use Rattle.rtc_sctp.specs.declared.sctp_error.SctpError.{SctpError}
 use Rattle.rtc_sctp.specs.declared.sctp_error.SctpError.TheVariants as sctp
 use Rattle.rtc_sctp.specs.declared.rtc_sctp_state.RtcSctpState.{RtcSctpState}
 use Rattle.rtc_sctp.specs.declared.rtc_sctp_state.RtcSctpState.TheVariants.{Uninited, AwaitRemoteAssociation}
 use Rattle.rtc_sctp.specs.declared.rtc_sctp_state.RtcSctpState.TheVariants.{AwaitAssociationEstablished, Established}
-use Rattle.rtc_sctp.specs.declared.stream_entry_state.StreamEntryState.{StreamEntryState}
-use Rattle.rtc_sctp.specs.declared.stream_entry_state.StreamEntryState.TheVariants as entry
-use Rattle.rtc_sctp.specs.declared.stream_entry.StreamEntry.{StreamEntry}
-use Rattle.rtc_sctp.specs.Part.{AsksStart, AsksShutdown, AsksEnd, AsksReliability}
-use Rattle.rtc_sctp.specs.Entries.{entry_place, with_entry, new_entry, marked_entry, with_reset, has_open, is_open_state, is_retrying}
+use Rattle.rtc_sctp_entries.specs.declared.stream_entry.StreamEntry.{StreamEntry}
+use Rattle.rtc_sctp_entries.specs.Part.{AsksStart, AsksShutdown}
+use Rattle.rtc_sctp_entries.specs.Entries.{has_open, is_retrying, unclosed}
 use Rattle.rtc_sctp.specs.Streams.{SctpStreams, is_attached, is_established}
 
 -- the state of an association that was started as client or as server
@@ -87,17 +55,6 @@ write_refusal id len max assoc.ResetPending = sctp.Proto proto.Fault
 abbrev pub write_answer : (id len max : ℕ) → Result ℕ AssocError → Result ℕ SctpError
 write_answer id len max (Ok n) = Ok len
 write_answer id len max (Err e) = Err (write_refusal id len max e)
-
--- the entries that are not closed
-abbrev pub is_closed_state : StreamEntryState → Bool
-is_closed_state entry.AwaitOpen = false
-is_closed_state entry.AwaitConfig = false
-is_closed_state entry.AwaitDcepAck = false
-is_closed_state entry.Open = false
-is_closed_state entry.Closed = true
-
-abbrev pub unclosed : List StreamEntry → List StreamEntry
-unclosed entries = filter (λ own. not (is_closed_state own.state)) entries
 
 -- the earlier of two moments, where there are any
 abbrev pub earlier_of : Option ℕ → Option ℕ → Option ℕ

@@ -1,10 +1,5 @@
 pub mod SctpErrors
-pub mod Answers
-pub mod Entries
 pub mod Streams
-pub mod Part
-pub mod Visits
 pub mod Calls
 pub mod StreamCalls
 pub mod Polls
-pub mod StreamLaws

@@ -1,49 +1,23 @@
 -- What a poll of streams does: six steps in order, over again after a step that made work.
-use Rattle.std.specs.Prelude.{
-  ℕ,
-  zero,
-  suc,
-  ◌≡◌,
-  ◌+◌,
-  ◌==◌,
-  ◌&&◌,
-  not,
-  Bool,
-  true,
-  false,
-  List,
-  [],
-  ◌∷◌,
-  ◌++◌,
-  length,
-  slice_get,
-  slice_set,
-  if◌then◌else◌,
-  Option,
-  Some,
-  None,
-  is_some,
-  Result,
-  Ok,
-  Err,
-}
-use Rattle.std.specs.List.{filter, sum_by}
+use Rattle.std.specs.Prelude.{ℕ, zero, suc, ◌≡◌, ◌+◌, ◌&&◌, Bool, true, false, List, [], ◌∷◌, ◌++◌, length, slice_get}
+use Rattle.std.specs.Prelude.{slice_set, if◌then◌else◌, Option, Some, None, is_some, Result, Ok, Err}
+use Rattle.std.specs.List.{sum_by}
 use Rattle.std.specs.declared.alloc.AllocError.{AllocError}
 use Rattle.rtc_association.specs.declared.assoc_event.AssocEvent.{AssocEvent}
 use Rattle.rtc_association.specs.declared.assoc_event.AssocEvent.TheVariants as assoc
 use Rattle.rtc_association.specs.AssociationMeaning.{AssociationMeaning}
 use Rattle.rtc_sctp.specs.declared.rtc_sctp_state.RtcSctpState.{RtcSctpState}
 use Rattle.rtc_sctp.specs.declared.rtc_sctp_state.RtcSctpState.TheVariants.{Established}
-use Rattle.rtc_sctp.specs.declared.stream_entry_state.StreamEntryState.TheVariants.{AwaitConfig}
-use Rattle.rtc_sctp.specs.declared.stream_entry.StreamEntry.{StreamEntry}
-use Rattle.rtc_sctp.specs.declared.sctp_event.SctpEvent.{SctpEvent}
-use Rattle.rtc_sctp.specs.declared.sctp_event.SctpEvent.TheVariants as event
-use Rattle.rtc_sctp.specs.declared.met.Met.{Met}
-use Rattle.rtc_sctp.specs.declared.met.Met.TheVariants.{Nothing, Again, Output, OutOfMemory}
-use Rattle.rtc_sctp.specs.Entries.{entry_place, with_entry, new_entry, marked_entry, with_reset, is_open_awaited, entry_credit}
+use Rattle.rtc_sctp_entries.specs.declared.stream_entry_state.StreamEntryState.TheVariants.{AwaitConfig}
+use Rattle.rtc_sctp_entries.specs.declared.stream_entry.StreamEntry.{StreamEntry}
+use Rattle.rtc_sctp_entries.specs.declared.sctp_event.SctpEvent.{SctpEvent}
+use Rattle.rtc_sctp_entries.specs.declared.sctp_event.SctpEvent.TheVariants as event
+use Rattle.rtc_sctp_entries.specs.declared.met.Met.{Met}
+use Rattle.rtc_sctp_entries.specs.declared.met.Met.TheVariants.{Nothing, Again, Output, OutOfMemory}
+use Rattle.rtc_sctp_entries.specs.Entries.{entry_place, with_entry, new_entry, marked_entry, with_reset, without_reset, is_open_awaited}
+use Rattle.rtc_sctp_entries.specs.Entries.{entry_credit, unclosed}
 use Rattle.rtc_sctp.specs.Streams.{SctpStreams, is_established}
-use Rattle.rtc_sctp.specs.Visits.{Turn, turn, Visits}
-use Rattle.rtc_sctp.specs.Calls.{unclosed}
+use Rattle.rtc_sctp_entries.specs.Visits.{Turn, turn, Visits}
 
 -- a stream that the other end uses has an entry, which waits for its config
 abbrev pub with_expected : ℕ → List StreamEntry → List StreamEntry
@@ -58,9 +32,6 @@ abbrev pub FinishesAt : Option ℕ → List StreamEntry → List StreamEntry →
 FinishesAt None entries entries' = entries' ≡ entries
 FinishesAt (Some place) entries entries' =
     (e : StreamEntry) × (slice_get entries place ≡ Some e) × (entries' ≡ slice_set entries place (finished_entry e))
-
-abbrev pub without_reset : ℕ → List ℕ → List ℕ
-without_reset id resets = filter (λ own. not (own == id)) resets
 
 -- what is met where an event is taken
 abbrev pub event_met : AssocEvent → Met

@@ -3,13 +3,14 @@ use Rattle.std.specs.Prelude.{ℕ, ◌≡◌, ◌&&◌, Bool, true, false, List,
 use Rattle.std.specs.declared.alloc.AllocError.{AllocError}
 use Rattle.rtc_wire.specs.declared.channel_config.ChannelConfig.{ChannelConfig}
 use Rattle.rtc_association.specs.AssociationMeaning.{AssociationMeaning}
-use Rattle.rtc_sctp.specs.declared.asked.Asked.{Asked}
-use Rattle.rtc_sctp.specs.declared.asked.Asked.TheVariants as did
-use Rattle.rtc_sctp.specs.declared.stream_entry_state.StreamEntryState.{StreamEntryState}
-use Rattle.rtc_sctp.specs.declared.stream_entry_state.StreamEntryState.TheVariants.{AwaitOpen, AwaitConfig, AwaitDcepAck, Open, Closed}
-use Rattle.rtc_sctp.specs.declared.stream_entry.StreamEntry.{StreamEntry}
-use Rattle.rtc_sctp.specs.Part.{AsksEnd, AsksReliability}
-use Rattle.rtc_sctp.specs.Entries.{entry_place, with_entry, new_entry, marked_entry, with_reset, threshold_set}
+use Rattle.rtc_sctp_entries.specs.declared.asked.Asked.{Asked}
+use Rattle.rtc_sctp_entries.specs.declared.asked.Asked.TheVariants as did
+use Rattle.rtc_sctp_entries.specs.declared.stream_entry_state.StreamEntryState.{StreamEntryState}
+use Rattle.rtc_sctp_entries.specs.declared.stream_entry_state.StreamEntryState.TheVariants.{AwaitOpen, AwaitConfig}
+use Rattle.rtc_sctp_entries.specs.declared.stream_entry_state.StreamEntryState.TheVariants.{AwaitDcepAck, Open, Closed}
+use Rattle.rtc_sctp_entries.specs.declared.stream_entry.StreamEntry.{StreamEntry}
+use Rattle.rtc_sctp_entries.specs.Part.{AsksEnd, AsksReliability}
+use Rattle.rtc_sctp_entries.specs.Entries.{entry_place, with_entry, new_entry, marked_entry, with_reset, threshold_set}
 use Rattle.rtc_sctp.specs.Streams.{SctpStreams}
 
 -- by the answer of the association, the entry of a stream that the other end opened is open with a config, or marked
@@ -34,6 +35,13 @@ abbrev pub is_err : Result (Unit {0}) AllocError → Bool
 is_err (Ok x) = false
 is_err (Err x) = true
 
+-- the threshold of the entry at a place is asked for
+abbrev pub SetsThresholdAt : (n place : ℕ) → List StreamEntry → List StreamEntry → Type 0
+SetsThresholdAt n place es es' =
+    (e : StreamEntry)
+    × (slice_get es place ≡ Some e)
+    × (es' ≡ slice_set es place (record e { threshold = threshold_set n e.threshold }))
+
 -- the threshold of an entry is asked for
 abbrev pub SetsThreshold : (S : Type 0) → ℕ → Option ℕ → SctpStreams S → SctpStreams S → Type 0
 SetsThreshold S n None p q = q ≡ p
@@ -57,9 +65,14 @@ module _ {S : Type 0} (m : AssociationMeaning S) where
     Answered : (answer : Asked) → can_take p e.id config ≡ true → AsksReliability m p e.id config answer q
         → ConfigBy answer config e r e' → TakesConfig config p e r q e'
 
+  -- a stream that waits for its config is opened: one that has a config, which its reliability was refused for, is marked
+  abbrev pub OpensAwaiting : Bool → ChannelConfig → S → StreamEntry → Result (Unit {0}) AllocError → S → StreamEntry → Type 0
+  OpensAwaiting true config p e r q e' = (r ≡ Ok tt) × (q ≡ p) × (e' ≡ marked_entry e)
+  OpensAwaiting false config p e r q e' = TakesConfig config p e r q e'
+
   -- a stream that has an entry is opened: it is marked, but for one that waits for its config
   abbrev pub OpensOver : StreamEntryState → ChannelConfig → S → StreamEntry → Result (Unit {0}) AllocError → S → StreamEntry → Type 0
-  OpensOver AwaitConfig config p e r q e' = TakesConfig config p e r q e'
+  OpensOver AwaitConfig config p e r q e' = OpensAwaiting (is_some e.config) config p e r q e'
   OpensOver AwaitOpen config p e r q e' = (r ≡ Ok tt) × (q ≡ p) × (e' ≡ marked_entry e)
   OpensOver AwaitDcepAck config p e r q e' = (r ≡ Ok tt) × (q ≡ p) × (e' ≡ marked_entry e)
   OpensOver Open config p e r q e' = (r ≡ Ok tt) × (q ≡ p) × (e' ≡ marked_entry e)

@@ -1,14 +1,15 @@
 //! What the events of an association do.
 ghost use Rattle.std.specs.Prelude.{◌≡◌, ◌<◌, ◌++◌, ◌∷◌, [], true, None, vec_len, vec_capacity};
-ghost use Rattle.rtc_sctp.specs.declared.stream_entry_state.StreamEntryState.TheVariants.{AwaitConfig};
-ghost use Rattle.rtc_sctp.specs.Entries.{entry_place, new_entry as NewEntry};
-ghost use Rattle.rtc_sctp.specs.Polls.{with_expected, finished_entry, FinishesAt, book, event_met, AfterEvent, without_reset};
+ghost use Rattle.rtc_sctp_entries.specs.declared.stream_entry_state.StreamEntryState.TheVariants.{AwaitConfig};
+ghost use Rattle.rtc_sctp_entries.specs.Entries.{Ascend, entry_place, new_entry as NewEntry, without_reset};
+ghost use Rattle.rtc_sctp_entries.specs.declared.met.Met.TheVariants.{Again};
+ghost use Rattle.rtc_sctp.specs.Polls.{with_expected, finished_entry, FinishesAt, book, event_met, AfterEvent};
 
-use crate::entries::{place_of, put_reserved};
-use crate::met::Met;
-use crate::resets::{drop_reset, note_reset};
 use crate::{BufferedThresholdConfig, RtcSctpState, SctpEvent, StreamEntry, StreamEntryState};
 use rtc_association::AssocEvent;
+use rtc_sctp_entries::Met;
+use rtc_sctp_entries::entries::{place_of, put_reserved};
+use rtc_sctp_entries::resets::{drop_reset, note_reset};
 
 fn opened_there(id: u16) -> StreamEntry
     ensures { result ≡ NewEntry id AwaitConfig None }
@@ -25,7 +26,8 @@ fn opened_there(id: u16) -> StreamEntry
 
 /// The other end uses a stream, for whose entry there is room.
 pub fn expect_entry(entries: &mut Vec<StreamEntry>, id: u16)
-    requires { vec_len entries.old < vec_capacity entries.old }
+    requires ascend { Ascend entries.old.items }
+    requires room { vec_len entries.old < vec_capacity entries.old }
     ensures { entries.new.items ≡ with_expected id entries.old.items }
 {
     if place_of(entries.as_slice(), id).is_some() {
@@ -48,6 +50,7 @@ fn finish_entry(entry: &mut StreamEntry)
 
 /// The other end closed a stream.
 pub fn finish_stream(entries: &mut Vec<StreamEntry>, id: u16)
+    requires { Ascend entries.old.items }
     ensures { FinishesAt (entry_place id entries.old.items) entries.old.items entries.new.items }
 {
     match place_of(entries.as_slice(), id) {
@@ -73,13 +76,15 @@ pub fn make_room(
 }
 
 // The reset of a stream is outstanding no longer, and is to be told as completed.
-fn complete_reset(id: u16, resets: &mut Vec<u16>, completed: &mut Vec<u16>)
+fn complete_reset(id: u16, resets: &mut Vec<u16>, completed: &mut Vec<u16>) -> Met
     requires { vec_len completed.old < vec_capacity completed.old }
+    ensures again { result ≡ Again }
     ensures resets { resets.new.items ≡ without_reset id resets.old.items }
     ensures completed { completed.new.items ≡ completed.old.items ++ id ∷ [] }
 {
     drop_reset(id, resets);
     completed.push_reserved(id);
+    Met::Again
 }
 
 /// Does what an event does, where there is room for what it adds.
@@ -90,6 +95,7 @@ pub fn apply_event(
     resets: &mut Vec<u16>,
     completed: &mut Vec<u16>,
 ) -> Met
+    requires ascend { Ascend entries.old.items }
     requires entry_room { vec_len entries.old < vec_capacity entries.old }
     requires reset_room { vec_len resets.old < vec_capacity resets.old }
     requires completed_room { vec_len completed.old < vec_capacity completed.old }
@@ -116,10 +122,7 @@ pub fn apply_event(
             note_reset(id, resets);
             Met::Again
         }
-        AssocEvent::ResetComplete(id) => {
-            complete_reset(id, resets, completed);
-            Met::Again
-        }
+        AssocEvent::ResetComplete(id) => complete_reset(id, resets, completed),
         AssocEvent::BufferedAmountLow(id) => Met::Output(SctpEvent::BufferedAmountLow { id }),
     }
 }

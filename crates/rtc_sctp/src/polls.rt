@@ -1,15 +1,16 @@
 //! The polls of streams.
 ghost use Rattle.std.specs.Prelude.{◌≡◌, true, false};
+ghost use Rattle.rtc_sctp_entries.specs.Entries.{Ascend};
 ghost use Rattle.rtc_sctp.specs.Polls.{TakesPacket, GivesTransmit, TakesEvent, HandlesEvent, book, VisitsAll, VisitsEntries};
 ghost use Rattle.rtc_sctp.specs.Polls.{GivesCompletion, Else, MakesPass, PollsStreams, unclosed_streams};
 
-use crate::entries::drop_closed;
 use crate::events::{apply_event, make_room};
-use crate::met::Met;
 use crate::streams::RtcSctp;
-use crate::visit::visit;
 use crate::{RtcSctpState, SctpEvent, StreamEntry};
 use rtc_association::Association;
+use rtc_sctp_entries::Met;
+use rtc_sctp_entries::entries::drop_closed;
+use rtc_sctp_entries::visit::visit;
 use rtc_wire::{Bytes, Moment, Seq};
 use std::alloc::{AllocError, Global};
 
@@ -38,6 +39,7 @@ fn take_event<S: Association>(
     resets: &mut Vec<u16>,
     completed: &mut Vec<u16>,
 ) -> Met
+    requires { Ascend entries.old.items }
     ensures { TakesEvent S.association
         association.old (book state.old entries.old.items resets.old.items completed.old.items) result
         association.new (book state.new entries.new.items resets.new.items completed.new.items) }

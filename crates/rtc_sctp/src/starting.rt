@@ -3,10 +3,10 @@ ghost use Rattle.std.specs.Prelude.{◌≡◌};
 ghost use Rattle.rtc_sctp.specs.Calls.{Inits, Shuts, is_ended as IsEnded};
 ghost use Rattle.rtc_sctp.specs.Calls.{limit_or_default as LimitOrDefault, started_state as StartedState};
 
-use crate::asked::Asked;
 use crate::streams::RtcSctp;
-use crate::{ProtoError, RtcSctpState, SctpError, part};
+use crate::{ProtoError, RtcSctpState, SctpError};
 use rtc_association::Association;
+use rtc_sctp_entries::{Asked, part};
 use rtc_wire::{DEFAULT_REMOTE_MAX_MESSAGE_SIZE, Moment};
 
 fn limit_or_default(remote_max: Option<u32>) -> u32

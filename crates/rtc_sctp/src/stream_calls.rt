@@ -1,16 +1,17 @@
 //! The opening and closing of streams from here.
-ghost use Rattle.std.specs.Prelude.{◌≡◌, ◌≤◌, ◌<◌, true, IsSome, Some, Ok, length, vec_len};
-ghost use Rattle.rtc_sctp.specs.Entries.{entry_place, new_entry, marked_entry};
-ghost use Rattle.rtc_sctp.specs.declared.stream_entry_state.StreamEntryState.TheVariants.{AwaitOpen};
-ghost use Rattle.rtc_sctp.specs.StreamCalls.{can_take as CanTake, TakesConfig, OpensOver, OpensAt, OpensStream, MarksAt};
-ghost use Rattle.rtc_sctp.specs.StreamCalls.{EndsStream, EndsIf, ClosesAt, ClosesDataStream, SetsThreshold};
+ghost use Rattle.std.specs.Prelude.{◌≡◌, ◌≤◌, ◌<◌, true, is_some, IsSome, Some, Ok, length, vec_len};
+ghost use Rattle.rtc_sctp_entries.specs.Entries.{Ascend, entry_place, new_entry, marked_entry};
+ghost use Rattle.rtc_sctp_entries.specs.declared.stream_entry_state.StreamEntryState.TheVariants.{AwaitOpen};
+ghost use Rattle.rtc_sctp.specs.StreamCalls.{can_take as CanTake, TakesConfig, OpensAwaiting, OpensOver};
+ghost use Rattle.rtc_sctp.specs.StreamCalls.{OpensAt, OpensStream, MarksAt};
+ghost use Rattle.rtc_sctp.specs.StreamCalls.{EndsStream, EndsIf, ClosesAt, ClosesDataStream, SetsThreshold, SetsThresholdAt};
 
-use crate::asked::Asked;
-use crate::entries::{place_of, put_entry};
-use crate::resets::note_reset;
 use crate::streams::RtcSctp;
-use crate::{BufferedThresholdConfig, StreamEntry, StreamEntryState, part};
+use crate::{BufferedThresholdConfig, StreamEntry, StreamEntryState};
 use rtc_association::Association;
+use rtc_sctp_entries::entries::{place_of, put_entry};
+use rtc_sctp_entries::resets::note_reset;
+use rtc_sctp_entries::{Asked, part};
 use rtc_wire::ChannelConfig;
 use std::alloc::AllocError;
 
@@ -68,6 +69,21 @@ fn mark_here(entry: &mut StreamEntry) -> Result<(), AllocError>
     Ok(())
 }
 
+// A stream that waits for its config is to be opened. One that has a config is to be closed already.
+fn open_awaiting<S: Association>(
+    association: &mut S,
+    entry: &mut StreamEntry,
+    config: ChannelConfig,
+) -> Result<(), AllocError>
+    ensures { OpensAwaiting S.association (is_some entry.old.config) config association.old entry.old
+        result association.new entry.new }
+{
+    if entry.config.is_some() {
+        return mark_here(entry);
+    }
+    take_config(association, entry, config)
+}
+
 // A stream that has an entry is to be opened.
 fn open_over<S: Association>(
     association: &mut S,
@@ -77,7 +93,7 @@ fn open_over<S: Association>(
     ensures { OpensOver S.association entry.old.state config association.old entry.old result association.new entry.new }
 {
     match entry.state {
-        StreamEntryState::AwaitConfig => take_config(association, entry, config),
+        StreamEntryState::AwaitConfig => open_awaiting(association, entry, config),
         StreamEntryState::AwaitOpen => mark_here(entry),
         StreamEntryState::AwaitDcepAck => mark_here(entry),
         StreamEntryState::Open => mark_here(entry),
@@ -134,12 +150,21 @@ fn mark_at(entries: &mut Vec<StreamEntry>, place: usize)
     mark_entry(&mut entries[place]);
 }
 
+// Asks for the threshold of the entry at a place.
+fn set_threshold_at(entries: &mut Vec<StreamEntry>, place: usize, n: usize)
+    requires { place < vec_len entries.old }
+    ensures { SetsThresholdAt n place entries.old.items entries.new.items }
+{
+    entries[place].threshold.set(n);
+}
+
 fn open_in<S: Association>(
     association: &mut S,
     entries: &mut Vec<StreamEntry>,
     id: u16,
     config: ChannelConfig,
 ) -> Result<(), AllocError>
+    requires { Ascend entries.old.items }
     ensures { OpensAt S.association (entry_place id entries.old.items) id config association.old entries.old.items
         result association.new entries.new.items }
 {
@@ -155,6 +180,7 @@ fn close_in<S: Association>(
     resets: &mut Vec<u16>,
     id: u16,
 ) -> Result<(), AllocError>
+    requires { Ascend entries.old.items }
     ensures { ClosesAt S.association (entry_place id entries.old.items) id
         association.old entries.old.items resets.old.items result association.new entries.new.items resets.new.items }
 {
@@ -169,7 +195,7 @@ fn close_in<S: Association>(
 
 impl<S: Association> RtcSctp<S> {
     /// Opens a stream with a config. One that has an entry already is closed, but for one that the other end opened and
-    /// that both ends settled by other means.
+    /// that has no config yet, which an out-of-band config opens.
     pub fn open_stream(&mut self, id: u16, config: ChannelConfig) -> Result<(), AllocError>
         requires label { length config.label ≤ 65535 }
         requires protocol { length config.protocol ≤ 65535 }
@@ -197,7 +223,7 @@ impl<S: Association> RtcSctp<S> {
     {
         match place_of(self.entries.as_slice(), id) {
             None => {}
-            Some(place) => self.entries[place].threshold.set(n),
+            Some(place) => set_threshold_at(&mut self.entries, place, n),
         }
     }
 }

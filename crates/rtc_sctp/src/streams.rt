@@ -1,11 +1,11 @@
 //! The streams over an association.
 ghost use Rattle.std.specs.Prelude.{◌≡◌, ◌≤◌, ◌&&◌, if◌then◌else◌, MatchOption, None, Some, All, length};
-ghost use Rattle.rtc_sctp.specs.Entries.{stream_config};
+ghost use Rattle.rtc_sctp_entries.specs.Entries.{stream_config};
 ghost use Rattle.rtc_sctp.specs.Streams.{no_streams};
 
-use crate::entries::config_of;
 use crate::{RtcSctpState, StreamEntry};
 use rtc_association::Association;
+use rtc_sctp_entries::entries::config_of;
 use rtc_wire::{
     Bytes, ChannelConfig, DEFAULT_MAX_BUFFERED_AMOUNT, DEFAULT_REMOTE_MAX_MESSAGE_SIZE,
     MAX_DTLS_OVERHEAD, Moment, SCTP_OVERHEAD, Seq,
@@ -35,6 +35,7 @@ pub struct RtcSctp<S> {
 
 impl<S> Model for RtcSctp<S> {
     ghost use Rattle.rtc_sctp.specs.Streams.{SctpStreams};
+    ghost use Rattle.rtc_sctp_entries.specs.Entries.{Ascend};
 
     ghost Value = { SctpStreams S };
 
@@ -52,6 +53,8 @@ impl<S> Model for RtcSctp<S> {
       resets = s.resets.items;
       completed = s.completed.items;
     } };
+
+    ghost invariant = { λ s. Ascend s.entries.items };
 }
 
 impl<S: Association> RtcSctp<S> {

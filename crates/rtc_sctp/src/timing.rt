@@ -6,10 +6,10 @@ ghost use Rattle.rtc_sctp.specs.Calls.{state_on_input as StateOnInput, earlier_o
 ghost use Rattle.rtc_sctp.specs.Calls.{attached_wake as AttachedWake, retry_wake as RetryWake};
 
 use crate::RtcSctpState;
-use crate::entries::{any_retrying, drop_closed};
 use crate::streams::RtcSctp;
 use rtc_association::Association;
 use rtc_ready::Wake;
+use rtc_sctp_entries::entries::{any_retrying, drop_closed};
 use rtc_wire::{Moment, STREAM_OPEN_RETRY_INTERVAL};
 use std::alloc::AllocError;
 

@@ -3,10 +3,10 @@ ghost use Rattle.std.specs.Prelude.{◌≡◌, ◌-◌, if◌then◌else◌, tru
 ghost use Rattle.rtc_sctp.specs.Calls.{is_open_stream, can_write as CanWrite, WritesStream, WrittenIf, buffered_sum};
 ghost use Rattle.rtc_sctp.specs.Calls.{written_ppi as WrittenPpi, write_refusal as WriteRefusal};
 
-use crate::entries::has_open;
 use crate::streams::RtcSctp;
 use crate::{ProtoError, SctpError};
 use rtc_association::{AssocError, Association, Ppi};
+use rtc_sctp_entries::entries::has_open;
 
 fn written_ppi(binary: bool, empty: bool) -> Ppi
     ensures { result ≡ WrittenPpi binary empty }

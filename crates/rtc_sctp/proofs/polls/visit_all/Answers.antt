@@ -1,7 +1,7 @@
 use Rattle.std.proofs.Common.{arith}
-use Rattle.rtc_sctp.specs.Visits.{turn}
+use Rattle.rtc_sctp_entries.specs.Visits.{turn}
 use Rattle.std.proofs.lemmas.List.{length-set}
-use Rattle.rtc_sctp.proofs.StartedVisits.{visits_started}
+use Rattle.rtc_sctp_entries.proofs.StartedVisits.{visits_started}
 use Rattle.rtc_sctp.proofs.TourLemmas.{tour_more, tour_ends, tour_done}
 use Rattle.rtc_sctp.proofs.polls.visit_all.Goals as goal
 

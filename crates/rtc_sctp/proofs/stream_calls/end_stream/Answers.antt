@@ -1,6 +1,6 @@
-use Rattle.std.proofs.Common.{◌∙◌, refl, ap}
-use Rattle.rtc_sctp.specs.Entries.{with_reset}
-use Rattle.rtc_sctp.specs.declared.asked.Asked.TheVariants.{Done, Refused, OutOfMemory}
+use Rattle.std.proofs.Common.{◌∙◌, ap}
+use Rattle.rtc_sctp_entries.specs.Entries.{with_reset}
+use Rattle.rtc_sctp_entries.specs.declared.asked.Asked.TheVariants.{Done, Refused, OutOfMemory}
 use Rattle.rtc_sctp.specs.StreamCalls.{Ended}
 use Rattle.rtc_sctp.proofs.stream_calls.end_stream.Goals as goal
 

@@ -1,5 +1,5 @@
 use Rattle.std.proofs.Common.{◌∙◌, sym, ap}
-use Rattle.rtc_sctp.specs.Entries.{entry_place}
+use Rattle.rtc_sctp_entries.specs.Entries.{entry_place}
 use Rattle.rtc_sctp.proofs.CallLemmas.{opens_none}
 use Rattle.rtc_sctp.proofs.stream_calls.open_in.Goals as goal
 

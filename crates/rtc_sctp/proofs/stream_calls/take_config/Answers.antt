@@ -1,5 +1,5 @@
 use Rattle.std.proofs.Common.{◌∙◌, refl, sym}
-use Rattle.rtc_sctp.specs.declared.asked.Asked.TheVariants.{Done, Refused, OutOfMemory}
+use Rattle.rtc_sctp_entries.specs.declared.asked.Asked.TheVariants.{Done, Refused, OutOfMemory}
 use Rattle.rtc_sctp.specs.StreamCalls.{Answered}
 use Rattle.rtc_sctp.proofs.stream_calls.take_config.Goals as goal
 

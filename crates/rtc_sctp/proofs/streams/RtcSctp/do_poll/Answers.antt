@@ -1,4 +1,4 @@
-use Rattle.std.proofs.Common.{suc, arith, refl}
+use Rattle.std.proofs.Common.{suc, arith}
 use Rattle.rtc_sctp.proofs.PassLemmas.{passes_gain}
 use Rattle.rtc_sctp.proofs.streams.RtcSctp.do_poll.Goals as goal
 

@@ -1,5 +1,6 @@
 use Rattle.rtc_sctp.specs.Polls.{book}
 use Rattle.rtc_sctp.proofs.StepLemmas.{event_handled}
+use Rattle.rtc_sctp.proofs.OrderKept.{event_ascend}
 use Rattle.rtc_sctp.proofs.streams.RtcSctp.take_event.Goals as goal
 
 pub returns : goal.returns
@@ -7,3 +8,6 @@ returns g c =
     event_handled g.S.Association.association _ c.args.self.now c.take_event.result c.take_event.new.association
     (book c.take_event.new.state c.take_event.new.entries.items c.take_event.new.resets.items c.take_event.new.completed.items)
     c.self.view_is c.take_event.ensures
+
+pub invariant_of-self : goal.invariant_of-self
+invariant_of-self g c = event_ascend g.S.Association.association _ _ _ _ _ c.take_event.ensures c.self.invariant

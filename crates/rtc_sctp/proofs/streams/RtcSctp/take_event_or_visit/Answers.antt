@@ -1,4 +1,4 @@
-use Rattle.rtc_sctp.specs.Polls.{GivesTransmit, HandlesEvent, VisitsEntries, GivesCompletion, Else}
+use Rattle.rtc_sctp.specs.Polls.{HandlesEvent, VisitsEntries, GivesCompletion, Else}
 use Rattle.rtc_sctp.proofs.StepLemmas.{else_go, else_stop}
 use Rattle.rtc_sctp.proofs.streams.RtcSctp.take_event_or_visit.Goals as goal
 

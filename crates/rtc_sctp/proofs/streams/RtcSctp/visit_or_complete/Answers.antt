@@ -1,4 +1,4 @@
-use Rattle.rtc_sctp.specs.Polls.{GivesTransmit, HandlesEvent, VisitsEntries, GivesCompletion, Else}
+use Rattle.rtc_sctp.specs.Polls.{VisitsEntries, GivesCompletion}
 use Rattle.rtc_sctp.proofs.StepLemmas.{else_go, else_stop}
 use Rattle.rtc_sctp.proofs.streams.RtcSctp.visit_or_complete.Goals as goal
 

@@ -1,5 +1,0 @@
-use Rattle.rtc_sctp.proofs.PartLemmas.{started_opened}
-use Rattle.rtc_sctp.proofs.part.open.Goals as goal
-
-pub returns-clause-started : goal.returns-clause-started
-returns-clause-started g c = started_opened _ g.met.S.Association.laws _ _ _ _ c.requires c.open_stream.ensures

@@ -1,0 +1,5 @@
+pub mod Answers
+pub mod Entries
+pub mod Part
+pub mod Visits
+pub mod StreamLaws

@@ -1,0 +1,122 @@
+//! What a poll does with one stream in use.
+ghost use Rattle.std.specs.Prelude.{◌≡◌, true};
+ghost use Rattle.rtc_sctp_entries.specs.Visits.{turn, ReadsEntry, HandsThreshold, AttendsBy, Attends, Visits};
+
+use crate::asked::Asked;
+use crate::closing::{close_entry, mark};
+use crate::heard::Heard;
+use crate::message::take_message;
+use crate::met::Met;
+use crate::opens::open_entry;
+use crate::{BufferedThresholdConfig, StreamEntry, StreamEntryState, part};
+use rtc_association::Association;
+use rtc_wire::Moment;
+use std::alloc::Global;
+
+// Reads one message of an entry's stream.
+fn read_entry<S: Association>(
+    alloc: Global,
+    association: &mut S,
+    entry: &mut StreamEntry,
+    resets: &mut Vec<u16>,
+) -> Met
+    requires { S.association.started association.old ≡ true }
+    ensures { ReadsEntry S.association (turn association.old entry.old resets.old.items)
+        result (turn association.new entry.new resets.new.items) }
+{
+    match part::read(association, entry.id) {
+        Heard::Nothing => Met::Nothing,
+        Heard::Message(ppi, bytes) => {
+            take_message(alloc, ppi, bytes, association, entry, resets)
+        }
+        Heard::Refused => mark(entry),
+        Heard::OutOfMemory => Met::OutOfMemory,
+    }
+}
+
+// Hands a threshold over once, refused or not.
+fn hand_threshold<S: Association>(
+    n: usize,
+    association: &mut S,
+    entry: &mut StreamEntry,
+    _resets: &[u16],
+) -> Met
+    requires { S.association.started association.old ≡ true }
+    ensures { HandsThreshold S.association n (turn association.old entry.old _resets.now)
+        result (turn association.new entry.new _resets.now) }
+{
+    match part::hand_threshold(association, entry.id, n) {
+        Asked::Done => {
+            entry.threshold = BufferedThresholdConfig::Configured(n);
+            Met::Again
+        }
+        Asked::Refused => {
+            entry.threshold = BufferedThresholdConfig::Configured(n);
+            Met::Again
+        }
+        Asked::OutOfMemory => Met::OutOfMemory,
+    }
+}
+
+fn attend_unmarked<S: Association>(
+    alloc: Global,
+    association: &mut S,
+    entry: &mut StreamEntry,
+    resets: &mut Vec<u16>,
+) -> Met
+    requires { S.association.started association.old ≡ true }
+    ensures { AttendsBy S.association entry.old.threshold (turn association.old entry.old resets.old.items)
+        result (turn association.new entry.new resets.new.items) }
+{
+    match entry.threshold {
+        BufferedThresholdConfig::Desired(n) => hand_threshold(
+            n,
+            association,
+            entry,
+            resets.as_slice(),
+        ),
+        BufferedThresholdConfig::Unconfigured => read_entry(alloc, association, entry, resets),
+        BufferedThresholdConfig::Configured(_) => read_entry(alloc, association, entry, resets),
+    }
+}
+
+// Closes, marks or reads an entry past its opening.
+fn attend<S: Association>(
+    alloc: Global,
+    association: &mut S,
+    entry: &mut StreamEntry,
+    resets: &mut Vec<u16>,
+) -> Met
+    requires { S.association.started association.old ≡ true }
+    ensures { Attends S.association (turn association.old entry.old resets.old.items)
+        result (turn association.new entry.new resets.new.items) }
+{
+    if entry.marked {
+        return close_entry(association, entry, resets);
+    }
+    if association.has_stream(entry.id) {
+        return attend_unmarked(alloc, association, entry, resets);
+    }
+    mark(entry)
+}
+
+/// Does what there is to do with one stream in use.
+pub fn visit<S: Association>(
+    alloc: Global,
+    now: Moment,
+    association: &mut S,
+    entry: &mut StreamEntry,
+    resets: &mut Vec<u16>,
+) -> Met
+    requires { S.association.started association.old ≡ true }
+    ensures { Visits S.association now (turn association.old entry.old resets.old.items)
+        result (turn association.new entry.new resets.new.items) }
+{
+    match entry.state {
+        StreamEntryState::AwaitOpen => open_entry(alloc, now, association, entry, resets),
+        StreamEntryState::AwaitConfig => attend(alloc, association, entry, resets),
+        StreamEntryState::AwaitDcepAck => attend(alloc, association, entry, resets),
+        StreamEntryState::Open => attend(alloc, association, entry, resets),
+        StreamEntryState::Closed => Met::Nothing,
+    }
+}

@@ -1,0 +1,3 @@
+pub mod StreamMessages
+pub mod StreamActs
+pub mod StreamRuns
