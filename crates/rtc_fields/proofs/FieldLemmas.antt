@@ -11,7 +11,7 @@ use Rattle.rtc_fields.specs.Fields.{each, onto, first}
 abbrev pub so_far : {B : Type 0} → List B → Option (List B) → Option (List B)
 so_far front rest = option_map (λ bs. front ++ bs) rest
 
-regroup : {B : Type 0} (front : List B) (b : B) (rest : Option (List B)) → so_far front (onto (Some b) rest) ≡ so_far (front ++ b ∷ []) rest
+pub regroup : {B : Type 0} (front : List B) (b : B) (rest : Option (List B)) → so_far front (onto (Some b) rest) ≡ so_far (front ++ b ∷ []) rest
 regroup front b None = refl
 regroup front b (Some bs) = ap Some (sym (append_assoc front (b ∷ []) bs))
 

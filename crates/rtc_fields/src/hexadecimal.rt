@@ -1,9 +1,7 @@
 //! Bytes as hex digits.
-ghost use Rattle.std.specs.Prelude.{◌≡◌, ◌<◌, ◌++◌, ◌∷◌, [], map, IfOk, OnOk, option_map, string_bytes};
-ghost use Rattle.rtc_fields.specs.Fields.{each};
+ghost use Rattle.std.specs.Prelude.{◌≡◌, ◌<◌, ◌++◌, ◌∷◌, [], IfOk, OnOk, option_map, string_bytes};
 ghost use Rattle.rtc_fields.specs.Hex as spec;
 
-use crate::parts;
 use rtc_wire::Bytes;
 use std::alloc::{AllocError, Global};
 
@@ -18,28 +16,38 @@ fn hex_digit(byte: u8) -> Option<u8>
     }
 }
 
-fn hex_byte(text: &str) -> Option<u8>
-    ensures { result ≡ spec.hex_byte text.now }
+fn hex_pair(high: u8, low: u8) -> Option<u8>
+    ensures { result ≡ spec.hex_pair (spec.hex_digit high) (spec.hex_digit low) }
 {
-    let [high, low] = text.as_bytes() else {
-        return None;
-    };
-    match (hex_digit(*high), hex_digit(*low)) {
+    match (hex_digit(high), hex_digit(low)) {
         (Some(high), Some(low)) if high < 16 && low < 16 => Some(16 * high + low),
         _ => None,
     }
 }
 
-fn bytes_of_parts(alloc: Global, parts: &[&str]) -> Result<Option<Vec<u8>>, AllocError>
-    ensures { IfOk result (λ read. option_map (λ bytes. bytes.items) read ≡ each spec.hex_byte (map (λ part. part.now) parts.now)) }
+fn bytes_between(alloc: Global, text: &[u8]) -> Result<Option<Vec<u8>>, AllocError>
+    ensures { IfOk result (λ read. option_map (λ bytes. bytes.items) read ≡ spec.hex_bytes text.now) }
 {
-    let mut bytes = Vec::new(alloc);
-    for part in parts {
-        let Some(byte) = hex_byte(part) else {
+    let mut bytes = Vec::with_capacity(alloc, text.len() / 3 + 1)?;
+    let mut rest = text;
+    while let [high, low, colon, more @ ..] = rest {
+        if *colon != b':' {
+            return Ok(None);
+        }
+        let Some(byte) = hex_pair(*high, *low) else {
             return Ok(None);
         };
         bytes.push(byte)?;
+        rest = more;
     }
+    if rest.len() != 2 {
+        return Ok(None);
+    }
+    let (high, low) = (rest[0], rest[1]);
+    let Some(byte) = hex_pair(high, low) else {
+        return Ok(None);
+    };
+    bytes.push(byte)?;
     Ok(Some(bytes))
 }
 
@@ -47,8 +55,7 @@ fn bytes_of_parts(alloc: Global, parts: &[&str]) -> Result<Option<Vec<u8>>, Allo
 pub fn hex_bytes(alloc: Global, text: &str) -> Result<Option<Bytes>, AllocError>
     ensures { IfOk result (λ read. read ≡ spec.hex_bytes text.now) }
 {
-    let parts = parts(alloc, text, ':')?;
-    match bytes_of_parts(alloc, parts.as_slice())? {
+    match bytes_between(alloc, text.as_bytes())? {
         None => Ok(None),
         Some(bytes) => Ok(Some(Bytes::new(bytes))),
     }
@@ -78,7 +85,7 @@ pub fn push_hex(out: &mut String, bytes: &[u8]) -> Result<(), AllocError>
     };
     push_pair(out, *first)?;
     for byte in rest {
-        out.push_str(":")?;
+        out.push(':')?;
         push_pair(out, *byte)?;
     }
     Ok(())

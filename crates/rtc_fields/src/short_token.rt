@@ -64,10 +64,19 @@ impl ShortToken {
         ensures value { result.now ≡ self.now }
         ensures token { IsShortToken self.now ≡ true }
     {
-        match str::from_utf8(&self.bytes[..self.len as usize]) {
+        match str::from_utf8(self.as_bytes()) {
             Ok(text) => text,
             Err(_) => unreachable!(),
         }
+    }
+
+    /// The bytes of the token, lent.
+    #[inline(always)]
+    fn as_bytes(&self) -> &[u8]
+        ensures value { result.now ≡ self.now }
+        ensures token { IsShortToken self.now ≡ true }
+    {
+        &self.bytes[..self.len as usize]
     }
 }
 
@@ -77,7 +86,7 @@ impl PartialEq for ShortToken {
     ghost laws = { partial_equiv_from_equiv nat_list_eq_equiv };
 
     fn eq(&self, other: &ShortToken) -> bool {
-        self.as_str() == other.as_str()
+        self.as_bytes() == other.as_bytes()
     }
 }
 
@@ -105,6 +114,6 @@ impl Ord for ShortToken {
     ghost matches_eq = { texts_ties };
 
     fn cmp(&self, other: &ShortToken) -> Ordering {
-        self.as_str().cmp(other.as_str())
+        self.as_bytes().cmp(other.as_bytes())
     }
 }

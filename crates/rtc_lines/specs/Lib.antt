@@ -1,3 +1,4 @@
+pub mod SkippedLines
 pub mod SdpReads
 pub use Rattle.rtc_sdp_reader.specs.Reading
 pub use Rattle.rtc_sdp_writer.specs.SessionRows

@@ -1,10 +1,12 @@
 //! Offers and answers, and the values that they are made of.
 #![tactic(auto)]
 
+mod laws;
 mod sdp_answer;
 mod sdp_offer;
 mod sdp_text;
 
+pub use laws::skipped_lines_change_nothing;
 pub use rtc_sdp_values::{
     Candidate, CandidateKind, CodecConfig, Direction, Extension, ExtensionMap, Fingerprint,
     IceCreds, Inconsistent, LineKind, LineRow, MediaKind, MediaLine, Mid, Msid, PayloadRow, Pt,

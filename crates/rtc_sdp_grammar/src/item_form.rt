@@ -1,5 +1,5 @@
 //! The form of lines.
-ghost use Rattle.std.specs.Prelude.{◌≡◌, IfOk};
+ghost use Rattle.std.specs.Prelude.{◌≡◌, ◌∷◌, IfOk, IfSome};
 ghost use Rattle.std.specs.Char.{is_ascii_lowercase};
 ghost use Rattle.std.specs.List.{list_all};
 ghost use Rattle.rtc_sdp_grammar.specs.ItemForm as spec;
@@ -66,13 +66,24 @@ fn lettered(alloc: Global, name: &str, value: &str) -> Result<Item, AllocError>
     }
 }
 
+/// What stands behind `a=`; None where the line begins otherwise.
+fn attribute_value(line: &str) -> Option<&str>
+    ensures { IfSome result (λ value. line.now ≡ 97 ∷ 61 ∷ value.now) }
+{
+    line.strip_prefix("a=")
+}
+
 /// What one line says (RFC 8866, section 5).
-#[tactic(auto, using(crate::proofs::WordLemmas::blank_line, crate::proofs::WordLemmas::other_line))]
+// Most lines are attributes, whose letter is looked at first.
+#[tactic(auto, using(crate::proofs::WordLemmas::blank_line, crate::proofs::WordLemmas::a_line, crate::proofs::WordLemmas::other_line))]
 pub fn item_of(alloc: Global, line: &str) -> Result<Item, AllocError>
     ensures { IfOk result (λ item. item ≡ spec.item_of line.now) }
 {
     if line.is_empty() {
         return Ok(Item::Blank);
+    }
+    if let Some(value) = attribute_value(line) {
+        return attribute(alloc, value);
     }
     match cut(line, '=') {
         None => Ok(Item::Bad),
