@@ -88,9 +88,9 @@ paired_more given rows kept row own paired is = record {
 
 -- the channels with one more are those that a config makes
 pub made : (held : Channels) (given : ℕ) (rows : List (ℕ × Option ℕ)) (kept : List Kept) (id : ℕ) (config : ChannelConfig)
-    → record { given = given; rows = channels_of rows kept } ≡ held → length rows ≡ length kept → id ≡ given
-    → record { given = given + 1; rows = channels_of (rows ++ (id, None) ∷ []) (kept ++ record { negotiated = config.negotiated; config = None } ∷ []) } ≡ with_channel held config
-made held given rows kept id config is same next = rw (← is, next, one_more rows kept (given, None) (record { negotiated = config.negotiated; config = None }) same) refl
+    → (holds : List ℕ) → record { given = given; rows = channels_of rows kept; holds = holds } ≡ held → length rows ≡ length kept → id ≡ given
+    → record { given = given + 1; rows = channels_of (rows ++ (id, None) ∷ []) (kept ++ record { negotiated = config.negotiated; config = None } ∷ []); holds = holds } ≡ with_channel held config
+made held given rows kept id config holds is same next = rw (← is, next, one_more rows kept (given, None) (record { negotiated = config.negotiated; config = None }) same) refl
 
 -- a channel that is found has its place behind the first
 pub place_behind : (place id : ℕ) (rows : List (ℕ × Option ℕ)) (i : ℕ) → place_of_channel place id rows ≡ Some i → place ≤ i
@@ -102,7 +102,7 @@ pub place_below : (place id : ℕ) (rows : List (ℕ × Option ℕ)) (i : ℕ) �
 place_below place id [] i found = absurd (cc)
 place_below place id (row ∷ rows) i found = grind (arith, place_below (place + 1) id rows i)
 
-some_same : (one other : ℕ) → Some one ≡ Some other → one ≡ other
+pub some_same : (one other : ℕ) → Some one ≡ Some other → one ≡ other
 some_same one other same = cc
 
 abbrev channel_of : ℕ × Option ℕ → Kept → Channel

@@ -1,1 +1,12 @@
 pub mod KeptLemmas
+pub mod GrantLemmas
+pub mod PlaceLemmas
+pub mod RowLemmas
+pub mod GivenLemmas
+pub mod HandledLemmas
+pub mod HoldLemmas
+pub mod AllocationLemmas
+pub mod GivingLemmas
+pub mod OpeningLemmas
+pub mod UnheldLemmas
+pub mod WorkedHolds

@@ -46,9 +46,11 @@ pub record Channels : Type 0 where
   -- how many numbers were given; the first is 0
   pub given : ℕ
   pub rows : List Channel
+  -- the streams that are held until they are reset, in ascending order, each as often as it is held
+  pub holds : List ℕ
 
 abbrev pub no_channels : Channels
-no_channels = record { given = 0; rows = [] }
+no_channels = record { given = 0; rows = []; holds = [] }
 
 abbrev pub has_id : ℕ → Channel → Bool
 has_id id channel = channel.id == id
@@ -86,7 +88,7 @@ unconfirmed id config = record { id = id; stream = None; negotiated = config.neg
 
 -- the channels with one more, numbered above all before
 abbrev pub with_channel : Channels → ChannelConfig → Channels
-with_channel held config = record { given = held.given + 1; rows = held.rows ++ unconfirmed held.given config ∷ [] }
+with_channel held config = record held { given = held.given + 1; rows = held.rows ++ unconfirmed held.given config ∷ [] }
 
 -- A channel is made of a config, or refused.
 abbrev pub MakesChannel : Channels → ChannelConfig → Result ℕ ChannelError → Channels → Type 0

@@ -1,2 +1,6 @@
+pub mod Allocation
 pub mod Channels
+pub mod Granted
+pub mod Holds
 pub mod Kept
+pub mod Openings

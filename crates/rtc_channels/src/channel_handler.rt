@@ -13,9 +13,11 @@ ghost use Rattle.rtc_channels.specs.Channels.{
 };
 
 use crate::ChannelError;
-use crate::kept::{Kept, find_channel, find_place, find_stream, is_claimed};
+use crate::grants::{Grants, owner_of};
+use crate::kept::{Kept, find_place, find_stream, is_claimed};
 use rtc_wire::{ChannelConfig, ChannelId, Text};
 use std::alloc::Global;
+use std::collections::BTreeMap;
 use std::marker::Model;
 
 // An open message has two bytes for the length of a label or protocol (RFC 8832, section 5.1).
@@ -27,23 +29,36 @@ fn is_overlong(text: &Text) -> bool
     text.as_str().len() > LONGEST_TEXT
 }
 
+// The number of the next channel, by how many were given.
+pub(crate) fn next_channel(given: u64) -> ChannelId
+    ensures { result ≡ given }
+{
+    ChannelId::new(given)
+}
+
 /// The channels of a peer, numbered as they were made.
 #[derive(Debug, Drop)]
 pub struct ChannelHandler {
-    given: u64,
-    rows: Vec<(ChannelId, Option<u16>)>,
-    kept: Vec<Kept>,
+    pub(crate) given: u64,
+    pub(crate) rows: Vec<(ChannelId, Option<u16>)>,
+    pub(crate) kept: Vec<Kept>,
+    pub(crate) grants: Grants,
 }
 
 impl Model for ChannelHandler {
     ghost use Rattle.rtc_channels.specs.Channels.{Channels};
-    ghost use Rattle.rtc_channels.specs.Kept.{channels_of, ArePaired};
+    ghost use Rattle.rtc_channels.specs.Kept.{channels_of};
+    ghost use Rattle.rtc_channels.specs.Granted.{holds_of, AreHandled};
 
     ghost Value = { Channels };
 
-    ghost view = { λ handler. record { given = handler.given; rows = channels_of handler.rows.items handler.kept.items } };
+    ghost view = { λ handler. record {
+      given = handler.given;
+      rows = channels_of handler.rows.items handler.kept.items;
+      holds = holds_of handler.grants;
+    } };
 
-    ghost invariant = { λ handler. ArePaired handler.given handler.rows.items handler.kept.items };
+    ghost invariant = { λ handler. AreHandled handler.given handler.rows.items handler.kept.items handler.grants };
 }
 
 impl ChannelHandler {
@@ -55,6 +70,7 @@ impl ChannelHandler {
             given: 0,
             rows: Vec::new(alloc),
             kept: Vec::new(alloc),
+            grants: BTreeMap::new(alloc),
         }
     }
 
@@ -76,7 +92,7 @@ impl ChannelHandler {
     pub fn channel_id_by_stream_id(&self, s: u16) -> Option<ChannelId>
         ensures { result ≡ channel_of_stream s (map numbered_stream self.now.rows) }
     {
-        find_channel(self.rows.as_slice(), s)
+        owner_of(&self.grants, s)
     }
 
     /// The stream that a channel was given.
@@ -108,7 +124,7 @@ impl ChannelHandler {
         }
         self.rows.reserve(1)?;
         self.kept.reserve(1)?;
-        let id = ChannelId::new(self.given);
+        let id = next_channel(self.given);
         self.rows.push_reserved((id, None));
         self.kept.push_reserved(Kept {
             negotiated: config.negotiated,

@@ -1,7 +1,7 @@
 //! What is kept of channels beside their numbers and streams.
-ghost use Rattle.std.specs.Prelude.{◌≡◌, ◌||◌, length};
-ghost use Rattle.rtc_channels.specs.Kept.{channels_of, place_of_channel, kept_config};
-ghost use Rattle.rtc_channels.specs.Channels.{is_of_stream as IsStream, is_claimed as IsClaimed, channel_of_stream, stream_of_channel};
+ghost use Rattle.std.specs.Prelude.{◌≡◌, ◌<◌, ◌||◌, IfSome, length};
+ghost use Rattle.rtc_channels.specs.Kept.{channels_of, AreAscending, IsLowerBound, place_of_channel, kept_config};
+ghost use Rattle.rtc_channels.specs.Channels.{is_of_stream as IsStream, is_claimed as IsClaimed, stream_of_channel};
 
 use rtc_wire::{ChannelConfig, ChannelId};
 
@@ -50,38 +50,47 @@ pub fn is_claimed(rows: &[(ChannelId, Option<u16>)], kept: &[Kept], stream: u16)
     false
 }
 
-/// The place of the row of a channel.
-pub fn find_place(rows: &[(ChannelId, Option<u16>)], id: ChannelId) -> Option<usize>
-    ensures { result ≡ place_of_channel 0 id rows.now }
+// The place of the first row with this number or a greater one.
+fn lower_bound(rows: &[(ChannelId, Option<u16>)], id: ChannelId) -> usize
+    requires { AreAscending rows.now }
+    ensures { IsLowerBound id rows.now result }
 {
-    for (place, row) in rows.iter().enumerate() {
-        if row.0 == id {
-            return Some(place);
+    let mut low = 0usize;
+    let mut high = rows.len();
+    'search: while low < high {
+        let middle = low + (high - low) / 2;
+        if rows[middle].0.number() < id.number() {
+            low = middle + 1;
+        } else {
+            high = middle;
         }
     }
-    None
+    low
 }
 
-/// The channel that a stream was given to.
-pub fn find_channel(rows: &[(ChannelId, Option<u16>)], stream: u16) -> Option<ChannelId>
-    ensures { result ≡ channel_of_stream stream rows.now }
+/// The place of the row of a channel.
+pub fn find_place(rows: &[(ChannelId, Option<u16>)], id: ChannelId) -> Option<usize>
+    requires { AreAscending rows.now }
+    ensures place { result ≡ place_of_channel 0 id rows.now }
+    ensures within { IfSome result (λ place. place < length rows.now) }
 {
-    for row in rows {
-        if is_of_stream(stream, row.1) {
-            return Some(row.0);
-        }
+    let place = lower_bound(rows, id);
+    if place == rows.len() {
+        return None;
+    }
+    if rows[place].0 == id {
+        return Some(place);
     }
     None
 }
 
 /// The stream that a channel was given.
 pub fn find_stream(rows: &[(ChannelId, Option<u16>)], id: ChannelId) -> Option<u16>
+    requires { AreAscending rows.now }
     ensures { result ≡ stream_of_channel id rows.now }
 {
-    for row in rows {
-        if row.0 == id {
-            return row.1;
-        }
+    match find_place(rows, id) {
+        Some(place) => rows[place].1,
+        None => None,
     }
-    None
 }

@@ -1,0 +1,183 @@
+//! The streams that channels are given (RFC 8832, section 6).
+ghost use Rattle.std.specs.Prelude.{◌≡◌, ◌<◌, ◌==◌, ◌||◌, true, false, not, is_some, filter, length, map, slice_get, IfSome, OnOk, OnErr};
+ghost use Rattle.std.specs.List.{list_any};
+ghost use Rattle.rtc_free_ids.specs.Ids.{parity_of as ParityOf, all_ids};
+ghost use Rattle.rtc_channels.specs.Granted.{is_granted as IsGranted, stream_of_free};
+ghost use Rattle.rtc_channels.specs.Holds.{is_stream_held as IsHeld};
+ghost use Rattle.rtc_channels.specs.Channels.{numbered_stream};
+ghost use Rattle.rtc_channels.specs.Allocation.{
+  AreUnshared,
+  is_given as IsGiven,
+  is_taken as IsTaken,
+  is_waiting as IsWaiting,
+  free_streams,
+  sought_at,
+  given_to,
+  IsBare,
+  Allocates,
+  is_ensured as IsEnsured,
+  channel_ensured,
+};
+
+use crate::ChannelHandler;
+use crate::channel_handler::next_channel;
+use crate::grants::{Grants, count_holds, give, owner_of};
+use crate::kept::Kept;
+use rtc_free_ids::FreeIds;
+use rtc_wire::ChannelId;
+use std::alloc::AllocError;
+
+// Whether a stream cannot be given.
+fn is_granted(grants: &Grants, stream: u16) -> bool
+    ensures { result ≡ IsGranted grants.now stream }
+{
+    owner_of(grants, stream).is_some() || count_holds(grants, stream) > 0
+}
+
+// The streams of one side that can be given.
+fn collect_free(grants: &Grants, client: bool) -> FreeIds
+    ensures parity { result.parity ≡ ParityOf client }
+    ensures free { result.free ≡ filter (λ stream. not (IsGranted grants.now stream)) (all_ids (ParityOf client)) }
+{
+    let mut ids = FreeIds::new(client);
+    'streams: for stream in grants.keys() {
+        if is_granted(grants, *stream) {
+            ids.take(*stream);
+        }
+    }
+    ids
+}
+
+// The stream for a channel, by what it was settled for.
+fn stream_for(negotiated: Option<u16>, grants: &Grants, ids: &FreeIds) -> Option<u16>
+    ensures sought { result ≡ stream_of_free negotiated grants.now ids.now.free }
+    ensures fits { IfSome negotiated (λ stream. stream < 65536) }
+{
+    match negotiated {
+        Some(stream) => {
+            if is_granted(grants, stream) {
+                return None;
+            }
+            Some(stream)
+        }
+        None => ids.least(),
+    }
+}
+
+// Whether a row has no stream.
+fn any_bare(rows: &[(ChannelId, Option<u16>)]) -> bool
+    ensures { result ≡ list_any (λ row. not (is_some row.1)) rows.now }
+{
+    rows.iter().any(|row| row.1.is_none())
+}
+
+impl ChannelHandler {
+    // The streams of one side that can be given.
+    pub(crate) fn free_ids(&self, client: bool) -> FreeIds
+        ensures parity { result.parity ≡ ParityOf client }
+        ensures free { result.free ≡ free_streams (ParityOf client) self.now }
+    {
+        collect_free(&self.grants, client)
+    }
+
+    // Whether a channel waits for a stream.
+    pub(crate) fn is_waiting(&self) -> bool
+        ensures { result ≡ IsWaiting self.now.rows }
+    {
+        any_bare(self.rows.as_slice())
+    }
+
+    // How many channels there are.
+    pub(crate) fn count(&self) -> usize
+        ensures { result ≡ length self.now.rows }
+    {
+        self.rows.as_slice().len()
+    }
+
+    // The stream that the channel at a place is to be given, if there is one.
+    pub(crate) fn seek(&self, place: usize, ids: &FreeIds) -> Option<u16>
+        requires place { place < length self.now.rows }
+        requires free { ids.now.free ≡ free_streams ids.now.parity self.now }
+        ensures { result ≡ sought_at (slice_get self.now.rows place) ids.now.parity self.now }
+    {
+        if self.rows[place].1.is_some() {
+            return None;
+        }
+        stream_for(self.kept[place].negotiated, &self.grants, ids)
+    }
+
+    // Gives a stream that no channel has to the channel at a place, which has none.
+    fn give_at(&mut self, place: usize, stream: u16) -> Result<(), AllocError>
+        requires bare { IsBare (slice_get self.old.rows place) }
+        requires free { IsGiven stream self.old.rows ≡ false }
+        ensures given { OnOk result (self.new ≡ given_to (slice_get self.old.rows place) stream self.old) }
+        ensures taken { OnOk result ((q : _) → IsTaken q self.new ≡ (IsTaken q self.old || (q == stream))) }
+        ensures behind { (k : _) → place < k → slice_get self.new.rows k ≡ slice_get self.old.rows k }
+        ensures count { length self.new.rows ≡ length self.old.rows }
+        ensures refused { OnErr result (self.new ≡ self.old) }
+    {
+        give(&mut self.grants, stream, self.rows[place].0)?;
+        self.rows[place].1 = Some(stream);
+        Ok(())
+    }
+
+    /// Gives streams to the channels that have none, in order of their numbers. One that was settled gets its own where no
+    /// channel has it and it is not held, another the least of its parity. The others stay without.
+    pub fn do_allocations(&mut self, client: bool) -> Result<(), AllocError>
+        ensures allocates { Allocates (ParityOf client) self.old result self.new }
+        ensures unheld { (s : _) → IsGiven s self.old.rows ≡ false → IsGiven s self.new.rows ≡ true → IsHeld s self.old.holds ≡ false }
+    {
+        if !self.is_waiting() {
+            return Ok(());
+        }
+        let mut ids = self.free_ids(client);
+        let count = self.count();
+        let mut place = 0usize;
+        'places: while place < count {
+            if let Some(stream) = self.seek(place, &ids) {
+                if self.give_at(place, stream).is_err() {
+                    return Err(AllocError);
+                }
+                ids.take(stream);
+            }
+            place += 1;
+        }
+        Ok(())
+    }
+
+    /// No two channels have one stream.
+    pub fn streams_are_unshared(&self)
+        ensures { AreUnshared (map numbered_stream self.now.rows) }
+    {
+        let _rows = self.rows.as_slice();
+    }
+
+    // Whether a channel has a stream, or no number is left for one.
+    fn is_ensured(&self, s: u16) -> bool
+        ensures { result ≡ IsEnsured s self.now }
+    {
+        owner_of(&self.grants, s).is_some() || self.given == u64::MAX
+    }
+
+    /// Makes a channel of a stream that the other end opened, where no channel has it. None is made where no number is
+    /// left.
+    pub fn ensure_channel_id_for(&mut self, s: u16) -> Result<(), AllocError>
+        ensures ensured { OnOk result (self.new ≡ channel_ensured s self.old) }
+        ensures refused { OnErr result (self.new ≡ self.old) }
+    {
+        if self.is_ensured(s) {
+            return Ok(());
+        }
+        self.rows.reserve(1)?;
+        self.kept.reserve(1)?;
+        let id = next_channel(self.given);
+        give(&mut self.grants, s, id)?;
+        self.rows.push_reserved((id, Some(s)));
+        self.kept.push_reserved(Kept {
+            negotiated: None,
+            config: None,
+        });
+        self.given += 1;
+        Ok(())
+    }
+}
