@@ -1,1 +1,4 @@
 pub mod Stats
+pub mod RtcConfig
+pub mod CodecSettings
+pub mod FormedConfig

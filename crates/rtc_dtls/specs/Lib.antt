@@ -4,3 +4,4 @@ pub mod DtlsActs
 pub mod DtlsWords
 pub mod DtlsLaws
 pub mod DtlsState
+pub mod DtlsErrorText

@@ -1,19 +1,35 @@
 //! Why a DTLS part refuses.
+ghost use Rattle.std.specs.Prelude.{Some};
+ghost use Rattle.rtc_dtls.specs.DtlsErrorText as text;
+
 use std::alloc::{AllocError, AllocFailed};
-use thiserror::Error;
+use std::error::Error;
+use std::fmt;
 
 /// Why a call of a DTLS part failed.
-#[derive(Clone, Copy, Debug, PartialEq, Eq, Error)]
+#[derive(Clone, Copy, Debug, PartialEq, Eq)]
 pub enum DtlsError {
     /// The handshake is not finished: application data has to wait. Nothing changed.
-    #[error("the handshake is not finished")]
     WouldBlock,
     /// The device failed. Its count of faults rose.
-    #[error("the DTLS part failed")]
     Fault,
-    #[error("out of memory")]
     Alloc,
 }
+
+impl fmt::Display for DtlsError {
+    ghost output = { λ error. Some (text.dtls_error_text error) };
+
+    #[tactic(auto, unfolding(crate::specs::DtlsErrorText::dtls_error_text))]
+    fn fmt<W: fmt::Write>(&self, f: &mut fmt::Formatter<W>) -> fmt::Result {
+        match self {
+            DtlsError::WouldBlock => f.write_str("DTLS handshake pending"),
+            DtlsError::Fault => f.write_str("DTLS error"),
+            DtlsError::Alloc => f.write_str("out of memory"),
+        }
+    }
+}
+
+impl Error for DtlsError {}
 
 impl From<AllocError> for DtlsError {
     ghost use Rattle.std.specs.Prelude.{◌≡◌};

@@ -1,0 +1,4 @@
+pub mod Codec
+pub mod CodecRows
+pub mod LineFormats
+pub mod FormedCodecs

@@ -1,0 +1,48 @@
+//! Setters of header extensions.
+ghost use Rattle.std.specs.Prelude.{◌≡◌, ◌≤◌, [], IfOk};
+ghost use Rattle.rtc_codecs.specs.CodecRows as spec;
+
+use crate::RtcConfig;
+use rtc_codecs::set_extension_row;
+use rtc_sdp_values::{Extension, ExtensionMap};
+use rtc_wire::Seq;
+use std::alloc::{AllocError, Global};
+use std::mem;
+
+fn no_extension(alloc: Global) -> ExtensionMap
+    ensures { result ≡ record { rows = [] } }
+{
+    ExtensionMap {
+        rows: Seq::empty(alloc),
+    }
+}
+
+impl RtcConfig {
+    /// Sets the header extensions.
+    pub fn set_extension_map(mut self, extensions: ExtensionMap) -> RtcConfig
+        ensures { result ≡ record self { extensions = extensions } }
+    {
+        self.extensions = extensions;
+        self
+    }
+
+    /// Drops every header extension.
+    pub fn clear_extension_map(mut self) -> RtcConfig
+        ensures { result ≡ record self { extensions = record { rows = [] } } }
+    {
+        self.extensions.rows.clear();
+        self
+    }
+
+    /// Gives a header extension a number from 1 to 14 (RFC 8285, section 4.2). The extension that had it goes.
+    pub fn set_extension(mut self, id: u8, extension: Extension) -> Result<RtcConfig, AllocError>
+        requires least { 1 ≤ id }
+        requires most { id ≤ 14 }
+        ensures { IfOk result (λ config. config ≡ record self { extensions = spec.extensions_with id extension self.extensions }) }
+    {
+        let none = no_extension(self.alloc);
+        let extensions = mem::replace(&mut self.extensions, none);
+        self.extensions = set_extension_row(extensions, id, extension)?;
+        Ok(self)
+    }
+}

@@ -1,0 +1,193 @@
+//! Getters.
+ghost use Rattle.std.specs.Prelude.{◌≡◌};
+ghost use Rattle.std.specs.Option.{option_copied};
+ghost use Rattle.rtc_config.specs.RtcConfig.{IsShortCert, AreMediaSettings, IsMtu};
+
+use crate::RtcConfig;
+use rtc_dtls::DtlsVersion;
+use rtc_media::{MediaSettings, Vp9PacketizerMode};
+use rtc_sdp_values::{CodecConfig, ExtensionMap, IceCreds};
+use rtc_wire::Span;
+
+impl RtcConfig {
+    /// The credentials that were set.
+    pub fn local_ice_credentials(&self) -> &Option<IceCreds>
+        ensures { result.now ≡ self.now.ice.credentials }
+    {
+        &self.ice.credentials
+    }
+
+    /// The certificate that was set.
+    pub fn dtls_cert(&self) -> Option<&[u8]>
+        ensures value { option_copied result ≡ self.now.dtls.cert }
+        ensures short { IsShortCert self.now.dtls.cert }
+    {
+        match &self.dtls.cert {
+            Some(cert) => Some(cert.as_slice()),
+            None => None,
+        }
+    }
+
+    /// The codecs.
+    pub fn codecs(&self) -> &CodecConfig
+        ensures { result.now ≡ self.now.codecs }
+    {
+        &self.codecs
+    }
+
+    /// The header extensions.
+    pub fn extensions(&self) -> &ExtensionMap
+        ensures { result.now ≡ self.now.extensions }
+    {
+        &self.extensions
+    }
+
+    pub fn fingerprint_verification(&self) -> bool
+        ensures { result ≡ self.now.dtls.fingerprint_verification }
+    {
+        self.dtls.fingerprint_verification
+    }
+
+    pub fn ice_lite(&self) -> bool
+        ensures { result ≡ self.now.ice.lite }
+    {
+        self.ice.lite
+    }
+
+    pub fn initial_stun_rto(&self) -> Span
+        ensures { result ≡ self.now.ice.initial_stun_rto }
+    {
+        self.ice.initial_stun_rto
+    }
+
+    pub fn max_stun_rto(&self) -> Span
+        ensures { result ≡ self.now.ice.max_stun_rto }
+    {
+        self.ice.max_stun_rto
+    }
+
+    pub fn max_stun_retransmits(&self) -> u32
+        ensures { result ≡ self.now.ice.max_stun_retransmits }
+    {
+        self.ice.max_stun_retransmits
+    }
+
+    pub fn stats_interval(&self) -> Option<Span>
+        ensures { result ≡ self.now.stats_interval }
+    {
+        self.stats_interval
+    }
+
+    pub fn rtcp_report_interval_audio(&self) -> Span
+        ensures { result ≡ self.now.media.report_audio }
+    {
+        self.media.report_audio
+    }
+
+    pub fn rtcp_report_interval_video(&self) -> Span
+        ensures { result ≡ self.now.media.report_video }
+    {
+        self.media.report_video
+    }
+
+    pub fn reordering_size_audio(&self) -> usize
+        ensures { result ≡ self.now.media.reordering_audio }
+    {
+        self.media.reordering_audio
+    }
+
+    pub fn reordering_size_video(&self) -> usize
+        ensures { result ≡ self.now.media.reordering_video }
+    {
+        self.media.reordering_video
+    }
+
+    pub fn reordering_timeout_audio(&self) -> Option<Span>
+        ensures { result ≡ self.now.media.reordering_timeout_audio }
+    {
+        self.media.reordering_timeout_audio
+    }
+
+    pub fn pause_threshold(&self) -> Span
+        ensures { result ≡ self.now.media.pause_threshold }
+    {
+        self.media.pause_threshold
+    }
+
+    pub fn send_buffer_audio(&self) -> usize
+        ensures { result ≡ self.now.media.send_buffer_audio }
+    {
+        self.media.send_buffer_audio
+    }
+
+    pub fn send_buffer_video(&self) -> usize
+        ensures { result ≡ self.now.media.send_buffer_video }
+    {
+        self.media.send_buffer_video
+    }
+
+    pub fn sctp_max_buffered_amount(&self) -> usize
+        ensures { result ≡ self.now.sctp.max_buffered_amount }
+    {
+        self.sctp.max_buffered_amount
+    }
+
+    pub fn sctp_max_message_size(&self) -> u32
+        ensures { result ≡ self.now.sctp.max_message_size }
+    {
+        self.sctp.max_message_size
+    }
+
+    pub fn rtp_mode(&self) -> bool
+        ensures { result ≡ self.now.media.rtp_mode }
+    {
+        self.media.rtp_mode
+    }
+
+    pub fn raw_packets(&self) -> bool
+        ensures { result ≡ self.now.media.raw_packets }
+    {
+        self.media.raw_packets
+    }
+
+    pub fn snap_enabled(&self) -> bool
+        ensures { result ≡ self.now.sctp.snap_enabled }
+    {
+        self.sctp.snap_enabled
+    }
+
+    pub fn dtls_version(&self) -> DtlsVersion
+        ensures { result ≡ self.now.dtls.version }
+    {
+        self.dtls.version
+    }
+
+    /// The size that datagrams are kept to, in bytes.
+    pub fn mtu(&self) -> usize
+        ensures size { result ≡ self.now.mtu.0 }
+        ensures range { IsMtu self.now.mtu }
+    {
+        self.mtu.0
+    }
+
+    /// The size above which a datagram is worth a warning, in bytes.
+    pub fn mtu_warn(&self) -> usize
+        ensures { result ≡ self.now.mtu.1 }
+    {
+        self.mtu.1
+    }
+
+    pub fn vp9_packetizer_mode(&self) -> Vp9PacketizerMode
+        ensures { result ≡ self.now.media.vp9 }
+    {
+        self.media.vp9
+    }
+
+    /// The settings of the media part, all at once.
+    pub fn media_settings(&self) -> MediaSettings
+        ensures value { result ≡ self.now.media }
+        ensures range { AreMediaSettings self.now.media }
+    {
+        self.media
+    }
+}

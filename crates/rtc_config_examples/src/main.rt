@@ -1,0 +1,41 @@
+//! Runs stored examples of configurations of peers, of what they leave of codecs and header extensions, and of statistics.
+//!
+//! Each line of the input names a subject and an example of it. It is printed again behind `agrees` or `differs`.
+#![tactic(auto)]
+
+mod codecs;
+mod configs;
+mod lines;
+mod statistics;
+
+use std::alloc::{AllocError, Global};
+use std::io;
+use std::process::ExitCode;
+
+fn does_agree(alloc: Global, subject: &str, example: &str) -> Result<bool, AllocError> {
+    match subject {
+        "codecs" => codecs::does_agree(alloc, example),
+        "configs" => configs::does_agree(alloc, example),
+        "lines" => lines::does_agree(alloc, example),
+        "statistics" => statistics::does_agree(alloc, example),
+        _ => Ok(false),
+    }
+}
+
+fn main(rt: HostRuntime) -> io::Result<ExitCode> {
+    let mut status = 0;
+    for line in rt.lines(rt.alloc()) {
+        let line = line?;
+        let agrees = match line.as_str().split_once(' ') {
+            Some((subject, example)) => does_agree(rt.alloc(), subject, example)?,
+            None => false,
+        };
+        if agrees {
+            println!(rt; "agrees {line}")?;
+        } else {
+            println!(rt; "differs {line}")?;
+            status = 1;
+        }
+    }
+    Ok(ExitCode::from(status))
+}

@@ -1,0 +1,32 @@
+//! Rounds of statistics.
+use rtc_config::Stats;
+use rtc_media::{StatsEvent, StatsSnapshot};
+use rtc_wire::{Moment, Span};
+use std::alloc::{AllocError, Global};
+
+// Whether the next report is on the peer, with so many bytes received.
+fn tells(stats: &mut Stats, received: u64) -> bool {
+    match stats.poll_output() {
+        Some(StatsEvent::Peer(report)) => report.peer_bytes_rx == received,
+        _ => false,
+    }
+}
+
+// Whether a snapshot with seven bytes received is reported, and an interval begins anew.
+fn reports_a_round(alloc: Global) -> Result<bool, AllocError> {
+    let mut stats = Stats::new(alloc, Span::from_nanos(1000));
+    let mut snapshot = StatsSnapshot::new(alloc, Moment::from_nanos(1005));
+    snapshot.peer_rx = 7;
+    stats.do_handle_timeout(&mut snapshot)?;
+    let told = tells(&mut stats, 7) && stats.poll_output().is_none();
+    let early = stats.wants_timeout(Moment::from_nanos(2004));
+    Ok(told && !early && stats.poll_timeout() == Some(Moment::from_nanos(2005)))
+}
+
+/// Whether an example of statistics gives what is expected.
+pub fn does_agree(alloc: Global, example: &str) -> Result<bool, AllocError> {
+    match example {
+        "of a round" => reports_a_round(alloc),
+        _ => Ok(false),
+    }
+}
