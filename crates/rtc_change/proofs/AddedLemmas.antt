@@ -5,7 +5,7 @@ use Rattle.std.proofs.lemmas.List.{reverse-append}
 use Rattle.std.proofs.lemmas.List.Elements.{filter-append}
 use Rattle.rtc_wire.specs.declared.channel_config.ChannelConfig.{ChannelConfig}
 use Rattle.rtc_change.specs.declared.change.Change.{Change}
-use Rattle.rtc_change.specs.declared.change.Change.TheVariants.{AddMedia, AddApp, AddChannel, Direction}
+use Rattle.rtc_change.specs.declared.change.Change.TheVariants.{AddMedia, AddApp, AddChannel, Direction, IceRestart}
 use Rattle.rtc_change.specs.PendingOffer.{added_mids, added_rows, new_channel, new_channels, is_offered, without_channels}
 
 pub added_mids-append : (changes more : List Change) → added_mids (changes ++ more) ≡ added_mids changes ++ added_mids more
@@ -14,6 +14,7 @@ added_mids-append (AddMedia media ∷ changes) more = ap (λ mids. media.mid ∷
 added_mids-append (AddApp mid ∷ changes) more = ap (λ mids. mid ∷ mids) (added_mids-append changes more)
 added_mids-append (AddChannel id config ∷ changes) more = added_mids-append changes more
 added_mids-append (Direction mid dir ∷ changes) more = added_mids-append changes more
+added_mids-append (IceRestart creds keeps ∷ changes) more = added_mids-append changes more
 
 -- a row for each mid
 pub length-added_rows : (place : ℕ) (changes : List Change) → length (added_rows place changes) ≡ length (added_mids changes)
@@ -22,6 +23,7 @@ length-added_rows place (AddMedia media ∷ changes) = ap suc (length-added_rows
 length-added_rows place (AddApp mid ∷ changes) = ap suc (length-added_rows (place + 1) changes)
 length-added_rows place (AddChannel id config ∷ changes) = length-added_rows place changes
 length-added_rows place (Direction mid dir ∷ changes) = length-added_rows place changes
+length-added_rows place (IceRestart creds keeps ∷ changes) = length-added_rows place changes
 
 pub new_channels-append : (changes more : List Change) → new_channels (changes ++ more) ≡ new_channels changes ++ new_channels more
 new_channels-append [] more = refl
@@ -29,12 +31,14 @@ new_channels-append (AddMedia media ∷ changes) more = new_channels-append chan
 new_channels-append (AddApp mid ∷ changes) more = new_channels-append changes more
 new_channels-append (AddChannel id config ∷ changes) more = ap (λ (channels : List (ℕ × ChannelConfig)). (id, config) ∷ channels) (new_channels-append changes more)
 new_channels-append (Direction mid dir ∷ changes) more = new_channels-append changes more
+new_channels-append (IceRestart creds keeps ∷ changes) more = new_channels-append changes more
 
 new_channels-one : (change : Change) → new_channels (change ∷ []) ≡ option_to_list (new_channel change)
 new_channels-one (AddMedia media) = refl
 new_channels-one (AddApp mid) = refl
 new_channels-one (AddChannel id config) = refl
 new_channels-one (Direction mid dir) = refl
+new_channels-one (IceRestart creds keeps) = refl
 
 reverse_option : {A : Type 0} (found : Option A) → reverse (option_to_list found) ≡ option_to_list found
 reverse_option None = refl
@@ -62,3 +66,4 @@ others_step others others' all staged staged' change parted more held =
     reverse_one (AddApp mid) = refl
     reverse_one (AddChannel id config) = refl
     reverse_one (Direction mid dir) = refl
+    reverse_one (IceRestart creds keeps) = refl

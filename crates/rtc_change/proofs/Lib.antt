@@ -1,9 +1,4 @@
-pub mod TableLemmas
-pub mod RowChangeLemmas
 pub mod AddedLemmas
 pub mod TableAfterLemmas
 pub mod ConsistentMids
 pub mod VerdictLemmas
-pub mod DeclaredLemmas
-pub mod MidIndexLemmas
-pub mod NamedLemmas

@@ -1,21 +1,40 @@
 -- What holds of a text that is not refused.
 use Rattle.std.proofs.Common.{◌≡◌, false, map, Option, Some, None, refl}
 use Rattle.rtc_sdp_values.specs.declared.sdp.Sdp.{Sdp}
-use Rattle.rtc_change.specs.declared.why.Why.{Why}
+use Rattle.rtc_tables.specs.declared.why.Why.{Why}
 use Rattle.rtc_sdp_values.specs.Mids.{AreDistinct}
 use Rattle.rtc_change.specs.Held.{Held, Asked}
-use Rattle.rtc_change.specs.ParsedLines.{parsed_lines}
-use Rattle.rtc_change.specs.Table.{IsTable}
+use Rattle.rtc_tables.specs.ParsedLines.{parsed_lines}
+use Rattle.rtc_tables.specs.Table.{IsTable}
 use Rattle.rtc_change.specs.TableAfter.{table_after}
 use Rattle.std.specs.Option.{option_or}
-use Rattle.rtc_change.specs.Verdict.{first_refusal}
-use Rattle.rtc_change.specs.Plans.{is_offer, no_lines, inconsistent, wrong_news, remote_refusal, head_verdict, verdict}
+use Rattle.rtc_tables.specs.Verdict.{first_refusal}
+use Rattle.rtc_change.specs.Plans.{
+  is_offer,
+  may_restart,
+  no_lines,
+  both_lite,
+  no_credentials,
+  unasked_restart,
+  no_fingerprint,
+  inconsistent,
+  wrong_news,
+  remote_refusal,
+  side_verdict,
+  head_verdict,
+  verdict,
+}
+use Rattle.rtc_sdp_values.specs.Sdp.{creds_of, sdp_fingerprint}
 use Rattle.rtc_change.proofs.ConsistentMids.{distinct_parsed}
 use Rattle.rtc_change.proofs.TableAfterLemmas.{table_after_is_table}
 
 -- none of the causes holds
 pub record Unrefused (held : Held) (asked : Option Asked) (text : Sdp) : Type 0 where
   pub lines : no_lines asked (parsed_lines text) ≡ None
+  pub lite : both_lite held.lite text.ice_lite ≡ None
+  pub creds : no_credentials (creds_of text) ≡ None
+  pub restart : unasked_restart (may_restart asked) held.remote_creds (creds_of text) ≡ None
+  pub known : no_fingerprint held.has_fingerprint (sdp_fingerprint text) ≡ None
   pub fits : inconsistent text ≡ None
   pub allowed : first_refusal held.lines (is_offer asked) false 0 (parsed_lines text) ≡ None
   pub news : wrong_news held.lines asked (parsed_lines text) ≡ None
@@ -29,14 +48,22 @@ untold None none = refl
 untold (Some why) none = absurd (cc)
 
 pub unrefused : (held : Held) (asked : Option Asked) (text : Sdp) → verdict held asked text ≡ None → Unrefused held asked text
-unfolding verdict head_verdict
+unfolding verdict head_verdict side_verdict
 unrefused held asked text none =
     let all = neither _ _ none in
     let head = neither _ _ all.0 in
     let body = neither _ _ all.1 in
+    let behind = neither _ _ head.1 in
+    let lite = neither _ _ behind.0 in
+    let creds = neither _ _ lite.1 in
+    let restart = neither _ _ creds.1 in
     record {
       lines = head.0;
-      fits = (neither _ _ head.1).0;
+      lite = lite.0;
+      creds = creds.0;
+      restart = restart.0;
+      known = (neither _ _ restart.1).0;
+      fits = (neither _ _ behind.1).0;
       allowed = untold _ body.0;
       news = (neither _ _ body.1).0;
     }

@@ -1,14 +1,18 @@
 -- What a peer holds that an offer or an answer is judged by.
-use Rattle.std.specs.Prelude.{List}
+use Rattle.std.specs.Prelude.{Bool, List, Option}
+use Rattle.rtc_sdp_values.specs.declared.ice_creds.IceCreds.{IceCreds}
 use Rattle.rtc_sdp_values.specs.declared.line_row.LineRow.{LineRow}
 
 pub record Held : Type 0 where
   pub lines : List LineRow
+  -- whether this side's ICE agent is lite
+  pub lite : Bool
+  -- the credentials of the other side, once known
+  pub remote_creds : Option IceCreds
+  -- whether a fingerprint of the other side is known
+  pub has_fingerprint : Bool
 
--- what a peer with these rows holds
-abbrev pub held_of : List LineRow → Held
-held_of rows = record { lines = rows }
-
--- what an answer comes with: the rows that its offer added
+-- what an answer comes with: the rows that its offer added, and whether its offer restarted ICE
 pub record Asked : Type 0 where
   pub added : List LineRow
+  pub restarts : Bool

@@ -1,13 +1,5 @@
 pub mod PendingOffer
 pub mod Held
-pub mod Table
-pub mod RowChanges
-pub mod DeclaredMedia
-pub mod ParsedLines
-pub mod MidIndex
-pub mod NamedMids
-pub mod Verdict
 pub mod TableAfter
 pub mod WrongLines
 pub mod Plans
-pub mod WhyText

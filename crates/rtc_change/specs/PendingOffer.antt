@@ -1,12 +1,14 @@
 -- What the side that made an offer keeps until its answer comes.
 use Rattle.std.specs.Prelude.{ℕ, ◌+◌, List, [], ◌∷◌, Bool, true, false, not, Option, Some, None, filter, is_some}
 use Rattle.std.specs.List.{list_any}
+use Rattle.rtc_fields.specs.Fields.{first}
 use Rattle.rtc_wire.specs.declared.channel_config.ChannelConfig.{ChannelConfig}
+use Rattle.rtc_sdp_values.specs.declared.ice_creds.IceCreds.{IceCreds}
 use Rattle.rtc_sdp_values.specs.declared.line_row.LineRow.{LineRow}
 use Rattle.rtc_sdp_values.specs.declared.line_row.LineRow.TheVariants.{Media, App}
 use Rattle.rtc_sdp_values.specs.Mids.{is_among}
 use Rattle.rtc_change.specs.declared.change.Change.{Change}
-use Rattle.rtc_change.specs.declared.change.Change.TheVariants.{AddMedia, AddApp, AddChannel, Direction}
+use Rattle.rtc_change.specs.declared.change.Change.TheVariants.{AddMedia, AddApp, AddChannel, Direction, IceRestart}
 
 -- the counter as the offer was applied, and what the offer changed
 pub record PendingOffer : Type 0 where
@@ -19,6 +21,7 @@ new_mid (AddMedia media) = Some media.mid
 new_mid (AddApp mid) = Some mid
 new_mid (AddChannel id config) = None
 new_mid (Direction mid dir) = None
+new_mid (IceRestart creds keeps) = None
 
 -- the mids of the lines that changes add
 abbrev pub added_mids : List Change → List (List ℕ)
@@ -37,6 +40,7 @@ new_row place (AddMedia media) = Some (Media place media.mid media.kind media.di
 new_row place (AddApp mid) = Some (App place mid)
 new_row place (AddChannel id config) = None
 new_row place (Direction mid dir) = None
+new_row place (IceRestart creds keeps) = None
 
 -- the rows of the lines that changes add, at places from this one on
 abbrev pub added_rows : ℕ → List Change → List LineRow
@@ -52,6 +56,7 @@ new_channel (AddMedia media) = None
 new_channel (AddApp mid) = None
 new_channel (AddChannel id config) = Some (id, config)
 new_channel (Direction mid dir) = None
+new_channel (IceRestart creds keeps) = None
 
 -- the channels that changes add, in order
 abbrev pub new_channels : List Change → List (ℕ × ChannelConfig)
@@ -78,7 +83,20 @@ is_add_app (AddMedia media) = false
 is_add_app (AddApp mid) = true
 is_add_app (AddChannel id config) = false
 is_add_app (Direction mid dir) = false
+is_add_app (IceRestart creds keeps) = false
 
 -- whether changes add the line of the data channels
 abbrev pub contains_add_app : List Change → Bool
 contains_add_app changes = list_any is_add_app changes
+
+-- the restart that a change asks for: new credentials, and whether the local candidates are kept
+abbrev pub restart_of : Change → Option (IceCreds × Bool)
+restart_of (AddMedia media) = None
+restart_of (AddApp mid) = None
+restart_of (AddChannel id config) = None
+restart_of (Direction mid dir) = None
+restart_of (IceRestart creds keeps) = Some (creds, keeps)
+
+-- the restart among changes; at most one is staged
+abbrev pub staged_restart : List Change → Option (IceCreds × Bool)
+staged_restart changes = first restart_of changes

@@ -1,9 +1,10 @@
 //! Changes that are staged.
-ghost use Rattle.std.specs.Prelude.{◌≡◌};
-ghost use Rattle.rtc_change.specs.PendingOffer.{new_mid as NewMid, new_row as NewRow, is_offered as IsOffered, is_add_app as IsAddApp};
+ghost use Rattle.std.specs.Prelude.{◌≡◌, is_some};
+ghost use Rattle.rtc_change.specs.PendingOffer.{restart_of, new_mid as NewMid, new_row as NewRow};
+ghost use Rattle.rtc_change.specs.PendingOffer.{is_offered as IsOffered, is_add_app as IsAddApp};
 
 use crate::AddMedia;
-use rtc_sdp_values::{Direction, LineRow, Mid};
+use rtc_sdp_values::{Direction, IceCreds, LineRow, Mid};
 use rtc_wire::{ChannelConfig, ChannelId, TryCopy};
 use std::alloc::AllocError;
 
@@ -17,6 +18,8 @@ pub enum Change {
     AddChannel(ChannelId, ChannelConfig),
     /// The line of a mid has this direction by now; inactive where it was stopped.
     Direction(Mid, Direction),
+    /// New local credentials of ICE, and whether the local candidates are kept (RFC 8839, section 4.4.1.1.1).
+    IceRestart(IceCreds, bool),
 }
 
 impl TryCopy for Change {
@@ -26,6 +29,7 @@ impl TryCopy for Change {
             Change::AddApp(mid) => Ok(Change::AddApp(*mid)),
             Change::AddChannel(id, config) => Ok(Change::AddChannel(*id, config.copy()?)),
             Change::Direction(mid, dir) => Ok(Change::Direction(*mid, *dir)),
+            Change::IceRestart(creds, keeps) => Ok(Change::IceRestart(creds.copy()?, *keeps)),
         }
     }
 }
@@ -38,7 +42,7 @@ impl Change {
         match self {
             Change::AddMedia(media) => Some(media.mid),
             Change::AddApp(mid) => Some(*mid),
-            Change::AddChannel(_, _) | Change::Direction(_, _) => None,
+            Change::AddChannel(_, _) | Change::Direction(_, _) | Change::IceRestart(_, _) => None,
         }
     }
 
@@ -56,7 +60,7 @@ impl Change {
                 remote_created: false,
             }),
             Change::AddApp(mid) => Some(LineRow::App { place, mid: *mid }),
-            Change::AddChannel(_, _) | Change::Direction(_, _) => None,
+            Change::AddChannel(_, _) | Change::Direction(_, _) | Change::IceRestart(_, _) => None,
         }
     }
 
@@ -65,8 +69,24 @@ impl Change {
         ensures { result ≡ IsOffered self.now }
     {
         match self {
-            Change::AddMedia(_) | Change::AddApp(_) | Change::Direction(_, _) => true,
+            Change::AddMedia(_)
+            | Change::AddApp(_)
+            | Change::Direction(_, _)
+            | Change::IceRestart(_, _) => true,
             Change::AddChannel(_, _) => false,
+        }
+    }
+
+    /// Whether it restarts ICE.
+    pub fn is_restart(&self) -> bool
+        ensures { result ≡ is_some (restart_of self.now) }
+    {
+        match self {
+            Change::IceRestart(_, _) => true,
+            Change::AddMedia(_)
+            | Change::AddApp(_)
+            | Change::AddChannel(_, _)
+            | Change::Direction(_, _) => false,
         }
     }
 
@@ -76,7 +96,10 @@ impl Change {
     {
         match self {
             Change::AddApp(_) => true,
-            Change::AddMedia(_) | Change::AddChannel(_, _) | Change::Direction(_, _) => false,
+            Change::AddMedia(_)
+            | Change::AddChannel(_, _)
+            | Change::Direction(_, _)
+            | Change::IceRestart(_, _) => false,
         }
     }
 }

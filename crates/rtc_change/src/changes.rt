@@ -1,5 +1,5 @@
 //! Lists of staged changes.
-ghost use Rattle.std.specs.Prelude.{◌≡◌, ◌+◌, ◌++◌, [], ◌∷◌, ◌<◌, ◌≤◌, ◌^◌, ◌-◌, IfOk, OnOk, OnErr, length, reverse};
+ghost use Rattle.std.specs.Prelude.{◌≡◌, ◌+◌, ◌++◌, [], ◌∷◌, ◌<◌, ◌≤◌, ◌^◌, ◌-◌, IfOk, OnOk, OnErr, length, option_map, reverse};
 ghost use Rattle.std.specs.Option.{option_to_list};
 ghost use Rattle.std.specs.Vec.{vec_len, vec_capacity};
 ghost use Rattle.rtc_change.specs.PendingOffer.{
@@ -9,11 +9,12 @@ ghost use Rattle.rtc_change.specs.PendingOffer.{
   contains_add_app as ContainsAddApp,
   new_channel,
   new_channels,
+  staged_restart,
   without_channels,
 };
 
 use crate::Change;
-use rtc_sdp_values::{LineRow, Mid};
+use rtc_sdp_values::{IceCreds, LineRow, Mid};
 use rtc_wire::{ChannelConfig, ChannelId, Seq, TryCopy};
 use std::alloc::{AllocError, Global};
 use std::mem;
@@ -50,6 +51,18 @@ pub fn is_added(changes: &[Change], mid: Mid) -> bool
     false
 }
 
+/// The restart of ICE among these changes.
+pub fn find_restart(changes: &[Change]) -> Option<(&IceCreds, bool)>
+    ensures { option_map (λ restart. (restart.0.now, restart.1)) result ≡ staged_restart changes.now }
+{
+    for change in changes {
+        if let Change::IceRestart(creds, keeps) = change {
+            return Some((creds, *keeps));
+        }
+    }
+    None
+}
+
 // Puts a change behind those of its sort: channels apart from the others.
 fn put_apart(
     change: Change,
@@ -69,6 +82,7 @@ fn put_apart(
         Change::AddMedia(media) => others.push_reserved(Change::AddMedia(media)),
         Change::AddApp(mid) => others.push_reserved(Change::AddApp(mid)),
         Change::Direction(mid, dir) => others.push_reserved(Change::Direction(mid, dir)),
+        Change::IceRestart(creds, keeps) => others.push_reserved(Change::IceRestart(creds, keeps)),
     }
 }
 
@@ -90,6 +104,13 @@ impl Changes {
             }
         }
         false
+    }
+
+    /// The restart of ICE among them: the new credentials, and whether the local candidates are kept.
+    pub fn restart(&self) -> Option<(&IceCreds, bool)>
+        ensures { option_map (λ restart. (restart.0.now, restart.1)) result ≡ staged_restart self.now.0 }
+    {
+        find_restart(self.0.as_slice())
     }
 
     // Where the list takes its memory from.

@@ -3,17 +3,17 @@ ghost use Rattle.std.specs.Prelude.{◌≡◌, ◌+◌, ◌<◌, ◌≤◌, ◌^
 ghost use Rattle.rtc_sdp_values.specs.declared.line_row.LineRow.{LineRow};
 ghost use Rattle.rtc_change.specs.PendingOffer.{added_mids};
 ghost use Rattle.rtc_change.specs.Plans.{PlansSdp, plan_of, inconsistent, asked_by};
-ghost use Rattle.rtc_change.specs.ParsedLines.{parsed_lines};
+ghost use Rattle.rtc_tables.specs.ParsedLines.{parsed_lines};
 ghost use Rattle.rtc_sdp_values.specs.Mids.{AreDistinct};
-ghost use Rattle.rtc_change.specs.Verdict.{first_refusal};
-ghost use Rattle.rtc_change.specs.Table.{IsTable};
+ghost use Rattle.rtc_tables.specs.Verdict.{first_refusal};
+ghost use Rattle.rtc_tables.specs.Table.{IsTable};
 
-use crate::judging::judge_lines;
-use crate::mid_index::MidIndex;
+use crate::judging_sides::{is_restart, judge_side};
 use crate::table_after::{find_new_places, find_removed, list_rows_after};
 use crate::wrong_lines::judge_new_lines;
-use crate::{ParsedLine, Plan, Refusal, SdpPendingOffer, View, Why};
+use crate::{Refusal, SdpPendingOffer, View};
 use rtc_sdp_values::Sdp;
+use rtc_tables::{MidIndex, ParsedLine, Plan, Why, judge_lines};
 use std::alloc::{AllocError, Global};
 
 // Why a session description is inconsistent; a consistent one has distinct mids.
@@ -30,15 +30,19 @@ fn find_inconsistency(sdp: &Sdp) -> Option<Refusal>
 
 fn make_plan(
     alloc: Global,
+    view: &View<'_>,
     rows: &MidIndex<'_>,
     offer: bool,
+    sdp: &Sdp,
     lines: &[ParsedLine],
 ) -> Result<Plan, AllocError>
     requires few { length lines.now < 2 ^ 32 - 1 }
+    requires rows { rows.now ≡ view.now.lines }
+    requires lines { lines.now ≡ parsed_lines sdp.now }
     requires table { IsTable rows.now }
     requires allowed { first_refusal rows.now offer false 0 lines.now ≡ None }
     requires distinct { AreDistinct (map (λ line. line.mid) lines.now) }
-    ensures plan { IfOk result (λ plan. plan ≡ plan_of rows.now offer lines.now) }
+    ensures plan { IfOk result (λ plan. plan ≡ plan_of view.now offer sdp.now) }
     ensures table { IfOk result (λ plan. IsTable plan.rows) }
 {
     let after = list_rows_after(alloc, rows, offer, lines)?;
@@ -48,10 +52,11 @@ fn make_plan(
         rows: after,
         removed,
         added,
+        restart: is_restart(view.remote_creds, sdp.ice_creds()),
     })
 }
 
-/// What an offer does to the rows, or why it is refused (RFC 8829, section 5.10).
+/// What an offer does, or why it is refused (RFC 8829, section 5.10).
 #[tactic(auto, unfolding(crate::specs::Plans::verdict, crate::specs::Plans::head_verdict))]
 pub fn plan_offer(alloc: Global, view: &View<'_>, offer: &Sdp) -> Result<Plan, Refusal>
     requires rows { length view.now.lines < 2 ^ 32 - 1 }
@@ -63,6 +68,9 @@ pub fn plan_offer(alloc: Global, view: &View<'_>, offer: &Sdp) -> Result<Plan, R
     if lines.is_empty() {
         return Err(Refusal::RemoteSdp(Why::NoLines));
     }
+    if let Some(refusal) = judge_side(view, true, offer)? {
+        return Err(refusal);
+    }
     if let Some(refusal) = find_inconsistency(offer) {
         return Err(refusal);
     }
@@ -70,11 +78,11 @@ pub fn plan_offer(alloc: Global, view: &View<'_>, offer: &Sdp) -> Result<Plan, R
     if let Some(why) = judge_lines(&rows, true, lines.as_slice()) {
         return Err(Refusal::RemoteSdp(why));
     }
-    let plan = make_plan(alloc, &rows, true, lines.as_slice())?;
+    let plan = make_plan(alloc, view, &rows, true, offer, lines.as_slice())?;
     Ok(plan)
 }
 
-/// What an answer does to the rows, or why it is refused (RFC 8829, section 5.11).
+/// What an answer does, or why it is refused (RFC 8829, section 5.11).
 #[tactic(auto, unfolding(crate::specs::Plans::verdict, crate::specs::Plans::head_verdict))]
 pub fn plan_answer(
     alloc: Global,
@@ -88,6 +96,9 @@ pub fn plan_answer(
     ensures table { IfOk result (λ plan. IsTable plan.rows) }
 {
     let lines = ParsedLine::all_of(alloc, answer)?;
+    if let Some(refusal) = judge_side(view, token.changes().restart().is_some(), answer)? {
+        return Err(refusal);
+    }
     if let Some(refusal) = find_inconsistency(answer) {
         return Err(refusal);
     }
@@ -101,6 +112,6 @@ pub fn plan_answer(
     if let Some(wrong) = judge_new_lines(&rows, &added, new.as_slice(), lines.as_slice()) {
         return Err(Refusal::RemoteSdp(Why::WrongNewLines(wrong)));
     }
-    let plan = make_plan(alloc, &rows, false, lines.as_slice())?;
+    let plan = make_plan(alloc, view, &rows, false, answer, lines.as_slice())?;
     Ok(plan)
 }

@@ -1,7 +1,7 @@
 //! The table that an accepted offer or answer leaves.
 ghost use Rattle.std.specs.Prelude.{◌≡◌, ◌+◌, ◌<◌, ◌≤◌, ◌^◌, ◌-◌, Bool, length, IfOk, Option, max};
 ghost use Rattle.std.specs.Option.{option_copied};
-ghost use Rattle.rtc_change.specs.Table.{Distinct};
+ghost use Rattle.rtc_tables.specs.Table.{Distinct};
 ghost use Rattle.rtc_change.specs.TableAfter.{
   media_after,
   app_after,
@@ -15,10 +15,8 @@ ghost use Rattle.rtc_change.specs.TableAfter.{
   is_stopped_by,
 };
 
-use crate::ParsedLine;
-use crate::judging::find_app;
-use crate::mid_index::MidIndex;
 use rtc_sdp_values::{Direction, LineKind, LineRow, MediaKind, Mid};
+use rtc_tables::{MidIndex, ParsedLine, find_app};
 use rtc_wire::Seq;
 use std::alloc::{AllocError, Global};
 

@@ -1,0 +1,76 @@
+//! Why what a session description tells of its side is refused.
+ghost use Rattle.std.specs.Prelude.{◌≡◌, ◌&&◌, not, IfOk, Option, Some, None};
+ghost use Rattle.std.specs.Option.{option_copied};
+ghost use Rattle.rtc_sdp_values.specs.Sdp.{creds_of, sdp_fingerprint};
+ghost use Rattle.rtc_change.specs.Plans.{same_creds, is_restart as IsRestart, unasked_restart as UnaskedRestart, side_verdict};
+
+use crate::{Refusal, View};
+use rtc_sdp_values::{IceCreds, Sdp};
+use rtc_tables::Why;
+use rtc_wire::TryCopy;
+use std::alloc::AllocError;
+
+fn are_same(a: &IceCreds, b: &IceCreds) -> bool
+    ensures { result ≡ same_creds a.now b.now }
+{
+    if a.ufrag.as_str() != b.ufrag.as_str() {
+        return false;
+    }
+    a.pass.as_str() == b.pass.as_str()
+}
+
+/// Whether credentials differ from those that are known.
+pub fn is_restart(known: Option<&IceCreds>, got: Option<&IceCreds>) -> bool
+    ensures { result ≡ IsRestart (option_copied known.entry) (option_copied got.entry) }
+{
+    let Some(known) = known else {
+        return false;
+    };
+    let Some(got) = got else {
+        return false;
+    };
+    !are_same(known, got)
+}
+
+// A restart that may not be is refused, with both credentials.
+fn find_unasked_restart(
+    may: bool,
+    known: Option<&IceCreds>,
+    got: Option<&IceCreds>,
+) -> Result<Option<Refusal>, AllocError>
+    ensures { IfOk result (λ refusal. refusal ≡ UnaskedRestart may (option_copied known.entry) (option_copied got.entry)) }
+{
+    let Some(known) = known else {
+        return Ok(None);
+    };
+    let Some(got) = got else {
+        return Ok(None);
+    };
+    if are_same(known, got) || may {
+        return Ok(None);
+    }
+    let kept = known.copy()?;
+    let got = got.copy()?;
+    Ok(Some(Refusal::RemoteSdp(Why::UnaskedRestart { kept, got })))
+}
+
+/// Why what a session description tells of its side is refused: how the side is reached, and how it is known.
+#[tactic(auto, unfolding(crate::specs::Plans::side_verdict))]
+pub fn judge_side(view: &View<'_>, may: bool, sdp: &Sdp) -> Result<Option<Refusal>, AllocError>
+    ensures { IfOk result (λ refusal. refusal ≡ side_verdict view.now may sdp.now) }
+{
+    if view.lite && sdp.ice_lite {
+        return Ok(Some(Refusal::RemoteSdp(Why::BothLite)));
+    }
+    let Some(creds) = sdp.ice_creds() else {
+        return Ok(Some(Refusal::RemoteSdp(Why::NoCredentials)));
+    };
+    let unasked = find_unasked_restart(may, view.remote_creds, Some(creds))?;
+    if unasked.is_some() {
+        return Ok(unasked);
+    }
+    if !view.has_fingerprint && sdp.fingerprint().is_none() {
+        return Ok(Some(Refusal::RemoteSdp(Why::NoFingerprint)));
+    }
+    Ok(None)
+}

@@ -1,0 +1,61 @@
+//! Why an offer or an answer is refused.
+ghost use Rattle.std.specs.Prelude.{Some};
+ghost use Rattle.rtc_tables.specs.WhyText as text;
+
+use crate::NewLine;
+use rtc_sdp_values::{IceCreds, Mid};
+use std::error::Error;
+use std::fmt;
+
+/// Why an offer or an answer of the other side is refused.
+#[derive(Debug, PartialEq, Eq, Drop)]
+pub enum Why {
+    /// An offer without m-lines.
+    NoLines,
+    /// Both sides are ICE-lite (RFC 8445, section 2.5), so that nobody would make checks.
+    BothLite,
+    /// Neither the session nor a line has ICE credentials.
+    NoCredentials,
+    /// An answer has other credentials than are known, and its offer did not restart ICE.
+    UnaskedRestart { kept: IceCreds, got: IceCreds },
+    /// No fingerprint is known, and there is none. The peer is then closed.
+    NoFingerprint,
+    /// A line is at another place than its row, or of a kind that its row or its place does not allow.
+    MovedLine(Mid),
+    /// A new line of an offer is at the place of a live row.
+    PlaceTaken(Mid),
+    /// A new line of an answer is at the place of a row (RFC 8829, section 5.2.2).
+    AnswerRecycles(Mid),
+    WrongNewLines(NewLine),
+}
+
+impl fmt::Display for Why {
+    ghost output = { λ why. Some (text.why_text why) };
+
+    #[tactic(auto, unfolding(crate::specs::WhyText::why_text))]
+    fn fmt<W: fmt::Write>(&self, f: &mut fmt::Formatter<W>) -> fmt::Result {
+        match self {
+            Why::NoLines => f.write_str("No m-lines in offer"),
+            Why::BothLite => f.write_str("Both peers being ICE-Lite not supported"),
+            Why::NoCredentials => f.write_str("missing a=ice-ufrag/pwd"),
+            Why::UnaskedRestart { .. } => {
+                f.write_str("Ice restart in answer without one in the preceeding offer")
+            }
+            Why::NoFingerprint => f.write_str("missing a=fingerprint"),
+            Why::MovedLine(mid) | Why::PlaceTaken(mid) => {
+                let mid = mid.as_str();
+                write!(f, "Changed order for m-line with mid: {mid}")
+            }
+            Why::AnswerRecycles(mid) => {
+                let mid = mid.as_str();
+                write!(
+                    f,
+                    "Answer recycles stopped m-line (not permitted per RFC 8829 §5.2.2): {mid}"
+                )
+            }
+            Why::WrongNewLines(wrong) => write!(f, "{wrong}"),
+        }
+    }
+}
+
+impl Error for Why {}
