@@ -5,7 +5,7 @@ use Rattle.std.proofs.lemmas.Bool.Decides.{nat_tests}
 use Rattle.std.proofs.lemmas.List.Elements.{filter-append}
 use Rattle.rtc_wire.specs.declared.channel_config.ChannelConfig.{ChannelConfig}
 use Rattle.rtc_change.specs.declared.change.Change.{Change}
-use Rattle.rtc_change.specs.declared.change.Change.TheVariants.{AddMedia, AddApp, AddChannel, Direction}
+use Rattle.rtc_change.specs.declared.change.Change.TheVariants.{AddMedia, AddApp, AddChannel, Direction, IceRestart}
 use Rattle.rtc_change.specs.PendingOffer.{new_channels}
 use Rattle.rtc_channels.specs.Channels.{Channel, Channels, is_overlong, has_id, has_channel, confirmed, all_confirmed, rows_confirmed}
 use Rattle.rtc_peer_state.specs.Calls.{fits_open, fitting_channels, after_channels_alone, raised}
@@ -33,6 +33,7 @@ new_channels-append (AddMedia media ∷ first) rest = new_channels-append first 
 new_channels-append (AddApp mid ∷ first) rest = new_channels-append first rest
 new_channels-append (AddChannel id config ∷ first) rest = ap (λ (channels : List (ℕ × ChannelConfig)). (id, config) ∷ channels) (new_channels-append first rest)
 new_channels-append (Direction mid dir ∷ first) rest = new_channels-append first rest
+new_channels-append (IceRestart creds keeps ∷ first) rest = new_channels-append first rest
 
 -- those of changes, then those of more changes
 pub confirmed_more : (first rest : List Change) (held : Channels) → all_confirmed (fitting_channels (first ++ rest)) held ≡ all_confirmed (fitting_channels rest) (all_confirmed (fitting_channels first) held)
@@ -65,7 +66,7 @@ pub protocol_fits : (config : ChannelConfig) → fits_open config ≡ true → l
 protocol_fits config room = no_longer (length config.protocol) (neither (is_overlong config.label) (is_overlong config.protocol) room).1
 
 -- channels alone are applied, where there are some
-pub alone_applied : {N : Type 0} (p : Peer N) (changes : List Change) → (changes ≡ [] → ⊥) → after_channels_alone changes p
+pub alone_applied : {I D S M N : Type 0} (p : Peer I D S M N) (changes : List Change) → (changes ≡ [] → ⊥) → after_channels_alone changes p
     ≡ record p { staged = []; counter = raised p.counter; channels = all_confirmed (fitting_channels changes) p.channels }
 alone_applied p [] some = absurd (some refl)
 alone_applied p (change ∷ changes) some = refl

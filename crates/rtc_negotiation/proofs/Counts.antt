@@ -4,11 +4,11 @@ use Rattle.std.specs.Prelude.{IfOk}
 use Rattle.std.proofs.lemmas.List.{length-map}
 use Rattle.rtc_sdp_values.specs.declared.line_row.LineRow.{LineRow}
 use Rattle.rtc_sdp_values.specs.declared.sdp.Sdp.{Sdp}
-use Rattle.rtc_change.specs.declared.plan.Plan.{Plan}
+use Rattle.rtc_tables.specs.declared.plan.Plan.{Plan}
 use Rattle.rtc_change.specs.declared.refusal.Refusal.{Refusal}
 use Rattle.rtc_change.specs.Held.{Held, Asked}
 use Rattle.rtc_change.specs.Plans.{PlansSdp, is_offer}
-use Rattle.rtc_change.specs.ParsedLines.{parsed_lines, parsed_line}
+use Rattle.rtc_tables.specs.ParsedLines.{parsed_lines, parsed_line}
 use Rattle.rtc_change.specs.TableAfter.{table_after}
 use Rattle.rtc_change.proofs.TableAfterLemmas.{length_table_after}
 

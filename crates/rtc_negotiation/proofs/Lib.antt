@@ -4,5 +4,11 @@ pub mod Counts
 pub mod Pairs
 pub mod ConfirmLemmas
 pub mod ShownLemmas
-pub mod SourcedLemmas
 pub mod NumberLemmas
+pub mod FollowLemmas
+pub mod UpdateLemmas
+pub mod StagedMedia
+pub mod MediaLemmas
+pub mod GrowthLemmas
+pub mod AcceptanceLemmas
+pub mod AnswerLemmas

@@ -1,5 +1,6 @@
 -- One more pair of sources.
-use Rattle.std.proofs.Common.{◌≡◌, suc, ℕ, List, [], ◌∷◌, ◌++◌, Bool, append_assoc}
+use Rattle.std.proofs.Common.{◌≡◌, suc, ℕ, List, [], ◌∷◌, ◌++◌, Bool, ◌∙◌, refl, sym, ap, append_assoc, append-nil}
+use Rattle.std.specs.List.{flat_map}
 use Rattle.rtc_sdp_values.specs.declared.media_kind.MediaKind.{MediaKind}
 use Rattle.rtc_ids.specs.Draws.{Draws}
 use Rattle.rtc_peer_state.specs.Sources.{Pair, pair_numbers, next_pair, next_pairs, after_pair, after_pairs}
@@ -13,3 +14,15 @@ pub one_draw : {N : Type 0} (draws : Draws N) (used : ℕ → Bool) (kind : Medi
 one_draw draws used kind left more ids after last left_is after_is h =
     let inv : after_pairs draws used kind more (after_pair draws used kind ids) ≡ last = rw left_is at h in
     rw after_is inv
+
+flat_map_last : (done : List Pair) (pair : Pair) → flat_map pair_numbers (done ++ pair ∷ []) ≡ flat_map pair_numbers done ++ pair_numbers pair
+flat_map_last [] pair = append-nil (pair_numbers pair)
+flat_map_last (other ∷ done) pair =
+    ap (λ (more : List ℕ). pair_numbers other ++ more) (flat_map_last done pair) ∙ sym (append_assoc (pair_numbers other) (flat_map pair_numbers done) (pair_numbers pair))
+
+-- the numbers of one pair more
+pub one_more_pair : (first earlier : List ℕ) (done : List Pair) (pair : Pair) → earlier ≡ first ++ flat_map pair_numbers done
+    → earlier ++ pair_numbers pair ≡ first ++ flat_map pair_numbers (done ++ pair ∷ [])
+one_more_pair first earlier done pair is =
+    ap (λ (numbers : List ℕ). numbers ++ pair_numbers pair) is ∙ append_assoc first (flat_map pair_numbers done) (pair_numbers pair)
+    ∙ ap (λ (numbers : List ℕ). first ++ numbers) (sym (flat_map_last done pair))

@@ -1,4 +1,4 @@
-pub mod Updates
 pub mod ShownChannels
-pub mod ListedMids
-pub mod TakenNumbers
+pub mod EarlierNumbers
+pub mod Growths
+pub mod StagedNames

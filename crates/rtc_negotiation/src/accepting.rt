@@ -1,140 +1,182 @@
 //! Offers and answers of the other side.
-ghost use Rattle.std.specs.Prelude.{◌≡◌, ◌≤◌, length, IfOk, None, Some};
-ghost use Rattle.rtc_change.specs.Held.{held_of};
+ghost use Rattle.std.specs.Prelude.{◌≡◌, ◌≤◌, length, is_some, IfOk, None, Some};
+ghost use Rattle.std.specs.Option.{option_copied};
 ghost use Rattle.rtc_change.specs.Plans.{PlansSdp, asked_by};
-ghost use Rattle.rtc_change.specs.Table.{IsTable};
-ghost use Rattle.rtc_peer_state.specs.Calls.{AcceptsOffer, AcceptsAnswer};
-ghost use Rattle.rtc_peer_state.specs.Sources.{added_sources};
-ghost use Rattle.rtc_negotiation.specs.Updates.{UpdatesSources};
+ghost use Rattle.rtc_tables.specs.Table.{IsTable};
+ghost use Rattle.rtc_peer_state.specs.Acceptances.{AcceptsOffer, AcceptsAnswer, phase_after};
+ghost use Rattle.rtc_peer_state.specs.Meanings.{meanings};
+ghost use Rattle.rtc_peer_state.specs.Stance.{stance_of, held_by};
 
 use crate::confirming::confirm_channels;
-use crate::describing::make_sdp;
-use crate::updating::{list_added, update_sources};
-use rtc_change::{
-    Change, Lines, Plan, Refusal, SdpPendingOffer, View, count_added, plan_answer, plan_offer,
-};
+use crate::following::{follow, start_dtls};
+use crate::growing::{grow_answer, grow_offer};
+use crate::growth::Growth;
+use crate::heading::role_for;
+use rtc_association::Association;
+use rtc_change::{Plan, Refusal, SdpPendingOffer, View, Why, count_added, plan_answer, plan_offer};
+use rtc_dtls::{DtlsError, DtlsInstance};
+use rtc_ice::IceAgent;
 use rtc_ids::Ids;
-use rtc_peer_state::{LineSources, Peer, RtcError, count_lines};
-use rtc_sdp_values::{Sdp, Setup};
-use rtc_wire::{Seq, TryCopy};
-use std::alloc::{AllocError, Global};
+use rtc_media::MediaSession;
+use rtc_peer_state::{Peer, Phase, RtcError, count_lines};
+use rtc_sdp_values::{IceCreds, Sdp};
 
 // A table has fewer rows than this.
 const MOST_LINES: usize = 4_294_967_295;
 
-fn judge_offer(alloc: Global, lines: &Lines, offer: &Sdp) -> Result<Plan, Refusal>
-    ensures plans { PlansSdp (held_of lines.now) None offer.now result }
+// The credentials of the other side, once known.
+fn known_creds<I: IceAgent>(ice: &I) -> Option<&IceCreds>
+    ensures { option_copied result ≡ (I.ice.settings ice.now).remote }
+{
+    match ice.remote_credentials() {
+        Some(creds) => Some(creds),
+        None => None,
+    }
+}
+
+fn judge_offer<I: IceAgent, D: DtlsInstance, S: Association, M: MediaSession, N: Ids>(
+    peer: &Peer<I, D, S, M, N>,
+    offer: &Sdp,
+) -> Result<Plan, Refusal>
+    ensures plans { PlansSdp (held_by (stance_of (meanings I.ice D.dtls S.association M.media N.ids) peer.now)) None offer.now result }
     ensures table { IfOk result (λ plan. IsTable plan.rows) }
     ensures count { IfOk result (λ plan. length offer.now.lines ≤ length plan.rows) }
 {
-    if lines.rows().len() >= MOST_LINES || offer.lines.len() >= MOST_LINES {
+    if peer.lines.rows().len() >= MOST_LINES || offer.lines.len() >= MOST_LINES {
         return Err(Refusal::Alloc);
     }
-    let view = View { lines };
-    plan_offer(alloc, &view, offer)
+    let view = View {
+        lines: &peer.lines,
+        lite: peer.ice.ice_lite(),
+        remote_creds: known_creds(&peer.ice),
+        has_fingerprint: peer.fingerprint.is_some(),
+    };
+    plan_offer(peer.alloc, &view, offer)
 }
 
-fn judge_answer(
-    alloc: Global,
-    lines: &Lines,
+fn judge_answer<I: IceAgent, D: DtlsInstance, S: Association, M: MediaSession, N: Ids>(
+    peer: &Peer<I, D, S, M, N>,
     token: &SdpPendingOffer,
     answer: &Sdp,
 ) -> Result<Plan, Refusal>
-    ensures plans { PlansSdp (held_of lines.now) (Some (asked_by lines.now token.now)) answer.now result }
+    ensures plans { PlansSdp (held_by (stance_of (meanings I.ice D.dtls S.association M.media N.ids) peer.now))
+        (Some (asked_by peer.now.lines token.now)) answer.now result }
     ensures table { IfOk result (λ plan. IsTable plan.rows) }
     ensures count { IfOk result (λ plan. length answer.now.lines ≤ length plan.rows) }
 {
-    count_lines(lines, count_added(token.changes().0.as_slice()))?;
+    count_lines(&peer.lines, count_added(token.changes().0.as_slice()))?;
     if answer.lines.len() >= MOST_LINES {
         return Err(Refusal::Alloc);
     }
-    let view = View { lines };
-    plan_answer(alloc, &view, token, answer)
+    let view = View {
+        lines: &peer.lines,
+        lite: peer.ice.ice_lite(),
+        remote_creds: known_creds(&peer.ice),
+        has_fingerprint: peer.fingerprint.is_some(),
+    };
+    plan_answer(peer.alloc, &view, token, answer)
+}
+
+// A side whose certificate could not be checked is closed.
+fn close_unknown(phase: Phase, why: &Why) -> Phase
+    ensures { result ≡ phase_after why.now phase }
+{
+    match why {
+        Why::NoFingerprint => Phase::Closed,
+        Why::NoLines
+        | Why::BothLite
+        | Why::NoCredentials
+        | Why::UnaskedRestart { .. }
+        | Why::MovedLine(_)
+        | Why::PlaceTaken(_)
+        | Why::AnswerRecycles(_)
+        | Why::WrongNewLines(_) => phase,
+    }
 }
 
 /// Accepts an offer, and answers it; the token of an own offer is superseded, also where the offer is refused.
-#[tactic(auto, unfolding(rtc_peer_state::specs::MadeSdp::answer_sdp), using(rtc_ids::proofs::LaterLemmas::later_none))]
-pub fn accept_offer<N: Ids>(peer: &mut Peer<N>, offer: Sdp) -> Result<Sdp, RtcError>
-    ensures { AcceptsOffer N.ids peer.old offer result peer.new }
+pub fn accept_offer<I: IceAgent, D: DtlsInstance, S: Association, M: MediaSession, N: Ids>(
+    peer: &mut Peer<I, D, S, M, N>,
+    offer: Sdp,
+) -> Result<Sdp, RtcError>
+    ensures { AcceptsOffer (meanings I.ice D.dtls S.association M.media N.ids) peer.old offer result peer.new }
 {
-    let alloc = peer.alloc;
     peer.counter = peer.counter.wrapping_add(1);
-    let plan = match judge_offer(alloc, &peer.lines, &offer) {
+    let plan = match judge_offer(peer, &offer) {
         Ok(plan) => plan,
-        Err(Refusal::RemoteSdp(why)) => return Err(RtcError::RemoteSdp(why)),
+        Err(Refusal::RemoteSdp(why)) => {
+            peer.phase = close_unknown(peer.phase, &why);
+            return Err(RtcError::RemoteSdp(why));
+        }
         Err(Refusal::Sdp(error)) => return Err(RtcError::Sdp(error)),
         Err(Refusal::Alloc) => return Err(RtcError::Alloc),
     };
-    let Ok(answer) = make_sdp(
-        alloc,
-        peer.session_id,
-        &peer.identity,
-        Setup::Passive,
-        plan.rows.as_slice(),
-    ) else {
+    let Ok(growth) = grow_offer(peer, &offer, &plan) else {
         return Err(RtcError::Alloc);
     };
-    let Ok(()) = update_sources(
-        alloc,
-        &mut peer.ids,
-        &mut peer.sources,
-        Vec::new(alloc),
-        &plan,
-        offer.lines.len(),
-    ) else {
-        return Err(RtcError::Alloc);
-    };
+    let Growth {
+        answer,
+        following,
+        fingerprint,
+    } = growth;
+    let Some(answer) = answer else { unreachable!() };
+    match follow(&mut peer.ice, following) {
+        Ok(()) => {}
+        Err(_) => return Err(RtcError::Alloc),
+    }
+    match start_dtls(&mut peer.dtls, role_for(offer.setup()), peer.greatest) {
+        Ok(()) => {}
+        Err(DtlsError::WouldBlock) => unreachable!(),
+        Err(DtlsError::Fault) => return Err(RtcError::Dtls(DtlsError::Fault)),
+        Err(DtlsError::Alloc) => return Err(RtcError::Alloc),
+    }
+    peer.fingerprint = fingerprint;
+    peer.media.commit();
     peer.lines.commit(plan);
     Ok(answer)
 }
 
-// The sources once an answer is accepted: those of the lines that changes add come.
-#[tactic(auto, using(rtc_ids::proofs::LaterLemmas::later_none))]
-fn update_answered<N: Ids>(
-    alloc: Global,
-    ids: &mut N,
-    sources: &mut Seq<LineSources>,
-    changes: &[Change],
-    plan: &Plan,
-    count: usize,
-) -> Result<(), AllocError>
-    requires { count ≤ length plan.now.rows }
-    ensures { UpdatesSources N.ids ids.old sources.old (added_sources changes.now) plan.now count result ids.new sources.new }
-{
-    let added = list_added(alloc, changes)?;
-    update_sources(alloc, ids, sources, added, plan, count)
-}
-
 /// Accepts the answer to the offer of a token, which is spent. The channels that it adds are confirmed.
-#[tactic(auto, using(rtc_ids::proofs::LaterLemmas::later_none))]
-pub fn accept_answer<N: Ids>(
-    peer: &mut Peer<N>,
+pub fn accept_answer<I: IceAgent, D: DtlsInstance, S: Association, M: MediaSession, N: Ids>(
+    peer: &mut Peer<I, D, S, M, N>,
     token: SdpPendingOffer,
     answer: Sdp,
 ) -> Result<(), RtcError>
-    ensures { AcceptsAnswer N.ids peer.old token answer result peer.new }
+    ensures { AcceptsAnswer (meanings I.ice D.dtls S.association M.media N.ids) peer.old token answer result peer.new }
 {
-    let alloc = peer.alloc;
     if peer.counter != token.change_id().wrapping_add(1) {
         return Err(RtcError::ChangesOutOfOrder);
     }
-    let plan = match judge_answer(alloc, &peer.lines, &token, &answer) {
+    let plan = match judge_answer(peer, &token, &answer) {
         Ok(plan) => plan,
-        Err(Refusal::RemoteSdp(why)) => return Err(RtcError::RemoteSdp(why)),
+        Err(Refusal::RemoteSdp(why)) => {
+            peer.phase = close_unknown(peer.phase, &why);
+            return Err(RtcError::RemoteSdp(why));
+        }
         Err(Refusal::Sdp(error)) => return Err(RtcError::Sdp(error)),
         Err(Refusal::Alloc) => return Err(RtcError::Alloc),
     };
     let changes = token.into_changes();
-    let Ok(()) = update_answered(
-        alloc,
-        &mut peer.ids,
-        &mut peer.sources,
-        changes.0.as_slice(),
-        &plan,
-        answer.lines.len(),
-    ) else {
+    let Ok(growth) = grow_answer(peer, &changes, &answer, &plan) else {
         return Err(RtcError::Alloc);
     };
+    let Growth {
+        answer: _,
+        following,
+        fingerprint,
+    } = growth;
+    match follow(&mut peer.ice, following) {
+        Ok(()) => {}
+        Err(_) => return Err(RtcError::Alloc),
+    }
+    match start_dtls(&mut peer.dtls, role_for(answer.setup()), peer.greatest) {
+        Ok(()) => {}
+        Err(DtlsError::WouldBlock) => unreachable!(),
+        Err(DtlsError::Fault) => return Err(RtcError::Dtls(DtlsError::Fault)),
+        Err(DtlsError::Alloc) => return Err(RtcError::Alloc),
+    }
+    peer.fingerprint = fingerprint;
+    peer.media.commit();
     peer.lines.commit(plan);
     confirm_channels(&mut peer.channels, changes);
     Ok(())

@@ -1,62 +1,41 @@
 //! Peers that are built.
-ghost use Rattle.std.specs.Prelude.{◌≡◌, ◌++◌, ◌<◌, ◌≤◌, ◌^◌, ◌/◌, ◌%◌, IfOk, OnOk, string_bytes, ℕ};
-ghost use Rattle.rtc_peer_state.specs.Built.{
-  lower_hex_digit,
-  hex_digits,
-  drawn_creds,
-  sha256_fingerprint,
-  built,
-  cert_or,
-  after_cert,
-};
+ghost use Rattle.std.specs.Prelude.{◌≡◌, ◌≤◌, ◌<◌, ◌^◌, IfOk, OnOk, length, ℕ};
 ghost use Rattle.std.specs.Option.{option_copied};
+ghost use Rattle.rtc_peer_state.specs.Built.{Builds, creds_or, after_creds, cert_or, after_cert};
+ghost use Rattle.rtc_peer_state.specs.Meanings.{meanings};
 
+use crate::drawing_creds::make_creds;
+use rtc_association::Association;
 use rtc_change::Lines;
 use rtc_channels::ChannelHandler;
+use rtc_dtls::{Dtls, DtlsInstance};
+use rtc_ice::IceAgent;
 use rtc_ids::Ids;
-use rtc_peer_state::{Identity, Peer, RtcConfig, Staged};
-use rtc_sdp_values::{Fingerprint, IceCreds};
-use rtc_wire::{Bytes, Moment, Seq, Text, TryCopy};
+use rtc_media::MediaSession;
+use rtc_peer_state::{Peer, Phase, RtcConfig, Staged};
+use rtc_sdp_values::IceCreds;
+use rtc_wire::{Bytes, Moment, TryCopy};
 use std::alloc::{AllocError, Global};
 
-// A digit of base 16.
-fn digit(n: u8) -> char
-    requires { n < 16 }
-    ensures { result ≡ lower_hex_digit n }
-{
-    if n < 10 {
-        (b'0' + n) as char
-    } else {
-        (b'a' + n - 10) as char
-    }
-}
+// The sizes of datagrams that a DTLS part aims at and warns of, in bytes.
+const MTU: (usize, usize) = (1150, 1280);
 
-// Appends the last so many digits of a number in base 16.
-fn push_digits(text: &mut String, count: u32, n: u64) -> Result<(), AllocError>
-    ensures { OnOk result (string_bytes text.new ≡ string_bytes text.old ++ hex_digits count n) }
+// The credentials that are given, or else those that are drawn.
+fn take_creds<N: Ids>(
+    alloc: Global,
+    ids: &mut N,
+    given: &Option<IceCreds>,
+) -> Result<IceCreds, AllocError>
+    ensures creds { IfOk result (λ creds. creds ≡ creds_or N.ids given.now ids.old) }
+    ensures after { OnOk result (ids.new ≡ after_creds N.ids given.now ids.old) }
 {
-    if count == 0 {
-        return Ok(());
+    match given {
+        Some(creds) => creds.copy(),
+        None => {
+            let n = ids.draw();
+            make_creds(alloc, n)
+        }
     }
-    push_digits(text, count - 1, n / 16)?;
-    text.push(digit((n % 16) as u8))?;
-    Ok(())
-}
-
-// The credentials of a draw.
-fn make_creds(alloc: Global, n: u64) -> Result<IceCreds, AllocError>
-    ensures { IfOk result (λ creds. creds ≡ drawn_creds n) }
-{
-    let mut ufrag = String::new(alloc);
-    ufrag.push('u')?;
-    push_digits(&mut ufrag, 16, n)?;
-    let mut pass = String::new(alloc);
-    push_digits(&mut pass, 16, n)?;
-    push_digits(&mut pass, 16, n)?;
-    Ok(IceCreds {
-        ufrag: Text::new(ufrag),
-        pass: Text::new(pass),
-    })
 }
 
 // The certificate that is given, or else one that is drawn.
@@ -77,31 +56,35 @@ fn make_cert<N: Ids>(alloc: Global, ids: &mut N, given: Option<&[u8]>) -> Result
     }
 }
 
-// The fingerprint of a certificate.
-#[tactic(auto, unfolding(rtc_peer_state::specs::Built::sha256_fingerprint))]
-fn hash_cert(alloc: Global, cert: &[u8]) -> Result<Fingerprint, AllocError>
-    ensures { IfOk result (λ made. made ≡ sha256_fingerprint cert.now) }
-{
-    match Fingerprint::of_certificate(alloc, cert, "sha-256")? {
-        Some(fingerprint) => Ok(fingerprint),
-        None => unreachable!(),
-    }
-}
-
-/// A peer with no rows, as its config says: the number of its session and its credentials are drawn.
-pub fn build_peer<N: Ids + Drop>(
+/// A peer with no rows over fresh parts, as its config says: the number of its session is drawn, and its credentials and its certificate
+/// where none are set.
+pub fn build_peer<
+    I: IceAgent + Drop,
+    D: DtlsInstance + Drop,
+    S: Association + Drop,
+    M: MediaSession + Drop,
+    N: Ids + Drop,
+>(
     alloc: Global,
     config: RtcConfig,
     start: Moment,
+    ice: I,
+    dtls: D,
+    association: S,
+    media: M,
     ids: N,
-) -> Result<Peer<N>, AllocError>
-    ensures { IfOk result (λ peer. peer ≡ built N.ids alloc config start ids) }
+) -> Result<Peer<I, D, S, M, N>, AllocError>
+    ensures { IfOk result (λ p. Builds (meanings I.ice D.dtls S.association M.media N.ids)
+        alloc config start ice dtls association media ids p) }
 {
     let mut ids = ids;
+    let mut ice = ice;
     let session_id = ids.draw();
-    let creds = make_creds(alloc, ids.draw())?;
+    let creds = take_creds(alloc, &mut ids, config.local_ice_credentials())?;
     let cert = make_cert(alloc, &mut ids, config.dtls_cert())?;
-    let fingerprint = hash_cert(alloc, cert.as_slice())?;
+    ice.set_ice_lite(config.ice_lite());
+    ice.set_local_credentials(creds);
+    let dtls = Dtls::new(alloc, cert.as_slice(), dtls, MTU)?;
     Ok(Peer {
         alloc,
         lines: Lines::new(alloc),
@@ -109,10 +92,13 @@ pub fn build_peer<N: Ids + Drop>(
         channels: ChannelHandler::new(alloc),
         counter: 0,
         session_id,
-        identity: Identity { creds, fingerprint },
-        cert,
-        sources: Seq::empty(alloc),
+        phase: Phase::Alive,
+        fingerprint: None,
         greatest: start,
+        ice,
+        dtls,
+        association,
+        media,
         ids,
     })
 }

@@ -1,7 +1,7 @@
 //! Lines whose direction is set, or that are stopped.
 ghost use Rattle.std.specs.Prelude.{◌≡◌};
-ghost use Rattle.rtc_change.specs.RowChanges.{directed_row, stopped_row, is_changed};
-ghost use Rattle.rtc_change.specs.Table.{row_of};
+ghost use Rattle.rtc_tables.specs.RowChanges.{directed_row, stopped_row, is_changed};
+ghost use Rattle.rtc_tables.specs.Table.{row_of};
 ghost use Rattle.rtc_peer_state.specs.Calls.{SetsDirection, StopsMedia};
 
 use rtc_change::{Lines, direct_row, stop_row};
@@ -30,7 +30,11 @@ fn can_stop(lines: &Lines, mid: Mid) -> bool
 }
 
 /// Sets the direction of the live media line of a mid, and stages it; answers whether the line changed.
-pub fn set_direction<N>(peer: &mut Peer<N>, mid: Mid, dir: Direction) -> Result<bool, AllocError>
+pub fn set_direction<I, D, S, M, N>(
+    peer: &mut Peer<I, D, S, M, N>,
+    mid: Mid,
+    dir: Direction,
+) -> Result<bool, AllocError>
     ensures { SetsDirection peer.old mid dir result peer.new }
 {
     peer.lines.expect_look_up();
@@ -43,7 +47,10 @@ pub fn set_direction<N>(peer: &mut Peer<N>, mid: Mid, dir: Direction) -> Result<
 }
 
 /// Stops the live media line of a mid for good, and stages it; answers whether the line changed.
-pub fn stop_media<N>(peer: &mut Peer<N>, mid: Mid) -> Result<bool, AllocError>
+pub fn stop_media<I, D, S, M, N>(
+    peer: &mut Peer<I, D, S, M, N>,
+    mid: Mid,
+) -> Result<bool, AllocError>
     ensures { StopsMedia peer.old mid result peer.new }
 {
     peer.lines.expect_look_up();

@@ -44,7 +44,10 @@ fn confirm_change(channels: &mut ChannelHandler, change: Change)
 {
     match change {
         Change::AddChannel(id, config) => confirm_channel(channels, id, config),
-        Change::AddMedia(_) | Change::AddApp(_) | Change::Direction(_, _) => {}
+        Change::AddMedia(_)
+        | Change::AddApp(_)
+        | Change::Direction(_, _)
+        | Change::IceRestart(_, _) => {}
     }
 }
 

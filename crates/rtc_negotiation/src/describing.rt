@@ -1,11 +1,22 @@
 //! Session descriptions that a peer makes.
 ghost use Rattle.std.specs.Prelude.{◌≡◌, ◌+◌, ◌++◌, ◌<◌, ◌^◌, IfOk, map, length};
 ghost use Rattle.rtc_change.specs.PendingOffer.{added_mids, added_rows};
-ghost use Rattle.rtc_peer_state.specs.MadeSdp.{is_stopped, bare_row_line as BareRowLine, row_line, line_kind, live_mids, sdp_of_rows};
+ghost use Rattle.rtc_peer_state.specs.MadeSdp.{
+  is_stopped,
+  bare_row_line as BareRowLine,
+  row_line,
+  line_kind,
+  live_mids,
+  with_candidates,
+  sdp_of_rows,
+};
 
 use rtc_change::Change;
-use rtc_peer_state::Identity;
-use rtc_sdp_values::{Direction, LineKind, LineRow, MediaKind, MediaLine, Mid, Sdp, Setup};
+use rtc_peer_state::SdpHead;
+use rtc_sdp_values::{
+    Candidate, Direction, Fingerprint, IceCreds, LineKind, LineRow, MediaKind, MediaLine, Mid, Sdp,
+    Setup,
+};
 use rtc_wire::{LOCAL_MAX_MESSAGE_SIZE, Seq, TryCopy};
 use std::alloc::{AllocError, Global};
 
@@ -18,7 +29,8 @@ fn kind_of_line(kind: MediaKind) -> LineKind
     }
 }
 
-fn is_stopped_row(row: &LineRow) -> bool
+/// Whether a row is stopped for good.
+pub fn is_stopped_row(row: &LineRow) -> bool
     ensures { result ≡ is_stopped row.now }
 {
     match row {
@@ -28,16 +40,16 @@ fn is_stopped_row(row: &LineRow) -> bool
 }
 
 // An m-line with the credentials, the fingerprint and the role of its peer.
-fn peer_line(identity: Identity, setup: Setup, line: MediaLine) -> MediaLine
+fn peer_line(creds: IceCreds, fingerprint: Fingerprint, setup: Setup, line: MediaLine) -> MediaLine
     ensures { result ≡ record line {
-      creds = Some identity.creds;
-      fingerprint = Some identity.fingerprint;
+      creds = Some creds;
+      fingerprint = Some fingerprint;
       setup = Some setup;
     } }
 {
     let mut line = line;
-    line.creds = Some(identity.creds);
-    line.fingerprint = Some(identity.fingerprint);
+    line.creds = Some(creds);
+    line.fingerprint = Some(fingerprint);
     line.setup = Some(setup);
     line
 }
@@ -67,33 +79,35 @@ fn bare_row_line(alloc: Global, row: &LineRow) -> MediaLine
 }
 
 // The m-line of a row.
-fn line_of_row(
-    alloc: Global,
-    identity: &Identity,
-    setup: Setup,
-    row: &LineRow,
-) -> Result<MediaLine, AllocError>
-    ensures { IfOk result (λ line. line ≡ row_line identity.now setup row.now) }
+fn line_of_row(alloc: Global, head: &SdpHead, row: &LineRow) -> Result<MediaLine, AllocError>
+    ensures { IfOk result (λ line. line ≡ row_line head.now row.now) }
 {
-    let identity = identity.copy()?;
+    let creds = head.creds.copy()?;
+    let fingerprint = head.fingerprint.copy()?;
     let line = bare_row_line(alloc, row);
-    Ok(peer_line(identity, setup, line))
+    Ok(peer_line(creds, fingerprint, head.setup, line))
 }
 
-fn list_lines(
-    alloc: Global,
-    identity: &Identity,
-    setup: Setup,
-    rows: &[LineRow],
-) -> Result<Seq<MediaLine>, AllocError>
-    ensures { IfOk result (λ lines. lines ≡ map (row_line identity.now setup) rows.now) }
+fn list_lines(alloc: Global, head: &SdpHead, rows: &[LineRow]) -> Result<Vec<MediaLine>, AllocError>
+    ensures { IfOk result (λ lines. lines.items ≡ map (row_line head.now) rows.now) }
 {
     let mut lines = Vec::with_capacity(alloc, rows.len())?;
     for row in rows {
-        let line = line_of_row(alloc, identity, setup, row)?;
+        let line = line_of_row(alloc, head, row)?;
         lines.push(line)?;
     }
-    Ok(Seq::new(lines))
+    Ok(lines)
+}
+
+// The lines, with the candidates at the first.
+fn put_candidates(lines: Vec<MediaLine>, candidates: Seq<Candidate>) -> Vec<MediaLine>
+    ensures { result.items ≡ with_candidates candidates lines.items }
+{
+    let mut lines = lines;
+    if let Some(line) = lines.first_mut() {
+        line.candidates = candidates;
+    }
+    lines
 }
 
 // The mids of the rows that are not stopped.
@@ -110,27 +124,22 @@ fn list_live_mids(alloc: Global, rows: &[LineRow]) -> Result<Seq<Mid>, AllocErro
 }
 
 /// The session description of rows.
-pub fn make_sdp(
-    alloc: Global,
-    session: u64,
-    identity: &Identity,
-    setup: Setup,
-    rows: &[LineRow],
-) -> Result<Sdp, AllocError>
-    ensures { IfOk result (λ sdp. sdp ≡ sdp_of_rows session identity.now setup rows.now) }
+pub fn make_sdp(alloc: Global, head: SdpHead, rows: &[LineRow]) -> Result<Sdp, AllocError>
+    ensures { IfOk result (λ sdp. sdp ≡ sdp_of_rows head rows.now) }
 {
     let group = list_live_mids(alloc, rows)?;
     let mut groups = Seq::empty(alloc);
     groups.push(group)?;
-    let lines = list_lines(alloc, identity, setup, rows)?;
+    let lines = list_lines(alloc, &head, rows)?;
+    let lines = put_candidates(lines, head.candidates);
     Ok(Sdp {
-        id: session,
+        id: head.session,
         groups,
-        ice_lite: false,
+        ice_lite: head.lite,
         creds: None,
         fingerprint: None,
         setup: None,
-        lines,
+        lines: Seq::new(lines),
     })
 }
 

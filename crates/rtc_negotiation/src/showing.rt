@@ -35,7 +35,9 @@ fn list_rows(
 
 /// The rows of the channels, in order of their numbers.
 #[tactic(auto, using(crate::proofs::ShownLemmas::shown_rows))]
-pub fn list_channels<N>(peer: &Peer<N>) -> Result<Seq<ChannelRow>, AllocError>
+pub fn list_channels<I, D, S, M, N>(
+    peer: &Peer<I, D, S, M, N>,
+) -> Result<Seq<ChannelRow>, AllocError>
     ensures { IfOk result (λ rows. rows ≡ channel_rows peer.now.channels) }
 {
     let rows = list_rows(peer.alloc, peer.channels.rows())?;
@@ -54,7 +56,7 @@ fn row_at(rows: &[(ChannelId, Option<u16>)], k: usize) -> Option<ChannelRow>
 
 /// The row of the channel at a place, from 0.
 #[tactic(auto, using(crate::proofs::ShownLemmas::shown_here))]
-pub fn show_channel<N>(peer: &Peer<N>, k: usize) -> Option<ChannelRow>
+pub fn show_channel<I, D, S, M, N>(peer: &Peer<I, D, S, M, N>, k: usize) -> Option<ChannelRow>
     ensures { result ≡ slice_get (channel_rows peer.now.channels) k }
 {
     let row = row_at(peer.channels.rows(), k);

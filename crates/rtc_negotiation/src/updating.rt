@@ -1,108 +1,45 @@
-//! The sources that a peer has after an offer or an answer, worked out before anything changes.
-ghost use Rattle.std.specs.Prelude.{
-  ◌≡◌,
-  ◌+◌,
-  ◌++◌,
-  ◌<◌,
-  ◌≤◌,
-  ◌^◌,
-  ◌-◌,
-  ◌&&◌,
-  ◌||◌,
-  not,
-  Bool,
-  true,
-  false,
-  [],
-  ◌∷◌,
-  List,
-  ℕ,
-  length,
-  take,
-  filter,
-  IfOk,
-  OnOk,
-  OnErr,
-  Some,
-  None,
-  map,
-  vec_len,
-  vec_capacity,
-};
-ghost use Rattle.rtc_sdp_values.specs.LineRow.{row_mid};
-ghost use Rattle.rtc_sdp_values.specs.Mids.{is_among};
-ghost use Rattle.rtc_negotiation.specs.ListedMids.{sourced_mids};
-ghost use Rattle.rtc_change.specs.declared.change.Change.{Change};
-ghost use Rattle.rtc_peer_state.specs.declared.line_sources.LineSources.{LineSources};
-ghost use Rattle.rtc_change.specs.declared.plan.Plan.{Plan};
-ghost use Rattle.rtc_peer_state.specs.Calls.{is_sourced};
+//! What the media part is told of the lines of an offer or an answer.
+ghost use Rattle.std.specs.Prelude.{◌≡◌, ◌++◌, ◌&&◌, not, [], List, ℕ, IfOk, OnOk, option_map, Option, Some, None, length, slice_get};
+ghost use Rattle.std.specs.List.{flat_map};
+ghost use Rattle.std.specs.Option.{option_copied};
 ghost use Rattle.rtc_ids.specs.Draws.{Later};
-ghost use Rattle.rtc_negotiation.specs.Updates.{UpdatesSources};
-ghost use Rattle.rtc_peer_state.specs.Sources.{
-  is_used,
-  has_sources,
-  wants_sources,
+ghost use Rattle.rtc_peer_state.specs.MadeSdp.{is_stopped};
+ghost use Rattle.rtc_peer_state.specs.Sources.{has_source, pair_numbers, pair_count as PairCount};
+ghost use Rattle.rtc_peer_state.specs.LineUpdates.{
+  added_media,
+  sending_of,
+  has_none,
   row_kind,
-  row_sources,
-  drawn_sources,
-  after_sources,
-  added_sources,
-  without,
-  next_pair,
-  after_pair,
-  pair_numbers,
+  wants_sources as WantsSources,
+  is_added as IsAdded,
+  replaced_mid as ReplacedMid,
+  row_update as RowUpdate,
+  if_media,
+  row_pairs,
+  after_row,
+  row_updates,
+  after_updates,
 };
 
-use crate::listed_mids::{ListedMids, count_out_of_order};
-use crate::sourcing::draw_pair;
-use crate::taken_numbers::TakenNumbers;
-use rtc_change::{Change, Plan};
+use crate::describing::is_stopped_row;
+use crate::earlier_numbers::EarlierNumbers;
+use crate::sent_on_lines::find_sending;
+use crate::sourcing::draw_pairs;
+use rtc_change::Change;
 use rtc_ids::Ids;
-use rtc_peer_state::LineSources;
-use rtc_sdp_values::{LineRow, MediaKind, Mid};
+use rtc_media::{MediaSession, MediaUpdate};
+use rtc_peer_state::Sending;
+use rtc_sdp_values::{LineRow, MediaKind, MediaLine, Mid, Simulcast, Ssrc};
 use rtc_wire::{Seq, TryCopy};
 use std::alloc::{AllocError, Global};
-use std::mem;
 
-// So few draws walk over the numbers that are taken.
-const FEW_DRAWS: usize = 8;
-
-fn append_mids(mids: &mut Vec<Mid>, sources: &[LineSources]) -> Result<(), AllocError>
-    ensures { OnOk result (mids.new.items ≡ mids.old.items ++ map (λ line. line.mid) sources.now) }
+/// How many sources a line is to have.
+pub fn count_pairs(simulcast: &Option<Simulcast>) -> usize
+    ensures { result ≡ PairCount simulcast.now }
 {
-    for line in sources {
-        mids.push(line.mid)?;
-    }
-    Ok(())
-}
-
-// The mids of the lines with sources, and then of those that get the sources of a token.
-fn list_sourced_mids(
-    alloc: Global,
-    sources: &[LineSources],
-    added: &[LineSources],
-) -> Result<Vec<Mid>, AllocError>
-    ensures { IfOk result (λ mids. mids.items ≡ sourced_mids sources.now added.now) }
-{
-    let mut mids = Vec::with_capacity(alloc, sources.len())?;
-    append_mids(&mut mids, sources)?;
-    append_mids(&mut mids, added)?;
-    Ok(mids)
-}
-
-// Whether a row sends and has no source yet. The lines with sources mostly come in the order of the rows, so that the one at
-// `place` is looked at first.
-fn wants_line_sources(sourced: &ListedMids<'_>, place: &mut usize, row: &LineRow) -> bool
-    ensures { result ≡ wants_sources (is_among sourced.now) row.now }
-{
-    match row {
-        LineRow::Media { mid, dir, .. } => {
-            if sourced.is_next(place, *mid) {
-                return false;
-            }
-            dir.is_sending() && !sourced.has(*mid)
-        }
-        LineRow::App { .. } => false,
+    match simulcast {
+        None => 1,
+        Some(simulcast) => simulcast.send.len(),
     }
 }
 
@@ -115,149 +52,227 @@ fn kind_of_row(row: &LineRow) -> MediaKind
     }
 }
 
-// The sources of one row.
-fn draw_row<N: Ids>(
+// Whether a row sends and has no source yet.
+fn wants_sources(row: &LineRow, sending: &Sending) -> bool
+    ensures { result ≡ WantsSources row.now sending.now }
+{
+    match row {
+        LineRow::Media { dir, .. } => dir.is_sending() && sending.ssrcs.is_empty(),
+        LineRow::App { .. } => false,
+    }
+}
+
+// The sources that are drawn for a row.
+#[tactic(auto, using(rtc_ids::proofs::LaterLemmas::later_none))]
+fn draw_row<M: MediaSession, N: Ids>(
     alloc: Global,
     ids: &mut N,
-    taken: &mut TakenNumbers<'_>,
+    media: &M,
+    earlier: &mut EarlierNumbers,
     row: &LineRow,
-) -> Result<LineSources, AllocError>
-    ensures line { IfOk result (λ line. line ≡ record {
-      mid = row_mid row.now;
-      ssrcs = next_pair N.ids (is_used taken.old.0) (row_kind row.now) taken.old.1 ids.old ∷ [];
-    }) }
-    ensures taken { OnOk result (taken.new
-        ≡ (taken.old.0, taken.old.1 ++ pair_numbers (next_pair N.ids (is_used taken.old.0) (row_kind row.now) taken.old.1 ids.old))) }
-    ensures after { OnOk result (ids.new ≡ after_pair N.ids (is_used taken.old.0) (row_kind row.now) ids.old) }
+    sending: &Sending,
+) -> Result<Seq<(Ssrc, Option<Ssrc>)>, AllocError>
+    ensures pairs { IfOk result (λ pairs. pairs ≡ row_pairs N.ids (has_source M.media media.now) sending.now earlier.old row.now ids.old) }
+    ensures earlier { IfOk result (λ pairs. earlier.new ≡ earlier.old ++ flat_map pair_numbers pairs) }
+    ensures after { OnOk result (ids.new ≡ after_row N.ids (has_source M.media media.now) sending.now row.now ids.old) }
     ensures later { Later N.ids ids.old ids.new }
 {
-    let pair = draw_pair(ids, taken, kind_of_row(row))?;
-    let mut ssrcs = Seq::empty(alloc);
-    ssrcs.push(pair)?;
-    Ok(LineSources {
-        mid: row.mid(),
-        ssrcs,
+    if !wants_sources(row, sending) {
+        return Ok(Seq::empty(alloc));
+    }
+    let count = count_pairs(&sending.simulcast);
+    let pairs = draw_pairs(alloc, ids, media, earlier, kind_of_row(row), count)?;
+    Ok(pairs)
+}
+
+// Whether a row is new at its place, by the row that stood there before.
+fn is_added(before: Option<&LineRow>, row: &LineRow) -> bool
+    ensures { result ≡ IsAdded (option_copied before.entry) row.now }
+{
+    match before {
+        None => true,
+        Some(before) => before.mid() != row.mid(),
+    }
+}
+
+// The mid of the row whose place a row takes.
+fn replaced_mid(before: Option<&LineRow>, row: &LineRow) -> Option<Mid>
+    ensures { result ≡ ReplacedMid (option_copied before.entry) row.now }
+{
+    match before {
+        None => None,
+        Some(before) => {
+            if before.mid() == row.mid() {
+                None
+            } else {
+                Some(before.mid())
+            }
+        }
+    }
+}
+
+fn is_announced(offer: bool, before: Option<&LineRow>, row: &LineRow) -> bool
+    ensures { result ≡ (offer && (IsAdded (option_copied before.entry) row.now && not (is_stopped row.now))) }
+{
+    if !offer {
+        return false;
+    }
+    is_added(before, row) && !is_stopped_row(row)
+}
+
+// The sources, and then those that were drawn.
+fn join_pairs(
+    ssrcs: Seq<(Ssrc, Option<Ssrc>)>,
+    drawn: Seq<(Ssrc, Option<Ssrc>)>,
+) -> Result<Seq<(Ssrc, Option<Ssrc>)>, AllocError>
+    ensures { IfOk result (λ pairs. pairs ≡ ssrcs ++ drawn) }
+{
+    let mut pairs = ssrcs.into_vec();
+    let mut drawn = drawn.into_vec();
+    pairs.append(&mut drawn)?;
+    Ok(Seq::new(pairs))
+}
+
+// What the media part is told of a row.
+fn row_update(
+    alloc: Global,
+    offer: bool,
+    before: Option<&LineRow>,
+    row: &LineRow,
+    line: &MediaLine,
+    sending: Sending,
+    drawn: Seq<(Ssrc, Option<Ssrc>)>,
+) -> Result<MediaUpdate, AllocError>
+    ensures { IfOk result (λ update. update ≡ RowUpdate offer (option_copied before.entry) row.now line.now sending drawn) }
+{
+    let ssrcs_rx = line.ssrcs.copy()?;
+    let ssrcs_tx = join_pairs(sending.ssrcs, drawn)?;
+    Ok(MediaUpdate {
+        row: *row,
+        removed: replaced_mid(before, row),
+        announce: is_announced(offer, before, row),
+        payloads: Seq::empty(alloc),
+        exts: Seq::empty(alloc),
+        simulcast: sending.simulcast,
+        msid: sending.msid,
+        cname: sending.cname,
+        ssrcs_tx,
+        ssrcs_rx,
     })
 }
 
-// The numbers that lines use, where so many rows may draw more.
-fn take_numbers<'a>(
-    alloc: Global,
-    sources: &'a [LineSources],
-    count: usize,
-) -> Result<TakenNumbers<'a>, AllocError>
-    ensures { IfOk result (λ taken. taken ≡ (sources.now, [])) }
+fn push_if_media(
+    updates: &mut Vec<MediaUpdate>,
+    row: &LineRow,
+    update: MediaUpdate,
+) -> Result<(), AllocError>
+    ensures { OnOk result (updates.new.items ≡ updates.old.items ++ if_media row.now update) }
 {
-    if count <= FEW_DRAWS {
-        Ok(TakenNumbers::of_lines(alloc, sources))
-    } else {
-        TakenNumbers::indexed(alloc, sources)
+    match row {
+        LineRow::Media { .. } => {
+            updates.push(update)?;
+            Ok(())
+        }
+        LineRow::App { .. } => Ok(()),
     }
 }
 
-// The sources that rows draw, where they send and have none.
-#[tactic(auto, using(rtc_ids::proofs::LaterLemmas::later_none, rtc_ids::proofs::LaterLemmas::later_join))]
-fn draw_sources<N: Ids>(
+// A row with the row that stood at its place before and the m-line that names it.
+#[derive(Drop)]
+struct NamedRow<'a> {
+    before: Option<&'a LineRow>,
+    row: &'a LineRow,
+    line: &'a MediaLine,
+}
+
+// Appends what the media part is told of a row.
+fn push_update<M: MediaSession, N: Ids>(
     alloc: Global,
     ids: &mut N,
-    sources: &[LineSources],
-    added: &[LineSources],
-    rows: &[LineRow],
-) -> Result<Vec<LineSources>, AllocError>
-    ensures drawn { IfOk result (λ drawn. drawn.items
-        ≡ drawn_sources N.ids (is_used sources.now) (is_sourced sources.now added.now) [] rows.now ids.old) }
-    ensures after { OnOk result (ids.new ≡ after_sources N.ids (is_used sources.now) (is_sourced sources.now added.now) rows.now ids.old) }
+    media: &M,
+    earlier: &mut EarlierNumbers,
+    offer: bool,
+    named: &NamedRow<'_>,
+    sending: Sending,
+    updates: &mut Vec<MediaUpdate>,
+) -> Result<(), AllocError>
+    ensures updates { OnOk result (updates.new.items ≡ updates.old.items ++ if_media named.now.row.now (RowUpdate offer
+        (option_copied named.now.before) named.now.row.now named.now.line.now sending (row_pairs N.ids (has_source M.media media.now) sending earlier.old named.now.row.now ids.old))) }
+    ensures earlier { OnOk result (earlier.new
+        ≡ earlier.old ++ flat_map pair_numbers (row_pairs N.ids (has_source M.media media.now) sending earlier.old named.now.row.now ids.old)) }
+    ensures after { OnOk result (ids.new ≡ after_row N.ids (has_source M.media media.now) sending named.now.row.now ids.old) }
     ensures later { Later N.ids ids.old ids.new }
 {
-    let mids = list_sourced_mids(alloc, sources, added)?;
-    let others = count_out_of_order(mids.as_slice(), rows);
-    let sourced = ListedMids::new(alloc, mids.as_slice(), others)?;
-    let mut drawn = Vec::new(alloc);
-    let mut taken = take_numbers(alloc, sources, others)?;
-    let mut place = 0;
-    for row in rows {
-        if !wants_line_sources(&sourced, &mut place, row) {
-            continue;
-        }
-        let line = draw_row(alloc, ids, &mut taken, row)?;
-        drawn.push(line)?;
-    }
-    Ok(drawn)
-}
-
-/// The sources of the lines that changes add.
-pub fn list_added(alloc: Global, changes: &[Change]) -> Result<Vec<LineSources>, AllocError>
-    ensures { IfOk result (λ added. added.items ≡ added_sources changes.now) }
-{
-    let mut added = Vec::new(alloc);
-    for change in changes {
-        if let Change::AddMedia(media) = change {
-            let ssrcs = media.ssrcs.copy()?;
-            added.push(LineSources {
-                mid: media.mid,
-                ssrcs,
-            })?;
-        }
-    }
-    Ok(added)
-}
-
-// Puts the sources behind others, but those of removed lines.
-fn move_kept(all: &mut Vec<LineSources>, sources: Vec<LineSources>, removed: &ListedMids<'_>)
-    requires { vec_len all.old + vec_len sources ≤ vec_capacity all.old }
-    ensures items { all.new.items ≡ all.old.items ++ without removed.now sources.items }
-    ensures len { vec_len all.new ≤ vec_len all.old + vec_len sources }
-    ensures capacity { vec_capacity all.new ≡ vec_capacity all.old }
-{
-    for line in sources {
-        if !removed.has(line.mid) {
-            all.push_reserved(line);
-        }
-    }
-}
-
-// The sources but those of removed lines, and then more. Nothing is copied.
-fn replace_sources(
-    alloc: Global,
-    sources: &mut Seq<LineSources>,
-    removed: &ListedMids<'_>,
-    more: Vec<LineSources>,
-) -> Result<(), AllocError>
-    ensures ok { OnOk result (sources.new ≡ without removed.now sources.old ++ more.items) }
-    ensures err { OnErr result (sources.new ≡ sources.old) }
-{
-    let Some(count) = sources.len().checked_add(more.len()) else {
-        return Err(AllocError);
-    };
-    let mut all = Vec::with_capacity(alloc, count)?;
-    let mut more = more;
-    let before = mem::replace(sources, Seq::empty(alloc)).into_vec();
-    move_kept(&mut all, before, removed);
-    let Ok(()) = all.append(&mut more) else {
-        unreachable!()
-    };
-    *sources = Seq::new(all);
+    let drawn = draw_row(alloc, ids, media, earlier, named.row, &sending)?;
+    let update = row_update(
+        alloc,
+        offer,
+        named.before,
+        named.row,
+        named.line,
+        sending,
+        drawn,
+    )?;
+    push_if_media(updates, named.row, update)?;
     Ok(())
 }
 
-/// Gives a peer the sources that it has once a plan is carried out, whose first `count` rows are those of the lines.
-///
-/// Where there is no memory for them they stay as they were.
-pub fn update_sources<N: Ids>(
+fn row_at(rows: &[LineRow], place: usize) -> Option<&LineRow>
+    ensures { option_copied result ≡ slice_get rows.now place }
+{
+    rows.get(place)
+}
+
+fn line_at(lines: &[MediaLine], place: usize) -> Option<&MediaLine>
+    ensures { option_copied result ≡ slice_get lines.now place }
+{
+    lines.get(place)
+}
+
+/// What the media part is told of rows, with the rows that stood at their places before and the m-lines that name them.
+#[tactic(auto, using(rtc_ids::proofs::LaterLemmas::later_none, rtc_ids::proofs::LaterLemmas::later_join))]
+pub fn list_updates<M: MediaSession, N: Ids>(
     alloc: Global,
     ids: &mut N,
-    sources: &mut Seq<LineSources>,
-    added: Vec<LineSources>,
-    plan: &Plan,
-    count: usize,
-) -> Result<(), AllocError>
-    requires { count ≤ length plan.now.rows }
-    ensures { UpdatesSources N.ids ids.old sources.old added.items plan.now count result ids.new sources.new }
+    media: &M,
+    changes: &[Change],
+    offer: bool,
+    before: &[LineRow],
+    rows: &[LineRow],
+    lines: &[MediaLine],
+) -> Result<Vec<MediaUpdate>, AllocError>
+    ensures updates { IfOk result (λ updates. updates.items
+        ≡ row_updates N.ids (has_source M.media media.now)
+        (λ mid. sending_of (M.media.line media.now mid) (added_media changes.now mid) mid) offer before.now rows.now lines.now [] ids.old) }
+    ensures after { OnOk result (ids.new
+        ≡ after_updates N.ids (has_source M.media media.now)
+        (λ mid. sending_of (M.media.line media.now mid) (added_media changes.now mid) mid) rows.now lines.now ids.old) }
+    ensures later { Later N.ids ids.old ids.new }
 {
-    let rows = &plan.rows.as_slice()[..count];
-    let mut drawn = draw_sources(alloc, ids, sources.as_slice(), added.as_slice(), rows)?;
-    let mut more = added;
-    more.append(&mut drawn)?;
-    let removed = ListedMids::new(alloc, plan.removed.as_slice(), sources.len())?;
-    replace_sources(alloc, sources, &removed, more)
+    let mut updates = Vec::new(alloc);
+    let mut earlier = EarlierNumbers::new(alloc);
+    let mut place = 0;
+    for row in rows {
+        let Some(line) = line_at(lines, place) else {
+            return Ok(updates);
+        };
+        let sending = find_sending(alloc, media, changes, row.mid())?;
+        let named = NamedRow {
+            before: row_at(before, place),
+            row,
+            line,
+        };
+        push_update(
+            alloc,
+            ids,
+            media,
+            &mut earlier,
+            offer,
+            &named,
+            sending,
+            &mut updates,
+        )?;
+        place += 1;
+    }
+    Ok(updates)
 }

@@ -1,3 +1,4 @@
 pub mod Described
 pub mod Labelled
+pub mod Readings
 pub mod WantedLine

@@ -7,13 +7,17 @@ mod rtc;
 mod sdp_api;
 
 pub use rtc::Rtc;
+pub use rtc_association::Association;
 pub use rtc_change::{AddMedia, Change, Changes, Lines, NewLine, SdpPendingOffer, Why};
 pub use rtc_channels::{ChannelError, ChannelRow};
+pub use rtc_dtls::{DtlsError, DtlsInstance};
+pub use rtc_ice::IceAgent;
 pub use rtc_ids::Ids;
 pub use rtc_lines::{
     Candidate, CandidateKind, CodecConfig, Direction, Extension, ExtensionMap, Fingerprint,
     IceCreds, Inconsistent, LineKind, LineRow, MediaKind, MediaLine, Mid, Msid, PayloadRow, Pt,
     Rid, Sdp, SdpAnswer, SdpError, SdpOffer, Setup, Simulcast, SimulcastLayer, Ssrc,
 };
+pub use rtc_media::MediaSession;
 pub use rtc_peer_state::{RtcConfig, RtcError};
 pub use sdp_api::SdpApi;

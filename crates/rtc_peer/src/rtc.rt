@@ -1,63 +1,103 @@
 //! The peer that callers hold.
-ghost use Rattle.std.specs.Prelude.{◌≡◌, ◌≢◌, IsTrue, ◌↔◌, [], IfOk, slice_get};
+ghost use Rattle.std.specs.Prelude.{◌≡◌, ◌≢◌, IsTrue, ◌↔◌, [], IfOk, IfSome, slice_get};
+ghost use Rattle.std.specs.Option.{option_copied};
 ghost use Rattle.rtc_channels.specs.Channels.{channel_rows};
-ghost use Rattle.rtc_peer_state.specs.Calls.{AcceptsOffer, AcceptsAnswer, AddsMedia, AddsChannel, SetsDirection, StopsMedia, Applies};
-ghost use Rattle.rtc_peer_state.specs.Built.{built};
-ghost use Rattle.rtc_peer_state.specs.Formed.{IsFormed};
+ghost use Rattle.rtc_peer_state.specs.declared.phase.Phase.TheVariants.{Closed};
+ghost use Rattle.rtc_peer_state.specs.Acceptances.{AcceptsOffer, AcceptsAnswer};
+ghost use Rattle.rtc_peer_state.specs.Calls.{AddsMedia, AddsChannel, StagesRestart, SetsDirection, StopsMedia, Applies};
+ghost use Rattle.rtc_peer_state.specs.Built.{AreFresh, Builds};
+ghost use Rattle.rtc_peer_state.specs.Formed.{AreTokenCreds, IsFormed};
+ghost use Rattle.rtc_peer_state.specs.Meanings.{meanings};
+ghost use Rattle.rtc_peer_state.specs.Stance.{stance_of};
 ghost use Rattle.rtc_peer.specs.Described.{sdp_of_answer, sdp_of_offer};
 ghost use Rattle.rtc_peer.specs.Labelled.{labelled_config};
+ghost use Rattle.rtc_peer.specs.Readings.{media_row_of, is_alive_phase, AddsRemote};
 ghost use Rattle.rtc_peer.specs.WantedLine.{wanted_line};
 
 use crate::SdpApi;
+use rtc_association::Association;
 use rtc_change::{Lines, SdpPendingOffer};
 use rtc_channels::ChannelRow;
+use rtc_dtls::DtlsInstance;
+use rtc_ice::IceAgent;
 use rtc_ids::Ids;
-use rtc_lines::{Direction, MediaKind, Mid, SdpAnswer, SdpOffer, Simulcast};
+use rtc_lines::{
+    Candidate, Direction, IceCreds, LineRow, MediaKind, Mid, SdpAnswer, SdpOffer, Simulcast,
+};
+use rtc_media::MediaSession;
 use rtc_negotiation::{
     accept_answer, accept_offer, apply_staged, build_peer, list_channels, set_direction,
-    show_channel, stage_channel, stage_media, stop_media,
+    show_channel, stage_channel, stage_media, stage_restart, stop_media,
 };
-use rtc_peer_state::{Peer, RtcConfig, RtcError};
+use rtc_peer_state::{Peer, Phase, RtcConfig, RtcError};
 use rtc_wire::{ChannelConfig, ChannelId, Moment, Seq, Text};
 use std::alloc::{AllocError, Global};
 use std::marker::Model;
 
-/// A WebRTC peer.
+// The row of the media line of a mid.
+fn media_row(lines: &Lines, mid: Mid) -> Option<&LineRow>
+    ensures { option_copied result ≡ media_row_of lines.now mid }
+{
+    match lines.find(mid) {
+        Some(row) => match row {
+            LineRow::Media { .. } => Some(row),
+            LineRow::App { .. } => None,
+        },
+        None => None,
+    }
+}
+
+/// A WebRTC peer over its five parts: an ICE agent, a DTLS part, an SCTP association, a media part and a source of numbers.
 ///
 /// It reads no clock and no socket: moments, offers and answers are arguments of its calls.
 #[derive(Drop)]
-pub struct Rtc<N: Ids> {
-    core: Peer<N>,
+pub struct Rtc<I: IceAgent, D: DtlsInstance, S: Association, M: MediaSession, N: Ids> {
+    core: Peer<I, D, S, M, N>,
 }
 
-impl<N: Ids> Model for Rtc<N> {
+impl<I: IceAgent, D: DtlsInstance, S: Association, M: MediaSession, N: Ids> Model
+    for Rtc<I, D, S, M, N> {
     ghost use Rattle.rtc_peer_state.specs.Whole.{Whole};
 
-    ghost Value = { Whole N };
+    ghost Value = { Whole I D S M N };
 
     ghost view = { λ rtc. record { core = rtc.core } };
 }
 
-impl<N: Ids + Drop> Rtc<N> {
-    /// The peer of a config. It draws the number of its session, its credentials, and a certificate where none is set.
+impl<
+    I: IceAgent + Drop,
+    D: DtlsInstance + Drop,
+    S: Association + Drop,
+    M: MediaSession + Drop,
+    N: Ids + Drop,
+> Rtc<I, D, S, M, N> {
+    /// The peer of a config over five fresh parts. It draws the number of its session, and its credentials and its certificate
+    /// where none are set.
     pub fn build(
         alloc: Global,
         config: RtcConfig,
         start: Moment,
+        ice: I,
+        dtls: D,
+        association: S,
+        media: M,
         ids: N,
-    ) -> Result<Rtc<N>, AllocError>
-        ensures state { IfOk result (λ rtc. rtc.core ≡ built N.ids alloc config start ids) }
-        ensures formed { IfOk result (λ rtc. IsFormed rtc.core) }
+    ) -> Result<Rtc<I, D, S, M, N>, AllocError>
+        requires fresh { AreFresh (meanings I.ice D.dtls S.association M.media N.ids) ice dtls association media }
+        ensures built { IfOk result (λ rtc. Builds (meanings I.ice D.dtls S.association M.media N.ids)
+            alloc config start ice dtls association media ids rtc.core) }
+        ensures formed { IfOk result (λ rtc. IfSome config.creds AreTokenCreds → IsFormed (stance_of (meanings I.ice D.dtls S.association M.media N.ids)
+            rtc.core)) }
     {
-        let core = build_peer(alloc, config, start, ids)?;
+        let core = build_peer(alloc, config, start, ice, dtls, association, media, ids)?;
         let _session = core.session_id;
         Ok(Rtc { core })
     }
 }
 
-impl<N: Ids> Rtc<N> {
+impl<I: IceAgent, D: DtlsInstance, S: Association, M: MediaSession, N: Ids> Rtc<I, D, S, M, N> {
     /// A handle on the negotiation. What was staged before and not applied is dropped.
-    pub fn sdp_api(&mut self) -> SdpApi<'_, N>
+    pub fn sdp_api(&mut self) -> SdpApi<'_, I, D, S, M, N>
         ensures same_reference { result.rtc.ghost_name ≡ self.entry.ghost_name }
         ensures peer { result.rtc.now.core ≡ record self.old.core { staged = [] } }
     {
@@ -86,6 +126,50 @@ impl<N: Ids> Rtc<N> {
         show_channel(&self.core, k)
     }
 
+    /// The row of the media line of a mid.
+    pub fn media(&self, mid: Mid) -> Option<&LineRow>
+        ensures { option_copied result ≡ media_row_of self.now.core.lines mid }
+    {
+        media_row(&self.core.lines, mid)
+    }
+
+    /// Whether the peer is not closed.
+    pub fn is_alive(&self) -> bool
+        ensures { result ≡ is_alive_phase self.now.core.phase }
+    {
+        match self.core.phase {
+            Phase::Alive | Phase::Closing => true,
+            Phase::Closed => false,
+        }
+    }
+
+    /// Closes the peer at once, without a word to the other side.
+    pub fn disconnect(&mut self)
+        ensures { self.new.core ≡ record self.old.core { phase = Closed } }
+    {
+        self.core.phase = Phase::Closed;
+    }
+
+    /// Gives the ICE agent an address of this side, which offers and answers then tell. Ok says whether it was taken: an
+    /// agent may have it already.
+    pub fn add_local_candidate(&mut self, candidate: Candidate) -> Result<bool, AllocError>
+        ensures added { I.ice.local_added self.old.core.ice candidate result self.new.core.ice }
+        ensures others { self.new.core ≡ record self.old.core { ice = self.new.core.ice } }
+    {
+        self.core.ice.add_local_candidate(candidate)
+    }
+
+    /// Gives the ICE agent an address of the other side that came apart from an offer or an answer (RFC 8838).
+    pub fn add_remote_candidate(&mut self, candidate: Candidate) -> Result<(), AllocError>
+        ensures added { AddsRemote I.ice self.old.core.ice candidate result self.new.core.ice }
+        ensures others { self.new.core ≡ record self.old.core { ice = self.new.core.ice } }
+    {
+        match self.core.ice.add_remote_candidate(candidate) {
+            Ok(_taken) => Ok(()),
+            Err(error) => Err(error),
+        }
+    }
+
     pub(crate) fn has_staged(&self) -> bool
         ensures { IsTrue result ↔ (self.now.core.staged ≢ []) }
     {
@@ -93,7 +177,8 @@ impl<N: Ids> Rtc<N> {
     }
 
     pub(crate) fn accept_offer(&mut self, offer: SdpOffer) -> Result<SdpAnswer, RtcError>
-        ensures { AcceptsOffer N.ids self.old.core offer.0 (sdp_of_answer result) self.new.core }
+        ensures { AcceptsOffer (meanings I.ice D.dtls S.association M.media N.ids)
+            self.old.core offer.0 (sdp_of_answer result) self.new.core }
     {
         match accept_offer(&mut self.core, offer.0) {
             Ok(answer) => Ok(SdpAnswer(answer)),
@@ -106,7 +191,7 @@ impl<N: Ids> Rtc<N> {
         pending: SdpPendingOffer,
         answer: SdpAnswer,
     ) -> Result<(), RtcError>
-        ensures { AcceptsAnswer N.ids self.old.core pending answer.0 result self.new.core }
+        ensures { AcceptsAnswer (meanings I.ice D.dtls S.association M.media N.ids) self.old.core pending answer.0 result self.new.core }
     {
         accept_answer(&mut self.core, pending, answer.0)
     }
@@ -119,23 +204,31 @@ impl<N: Ids> Rtc<N> {
         track_id: Option<String>,
         simulcast: Option<Simulcast>,
     ) -> Result<Mid, AllocError>
-        ensures { AddsMedia N.ids self.old.core (wanted_line kind dir stream_id track_id simulcast) result self.new.core }
+        ensures { AddsMedia (meanings I.ice D.dtls S.association M.media N.ids) self.old.core
+            (wanted_line kind dir stream_id track_id simulcast) result self.new.core }
     {
         stage_media(&mut self.core, kind, dir, stream_id, track_id, simulcast)
     }
 
     pub(crate) fn stage_channel(&mut self, config: ChannelConfig) -> Result<ChannelId, RtcError>
-        ensures { AddsChannel N.ids self.old.core config result self.new.core }
+        ensures { AddsChannel (meanings I.ice D.dtls S.association M.media N.ids) self.old.core config result self.new.core }
     {
         stage_channel(&mut self.core, config)
     }
 
     pub(crate) fn stage_labelled(&mut self, label: String) -> Result<ChannelId, RtcError>
-        ensures { AddsChannel N.ids self.old.core (labelled_config label) result self.new.core }
+        ensures { AddsChannel (meanings I.ice D.dtls S.association M.media N.ids) self.old.core
+            (labelled_config label) result self.new.core }
     {
         let mut config = ChannelConfig::new(self.core.alloc);
         config.label = Text::new(label);
         stage_channel(&mut self.core, config)
+    }
+
+    pub(crate) fn stage_restart(&mut self, keeps: bool) -> Result<IceCreds, AllocError>
+        ensures { StagesRestart (meanings I.ice D.dtls S.association M.media N.ids) self.old.core keeps result self.new.core }
+    {
+        stage_restart(&mut self.core, keeps)
     }
 
     pub(crate) fn set_direction(&mut self, mid: Mid, dir: Direction) -> Result<bool, AllocError>
@@ -151,7 +244,7 @@ impl<N: Ids> Rtc<N> {
     }
 
     pub(crate) fn apply(&mut self) -> Result<Option<(SdpOffer, SdpPendingOffer)>, AllocError>
-        ensures { Applies self.old.core (sdp_of_offer result) self.new.core }
+        ensures { Applies (meanings I.ice D.dtls S.association M.media N.ids) self.old.core (sdp_of_offer result) self.new.core }
     {
         match apply_staged(&mut self.core)? {
             Some((offer, token)) => Ok(Some((SdpOffer(offer), token))),

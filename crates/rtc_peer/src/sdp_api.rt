@@ -1,15 +1,20 @@
 //! Offers and answers of a peer.
 ghost use Rattle.std.specs.Prelude.{◌≡◌, ◌≢◌, IsTrue, ◌↔◌, []};
-ghost use Rattle.rtc_peer_state.specs.Calls.{AcceptsOffer, AcceptsAnswer, AddsMedia, AddsChannel, SetsDirection, StopsMedia, Applies};
-ghost use Rattle.rtc_peer_state.specs.Whole.{Whole};
+ghost use Rattle.rtc_peer_state.specs.Acceptances.{AcceptsOffer, AcceptsAnswer};
+ghost use Rattle.rtc_peer_state.specs.Calls.{AddsMedia, AddsChannel, StagesRestart, SetsDirection, StopsMedia, Applies};
+ghost use Rattle.rtc_peer_state.specs.Meanings.{meanings};
 ghost use Rattle.rtc_peer.specs.Described.{sdp_of_answer, sdp_of_offer};
 ghost use Rattle.rtc_peer.specs.Labelled.{labelled_config};
 ghost use Rattle.rtc_peer.specs.WantedLine.{wanted_line};
 
 use crate::Rtc;
+use rtc_association::Association;
 use rtc_change::{Lines, SdpPendingOffer};
+use rtc_dtls::DtlsInstance;
+use rtc_ice::IceAgent;
 use rtc_ids::Ids;
-use rtc_lines::{Direction, MediaKind, Mid, SdpAnswer, SdpOffer, Simulcast};
+use rtc_lines::{Direction, IceCreds, MediaKind, Mid, SdpAnswer, SdpOffer, Simulcast};
+use rtc_media::MediaSession;
 use rtc_peer_state::RtcError;
 use rtc_wire::{ChannelConfig, ChannelId};
 use std::alloc::AllocError;
@@ -19,16 +24,24 @@ use std::alloc::AllocError;
 /// Changes are staged on it, and offered together by `apply`. A handle that is dropped offers nothing; what it set or
 /// stopped stays so.
 #[derive(Drop)]
-pub struct SdpApi<'a, N: Ids> {
-    pub(crate) rtc: &'a mut Rtc<N>,
+pub struct SdpApi<'a, I: IceAgent, D: DtlsInstance, S: Association, M: MediaSession, N: Ids> {
+    pub(crate) rtc: &'a mut Rtc<I, D, S, M, N>,
 }
 
-impl<'a, N: Ids> SdpApi<'a, N> {
+impl<'a, I: IceAgent, D: DtlsInstance, S: Association, M: MediaSession, N: Ids> SdpApi<
+    'a,
+    I,
+    D,
+    S,
+    M,
+    N,
+> {
     /// Accepts an offer of the other side, and answers it (RFC 8829, section 5.3).
     ///
     /// An offer of this side that still awaits its answer is superseded, also where the offer is refused.
     pub fn accept_offer(self, offer: SdpOffer) -> Result<SdpAnswer, RtcError>
-        ensures { AcceptsOffer N.ids self.entry.rtc.now.core offer.0 (sdp_of_answer result) self.exit.0.now.core }
+        ensures { AcceptsOffer (meanings I.ice D.dtls S.association M.media N.ids)
+            self.entry.rtc.now.core offer.0 (sdp_of_answer result) self.exit.0.now.core }
     {
         self.rtc.accept_offer(offer)
     }
@@ -36,7 +49,8 @@ impl<'a, N: Ids> SdpApi<'a, N> {
     /// Accepts the answer to an offer of this side (RFC 8829, section 5.11). The token is spent, also where the answer is
     /// refused.
     pub fn accept_answer(self, pending: SdpPendingOffer, answer: SdpAnswer) -> Result<(), RtcError>
-        ensures { AcceptsAnswer N.ids self.entry.rtc.now.core pending answer.0 result self.exit.0.now.core }
+        ensures { AcceptsAnswer (meanings I.ice D.dtls S.association M.media N.ids)
+            self.entry.rtc.now.core pending answer.0 result self.exit.0.now.core }
     {
         self.rtc.accept_answer(pending, answer)
     }
@@ -68,7 +82,7 @@ impl<'a, N: Ids> SdpApi<'a, N> {
         simulcast: Option<Simulcast>,
     ) -> Result<Mid, AllocError>
         ensures same_reference { self.new.rtc.ghost_name ≡ self.old.rtc.ghost_name }
-        ensures adds { AddsMedia N.ids self.old.rtc.now.core
+        ensures adds { AddsMedia (meanings I.ice D.dtls S.association M.media N.ids) self.old.rtc.now.core
             (wanted_line kind dir stream_id track_id simulcast) result self.new.rtc.now.core }
     {
         self.rtc.stage(kind, dir, stream_id, track_id, simulcast)
@@ -77,7 +91,8 @@ impl<'a, N: Ids> SdpApi<'a, N> {
     /// Stages a data channel with a label, and answers its number: ordered, reliable, announced by an open message.
     pub fn add_channel(&mut self, label: String) -> Result<ChannelId, RtcError>
         ensures same_reference { self.new.rtc.ghost_name ≡ self.old.rtc.ghost_name }
-        ensures adds { AddsChannel N.ids self.old.rtc.now.core (labelled_config label) result self.new.rtc.now.core }
+        ensures adds { AddsChannel (meanings I.ice D.dtls S.association M.media N.ids)
+            self.old.rtc.now.core (labelled_config label) result self.new.rtc.now.core }
     {
         self.rtc.stage_labelled(label)
     }
@@ -88,7 +103,8 @@ impl<'a, N: Ids> SdpApi<'a, N> {
     /// staged and is not offered stays in the table, waits, and keeps its claim on a stream.
     pub fn add_channel_with_config(&mut self, config: ChannelConfig) -> Result<ChannelId, RtcError>
         ensures same_reference { self.new.rtc.ghost_name ≡ self.old.rtc.ghost_name }
-        ensures adds { AddsChannel N.ids self.old.rtc.now.core config result self.new.rtc.now.core }
+        ensures adds { AddsChannel (meanings I.ice D.dtls S.association M.media N.ids)
+            self.old.rtc.now.core config result self.new.rtc.now.core }
     {
         self.rtc.stage_channel(config)
     }
@@ -116,12 +132,23 @@ impl<'a, N: Ids> SdpApi<'a, N> {
         self.rtc.stop_media(mid)
     }
 
+    /// Stages a restart of ICE with new credentials, which are drawn and answered, in place of one that was staged
+    /// (RFC 8839, section 4.4.1.1.1). The agent restarts once the answer is accepted.
+    pub fn ice_restart(&mut self, keep_local_candidates: bool) -> Result<IceCreds, AllocError>
+        ensures same_reference { self.new.rtc.ghost_name ≡ self.old.rtc.ghost_name }
+        ensures stages { StagesRestart (meanings I.ice D.dtls S.association M.media N.ids)
+            self.old.rtc.now.core keep_local_candidates result self.new.rtc.now.core }
+    {
+        self.rtc.stage_restart(keep_local_candidates)
+    }
+
     /// Makes the offer of what is staged, with the token that `accept_answer` takes with its answer.
     ///
     /// None where nothing but channels is staged, which no offer tells of: these are confirmed, and an offer that awaits its
     /// answer is superseded. None, and nothing happens, where nothing is staged.
     pub fn apply(self) -> Result<Option<(SdpOffer, SdpPendingOffer)>, AllocError>
-        ensures { Applies self.entry.rtc.now.core (sdp_of_offer result) self.exit.0.now.core }
+        ensures { Applies (meanings I.ice D.dtls S.association M.media N.ids)
+            self.entry.rtc.now.core (sdp_of_offer result) self.exit.0.now.core }
     {
         self.rtc.apply()
     }

@@ -1,5 +1,5 @@
 -- The peer that is built is formed.
-use Rattle.std.proofs.Common.{◌≡◌, ◌/◌, ◌%◌, ◌<◌, ◌^◌, ltb, ℕ, zero, suc, true, List, [], ◌∷◌, ◌++◌, length, refl, ap, arith, length-append}
+use Rattle.std.proofs.Common.{◌≡◌, ◌/◌, ◌%◌, ◌<◌, ◌^◌, ltb, ℕ, zero, suc, true, List, [], ◌∷◌, ◌++◌, length, refl, subst, arith, length-append}
 use Rattle.std.specs.List.{AllByRecursion, list_all}
 use Rattle.std.specs.Int.{to_be_bytes, bytes_high_first, byte_at, w32}
 use Rattle.std.specs.Prelude.{slice_index}
@@ -10,7 +10,14 @@ use Rattle.sha2.proofs.Facts256.{length-sha256}
 use Rattle.std.proofs.lemmas.Bool.Decides.{nat_tests}
 use Rattle.rtc_fields.specs.Tokens.{is_token_byte, is_token}
 use Rattle.rtc_peer_state.specs.declared.peer.Peer.{Peer}
-use Rattle.rtc_peer_state.specs.Built.{lower_hex_digit, hex_digits, drawn_creds, sha256_fingerprint, built}
+use Rattle.std.specs.Prelude.{codes, IfSome, Option, None, Some}
+use Rattle.rtc_sdp_values.specs.Fingerprint.{certificate_fingerprint}
+use Rattle.rtc_sdp_values.specs.declared.fingerprint.Fingerprint.{Fingerprint}
+use Rattle.rtc_sdp_values.specs.declared.ice_creds.IceCreds.{IceCreds}
+use Rattle.rtc_peer_state.specs.Built.{AreFresh, Builds, creds_or, session_drawn}
+use Rattle.rtc_peer_state.specs.Creds.{lower_hex_digit, hex_digits, drawn_creds}
+use Rattle.rtc_peer_state.specs.Meanings.{Meanings, PartsLaws}
+use Rattle.rtc_peer_state.specs.Stance.{stance_of}
 use Rattle.rtc_peer_state.specs.Config.{Config}
 use Rattle.rtc_ids.specs.Draws.{Draws}
 use Rattle.rtc_peer_state.specs.Formed.{AreTokenCreds, IsSha256, IsFormed}
@@ -36,7 +43,8 @@ token_from text some bytes =
     rw (a, bytes) refl
 
 -- the credentials of a draw
-drawn_creds_token : (n : ℕ) → AreTokenCreds (drawn_creds n)
+pub drawn_creds_token : (n : ℕ) → AreTokenCreds (drawn_creds n)
+unfolding drawn_creds
 drawn_creds_token n =
     let digits : List ℕ = hex_digits 16 n in
     let bytes : list_all is_token_byte digits ≡ true = hex_digits_are_token 16 n in
@@ -69,26 +77,30 @@ unfolding sha256
 sha256_small m = digest_small (final_hash initial_hash_256 m) 8
 
 -- the fingerprint of a certificate
-fingerprint_by_sha256 : (cert : List ℕ) → IsSha256 (sha256_fingerprint cert)
-unfolding sha256_fingerprint
-fingerprint_by_sha256 cert = record {
-  name = refl;
-  size = length-sha256 cert;
-  bytes = sha256_small cert;
-}
+fingerprint_by_sha256 : (cert : List ℕ) (made : Fingerprint) → certificate_fingerprint (codes "sha-256") cert ≡ Some made → IsSha256 made
+fingerprint_by_sha256 cert made is =
+    let same : (let by : Fingerprint = record { hash_func = codes "sha-256"; bytes = sha256 cert } in by) ≡ made = cc in
+    subst IsSha256 same (record { name = refl; size = length-sha256 cert; bytes = sha256_small cert })
 
--- The peer that is built is formed where numbers that are drawn have 64 bits.
-pub built_formed : {N : Type 0} (draws : Draws N) (alloc : Global) (config : Config) (start : ℕ) (ids : N) → draws.drawn ids < 2 ^ 64 → IsFormed (built draws alloc config start ids)
-built_formed draws alloc config start ids small = record {
-  session = small;
-  creds = drawn_creds_token (draws.drawn (draws.after ids));
-  fingerprint = fingerprint_by_sha256 _;
-  rows = tt;
-  staged = tt;
-}
+-- credentials that are set are tokens, and so are drawn ones
+creds_are_tokens : {N : Type 0} (draws : Draws N) (set : Option IceCreds) (ids : N) → IfSome set AreTokenCreds → AreTokenCreds (creds_or draws set ids)
+creds_are_tokens draws None ids h = drawn_creds_token (draws.drawn ids)
+creds_are_tokens draws (Some creds) ids h = h
 
--- a built peer whose session number has 64 bits
-pub session_formed : {N : Type 0} (draws : Draws N) (alloc : Global) (config : Config) (start : ℕ) (ids : N) (p : Peer N) → p ≡ built draws alloc config start ids → p.session_id < 2 ^ 64 → IsFormed p
-session_formed draws alloc config start ids p is small =
-    let drawn : draws.drawn ids < 2 ^ 64 = rw (← ap (λ q. q.session_id) is) small in
-    rw is (built_formed draws alloc config start ids drawn)
+-- The peer that is built is formed, where the credentials of its config are tokens and numbers that are drawn have 64 bits.
+pub built_formed : {I D S M E X T W N : Type 0} (m : Meanings I D S M E X T W N) → PartsLaws m → (alloc : Global) (config : Config) (start : ℕ)
+    (ice : I) (dtls : D) (association : S) (media : M) (ids : N) (p : Peer I D S M N) → AreFresh m ice dtls association media
+    → IfSome config.creds AreTokenCreds → m.ids.drawn ids < 2 ^ 64 → Builds m alloc config start ice dtls association media ids p → IsFormed (stance_of m p)
+built_formed m laws alloc config start ice dtls association media ids p fresh tokens small built =
+    let none : (m.ice.settings ice).candidates ≡ [] = laws.ice.fresh_candidates ice fresh.fresh_ice in
+    let lite = laws.ice.lite_settings ice built.lite_set config.ice_lite built.by_lite in
+    let local = laws.ice.local_settings built.lite_set p.ice _ built.by_creds in
+    record {
+      session = rw built.rest small;
+      creds = rw local (creds_are_tokens m.ids config.creds (session_drawn m.ids ids) tokens);
+      candidates = rw (local, lite, none) tt;
+      fingerprint = fingerprint_by_sha256 _ p.dtls.local built.by_cert.fingerprint;
+      rows = rw built.rest tt;
+      staged = rw built.rest tt;
+      restarts = rw built.rest tt;
+    }

@@ -3,6 +3,10 @@ pub mod Alls
 pub mod DrawnMids
 pub mod BuiltPeers
 pub mod TokenTables
-pub mod FormedCalls
 pub mod StagedLemmas
-pub mod ChannelCalls
+pub mod StanceCalls
+pub mod PartMovesLemmas
+pub mod StanceLemmas
+pub mod StanceAcceptances
+pub mod FormedHeads
+pub mod FormedStances

@@ -1,5 +1,5 @@
 -- The index of staged changes stays right as changes are staged.
-use Rattle.std.proofs.Common.{◌≡◌, ◌+◌, ◌-◌, ◌%◌, ◌^◌, ◌<◌, ◌∙◌, ◌||◌, not, ℕ, Bool, true, false, cond, List, [], ◌∷◌, ◌++◌, length, Option, Some, None, refl, sym, ap, arith, length-append, append_assoc, Ok}
+use Rattle.std.proofs.Common.{◌≡◌, ◌+◌, ◌-◌, ◌%◌, ◌^◌, ◌<◌, ◌∙◌, ◌||◌, not, ℕ, Bool, true, false, cond, filter, List, [], ◌∷◌, ◌++◌, length, Option, Some, None, refl, sym, ap, arith, length-append, append_assoc, Ok}
 use Rattle.std.specs.Prelude.{is_some}
 use Rattle.std.specs.List.{list_any}
 use Rattle.std.specs.BTreeSet as set
@@ -14,15 +14,16 @@ use Rattle.rtc_sdp_values.specs.declared.direction.Direction.{Direction}
 use Rattle.rtc_wire.specs.declared.channel_config.ChannelConfig.{ChannelConfig}
 use Rattle.rtc_change.specs.declared.add_media.AddMedia.{AddMedia as Media}
 use Rattle.rtc_change.specs.declared.change.Change.{Change}
-use Rattle.rtc_change.specs.declared.change.Change.TheVariants.{AddMedia, AddApp, AddChannel, Direction as SetDirection}
+use Rattle.rtc_change.specs.declared.change.Change.TheVariants.{AddMedia, AddApp, AddChannel, Direction as SetDirection, IceRestart}
 use Rattle.rtc_change.specs.PendingOffer.{added_mids, adds_mid, contains_add_app, is_add_app}
 use Rattle.rtc_change.proofs.AddedLemmas.{added_mids-append}
-use Rattle.rtc_change.specs.Table.{app_of, has_mid}
+use Rattle.rtc_tables.specs.Table.{app_of, has_mid}
 use Rattle.rtc_sdp_values.specs.declared.line_row.LineRow.{LineRow}
 use Rattle.rtc_channels.specs.Channels.{Channels, MakesChannel}
 use Rattle.rtc_ids.specs.Draws.{Draws}
 use Rattle.rtc_peer_state.specs.Names.{free_mid, is_held, next_mid}
-use Rattle.rtc_peer_state.specs.Staging.{StagesChannel, lacks_app, lacking_app, after_app}
+use Rattle.rtc_peer_state.specs.Staging.{StagesChannel, lacks_app, lacking_app, after_app, is_kept_by_restart, with_restart}
+use Rattle.rtc_sdp_values.specs.declared.ice_creds.IceCreds.{IceCreds}
 use Rattle.rtc_peer_state.proofs.FreeMid.{free_mid-same, drawn_mid_is_free}
 use Rattle.rtc_peer_state.specs.StagedIndex.{IsIndexed, is_indexed_mid, is_mid}
 
@@ -165,3 +166,34 @@ none_staged true true h = absurd (let e : false ≡ true = h in cc)
 none_staged true false h = refl
 none_staged false true h = absurd (let e : false ≡ true = h in cc)
 none_staged false false h = refl
+
+kept_mids : (changes : List Change) → added_mids (filter is_kept_by_restart changes) ≡ added_mids changes
+kept_mids [] = refl
+kept_mids (AddMedia media ∷ changes) = ap (λ (mids : List (List ℕ)). media.mid ∷ mids) (kept_mids changes)
+kept_mids (AddApp mid ∷ changes) = ap (λ (mids : List (List ℕ)). mid ∷ mids) (kept_mids changes)
+kept_mids (AddChannel id config ∷ changes) = kept_mids changes
+kept_mids (SetDirection mid dir ∷ changes) = kept_mids changes
+kept_mids (IceRestart creds keeps ∷ changes) = kept_mids changes
+
+kept_app : (changes : List Change) → contains_add_app (filter is_kept_by_restart changes) ≡ contains_add_app changes
+kept_app [] = refl
+kept_app (AddMedia media ∷ changes) = kept_app changes
+kept_app (AddApp mid ∷ changes) = refl
+kept_app (AddChannel id config ∷ changes) = kept_app changes
+kept_app (SetDirection mid dir ∷ changes) = kept_app changes
+kept_app (IceRestart creds keeps ∷ changes) = kept_app changes
+
+kept_indexed : (changes : List Change) (mids : BTreeSet (List ℕ)) (app : Option (List ℕ)) (count : ℕ)
+    → IsIndexed changes mids app count → IsIndexed (filter is_kept_by_restart changes) mids app count
+kept_indexed changes mids app count index = record {
+  held = λ mid. index.held mid ∙ ap (λ (added : List (List ℕ)). list_any (λ other. bytes_eq other mid) added) (sym (kept_mids changes));
+  has_app = index.has_app ∙ sym (kept_app changes);
+  counted = index.counted ∙ ap length (sym (kept_mids changes));
+}
+
+-- a restart is staged
+pub restart_indexed : (changes : List Change) (mids : BTreeSet (List ℕ)) (app : Option (List ℕ)) (count : ℕ) (creds : IceCreds) (keeps : Bool)
+    → IsIndexed changes mids app count → IsIndexed (with_restart creds keeps changes) mids app count
+restart_indexed changes mids app count creds keeps index =
+    grown (filter is_kept_by_restart changes) (IceRestart creds keeps ∷ []) mids mids app app count count (kept_indexed changes mids app count index)
+    (λ other. same (is_indexed_mid mids app other)) (same (is_some app)) (no_more count)

@@ -8,10 +8,10 @@ use Rattle.rtc_sdp_values.specs.declared.line_kind.LineKind.{LineKind}
 use Rattle.rtc_sdp_values.specs.declared.line_kind.LineKind.TheVariants.{Audio as AudioLine, Video as VideoLine, Application}
 use Rattle.rtc_sdp_values.specs.declared.line_row.LineRow.{LineRow}
 use Rattle.rtc_change.specs.declared.change.Change.{Change}
-use Rattle.rtc_change.specs.declared.change.Change.TheVariants.{AddMedia, AddApp, AddChannel, Direction as SetDirection}
-use Rattle.rtc_change.specs.declared.parsed_line.ParsedLine.{ParsedLine}
+use Rattle.rtc_change.specs.declared.change.Change.TheVariants.{AddMedia, AddApp, AddChannel, Direction as SetDirection, IceRestart}
+use Rattle.rtc_tables.specs.declared.parsed_line.ParsedLine.{ParsedLine}
 use Rattle.rtc_change.specs.PendingOffer.{added_rows}
-use Rattle.rtc_change.specs.Table.{is_app, app_of}
+use Rattle.rtc_tables.specs.Table.{is_app, app_of}
 use Rattle.rtc_change.specs.TableAfter.{table_after, rows_after, row_after, app_mid}
 use Rattle.rtc_peer_state.specs.Formed.{HaveTokens, AddTokens}
 use Rattle.rtc_peer_state.proofs.Alls.{all-append, all-drop, all-find}
@@ -22,6 +22,7 @@ added_tokens place (AddMedia media ∷ changes) h = (h.0, added_tokens (place + 
 added_tokens place (AddApp mid ∷ changes) h = (h.0, added_tokens (place + 1) changes h.1)
 added_tokens place (AddChannel id config ∷ changes) h = added_tokens place changes h
 added_tokens place (SetDirection mid dir ∷ changes) h = added_tokens place changes h
+added_tokens place (IceRestart creds keeps ∷ changes) h = added_tokens place changes h
 
 -- the mid of each line is a short token
 abbrev pub NameTokens : List ParsedLine → Type 0

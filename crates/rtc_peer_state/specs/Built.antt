@@ -1,33 +1,27 @@
 -- The peer that is built.
 use Rattle.rtc_channels.specs.Channels.{no_channels}
-use Rattle.std.specs.Prelude.{ℕ, ◌+◌, ◌/◌, ◌%◌, zero, suc, List, [], ◌∷◌, ◌++◌, if◌then◌else◌, nat_lt, codes, Option, Some, None}
+use Rattle.std.specs.Prelude.{◌≡◌, ℕ, List, [], Option, Some, None}
 use Rattle.std.specs.Int.{to_be_bytes, w64}
 use Rattle.std.specs.declared.alloc.Global.{Global}
-use Rattle.sha2.specs.Sha256.{sha256}
 use Rattle.rtc_sdp_values.specs.declared.ice_creds.IceCreds.{IceCreds}
-use Rattle.rtc_sdp_values.specs.declared.fingerprint.Fingerprint.{Fingerprint}
+use Rattle.rtc_dtls.specs.DtlsState.{BeginsDtls}
 use Rattle.rtc_peer_state.specs.declared.peer.Peer.{Peer}
+use Rattle.rtc_peer_state.specs.declared.phase.Phase.TheVariants.{Alive}
+use Rattle.rtc_peer_state.specs.Creds.{drawn_creds}
+use Rattle.rtc_peer_state.specs.Meanings.{Meanings}
 use Rattle.rtc_peer_state.specs.Config.{Config}
 use Rattle.rtc_ids.specs.Draws.{Draws}
 
--- a digit of base 16, in lower case
-abbrev pub lower_hex_digit : ℕ → ℕ
-lower_hex_digit n = if nat_lt n 10 then 48 + n else 87 + n
-
--- the last so many digits of a number in base 16
-abbrev pub hex_digits : ℕ → ℕ → List ℕ
-hex_digits zero n = []
-hex_digits (suc count) n = hex_digits count (n / 16) ++ lower_hex_digit (n % 16) ∷ []
-
--- the credentials of a draw: u and its 16 digits, and these digits twice
-abbrev pub drawn_creds : ℕ → IceCreds
-drawn_creds n = record { ufrag = 117 ∷ hex_digits 16 n; pass = hex_digits 16 n ++ hex_digits 16 n }
-
--- the fingerprint of a certificate by SHA-256 (RFC 8122, section 5)
-unfoldable pub sha256_fingerprint : List ℕ → Fingerprint
-sha256_fingerprint cert = record { hash_func = codes "sha-256"; bytes = sha256 cert }
-
 module _ {N : Type 0} (draws : Draws N) where
+  -- the credentials that are set, or else those that are drawn
+  abbrev pub creds_or : Option IceCreds → N → IceCreds
+  creds_or (Some creds) ids = creds
+  creds_or None ids = drawn_creds (draws.drawn ids)
+
+  abbrev pub after_creds : Option IceCreds → N → N
+  after_creds (Some creds) ids = ids
+  after_creds None ids = draws.after ids
+
   -- the certificate that is set, or else one that is drawn
   abbrev pub cert_or : Option (List ℕ) → N → List ℕ
   cert_or (Some cert) ids = cert
@@ -37,21 +31,44 @@ module _ {N : Type 0} (draws : Draws N) where
   after_cert (Some cert) ids = ids
   after_cert None ids = draws.after ids
 
-  -- the peer of a config: it draws the number of its session, its credentials, and a certificate where none is set
-  abbrev pub built : Global → Config → ℕ → N → Peer N
-  built alloc config start ids = record {
-    alloc = alloc;
-    lines = [];
-    staged = [];
-    channels = no_channels;
-    counter = 0;
-    session_id = draws.drawn ids;
-    identity = record {
-      creds = drawn_creds (draws.drawn (draws.after ids));
-      fingerprint = sha256_fingerprint (cert_or config.cert (draws.after (draws.after ids)));
-    };
-    cert = cert_or config.cert (draws.after (draws.after ids));
-    sources = [];
-    greatest = start;
-    ids = after_cert config.cert (draws.after (draws.after ids));
-  }
+  -- the draws of a peer that is built, in their order: the number of its session, its credentials, its certificate
+  abbrev pub session_drawn : N → N
+  session_drawn ids = draws.after ids
+
+  abbrev pub creds_drawn : Config → N → N
+  creds_drawn config ids = after_creds config.creds (session_drawn ids)
+
+  abbrev pub cert_drawn : Config → N → N
+  cert_drawn config ids = after_cert config.cert (creds_drawn config ids)
+
+module _ {I D S M E X T W N : Type 0} (m : Meanings I D S M E X T W N) where
+  -- parts that are as they were made
+  pub record AreFresh (ice : I) (dtls : D) (association : S) (media : M) : Type 0 where
+    pub fresh_ice : m.ice.fresh ice
+    pub fresh_dtls : m.dtls.fresh dtls
+    pub fresh_association : m.association.fresh association
+    pub fresh_media : m.media.fresh media
+
+  -- The peer of a config, over these parts: the agent is given the credentials and whether it is lite, and the DTLS part the certificate.
+  pub record Builds (alloc : Global) (config : Config) (start : ℕ) (ice : I) (dtls : D) (association : S) (media : M) (ids : N)
+      (p : Peer I D S M N) : Type 0 where
+    pub lite_set : I
+    pub by_lite : m.ice.lite_set ice config.ice_lite lite_set
+    pub by_creds : m.ice.local_set lite_set (creds_or m.ids config.creds (session_drawn m.ids ids)) p.ice
+    pub by_cert : BeginsDtls m.dtls (cert_or m.ids config.cert (creds_drawn m.ids config ids)) dtls (1150, 1280) p.dtls
+    pub rest : p ≡ record {
+      alloc = alloc;
+      lines = [];
+      staged = [];
+      channels = no_channels;
+      counter = 0;
+      session_id = m.ids.drawn ids;
+      phase = Alive;
+      fingerprint = None;
+      greatest = start;
+      ice = p.ice;
+      dtls = p.dtls;
+      association = association;
+      media = media;
+      ids = cert_drawn m.ids config ids;
+    }

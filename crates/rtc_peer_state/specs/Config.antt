@@ -1,7 +1,10 @@
 -- What a peer is built from.
-use Rattle.std.specs.Prelude.{ℕ, ◌≤◌, List, Option, IfSome, length}
+use Rattle.std.specs.Prelude.{ℕ, ◌≤◌, Bool, List, Option, IfSome, length}
+use Rattle.rtc_sdp_values.specs.declared.ice_creds.IceCreds.{IceCreds}
 
 pub record Config : Type 0 where
+  pub ice_lite : Bool
+  pub creds : Option IceCreds
   pub cert : Option (List ℕ)
 
 -- a certificate that is set has at most 1900 bytes

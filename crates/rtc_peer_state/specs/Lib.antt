@@ -1,10 +1,16 @@
 pub mod Config
+pub mod Creds
+pub mod Meanings
+pub mod Stance
 pub mod Names
 pub mod StagedIndex
 pub mod Staging
 pub mod Sources
 pub mod MadeSdp
+pub mod LineUpdates
+pub mod PartMoves
 pub mod Calls
+pub mod Acceptances
 pub mod Built
 pub mod Formed
 pub mod Whole

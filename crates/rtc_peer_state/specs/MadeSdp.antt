@@ -1,7 +1,10 @@
 -- The offers and answers that a peer makes.
-use Rattle.std.specs.Prelude.{ℕ, Bool, true, false, not, List, [], ◌∷◌, ◌++◌, map, filter, length, Some, None}
+use Rattle.std.specs.Prelude.{ℕ, Bool, true, false, not, List, [], ◌∷◌, ◌++◌, map, filter, length, if◌then◌else◌, Option, Some, None}
 use Rattle.rtc_sdp_values.specs.LineRow.{row_mid}
 use Rattle.rtc_sdp_values.specs.MediaLine.{bare_line}
+use Rattle.rtc_sdp_values.specs.Sdp.{sdp_setup}
+use Rattle.rtc_sdp_values.specs.declared.candidate.Candidate.{Candidate}
+use Rattle.rtc_sdp_values.specs.declared.ice_creds.IceCreds.{IceCreds}
 use Rattle.rtc_sdp_values.specs.declared.line_row.LineRow.{LineRow}
 use Rattle.rtc_sdp_values.specs.declared.line_row.LineRow.TheVariants.{Media, App}
 use Rattle.rtc_sdp_values.specs.declared.line_kind.LineKind.{LineKind}
@@ -10,14 +13,15 @@ use Rattle.rtc_sdp_values.specs.declared.media_kind.MediaKind.{MediaKind}
 use Rattle.rtc_sdp_values.specs.declared.media_kind.MediaKind.TheVariants.{Audio, Video}
 use Rattle.rtc_sdp_values.specs.declared.direction.Direction.TheVariants.{SendRecv}
 use Rattle.rtc_sdp_values.specs.declared.setup.Setup.{Setup}
-use Rattle.rtc_sdp_values.specs.declared.setup.Setup.TheVariants.{ActPass, Passive}
+use Rattle.rtc_sdp_values.specs.declared.setup.Setup.TheVariants.{ActPass, Active, Passive}
 use Rattle.rtc_sdp_values.specs.declared.media_line.MediaLine.{MediaLine}
 use Rattle.rtc_sdp_values.specs.declared.sdp.Sdp.{Sdp}
-use Rattle.rtc_change.specs.PendingOffer.{added_rows}
-use Rattle.rtc_change.specs.ParsedLines.{parsed_lines}
+use Rattle.rtc_ice.specs.IceMeaning.{IceSettings}
+use Rattle.rtc_change.specs.PendingOffer.{added_rows, staged_restart}
+use Rattle.rtc_tables.specs.ParsedLines.{parsed_lines}
 use Rattle.rtc_change.specs.TableAfter.{table_after}
-use Rattle.rtc_peer_state.specs.declared.identity.Identity.{Identity}
-use Rattle.rtc_peer_state.specs.declared.peer.Peer.{Peer}
+use Rattle.rtc_peer_state.specs.declared.sdp_head.SdpHead.{SdpHead}
+use Rattle.rtc_peer_state.specs.Stance.{Stance}
 
 abbrev pub is_stopped : LineRow → Bool
 is_stopped (Media place mid kind dir stopped remote_created) = stopped
@@ -33,37 +37,91 @@ bare_row_line (Media place mid kind dir stopped remote_created) = record (bare_l
 bare_row_line (App place mid) = record (bare_line Application mid SendRecv) { max_message_size = Some 262144 }
 
 -- the m-line of a row, with the credentials, the fingerprint and the role of its peer
-abbrev pub row_line : Identity → Setup → LineRow → MediaLine
-row_line identity setup row = record (bare_row_line row) {
-  creds = Some identity.creds;
-  fingerprint = Some identity.fingerprint;
-  setup = Some setup;
+abbrev pub row_line : SdpHead → LineRow → MediaLine
+row_line head row = record (bare_row_line row) {
+  creds = Some head.creds;
+  fingerprint = Some head.fingerprint;
+  setup = Some head.setup;
 }
 
 -- the mids of the BUNDLE group: those of the rows that are not stopped (RFC 8843, section 7)
 abbrev pub live_mids : List LineRow → List (List ℕ)
 live_mids rows = map row_mid (filter (λ row. not (is_stopped row)) rows)
 
+-- candidates stand at the first line, since all lines share one transport (RFC 8843, section 10)
+abbrev pub with_candidates : List Candidate → List MediaLine → List MediaLine
+with_candidates candidates [] = []
+with_candidates candidates (line ∷ lines) = record line { candidates = candidates } ∷ lines
+
 -- the session description of rows
-abbrev pub sdp_of_rows : ℕ → Identity → Setup → List LineRow → Sdp
-sdp_of_rows session identity setup rows = record {
-  id = session;
+abbrev pub sdp_of_rows : SdpHead → List LineRow → Sdp
+sdp_of_rows head rows = record {
+  id = head.session;
   groups = live_mids rows ∷ [];
-  ice_lite = false;
+  ice_lite = head.lite;
   creds = None;
   fingerprint = None;
   setup = None;
-  lines = map (row_line identity setup) rows;
+  lines = with_candidates head.candidates (map (row_line head) rows);
+}
+
+-- the credentials of a restart that is asked for, or else those that are in use
+abbrev pub creds_in_use : Option (IceCreds × Bool) → IceSettings → IceCreds
+creds_in_use None settings = settings.local
+creds_in_use (Some restart) settings = restart.0
+
+-- the local candidates, but where a restart does not keep them
+abbrev pub candidates_in_use : Option (IceCreds × Bool) → IceSettings → List Candidate
+candidates_in_use None settings = settings.candidates
+candidates_in_use (Some restart) settings = if restart.1 then settings.candidates else []
+
+-- the role of this side by the setup that the other side tells: where that leaves the choice, this side waits for the
+-- handshake (RFC 8842, section 5.3)
+abbrev pub role_for : Option Setup → Bool
+role_for None = false
+role_for (Some ActPass) = false
+role_for (Some Active) = false
+role_for (Some Passive) = true
+
+-- the first role stays
+abbrev pub role_after : Option Bool → Option Setup → Bool
+role_after None told = role_for told
+role_after (Some role) told = role
+
+abbrev pub setup_of_role : Bool → Setup
+setup_of_role true = Active
+setup_of_role false = Passive
+
+-- what an offer tells of its side: either side may take either DTLS role (RFC 8842, section 5.2)
+abbrev pub offer_head : Stance → SdpHead
+offer_head s = record {
+  session = s.session;
+  lite = s.ice.lite;
+  creds = creds_in_use (staged_restart s.staged) s.ice;
+  fingerprint = s.own_fingerprint;
+  setup = ActPass;
+  candidates = candidates_in_use (staged_restart s.staged) s.ice;
 }
 
 -- the rows of an offer: those that are there, then those that it adds
-abbrev pub offered_rows : {N : Type 0} → Peer N → List LineRow
-offered_rows p = p.lines ++ added_rows (length p.lines) p.staged
+abbrev pub offered_rows : Stance → List LineRow
+offered_rows s = s.lines ++ added_rows (length s.lines) s.staged
 
--- the offer of what is staged: either side may take either DTLS role (RFC 8842, section 5.2)
-unfoldable pub offer_sdp : {N : Type 0} → Peer N → Sdp
-offer_sdp p = sdp_of_rows p.session_id p.identity ActPass (offered_rows p)
+-- the offer of what is staged
+unfoldable pub offer_sdp : Stance → Sdp
+offer_sdp s = sdp_of_rows (offer_head s) (offered_rows s)
 
--- the answer to an offer: this side waits for the DTLS handshake (RFC 8842, section 5.3)
-unfoldable pub answer_sdp : {N : Type 0} → Peer N → Sdp → Sdp
-answer_sdp p offer = sdp_of_rows p.session_id p.identity Passive (table_after p.lines (parsed_lines offer) true)
+-- what an answer tells of its side, where it follows a restart with these credentials or follows none
+abbrev pub answer_head : Stance → Option (IceCreds × Bool) → Sdp → SdpHead
+answer_head s restart offer = record {
+  session = s.session;
+  lite = s.ice.lite;
+  creds = creds_in_use restart s.ice;
+  fingerprint = s.own_fingerprint;
+  setup = setup_of_role (role_after s.role (sdp_setup offer));
+  candidates = candidates_in_use restart s.ice;
+}
+
+-- the answer to an offer
+unfoldable pub answer_sdp : Stance → Option (IceCreds × Bool) → Sdp → Sdp
+answer_sdp s restart offer = sdp_of_rows (answer_head s restart offer) (table_after s.lines (parsed_lines offer) true)

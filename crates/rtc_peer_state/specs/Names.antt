@@ -5,7 +5,7 @@ use Rattle.std.specs.Fmt.{decimal}
 use Rattle.rtc_fields.specs.Tokens.{is_token_byte}
 use Rattle.rtc_sdp_values.specs.declared.line_row.LineRow.{LineRow}
 use Rattle.rtc_change.specs.declared.change.Change.{Change}
-use Rattle.rtc_change.specs.Table.{has_mid}
+use Rattle.rtc_tables.specs.Table.{has_mid}
 use Rattle.rtc_change.specs.PendingOffer.{added_mids, adds_mid}
 use Rattle.rtc_ids.specs.Draws.{Draws}
 

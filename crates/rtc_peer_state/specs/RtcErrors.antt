@@ -5,8 +5,10 @@ use Rattle.rtc_change.specs.declared.refusal.Refusal.{Refusal}
 use Rattle.rtc_change.specs.declared.refusal.Refusal.TheVariants.{RemoteSdp as RefusedSdp, Sdp as RefusedText, Alloc as NoMemory}
 use Rattle.rtc_channels.specs.declared.channel_error.ChannelError.{ChannelError}
 use Rattle.rtc_channels.specs.declared.channel_error.ChannelError.TheVariants.{BadChannel as RefusedChannel, Alloc as ChannelAlloc}
+use Rattle.rtc_dtls.specs.declared.dtls_error.DtlsError.{DtlsError}
+use Rattle.rtc_dtls.specs.declared.dtls_error.DtlsError.TheVariants.{WouldBlock, Fault, Alloc as DtlsAlloc}
 use Rattle.rtc_peer_state.specs.declared.rtc_error.RtcError.{RtcError}
-use Rattle.rtc_peer_state.specs.declared.rtc_error.RtcError.TheVariants.{RemoteSdp, Sdp, BadChannel, Alloc}
+use Rattle.rtc_peer_state.specs.declared.rtc_error.RtcError.TheVariants.{RemoteSdp, Sdp, Dtls, BadChannel, Alloc}
 
 -- want of memory below is want of memory
 abbrev pub error_of_sdp : SdpError → RtcError
@@ -22,3 +24,8 @@ error_of_refusal NoMemory = Alloc
 abbrev pub error_of_channel : ChannelError → RtcError
 error_of_channel RefusedChannel = BadChannel
 error_of_channel ChannelAlloc = Alloc
+
+abbrev pub error_of_dtls : DtlsError → RtcError
+error_of_dtls WouldBlock = Dtls WouldBlock
+error_of_dtls Fault = Dtls Fault
+error_of_dtls DtlsAlloc = Alloc

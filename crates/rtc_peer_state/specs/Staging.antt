@@ -1,14 +1,15 @@
--- How a channel is staged: with the line of the data channels, where there is none yet (RFC 8831, section 6.4).
-use Rattle.std.specs.Prelude.{◌≡◌, ℕ, Bool, true, false, List, [], ◌∷◌, ◌++◌, ◌||◌, not, is_some, Result, Ok, Err}
+-- How channels and restarts are staged: a channel with the line of the data channels, where there is none yet (RFC 8831, section 6.4).
+use Rattle.std.specs.Prelude.{◌≡◌, ℕ, Bool, true, false, List, [], ◌∷◌, ◌++◌, ◌||◌, not, filter, is_some, Result, Ok, Err}
 use Rattle.rtc_wire.specs.declared.channel_config.ChannelConfig.{ChannelConfig}
+use Rattle.rtc_sdp_values.specs.declared.ice_creds.IceCreds.{IceCreds}
 use Rattle.rtc_sdp_values.specs.declared.line_row.LineRow.{LineRow}
 use Rattle.rtc_channels.specs.Channels.{Channels, is_bad_channel, with_channel}
 use Rattle.rtc_channels.specs.declared.channel_error.ChannelError.{ChannelError}
 use Rattle.rtc_channels.specs.declared.channel_error.ChannelError.TheVariants.{BadChannel, Alloc}
-use Rattle.rtc_change.specs.Table.{app_of}
+use Rattle.rtc_tables.specs.Table.{app_of}
 use Rattle.rtc_change.specs.declared.change.Change.{Change}
-use Rattle.rtc_change.specs.declared.change.Change.TheVariants.{AddApp, AddChannel}
-use Rattle.rtc_change.specs.PendingOffer.{contains_add_app}
+use Rattle.rtc_change.specs.declared.change.Change.TheVariants.{AddApp, AddChannel, IceRestart}
+use Rattle.rtc_change.specs.PendingOffer.{contains_add_app, restart_of}
 use Rattle.rtc_ids.specs.Draws.{Draws, Later}
 use Rattle.rtc_peer_state.specs.Names.{is_held, next_mid}
 
@@ -40,3 +41,10 @@ module _ {N : Type 0} (draws : Draws N) where
   StagesChannel rows ids staged held config (Err BadChannel) ids' staged' held' =
       (is_bad_channel held config ≡ true) × (held' ≡ held) × (staged' ≡ staged) × (ids' ≡ ids)
   StagesChannel rows ids staged held config (Err Alloc) ids' staged' held' = (held' ≡ held) × (staged' ≡ staged) × (ids' ≡ ids)
+
+abbrev pub is_kept_by_restart : Change → Bool
+is_kept_by_restart change = not (is_some (restart_of change))
+
+-- the changes with a restart of ICE, in place of one that was staged
+abbrev pub with_restart : IceCreds → Bool → List Change → List Change
+with_restart creds keeps staged = filter is_kept_by_restart staged ++ IceRestart creds keeps ∷ []

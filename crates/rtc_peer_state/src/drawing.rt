@@ -1,6 +1,6 @@
 //! Draws of mids.
 ghost use Rattle.std.specs.Prelude.{◌≡◌, ◌+◌, ◌-◌, ◌%◌, ◌<◌, ◌^◌, ◌||◌, not, is_some, IfOk, length};
-ghost use Rattle.rtc_change.specs.Table.{app_of, has_mid};
+ghost use Rattle.rtc_tables.specs.Table.{app_of, has_mid};
 ghost use Rattle.rtc_peer_state.specs.Names.{drawn_mid, free_mid};
 ghost use Rattle.rtc_peer_state.specs.StagedIndex.{is_indexed_mid};
 

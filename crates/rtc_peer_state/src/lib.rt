@@ -2,17 +2,19 @@
 #![tactic(auto)]
 
 mod drawing;
-mod identity;
-mod line_sources;
 mod peer;
+mod phase;
 mod rtc_config;
 mod rtc_error;
+mod sdp_head;
+mod sending;
 mod staged;
 
 pub use drawing::count_lines;
-pub use identity::Identity;
-pub use line_sources::LineSources;
 pub use peer::Peer;
+pub use phase::Phase;
 pub use rtc_config::RtcConfig;
 pub use rtc_error::RtcError;
+pub use sdp_head::SdpHead;
+pub use sending::Sending;
 pub use staged::Staged;

@@ -1,13 +1,15 @@
 //! The state of a peer.
-use crate::{Identity, LineSources, Staged};
+use crate::{Phase, Staged};
 use rtc_change::Lines;
 use rtc_channels::ChannelHandler;
-use rtc_wire::{Bytes, Moment, Seq};
+use rtc_dtls::Dtls;
+use rtc_sdp_values::Fingerprint;
+use rtc_wire::Moment;
 use std::alloc::Global;
 
 /// The state of a peer. Its fields are public for the crates that work on it; callers hold an `Rtc`.
 #[derive(Drop)]
-pub struct Peer<N> {
+pub struct Peer<I, D, S, M, N> {
     pub alloc: Global,
     pub lines: Lines,
     /// What is staged and not yet applied.
@@ -17,11 +19,14 @@ pub struct Peer<N> {
     pub counter: u64,
     /// The number of the session, of the `o=` line.
     pub session_id: u64,
-    pub identity: Identity,
-    pub cert: Bytes,
-    /// The sources of the lines that have some.
-    pub sources: Seq<LineSources>,
+    pub phase: Phase,
+    /// The fingerprint that the other side told first.
+    pub fingerprint: Option<Fingerprint>,
     /// The greatest moment that was given.
     pub greatest: Moment,
+    pub ice: I,
+    pub dtls: Dtls<D>,
+    pub association: S,
+    pub media: M,
     pub ids: N,
 }

@@ -1,8 +1,9 @@
 //! Configurations of peers.
-ghost use Rattle.std.specs.Prelude.{◌≡◌, ◌≤◌, IfOk, Some, None, vec_len};
+ghost use Rattle.std.specs.Prelude.{◌≡◌, ◌≤◌, IfOk, Some, None, false, vec_len};
 ghost use Rattle.std.specs.Option.{option_copied};
 ghost use Rattle.rtc_peer_state.specs.Config.{IsShort};
 
+use rtc_sdp_values::IceCreds;
 use rtc_wire::Bytes;
 use std::alloc::{AllocError, Global};
 use std::marker::Model;
@@ -10,27 +11,77 @@ use std::marker::Model;
 /// What a peer is built from.
 #[derive(Debug, Drop)]
 pub struct RtcConfig {
+    ice_lite: bool,
+    creds: Option<IceCreds>,
     cert: Option<Bytes>,
 }
 
 impl Model for RtcConfig {
-    ghost use Rattle.rtc_peer_state.specs.Config.{Config};
+    ghost use Rattle.rtc_peer_state.specs.Config.{Config, IsShort};
 
     ghost Value = { Config };
 
-    ghost view = { λ config. record { cert = config.cert } };
-
-    ghost use Rattle.rtc_peer_state.specs.Config.{IsShort};
+    ghost view = { λ config. record { ice_lite = config.ice_lite; creds = config.creds; cert = config.cert } };
 
     ghost invariant = { λ config. IsShort config.cert };
 }
 
 impl RtcConfig {
-    /// The default: the peer draws its certificate.
+    /// The default: an agent that makes checks, and a peer that draws its credentials and its certificate.
     pub fn new(_alloc: Global) -> Result<RtcConfig, AllocError>
-        ensures { IfOk result (λ config. config ≡ record { cert = None }) }
+        ensures { IfOk result (λ config. config ≡ record { ice_lite = false; creds = None; cert = None }) }
     {
-        Ok(RtcConfig { cert: None })
+        Ok(RtcConfig {
+            ice_lite: false,
+            creds: None,
+            cert: None,
+        })
+    }
+
+    /// Sets whether the ICE agent only answers checks (RFC 8445, section 2.5).
+    pub fn set_ice_lite(self, lite: bool) -> RtcConfig
+        ensures { result ≡ record self { ice_lite = lite } }
+    {
+        let RtcConfig {
+            ice_lite: _,
+            creds,
+            cert,
+        } = self;
+        RtcConfig {
+            ice_lite: lite,
+            creds,
+            cert,
+        }
+    }
+
+    /// Whether the ICE agent only answers checks.
+    pub fn ice_lite(&self) -> bool
+        ensures { result ≡ self.now.ice_lite }
+    {
+        self.ice_lite
+    }
+
+    /// Sets the credentials of ICE.
+    pub fn set_local_ice_credentials(self, creds: IceCreds) -> RtcConfig
+        ensures { result ≡ record self { creds = Some creds } }
+    {
+        let RtcConfig {
+            ice_lite,
+            creds: _,
+            cert,
+        } = self;
+        RtcConfig {
+            ice_lite,
+            creds: Some(creds),
+            cert,
+        }
+    }
+
+    /// The credentials that were set.
+    pub fn local_ice_credentials(&self) -> &Option<IceCreds>
+        ensures { result.now ≡ self.now.creds }
+    {
+        &self.creds
     }
 
     /// Sets the certificate, of at most 1900 bytes.
@@ -38,8 +89,14 @@ impl RtcConfig {
         requires { vec_len cert ≤ 1900 }
         ensures { result ≡ record self { cert = Some cert.items } }
     {
-        let RtcConfig { cert: _ } = self;
+        let RtcConfig {
+            ice_lite,
+            creds,
+            cert: _,
+        } = self;
         RtcConfig {
+            ice_lite,
+            creds,
             cert: Some(Bytes::new(cert)),
         }
     }

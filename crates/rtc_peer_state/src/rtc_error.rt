@@ -1,11 +1,12 @@
 //! Errors of a peer's calls.
 ghost use Rattle.std.specs.Prelude.{◌≡◌, Some};
 ghost use Rattle.rtc_peer_state.specs.declared.rtc_error.RtcError.TheVariants.{Alloc};
-ghost use Rattle.rtc_peer_state.specs.RtcErrors.{error_of_channel, error_of_sdp, error_of_refusal};
+ghost use Rattle.rtc_peer_state.specs.RtcErrors.{error_of_channel, error_of_dtls, error_of_sdp, error_of_refusal};
 ghost use Rattle.rtc_peer_state.specs.RtcErrorText as text;
 
 use rtc_change::{Refusal, Why};
 use rtc_channels::ChannelError;
+use rtc_dtls::DtlsError;
 use rtc_sdp_values::SdpError;
 use std::alloc::{AllocError, AllocFailed};
 use std::error::Error;
@@ -18,6 +19,8 @@ pub enum RtcError {
     RemoteSdp(Why),
     /// The session description of the other side is inconsistent.
     Sdp(SdpError),
+    /// The DTLS part failed.
+    Dtls(DtlsError),
     /// An offer was made or given since the token was made, be it one that was refused.
     ChangesOutOfOrder,
     /// No channel can be made of the config.
@@ -34,6 +37,7 @@ impl fmt::Display for RtcError {
         match self {
             RtcError::RemoteSdp(why) => write!(f, "remote sdp: {why}"),
             RtcError::Sdp(cause) => write!(f, "{cause}"),
+            RtcError::Dtls(cause) => write!(f, "{cause}"),
             RtcError::ChangesOutOfOrder => f.write_str("Changes made out of order"),
             RtcError::BadChannel => f.write_str("channel config refused"),
             RtcError::Alloc => f.write_str("out of memory"),
@@ -90,6 +94,18 @@ impl From<ChannelError> for RtcError {
         match error {
             ChannelError::BadChannel => RtcError::BadChannel,
             ChannelError::Alloc => RtcError::Alloc,
+        }
+    }
+}
+
+impl From<DtlsError> for RtcError {
+    ghost from_gives = { λ lower e. e ≡ error_of_dtls lower };
+
+    fn from(error: DtlsError) -> RtcError {
+        match error {
+            DtlsError::WouldBlock => RtcError::Dtls(DtlsError::WouldBlock),
+            DtlsError::Fault => RtcError::Dtls(DtlsError::Fault),
+            DtlsError::Alloc => RtcError::Alloc,
         }
     }
 }

@@ -1,16 +1,17 @@
 //! Changes that are staged.
-ghost use Rattle.std.specs.Prelude.{◌≡◌, ◌≢◌, ◌↔◌, ◌+◌, ◌<◌, ◌-◌, ◌^◌, ◌||◌, [], ◌∷◌, ◌++◌, false, true, length, IfOk, OnOk, OnErr, IsTrue};
+ghost use Rattle.std.specs.Prelude.{◌≡◌, ◌≢◌, ◌↔◌, ◌+◌, ◌<◌, ◌-◌, ◌^◌, ◌||◌, [], ◌∷◌, ◌++◌, ◌≤◌, false, true};
+ghost use Rattle.std.specs.Prelude.{filter, length, vec_len, vec_capacity, IfOk, OnOk, OnErr, IsTrue};
 ghost use Rattle.rtc_change.specs.declared.change.Change.TheVariants.{AddMedia as MediaAdded, Direction as DirectionSet};
 ghost use Rattle.rtc_change.specs.PendingOffer.{added_mids, adds_mid, contains_add_app};
 ghost use Rattle.rtc_ids.specs.Draws.{Later};
 ghost use Rattle.rtc_peer_state.specs.Names.{is_held, next_mid};
-ghost use Rattle.rtc_peer_state.specs.Staging.{StagesChannel};
+ghost use Rattle.rtc_peer_state.specs.Staging.{StagesChannel, is_kept_by_restart, with_restart};
 
 use crate::drawing::{count_lines, draw_mid, lacks_app};
 use rtc_change::{AddMedia, Change, Changes, Lines};
 use rtc_channels::{ChannelError, ChannelHandler};
 use rtc_ids::Ids;
-use rtc_sdp_values::{Direction, Mid};
+use rtc_sdp_values::{Direction, IceCreds, Mid};
 use rtc_wire::{ChannelConfig, ChannelId, Seq};
 use std::alloc::{AllocError, Global};
 use std::collections::BTreeSet;
@@ -41,6 +42,20 @@ impl Model for Staged {
     ghost view = { λ staged. staged.changes.items };
 
     ghost invariant = { λ staged. IsIndexed staged.changes.items staged.mids staged.app staged.count };
+}
+
+// Puts the changes behind others, but for restarts of ICE.
+fn move_kept(all: &mut Vec<Change>, changes: Vec<Change>)
+    requires { vec_len all.old + vec_len changes < vec_capacity all.old }
+    ensures items { all.new.items ≡ all.old.items ++ filter is_kept_by_restart changes.items }
+    ensures len { vec_len all.new ≤ vec_len all.old + vec_len changes }
+    ensures capacity { vec_capacity all.new ≡ vec_capacity all.old }
+{
+    for change in changes {
+        if !change.is_restart() {
+            all.push_reserved(change);
+        }
+    }
 }
 
 impl Staged {
@@ -140,6 +155,27 @@ impl Staged {
         ensures err { OnErr result (self.new ≡ self.old) }
     {
         self.changes.push(Change::Direction(mid, dir))?;
+        Ok(())
+    }
+
+    /// Stages a restart of ICE, in place of one that was staged.
+    pub fn push_restart(
+        &mut self,
+        alloc: Global,
+        creds: IceCreds,
+        keeps: bool,
+    ) -> Result<(), AllocError>
+        ensures ok { OnOk result (self.new ≡ with_restart creds keeps self.old) }
+        ensures err { OnErr result (self.new ≡ self.old) }
+    {
+        let Some(count) = self.changes.len().checked_add(1) else {
+            return Err(AllocError);
+        };
+        let mut changes = Vec::with_capacity(alloc, count)?;
+        let before = mem::replace(&mut self.changes, Vec::new(alloc));
+        move_kept(&mut changes, before);
+        changes.push_reserved(Change::IceRestart(creds, keeps));
+        self.changes = changes;
         Ok(())
     }
 

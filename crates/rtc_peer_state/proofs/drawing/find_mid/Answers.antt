@@ -1,5 +1,5 @@
 use Rattle.std.proofs.Common.{◌≡◌, ◌-◌, ◌+◌, ◌||◌, suc, ℕ, Bool, true, false, arith, sym, ap, ◌∙◌, List}
-use Rattle.rtc_change.specs.Table.{has_mid}
+use Rattle.rtc_tables.specs.Table.{has_mid}
 use Rattle.rtc_peer_state.specs.Names.{drawn_mid, free_mid}
 use Rattle.rtc_peer_state.specs.StagedIndex.{is_indexed_mid}
 use Rattle.rtc_peer_state.proofs.FreeMid.{free_mid-held, free_mid-free, free_mid-none}

@@ -1,5 +1,5 @@
 use Rattle.std.proofs.Common.{◌≡◌, ◌-◌, ◌||◌}
-use Rattle.rtc_change.specs.Table.{has_mid}
+use Rattle.rtc_tables.specs.Table.{has_mid}
 use Rattle.rtc_peer_state.specs.Names.{free_mid}
 use Rattle.rtc_peer_state.specs.StagedIndex.{is_indexed_mid}
 use Rattle.rtc_peer_state.proofs.drawing.find_mid.Given as goal

@@ -1,6 +1,12 @@
-use Rattle.std.proofs.Common.{rules}
-use Rattle.rtc_peer_state.proofs.BuiltPeers.{session_formed}
+use Rattle.std.proofs.Common.{rules, ◌<◌, ◌^◌, ap}
+use Rattle.rtc_peer_state.specs.Meanings.{meanings}
+use Rattle.rtc_peer_state.proofs.BuiltPeers.{built_formed}
 use Rattle.rtc_peer.proofs.rtc.Rtc.build.Goals as goal
 
 pub returns-clause-formed : goal.returns-clause-formed
-returns-clause-formed g c = session_formed g.N.Ids.ids c.args.alloc c.args.config c.args.start c.args.ids c.in_ok-core.core c.in_ok-core.ensures (search rules)
+returns-clause-formed g c = λ tokens.
+    let small : c.in_ok-core.core.session_id < 2 ^ 64 = search rules in
+    built_formed (meanings g.I.IceAgent.ice g.D.DtlsInstance.dtls g.S.Association.association g.M.MediaSession.media g.N.Ids.ids)
+    (record { ice = g.met.I.IceAgent.laws; dtls = g.met.D.DtlsInstance.laws; media = g.met.M.MediaSession.laws })
+    c.args.alloc c.args.config c.args.start c.args.ice c.args.dtls c.args.association c.args.media c.args.ids c.in_ok-core.core c.requires.fresh tokens
+    (rw (ap (λ q. q.session_id) c.in_ok-core.ensures.rest) at small) c.in_ok-core.ensures

@@ -2,7 +2,7 @@ use Rattle.std.proofs.Common.{◌≡◌, ◌∙◌, ◌+◌, ◌++◌, [], ◌�
 use Rattle.std.specs.Prelude.{is_some}
 use Rattle.rtc_change.specs.declared.change.Change.{Change}
 use Rattle.rtc_change.specs.declared.change.Change.TheVariants.{AddApp, AddChannel}
-use Rattle.rtc_change.specs.Table.{app_of}
+use Rattle.rtc_tables.specs.Table.{app_of}
 use Rattle.rtc_peer_state.specs.Names.{next_mid}
 use Rattle.rtc_peer_state.specs.Staging.{StagesChannel, lacks_app}
 use Rattle.rtc_peer_state.proofs.StagedLemmas.{channel_indexed, app_indexed, lacking_by, none_staged, staged_with_app, drawn_is_next, next_is_free}

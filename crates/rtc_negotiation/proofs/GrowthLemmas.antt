@@ -1,0 +1,42 @@
+-- What an acceptance makes ready, put together from its steps.
+use Rattle.std.proofs.Common.{◌≡◌, ◌∙◌, Bool, true, List, [], Option, Some, Ok, refl, ap, subst}
+use Rattle.std.specs.Option.{option_or}
+use Rattle.rtc_sdp_values.specs.Sdp.{creds_of, sdp_fingerprint}
+use Rattle.rtc_sdp_values.specs.declared.ice_creds.IceCreds.{IceCreds}
+use Rattle.rtc_sdp_values.specs.declared.sdp.Sdp.{Sdp}
+use Rattle.rtc_media.specs.declared.media_update.MediaUpdate.{MediaUpdate}
+use Rattle.rtc_change.specs.Plans.{is_restart}
+use Rattle.rtc_peer_state.specs.declared.peer.Peer.{Peer}
+use Rattle.rtc_peer_state.specs.Acceptances.{followed_restart, answer_ids, updates_for, ids_after_updates}
+use Rattle.rtc_peer_state.specs.Calls.{control_for}
+use Rattle.rtc_peer_state.specs.Creds.{new_creds, after_new_creds}
+use Rattle.rtc_peer_state.specs.MadeSdp.{answer_sdp}
+use Rattle.rtc_peer_state.specs.Meanings.{Meanings}
+use Rattle.rtc_peer_state.specs.Stance.{stance_of}
+use Rattle.rtc_negotiation.specs.declared.growth.Growth.{Growth}
+use Rattle.rtc_negotiation.specs.Growths.{following_of, GrowsOffer}
+
+-- what is made ready for an offer that is followed by a restart or by none
+abbrev pub offer_growth : {I D S M E X T W N : Type 0} → Meanings I D S M E X T W N → Peer I D S M N → Option (IceCreds × Bool) → Sdp → Growth
+offer_growth m p restart offer = record {
+  answer = Some (answer_sdp (stance_of m p) restart offer);
+  following = following_of restart offer (control_for p.dtls.active offer.ice_lite);
+  fingerprint = option_or p.fingerprint (sdp_fingerprint offer);
+}
+
+pub offer_grown : {I D S M E X T W N : Type 0} (m : Meanings I D S M E X T W N) (p q : Peer I D S M N) (offer : Sdp) (restarts : Bool)
+    (restart : Option (IceCreds × Bool)) (ids : N) (growth : Growth) (updates : List MediaUpdate) (media : M)
+    → restarts ≡ is_restart (m.ice.settings p.ice).remote (creds_of offer) → restart ≡ new_creds m.ids p.ids restarts → ids ≡ after_new_creds m.ids p.ids restarts
+    → growth ≡ offer_growth m p restart offer → q ≡ record p { ids = q.ids } → updates ≡ updates_for m p true [] offer ids
+    → q.ids ≡ ids_after_updates m p true [] offer ids → m.media.prepared q.media updates (Ok tt) media
+    → GrowsOffer m p offer (Ok growth) (record q { media = media })
+offer_grown {I} {D} {S} {M} {E} {X} {T} {W} {N} m p q offer restarts restart ids growth updates media is restart_is ids_is growth_is others updates_are after prepared =
+    let followed : restart ≡ followed_restart m p offer = restart_is ∙ ap (new_creds m.ids p.ids) is in
+    let drawn : ids ≡ answer_ids m p offer = ids_is ∙ ap (after_new_creds m.ids p.ids) is in
+    let same : q.media ≡ p.media = ap (λ (x : Peer I D S M N). x.media) others in
+    let last : q.ids ≡ ids_after_updates m p true [] offer (answer_ids m p offer) = after ∙ ap (λ (n : N). ids_after_updates m p true [] offer n) drawn in (
+      subst (λ (r : Option (IceCreds × Bool)). growth ≡ offer_growth m p r offer) followed growth_is,
+      subst (λ (us : List MediaUpdate). m.media.prepared p.media us (Ok tt) media) (updates_are ∙ ap (λ (n : N). updates_for m p true [] offer n) drawn)
+          (subst (λ (x : M). m.media.prepared x updates (Ok tt) media) same prepared),
+      ap (λ (x : Peer I D S M N). record x { media = media }) (others ∙ ap (λ (n : N). record p { ids = n }) last),
+    )

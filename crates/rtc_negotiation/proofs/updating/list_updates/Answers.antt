@@ -1,0 +1,34 @@
+use Rattle.std.proofs.Common.{◌≡◌, ◌+◌, suc, drop, refl, arith}
+use Rattle.rtc_ids.proofs.LaterLemmas.{later_join}
+use Rattle.rtc_peer_state.specs.Sources.{has_source}
+use Rattle.rtc_peer_state.specs.LineUpdates.{added_media, sending_of}
+use Rattle.rtc_negotiation.proofs.UpdateLemmas.{from_place, from_index, none_from, one_update, one_update_after, no_updates, after_no_updates}
+use Rattle.rtc_negotiation.proofs.updating.list_updates.Goals as goal
+
+pub loop-row-preserved : goal.loop-row-preserved
+loop-row-preserved g c =
+    let rows_are = from_index c.loop-row.row-index c.args.rows.now c.row-item.result c.row-item.result c.loop-row-test.true c.row-item.is in
+    let lines_are = from_place c.loop-row.row-index c.loop-row.place c.args.lines.now c.in-Some.line.now c.loop-row.invariant.place c.in-Some.ensures in
+    let next : c.loop-row.row-index + 1 ≡ suc c.loop-row.row-index = omega arith in
+    let sent = rw c.mid.ensures at c.in_ok-sending.ensures in
+    record {
+      place = omega (arith, c.loop-row.invariant.place);
+      updates = one_update g.N.Ids.ids (has_source g.M.MediaSession.media c.args.media.now) (λ mid. sending_of (g.M.MediaSession.media.line c.args.media.now mid) (added_media c.args.changes.now mid) mid) c.args.offer c.loop-row.row-index _ c.loop-row.place c.args.before.now c.args.rows.now c.args.lines.now _ _ c.loop-row.ids _ c.loop-row.updates.items _ _ _
+          c.row-item.result c.in-Some.line.now c.in_ok-sending.sending next rows_are lines_are c.loop-row.invariant.place c.row_at.ensures sent
+          c.in_ok-push_update.ensures.updates c.in_ok-push_update.ensures.earlier c.in_ok-push_update.ensures.after c.loop-row.invariant.updates;
+      after = one_update_after g.N.Ids.ids (has_source g.M.MediaSession.media c.args.media.now) (λ mid. sending_of (g.M.MediaSession.media.line c.args.media.now mid) (added_media c.args.changes.now mid) mid) c.loop-row.row-index _ c.args.rows.now c.args.lines.now c.loop-row.ids _ _
+          c.row-item.result c.in-Some.line.now c.in_ok-sending.sending next rows_are lines_are sent c.in_ok-push_update.ensures.after c.loop-row.invariant.after;
+      later = later_join g.N.Ids.ids c.args.ids.now c.loop-row.ids _ c.loop-row.invariant.later c.in_ok-push_update.ensures.later;
+    }
+
+pub returns-in_default-clause-updates : goal.returns-in_default-clause-updates
+returns-in_default-clause-updates g c =
+    no_updates g.N.Ids.ids (has_source g.M.MediaSession.media c.args.media.now) (λ mid. sending_of (g.M.MediaSession.media.line c.args.media.now mid) (added_media c.args.changes.now mid) mid) c.args.offer
+    (drop c.loop-row.row-index c.args.before.now) (drop c.loop-row.row-index c.args.rows.now) (drop c.loop-row.row-index c.args.lines.now) c.loop-row.earlier c.loop-row.ids c.loop-row.updates.items _
+    (none_from c.loop-row.row-index c.loop-row.place c.args.lines.now c.loop-row.invariant.place c.in_default.ensures) c.loop-row.invariant.updates
+
+pub returns-in_default-clause-after : goal.returns-in_default-clause-after
+returns-in_default-clause-after g c =
+    after_no_updates g.N.Ids.ids (has_source g.M.MediaSession.media c.args.media.now) (λ mid. sending_of (g.M.MediaSession.media.line c.args.media.now mid) (added_media c.args.changes.now mid) mid)
+    (drop c.loop-row.row-index c.args.rows.now) (drop c.loop-row.row-index c.args.lines.now) c.loop-row.ids _
+    (none_from c.loop-row.row-index c.loop-row.place c.args.lines.now c.loop-row.invariant.place c.in_default.ensures) c.loop-row.invariant.after

@@ -1,0 +1,298 @@
+//! What takes memory in an acceptance, before parts are touched.
+ghost use Rattle.std.specs.Prelude.{◌≡◌, ◌≤◌, length, take, IfOk, OnOk, OnErr, Ok, Some, None, true, false, [], option_map};
+ghost use Rattle.std.specs.Option.{option_or, option_copied};
+ghost use Rattle.rtc_sdp_values.specs.Sdp.{creds_of, candidates_of, sdp_fingerprint};
+ghost use Rattle.rtc_ids.specs.Draws.{Later};
+ghost use Rattle.rtc_change.specs.PendingOffer.{staged_restart};
+ghost use Rattle.rtc_change.specs.Plans.{is_restart};
+ghost use Rattle.rtc_change.specs.TableAfter.{table_after};
+ghost use Rattle.rtc_tables.specs.ParsedLines.{parsed_lines};
+ghost use Rattle.rtc_media.specs.MediaLaws.{SameLines};
+ghost use Rattle.rtc_peer_state.specs.Acceptances.{updates_for, ids_after_updates};
+ghost use Rattle.rtc_peer_state.specs.Calls.{control_for as ControlFor};
+ghost use Rattle.rtc_peer_state.specs.Creds.{new_creds, after_new_creds};
+ghost use Rattle.rtc_peer_state.specs.MadeSdp.{answer_head, answer_sdp};
+ghost use Rattle.rtc_peer_state.specs.Meanings.{meanings};
+ghost use Rattle.rtc_peer_state.specs.Stance.{stance_of};
+ghost use Rattle.rtc_negotiation.specs.Growths.{following_of, GrowsOffer, GrowsAnswer};
+
+use crate::describing::make_sdp;
+use crate::drawing_creds::make_creds;
+use crate::following::Following;
+use crate::growth::Growth;
+use crate::heading::{make_head, role_after, setup_of_role};
+use crate::updating::list_updates;
+use rtc_association::Association;
+use rtc_change::{Change, Changes, Plan};
+use rtc_dtls::{Dtls, DtlsInstance};
+use rtc_ice::IceAgent;
+use rtc_ids::Ids;
+use rtc_media::{MediaSession, MediaUpdate};
+use rtc_peer_state::{Peer, SdpHead};
+use rtc_sdp_values::{Fingerprint, IceCreds, LineRow, Sdp};
+use rtc_wire::TryCopy;
+use std::alloc::{AllocError, Global};
+
+// The restart by which a restart of the other side is followed: with drawn credentials, and the candidates kept.
+#[tactic(auto, using(rtc_ids::proofs::LaterLemmas::later_none, rtc_ids::proofs::LaterLemmas::later_once))]
+fn draw_restart<N: Ids>(
+    alloc: Global,
+    ids: &mut N,
+    restarts: bool,
+) -> Result<Option<(IceCreds, bool)>, AllocError>
+    ensures restart { IfOk result (λ restart. restart ≡ new_creds N.ids ids.old restarts) }
+    ensures after { OnOk result (ids.new ≡ after_new_creds N.ids ids.old restarts) }
+    ensures later { Later N.ids ids.old ids.new }
+{
+    if !restarts {
+        return Ok(None);
+    }
+    let n = ids.draw();
+    let creds = make_creds(alloc, n)?;
+    Ok(Some((creds, true)))
+}
+
+// A restart, lent.
+fn lend_restart(restart: &Option<(IceCreds, bool)>) -> Option<(&IceCreds, bool)>
+    ensures { option_map (λ asked. (asked.0.now, asked.1)) result ≡ restart.now }
+{
+    match restart {
+        None => None,
+        Some((creds, keeps)) => Some((creds, *keeps)),
+    }
+}
+
+// The fingerprint that is known, or else that which is told.
+fn first_fingerprint(
+    known: &Option<Fingerprint>,
+    sdp: &Sdp,
+) -> Result<Option<Fingerprint>, AllocError>
+    ensures { IfOk result (λ fingerprint. fingerprint ≡ option_or known.now (sdp_fingerprint sdp.now)) }
+{
+    if let Some(known) = known {
+        let copied = known.copy()?;
+        return Ok(Some(copied));
+    }
+    let Some(told) = sdp.fingerprint() else {
+        return Ok(None);
+    };
+    let copied = told.copy()?;
+    Ok(Some(copied))
+}
+
+fn copy_creds(sdp: &Sdp) -> Result<Option<IceCreds>, AllocError>
+    ensures { IfOk result (λ creds. creds ≡ creds_of sdp.now) }
+{
+    let Some(creds) = sdp.ice_creds() else {
+        return Ok(None);
+    };
+    let copied = creds.copy()?;
+    Ok(Some(copied))
+}
+
+// What the agent is to follow.
+fn make_following(
+    restart: Option<(IceCreds, bool)>,
+    sdp: &Sdp,
+    control: Option<bool>,
+) -> Result<Following, AllocError>
+    ensures { IfOk result (λ following. following ≡ following_of restart sdp.now control) }
+{
+    let creds = copy_creds(sdp)?;
+    let candidates = sdp.candidates()?;
+    Ok(Following {
+        restart,
+        creds,
+        candidates,
+        control,
+    })
+}
+
+// Which side picks the pair, where that is still to be settled.
+fn control_for<D: DtlsInstance>(dtls: &Dtls<D>, on: bool) -> Option<bool>
+    ensures { result ≡ ControlFor dtls.now.active on }
+{
+    match dtls.is_active() {
+        None => Some(on),
+        Some(_) => None,
+    }
+}
+
+// What the answer of a peer tells of it.
+fn make_answer_head<I: IceAgent, D: DtlsInstance, S: Association, M: MediaSession, N: Ids>(
+    peer: &Peer<I, D, S, M, N>,
+    restart: &Option<(IceCreds, bool)>,
+    offer: &Sdp,
+) -> Result<SdpHead, AllocError>
+    ensures { IfOk result (λ head. head
+        ≡ answer_head (stance_of (meanings I.ice D.dtls S.association M.media N.ids) peer.now) restart.now offer.now) }
+{
+    let active = role_after(peer.dtls.is_active(), offer.setup());
+    make_head(
+        peer.alloc,
+        peer.session_id,
+        &peer.ice,
+        &peer.dtls,
+        setup_of_role(active),
+        lend_restart(restart),
+    )
+}
+
+// The answer to an offer that leaves these rows.
+#[tactic(auto, unfolding(rtc_peer_state::specs::MadeSdp::answer_sdp))]
+fn make_answer<I: IceAgent, D: DtlsInstance, S: Association, M: MediaSession, N: Ids>(
+    peer: &Peer<I, D, S, M, N>,
+    restart: &Option<(IceCreds, bool)>,
+    offer: &Sdp,
+    rows: &[LineRow],
+) -> Result<Sdp, AllocError>
+    requires { rows.now ≡ table_after peer.now.lines (parsed_lines offer.now) true }
+    ensures { IfOk result (λ answer. answer
+        ≡ answer_sdp (stance_of (meanings I.ice D.dtls S.association M.media N.ids) peer.now) restart.now offer.now) }
+{
+    let head = make_answer_head(peer, restart, offer)?;
+    make_sdp(peer.alloc, head, rows)
+}
+
+// What the media part is told, by the rows that the lines leave. Numbers are drawn for sources.
+fn list_line_updates<I: IceAgent, D: DtlsInstance, S: Association, M: MediaSession, N: Ids>(
+    peer: &mut Peer<I, D, S, M, N>,
+    offer: bool,
+    changes: &[Change],
+    sdp: &Sdp,
+    rows: &[LineRow],
+) -> Result<Vec<MediaUpdate>, AllocError>
+    requires rows { rows.now ≡ table_after peer.old.lines (parsed_lines sdp.now) offer }
+    requires count { length sdp.now.lines ≤ length rows.now }
+    ensures updates { IfOk result (λ updates. updates.items
+        ≡ updates_for (meanings I.ice D.dtls S.association M.media N.ids) peer.old offer changes.now sdp.now peer.old.ids) }
+    ensures after { OnOk result (peer.new.ids
+        ≡ ids_after_updates (meanings I.ice D.dtls S.association M.media N.ids) peer.old offer changes.now sdp.now peer.old.ids) }
+    ensures later { Later N.ids peer.old.ids peer.new.ids }
+    ensures others { peer.new ≡ record peer.old { ids = peer.new.ids } }
+{
+    let updates = list_updates(
+        peer.alloc,
+        &mut peer.ids,
+        &peer.media,
+        changes,
+        offer,
+        peer.lines.rows(),
+        &rows[..sdp.lines.len()],
+        sdp.lines.as_slice(),
+    )?;
+    Ok(updates)
+}
+
+// Makes the updates ready. Where memory lacks, the lines are as they were.
+fn prepare_media<M: MediaSession>(media: &mut M, updates: &[MediaUpdate]) -> Result<(), AllocError>
+    ensures ok { OnOk result (M.media.prepared media.old updates.now (Ok tt) media.new) }
+    ensures err { OnErr result (SameLines M.media media.old media.new) }
+{
+    match media.prepare(updates) {
+        Ok(()) => Ok(()),
+        Err(error) => Err(error),
+    }
+}
+
+// What the acceptance of an offer needs besides the updates, once a restart was drawn.
+fn grow_followed<I: IceAgent, D: DtlsInstance, S: Association, M: MediaSession, N: Ids>(
+    peer: &Peer<I, D, S, M, N>,
+    offer: &Sdp,
+    rows: &[LineRow],
+    restart: Option<(IceCreds, bool)>,
+) -> Result<Growth, AllocError>
+    requires { rows.now ≡ table_after peer.now.lines (parsed_lines offer.now) true }
+    ensures { IfOk result (λ growth. growth ≡ record {
+      answer = Some (answer_sdp (stance_of (meanings I.ice D.dtls S.association M.media N.ids) peer.now) restart offer.now);
+      following = following_of restart offer.now (ControlFor peer.now.dtls.active offer.now.ice_lite);
+      fingerprint = option_or peer.now.fingerprint (sdp_fingerprint offer.now);
+    }) }
+{
+    let answer = make_answer(peer, &restart, offer, rows)?;
+    let control = control_for(&peer.dtls, offer.ice_lite);
+    let following = make_following(restart, offer, control)?;
+    let fingerprint = first_fingerprint(&peer.fingerprint, offer)?;
+    Ok(Growth {
+        answer: Some(answer),
+        following,
+        fingerprint,
+    })
+}
+
+/// Makes ready what the acceptance of an offer needs: credentials are drawn before sources.
+#[tactic(auto, using(rtc_ids::proofs::LaterLemmas::later_none, rtc_ids::proofs::LaterLemmas::later_join, crate::proofs::MediaLemmas::same_lines))]
+pub fn grow_offer<I: IceAgent, D: DtlsInstance, S: Association, M: MediaSession, N: Ids>(
+    peer: &mut Peer<I, D, S, M, N>,
+    offer: &Sdp,
+    plan: &Plan,
+) -> Result<Growth, AllocError>
+    requires rows { plan.now.rows ≡ table_after peer.old.lines (parsed_lines offer.now) true }
+    requires restart { plan.now.restart ≡ is_restart (I.ice.settings peer.old.ice).remote (creds_of offer.now) }
+    requires count { length offer.now.lines ≤ length plan.now.rows }
+    ensures grows { GrowsOffer (meanings I.ice D.dtls S.association M.media N.ids) peer.old offer.now result peer.new }
+    ensures later { Later N.ids peer.old.ids peer.new.ids }
+{
+    let restart = draw_restart(peer.alloc, &mut peer.ids, plan.restart)?;
+    let growth = grow_followed(peer, offer, plan.rows.as_slice(), restart)?;
+    let updates = list_line_updates(peer, true, &[], offer, plan.rows.as_slice())?;
+    prepare_media(&mut peer.media, updates.as_slice())?;
+    Ok(growth)
+}
+
+fn copy_restart(changes: &Changes) -> Result<Option<(IceCreds, bool)>, AllocError>
+    ensures { IfOk result (λ restart. restart ≡ staged_restart changes.now.0) }
+{
+    let Some((creds, keeps)) = changes.restart() else {
+        return Ok(None);
+    };
+    let copied = creds.copy()?;
+    Ok(Some((copied, keeps)))
+}
+
+// What the acceptance of an answer needs besides the updates.
+fn grow_answered(
+    changes: &Changes,
+    answer: &Sdp,
+    known: &Option<Fingerprint>,
+) -> Result<Growth, AllocError>
+    ensures { IfOk result (λ growth. growth ≡ record {
+      answer = None;
+      following = following_of (staged_restart changes.now.0) answer.now None;
+      fingerprint = option_or known.now (sdp_fingerprint answer.now);
+    }) }
+{
+    let restart = copy_restart(changes)?;
+    let following = make_following(restart, answer, None)?;
+    let fingerprint = first_fingerprint(known, answer)?;
+    Ok(Growth {
+        answer: None,
+        following,
+        fingerprint,
+    })
+}
+
+/// Makes ready what the acceptance of an answer needs.
+#[tactic(auto, using(rtc_ids::proofs::LaterLemmas::later_none, crate::proofs::MediaLemmas::same_lines))]
+pub fn grow_answer<I: IceAgent, D: DtlsInstance, S: Association, M: MediaSession, N: Ids>(
+    peer: &mut Peer<I, D, S, M, N>,
+    changes: &Changes,
+    answer: &Sdp,
+    plan: &Plan,
+) -> Result<Growth, AllocError>
+    requires rows { plan.now.rows ≡ table_after peer.old.lines (parsed_lines answer.now) false }
+    requires count { length answer.now.lines ≤ length plan.now.rows }
+    ensures grows { GrowsAnswer (meanings I.ice D.dtls S.association M.media N.ids) peer.old changes.now.0 answer.now result peer.new }
+    ensures later { Later N.ids peer.old.ids peer.new.ids }
+{
+    let growth = grow_answered(changes, answer, &peer.fingerprint)?;
+    let updates = list_line_updates(
+        peer,
+        false,
+        changes.0.as_slice(),
+        answer,
+        plan.rows.as_slice(),
+    )?;
+    prepare_media(&mut peer.media, updates.as_slice())?;
+    Ok(growth)
+}

@@ -1,0 +1,13 @@
+//! What is made ready before parts are touched.
+use crate::following::Following;
+use rtc_sdp_values::{Fingerprint, Sdp};
+
+/// What an acceptance makes ready before the ICE agent and the DTLS part are touched: all that takes memory.
+#[derive(Drop)]
+pub struct Growth {
+    /// The answer to an offer.
+    pub answer: Option<Sdp>,
+    pub following: Following,
+    /// The fingerprint that was told first.
+    pub fingerprint: Option<Fingerprint>,
+}

@@ -1,0 +1,119 @@
+//! What a peer tells of itself in offers and answers.
+ghost use Rattle.std.specs.Prelude.{◌≡◌, IfOk, MatchOption, Some, None, option_map};
+ghost use Rattle.rtc_ice.specs.IceMeaning.{IceSettings};
+ghost use Rattle.rtc_peer_state.specs.MadeSdp.{
+  creds_in_use as CredsInUse,
+  candidates_in_use as CandidatesInUse,
+  role_for as RoleFor,
+  role_after as RoleAfter,
+  setup_of_role as SetupOfRole,
+};
+
+use rtc_dtls::{Dtls, DtlsInstance};
+use rtc_ice::IceAgent;
+use rtc_peer_state::SdpHead;
+use rtc_sdp_values::{Candidate, IceCreds, Setup};
+use rtc_wire::{Seq, TryCopy};
+use std::alloc::{AllocError, Global};
+
+// The credentials of a restart that is asked for, or else those that are in use.
+fn creds_in_use<I: IceAgent>(
+    ice: &I,
+    restart: Option<(&IceCreds, bool)>,
+) -> Result<IceCreds, AllocError>
+    ensures { IfOk result (λ creds. creds
+        ≡ CredsInUse (option_map (λ asked. (asked.0.now, asked.1)) restart.entry) (I.ice.settings ice.now)) }
+{
+    match restart {
+        None => ice.local_credentials().copy(),
+        Some((creds, _)) => creds.copy(),
+    }
+}
+
+// The local candidates, but where a restart does not keep them.
+fn candidates_in_use<I: IceAgent>(
+    alloc: Global,
+    ice: &I,
+    restart: Option<(&IceCreds, bool)>,
+) -> Result<Seq<Candidate>, AllocError>
+    ensures { IfOk result (λ candidates. candidates
+        ≡ CandidatesInUse (option_map (λ asked. (asked.0.now, asked.1)) restart.entry) (I.ice.settings ice.now)) }
+{
+    if let Some((_, false)) = restart {
+        return Ok(Seq::empty(alloc));
+    }
+    copy_candidates(alloc, ice.local_candidates())
+}
+
+fn copy_candidates(alloc: Global, candidates: &[Candidate]) -> Result<Seq<Candidate>, AllocError>
+    ensures { IfOk result (λ copied. copied ≡ candidates.now) }
+{
+    let mut copied = Vec::with_capacity(alloc, candidates.len())?;
+    for candidate in candidates {
+        let candidate = candidate.copy()?;
+        copied.push(candidate)?;
+    }
+    Ok(Seq::new(copied))
+}
+
+/// The role of this side by the setup that the other side tells.
+pub fn role_for(told: Option<Setup>) -> bool
+    ensures { result ≡ RoleFor told }
+{
+    match told {
+        None | Some(Setup::ActPass) | Some(Setup::Active) => false,
+        Some(Setup::Passive) => true,
+    }
+}
+
+/// The first role, or else that by the setup that the other side tells.
+pub fn role_after(role: Option<bool>, told: Option<Setup>) -> bool
+    ensures { result ≡ RoleAfter role told }
+{
+    match role {
+        None => role_for(told),
+        Some(role) => role,
+    }
+}
+
+/// The setup that tells a role.
+pub fn setup_of_role(active: bool) -> Setup
+    ensures { result ≡ SetupOfRole active }
+{
+    if active {
+        Setup::Active
+    } else {
+        Setup::Passive
+    }
+}
+
+/// What a peer tells of itself, where it restarts ICE or does not.
+pub fn make_head<I: IceAgent, D: DtlsInstance>(
+    alloc: Global,
+    session: u64,
+    ice: &I,
+    dtls: &Dtls<D>,
+    setup: Setup,
+    restart: Option<(&IceCreds, bool)>,
+) -> Result<SdpHead, AllocError>
+    ensures { IfOk result (λ head. head ≡ record {
+      session = session;
+      lite = (I.ice.settings ice.now).lite;
+      creds = CredsInUse (option_map (λ asked. (asked.0.now, asked.1)) restart.entry) (I.ice.settings ice.now);
+      fingerprint = dtls.now.local;
+      setup = setup;
+      candidates = CandidatesInUse (option_map (λ asked. (asked.0.now, asked.1)) restart.entry) (I.ice.settings ice.now);
+    }) }
+{
+    let creds = creds_in_use(ice, restart)?;
+    let candidates = candidates_in_use(alloc, ice, restart)?;
+    let fingerprint = dtls.local_fingerprint().copy()?;
+    Ok(SdpHead {
+        session,
+        lite: ice.ice_lite(),
+        creds,
+        fingerprint,
+        setup,
+        candidates,
+    })
+}

@@ -1,0 +1,92 @@
+//! What is sent on the lines of a peer.
+ghost use Rattle.std.specs.Prelude.{◌≡◌, [], IfOk, Option, Some, None};
+ghost use Rattle.std.specs.Option.{option_copied};
+ghost use Rattle.rtc_peer_state.specs.LineUpdates.{added_media, bare_sending as BareSending, sending_of};
+
+use rtc_change::{AddMedia, Change};
+use rtc_media::{MediaSession, MediaUpdate};
+use rtc_peer_state::Sending;
+use rtc_sdp_values::{Mid, Msid};
+use rtc_wire::{Seq, Text, TryCopy};
+use std::alloc::{AllocError, Global};
+
+// The media line of a mid that changes add.
+fn find_added(changes: &[Change], mid: Mid) -> Option<&AddMedia>
+    ensures { option_copied result ≡ added_media changes.now mid }
+{
+    for change in changes {
+        let Change::AddMedia(media) = change else {
+            continue;
+        };
+        if media.mid == mid {
+            return Some(media);
+        }
+    }
+    None
+}
+
+fn sending_of_update(update: &MediaUpdate) -> Result<Sending, AllocError>
+    ensures { IfOk result (λ sending. sending ≡ sending_of (Some update.now) None []) }
+{
+    let simulcast = update.simulcast.copy()?;
+    let msid = update.msid.copy()?;
+    let cname = update.cname.copy()?;
+    let ssrcs = update.ssrcs_tx.copy()?;
+    Ok(Sending {
+        simulcast,
+        msid,
+        cname,
+        ssrcs,
+    })
+}
+
+fn sending_of_media(media: &AddMedia) -> Result<Sending, AllocError>
+    ensures { IfOk result (λ sending. sending ≡ sending_of None (Some media.now) []) }
+{
+    let simulcast = media.simulcast.copy()?;
+    let msid = media.msid.copy()?;
+    let cname = media.cname.copy()?;
+    let ssrcs = media.ssrcs.copy()?;
+    Ok(Sending {
+        simulcast,
+        msid: Some(msid),
+        cname: Some(cname),
+        ssrcs,
+    })
+}
+
+// A line that came in an offer has its mid for all names, and no sources yet.
+fn bare_sending(alloc: Global, mid: Mid) -> Result<Sending, AllocError>
+    ensures { IfOk result (λ sending. sending ≡ BareSending mid) }
+{
+    let stream_id = Text::from_str(alloc, mid.as_str())?;
+    let track_id = Text::from_str(alloc, mid.as_str())?;
+    let cname = Text::from_str(alloc, mid.as_str())?;
+    Ok(Sending {
+        simulcast: None,
+        msid: Some(Msid {
+            stream_id,
+            track_id,
+        }),
+        cname: Some(cname),
+        ssrcs: Seq::empty(alloc),
+    })
+}
+
+/// What is sent on a line: what the media part has of it, or else what was staged with it.
+pub fn find_sending<M: MediaSession>(
+    alloc: Global,
+    media: &M,
+    changes: &[Change],
+    mid: Mid,
+) -> Result<Sending, AllocError>
+    ensures { IfOk result (λ sending. sending ≡ sending_of (M.media.line media.now mid) (added_media changes.now mid) mid) }
+{
+    if let Some(update) = media.line(mid) {
+        return sending_of_update(update);
+    }
+    if let Some(added) = find_added(changes, mid) {
+        return sending_of_media(added);
+    }
+    bare_sending(alloc, mid)
+}

@@ -1,0 +1,29 @@
+-- What a peer answers of itself.
+use Rattle.std.specs.Prelude.{◌≡◌, ℕ, Bool, true, false, List, Option, Some, None, option_and_then, Result, Ok, Err}
+use Rattle.std.specs.declared.alloc.AllocError.{AllocError}
+use Rattle.rtc_sdp_values.specs.declared.candidate.Candidate.{Candidate}
+use Rattle.rtc_sdp_values.specs.declared.line_row.LineRow.{LineRow}
+use Rattle.rtc_sdp_values.specs.declared.line_row.LineRow.TheVariants.{Media, App}
+use Rattle.rtc_tables.specs.Table.{row_of}
+use Rattle.rtc_ice.specs.IceMeaning.{IceMeaning}
+use Rattle.rtc_peer_state.specs.declared.phase.Phase.{Phase}
+use Rattle.rtc_peer_state.specs.declared.phase.Phase.TheVariants.{Alive, Closing, Closed}
+
+abbrev pub if_of_media : LineRow → Option LineRow
+if_of_media (Media place mid kind dir stopped remote_created) = Some (Media place mid kind dir stopped remote_created)
+if_of_media (App place mid) = None
+
+-- the row of a mid, where it is of media
+abbrev pub media_row_of : List LineRow → List ℕ → Option LineRow
+media_row_of rows mid = option_and_then if_of_media (row_of rows mid)
+
+-- whether a peer is not closed
+abbrev pub is_alive_phase : Phase → Bool
+is_alive_phase Alive = true
+is_alive_phase Closing = true
+is_alive_phase Closed = false
+
+-- A candidate of the other side is given to the agent, which may take it or not.
+abbrev pub AddsRemote : {I : Type 0} → IceMeaning I → I → Candidate → Result (Unit {0}) AllocError → I → Type 0
+AddsRemote ice p candidate (Ok done) q = (taken : Bool) × ice.remote_added p candidate (Ok taken) q
+AddsRemote ice p candidate (Err error) q = ice.remote_added p candidate (Err error) q

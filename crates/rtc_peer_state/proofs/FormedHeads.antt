@@ -1,0 +1,94 @@
+-- What formed peers tell in their offers and answers: heads and rows of which each text is read back.
+use Rattle.std.proofs.Common.{◌≡◌, ◌<◌, ◌≤◌, ◌^◌, Bool, true, false, List, [], ◌∷◌, length, Option, Some, None, refl, arith}
+use Rattle.std.specs.Prelude.{IfSome, if◌then◌else◌, codes}
+use Rattle.std.specs.List.{AllByRecursion}
+use Rattle.rtc_fields.specs.Tokens.{is_short_token}
+use Rattle.rtc_wire.specs.declared.addr.Addr.{Addr}
+use Rattle.rtc_wire.specs.declared.protocol.Protocol.TheVariants.{Udp}
+use Rattle.rtc_sdp_values.specs.LineRow.{row_mid}
+use Rattle.rtc_sdp_values.specs.declared.candidate.Candidate.{Candidate}
+use Rattle.rtc_sdp_values.specs.declared.candidate_kind.CandidateKind.TheVariants.{Host}
+use Rattle.rtc_sdp_values.specs.declared.ice_creds.IceCreds.{IceCreds}
+use Rattle.rtc_sdp_values.specs.declared.sdp.Sdp.{Sdp}
+use Rattle.rtc_ice.specs.IceMeaning.{IceSettings}
+use Rattle.rtc_change.specs.declared.change.Change.{Change}
+use Rattle.rtc_change.specs.declared.change.Change.TheVariants.{AddMedia, AddApp, AddChannel, Direction as SetDirection, IceRestart}
+use Rattle.rtc_change.specs.PendingOffer.{added_rows, staged_restart}
+use Rattle.rtc_peer_state.specs.declared.sdp_head.SdpHead.{SdpHead}
+use Rattle.rtc_peer_state.specs.Formed.{AreTokenCreds, IsSha256, HaveTokens, IsHostCandidate, RestartTokens, IsFormed}
+use Rattle.rtc_peer_state.specs.MadeSdp.{creds_in_use, candidates_in_use, offer_head, answer_head, offered_rows}
+use Rattle.rtc_peer_state.specs.Stance.{Stance}
+use Rattle.rtc_peer_state.proofs.Alls.{all-append}
+use Rattle.rtc_peer_state.proofs.TokenTables.{added_tokens}
+
+-- ---- what is in use after a restart
+
+pub restart_token : (changes : List Change) → RestartTokens changes → IfSome (staged_restart changes) (λ restart. AreTokenCreds restart.0)
+restart_token [] tokens = tt
+restart_token (AddMedia media ∷ changes) tokens = restart_token changes tokens.1
+restart_token (AddApp mid ∷ changes) tokens = restart_token changes tokens.1
+restart_token (AddChannel id config ∷ changes) tokens = restart_token changes tokens.1
+restart_token (SetDirection mid dir ∷ changes) tokens = restart_token changes tokens.1
+restart_token (IceRestart creds keeps ∷ changes) tokens = tokens.0
+
+pub creds_in_use_token : (restart : Option (IceCreds × Bool)) (settings : IceSettings) → IfSome restart (λ r. AreTokenCreds r.0)
+    → AreTokenCreds settings.local → AreTokenCreds (creds_in_use restart settings)
+creds_in_use_token None settings tokens local = local
+creds_in_use_token (Some restart) settings tokens local = tokens
+
+if_kept : (keeps : Bool) (candidates : List Candidate) → AllByRecursion IsHostCandidate candidates
+    → AllByRecursion IsHostCandidate (if keeps then candidates else [])
+if_kept true candidates hosts = hosts
+if_kept false candidates hosts = tt
+
+pub candidates_in_use_hosts : (restart : Option (IceCreds × Bool)) (settings : IceSettings)
+    → AllByRecursion IsHostCandidate settings.candidates
+    → AllByRecursion IsHostCandidate (candidates_in_use restart settings)
+candidates_in_use_hosts None settings hosts = hosts
+candidates_in_use_hosts (Some restart) settings hosts = if_kept restart.1 settings.candidates hosts
+
+-- ---- heads and rows
+
+-- a head whose session number, credentials, fingerprint and candidates are those of a formed peer
+pub record IsFormedHead (head : SdpHead) : Type 0 where
+  pub session : head.session < 2 ^ 64
+  pub creds : AreTokenCreds head.creds
+  pub fingerprint : IsSha256 head.fingerprint
+  pub candidates : AllByRecursion IsHostCandidate head.candidates
+
+pub offer_head_formed : (s : Stance) → IsFormed s → IsFormedHead (offer_head s)
+offer_head_formed s formed = record {
+  session = formed.session;
+  creds = creds_in_use_token (staged_restart s.staged) s.ice (restart_token s.staged formed.restarts) formed.creds;
+  fingerprint = formed.fingerprint;
+  candidates = candidates_in_use_hosts (staged_restart s.staged) s.ice formed.candidates;
+}
+
+pub answer_head_formed : (s : Stance) (restart : Option (IceCreds × Bool)) (offer : Sdp) → IfSome restart (λ r. AreTokenCreds r.0)
+    → IsFormed s
+    → IsFormedHead (answer_head s restart offer)
+answer_head_formed s restart offer tokens formed = record {
+  session = formed.session;
+  creds = creds_in_use_token restart s.ice tokens formed.creds;
+  fingerprint = formed.fingerprint;
+  candidates = candidates_in_use_hosts restart s.ice formed.candidates;
+}
+
+pub offered_rows_tokens : (s : Stance) → IsFormed s → HaveTokens (offered_rows s)
+offered_rows_tokens s formed =
+    all-append (λ row. is_short_token (row_mid row) ≡ true) s.lines (added_rows (length s.lines) s.staged) formed.rows
+    (added_tokens (length s.lines) s.staged formed.staged)
+
+-- a host candidate over UDP, as each of an address is
+pub host_formed : (addr : Addr) → length addr.ip ≡ 4 → AllByRecursion (λ byte. byte ≤ 255) addr.ip → addr.port ≤ 65535
+    → IsHostCandidate (record { foundation = codes "1"; component = 1; proto = Udp; priority = 2130706431; addr = addr; kind = Host })
+host_formed addr four bytes port = record {
+  foundation = refl;
+  component = omega arith;
+  proto = refl;
+  priority = omega arith;
+  four = four;
+  bytes = bytes;
+  port = port;
+  kind = refl;
+}

@@ -1,0 +1,200 @@
+-- Each acceptance by a peer is one by its stance, whatever its parts are.
+use Rattle.std.proofs.Common.{◌≡◌, ◌∙◌, ℕ, Bool, true, false, Option, Some, None, Result, Ok, Err, refl, ap}
+use Rattle.std.specs.Prelude.{is_some, IfSome}
+use Rattle.rtc_sdp_values.specs.Sdp.{creds_of, sdp_setup}
+use Rattle.rtc_sdp_values.specs.declared.fingerprint.Fingerprint.{Fingerprint}
+use Rattle.rtc_sdp_values.specs.declared.ice_creds.IceCreds.{IceCreds}
+use Rattle.rtc_sdp_values.specs.declared.sdp.Sdp.{Sdp}
+use Rattle.rtc_ids.specs.Draws.{Draws}
+use Rattle.rtc_ice.specs.IceMeaning.{IceSettings}
+use Rattle.rtc_channels.specs.Channels.{Channels, all_confirmed}
+use Rattle.rtc_dtls.specs.declared.dtls_error.DtlsError.TheVariants.{WouldBlock, Fault, Alloc as DtlsAlloc}
+use Rattle.rtc_change.specs.declared.refusal.Refusal.{Refusal}
+use Rattle.rtc_change.specs.declared.refusal.Refusal.TheVariants.{RemoteSdp as RefusedSdp, Sdp as RefusedText}
+use Rattle.rtc_change.specs.Held.{Asked}
+use Rattle.rtc_change.specs.PendingOffer.{PendingOffer, staged_restart}
+use Rattle.rtc_change.specs.Plans.{no_credentials, asked_by, is_restart}
+use Rattle.rtc_change.proofs.VerdictLemmas.{unrefused}
+use Rattle.rtc_peer_state.specs.declared.peer.Peer.{Peer}
+use Rattle.rtc_peer_state.specs.declared.rtc_error.RtcError.{RtcError}
+use Rattle.rtc_peer_state.specs.declared.rtc_error.RtcError.TheVariants.{
+  RemoteSdp,
+  Sdp as SdpRefused,
+  Dtls,
+  ChangesOutOfOrder,
+  BadChannel,
+  Alloc,
+}
+use Rattle.rtc_peer_state.specs.Acceptances.{
+  Refuses,
+  OfferAccepted,
+  OfferFaulted,
+  OfferStopped,
+  AcceptsOffer,
+  AnswerAccepted,
+  AnswerFaulted,
+  AnswerStopped,
+  AcceptsAnswer,
+  followed_restart,
+}
+use Rattle.rtc_peer_state.specs.Calls.{raised, fitting_channels}
+use Rattle.rtc_peer_state.specs.Creds.{new_creds}
+use Rattle.rtc_peer_state.specs.Formed.{AreTokenCreds}
+use Rattle.rtc_peer_state.specs.Meanings.{Meanings, PartsLaws}
+use Rattle.rtc_peer_state.specs.Stance.{Stance, stance_of, held_by}
+use Rattle.rtc_peer_state.proofs.BuiltPeers.{drawn_creds_token}
+use Rattle.rtc_peer_state.proofs.StanceLemmas.{parts_stand}
+use Rattle.rtc_peer_state.proofs.PartMovesLemmas.{AreLeft, restarted_by, followed_settings, told_creds, left_settings, left_after}
+use Rattle.rtc_peer_state.proofs.PartMovesLemmas.{role_taken, start_keeps_local, stop_keeps_local}
+use Rattle.rtc_peer_state.proofs.StanceCalls.{StanceRefuses, StanceAcceptsOffer, StanceAcceptsAnswer, StandsOffer, StandsAnswer}
+use Rattle.rtc_peer_state.proofs.StanceCalls.{BreaksOffer, Breaks, IsFollowed, followed_by}
+
+-- ---- what is accepted
+
+refuses_stands : {I D S M E X T W N : Type 0} (m : Meanings I D S M E X T W N) (p : Peer I D S M N) (asked : Option Asked) (sdp : Sdp)
+    (why : Refusal)
+    (q : Peer I D S M N) → Refuses m p asked sdp why q → StanceRefuses (stance_of m p) asked sdp why (stance_of m q)
+refuses_stands m p asked sdp why q h = (h.0, ap (stance_of m) h.1)
+
+-- the restart by which an offer is followed has drawn credentials
+new_creds_there : {N : Type 0} (draws : Draws N) (ids : N) (restarts : Bool) → is_some (new_creds draws ids restarts) ≡ restarts
+new_creds_there draws ids true = refl
+new_creds_there draws ids false = refl
+
+new_creds_keep : {N : Type 0} (draws : Draws N) (ids : N) (restarts : Bool) → IfSome (new_creds draws ids restarts) (λ r. r.1 ≡ true)
+new_creds_keep draws ids true = refl
+new_creds_keep draws ids false = tt
+
+new_creds_tokens : {N : Type 0} (draws : Draws N) (ids : N) (restarts : Bool)
+    → IfSome (new_creds draws ids restarts) (λ r. AreTokenCreds r.0)
+new_creds_tokens draws ids true = drawn_creds_token (draws.drawn ids)
+new_creds_tokens draws ids false = tt
+
+followed_stands : {I D S M E X T W N : Type 0} (m : Meanings I D S M E X T W N) (p : Peer I D S M N) (offer : Sdp)
+    → IsFollowed (stance_of m p) offer (followed_restart m p offer)
+followed_stands m p offer =
+    let restarts : Bool = is_restart (m.ice.settings p.ice).remote (creds_of offer) in
+    record {
+      there = new_creds_there m.ids p.ids restarts;
+      keeps = new_creds_keep m.ids p.ids restarts;
+      tokens = new_creds_tokens m.ids p.ids restarts;
+    }
+
+-- what is left where a part failed or memory lacked
+breaks_by : (s : Stance) (restart : Option (IceCreds × Bool)) (counter : ℕ) (ice : IceSettings) (own : Fingerprint) (role : Option Bool)
+    (t : Stance)
+    → t ≡ record s { counter = counter; ice = ice; own_fingerprint = own; role = role } → own ≡ s.own_fingerprint
+    → AreLeft s.ice restart ice
+    → Breaks s restart counter t
+breaks_by s restart counter ice own role t is same left = rw (is, same) (record {
+  lite = left.lite;
+  local = left.local;
+  candidates = left.candidates;
+  rest = refl;
+})
+
+accepted_offer_stands : {I D S M E X T W N : Type 0} (m : Meanings I D S M E X T W N) → PartsLaws m
+    → (p : Peer I D S M N) (offer answer : Sdp)
+    (q : Peer I D S M N) → OfferAccepted m p offer answer q → StandsOffer (stance_of m p) offer answer (stance_of m q)
+accepted_offer_stands m laws p offer answer q h =
+    let s : Stance = stance_of m p in
+    let there : no_credentials (creds_of offer) ≡ None = (unrefused (held_by s) None offer h.passes).creds in
+    record {
+      passes = h.passes;
+      restart = followed_restart m p offer;
+      followed = followed_stands m p offer;
+      answered = h.answered;
+      rest = ap (stance_of m) h.rest
+          ∙ parts_stand (record (followed_by s (followed_restart m p offer) offer true) { counter = raised p.counter }) _ _ _ _ _ _
+          (followed_settings m.ice laws.ice p.ice q.ice _ _ _ _ h.ice_follows
+          ∙ told_creds (creds_of offer) (restarted_by (followed_restart m p offer) s.ice) there)
+          (start_keeps_local m.dtls p.dtls q.dtls _ _ _ _ h.dtls_starts)
+          (role_taken m.dtls p.dtls q.dtls p.dtls.active (sdp_setup offer) p.greatest (Ok tt) refl h.dtls_starts);
+    }
+
+faulted_offer_stands : {I D S M E X T W N : Type 0} (m : Meanings I D S M E X T W N) → PartsLaws m → (p : Peer I D S M N) (offer : Sdp)
+    (q : Peer I D S M N) → OfferFaulted m p offer q → BreaksOffer (stance_of m p) offer (stance_of m q)
+faulted_offer_stands m laws p offer q h = record {
+  restart = followed_restart m p offer;
+  followed = followed_stands m p offer;
+  breaks = breaks_by (stance_of m p) (followed_restart m p offer) (raised p.counter) (m.ice.settings q.ice) q.dtls.local q.dtls.active
+      (stance_of m q)
+      (ap (stance_of m) h.rest) (start_keeps_local m.dtls p.dtls q.dtls _ _ _ _ h.dtls_fails)
+      (left_after m.ice laws.ice p.ice q.ice _ _ _ _ h.ice_follows);
+}
+
+stopped_offer_stands : {I D S M E X T W N : Type 0} (m : Meanings I D S M E X T W N) → PartsLaws m → (p : Peer I D S M N) (offer : Sdp)
+    (q : Peer I D S M N) → OfferStopped m p offer q → BreaksOffer (stance_of m p) offer (stance_of m q)
+stopped_offer_stands m laws p offer q h = record {
+  restart = followed_restart m p offer;
+  followed = followed_stands m p offer;
+  breaks = breaks_by (stance_of m p) (followed_restart m p offer) (raised p.counter) (m.ice.settings q.ice) q.dtls.local q.dtls.active
+      (stance_of m q)
+      (ap (stance_of m) h.rest) (stop_keeps_local m.dtls p.dtls q.dtls _ _ h.dtls_stops)
+      (left_settings m.ice laws.ice p.ice q.ice _ _ _ _ h.ice_stops);
+}
+
+pub accepts_offer_stands : {I D S M E X T W N : Type 0} (m : Meanings I D S M E X T W N) → PartsLaws m → (p : Peer I D S M N) (offer : Sdp)
+    (result : Result Sdp RtcError) (q : Peer I D S M N) → AcceptsOffer m p offer result q
+    → StanceAcceptsOffer (stance_of m p) offer result (stance_of m q)
+accepts_offer_stands m laws p offer (Ok answer) q h = accepted_offer_stands m laws p offer answer q h
+accepts_offer_stands m laws p offer (Err (RemoteSdp why)) q h = refuses_stands m p None offer (RefusedSdp why) q h
+accepts_offer_stands m laws p offer (Err (SdpRefused error)) q h = refuses_stands m p None offer (RefusedText error) q h
+accepts_offer_stands m laws p offer (Err (Dtls Fault)) q h = (h.passes, faulted_offer_stands m laws p offer q h)
+accepts_offer_stands m laws p offer (Err (Dtls WouldBlock)) q h = absurd h
+accepts_offer_stands m laws p offer (Err (Dtls DtlsAlloc)) q h = absurd h
+accepts_offer_stands m laws p offer (Err ChangesOutOfOrder) q h = absurd h
+accepts_offer_stands m laws p offer (Err BadChannel) q h = absurd h
+accepts_offer_stands m laws p offer (Err Alloc) q h = stopped_offer_stands m laws p offer q h
+
+accepted_answer_stands : {I D S M E X T W N : Type 0} (m : Meanings I D S M E X T W N) → PartsLaws m
+    → (p : Peer I D S M N) (token : PendingOffer)
+    (answer : Sdp) (q : Peer I D S M N) → AnswerAccepted m p token answer q → StandsAnswer (stance_of m p) token answer (stance_of m q)
+accepted_answer_stands m laws p token answer q h =
+    let s : Stance = stance_of m p in
+    let confirmed : Channels = all_confirmed (fitting_channels token.changes) p.channels in
+    let there : no_credentials (creds_of answer) ≡ None = (unrefused (held_by s) (Some (asked_by s.lines token)) answer h.passes).creds in
+    record {
+      right = h.right;
+      passes = h.passes;
+      rest = ap (stance_of m) h.rest
+          ∙ parts_stand (record (followed_by s (staged_restart token.changes) answer false) { channels = confirmed }) _ _ _ _ _ _
+          (followed_settings m.ice laws.ice p.ice q.ice _ _ _ _ h.ice_follows
+          ∙ told_creds (creds_of answer) (restarted_by (staged_restart token.changes) s.ice) there)
+          (start_keeps_local m.dtls p.dtls q.dtls _ _ _ _ h.dtls_starts)
+          (role_taken m.dtls p.dtls q.dtls p.dtls.active (sdp_setup answer) p.greatest (Ok tt) refl h.dtls_starts);
+    }
+
+faulted_answer_stands : {I D S M E X T W N : Type 0} (m : Meanings I D S M E X T W N) → PartsLaws m
+    → (p : Peer I D S M N) (token : PendingOffer)
+    (answer : Sdp) (q : Peer I D S M N) → AnswerFaulted m p token answer q
+    → Breaks (stance_of m p) (staged_restart token.changes) p.counter (stance_of m q)
+faulted_answer_stands m laws p token answer q h =
+    breaks_by (stance_of m p) (staged_restart token.changes) p.counter (m.ice.settings q.ice) q.dtls.local q.dtls.active (stance_of m q)
+    (ap (stance_of m) h.rest) (start_keeps_local m.dtls p.dtls q.dtls _ _ _ _ h.dtls_fails)
+    (left_after m.ice laws.ice p.ice q.ice _ _ _ _ h.ice_follows)
+
+stopped_answer_stands : {I D S M E X T W N : Type 0} (m : Meanings I D S M E X T W N) → PartsLaws m
+    → (p : Peer I D S M N) (token : PendingOffer)
+    (answer : Sdp) (q : Peer I D S M N) → AnswerStopped m p token answer q
+    → Breaks (stance_of m p) (staged_restart token.changes) p.counter (stance_of m q)
+stopped_answer_stands m laws p token answer q h =
+    breaks_by (stance_of m p) (staged_restart token.changes) p.counter (m.ice.settings q.ice) q.dtls.local q.dtls.active (stance_of m q)
+    (ap (stance_of m) h.rest) (stop_keeps_local m.dtls p.dtls q.dtls _ _ h.dtls_stops)
+    (left_settings m.ice laws.ice p.ice q.ice _ _ _ _ h.ice_stops)
+
+pub accepts_answer_stands : {I D S M E X T W N : Type 0} (m : Meanings I D S M E X T W N) → PartsLaws m
+    → (p : Peer I D S M N) (token : PendingOffer)
+    (answer : Sdp) (result : Result (Unit {0}) RtcError) (q : Peer I D S M N) → AcceptsAnswer m p token answer result q
+    → StanceAcceptsAnswer (stance_of m p) token answer result (stance_of m q)
+accepts_answer_stands m laws p token answer (Ok done) q h = accepted_answer_stands m laws p token answer q h
+accepts_answer_stands m laws p token answer (Err BadChannel) q h = absurd h
+accepts_answer_stands m laws p token answer (Err ChangesOutOfOrder) q h = (h.0, ap (stance_of m) h.1)
+accepts_answer_stands m laws p token answer (Err (RemoteSdp why)) q h =
+    (h.0, refuses_stands m p (Some (asked_by p.lines token)) answer (RefusedSdp why) q h.1)
+accepts_answer_stands m laws p token answer (Err (SdpRefused error)) q h =
+    (h.0, refuses_stands m p (Some (asked_by p.lines token)) answer (RefusedText error) q h.1)
+accepts_answer_stands m laws p token answer (Err (Dtls Fault)) q h = (h.right, h.passes, faulted_answer_stands m laws p token answer q h)
+accepts_answer_stands m laws p token answer (Err (Dtls WouldBlock)) q h = absurd h
+accepts_answer_stands m laws p token answer (Err (Dtls DtlsAlloc)) q h = absurd h
+accepts_answer_stands m laws p token answer (Err Alloc) q h = (h.right, stopped_answer_stands m laws p token answer q h)

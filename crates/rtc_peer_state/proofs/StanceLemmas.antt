@@ -1,0 +1,118 @@
+-- Each call of a peer is one of its stance, whatever its parts are.
+use Rattle.std.proofs.Common.{◌≡◌, ◌∙◌, ◌+◌, ◌%◌, ◌^◌, ℕ, Bool, true, false, List, [], ◌∷◌, length, Option, Some, None, Result, Ok, Err}
+use Rattle.std.proofs.Common.{refl, sym, ap, arith}
+use Rattle.std.specs.declared.alloc.AllocError.{AllocError}
+use Rattle.rtc_wire.specs.declared.channel_config.ChannelConfig.{ChannelConfig}
+use Rattle.rtc_fields.specs.Tokens.{is_short_token}
+use Rattle.rtc_sdp_values.specs.declared.direction.Direction.{Direction}
+use Rattle.rtc_sdp_values.specs.declared.fingerprint.Fingerprint.{Fingerprint}
+use Rattle.rtc_sdp_values.specs.declared.ice_creds.IceCreds.{IceCreds}
+use Rattle.rtc_sdp_values.specs.declared.sdp.Sdp.{Sdp}
+use Rattle.rtc_ice.specs.IceMeaning.{IceSettings}
+use Rattle.rtc_change.specs.declared.change.Change.{Change}
+use Rattle.rtc_change.specs.PendingOffer.{PendingOffer, added_mids}
+use Rattle.rtc_tables.specs.RowChanges.{RowChange}
+use Rattle.rtc_peer_state.specs.declared.peer.Peer.{Peer}
+use Rattle.rtc_peer_state.specs.declared.rtc_error.RtcError.{RtcError}
+use Rattle.rtc_peer_state.specs.declared.rtc_error.RtcError.TheVariants.{
+  RemoteSdp,
+  Sdp as SdpRefused,
+  Dtls,
+  ChangesOutOfOrder,
+  BadChannel,
+  Alloc,
+}
+use Rattle.rtc_peer_state.specs.Calls.{Wanted, raised, needs_app, after_channels_alone, staged_mid, staged_media, app_changes, AddsMedia}
+use Rattle.rtc_peer_state.specs.Calls.{ChangesLine, AddsChannel, StagesRestart, Applies}
+use Rattle.rtc_peer_state.specs.Meanings.{Meanings, PartsLaws}
+use Rattle.rtc_peer_state.specs.Names.{is_held}
+use Rattle.rtc_peer_state.specs.Stance.{Stance, stance_of}
+use Rattle.rtc_peer_state.proofs.BuiltPeers.{drawn_creds_token}
+use Rattle.rtc_peer_state.proofs.DrawnMids.{free_mid_token}
+use Rattle.rtc_peer_state.proofs.PartMovesLemmas.{control_settings}
+use Rattle.rtc_peer_state.proofs.StanceCalls.{StanceAddsMedia, StanceChangesLine, StanceAddsChannel, StanceStagesRestart, StanceApplies}
+use Rattle.rtc_peer_state.proofs.StanceCalls.{IsAppFor, stance_alone}
+
+-- ---- what is staged
+
+-- a mid that is drawn is a short token
+staged_mid_token : {I D S M E X T W N : Type 0} (m : Meanings I D S M E X T W N) (p : Peer I D S M N)
+    → is_short_token (staged_mid m p) ≡ true
+staged_mid_token m p =
+    free_mid_token (is_held p.lines p.staged) (length p.lines + length (added_mids p.staged)) (m.ids.drawn p.ids % 2 ^ 32) (omega arith)
+
+pub adds_media_stands : {I D S M E X T W N : Type 0} (m : Meanings I D S M E X T W N) → PartsLaws m → (p : Peer I D S M N) (wanted : Wanted)
+    (result : Result (List ℕ) AllocError) (q : Peer I D S M N) → AddsMedia m p wanted result q
+    → StanceAddsMedia (stance_of m p) wanted result (stance_of m q)
+adds_media_stands m laws p wanted (Ok mid) q h = record {
+  media = staged_media m p wanted;
+  its_mid = sym h.0;
+  kind = refl;
+  dir = refl;
+  free = (h.2, rw h.0 (staged_mid_token m p));
+  rest = ap (stance_of m) h.1;
+}
+adds_media_stands m laws p wanted (Err error) q h = ap (stance_of m) h.1
+
+pub changes_line_stands : {I D S M E X T W N : Type 0} (m : Meanings I D S M E X T W N) → PartsLaws m
+    → (change : RowChange) (to : Direction)
+    (p : Peer I D S M N) (mid : List ℕ) (result : Result Bool AllocError) (q : Peer I D S M N) → ChangesLine change to p mid result q
+    → StanceChangesLine change to (stance_of m p) mid result (stance_of m q)
+changes_line_stands m laws change to p mid (Ok true) q h = (h.0, ap (stance_of m) h.1)
+changes_line_stands m laws change to p mid (Ok false) q h = (h.0, ap (stance_of m) h.1)
+changes_line_stands m laws change to p mid (Err error) q h = ap (stance_of m) h
+
+app_stands : {I D S M E X T W N : Type 0} (m : Meanings I D S M E X T W N) (p : Peer I D S M N) (needed : Bool)
+    → (needed ≡ true → is_held p.lines p.staged (staged_mid m p) ≡ false) → IsAppFor (stance_of m p) needed (app_changes m p needed)
+app_stands m p true free = (staged_mid m p, refl, (free refl, staged_mid_token m p))
+app_stands m p false free = refl
+
+pub adds_channel_stands : {I D S M E X T W N : Type 0} (m : Meanings I D S M E X T W N) → PartsLaws m
+    → (p : Peer I D S M N) (config : ChannelConfig)
+    (result : Result ℕ RtcError) (q : Peer I D S M N) → AddsChannel m p config result q
+    → StanceAddsChannel (stance_of m p) config result (stance_of m q)
+adds_channel_stands m laws p config (Ok id) q h = record {
+  good = h.0;
+  number = h.1;
+  app = app_changes m p (needs_app p);
+  app_for = app_stands m p (needs_app p) h.3;
+  rest = ap (stance_of m) h.2;
+}
+adds_channel_stands m laws p config (Err BadChannel) q h = (h.0, ap (stance_of m) h.1)
+adds_channel_stands m laws p config (Err Alloc) q h = ap (stance_of m) h.1
+adds_channel_stands m laws p config (Err (RemoteSdp why)) q h = absurd h
+adds_channel_stands m laws p config (Err (SdpRefused error)) q h = absurd h
+adds_channel_stands m laws p config (Err (Dtls error)) q h = absurd h
+adds_channel_stands m laws p config (Err ChangesOutOfOrder) q h = absurd h
+
+pub stages_restart_stands : {I D S M E X T W N : Type 0} (m : Meanings I D S M E X T W N) → PartsLaws m
+    → (p : Peer I D S M N) (keeps : Bool)
+    (result : Result IceCreds AllocError) (q : Peer I D S M N) → StagesRestart m p keeps result q
+    → StanceStagesRestart (stance_of m p) keeps result (stance_of m q)
+stages_restart_stands m laws p keeps (Ok creds) q h = (rw h.0 (drawn_creds_token (m.ids.drawn p.ids)), ap (stance_of m) h.1)
+stages_restart_stands m laws p keeps (Err error) q h = ap (stance_of m) h.1
+
+alone_stands : {I D S M E X T W N : Type 0} (m : Meanings I D S M E X T W N) (p : Peer I D S M N) (changes : List Change)
+    → stance_of m (after_channels_alone changes p) ≡ stance_alone changes (stance_of m p)
+alone_stands m p [] = refl
+alone_stands m p (change ∷ changes) = refl
+
+-- the parts that an acceptance moves are read by their settings, their fingerprint and their role
+pub parts_stand : (s : Stance) (ice ice' : IceSettings) (own own' : Fingerprint) (role role' : Option Bool) → ice ≡ ice' → own ≡ own'
+    → role ≡ role'
+    → record s { ice = ice; own_fingerprint = own; role = role } ≡ record s { ice = ice'; own_fingerprint = own'; role = role' }
+parts_stand s ice ice' own own' role role' a b c = rw (a, b, c) refl
+
+pub applies_stands : {I D S M E X T W N : Type 0} (m : Meanings I D S M E X T W N) → PartsLaws m → (p : Peer I D S M N)
+    (result : Result (Option (Sdp × PendingOffer)) AllocError) (q : Peer I D S M N) → Applies m p result q
+    → StanceApplies (stance_of m p) result (stance_of m q)
+applies_stands m laws p (Ok None) q h = (h.0, ap (stance_of m) h.1 ∙ alone_stands m p p.staged)
+applies_stands m laws p (Ok (Some made)) q h = (
+  h.0,
+  h.1,
+  h.2,
+  ap (stance_of m) h.4
+      ∙ parts_stand (record (stance_of m p) { staged = []; counter = raised p.counter }) _ _ _ _ _ _
+      (control_settings m.ice laws.ice p.ice q.ice _ h.3) refl refl,
+)
+applies_stands m laws p (Err error) q h = ap (stance_of m) h

@@ -1,0 +1,229 @@
+-- How a peer accepts an offer or an answer: by the answer of the call, the peer before and the peer after.
+use Rattle.std.specs.Prelude.{◌≡◌, ◌≢◌, ℕ, Bool, true, false, List, [], length, take, is_some, Option, Some, None, Result, Ok, Err}
+use Rattle.std.specs.Option.{option_or}
+use Rattle.rtc_sdp_values.specs.Sdp.{creds_of, candidates_of, sdp_fingerprint, sdp_setup}
+use Rattle.rtc_sdp_values.specs.declared.ice_creds.IceCreds.{IceCreds}
+use Rattle.rtc_sdp_values.specs.declared.line_row.LineRow.{LineRow}
+use Rattle.rtc_sdp_values.specs.declared.sdp.Sdp.{Sdp}
+use Rattle.rtc_channels.specs.Channels.{all_confirmed}
+use Rattle.rtc_dtls.specs.declared.dtls_error.DtlsError.TheVariants.{WouldBlock, Fault, Alloc as DtlsAlloc}
+use Rattle.rtc_media.specs.MediaLaws.{SameLines}
+use Rattle.rtc_media.specs.declared.media_update.MediaUpdate.{MediaUpdate}
+use Rattle.rtc_change.specs.declared.change.Change.{Change}
+use Rattle.rtc_change.specs.declared.refusal.Refusal.{Refusal}
+use Rattle.rtc_change.specs.declared.refusal.Refusal.TheVariants.{RemoteSdp as RefusedSdp, Sdp as RefusedText, Alloc as NoMemory}
+use Rattle.rtc_tables.specs.declared.why.Why.{Why}
+use Rattle.rtc_tables.specs.declared.why.Why.TheVariants.{
+  NoLines,
+  BothLite,
+  NoCredentials,
+  UnaskedRestart,
+  NoFingerprint,
+  MovedLine,
+  PlaceTaken,
+  AnswerRecycles,
+  WrongNewLines,
+}
+use Rattle.rtc_change.specs.Held.{Asked}
+use Rattle.rtc_tables.specs.ParsedLines.{parsed_lines}
+use Rattle.rtc_change.specs.PendingOffer.{PendingOffer, staged_restart}
+use Rattle.rtc_change.specs.Plans.{verdict, asked_by, is_restart}
+use Rattle.rtc_change.specs.TableAfter.{table_after}
+use Rattle.rtc_ids.specs.Draws.{Later}
+use Rattle.rtc_peer_state.specs.declared.peer.Peer.{Peer}
+use Rattle.rtc_peer_state.specs.declared.phase.Phase.{Phase}
+use Rattle.rtc_peer_state.specs.declared.phase.Phase.TheVariants.{Closed}
+use Rattle.rtc_peer_state.specs.declared.rtc_error.RtcError.{RtcError}
+use Rattle.rtc_peer_state.specs.declared.rtc_error.RtcError.TheVariants.{
+  RemoteSdp,
+  Sdp as SdpRefused,
+  Dtls,
+  ChangesOutOfOrder,
+  BadChannel,
+  Alloc,
+}
+use Rattle.rtc_peer_state.specs.declared.sending.Sending.{Sending}
+use Rattle.rtc_peer_state.specs.Calls.{raised, control_for, fitting_channels, uses_source}
+use Rattle.rtc_peer_state.specs.Creds.{new_creds, after_new_creds}
+use Rattle.rtc_peer_state.specs.LineUpdates.{sending_of, added_media, row_updates, after_updates}
+use Rattle.rtc_peer_state.specs.MadeSdp.{answer_sdp, role_for}
+use Rattle.rtc_peer_state.specs.Meanings.{Meanings}
+use Rattle.rtc_peer_state.specs.PartMoves.{FollowsSdp, StopsFollowing, StartsDtls, StopsStarting}
+use Rattle.rtc_peer_state.specs.Stance.{stance_of, held_by}
+
+-- a side whose certificate could not be checked is closed
+abbrev pub phase_after : Why → Phase → Phase
+phase_after NoFingerprint phase = Closed
+phase_after NoLines phase = phase
+phase_after BothLite phase = phase
+phase_after NoCredentials phase = phase
+phase_after (UnaskedRestart kept got) phase = phase
+phase_after (MovedLine mid) phase = phase
+phase_after (PlaceTaken mid) phase = phase
+phase_after (AnswerRecycles mid) phase = phase
+phase_after (WrongNewLines wrong) phase = phase
+
+abbrev pub refused_phase : Refusal → Phase → Phase
+refused_phase (RefusedSdp why) phase = phase_after why phase
+refused_phase (RefusedText error) phase = phase
+refused_phase NoMemory phase = phase
+
+-- an offer has raised the counter, whatever comes of it
+abbrev pub counter_after : Option Asked → ℕ → ℕ
+counter_after None counter = raised counter
+counter_after (Some asked) counter = counter
+
+-- the peer after a refusal
+abbrev pub after_refusal : {I D S M N : Type 0} → Option Asked → Refusal → Peer I D S M N → Peer I D S M N
+after_refusal asked why p = record p { counter = counter_after asked p.counter; phase = refused_phase why p.phase }
+
+module _ {I D S M E X T W N : Type 0} (m : Meanings I D S M E X T W N) where
+  -- An offer or an answer is refused, for the first cause that holds.
+  abbrev pub Refuses : Peer I D S M N → Option Asked → Sdp → Refusal → Peer I D S M N → Type 0
+  Refuses p asked sdp why q = (verdict (held_by (stance_of m p)) asked sdp ≡ Some why) × (q ≡ after_refusal asked why p)
+
+  -- the rows that the lines of a session description leave
+  abbrev pub rows_of_sdp : Peer I D S M N → Bool → Sdp → List LineRow
+  rows_of_sdp p offer sdp = take (length sdp.lines) (table_after p.lines (parsed_lines sdp) offer)
+
+  -- what is sent on the line of a mid, by what the media part has of it and by what was staged
+  abbrev pub sends_on : Peer I D S M N → List Change → List ℕ → Sending
+  sends_on p changes mid = sending_of (m.media.line p.media mid) (added_media changes mid) mid
+
+  -- what the media part is told, where these numbers are drawn from
+  abbrev pub updates_for : Peer I D S M N → Bool → List Change → Sdp → N → List MediaUpdate
+  updates_for p offer changes sdp ids =
+      row_updates m.ids (uses_source m p) (sends_on p changes) offer p.lines (rows_of_sdp p offer sdp) sdp.lines [] ids
+
+  abbrev pub ids_after_updates : Peer I D S M N → Bool → List Change → Sdp → N → N
+  ids_after_updates p offer changes sdp ids =
+      after_updates m.ids (uses_source m p) (sends_on p changes) (rows_of_sdp p offer sdp) sdp.lines ids
+
+  -- the media part is told of the lines, and applies what it was told
+  pub record UpdatesMedia (p : M) (updates : List MediaUpdate) (q : M) : Type 0 where
+    pub prepared : M
+    pub by_prepare : m.media.prepared p updates (Ok tt) prepared
+    pub by_commit : m.media.committed prepared q
+
+  -- the restart by which a peer follows that of an offer
+  abbrev pub followed_restart : Peer I D S M N → Sdp → Option (IceCreds × Bool)
+  followed_restart p offer = new_creds m.ids p.ids (is_restart (m.ice.settings p.ice).remote (creds_of offer))
+
+  -- new credentials are drawn before sources
+  abbrev pub answer_ids : Peer I D S M N → Sdp → N
+  answer_ids p offer = after_new_creds m.ids p.ids (is_restart (m.ice.settings p.ice).remote (creds_of offer))
+
+  -- the agent follows an offer; while there is no DTLS role, this side picks the pair exactly where the other one is lite
+  abbrev pub FollowsOffer : Peer I D S M N → Sdp → Peer I D S M N → Type 0
+  FollowsOffer p offer q =
+      FollowsSdp m.ice p.ice (followed_restart p offer) (creds_of offer) (candidates_of offer)
+      (control_for p.dtls.active offer.ice_lite) q.ice
+
+  -- an offer is accepted, and answered
+  pub record OfferAccepted (p : Peer I D S M N) (offer answer : Sdp) (q : Peer I D S M N) : Type 0 where
+    pub passes : verdict (held_by (stance_of m p)) None offer ≡ None
+    pub answered : answer ≡ answer_sdp (stance_of m p) (followed_restart p offer) offer
+    pub ice_follows : FollowsOffer p offer q
+    pub dtls_starts : StartsDtls m.dtls p.dtls p.dtls.active (role_for (sdp_setup offer)) p.greatest (Ok tt) q.dtls
+    pub media_updated : UpdatesMedia p.media (updates_for p true [] offer (answer_ids p offer)) q.media
+    pub rest : q ≡ record p {
+      counter = raised p.counter;
+      lines = table_after p.lines (parsed_lines offer) true;
+      fingerprint = option_or p.fingerprint (sdp_fingerprint offer);
+      ids = ids_after_updates p true [] offer (answer_ids p offer);
+      ice = q.ice;
+      dtls = q.dtls;
+      media = q.media;
+    }
+
+  -- the DTLS part failed as it was started: rows and fingerprint stay, and the updates stay prepared
+  pub record OfferFaulted (p : Peer I D S M N) (offer : Sdp) (q : Peer I D S M N) : Type 0 where
+    pub passes : verdict (held_by (stance_of m p)) None offer ≡ None
+    pub ice_follows : FollowsOffer p offer q
+    pub dtls_fails : StartsDtls m.dtls p.dtls p.dtls.active (role_for (sdp_setup offer)) p.greatest (Err Fault) q.dtls
+    pub media_prepared : m.media.prepared p.media (updates_for p true [] offer (answer_ids p offer)) (Ok tt) q.media
+    pub rest : q ≡ record p {
+      counter = raised p.counter;
+      ids = ids_after_updates p true [] offer (answer_ids p offer);
+      ice = q.ice;
+      dtls = q.dtls;
+      media = q.media;
+    }
+
+  -- there was no memory: the parts have come so far, and the rest of the peer stays
+  pub record OfferStopped (p : Peer I D S M N) (offer : Sdp) (q : Peer I D S M N) : Type 0 where
+    pub later : Later m.ids p.ids q.ids
+    pub ice_stops : StopsFollowing m.ice p.ice (followed_restart p offer) (creds_of offer) (candidates_of offer)
+        (control_for p.dtls.active offer.ice_lite) q.ice
+    pub dtls_stops : StopsStarting m.dtls p.dtls (role_for (sdp_setup offer)) p.greatest q.dtls
+    pub media_kept : SameLines m.media p.media q.media
+    pub rest : q ≡ record p { counter = raised p.counter; ids = q.ids; ice = q.ice; dtls = q.dtls; media = q.media }
+
+  -- A peer accepts an offer, or refuses it.
+  abbrev pub AcceptsOffer : Peer I D S M N → Sdp → Result Sdp RtcError → Peer I D S M N → Type 0
+  AcceptsOffer p offer (Ok answer) q = OfferAccepted p offer answer q
+  AcceptsOffer p offer (Err (RemoteSdp why)) q = Refuses p None offer (RefusedSdp why) q
+  AcceptsOffer p offer (Err (SdpRefused error)) q = Refuses p None offer (RefusedText error) q
+  AcceptsOffer p offer (Err (Dtls Fault)) q = OfferFaulted p offer q
+  AcceptsOffer p offer (Err (Dtls WouldBlock)) q = ⊥
+  AcceptsOffer p offer (Err (Dtls DtlsAlloc)) q = ⊥
+  AcceptsOffer p offer (Err ChangesOutOfOrder) q = ⊥
+  AcceptsOffer p offer (Err BadChannel) q = ⊥
+  AcceptsOffer p offer (Err Alloc) q = OfferStopped p offer q
+
+  -- the agent follows an answer: where its offer restarted ICE, the credentials that were offered are taken
+  abbrev pub FollowsAnswer : Peer I D S M N → PendingOffer → Sdp → Peer I D S M N → Type 0
+  FollowsAnswer p token answer q =
+      FollowsSdp m.ice p.ice (staged_restart token.changes) (creds_of answer) (candidates_of answer) None q.ice
+
+  -- an answer is accepted; the channels that were staged with its offer and are still there are confirmed
+  pub record AnswerAccepted (p : Peer I D S M N) (token : PendingOffer) (answer : Sdp) (q : Peer I D S M N) : Type 0 where
+    pub right : p.counter ≡ raised token.id
+    pub passes : verdict (held_by (stance_of m p)) (Some (asked_by p.lines token)) answer ≡ None
+    pub ice_follows : FollowsAnswer p token answer q
+    pub dtls_starts : StartsDtls m.dtls p.dtls p.dtls.active (role_for (sdp_setup answer)) p.greatest (Ok tt) q.dtls
+    pub media_updated : UpdatesMedia p.media (updates_for p false token.changes answer p.ids) q.media
+    pub rest : q ≡ record p {
+      lines = table_after p.lines (parsed_lines answer) false;
+      channels = all_confirmed (fitting_channels token.changes) p.channels;
+      fingerprint = option_or p.fingerprint (sdp_fingerprint answer);
+      ids = ids_after_updates p false token.changes answer p.ids;
+      ice = q.ice;
+      dtls = q.dtls;
+      media = q.media;
+    }
+
+  pub record AnswerFaulted (p : Peer I D S M N) (token : PendingOffer) (answer : Sdp) (q : Peer I D S M N) : Type 0 where
+    pub right : p.counter ≡ raised token.id
+    pub passes : verdict (held_by (stance_of m p)) (Some (asked_by p.lines token)) answer ≡ None
+    pub ice_follows : FollowsAnswer p token answer q
+    pub dtls_fails : StartsDtls m.dtls p.dtls p.dtls.active (role_for (sdp_setup answer)) p.greatest (Err Fault) q.dtls
+    pub media_prepared : m.media.prepared p.media (updates_for p false token.changes answer p.ids) (Ok tt) q.media
+    pub rest : q ≡ record p {
+      ids = ids_after_updates p false token.changes answer p.ids;
+      ice = q.ice;
+      dtls = q.dtls;
+      media = q.media;
+    }
+
+  pub record AnswerStopped (p : Peer I D S M N) (token : PendingOffer) (answer : Sdp) (q : Peer I D S M N) : Type 0 where
+    pub right : p.counter ≡ raised token.id
+    pub later : Later m.ids p.ids q.ids
+    pub ice_stops : StopsFollowing m.ice p.ice (staged_restart token.changes) (creds_of answer) (candidates_of answer) None q.ice
+    pub dtls_stops : StopsStarting m.dtls p.dtls (role_for (sdp_setup answer)) p.greatest q.dtls
+    pub media_kept : SameLines m.media p.media q.media
+    pub rest : q ≡ record p { ids = q.ids; ice = q.ice; dtls = q.dtls; media = q.media }
+
+  -- A peer accepts an answer with the token of its offer, or refuses it.
+  abbrev pub AcceptsAnswer : Peer I D S M N → PendingOffer → Sdp → Result (Unit {0}) RtcError → Peer I D S M N → Type 0
+  AcceptsAnswer p token answer (Ok done) q = AnswerAccepted p token answer q
+  AcceptsAnswer p token answer (Err BadChannel) q = ⊥
+  AcceptsAnswer p token answer (Err ChangesOutOfOrder) q = (p.counter ≢ raised token.id) × (q ≡ p)
+  AcceptsAnswer p token answer (Err (RemoteSdp why)) q =
+      (p.counter ≡ raised token.id) × Refuses p (Some (asked_by p.lines token)) answer (RefusedSdp why) q
+  AcceptsAnswer p token answer (Err (SdpRefused error)) q =
+      (p.counter ≡ raised token.id) × Refuses p (Some (asked_by p.lines token)) answer (RefusedText error) q
+  AcceptsAnswer p token answer (Err (Dtls Fault)) q = AnswerFaulted p token answer q
+  AcceptsAnswer p token answer (Err (Dtls WouldBlock)) q = ⊥
+  AcceptsAnswer p token answer (Err (Dtls DtlsAlloc)) q = ⊥
+  AcceptsAnswer p token answer (Err Alloc) q = AnswerStopped p token answer q

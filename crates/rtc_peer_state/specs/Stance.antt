@@ -1,0 +1,46 @@
+-- What negotiation reads of a peer, whatever its parts are.
+use Rattle.std.specs.Prelude.{ℕ, Bool, List, Option, is_some}
+use Rattle.rtc_sdp_values.specs.declared.fingerprint.Fingerprint.{Fingerprint}
+use Rattle.rtc_sdp_values.specs.declared.line_row.LineRow.{LineRow}
+use Rattle.rtc_ice.specs.IceMeaning.{IceSettings}
+use Rattle.rtc_channels.specs.Channels.{Channels}
+use Rattle.rtc_change.specs.declared.change.Change.{Change}
+use Rattle.rtc_change.specs.Held.{Held}
+use Rattle.rtc_peer_state.specs.declared.peer.Peer.{Peer}
+use Rattle.rtc_peer_state.specs.Meanings.{Meanings}
+
+pub record Stance : Type 0 where
+  pub session : ℕ
+  pub lines : List LineRow
+  pub staged : List Change
+  pub channels : Channels
+  pub counter : ℕ
+  -- whether the ICE agent is lite, the credentials of both sides, and the local candidates
+  pub ice : IceSettings
+  -- the fingerprint of this side's certificate, and that which the other side told first
+  pub own_fingerprint : Fingerprint
+  pub fingerprint : Option Fingerprint
+  -- the DTLS role, once it is taken: whether this side begins the handshake
+  pub role : Option Bool
+
+abbrev pub stance_of : {I D S M E X T W N : Type 0} → Meanings I D S M E X T W N → Peer I D S M N → Stance
+stance_of m p = record {
+  session = p.session_id;
+  lines = p.lines;
+  staged = p.staged;
+  channels = p.channels;
+  counter = p.counter;
+  ice = m.ice.settings p.ice;
+  own_fingerprint = p.dtls.local;
+  fingerprint = p.fingerprint;
+  role = p.dtls.active;
+}
+
+-- what an offer or an answer is judged by
+abbrev pub held_by : Stance → Held
+held_by s = record {
+  lines = s.lines;
+  lite = s.ice.lite;
+  remote_creds = s.ice.remote;
+  has_fingerprint = is_some s.fingerprint;
+}
