@@ -5,7 +5,9 @@ use Rattle.rtc_sdp_reader.specs.Reading.{reading}
 use Rattle.rtc_sdp_writer.specs.SessionRows.{written_sdp}
 use Rattle.rtc_peer_state.specs.Formed.{IsFormed}
 use Rattle.rtc_history.specs.declared.kept.Kept.{Kept}
-use Rattle.rtc_history.specs.PairState.{PairState}
+use Rattle.rtc_history.specs.declared.side.Side.{Side}
+use Rattle.rtc_history.specs.PairState.{PairState, stances_of}
+use Rattle.rtc_peer_state.specs.Meanings.{Meanings}
 
 -- the written bytes of a session description read as it
 abbrev pub ReadsBack : Sdp → Type 0
@@ -15,7 +17,6 @@ ReadsBack sdp = reading (written_sdp sdp) ≡ Ok sdp
 abbrev pub AllReadBack : List Kept → Type 0
 AllReadBack sdps = All (λ kept. ReadsBack kept.sdp) sdps
 
--- the session descriptions of both peers have the form that is read back
-pub record ArePeersFormed {N : Type 0} (pair : PairState N) : Type 0 where
-  pub left : IsFormed pair.left.core
-  pub right : IsFormed pair.right.core
+-- both peers make session descriptions of the form that is read back
+abbrev pub ArePeersFormed : {I D S M E X T W N : Type 0} → Meanings I D S M E X T W N → PairState I D S M N → Type 0
+ArePeersFormed m pair = (at : Side) → IsFormed (stances_of m pair at)

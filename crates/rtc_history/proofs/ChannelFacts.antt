@@ -6,12 +6,10 @@ use Rattle.rtc_wire.specs.ChannelConfig.{fresh}
 use Rattle.rtc_sdp_values.specs.declared.direction.Direction.TheVariants.{SendRecv}
 use Rattle.rtc_sdp_values.specs.declared.media_kind.MediaKind.TheVariants.{Audio}
 use Rattle.rtc_sdp_values.specs.declared.line_row.LineRow.TheVariants.{Media, App}
-use Rattle.rtc_sdp_values.specs.declared.setup.Setup.TheVariants.{ActPass}
 use Rattle.rtc_sdp_values.specs.declared.sdp.Sdp.{Sdp}
-use Rattle.rtc_change.specs.declared.parsed_line.ParsedLine.{ParsedLine}
-use Rattle.rtc_change.specs.ParsedLines.{parsed_lines}
+use Rattle.rtc_tables.specs.declared.parsed_line.ParsedLine.{ParsedLine}
+use Rattle.rtc_tables.specs.ParsedLines.{parsed_lines}
 use Rattle.rtc_channels.specs.Channels.{is_overlong}
-use Rattle.rtc_peer_state.specs.declared.identity.Identity.{Identity}
 use Rattle.rtc_peer_state.specs.declared.rtc_error.RtcError.TheVariants.{ChangesOutOfOrder}
 use Rattle.rtc_peer_state.specs.MadeSdp.{sdp_of_rows}
 use Rattle.rtc_history.specs.declared.side.Side.{Side}
@@ -27,7 +25,7 @@ use Rattle.rtc_history.specs.declared.table.Table.{Table}
 use Rattle.rtc_history.specs.Answers.{waiting_row}
 use Rattle.rtc_history.specs.Past.{Entry, MadeSdp, is_right, added_by}
 use Rattle.rtc_history.specs.SaidRows.{MakesSdp}
-use Rattle.rtc_history.proofs.WorkedEntries.{says, entry}
+use Rattle.rtc_history.proofs.WorkedEntries.{says, entry, plain, worked_head}
 use Rattle.rtc_history.specs.Sound.{IsSound}
 
 abbrev labelled : List ℕ → ChannelConfig
@@ -44,72 +42,71 @@ left_mid = codes "m3"
 abbrev right_mid : List ℕ
 right_mid = codes "m1000003"
 
-abbrev crossed : Identity → List Entry
-crossed i =
-    entry (AcceptOffer Right 0) (Answered 3) (App 0 left_mid ∷ []) (0 ∷ []) (says i Right false (App 0 left_mid ∷ []))
-    ∷ entry (AcceptOffer Left 1) (Answered 2) (App 0 right_mid ∷ []) (0 ∷ []) (says i Left false (App 0 right_mid ∷ []))
-    ∷ entry (offers_channel Right) (Negotiated (Channel 0 ∷ []) (Offer 1)) [] (0 ∷ []) (says i Right true (App 0 right_mid ∷ []))
-    ∷ entry (offers_channel Left) (Negotiated (Channel 0 ∷ []) (Offer 0)) [] (0 ∷ []) (says i Left true (App 0 left_mid ∷ []))
+abbrev crossed : List Entry
+crossed =
+    entry (AcceptOffer Right 0) (Answered 3) (App 0 left_mid ∷ []) (0 ∷ []) (says Right false (App 0 left_mid ∷ []))
+    ∷ entry (AcceptOffer Left 1) (Answered 2) (App 0 right_mid ∷ []) (0 ∷ []) (says Left false (App 0 right_mid ∷ []))
+    ∷ entry (offers_channel Right) (Negotiated (Channel 0 ∷ []) (Offer 1)) [] (0 ∷ []) (says Right true (App 0 right_mid ∷ []))
+    ∷ entry (offers_channel Left) (Negotiated (Channel 0 ∷ []) (Offer 0)) [] (0 ∷ []) (says Left true (App 0 left_mid ∷ []))
     ∷ []
 
 -- the offer of a channel adds the line of data channels, with the mid that it says
-crossed_line : (i : Identity) → added_by 0 0 (crossed i) ≡ App 0 left_mid ∷ []
-crossed_line i = refl
+crossed_line : added_by 0 0 crossed ≡ App 0 left_mid ∷ []
+crossed_line = refl
 
 -- accepting the other offer superseded the token
-crossed_token : (i : Identity) → is_right Left 0 (crossed i) ≡ false
-crossed_token i = refl
+crossed_token : is_right Left 0 crossed ≡ false
+crossed_token = refl
 
-crossed_refused : (i : Identity) (made : List MadeSdp)
-    → IsSound (crossed i) (AcceptAnswer Left 0 3) (Refused ChangesOutOfOrder) (Some (record { lines = App 0 right_mid ∷ []; channels = waiting_row 0 ∷ [] })) made
-crossed_refused i made = (refl, refl)
+crossed_refused : (made : List MadeSdp)
+    → IsSound plain crossed plain (AcceptAnswer Left 0 3) (Refused ChangesOutOfOrder) (Some (record { lines = App 0 right_mid ∷ []; channels = waiting_row 0 ∷ [] })) made
+crossed_refused made = (refl, refl)
 
 -- ---- a channel alone, once there is a line
 
-abbrev with_line : Identity → List Entry
-with_line i =
+abbrev with_line : List Entry
+with_line =
     entry (AcceptAnswer Left 0 1) Finished (App 0 left_mid ∷ []) (0 ∷ []) []
-    ∷ entry (AcceptOffer Right 0) (Answered 1) (App 0 left_mid ∷ []) [] (says i Right false (App 0 left_mid ∷ []))
-    ∷ entry (offers_channel Left) (Negotiated (Channel 0 ∷ []) (Offer 0)) [] (0 ∷ []) (says i Left true (App 0 left_mid ∷ []))
+    ∷ entry (AcceptOffer Right 0) (Answered 1) (App 0 left_mid ∷ []) [] (says Right false (App 0 left_mid ∷ []))
+    ∷ entry (offers_channel Left) (Negotiated (Channel 0 ∷ []) (Offer 0)) [] (0 ∷ []) (says Left true (App 0 left_mid ∷ []))
     ∷ []
 
-abbrev more_audio : Identity → List Entry
-more_audio i =
+abbrev more_audio : List Entry
+more_audio =
     entry (Negotiate Left (AddMedia Audio SendRecv ∷ []) true) (Negotiated (Mid (codes "m4") ∷ []) (Offer 2)) (App 0 left_mid ∷ []) (0 ∷ [])
-    (says i Left true (App 0 left_mid ∷ Media 1 (codes "m4") Audio SendRecv false false ∷ []))
-    ∷ with_line i
+    (says Left true (App 0 left_mid ∷ Media 1 (codes "m4") Audio SendRecv false false ∷ []))
+    ∷ with_line
 
-abbrev more_channels : Identity → List Entry
-more_channels i = entry (offers_channel Left) (Negotiated (Channel 1 ∷ []) Nothing) (App 0 left_mid ∷ []) (0 ∷ 1 ∷ []) [] ∷ more_audio i
+abbrev more_channels : List Entry
+more_channels = entry (offers_channel Left) (Negotiated (Channel 1 ∷ []) Nothing) (App 0 left_mid ∷ []) (0 ∷ 1 ∷ []) [] ∷ more_audio
 
 -- it makes no offer
-channel_alone : (i : Identity)
-    → IsSound (more_audio i) (offers_channel Left) (Negotiated (Channel 1 ∷ []) Nothing) (Some (record { lines = App 0 left_mid ∷ []; channels = waiting_row 0 ∷ waiting_row 1 ∷ [] })) []
-channel_alone i = (((refl, (omega arith, tt)), tt, refl), tt, refl)
+channel_alone : IsSound plain more_audio plain (offers_channel Left) (Negotiated (Channel 1 ∷ []) Nothing) (Some (record { lines = App 0 left_mid ∷ []; channels = waiting_row 0 ∷ waiting_row 1 ∷ [] })) []
+channel_alone = (((refl, (omega arith, tt)), tt, refl), tt, refl)
 
-channel_alone_offered : (i : Identity) (made : List MadeSdp) (table : Table) → IsSound (more_audio i) (offers_channel Left) (Negotiated (Channel 1 ∷ []) (Offer 3)) (Some table) made → ⊥
-channel_alone_offered i made table sound = sound.1
+channel_alone_offered : (made : List MadeSdp) (table : Table) → IsSound plain more_audio plain (offers_channel Left) (Negotiated (Channel 1 ∷ []) (Offer 3)) (Some table) made → ⊥
+channel_alone_offered made table sound = sound.1
 
 -- it supersedes the token that was outstanding
-token_before : (i : Identity) → is_right Left 2 (more_audio i) ≡ true
-token_before i = refl
+token_before : is_right Left 2 more_audio ≡ true
+token_before = refl
 
-token_after : (i : Identity) → is_right Left 2 (more_channels i) ≡ false
-token_after i = refl
+token_after : is_right Left 2 more_channels ≡ false
+token_after = refl
 
 -- ops that stage nothing supersede no token
-token_kept : (i : Identity) → is_right Left 2 (entry (Negotiate Left [] true) (Negotiated [] Nothing) (App 0 left_mid ∷ []) (0 ∷ []) [] ∷ more_audio i) ≡ true
-token_kept i = refl
+token_kept : is_right Left 2 (entry (Negotiate Left [] true) (Negotiated [] Nothing) (App 0 left_mid ∷ []) (0 ∷ []) [] ∷ more_audio) ≡ true
+token_kept = refl
 
 -- a number is not given twice
-number_again : (i : Identity) (what : Made) (table : Table) (made : List MadeSdp) → IsSound (more_audio i) (offers_channel Left) (Negotiated (Channel 0 ∷ []) what) (Some table) made → ⊥
-number_again i what table made sound = let same : 0 < 0 = sound.0.0.1.0 in absurd (omega arith)
+number_again : (what : Made) (table : Table) (made : List MadeSdp) → IsSound plain more_audio plain (offers_channel Left) (Negotiated (Channel 0 ∷ []) what) (Some table) made → ⊥
+number_again what table made sound = let same : 0 < 0 = sound.0.0.1.0 in absurd (omega arith)
 
 -- ---- a channel that is refused
 
 -- a label that is too long gets no channel and no line, and there is nothing to offer
 overlong : (label : List ℕ) → is_overlong label ≡ true
-    → IsSound [] (Negotiate Left (AddChannel (labelled label) ∷ []) true) (Negotiated (BadChannel ∷ []) Nothing) (Some (record { lines = []; channels = [] })) []
+    → IsSound plain [] plain (Negotiate Left (AddChannel (labelled label) ∷ []) true) (Negotiated (BadChannel ∷ []) Nothing) (Some (record { lines = []; channels = [] })) []
 overlong label long = ((rw long refl, refl), tt, refl)
 
 offer_is : (one other : Sdp) → ◌≡◌ {A = List MadeSdp} (record { at = Left; offer = true; sdp = one } ∷ []) (record { at = Left; offer = true; sdp = other } ∷ []) → one ≡ other
@@ -119,5 +116,5 @@ none_said : (lines : List ParsedLine) (line : ParsedLine) → lines ≡ [] → l
 none_said lines line none one = absurd (cc)
 
 -- a channel that is offered needs a line of data channels in the offer
-line_missing : (i : Identity) → MakesSdp (offers_channel Left) (Negotiated (Channel 0 ∷ []) (Offer 0)) (Some (record { lines = []; channels = waiting_row 0 ∷ [] })) (says i Left true []) → ⊥
-line_missing i made = none_said (parsed_lines made.sdp) _ (ap parsed_lines (sym (offer_is (sdp_of_rows 1 i ActPass []) made.sdp made.one))) made.says
+line_missing : MakesSdp (offers_channel Left) (Negotiated (Channel 0 ∷ []) (Offer 0)) (Some (record { lines = []; channels = waiting_row 0 ∷ [] })) (says Left true []) → ⊥
+line_missing made = none_said (parsed_lines made.sdp) _ (ap parsed_lines (sym (offer_is (sdp_of_rows worked_head []) made.sdp made.one))) made.says

@@ -5,3 +5,4 @@ mod OrderlyFacts
 mod WorkedEntries
 mod LineFacts
 mod ChannelFacts
+mod RestartFacts

@@ -8,10 +8,9 @@ use Rattle.rtc_sdp_values.specs.declared.line_row.LineRow.{LineRow}
 use Rattle.rtc_sdp_values.specs.declared.line_row.LineRow.TheVariants.{Media}
 use Rattle.rtc_sdp_values.specs.declared.inconsistent.Inconsistent.TheVariants.{EmptyGroup}
 use Rattle.rtc_sdp_values.specs.declared.sdp_error.SdpError.TheVariants.{Inconsistent}
-use Rattle.rtc_change.specs.declared.new_line.NewLine.TheVariants.{Count}
-use Rattle.rtc_change.specs.declared.why.Why.TheVariants.{WrongNewLines}
-use Rattle.rtc_change.specs.Plans.{verdict, head_verdict}
-use Rattle.rtc_peer_state.specs.declared.identity.Identity.{Identity}
+use Rattle.rtc_tables.specs.declared.new_line.NewLine.TheVariants.{Count}
+use Rattle.rtc_tables.specs.declared.why.Why.TheVariants.{WrongNewLines}
+use Rattle.rtc_change.specs.Plans.{verdict, head_verdict, side_verdict}
 use Rattle.rtc_peer_state.specs.declared.rtc_error.RtcError.TheVariants.{RemoteSdp, Sdp}
 use Rattle.rtc_history.specs.declared.side.Side.TheVariants.{Left, Right}
 use Rattle.rtc_history.specs.declared.op.Op.TheVariants.{AddMedia, SetDirection, StopMedia}
@@ -21,7 +20,7 @@ use Rattle.rtc_history.specs.declared.step.Step.TheVariants.{Negotiate, AcceptOf
 use Rattle.rtc_history.specs.declared.outcome.Outcome.TheVariants.{Negotiated, Answered, Finished, Refused}
 use Rattle.rtc_history.specs.Past.{Entry, MadeSdp}
 use Rattle.rtc_history.specs.Sound.{IsSound}
-use Rattle.rtc_history.proofs.WorkedEntries.{says, entry}
+use Rattle.rtc_history.proofs.WorkedEntries.{says, entry, plain}
 
 abbrev audio_mid : List ℕ
 audio_mid = codes "m3"
@@ -29,42 +28,40 @@ audio_mid = codes "m3"
 abbrev video_mid : List ℕ
 video_mid = codes "m7"
 
-abbrev here : LineRow
+abbrev pub here : LineRow
 here = Media 0 audio_mid Audio SendRecv false false
 
-abbrev there : LineRow
+abbrev pub there : LineRow
 there = Media 0 audio_mid Audio SendRecv false true
 
 -- a round of one audio line, offered by the left side
-abbrev one_round : Identity → List Entry
-one_round i =
+abbrev pub one_round : List Entry
+one_round =
     entry (AcceptAnswer Left 0 1) Finished (here ∷ []) [] []
-    ∷ entry (AcceptOffer Right 0) (Answered 1) (there ∷ []) [] (says i Right false (there ∷ []))
-    ∷ entry (Negotiate Left (AddMedia Audio SendRecv ∷ []) true) (Negotiated (Mid audio_mid ∷ []) (Offer 0)) [] [] (says i Left true (here ∷ []))
+    ∷ entry (AcceptOffer Right 0) (Answered 1) (there ∷ []) [] (says Right false (there ∷ []))
+    ∷ entry (Negotiate Left (AddMedia Audio SendRecv ∷ []) true) (Negotiated (Mid audio_mid ∷ []) (Offer 0)) [] [] (says Left true (here ∷ []))
     ∷ []
 
 -- where no line stands, none is set and none is stopped
-no_lines_there : (i : Identity)
-    → IsSound (one_round i) (Negotiate Left (SetDirection 3 Inactive ∷ StopMedia 3 ∷ []) false) (Negotiated (NoLine ∷ NoLine ∷ []) NotAsked) (Some (record { lines = here ∷ []; channels = [] })) []
-no_lines_there i = ((refl, (refl, refl)), tt, refl)
+no_lines_there : IsSound plain one_round plain (Negotiate Left (SetDirection 3 Inactive ∷ StopMedia 3 ∷ []) false) (Negotiated (NoLine ∷ NoLine ∷ []) NotAsked) (Some (record { lines = here ∷ []; channels = [] })) []
+no_lines_there = ((refl, (refl, refl)), tt, refl)
 
 -- ---- the only line is stopped
 
 abbrev halted : LineRow
 halted = Media 0 audio_mid Audio Inactive true false
 
-only_line_stopped : (i : Identity)
-    → IsSound (one_round i) (Negotiate Left (StopMedia 0 ∷ []) true) (Negotiated (Changed true ∷ []) (Offer 2)) (Some (record { lines = halted ∷ []; channels = [] })) (says i Left true (halted ∷ []))
-only_line_stopped i = (((refl, refl), refl), refl, refl)
+only_line_stopped : IsSound plain one_round plain (Negotiate Left (StopMedia 0 ∷ []) true) (Negotiated (Changed true ∷ []) (Offer 2)) (Some (record { lines = halted ∷ []; channels = [] })) (says Left true (halted ∷ []))
+only_line_stopped = (((refl, refl), refl), refl, refl)
 
-abbrev with_halted : Identity → List Entry
-with_halted i = entry (Negotiate Left (StopMedia 0 ∷ []) true) (Negotiated (Changed true ∷ []) (Offer 2)) (halted ∷ []) [] (says i Left true (halted ∷ [])) ∷ one_round i
+abbrev with_halted : List Entry
+with_halted = entry (Negotiate Left (StopMedia 0 ∷ []) true) (Negotiated (Changed true ∷ []) (Offer 2)) (halted ∷ []) [] (says Left true (halted ∷ [])) ∷ one_round
 
 -- its offer groups no line, and is refused
-none_grouped : (i : Identity) (made : List MadeSdp)
-    → IsSound (with_halted i) (AcceptOffer Right 2) (Refused (Sdp (Inconsistent EmptyGroup))) (Some (record { lines = there ∷ []; channels = [] })) made
-unfolding verdict head_verdict inconsistency
-none_grouped i made = ((refl, refl), refl)
+none_grouped : (made : List MadeSdp)
+    → IsSound plain with_halted plain (AcceptOffer Right 2) (Refused (Sdp (Inconsistent EmptyGroup))) (Some (record { lines = there ∷ []; channels = [] })) made
+unfolding verdict head_verdict side_verdict inconsistency
+none_grouped made = ((refl, refl), refl)
 
 -- ---- a line of a superseded offer
 
@@ -74,23 +71,23 @@ video_here = Media 1 video_mid Video SendRecv false false
 abbrev video_there : LineRow
 video_there = Media 1 video_mid Video SendRecv false true
 
-abbrev sending : LineRow
+abbrev pub sending : LineRow
 sending = Media 0 audio_mid Audio SendOnly false false
 
-abbrev receiving : LineRow
+abbrev pub receiving : LineRow
 receiving = Media 0 audio_mid Audio RecvOnly false true
 
 -- the right side accepts a video line, whose offer the left side then supersedes
-abbrev with_lost_offer : Identity → List Entry
-with_lost_offer i =
-    entry (AcceptOffer Right 4) (Answered 5) (receiving ∷ video_there ∷ []) [] (says i Right false (receiving ∷ video_there ∷ []))
-    ∷ entry (Negotiate Left (SetDirection 0 SendOnly ∷ []) true) (Negotiated (Changed true ∷ []) (Offer 4)) (sending ∷ []) [] (says i Left true (sending ∷ []))
-    ∷ entry (AcceptOffer Right 2) (Answered 3) (there ∷ video_there ∷ []) [] (says i Right false (there ∷ video_there ∷ []))
-    ∷ entry (Negotiate Left (AddMedia Video SendRecv ∷ []) true) (Negotiated (Mid video_mid ∷ []) (Offer 2)) (here ∷ []) [] (says i Left true (here ∷ video_here ∷ []))
-    ∷ one_round i
+abbrev with_lost_offer : List Entry
+with_lost_offer =
+    entry (AcceptOffer Right 4) (Answered 5) (receiving ∷ video_there ∷ []) [] (says Right false (receiving ∷ video_there ∷ []))
+    ∷ entry (Negotiate Left (SetDirection 0 SendOnly ∷ []) true) (Negotiated (Changed true ∷ []) (Offer 4)) (sending ∷ []) [] (says Left true (sending ∷ []))
+    ∷ entry (AcceptOffer Right 2) (Answered 3) (there ∷ video_there ∷ []) [] (says Right false (there ∷ video_there ∷ []))
+    ∷ entry (Negotiate Left (AddMedia Video SendRecv ∷ []) true) (Negotiated (Mid video_mid ∷ []) (Offer 2)) (here ∷ []) [] (says Left true (here ∷ video_here ∷ []))
+    ∷ one_round
 
 -- the answer has a line more than its offer asked for
-line_too_many : (i : Identity) (made : List MadeSdp)
-    → IsSound (with_lost_offer i) (AcceptAnswer Left 4 5) (Refused (RemoteSdp (WrongNewLines (Count 0 1)))) (Some (record { lines = sending ∷ []; channels = [] })) made
-unfolding verdict head_verdict inconsistency
-line_too_many i made = ((refl, refl), refl)
+line_too_many : (made : List MadeSdp)
+    → IsSound plain with_lost_offer plain (AcceptAnswer Left 4 5) (Refused (RemoteSdp (WrongNewLines (Count 0 1)))) (Some (record { lines = sending ∷ []; channels = [] })) made
+unfolding verdict head_verdict side_verdict inconsistency
+line_too_many made = ((refl, refl), refl)

@@ -8,7 +8,7 @@ use Rattle.rtc_sdp_values.specs.declared.line_row.LineRow.TheVariants.{Media, Ap
 use Rattle.rtc_sdp_values.specs.declared.media_kind.MediaKind.TheVariants.{Audio, Video}
 use Rattle.rtc_history.specs.declared.side.Side.{Side}
 use Rattle.rtc_history.specs.declared.side.Side.TheVariants.{Left, Right}
-use Rattle.rtc_history.specs.declared.op.Op.TheVariants.{AddMedia, SetDirection, StopMedia, AddChannel}
+use Rattle.rtc_history.specs.declared.op.Op.TheVariants.{AddMedia, SetDirection, StopMedia, AddChannel, IceRestart}
 use Rattle.rtc_history.specs.declared.step.Step.{Step}
 use Rattle.rtc_history.specs.declared.step.Step.TheVariants.{Negotiate, AcceptOffer, AcceptAnswer}
 use Rattle.rtc_history.specs.Orderly.{Idle, AwaitsAnswer, course_of, are_orderly}
@@ -173,3 +173,29 @@ answerer_offers = refl
 -- a channel whose stream is settled by other means may be refused, applied or not
 settled_elsewhere : are_orderly (Negotiate Left (AddChannel (record fresh { negotiated = Some 4 }) ∷ []) false ∷ []) ≡ false
 settled_elsewhere = refl
+
+-- ---- restarts of ICE
+
+abbrev restarts : Side → Step
+restarts at = Negotiate at (IceRestart true ∷ []) true
+
+-- a restart alone makes an offer, once there is a line
+restart_alone : are_orderly (both_lines ++ restarts Right ∷ AcceptOffer Left 2 ∷ AcceptAnswer Right 2 3 ∷ []) ≡ true
+restart_alone = refl
+
+-- an offer of no line is refused
+restart_first : are_orderly (restarts Left ∷ []) ≡ false
+restart_first = refl
+
+-- with lines that are added, it is offered in the first round too
+restart_with_lines :
+    course_of (Negotiate Left (AddMedia Audio SendRecv ∷ AddChannel (labelled (codes "a")) ∷ IceRestart true ∷ []) true ∷ AcceptOffer Right 0 ∷ AcceptAnswer Left 0 1 ∷ [])
+    ≡ Some (record { left = Media 0 [] Audio SendRecv false false ∷ App 1 [] ∷ []; right = Media 0 [] Audio SendRecv false true ∷ App 1 [] ∷ []; sdps = 2; phase = Idle })
+restart_with_lines = refl
+
+restart_within_a_round : are_orderly (right_offers ∷ AcceptOffer Left 0 ∷ restarts Left ∷ []) ≡ false
+restart_within_a_round = refl
+
+-- one that is dropped offers nothing
+restart_dropped : are_orderly (right_offers ∷ Negotiate Left (IceRestart false ∷ []) false ∷ AcceptOffer Left 0 ∷ []) ≡ true
+restart_dropped = refl

@@ -1,8 +1,12 @@
 -- Entries of pasts that are worked by hand.
-use Rattle.std.proofs.Common.{ℕ, Bool, List, [], ◌∷◌, Some}
+use Rattle.std.proofs.Common.{ℕ, Bool, false, List, [], ◌∷◌, Some, None}
+use Rattle.std.specs.Prelude.{codes}
 use Rattle.rtc_sdp_values.specs.declared.line_row.LineRow.{LineRow}
 use Rattle.rtc_sdp_values.specs.declared.setup.Setup.TheVariants.{ActPass}
-use Rattle.rtc_peer_state.specs.declared.identity.Identity.{Identity}
+use Rattle.rtc_sdp_values.specs.declared.ice_creds.IceCreds.{IceCreds}
+use Rattle.rtc_sdp_values.specs.declared.fingerprint.Fingerprint.{Fingerprint}
+use Rattle.rtc_channels.specs.Channels.{no_channels}
+use Rattle.rtc_peer_state.specs.declared.sdp_head.SdpHead.{SdpHead}
 use Rattle.rtc_peer_state.specs.MadeSdp.{sdp_of_rows}
 use Rattle.rtc_history.specs.declared.side.Side.{Side}
 use Rattle.rtc_history.specs.declared.step.Step.{Step}
@@ -10,10 +14,41 @@ use Rattle.rtc_history.specs.declared.outcome.Outcome.{Outcome}
 use Rattle.rtc_history.specs.declared.table.Table.{Table}
 use Rattle.rtc_history.specs.Answers.{waiting_row}
 use Rattle.rtc_history.specs.Past.{Entry, MadeSdp}
+use Rattle.rtc_history.specs.Views.{Stances}
 
--- an SDP of these rows
-abbrev pub says : Identity → Side → Bool → List LineRow → List MadeSdp
-says identity at offer rows = record { at = at; offer = offer; sdp = sdp_of_rows 1 identity ActPass rows } ∷ []
+abbrev pub worked_creds : IceCreds
+worked_creds = record { ufrag = codes "u7"; pass = codes "p7" }
+
+abbrev worked_fingerprint : Fingerprint
+worked_fingerprint = record { hash_func = codes "sha-256"; bytes = [] }
+
+abbrev pub other_creds : IceCreds
+other_creds = record { ufrag = codes "u9"; pass = codes "p9" }
+
+abbrev pub worked_head : SdpHead
+worked_head = record { session = 1; lite = false; creds = worked_creds; fingerprint = worked_fingerprint; setup = ActPass; candidates = [] }
+
+-- an SDP of these rows, by a side with these credentials, which may be lite
+abbrev pub says_with : IceCreds → Bool → Side → Bool → List LineRow → List MadeSdp
+says_with creds lite at offer rows =
+    record { at = at; offer = offer; sdp = sdp_of_rows (record worked_head { lite = lite; creds = creds }) rows } ∷ []
+
+abbrev pub says : Side → Bool → List LineRow → List MadeSdp
+says at offer rows = says_with worked_creds false at offer rows
+
+-- two sides that are not lite, with credentials
+abbrev pub plain : Stances
+plain at = record {
+  session = 1;
+  lines = [];
+  staged = [];
+  channels = no_channels;
+  counter = 0;
+  ice = record { lite = false; local = worked_creds; remote = None; candidates = [] };
+  own_fingerprint = worked_fingerprint;
+  fingerprint = None;
+  role = None;
+}
 
 -- an entry whose table shows these rows, and a channel of each of these numbers
 abbrev pub entry : Step → Outcome → List LineRow → List ℕ → List MadeSdp → Entry

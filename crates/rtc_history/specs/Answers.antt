@@ -5,13 +5,13 @@ use Rattle.std.specs.List.{list_any}
 use Rattle.rtc_wire.specs.declared.channel_config.ChannelConfig.{ChannelConfig}
 use Rattle.rtc_sdp_values.specs.declared.line_row.LineRow.{LineRow}
 use Rattle.rtc_sdp_values.specs.declared.line_row.LineRow.TheVariants.{Media, App}
-use Rattle.rtc_change.specs.Table.{app_of}
+use Rattle.rtc_tables.specs.Table.{app_of}
 use Rattle.rtc_channels.specs.Channels.{Channels, unconfirmed}
 use Rattle.rtc_channels.specs.declared.channel_row.ChannelRow.{ChannelRow}
 use Rattle.rtc_history.specs.declared.op.Op.{Op}
 use Rattle.rtc_history.specs.declared.op.Op.TheVariants.{AddMedia, AddChannel}
 use Rattle.rtc_history.specs.declared.op_answer.OpAnswer.{OpAnswer}
-use Rattle.rtc_history.specs.declared.op_answer.OpAnswer.TheVariants.{Mid, Changed, NoLine, Channel, BadChannel, Alloc}
+use Rattle.rtc_history.specs.declared.op_answer.OpAnswer.TheVariants.{Mid, Changed, NoLine, Channel, BadChannel, Creds, Alloc}
 
 -- whether an op staged something
 abbrev pub stages : OpAnswer → Bool
@@ -20,6 +20,7 @@ stages (Changed changed) = changed
 stages NoLine = false
 stages (Channel id) = true
 stages BadChannel = false
+stages (Creds creds) = true
 stages Alloc = false
 
 abbrev pub do_stage : List OpAnswer → Bool
@@ -37,6 +38,7 @@ needs_offer has_app (Changed changed) = changed
 needs_offer has_app NoLine = false
 needs_offer has_app (Channel id) = not has_app
 needs_offer has_app BadChannel = false
+needs_offer has_app (Creds creds) = true
 needs_offer has_app Alloc = false
 
 abbrev pub do_need_offer : Bool → List OpAnswer → Bool
@@ -53,7 +55,7 @@ added app place (op ∷ ops) (answer ∷ answers) = added app place ops answers
 
 -- the channels with one more
 abbrev pub with_numbered : ℕ → ChannelConfig → Channels → Channels
-with_numbered id config held = record { given = held.given + 1; rows = held.rows ++ unconfirmed id config ∷ [] }
+with_numbered id config held = record held { given = held.given + 1; rows = held.rows ++ unconfirmed id config ∷ [] }
 
 -- the channels after ops: one more for each that is answered by a number
 abbrev pub channels_answered : List Op → List OpAnswer → Channels → Channels
@@ -74,6 +76,7 @@ rows_waiting (Changed changed ∷ answers) = rows_waiting answers
 rows_waiting (NoLine ∷ answers) = rows_waiting answers
 rows_waiting (Channel id ∷ answers) = waiting_row id ∷ rows_waiting answers
 rows_waiting (BadChannel ∷ answers) = rows_waiting answers
+rows_waiting (Creds creds ∷ answers) = rows_waiting answers
 rows_waiting (Alloc ∷ answers) = rows_waiting answers
 
 -- whether an answer tells that no channel was made
@@ -83,4 +86,19 @@ is_bad (Changed changed) = false
 is_bad NoLine = false
 is_bad (Channel id) = false
 is_bad BadChannel = true
+is_bad (Creds creds) = false
 is_bad Alloc = false
+
+-- whether an answer tells the credentials of a restart
+abbrev pub is_restart_answer : OpAnswer → Bool
+is_restart_answer (Mid mid) = false
+is_restart_answer (Changed changed) = false
+is_restart_answer NoLine = false
+is_restart_answer (Channel id) = false
+is_restart_answer BadChannel = false
+is_restart_answer (Creds creds) = true
+is_restart_answer Alloc = false
+
+-- whether a step staged a restart of ICE
+abbrev pub do_restart : List OpAnswer → Bool
+do_restart answers = list_any is_restart_answer answers

@@ -6,10 +6,10 @@ use Rattle.rtc_wire.specs.declared.channel_config.ChannelConfig.{ChannelConfig}
 use Rattle.rtc_channels.specs.Channels.{is_overlong}
 use Rattle.rtc_sdp_values.specs.declared.line_row.LineRow.{LineRow}
 use Rattle.rtc_sdp_values.specs.declared.line_row.LineRow.TheVariants.{Media, App}
-use Rattle.rtc_change.specs.RowChanges.{directed_row, stopped_row, is_changed, changed_at}
+use Rattle.rtc_tables.specs.RowChanges.{directed_row, stopped_row, is_changed, changed_at}
 use Rattle.rtc_change.specs.TableAfter.{media_after}
 use Rattle.rtc_history.specs.declared.op.Op.{Op}
-use Rattle.rtc_history.specs.declared.op.Op.TheVariants.{AddMedia, SetDirection, StopMedia, AddChannel}
+use Rattle.rtc_history.specs.declared.op.Op.TheVariants.{AddMedia, SetDirection, StopMedia, AddChannel, IceRestart}
 use Rattle.rtc_history.specs.declared.op_answer.OpAnswer.{OpAnswer}
 use Rattle.rtc_history.specs.declared.op_answer.OpAnswer.TheVariants.{Mid, NoLine, Channel}
 use Rattle.rtc_history.specs.Answers.{has_app_row, added}
@@ -27,6 +27,7 @@ rows_after_ops (AddMedia kind dir ∷ ops) rows = rows_after_ops ops rows
 rows_after_ops (SetDirection place dir ∷ ops) rows = rows_after_ops ops (changed_at (directed_row dir) place rows)
 rows_after_ops (StopMedia place ∷ ops) rows = rows_after_ops ops (changed_at stopped_row place rows)
 rows_after_ops (AddChannel config ∷ ops) rows = rows_after_ops ops rows
+rows_after_ops (IceRestart keep ∷ ops) rows = rows_after_ops ops rows
 
 -- whether ops stage something to offer
 abbrev pub must_offer : List Op → List LineRow → Bool
@@ -37,6 +38,7 @@ must_offer (SetDirection place dir ∷ ops) rows =
 must_offer (StopMedia place ∷ ops) rows =
     is_changed stopped_row (slice_get rows place) || must_offer ops (changed_at stopped_row place rows)
 must_offer (AddChannel config ∷ ops) rows = not (has_app_row rows) || must_offer ops rows
+must_offer (IceRestart keep ∷ ops) rows = true
 
 -- an answer to an op that adds what it asks for
 abbrev pub adding_answer : Op → OpAnswer
@@ -44,6 +46,7 @@ adding_answer (AddMedia kind dir) = Mid []
 adding_answer (SetDirection place dir) = NoLine
 adding_answer (StopMedia place) = NoLine
 adding_answer (AddChannel config) = Channel 0
+adding_answer (IceRestart keep) = NoLine
 
 -- the rows that ops add to rows, if each op adds what it asks for
 abbrev pub rows_added : List LineRow → List Op → List LineRow
@@ -56,6 +59,7 @@ stops_first (SetDirection place dir) = false
 stops_first (StopMedia zero) = true
 stops_first (StopMedia (suc place)) = false
 stops_first (AddChannel config) = false
+stops_first (IceRestart keep) = false
 
 abbrev pub do_stop_first : List Op → Bool
 do_stop_first ops = list_any stops_first ops
@@ -70,6 +74,7 @@ adds_odd_channel (AddMedia kind dir) = false
 adds_odd_channel (SetDirection place dir) = false
 adds_odd_channel (StopMedia place) = false
 adds_odd_channel (AddChannel config) = not (is_in_band config)
+adds_odd_channel (IceRestart keep) = false
 
 abbrev pub do_add_odd_channel : List Op → Bool
 do_add_odd_channel ops = list_any adds_odd_channel ops
@@ -79,6 +84,7 @@ adds_channel (AddMedia kind dir) = false
 adds_channel (SetDirection place dir) = false
 adds_channel (StopMedia place) = false
 adds_channel (AddChannel config) = true
+adds_channel (IceRestart keep) = false
 
 abbrev pub do_add_channel : List Op → Bool
 do_add_channel ops = list_any adds_channel ops

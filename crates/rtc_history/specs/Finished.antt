@@ -7,7 +7,7 @@ use Rattle.rtc_sdp_values.specs.declared.direction.Direction.{Direction}
 use Rattle.rtc_sdp_values.specs.declared.direction.Direction.TheVariants.{SendRecv, SendOnly, RecvOnly, Inactive}
 use Rattle.rtc_sdp_values.specs.declared.line_row.LineRow.{LineRow}
 use Rattle.rtc_sdp_values.specs.declared.line_row.LineRow.TheVariants.{Media, App}
-use Rattle.rtc_change.specs.Table.{row_of}
+use Rattle.rtc_tables.specs.Table.{row_of}
 use Rattle.rtc_change.specs.TableAfter.{is_inactive, was_stopped}
 
 -- two media rows of one mid and kind, or two rows of data channels

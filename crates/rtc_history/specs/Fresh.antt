@@ -1,19 +1,22 @@
 -- Pairs on which no step was performed.
-use Rattle.std.specs.Prelude.{◌≡◌, []}
+use Rattle.std.specs.Prelude.{◌≡◌, [], None}
 use Rattle.rtc_channels.specs.Channels.{no_channels}
-use Rattle.rtc_peer_state.specs.declared.peer.Peer.{Peer}
-use Rattle.rtc_history.specs.PairState.{PairState}
+use Rattle.rtc_peer_state.specs.Meanings.{Meanings}
+use Rattle.rtc_peer_state.specs.Stance.{Stance}
+use Rattle.rtc_history.specs.declared.side.Side.{Side}
+use Rattle.rtc_history.specs.PairState.{PairState, stances_of}
 
--- there are no rows and no channels, nothing is staged, and the counter is 0
-pub record IsJustBuilt {N : Type 0} (peer : Peer N) : Type 0 where
-  pub lines : peer.lines ≡ []
-  pub staged : peer.staged ≡ []
-  pub channels : peer.channels ≡ no_channels
-  pub counter : peer.counter ≡ 0
+-- there are no rows and no channels, nothing is staged, the counter is 0, and nothing is known of the other side
+pub record IsJustBuilt (s : Stance) : Type 0 where
+  pub lines : s.lines ≡ []
+  pub staged : s.staged ≡ []
+  pub channels : s.channels ≡ no_channels
+  pub counter : s.counter ≡ 0
+  pub remote : s.ice.remote ≡ None
+  pub fingerprint : s.fingerprint ≡ None
 
 -- both peers were just built; no session description was made and no step performed
-pub record IsFresh {N : Type 0} (pair : PairState N) : Type 0 where
-  pub left : IsJustBuilt pair.left.core
-  pub right : IsJustBuilt pair.right.core
+pub record IsFresh {I D S M E X T W N : Type 0} (m : Meanings I D S M E X T W N) (pair : PairState I D S M N) : Type 0 where
+  pub built : (at : Side) → IsJustBuilt (stances_of m pair at)
   pub sdps : pair.sdps ≡ []
   pub size : pair.size ≡ 0

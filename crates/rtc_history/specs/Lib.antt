@@ -3,6 +3,7 @@ pub mod Memory
 pub mod Sizes
 pub mod Answers
 pub mod Past
+pub mod Views
 pub mod Sound
 pub mod Finished
 pub mod SaidRows

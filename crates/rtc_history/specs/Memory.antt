@@ -1,10 +1,11 @@
--- Which replies tell that memory ran out.
+-- Which replies tell that memory ran out, and which that a part failed.
 use Rattle.std.specs.Prelude.{Bool, true, false, ◌||◌, List}
 use Rattle.std.specs.List.{list_any}
 use Rattle.rtc_peer_state.specs.declared.rtc_error.RtcError.{RtcError}
-use Rattle.rtc_peer_state.specs.declared.rtc_error.RtcError.TheVariants.{RemoteSdp, Sdp, ChangesOutOfOrder, BadChannel, Alloc as PeerAlloc}
+use Rattle.rtc_peer_state.specs.declared.rtc_error.RtcError.TheVariants.{RemoteSdp, Sdp, Dtls, ChangesOutOfOrder, BadChannel}
+use Rattle.rtc_peer_state.specs.declared.rtc_error.RtcError.TheVariants.{Alloc as PeerAlloc}
 use Rattle.rtc_history.specs.declared.op_answer.OpAnswer.{OpAnswer}
-use Rattle.rtc_history.specs.declared.op_answer.OpAnswer.TheVariants.{Mid, Changed, NoLine, Channel}
+use Rattle.rtc_history.specs.declared.op_answer.OpAnswer.TheVariants.{Mid, Changed, NoLine, Channel, Creds}
 use Rattle.rtc_history.specs.declared.op_answer.OpAnswer.TheVariants.{BadChannel as NoChannel, Alloc as OpAlloc}
 use Rattle.rtc_history.specs.declared.made.Made.{Made}
 use Rattle.rtc_history.specs.declared.made.Made.TheVariants.{NotAsked, Nothing, Offer, Alloc as MadeAlloc}
@@ -18,6 +19,7 @@ answer_lacks (Changed changed) = false
 answer_lacks NoLine = false
 answer_lacks (Channel id) = false
 answer_lacks NoChannel = false
+answer_lacks (Creds creds) = false
 answer_lacks OpAlloc = true
 
 abbrev pub answers_lack : List OpAnswer → Bool
@@ -32,6 +34,7 @@ made_lacks MadeAlloc = true
 abbrev pub error_lacks : RtcError → Bool
 error_lacks (RemoteSdp why) = false
 error_lacks (Sdp error) = false
+error_lacks (Dtls error) = false
 error_lacks ChangesOutOfOrder = false
 error_lacks BadChannel = false
 error_lacks PeerAlloc = true
@@ -46,3 +49,24 @@ outcome_lacks Alloc = true
 
 abbrev pub lacks_memory : Reply → Bool
 lacks_memory reply = outcome_lacks reply.outcome
+
+abbrev pub is_fault : RtcError → Bool
+is_fault (RemoteSdp why) = false
+is_fault (Sdp error) = false
+is_fault (Dtls error) = true
+is_fault ChangesOutOfOrder = false
+is_fault BadChannel = false
+is_fault PeerAlloc = false
+
+-- whether a part failed
+abbrev pub tells_fault : Outcome → Bool
+tells_fault (Negotiated answers made) = false
+tells_fault (Answered k) = false
+tells_fault Finished = false
+tells_fault (Refused error) = is_fault error
+tells_fault NoSuch = false
+tells_fault Alloc = false
+
+-- whether memory ran out or a part failed
+abbrev pub fails : Outcome → Bool
+fails outcome = outcome_lacks outcome || tells_fault outcome

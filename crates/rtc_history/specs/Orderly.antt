@@ -1,11 +1,11 @@
 -- Lists of steps that negotiate round by round (RFC 3264, section 4): an offer, its acceptance by the other side, and the acceptance of
 -- that answer.
 use Rattle.std.specs.Prelude.{◌≡◌, ◌+◌, ◌==◌, ℕ, Bool, true, false, not, ◌&&◌, ◌||◌, List, [], ◌∷◌, ◌++◌}
-use Rattle.std.specs.Prelude.{if◌then◌else◌, Option, Some, None, is_some, option_map}
+use Rattle.std.specs.Prelude.{if◌then◌else◌, Option, Some, None, is_some, option_map, IfSome}
 use Rattle.std.specs.List.{list_any}
 use Rattle.rtc_sdp_values.specs.declared.line_row.LineRow.{LineRow}
 use Rattle.rtc_sdp_values.specs.LineRow.{row_mid}
-use Rattle.rtc_change.specs.Table.{app_of}
+use Rattle.rtc_tables.specs.Table.{app_of}
 use Rattle.rtc_history.specs.declared.side.Side.{Side}
 use Rattle.rtc_history.specs.declared.side.Side.TheVariants.{Left, Right}
 use Rattle.rtc_history.specs.declared.op.Op.{Op}
@@ -13,11 +13,12 @@ use Rattle.rtc_history.specs.declared.step.Step.{Step}
 use Rattle.rtc_history.specs.declared.step.Step.TheVariants.{Negotiate, AcceptOffer, AcceptAnswer}
 use Rattle.rtc_history.specs.declared.outcome.Outcome.{Outcome}
 use Rattle.rtc_history.specs.declared.outcome.Outcome.TheVariants.{Negotiated, Answered, Finished, Refused, NoSuch, Alloc}
-use Rattle.rtc_history.specs.Sides.{same_side}
-use Rattle.rtc_history.specs.Memory.{outcome_lacks}
+use Rattle.rtc_history.specs.Sides.{same_side, other_side}
+use Rattle.rtc_history.specs.Memory.{fails}
 use Rattle.rtc_history.specs.Answers.{is_bad}
 use Rattle.rtc_history.specs.Past.{Entry, steps_of, before}
 use Rattle.rtc_history.specs.Finished.{Equal}
+use Rattle.rtc_history.specs.Views.{Stances}
 use Rattle.rtc_history.specs.CourseRows.{
   rows_after_ops,
   must_offer,
@@ -51,9 +52,14 @@ abbrev pub moved_on : Side → Course → List LineRow → ℕ → Phase → Cou
 moved_on Left course rows sdps phase = record { left = rows; right = course.right; sdps = sdps; phase = phase }
 moved_on Right course rows sdps phase = record { left = course.left; right = rows; sdps = sdps; phase = phase }
 
+-- the course after an offer of these lines, of which there has to be one
+abbrev pub offering : Side → Course → List LineRow → List LineRow → Option Course
+offering at course rows [] = None
+offering at course rows (line ∷ lines) = Some (moved_on at course rows (course.sdps + 1) (AwaitsAnswer at course.sdps (line ∷ lines)))
+
 -- the course after ops make an offer, which is in order only while no round is open
 abbrev pub after_offering : Side → Course → List LineRow → List LineRow → Phase → Option Course
-after_offering at course rows more Idle = Some (moved_on at course rows (course.sdps + 1) (AwaitsAnswer at course.sdps (rows ++ more)))
+after_offering at course rows more Idle = offering at course rows (rows ++ more)
 after_offering at course rows more (AwaitsAnswer side n said) = None
 after_offering at course rows more (AwaitsEnd side n m said) = None
 
@@ -117,9 +123,13 @@ course_of steps = follow (Some (record { left = []; right = []; sdps = 0; phase 
 abbrev pub are_orderly : List Step → Bool
 are_orderly steps = is_some (course_of steps)
 
--- whether an earlier reply tells that memory ran out
-abbrev pub has_lacked : List Entry → Bool
-has_lacked past = list_any (λ entry. outcome_lacks entry.outcome) past
+-- whether an earlier reply tells that memory ran out or that a part failed
+abbrev pub has_failed : List Entry → Bool
+has_failed past = list_any (λ entry. fails entry.outcome) past
+
+-- one of the two ICE agents makes checks (RFC 8445, section 6.1.1)
+abbrev pub can_connect : Stances → Bool
+can_connect fresh = not ((fresh Left).ice.lite && (fresh Right).ice.lite)
 
 -- whether a step succeeded: it was not refused, and neither was a channel of it
 abbrev pub is_ok : Outcome → Bool
@@ -130,10 +140,11 @@ is_ok (Refused error) = false
 is_ok NoSuch = false
 is_ok Alloc = false
 
--- Orderly steps succeed until memory runs out.
-abbrev pub OkWhereOrderly : List Entry → Step → Outcome → Type 0
-OkWhereOrderly past step outcome =
-    are_orderly (steps_of past ++ step ∷ []) ≡ true → has_lacked past ≡ false → (is_ok outcome || outcome_lacks outcome) ≡ true
+-- Orderly steps of a pair that can connect succeed until memory runs out or a part fails.
+abbrev pub OkWhereOrderly : Stances → List Entry → Step → Outcome → Type 0
+OkWhereOrderly fresh past step outcome =
+    can_connect fresh ≡ true → are_orderly (steps_of past ++ step ∷ []) ≡ true → has_failed past ≡ false
+    → (is_ok outcome || fails outcome) ≡ true
 
 -- nothing is outstanding
 abbrev pub IsIdle : Phase → Type 0
@@ -145,13 +156,18 @@ IsIdle (AwaitsEnd side n m said) = ⊥
 abbrev pub mid_of_app : List LineRow → Option (List ℕ)
 mid_of_app rows = option_map row_mid (app_of rows)
 
--- two sides with the same lines, also by the mid of the line of data channels
-pub record AreInStep (rows others : List LineRow) : Type 0 where
+-- the credentials that a side knows of the other one, if any, are those that the other one has
+abbrev pub AreCurrent : Stances → Side → Type 0
+AreCurrent sides at = IfSome (sides at).ice.remote (λ creds. creds ≡ (sides (other_side at)).ice.local)
+
+-- Two sides with the same lines, also by the mid of the line of data channels, and with current credentials of each other.
+pub record AreInStep (rows others : List LineRow) (sides : Stances) : Type 0 where
   pub equal : Equal rows others
   pub app : mid_of_app others ≡ mid_of_app rows
+  pub current : (at : Side) → AreCurrent sides at
 
--- After orderly steps that leave no round open, both sides are in step, unless memory ran out.
-abbrev pub InStepWhereOrderly : List Entry → Type 0
-InStepWhereOrderly past =
-    (course : Course) → course_of (steps_of past) ≡ Some course → IsIdle course.phase → has_lacked past ≡ false
-    → AreInStep (before Left past) (before Right past)
+-- After orderly steps that leave no round open, both sides are in step, unless memory ran out or a part failed.
+abbrev pub InStepWhereOrderly : Stances → List Entry → Stances → Type 0
+InStepWhereOrderly fresh past sides =
+    (course : Course) → can_connect fresh ≡ true → course_of (steps_of past) ≡ Some course → IsIdle course.phase → has_failed past ≡ false
+    → AreInStep (before Left past) (before Right past) sides

@@ -4,28 +4,35 @@ use Rattle.rtc_wire.specs.declared.addr.Addr.{Addr}
 use Rattle.rtc_sdp_values.specs.declared.sdp.Sdp.{Sdp}
 use Rattle.rtc_change.specs.PendingOffer.{PendingOffer}
 use Rattle.rtc_peer_state.specs.declared.peer.Peer.{Peer}
+use Rattle.rtc_peer_state.specs.Meanings.{Meanings}
+use Rattle.rtc_peer_state.specs.Stance.{stance_of}
 use Rattle.rtc_peer_state.specs.Whole.{Whole}
 use Rattle.rtc_history.specs.declared.side.Side.{Side}
 use Rattle.rtc_history.specs.declared.side.Side.TheVariants.{Left, Right}
 use Rattle.rtc_history.specs.Sides.{same_side}
 use Rattle.rtc_history.specs.Past.{MadeSdp, sdp_for}
+use Rattle.rtc_history.specs.Views.{Stances}
 use Rattle.rtc_history.specs.declared.kept.Kept.{Kept}
 
-pub record PairState (N : Type 0) : Type 0 where
-  pub left : Whole N
-  pub right : Whole N
+pub record PairState (I D S M N : Type 0) : Type 0 where
+  pub left : Whole I D S M N
+  pub right : Whole I D S M N
   pub left_addr : Addr
   pub right_addr : Addr
   pub sdps : List Kept
   -- the sum of the sizes of the steps performed so far
   pub size : ℕ
 
-abbrev pub rtc_at : {N : Type 0} → Side → PairState N → Whole N
+abbrev pub rtc_at : {I D S M N : Type 0} → Side → PairState I D S M N → Whole I D S M N
 rtc_at Left pair = pair.left
 rtc_at Right pair = pair.right
 
-abbrev pub peer_at : {N : Type 0} → Side → PairState N → Peer N
+abbrev pub peer_at : {I D S M N : Type 0} → Side → PairState I D S M N → Peer I D S M N
 peer_at at pair = (rtc_at at pair).core
+
+-- what negotiation reads of both sides
+abbrev pub stances_of : {I D S M E X T W N : Type 0} → Meanings I D S M E X T W N → PairState I D S M N → Stances
+stances_of m pair at = stance_of m (peer_at at pair)
 
 -- a kept SDP, without its token
 abbrev pub made_sdp : Kept → MadeSdp

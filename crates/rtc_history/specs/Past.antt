@@ -4,8 +4,8 @@ use Rattle.std.specs.Prelude.{Option, Some, None, slice_get}
 use Rattle.rtc_sdp_values.specs.Sdp.{is_application}
 use Rattle.rtc_sdp_values.specs.declared.line_row.LineRow.{LineRow}
 use Rattle.rtc_sdp_values.specs.declared.sdp.Sdp.{Sdp}
-use Rattle.rtc_change.specs.declared.parsed_line.ParsedLine.{ParsedLine}
-use Rattle.rtc_change.specs.ParsedLines.{parsed_lines}
+use Rattle.rtc_tables.specs.declared.parsed_line.ParsedLine.{ParsedLine}
+use Rattle.rtc_tables.specs.ParsedLines.{parsed_lines}
 use Rattle.rtc_channels.specs.Channels.{Channels, no_channels}
 use Rattle.rtc_channels.specs.declared.channel_row.ChannelRow.{ChannelRow}
 use Rattle.rtc_history.specs.declared.side.Side.{Side}
@@ -19,7 +19,7 @@ use Rattle.rtc_history.specs.declared.outcome.Outcome.TheVariants.{Negotiated, A
 use Rattle.rtc_history.specs.declared.table.Table.{Table}
 use Rattle.rtc_history.specs.declared.reply.Reply.{Reply}
 use Rattle.rtc_history.specs.Sides.{same_side, side_of}
-use Rattle.rtc_history.specs.Answers.{do_stage, has_app_row, added, channels_answered}
+use Rattle.rtc_history.specs.Answers.{do_stage, do_restart, has_app_row, added, channels_answered}
 
 -- an SDP, with the side that made it and whether it is an offer
 pub record MadeSdp : Type 0 where
@@ -160,6 +160,20 @@ abbrev pub added_by : ℕ → ℕ → List Entry → List LineRow
 added_by place t [] = []
 added_by place t (entry ∷ past) =
     if makes t entry.outcome then added_in place entry.step entry.outcome entry.table entry.made else added_by place t past
+
+-- whether a step staged a restart of ICE
+abbrev pub restarts_in : Outcome → Bool
+restarts_in (Negotiated answers made) = do_restart answers
+restarts_in (Answered k) = false
+restarts_in Finished = false
+restarts_in (Refused error) = false
+restarts_in NoSuch = false
+restarts_in Alloc = false
+
+-- whether the offer of a number restarted ICE
+abbrev pub restarts_by : ℕ → List Entry → Bool
+restarts_by t [] = false
+restarts_by t (entry ∷ past) = if makes t entry.outcome then restarts_in entry.outcome else restarts_by t past
 
 abbrev pub channel_rows_or : Bool → Option Table → List ChannelRow → List ChannelRow
 channel_rows_or true (Some table) earlier = table.channels

@@ -7,8 +7,8 @@ use Rattle.rtc_sdp_values.specs.declared.line_kind.LineKind.TheVariants.{Applica
 use Rattle.rtc_sdp_values.specs.declared.line_row.LineRow.{LineRow}
 use Rattle.rtc_sdp_values.specs.declared.line_row.LineRow.TheVariants.{Media, App}
 use Rattle.rtc_sdp_values.specs.declared.sdp.Sdp.{Sdp}
-use Rattle.rtc_change.specs.declared.parsed_line.ParsedLine.{ParsedLine}
-use Rattle.rtc_change.specs.ParsedLines.{parsed_lines}
+use Rattle.rtc_tables.specs.declared.parsed_line.ParsedLine.{ParsedLine}
+use Rattle.rtc_tables.specs.ParsedLines.{parsed_lines}
 use Rattle.rtc_peer_state.specs.MadeSdp.{is_stopped, line_kind}
 use Rattle.rtc_history.specs.declared.side.Side.{Side}
 use Rattle.rtc_history.specs.declared.step.Step.{Step}

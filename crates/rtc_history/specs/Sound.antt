@@ -7,21 +7,23 @@ use Rattle.rtc_sdp_values.specs.LineRow.{row_mid}
 use Rattle.rtc_sdp_values.specs.declared.line_row.LineRow.{LineRow}
 use Rattle.rtc_sdp_values.specs.declared.sdp.Sdp.{Sdp}
 use Rattle.rtc_sdp_values.specs.Mids.{is_among}
-use Rattle.rtc_change.specs.Held.{Held, Asked, held_of}
-use Rattle.rtc_change.specs.RowChanges.{RowChange, directed_row, stopped_row, is_changed, changed_at, media_mid}
-use Rattle.rtc_change.specs.ParsedLines.{parsed_lines}
+use Rattle.rtc_change.specs.Held.{Held, Asked}
+use Rattle.rtc_tables.specs.RowChanges.{RowChange, directed_row, stopped_row, is_changed, changed_at, media_mid}
+use Rattle.rtc_tables.specs.ParsedLines.{parsed_lines}
 use Rattle.rtc_change.specs.TableAfter.{table_after, with_front}
 use Rattle.rtc_change.specs.Plans.{verdict}
 use Rattle.rtc_change.specs.declared.refusal.Refusal.TheVariants.{RemoteSdp as RefusedSdp, Sdp as RefusedAsSdp}
-use Rattle.rtc_peer_state.specs.declared.rtc_error.RtcError.TheVariants.{RemoteSdp, Sdp as SdpRefused}
+use Rattle.rtc_dtls.specs.declared.dtls_error.DtlsError.TheVariants.{Fault}
+use Rattle.rtc_peer_state.specs.Stance.{held_by}
+use Rattle.rtc_peer_state.specs.declared.rtc_error.RtcError.TheVariants.{RemoteSdp, Sdp as SdpRefused, Dtls}
 use Rattle.rtc_peer_state.specs.declared.rtc_error.RtcError.TheVariants.{ChangesOutOfOrder, Alloc as PeerAlloc}
 use Rattle.rtc_history.specs.declared.side.Side.{Side}
 use Rattle.rtc_history.specs.declared.op.Op.{Op}
-use Rattle.rtc_history.specs.declared.op.Op.TheVariants.{AddMedia, SetDirection, StopMedia, AddChannel}
+use Rattle.rtc_history.specs.declared.op.Op.TheVariants.{AddMedia, SetDirection, StopMedia, AddChannel, IceRestart}
 use Rattle.rtc_history.specs.declared.step.Step.{Step}
 use Rattle.rtc_history.specs.declared.step.Step.TheVariants.{Negotiate, AcceptOffer, AcceptAnswer}
 use Rattle.rtc_history.specs.declared.op_answer.OpAnswer.{OpAnswer}
-use Rattle.rtc_history.specs.declared.op_answer.OpAnswer.TheVariants.{Mid, Changed, NoLine, Channel, BadChannel, Alloc as OpAlloc}
+use Rattle.rtc_history.specs.declared.op_answer.OpAnswer.TheVariants.{Mid, Changed, NoLine, Channel, BadChannel, Creds, Alloc as OpAlloc}
 use Rattle.rtc_history.specs.declared.made.Made.{Made}
 use Rattle.rtc_history.specs.declared.made.Made.TheVariants.{NotAsked, Nothing, Offer, Alloc as MadeAlloc}
 use Rattle.rtc_history.specs.declared.outcome.Outcome.{Outcome}
@@ -41,7 +43,9 @@ use Rattle.rtc_history.specs.Past.{
   is_right,
   new_app,
   added_by,
+  restarts_by,
 }
+use Rattle.rtc_history.specs.Views.{Stances, view_in}
 
 -- no media row stands at a place
 abbrev pub HasNoLine : ℕ → List LineRow → Type 0
@@ -101,6 +105,7 @@ OpsAnswered m (AddChannel config ∷ ops) (Channel id ∷ answers) after =
     × OpsAnswered (having_channel id config m) ops answers after
 OpsAnswered m (AddChannel config ∷ ops) (BadChannel ∷ answers) after =
     (is_bad_channel m.channels config ≡ true) × OpsAnswered m ops answers after
+OpsAnswered m (IceRestart keep ∷ ops) (Creds creds ∷ answers) after = OpsAnswered m ops answers after
 OpsAnswered m (op ∷ ops) (OpAlloc ∷ []) after = after ≡ m.rows
 OpsAnswered m ops answers after = ⊥
 
@@ -121,10 +126,6 @@ MadeOf true false Nothing next = Unit {0}
 MadeOf true offers MadeAlloc next = Unit {0}
 MadeOf asked offers made next = ⊥
 
--- what a side judges session descriptions by, read from the past
-abbrev pub view_in : Side → List Entry → Held
-view_in at past = held_of (before at past)
-
 -- The outcome of accepting an offer: its answer and the rows that it leaves, or the first cause that refuses it.
 abbrev pub RepliesToOffer : Option Sdp → Held → ℕ → Outcome → List LineRow → Type 0
 RepliesToOffer None view next NoSuch after = after ≡ view.lines
@@ -133,6 +134,7 @@ RepliesToOffer (Some sdp) view next (Answered k) after =
 RepliesToOffer (Some sdp) view next (Refused (RemoteSdp why)) after = (verdict view None sdp ≡ Some (RefusedSdp why)) × (after ≡ view.lines)
 RepliesToOffer (Some sdp) view next (Refused (SdpRefused error)) after =
     (verdict view None sdp ≡ Some (RefusedAsSdp error)) × (after ≡ view.lines)
+RepliesToOffer (Some sdp) view next (Refused (Dtls Fault)) after = (verdict view None sdp ≡ None) × (after ≡ view.lines)
 RepliesToOffer (Some sdp) view next (Refused PeerAlloc) after = after ≡ view.lines
 RepliesToOffer sdp view next outcome after = ⊥
 
@@ -147,27 +149,29 @@ RepliesToAnswer true true asked (Some sdp) view (Refused (RemoteSdp why)) after 
     (verdict view (Some asked) sdp ≡ Some (RefusedSdp why)) × (after ≡ view.lines)
 RepliesToAnswer true true asked (Some sdp) view (Refused (SdpRefused error)) after =
     (verdict view (Some asked) sdp ≡ Some (RefusedAsSdp error)) × (after ≡ view.lines)
+RepliesToAnswer true true asked (Some sdp) view (Refused (Dtls Fault)) after = (verdict view (Some asked) sdp ≡ None) × (after ≡ view.lines)
 RepliesToAnswer true true asked (Some sdp) view (Refused PeerAlloc) after = after ≡ view.lines
 RepliesToAnswer held right asked sdp view outcome after = ⊥
 
--- what the offer of a token asks of its answer: the rows that it added, placed after the rows of its side
+-- what the offer of a token asks of its answer: the rows that it added, placed after the rows of its side, and whether it restarted ICE
 abbrev pub asked_in : Side → ℕ → List Entry → Asked
-asked_in at t past = record { added = added_by (length (before at past)) t past }
+asked_in at t past = record { added = added_by (length (before at past)) t past; restarts = restarts_by t past }
 
--- The outcome and table of a step after this past, given the SDP that it made. The channels that are shown are those before, and one
--- more that waits for each that was added.
-abbrev pub IsSound : List Entry → Step → Outcome → Option Table → List MadeSdp → Type 0
-IsSound past step Alloc None said = Unit {0}
-IsSound past (Negotiate at ops apply) (Negotiated answers made) (Some table) said =
+-- The outcome and table of a step after this past, given the SDP that it made, the sides of the fresh pair, and the sides between the
+-- past and the step. The channels that are shown are those before, and one more that waits for each that was added.
+abbrev pub IsSound : Stances → List Entry → Stances → Step → Outcome → Option Table → List MadeSdp → Type 0
+IsSound fresh past between step Alloc None said = Unit {0}
+IsSound fresh past between (Negotiate at ops apply) (Negotiated answers made) (Some table) said =
     OpsAnswered (at_first at past (new_app table.lines said)) ops answers table.lines
     × MadeOf (apply && not (answers_lack answers)) (do_need_offer (has_app_row (before at past)) answers) made (length (sdps past))
     × (table.channels ≡ channels_shown at past ++ rows_waiting answers)
-IsSound past (AcceptOffer at offer) outcome (Some table) said =
-    RepliesToOffer (remote_sdp true at offer past) (view_in at past) (length (sdps past)) outcome table.lines
+IsSound fresh past between (AcceptOffer at offer) outcome (Some table) said =
+    RepliesToOffer
+    (remote_sdp true at offer past) (view_in fresh at past (held_by (between at))) (length (sdps past)) outcome table.lines
     × (table.channels ≡ channels_shown at past)
-IsSound past (AcceptAnswer at token answer) outcome (Some table) said =
+IsSound fresh past between (AcceptAnswer at token answer) outcome (Some table) said =
     RepliesToAnswer
     (holds_token at token past) (is_right at token past) (asked_in at token past)
-    (remote_sdp false at answer past) (view_in at past) outcome table.lines
+    (remote_sdp false at answer past) (view_in fresh at past (held_by (between at))) outcome table.lines
     × (table.channels ≡ channels_shown at past)
-IsSound past step outcome table said = ⊥
+IsSound fresh past between step outcome table said = ⊥

@@ -12,4 +12,6 @@ pub enum Op {
     StopMedia { place: u32 },
     /// Adds a data channel, and the line of the data channels where there is none.
     AddChannel { config: ChannelConfig },
+    /// Restarts ICE, with new credentials, and with the local candidates kept or dropped.
+    IceRestart { keep: bool },
 }

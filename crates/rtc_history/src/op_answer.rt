@@ -1,11 +1,11 @@
 //! Answers to ops.
 ghost use Rattle.std.specs.Prelude.{◌≡◌};
 
-use rtc_sdp_values::Mid;
+use rtc_sdp_values::{IceCreds, Mid};
 use rtc_wire::ChannelId;
 
 /// The answer to an op.
-#[derive(Clone, Copy, Debug, PartialEq, Eq)]
+#[derive(Debug, PartialEq, Eq, Drop)]
 pub enum OpAnswer {
     /// The mid of the line that was staged.
     Mid(Mid),
@@ -17,6 +17,8 @@ pub enum OpAnswer {
     Channel(ChannelId),
     /// No channel is made of the config.
     BadChannel,
+    /// The credentials of the restart that was staged.
+    Creds(IceCreds),
     /// There was too little memory: nothing changed, and no further op is performed.
     Alloc,
 }
@@ -34,6 +36,7 @@ impl OpAnswer {
             OpAnswer::NoLine => false,
             OpAnswer::Channel(_) => false,
             OpAnswer::BadChannel => false,
+            OpAnswer::Creds(_) => false,
             OpAnswer::Alloc => true,
         }
     }

@@ -10,14 +10,14 @@ use Rattle.rtc_sdp_values.specs.LineRow.{row_mid}
 use Rattle.rtc_sdp_values.specs.declared.line_row.LineRow.{LineRow}
 use Rattle.rtc_sdp_values.specs.declared.line_row.LineRow.TheVariants.{Media, App}
 use Rattle.rtc_sdp_values.specs.Mids.{is_among}
-use Rattle.rtc_change.specs.Table.{IsTable, Rising, Distinct, OneApp, NoMore, is_of, has_mid, is_app}
+use Rattle.rtc_tables.specs.Table.{IsTable, Rising, Distinct, OneApp, NoMore, is_of, has_mid, is_app}
 use Rattle.rtc_channels.specs.Channels.{Channels}
 use Rattle.rtc_history.specs.declared.op.Op.{Op}
-use Rattle.rtc_history.specs.declared.op.Op.TheVariants.{AddMedia, SetDirection, StopMedia, AddChannel}
+use Rattle.rtc_history.specs.declared.op.Op.TheVariants.{AddMedia, SetDirection, StopMedia, AddChannel, IceRestart}
 use Rattle.rtc_history.specs.declared.op_answer.OpAnswer.{OpAnswer}
-use Rattle.rtc_history.specs.declared.op_answer.OpAnswer.TheVariants.{Mid, Changed, NoLine, Channel, BadChannel, Alloc as OpAlloc}
+use Rattle.rtc_history.specs.declared.op_answer.OpAnswer.TheVariants.{Mid, Changed, NoLine, Channel, BadChannel, Creds, Alloc as OpAlloc}
 use Rattle.rtc_history.specs.Answers.{added, has_app_row, with_numbered}
-use Rattle.rtc_change.specs.RowChanges.{directed_row, stopped_row, changed_at}
+use Rattle.rtc_tables.specs.RowChanges.{directed_row, stopped_row, changed_at}
 use Rattle.rtc_history.specs.Sound.{OpsAnswered}
 
 -- a mid that is held is not one that is free
@@ -70,6 +70,8 @@ ops_add rows held (Some mid) channels (AddChannel config ∷ ops) (Channel id �
     (record { here = refl; first = refl; free = answered.1 }, ops_add rows (mid ∷ held) None (with_numbered id config channels) ops answers after (place + 1) answered.2)
 ops_add rows held app channels (AddChannel config ∷ ops) (BadChannel ∷ answers) after place answered = ops_add rows held app channels ops answers after place answered.1
 ops_add rows held app channels (AddChannel config ∷ ops) (OpAlloc ∷ []) after place answered = none_added app (is_some app) held place place ops
+ops_add rows held app channels (IceRestart keep ∷ ops) (Creds creds ∷ answers) after place answered = ops_add rows held app channels ops answers after place answered
+ops_add rows held app channels (IceRestart keep ∷ ops) (OpAlloc ∷ []) after place answered = none_added app (is_some app) held place place ops
 ops_add rows held app channels ops answers after place answered = absurd answered
 
 pub added_rising : (may : Bool) (held : List (List ℕ)) (place : ℕ) (rows : List LineRow) → AreAdded may held place rows → Rising place rows

@@ -1,5 +1,6 @@
 -- An answer that is not refused has a line for each row of its offer: those that were there, then the added ones.
-use Rattle.std.proofs.Common.{◌≡◌, ◌+◌, ◌-◌, ◌<◌, ◌≤◌, ◌==◌, ℕ, Bool, true, false, ◌||◌, List, [], ◌∷◌, length, Option, Some, None, refl, arith, max, cond}
+use Rattle.rtc_change.specs.Held.{Asked}
+use Rattle.std.proofs.Common.{◌≡◌, ◌+◌, ◌-◌, ◌<◌, ◌≤◌, ◌==◌, ℕ, Bool, true, false, ◌||◌, List, [], ◌∷◌, length, Option, Some, None, refl, arith, max, cond, ap}
 use Rattle.std.specs.Prelude.{slice_get, option_map, find, is_some, not}
 use Rattle.std.proofs.lemmas.Bool.{eqb-true, both_ways}
 use Rattle.std.proofs.Math.Nat.{lt_of_not-le}
@@ -12,17 +13,17 @@ use Rattle.rtc_sdp_values.specs.declared.media_kind.MediaKind.{MediaKind}
 use Rattle.rtc_sdp_values.specs.declared.media_kind.MediaKind.TheVariants.{Audio as AudioMedia, Video as VideoMedia}
 use Rattle.rtc_sdp_values.specs.declared.line_kind.LineKind.{LineKind}
 use Rattle.rtc_sdp_values.specs.declared.line_kind.LineKind.TheVariants.{Audio, Video, Application, Unknown}
-use Rattle.rtc_change.specs.declared.parsed_line.ParsedLine.{ParsedLine}
-use Rattle.rtc_change.specs.declared.new_line.NewLine.{NewLine}
-use Rattle.rtc_change.specs.declared.new_line.NewLine.TheVariants.{Count}
-use Rattle.rtc_change.specs.declared.why.Why.TheVariants.{WrongNewLines}
-use Rattle.rtc_change.specs.Table.{Rising, is_of, row_of, is_app, app_of}
+use Rattle.rtc_tables.specs.declared.parsed_line.ParsedLine.{ParsedLine}
+use Rattle.rtc_tables.specs.declared.new_line.NewLine.{NewLine}
+use Rattle.rtc_tables.specs.declared.new_line.NewLine.TheVariants.{Count}
+use Rattle.rtc_tables.specs.declared.why.Why.TheVariants.{WrongNewLines}
+use Rattle.rtc_tables.specs.Table.{Rising, is_of, row_of, is_app, app_of}
 use Rattle.rtc_change.specs.TableAfter.{is_new, new_places}
 use Rattle.std.specs.Option.{option_or}
 use Rattle.rtc_sdp_values.specs.Sdp.{is_application}
-use Rattle.rtc_change.specs.Verdict.{first_refusal, line_refusal, media_refusal, app_refusal, place_refusal}
+use Rattle.rtc_tables.specs.Verdict.{first_refusal, line_refusal, media_refusal, app_refusal, place_refusal}
 use Rattle.rtc_change.specs.Plans.{remote_refusal, wrong_news}
-use Rattle.rtc_change.proofs.TableLemmas.{row_at_place}
+use Rattle.rtc_tables.proofs.TableLemmas.{row_at_place}
 
 -- a line of an answer that is allowed is new exactly past the rows
 record NewPast (rows : List LineRow) (place : ℕ) (line : ParsedLine) : Type 0 where
@@ -115,9 +116,10 @@ untold None none = refl
 untold (Some wrong) none = absurd (cc)
 
 -- an answer that is not refused has as many lines as its offer, where it has no fewer
-pub answer_count : (rows added : List LineRow) (said : List ParsedLine) → Rising 0 rows → first_refusal rows false false 0 said ≡ None
-    → wrong_news rows (Some (record { added = added })) said ≡ None → length rows + length added ≤ length said → length said ≡ length rows + length added
-answer_count rows added said rising allowed news most =
-    let count : length added ≡ length (new_places rows 0 said) = counted _ _ _ (untold _ news) in
+pub answer_count : (rows added : List LineRow) (asked : Asked) (said : List ParsedLine) → Rising 0 rows → first_refusal rows false false 0 said ≡ None
+    → wrong_news rows (Some asked) said ≡ None → asked.added ≡ added → length rows + length added ≤ length said → length said ≡ length rows + length added
+answer_count rows added asked said rising allowed news adds most =
+    let count : length asked.added ≡ length (new_places rows 0 said) = counted _ _ _ (untold _ news) in
+    let same : length asked.added ≡ length added = ap length adds in
     let past : length (new_places rows 0 said) ≡ (0 + length said) - max 0 (length rows) = new_count rows false 0 said rising allowed in
     omega arith

@@ -1,29 +1,30 @@
 -- A step that hands over an answer is sound, and its entry says what it leaves.
+use Rattle.rtc_dtls.specs.declared.dtls_error.DtlsError.TheVariants.{Fault, WouldBlock, Alloc as DtlsAlloc}
+use Rattle.rtc_peer_state.specs.Stance.{held_by}
+use Rattle.rtc_history.specs.Views.{Stances, view_in}
 use Rattle.std.proofs.Common.{◌≡◌, ◌≢◌, ◌≤◌, ◌<◌, ◌+◌, ◌^◌, ◌==◌, ℕ, List, ◌∷◌, length, Bool, true, false, ◌&&◌, Option, Some, None, refl, sym, ◌∙◌, ap, arith, inl, inr}
 use Rattle.std.specs.Prelude.{slice_get, slice_set, is_some}
 use Rattle.std.proofs.lemmas.Bool.{and_right, eq-eqb, ne_eqb}
 use Rattle.rtc_sdp_values.specs.declared.line_row.LineRow.{LineRow}
 use Rattle.rtc_sdp_values.specs.declared.sdp.Sdp.{Sdp}
 use Rattle.rtc_change.specs.Held.{Held, Asked}
-use Rattle.rtc_change.specs.PendingOffer.{PendingOffer}
+use Rattle.rtc_change.specs.PendingOffer.{PendingOffer, added_rows}
 use Rattle.rtc_change.specs.Plans.{asked_by}
-use Rattle.rtc_change.specs.ParsedLines.{parsed_lines}
+use Rattle.rtc_tables.specs.ParsedLines.{parsed_lines}
 use Rattle.rtc_change.specs.TableAfter.{table_after}
-use Rattle.rtc_peer_state.specs.declared.peer.Peer.{Peer}
+use Rattle.rtc_peer_state.specs.Stance.{Stance}
 use Rattle.rtc_peer_state.specs.declared.rtc_error.RtcError.{RtcError}
-use Rattle.rtc_peer_state.specs.declared.rtc_error.RtcError.TheVariants.{RemoteSdp, Sdp as SdpRefused, ChangesOutOfOrder, BadChannel, Alloc as PeerAlloc}
-use Rattle.rtc_ids.specs.Draws.{Draws}
+use Rattle.rtc_peer_state.specs.declared.rtc_error.RtcError.TheVariants.{RemoteSdp, Sdp as SdpRefused, Dtls, ChangesOutOfOrder, BadChannel, Alloc as PeerAlloc}
 use Rattle.rtc_peer_state.specs.Calls.{raised, fitting_channels}
 use Rattle.rtc_history.specs.declared.side.Side.{Side}
 use Rattle.rtc_history.specs.declared.step.Step.TheVariants.{AcceptAnswer}
 use Rattle.rtc_history.specs.declared.outcome.Outcome.{Outcome}
 use Rattle.rtc_history.specs.declared.outcome.Outcome.TheVariants.{Finished, Refused, NoSuch, Alloc}
 use Rattle.rtc_history.specs.declared.table.Table.{Table}
-use Rattle.rtc_history.specs.Past.{Entry, MadeSdp, before, channels_shown, channel_rows_or, rows_or, remote_sdp, is_right, was_called, makes}
+use Rattle.rtc_history.specs.Past.{Entry, MadeSdp, before, channels_shown, channel_rows_or, rows_or, remote_sdp, is_right, was_called, makes, restarts_by}
 use Rattle.rtc_history.specs.Sound.{RepliesToAnswer, IsSound, asked_in}
 use Rattle.rtc_history.specs.declared.kept.Kept.{Kept}
-use Rattle.rtc_history.specs.PairState.{PairState, peer_at, token_for, held_token, spent}
-use Rattle.rtc_history.specs.Performs.{StepAcceptsAnswer, Shows}
+use Rattle.rtc_history.specs.PairState.{token_for, held_token, spent}
 use Rattle.rtc_wire.specs.declared.channel_config.ChannelConfig.{ChannelConfig}
 use Rattle.rtc_channels.specs.Channels.{Channels, channel_rows, all_confirmed}
 use Rattle.rtc_history_laws.proofs.ToldChannels.{AreToldAlike, alike_told, all_confirmed_told}
@@ -31,13 +32,14 @@ use Rattle.rtc_history_laws.proofs.Tells.{Tells, ChannelsTell, TokenTells, raise
 use Rattle.rtc_history_laws.proofs.TokenEntries.{StaysOrRight, bare, spent_tells}
 use Rattle.rtc_history_laws.proofs.Around.{Around, entry, goes_on, channels_kept, quiet_tells}
 use Rattle.rtc_history_laws.proofs.OfferSteps.{shown_by, taken_within}
+use Rattle.rtc_history_laws.proofs.StanceSteps.{PairStance, StanceShows, StanceStepAcceptsAnswer}
 
--- the same of equal tokens, SDPs and rows
-answer_by : (held held' right right' : Bool) (asked asked' : Asked) (sdp sdp' : Option Sdp) (rows rows' : List LineRow) (outcome : Outcome) (after : List LineRow)
-    → held' ≡ held → right' ≡ right → asked' ≡ asked → sdp' ≡ sdp → rows' ≡ rows
-    → RepliesToAnswer held right asked sdp (record { lines = rows }) outcome after → RepliesToAnswer held' right' asked' sdp' (record { lines = rows' }) outcome after
-answer_by held held' right right' asked asked' sdp sdp' rows rows' outcome after same_held same_right same_asked same_sdp same_rows takes =
-    rw (same_held, same_right, same_asked, same_sdp, same_rows) takes
+-- the same of equal tokens, SDPs and views
+answer_by : (held held' right right' : Bool) (asked asked' : Asked) (sdp sdp' : Option Sdp) (view view' : Held) (outcome : Outcome) (after : List LineRow)
+    → held' ≡ held → right' ≡ right → asked' ≡ asked → sdp' ≡ sdp → view' ≡ view
+    → RepliesToAnswer held right asked sdp view outcome after → RepliesToAnswer held' right' asked' sdp' view' outcome after
+answer_by held held' right right' asked asked' sdp sdp' view view' outcome after same_held same_right same_asked same_sdp same_view takes =
+    rw (same_held, same_right, same_asked, same_sdp, same_view) takes
 
 no_text : (right : Bool) (asked : Asked) (view : Held) (after : List LineRow) → after ≡ view.lines → RepliesToAnswer true right asked None view NoSuch after
 no_text true asked view after e = e
@@ -55,79 +57,87 @@ not_right counter size id right differs is older low small =
 asked_told : (past : List Entry) (at : Side) (counter t : ℕ) (found : Option Kept) (token : PendingOffer) (rows : List LineRow)
     → TokenTells past at counter t found → token_for at found ≡ Some token → before at past ≡ rows → asked_in at t past ≡ asked_by rows token
 asked_told past at counter t found token rows told is same =
-    let asked : List LineRow → Asked = λ rows. record { added = rows } in
-    rw same (ap asked (sym (told.changes token is (length rows))))
+    let asked : List LineRow → Bool → Asked = λ rows restarts. record { added = rows; restarts = restarts } in
+    rw same (ap (λ rows. asked rows (restarts_by t past)) (sym (told.changes token is (length rows))) ∙ ap (asked (added_rows (length rows) token.changes)) (sym (told.restarts token is)))
 
 -- the reply to an answer that is delivered
-pub answer_reply : {N : Type 0} (draws : Draws N) (past : List Entry) (at : Side) (t a size : ℕ) (found : Option Kept) (token : Option PendingOffer) (sdp : Option Sdp) (old new : Peer N) (kept kept' : List Kept) (outcome : Outcome) (table : Option Table) (made : List MadeSdp)
-    → token_for at found ≡ token → TokenTells past at old.counter t found → old.counter ≤ size → size < 2 ^ 32 → remote_sdp false at a past ≡ sdp → before at past ≡ old.lines
-    → channels_shown at past ≡ channel_rows old.channels → StepAcceptsAnswer draws t token sdp old kept outcome table new kept' → IsSound past (AcceptAnswer at t a) outcome table made
-answer_reply draws past at t a size found None None old new kept kept' Alloc None made is told_it low small said rows shown h = tt
-answer_reply draws past at t a size found None (Some sdp) old new kept kept' Alloc None made is told_it low small said rows shown h = tt
-answer_reply draws past at t a size found (Some token) None old new kept kept' Alloc None made is told_it low small said rows shown h = tt
-answer_reply draws past at t a size found (Some token) (Some sdp) old new kept kept' Alloc None made is told_it low small said rows shown h = tt
-answer_reply draws past at t a size found None None old new kept kept' NoSuch (Some table) made is told_it low small said rows shown h = (
-  answer_by false _ (is_right at t past) _ (asked_in at t past) _ None _ old.lines _ NoSuch table.lines (sym told_it.held ∙ ap is_some is) refl refl said rows h.1.lines,
+pub answer_reply : (fresh between : Stances) (past : List Entry) (at : Side) (t a size : ℕ) (found : Option Kept) (token : Option PendingOffer) (sdp : Option Sdp) (old new : Stance) (kept kept' : List Kept) (outcome : Outcome) (table : Option Table) (made : List MadeSdp)
+    → token_for at found ≡ token → TokenTells past at old.counter t found → old.counter ≤ size → size < 2 ^ 32 → remote_sdp false at a past ≡ sdp → view_in fresh at past (held_by (between at)) ≡ held_by old → before at past ≡ old.lines
+    → channels_shown at past ≡ channel_rows old.channels → StanceStepAcceptsAnswer t token sdp old kept outcome table new kept' → IsSound fresh past between (AcceptAnswer at t a) outcome table made
+answer_reply fresh between past at t a size found None None old new kept kept' Alloc None made is told_it low small said view rows shown h = tt
+answer_reply fresh between past at t a size found None (Some sdp) old new kept kept' Alloc None made is told_it low small said view rows shown h = tt
+answer_reply fresh between past at t a size found (Some token) None old new kept kept' Alloc None made is told_it low small said view rows shown h = tt
+answer_reply fresh between past at t a size found (Some token) (Some sdp) old new kept kept' Alloc None made is told_it low small said view rows shown h = tt
+answer_reply fresh between past at t a size found None None old new kept kept' NoSuch (Some table) made is told_it low small said view rows shown h = (
+  answer_by false _ (is_right at t past) _ (asked_in at t past) _ None _ (held_by old) _ NoSuch table.lines (sym told_it.held ∙ ap is_some is) refl refl said view h.1.lines,
   shown_by past at old old table shown refl h.1,
 )
-answer_reply draws past at t a size found None (Some sdp) old new kept kept' NoSuch (Some table) made is told_it low small said rows shown h = (
-  answer_by false _ (is_right at t past) _ (asked_in at t past) _ (Some sdp) _ old.lines _ NoSuch table.lines (sym told_it.held ∙ ap is_some is) refl refl said rows h.1.lines,
+answer_reply fresh between past at t a size found None (Some sdp) old new kept kept' NoSuch (Some table) made is told_it low small said view rows shown h = (
+  answer_by false _ (is_right at t past) _ (asked_in at t past) _ (Some sdp) _ (held_by old) _ NoSuch table.lines (sym told_it.held ∙ ap is_some is) refl refl said view h.1.lines,
   shown_by past at old old table shown refl h.1,
 )
-answer_reply draws past at t a size found (Some token) None old new kept kept' NoSuch (Some table) made is told_it low small said rows shown h = (
-  answer_by true _ (is_right at t past) _ (asked_in at t past) _ None _ old.lines _ NoSuch table.lines (sym told_it.held ∙ ap is_some is) refl refl said rows
-      (no_text (is_right at t past) (asked_in at t past) (record { lines = old.lines }) table.lines h.1.lines),
+answer_reply fresh between past at t a size found (Some token) None old new kept kept' NoSuch (Some table) made is told_it low small said view rows shown h = (
+  answer_by true _ (is_right at t past) _ (asked_in at t past) _ None _ (held_by old) _ NoSuch table.lines (sym told_it.held ∙ ap is_some is) refl refl said view
+      (no_text (is_right at t past) (asked_in at t past) (held_by old) table.lines h.1.lines),
   shown_by past at old old table shown refl h.1,
 )
-answer_reply draws past at t a size found (Some token) (Some sdp) old new kept kept' Finished (Some table) made is told_it low small said rows shown h = (
-  answer_by true _ true _ (asked_by old.lines token) _ (Some sdp) _ old.lines _ Finished table.lines (sym told_it.held ∙ ap is_some is)
+answer_reply fresh between past at t a size found (Some token) (Some sdp) old new kept kept' Finished (Some table) made is told_it low small said view rows shown h = (
+  answer_by true _ true _ (asked_by old.lines token) _ (Some sdp) _ (held_by old) _ Finished table.lines (sym told_it.held ∙ ap is_some is)
       (now_right old.counter size token.id (is_right at t past) h.0.right (told_it.right token is) (told_it.older token is) low small)
-      (asked_told past at old.counter t found token old.lines told_it is rows) said rows (h.0.passes, h.2.lines ∙ ap (λ p. p.lines) h.0.rest),
+      (asked_told past at old.counter t found token old.lines told_it is rows) said view (h.0.passes, h.2.lines ∙ ap (λ p. p.lines) h.0.rest),
   shown_by past at old new table shown (ap (λ p. channel_rows p.channels) h.0.rest ∙ (all_confirmed_told (fitting_channels token.changes) old.channels).shown) h.2,
 )
-answer_reply draws past at t a size found (Some token) (Some sdp) old new kept kept' (Refused (RemoteSdp why)) (Some table) made is told_it low small said rows shown h = (
-  answer_by true _ true _ (asked_by old.lines token) _ (Some sdp) _ old.lines _ (Refused (RemoteSdp why)) table.lines (sym told_it.held ∙ ap is_some is)
+answer_reply fresh between past at t a size found (Some token) (Some sdp) old new kept kept' (Refused (RemoteSdp why)) (Some table) made is told_it low small said view rows shown h = (
+  answer_by true _ true _ (asked_by old.lines token) _ (Some sdp) _ (held_by old) _ (Refused (RemoteSdp why)) table.lines (sym told_it.held ∙ ap is_some is)
       (now_right old.counter size token.id (is_right at t past) h.0.0 (told_it.right token is) (told_it.older token is) low small)
-      (asked_told past at old.counter t found token old.lines told_it is rows) said rows (h.0.1.0, h.2.lines ∙ ap (λ p. p.lines) h.0.1.1),
+      (asked_told past at old.counter t found token old.lines told_it is rows) said view (h.0.1.0, h.2.lines ∙ ap (λ p. p.lines) h.0.1.1),
   shown_by past at old new table shown (ap (λ p. channel_rows p.channels) h.0.1.1) h.2,
 )
-answer_reply draws past at t a size found (Some token) (Some sdp) old new kept kept' (Refused (SdpRefused error)) (Some table) made is told_it low small said rows shown h = (
-  answer_by true _ true _ (asked_by old.lines token) _ (Some sdp) _ old.lines _ (Refused (SdpRefused error)) table.lines (sym told_it.held ∙ ap is_some is)
+answer_reply fresh between past at t a size found (Some token) (Some sdp) old new kept kept' (Refused (SdpRefused error)) (Some table) made is told_it low small said view rows shown h = (
+  answer_by true _ true _ (asked_by old.lines token) _ (Some sdp) _ (held_by old) _ (Refused (SdpRefused error)) table.lines (sym told_it.held ∙ ap is_some is)
       (now_right old.counter size token.id (is_right at t past) h.0.0 (told_it.right token is) (told_it.older token is) low small)
-      (asked_told past at old.counter t found token old.lines told_it is rows) said rows (h.0.1.0, h.2.lines ∙ ap (λ p. p.lines) h.0.1.1),
+      (asked_told past at old.counter t found token old.lines told_it is rows) said view (h.0.1.0, h.2.lines ∙ ap (λ p. p.lines) h.0.1.1),
   shown_by past at old new table shown (ap (λ p. channel_rows p.channels) h.0.1.1) h.2,
 )
-answer_reply draws past at t a size found (Some token) (Some sdp) old new kept kept' (Refused PeerAlloc) (Some table) made is told_it low small said rows shown h = (
-  answer_by true _ true _ (asked_in at t past) _ (Some sdp) _ old.lines _ (Refused PeerAlloc) table.lines (sym told_it.held ∙ ap is_some is)
+answer_reply fresh between past at t a size found (Some token) (Some sdp) old new kept kept' (Refused (Dtls Fault)) (Some table) made is told_it low small said view rows shown h = (
+  answer_by true _ true _ (asked_by old.lines token) _ (Some sdp) _ (held_by old) _ (Refused (Dtls Fault)) table.lines (sym told_it.held ∙ ap is_some is)
       (now_right old.counter size token.id (is_right at t past) h.0.0 (told_it.right token is) (told_it.older token is) low small)
-      refl said rows (h.2.lines ∙ ap (λ p. p.lines) h.0.1.1),
-  shown_by past at old new table shown (ap (λ p. channel_rows p.channels) h.0.1.1) h.2,
+      (asked_told past at old.counter t found token old.lines told_it is rows) said view (h.0.1, h.2.lines ∙ ap (λ p. p.lines) h.0.2.rest),
+  shown_by past at old new table shown (ap (λ p. channel_rows p.channels) h.0.2.rest) h.2,
 )
-answer_reply draws past at t a size found (Some token) (Some sdp) old new kept kept' (Refused ChangesOutOfOrder) (Some table) made is told_it low small said rows shown h = (
-  answer_by true _ false _ (asked_in at t past) _ (Some sdp) _ old.lines _ (Refused ChangesOutOfOrder) table.lines (sym told_it.held ∙ ap is_some is)
+answer_reply fresh between past at t a size found (Some token) (Some sdp) old new kept kept' (Refused (Dtls WouldBlock)) (Some table) made is told_it low small said view rows shown h = absurd h.0
+answer_reply fresh between past at t a size found (Some token) (Some sdp) old new kept kept' (Refused (Dtls DtlsAlloc)) (Some table) made is told_it low small said view rows shown h = absurd h.0
+answer_reply fresh between past at t a size found (Some token) (Some sdp) old new kept kept' (Refused PeerAlloc) (Some table) made is told_it low small said view rows shown h = (
+  answer_by true _ true _ (asked_in at t past) _ (Some sdp) _ (held_by old) _ (Refused PeerAlloc) table.lines (sym told_it.held ∙ ap is_some is)
+      (now_right old.counter size token.id (is_right at t past) h.0.0 (told_it.right token is) (told_it.older token is) low small)
+      refl said view (h.2.lines ∙ ap (λ p. p.lines) h.0.1.rest),
+  shown_by past at old new table shown (ap (λ p. channel_rows p.channels) h.0.1.rest) h.2,
+)
+answer_reply fresh between past at t a size found (Some token) (Some sdp) old new kept kept' (Refused ChangesOutOfOrder) (Some table) made is told_it low small said view rows shown h = (
+  answer_by true _ false _ (asked_in at t past) _ (Some sdp) _ (held_by old) _ (Refused ChangesOutOfOrder) table.lines (sym told_it.held ∙ ap is_some is)
       (not_right old.counter size token.id (is_right at t past) h.0.0 (told_it.right token is) (told_it.older token is) low small)
-      refl said rows (h.2.lines ∙ ap (λ p. p.lines) h.0.1),
+      refl said view (h.2.lines ∙ ap (λ p. p.lines) h.0.1),
   shown_by past at old new table shown (ap (λ p. channel_rows p.channels) h.0.1) h.2,
 )
-answer_reply draws past at t a size found (Some token) (Some sdp) old new kept kept' (Refused BadChannel) (Some table) made is told_it low small said rows shown h = absurd h.0
-answer_reply draws past at t a size found token sdp old new kept kept' outcome table made is told_it low small said rows shown h = absurd h
+answer_reply fresh between past at t a size found (Some token) (Some sdp) old new kept kept' (Refused BadChannel) (Some table) made is told_it low small said view rows shown h = absurd h.0
+answer_reply fresh between past at t a size found token sdp old new kept kept' outcome table made is told_it low small said view rows shown h = absurd h
 
 -- ---- what the entry leaves
 
 -- the channels that steps tell are those of before
-channels_go : {N : Type 0} (past : List Entry) (at : Side) (t a : ℕ) (outcome : Outcome) (table : Option Table) (made : List MadeSdp) (old new : PairState N) → AreToldAlike (peer_at at old).channels (peer_at at new).channels
-    → channel_rows_or true table (channels_shown at past) ≡ channel_rows (peer_at at new).channels → Tells past old → ChannelsTell (entry (AcceptAnswer at t a) outcome table made ∷ past) at (peer_at at new).channels
+channels_go : (past : List Entry) (at : Side) (t a : ℕ) (outcome : Outcome) (table : Option Table) (made : List MadeSdp) (old new : PairStance) → AreToldAlike (old.sides at).channels (new.sides at).channels
+    → channel_rows_or true table (channels_shown at past) ≡ channel_rows (new.sides at).channels → Tells past old → ChannelsTell (entry (AcceptAnswer at t a) outcome table made ∷ past) at (new.sides at).channels
 channels_go past at t a outcome table made old new alike shown tells =
-    channels_kept past (AcceptAnswer at t a) outcome table made (peer_at at old).channels (peer_at at new).channels (λ held. refl) alike shown (tells.sides at).channels
+    channels_kept past (AcceptAnswer at t a) outcome table made (old.sides at).channels (new.sides at).channels (λ held. refl) alike shown (tells.sides at).channels
 
 -- the peer was delivered nothing
-untouched_tells : {N : Type 0} (past : List Entry) (at : Side) (t a : ℕ) (outcome : Outcome) (table : Option Table) (made : List MadeSdp) (old new : PairState N)
-    → was_called outcome ≡ false → ((u : ℕ) → makes u outcome ≡ false) → peer_at at new ≡ peer_at at old → new.sdps ≡ old.sdps → rows_or true table (before at past) ≡ (peer_at at old).lines
-    → channel_rows_or true table (channels_shown at past) ≡ channel_rows (peer_at at old).channels
+untouched_tells : (past : List Entry) (at : Side) (t a : ℕ) (outcome : Outcome) (table : Option Table) (made : List MadeSdp) (old new : PairStance)
+    → was_called outcome ≡ false → ((u : ℕ) → makes u outcome ≡ false) → new.sides at ≡ old.sides at → new.sdps ≡ old.sdps → rows_or true table (before at past) ≡ (old.sides at).lines
+    → channel_rows_or true table (channels_shown at past) ≡ channel_rows (old.sides at).channels
     → Around (AcceptAnswer at t a) made old new → Tells past old → Tells (entry (AcceptAnswer at t a) outcome table made ∷ past) new
 untouched_tells past at t a outcome table made old new uncalled unmade peer kept rows shown around tells =
     quiet_tells false past (AcceptAnswer at t a) outcome table made old new (ap (λ p. length p.lines) peer) kept (ap (λ p. p.lines) peer ∙ sym rows)
-    (channels_go past at t a outcome table made old new (alike_told (peer_at at old).channels (peer_at at new).channels (ap (λ p. p.channels) peer)) (shown ∙ ap (λ p. channel_rows p.channels) (sym peer)) tells) (ap (λ p. p.counter) peer)
+    (channels_go past at t a outcome table made old new (alike_told (old.sides at).channels (new.sides at).channels (ap (λ p. p.channels) peer)) (shown ∙ ap (λ p. channel_rows p.channels) (sym peer)) tells) (ap (λ p. p.counter) peer)
     refl refl (λ u. and_right (t == u) (was_called outcome) uncalled) unmade around tells
 
 -- the SDP of a token that is held
@@ -143,10 +153,10 @@ and_true true = refl
 and_true false = refl
 
 -- the token is spent
-spends_tells : {N : Type 0} (past : List Entry) (at : Side) (t a : ℕ) (token : PendingOffer) (outcome : Outcome) (table : Table) (made : List MadeSdp) (old new : PairState N)
+spends_tells : (past : List Entry) (at : Side) (t a : ℕ) (token : PendingOffer) (outcome : Outcome) (table : Table) (made : List MadeSdp) (old new : PairStance)
     → held_token old.sdps at t ≡ Some token → was_called outcome ≡ true → ((u : ℕ) → makes u outcome ≡ false) → new.sdps ≡ spent t old.sdps
-    → (peer_at at new).counter ≡ (peer_at at old).counter → Shows table (peer_at at new) → AreToldAlike (peer_at at old).channels (peer_at at new).channels → length (peer_at at new).lines ≤ old.size
-    → StaysOrRight at (peer_at at old) old.sdps t (peer_at at new)
+    → (new.sides at).counter ≡ (old.sides at).counter → StanceShows table (new.sides at) → AreToldAlike (old.sides at).channels (new.sides at).channels → length (new.sides at).lines ≤ old.size
+    → StaysOrRight at (old.sides at) old.sdps t (new.sides at)
     → Around (AcceptAnswer at t a) made old new → Tells past old → Tells (entry (AcceptAnswer at t a) outcome (Some table) made ∷ past) new
 spends_tells past at t a token outcome table made old new is was unmade kept counter shows alike few right around tells =
     let found : (kept : Kept) × (slice_get old.sdps t ≡ Some kept) = text_found at (slice_get old.sdps t) token is in
@@ -155,49 +165,53 @@ spends_tells past at t a token outcome table made old new is was unmade kept cou
     right found.1 (kept ∙ spent-is t old.sdps found.0 found.1) (λ u. ap (λ b. (t == u) && b) was ∙ and_true (t == u)) unmade tells
 
 -- the peer refused the answer
-refused_tells : {N : Type 0} (past : List Entry) (at : Side) (t a : ℕ) (token : PendingOffer) (error : RtcError) (table : Table) (made : List MadeSdp) (old new : PairState N)
-    → held_token old.sdps at t ≡ Some token → new.sdps ≡ spent t old.sdps → (peer_at at new).lines ≡ (peer_at at old).lines
-    → (peer_at at new).counter ≡ (peer_at at old).counter → (peer_at at new).channels ≡ (peer_at at old).channels → Shows table (peer_at at new)
+refused_tells : (past : List Entry) (at : Side) (t a : ℕ) (token : PendingOffer) (error : RtcError) (table : Table) (made : List MadeSdp) (old new : PairStance)
+    → held_token old.sdps at t ≡ Some token → new.sdps ≡ spent t old.sdps → (new.sides at).lines ≡ (old.sides at).lines
+    → (new.sides at).counter ≡ (old.sides at).counter → (new.sides at).channels ≡ (old.sides at).channels → StanceShows table (new.sides at)
     → Around (AcceptAnswer at t a) made old new → Tells past old → Tells (entry (AcceptAnswer at t a) (Refused error) (Some table) made ∷ past) new
 refused_tells past at t a token error table made old new is kept lines counter channels shows around tells =
-    let few : length (peer_at at old).lines ≤ old.size = (tells.sides at).few in
-    let same : length (peer_at at new).lines ≡ length (peer_at at old).lines = ap length lines in
-    spends_tells past at t a token (Refused error) table made old new is refl (λ u. refl) kept counter shows (alike_told (peer_at at old).channels (peer_at at new).channels channels) (omega arith) (inl same) around tells
+    let few : length (old.sides at).lines ≤ old.size = (tells.sides at).few in
+    let same : length (new.sides at).lines ≡ length (old.sides at).lines = ap length lines in
+    spends_tells past at t a token (Refused error) table made old new is refl (λ u. refl) kept counter shows (alike_told (old.sides at).channels (new.sides at).channels channels) (omega arith) (inl same) around tells
 
 -- the channels that an answer confirms are told as before
 told_after : (held held' : Channels) (channels : List (ℕ × ChannelConfig)) → held' ≡ all_confirmed channels held → AreToldAlike held held'
 told_after held held' channels is = rw is (all_confirmed_told channels held)
 
 -- A step that hands over an answer.
-pub answer_tells : {N : Type 0} (draws : Draws N) (past : List Entry) (at : Side) (t a : ℕ) (token : Option PendingOffer) (sdp : Option Sdp) (old new : PairState N) (outcome : Outcome) (table : Option Table) (made : List MadeSdp)
+pub answer_tells : (past : List Entry) (at : Side) (t a : ℕ) (token : Option PendingOffer) (sdp : Option Sdp) (old new : PairStance) (outcome : Outcome) (table : Option Table) (made : List MadeSdp)
     → ((said : Sdp) → sdp ≡ Some said → length said.lines ≤ old.size) → held_token old.sdps at t ≡ token
-    → StepAcceptsAnswer draws t token sdp (peer_at at old) old.sdps outcome table (peer_at at new) new.sdps
+    → StanceStepAcceptsAnswer t token sdp (old.sides at) old.sdps outcome table (new.sides at) new.sdps
     → Around (AcceptAnswer at t a) made old new → Tells past old → Tells (entry (AcceptAnswer at t a) outcome table made ∷ past) new
-answer_tells draws past at t a None None old new Alloc None made few is h around tells =
+answer_tells past at t a None None old new Alloc None made few is h around tells =
     untouched_tells past at t a Alloc None made old new refl (λ u. refl) h.peer h.sdps_kept (sym (tells.sides at).rows) (sym (tells.sides at).channels.shown) around tells
-answer_tells draws past at t a None (Some sdp) old new Alloc None made few is h around tells =
+answer_tells past at t a None (Some sdp) old new Alloc None made few is h around tells =
     untouched_tells past at t a Alloc None made old new refl (λ u. refl) h.peer h.sdps_kept (sym (tells.sides at).rows) (sym (tells.sides at).channels.shown) around tells
-answer_tells draws past at t a (Some token) None old new Alloc None made few is h around tells =
+answer_tells past at t a (Some token) None old new Alloc None made few is h around tells =
     untouched_tells past at t a Alloc None made old new refl (λ u. refl) h.peer h.sdps_kept (sym (tells.sides at).rows) (sym (tells.sides at).channels.shown) around tells
-answer_tells draws past at t a (Some token) (Some sdp) old new Alloc None made few is h around tells =
+answer_tells past at t a (Some token) (Some sdp) old new Alloc None made few is h around tells =
     untouched_tells past at t a Alloc None made old new refl (λ u. refl) h.peer h.sdps_kept (sym (tells.sides at).rows) (sym (tells.sides at).channels.shown) around tells
-answer_tells draws past at t a None None old new NoSuch (Some table) made few is h around tells =
+answer_tells past at t a None None old new NoSuch (Some table) made few is h around tells =
     untouched_tells past at t a NoSuch (Some table) made old new refl (λ u. refl) h.0.peer h.0.sdps_kept h.1.lines h.1.channels around tells
-answer_tells draws past at t a None (Some sdp) old new NoSuch (Some table) made few is h around tells =
+answer_tells past at t a None (Some sdp) old new NoSuch (Some table) made few is h around tells =
     untouched_tells past at t a NoSuch (Some table) made old new refl (λ u. refl) h.0.peer h.0.sdps_kept h.1.lines h.1.channels around tells
-answer_tells draws past at t a (Some token) None old new NoSuch (Some table) made few is h around tells =
+answer_tells past at t a (Some token) None old new NoSuch (Some table) made few is h around tells =
     untouched_tells past at t a NoSuch (Some table) made old new refl (λ u. refl) h.0.peer h.0.sdps_kept h.1.lines h.1.channels around tells
-answer_tells draws past at t a (Some token) (Some sdp) old new Finished (Some table) made few is h around tells =
-    let most : length (table_after (peer_at at old).lines (parsed_lines sdp) false) ≤ old.size = taken_within (peer_at at old).lines sdp false old.size (tells.sides at).few (few sdp refl) in
-    let rows : length (peer_at at new).lines ≡ length (table_after (peer_at at old).lines (parsed_lines sdp) false) = ap (λ p. length p.lines) h.0.rest in
-    spends_tells past at t a token Finished table made old new is refl (λ u. refl) h.1 (ap (λ p. p.counter) h.0.rest) h.2 (told_after (peer_at at old).channels (peer_at at new).channels (fitting_channels token.changes) (ap (λ p. p.channels) h.0.rest)) (omega (arith, most, rows)) (inr (token, is, h.0.right)) around tells
-answer_tells draws past at t a (Some token) (Some sdp) old new (Refused (RemoteSdp why)) (Some table) made few is h around tells =
+answer_tells past at t a (Some token) (Some sdp) old new Finished (Some table) made few is h around tells =
+    let most : length (table_after (old.sides at).lines (parsed_lines sdp) false) ≤ old.size = taken_within (old.sides at).lines sdp false old.size (tells.sides at).few (few sdp refl) in
+    let rows : length (new.sides at).lines ≡ length (table_after (old.sides at).lines (parsed_lines sdp) false) = ap (λ p. length p.lines) h.0.rest in
+    spends_tells past at t a token Finished table made old new is refl (λ u. refl) h.1 (ap (λ p. p.counter) h.0.rest) h.2 (told_after (old.sides at).channels (new.sides at).channels (fitting_channels token.changes) (ap (λ p. p.channels) h.0.rest)) (omega (arith, most, rows)) (inr (token, is, h.0.right)) around tells
+answer_tells past at t a (Some token) (Some sdp) old new (Refused (RemoteSdp why)) (Some table) made few is h around tells =
     refused_tells past at t a token (RemoteSdp why) table made old new is h.1 (ap (λ p. p.lines) h.0.1.1) (ap (λ p. p.counter) h.0.1.1) (ap (λ p. p.channels) h.0.1.1) h.2 around tells
-answer_tells draws past at t a (Some token) (Some sdp) old new (Refused (SdpRefused error)) (Some table) made few is h around tells =
+answer_tells past at t a (Some token) (Some sdp) old new (Refused (SdpRefused error)) (Some table) made few is h around tells =
     refused_tells past at t a token (SdpRefused error) table made old new is h.1 (ap (λ p. p.lines) h.0.1.1) (ap (λ p. p.counter) h.0.1.1) (ap (λ p. p.channels) h.0.1.1) h.2 around tells
-answer_tells draws past at t a (Some token) (Some sdp) old new (Refused PeerAlloc) (Some table) made few is h around tells =
-    refused_tells past at t a token PeerAlloc table made old new is h.1 (ap (λ p. p.lines) h.0.1.1) (ap (λ p. p.counter) h.0.1.1) (ap (λ p. p.channels) h.0.1.1) h.2 around tells
-answer_tells draws past at t a (Some token) (Some sdp) old new (Refused ChangesOutOfOrder) (Some table) made few is h around tells =
+answer_tells past at t a (Some token) (Some sdp) old new (Refused (Dtls Fault)) (Some table) made few is h around tells =
+    refused_tells past at t a token (Dtls Fault) table made old new is h.1 (ap (λ p. p.lines) h.0.2.rest) (ap (λ p. p.counter) h.0.2.rest) (ap (λ p. p.channels) h.0.2.rest) h.2 around tells
+answer_tells past at t a (Some token) (Some sdp) old new (Refused (Dtls WouldBlock)) (Some table) made few is h around tells = absurd h.0
+answer_tells past at t a (Some token) (Some sdp) old new (Refused (Dtls DtlsAlloc)) (Some table) made few is h around tells = absurd h.0
+answer_tells past at t a (Some token) (Some sdp) old new (Refused PeerAlloc) (Some table) made few is h around tells =
+    refused_tells past at t a token PeerAlloc table made old new is h.1 (ap (λ p. p.lines) h.0.1.rest) (ap (λ p. p.counter) h.0.1.rest) (ap (λ p. p.channels) h.0.1.rest) h.2 around tells
+answer_tells past at t a (Some token) (Some sdp) old new (Refused ChangesOutOfOrder) (Some table) made few is h around tells =
     refused_tells past at t a token ChangesOutOfOrder table made old new is h.1 (ap (λ p. p.lines) h.0.1) (ap (λ p. p.counter) h.0.1) (ap (λ p. p.channels) h.0.1) h.2 around tells
-answer_tells draws past at t a (Some token) (Some sdp) old new (Refused BadChannel) (Some table) made few is h around tells = absurd h.0
-answer_tells draws past at t a token sdp old new outcome table made few is h around tells = absurd h
+answer_tells past at t a (Some token) (Some sdp) old new (Refused BadChannel) (Some table) made few is h around tells = absurd h.0
+answer_tells past at t a token sdp old new outcome table made few is h around tells = absurd h

@@ -13,29 +13,32 @@ use Rattle.rtc_change.specs.declared.change.Change.{Change}
 use Rattle.rtc_change.specs.declared.change.Change.TheVariants.{AddMedia as Adding, AddApp, AddChannel as AddingChannel, Direction as Setting}
 use Rattle.rtc_sdp_values.specs.Mids.{is_among}
 use Rattle.rtc_change.specs.PendingOffer.{added_mids, contains_add_app}
-use Rattle.rtc_change.specs.RowChanges.{RowChange, directed_row, stopped_row, is_changed, changed_at, changed_of}
-use Rattle.rtc_change.specs.Table.{IsTable, has_mid}
+use Rattle.rtc_tables.specs.RowChanges.{RowChange, directed_row, stopped_row, is_changed, changed_at, changed_of}
+use Rattle.rtc_tables.specs.Table.{IsTable, has_mid}
 use Rattle.rtc_change.proofs.AddedLemmas.{added_mids-append}
-use Rattle.rtc_change.proofs.RowChangeLemmas.{KeepsRow, directed_row_keeps, stopped_row_keeps, changed_of_alike, has_mid-alike, table_alike}
-use Rattle.rtc_peer_state.specs.declared.peer.Peer.{Peer}
-use Rattle.rtc_ids.specs.Draws.{Draws}
+use Rattle.rtc_tables.proofs.RowChangeLemmas.{KeepsRow, directed_row_keeps, stopped_row_keeps, changed_of_alike, has_mid-alike, table_alike}
+use Rattle.rtc_peer_state.specs.Stance.{Stance}
 use Rattle.rtc_peer_state.specs.Names.{is_held}
-use Rattle.rtc_peer_state.specs.Calls.{ChangesLine, AddsChannel, needs_app, staged_mid, staged_media}
+use Rattle.rtc_peer_state.specs.Staging.{with_restart}
+use Rattle.rtc_sdp_values.specs.declared.ice_creds.IceCreds.{IceCreds}
 use Rattle.rtc_history.specs.declared.op.Op.{Op}
-use Rattle.rtc_history.specs.declared.op.Op.TheVariants.{AddMedia, SetDirection, StopMedia, AddChannel}
+use Rattle.rtc_history.specs.declared.op.Op.TheVariants.{AddMedia, SetDirection, StopMedia, AddChannel, IceRestart}
 use Rattle.rtc_history.specs.declared.op_answer.OpAnswer.{OpAnswer}
-use Rattle.rtc_history.specs.declared.op_answer.OpAnswer.TheVariants.{Mid, Changed, NoLine, Channel, BadChannel, Alloc as OpAlloc}
+use Rattle.rtc_history.specs.declared.op_answer.OpAnswer.TheVariants.{Mid, Changed, NoLine, Channel, BadChannel, Creds, Alloc as OpAlloc}
 use Rattle.rtc_history.specs.Sound.{Midway, IsUnheld, GivesNumber, TellsChange, OpsAnswered}
 use Rattle.rtc_change.specs.TableAfter.{with_front}
 use Rattle.rtc_history.specs.Answers.{has_app_row, with_numbered}
-use Rattle.rtc_history.specs.Performs.{PerformsOps, CallsLine, wanted}
+use Rattle.rtc_history.specs.Performs.{CallsLine}
 use Rattle.rtc_history_laws.proofs.OpRows.{has_app-alike}
 use Rattle.rtc_history_laws.proofs.ToldChannels.{told, told_more, bad_told, below_told}
 use Rattle.rtc_history_laws.proofs.StagedApps.{AppTold, contains-append, needs_same, told_same, ChannelStaged, channel_staged, app_mid_is}
+use Rattle.rtc_history_laws.proofs.RestartChanges.{mids-restart, lined-restart}
 use Rattle.rtc_history_laws.proofs.PlacedRows.{IsPlaced, placed, unchanged_at}
+use Rattle.rtc_peer_state.proofs.StanceCalls.{StanceAddsChannel, StanceChangesLine}
+use Rattle.rtc_history_laws.proofs.StanceSteps.{StancePerformsOps, needs_app}
 
 -- a mid that neither a row nor a staged line of a peer has is not held
-abbrev pub Holds : {N : Type 0} → Peer N → List (List ℕ) → Type 0
+abbrev pub Holds : Stance → List (List ℕ) → Type 0
 Holds p held = (mid : List ℕ) → is_held p.lines p.staged mid ≡ false → is_among held mid ≡ false
 
 -- a mid that is not held with one more staged is another one, and was not held before
@@ -48,13 +51,13 @@ held_more rows staged more own mid adds none =
     ((or_parts (bytes_eq own mid) false two.1).0, or_from (has_mid mid rows) (is_among (added_mids staged) mid) both.0 two.0)
 
 -- with a line staged, its mid is held too
-holds_more : {N : Type 0} (p r : Peer N) (more : List Change) (own : List ℕ) (held : List (List ℕ)) → r.lines ≡ p.lines → r.staged ≡ p.staged ++ more → added_mids more ≡ own ∷ [] → Holds p held → Holds r (own ∷ held)
+holds_more : (p r : Stance) (more : List Change) (own : List ℕ) (held : List (List ℕ)) → r.lines ≡ p.lines → r.staged ≡ p.staged ++ more → added_mids more ≡ own ∷ [] → Holds p held → Holds r (own ∷ held)
 holds_more p r more own held lines staged adds holds mid none =
     let parts = held_more p.lines p.staged more own mid adds (rw (← lines) (rw (← staged) none)) in
     or_from (bytes_eq own mid) (is_among held mid) parts.0 (holds mid parts.1)
 
 -- with changes staged that tell no mid of those held, they are held still
-holds_still : {N : Type 0} (p r : Peer N) (more : List Change) (held : List (List ℕ)) → r.lines ≡ p.lines → r.staged ≡ p.staged ++ more → Holds p held → Holds r held
+holds_still : (p r : Stance) (more : List Change) (held : List (List ℕ)) → r.lines ≡ p.lines → r.staged ≡ p.staged ++ more → Holds p held → Holds r held
 holds_still p r more held lines staged holds mid none =
     let both = or_parts (has_mid mid p.lines) (is_among (added_mids (p.staged ++ more)) mid) (rw (← lines) (rw (← staged) none)) in
     let parts : (is_among (added_mids p.staged) mid || is_among (added_mids more) mid) ≡ false =
@@ -66,7 +69,7 @@ or_nothing true = refl
 or_nothing false = refl
 
 -- What a call leaves that changes the line at a place.
-record AnswersLine {N : Type 0} (change : RowChange) (place : ℕ) (p : Peer N) (changed : Bool) (held : List (List ℕ)) (r : Peer N) : Type 0 where
+record AnswersLine (change : RowChange) (place : ℕ) (p : Stance) (changed : Bool) (held : List (List ℕ)) (r : Stance) : Type 0 where
   tells : TellsChange change place p.lines changed
   lines : r.lines ≡ changed_at change place p.lines
   table : IsTable r.lines
@@ -74,8 +77,8 @@ record AnswersLine {N : Type 0} (change : RowChange) (place : ℕ) (p : Peer N) 
   needs : needs_app r ≡ needs_app p
   channels : r.channels ≡ p.channels
 
-line_answered : {N : Type 0} (change : RowChange) (to : Direction) (place : ℕ) (p : Peer N) (changed : Bool) (held : List (List ℕ)) (r : Peer N) → KeepsRow change → IsTable p.lines → Holds p held
-    → CallsLine p place (λ mid. ChangesLine change to p mid (Ok changed) r) → AnswersLine change place p changed held r
+line_answered : (change : RowChange) (to : Direction) (place : ℕ) (p : Stance) (changed : Bool) (held : List (List ℕ)) (r : Stance) → KeepsRow change → IsTable p.lines → Holds p held
+    → CallsLine p.lines place (λ mid. StanceChangesLine change to p mid (Ok changed) r) → AnswersLine change place p changed held r
 line_answered change to place p true held r keeps table holds call =
     let here : IsPlaced change place call.mid p.lines = placed change place call.mid p.lines table.distinct call.there in
     let alike = changed_of_alike change keeps call.mid p.lines in
@@ -108,7 +111,7 @@ line_answered change to place p false held r keeps table holds call =
 -- ---- each op
 
 -- what a peer has midway through ops
-abbrev pub midway : {N : Type 0} → Peer N → List (List ℕ) → Option (List ℕ) → Midway
+abbrev pub midway : Stance → List (List ℕ) → Option (List ℕ) → Midway
 midway p held app = record { rows = p.lines; held = held; app = app; channels = told p.channels }
 
 -- the same with other rows and channels
@@ -117,31 +120,31 @@ midway_from : (rows rows' : List LineRow) (channels channels' : Channels) (held 
 midway_from rows rows' channels channels' held app ops answers after same_rows same_channels answered = rw (← same_rows) (rw (← same_channels) answered)
 
 -- What is known of a peer that performs ops.
-pub record MayAct {N : Type 0} (p : Peer N) (held : List (List ℕ)) (app : Option (List ℕ)) (q : Peer N) : Type 0 where
+pub record MayAct (p : Stance) (held : List (List ℕ)) (app : Option (List ℕ)) (q : Stance) : Type 0 where
   pub table : IsTable p.lines
   pub holds : Holds p held
   pub app_is : AppTold p app q
   pub below : AreBelow p.channels.given p.channels.rows
 
 -- a channel has a number above all before
-gives_number : {N : Type 0} (p : Peer N) (config : ChannelConfig) (id : ℕ) → is_bad_channel p.channels config ≡ false → id ≡ p.channels.given → AreBelow p.channels.given p.channels.rows → GivesNumber (told p.channels) config id
+gives_number : (p : Stance) (config : ChannelConfig) (id : ℕ) → is_bad_channel p.channels config ≡ false → id ≡ p.channels.given → AreBelow p.channels.given p.channels.rows → GivesNumber (told p.channels) config id
 gives_number p config id fine numbered below = (bad_told p.channels config ∙ fine, rw numbered (below_told p.channels.given p.channels.rows below))
 
 -- what is told of channels with one more
-channels_more : {N : Type 0} (p r : Peer N) (config : ChannelConfig) (id : ℕ) → r.channels ≡ with_channel p.channels config → id ≡ p.channels.given → told r.channels ≡ with_numbered id config (told p.channels)
+channels_more : (p r : Stance) (config : ChannelConfig) (id : ℕ) → r.channels ≡ with_channel p.channels config → id ≡ p.channels.given → told r.channels ≡ with_numbered id config (told p.channels)
 channels_more p r config id is numbered = ap told is ∙ (told_more p.channels config).same ∙ ap (λ (n : ℕ). with_numbered n config (told p.channels)) (sym numbered)
 
-below_more : {N : Type 0} (p r : Peer N) (config : ChannelConfig) → r.channels ≡ with_channel p.channels config → AreBelow p.channels.given p.channels.rows → AreBelow r.channels.given r.channels.rows
+below_more : (p r : Stance) (config : ChannelConfig) → r.channels ≡ with_channel p.channels config → AreBelow p.channels.given p.channels.rows → AreBelow r.channels.given r.channels.rows
 below_more p r config is below = rw is ((told_more p.channels config).below below)
 
 -- a channel is staged, alone or with its line
-channel_acts : {N : Type 0} (draws : Draws N) (p r q : Peer N) (config : ChannelConfig) (id : ℕ) (ops : List Op) (answers : List OpAnswer) (held : List (List ℕ)) (app : Option (List ℕ))
-    → AddsChannel draws p config (Ok id) r → PerformsOps draws r ops answers q → MayAct p held app q
+channel_acts : (p r q : Stance) (config : ChannelConfig) (id : ℕ) (ops : List Op) (answers : List OpAnswer) (held : List (List ℕ)) (app : Option (List ℕ))
+    → StanceAddsChannel p config (Ok id) r → StancePerformsOps r ops answers q → MayAct p held app q
     → (IsUnheld app held) × MayAct r (with_front app held) None q
-channel_acts draws p r q config id ops answers held app h rest may = by (needs_app p) app refl may.app_is
+channel_acts p r q config id ops answers held app h rest may = by (needs_app p) app refl may.app_is
   where
-    staged : ChannelStaged draws p config id r
-    staged = channel_staged draws p config id r h
+    staged : ChannelStaged p config id r
+    staged = channel_staged p config id r h
 
     table : IsTable r.lines
     table = subst IsTable (sym staged.lines) may.table
@@ -151,71 +154,88 @@ channel_acts draws p r q config id ops answers held app h rest may = by (needs_a
         (tt, record { table = table; holds = holds_still p r (AddingChannel id config ∷ []) held staged.lines (staged.alone is) may.holds; app_is = tt; below = below_more p r config staged.channels may.below })
     by false (Some mid) is told_app = absurd (let e : true ≡ false = sym told_app.0 ∙ is in cc)
     by true None is told_app =
-        (tt, record { table = table; holds = holds_still p r (AddApp (staged_mid draws p) ∷ AddingChannel id config ∷ []) held staged.lines (staged.lined is) may.holds; app_is = tt; below = below_more p r config staged.channels may.below })
+        (tt, record { table = table; holds = holds_still p r (AddApp staged.app_mid ∷ AddingChannel id config ∷ []) held staged.lines (staged.lined is) may.holds; app_is = tt; below = below_more p r config staged.channels may.below })
     by true (Some mid) is told_app =
-        let same : staged_mid draws p ≡ mid = told_app.1 (staged_mid draws p) (app_mid_is draws p r q config id ops answers is staged rest) in (
-          may.holds mid (subst (λ (own : List ℕ). is_held p.lines p.staged own ≡ false) same (h.3 is)),
+        let same : staged.app_mid ≡ mid = told_app.1 staged.app_mid (app_mid_is p r q config id ops answers is staged rest) in (
+          may.holds mid (subst (λ (own : List ℕ). is_held p.lines p.staged own ≡ false) same (staged.free is)),
           record {
             table = table;
-            holds = holds_more p r (AddApp (staged_mid draws p) ∷ AddingChannel id config ∷ []) mid held staged.lines (staged.lined is) (ap (λ (own : List ℕ). own ∷ []) same) may.holds;
+            holds = holds_more p r (AddApp staged.app_mid ∷ AddingChannel id config ∷ []) mid held staged.lines (staged.lined is) (ap (λ (own : List ℕ). own ∷ []) same) may.holds;
             app_is = tt;
             below = below_more p r config staged.channels may.below;
           },
         )
 
 -- a line is changed
-line_acts : {N : Type 0} (change : RowChange) (place : ℕ) (p r q : Peer N) (changed : Bool) (held : List (List ℕ)) (app : Option (List ℕ)) → AnswersLine change place p changed held r → MayAct p held app q → MayAct r held app q
+line_acts : (change : RowChange) (place : ℕ) (p r q : Stance) (changed : Bool) (held : List (List ℕ)) (app : Option (List ℕ)) → AnswersLine change place p changed held r → MayAct p held app q → MayAct r held app q
 line_acts change place p r q changed held app line may =
     record { table = line.table; holds = line.holds; app_is = told_same p r app q line.needs may.app_is; below = rw line.channels may.below }
 
+-- a restart is staged
+restart_acts : (p r q : Stance) (keep : Bool) (creds : IceCreds) (held : List (List ℕ)) (app : Option (List ℕ)) → r ≡ record p { staged = with_restart creds keep p.staged } → MayAct p held app q → MayAct r held app q
+restart_acts p r q keep creds held app is may =
+    let lines : r.lines ≡ p.lines = ap (λ s. s.lines) is in
+    let staged : r.staged ≡ with_restart creds keep p.staged = ap (λ s. s.staged) is in
+    let mids : added_mids r.staged ≡ added_mids p.staged = ap added_mids staged ∙ mids-restart creds keep p.staged in
+    record {
+      table = subst IsTable (sym lines) may.table;
+      holds = λ mid none. may.holds mid (sym (ap (λ (rows : List LineRow). has_mid mid rows || is_among (added_mids r.staged) mid) lines ∙ ap (λ mids. has_mid mid p.lines || is_among mids mid) mids) ∙ none);
+      app_is = told_same p r app q (needs_same p r (ap has_app_row lines) (ap contains_add_app staged ∙ lined-restart creds keep p.staged)) may.app_is;
+      below = let channels : r.channels ≡ p.channels = ap (λ s. s.channels) is in rw channels may.below;
+    }
+
 -- Each op is answered by what it finds, up to the first that lacks memory.
-pub ops_answered : {N : Type 0} (draws : Draws N) (p q : Peer N) (ops : List Op) (answers : List OpAnswer) (held : List (List ℕ)) (app : Option (List ℕ)) → MayAct p held app q
-    → PerformsOps draws p ops answers q → OpsAnswered (midway p held app) ops answers q.lines
-ops_answered draws p q [] [] held app may h = ap (λ r. r.lines) h
-ops_answered draws p q (AddMedia kind dir ∷ ops) (Mid mid ∷ answers) held app may h =
-    let change : Change = Adding (staged_media draws p (wanted kind dir)) in
-    let staged : h.0.staged ≡ p.staged ++ change ∷ [] = ap (λ r. r.staged) h.1.1 in
-    let lines : h.0.lines ≡ p.lines = ap (λ r. r.lines) h.1.1 in
-    let channels : h.0.channels ≡ p.channels = ap (λ r. r.channels) h.1.1 in
+pub ops_answered : (p q : Stance) (ops : List Op) (answers : List OpAnswer) (held : List (List ℕ)) (app : Option (List ℕ)) → MayAct p held app q
+    → StancePerformsOps p ops answers q → OpsAnswered (midway p held app) ops answers q.lines
+ops_answered p q [] [] held app may h = ap (λ r. r.lines) h
+ops_answered p q (AddMedia kind dir ∷ ops) (Mid mid ∷ answers) held app may h =
+    let change : Change = Adding h.1.media in
+    let staged : h.0.staged ≡ p.staged ++ change ∷ [] = ap (λ r. r.staged) h.1.rest in
+    let lines : h.0.lines ≡ p.lines = ap (λ r. r.lines) h.1.rest in
+    let channels : h.0.channels ≡ p.channels = ap (λ r. r.channels) h.1.rest in
     let lined : contains_add_app h.0.staged ≡ contains_add_app p.staged = ap contains_add_app staged ∙ contains-append p.staged (change ∷ []) ∙ or_nothing (contains_add_app p.staged) in (
-      may.holds mid h.1.2,
+      may.holds mid h.1.free.0,
       midway_from p.lines h.0.lines (told p.channels) (told h.0.channels) (mid ∷ held) app ops answers q.lines lines (ap told channels)
-          (ops_answered draws h.0 q ops answers (mid ∷ held) app
+          (ops_answered h.0 q ops answers (mid ∷ held) app
           (record {
             table = subst IsTable (sym lines) may.table;
-            holds = holds_more p h.0 (change ∷ []) mid held lines staged (ap (λ (own : List ℕ). own ∷ []) (sym h.1.0)) may.holds;
+            holds = holds_more p h.0 (change ∷ []) mid held lines staged (ap (λ (own : List ℕ). own ∷ []) h.1.its_mid) may.holds;
             app_is = told_same p h.0 app q (needs_same p h.0 (ap has_app_row lines) lined) may.app_is;
             below = rw channels may.below;
           }) h.2),
     )
-ops_answered draws p q (AddMedia kind dir ∷ ops) (OpAlloc ∷ []) held app may h = ap (λ r. r.lines) h.1
-ops_answered draws p q (SetDirection place dir ∷ ops) (NoLine ∷ answers) held app may h = (h.0, ops_answered draws p q ops answers held app may h.1)
-ops_answered draws p q (SetDirection place dir ∷ ops) (Changed changed ∷ answers) held app may h =
+ops_answered p q (AddMedia kind dir ∷ ops) (OpAlloc ∷ []) held app may h = ap (λ r. r.lines) h
+ops_answered p q (SetDirection place dir ∷ ops) (NoLine ∷ answers) held app may h = (h.0, ops_answered p q ops answers held app may h.1)
+ops_answered p q (SetDirection place dir ∷ ops) (Changed changed ∷ answers) held app may h =
     let line = line_answered (directed_row dir) dir place p changed held h.0 (directed_row_keeps dir) may.table may.holds h.1 in (
       line.tells,
       midway_from _ h.0.lines (told p.channels) (told h.0.channels) held app ops answers q.lines line.lines (ap told line.channels)
-          (ops_answered draws h.0 q ops answers held app (line_acts (directed_row dir) place p h.0 q changed held app line may) h.2),
+          (ops_answered h.0 q ops answers held app (line_acts (directed_row dir) place p h.0 q changed held app line may) h.2),
     )
-ops_answered draws p q (SetDirection place dir ∷ ops) (OpAlloc ∷ []) held app may h = ap (λ r. r.lines) h.called
-ops_answered draws p q (StopMedia place ∷ ops) (NoLine ∷ answers) held app may h = (h.0, ops_answered draws p q ops answers held app may h.1)
-ops_answered draws p q (StopMedia place ∷ ops) (Changed changed ∷ answers) held app may h =
+ops_answered p q (SetDirection place dir ∷ ops) (OpAlloc ∷ []) held app may h = ap (λ r. r.lines) h.called
+ops_answered p q (StopMedia place ∷ ops) (NoLine ∷ answers) held app may h = (h.0, ops_answered p q ops answers held app may h.1)
+ops_answered p q (StopMedia place ∷ ops) (Changed changed ∷ answers) held app may h =
     let line = line_answered stopped_row Inactive place p changed held h.0 stopped_row_keeps may.table may.holds h.1 in (
       line.tells,
       midway_from _ h.0.lines (told p.channels) (told h.0.channels) held app ops answers q.lines line.lines (ap told line.channels)
-          (ops_answered draws h.0 q ops answers held app (line_acts stopped_row place p h.0 q changed held app line may) h.2),
+          (ops_answered h.0 q ops answers held app (line_acts stopped_row place p h.0 q changed held app line may) h.2),
     )
-ops_answered draws p q (StopMedia place ∷ ops) (OpAlloc ∷ []) held app may h = ap (λ r. r.lines) h.called
-ops_answered draws p q (AddChannel config ∷ ops) (Channel id ∷ answers) held app may h =
-    let acts = channel_acts draws p h.0 q config id ops answers held app h.1 h.2 may in
-    let staged : ChannelStaged draws p config id h.0 = channel_staged draws p config id h.0 h.1 in (
-      gives_number p config id h.1.0 h.1.1 may.below,
+ops_answered p q (StopMedia place ∷ ops) (OpAlloc ∷ []) held app may h = ap (λ r. r.lines) h.called
+ops_answered p q (AddChannel config ∷ ops) (Channel id ∷ answers) held app may h =
+    let acts = channel_acts p h.0 q config id ops answers held app h.1 h.2 may in
+    let staged : ChannelStaged p config id h.0 = channel_staged p config id h.0 h.1 in (
+      gives_number p config id h.1.good h.1.number may.below,
       acts.0,
       midway_from p.lines h.0.lines (with_numbered id config (told p.channels)) (told h.0.channels) (with_front app held) None ops answers q.lines staged.lines (channels_more p h.0 config id staged.channels staged.numbered)
-          (ops_answered draws h.0 q ops answers (with_front app held) None acts.1 h.2),
+          (ops_answered h.0 q ops answers (with_front app held) None acts.1 h.2),
     )
-ops_answered draws p q (AddChannel config ∷ ops) (BadChannel ∷ answers) held app may h = (
+ops_answered p q (AddChannel config ∷ ops) (BadChannel ∷ answers) held app may h = (
   bad_told p.channels config ∙ h.1.0,
-  subst (λ (r : Peer _). PerformsOps draws r ops answers q → OpsAnswered (midway p held app) ops answers q.lines) (sym h.1.1) (λ rest. ops_answered draws p q ops answers held app may rest) h.2,
+  subst (λ (r : Stance). StancePerformsOps r ops answers q → OpsAnswered (midway p held app) ops answers q.lines) (sym h.1.1) (λ rest. ops_answered p q ops answers held app may rest) h.2,
 )
-ops_answered draws p q (AddChannel config ∷ ops) (OpAlloc ∷ []) held app may h = ap (λ r. r.lines) h.1
-ops_answered draws p q ops answers held app may h = absurd h
+ops_answered p q (AddChannel config ∷ ops) (OpAlloc ∷ []) held app may h = ap (λ r. r.lines) h
+ops_answered p q (IceRestart keep ∷ ops) (Creds creds ∷ answers) held app may h =
+    midway_from p.lines h.0.lines (told p.channels) (told h.0.channels) held app ops answers q.lines (ap (λ r. r.lines) h.1.1) (ap (λ r. told r.channels) h.1.1)
+    (ops_answered h.0 q ops answers held app (restart_acts p h.0 q keep creds held app h.1.1 may) h.2)
+ops_answered p q (IceRestart keep ∷ ops) (OpAlloc ∷ []) held app may h = ap (λ r. r.lines) h
+ops_answered p q ops answers held app may h = absurd h

@@ -13,20 +13,20 @@ use Rattle.rtc_history.specs.Sides.{same_side, other_side, side_of}
 use Rattle.rtc_history.specs.Sizes.{step_size}
 use Rattle.rtc_history.specs.Past.{Entry, MadeSdp, before, channels_shown, channel_rows_or, channels_given, channels_after, rows_or, sdps, sdp_for, remote_sdp, spends, moves, makes}
 use Rattle.rtc_history.specs.declared.kept.Kept.{Kept}
-use Rattle.rtc_history.specs.PairState.{PairState, peer_at, made_sdp, kept_remote_sdp}
-use Rattle.rtc_history.specs.Performs.{made_by}
+use Rattle.rtc_history.specs.PairState.{made_sdp, kept_remote_sdp}
 use Rattle.rtc_channels.specs.Channels.{Channels, channel_rows}
 use Rattle.rtc_history_laws.proofs.ToldChannels.{AreToldAlike}
 use Rattle.rtc_history_laws.proofs.Tells.{ChannelsTell, Tells, same_side-self}
 use Rattle.rtc_history_laws.proofs.Entries.{Goes, unmade_tells}
 use Rattle.rtc_history_laws.proofs.TokenEntries.{All-slice_get}
+use Rattle.rtc_history_laws.proofs.StanceSteps.{PairStance, made_by}
 
 abbrev pub entry : Step → Outcome → Option Table → List MadeSdp → Entry
 entry step outcome table made = record { step = step; outcome = outcome; table = table; made = made }
 
 -- what is known of a step besides what its peer does
-pub record Around {N : Type 0} (step : Step) (made : List MadeSdp) (old new : PairState N) : Type 0 where
-  pub other : peer_at (other_side (side_of step)) new ≡ peer_at (other_side (side_of step)) old
+pub record Around (step : Step) (made : List MadeSdp) (old new : PairStance) : Type 0 where
+  pub other : new.sides (other_side (side_of step)) ≡ old.sides (other_side (side_of step))
   pub size : new.size ≡ old.size + step_size step
   pub small : new.size < 2 ^ 32
   pub made_is : made ≡ made_by old new
@@ -36,15 +36,15 @@ one_at_least (Negotiate at ops apply) = omega arith
 one_at_least (AcceptOffer at offer) = omega arith
 one_at_least (AcceptAnswer at token answer) = omega arith
 
-pub size_grows : {N : Type 0} (step : Step) (made : List MadeSdp) (old new : PairState N) → Around step made old new → old.size + 1 ≤ new.size
+pub size_grows : (step : Step) (made : List MadeSdp) (old new : PairStance) → Around step made old new → old.size + 1 ≤ new.size
 size_grows step made old new around = omega (arith, one_at_least step, around.size)
 
-pub goes_on : {N : Type 0} (moved : Bool) (past : List Entry) (step : Step) (outcome : Outcome) (table : Option Table) (made : List MadeSdp) (old new : PairState N)
-    → (peer_at (side_of step) new).lines ≡ rows_or true table (before (side_of step) past)
-    → ChannelsTell (entry step outcome table made ∷ past) (side_of step) (peer_at (side_of step) new).channels
-    → (peer_at (side_of step) new).counter ≡ cond moved ((peer_at (side_of step) old).counter + 1) (peer_at (side_of step) old).counter
+pub goes_on : (moved : Bool) (past : List Entry) (step : Step) (outcome : Outcome) (table : Option Table) (made : List MadeSdp) (old new : PairStance)
+    → (new.sides (side_of step)).lines ≡ rows_or true table (before (side_of step) past)
+    → ChannelsTell (entry step outcome table made ∷ past) (side_of step) (new.sides (side_of step)).channels
+    → (new.sides (side_of step)).counter ≡ cond moved ((old.sides (side_of step)).counter + 1) (old.sides (side_of step)).counter
     → moves (side_of step) step outcome ≡ moved → moves (other_side (side_of step)) step outcome ≡ false
-    → length (peer_at (side_of step) new).lines ≤ new.size → Around step made old new → Goes moved past (entry step outcome table made) old new
+    → length (new.sides (side_of step)).lines ≤ new.size → Around step made old new → Goes moved past (entry step outcome table made) old new
 goes_on moved past step outcome table made old new rows channels counter mine theirs few around = record {
   rows = rows;
   channels = channels;
@@ -69,31 +69,31 @@ channels_kept past step outcome table made held held' gives_none alike shown tel
 }
 
 -- A step that leaves as many rows, and SDPs as they were.
-pub quiet_tells : {N : Type 0} (moved : Bool) (past : List Entry) (step : Step) (outcome : Outcome) (table : Option Table) (made : List MadeSdp) (old new : PairState N)
-    → length (peer_at (side_of step) new).lines ≡ length (peer_at (side_of step) old).lines → new.sdps ≡ old.sdps
-    → (peer_at (side_of step) new).lines ≡ rows_or true table (before (side_of step) past)
-    → ChannelsTell (entry step outcome table made ∷ past) (side_of step) (peer_at (side_of step) new).channels
-    → (peer_at (side_of step) new).counter ≡ cond moved ((peer_at (side_of step) old).counter + 1) (peer_at (side_of step) old).counter
+pub quiet_tells : (moved : Bool) (past : List Entry) (step : Step) (outcome : Outcome) (table : Option Table) (made : List MadeSdp) (old new : PairStance)
+    → length (new.sides (side_of step)).lines ≡ length (old.sides (side_of step)).lines → new.sdps ≡ old.sdps
+    → (new.sides (side_of step)).lines ≡ rows_or true table (before (side_of step) past)
+    → ChannelsTell (entry step outcome table made ∷ past) (side_of step) (new.sides (side_of step)).channels
+    → (new.sides (side_of step)).counter ≡ cond moved ((old.sides (side_of step)).counter + 1) (old.sides (side_of step)).counter
     → moves (side_of step) step outcome ≡ moved → moves (other_side (side_of step)) step outcome ≡ false
     → ((t : ℕ) → spends t step outcome ≡ false) → ((t : ℕ) → makes t outcome ≡ false)
     → Around step made old new → Tells past old → Tells (entry step outcome table made ∷ past) new
 quiet_tells moved past step outcome table made old new lines kept rows channels counter mine theirs unspent unmade around tells =
-    let few : length (peer_at (side_of step) old).lines ≤ old.size = (tells.sides (side_of step)).few in
+    let few : length (old.sides (side_of step)).lines ≤ old.size = (tells.sides (side_of step)).few in
     let grows : old.size + 1 ≤ new.size = size_grows step made old new around in
     unmade_tells moved past (entry step outcome table made) old new (goes_on moved past step outcome table made old new rows channels counter mine theirs (omega arith) around) lines kept unspent unmade tells
 
 -- ---- SDPs that are delivered
 
 -- what the past says of an SDP is what is kept of it
-pub remote_sdp-told : {N : Type 0} (past : List Entry) (pair : PairState N) (offer : Bool) (at : Side) (k : ℕ) → Tells past pair → remote_sdp offer at k past ≡ kept_remote_sdp offer pair.sdps at k
+pub remote_sdp-told : (past : List Entry) (pair : PairStance) (offer : Bool) (at : Side) (k : ℕ) → Tells past pair → remote_sdp offer at k past ≡ kept_remote_sdp offer pair.sdps at k
 remote_sdp-told past pair offer at k tells = ap (λ said. sdp_for offer at (slice_get said k)) (sym tells.says) ∙ ap (sdp_for offer at) (slice_get-map made_sdp pair.sdps k)
 
 -- how many SDPs there are
-pub length-told : {N : Type 0} (past : List Entry) (pair : PairState N) → Tells past pair → length (sdps past) ≡ length pair.sdps
+pub length-told : (past : List Entry) (pair : PairStance) → Tells past pair → length (sdps past) ≡ length pair.sdps
 length-told past pair tells = ap length (sym tells.says) ∙ length-map pair.sdps made_sdp
 
 -- the SDP that is delivered is one of the pair's
-pub sdp_within : {N : Type 0} (past : List Entry) (pair : PairState N) (offer : Bool) (at : Side) (k : ℕ) (sdp : Sdp) → Tells past pair → kept_remote_sdp offer pair.sdps at k ≡ Some sdp → length sdp.lines ≤ pair.size
+pub sdp_within : (past : List Entry) (pair : PairStance) (offer : Bool) (at : Side) (k : ℕ) (sdp : Sdp) → Tells past pair → kept_remote_sdp offer pair.sdps at k ≡ Some sdp → length sdp.lines ≤ pair.size
 sdp_within past pair offer at k sdp tells is = by (slice_get pair.sdps k) refl is
   where
     picked : (b : Bool) (kept : Kept) → slice_get pair.sdps k ≡ Some kept → cond b (Some kept.sdp) None ≡ Some sdp → length sdp.lines ≤ pair.size

@@ -7,9 +7,9 @@ use Rattle.rtc_sdp_values.specs.declared.line_row.LineRow.{LineRow}
 use Rattle.rtc_channels.specs.Channels.{Channel, Channels, claims_again, is_overlong, is_bad_channel}
 use Rattle.rtc_history.specs.declared.side.Side.{Side}
 use Rattle.rtc_history.specs.declared.op.Op.{Op}
-use Rattle.rtc_history.specs.declared.op.Op.TheVariants.{AddMedia, SetDirection, StopMedia, AddChannel}
+use Rattle.rtc_history.specs.declared.op.Op.TheVariants.{AddMedia, SetDirection, StopMedia, AddChannel, IceRestart}
 use Rattle.rtc_history.specs.declared.op_answer.OpAnswer.{OpAnswer}
-use Rattle.rtc_history.specs.declared.op_answer.OpAnswer.TheVariants.{Mid, Changed, NoLine, Channel as Numbered, BadChannel, Alloc as OpAlloc}
+use Rattle.rtc_history.specs.declared.op_answer.OpAnswer.TheVariants.{Mid, Changed, NoLine, Channel as Numbered, BadChannel, Alloc as OpAlloc, Creds}
 use Rattle.rtc_history.specs.declared.step.Step.{Step}
 use Rattle.rtc_history.specs.declared.step.Step.TheVariants.{Negotiate, AcceptOffer, AcceptAnswer}
 use Rattle.rtc_history.specs.declared.outcome.Outcome.{Outcome}
@@ -19,7 +19,7 @@ use Rattle.rtc_history.specs.Sizes.{step_size, steps_size}
 use Rattle.rtc_history.specs.Answers.{channels_answered, with_numbered}
 use Rattle.rtc_history.specs.Past.{Entry, steps_of, channels_given, channels_after}
 use Rattle.rtc_history.specs.Sound.{Midway, holding_mid, having_rows, having_channel, OpsAnswered}
-use Rattle.rtc_change.specs.RowChanges.{directed_row, stopped_row, changed_at}
+use Rattle.rtc_tables.specs.RowChanges.{directed_row, stopped_row, changed_at}
 use Rattle.rtc_history.specs.CourseRows.{is_in_band, do_add_odd_channel}
 use Rattle.rtc_history_laws.proofs.CourseOps.{AreFine}
 
@@ -37,6 +37,8 @@ answered_within (AddChannel config ∷ ops) (Mid mid ∷ answers) held = let res
 answered_within (AddChannel config ∷ ops) (Changed changed ∷ answers) held = let rest = answered_within ops answers held in omega (arith, rest)
 answered_within (AddChannel config ∷ ops) (NoLine ∷ answers) held = let rest = answered_within ops answers held in omega (arith, rest)
 answered_within (AddChannel config ∷ ops) (BadChannel ∷ answers) held = let rest = answered_within ops answers held in omega (arith, rest)
+answered_within (AddChannel config ∷ ops) (Creds creds ∷ answers) held = let rest = answered_within ops answers held in omega (arith, rest)
+answered_within (IceRestart keep ∷ ops) (answer ∷ answers) held = let rest = answered_within ops answers held in omega (arith, rest)
 answered_within (AddChannel config ∷ ops) (OpAlloc ∷ answers) held = let rest = answered_within ops answers held in omega (arith, rest)
 answered_within (AddMedia kind dir ∷ ops) (answer ∷ answers) held = let rest = answered_within ops answers held in omega (arith, rest)
 answered_within (SetDirection place dir ∷ ops) (answer ∷ answers) held = let rest = answered_within ops answers held in omega (arith, rest)
@@ -97,4 +99,6 @@ ops_fine m (AddChannel config ∷ ops) (BadChannel ∷ answers) after answered p
     let parts = or_parts (not (is_in_band config)) (do_add_odd_channel ops) plain in
     absurd (both_ways (is_bad_channel m.channels config) (fine_channel m.channels config (band_is (is_in_band config) parts.0) (omega arith)) answered.0)
 ops_fine m (AddChannel config ∷ ops) (OpAlloc ∷ []) after answered plain few = refl
+ops_fine m (IceRestart keep ∷ ops) (Creds creds ∷ answers) after answered plain few = ops_fine m ops answers after answered plain (omega arith)
+ops_fine m (IceRestart keep ∷ ops) (OpAlloc ∷ []) after answered plain few = refl
 ops_fine m ops answers after answered plain few = absurd answered

@@ -6,13 +6,13 @@ use Rattle.rtc_sdp_values.specs.Direction.{same_direction}
 use Rattle.rtc_sdp_values.specs.declared.direction.Direction.{Direction}
 use Rattle.rtc_sdp_values.specs.declared.line_row.LineRow.{LineRow}
 use Rattle.rtc_sdp_values.specs.declared.line_row.LineRow.TheVariants.{Media, App}
-use Rattle.rtc_change.specs.RowChanges.{RowChange, directed_row, stopped_row, row_after_change, changed_at, is_changed, media_mid}
-use Rattle.rtc_change.proofs.RowChangeLemmas.{KeepsRow, directed_row_keeps, stopped_row_keeps, changed_at_alike}
+use Rattle.rtc_tables.specs.RowChanges.{RowChange, directed_row, stopped_row, row_after_change, changed_at, is_changed, media_mid}
+use Rattle.rtc_tables.proofs.RowChangeLemmas.{KeepsRow, directed_row_keeps, stopped_row_keeps, changed_at_alike}
 use Rattle.rtc_channels.specs.Channels.{Channels}
 use Rattle.rtc_history.specs.declared.op.Op.{Op}
-use Rattle.rtc_history.specs.declared.op.Op.TheVariants.{AddMedia, SetDirection, StopMedia, AddChannel}
+use Rattle.rtc_history.specs.declared.op.Op.TheVariants.{AddMedia, SetDirection, StopMedia, AddChannel, IceRestart}
 use Rattle.rtc_history.specs.declared.op_answer.OpAnswer.{OpAnswer}
-use Rattle.rtc_history.specs.declared.op_answer.OpAnswer.TheVariants.{Mid, Changed, NoLine, Channel, BadChannel, Alloc as OpAlloc}
+use Rattle.rtc_history.specs.declared.op_answer.OpAnswer.TheVariants.{Mid, Changed, NoLine, Channel, BadChannel, Alloc as OpAlloc, Creds}
 use Rattle.rtc_history.specs.Memory.{answers_lack}
 use Rattle.rtc_history.specs.Answers.{has_app_row, added, do_stage, do_need_offer, with_numbered, is_bad}
 use Rattle.rtc_history.specs.Sound.{Midway, HasNoLine, OpsAnswered}
@@ -176,6 +176,10 @@ ops_seen rows held app channels (AddMedia kind dir ∷ ops) (OpAlloc ∷ []) aft
 ops_seen rows held app channels (SetDirection at dir ∷ ops) (OpAlloc ∷ []) after answered enough fine = absurd (cc)
 ops_seen rows held app channels (StopMedia at ∷ ops) (OpAlloc ∷ []) after answered enough fine = absurd (cc)
 ops_seen rows held app channels (AddChannel config ∷ ops) (OpAlloc ∷ []) after answered enough fine = absurd (cc)
+ops_seen rows held app channels (IceRestart keep ∷ ops) (Creds creds ∷ answers) after answered enough fine =
+    let rest = ops_seen rows held app channels ops answers after answered enough fine in
+    record { left = rest.left; staged = refl; adds = rest.adds; alone = λ none. refl }
+ops_seen rows held app channels (IceRestart keep ∷ ops) (OpAlloc ∷ []) after answered enough fine = absurd (cc)
 ops_seen rows held app channels ops answers after answered enough fine = absurd answered
 
 -- ---- names

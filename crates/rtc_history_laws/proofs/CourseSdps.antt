@@ -4,9 +4,9 @@ use Rattle.std.specs.Prelude.{slice_get}
 use Rattle.rtc_sdp_values.specs.declared.line_row.LineRow.{LineRow}
 use Rattle.rtc_sdp_values.specs.declared.line_row.LineRow.TheVariants.{Media, App}
 use Rattle.rtc_sdp_values.specs.declared.media_kind.MediaKind.TheVariants.{Audio, Video}
-use Rattle.rtc_change.specs.Table.{IsTable, row_of}
+use Rattle.rtc_tables.specs.Table.{IsTable, row_of}
 use Rattle.rtc_change.specs.TableAfter.{rows_after, row_after}
-use Rattle.rtc_change.proofs.TableLemmas.{row_of_its_mid}
+use Rattle.rtc_tables.proofs.TableLemmas.{row_of_its_mid}
 use Rattle.rtc_history.specs.SaidRows.{row_said}
 use Rattle.rtc_history.specs.CourseRows.{unnamed, course_row_after, course_rows_after}
 use Rattle.rtc_history_laws.proofs.FinishedRounds.{none_of_mid}

@@ -1,5 +1,5 @@
 -- Where a step that is in order leads in a course.
-use Rattle.std.proofs.Common.{◌≡◌, ◌+◌, ◌==◌, ℕ, Bool, true, false, not, ◌&&◌, ◌||◌, List, ◌++◌, Some, None, refl, sym, ◌∙◌, ap, cond}
+use Rattle.std.proofs.Common.{◌≡◌, ◌+◌, ◌==◌, ℕ, Bool, true, false, not, ◌&&◌, ◌||◌, List, ◌++◌, Some, None, refl, sym, ◌∙◌, ap, cond, length, [], ◌∷◌, ◌≢◌, arith}
 use Rattle.std.proofs.lemmas.Bool.{eqb-true, and_parts, or_from}
 use Rattle.rtc_sdp_values.specs.declared.line_row.LineRow.{LineRow}
 use Rattle.rtc_history.specs.declared.side.Side.{Side}
@@ -7,7 +7,7 @@ use Rattle.rtc_history.specs.declared.side.Side.TheVariants.{Left, Right}
 use Rattle.rtc_history.specs.declared.op.Op.{Op}
 use Rattle.rtc_history.specs.Sides.{same_side, other_side}
 use Rattle.rtc_history.specs.CourseRows.{must_offer, rows_added, do_stop_first, do_add_odd_channel, course_rows_after}
-use Rattle.rtc_history.specs.Orderly.{Phase, Idle, AwaitsAnswer, AwaitsEnd, Course, course_rows, moved_on, after_offering, do_supersede, after_fitting, after_ops, after_offer, after_answer}
+use Rattle.rtc_history.specs.Orderly.{Phase, Idle, AwaitsAnswer, AwaitsEnd, Course, course_rows, moved_on, after_offering, do_supersede, after_fitting, after_ops, after_offer, after_answer, offering}
 use Rattle.rtc_history_laws.proofs.Tells.{same_side-true}
 
 same_course : (one other : Course) → Some one ≡ Some other → one ≡ other
@@ -45,7 +45,14 @@ quiet_course apply at ops course course' rows is quiet =
 -- where ops that offer lead
 pub record OffersAt (at : Side) (course course' : Course) (rows said : List LineRow) : Type 0 where
   pub idle : course.phase ≡ Idle
+  pub some : length said ≢ 0
   pub course_is : moved_on at course rows (course.sdps + 1) (AwaitsAnswer at course.sdps said) ≡ course'
+
+-- an offer is of at least one line
+lines_offered : (at : Side) (course course' : Course) (rows said : List LineRow) → offering at course rows said ≡ Some course'
+    → (length said ≢ 0) × (moved_on at course rows (course.sdps + 1) (AwaitsAnswer at course.sdps said) ≡ course')
+lines_offered at course course' rows [] after = absurd (cc)
+lines_offered at course course' rows (line ∷ lines) after = (λ none. omega arith, same_course _ course' after)
 
 pub offer_course : (apply : Bool) (at : Side) (ops : List Op) (course course' : Course) (rows : List LineRow) → after_ops apply at ops course rows ≡ Some course' → (apply && must_offer ops (course_rows at course)) ≡ true
     → OffersAt at course course' rows (rows ++ rows_added rows ops)
@@ -53,7 +60,7 @@ offer_course apply at ops course course' rows is offers =
     by course.phase refl (sym (ap (λ b. cond b (after_offering at course rows (rows_added rows ops) course.phase) (Some (moved_on at course rows course.sdps course.phase))) offers) ∙ fitting apply at ops course course' rows is)
   where
     by : (phase : Phase) → course.phase ≡ phase → after_offering at course rows (rows_added rows ops) phase ≡ Some course' → OffersAt at course course' rows (rows ++ rows_added rows ops)
-    by Idle is after = record { idle = is; course_is = same_course _ course' after }
+    by Idle is after = let lines = lines_offered at course course' rows (rows ++ rows_added rows ops) after in record { idle = is; some = lines.0; course_is = lines.1 }
     by (AwaitsAnswer side n said) is after = absurd (cc)
     by (AwaitsEnd side n m said) is after = absurd (cc)
 

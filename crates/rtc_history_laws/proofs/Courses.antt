@@ -1,13 +1,14 @@
 -- What a course of orderly steps says of a past, and that it says so of the past after one more step.
+use Rattle.rtc_change.specs.Held.{Held}
 use Rattle.std.proofs.Common.{◌≡◌, ℕ, true, false, List, ◌∷◌, ◌++◌, map, length, Option, Some, None, refl, sym, ◌∙◌, ap, subst, arith, length-append}
 use Rattle.std.proofs.lemmas.List.{length-map}
 use Rattle.rtc_sdp_values.specs.LineRow.{row_mid}
 use Rattle.rtc_sdp_values.specs.declared.line_row.LineRow.{LineRow}
 use Rattle.rtc_sdp_values.specs.declared.sdp.Sdp.{Sdp}
-use Rattle.rtc_change.specs.ParsedLines.{parsed_lines}
-use Rattle.rtc_change.specs.Table.{IsTable}
+use Rattle.rtc_tables.specs.ParsedLines.{parsed_lines}
+use Rattle.rtc_tables.specs.Table.{IsTable}
 use Rattle.rtc_change.specs.TableAfter.{table_after, rows_after}
-use Rattle.rtc_change.specs.Plans.{verdict}
+use Rattle.rtc_change.specs.Plans.{verdict, side_verdict}
 use Rattle.rtc_history.specs.declared.side.Side.{Side}
 use Rattle.rtc_history.specs.declared.side.Side.TheVariants.{Left, Right}
 use Rattle.rtc_history.specs.declared.step.Step.{Step}
@@ -16,12 +17,12 @@ use Rattle.rtc_history.specs.declared.outcome.Outcome.{Outcome}
 use Rattle.rtc_history.specs.declared.outcome.Outcome.TheVariants.{Answered, Finished}
 use Rattle.rtc_history.specs.declared.table.Table.{Table}
 use Rattle.rtc_history.specs.Sides.{same_side, other_side, side_of}
-use Rattle.rtc_history.specs.Past.{Entry, MadeSdp, before, rows_or, sdps, sdp_for, remote_sdp, holds_token, is_right, added_by}
+use Rattle.rtc_history.specs.Past.{Entry, MadeSdp, before, rows_or, sdps, sdp_for, remote_sdp, holds_token, is_right, added_by, restarts_by}
 use Rattle.rtc_history.specs.Sound.{IsSound, asked_in}
 use Rattle.rtc_history.specs.SaidRows.{row_said, MakesSdp}
 use Rattle.rtc_history.specs.CourseRows.{unnamed, course_rows_after}
 use Rattle.rtc_history.specs.Orderly.{Phase, Idle, AwaitsAnswer, AwaitsEnd, Course, course_rows, moved_on}
-use Rattle.rtc_history.specs.Runs.{Sound}
+use Rattle.rtc_history_laws.proofs.SoundPasts.{Sound}
 use Rattle.rtc_history_laws.proofs.Tells.{same_side-self, same_side-other}
 use Rattle.rtc_history_laws.proofs.Around.{entry}
 use Rattle.rtc_history_laws.proofs.AddedRows.{among_mids}
@@ -34,6 +35,8 @@ use Rattle.rtc_history_laws.proofs.RowsFollow.{Follows, added_follow, follows_ap
 use Rattle.rtc_history_laws.proofs.LiveRows.{KeepsLive, StartsLive, starts_are_live, starts_keep, text_live}
 use Rattle.rtc_history_laws.proofs.CourseSdps.{sdp_accepted}
 use Rattle.rtc_history_laws.proofs.RoundRows.{OfferSaid, AnswerSaid, HasOffered, IsOffered, IsAnswered, offer_passes, answer_passes}
+use Rattle.rtc_history.specs.Views.{Stances, view_in}
+use Rattle.rtc_peer_state.specs.Stance.{held_by}
 
 -- The rows of a side in a course: these without their mids, the first of them live.
 pub record IsSideOf (seen rows : List LineRow) : Type 0 where
@@ -99,7 +102,6 @@ some_same one other same = cc
 -- The offer that is outstanding may be delivered to the other side, which does not refuse it.
 pub record MayAccept (offer : OfferSaid) (at : Side) (n : ℕ) (past : List Entry) : Type 0 where
   pub remote_is : remote_sdp true (other_side at) n past ≡ Some offer.sdp
-  pub passes : verdict (record { lines = before (other_side at) past }) None offer.sdp ≡ None
   pub leaves : table_after (before (other_side at) past) (parsed_lines offer.sdp) true ≡ rows_after (before (other_side at) past) true 0 (map row_said (offer.front ++ offer.more))
   pub here : Follows (before at past) (before at past) (offer.front ++ offer.more)
   pub there : Follows (before (other_side at) past) (before (other_side at) past) (offer.front ++ offer.more)
@@ -111,8 +113,8 @@ offer_follows offer rows same =
     (added_follow rows offer.may (map row_mid offer.front) (length offer.front) offer.more offer.new (λ mid free. has_mid-aligned offer.front rows mid same ∙ sym (among_mids offer.front mid) ∙ free)
     (λ may. has_app-aligned offer.front rows same ∙ offer.first may))
 
-pub may_accept : (at : Side) (n : ℕ) (said : List LineRow) (past : List Entry) → Sound past → (it : IsOffered at n said past) → MayAccept it.offer at n past
-may_accept at n said past sound it =
+pub may_accept : (fresh : Stances) (at : Side) (n : ℕ) (said : List LineRow) (past : List Entry) → Sound fresh past → (it : IsOffered at n said past) → MayAccept it.offer at n past
+may_accept fresh at n said past sound it =
     let offer : OfferSaid = it.offer in
     let theirs : List LineRow = before (other_side at) past in
     let same : Aligned offer.front theirs = aligned_trans offer.front (before at past) theirs it.has.kept it.same in
@@ -120,11 +122,18 @@ may_accept at n said past sound it =
     let lines : length (map row_said (offer.front ++ offer.more)) ≡ length (offer.front ++ offer.more) = length-map (offer.front ++ offer.more) row_said in
     record {
       remote_is = ap (sdp_for true (other_side at)) it.has.there ∙ remote_offer at offer.sdp;
-      passes = offer_passes theirs (offer.front ++ offer.more) offer.sdp (past_table past (other_side at) sound) there offer.whole.one_app offer.says offer.fits offer.live;
       leaves = ap (λ list. table_after theirs list true) offer.says ∙ taken_whole theirs (map row_said (offer.front ++ offer.more)) true (omega (arith, length-aligned offer.front theirs same, length-append offer.front offer.more));
       here = offer_follows offer (before at past) it.has.kept;
       there = there;
     }
+
+-- the other side does not refuse the offer, where that tells of its side what it has to
+pub accept_passes : (fresh : Stances) (at : Side) (n : ℕ) (said : List LineRow) (past : List Entry) (view : Held) → Sound fresh past → (it : IsOffered at n said past) → view.lines ≡ before (other_side at) past
+    → side_verdict view true it.offer.sdp ≡ None → verdict view None it.offer.sdp ≡ None
+accept_passes fresh at n said past view sound it is side =
+    let offer : OfferSaid = it.offer in
+    let same : Aligned offer.front view.lines = rw is (aligned_trans offer.front (before at past) (before (other_side at) past) it.has.kept it.same) in
+    offer_passes view (offer.front ++ offer.more) offer.sdp (subst IsTable (sym is) (past_table fresh past (other_side at) sound)) (offer_follows offer view.lines same) offer.whole.one_app offer.says offer.fits offer.live side
 
 -- an offer stays outstanding as the other side accepts it
 offer_stays : (offer : OfferSaid) (at : Side) (n : ℕ) (past : List Entry) (k j : ℕ) (table : Option Table) (made : List MadeSdp) → HasOffered offer at n past
@@ -143,23 +152,23 @@ pub record Accepted (at : Side) (n m : ℕ) (said : List LineRow) (past : List E
   pub side : IsSideOf said table.lines
 
 -- The other side has accepted the offer.
-pub accepted_next : (at : Side) (n m : ℕ) (said seen : List LineRow) (past : List Entry) (j : ℕ) (table : Table) (made : List MadeSdp) → Sound past → IsOffered at n said past
+pub accepted_next : (fresh between : Stances) (at : Side) (n m : ℕ) (said seen : List LineRow) (past : List Entry) (j : ℕ) (table : Table) (made : List MadeSdp) → Sound fresh past → IsOffered at n said past
     → IsSideOf seen (before (other_side at) past) → m ≡ length (sdps past)
-    → IsSound past (AcceptOffer (other_side at) n) (Answered j) (Some table) made → MakesSdp (AcceptOffer (other_side at) n) (Answered j) (Some table) made
+    → IsSound fresh past between (AcceptOffer (other_side at) n) (Answered j) (Some table) made → MakesSdp (AcceptOffer (other_side at) n) (Answered j) (Some table) made
     → Accepted at n m (course_rows_after true 0 seen said) (entry (AcceptOffer (other_side at) n) (Answered j) (Some table) made ∷ past) table
-accepted_next at n m said seen past j table made sound out side count replied says =
-    let may : MayAccept out.offer at n past = may_accept at n said past sound out in
-    let it = answered (remote_sdp true (other_side at) n past) theirs (length (sdps past)) j table.lines replied.0 in
+accepted_next fresh between at n m said seen past j table made sound out side count replied says =
+    let may : MayAccept out.offer at n past = may_accept fresh at n said past sound out in
+    let it = answered (remote_sdp true (other_side at) n past) (view_in fresh (other_side at) past (held_by (between (other_side at)))) (length (sdps past)) j table.lines replied.0 in
     let text_is : it.offer ≡ out.offer.sdp = some_same _ _ (sym it.is ∙ may.remote_is) in
     let after : table.lines ≡ rows_after theirs true 0 (map row_said offered) = it.leaves ∙ ap (λ sdp. table_after theirs (parsed_lines sdp) true) text_is ∙ may.leaves in
-    let table_of : IsTable theirs = past_table past (other_side at) sound in
+    let table_of : IsTable theirs = past_table fresh past (other_side at) sound in
     let apps : SayApps theirs offered = follows_say theirs 0 theirs offered table_of (all_left theirs) may.there in
     let names : Aligned offered table.lines = rw after (after_aligned theirs true 0 offered offered apps (aligned_self offered)) in
     let follows : Follows mine mine table.lines = rw after (answer_follows mine theirs mine theirs offered 0 apps out.same may.here may.there) in
-    let live : StartsLive table.lines = rw after (text_live theirs true offered (past_table past (other_side at) sound) may.there side.live out.offer.live) in
-    let left : IsTable table.lines = reply_table past (AcceptOffer (other_side at) n) (Answered j) (Some table) made replied table_of in
+    let live : StartsLive table.lines = rw after (text_live theirs true offered (past_table fresh past (other_side at) sound) may.there side.live out.offer.live) in
+    let left : IsTable table.lines = reply_table fresh between past (AcceptOffer (other_side at) n) (Answered j) (Some table) made replied table_of in
     let are : map unnamed table.lines ≡ course_rows_after true 0 seen said =
-    ap (map unnamed) after ∙ sdp_accepted theirs true offered (past_table past (other_side at) sound) may.there
+    ap (map unnamed) after ∙ sdp_accepted theirs true offered (past_table fresh past (other_side at) sound) may.there
     ∙ ap (λ list. course_rows_after true 0 list (map unnamed offered)) side.are ∙ ap (λ list. course_rows_after true 0 seen list) out.are in
     record {
       phase = record {
@@ -193,25 +202,33 @@ pub record MayEnd (answer : AnswerSaid) (at : Side) (n m : ℕ) (past : List Ent
   pub held : holds_token at n past ≡ true
   pub right : is_right at n past ≡ true
   pub remote_is : remote_sdp false at m past ≡ Some answer.sdp
-  pub passes : verdict (record { lines = before at past }) (Some (asked_in at n past)) answer.sdp ≡ None
   pub leaves : table_after (before at past) (parsed_lines answer.sdp) false ≡ rows_after (before at past) false 0 (map row_said answer.rows)
 
-pub may_end : (at : Side) (n m : ℕ) (said : List LineRow) (past : List Entry) → Sound past → (it : IsAnswered at n m said past) → MayEnd it.answer at n m past
-may_end at n m said past sound it =
+pub may_end : (fresh : Stances) (at : Side) (n m : ℕ) (said : List LineRow) (past : List Entry) → Sound fresh past → (it : IsAnswered at n m said past) → MayEnd it.answer at n m past
+may_end fresh at n m said past sound it =
     let offer : OfferSaid = it.offer in
     let answer : AnswerSaid = it.answer in
     let mine : List LineRow = before at past in
     let few : length mine ≡ length offer.front = length-aligned offer.front mine it.has.kept in
-    let adds : added_by (length mine) n past ≡ offer.more = ap (λ (k : ℕ). added_by k n past) few ∙ it.has.adds in
     let lines : length (map row_said answer.rows) ≡ length answer.rows = length-map answer.rows row_said in
     record {
       held = rw (it.has.there, it.has.unspent, same_side-self at) refl;
       right = it.has.right;
       remote_is = ap (sdp_for false at) it.answered.there ∙ remote_answer at answer.sdp;
-      passes = rw adds (answer_passes mine offer answer.rows answer.sdp (past_table past at sound) it.answered.mine answer.table.one_app it.answered.offered it.has.kept answer.says answer.fits);
       leaves = ap (λ list. table_after mine list false) answer.says
           ∙ taken_whole mine (map row_said answer.rows) false (omega (arith, length-aligned (offer.front ++ offer.more) answer.rows it.answered.offered, length-append offer.front offer.more));
     }
+
+-- the side that offered does not refuse the answer, where that tells of its side what it has to
+pub end_passes : (fresh : Stances) (at : Side) (n m : ℕ) (said : List LineRow) (past : List Entry) (view : Held) → Sound fresh past → (it : IsAnswered at n m said past) → view.lines ≡ before at past
+    → side_verdict view (restarts_by n past) it.answer.sdp ≡ None → verdict view (Some (asked_in at n past)) it.answer.sdp ≡ None
+end_passes fresh at n m said past view sound it is side =
+    let offer : OfferSaid = it.offer in
+    let answer : AnswerSaid = it.answer in
+    let few : length (before at past) ≡ length offer.front = length-aligned offer.front (before at past) it.has.kept in
+    let adds : added_by (length (before at past)) n past ≡ offer.more = ap (λ (k : ℕ). added_by k n past) few ∙ it.has.adds in
+    rw adds (answer_passes view (restarts_by n past) offer answer.rows answer.sdp (subst IsTable (sym is) (past_table fresh past at sound))
+    (rw is (it.answered.mine)) answer.table.one_app it.answered.offered (rw is it.has.kept) answer.says answer.fits side)
 
 -- What the side is left with that offered, and has accepted the answer.
 pub record Ended (said : List LineRow) (past : List Entry) (table : Table) : Type 0 where
@@ -219,21 +236,21 @@ pub record Ended (said : List LineRow) (past : List Entry) (table : Table) : Typ
   pub side : IsSideOf said table.lines
 
 -- The side that offered has accepted the answer.
-pub ended_next : (at : Side) (n m : ℕ) (said seen : List LineRow) (past : List Entry) (table : Table) (made : List MadeSdp) → Sound past → IsAnswered at n m said past
-    → IsSideOf seen (before at past) → IsSound past (AcceptAnswer at n m) Finished (Some table) made
+pub ended_next : (fresh between : Stances) (at : Side) (n m : ℕ) (said seen : List LineRow) (past : List Entry) (table : Table) (made : List MadeSdp) → Sound fresh past → IsAnswered at n m said past
+    → IsSideOf seen (before at past) → IsSound fresh past between (AcceptAnswer at n m) Finished (Some table) made
     → Ended (course_rows_after false 0 seen said) (entry (AcceptAnswer at n m) Finished (Some table) made ∷ past) table
-ended_next at n m said seen past table made sound out side replied =
-    let may : MayEnd out.answer at n m past = may_end at n m said past sound out in
-    let it = answer_taken (holds_token at n past) (is_right at n past) (asked_in at n past) (remote_sdp false at m past) mine table.lines replied.0 in
+ended_next fresh between at n m said seen past table made sound out side replied =
+    let may : MayEnd out.answer at n m past = may_end fresh at n m said past sound out in
+    let it = answer_taken (holds_token at n past) (is_right at n past) (asked_in at n past) (remote_sdp false at m past) (view_in fresh at past (held_by (between at))) table.lines replied.0 in
     let text_is : it.answer ≡ out.answer.sdp = some_same _ _ (sym it.is ∙ may.remote_is) in
     let after : table.lines ≡ rows_after mine false 0 (map row_said rows) = it.leaves ∙ ap (λ sdp. table_after mine (parsed_lines sdp) false) text_is ∙ may.leaves in
-    let apps : SayApps mine rows = follows_say mine 0 mine rows (past_table past at sound) (all_left mine) out.answered.mine in
+    let apps : SayApps mine rows = follows_say mine 0 mine rows (past_table fresh past at sound) (all_left mine) out.answered.mine in
     let names : Aligned rows table.lines = rw after (after_aligned mine false 0 rows rows apps (aligned_self rows)) in
-    let live : StartsLive table.lines = rw after (text_live mine false rows (past_table past at sound) out.answered.mine side.live out.answer.live) in
+    let live : StartsLive table.lines = rw after (text_live mine false rows (past_table fresh past at sound) out.answered.mine side.live out.answer.live) in
     record {
       phase = aligned_from at (entry (AcceptAnswer at n m) Finished (Some table) made ∷ past) (rw (same_side-self at, same_side-other at) (aligned_trans theirs rows table.lines (aligned_sym rows theirs out.answered.theirs) names));
       side = record {
-        are = ap (map unnamed) after ∙ sdp_accepted mine false rows (past_table past at sound) out.answered.mine
+        are = ap (map unnamed) after ∙ sdp_accepted mine false rows (past_table fresh past at sound) out.answered.mine
             ∙ ap (λ list. course_rows_after false 0 list (map unnamed rows)) side.are ∙ ap (λ list. course_rows_after false 0 seen list) out.are;
         live = starts_keep table.lines live;
       };

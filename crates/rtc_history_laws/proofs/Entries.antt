@@ -7,53 +7,53 @@ use Rattle.std.proofs.lemmas.List.{map-append}
 use Rattle.std.proofs.lemmas.List.Elements.{All-weaker, All-push}
 use Rattle.std.proofs.lemmas.Option.{slice_get-map}
 use Rattle.rtc_change.specs.PendingOffer.{PendingOffer}
-use Rattle.rtc_peer_state.specs.declared.peer.Peer.{Peer}
+use Rattle.rtc_peer_state.specs.Stance.{Stance}
 use Rattle.rtc_history.specs.declared.side.Side.{Side}
 use Rattle.rtc_history.specs.Sides.{same_side, other_side, side_of}
 use Rattle.rtc_history.specs.Past.{Entry, MadeSdp, before, rows_or, sdps, spends, is_spent, is_offer_of, holds_token, moves, makes}
 use Rattle.rtc_history.specs.declared.kept.Kept.{Kept}
-use Rattle.rtc_history.specs.PairState.{PairState, peer_at, made_sdp, token_for}
-use Rattle.rtc_history.specs.Performs.{made_by}
+use Rattle.rtc_history.specs.PairState.{made_sdp, token_for}
 use Rattle.rtc_history_laws.proofs.PushedLists.{push_places}
 use Rattle.rtc_history.proofs.BothSides.{both_sides}
 use Rattle.rtc_history_laws.proofs.Tells.{TokenTells, ChannelsTell, SideTells, Tells, IsUntold, Fits, HeldBefore, same_side-self, same_side-other, token_next, no_token, held_before, fits_moved, fits_same, side_next, side_stays}
+use Rattle.rtc_history_laws.proofs.StanceSteps.{PairStance, made_by}
 
 -- What a new entry leaves, whatever it makes: rows and counter of its side, and the other side as it was.
-pub record Goes {N : Type 0} (moved : Bool) (past : List Entry) (e : Entry) (old new : PairState N) : Type 0 where
-  pub rows : (peer_at (side_of e.step) new).lines ≡ rows_or true e.table (before (side_of e.step) past)
-  pub channels : ChannelsTell (e ∷ past) (side_of e.step) (peer_at (side_of e.step) new).channels
-  pub counter : (peer_at (side_of e.step) new).counter ≡ cond moved ((peer_at (side_of e.step) old).counter + 1) (peer_at (side_of e.step) old).counter
-  pub other : peer_at (other_side (side_of e.step)) new ≡ peer_at (other_side (side_of e.step)) old
+pub record Goes (moved : Bool) (past : List Entry) (e : Entry) (old new : PairStance) : Type 0 where
+  pub rows : (new.sides (side_of e.step)).lines ≡ rows_or true e.table (before (side_of e.step) past)
+  pub channels : ChannelsTell (e ∷ past) (side_of e.step) (new.sides (side_of e.step)).channels
+  pub counter : (new.sides (side_of e.step)).counter ≡ cond moved ((old.sides (side_of e.step)).counter + 1) (old.sides (side_of e.step)).counter
+  pub other : new.sides (other_side (side_of e.step)) ≡ old.sides (other_side (side_of e.step))
   pub mine : moves (side_of e.step) e.step e.outcome ≡ moved
   pub theirs : moves (other_side (side_of e.step)) e.step e.outcome ≡ false
-  pub few : length (peer_at (side_of e.step) new).lines ≤ new.size
+  pub few : length (new.sides (side_of e.step)).lines ≤ new.size
   pub grows : old.size + 1 ≤ new.size
   pub small : new.size < 2 ^ 32
   pub made : e.made ≡ made_by old new
 
 -- the SDPs that a pair keeps, after an entry
-pub record TextsNext {N : Type 0} (past : List Entry) (e : Entry) (old new : PairState N) : Type 0 where
+pub record TextsNext (past : List Entry) (e : Entry) (old new : PairStance) : Type 0 where
   pub says : map made_sdp new.sdps ≡ sdps (e ∷ past)
   pub later : (t : ℕ) → length (sdps (e ∷ past)) ≤ t → is_spent t (e ∷ past) ≡ false
   pub count : length new.sdps ≤ length old.sdps + 1
   pub each : All (λ kept. length kept.sdp.lines ≤ new.size) new.sdps
 
-pub rows_told : {N : Type 0} (moved : Bool) (past : List Entry) (e : Entry) (old new : PairState N) → Goes moved past e old new
-    → (peer_at (side_of e.step) new).lines ≡ before (side_of e.step) (e ∷ past)
+pub rows_told : (moved : Bool) (past : List Entry) (e : Entry) (old new : PairStance) → Goes moved past e old new
+    → (new.sides (side_of e.step)).lines ≡ before (side_of e.step) (e ∷ past)
 rows_told moved past e old new goes = goes.rows ∙ sym (ap (λ b. rows_or b e.table (before (side_of e.step) past)) (same_side-self (side_of e.step)))
 
-pub tells_next : {N : Type 0} (moved : Bool) (past : List Entry) (e : Entry) (old new : PairState N) → Goes moved past e old new → TextsNext past e old new
-    → SideTells (e ∷ past) (side_of e.step) (peer_at (side_of e.step) new) new.sdps new.size
+pub tells_next : (moved : Bool) (past : List Entry) (e : Entry) (old new : PairStance) → Goes moved past e old new → TextsNext past e old new
+    → SideTells (e ∷ past) (side_of e.step) (new.sides (side_of e.step)) new.sdps new.size
     → HeldBefore (other_side (side_of e.step)) old.sdps new.sdps
-    → ((t : ℕ) → TokenTells (e ∷ past) (other_side (side_of e.step)) (peer_at (other_side (side_of e.step)) old).counter t (slice_get new.sdps t))
+    → ((t : ℕ) → TokenTells (e ∷ past) (other_side (side_of e.step)) (old.sides (other_side (side_of e.step))).counter t (slice_get new.sdps t))
     → Tells past old → Tells (e ∷ past) new
 tells_next moved past e old new goes kept mine was tokens tells =
     let at = side_of e.step in
-    let there : SideTells (e ∷ past) (other_side at) (peer_at (other_side at) old) new.sdps new.size =
-    side_stays past e (other_side at) (peer_at (other_side at) old) old.sdps new.sdps old.size new.size (same_side-other at) goes.grows was tokens (tells.sides (other_side at)) in
+    let there : SideTells (e ∷ past) (other_side at) (old.sides (other_side at)) new.sdps new.size =
+    side_stays past e (other_side at) (old.sides (other_side at)) old.sdps new.sdps old.size new.size (same_side-other at) goes.grows was tokens (tells.sides (other_side at)) in
     let count : length old.sdps ≤ old.size = tells.count in
     record {
-      sides = both_sides (λ side. SideTells (e ∷ past) side (peer_at side new) new.sdps new.size) at mine (rw goes.other there);
+      sides = both_sides (λ side. SideTells (e ∷ past) side (new.sides side) new.sdps new.size) at mine (rw goes.other there);
       says = kept.says;
       later = kept.later;
       count = omega (arith, kept.count, goes.grows);
@@ -68,23 +68,23 @@ each_grown kept size size' grows each =
     at_most n few = omega arith
 
 -- what a past says of an SDP is what is kept of it
-pub said_at : {N : Type 0} (past : List Entry) (pair : PairState N) (t : ℕ) → map made_sdp pair.sdps ≡ sdps past → slice_get (sdps past) t ≡ option_map made_sdp (slice_get pair.sdps t)
+pub said_at : (past : List Entry) (pair : PairStance) (t : ℕ) → map made_sdp pair.sdps ≡ sdps past → slice_get (sdps past) t ≡ option_map made_sdp (slice_get pair.sdps t)
 said_at past pair t says = ap (λ said. slice_get said t) (sym says) ∙ slice_get-map made_sdp pair.sdps t
 
 -- an SDP that is kept as it was
-pub same_offer : {N : Type 0} (past : List Entry) (e : Entry) (old new : PairState N) (side : Side) (t : ℕ) → map made_sdp old.sdps ≡ sdps past → map made_sdp new.sdps ≡ sdps (e ∷ past)
+pub same_offer : (past : List Entry) (e : Entry) (old new : PairStance) (side : Side) (t : ℕ) → map made_sdp old.sdps ≡ sdps past → map made_sdp new.sdps ≡ sdps (e ∷ past)
     → option_map made_sdp (slice_get new.sdps t) ≡ option_map made_sdp (slice_get old.sdps t) → is_offer_of side (slice_get (sdps (e ∷ past)) t) ≡ is_offer_of side (slice_get (sdps past) t)
 same_offer past e old new side t says says' same = ap (is_offer_of side) (said_at (e ∷ past) new t says' ∙ same ∙ sym (said_at past old t says))
 
 -- ---- an entry that makes no SDP
 
-fits_unmade : {N : Type 0} (moved : Bool) (past : List Entry) (at : Side) (old new : Peer N) (kept kept' : List Kept) (size size' : ℕ)
+fits_unmade : (moved : Bool) (past : List Entry) (at : Side) (old new : Stance) (kept kept' : List Kept) (size size' : ℕ)
     → new.counter ≡ cond moved (old.counter + 1) old.counter → length new.lines ≡ length old.lines → size < 2 ^ 32 → size ≤ size' → HeldBefore at kept kept' → SideTells past at old kept size → Fits at new kept' size'
 fits_unmade true past at old new kept kept' size size' counter lines small grows was told = fits_moved past at old new kept kept' size size' counter small was told
 fits_unmade false past at old new kept kept' size size' counter lines small grows was told = fits_same past at old new kept kept' size size' counter lines grows was told
 
-pub unmade_tells : {N : Type 0} (moved : Bool) (past : List Entry) (e : Entry) (old new : PairState N) → Goes moved past e old new
-    → length (peer_at (side_of e.step) new).lines ≡ length (peer_at (side_of e.step) old).lines → new.sdps ≡ old.sdps
+pub unmade_tells : (moved : Bool) (past : List Entry) (e : Entry) (old new : PairStance) → Goes moved past e old new
+    → length (new.sides (side_of e.step)).lines ≡ length (old.sides (side_of e.step)).lines → new.sdps ≡ old.sdps
     → ((t : ℕ) → spends t e.step e.outcome ≡ false) → ((t : ℕ) → makes t e.outcome ≡ false) → Tells past old → Tells (e ∷ past) new
 unmade_tells moved past e old new goes lines kept unspent unmade tells =
     let at = side_of e.step in
@@ -101,9 +101,9 @@ unmade_tells moved past e old new goes lines kept unspent unmade tells =
       count = let n : length new.sdps ≡ length old.sdps = ap length kept in omega arith;
       each = rw kept (each_grown old.sdps old.size new.size size tells.each);
     })
-    (side_next moved past e at (peer_at at old) (peer_at at new) old.sdps new.sdps old.size new.size (rows_told moved past e old new goes) goes.counter goes.grows goes.few (was at)
+    (side_next moved past e at (old.sides at) (new.sides at) old.sdps new.sdps old.size new.size (rows_told moved past e old new goes) goes.counter goes.grows goes.few (was at)
     (λ t. rw kept (token_next moved past e at _ t _ (untold at t) goes.mine ((tells.sides at).tokens t)))
-    (fits_unmade moved past at (peer_at at old) (peer_at at new) old.sdps new.sdps old.size new.size goes.counter lines small size (was at) (tells.sides at))
+    (fits_unmade moved past at (old.sides at) (new.sides at) old.sdps new.sdps old.size new.size goes.counter lines small size (was at) (tells.sides at))
     goes.channels (tells.sides at))
     (was (other_side at))
     (λ t. rw kept (token_next false past e (other_side at) _ t _ (untold (other_side at) t) goes.theirs ((tells.sides (other_side at)).tokens t)))
@@ -112,7 +112,7 @@ unmade_tells moved past e old new goes lines kept unspent unmade tells =
 -- ---- an entry that makes an SDP
 
 -- the SDP that an entry makes is the last
-pub says_pushed : {N : Type 0} (past : List Entry) (e : Entry) (old new : PairState N) (kept : Kept) → e.made ≡ made_by old new → new.sdps ≡ old.sdps ++ kept ∷ []
+pub says_pushed : (past : List Entry) (e : Entry) (old new : PairStance) (kept : Kept) → e.made ≡ made_by old new → new.sdps ≡ old.sdps ++ kept ∷ []
     → map made_sdp old.sdps ≡ sdps past → map made_sdp new.sdps ≡ sdps (e ∷ past)
 says_pushed past e old new kept made pushed says =
     ap (map made_sdp) pushed ∙ map-append made_sdp old.sdps (kept ∷ []) ∙ ap (λ said. said ++ made_sdp kept ∷ []) says
@@ -121,7 +121,7 @@ says_pushed past e old new kept made pushed says =
 fewer : (xs ys : List MadeSdp) (t : ℕ) → length (xs ++ ys) ≤ t → length xs ≤ t
 fewer xs ys t h = omega (arith, length-append xs ys)
 
-pub texts_pushed : {N : Type 0} (past : List Entry) (e : Entry) (old new : PairState N) (kept : Kept) → e.made ≡ made_by old new → new.sdps ≡ old.sdps ++ kept ∷ []
+pub texts_pushed : (past : List Entry) (e : Entry) (old new : PairStance) (kept : Kept) → e.made ≡ made_by old new → new.sdps ≡ old.sdps ++ kept ∷ []
     → old.size ≤ new.size → length kept.sdp.lines ≤ new.size → ((t : ℕ) → spends t e.step e.outcome ≡ false) → Tells past old → TextsNext past e old new
 texts_pushed past e old new kept made pushed size few unspent tells = record {
   says = says_pushed past e old new kept made pushed tells.says;
@@ -142,7 +142,7 @@ tokenless at kept none = ap (λ token. cond (same_side kept.at at) token None) n
 pub unheld : (past : List Entry) (side : Side) (t : ℕ) (said : Option MadeSdp) → slice_get (sdps past) t ≡ said → is_offer_of side said ≡ false → holds_token side t past ≡ false
 unheld past side t said is none = rw (is, none) refl
 
-pub answered_tells : {N : Type 0} (past : List Entry) (e : Entry) (old new : PairState N) (kept : Kept) → Goes true past e old new
+pub answered_tells : (past : List Entry) (e : Entry) (old new : PairStance) (kept : Kept) → Goes true past e old new
     → kept.offer ≡ false → kept.token ≡ None → length kept.sdp.lines ≤ new.size → new.sdps ≡ old.sdps ++ kept ∷ []
     → ((t : ℕ) → spends t e.step e.outcome ≡ false) → ((t : ℕ) → makes t e.outcome ≡ false) → Tells past old → Tells (e ∷ past) new
 answered_tells past e old new kept goes answer none few pushed unspent unmade tells =
@@ -160,12 +160,12 @@ answered_tells past e old new kept goes answer none few pushed unspent unmade te
     λ side counter t there. no_token (e ∷ past) side counter t (Some kept) (tokenless side kept none)
     (unheld (e ∷ past) side t (Some (made_sdp kept)) (said_at (e ∷ past) new t says ∙ ap (option_map made_sdp) there) (and_left kept.offer (same_side kept.at side) answer)) in
     tells_next true past e old new goes (texts_pushed past e old new kept goes.made pushed size few unspent tells)
-    (side_next true past e at (peer_at at old) (peer_at at new) old.sdps new.sdps old.size new.size (rows_told true past e old new goes) goes.counter goes.grows goes.few (was at)
+    (side_next true past e at (old.sides at) (new.sides at) old.sdps new.sdps old.size new.size (rows_told true past e old new goes) goes.counter goes.grows goes.few (was at)
     (λ t. elim (place t) [
       | inl h ↦ rw h.1 (token_next true past e at _ t _ (untold at t h.1) goes.mine ((tells.sides at).tokens t))
       | inr h ↦ rw h.2 (last at _ t h.2)
     ])
-    (fits_moved past at (peer_at at old) (peer_at at new) old.sdps new.sdps old.size new.size goes.counter small (was at) (tells.sides at))
+    (fits_moved past at (old.sides at) (new.sides at) old.sdps new.sdps old.size new.size goes.counter small (was at) (tells.sides at))
     goes.channels (tells.sides at))
     (was (other_side at))
     (λ t. elim (place t) [

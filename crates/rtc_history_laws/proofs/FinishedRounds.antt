@@ -1,4 +1,5 @@
 -- An accepted answer that is its token's own ends the round: both ends are as was agreed.
+use Rattle.rtc_tables.specs.Verdict.{first_refusal}
 use Rattle.std.proofs.Common.{◌≡◌, ◌≤◌, ◌+◌, ℕ, Bool, true, false, not, List, [], ◌∷◌, ◌++◌, map, length, Option, Some, None, refl, sym, ◌∙◌, ap, subst, arith, max, inl, inr, append-nil, length-append}
 use Rattle.std.specs.Prelude.{slice_get}
 use Rattle.std.specs.Str.{bytes_eq}
@@ -8,14 +9,14 @@ use Rattle.rtc_sdp_values.specs.LineRow.{row_mid}
 use Rattle.rtc_sdp_values.specs.declared.line_row.LineRow.{LineRow}
 use Rattle.rtc_sdp_values.specs.declared.line_row.LineRow.TheVariants.{Media, App}
 use Rattle.rtc_sdp_values.specs.declared.sdp.Sdp.{Sdp}
-use Rattle.rtc_change.specs.declared.parsed_line.ParsedLine.{ParsedLine}
+use Rattle.rtc_tables.specs.declared.parsed_line.ParsedLine.{ParsedLine}
 use Rattle.rtc_sdp_values.specs.Mids.{is_among}
-use Rattle.rtc_change.specs.Held.{Asked}
-use Rattle.rtc_change.specs.Plans.{verdict}
-use Rattle.rtc_change.specs.ParsedLines.{parsed_lines}
-use Rattle.rtc_change.specs.Table.{IsTable, Rising, has_mid, row_of}
+use Rattle.rtc_change.specs.Held.{Held, Asked}
+use Rattle.rtc_change.specs.Plans.{verdict, wrong_news}
+use Rattle.rtc_tables.specs.ParsedLines.{parsed_lines}
+use Rattle.rtc_tables.specs.Table.{IsTable, Rising, has_mid, row_of}
 use Rattle.rtc_change.specs.TableAfter.{table_after, rows_after}
-use Rattle.rtc_change.proofs.TableLemmas.{row_of_its_mid, has_mid_row_of}
+use Rattle.rtc_tables.proofs.TableLemmas.{row_of_its_mid, has_mid_row_of}
 use Rattle.rtc_change.proofs.TableAfterLemmas.{length_table_after, length_rows_after}
 use Rattle.rtc_change.proofs.VerdictLemmas.{unrefused}
 use Rattle.rtc_history.specs.declared.side.Side.{Side}
@@ -26,12 +27,12 @@ use Rattle.rtc_history.specs.declared.outcome.Outcome.{Outcome}
 use Rattle.rtc_history.specs.declared.outcome.Outcome.TheVariants.{Finished}
 use Rattle.rtc_history.specs.declared.table.Table.{Table}
 use Rattle.rtc_history.specs.Sides.{other_side}
-use Rattle.rtc_history.specs.Past.{Entry, MadeSdp, before, sdps, sdp_for, remote_sdp, is_offer_of, holds_token, is_spent, is_right}
+use Rattle.rtc_history.specs.Past.{Entry, MadeSdp, before, sdps, sdp_for, remote_sdp, is_offer_of, holds_token, is_spent, is_right, added_by}
 use Rattle.rtc_history.specs.Sound.{RepliesToAnswer, IsSound, asked_in}
 use Rattle.rtc_history.specs.SaidRows.{row_said}
 use Rattle.rtc_history.specs.Finished.{FinishedRound}
 use Rattle.rtc_history.specs.Rounds.{is_own, has_set, rows_at_offer, EndsRound, FinishesRound}
-use Rattle.rtc_history.specs.Runs.{Sound}
+use Rattle.rtc_history_laws.proofs.SoundPasts.{Sound}
 use Rattle.rtc_history_laws.proofs.AddedRows.{AreAdded, added_rising, among_mids, rising_append}
 use Rattle.rtc_history_laws.proofs.FinishedRows.{IsKnown, AllKnown, known_each, rows_finished}
 use Rattle.rtc_history_laws.proofs.AnswerCounts.{answer_count}
@@ -39,6 +40,8 @@ use Rattle.rtc_history_laws.proofs.PastTables.{past_table}
 use Rattle.rtc_history_laws.proofs.PastOffers.{past_offer}
 use Rattle.rtc_history_laws.proofs.PastAnswers.{TookOffer, past_answer}
 use Rattle.rtc_history_laws.proofs.PastRows.{rows_since}
+use Rattle.rtc_history.specs.Views.{Stances, view_in}
+use Rattle.rtc_peer_state.specs.Stance.{held_by}
 
 -- ---- the rows of an offer
 
@@ -104,18 +107,20 @@ round_finished offerer added before rows count =
     rw (answer_is, left_is) (record { agreed = finished.agreed; equal = finished.equal; mirrored = finished.mirrored })
 
 -- an answer that is not refused has a line for each line of its offer
-answer_lines : (offerer added before : List LineRow) (sdp : Sdp) → OfferedRows offerer added
-    → parsed_lines sdp ≡ map row_said (table_after before (map row_said (offerer ++ added)) true) → verdict (record { lines = offerer }) (Some (record { added = added })) sdp ≡ None
+answer_lines : (view : Held) (asked : Asked) (offerer added before : List LineRow) (sdp : Sdp) → view.lines ≡ offerer → asked.added ≡ added → OfferedRows offerer added
+    → parsed_lines sdp ≡ map row_said (table_after before (map row_said (offerer ++ added)) true) → verdict view (Some asked) sdp ≡ None
     → length (table_after before (map row_said (offerer ++ added)) true) ≡ length (offerer ++ added)
-answer_lines offerer added before sdp rows says passes =
+answer_lines view asked offerer added before sdp lines_are adds rows says passes =
     let said : List ParsedLine = map row_said (offerer ++ added) in
     let answer : List LineRow = table_after before said true in
-    let free = unrefused (record { lines = offerer }) (Some (record { added = added })) sdp passes in
+    let free = unrefused view (Some asked) sdp passes in
+    let allowed : first_refusal offerer false false 0 (parsed_lines sdp) ≡ None = rw (← lines_are) free.allowed in
+    let news : wrong_news offerer (Some asked) (parsed_lines sdp) ≡ None = rw (← lines_are) free.news in
     let lines : length said ≡ length (offerer ++ added) = length-map (offerer ++ added) row_said in
     let both : length (offerer ++ added) ≡ length offerer + length added = length-append offerer added in
     let most : length answer ≡ max (length before) (length said) = length_table_after before said true in
     let back : length (parsed_lines sdp) ≡ length answer = ap length says ∙ length-map answer row_said in
-    omega (arith, answer_count offerer added (parsed_lines sdp) rows.table.rising free.allowed free.news (omega arith))
+    omega (arith, answer_count offerer added asked (parsed_lines sdp) rows.table.rising allowed news adds (omega arith))
 
 -- ---- the past
 
@@ -133,49 +138,51 @@ remote_offer Left sdp = refl
 remote_offer Right sdp = refl
 
 -- What an answer that is accepted came with.
-pub record AnswerAccepted (held right : Bool) (asked : Asked) (sdp : Option Sdp) (rows after : List LineRow) : Type 0 where
+pub record AnswerAccepted (held right : Bool) (asked : Asked) (sdp : Option Sdp) (view : Held) (after : List LineRow) : Type 0 where
   pub answer : Sdp
   pub held_is : held ≡ true
   pub right_is : right ≡ true
   pub is : sdp ≡ Some answer
-  pub passes : verdict (record { lines = rows }) (Some asked) answer ≡ None
-  pub leaves : after ≡ table_after rows (parsed_lines answer) false
+  pub passes : verdict view (Some asked) answer ≡ None
+  pub leaves : after ≡ table_after view.lines (parsed_lines answer) false
 
-pub answer_taken : (held right : Bool) (asked : Asked) (sdp : Option Sdp) (rows after : List LineRow) → RepliesToAnswer held right asked sdp (record { lines = rows }) Finished after → AnswerAccepted held right asked sdp rows after
-answer_taken true true asked (Some sdp) rows after takes = record { answer = sdp; held_is = refl; right_is = refl; is = refl; passes = takes.0; leaves = takes.1 }
-answer_taken true true asked None rows after takes = absurd takes
-answer_taken true false asked None rows after takes = absurd takes
-answer_taken true false asked (Some sdp) rows after takes = absurd takes
-answer_taken false right asked sdp rows after takes = absurd takes
+pub answer_taken : (held right : Bool) (asked : Asked) (sdp : Option Sdp) (view : Held) (after : List LineRow) → RepliesToAnswer held right asked sdp view Finished after → AnswerAccepted held right asked sdp view after
+answer_taken true true asked (Some sdp) view after takes = record { answer = sdp; held_is = refl; right_is = refl; is = refl; passes = takes.0; leaves = takes.1 }
+answer_taken true true asked None view after takes = absurd takes
+answer_taken true false asked None view after takes = absurd takes
+answer_taken true false asked (Some sdp) view after takes = absurd takes
+answer_taken false right asked sdp view after takes = absurd takes
 
 -- the same of equal rows and SDPs
-ends_alike : (offerer added before answerer after : List LineRow) (offer answer : Sdp) → OfferedRows offerer added
+ends_alike : (view : Held) (asked : Asked) (offerer added before answerer after : List LineRow) (offer answer : Sdp) → view.lines ≡ offerer → asked.added ≡ added → OfferedRows offerer added
     → TookOffer before answerer offer answer → parsed_lines offer ≡ map row_said (offerer ++ added)
-    → verdict (record { lines = offerer }) (Some (record { added = added })) answer ≡ None → after ≡ table_after offerer (parsed_lines answer) false
+    → verdict view (Some asked) answer ≡ None → after ≡ table_after view.lines (parsed_lines answer) false
     → FinishedRound offerer added before answerer after
-ends_alike offerer added before answerer after offer answer rows took says passes leaves =
+ends_alike view asked offerer added before answerer after offer answer lines_are adds rows took says passes leaves =
     let answerer_is : answerer ≡ table_after before (map row_said (offerer ++ added)) true = took.leaves ∙ ap (λ said. table_after before said true) says in
     let answer_says : parsed_lines answer ≡ map row_said (table_after before (map row_said (offerer ++ added)) true) = took.says ∙ ap (map row_said) answerer_is in
-    let after_is : after ≡ table_after offerer (map row_said (table_after before (map row_said (offerer ++ added)) true)) false = leaves ∙ ap (λ said. table_after offerer said false) answer_says in
-    rw (answerer_is, after_is) (round_finished offerer added before rows (answer_lines offerer added before answer rows answer_says passes))
+    let after_is : after ≡ table_after offerer (map row_said (table_after before (map row_said (offerer ++ added)) true)) false = leaves ∙ ap (λ list. table_after list (parsed_lines answer) false) lines_are ∙ ap (λ said. table_after offerer said false) answer_says in
+    rw (answerer_is, after_is) (round_finished offerer added before rows (answer_lines view asked offerer added before answer lines_are adds rows answer_says passes))
 
-ends_round : (past : List Entry) (at : Side) (t a : ℕ) (after : List LineRow) → Sound past
-    → AnswerAccepted (holds_token at t past) (is_right at t past) (asked_in at t past) (remote_sdp false at a past) (before at past) after
+ends_round : (fresh : Stances) (past : List Entry) (at : Side) (t a : ℕ) (view : Held) (after : List LineRow) → Sound fresh past
+    → AnswerAccepted (holds_token at t past) (is_right at t past) (asked_in at t past) (remote_sdp false at a past) view after → view.lines ≡ before at past
     → is_own at t a past ≡ true → has_set at t past ≡ false → EndsRound at t a past after
-ends_round past at t a after sound accepts own unset =
+ends_round fresh past at t a view after sound accepts seen own unset =
     let held = and_parts (is_offer_of at (slice_get (sdps past) t)) (not (is_spent t past)) accepts.held_is in
-    let offer = past_offer at t past sound accepts.right_is held.0 in
-    let answer = past_answer at t a past sound own in
-    let rows : before at past ≡ rows_at_offer at t past = rows_since past at t sound accepts.right_is held.0 (not-true (is_spent t past) held.1) unset in
-    let table : IsTable (rows_at_offer at t past) = subst IsTable rows (past_table past at sound) in
+    let offer = past_offer fresh at t past sound accepts.right_is held.0 in
+    let answer = past_answer fresh at t a past sound own in
+    let rows : before at past ≡ rows_at_offer at t past = rows_since fresh past at t sound accepts.right_is held.0 (not-true (is_spent t past) held.1) unset in
+    let table : IsTable (rows_at_offer at t past) = subst IsTable rows (past_table fresh past at sound) in
     let answer_is : answer.sdp ≡ accepts.answer = same_sdp _ _ (sym (remote_answer at answer.sdp) ∙ ap (sdp_for false at) (sym answer.there) ∙ accepts.is) in
     let offer_is : answer.offer ≡ offer.sdp = same_sdp _ _ (sym answer.offered ∙ ap (sdp_for true (other_side at)) offer.there ∙ remote_offer at offer.sdp) in
-    rw offer.adds (ends_alike (rows_at_offer at t past) offer.more _ _ after answer.offer answer.sdp
+    let adds : added_by (length (before at past)) t past ≡ offer.more = ap (λ (list : List LineRow). added_by (length list) t past) rows ∙ offer.adds in
+    rw offer.adds (ends_alike view (asked_in at t past) (rows_at_offer at t past) offer.more _ _ after answer.offer answer.sdp (seen ∙ rows) adds
     (offered_known (rows_at_offer at t past) offer.more offer.may table offer.new) answer.took (ap parsed_lines offer_is ∙ offer.says)
-    (rw answer_is (rw offer.adds at (rw rows at accepts.passes))) (rw answer_is (rw rows at accepts.leaves)))
+    (rw answer_is accepts.passes) (rw answer_is accepts.leaves))
 
 -- Each accepted answer that is its token's own ends the round.
-pub finishes_round : (past : List Entry) (step : Step) (outcome : Outcome) (table : Option Table) (made : List MadeSdp) → Sound past → IsSound past step outcome table made → FinishesRound past step outcome table
-finishes_round past (AcceptAnswer at t a) Finished (Some table) made sound replied =
-    λ own unset. ends_round past at t a table.lines sound (answer_taken (holds_token at t past) (is_right at t past) (asked_in at t past) (remote_sdp false at a past) (before at past) table.lines replied.0) own unset
-finishes_round past step outcome table made sound replied = tt
+pub finishes_round : (fresh between : Stances) (past : List Entry) (step : Step) (outcome : Outcome) (table : Option Table) (made : List MadeSdp) → Sound fresh past → IsSound fresh past between step outcome table made → FinishesRound past step outcome table
+finishes_round fresh between past (AcceptAnswer at t a) Finished (Some table) made sound replied =
+    λ own unset. ends_round fresh past at t a (view_in fresh at past (held_by (between at))) table.lines sound
+    (answer_taken (holds_token at t past) (is_right at t past) (asked_in at t past) (remote_sdp false at a past) (view_in fresh at past (held_by (between at))) table.lines replied.0) refl own unset
+finishes_round fresh between past step outcome table made sound replied = tt

@@ -10,7 +10,7 @@ use Rattle.rtc_sdp_values.specs.declared.line_row.LineRow.{LineRow}
 use Rattle.rtc_sdp_values.specs.declared.line_row.LineRow.TheVariants.{Media, App}
 use Rattle.rtc_sdp_values.specs.declared.media_kind.MediaKind.{MediaKind}
 use Rattle.rtc_sdp_values.specs.declared.media_kind.MediaKind.TheVariants.{Audio, Video}
-use Rattle.rtc_change.specs.Table.{Rising, row_of}
+use Rattle.rtc_tables.specs.Table.{Rising, row_of}
 use Rattle.rtc_change.specs.TableAfter.{is_inactive, is_send_only, was_stopped, was_remote, stays_inactive, media_after, row_after, rows_after}
 use Rattle.rtc_history.specs.Finished.{AreSameLine, Equal, AreMirrored, is_recv_only, stays_silent, Agreed}
 use Rattle.rtc_history.specs.SaidRows.{row_said}

@@ -1,3 +1,6 @@
+pub mod StanceSteps
+pub mod StandingSteps
+pub mod RestartChanges
 pub mod Bounds
 pub mod OpRows
 pub mod AddedRows
@@ -22,6 +25,9 @@ pub mod Takings
 pub mod MakesSdps
 pub mod FinishedRows
 pub mod AnswerCounts
+pub mod SoundPasts
+pub mod SeenSides
+pub mod SeenSteps
 pub mod PastTables
 pub mod PastOffers
 pub mod PastRows
@@ -40,5 +46,11 @@ pub mod OrderlySteps
 pub mod CourseSteps
 pub mod OrderlyOps
 pub mod OrderlyPasts
+pub mod SideRounds
+pub mod SideRoundSteps
+pub mod OrderlyRuns
+pub mod OrderlyNext
+pub mod OrderlySounds
+pub mod StanceRuns
 pub mod Reaches
 pub mod MoreSteps

@@ -1,27 +1,24 @@
 -- The first row of each side stays live where no op stops it, so that each SDP of a round has a live line.
-use Rattle.std.proofs.Common.{◌≡◌, ℕ, Bool, true, false, List, [], ◌∷◌, ◌++◌, map, Option, Some, None, refl, sym, ◌∙◌, ap, subst, arith, zero, suc}
-use Rattle.std.specs.Prelude.{is_some}
-use Rattle.rtc_channels.specs.Channels.{Channels}
+use Rattle.std.proofs.Common.{◌≡◌, ℕ, Bool, true, false, List, [], ◌∷◌, ◌++◌, map, Some, refl, sym, ◌∙◌, ap, subst, zero, suc, length, ◌≢◌}
 use Rattle.rtc_sdp_values.specs.Direction.{same_direction}
 use Rattle.rtc_sdp_values.specs.LineRow.{row_mid}
 use Rattle.rtc_sdp_values.specs.declared.direction.Direction.{Direction}
 use Rattle.rtc_sdp_values.specs.declared.line_row.LineRow.{LineRow}
 use Rattle.rtc_sdp_values.specs.declared.line_row.LineRow.TheVariants.{Media, App}
 use Rattle.rtc_sdp_values.specs.declared.media_kind.MediaKind.TheVariants.{Audio, Video}
-use Rattle.rtc_change.specs.RowChanges.{directed_row, stopped_row, row_after_change, changed_at}
-use Rattle.rtc_change.specs.Table.{IsTable, row_of}
+use Rattle.rtc_tables.specs.RowChanges.{directed_row, stopped_row, row_after_change, changed_at}
+use Rattle.rtc_tables.specs.Table.{IsTable, row_of}
 use Rattle.rtc_change.specs.TableAfter.{rows_after, row_after}
-use Rattle.rtc_change.proofs.TableLemmas.{row_of_its_mid}
+use Rattle.rtc_tables.proofs.TableLemmas.{row_of_its_mid}
 use Rattle.rtc_peer_state.specs.MadeSdp.{is_stopped}
 use Rattle.rtc_history.specs.declared.op.Op.{Op}
-use Rattle.rtc_history.specs.declared.op.Op.TheVariants.{AddMedia, SetDirection, StopMedia, AddChannel}
+use Rattle.rtc_history.specs.declared.op.Op.TheVariants.{AddMedia, SetDirection, StopMedia, AddChannel, IceRestart}
 use Rattle.rtc_history.specs.declared.op_answer.OpAnswer.{OpAnswer}
-use Rattle.rtc_history.specs.declared.op_answer.OpAnswer.TheVariants.{Mid, Changed, NoLine, Channel, BadChannel, Alloc as OpAlloc}
+use Rattle.rtc_history.specs.declared.op_answer.OpAnswer.TheVariants.{Mid, Changed, NoLine, Channel, BadChannel, Alloc as OpAlloc, Creds}
 use Rattle.rtc_history.specs.CourseRows.{do_stop_first}
-use Rattle.rtc_history.specs.Answers.{has_app_row, added, do_need_offer}
 use Rattle.rtc_history.specs.SaidRows.{row_said, are_live}
 use Rattle.rtc_history.specs.Sound.{Midway, holding_mid, having_rows, having_channel, OpsAnswered}
-use Rattle.rtc_history_laws.proofs.OpRows.{ops_length}
+use Rattle.rtc_history_laws.proofs.AddedRows.{AreAdded}
 use Rattle.rtc_history_laws.proofs.RowNames.{SameName}
 use Rattle.rtc_history_laws.proofs.RowsFollow.{Follows}
 
@@ -78,34 +75,21 @@ ops_live m (StopMedia (suc place) ∷ ops) (OpAlloc ∷ []) after answered stays
 ops_live m (AddChannel config ∷ ops) (Channel id ∷ answers) after answered stays live = ops_live (having_channel id config m) ops answers after answered.2 stays live
 ops_live m (AddChannel config ∷ ops) (BadChannel ∷ answers) after answered stays live = ops_live m ops answers after answered.1 stays live
 ops_live m (AddChannel config ∷ ops) (OpAlloc ∷ []) after answered stays live = subst KeepsLive (sym answered) live
+ops_live m (IceRestart keep ∷ ops) (Creds creds ∷ answers) after answered stays live = ops_live m ops answers after answered stays live
+ops_live m (IceRestart keep ∷ ops) (OpAlloc ∷ []) after answered stays live = subst KeepsLive (sym answered) live
 ops_live m ops answers after answered stays live = absurd answered
 
--- where there is no row, and the mid of a line of data channels is told, what ops offer starts with a live row
-bare_live : (held : List (List ℕ)) (app : List ℕ) (channels : Channels) (ops : List Op) (answers : List OpAnswer) (after : List LineRow) (place : ℕ)
-    → OpsAnswered (record { rows = []; held = held; app = Some app; channels = channels }) ops answers after → do_need_offer false answers ≡ true → StartsLive (added (Some app) place ops answers)
-bare_live held app channels [] [] after place answered staged = absurd (cc)
-bare_live held app channels (AddMedia kind dir ∷ ops) (Mid mid ∷ answers) after place answered staged = refl
-bare_live held app channels (AddMedia kind dir ∷ ops) (OpAlloc ∷ []) after place answered staged = absurd (cc)
-bare_live held app channels (SetDirection at dir ∷ ops) (NoLine ∷ answers) after place answered staged = bare_live held app channels ops answers after place answered.1 staged
-bare_live held app channels (SetDirection at dir ∷ ops) (Changed changed ∷ answers) after place answered staged = absurd (let e : false ≡ true = answered.0.0 in cc)
-bare_live held app channels (SetDirection at dir ∷ ops) (OpAlloc ∷ []) after place answered staged = absurd (cc)
-bare_live held app channels (StopMedia at ∷ ops) (NoLine ∷ answers) after place answered staged = bare_live held app channels ops answers after place answered.1 staged
-bare_live held app channels (StopMedia at ∷ ops) (Changed changed ∷ answers) after place answered staged = absurd (let e : false ≡ true = answered.0.0 in cc)
-bare_live held app channels (StopMedia at ∷ ops) (OpAlloc ∷ []) after place answered staged = absurd (cc)
-bare_live held app channels (AddChannel config ∷ ops) (Channel id ∷ answers) after place answered staged = refl
-bare_live held app channels (AddChannel config ∷ ops) (BadChannel ∷ answers) after place answered staged = bare_live held app channels ops answers after place answered.1 staged
-bare_live held app channels (AddChannel config ∷ ops) (OpAlloc ∷ []) after place answered staged = absurd (cc)
-bare_live held app channels ops answers after place answered staged = absurd answered
+-- rows that are added are live
+added_live : (may : Bool) (held : List (List ℕ)) (place : ℕ) (rows : List LineRow) → AreAdded may held place rows → KeepsLive rows
+added_live may held place [] new = tt
+added_live may held place (Media at mid kind dir stopped remote_created ∷ rows) new = new.0.live
+added_live may held place (App at mid ∷ rows) new = refl
 
--- where something is offered, an offer starts with a live row
-pub offer_live : (rows : List LineRow) (held : List (List ℕ)) (app : Option (List ℕ)) (channels : Channels) (ops : List Op) (answers : List OpAnswer) (after : List LineRow) (place : ℕ)
-    → OpsAnswered (record { rows = rows; held = held; app = app; channels = channels }) ops answers after → (has_app_row rows ≡ false → is_some app ≡ true) → KeepsLive after
-    → do_need_offer (has_app_row rows) answers ≡ true → StartsLive (after ++ added app place ops answers)
-offer_live rows held app channels ops answers (row ∷ after) place answered told_app live staged = live
-offer_live [] held (Some app) channels ops answers [] place answered told_app live staged = bare_live held app channels ops answers [] place answered staged
-offer_live [] held None channels ops answers [] place answered told_app live staged = absurd (let e : false ≡ true = told_app refl in cc)
-offer_live (row ∷ rows) held app channels ops answers [] place answered told_app live staged =
-    absurd (omega (arith, ops_length (record { rows = row ∷ rows; held = held; app = app; channels = channels }) ops answers [] answered))
+-- an offer of at least one row starts with a live row
+pub offer_live : (after : List LineRow) (may : Bool) (held : List (List ℕ)) (place : ℕ) (more : List LineRow) → KeepsLive after → AreAdded may held place more → length (after ++ more) ≢ 0 → StartsLive (after ++ more)
+offer_live (row ∷ after) may held place more live new some = live
+offer_live [] may held place [] live new some = absurd (some refl)
+offer_live [] may held place (row ∷ more) live new some = added_live may held place (row ∷ more) new
 
 -- ---- SDPs
 

@@ -5,14 +5,13 @@ use Rattle.std.proofs.lemmas.List.{drop_all}
 use Rattle.rtc_sdp_values.specs.Sdp.{inconsistency}
 use Rattle.rtc_sdp_values.specs.declared.line_row.LineRow.{LineRow}
 use Rattle.rtc_sdp_values.specs.declared.sdp.Sdp.{Sdp}
-use Rattle.rtc_sdp_values.specs.declared.setup.Setup.TheVariants.{ActPass, Passive}
+use Rattle.rtc_sdp_values.specs.declared.ice_creds.IceCreds.{IceCreds}
 use Rattle.rtc_change.specs.PendingOffer.{PendingOffer, added_rows}
-use Rattle.rtc_change.specs.ParsedLines.{parsed_lines}
-use Rattle.rtc_change.specs.Table.{IsTable, Distinct}
+use Rattle.rtc_tables.specs.ParsedLines.{parsed_lines}
+use Rattle.rtc_tables.specs.Table.{IsTable, Distinct}
 use Rattle.rtc_change.specs.TableAfter.{table_after}
-use Rattle.rtc_peer_state.specs.declared.peer.Peer.{Peer}
-use Rattle.rtc_ids.specs.Draws.{Draws}
-use Rattle.rtc_peer_state.specs.MadeSdp.{offer_sdp, answer_sdp, sdp_of_rows}
+use Rattle.rtc_peer_state.specs.Stance.{Stance}
+use Rattle.rtc_peer_state.specs.MadeSdp.{offer_sdp, answer_sdp, sdp_of_rows, offer_head, answer_head}
 use Rattle.rtc_history.specs.declared.side.Side.{Side}
 use Rattle.rtc_history.specs.declared.op.Op.{Op}
 use Rattle.rtc_history.specs.declared.op_answer.OpAnswer.{OpAnswer}
@@ -30,40 +29,42 @@ use Rattle.rtc_history.specs.Past.{Entry, before, rows_or, new_app}
 use Rattle.rtc_history.specs.Sound.{IsSound}
 use Rattle.rtc_history.specs.SaidRows.{row_said, are_live, MakesSdp}
 use Rattle.rtc_history.specs.declared.kept.Kept.{Kept}
-use Rattle.rtc_history.specs.PairState.{PairState, peer_at, made_sdp, kept_remote_sdp, held_token, spent}
-use Rattle.rtc_history.specs.Performs.{MakesOf, Negotiates, StepAcceptsOffer, StepAcceptsAnswer, Performs, kept_offer, kept_answer, lent, made_by}
+use Rattle.rtc_history.specs.PairState.{made_sdp, kept_remote_sdp, held_token, spent}
+use Rattle.rtc_history.specs.Performs.{kept_offer, kept_answer}
 use Rattle.rtc_history_laws.proofs.Staging.{Stages, ops_stage}
 use Rattle.rtc_history_laws.proofs.NegotiateSteps.{made_lines}
 use Rattle.rtc_history_laws.proofs.OfferApps.{behind, none_behind, one_behind, app_is_told}
 use Rattle.rtc_history_laws.proofs.OfferTables.{offer_table}
 use Rattle.rtc_history_laws.proofs.PastTables.{reply_table}
 use Rattle.rtc_history_laws.proofs.SaidSdps.{sdp_says, sdp_fits}
+use Rattle.rtc_history_laws.proofs.StanceSteps.{PairStance, StanceMakesOf, StanceNegotiates, StancePerforms, StanceStepAcceptsAnswer, StanceStepAcceptsOffer, lent, made_by}
+use Rattle.rtc_history.specs.Views.{Stances}
 
 -- an offer says the rows of its side, then those that it adds
-offer_says : {N : Type 0} (p : Peer N) (more : List LineRow) → Distinct (p.lines ++ more) → added_rows (length p.lines) p.staged ≡ more → parsed_lines (offer_sdp p) ≡ map row_said (p.lines ++ more)
+offer_says : (p : Stance) (more : List LineRow) → Distinct (p.lines ++ more) → added_rows (length p.lines) p.staged ≡ more → parsed_lines (offer_sdp p) ≡ map row_said (p.lines ++ more)
 unfolding offer_sdp
 offer_says p more distinct adds =
-    ap (λ added. parsed_lines (sdp_of_rows p.session_id p.identity ActPass (p.lines ++ added))) adds ∙ sdp_says p.session_id p.identity ActPass (p.lines ++ more) distinct
+    ap (λ added. parsed_lines (sdp_of_rows (offer_head p) (p.lines ++ added))) adds ∙ sdp_says (offer_head p) (p.lines ++ more) distinct
 
 -- an offer fits together where one of its rows is live
-offer_fits : {N : Type 0} (p : Peer N) (more : List LineRow) → Distinct (p.lines ++ more) → added_rows (length p.lines) p.staged ≡ more → are_live (p.lines ++ more) ≡ true → inconsistency (offer_sdp p) ≡ None
+offer_fits : (p : Stance) (more : List LineRow) → Distinct (p.lines ++ more) → added_rows (length p.lines) p.staged ≡ more → are_live (p.lines ++ more) ≡ true → inconsistency (offer_sdp p) ≡ None
 unfolding offer_sdp
 offer_fits p more distinct adds live =
-    ap (λ added. inconsistency (sdp_of_rows p.session_id p.identity ActPass (p.lines ++ added))) adds ∙ sdp_fits p.session_id p.identity ActPass (p.lines ++ more) distinct live
+    ap (λ added. inconsistency (sdp_of_rows (offer_head p) (p.lines ++ added))) adds ∙ sdp_fits (offer_head p) (p.lines ++ more) distinct live
 
-answer_fits : {N : Type 0} (p : Peer N) (sdp : Sdp) (rows : List LineRow) → table_after p.lines (parsed_lines sdp) true ≡ rows → IsTable rows → are_live rows ≡ true → inconsistency (answer_sdp p sdp) ≡ None
+answer_fits : (p : Stance) (restart : Option (IceCreds × Bool)) (sdp : Sdp) (rows : List LineRow) → table_after p.lines (parsed_lines sdp) true ≡ rows → IsTable rows → are_live rows ≡ true → inconsistency (answer_sdp p restart sdp) ≡ None
 unfolding answer_sdp
-answer_fits p sdp rows is table live = rw is (sdp_fits p.session_id p.identity Passive rows table.distinct live)
+answer_fits p restart sdp rows is table live = rw is (sdp_fits (answer_head p restart sdp) rows table.distinct live)
 
 -- an answer says the rows that it leaves
-answer_says : {N : Type 0} (p : Peer N) (sdp : Sdp) (rows : List LineRow) → table_after p.lines (parsed_lines sdp) true ≡ rows → IsTable rows → parsed_lines (answer_sdp p sdp) ≡ map row_said rows
+answer_says : (p : Stance) (restart : Option (IceCreds × Bool)) (sdp : Sdp) (rows : List LineRow) → table_after p.lines (parsed_lines sdp) true ≡ rows → IsTable rows → parsed_lines (answer_sdp p restart sdp) ≡ map row_said rows
 unfolding answer_sdp
-answer_says p sdp rows is table = rw is (sdp_says p.session_id p.identity Passive rows table.distinct)
+answer_says p restart sdp rows is table = rw is (sdp_says (answer_head p restart sdp) rows table.distinct)
 
 -- ---- each kind of step
 
-makes_of : {N : Type 0} (at : Side) (asked : Bool) (p q : Peer N) (ops : List Op) (answers : List OpAnswer) (apply : Bool) (kept kept' : List Kept) (made : Made) (table : Table)
-    → MakesOf asked at p kept made q kept' → table.lines ≡ p.lines
+makes_of : (at : Side) (asked : Bool) (p q : Stance) (ops : List Op) (answers : List OpAnswer) (apply : Bool) (kept kept' : List Kept) (made : Made) (table : Table)
+    → StanceMakesOf asked at p kept made q kept' → table.lines ≡ p.lines
     → ((k : ℕ) → made ≡ Offer k → added_rows (length table.lines) p.staged ≡ added (new_app table.lines (behind kept kept')) (length table.lines) ops answers)
     → Distinct (table.lines ++ added (new_app table.lines (behind kept kept')) (length table.lines) ops answers)
     → MakesSdp (Negotiate at ops apply) (Negotiated answers made) (Some table) (behind kept kept')
@@ -82,34 +83,34 @@ makes_of at true p q ops answers apply kept kept' (Offer k) table h rows adds di
     }
 makes_of at asked p q ops answers apply kept kept' made table h rows adds distinct = absurd h
 
-negotiate_makes : {N : Type 0} (draws : Draws N) (at : Side) (ops : List Op) (apply : Bool) (old new : Peer N) (kept kept' : List Kept) (outcome : Outcome) (table : Option Table) (past : List Entry)
-    → Negotiates draws at ops apply old kept outcome table new kept' → IsTable (before at past) → IsSound past (Negotiate at ops apply) outcome table (behind kept kept')
+negotiate_makes : (fresh between : Stances) (at : Side) (ops : List Op) (apply : Bool) (old new : Stance) (kept kept' : List Kept) (outcome : Outcome) (table : Option Table) (past : List Entry)
+    → StanceNegotiates at ops apply old kept outcome table new kept' → IsTable (before at past) → IsSound fresh past between (Negotiate at ops apply) outcome table (behind kept kept')
     → MakesSdp (Negotiate at ops apply) outcome table (behind kept kept')
-negotiate_makes draws at ops apply old new kept kept' Alloc None past h is sound = none_behind kept kept' h.sdps_kept
-negotiate_makes draws at ops apply old new kept kept' (Negotiated answers made) (Some table) past h is sound =
+negotiate_makes fresh between at ops apply old new kept kept' Alloc None past h is sound = none_behind kept kept' h.sdps_kept
+negotiate_makes fresh between at ops apply old new kept kept' (Negotiated answers made) (Some table) past h is sound =
     let asked : Bool = apply && not (answers_lack answers) in
-    let staged : Stages (lent old) ops answers h.0 = ops_stage draws (lent old) h.0 ops answers h.1 in
+    let staged : Stages (lent old) ops answers h.0 = ops_stage (lent old) h.0 ops answers h.1 in
     let left : table.lines ≡ h.0.lines = h.3.lines ∙ made_lines asked at h.0 new kept kept' made h.2 in
     let app : Option (List ℕ) = new_app table.lines (behind kept kept') in
     let app_told = app_is_told asked at (lent old) h.0 new kept kept' made table.lines h.2 left staged.app refl in
     makes_of at asked h.0 new ops answers apply kept kept' made table h.2 left
     (λ k is. staged.adds app app_told.told_app (app_told.offered k is) (length table.lines) ∙ ap (λ n. added app n ops answers) (let e : length table.lines + 0 ≡ length table.lines = omega arith in e))
     (offer_table past at ops answers table (behind kept kept') is sound.0).distinct
-negotiate_makes draws at ops apply old new kept kept' outcome table past h is sound = absurd h
+negotiate_makes fresh between at ops apply old new kept kept' outcome table past h is sound = absurd h
 
-offer_makes : {N : Type 0} (draws : Draws N) (at : Side) (k : ℕ) (offer : Option Sdp) (old new : Peer N) (kept kept' : List Kept) (outcome : Outcome) (table : Option Table)
-    → StepAcceptsOffer draws at offer old kept outcome table new kept' → IsTable (rows_or true table (old.lines)) → MakesSdp (AcceptOffer at k) outcome table (behind kept kept')
-offer_makes draws at k None old new kept kept' Alloc None h is = none_behind kept kept' h.sdps_kept
-offer_makes draws at k (Some sdp) old new kept kept' Alloc None h is = none_behind kept kept' h.sdps_kept
-offer_makes draws at k None old new kept kept' NoSuch (Some table) h is = none_behind kept kept' h.0.sdps_kept
-offer_makes draws at k (Some sdp) old new kept kept' (Answered n) (Some table) h is = record {
+offer_makes : (at : Side) (k : ℕ) (offer : Option Sdp) (old new : Stance) (kept kept' : List Kept) (outcome : Outcome) (table : Option Table)
+    → StanceStepAcceptsOffer at offer old kept outcome table new kept' → IsTable (rows_or true table (old.lines)) → MakesSdp (AcceptOffer at k) outcome table (behind kept kept')
+offer_makes at k None old new kept kept' Alloc None h is = none_behind kept kept' h.sdps_kept
+offer_makes at k (Some sdp) old new kept kept' Alloc None h is = none_behind kept kept' h.sdps_kept
+offer_makes at k None old new kept kept' NoSuch (Some table) h is = none_behind kept kept' h.0.sdps_kept
+offer_makes at k (Some sdp) old new kept kept' (Answered n) (Some table) h is = record {
   sdp = h.0;
   one = one_behind kept kept' (kept_answer at h.0) h.2;
-  says = ap (λ (a : Sdp). parsed_lines a) h.1.answered ∙ answer_says (lent old) sdp table.lines (sym (h.4.lines ∙ ap (λ p. p.lines) h.1.rest)) is;
-  fits = λ live. ap (λ (a : Sdp). inconsistency a) h.1.answered ∙ answer_fits (lent old) sdp table.lines (sym (h.4.lines ∙ ap (λ p. p.lines) h.1.rest)) is live;
+  says = ap (λ (a : Sdp). parsed_lines a) h.1.answered ∙ answer_says (lent old) h.1.restart sdp table.lines (sym (h.4.lines ∙ ap (λ p. p.lines) h.1.rest)) is;
+  fits = λ live. ap (λ (a : Sdp). inconsistency a) h.1.answered ∙ answer_fits (lent old) h.1.restart sdp table.lines (sym (h.4.lines ∙ ap (λ p. p.lines) h.1.rest)) is live;
 }
-offer_makes draws at k (Some sdp) old new kept kept' (Refused error) (Some table) h is = none_behind kept kept' h.1
-offer_makes draws at k offer old new kept kept' outcome table h is = absurd h
+offer_makes at k (Some sdp) old new kept kept' (Refused error) (Some table) h is = none_behind kept kept' h.1
+offer_makes at k offer old new kept kept' outcome table h is = absurd h
 
 length-spent : (t : ℕ) (kept : List Kept) → length (spent t kept) ≡ length kept
 length-spent t kept = by (slice_get kept t) refl
@@ -123,27 +124,27 @@ spent_behind t kept kept' same =
     let count : length kept' ≡ length kept = ap length same ∙ length-spent t kept in
     ap (map made_sdp) (drop_all (length kept) kept' (omega arith))
 
-answer_makes : {N : Type 0} (draws : Draws N) (at : Side) (t a : ℕ) (token : Option PendingOffer) (answer : Option Sdp) (old new : Peer N) (kept kept' : List Kept) (outcome : Outcome) (table : Option Table)
-    → StepAcceptsAnswer draws t token answer old kept outcome table new kept' → MakesSdp (AcceptAnswer at t a) outcome table (behind kept kept')
-answer_makes draws at t a None None old new kept kept' Alloc None h = none_behind kept kept' h.sdps_kept
-answer_makes draws at t a None (Some sdp) old new kept kept' Alloc None h = none_behind kept kept' h.sdps_kept
-answer_makes draws at t a (Some token) None old new kept kept' Alloc None h = none_behind kept kept' h.sdps_kept
-answer_makes draws at t a (Some token) (Some sdp) old new kept kept' Alloc None h = none_behind kept kept' h.sdps_kept
-answer_makes draws at t a None None old new kept kept' NoSuch (Some table) h = none_behind kept kept' h.0.sdps_kept
-answer_makes draws at t a None (Some sdp) old new kept kept' NoSuch (Some table) h = none_behind kept kept' h.0.sdps_kept
-answer_makes draws at t a (Some token) None old new kept kept' NoSuch (Some table) h = none_behind kept kept' h.0.sdps_kept
-answer_makes draws at t a (Some token) (Some sdp) old new kept kept' Finished (Some table) h = spent_behind t kept kept' h.1
-answer_makes draws at t a (Some token) (Some sdp) old new kept kept' (Refused error) (Some table) h = spent_behind t kept kept' h.1
-answer_makes draws at t a token answer old new kept kept' outcome table h = absurd h
+answer_makes : (at : Side) (t a : ℕ) (token : Option PendingOffer) (answer : Option Sdp) (old new : Stance) (kept kept' : List Kept) (outcome : Outcome) (table : Option Table)
+    → StanceStepAcceptsAnswer t token answer old kept outcome table new kept' → MakesSdp (AcceptAnswer at t a) outcome table (behind kept kept')
+answer_makes at t a None None old new kept kept' Alloc None h = none_behind kept kept' h.sdps_kept
+answer_makes at t a None (Some sdp) old new kept kept' Alloc None h = none_behind kept kept' h.sdps_kept
+answer_makes at t a (Some token) None old new kept kept' Alloc None h = none_behind kept kept' h.sdps_kept
+answer_makes at t a (Some token) (Some sdp) old new kept kept' Alloc None h = none_behind kept kept' h.sdps_kept
+answer_makes at t a None None old new kept kept' NoSuch (Some table) h = none_behind kept kept' h.0.sdps_kept
+answer_makes at t a None (Some sdp) old new kept kept' NoSuch (Some table) h = none_behind kept kept' h.0.sdps_kept
+answer_makes at t a (Some token) None old new kept kept' NoSuch (Some table) h = none_behind kept kept' h.0.sdps_kept
+answer_makes at t a (Some token) (Some sdp) old new kept kept' Finished (Some table) h = spent_behind t kept kept' h.1
+answer_makes at t a (Some token) (Some sdp) old new kept kept' (Refused error) (Some table) h = spent_behind t kept kept' h.1
+answer_makes at t a token answer old new kept kept' outcome table h = absurd h
 
 -- A step that is performed makes the SDP that says the rows of its side.
-pub makes_sdp : {N : Type 0} (draws : Draws N) (past : List Entry) (old new : PairState N) (step : Step) (outcome : Outcome) (table : Option Table)
-    → Performs draws old step outcome table new → IsTable (before (side_of step) past) → IsSound past step outcome table (made_by old new)
-    → before (side_of step) past ≡ (peer_at (side_of step) old).lines → MakesSdp step outcome table (made_by old new)
-makes_sdp draws past old new (Negotiate at ops apply) outcome table performs is sound rows =
-    negotiate_makes draws at ops apply (peer_at at old) (peer_at at new) old.sdps new.sdps outcome table past performs.acts is sound
-makes_sdp draws past old new (AcceptOffer at k) outcome table performs is sound rows =
-    offer_makes draws at k (kept_remote_sdp true old.sdps at k) (peer_at at old) (peer_at at new) old.sdps new.sdps outcome table performs.acts
-    (subst (λ (list : List LineRow). IsTable (rows_or true table list)) rows (reply_table past (AcceptOffer at k) outcome table (made_by old new) sound is))
-makes_sdp draws past old new (AcceptAnswer at t a) outcome table performs is sound rows =
-    answer_makes draws at t a (held_token old.sdps at t) (kept_remote_sdp false old.sdps at a) (peer_at at old) (peer_at at new) old.sdps new.sdps outcome table performs.acts
+pub makes_sdp : (fresh between : Stances) (past : List Entry) (old new : PairStance) (step : Step) (outcome : Outcome) (table : Option Table)
+    → StancePerforms old step outcome table new → IsTable (before (side_of step) past) → IsSound fresh past between step outcome table (made_by old new)
+    → before (side_of step) past ≡ (old.sides (side_of step)).lines → MakesSdp step outcome table (made_by old new)
+makes_sdp fresh between past old new (Negotiate at ops apply) outcome table performs is sound rows =
+    negotiate_makes fresh between at ops apply (old.sides at) (new.sides at) old.sdps new.sdps outcome table past performs.acts is sound
+makes_sdp fresh between past old new (AcceptOffer at k) outcome table performs is sound rows =
+    offer_makes at k (kept_remote_sdp true old.sdps at k) (old.sides at) (new.sides at) old.sdps new.sdps outcome table performs.acts
+    (subst (λ (list : List LineRow). IsTable (rows_or true table list)) rows (reply_table fresh between past (AcceptOffer at k) outcome table (made_by old new) sound is))
+makes_sdp fresh between past old new (AcceptAnswer at t a) outcome table performs is sound rows =
+    answer_makes at t a (held_token old.sdps at t) (kept_remote_sdp false old.sdps at a) (old.sides at) (new.sides at) old.sdps new.sdps outcome table performs.acts

@@ -1,67 +1,74 @@
 -- A run goes on by a step that is performed.
 use Rattle.std.proofs.Common.{◌≡◌, ◌<◌, ◌^◌, List, [], ◌∷◌, ◌++◌, map, refl, ap, arith}
-use Rattle.rtc_ids.specs.Draws.{Draws}
-use Rattle.rtc_history.specs.declared.side.Side.{Side}
-use Rattle.rtc_history.specs.declared.side.Side.TheVariants.{Left, Right}
+use Rattle.rtc_channels.specs.Channels.{channel_rows}
+use Rattle.rtc_peer_state.specs.Meanings.{Meanings, PartsLaws}
 use Rattle.rtc_history.specs.declared.step.Step.{Step}
 use Rattle.rtc_history.specs.declared.reply.Reply.{Reply}
-use Rattle.rtc_channels.specs.Channels.{channel_rows}
 use Rattle.rtc_history.specs.Sizes.{steps_size}
-use Rattle.rtc_history.specs.Past.{before, channels_shown}
-use Rattle.rtc_history.specs.PairState.{PairState, peer_at, made_sdp}
-use Rattle.rtc_history.specs.Performs.{Performs, made_by}
-use Rattle.rtc_history.specs.Runs.{Reached, Runs}
+use Rattle.rtc_history.specs.Past.{Entry}
+use Rattle.rtc_history.specs.PairState.{PairState, made_sdp}
+use Rattle.rtc_history.specs.Performs.{Performs, sdps_behind}
+use Rattle.rtc_history.specs.Runs.{Went, EntersSoundly, Runs}
 use Rattle.rtc_history.specs.Fresh.{IsFresh}
+use Rattle.rtc_history_laws.proofs.StanceSteps.{pair_stance}
+use Rattle.rtc_history_laws.proofs.StandingSteps.{performs_stands}
+use Rattle.rtc_history_laws.proofs.StanceRuns.{StanceReached, StanceRan, fresh_stands, ran_stands, ran_reached}
 use Rattle.rtc_history_laws.proofs.Bounds.{IsWithin}
 use Rattle.rtc_history_laws.proofs.Tells.{Tells}
 use Rattle.rtc_history_laws.proofs.Around.{entry}
-use Rattle.rtc_history_laws.proofs.Reaches.{reached_within, reached_tells, reached_size, sound_next}
+use Rattle.rtc_history_laws.proofs.Reaches.{reached_tells, reached_within, reached_size}
+use Rattle.rtc_history_laws.proofs.OrderlySounds.{sound_next}
 
--- a run of no steps
-pub runs_none : {N : Type 0} (draws : Draws N) (start : PairState N) → IsFresh start → Runs draws start [] [] start
-runs_none draws start fresh = record {
-  past = [];
-  steps_are = refl;
-  replies_are = refl;
-  reached = refl;
-  sound = tt;
-  kept = ap (map made_sdp) fresh.sdps;
-  rows = by;
-  channels = none;
-}
-  where
-    by : (at : Side) → (peer_at at start).lines ≡ before at []
-    by Left = fresh.left.lines
-    by Right = fresh.right.lines
+module _ {I D S M E X T W N : Type 0} (m : Meanings I D S M E X T W N) where
+  -- a run of no steps
+  pub runs_none : (start : PairState I D S M N) → IsFresh m start → Runs m start [] [] start
+  runs_none start fresh = record {
+    past = [];
+    steps_are = refl;
+    replies_are = refl;
+    went = refl;
+    kept = ap (map made_sdp) fresh.sdps;
+    rows = λ at. (fresh.built at).lines;
+    channels = λ at. ap channel_rows (fresh.built at).channels;
+  }
 
-    none : (at : Side) → channel_rows (peer_at at start).channels ≡ channels_shown at []
-    none Left = ap channel_rows fresh.left.channels
-    none Right = ap channel_rows fresh.right.channels
+  -- a run of one more step
+  pub runs_more : PartsLaws m → (start old new : PairState I D S M N) (steps : List Step) (replies : List Reply) (step : Step) (reply : Reply)
+      → IsFresh m start → Runs m start steps replies old → Performs m old step reply.outcome reply.table new → new.size < 2 ^ 32
+      → Runs m start (steps ++ step ∷ []) (replies ++ reply ∷ []) new
+  runs_more laws start old new steps replies step reply fresh run performs small =
+      let last : Entry = entry step reply.outcome reply.table (sdps_behind old.sdps new.sdps) in
+      let ran : StanceRan (pair_stance m start) run.past (pair_stance m old) = ran_stands m laws start run.past old run.went in
+      let went : Went (EntersSoundly m start) (λ fresh. fresh ≡ start) (last ∷ run.past) new = (
+        old,
+        run.went,
+        (
+          record { performs = performs; made = refl },
+          sound_next (pair_stance m start) (pair_stance m old) (pair_stance m new) run.past step reply.outcome reply.table (fresh_stands m start fresh) ran (performs_stands m laws old step reply.outcome reply.table new performs) small,
+        ),
+      ) in
+      let tells : Tells (last ∷ run.past) (pair_stance m new) = reached_tells (pair_stance m start) (pair_stance m new) (last ∷ run.past) (fresh_stands m start fresh) (ran_reached (pair_stance m start) (last ∷ run.past) (pair_stance m new) (ran_stands m laws start (last ∷ run.past) new went)) small in
+      record {
+        past = last ∷ run.past;
+        steps_are = ap (λ before. before ++ step ∷ []) run.steps_are;
+        replies_are = ap (λ before. before ++ reply ∷ []) run.replies_are;
+        went = went;
+        kept = tells.says;
+        rows = λ at. (tells.sides at).rows;
+        channels = λ at. (tells.sides at).channels.shown;
+      }
 
--- a run of one more step
-pub runs_more : {N : Type 0} (draws : Draws N) (start old new : PairState N) (steps : List Step) (replies : List Reply) (step : Step) (reply : Reply)
-    → IsFresh start → Runs draws start steps replies old → Performs draws old step reply.outcome reply.table new → new.size < 2 ^ 32
-    → Runs draws start (steps ++ step ∷ []) (replies ++ reply ∷ []) new
-runs_more draws start old new steps replies step reply fresh run performs small =
-    let reached : Reached draws start (entry step reply.outcome reply.table (made_by old new) ∷ run.past) new = (old, run.reached, record { performs = performs; made = refl }) in
-    let tells : Tells (entry step reply.outcome reply.table (made_by old new) ∷ run.past) new = reached_tells draws start new (entry step reply.outcome reply.table (made_by old new) ∷ run.past) fresh reached small in
-    record {
-      past = entry step reply.outcome reply.table (made_by old new) ∷ run.past;
-      steps_are = ap (λ before. before ++ step ∷ []) run.steps_are;
-      replies_are = ap (λ before. before ++ reply ∷ []) run.replies_are;
-      reached = reached;
-      sound = (sound_next draws start old new run.past step reply.outcome reply.table fresh run.reached run.sound performs small, run.sound);
-      kept = tells.says;
-      rows = λ at. (tells.sides at).rows;
-      channels = λ at. (tells.sides at).channels.shown;
-    }
+  -- ---- sizes
 
--- ---- sizes
+  run_reached : PartsLaws m → (start pair : PairState I D S M N) (steps : List Step) (replies : List Reply) → (run : Runs m start steps replies pair) → StanceReached (pair_stance m start) run.past (pair_stance m pair)
+  run_reached laws start pair steps replies run = ran_reached (pair_stance m start) run.past (pair_stance m pair) (ran_stands m laws start run.past pair run.went)
 
--- the size of a pair is that of the steps of its run
-pub runs_size : {N : Type 0} (draws : Draws N) (start pair : PairState N) (steps : List Step) (replies : List Reply) → IsFresh start → Runs draws start steps replies pair → pair.size ≡ steps_size steps
-runs_size draws start pair steps replies fresh run = omega (arith, reached_size draws start pair run.past run.reached, fresh.size, ap steps_size run.steps_are)
+  -- the size of a pair is that of the steps of its run
+  pub runs_size : PartsLaws m → (start pair : PairState I D S M N) (steps : List Step) (replies : List Reply) → IsFresh m start → Runs m start steps replies pair → pair.size ≡ steps_size steps
+  runs_size laws start pair steps replies fresh run =
+      omega (arith, reached_size (pair_stance m start) (pair_stance m pair) run.past (run_reached laws start pair steps replies run), fresh.size, ap steps_size run.steps_are)
 
--- a pair is within the size of the steps of its run
-pub runs_within : {N : Type 0} (draws : Draws N) (start pair : PairState N) (steps : List Step) (replies : List Reply) → IsFresh start → Runs draws start steps replies pair → pair.size < 2 ^ 32 → IsWithin pair
-runs_within draws start pair steps replies fresh run small = reached_within draws start pair run.past fresh run.reached small
+  -- a pair is within the size of the steps of its run
+  pub runs_within : PartsLaws m → (start pair : PairState I D S M N) (steps : List Step) (replies : List Reply) → IsFresh m start → Runs m start steps replies pair → pair.size < 2 ^ 32 → IsWithin (pair_stance m pair)
+  runs_within laws start pair steps replies fresh run small =
+      reached_within (pair_stance m start) (pair_stance m pair) run.past (fresh_stands m start fresh) (run_reached laws start pair steps replies run) small

@@ -1,18 +1,18 @@
 -- A step that negotiates is sound, and its entry says what it leaves.
+use Rattle.rtc_history.specs.Views.{Stances}
+use Rattle.std.specs.Prelude.{is_some}
 use Rattle.std.proofs.Common.{◌≡◌, ◌≤◌, ◌<◌, ◌+◌, ◌^◌, ◌==◌, ℕ, List, [], ◌∷◌, ◌++◌, map, length, Bool, true, false, not, ◌&&◌, cond, Option, Some, None, refl, sym, ◌∙◌, ap, subst, arith, length-append}
 use Rattle.std.proofs.lemmas.Bool.{and_left, and_right, or_parts}
 use Rattle.std.proofs.lemmas.List.{length-map}
 use Rattle.rtc_sdp_values.specs.declared.line_row.LineRow.{LineRow}
 use Rattle.rtc_sdp_values.specs.LineRow.{row_mid}
-use Rattle.rtc_sdp_values.specs.declared.setup.Setup.TheVariants.{ActPass}
 use Rattle.rtc_change.specs.declared.change.Change.{Change}
-use Rattle.rtc_change.specs.PendingOffer.{added_mids, added_rows, do_offer}
-use Rattle.rtc_change.specs.Table.{IsTable, has_mid}
+use Rattle.rtc_change.specs.PendingOffer.{added_mids, added_rows, do_offer, staged_restart}
+use Rattle.rtc_tables.specs.Table.{IsTable, has_mid}
 use Rattle.rtc_change.proofs.AddedLemmas.{length-added_rows}
-use Rattle.rtc_peer_state.specs.declared.peer.Peer.{Peer}
-use Rattle.rtc_ids.specs.Draws.{Draws}
-use Rattle.rtc_peer_state.specs.Calls.{raised, after_channels_alone, fitting_channels}
-use Rattle.rtc_peer_state.specs.MadeSdp.{offer_sdp, offered_rows, row_line}
+use Rattle.rtc_peer_state.specs.Stance.{Stance}
+use Rattle.rtc_peer_state.specs.Calls.{raised, fitting_channels}
+use Rattle.rtc_peer_state.specs.MadeSdp.{offer_sdp, offered_rows, row_line, offer_head}
 use Rattle.rtc_history.specs.declared.side.Side.{Side}
 use Rattle.rtc_history.specs.declared.op.Op.{Op}
 use Rattle.rtc_history.specs.declared.op_answer.OpAnswer.{OpAnswer}
@@ -28,11 +28,11 @@ use Rattle.rtc_history.specs.Answers.{has_app_row, do_stage, do_need_offer, adde
 use Rattle.rtc_history.specs.Past.{Entry, MadeSdp, before, sdps, is_applied, is_offer_numbered, new_app, channels_given, channels_after, channels_shown, channel_rows_or}
 use Rattle.rtc_history.specs.Sound.{OpsAnswered, MadeOf, IsSound, at_first}
 use Rattle.rtc_history.specs.declared.kept.Kept.{Kept}
-use Rattle.rtc_history.specs.PairState.{PairState, peer_at}
-use Rattle.rtc_history.specs.Performs.{MakesOf, Negotiates, Shows, kept_offer, lent}
+use Rattle.rtc_history.specs.Performs.{kept_offer}
 use Rattle.rtc_channels.specs.Channels.{Channels, channel_rows}
 use Rattle.rtc_history_laws.proofs.AddedRows.{among_mids}
 use Rattle.rtc_history_laws.proofs.ToldChannels.{told, AreToldAlike, alike_told, all_confirmed_told}
+use Rattle.rtc_history_laws.proofs.SaidSdps.{length-with}
 use Rattle.rtc_history_laws.proofs.OfferApps.{behind, app_is_told}
 use Rattle.rtc_history_laws.proofs.AnsweredOps.{midway, ops_answered}
 use Rattle.rtc_history_laws.proofs.StagedChanges.{are_some}
@@ -40,10 +40,12 @@ use Rattle.rtc_history_laws.proofs.Staging.{Stages, ops_stage}
 use Rattle.rtc_history_laws.proofs.Tells.{ChannelsTell, Tells, same_side-self, same_side-other, raised-small}
 use Rattle.rtc_history_laws.proofs.TokenEntries.{offered_tells}
 use Rattle.rtc_history_laws.proofs.Around.{Around, entry, goes_on, channels_kept, quiet_tells}
+use Rattle.rtc_peer_state.proofs.StanceCalls.{stance_alone}
+use Rattle.rtc_history_laws.proofs.StanceSteps.{PairStance, StanceMakesOf, StanceNegotiates, StanceShows, lent}
 
 -- an offer is made exactly where something that is staged has to be offered
-made_of : {N : Type 0} (asked : Bool) (at : Side) (p q : Peer N) (kept kept' : List Kept) (made : Made) (offers : Bool) (next : ℕ)
-    → do_offer p.staged ≡ offers → next ≡ length kept → MakesOf asked at p kept made q kept' → MadeOf asked offers made next
+made_of : (asked : Bool) (at : Side) (p q : Stance) (kept kept' : List Kept) (made : Made) (offers : Bool) (next : ℕ)
+    → do_offer p.staged ≡ offers → next ≡ length kept → StanceMakesOf asked at p kept made q kept' → MadeOf asked offers made next
 made_of false at p q kept kept' NotAsked offers next some count h = tt
 made_of true at p q kept kept' Nothing false next some count h = tt
 made_of true at p q kept kept' Nothing true next some count h = absurd (let e : true ≡ false = sym some ∙ h.0.0 in cc)
@@ -56,17 +58,17 @@ made_of asked at p q kept kept' made offers next some count h = absurd h
 -- ---- channels alone that are applied
 
 -- What applying channels alone leaves of a peer.
-record AppliesAlone {N : Type 0} (p : Peer N) (staged : List Change) : Type 0 where
-  lines : (after_channels_alone staged p).lines ≡ p.lines
-  counter : (after_channels_alone staged p).counter ≡ cond (are_some staged) (raised p.counter) p.counter
-  channels : AreToldAlike p.channels (after_channels_alone staged p).channels
+record AppliesAlone (p : Stance) (staged : List Change) : Type 0 where
+  lines : (stance_alone staged p).lines ≡ p.lines
+  counter : (stance_alone staged p).counter ≡ cond (are_some staged) (raised p.counter) p.counter
+  channels : AreToldAlike p.channels (stance_alone staged p).channels
 
-applies_alone : {N : Type 0} (p : Peer N) (staged : List Change) → AppliesAlone p staged
+applies_alone : (p : Stance) (staged : List Change) → AppliesAlone p staged
 applies_alone p [] = record { lines = refl; counter = refl; channels = alike_told p.channels p.channels refl }
 applies_alone p (change ∷ changes) = record { lines = refl; counter = refl; channels = all_confirmed_told (fitting_channels (change ∷ changes)) p.channels }
 
 -- rows stay where changes are applied
-pub made_lines : {N : Type 0} (asked : Bool) (at : Side) (p q : Peer N) (kept kept' : List Kept) (made : Made) → MakesOf asked at p kept made q kept' → q.lines ≡ p.lines
+pub made_lines : (asked : Bool) (at : Side) (p q : Stance) (kept kept' : List Kept) (made : Made) → StanceMakesOf asked at p kept made q kept' → q.lines ≡ p.lines
 made_lines false at p q kept kept' NotAsked h = ap (λ r. r.lines) h.0
 made_lines true at p q kept kept' Nothing h = ap (λ r. r.lines) h.0.1 ∙ (applies_alone p p.staged).lines
 made_lines true at p q kept kept' (Offer k) h = ap (λ r. r.lines) h.1.3
@@ -74,7 +76,7 @@ made_lines true at p q kept kept' MadeAlloc h = ap (λ r. r.lines) h.0
 made_lines asked at p q kept kept' made h = absurd h
 
 -- and so do channels, but for what they are to be opened with
-made_channels : {N : Type 0} (asked : Bool) (at : Side) (p q : Peer N) (kept kept' : List Kept) (made : Made) → MakesOf asked at p kept made q kept' → AreToldAlike p.channels q.channels
+made_channels : (asked : Bool) (at : Side) (p q : Stance) (kept kept' : List Kept) (made : Made) → StanceMakesOf asked at p kept made q kept' → AreToldAlike p.channels q.channels
 made_channels false at p q kept kept' NotAsked h = alike_told p.channels q.channels (ap (λ r. r.channels) h.0)
 made_channels true at p q kept kept' Nothing h = rw h.0.1 (applies_alone p p.staged).channels
 made_channels true at p q kept kept' (Offer k) h = alike_told p.channels q.channels (ap (λ r. r.channels) h.1.3)
@@ -89,18 +91,18 @@ answered_from : (past : List Entry) (at : Side) (rows : List LineRow) (channels 
 answered_from past at rows channels app ops answers after same_rows same_channels answered = rw same_rows (rw (← same_channels) answered)
 
 -- the reply to a step that negotiates
-pub negotiate_reply : {N : Type 0} (draws : Draws N) (past : List Entry) (at : Side) (ops : List Op) (apply : Bool) (old new : Peer N) (kept kept' : List Kept) (outcome : Outcome) (table : Option Table)
+pub negotiate_reply : (fresh between : Stances) (past : List Entry) (at : Side) (ops : List Op) (apply : Bool) (old new : Stance) (kept kept' : List Kept) (outcome : Outcome) (table : Option Table)
     → before at past ≡ old.lines → ChannelsTell past at old.channels → IsTable (before at past) → length (sdps past) ≡ length kept
-    → Negotiates draws at ops apply old kept outcome table new kept' → IsSound past (Negotiate at ops apply) outcome table (behind kept kept')
-negotiate_reply draws past at ops apply old new kept kept' Alloc None rows tell table_before next h = tt
-negotiate_reply draws past at ops apply old new kept kept' (Negotiated answers made) (Some table) rows tell table_before next h =
+    → StanceNegotiates at ops apply old kept outcome table new kept' → IsSound fresh past between (Negotiate at ops apply) outcome table (behind kept kept')
+negotiate_reply fresh between past at ops apply old new kept kept' Alloc None rows tell table_before next h = tt
+negotiate_reply fresh between past at ops apply old new kept kept' (Negotiated answers made) (Some table) rows tell table_before next h =
     let asked : Bool = apply && not (answers_lack answers) in
-    let staged : Stages (lent old) ops answers h.0 = ops_stage draws (lent old) h.0 ops answers h.1 in
+    let staged : Stages (lent old) ops answers h.0 = ops_stage (lent old) h.0 ops answers h.1 in
     let left : table.lines ≡ h.0.lines = h.3.lines ∙ made_lines asked at h.0 new kept kept' made h.2 in
     let app : Option (List ℕ) = new_app table.lines (behind kept kept') in
     let app_told = app_is_told asked at (lent old) h.0 new kept kept' made table.lines h.2 left staged.app refl in
     let answered : OpsAnswered (midway (lent old) (map row_mid old.lines) app) ops answers h.0.lines =
-    ops_answered draws (lent old) h.0 ops answers (map row_mid old.lines) app
+    ops_answered (lent old) h.0 ops answers (map row_mid old.lines) app
     (record {
       table = subst IsTable rows table_before;
       holds = λ mid none. among_mids old.lines mid ∙ (or_parts (has_mid mid old.lines) false none).0;
@@ -111,19 +113,19 @@ negotiate_reply draws past at ops apply old new kept kept' (Negotiated answers m
       rw rows (made_of asked at h.0 new kept kept' made (do_need_offer (has_app_row old.lines) answers) (length (sdps past)) staged.offers next h.2),
       h.3.channels ∙ (made_channels asked at h.0 new kept kept' made h.2).shown ∙ staged.channels.shown ∙ ap (λ shown. shown ++ rows_waiting answers) tell.shown,
     )
-negotiate_reply draws past at ops apply old new kept kept' outcome table rows tell table_before next h = absurd h
+negotiate_reply fresh between past at ops apply old new kept kept' outcome table rows tell table_before next h = absurd h
 
-length-offer : {N : Type 0} (p : Peer N) → length (offer_sdp p).lines ≡ length p.lines + length (added_mids p.staged)
+length-offer : (p : Stance) → length (offer_sdp p).lines ≡ length p.lines + length (added_mids p.staged)
 unfolding offer_sdp
 length-offer p =
-    length-map (offered_rows p) (row_line p.identity ActPass) ∙ length-append p.lines (added_rows (length p.lines) p.staged)
+    length-with (offer_head p).candidates (map (row_line (offer_head p)) (offered_rows p)) ∙ length-map (offered_rows p) (row_line (offer_head p)) ∙ length-append p.lines (added_rows (length p.lines) p.staged)
     ∙ ap (λ n. length p.lines + n) (length-added_rows (length p.lines) p.staged)
 
 -- ---- what the entry leaves
 
 -- what a past says of channels after ops
-channels_next : {N : Type 0} (past : List Entry) (at : Side) (ops : List Op) (apply : Bool) (answers : List OpAnswer) (what : Made) (table : Table) (made : List MadeSdp) (old p q : Peer N)
-    → Stages (lent old) ops answers p → AreToldAlike p.channels q.channels → Shows table q → ChannelsTell past at old.channels → ChannelsTell (entry (Negotiate at ops apply) (Negotiated answers what) (Some table) made ∷ past) at q.channels
+channels_next : (past : List Entry) (at : Side) (ops : List Op) (apply : Bool) (answers : List OpAnswer) (what : Made) (table : Table) (made : List MadeSdp) (old p q : Stance)
+    → Stages (lent old) ops answers p → AreToldAlike p.channels q.channels → StanceShows table q → ChannelsTell past at old.channels → ChannelsTell (entry (Negotiate at ops apply) (Negotiated answers what) (Some table) made ∷ past) at q.channels
 channels_next past at ops apply answers what table made old p q staged alike shows tell = record {
   given = alike.same ∙ staged.channels.same ∙ ap (channels_answered ops answers) tell.given
       ∙ sym (ap (λ b. channels_after b (Negotiate at ops apply) (Negotiated answers what) (channels_given at past)) (same_side-self at));
@@ -135,13 +137,13 @@ here_is : (at : Side) (b moved : Bool) → b ≡ moved → (same_side at at && b
 here_is at b moved is = rw (same_side-self at, is) refl
 
 -- a step of ops that makes no offer, whether what is staged is applied or not
-unoffered_tells : {N : Type 0} (moved : Bool) (past : List Entry) (at : Side) (ops : List Op) (apply : Bool) (answers : List OpAnswer) (what : Made) (table : Table) (made : List MadeSdp) (p : Peer N) (old new : PairState N)
-    → is_applied answers what ≡ moved → ((t : ℕ) → is_offer_numbered t what ≡ false) → (peer_at at new).lines ≡ p.lines → (peer_at at new).counter ≡ cond moved ((peer_at at old).counter + 1) (peer_at at old).counter
-    → AreToldAlike p.channels (peer_at at new).channels → new.sdps ≡ old.sdps → Stages (lent (peer_at at old)) ops answers p → Shows table (peer_at at new)
+unoffered_tells : (moved : Bool) (past : List Entry) (at : Side) (ops : List Op) (apply : Bool) (answers : List OpAnswer) (what : Made) (table : Table) (made : List MadeSdp) (p : Stance) (old new : PairStance)
+    → is_applied answers what ≡ moved → ((t : ℕ) → is_offer_numbered t what ≡ false) → (new.sides at).lines ≡ p.lines → (new.sides at).counter ≡ cond moved ((old.sides at).counter + 1) (old.sides at).counter
+    → AreToldAlike p.channels (new.sides at).channels → new.sdps ≡ old.sdps → Stages (lent (old.sides at)) ops answers p → StanceShows table (new.sides at)
     → Around (Negotiate at ops apply) made old new → Tells past old → Tells (entry (Negotiate at ops apply) (Negotiated answers what) (Some table) made ∷ past) new
 unoffered_tells moved past at ops apply answers what table made p old new applied unnumbered lines counter alike kept staged shows around tells =
     quiet_tells moved past (Negotiate at ops apply) (Negotiated answers what) (Some table) made old new (ap length lines ∙ staged.rows) kept (sym shows.lines)
-    (channels_next past at ops apply answers what table made (peer_at at old) p (peer_at at new) staged alike shows (tells.sides at).channels) counter
+    (channels_next past at ops apply answers what table made (old.sides at) p (new.sides at) staged alike shows (tells.sides at).channels) counter
     (here_is at (is_applied answers what) moved applied) (and_left (same_side at (other_side at)) (is_applied answers what) (same_side-other at)) (λ t. refl) unnumbered around tells
 
 -- the counter of a side whose changes were applied, or not
@@ -149,55 +151,56 @@ rises_where : (moved : Bool) (counter size : ℕ) → counter ≤ size → size 
 rises_where true counter size low small = raised-small counter size low small
 rises_where false counter size low small = refl
 
-applied_tells : {N : Type 0} (past : List Entry) (at : Side) (ops : List Op) (apply asked : Bool) (answers : List OpAnswer) (what : Made) (table : Table) (made : List MadeSdp) (p : Peer N) (old new : PairState N)
-    → Stages (lent (peer_at at old)) ops answers p → MakesOf asked at p old.sdps what (peer_at at new) new.sdps → Shows table (peer_at at new) → made ≡ behind old.sdps new.sdps
+applied_tells : (past : List Entry) (at : Side) (ops : List Op) (apply asked : Bool) (answers : List OpAnswer) (what : Made) (table : Table) (made : List MadeSdp) (p : Stance) (old new : PairStance)
+    → Stages (lent (old.sides at)) ops answers p → StanceMakesOf asked at p old.sdps what (new.sides at) new.sdps → StanceShows table (new.sides at) → made ≡ behind old.sdps new.sdps
     → Around (Negotiate at ops apply) made old new → Tells past old → Tells (entry (Negotiate at ops apply) (Negotiated answers what) (Some table) made ∷ past) new
 applied_tells past at ops apply false answers NotAsked table made p old new staged h shows made_is around tells =
     unoffered_tells false past at ops apply answers NotAsked table made p old new refl (λ t. refl) (ap (λ r. r.lines) h.0) (ap (λ r. r.counter) h.0 ∙ staged.counter)
-    (made_channels false at p (peer_at at new) old.sdps new.sdps NotAsked h) h.1 staged shows around tells
+    (made_channels false at p (new.sides at) old.sdps new.sdps NotAsked h) h.1 staged shows around tells
 applied_tells past at ops apply true answers Nothing table made p old new staged h shows made_is around tells =
     let small : old.size < 2 ^ 32 = omega (arith, around.size, around.small) in
     let alone = applies_alone p p.staged in
-    let counter : p.counter ≡ (peer_at at old).counter = staged.counter in
+    let counter : p.counter ≡ (old.sides at).counter = staged.counter in
     unoffered_tells (do_stage answers) past at ops apply answers Nothing table made p old new refl (λ t. refl) (ap (λ r. r.lines) h.0.1 ∙ alone.lines)
     (ap (λ r. r.counter) h.0.1 ∙ alone.counter ∙ ap (λ b. cond b (raised p.counter) p.counter) staged.some ∙ ap (λ c. cond (do_stage answers) (raised c) c) counter
-    ∙ rises_where (do_stage answers) (peer_at at old).counter old.size (tells.sides at).counts small)
-    (made_channels true at p (peer_at at new) old.sdps new.sdps Nothing h) h.1 staged shows around tells
+    ∙ rises_where (do_stage answers) (old.sides at).counter old.size (tells.sides at).counts small)
+    (made_channels true at p (new.sides at) old.sdps new.sdps Nothing h) h.1 staged shows around tells
 applied_tells past at ops apply true answers MadeAlloc table made p old new staged h shows made_is around tells =
     unoffered_tells false past at ops apply answers MadeAlloc table made p old new refl (λ t. refl) (ap (λ r. r.lines) h.0) (ap (λ r. r.counter) h.0 ∙ staged.counter)
-    (made_channels true at p (peer_at at new) old.sdps new.sdps MadeAlloc h) h.1 staged shows around tells
+    (made_channels true at p (new.sides at) old.sdps new.sdps MadeAlloc h) h.1 staged shows around tells
 applied_tells past at ops apply true answers (Offer k) table made p old new staged h shows made_is around tells =
     let small : old.size < 2 ^ 32 = omega (arith, around.size, around.small) in
-    let few : length (peer_at at old).lines ≤ old.size = (tells.sides at).few in
+    let few : length (old.sides at).lines ≤ old.size = (tells.sides at).few in
     let count : length (added_mids p.staged) ≤ 0 + length ops = staged.count in
-    let lines : length p.lines ≡ length (peer_at at old).lines = staged.rows in
-    let new_lines : length (peer_at at new).lines ≡ length p.lines = ap (λ r. length r.lines) h.1.3 in
+    let lines : length p.lines ≡ length (old.sides at).lines = staged.rows in
+    let new_lines : length (new.sides at).lines ≡ length p.lines = ap (λ r. length r.lines) h.1.3 in
     let said : length h.0.0.lines ≡ length p.lines + length (added_mids p.staged) = ap (λ o. length o.lines) h.1.1 ∙ length-offer p in
     let changes : length (added_mids h.0.1.changes) ≡ length (added_mids p.staged) = ap (λ token. length (added_mids token.changes)) h.1.2 in
     let left : table.lines ≡ p.lines = shows.lines ∙ ap (λ r. r.lines) h.1.3 in
-    let app_told = app_is_told true at (lent (peer_at at old)) p (peer_at at new) old.sdps new.sdps (Offer k) table.lines h left staged.app refl in
+    let app_told = app_is_told true at (lent (old.sides at)) p (new.sides at) old.sdps new.sdps (Offer k) table.lines h left staged.app refl in
     let app : Option (List ℕ) = new_app table.lines (behind old.sdps new.sdps) in
     let adds : (place : ℕ) → added_rows place p.staged ≡ added app place ops answers =
     λ place. staged.adds app app_told.told_app (app_told.offered k refl) place ∙ ap (λ n. added app n ops answers) (let e : place + 0 ≡ place = omega arith in e) in
     offered_tells past (entry (Negotiate at ops apply) (Negotiated answers (Offer k)) (Some table) made) old new (kept_offer at h.0) h.0.1
     (goes_on true past (Negotiate at ops apply) (Negotiated answers (Offer k)) (Some table) made old new (sym shows.lines)
-    (channels_next past at ops apply answers (Offer k) table made (peer_at at old) p (peer_at at new) staged (made_channels true at p (peer_at at new) old.sdps new.sdps (Offer k) h) shows (tells.sides at).channels)
-    (ap (λ r. r.counter) h.1.3 ∙ ap raised staged.counter ∙ raised-small (peer_at at old).counter old.size (tells.sides at).counts small)
+    (channels_next past at ops apply answers (Offer k) table made (old.sides at) p (new.sides at) staged (made_channels true at p (new.sides at) old.sdps new.sdps (Offer k) h) shows (tells.sides at).channels)
+    (ap (λ r. r.counter) h.1.3 ∙ ap raised staged.counter ∙ raised-small (old.sides at).counter old.size (tells.sides at).counts small)
     (ap (λ b. b && true) (same_side-self at)) (and_left (same_side at (other_side at)) true (same_side-other at)) (omega (arith, few, lines, new_lines, around.size)) around)
     refl refl refl (ap (λ token. token.id) h.1.2 ∙ staged.counter)
     (λ place. ap (λ said. added (new_app table.lines said) place ops answers) made_is ∙ sym (ap (λ token. added_rows place token.changes) h.1.2 ∙ adds place))
+    (sym (ap (λ token. is_some (staged_restart token.changes)) h.1.2 ∙ staged.restarts))
     (omega (arith, few, lines, said, count, around.size)) (omega (arith, few, lines, new_lines, changes, count, around.size)) h.2 (λ t. refl) (λ t. ap (λ n. n == t) h.3) tells
 applied_tells past at ops apply asked answers what table made p old new staged h shows made_is around tells = absurd h
 
 -- A step that negotiates.
-pub negotiate_tells : {N : Type 0} (draws : Draws N) (past : List Entry) (at : Side) (ops : List Op) (apply : Bool) (old new : PairState N) (outcome : Outcome) (table : Option Table) (made : List MadeSdp)
-    → Negotiates draws at ops apply (peer_at at old) old.sdps outcome table (peer_at at new) new.sdps
+pub negotiate_tells : (past : List Entry) (at : Side) (ops : List Op) (apply : Bool) (old new : PairStance) (outcome : Outcome) (table : Option Table) (made : List MadeSdp)
+    → StanceNegotiates at ops apply (old.sides at) old.sdps outcome table (new.sides at) new.sdps
     → Around (Negotiate at ops apply) made old new → Tells past old → Tells (entry (Negotiate at ops apply) outcome table made ∷ past) new
-negotiate_tells draws past at ops apply old new Alloc None made h around tells =
+negotiate_tells past at ops apply old new Alloc None made h around tells =
     quiet_tells false past (Negotiate at ops apply) Alloc None made old new (ap (λ p. length p.lines) h.peer) h.sdps_kept (ap (λ p. p.lines) h.peer ∙ (tells.sides at).rows)
-    (channels_kept past (Negotiate at ops apply) Alloc None made (peer_at at old).channels (peer_at at new).channels (λ held. refl) (alike_told (peer_at at old).channels (peer_at at new).channels (ap (λ p. p.channels) h.peer))
+    (channels_kept past (Negotiate at ops apply) Alloc None made (old.sides at).channels (new.sides at).channels (λ held. refl) (alike_told (old.sides at).channels (new.sides at).channels (ap (λ p. p.channels) h.peer))
     (sym (tells.sides at).channels.shown ∙ ap (λ p. channel_rows p.channels) (sym h.peer)) (tells.sides at).channels)
     (ap (λ p. p.counter) h.peer) (and_right (same_side at at) false refl) (and_right (same_side at (other_side at)) false refl) (λ t. refl) (λ t. refl) around tells
-negotiate_tells draws past at ops apply old new (Negotiated answers what) (Some table) made h around tells =
-    applied_tells past at ops apply (apply && not (answers_lack answers)) answers what table made h.0 old new (ops_stage draws (lent (peer_at at old)) h.0 ops answers h.1) h.2 h.3 around.made_is around tells
-negotiate_tells draws past at ops apply old new outcome table made h around tells = absurd h
+negotiate_tells past at ops apply old new (Negotiated answers what) (Some table) made h around tells =
+    applied_tells past at ops apply (apply && not (answers_lack answers)) answers what table made h.0 old new (ops_stage (lent (old.sides at)) h.0 ops answers h.1) h.2 h.3 around.made_is around tells
+negotiate_tells past at ops apply old new outcome table made h around tells = absurd h

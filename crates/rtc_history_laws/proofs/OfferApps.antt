@@ -4,25 +4,24 @@ use Rattle.std.proofs.Math.Seq.{drop-append_seam, drop-length}
 use Rattle.rtc_sdp_values.specs.declared.line_row.LineRow.{LineRow}
 use Rattle.rtc_sdp_values.specs.declared.line_row.LineRow.TheVariants.{Media, App}
 use Rattle.rtc_sdp_values.specs.declared.media_kind.MediaKind.TheVariants.{Audio, Video}
-use Rattle.rtc_sdp_values.specs.declared.setup.Setup.{Setup}
-use Rattle.rtc_sdp_values.specs.declared.setup.Setup.TheVariants.{ActPass}
 use Rattle.rtc_change.specs.declared.change.Change.{Change}
-use Rattle.rtc_change.specs.declared.change.Change.TheVariants.{AddMedia as Adding, AddApp, AddChannel as AddingChannel, Direction as Setting}
+use Rattle.rtc_change.specs.declared.change.Change.TheVariants.{AddMedia as Adding, AddApp, AddChannel as AddingChannel, Direction as Setting, IceRestart as Restarting}
 use Rattle.rtc_change.specs.PendingOffer.{added_rows}
-use Rattle.rtc_change.specs.ParsedLines.{parsed_line, parsed_lines}
-use Rattle.rtc_peer_state.specs.declared.identity.Identity.{Identity}
-use Rattle.rtc_peer_state.specs.declared.peer.Peer.{Peer}
-use Rattle.rtc_peer_state.specs.Calls.{needs_app}
-use Rattle.rtc_peer_state.specs.MadeSdp.{row_line, live_mids, offer_sdp}
+use Rattle.rtc_tables.specs.ParsedLines.{parsed_line, parsed_lines}
+use Rattle.rtc_peer_state.specs.declared.sdp_head.SdpHead.{SdpHead}
+use Rattle.rtc_peer_state.specs.Stance.{Stance}
+use Rattle.rtc_peer_state.specs.MadeSdp.{row_line, live_mids, offer_sdp, offer_head, offered_rows}
 use Rattle.rtc_history.specs.declared.side.Side.{Side}
 use Rattle.rtc_history.specs.declared.made.Made.{Made}
 use Rattle.rtc_history.specs.declared.made.Made.TheVariants.{NotAsked, Nothing, Offer, Alloc as MadeAlloc}
 use Rattle.rtc_history.specs.declared.kept.Kept.{Kept}
 use Rattle.rtc_history.specs.PairState.{made_sdp}
-use Rattle.rtc_history.specs.Performs.{MakesOf, kept_offer}
+use Rattle.rtc_history.specs.Performs.{kept_offer}
 use Rattle.rtc_history.specs.Answers.{has_app_row}
 use Rattle.rtc_history.specs.Past.{MadeSdp, app_line_mid, app_mid_said, new_app}
+use Rattle.rtc_history_laws.proofs.SaidSdps.{parsed_with}
 use Rattle.rtc_history_laws.proofs.StagedApps.{staged_app, AppTold}
+use Rattle.rtc_history_laws.proofs.StanceSteps.{StanceMakesOf, needs_app}
 
 -- the SDPs behind those that were there
 abbrev pub behind : List Kept → List Kept → List MadeSdp
@@ -42,11 +41,11 @@ app_row_mid [] = []
 app_row_mid (Media place mid kind dir stopped remote_created ∷ rows) = app_row_mid rows
 app_row_mid (App place mid ∷ rows) = mid
 
-lines_mid : (identity : Identity) (setup : Setup) (groups : List (List (List ℕ))) (rows : List LineRow) → app_line_mid (map (parsed_line groups) (map (row_line identity setup) rows)) ≡ app_row_mid rows
-lines_mid identity setup groups [] = refl
-lines_mid identity setup groups (Media place mid Audio dir stopped remote_created ∷ rows) = lines_mid identity setup groups rows
-lines_mid identity setup groups (Media place mid Video dir stopped remote_created ∷ rows) = lines_mid identity setup groups rows
-lines_mid identity setup groups (App place mid ∷ rows) = refl
+lines_mid : (head : SdpHead) (groups : List (List (List ℕ))) (rows : List LineRow) → app_line_mid (map (parsed_line groups) (map (row_line head) rows)) ≡ app_row_mid rows
+lines_mid head groups [] = refl
+lines_mid head groups (Media place mid Audio dir stopped remote_created ∷ rows) = lines_mid head groups rows
+lines_mid head groups (Media place mid Video dir stopped remote_created ∷ rows) = lines_mid head groups rows
+lines_mid head groups (App place mid ∷ rows) = refl
 
 mid_behind : (rows more : List LineRow) → has_app_row rows ≡ false → app_row_mid (rows ++ more) ≡ app_row_mid more
 mid_behind [] more none = refl
@@ -59,12 +58,14 @@ staged_mid_is place (Adding media ∷ staged) own is = staged_mid_is (place + 1)
 staged_mid_is place (AddApp mid ∷ staged) own is = let e : Some mid ≡ Some own = is in cc
 staged_mid_is place (AddingChannel id config ∷ staged) own is = staged_mid_is place staged own is
 staged_mid_is place (Setting mid dir ∷ staged) own is = staged_mid_is place staged own is
+staged_mid_is place (Restarting creds keeps ∷ staged) own is = staged_mid_is place staged own is
 
 -- the application line of an offer that adds one is the staged one
-offer_mid : {N : Type 0} (p : Peer N) (own : List ℕ) → has_app_row p.lines ≡ false → staged_app p.staged ≡ Some own → app_line_mid (parsed_lines (offer_sdp p)) ≡ own
+offer_mid : (p : Stance) (own : List ℕ) → has_app_row p.lines ≡ false → staged_app p.staged ≡ Some own → app_line_mid (parsed_lines (offer_sdp p)) ≡ own
 unfolding offer_sdp
 offer_mid p own none is =
-    lines_mid p.identity ActPass (live_mids (p.lines ++ added_rows (length p.lines) p.staged) ∷ []) (p.lines ++ added_rows (length p.lines) p.staged) ∙ mid_behind p.lines (added_rows (length p.lines) p.staged) none ∙ staged_mid_is (length p.lines) p.staged own is
+    ap app_line_mid (parsed_with (live_mids (offered_rows p) ∷ []) (offer_head p).candidates (map (row_line (offer_head p)) (offered_rows p)))
+    ∙ lines_mid (offer_head p) (live_mids (p.lines ++ added_rows (length p.lines) p.staged) ∷ []) (p.lines ++ added_rows (length p.lines) p.staged) ∙ mid_behind p.lines (added_rows (length p.lines) p.staged) none ∙ staged_mid_is (length p.lines) p.staged own is
 
 -- ---- what the SDP of a step tells of the line that it stages
 
@@ -77,15 +78,15 @@ none_told : (rows : List LineRow) (said : List MadeSdp) → said ≡ [] → new_
 none_told rows said none = rw none (no_choice (has_app_row rows))
 
 -- What is told of the line of data channels that a step stages: its mid, and where an offer is made, that one is needed where it is told.
-pub record IsAppTold {N : Type 0} (p : Peer N) (app : Option (List ℕ)) (what : Made) (q : Peer N) : Type 0 where
+pub record IsAppTold (p : Stance) (app : Option (List ℕ)) (what : Made) (q : Stance) : Type 0 where
   pub told_app : AppTold p app q
   pub offered : (k : ℕ) → what ≡ Offer k → app ≡ None → needs_app p ≡ false
 
-untold : {N : Type 0} (p q : Peer N) (app : Option (List ℕ)) (what : Made) → app ≡ None → ((k : ℕ) → what ≡ Offer k → ⊥) → IsAppTold p app what q
+untold : (p q : Stance) (app : Option (List ℕ)) (what : Made) → app ≡ None → ((k : ℕ) → what ≡ Offer k → ⊥) → IsAppTold p app what q
 untold p q app what none never = rw none (record { told_app = tt; offered = λ k is. absurd (never k is) })
 
 -- the offer tells the mid of the line that it adds
-offer_told : {N : Type 0} (p q : Peer N) (rows : List LineRow) (said : List MadeSdp) (mid : List ℕ) (what : Made) → app_mid_said said ≡ Some mid → has_app_row rows ≡ has_app_row q.lines
+offer_told : (p q : Stance) (rows : List LineRow) (said : List MadeSdp) (mid : List ℕ) (what : Made) → app_mid_said said ≡ Some mid → has_app_row rows ≡ has_app_row q.lines
     → ((has : Bool) → has_app_row rows ≡ has → needs_app p ≡ cond has false true) → ((own : List ℕ) → has_app_row q.lines ≡ false → staged_app q.staged ≡ Some own → own ≡ mid) → IsAppTold p (new_app rows said) what q
 offer_told p q rows said mid what says same needs is = by (has_app_row rows) refl
   where
@@ -94,7 +95,7 @@ offer_told p q rows said mid what says same needs is = by (has_app_row rows) ref
     by false has = rw (has, says) (record { told_app = (needs false has, λ own there. is own (sym same ∙ has) there); offered = λ k made none. absurd (cc) })
 
 -- What is told of the line of data channels that ops stage.
-pub app_is_told : {N : Type 0} (asked : Bool) (at : Side) (old p q : Peer N) (kept kept' : List Kept) (what : Made) (rows : List LineRow) → MakesOf asked at p kept what q kept' → rows ≡ p.lines → has_app_row p.lines ≡ has_app_row old.lines
+pub app_is_told : (asked : Bool) (at : Side) (old p q : Stance) (kept kept' : List Kept) (what : Made) (rows : List LineRow) → StanceMakesOf asked at p kept what q kept' → rows ≡ p.lines → has_app_row p.lines ≡ has_app_row old.lines
     → old.staged ≡ [] → IsAppTold old (new_app rows (behind kept kept')) what p
 app_is_told false at old p q kept kept' NotAsked rows h same app bare = untold old p _ NotAsked (none_told rows _ (none_behind kept kept' h.1)) (λ k is. absurd (cc))
 app_is_told true at old p q kept kept' Nothing rows h same app bare = untold old p _ Nothing (none_told rows _ (none_behind kept kept' h.1)) (λ k is. absurd (cc))

@@ -1,19 +1,22 @@
 -- A step that hands over an offer is sound, and its entry says what it leaves.
-use Rattle.std.proofs.Common.{◌≡◌, ◌≤◌, ◌+◌, ℕ, List, ◌∷◌, length, Bool, true, false, ◌&&◌, Option, Some, None, refl, sym, ◌∙◌, ap, arith}
+use Rattle.rtc_dtls.specs.declared.dtls_error.DtlsError.TheVariants.{Fault, WouldBlock, Alloc as DtlsAlloc}
+use Rattle.rtc_change.specs.Held.{Held}
+use Rattle.rtc_peer_state.specs.Stance.{held_by}
+use Rattle.rtc_history.specs.Views.{Stances, view_in}
+use Rattle.std.proofs.Common.{◌≡◌, ◌≤◌, ◌+◌, ℕ, List, ◌∷◌, length, Bool, true, false, ◌&&◌, Option, Some, None, refl, sym, ◌∙◌, ap, arith, map}
 use Rattle.std.proofs.lemmas.Bool.{and_left, and_right}
 use Rattle.std.proofs.lemmas.List.{length-map}
 use Rattle.rtc_sdp_values.specs.declared.line_row.LineRow.{LineRow}
 use Rattle.rtc_sdp_values.specs.declared.sdp.Sdp.{Sdp}
-use Rattle.rtc_sdp_values.specs.declared.setup.Setup.TheVariants.{Passive}
-use Rattle.rtc_change.specs.ParsedLines.{parsed_line, parsed_lines}
+use Rattle.rtc_sdp_values.specs.declared.ice_creds.IceCreds.{IceCreds}
+use Rattle.rtc_tables.specs.ParsedLines.{parsed_line, parsed_lines}
 use Rattle.rtc_change.specs.TableAfter.{table_after}
 use Rattle.rtc_change.proofs.TableAfterLemmas.{length_table_after}
-use Rattle.rtc_peer_state.specs.declared.peer.Peer.{Peer}
+use Rattle.rtc_peer_state.specs.Stance.{Stance}
 use Rattle.rtc_peer_state.specs.declared.rtc_error.RtcError.{RtcError}
-use Rattle.rtc_peer_state.specs.declared.rtc_error.RtcError.TheVariants.{RemoteSdp, Sdp as SdpRefused, ChangesOutOfOrder, BadChannel, Alloc as PeerAlloc}
-use Rattle.rtc_ids.specs.Draws.{Draws}
+use Rattle.rtc_peer_state.specs.declared.rtc_error.RtcError.TheVariants.{RemoteSdp, Sdp as SdpRefused, ChangesOutOfOrder, BadChannel, Alloc as PeerAlloc, Dtls}
 use Rattle.rtc_peer_state.specs.Calls.{raised}
-use Rattle.rtc_peer_state.specs.MadeSdp.{answer_sdp, row_line}
+use Rattle.rtc_peer_state.specs.MadeSdp.{answer_sdp, row_line, answer_head}
 use Rattle.rtc_history.specs.declared.side.Side.{Side}
 use Rattle.rtc_history.specs.declared.step.Step.TheVariants.{AcceptOffer}
 use Rattle.rtc_history.specs.declared.outcome.Outcome.{Outcome}
@@ -23,50 +26,57 @@ use Rattle.rtc_history.specs.Sides.{same_side, other_side}
 use Rattle.rtc_history.specs.Past.{Entry, MadeSdp, before, channels_shown, channel_rows_or, rows_or, sdps, remote_sdp, was_called, makes}
 use Rattle.rtc_history.specs.Sound.{RepliesToOffer, IsSound}
 use Rattle.rtc_history.specs.declared.kept.Kept.{Kept}
-use Rattle.rtc_history.specs.PairState.{PairState, peer_at}
-use Rattle.rtc_history.specs.Performs.{StepAcceptsOffer, Shows, kept_answer, lent}
+use Rattle.rtc_history.specs.Performs.{kept_answer}
 use Rattle.rtc_channels.specs.Channels.{channel_rows}
+use Rattle.rtc_history_laws.proofs.SaidSdps.{length-with}
 use Rattle.rtc_history_laws.proofs.ToldChannels.{alike_told}
 use Rattle.rtc_history_laws.proofs.Tells.{ChannelsTell, Tells, same_side-self, same_side-other, raised-small}
 use Rattle.rtc_history_laws.proofs.Entries.{answered_tells}
 use Rattle.rtc_history_laws.proofs.Around.{Around, entry, goes_on, channels_kept, quiet_tells}
+use Rattle.rtc_history_laws.proofs.StanceSteps.{PairStance, StanceShows, StanceStepAcceptsOffer, lent}
 
--- the same of equal SDPs, rows and counts
-offer_by : (sdp sdp' : Option Sdp) (rows rows' : List LineRow) (next next' : ℕ) (outcome : Outcome) (after : List LineRow) → sdp' ≡ sdp → rows' ≡ rows → next' ≡ next
-    → RepliesToOffer sdp (record { lines = rows }) next outcome after → RepliesToOffer sdp' (record { lines = rows' }) next' outcome after
-offer_by sdp sdp' rows rows' next next' outcome after same_sdp same_rows same_next takes = rw (same_sdp, same_rows, same_next) takes
+-- the same of equal SDPs, views and counts
+offer_by : (sdp sdp' : Option Sdp) (view view' : Held) (next next' : ℕ) (outcome : Outcome) (after : List LineRow) → sdp' ≡ sdp → view' ≡ view → next' ≡ next
+    → RepliesToOffer sdp view next outcome after → RepliesToOffer sdp' view' next' outcome after
+offer_by sdp sdp' view view' next next' outcome after same_sdp same_view same_next takes = rw (same_sdp, same_view, same_next) takes
 
 -- the channels that are shown are those of the past
-pub shown_by : {N : Type 0} (past : List Entry) (at : Side) (old new : Peer N) (table : Table) → channels_shown at past ≡ channel_rows old.channels → channel_rows new.channels ≡ channel_rows old.channels → Shows table new → table.channels ≡ channels_shown at past
+pub shown_by : (past : List Entry) (at : Side) (old new : Stance) (table : Table) → channels_shown at past ≡ channel_rows old.channels → channel_rows new.channels ≡ channel_rows old.channels → StanceShows table new → table.channels ≡ channels_shown at past
 shown_by past at old new table before_it same shows = shows.channels ∙ same ∙ sym before_it
 
 -- the reply to an offer that is delivered
-pub offer_reply : {N : Type 0} (draws : Draws N) (past : List Entry) (at : Side) (k : ℕ) (offer : Option Sdp) (old new : Peer N) (kept kept' : List Kept) (outcome : Outcome) (table : Option Table) (made : List MadeSdp)
-    → remote_sdp true at k past ≡ offer → before at past ≡ old.lines → channels_shown at past ≡ channel_rows old.channels → length (sdps past) ≡ length kept → StepAcceptsOffer draws at offer old kept outcome table new kept'
-    → IsSound past (AcceptOffer at k) outcome table made
-offer_reply draws past at k None old new kept kept' Alloc None made said rows shown next h = tt
-offer_reply draws past at k (Some sdp) old new kept kept' Alloc None made said rows shown next h = tt
-offer_reply draws past at k None old new kept kept' NoSuch (Some table) made said rows shown next h =
-    (offer_by None _ old.lines _ (length kept) _ NoSuch table.lines said rows next h.1.lines, shown_by past at old old table shown refl h.1)
-offer_reply draws past at k (Some sdp) old new kept kept' (Answered n) (Some table) made said rows shown next h =
-    (offer_by (Some sdp) _ old.lines _ (length kept) _ (Answered n) table.lines said rows next (h.1.passes, h.4.lines ∙ ap (λ p. p.lines) h.1.rest, h.3), shown_by past at old new table shown (ap (λ p. channel_rows p.channels) h.1.rest) h.4)
-offer_reply draws past at k (Some sdp) old new kept kept' (Refused (RemoteSdp why)) (Some table) made said rows shown next h =
-    (offer_by (Some sdp) _ old.lines _ (length kept) _ (Refused (RemoteSdp why)) table.lines said rows next (h.0.0, h.2.lines ∙ ap (λ p. p.lines) h.0.1), shown_by past at old new table shown (ap (λ p. channel_rows p.channels) h.0.1) h.2)
-offer_reply draws past at k (Some sdp) old new kept kept' (Refused (SdpRefused error)) (Some table) made said rows shown next h =
-    (offer_by (Some sdp) _ old.lines _ (length kept) _ (Refused (SdpRefused error)) table.lines said rows next (h.0.0, h.2.lines ∙ ap (λ p. p.lines) h.0.1), shown_by past at old new table shown (ap (λ p. channel_rows p.channels) h.0.1) h.2)
-offer_reply draws past at k (Some sdp) old new kept kept' (Refused PeerAlloc) (Some table) made said rows shown next h =
-    (offer_by (Some sdp) _ old.lines _ (length kept) _ (Refused PeerAlloc) table.lines said rows next (h.2.lines ∙ ap (λ p. p.lines) h.0.1), shown_by past at old new table shown (ap (λ p. channel_rows p.channels) h.0.1) h.2)
-offer_reply draws past at k (Some sdp) old new kept kept' (Refused ChangesOutOfOrder) (Some table) made said rows shown next h = absurd h.0
-offer_reply draws past at k (Some sdp) old new kept kept' (Refused BadChannel) (Some table) made said rows shown next h = absurd h.0
-offer_reply draws past at k offer old new kept kept' outcome table made said rows shown next h = absurd h
+pub offer_reply : (fresh between : Stances) (past : List Entry) (at : Side) (k : ℕ) (offer : Option Sdp) (old new : Stance) (kept kept' : List Kept) (outcome : Outcome) (table : Option Table) (made : List MadeSdp)
+    → remote_sdp true at k past ≡ offer → view_in fresh at past (held_by (between at)) ≡ held_by old → channels_shown at past ≡ channel_rows old.channels → length (sdps past) ≡ length kept → StanceStepAcceptsOffer at offer old kept outcome table new kept'
+    → IsSound fresh past between (AcceptOffer at k) outcome table made
+offer_reply fresh between past at k None old new kept kept' Alloc None made said view shown next h = tt
+offer_reply fresh between past at k (Some sdp) old new kept kept' Alloc None made said view shown next h = tt
+offer_reply fresh between past at k None old new kept kept' NoSuch (Some table) made said view shown next h =
+    (offer_by None _ (held_by old) _ (length kept) _ NoSuch table.lines said view next h.1.lines, shown_by past at old old table shown refl h.1)
+offer_reply fresh between past at k (Some sdp) old new kept kept' (Answered n) (Some table) made said view shown next h =
+    (offer_by (Some sdp) _ (held_by old) _ (length kept) _ (Answered n) table.lines said view next (h.1.passes, h.4.lines ∙ ap (λ p. p.lines) h.1.rest, h.3), shown_by past at old new table shown (ap (λ p. channel_rows p.channels) h.1.rest) h.4)
+offer_reply fresh between past at k (Some sdp) old new kept kept' (Refused (RemoteSdp why)) (Some table) made said view shown next h =
+    (offer_by (Some sdp) _ (held_by old) _ (length kept) _ (Refused (RemoteSdp why)) table.lines said view next (h.0.0, h.2.lines ∙ ap (λ p. p.lines) h.0.1), shown_by past at old new table shown (ap (λ p. channel_rows p.channels) h.0.1) h.2)
+offer_reply fresh between past at k (Some sdp) old new kept kept' (Refused (SdpRefused error)) (Some table) made said view shown next h =
+    (offer_by (Some sdp) _ (held_by old) _ (length kept) _ (Refused (SdpRefused error)) table.lines said view next (h.0.0, h.2.lines ∙ ap (λ p. p.lines) h.0.1), shown_by past at old new table shown (ap (λ p. channel_rows p.channels) h.0.1) h.2)
+offer_reply fresh between past at k (Some sdp) old new kept kept' (Refused (Dtls Fault)) (Some table) made said view shown next h =
+    (offer_by (Some sdp) _ (held_by old) _ (length kept) _ (Refused (Dtls Fault)) table.lines said view next (h.0.0, h.2.lines ∙ ap (λ p. p.lines) h.0.1.breaks.rest), shown_by past at old new table shown (ap (λ p. channel_rows p.channels) h.0.1.breaks.rest) h.2)
+offer_reply fresh between past at k (Some sdp) old new kept kept' (Refused (Dtls WouldBlock)) (Some table) made said view shown next h = absurd h.0
+offer_reply fresh between past at k (Some sdp) old new kept kept' (Refused (Dtls DtlsAlloc)) (Some table) made said view shown next h = absurd h.0
+offer_reply fresh between past at k (Some sdp) old new kept kept' (Refused PeerAlloc) (Some table) made said view shown next h =
+    (offer_by (Some sdp) _ (held_by old) _ (length kept) _ (Refused PeerAlloc) table.lines said view next (h.2.lines ∙ ap (λ p. p.lines) h.0.breaks.rest), shown_by past at old new table shown (ap (λ p. channel_rows p.channels) h.0.breaks.rest) h.2)
+offer_reply fresh between past at k (Some sdp) old new kept kept' (Refused ChangesOutOfOrder) (Some table) made said view shown next h = absurd h.0
+offer_reply fresh between past at k (Some sdp) old new kept kept' (Refused BadChannel) (Some table) made said view shown next h = absurd h.0
+offer_reply fresh between past at k offer old new kept kept' outcome table made said view shown next h = absurd h
 
 -- the rows after an SDP are at most so many
 pub taken_within : (rows : List LineRow) (sdp : Sdp) (offer : Bool) (size : ℕ) → length rows ≤ size → length sdp.lines ≤ size → length (table_after rows (parsed_lines sdp) offer) ≤ size
 taken_within rows sdp offer size few_rows few_lines = omega (arith, length_table_after rows (parsed_lines sdp) offer, length-map sdp.lines (parsed_line sdp.groups))
 
-length-answer : {N : Type 0} (p : Peer N) (sdp : Sdp) → length (answer_sdp p sdp).lines ≡ length (table_after p.lines (parsed_lines sdp) true)
+length-answer : (p : Stance) (restart : Option (IceCreds × Bool)) (sdp : Sdp) → length (answer_sdp p restart sdp).lines ≡ length (table_after p.lines (parsed_lines sdp) true)
 unfolding answer_sdp
-length-answer p sdp = length-map (table_after p.lines (parsed_lines sdp) true) (row_line p.identity Passive)
+length-answer p restart sdp =
+    length-with (answer_head p restart sdp).candidates (map (row_line (answer_head p restart sdp)) (table_after p.lines (parsed_lines sdp) true))
+    ∙ length-map (table_after p.lines (parsed_lines sdp) true) (row_line (answer_head p restart sdp))
 
 here : (at : Side) (b : Bool) → b ≡ true → (same_side at at && b) ≡ true
 here at b is = rw (same_side-self at, is) refl
@@ -75,15 +85,15 @@ nowhere : (at : Side) (b : Bool) → (same_side at (other_side at) && b) ≡ fal
 nowhere at b = and_left (same_side at (other_side at)) b (same_side-other at)
 
 -- the channels that steps tell are those of before
-channels_go : {N : Type 0} (past : List Entry) (at : Side) (k : ℕ) (outcome : Outcome) (table : Option Table) (made : List MadeSdp) (old new : PairState N) → (peer_at at new).channels ≡ (peer_at at old).channels
-    → channel_rows_or true table (channels_shown at past) ≡ channel_rows (peer_at at new).channels → Tells past old → ChannelsTell (entry (AcceptOffer at k) outcome table made ∷ past) at (peer_at at new).channels
+channels_go : (past : List Entry) (at : Side) (k : ℕ) (outcome : Outcome) (table : Option Table) (made : List MadeSdp) (old new : PairStance) → (new.sides at).channels ≡ (old.sides at).channels
+    → channel_rows_or true table (channels_shown at past) ≡ channel_rows (new.sides at).channels → Tells past old → ChannelsTell (entry (AcceptOffer at k) outcome table made ∷ past) at (new.sides at).channels
 channels_go past at k outcome table made old new same shown tells =
-    channels_kept past (AcceptOffer at k) outcome table made (peer_at at old).channels (peer_at at new).channels (λ held. refl) (alike_told (peer_at at old).channels (peer_at at new).channels same) shown (tells.sides at).channels
+    channels_kept past (AcceptOffer at k) outcome table made (old.sides at).channels (new.sides at).channels (λ held. refl) (alike_told (old.sides at).channels (new.sides at).channels same) shown (tells.sides at).channels
 
 -- the peer was delivered nothing
-untouched_tells : {N : Type 0} (past : List Entry) (at : Side) (k : ℕ) (outcome : Outcome) (table : Option Table) (made : List MadeSdp) (old new : PairState N)
-    → was_called outcome ≡ false → ((t : ℕ) → makes t outcome ≡ false) → peer_at at new ≡ peer_at at old → new.sdps ≡ old.sdps → rows_or true table (before at past) ≡ (peer_at at old).lines
-    → channel_rows_or true table (channels_shown at past) ≡ channel_rows (peer_at at old).channels
+untouched_tells : (past : List Entry) (at : Side) (k : ℕ) (outcome : Outcome) (table : Option Table) (made : List MadeSdp) (old new : PairStance)
+    → was_called outcome ≡ false → ((t : ℕ) → makes t outcome ≡ false) → new.sides at ≡ old.sides at → new.sdps ≡ old.sdps → rows_or true table (before at past) ≡ (old.sides at).lines
+    → channel_rows_or true table (channels_shown at past) ≡ channel_rows (old.sides at).channels
     → Around (AcceptOffer at k) made old new → Tells past old → Tells (entry (AcceptOffer at k) outcome table made ∷ past) new
 untouched_tells past at k outcome table made old new uncalled unmade peer kept rows shown around tells =
     quiet_tells false past (AcceptOffer at k) outcome table made old new (ap (λ p. length p.lines) peer) kept (ap (λ p. p.lines) peer ∙ sym rows)
@@ -91,13 +101,13 @@ untouched_tells past at k outcome table made old new uncalled unmade peer kept r
     (and_right (same_side at at) (was_called outcome) uncalled) (and_right (same_side at (other_side at)) (was_called outcome) uncalled) (λ t. refl) unmade around tells
 
 -- the counter of a pair that is small rises by one
-rises : {N : Type 0} (past : List Entry) (at : Side) (k : ℕ) (made : List MadeSdp) (old new : PairState N) → (peer_at at new).counter ≡ raised (peer_at at old).counter
-    → Around (AcceptOffer at k) made old new → Tells past old → (peer_at at new).counter ≡ (peer_at at old).counter + 1
-rises past at k made old new counter around tells = counter ∙ raised-small (peer_at at old).counter old.size (tells.sides at).counts (omega (arith, around.size, around.small))
+rises : (past : List Entry) (at : Side) (k : ℕ) (made : List MadeSdp) (old new : PairStance) → (new.sides at).counter ≡ raised (old.sides at).counter
+    → Around (AcceptOffer at k) made old new → Tells past old → (new.sides at).counter ≡ (old.sides at).counter + 1
+rises past at k made old new counter around tells = counter ∙ raised-small (old.sides at).counter old.size (tells.sides at).counts (omega (arith, around.size, around.small))
 
 -- the peer refused the offer
-refused_tells : {N : Type 0} (past : List Entry) (at : Side) (k : ℕ) (error : RtcError) (table : Table) (made : List MadeSdp) (old new : PairState N)
-    → (peer_at at new).lines ≡ (peer_at at old).lines → (peer_at at new).counter ≡ raised (peer_at at old).counter → (peer_at at new).channels ≡ (peer_at at old).channels → new.sdps ≡ old.sdps → Shows table (peer_at at new)
+refused_tells : (past : List Entry) (at : Side) (k : ℕ) (error : RtcError) (table : Table) (made : List MadeSdp) (old new : PairStance)
+    → (new.sides at).lines ≡ (old.sides at).lines → (new.sides at).counter ≡ raised (old.sides at).counter → (new.sides at).channels ≡ (old.sides at).channels → new.sdps ≡ old.sdps → StanceShows table (new.sides at)
     → Around (AcceptOffer at k) made old new → Tells past old → Tells (entry (AcceptOffer at k) (Refused error) (Some table) made ∷ past) new
 refused_tells past at k error table made old new lines counter channels kept shows around tells =
     quiet_tells true past (AcceptOffer at k) (Refused error) (Some table) made old new (ap length lines) kept (sym shows.lines)
@@ -105,31 +115,35 @@ refused_tells past at k error table made old new lines counter channels kept sho
     (here at true refl) (nowhere at true) (λ t. refl) (λ t. refl) around tells
 
 -- A step that hands over an offer.
-pub offer_tells : {N : Type 0} (draws : Draws N) (past : List Entry) (at : Side) (k : ℕ) (offer : Option Sdp) (old new : PairState N) (outcome : Outcome) (table : Option Table) (made : List MadeSdp)
-    → ((sdp : Sdp) → offer ≡ Some sdp → length sdp.lines ≤ old.size) → StepAcceptsOffer draws at offer (peer_at at old) old.sdps outcome table (peer_at at new) new.sdps
+pub offer_tells : (past : List Entry) (at : Side) (k : ℕ) (offer : Option Sdp) (old new : PairStance) (outcome : Outcome) (table : Option Table) (made : List MadeSdp)
+    → ((sdp : Sdp) → offer ≡ Some sdp → length sdp.lines ≤ old.size) → StanceStepAcceptsOffer at offer (old.sides at) old.sdps outcome table (new.sides at) new.sdps
     → Around (AcceptOffer at k) made old new → Tells past old → Tells (entry (AcceptOffer at k) outcome table made ∷ past) new
-offer_tells draws past at k None old new Alloc None made few h around tells =
+offer_tells past at k None old new Alloc None made few h around tells =
     untouched_tells past at k Alloc None made old new refl (λ t. refl) h.peer h.sdps_kept (sym (tells.sides at).rows) (sym (tells.sides at).channels.shown) around tells
-offer_tells draws past at k (Some sdp) old new Alloc None made few h around tells =
+offer_tells past at k (Some sdp) old new Alloc None made few h around tells =
     untouched_tells past at k Alloc None made old new refl (λ t. refl) h.peer h.sdps_kept (sym (tells.sides at).rows) (sym (tells.sides at).channels.shown) around tells
-offer_tells draws past at k None old new NoSuch (Some table) made few h around tells =
+offer_tells past at k None old new NoSuch (Some table) made few h around tells =
     untouched_tells past at k NoSuch (Some table) made old new refl (λ t. refl) h.0.peer h.0.sdps_kept h.1.lines h.1.channels around tells
-offer_tells draws past at k (Some sdp) old new (Refused (RemoteSdp why)) (Some table) made few h around tells =
+offer_tells past at k (Some sdp) old new (Refused (RemoteSdp why)) (Some table) made few h around tells =
     refused_tells past at k (RemoteSdp why) table made old new (ap (λ p. p.lines) h.0.1) (ap (λ p. p.counter) h.0.1) (ap (λ p. p.channels) h.0.1) h.1 h.2 around tells
-offer_tells draws past at k (Some sdp) old new (Refused (SdpRefused error)) (Some table) made few h around tells =
+offer_tells past at k (Some sdp) old new (Refused (SdpRefused error)) (Some table) made few h around tells =
     refused_tells past at k (SdpRefused error) table made old new (ap (λ p. p.lines) h.0.1) (ap (λ p. p.counter) h.0.1) (ap (λ p. p.channels) h.0.1) h.1 h.2 around tells
-offer_tells draws past at k (Some sdp) old new (Refused PeerAlloc) (Some table) made few h around tells =
-    refused_tells past at k PeerAlloc table made old new (ap (λ p. p.lines) h.0.1) (ap (λ p. p.counter) h.0.1) (ap (λ p. p.channels) h.0.1) h.1 h.2 around tells
-offer_tells draws past at k (Some sdp) old new (Refused ChangesOutOfOrder) (Some table) made few h around tells = absurd h.0
-offer_tells draws past at k (Some sdp) old new (Refused BadChannel) (Some table) made few h around tells = absurd h.0
-offer_tells draws past at k (Some sdp) old new (Answered n) (Some table) made few h around tells =
-    let most : length (table_after (peer_at at old).lines (parsed_lines sdp) true) ≤ old.size = taken_within (peer_at at old).lines sdp true old.size (tells.sides at).few (few sdp refl) in
-    let rows : length (peer_at at new).lines ≡ length (table_after (peer_at at old).lines (parsed_lines sdp) true) = ap (λ p. length p.lines) h.1.rest in
-    let lines : length h.0.lines ≡ length (table_after (peer_at at old).lines (parsed_lines sdp) true) = ap (λ a. length a.lines) h.1.answered ∙ length-answer (lent (peer_at at old)) sdp in
+offer_tells past at k (Some sdp) old new (Refused (Dtls Fault)) (Some table) made few h around tells =
+    refused_tells past at k (Dtls Fault) table made old new (ap (λ p. p.lines) h.0.1.breaks.rest) (ap (λ p. p.counter) h.0.1.breaks.rest) (ap (λ p. p.channels) h.0.1.breaks.rest) h.1 h.2 around tells
+offer_tells past at k (Some sdp) old new (Refused (Dtls WouldBlock)) (Some table) made few h around tells = absurd h.0
+offer_tells past at k (Some sdp) old new (Refused (Dtls DtlsAlloc)) (Some table) made few h around tells = absurd h.0
+offer_tells past at k (Some sdp) old new (Refused PeerAlloc) (Some table) made few h around tells =
+    refused_tells past at k PeerAlloc table made old new (ap (λ p. p.lines) h.0.breaks.rest) (ap (λ p. p.counter) h.0.breaks.rest) (ap (λ p. p.channels) h.0.breaks.rest) h.1 h.2 around tells
+offer_tells past at k (Some sdp) old new (Refused ChangesOutOfOrder) (Some table) made few h around tells = absurd h.0
+offer_tells past at k (Some sdp) old new (Refused BadChannel) (Some table) made few h around tells = absurd h.0
+offer_tells past at k (Some sdp) old new (Answered n) (Some table) made few h around tells =
+    let most : length (table_after (old.sides at).lines (parsed_lines sdp) true) ≤ old.size = taken_within (old.sides at).lines sdp true old.size (tells.sides at).few (few sdp refl) in
+    let rows : length (new.sides at).lines ≡ length (table_after (old.sides at).lines (parsed_lines sdp) true) = ap (λ p. length p.lines) h.1.rest in
+    let lines : length h.0.lines ≡ length (table_after (old.sides at).lines (parsed_lines sdp) true) = ap (λ a. length a.lines) h.1.answered ∙ length-answer (lent (old.sides at)) h.1.restart sdp in
     answered_tells past (entry (AcceptOffer at k) (Answered n) (Some table) made) old new (kept_answer at h.0)
     (goes_on true past (AcceptOffer at k) (Answered n) (Some table) made old new (sym h.4.lines)
     (channels_go past at k (Answered n) (Some table) made old new (ap (λ p. p.channels) h.1.rest) h.4.channels tells)
     (rises past at k made old new (ap (λ p. p.counter) h.1.rest) around tells) (here at true refl) (nowhere at true)
     (omega (arith, most, rows, around.size)) around)
     refl refl (omega (arith, most, lines, around.size)) h.2 (λ t. refl) (λ t. refl) tells
-offer_tells draws past at k offer old new outcome table made few h around tells = absurd h
+offer_tells past at k offer old new outcome table made few h around tells = absurd h

@@ -4,13 +4,13 @@ use Rattle.std.specs.List.{list_any}
 use Rattle.rtc_sdp_values.specs.LineRow.{row_mid}
 use Rattle.rtc_sdp_values.specs.declared.direction.Direction.{Direction}
 use Rattle.rtc_sdp_values.specs.declared.line_row.LineRow.{LineRow}
-use Rattle.rtc_change.specs.RowChanges.{RowChange, directed_row, stopped_row, changed_at}
-use Rattle.rtc_change.specs.Table.{IsTable, is_app}
-use Rattle.rtc_change.proofs.RowChangeLemmas.{KeepsRow, directed_row_keeps, stopped_row_keeps, changed_at_alike, table_alike, length-alike, AreAlike}
+use Rattle.rtc_tables.specs.RowChanges.{RowChange, directed_row, stopped_row, changed_at}
+use Rattle.rtc_tables.specs.Table.{IsTable, is_app}
+use Rattle.rtc_tables.proofs.RowChangeLemmas.{KeepsRow, directed_row_keeps, stopped_row_keeps, changed_at_alike, table_alike, length-alike, AreAlike}
 use Rattle.rtc_history.specs.declared.op.Op.{Op}
-use Rattle.rtc_history.specs.declared.op.Op.TheVariants.{AddMedia, SetDirection, StopMedia, AddChannel}
+use Rattle.rtc_history.specs.declared.op.Op.TheVariants.{AddMedia, SetDirection, StopMedia, AddChannel, IceRestart}
 use Rattle.rtc_history.specs.declared.op_answer.OpAnswer.{OpAnswer}
-use Rattle.rtc_history.specs.declared.op_answer.OpAnswer.TheVariants.{Mid, Changed, NoLine, Channel, BadChannel, Alloc as OpAlloc}
+use Rattle.rtc_history.specs.declared.op_answer.OpAnswer.TheVariants.{Mid, Changed, NoLine, Channel, BadChannel, Creds, Alloc as OpAlloc}
 use Rattle.rtc_history.specs.Answers.{has_app_row}
 use Rattle.rtc_history.specs.Rounds.{sets_line}
 use Rattle.rtc_history.specs.Sound.{Midway, holding_mid, having_rows, having_channel, OpsAnswered}
@@ -36,6 +36,8 @@ ops_keep P turns halts m (StopMedia place ∷ ops) (OpAlloc ∷ []) after answer
 ops_keep P turns halts m (AddChannel config ∷ ops) (Channel id ∷ answers) after answered holds = ops_keep P turns halts (having_channel id config m) ops answers after answered.2 holds
 ops_keep P turns halts m (AddChannel config ∷ ops) (BadChannel ∷ answers) after answered holds = ops_keep P turns halts m ops answers after answered.1 holds
 ops_keep P turns halts m (AddChannel config ∷ ops) (OpAlloc ∷ []) after answered holds = subst P (sym answered) holds
+ops_keep P turns halts m (IceRestart keep ∷ ops) (Creds creds ∷ answers) after answered holds = ops_keep P turns halts m ops answers after answered holds
+ops_keep P turns halts m (IceRestart keep ∷ ops) (OpAlloc ∷ []) after answered holds = subst P (sym answered) holds
 ops_keep P turns halts m ops answers after answered holds = absurd answered
 
 -- where no op sets or stops a line, the rows stay
@@ -48,6 +50,8 @@ unset_rows m (StopMedia place ∷ ops) answers after answered unset = absurd (cc
 unset_rows m (AddChannel config ∷ ops) (Channel id ∷ answers) after answered unset = unset_rows (having_channel id config m) ops answers after answered.2 unset
 unset_rows m (AddChannel config ∷ ops) (BadChannel ∷ answers) after answered unset = unset_rows m ops answers after answered.1 unset
 unset_rows m (AddChannel config ∷ ops) (OpAlloc ∷ []) after answered unset = answered
+unset_rows m (IceRestart keep ∷ ops) (Creds creds ∷ answers) after answered unset = unset_rows m ops answers after answered unset
+unset_rows m (IceRestart keep ∷ ops) (OpAlloc ∷ []) after answered unset = answered
 unset_rows m ops answers after answered unset = absurd answered
 
 -- ---- what each change keeps

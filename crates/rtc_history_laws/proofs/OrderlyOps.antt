@@ -1,9 +1,9 @@
 -- Ops in order, in their phase: rows change where they stand, and what is outstanding stays so; or an offer is made where nothing is.
-use Rattle.std.proofs.Common.{◌≡◌, ◌≤◌, ◌<◌, ◌+◌, ◌-◌, ◌^◌, ◌==◌, cond, ℕ, Bool, true, false, not, ◌&&◌, List, [], ◌∷◌, ◌++◌, map, length, Option, Some, None, refl, sym, ◌∙◌, ap, subst, arith, length-append, append-nil}
+use Rattle.std.proofs.Common.{◌≡◌, ◌≤◌, ◌<◌, ◌+◌, ◌-◌, ◌^◌, ◌==◌, cond, ℕ, Bool, true, false, not, ◌&&◌, List, [], ◌∷◌, ◌++◌, map, length, Option, Some, None, refl, sym, ◌∙◌, ap, subst, arith, length-append, append-nil, ◌≢◌}
 use Rattle.std.proofs.lemmas.Bool.{eq-eqb, or_parts, and_right}
 use Rattle.std.specs.Prelude.{is_some}
 use Rattle.std.proofs.lemmas.List.{length-map}
-use Rattle.rtc_change.specs.ParsedLines.{parsed_lines}
+use Rattle.rtc_tables.specs.ParsedLines.{parsed_lines}
 use Rattle.rtc_sdp_values.specs.LineRow.{row_mid}
 use Rattle.rtc_sdp_values.specs.declared.line_row.LineRow.{LineRow}
 use Rattle.rtc_history.specs.declared.side.Side.{Side}
@@ -16,7 +16,7 @@ use Rattle.rtc_history.specs.declared.step.Step.TheVariants.{Negotiate}
 use Rattle.rtc_history.specs.declared.outcome.Outcome.{Outcome}
 use Rattle.rtc_history.specs.declared.outcome.Outcome.TheVariants.{Negotiated, Alloc}
 use Rattle.rtc_history.specs.declared.table.Table.{Table}
-use Rattle.rtc_history.specs.Memory.{answers_lack, outcome_lacks}
+use Rattle.rtc_history.specs.Memory.{answers_lack, outcome_lacks, fails}
 use Rattle.rtc_history.specs.Sides.{same_side, other_side}
 use Rattle.rtc_history.specs.Sizes.{steps_size}
 use Rattle.rtc_history.specs.Answers.{has_app_row, do_stage, do_need_offer, added}
@@ -25,10 +25,10 @@ use Rattle.rtc_history.specs.Sound.{OpsAnswered, MadeOf, IsSound, at_first}
 use Rattle.rtc_history.specs.SaidRows.{MakesSdp}
 use Rattle.rtc_history.specs.CourseRows.{unnamed, rows_after_ops, must_offer, adding_answer, rows_added, do_add_channel}
 use Rattle.rtc_history.specs.Orderly.{Phase, Idle, AwaitsAnswer, AwaitsEnd, Course, course_rows, moved_on, is_offerer, do_supersede, after_ops}
-use Rattle.rtc_history.specs.Runs.{Sound}
+use Rattle.rtc_history_laws.proofs.SoundPasts.{Sound}
 use Rattle.rtc_history_laws.proofs.Tells.{same_side-self, same_side-true}
 use Rattle.rtc_history_laws.proofs.Around.{entry}
-use Rattle.rtc_history_laws.proofs.OpRows.{ops_table, ops_app}
+use Rattle.rtc_history_laws.proofs.OpRows.{ops_table}
 use Rattle.rtc_history_laws.proofs.PastTables.{past_table}
 use Rattle.rtc_history_laws.proofs.OfferTables.{ops_new, offer_table}
 use Rattle.rtc_history_laws.proofs.PastOffers.{stays_there, text_next}
@@ -41,6 +41,7 @@ use Rattle.rtc_history_laws.proofs.CourseOps.{AreFine, AreSeen, seen_app, app_se
 use Rattle.rtc_history_laws.proofs.RoundRows.{OfferSaid, AnswerSaid, HasOffered, HasAnswered}
 use Rattle.rtc_history_laws.proofs.Courses.{IsSideOf, InPhase, InCourse, aligned_at, moved_in}
 use Rattle.rtc_history_laws.proofs.CourseSteps.{AreInOrder, in_order, quiet_course, offer_course}
+use Rattle.rtc_history.specs.Views.{Stances}
 
 abbrev ops_entry : Side → List Op → Bool → List OpAnswer → Made → Table → List MadeSdp → Entry
 ops_entry at ops apply answers what table made = entry (Negotiate at ops apply) (Negotiated answers what) (Some table) made
@@ -166,11 +167,11 @@ none_where lines made tells = by (has_app_row lines) refl
     by false is = is
     by true is = absurd (let e : false ≡ true = rw is at tells in cc)
 
-offer_goes_on : (past : List Entry) (at : Side) (ops : List Op) (apply : Bool) (answers : List OpAnswer) (k : ℕ) (table : Table) (made : List MadeSdp) (course : Course) → Sound past → OpsDone past at ops apply answers table made course
-    → do_need_offer (has_app_row (before at past)) answers ≡ true → course.phase ≡ Idle → k ≡ length (sdps past) → MakesSdp (Negotiate at ops apply) (Negotiated answers (Offer k)) (Some table) made
+offer_goes_on : (fresh : Stances) (past : List Entry) (at : Side) (ops : List Op) (apply : Bool) (answers : List OpAnswer) (k : ℕ) (table : Table) (made : List MadeSdp) (course : Course) → Sound fresh past → OpsDone past at ops apply answers table made course
+    → length (rows_after_ops ops (course_rows at course) ++ rows_added (rows_after_ops ops (course_rows at course)) ops) ≢ 0 → course.phase ≡ Idle → k ≡ length (sdps past) → MakesSdp (Negotiate at ops apply) (Negotiated answers (Offer k)) (Some table) made
     → let rows : List LineRow = rows_after_ops ops (course_rows at course) in
     InCourse (moved_on at course rows (course.sdps + 1) (AwaitsAnswer at course.sdps (rows ++ rows_added rows ops))) (ops_entry at ops apply answers (Offer k) table made ∷ past)
-offer_goes_on past at ops apply answers k table made course sound ops_are staged idle count says =
+offer_goes_on fresh past at ops apply answers k table made course sound ops_are some idle count says =
     let rows : List LineRow = rows_after_ops ops (course_rows at course) in
     let app : Option (List ℕ) = new_app table.lines made in
     let more : List LineRow = added app (length table.lines) ops answers in
@@ -179,10 +180,11 @@ offer_goes_on past at ops apply answers k table made course sound ops_are staged
     let same : Aligned (before Left past) (before Right past) = subst (λ (phase : Phase). InPhase phase past) idle ops_are.is.phase in
     let numbered : (k == course.sdps) ≡ true = eq-eqb k course.sdps (count ∙ ops_are.is.count) in
     let says_mid : app_mid_said made ≡ Some (app_line_mid (parsed_lines says.sdp)) = ap app_mid_said says.one in
-    let has : has_app_row table.lines ≡ has_app_row (before at past) = ops_app (at_first at past app) ops answers table.lines ops_are.answered in
+    let are : map unnamed (table.lines ++ more) ≡ rows ++ rows_added rows ops =
+    offer_seen rows table.lines ops app (λ place. added app place ops answers) mine.are (app_added table.lines made _ says_mid) ops_are.seen.adds in
     let live : StartsLive (table.lines ++ more) =
-    offer_live (before at past) (map row_mid (before at past)) app (channels_given at past) ops answers table.lines (length table.lines) ops_are.answered
-    (λ none. told_where table.lines made _ says_mid (has ∙ none)) mine.live staged in
+    offer_live table.lines (is_some app) (map row_mid table.lines) (length table.lines) more mine.live (ops_new past at app ops answers table.lines (length table.lines) ops_are.answered)
+    (λ none. some (ap length (sym are) ∙ length-map (table.lines ++ more) unnamed ∙ none)) in
     moved_in at course rows (course.sdps + 1) (AwaitsAnswer at course.sdps (rows ++ rows_added rows ops)) (Negotiate at ops apply) (Negotiated answers (Offer k)) table made past refl mine ops_are.is
     (length-append (sdps past) made ∙ ap (λ (n : ℕ). length (sdps past) + n) (ap length says.one) ∙ ap (λ (n : ℕ). n + 1) ops_are.is.count)
     (record {
@@ -193,16 +195,16 @@ offer_goes_on past at ops apply answers k table made course sound ops_are staged
         says = says.says;
         fits = says.fits (starts_are_live (table.lines ++ more) live);
         live = live;
-        table = ops_table (at_first at past app) ops answers table.lines ops_are.answered (past_table past at sound);
-        whole = offer_table past at ops answers table made (past_table past at sound) ops_are.answered;
+        table = ops_table (at_first at past app) ops answers table.lines ops_are.answered (past_table fresh past at sound);
+        whole = offer_table past at ops answers table made (past_table fresh past at sound) ops_are.answered;
         may = is_some app;
         new = ops_new past at app ops answers table.lines (length table.lines) ops_are.answered;
         first = none_where table.lines made;
       };
-      are = offer_seen rows table.lines ops app (λ place. added app place ops answers) mine.are (app_added table.lines made _ says_mid) ops_are.seen.adds;
+      are = are;
       has = record {
         right = rw numbered refl;
-        unspent = unspent_later past course.sdps sound (omega (arith, ops_are.is.count));
+        unspent = unspent_later fresh past course.sdps sound (omega (arith, ops_are.is.count));
         there = text_next past (ops_entry at ops apply answers (Offer k) table made) _ course.sdps says.one (sym ops_are.is.count);
         adds = rw numbered refl;
         kept = rw (same_side-self at) (aligned_self table.lines);
@@ -225,43 +227,43 @@ nothing_still at ops phase applied right alone side offers = by (same_side at si
     by false is = refl
     by true is = alone (unless (is_offerer at phase) (do_add_channel ops) (subst (λ (one : Side). is_offerer one phase ≡ true) (sym (same_side-true at side is)) offers) right)
 
-ops_go_on : (past : List Entry) (at : Side) (ops : List Op) (apply : Bool) (answers : List OpAnswer) (what : Made) (table : Table) (made : List MadeSdp) (course course' : Course) (lacked staged : Bool)
-    → Sound past → OpsDone past at ops apply answers table made course → MadeOf (apply && not lacked) staged what (length (sdps past)) → lacked ≡ false → do_need_offer (has_app_row (before at past)) answers ≡ staged
-    → staged ≡ must_offer ops (course_rows at course) → outcome_lacks (Negotiated answers what) ≡ false → MakesSdp (Negotiate at ops apply) (Negotiated answers what) (Some table) made
+ops_go_on : (fresh : Stances) (past : List Entry) (at : Side) (ops : List Op) (apply : Bool) (answers : List OpAnswer) (what : Made) (table : Table) (made : List MadeSdp) (course course' : Course) (lacked staged : Bool)
+    → Sound fresh past → OpsDone past at ops apply answers table made course → MadeOf (apply && not lacked) staged what (length (sdps past)) → lacked ≡ false → do_need_offer (has_app_row (before at past)) answers ≡ staged
+    → staged ≡ must_offer ops (course_rows at course) → fails (Negotiated answers what) ≡ false → MakesSdp (Negotiate at ops apply) (Negotiated answers what) (Some table) made
     → after_ops apply at ops course (rows_after_ops ops (course_rows at course)) ≡ Some course' → InCourse course' (ops_entry at ops apply answers what table made ∷ past)
-ops_go_on past at ops apply answers what table made course course' true staged sound ops_are makes unlacked stage_is staged_is enough says after = absurd (cc)
-ops_go_on past at ops false answers NotAsked table made course course' false staged sound ops_are makes unlacked stage_is staged_is enough says after =
+ops_go_on fresh past at ops apply answers what table made course course' true staged sound ops_are makes unlacked stage_is staged_is enough says after = absurd (cc)
+ops_go_on fresh past at ops false answers NotAsked table made course course' false staged sound ops_are makes unlacked stage_is staged_is enough says after =
     subst (λ (c : Course). InCourse c (ops_entry at ops false answers NotAsked table made ∷ past)) (quiet_course false at ops course course' _ after refl)
     (quiet_goes_on past at ops false answers NotAsked table made course ops_are (record { still = λ side offers. and_right (same_side at side) false refl; unnumbered = λ t. refl }) says)
-ops_go_on past at ops true answers Nothing table made course course' false false sound ops_are makes unlacked stage_is staged_is enough says after =
+ops_go_on fresh past at ops true answers Nothing table made course course' false false sound ops_are makes unlacked stage_is staged_is enough says after =
     subst (λ (c : Course). InCourse c (ops_entry at ops true answers Nothing table made ∷ past)) (quiet_course true at ops course course' _ after (sym staged_is))
     (quiet_goes_on past at ops true answers Nothing table made course ops_are
     (record { still = nothing_still at ops course.phase (do_stage answers) ops_are.order.right (λ none. ops_are.seen.alone none ∙ stage_is); unnumbered = λ t. refl }) says)
-ops_go_on past at ops true answers (Offer k) table made course course' false true sound ops_are makes unlacked stage_is staged_is enough says after =
+ops_go_on fresh past at ops true answers (Offer k) table made course course' false true sound ops_are makes unlacked stage_is staged_is enough says after =
     let leads = offer_course true at ops course course' _ after (sym staged_is) in
     subst (λ (c : Course). InCourse c (ops_entry at ops true answers (Offer k) table made ∷ past)) leads.course_is
-    (offer_goes_on past at ops true answers k table made course sound ops_are stage_is leads.idle makes says)
-ops_go_on past at ops apply answers MadeAlloc table made course course' false staged sound ops_are makes unlacked stage_is staged_is enough says after = absurd (cc)
-ops_go_on past at ops true answers NotAsked table made course course' false true sound ops_are makes unlacked stage_is staged_is enough says after = absurd makes
-ops_go_on past at ops true answers NotAsked table made course course' false false sound ops_are makes unlacked stage_is staged_is enough says after = absurd makes
-ops_go_on past at ops false answers Nothing table made course course' false staged sound ops_are makes unlacked stage_is staged_is enough says after = absurd makes
-ops_go_on past at ops false answers (Offer k) table made course course' false staged sound ops_are makes unlacked stage_is staged_is enough says after = absurd makes
-ops_go_on past at ops true answers Nothing table made course course' false true sound ops_are makes unlacked stage_is staged_is enough says after = absurd makes
-ops_go_on past at ops true answers (Offer k) table made course course' false false sound ops_are makes unlacked stage_is staged_is enough says after = absurd makes
+    (offer_goes_on fresh past at ops true answers k table made course sound ops_are leads.some leads.idle makes says)
+ops_go_on fresh past at ops apply answers MadeAlloc table made course course' false staged sound ops_are makes unlacked stage_is staged_is enough says after = absurd (cc)
+ops_go_on fresh past at ops true answers NotAsked table made course course' false true sound ops_are makes unlacked stage_is staged_is enough says after = absurd makes
+ops_go_on fresh past at ops true answers NotAsked table made course course' false false sound ops_are makes unlacked stage_is staged_is enough says after = absurd makes
+ops_go_on fresh past at ops false answers Nothing table made course course' false staged sound ops_are makes unlacked stage_is staged_is enough says after = absurd makes
+ops_go_on fresh past at ops false answers (Offer k) table made course course' false staged sound ops_are makes unlacked stage_is staged_is enough says after = absurd makes
+ops_go_on fresh past at ops true answers Nothing table made course course' false true sound ops_are makes unlacked stage_is staged_is enough says after = absurd makes
+ops_go_on fresh past at ops true answers (Offer k) table made course course' false false sound ops_are makes unlacked stage_is staged_is enough says after = absurd makes
 
-pub negotiated_goes_on : (past : List Entry) (at : Side) (ops : List Op) (apply : Bool) (outcome : Outcome) (table : Option Table) (made : List MadeSdp) (course course' : Course) → Sound past → InCourse course past
-    → steps_size (steps_of past) + length ops < 2 ^ 64 - 1 → IsSound past (Negotiate at ops apply) outcome table made → MakesSdp (Negotiate at ops apply) outcome table made
-    → after_ops apply at ops course (rows_after_ops ops (course_rows at course)) ≡ Some course' → outcome_lacks outcome ≡ false
+pub negotiated_goes_on : (fresh between : Stances) (past : List Entry) (at : Side) (ops : List Op) (apply : Bool) (outcome : Outcome) (table : Option Table) (made : List MadeSdp) (course course' : Course) → Sound fresh past → InCourse course past
+    → steps_size (steps_of past) + length ops < 2 ^ 64 - 1 → IsSound fresh past between (Negotiate at ops apply) outcome table made → MakesSdp (Negotiate at ops apply) outcome table made
+    → after_ops apply at ops course (rows_after_ops ops (course_rows at course)) ≡ Some course' → fails outcome ≡ false
     → InCourse course' (entry (Negotiate at ops apply) outcome table made ∷ past)
-negotiated_goes_on past at ops apply Alloc None made course course' sound is few replied says after enough = absurd (cc)
-negotiated_goes_on past at ops apply (Negotiated answers what) (Some table) made course course' sound is few replied says after enough =
-    let unlacked : answers_lack answers ≡ false = (or_parts _ (answers_lack answers) enough).1 in
+negotiated_goes_on fresh between past at ops apply Alloc None made course course' sound is few replied says after enough = absurd (cc)
+negotiated_goes_on fresh between past at ops apply (Negotiated answers what) (Some table) made course course' sound is few replied says after enough =
+    let unlacked : answers_lack answers ≡ false = (or_parts _ (answers_lack answers) (or_parts (outcome_lacks (Negotiated answers what)) false enough).0).1 in
     let order = in_order apply at ops course course' _ after in
     let app : Option (List ℕ) = new_app table.lines made in
     let given : (channels_given at past).given ≤ steps_size (steps_of past) = given_within at past in
     let fine : AreFine answers = ops_fine (at_first at past app) ops answers table.lines replied.0 order.plain (omega arith) in
     let seen : AreSeen (before at past) app ops answers table.lines =
     ops_seen (before at past) (map row_mid (before at past)) app (channels_given at past) ops answers table.lines replied.0 unlacked fine in
-    ops_go_on past at ops apply answers what table made course course' (answers_lack answers) (do_need_offer (has_app_row (before at past)) answers) sound
+    ops_go_on fresh past at ops apply answers what table made course course' (answers_lack answers) (do_need_offer (has_app_row (before at past)) answers) sound
     (record { answered = replied.0; seen = seen; order = order; is = is }) replied.1 unlacked refl (seen.staged ∙ ap (must_offer ops) (is.sides at).are) enough says after
-negotiated_goes_on past at ops apply outcome table made course course' sound is few replied says after enough = absurd replied
+negotiated_goes_on fresh between past at ops apply outcome table made course course' sound is few replied says after enough = absurd replied

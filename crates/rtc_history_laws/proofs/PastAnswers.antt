@@ -1,10 +1,11 @@
 -- The answer of a number in a past that is an offer's own: which offer the other side took, and what it left there.
+use Rattle.rtc_change.specs.Held.{Held}
 use Rattle.std.proofs.Common.{◌≡◌, ◌==◌, ℕ, Bool, true, false, not, ◌&&◌, List, [], ◌∷◌, ◌++◌, map, length, Option, Some, None, refl, subst}
 use Rattle.std.specs.Prelude.{slice_get}
 use Rattle.std.proofs.lemmas.Bool.{eqb-true, and_parts}
 use Rattle.rtc_sdp_values.specs.declared.line_row.LineRow.{LineRow}
 use Rattle.rtc_sdp_values.specs.declared.sdp.Sdp.{Sdp}
-use Rattle.rtc_change.specs.ParsedLines.{parsed_lines}
+use Rattle.rtc_tables.specs.ParsedLines.{parsed_lines}
 use Rattle.rtc_change.specs.TableAfter.{table_after}
 use Rattle.rtc_change.specs.Plans.{verdict}
 use Rattle.rtc_history.specs.declared.side.Side.{Side}
@@ -18,15 +19,15 @@ use Rattle.rtc_history.specs.Sides.{same_side, other_side}
 use Rattle.rtc_history.specs.Past.{Entry, MadeSdp, before, sdps, sdp_for, remote_sdp}
 use Rattle.rtc_history.specs.Sound.{RepliesToOffer, IsSound}
 use Rattle.rtc_history.specs.SaidRows.{row_said, MakesSdp}
-use Rattle.rtc_history.specs.SoundEntry.{IsSoundEntry}
 use Rattle.rtc_history.specs.Rounds.{before_last, through_last, makes_answer, is_answer_to, is_own}
-use Rattle.rtc_history.specs.Runs.{Sound}
+use Rattle.rtc_history_laws.proofs.SoundPasts.{IsSoundIn, Sound}
 use Rattle.rtc_history_laws.proofs.Tells.{same_side-self}
 use Rattle.rtc_history_laws.proofs.PastOffers.{stays_there, text_next}
+use Rattle.rtc_history.specs.Views.{Stances, view_in}
+use Rattle.rtc_peer_state.specs.Stance.{held_by}
 
 -- What an answer says that a side made: the offer that it took, and the rows that it left.
 pub record TookOffer (rows after : List LineRow) (offer sdp : Sdp) : Type 0 where
-  pub passes : verdict (record { lines = rows }) None offer ≡ None
   pub leaves : after ≡ table_after rows (parsed_lines offer) true
   pub says : parsed_lines sdp ≡ map row_said after
 
@@ -54,44 +55,44 @@ record AnswerEntry (past : List Entry) (entry : Entry) (side : Side) (t a : ℕ)
   took : TookOffer (before side past) (before side (entry ∷ past)) offer sdp
 
 -- an offer that was answered
-pub record Answers (sdp : Option Sdp) (rows : List LineRow) (next k : ℕ) (after : List LineRow) : Type 0 where
+pub record Answers (sdp : Option Sdp) (view : Held) (next k : ℕ) (after : List LineRow) : Type 0 where
   pub offer : Sdp
   pub is : sdp ≡ Some offer
-  pub passes : verdict (record { lines = rows }) None offer ≡ None
-  pub leaves : after ≡ table_after rows (parsed_lines offer) true
+  pub passes : verdict view None offer ≡ None
+  pub leaves : after ≡ table_after view.lines (parsed_lines offer) true
   pub count : k ≡ next
 
-pub answered : (sdp : Option Sdp) (rows : List LineRow) (next k : ℕ) (after : List LineRow) → RepliesToOffer sdp (record { lines = rows }) next (Answered k) after → Answers sdp rows next k after
-answered None rows next k after takes = absurd takes
-answered (Some sdp) rows next k after takes = record { offer = sdp; is = refl; passes = takes.0; leaves = takes.1; count = takes.2 }
+pub answered : (sdp : Option Sdp) (view : Held) (next k : ℕ) (after : List LineRow) → RepliesToOffer sdp view next (Answered k) after → Answers sdp view next k after
+answered None view next k after takes = absurd takes
+answered (Some sdp) view next k after takes = record { offer = sdp; is = refl; passes = takes.0; leaves = takes.1; count = takes.2 }
 
-answer_entry : (past : List Entry) (entry : Entry) (at : Side) (t a : ℕ) → IsSoundEntry past entry → makes_answer at t a entry ≡ true → AnswerEntry past entry (other_side at) t a
-answer_entry past entry at t a sound makes_it = by entry.step entry.outcome entry.table entry.made sound.replied sound.made makes_it
+answer_entry : (fresh : Stances) (past : List Entry) (entry : Entry) (at : Side) (t a : ℕ) → IsSoundIn fresh past entry → makes_answer at t a entry ≡ true → AnswerEntry past entry (other_side at) t a
+answer_entry fresh past entry at t a sound makes_it = by sound.between entry.step entry.outcome entry.table entry.made sound.sound.replied sound.sound.made makes_it
   where
-    here : (side : Side) (offer k : ℕ) (table : Table) (made : List MadeSdp) → IsSound past (AcceptOffer side offer) (Answered k) (Some table) made → MakesSdp (AcceptOffer side offer) (Answered k) (Some table) made
+    here : (between : Stances) (side : Side) (offer k : ℕ) (table : Table) (made : List MadeSdp) → IsSound fresh past between (AcceptOffer side offer) (Answered k) (Some table) made → MakesSdp (AcceptOffer side offer) (Answered k) (Some table) made
         → AnswerEntry past (record { step = AcceptOffer side offer; outcome = Answered k; table = Some table; made = made }) side offer k
-    here side offer k table made replied sdp =
-        let it = answered (remote_sdp true side offer past) (before side past) (length (sdps past)) k table.lines replied.0 in
+    here between side offer k table made replied sdp =
+        let it = answered (remote_sdp true side offer past) (view_in fresh side past (held_by (between side))) (length (sdps past)) k table.lines replied.0 in
         record {
           offer = it.offer;
           sdp = sdp.sdp;
           offered = it.is;
           count = it.count;
           one = sdp.one;
-          took = rw (same_side-self side) (record { passes = it.passes; leaves = it.leaves; says = sdp.says });
+          took = rw (same_side-self side) (record { leaves = it.leaves; says = sdp.says });
         }
 
-    by : (step : Step) (outcome : Outcome) (table : Option Table) (made : List MadeSdp) → IsSound past step outcome table made → MakesSdp step outcome table made → is_answer_to at t a step outcome ≡ true
+    by : (between : Stances) (step : Step) (outcome : Outcome) (table : Option Table) (made : List MadeSdp) → IsSound fresh past between step outcome table made → MakesSdp step outcome table made → is_answer_to at t a step outcome ≡ true
         → AnswerEntry past (record { step = step; outcome = outcome; table = table; made = made }) (other_side at) t a
-    by (AcceptOffer side offer) (Answered k) None made replied sdp makes_it = absurd replied
-    by (AcceptOffer side offer) (Answered k) (Some table) made replied sdp makes_it =
+    by between (AcceptOffer side offer) (Answered k) None made replied sdp makes_it = absurd replied
+    by between (AcceptOffer side offer) (Answered k) (Some table) made replied sdp makes_it =
         let parts = and_parts (not (same_side side at)) ((offer == t) && (k == a)) makes_it in
         let numbers = and_parts (offer == t) (k == a) parts.1 in
         let entry_of : Side → ℕ → ℕ → Type 0 = λ s o n. AnswerEntry past (record { step = AcceptOffer side offer; outcome = Answered k; table = Some table; made = made }) s o n in
         subst (λ (s : Side). entry_of s t a) (another side at parts.0)
         (subst (λ (o : ℕ). entry_of side o a) (eqb-true offer t numbers.0)
-        (subst (λ (n : ℕ). entry_of side offer n) (eqb-true k a numbers.1) (here side offer k table made replied sdp)))
-    by step outcome table made replied sdp makes_it = absurd (let e : false ≡ true = makes_it in cc)
+        (subst (λ (n : ℕ). entry_of side offer n) (eqb-true k a numbers.1) (here between side offer k table made replied sdp)))
+    by between step outcome table made replied sdp makes_it = absurd (let e : false ≡ true = makes_it in cc)
 
 remote_stays : (at : Side) (found : List MadeSdp) (more : List MadeSdp) (t : ℕ) (offer : Sdp) → sdp_for true at (slice_get found t) ≡ Some offer → sdp_for true at (slice_get (found ++ more) t) ≡ Some offer
 remote_stays at found more t offer there = by (slice_get found t) refl there
@@ -101,13 +102,13 @@ remote_stays at found more t offer there = by (slice_get found t) refl there
     by (Some said) is there = rw (stays_there found more t said is) there
 
 -- The answer of a number that is an offer's own.
-pub past_answer : (at : Side) (t a : ℕ) (past : List Entry) → Sound past → is_own at t a past ≡ true → PastAnswer at t a past
-past_answer at t a [] sound own = absurd (cc)
-past_answer at t a (entry ∷ past) sound own = by (λ own. past_answer at t a past sound.1 own) (makes_answer at t a entry) refl
+pub past_answer : (fresh : Stances) (at : Side) (t a : ℕ) (past : List Entry) → Sound fresh past → is_own at t a past ≡ true → PastAnswer at t a past
+past_answer fresh at t a [] sound own = absurd (cc)
+past_answer fresh at t a (entry ∷ past) sound own = by (λ own. past_answer fresh at t a past sound.1 own) (makes_answer at t a entry) refl
   where
     by : (is_own at t a past ≡ true → PastAnswer at t a past) → (made : Bool) → makes_answer at t a entry ≡ made → PastAnswer at t a (entry ∷ past)
     by earlier true is =
-        let it = answer_entry past entry at t a sound.0 is in
+        let it = answer_entry fresh past entry at t a sound.0 is in
         record {
           offer = it.offer;
           sdp = it.sdp;

@@ -6,7 +6,7 @@ use Rattle.rtc_sdp_values.specs.LineRow.{row_mid}
 use Rattle.rtc_sdp_values.specs.declared.line_row.LineRow.{LineRow}
 use Rattle.rtc_sdp_values.specs.declared.sdp.Sdp.{Sdp}
 use Rattle.rtc_change.specs.Held.{Asked}
-use Rattle.rtc_change.specs.ParsedLines.{parsed_lines}
+use Rattle.rtc_tables.specs.ParsedLines.{parsed_lines}
 use Rattle.rtc_history.specs.declared.side.Side.{Side}
 use Rattle.rtc_history.specs.declared.op_answer.OpAnswer.{OpAnswer}
 use Rattle.rtc_history.specs.declared.made.Made.{Made}
@@ -20,14 +20,15 @@ use Rattle.rtc_history.specs.Sides.{side_of}
 use Rattle.rtc_history.specs.Past.{Entry, MadeSdp, before, sdps, remote_sdp, is_offer_of, holds_token, is_right, moves, makes, new_app, added_in, added_by}
 use Rattle.rtc_history.specs.Answers.{has_app_row, do_need_offer, added}
 use Rattle.rtc_history.specs.Memory.{answers_lack}
-use Rattle.rtc_history.specs.Sound.{MadeOf, RepliesToOffer, RepliesToAnswer, IsSound, asked_in, view_in}
+use Rattle.rtc_history.specs.Sound.{MadeOf, RepliesToOffer, RepliesToAnswer, IsSound, asked_in}
 use Rattle.rtc_history.specs.SaidRows.{row_said, MakesSdp}
-use Rattle.rtc_history.specs.SoundEntry.{IsSoundEntry}
 use Rattle.rtc_history.specs.Rounds.{makes_offer, rows_at_offer}
-use Rattle.rtc_history.specs.Runs.{Sound}
+use Rattle.rtc_history_laws.proofs.SoundPasts.{IsSoundIn, Sound}
 use Rattle.rtc_history_laws.proofs.Tells.{same_side-self, same_side-true}
 use Rattle.rtc_history_laws.proofs.AddedRows.{AreAdded}
 use Rattle.rtc_history_laws.proofs.OfferTables.{ops_new}
+use Rattle.rtc_history.specs.Views.{Stances, view_in}
+use Rattle.rtc_peer_state.specs.Stance.{held_by}
 
 -- ---- SDPs that stay
 
@@ -69,25 +70,25 @@ offer_count true true k next made = made
 offer_count true false k next made = absurd made
 offer_count false offers k next made = absurd made
 
-no_offer : (sdp : Option Sdp) (past : List Entry) (at : Side) (next : ℕ) (answers : List OpAnswer) (made : Made) (after : List LineRow) → RepliesToOffer sdp (view_in at past) next (Negotiated answers made) after → ⊥
-no_offer None past at next answers made after takes = takes
-no_offer (Some sdp) past at next answers made after takes = takes
+no_offer : (fresh between : Stances) (sdp : Option Sdp) (past : List Entry) (at : Side) (next : ℕ) (answers : List OpAnswer) (made : Made) (after : List LineRow) → RepliesToOffer sdp (view_in fresh at past (held_by (between at))) next (Negotiated answers made) after → ⊥
+no_offer fresh between None past at next answers made after takes = takes
+no_offer fresh between (Some sdp) past at next answers made after takes = takes
 
-no_answer : (held right : Bool) (asked : Asked) (sdp : Option Sdp) (past : List Entry) (at : Side) (answers : List OpAnswer) (made : Made) (after : List LineRow) → RepliesToAnswer held right asked sdp (view_in at past) (Negotiated answers made) after → ⊥
-no_answer false right asked sdp past at answers made after takes = takes
-no_answer true right asked None past at answers made after takes = takes
-no_answer true false asked (Some sdp) past at answers made after takes = takes
-no_answer true true asked (Some sdp) past at answers made after takes = takes
+no_answer : (fresh between : Stances) (held right : Bool) (asked : Asked) (sdp : Option Sdp) (past : List Entry) (at : Side) (answers : List OpAnswer) (made : Made) (after : List LineRow) → RepliesToAnswer held right asked sdp (view_in fresh at past (held_by (between at))) (Negotiated answers made) after → ⊥
+no_answer fresh between false right asked sdp past at answers made after takes = takes
+no_answer fresh between true right asked None past at answers made after takes = takes
+no_answer fresh between true false asked (Some sdp) past at answers made after takes = takes
+no_answer fresh between true true asked (Some sdp) past at answers made after takes = takes
 
-pub offer_entry : (past : List Entry) (entry : Entry) (t : ℕ) → IsSoundEntry past entry → makes_offer t entry ≡ true → OfferEntry past entry t
-offer_entry past entry t sound makes_it = by entry.step entry.outcome entry.table entry.made sound.replied sound.made makes_it
+pub offer_entry : (fresh : Stances) (past : List Entry) (entry : Entry) (t : ℕ) → IsSoundIn fresh past entry → makes_offer t entry ≡ true → OfferEntry past entry t
+offer_entry fresh past entry t sound makes_it = by sound.between entry.step entry.outcome entry.table entry.made sound.sound.replied sound.sound.made makes_it
   where
     rows_of : (at : Side) (table : Table) (step : Step) (outcome : Outcome) (made : List MadeSdp) → side_of step ≡ at → before (side_of step) (record { step = step; outcome = outcome; table = Some table; made = made } ∷ past) ≡ table.lines
     rows_of at table step outcome made is = rw (same_side-self (side_of step)) refl
 
-    by : (step : Step) (outcome : Outcome) (table : Option Table) (made : List MadeSdp) → IsSound past step outcome table made → MakesSdp step outcome table made → makes t outcome ≡ true
+    by : (between : Stances) (step : Step) (outcome : Outcome) (table : Option Table) (made : List MadeSdp) → IsSound fresh past between step outcome table made → MakesSdp step outcome table made → makes t outcome ≡ true
         → OfferEntry past (record { step = step; outcome = outcome; table = table; made = made }) t
-    by (Negotiate at ops apply) (Negotiated answers (Offer k)) (Some table) made replied sdp makes_it =
+    by between (Negotiate at ops apply) (Negotiated answers (Offer k)) (Some table) made replied sdp makes_it =
         let rows = rows_of at table (Negotiate at ops apply) (Negotiated answers (Offer k)) made refl in
         record {
           sdp = sdp.sdp;
@@ -100,21 +101,21 @@ offer_entry past entry t sound makes_it = by entry.step entry.outcome entry.tabl
           says = rw rows sdp.says;
           moved = rw (same_side-self at) refl;
         }
-    by (Negotiate at ops apply) (Negotiated answers NotAsked) table made replied sdp makes_it = absurd (cc)
-    by (Negotiate at ops apply) (Negotiated answers Nothing) table made replied sdp makes_it = absurd (cc)
-    by (Negotiate at ops apply) (Negotiated answers MadeAlloc) table made replied sdp makes_it = absurd (cc)
-    by (Negotiate at ops apply) (Negotiated answers (Offer k)) None made replied sdp makes_it = absurd replied
-    by (AcceptOffer at offer) (Negotiated answers what) None made replied sdp makes_it = absurd replied
-    by (AcceptOffer at offer) (Negotiated answers what) (Some table) made replied sdp makes_it =
-        absurd (no_offer (remote_sdp true at offer past) past at (length (sdps past)) answers what table.lines replied.0)
-    by (AcceptAnswer at token answer) (Negotiated answers what) None made replied sdp makes_it = absurd replied
-    by (AcceptAnswer at token answer) (Negotiated answers what) (Some table) made replied sdp makes_it =
-        absurd (no_answer (holds_token at token past) (is_right at token past) (asked_in at token past) (remote_sdp false at answer past) past at answers what table.lines replied.0)
-    by step (Answered k) table made replied sdp makes_it = absurd (cc)
-    by step Finished table made replied sdp makes_it = absurd (cc)
-    by step (Refused error) table made replied sdp makes_it = absurd (cc)
-    by step NoSuch table made replied sdp makes_it = absurd (cc)
-    by step Alloc table made replied sdp makes_it = absurd (cc)
+    by between (Negotiate at ops apply) (Negotiated answers NotAsked) table made replied sdp makes_it = absurd (cc)
+    by between (Negotiate at ops apply) (Negotiated answers Nothing) table made replied sdp makes_it = absurd (cc)
+    by between (Negotiate at ops apply) (Negotiated answers MadeAlloc) table made replied sdp makes_it = absurd (cc)
+    by between (Negotiate at ops apply) (Negotiated answers (Offer k)) None made replied sdp makes_it = absurd replied
+    by between (AcceptOffer at offer) (Negotiated answers what) None made replied sdp makes_it = absurd replied
+    by between (AcceptOffer at offer) (Negotiated answers what) (Some table) made replied sdp makes_it =
+        absurd (no_offer fresh between (remote_sdp true at offer past) past at (length (sdps past)) answers what table.lines replied.0)
+    by between (AcceptAnswer at token answer) (Negotiated answers what) None made replied sdp makes_it = absurd replied
+    by between (AcceptAnswer at token answer) (Negotiated answers what) (Some table) made replied sdp makes_it =
+        absurd (no_answer fresh between (holds_token at token past) (is_right at token past) (asked_in at token past) (remote_sdp false at answer past) past at answers what table.lines replied.0)
+    by between step (Answered k) table made replied sdp makes_it = absurd (cc)
+    by between step Finished table made replied sdp makes_it = absurd (cc)
+    by between step (Refused error) table made replied sdp makes_it = absurd (cc)
+    by between step NoSuch table made replied sdp makes_it = absurd (cc)
+    by between step Alloc table made replied sdp makes_it = absurd (cc)
 
 -- ---- the offer of a number
 
@@ -148,25 +149,25 @@ right_parts at t past entry other right = by (moves at entry.step entry.outcome)
     by false is = (is, rw is at stands)
 
 -- the number of an offer that is right is that of an SDP
-pub right_within : (at : Side) (t : ℕ) (past : List Entry) → Sound past → is_right at t past ≡ true → t < length (sdps past)
-right_within at t [] sound right = absurd (cc)
-right_within at t (entry ∷ past) sound right = by (λ right. right_within at t past sound.1 right) (makes_offer t entry) refl
+pub right_within : (fresh : Stances) (at : Side) (t : ℕ) (past : List Entry) → Sound fresh past → is_right at t past ≡ true → t < length (sdps past)
+right_within fresh at t [] sound right = absurd (cc)
+right_within fresh at t (entry ∷ past) sound right = by (λ right. right_within fresh at t past sound.1 right) (makes_offer t entry) refl
   where
     by : (is_right at t past ≡ true → t < length (sdps past)) → (made : Bool) → makes_offer t entry ≡ made → t < length (sdps (entry ∷ past))
     by earlier true is =
-        let it = offer_entry past entry t sound.0 is in
+        let it = offer_entry fresh past entry t sound.0 is in
         let one : length entry.made ≡ 1 = ap length it.one in
         omega (arith, it.count, length-append (sdps past) entry.made)
     by earlier false is = omega (arith, earlier (right_parts at t past entry is right).1, length-append (sdps past) entry.made)
 
 -- The offer of a number that is right.
-pub past_offer : (at : Side) (t : ℕ) (past : List Entry) → Sound past → is_right at t past ≡ true → is_offer_of at (slice_get (sdps past) t) ≡ true → PastOffer at t past
-past_offer at t [] sound right mine = absurd (cc)
-past_offer at t (entry ∷ past) sound right mine = by (λ right mine. past_offer at t past sound.1 right mine) (makes_offer t entry) refl
+pub past_offer : (fresh : Stances) (at : Side) (t : ℕ) (past : List Entry) → Sound fresh past → is_right at t past ≡ true → is_offer_of at (slice_get (sdps past) t) ≡ true → PastOffer at t past
+past_offer fresh at t [] sound right mine = absurd (cc)
+past_offer fresh at t (entry ∷ past) sound right mine = by (λ right mine. past_offer fresh at t past sound.1 right mine) (makes_offer t entry) refl
   where
     by : (is_right at t past ≡ true → is_offer_of at (slice_get (sdps past) t) ≡ true → PastOffer at t past) → (made : Bool) → makes_offer t entry ≡ made → PastOffer at t (entry ∷ past)
     by earlier true is =
-        let it = offer_entry past entry t sound.0 is in
+        let it = offer_entry fresh past entry t sound.0 is in
         let there = text_next past entry _ t it.one it.count in
         let here : side_of entry.step ≡ at = maker_side at it.sdp _ (side_of entry.step) there mine in
         subst (λ (side : Side). PastOffer side t (entry ∷ past)) here
@@ -181,7 +182,7 @@ past_offer at t (entry ∷ past) sound right mine = by (λ right mine. past_offe
         })
     by earlier false is =
         let before_it = (right_parts at t past entry is right).1 in
-        let same = within_there (sdps past) entry.made t (right_within at t past sound.1 before_it) in
+        let same = within_there (sdps past) entry.made t (right_within fresh at t past sound.1 before_it) in
         let offer = earlier before_it (ap (is_offer_of at) (sym same) ∙ mine) in
         let rows : rows_at_offer at t past ≡ rows_at_offer at t (entry ∷ past) = rw is refl in
         record {

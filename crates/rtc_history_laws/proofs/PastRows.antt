@@ -1,11 +1,12 @@
 -- At most one token of a side is right, and while it is, the rows of the side stay as its offer left them where its ops set and stop no line.
+use Rattle.rtc_dtls.specs.declared.dtls_error.DtlsError.TheVariants.{Fault}
 use Rattle.std.proofs.Common.{◌≡◌, ℕ, Bool, true, false, not, List, [], ◌∷◌, length, Option, Some, None, refl, sym, ◌∙◌, ap, subst, ◌⊎◌, inl, inr}
 use Rattle.std.specs.Prelude.{slice_get}
 use Rattle.std.proofs.lemmas.Bool.{eq-eqb, both_ways, or_parts, and_parts}
 use Rattle.rtc_sdp_values.specs.declared.line_row.LineRow.{LineRow}
 use Rattle.rtc_sdp_values.specs.declared.sdp.Sdp.{Sdp}
 use Rattle.rtc_change.specs.Held.{Asked}
-use Rattle.rtc_peer_state.specs.declared.rtc_error.RtcError.TheVariants.{RemoteSdp, Sdp as SdpRefused, ChangesOutOfOrder, Alloc as PeerAlloc}
+use Rattle.rtc_peer_state.specs.declared.rtc_error.RtcError.TheVariants.{RemoteSdp, Sdp as SdpRefused, ChangesOutOfOrder, Alloc as PeerAlloc, Dtls}
 use Rattle.rtc_history.specs.declared.side.Side.{Side}
 use Rattle.rtc_history.specs.declared.step.Step.{Step}
 use Rattle.rtc_history.specs.declared.step.Step.TheVariants.{Negotiate, AcceptOffer, AcceptAnswer}
@@ -14,40 +15,41 @@ use Rattle.rtc_history.specs.declared.outcome.Outcome.TheVariants.{Negotiated, A
 use Rattle.rtc_history.specs.declared.table.Table.{Table}
 use Rattle.rtc_history.specs.Sides.{same_side, side_of}
 use Rattle.rtc_history.specs.Past.{Entry, MadeSdp, new_app, before, rows_or, sdps, remote_sdp, is_offer_of, holds_token, is_spent, spends, was_called, is_right, moves}
-use Rattle.rtc_history.specs.Sound.{RepliesToOffer, RepliesToAnswer, IsSound, asked_in, view_in, at_first}
-use Rattle.rtc_history.specs.SoundEntry.{IsSoundEntry}
+use Rattle.rtc_history.specs.Sound.{RepliesToOffer, RepliesToAnswer, IsSound, asked_in, at_first}
 use Rattle.rtc_history.specs.Rounds.{makes_offer, sets_lines, has_set, rows_at_offer}
-use Rattle.rtc_history.specs.Runs.{Sound}
+use Rattle.rtc_history_laws.proofs.SoundPasts.{IsSoundIn, Sound}
 use Rattle.rtc_history_laws.proofs.Tells.{same_side-self, same_side-true}
 use Rattle.rtc_history_laws.proofs.OpRows.{unset_rows}
 use Rattle.rtc_history_laws.proofs.Takings.{offer_taking, answer_taking}
 use Rattle.rtc_history_laws.proofs.PastOffers.{offer_entry, right_parts, right_within, within_there, text_next, maker_side}
+use Rattle.rtc_history.specs.Views.{Stances, view_in}
+use Rattle.rtc_peer_state.specs.Stance.{held_by}
 
 -- a step of a side that made an offer moved the side
-made_here : (past : List Entry) (entry : Entry) (at : Side) (t : ℕ) → IsSoundEntry past entry → makes_offer t entry ≡ true → is_offer_of at (slice_get (sdps (entry ∷ past)) t) ≡ true
+made_here : (fresh : Stances) (past : List Entry) (entry : Entry) (at : Side) (t : ℕ) → IsSoundIn fresh past entry → makes_offer t entry ≡ true → is_offer_of at (slice_get (sdps (entry ∷ past)) t) ≡ true
     → moves at entry.step entry.outcome ≡ true
-made_here past entry at t sound makes_it mine =
-    let it = offer_entry past entry t sound makes_it in
+made_here fresh past entry at t sound makes_it mine =
+    let it = offer_entry fresh past entry t sound makes_it in
     let here : side_of entry.step ≡ at = maker_side at it.sdp _ (side_of entry.step) (text_next past entry _ t it.one it.count) mine in
     subst (λ (side : Side). moves side entry.step entry.outcome ≡ true) here it.moved
 
 -- Two tokens of a side that are right are one.
-one_right : (past : List Entry) (at : Side) (t u : ℕ) → Sound past → is_right at t past ≡ true → is_right at u past ≡ true
+one_right : (fresh : Stances) (past : List Entry) (at : Side) (t u : ℕ) → Sound fresh past → is_right at t past ≡ true → is_right at u past ≡ true
     → is_offer_of at (slice_get (sdps past) t) ≡ true → is_offer_of at (slice_get (sdps past) u) ≡ true → t ≡ u
-one_right [] at t u sound right right' mine mine' = absurd (cc)
-one_right (entry ∷ past) at t u sound right right' mine mine' =
-    by (λ right right' mine mine'. one_right past at t u sound.1 right right' mine mine') (within t) (within u) (makes_offer t entry) (makes_offer u entry) refl refl
+one_right fresh [] at t u sound right right' mine mine' = absurd (cc)
+one_right fresh (entry ∷ past) at t u sound right right' mine mine' =
+    by (λ right right' mine mine'. one_right fresh past at t u sound.1 right right' mine mine') (within t) (within u) (makes_offer t entry) (makes_offer u entry) refl refl
   where
     within : (k : ℕ) → is_right at k past ≡ true → is_offer_of at (slice_get (sdps (entry ∷ past)) k) ≡ true → is_offer_of at (slice_get (sdps past) k) ≡ true
-    within k right mine = ap (is_offer_of at) (sym (within_there (sdps past) entry.made k (right_within at k past sound.1 right))) ∙ mine
+    within k right mine = ap (is_offer_of at) (sym (within_there (sdps past) entry.made k (right_within fresh at k past sound.1 right))) ∙ mine
 
     by : (is_right at t past ≡ true → is_right at u past ≡ true → is_offer_of at (slice_get (sdps past) t) ≡ true → is_offer_of at (slice_get (sdps past) u) ≡ true → t ≡ u)
         → (is_right at t past ≡ true → is_offer_of at (slice_get (sdps (entry ∷ past)) t) ≡ true → is_offer_of at (slice_get (sdps past) t) ≡ true)
         → (is_right at u past ≡ true → is_offer_of at (slice_get (sdps (entry ∷ past)) u) ≡ true → is_offer_of at (slice_get (sdps past) u) ≡ true)
         → (made made' : Bool) → makes_offer t entry ≡ made → makes_offer u entry ≡ made' → t ≡ u
-    by earlier within_t within_u true true is is' = (offer_entry past entry t sound.0 is).count ∙ sym (offer_entry past entry u sound.0 is').count
-    by earlier within_t within_u true false is is' = absurd (both_ways _ (right_parts at u past entry is' right').0 (made_here past entry at t sound.0 is mine))
-    by earlier within_t within_u false true is is' = absurd (both_ways _ (right_parts at t past entry is right).0 (made_here past entry at u sound.0 is' mine'))
+    by earlier within_t within_u true true is is' = (offer_entry fresh past entry t sound.0 is).count ∙ sym (offer_entry fresh past entry u sound.0 is').count
+    by earlier within_t within_u true false is is' = absurd (both_ways _ (right_parts at u past entry is' right').0 (made_here fresh past entry at t sound.0 is mine))
+    by earlier within_t within_u false true is is' = absurd (both_ways _ (right_parts at t past entry is right).0 (made_here fresh past entry at u sound.0 is' mine'))
     by earlier within_t within_u false false is is' =
         let before_it = (right_parts at t past entry is right).1 in
         let before_it' = (right_parts at u past entry is' right').1 in
@@ -56,55 +58,56 @@ one_right (entry ∷ past) at t u sound right right' mine mine' =
 -- ---- rows
 
 -- an offer that was not delivered to a peer left its rows
-uncalled_rows : (past : List Entry) (at : Side) (sdp : Option Sdp) (next : ℕ) (outcome : Outcome) (after : List LineRow)
-    → RepliesToOffer sdp (view_in at past) next outcome after → was_called outcome ≡ false → after ≡ before at past
-uncalled_rows past at None next NoSuch after takes uncalled = takes
-uncalled_rows past at (Some sdp) next (Answered k) after takes uncalled = absurd (cc)
-uncalled_rows past at (Some sdp) next (Refused error) after takes uncalled = absurd (cc)
-uncalled_rows past at sdp next outcome after takes uncalled = absurd takes
+uncalled_rows : (fresh between : Stances) (past : List Entry) (at : Side) (sdp : Option Sdp) (next : ℕ) (outcome : Outcome) (after : List LineRow)
+    → RepliesToOffer sdp (view_in fresh at past (held_by (between at))) next outcome after → was_called outcome ≡ false → after ≡ before at past
+uncalled_rows fresh between past at None next NoSuch after takes uncalled = takes
+uncalled_rows fresh between past at (Some sdp) next (Answered k) after takes uncalled = absurd (cc)
+uncalled_rows fresh between past at (Some sdp) next (Refused error) after takes uncalled = absurd (cc)
+uncalled_rows fresh between past at sdp next outcome after takes uncalled = absurd takes
 
 -- an answer left the rows of a peer, or it was delivered with a token that was held and right
-answer_rows : (past : List Entry) (at : Side) (held right : Bool) (asked : Asked) (sdp : Option Sdp) (outcome : Outcome) (after : List LineRow)
-    → RepliesToAnswer held right asked sdp (view_in at past) outcome after → (after ≡ before at past) ⊎ ((was_called outcome ≡ true) × (held ≡ true) × (right ≡ true))
-answer_rows past at false right asked sdp NoSuch after takes = inl takes
-answer_rows past at true right asked None NoSuch after takes = inl takes
-answer_rows past at true false asked (Some sdp) (Refused ChangesOutOfOrder) after takes = inl takes
-answer_rows past at true true asked (Some sdp) Finished after takes = inr (refl, refl, refl)
-answer_rows past at true true asked (Some sdp) (Refused (RemoteSdp why)) after takes = inl takes.1
-answer_rows past at true true asked (Some sdp) (Refused (SdpRefused error)) after takes = inl takes.1
-answer_rows past at true true asked (Some sdp) (Refused PeerAlloc) after takes = inl takes
-answer_rows past at held right asked sdp outcome after takes = absurd takes
+answer_rows : (fresh between : Stances) (past : List Entry) (at : Side) (held right : Bool) (asked : Asked) (sdp : Option Sdp) (outcome : Outcome) (after : List LineRow)
+    → RepliesToAnswer held right asked sdp (view_in fresh at past (held_by (between at))) outcome after → (after ≡ before at past) ⊎ ((was_called outcome ≡ true) × (held ≡ true) × (right ≡ true))
+answer_rows fresh between past at false right asked sdp NoSuch after takes = inl takes
+answer_rows fresh between past at true right asked None NoSuch after takes = inl takes
+answer_rows fresh between past at true false asked (Some sdp) (Refused ChangesOutOfOrder) after takes = inl takes
+answer_rows fresh between past at true true asked (Some sdp) Finished after takes = inr (refl, refl, refl)
+answer_rows fresh between past at true true asked (Some sdp) (Refused (RemoteSdp why)) after takes = inl takes.1
+answer_rows fresh between past at true true asked (Some sdp) (Refused (SdpRefused error)) after takes = inl takes.1
+answer_rows fresh between past at true true asked (Some sdp) (Refused (Dtls Fault)) after takes = inl takes.1
+answer_rows fresh between past at true true asked (Some sdp) (Refused PeerAlloc) after takes = inl takes
+answer_rows fresh between past at held right asked sdp outcome after takes = absurd takes
 
 -- a step of a side whose token is right, that moves nothing and does not spend it, leaves the rows
-stayed : (past : List Entry) (step : Step) (outcome : Outcome) (table : Option Table) (made : List MadeSdp) (t : ℕ) → Sound past → IsSound past step outcome table made
+stayed : (fresh between : Stances) (past : List Entry) (step : Step) (outcome : Outcome) (table : Option Table) (made : List MadeSdp) (t : ℕ) → Sound fresh past → IsSound fresh past between step outcome table made
     → is_right (side_of step) t past ≡ true → is_offer_of (side_of step) (slice_get (sdps past) t) ≡ true → moves (side_of step) step outcome ≡ false → spends t step outcome ≡ false
     → sets_lines (side_of step) step ≡ false → rows_or true table (before (side_of step) past) ≡ before (side_of step) past
-stayed past step Alloc None made t sound replied right mine still unspent unset = refl
-stayed past (Negotiate at ops apply) (Negotiated answers what) (Some table) made t sound replied right mine still unspent unset =
+stayed fresh between past step Alloc None made t sound replied right mine still unspent unset = refl
+stayed fresh between past (Negotiate at ops apply) (Negotiated answers what) (Some table) made t sound replied right mine still unspent unset =
     unset_rows (at_first at past (new_app table.lines made)) ops answers table.lines replied.0 (rw (← unset) (rw (same_side-self at) refl))
-stayed past (AcceptOffer at offer) outcome (Some table) made t sound replied right mine still unspent unset =
-    uncalled_rows past at (remote_sdp true at offer past) (length (sdps past)) outcome table.lines (offer_taking past at offer outcome table made replied) (rw (← still) (rw (same_side-self at) refl))
-stayed past (AcceptAnswer at u answer) outcome (Some table) made t sound replied right mine still unspent unset =
-    elim (answer_rows past at (holds_token at u past) (is_right at u past) (asked_in at u past) (remote_sdp false at answer past) outcome table.lines (answer_taking past at u answer outcome table made replied)) [
+stayed fresh between past (AcceptOffer at offer) outcome (Some table) made t sound replied right mine still unspent unset =
+    uncalled_rows fresh between past at (remote_sdp true at offer past) (length (sdps past)) outcome table.lines (offer_taking fresh between past at offer outcome table made replied) (rw (← still) (rw (same_side-self at) refl))
+stayed fresh between past (AcceptAnswer at u answer) outcome (Some table) made t sound replied right mine still unspent unset =
+    elim (answer_rows fresh between past at (holds_token at u past) (is_right at u past) (asked_in at u past) (remote_sdp false at answer past) outcome table.lines (answer_taking fresh between past at u answer outcome table made replied)) [
       | inl same ↦ same
       | inr taken ↦ absurd (
           let held = and_parts (is_offer_of at (slice_get (sdps past) u)) (not (is_spent u past)) taken.1 in
-          let one : u ≡ t = one_right past at u t sound taken.2 right held.0 mine in
+          let one : u ≡ t = one_right fresh past at u t sound taken.2 right held.0 mine in
           both_ways (spends t (AcceptAnswer at u answer) outcome) unspent (rw (taken.0, eq-eqb u t one) refl))
     ]
-stayed past step outcome table made t sound replied right mine still unspent unset = absurd replied
+stayed fresh between past step outcome table made t sound replied right mine still unspent unset = absurd replied
 
 -- the same of a step of either side
-rows_stay : (past : List Entry) (entry : Entry) (at : Side) (t : ℕ) → Sound (entry ∷ past) → is_right at t past ≡ true → is_offer_of at (slice_get (sdps past) t) ≡ true
+rows_stay : (fresh : Stances) (past : List Entry) (entry : Entry) (at : Side) (t : ℕ) → Sound fresh (entry ∷ past) → is_right at t past ≡ true → is_offer_of at (slice_get (sdps past) t) ≡ true
     → moves at entry.step entry.outcome ≡ false → spends t entry.step entry.outcome ≡ false → sets_lines at entry.step ≡ false → before at (entry ∷ past) ≡ before at past
-rows_stay past entry at t sound right mine still unspent unset = by (same_side (side_of entry.step) at) refl
+rows_stay fresh past entry at t sound right mine still unspent unset = by (same_side (side_of entry.step) at) refl
   where
     by : (here : Bool) → same_side (side_of entry.step) at ≡ here → rows_or here entry.table (before at past) ≡ before at past
     by true is =
         subst (λ (side : Side). is_right side t past ≡ true → is_offer_of side (slice_get (sdps past) t) ≡ true → moves side entry.step entry.outcome ≡ false
         → sets_lines side entry.step ≡ false → rows_or true entry.table (before side past) ≡ before side past)
         (same_side-true (side_of entry.step) at is)
-        (λ right mine still unset. stayed past entry.step entry.outcome entry.table entry.made t sound.1 sound.0.replied right mine still unspent unset)
+        (λ right mine still unset. stayed fresh sound.0.between past entry.step entry.outcome entry.table entry.made t sound.1 sound.0.sound.replied right mine still unspent unset)
         right mine still unset
     by false is = refl
 
@@ -113,11 +116,11 @@ unset_parts : (past : List Entry) (entry : Entry) (at : Side) (t : ℕ) → make
 unset_parts past entry at t other unset = or_parts (sets_lines at entry.step) (has_set at t past) (rw other at unset)
 
 -- The rows of a side whose token is right and not spent, and that has set no line since, are those that it offered.
-pub rows_since : (past : List Entry) (at : Side) (t : ℕ) → Sound past → is_right at t past ≡ true → is_offer_of at (slice_get (sdps past) t) ≡ true → is_spent t past ≡ false
+pub rows_since : (fresh : Stances) (past : List Entry) (at : Side) (t : ℕ) → Sound fresh past → is_right at t past ≡ true → is_offer_of at (slice_get (sdps past) t) ≡ true → is_spent t past ≡ false
     → has_set at t past ≡ false → before at past ≡ rows_at_offer at t past
-rows_since [] at t sound right mine unspent unset = refl
-rows_since (entry ∷ past) at t sound right mine unspent unset =
-    by (λ right mine unspent unset. rows_since past at t sound.1 right mine unspent unset) (or_parts (spends t entry.step entry.outcome) (is_spent t past) unspent) (makes_offer t entry) refl
+rows_since fresh [] at t sound right mine unspent unset = refl
+rows_since fresh (entry ∷ past) at t sound right mine unspent unset =
+    by (λ right mine unspent unset. rows_since fresh past at t sound.1 right mine unspent unset) (or_parts (spends t entry.step entry.outcome) (is_spent t past) unspent) (makes_offer t entry) refl
   where
     by : (is_right at t past ≡ true → is_offer_of at (slice_get (sdps past) t) ≡ true → is_spent t past ≡ false → has_set at t past ≡ false → before at past ≡ rows_at_offer at t past)
         → (spends t entry.step entry.outcome ≡ false) × (is_spent t past ≡ false)
@@ -125,6 +128,6 @@ rows_since (entry ∷ past) at t sound right mine unspent unset =
     by earlier parts true is = rw is refl
     by earlier parts false is =
         let right_before = right_parts at t past entry is right in
-        let mine_before : is_offer_of at (slice_get (sdps past) t) ≡ true = ap (is_offer_of at) (sym (within_there (sdps past) entry.made t (right_within at t past sound.1 right_before.1))) ∙ mine in
+        let mine_before : is_offer_of at (slice_get (sdps past) t) ≡ true = ap (is_offer_of at) (sym (within_there (sdps past) entry.made t (right_within fresh at t past sound.1 right_before.1))) ∙ mine in
         let unset_before = unset_parts past entry at t is unset in
-        rows_stay past entry at t sound right_before.1 mine_before right_before.0 parts.0 unset_before.0 ∙ earlier right_before.1 mine_before parts.1 unset_before.1 ∙ (rw is refl)
+        rows_stay fresh past entry at t sound right_before.1 mine_before right_before.0 parts.0 unset_before.0 ∙ earlier right_before.1 mine_before parts.1 unset_before.1 ∙ (rw is refl)

@@ -6,8 +6,8 @@ use Rattle.std.proofs.lemmas.Slice.Eq.{bytes_eq-Decides}
 use Rattle.rtc_sdp_values.specs.LineRow.{row_mid}
 use Rattle.rtc_sdp_values.specs.declared.line_row.LineRow.{LineRow}
 use Rattle.rtc_sdp_values.specs.declared.line_row.LineRow.TheVariants.{Media, App}
-use Rattle.rtc_change.specs.Table.{Distinct, is_of, has_mid, row_of}
-use Rattle.rtc_change.specs.RowChanges.{RowChange, row_after_change, changed_at, changed_of, is_changed, media_mid}
+use Rattle.rtc_tables.specs.Table.{Distinct, is_of, has_mid, row_of}
+use Rattle.rtc_tables.specs.RowChanges.{RowChange, row_after_change, changed_at, changed_of, is_changed, media_mid}
 
 -- the row at a place is the row of a mid, and what is made of it
 pub record IsPlaced (change : RowChange) (place : ℕ) (mid : List ℕ) (rows : List LineRow) : Type 0 where

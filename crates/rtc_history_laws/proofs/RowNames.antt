@@ -4,7 +4,7 @@ use Rattle.std.proofs.Common.{◌≡◌, ℕ, Bool, true, false, List, [], ◌�
 use Rattle.rtc_sdp_values.specs.LineRow.{row_mid}
 use Rattle.rtc_sdp_values.specs.declared.line_row.LineRow.{LineRow}
 use Rattle.rtc_sdp_values.specs.declared.line_row.LineRow.TheVariants.{Media, App}
-use Rattle.rtc_change.specs.Table.{OneApp, NoMore, has_mid, is_app}
+use Rattle.rtc_tables.specs.Table.{OneApp, NoMore, has_mid, is_app}
 use Rattle.rtc_history.specs.Answers.{has_app_row}
 use Rattle.rtc_history.specs.Orderly.{mid_of_app}
 use Rattle.rtc_history_laws.proofs.AddedRows.{app_is_found}

@@ -11,12 +11,12 @@ use Rattle.rtc_sdp_values.specs.declared.line_row.LineRow.TheVariants.{Media, Ap
 use Rattle.rtc_sdp_values.specs.declared.media_kind.MediaKind.{MediaKind}
 use Rattle.rtc_sdp_values.specs.declared.media_kind.MediaKind.TheVariants.{Audio, Video}
 use Rattle.rtc_sdp_values.specs.Mids.{is_among}
-use Rattle.rtc_change.specs.Table.{IsTable, Rising, OneApp, NoMore, has_mid, row_of, is_app, app_of}
+use Rattle.rtc_tables.specs.Table.{IsTable, Rising, OneApp, NoMore, has_mid, row_of, is_app, app_of}
 use Rattle.rtc_change.specs.TableAfter.{is_new, app_mid, rows_after, row_after}
 use Rattle.rtc_sdp_values.specs.Sdp.{is_application}
-use Rattle.rtc_change.specs.Verdict.{first_refusal, line_refusal}
+use Rattle.rtc_tables.specs.Verdict.{first_refusal, line_refusal}
 use Rattle.rtc_change.specs.WrongLines.{wrong_line, by_added}
-use Rattle.rtc_change.proofs.TableLemmas.{row_of_its_mid, place_of_row}
+use Rattle.rtc_tables.proofs.TableLemmas.{row_of_its_mid, place_of_row}
 use Rattle.rtc_history.specs.Answers.{has_app_row}
 use Rattle.rtc_history.specs.SaidRows.{row_said}
 use Rattle.rtc_history_laws.proofs.AddedRows.{AreAdded}

@@ -1,5 +1,5 @@
 -- The SDP of rows says these rows, and the rows of an offer have distinct mids.
-use Rattle.std.proofs.Common.{◌≡◌, ℕ, Bool, true, false, not, ◌||◌, List, [], ◌∷◌, ◌++◌, map, refl, sym, ◌∙◌, ap, subst, cond, append_assoc}
+use Rattle.std.proofs.Common.{◌≡◌, ℕ, Bool, true, false, not, ◌||◌, List, [], ◌∷◌, ◌++◌, map, length, refl, sym, ◌∙◌, ap, subst, cond, append_assoc}
 use Rattle.std.specs.Prelude.{filter, None}
 use Rattle.std.specs.List.{list_all}
 use Rattle.std.specs.Str.{bytes_eq}
@@ -10,12 +10,13 @@ use Rattle.rtc_sdp_values.specs.LineRow.{row_mid}
 use Rattle.rtc_sdp_values.specs.Sdp.{inconsistency, mids_of, are_grouped, is_none_of}
 use Rattle.rtc_sdp_values.specs.declared.line_row.LineRow.{LineRow}
 use Rattle.rtc_sdp_values.specs.declared.line_row.LineRow.TheVariants.{Media, App}
-use Rattle.rtc_sdp_values.specs.declared.setup.Setup.{Setup}
+use Rattle.rtc_sdp_values.specs.declared.candidate.Candidate.{Candidate}
+use Rattle.rtc_sdp_values.specs.declared.media_line.MediaLine.{MediaLine}
 use Rattle.rtc_sdp_values.specs.Mids.{is_among, are_distinct}
-use Rattle.rtc_change.specs.ParsedLines.{parsed_line, parsed_lines}
-use Rattle.rtc_change.specs.Table.{Distinct, is_of, has_mid}
-use Rattle.rtc_peer_state.specs.declared.identity.Identity.{Identity}
-use Rattle.rtc_peer_state.specs.MadeSdp.{is_stopped, row_line, live_mids, sdp_of_rows}
+use Rattle.rtc_tables.specs.ParsedLines.{parsed_line, parsed_lines}
+use Rattle.rtc_tables.specs.Table.{Distinct, is_of, has_mid}
+use Rattle.rtc_peer_state.specs.declared.sdp_head.SdpHead.{SdpHead}
+use Rattle.rtc_peer_state.specs.MadeSdp.{is_stopped, row_line, live_mids, with_candidates, sdp_of_rows}
 use Rattle.rtc_history.specs.SaidRows.{row_said, are_live}
 use Rattle.rtc_history_laws.proofs.AddedRows.{among_mids}
 
@@ -63,34 +64,51 @@ stopped_unnamed front row rest distinct stopped =
     (or_from _ _ (unnamed front (row_mid row) parts.0) (unnamed rest (row_mid row) parts.1))
 
 -- the line of a row says it, where no group names the row if it is stopped
-line_says : (identity : Identity) (setup : Setup) (group : List (List ℕ)) (row : LineRow) → (is_stopped row ≡ true → is_among group (row_mid row) ≡ false) → parsed_line (group ∷ []) (row_line identity setup row) ≡ row_said row
-line_says identity setup group (App place mid) unnamed = refl
-line_says identity setup group (Media place mid kind dir false remote_created) unnamed = refl
-line_says identity setup group (Media place mid kind dir true remote_created) unnamed = rw (unnamed refl) refl
+line_says : (head : SdpHead) (group : List (List ℕ)) (row : LineRow) → (is_stopped row ≡ true → is_among group (row_mid row) ≡ false) → parsed_line (group ∷ []) (row_line head row) ≡ row_said row
+line_says head group (App place mid) unnamed = refl
+line_says head group (Media place mid kind dir false remote_created) unnamed = refl
+line_says head group (Media place mid kind dir true remote_created) unnamed = rw (unnamed refl) refl
 
-rows_say : (identity : Identity) (setup : Setup) (all front rows : List LineRow) → all ≡ front ++ rows → Distinct all
-    → map (parsed_line (live_mids all ∷ [])) (map (row_line identity setup) rows) ≡ map row_said rows
-rows_say identity setup all front [] is distinct = refl
-rows_say identity setup all front (row ∷ rows) is distinct =
-    let first : parsed_line (live_mids all ∷ []) (row_line identity setup row) ≡ row_said row =
-    line_says identity setup (live_mids all) row (λ stopped. rw is (stopped_unnamed front row rows (subst Distinct is distinct) stopped)) in
-    let rest = rows_say identity setup all (front ++ row ∷ []) rows (is ∙ sym (append_assoc front (row ∷ []) rows)) distinct in
+rows_say : (head : SdpHead) (all front rows : List LineRow) → all ≡ front ++ rows → Distinct all
+    → map (parsed_line (live_mids all ∷ [])) (map (row_line head) rows) ≡ map row_said rows
+rows_say head all front [] is distinct = refl
+rows_say head all front (row ∷ rows) is distinct =
+    let first : parsed_line (live_mids all ∷ []) (row_line head row) ≡ row_said row =
+    line_says head (live_mids all) row (λ stopped. rw is (stopped_unnamed front row rows (subst Distinct is distinct) stopped)) in
+    let rest = rows_say head all (front ++ row ∷ []) rows (is ∙ sym (append_assoc front (row ∷ []) rows)) distinct in
     cons_same first rest
   where
     cons_same : {A : Type 0} {x y : A} {xs ys : List A} → x ≡ y → xs ≡ ys → x ∷ xs ≡ y ∷ ys
     cons_same same rest = cc
 
+-- candidates change nothing of what lines say
+pub parsed_with : (groups : List (List (List ℕ))) (candidates : List Candidate) (lines : List MediaLine) → map (parsed_line groups) (with_candidates candidates lines) ≡ map (parsed_line groups) lines
+parsed_with groups candidates [] = refl
+parsed_with groups candidates (line ∷ lines) = refl
+
+pub length-with : (candidates : List Candidate) (lines : List MediaLine) → length (with_candidates candidates lines) ≡ length lines
+length-with candidates [] = refl
+length-with candidates (line ∷ lines) = refl
+
+mids_with : (candidates : List Candidate) (lines : List MediaLine) → mids_of (with_candidates candidates lines) ≡ mids_of lines
+mids_with candidates [] = refl
+mids_with candidates (line ∷ lines) = refl
+
+grouped_with : (group : List (List ℕ)) (candidates : List Candidate) (lines : List MediaLine) → are_grouped group (with_candidates candidates lines) ≡ are_grouped group lines
+grouped_with group candidates [] = refl
+grouped_with group candidates (line ∷ lines) = refl
+
 -- the SDP of rows with distinct mids says them
-pub sdp_says : (session : ℕ) (identity : Identity) (setup : Setup) (rows : List LineRow) → Distinct rows → parsed_lines (sdp_of_rows session identity setup rows) ≡ map row_said rows
-sdp_says session identity setup rows distinct = rows_say identity setup rows [] rows refl distinct
+pub sdp_says : (head : SdpHead) (rows : List LineRow) → Distinct rows → parsed_lines (sdp_of_rows head rows) ≡ map row_said rows
+sdp_says head rows distinct = parsed_with (live_mids rows ∷ []) head.candidates (map (row_line head) rows) ∙ rows_say head rows [] rows refl distinct
 
 -- ---- an SDP fits together
 
 -- the mids of the lines of rows are the rows'
-mids_of_rows : (identity : Identity) (setup : Setup) (rows : List LineRow) → mids_of (map (row_line identity setup) rows) ≡ map row_mid rows
-mids_of_rows identity setup [] = refl
-mids_of_rows identity setup (Media place mid kind dir stopped remote_created ∷ rows) = ap (λ mids. mid ∷ mids) (mids_of_rows identity setup rows)
-mids_of_rows identity setup (App place mid ∷ rows) = ap (λ mids. mid ∷ mids) (mids_of_rows identity setup rows)
+mids_of_rows : (head : SdpHead) (rows : List LineRow) → mids_of (map (row_line head) rows) ≡ map row_mid rows
+mids_of_rows head [] = refl
+mids_of_rows head (Media place mid kind dir stopped remote_created ∷ rows) = ap (λ mids. mid ∷ mids) (mids_of_rows head rows)
+mids_of_rows head (App place mid ∷ rows) = ap (λ mids. mid ∷ mids) (mids_of_rows head rows)
 
 distinct_mids : (rows : List LineRow) → Distinct rows → are_distinct (map row_mid rows) ≡ true
 distinct_mids [] distinct = refl
@@ -157,13 +175,13 @@ rows_grouped (row ∷ rows) = by (is_stopped row) (rows_grouped rows)
     by true rest = (refl, rest)
     by false rest = (among_itself (live_mids rows) (row_mid row), grouped_more (live_mids rows) (row_mid row) rows rest)
 
-lines_grouped : (identity : Identity) (setup : Setup) (group : List (List ℕ)) (rows : List LineRow) → AreGrouped group rows → are_grouped group (map (row_line identity setup) rows) ≡ true
-lines_grouped identity setup group [] grouped = refl
-lines_grouped identity setup group (Media place mid kind dir stopped remote_created ∷ rows) grouped = rw (grouped.0, lines_grouped identity setup group rows grouped.1) refl
-lines_grouped identity setup group (App place mid ∷ rows) grouped = rw (grouped.0, lines_grouped identity setup group rows grouped.1) refl
+lines_grouped : (head : SdpHead) (group : List (List ℕ)) (rows : List LineRow) → AreGrouped group rows → are_grouped group (map (row_line head) rows) ≡ true
+lines_grouped head group [] grouped = refl
+lines_grouped head group (Media place mid kind dir stopped remote_created ∷ rows) grouped = rw (grouped.0, lines_grouped head group rows grouped.1) refl
+lines_grouped head group (App place mid ∷ rows) grouped = rw (grouped.0, lines_grouped head group rows grouped.1) refl
 
 -- the SDP of rows with distinct mids, one of which is live, fits together
-pub sdp_fits : (session : ℕ) (identity : Identity) (setup : Setup) (rows : List LineRow) → Distinct rows → are_live rows ≡ true → inconsistency (sdp_of_rows session identity setup rows) ≡ None
+pub sdp_fits : (head : SdpHead) (rows : List LineRow) → Distinct rows → are_live rows ≡ true → inconsistency (sdp_of_rows head rows) ≡ None
 unfolding inconsistency
-sdp_fits session identity setup rows distinct live =
-    rw (some_live rows live, mids_of_rows identity setup rows, live_known rows, lines_grouped identity setup (live_mids rows) rows (rows_grouped rows), distinct_mids rows distinct) refl
+sdp_fits head rows distinct live =
+    rw (some_live rows live, mids_with head.candidates (map (row_line head) rows), grouped_with (live_mids rows) head.candidates (map (row_line head) rows), mids_of_rows head rows, live_known rows, lines_grouped head (live_mids rows) rows (rows_grouped rows), distinct_mids rows distinct) refl

@@ -4,21 +4,22 @@ use Rattle.rtc_sdp_values.specs.declared.direction.Direction.{Direction}
 use Rattle.rtc_sdp_values.specs.declared.line_row.LineRow.{LineRow}
 use Rattle.rtc_sdp_values.specs.declared.line_row.LineRow.TheVariants.{Media as MediaRow, App}
 use Rattle.rtc_change.specs.declared.change.Change.{Change}
-use Rattle.rtc_change.specs.declared.change.Change.TheVariants.{AddMedia as Adding, AddApp, AddChannel as AddingChannel, Direction as Setting}
-use Rattle.rtc_change.specs.PendingOffer.{added_mids, added_rows, is_offered, do_offer, contains_add_app}
+use Rattle.rtc_change.specs.declared.change.Change.TheVariants.{AddMedia as Adding, AddApp, AddChannel as AddingChannel, Direction as Setting, IceRestart as Restarting}
+use Rattle.rtc_change.specs.PendingOffer.{added_mids, added_rows, is_offered, do_offer, contains_add_app, staged_restart}
 use Rattle.std.proofs.lemmas.List.Folds.{list_any-append}
 use Rattle.rtc_channels.specs.Channels.{Channels}
-use Rattle.rtc_change.specs.RowChanges.{RowChange, changed_of}
+use Rattle.rtc_tables.specs.RowChanges.{RowChange, changed_of}
 use Rattle.rtc_change.proofs.AddedLemmas.{added_mids-append}
-use Rattle.rtc_change.proofs.RowChangeLemmas.{KeepsRow, changed_of_alike, length-alike}
-use Rattle.rtc_peer_state.specs.declared.peer.Peer.{Peer}
-use Rattle.rtc_peer_state.specs.Calls.{ChangesLine}
+use Rattle.rtc_tables.proofs.RowChangeLemmas.{KeepsRow, changed_of_alike, length-alike}
+use Rattle.rtc_peer_state.specs.Stance.{Stance}
 use Rattle.rtc_history.specs.declared.op.Op.{Op}
-use Rattle.rtc_history.specs.declared.op.Op.TheVariants.{AddMedia, SetDirection, StopMedia, AddChannel}
+use Rattle.rtc_history.specs.declared.op.Op.TheVariants.{AddMedia, SetDirection, StopMedia, AddChannel, IceRestart}
 use Rattle.rtc_history.specs.declared.op_answer.OpAnswer.TheVariants.{Alloc as OpAlloc}
 use Rattle.rtc_history.specs.Answers.{has_app_row, channels_answered}
 use Rattle.rtc_history_laws.proofs.OpRows.{has_app-alike}
 use Rattle.rtc_history_laws.proofs.StagedApps.{contains-append}
+use Rattle.rtc_history_laws.proofs.RestartChanges.{restart-still}
+use Rattle.rtc_peer_state.proofs.StanceCalls.{StanceChangesLine}
 
 -- whether something is staged
 abbrev pub are_some : List Change → Bool
@@ -57,6 +58,7 @@ added_rows-append place (AddApp mid ∷ staged) more =
     ap (λ rows. App place mid ∷ rows) (added_rows-append (place + 1) staged more ∙ ap (λ n. added_rows (place + 1) staged ++ added_rows n more) (one_on place (length (added_mids staged))))
 added_rows-append place (AddingChannel id config ∷ staged) more = added_rows-append place staged more
 added_rows-append place (Setting mid dir ∷ staged) more = added_rows-append place staged more
+added_rows-append place (Restarting creds keeps ∷ staged) more = added_rows-append place staged more
 
 -- a row that is added, and those after it
 pub adds_next : (place : ℕ) (staged staged' more : List Change) (front : List LineRow) (row : LineRow) (rows : List LineRow)
@@ -77,10 +79,11 @@ pub offer-append : (staged more : List Change) → do_offer (staged ++ more) ≡
 offer-append staged more = list_any-append is_offered staged more
 
 -- What a change of a line leaves of a peer.
-pub record StagesLine {N : Type 0} (p : Peer N) (changed : Bool) (r : Peer N) : Type 0 where
+pub record StagesLine (p : Stance) (changed : Bool) (r : Stance) : Type 0 where
   pub rows : length r.lines ≡ length p.lines
   pub app : has_app_row r.lines ≡ has_app_row p.lines
   pub counter : r.counter ≡ p.counter
+  pub restart : staged_restart r.staged ≡ staged_restart p.staged
   pub channels : r.channels ≡ p.channels
   pub adds : (place : ℕ) → added_rows place r.staged ≡ added_rows place p.staged
   pub count : length (added_mids r.staged) ≡ length (added_mids p.staged)
@@ -88,7 +91,7 @@ pub record StagesLine {N : Type 0} (p : Peer N) (changed : Bool) (r : Peer N) : 
   pub offers : do_offer r.staged ≡ (do_offer p.staged || changed)
   pub lined : contains_add_app r.staged ≡ contains_add_app p.staged
 
-pub line_staged : {N : Type 0} (change : RowChange) (to : Direction) (p : Peer N) (mid : List ℕ) (changed : Bool) (r : Peer N) → KeepsRow change → ChangesLine change to p mid (Ok changed) r → StagesLine p changed r
+pub line_staged : (change : RowChange) (to : Direction) (p : Stance) (mid : List ℕ) (changed : Bool) (r : Stance) → KeepsRow change → StanceChangesLine change to p mid (Ok changed) r → StagesLine p changed r
 line_staged change to p mid true r keeps h =
     let staged : r.staged ≡ p.staged ++ Setting mid to ∷ [] = ap (λ q. q.staged) h.1 in
     let alike = changed_of_alike change keeps mid p.lines in
@@ -96,6 +99,7 @@ line_staged change to p mid true r keeps h =
       rows = ap (λ q. length q.lines) h.1 ∙ length-alike p.lines (changed_of change mid p.lines) alike;
       app = ap (λ q. has_app_row q.lines) h.1 ∙ has_app-alike p.lines (changed_of change mid p.lines) alike;
       counter = ap (λ q. q.counter) h.1;
+      restart = restart-still p.staged r.staged (Setting mid to ∷ []) staged refl;
       channels = ap (λ q. q.channels) h.1;
       adds = λ place. ap (added_rows place) staged ∙ added_rows-append place p.staged (Setting mid to ∷ []) ∙ append-nil (added_rows place p.staged);
       count = ap (λ changes. length (added_mids changes)) staged ∙ ap length (added_mids-append p.staged (Setting mid to ∷ []) ∙ append-nil (added_mids p.staged));
@@ -107,6 +111,7 @@ line_staged change to p mid false r keeps h = record {
   rows = ap (λ q. length q.lines) h.1;
   app = ap (λ q. has_app_row q.lines) h.1;
   counter = ap (λ q. q.counter) h.1;
+  restart = ap (λ q. staged_restart q.staged) h.1;
   channels = ap (λ q. q.channels) h.1;
   adds = λ place. ap (λ q. added_rows place q.staged) h.1;
   count = ap (λ q. length (added_mids q.staged)) h.1;
@@ -124,6 +129,7 @@ channels_none (AddMedia kind dir) ops held = channels_end ops held
 channels_none (SetDirection at dir) ops held = channels_end ops held
 channels_none (StopMedia at) ops held = channels_end ops held
 channels_none (AddChannel config) ops held = channels_end ops held
+channels_none (IceRestart keep) ops held = channels_end ops held
 
 pub or_early : (a b : Bool) → true ≡ (a || (true || b))
 or_early true b = refl
@@ -136,3 +142,4 @@ lined_offers (Adding media ∷ staged) there = refl
 lined_offers (AddApp mid ∷ staged) there = refl
 lined_offers (AddingChannel id config ∷ staged) there = lined_offers staged there
 lined_offers (Setting mid dir ∷ staged) there = refl
+lined_offers (Restarting creds keeps ∷ staged) there = refl

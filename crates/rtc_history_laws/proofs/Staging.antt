@@ -1,53 +1,59 @@
 -- What the ops of a step stage.
 use Rattle.std.proofs.Common.{◌≡◌, ◌≤◌, ◌+◌, ℕ, List, [], ◌∷◌, ◌++◌, length, Bool, true, false, not, ◌||◌, Option, Some, None, refl, sym, ◌∙◌, ap, subst, arith, append-nil, append_assoc}
+use Rattle.std.specs.Prelude.{is_some, filter}
+use Rattle.rtc_sdp_values.specs.declared.direction.Direction.{Direction}
 use Rattle.rtc_sdp_values.specs.declared.direction.Direction.TheVariants.{Inactive}
+use Rattle.rtc_sdp_values.specs.declared.media_kind.MediaKind.{MediaKind}
+use Rattle.rtc_sdp_values.specs.declared.ice_creds.IceCreds.{IceCreds}
+use Rattle.rtc_change.specs.declared.add_media.AddMedia.{AddMedia as Media}
+use Rattle.rtc_peer_state.specs.Staging.{is_kept_by_restart, with_restart}
 use Rattle.rtc_sdp_values.specs.declared.line_row.LineRow.{LineRow}
 use Rattle.rtc_sdp_values.specs.declared.line_row.LineRow.TheVariants.{Media as MediaRow, App}
 use Rattle.rtc_change.specs.declared.change.Change.{Change}
-use Rattle.rtc_change.specs.declared.change.Change.TheVariants.{AddMedia as Adding, AddApp, AddChannel as AddingChannel}
-use Rattle.rtc_change.specs.PendingOffer.{added_mids, added_rows, do_offer, contains_add_app}
+use Rattle.rtc_change.specs.declared.change.Change.TheVariants.{AddMedia as Adding, AddApp, AddChannel as AddingChannel, IceRestart as Restarting}
+use Rattle.rtc_change.specs.PendingOffer.{added_mids, added_rows, do_offer, contains_add_app, staged_restart}
 use Rattle.rtc_wire.specs.declared.channel_config.ChannelConfig.{ChannelConfig}
 use Rattle.rtc_channels.specs.Channels.{with_channel, channel_rows, AreBelow}
-use Rattle.rtc_change.specs.RowChanges.{directed_row, stopped_row}
-use Rattle.rtc_change.proofs.RowChangeLemmas.{directed_row_keeps, stopped_row_keeps}
-use Rattle.rtc_peer_state.specs.declared.peer.Peer.{Peer}
-use Rattle.rtc_ids.specs.Draws.{Draws}
-use Rattle.rtc_peer_state.specs.Calls.{needs_app, staged_mid, staged_media}
+use Rattle.rtc_tables.specs.RowChanges.{directed_row, stopped_row}
+use Rattle.rtc_tables.proofs.RowChangeLemmas.{directed_row_keeps, stopped_row_keeps}
+use Rattle.rtc_peer_state.specs.Stance.{Stance}
 use Rattle.rtc_history.specs.declared.op.Op.{Op}
-use Rattle.rtc_history.specs.declared.op.Op.TheVariants.{AddMedia, SetDirection, StopMedia, AddChannel}
+use Rattle.rtc_history.specs.declared.op.Op.TheVariants.{AddMedia, SetDirection, StopMedia, AddChannel, IceRestart}
 use Rattle.rtc_history.specs.declared.op_answer.OpAnswer.{OpAnswer}
-use Rattle.rtc_history.specs.declared.op_answer.OpAnswer.TheVariants.{Mid, Changed, NoLine, Channel, BadChannel, Alloc as OpAlloc}
-use Rattle.rtc_history.specs.Answers.{has_app_row, added, do_stage, do_need_offer, channels_answered, waiting_row, rows_waiting}
-use Rattle.rtc_history.specs.Performs.{PerformsOps, wanted}
+use Rattle.rtc_history.specs.declared.op_answer.OpAnswer.TheVariants.{Mid, Changed, NoLine, Channel, BadChannel, Creds, Alloc as OpAlloc}
+use Rattle.rtc_history.specs.Answers.{has_app_row, added, do_stage, do_restart, do_need_offer, channels_answered, waiting_row, rows_waiting}
+use Rattle.rtc_history_laws.proofs.RestartChanges.{mids-restart, rows-restart, lined-restart, offers-restart, restart-staged, restart-still}
 use Rattle.rtc_history_laws.proofs.AddedRows.{added_none}
 use Rattle.rtc_history_laws.proofs.ToldChannels.{told, told_more}
 use Rattle.rtc_history_laws.proofs.StagedApps.{AppTold, contains-append, needs_same, told_same, ChannelStaged, channel_staged, none_there, app_mid_is}
 use Rattle.rtc_history_laws.proofs.StagedChanges.{are_some, some-push, some_two, or_nothing, or_something, or_three, added_rows-append, adds_next, count_next, offer-append, StagesLine, line_staged, channels_none, or_early, lined_offers}
+use Rattle.rtc_history_laws.proofs.StanceSteps.{StancePerformsOps, needs_app}
 
 -- What ops leave of a peer's channels.
-pub record ChannelsStaged {N : Type 0} (p : Peer N) (ops : List Op) (answers : List OpAnswer) (q : Peer N) : Type 0 where
+pub record ChannelsStaged (p : Stance) (ops : List Op) (answers : List OpAnswer) (q : Stance) : Type 0 where
   pub same : told q.channels ≡ channels_answered ops answers (told p.channels)
   pub shown : channel_rows q.channels ≡ channel_rows p.channels ++ rows_waiting answers
   pub below : AreBelow p.channels.given p.channels.rows → AreBelow q.channels.given q.channels.rows
 
 -- the rows that are staged are those that ops add, where the mid of a line of data channels is told that is still to be staged
-abbrev pub AddsRows : {N : Type 0} → Peer N → List Op → List OpAnswer → Peer N → Type 0
+abbrev pub AddsRows : Stance → List Op → List OpAnswer → Stance → Type 0
 AddsRows p ops answers q =
     (app : Option (List ℕ)) → AppTold p app q → (app ≡ None → needs_app p ≡ false)
     → (place : ℕ) → added_rows place q.staged ≡ added_rows place p.staged ++ added app (place + length (added_mids p.staged)) ops answers
 
 -- What ops leave of a peer: as many rows, and what is staged more.
-pub record Stages {N : Type 0} (p : Peer N) (ops : List Op) (answers : List OpAnswer) (q : Peer N) : Type 0 where
+pub record Stages (p : Stance) (ops : List Op) (answers : List OpAnswer) (q : Stance) : Type 0 where
   pub rows : length q.lines ≡ length p.lines
   pub app : has_app_row q.lines ≡ has_app_row p.lines
   pub counter : q.counter ≡ p.counter
   pub adds : AddsRows p ops answers q
   pub count : length (added_mids q.staged) ≤ length (added_mids p.staged) + length ops
   pub some : are_some q.staged ≡ (are_some p.staged || do_stage answers)
+  pub restarts : is_some (staged_restart q.staged) ≡ (is_some (staged_restart p.staged) || do_restart answers)
   pub offers : do_offer q.staged ≡ (do_offer p.staged || do_need_offer (has_app_row p.lines) answers)
   pub channels : ChannelsStaged p ops answers q
 
-same_channels : {N : Type 0} (p r q : Peer N) (op : Op) (ops : List Op) (answer : OpAnswer) (answers : List OpAnswer) → r.channels ≡ p.channels
+same_channels : (p r q : Stance) (op : Op) (ops : List Op) (answer : OpAnswer) (answers : List OpAnswer) → r.channels ≡ p.channels
     → channels_answered (op ∷ ops) (answer ∷ answers) (told p.channels) ≡ channels_answered ops answers (told p.channels) → rows_waiting (answer ∷ answers) ≡ rows_waiting answers
     → ChannelsStaged r ops answers q → ChannelsStaged p (op ∷ ops) (answer ∷ answers) q
 same_channels p r q op ops answer answers same none no_row rest = record {
@@ -59,7 +65,7 @@ same_channels p r q op ops answer answers same none no_row rest = record {
 -- ---- a line that is changed
 
 -- the ops after a change of a line
-stages_line : {N : Type 0} (p r q : Peer N) (op : Op) (ops : List Op) (changed : Bool) (answers : List OpAnswer)
+stages_line : (p r q : Stance) (op : Op) (ops : List Op) (changed : Bool) (answers : List OpAnswer)
     → ((app : Option (List ℕ)) (place : ℕ) → added app place (op ∷ ops) (Changed changed ∷ answers) ≡ added app place ops answers)
     → channels_answered (op ∷ ops) (Changed changed ∷ answers) (told p.channels) ≡ channels_answered ops answers (told p.channels)
     → StagesLine p changed r → Stages r ops answers q → Stages p (op ∷ ops) (Changed changed ∷ answers) q
@@ -76,6 +82,7 @@ stages_line p r q op ops changed answers none no_channel line rest =
       count = let most : length (added_mids q.staged) ≤ length (added_mids r.staged) + length ops = rest.count in
           let same : length (added_mids r.staged) ≡ length (added_mids p.staged) = line.count in omega arith;
       some = rest.some ∙ ap (λ b. b || do_stage answers) line.some ∙ or_three (are_some p.staged) changed (do_stage answers);
+      restarts = rest.restarts ∙ ap (λ found. is_some found || do_restart answers) line.restart;
       offers = rest.offers ∙ ap (λ b. do_offer r.staged || do_need_offer b answers) line.app
           ∙ ap (λ b. b || do_need_offer (has_app_row p.lines) answers) line.offers ∙ or_three (do_offer p.staged) changed (do_need_offer (has_app_row p.lines) answers);
       channels = same_channels p r q op ops (Changed changed) answers line.channels no_channel refl rest.channels;
@@ -84,45 +91,47 @@ stages_line p r q op ops changed answers none no_channel line rest =
 -- ---- ops that leave a peer as it was
 
 -- an op that is answered by no line, or no channel, and the ops after it
-stages_none : {N : Type 0} (p r q : Peer N) (op : Op) (ops : List Op) (answer : OpAnswer) (answers : List OpAnswer) → r ≡ p
+stages_none : (p r q : Stance) (op : Op) (ops : List Op) (answer : OpAnswer) (answers : List OpAnswer) → r ≡ p
     → ((app : Option (List ℕ)) (place : ℕ) → added app place (op ∷ ops) (answer ∷ answers) ≡ added app place ops answers)
-    → do_stage (answer ∷ answers) ≡ do_stage answers → ((has : Bool) → do_need_offer has (answer ∷ answers) ≡ do_need_offer has answers)
+    → do_stage (answer ∷ answers) ≡ do_stage answers → do_restart (answer ∷ answers) ≡ do_restart answers → ((has : Bool) → do_need_offer has (answer ∷ answers) ≡ do_need_offer has answers)
     → channels_answered (op ∷ ops) (answer ∷ answers) (told p.channels) ≡ channels_answered ops answers (told p.channels) → rows_waiting (answer ∷ answers) ≡ rows_waiting answers
     → Stages r ops answers q → Stages p (op ∷ ops) (answer ∷ answers) q
-stages_none {N} p r q op ops answer answers same none unstaged unoffered no_channel no_row rest = record {
+stages_none p r q op ops answer answers same none unstaged unrestarted unoffered no_channel no_row rest = record {
   rows = rest.rows ∙ ap (λ s. length s.lines) same;
   app = rest.app ∙ ap (λ s. has_app_row s.lines) same;
   counter = rest.counter ∙ ap (λ s. s.counter) same;
-  adds = λ app is unneeded place. subst (λ (s : Peer N). AddsRows s ops answers q) same rest.adds app is unneeded place ∙ ap (λ (more : List LineRow). added_rows place p.staged ++ more) (sym (none app (place + length (added_mids p.staged))));
+  adds = λ app is unneeded place. subst (λ (s : Stance). AddsRows s ops answers q) same rest.adds app is unneeded place ∙ ap (λ (more : List LineRow). added_rows place p.staged ++ more) (sym (none app (place + length (added_mids p.staged))));
   count = let most : length (added_mids q.staged) ≤ length (added_mids r.staged) + length ops = rest.count in
       let e : length (added_mids r.staged) ≡ length (added_mids p.staged) = ap (λ s. length (added_mids s.staged)) same in omega arith;
   some = rest.some ∙ ap (λ s. are_some s.staged || do_stage answers) same ∙ ap (λ b. are_some p.staged || b) (sym unstaged);
+  restarts = rest.restarts ∙ ap (λ s. is_some (staged_restart s.staged) || do_restart answers) same ∙ ap (λ b. is_some (staged_restart p.staged) || b) (sym unrestarted);
   offers = rest.offers ∙ ap (λ s. do_offer s.staged || do_need_offer (has_app_row s.lines) answers) same ∙ ap (λ b. do_offer p.staged || b) (sym (unoffered (has_app_row p.lines)));
   channels = same_channels p r q op ops answer answers (ap (λ s. s.channels) same) no_channel no_row rest.channels;
 }
 
 -- an op that lacked memory
-stages_lacking : {N : Type 0} (p q : Peer N) (op : Op) (ops : List Op) → ((app : Option (List ℕ)) (place : ℕ) → added app place (op ∷ ops) (OpAlloc ∷ []) ≡ [])
+stages_lacking : (p q : Stance) (op : Op) (ops : List Op) → ((app : Option (List ℕ)) (place : ℕ) → added app place (op ∷ ops) (OpAlloc ∷ []) ≡ [])
     → channels_answered (op ∷ ops) (OpAlloc ∷ []) (told p.channels) ≡ told p.channels
-    → q.lines ≡ p.lines → q.counter ≡ p.counter → q.staged ≡ p.staged → q.channels ≡ p.channels → Stages p (op ∷ ops) (OpAlloc ∷ []) q
-stages_lacking p q op ops none no_channel lines counter staged channels = record {
-  rows = ap length lines;
-  app = ap has_app_row lines;
-  counter = counter;
-  adds = λ app is unneeded place. ap (added_rows place) staged ∙ sym (append-nil (added_rows place p.staged)) ∙ ap (λ (more : List LineRow). added_rows place p.staged ++ more) (sym (none app (place + length (added_mids p.staged))));
-  count = let e : length (added_mids q.staged) ≡ length (added_mids p.staged) = ap (λ changes. length (added_mids changes)) staged in omega arith;
-  some = ap are_some staged ∙ or_nothing (are_some p.staged);
-  offers = ap do_offer staged ∙ or_nothing (do_offer p.staged);
+    → q ≡ p → Stages p (op ∷ ops) (OpAlloc ∷ []) q
+stages_lacking p q op ops none no_channel same = record {
+  rows = ap (λ r. length r.lines) same;
+  app = ap (λ r. has_app_row r.lines) same;
+  counter = ap (λ r. r.counter) same;
+  adds = λ app is unneeded place. ap (λ r. added_rows place r.staged) same ∙ sym (append-nil (added_rows place p.staged)) ∙ ap (λ (more : List LineRow). added_rows place p.staged ++ more) (sym (none app (place + length (added_mids p.staged))));
+  count = let e : length (added_mids q.staged) ≡ length (added_mids p.staged) = ap (λ r. length (added_mids r.staged)) same in omega arith;
+  some = ap (λ r. are_some r.staged) same ∙ or_nothing (are_some p.staged);
+  restarts = ap (λ r. is_some (staged_restart r.staged)) same ∙ or_nothing (is_some (staged_restart p.staged));
+  offers = ap (λ r. do_offer r.staged) same ∙ or_nothing (do_offer p.staged);
   channels = record {
-    same = ap told channels ∙ sym no_channel;
-    shown = ap channel_rows channels ∙ sym (append-nil (channel_rows p.channels));
-    below = λ below. rw channels below;
+    same = ap (λ r. told r.channels) same ∙ sym no_channel;
+    shown = ap (λ r. channel_rows r.channels) same ∙ sym (append-nil (channel_rows p.channels));
+    below = λ below. rw same below;
   };
 }
 
 -- ---- a channel that is staged
 
-with_channel_staged : {N : Type 0} (p r q : Peer N) (config : ChannelConfig) (id : ℕ) (ops : List Op) (answers : List OpAnswer) → r.channels ≡ with_channel p.channels config → id ≡ p.channels.given
+with_channel_staged : (p r q : Stance) (config : ChannelConfig) (id : ℕ) (ops : List Op) (answers : List OpAnswer) → r.channels ≡ with_channel p.channels config → id ≡ p.channels.given
     → ChannelsStaged r ops answers q → ChannelsStaged p (AddChannel config ∷ ops) (Channel id ∷ answers) q
 with_channel_staged p r q config id ops answers is numbered rest =
     let one = told_more p.channels config in
@@ -134,9 +143,9 @@ with_channel_staged p r q config id ops answers is numbered rest =
     }
 
 -- a channel that is staged alone
-stages_alone : {N : Type 0} (draws : Draws N) (p r q : Peer N) (config : ChannelConfig) (id : ℕ) (ops : List Op) (answers : List OpAnswer) → ChannelStaged draws p config id r → needs_app p ≡ false
+stages_alone : (p r q : Stance) (config : ChannelConfig) (id : ℕ) (ops : List Op) (answers : List OpAnswer) → ChannelStaged p config id r → needs_app p ≡ false
     → Stages r ops answers q → Stages p (AddChannel config ∷ ops) (Channel id ∷ answers) q
-stages_alone draws p r q config id ops answers staged unneeded rest =
+stages_alone p r q config id ops answers staged unneeded rest =
     let pushed : r.staged ≡ p.staged ++ AddingChannel id config ∷ [] = staged.alone unneeded in
     let count : length (added_mids r.staged) ≡ length (added_mids p.staged) + 0 = count_next p.staged r.staged (AddingChannel id config ∷ []) 0 pushed refl in
     let app : has_app_row r.lines ≡ has_app_row p.lines = ap has_app_row staged.lines in
@@ -150,6 +159,7 @@ stages_alone draws p r q config id ops answers staged unneeded rest =
       adds = λ told_app is none place. by told_app is needs (rest.adds) pushed count place;
       count = let most : length (added_mids q.staged) ≤ length (added_mids r.staged) + length ops = rest.count in omega arith;
       some = rest.some ∙ ap (λ b. b || do_stage answers) (ap are_some pushed ∙ some-push p.staged (AddingChannel id config)) ∙ or_early (are_some p.staged) (do_stage answers);
+      restarts = rest.restarts ∙ ap (λ found. is_some found || do_restart answers) (restart-still p.staged r.staged (AddingChannel id config ∷ []) pushed refl);
       offers = rest.offers ∙ ap (λ b. do_offer r.staged || do_need_offer b answers) app ∙ ap (λ b. b || do_need_offer (has_app_row p.lines) answers) offers ∙ kept_or (has_app_row p.lines) refl;
       channels = with_channel_staged p r q config id ops answers staged.channels staged.numbered rest.channels;
     }
@@ -169,10 +179,10 @@ stages_alone draws p r q config id ops answers staged unneeded rest =
     kept_or false is = rw (is, lined_offers p.staged (rw is at unneeded)) refl
 
 -- a channel that is staged with its line
-stages_lined : {N : Type 0} (draws : Draws N) (p r q : Peer N) (config : ChannelConfig) (id : ℕ) (ops : List Op) (answers : List OpAnswer) → ChannelStaged draws p config id r → needs_app p ≡ true
-    → PerformsOps draws r ops answers q → Stages r ops answers q → Stages p (AddChannel config ∷ ops) (Channel id ∷ answers) q
-stages_lined draws p r q config id ops answers staged needed h rest =
-    let more : List Change = AddApp (staged_mid draws p) ∷ AddingChannel id config ∷ [] in
+stages_lined : (p r q : Stance) (config : ChannelConfig) (id : ℕ) (ops : List Op) (answers : List OpAnswer) → ChannelStaged p config id r → needs_app p ≡ true
+    → StancePerformsOps r ops answers q → Stages r ops answers q → Stages p (AddChannel config ∷ ops) (Channel id ∷ answers) q
+stages_lined p r q config id ops answers staged needed h rest =
+    let more : List Change = AddApp staged.app_mid ∷ AddingChannel id config ∷ [] in
     let pushed : r.staged ≡ p.staged ++ more = staged.lined needed in
     let count : length (added_mids r.staged) ≡ length (added_mids p.staged) + 1 = count_next p.staged r.staged more 1 pushed refl in
     let none = none_there p needed in
@@ -185,41 +195,74 @@ stages_lined draws p r q config id ops answers staged needed h rest =
       counter = rest.counter ∙ staged.counter;
       adds = λ told_app is unneeded place. by told_app is unneeded (rw (app, lined) refl) rest.adds pushed count place;
       count = let most : length (added_mids q.staged) ≤ length (added_mids r.staged) + length ops = rest.count in omega arith;
-      some = rest.some ∙ ap (λ b. b || do_stage answers) (ap are_some pushed ∙ some_two p.staged (AddApp (staged_mid draws p)) (AddingChannel id config)) ∙ or_early (are_some p.staged) (do_stage answers);
+      some = rest.some ∙ ap (λ b. b || do_stage answers) (ap are_some pushed ∙ some_two p.staged (AddApp staged.app_mid) (AddingChannel id config)) ∙ or_early (are_some p.staged) (do_stage answers);
+      restarts = rest.restarts ∙ ap (λ found. is_some found || do_restart answers) (restart-still p.staged r.staged more pushed refl);
       offers = rest.offers ∙ ap (λ b. b || do_need_offer (has_app_row r.lines) answers) offers ∙ (rw none.0 (or_early (do_offer p.staged) (do_need_offer false answers)));
       channels = with_channel_staged p r q config id ops answers staged.channels staged.numbered rest.channels;
     }
   where
     by : (app : Option (List ℕ)) → AppTold p app q → (app ≡ None → needs_app p ≡ false) → needs_app r ≡ false → AddsRows r ops answers q
-        → r.staged ≡ p.staged ++ AddApp (staged_mid draws p) ∷ AddingChannel id config ∷ [] → length (added_mids r.staged) ≡ length (added_mids p.staged) + 1
+        → r.staged ≡ p.staged ++ AddApp staged.app_mid ∷ AddingChannel id config ∷ [] → length (added_mids r.staged) ≡ length (added_mids p.staged) + 1
         → (place : ℕ) → added_rows place q.staged ≡ added_rows place p.staged ++ added app (place + length (added_mids p.staged)) (AddChannel config ∷ ops) (Channel id ∷ answers)
     by None is unneeded later adds pushed count place = absurd (let e : true ≡ false = sym needed ∙ unneeded refl in cc)
     by (Some mid) is unneeded later adds pushed count place =
-        let same : staged_mid draws p ≡ mid = is.1 (staged_mid draws p) (app_mid_is draws p r q config id ops answers needed staged h) in
+        let same : staged.app_mid ≡ mid = is.1 staged.app_mid (app_mid_is p r q config id ops answers needed staged h) in
         let n : ℕ = length (added_mids p.staged) in
         let next : place + length (added_mids r.staged) ≡ place + n + 1 = omega (arith, count) in
-        adds_next place p.staged r.staged (AddApp (staged_mid draws p) ∷ AddingChannel id config ∷ []) (added_rows place q.staged) (App (place + n) mid) (added None (place + n + 1) ops answers)
+        adds_next place p.staged r.staged (AddApp staged.app_mid ∷ AddingChannel id config ∷ []) (added_rows place q.staged) (App (place + n) mid) (added None (place + n + 1) ops answers)
         pushed (ap (λ m. App (place + n) m ∷ []) same) (adds None tt (λ no. later) place ∙ ap (λ m. added_rows place r.staged ++ added None m ops answers) next)
 
 -- a channel that is staged, alone or with its line
-stages_channel : {N : Type 0} (draws : Draws N) (p r q : Peer N) (config : ChannelConfig) (id : ℕ) (ops : List Op) (answers : List OpAnswer) → ChannelStaged draws p config id r
-    → PerformsOps draws r ops answers q → Stages r ops answers q → Stages p (AddChannel config ∷ ops) (Channel id ∷ answers) q
-stages_channel draws p r q config id ops answers staged h rest = by (needs_app p) refl
+stages_channel : (p r q : Stance) (config : ChannelConfig) (id : ℕ) (ops : List Op) (answers : List OpAnswer) → ChannelStaged p config id r
+    → StancePerformsOps r ops answers q → Stages r ops answers q → Stages p (AddChannel config ∷ ops) (Channel id ∷ answers) q
+stages_channel p r q config id ops answers staged h rest = by (needs_app p) refl
   where
     by : (needs : Bool) → needs_app p ≡ needs → Stages p (AddChannel config ∷ ops) (Channel id ∷ answers) q
-    by true is = stages_lined draws p r q config id ops answers staged is h rest
-    by false is = stages_alone draws p r q config id ops answers staged is rest
+    by true is = stages_lined p r q config id ops answers staged is h rest
+    by false is = stages_alone p r q config id ops answers staged is rest
+
+-- ---- a restart that is staged
+
+-- the row of a line that is staged
+media_row : (place : ℕ) (media : Media) (mid : List ℕ) (kind : MediaKind) (dir : Direction) → media.mid ≡ mid → media.kind ≡ kind → media.dir ≡ dir
+    → added_rows place (Adding media ∷ []) ≡ MediaRow place mid kind dir false false ∷ []
+media_row place media mid kind dir its_mid its_kind its_dir = rw (its_mid, its_kind, its_dir) refl
+
+stages_restart : (p r q : Stance) (keep : Bool) (creds : IceCreds) (ops : List Op) (answers : List OpAnswer) → r ≡ record p { staged = with_restart creds keep p.staged }
+    → Stages r ops answers q → Stages p (IceRestart keep ∷ ops) (Creds creds ∷ answers) q
+stages_restart p r q keep creds ops answers is rest =
+    let staged : r.staged ≡ with_restart creds keep p.staged = ap (λ s. s.staged) is in
+    let lines : r.lines ≡ p.lines = ap (λ s. s.lines) is in
+    let count : length (added_mids r.staged) ≡ length (added_mids p.staged) = ap (λ s. length (added_mids s)) staged ∙ ap length (mids-restart creds keep p.staged) in
+    let lined : contains_add_app r.staged ≡ contains_add_app p.staged = ap contains_add_app staged ∙ lined-restart creds keep p.staged in
+    let needs : needs_app r ≡ needs_app p = needs_same p r (ap has_app_row lines) lined in
+    record {
+      rows = rest.rows ∙ ap length lines;
+      app = rest.app ∙ ap has_app_row lines;
+      counter = rest.counter ∙ ap (λ s. s.counter) is;
+      adds = λ app told_app unneeded place. rest.adds app (told_same p r app q needs told_app) (λ no. needs ∙ unneeded no) place
+          ∙ ap (λ (s : List Change). added_rows place s ++ added app (place + length (added_mids r.staged)) ops answers) staged
+          ∙ ap (λ (front : List LineRow). front ++ added app (place + length (added_mids r.staged)) ops answers) (rows-restart creds keep place p.staged)
+          ∙ ap (λ n. added_rows place p.staged ++ added app (place + n) ops answers) count;
+      count = let most : length (added_mids q.staged) ≤ length (added_mids r.staged) + length ops = rest.count in omega arith;
+      some = rest.some ∙ ap (λ b. b || do_stage answers) (ap are_some staged ∙ some-push (filter is_kept_by_restart p.staged) (Restarting creds keep)) ∙ or_early (are_some p.staged) (do_stage answers);
+      restarts = rest.restarts ∙ ap (λ found. is_some found || do_restart answers) (ap staged_restart staged ∙ restart-staged creds keep p.staged) ∙ or_early (is_some (staged_restart p.staged)) (do_restart answers);
+      offers = rest.offers ∙ ap (λ b. b || do_need_offer (has_app_row r.lines) answers) (ap do_offer staged ∙ offers-restart creds keep p.staged)
+          ∙ or_early (do_offer p.staged) (do_need_offer (has_app_row p.lines) answers);
+      channels = same_channels p r q (IceRestart keep) ops (Creds creds) answers (ap (λ s. s.channels) is) refl refl rest.channels;
+    }
 
 -- ---- all ops
 
-pub ops_stage : {N : Type 0} (draws : Draws N) (p q : Peer N) (ops : List Op) (answers : List OpAnswer) → PerformsOps draws p ops answers q → Stages p ops answers q
-ops_stage draws p q [] [] h = record {
+pub ops_stage : (p q : Stance) (ops : List Op) (answers : List OpAnswer) → StancePerformsOps p ops answers q → Stages p ops answers q
+ops_stage p q [] [] h = record {
   rows = ap (λ r. length r.lines) h;
   app = ap (λ r. has_app_row r.lines) h;
   counter = ap (λ r. r.counter) h;
   adds = λ app is unneeded place. ap (λ r. added_rows place r.staged) h ∙ sym (append-nil (added_rows place p.staged));
   count = let e : length (added_mids q.staged) ≡ length (added_mids p.staged) = ap (λ r. length (added_mids r.staged)) h in omega arith;
   some = ap (λ r. are_some r.staged) h ∙ or_nothing (are_some p.staged);
+  restarts = ap (λ r. is_some (staged_restart r.staged)) h ∙ or_nothing (is_some (staged_restart p.staged));
   offers = ap (λ r. do_offer r.staged) h ∙ or_nothing (do_offer p.staged);
   channels = record {
     same = ap (λ r. told r.channels) h;
@@ -227,56 +270,63 @@ ops_stage draws p q [] [] h = record {
     below = λ below. rw h below;
   };
 }
-ops_stage draws p q (AddMedia kind dir ∷ ops) (Mid mid ∷ answers) h =
-    let change : Change = Adding (staged_media draws p (wanted kind dir)) in
-    let staged : h.0.staged ≡ p.staged ++ change ∷ [] = ap (λ r. r.staged) h.1.1 in
-    let lines : h.0.lines ≡ p.lines = ap (λ r. r.lines) h.1.1 in
+ops_stage p q (AddMedia kind dir ∷ ops) (Mid mid ∷ answers) h =
+    let change : Change = Adding h.1.media in
+    let staged : h.0.staged ≡ p.staged ++ change ∷ [] = ap (λ r. r.staged) h.1.rest in
+    let lines : h.0.lines ≡ p.lines = ap (λ r. r.lines) h.1.rest in
     let count : length (added_mids h.0.staged) ≡ length (added_mids p.staged) + 1 = count_next p.staged h.0.staged (change ∷ []) 1 staged refl in
     let lined : contains_add_app h.0.staged ≡ contains_add_app p.staged = ap contains_add_app staged ∙ contains-append p.staged (change ∷ []) ∙ sym (or_nothing (contains_add_app p.staged)) in
     let needs : needs_app h.0 ≡ needs_app p = needs_same p h.0 (ap has_app_row lines) lined in
-    let rest : Stages h.0 ops answers q = ops_stage draws h.0 q ops answers h.2 in
+    let rest : Stages h.0 ops answers q = ops_stage h.0 q ops answers h.2 in
     record {
       rows = rest.rows ∙ ap length lines;
       app = rest.app ∙ ap has_app_row lines;
-      counter = rest.counter ∙ ap (λ r. r.counter) h.1.1;
+      counter = rest.counter ∙ ap (λ r. r.counter) h.1.rest;
       adds = λ app is unneeded place.
           let n : ℕ = length (added_mids p.staged) in
           adds_next place p.staged h.0.staged (change ∷ []) (added_rows place q.staged) (MediaRow (place + n) mid kind dir false false) (added app (place + n + 1) ops answers) staged
-          (ap (λ m. MediaRow (place + n) m kind dir false false ∷ []) (sym h.1.0))
+          (media_row (place + n) h.1.media mid kind dir h.1.its_mid h.1.kind h.1.dir)
           (rest.adds app (told_same p h.0 app q needs is) (λ no. needs ∙ unneeded no) place
           ∙ ap (λ m. added_rows place h.0.staged ++ added app m ops answers) (let e : place + length (added_mids h.0.staged) ≡ place + n + 1 = omega (arith, count) in e));
       count = let most : length (added_mids q.staged) ≤ length (added_mids h.0.staged) + length ops = rest.count in omega arith;
       some = rest.some ∙ ap (λ b. b || do_stage answers) (ap are_some staged ∙ some-push p.staged change) ∙ or_early (are_some p.staged) (do_stage answers);
+      restarts = rest.restarts ∙ ap (λ found. is_some found || do_restart answers) (restart-still p.staged h.0.staged (change ∷ []) staged refl);
       offers = rest.offers ∙ ap (λ b. b || do_need_offer (has_app_row h.0.lines) answers) (ap do_offer staged ∙ offer-append p.staged (change ∷ []) ∙ sym (or_something (do_offer p.staged)))
           ∙ or_early (do_offer p.staged) (do_need_offer (has_app_row p.lines) answers);
-      channels = same_channels p h.0 q (AddMedia kind dir) ops (Mid mid) answers (ap (λ r. r.channels) h.1.1) refl refl rest.channels;
+      channels = same_channels p h.0 q (AddMedia kind dir) ops (Mid mid) answers (ap (λ r. r.channels) h.1.rest) refl refl rest.channels;
     }
-ops_stage draws p q (AddMedia kind dir ∷ ops) (OpAlloc ∷ []) h =
-    stages_lacking p q (AddMedia kind dir) ops (λ app place. added_none app place ops) (channels_none (AddMedia kind dir) ops (told p.channels)) (ap (λ r. r.lines) h.1) (ap (λ r. r.counter) h.1) (ap (λ r. r.staged) h.1) (ap (λ r. r.channels) h.1)
-ops_stage draws p q (SetDirection at dir ∷ ops) (NoLine ∷ answers) h =
-    stages_none p p q (SetDirection at dir) ops NoLine answers refl (λ app place. refl) refl (λ has. refl) refl refl (ops_stage draws p q ops answers h.1)
-ops_stage draws p q (SetDirection at dir ∷ ops) (Changed changed ∷ answers) h =
-    stages_line p h.0 q (SetDirection at dir) ops changed answers (λ app place. refl) refl (line_staged (directed_row dir) dir p h.1.mid changed h.0 (directed_row_keeps dir) h.1.called) (ops_stage draws h.0 q ops answers h.2)
-ops_stage draws p q (SetDirection at dir ∷ ops) (OpAlloc ∷ []) h =
-    stages_lacking p q (SetDirection at dir) ops (λ app place. added_none app place ops) (channels_none (SetDirection at dir) ops (told p.channels)) (ap (λ r. r.lines) h.called) (ap (λ r. r.counter) h.called) (ap (λ r. r.staged) h.called) (ap (λ r. r.channels) h.called)
-ops_stage draws p q (StopMedia at ∷ ops) (NoLine ∷ answers) h =
-    stages_none p p q (StopMedia at) ops NoLine answers refl (λ app place. refl) refl (λ has. refl) refl refl (ops_stage draws p q ops answers h.1)
-ops_stage draws p q (StopMedia at ∷ ops) (Changed changed ∷ answers) h =
-    stages_line p h.0 q (StopMedia at) ops changed answers (λ app place. refl) refl (line_staged stopped_row Inactive p h.1.mid changed h.0 stopped_row_keeps h.1.called) (ops_stage draws h.0 q ops answers h.2)
-ops_stage draws p q (StopMedia at ∷ ops) (OpAlloc ∷ []) h =
-    stages_lacking p q (StopMedia at) ops (λ app place. added_none app place ops) (channels_none (StopMedia at) ops (told p.channels)) (ap (λ r. r.lines) h.called) (ap (λ r. r.counter) h.called) (ap (λ r. r.staged) h.called) (ap (λ r. r.channels) h.called)
-ops_stage draws p q (AddChannel config ∷ ops) (Channel id ∷ answers) h =
-    stages_channel draws p h.0 q config id ops answers (channel_staged draws p config id h.0 h.1) h.2 (ops_stage draws h.0 q ops answers h.2)
-ops_stage draws p q (AddChannel config ∷ ops) (BadChannel ∷ answers) h =
-    stages_none p h.0 q (AddChannel config) ops BadChannel answers h.1.1 (λ app place. bad_adds app place) refl (λ has. refl) refl refl (ops_stage draws h.0 q ops answers h.2)
+ops_stage p q (AddMedia kind dir ∷ ops) (OpAlloc ∷ []) h =
+    stages_lacking p q (AddMedia kind dir) ops (λ app place. added_none app place ops) (channels_none (AddMedia kind dir) ops (told p.channels)) h
+ops_stage p q (SetDirection at dir ∷ ops) (NoLine ∷ answers) h =
+    stages_none p p q (SetDirection at dir) ops NoLine answers refl (λ app place. refl) refl refl (λ has. refl) refl refl (ops_stage p q ops answers h.1)
+ops_stage p q (SetDirection at dir ∷ ops) (Changed changed ∷ answers) h =
+    stages_line p h.0 q (SetDirection at dir) ops changed answers (λ app place. refl) refl (line_staged (directed_row dir) dir p h.1.mid changed h.0 (directed_row_keeps dir) h.1.called) (ops_stage h.0 q ops answers h.2)
+ops_stage p q (SetDirection at dir ∷ ops) (OpAlloc ∷ []) h =
+    stages_lacking p q (SetDirection at dir) ops (λ app place. added_none app place ops) (channels_none (SetDirection at dir) ops (told p.channels)) h.called
+ops_stage p q (StopMedia at ∷ ops) (NoLine ∷ answers) h =
+    stages_none p p q (StopMedia at) ops NoLine answers refl (λ app place. refl) refl refl (λ has. refl) refl refl (ops_stage p q ops answers h.1)
+ops_stage p q (StopMedia at ∷ ops) (Changed changed ∷ answers) h =
+    stages_line p h.0 q (StopMedia at) ops changed answers (λ app place. refl) refl (line_staged stopped_row Inactive p h.1.mid changed h.0 stopped_row_keeps h.1.called) (ops_stage h.0 q ops answers h.2)
+ops_stage p q (StopMedia at ∷ ops) (OpAlloc ∷ []) h =
+    stages_lacking p q (StopMedia at) ops (λ app place. added_none app place ops) (channels_none (StopMedia at) ops (told p.channels)) h.called
+ops_stage p q (AddChannel config ∷ ops) (Channel id ∷ answers) h =
+    stages_channel p h.0 q config id ops answers (channel_staged p config id h.0 h.1) h.2 (ops_stage h.0 q ops answers h.2)
+ops_stage p q (AddChannel config ∷ ops) (BadChannel ∷ answers) h =
+    stages_none p h.0 q (AddChannel config) ops BadChannel answers h.1.1 (λ app place. bad_adds app place) refl refl (λ has. refl) refl refl (ops_stage h.0 q ops answers h.2)
   where
     bad_adds : (app : Option (List ℕ)) (place : ℕ) → added app place (AddChannel config ∷ ops) (BadChannel ∷ answers) ≡ added app place ops answers
     bad_adds None place = refl
     bad_adds (Some mid) place = refl
-ops_stage draws p q (AddChannel config ∷ ops) (OpAlloc ∷ []) h =
-    stages_lacking p q (AddChannel config) ops lacking_adds (channels_none (AddChannel config) ops (told p.channels)) (ap (λ r. r.lines) h.1) (ap (λ r. r.counter) h.1) (ap (λ r. r.staged) h.1) (ap (λ r. r.channels) h.1)
+ops_stage p q (AddChannel config ∷ ops) (OpAlloc ∷ []) h =
+    stages_lacking p q (AddChannel config) ops lacking_adds (channels_none (AddChannel config) ops (told p.channels)) h
   where
     lacking_adds : (app : Option (List ℕ)) (place : ℕ) → added app place (AddChannel config ∷ ops) (OpAlloc ∷ []) ≡ []
     lacking_adds None place = added_none None place ops
     lacking_adds (Some mid) place = added_none (Some mid) place ops
-ops_stage draws p q ops answers h = absurd h
+ops_stage p q (IceRestart keep ∷ ops) (Creds creds ∷ answers) h = stages_restart p h.0 q keep creds ops answers h.1.1 (ops_stage h.0 q ops answers h.2)
+ops_stage p q (IceRestart keep ∷ ops) (OpAlloc ∷ []) h =
+    stages_lacking p q (IceRestart keep) ops (λ app place. restart_adds app place ops) (channels_none (IceRestart keep) ops (told p.channels)) h
+  where
+    restart_adds : (app : Option (List ℕ)) (place : ℕ) (ops : List Op) → added app place (IceRestart keep ∷ ops) (OpAlloc ∷ []) ≡ []
+    restart_adds app place ops = added_none app place ops
+ops_stage p q ops answers h = absurd h

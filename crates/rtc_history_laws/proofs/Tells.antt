@@ -2,18 +2,19 @@
 use Rattle.std.proofs.Common.{◌≡◌, ◌≤◌, ◌<◌, ◌+◌, ◌^◌, ◌==◌, ℕ, List, ◌∷◌, map, length, All, Bool, true, false, Option, Some, None, refl, sym, ◌∙◌, ap, arith, cond, ◌⊎◌, inl, inr}
 use Rattle.std.specs.Prelude.{slice_get, is_some}
 use Rattle.std.proofs.lemmas.Bool.{ne_eqb}
-use Rattle.rtc_change.specs.PendingOffer.{PendingOffer, added_mids, added_rows}
+use Rattle.rtc_change.specs.PendingOffer.{PendingOffer, added_mids, added_rows, staged_restart}
 use Rattle.rtc_channels.specs.Channels.{Channels, channel_rows, AreBelow}
-use Rattle.rtc_peer_state.specs.declared.peer.Peer.{Peer}
+use Rattle.rtc_peer_state.specs.Stance.{Stance}
 use Rattle.rtc_peer_state.specs.Calls.{raised}
 use Rattle.rtc_history.specs.declared.side.Side.{Side}
 use Rattle.rtc_history.specs.declared.side.Side.TheVariants.{Left, Right}
 use Rattle.rtc_history.specs.Sides.{same_side, other_side, side_of}
-use Rattle.rtc_history.specs.Past.{Entry, before, rows_or, sdps, spends, is_spent, is_offer_of, holds_token, moves, makes, is_right, added_by, channels_given, channels_shown, channel_rows_or, channels_after}
+use Rattle.rtc_history.specs.Past.{Entry, before, rows_or, sdps, spends, is_spent, is_offer_of, holds_token, moves, makes, is_right, added_by, channels_given, channels_shown, channel_rows_or, channels_after, restarts_by}
 use Rattle.rtc_history.specs.declared.kept.Kept.{Kept}
-use Rattle.rtc_history.specs.PairState.{PairState, peer_at, made_sdp, token_for, held_token}
+use Rattle.rtc_history.specs.PairState.{made_sdp, token_for, held_token}
 use Rattle.rtc_history_laws.proofs.Bounds.{IsWithin}
 use Rattle.rtc_history_laws.proofs.ToldChannels.{told}
+use Rattle.rtc_history_laws.proofs.StanceSteps.{PairStance}
 
 -- What a past says of the token of a number, at a side whose counter is this.
 pub record TokenTells (past : List Entry) (at : Side) (counter t : ℕ) (kept : Option Kept) : Type 0 where
@@ -21,9 +22,10 @@ pub record TokenTells (past : List Entry) (at : Side) (counter t : ℕ) (kept : 
   pub right : (token : PendingOffer) → token_for at kept ≡ Some token → (counter == token.id + 1) ≡ is_right at t past
   pub older : (token : PendingOffer) → token_for at kept ≡ Some token → token.id + 1 ≤ counter
   pub changes : (token : PendingOffer) → token_for at kept ≡ Some token → (place : ℕ) → added_rows place token.changes ≡ added_by place t past
+  pub restarts : (token : PendingOffer) → token_for at kept ≡ Some token → is_some (staged_restart token.changes) ≡ restarts_by t past
 
 -- the rows of a side with those that its right token adds are at most so many
-abbrev pub Fits : {N : Type 0} → Side → Peer N → List Kept → ℕ → Type 0
+abbrev pub Fits : Side → Stance → List Kept → ℕ → Type 0
 Fits at peer kept size = (t : ℕ) (token : PendingOffer) → held_token kept at t ≡ Some token → peer.counter ≡ raised token.id → length peer.lines + length (added_mids token.changes) ≤ size
 
 -- What a past says of the channels of a side.
@@ -33,7 +35,7 @@ pub record ChannelsTell (past : List Entry) (at : Side) (held : Channels) : Type
   pub below : AreBelow held.given held.rows
 
 -- What a past says of a side.
-pub record SideTells {N : Type 0} (past : List Entry) (at : Side) (peer : Peer N) (kept : List Kept) (size : ℕ) : Type 0 where
+pub record SideTells (past : List Entry) (at : Side) (peer : Stance) (kept : List Kept) (size : ℕ) : Type 0 where
   pub rows : peer.lines ≡ before at past
   pub tokens : (t : ℕ) → TokenTells past at peer.counter t (slice_get kept t)
   pub counts : peer.counter ≤ size
@@ -43,15 +45,15 @@ pub record SideTells {N : Type 0} (past : List Entry) (at : Side) (peer : Peer N
   pub fits : Fits at peer kept size
   pub channels : ChannelsTell past at peer.channels
 
-pub record Tells {N : Type 0} (past : List Entry) (pair : PairState N) : Type 0 where
-  pub sides : (at : Side) → SideTells past at (peer_at at pair) pair.sdps pair.size
+pub record Tells (past : List Entry) (pair : PairStance) : Type 0 where
+  pub sides : (at : Side) → SideTells past at (pair.sides at) pair.sdps pair.size
   pub says : map made_sdp pair.sdps ≡ sdps past
   -- no token past the SDPs is spent
   pub later : (t : ℕ) → length (sdps past) ≤ t → is_spent t past ≡ false
   pub count : length pair.sdps ≤ pair.size
   pub each : All (λ kept. length kept.sdp.lines ≤ pair.size) pair.sdps
 
-pub within : {N : Type 0} (past : List Entry) (pair : PairState N) → Tells past pair → IsWithin pair
+pub within : (past : List Entry) (pair : PairStance) → Tells past pair → IsWithin pair
 within past pair tells = record {
   rows = λ at. (tells.sides at).few;
   sdps = tells.count;
@@ -97,6 +99,7 @@ token_kept past e at counter t kept untold still told =
       right = λ token is. told.right token is ∙ (rw (unmade, still) refl);
       older = told.older;
       changes = λ token is place. told.changes token is place ∙ (rw unmade refl);
+      restarts = λ token is. told.restarts token is ∙ (rw unmade refl);
     }
 
 not_next : (counter id : ℕ) → id + 1 ≤ counter → (counter + 1 == id + 1) ≡ false
@@ -113,6 +116,7 @@ token_moved past e at counter t kept untold moved told =
       right = λ token is. not_next counter token.id (told.older token is) ∙ (rw (unmade, moved) refl);
       older = λ token is. let o : token.id + 1 ≤ counter = told.older token is in omega arith;
       changes = λ token is place. told.changes token is place ∙ (rw unmade refl);
+      restarts = λ token is. told.restarts token is ∙ (rw unmade refl);
     }
 
 pub token_next : (moved : Bool) (past : List Entry) (e : Entry) (at : Side) (counter t : ℕ) (kept : Option Kept) → IsUntold past e at t
@@ -127,6 +131,7 @@ no_token past at counter t kept none unheld = record {
   right = λ token is. absurd (let e : None ≡ Some token = sym none ∙ is in cc);
   older = λ token is. absurd (let e : None ≡ Some token = sym none ∙ is in cc);
   changes = λ token is. absurd (let e : None ≡ Some token = sym none ∙ is in cc);
+  restarts = λ token is. absurd (let e : None ≡ Some token = sym none ∙ is in cc);
 }
 
 -- ---- sides after an entry
@@ -142,7 +147,7 @@ held_before at kept kept' place t token is = elim (place t) [
 ]
 
 -- a token from before an entry that moves its side is not right
-pub fits_moved : {N : Type 0} (past : List Entry) (at : Side) (old new : Peer N) (kept kept' : List Kept) (size size' : ℕ)
+pub fits_moved : (past : List Entry) (at : Side) (old new : Stance) (kept kept' : List Kept) (size size' : ℕ)
     → new.counter ≡ old.counter + 1 → size < 2 ^ 32 → HeldBefore at kept kept' → SideTells past at old kept size → Fits at new kept' size'
 fits_moved past at old new kept kept' size size' counter small was told t token is right =
     let older : token.id + 1 ≤ old.counter = (told.tokens t).older token (was t token is) in
@@ -150,7 +155,7 @@ fits_moved past at old new kept kept' size size' counter small was told t token 
     let next : raised token.id ≡ token.id + 1 = raised-small token.id size (omega arith) small in
     absurd (omega (arith, counter, right, next))
 
-pub fits_same : {N : Type 0} (past : List Entry) (at : Side) (old new : Peer N) (kept kept' : List Kept) (size size' : ℕ)
+pub fits_same : (past : List Entry) (at : Side) (old new : Stance) (kept kept' : List Kept) (size size' : ℕ)
     → new.counter ≡ old.counter → length new.lines ≡ length old.lines → size ≤ size' → HeldBefore at kept kept' → SideTells past at old kept size → Fits at new kept' size'
 fits_same past at old new kept kept' size size' counter lines grows was told t token is right =
     let fit : length old.lines + length (added_mids token.changes) ≤ size = told.fits t token (was t token is) (sym counter ∙ right) in
@@ -161,7 +166,7 @@ at_most_one true counter size size' low grows = omega arith
 at_most_one false counter size size' low grows = omega arith
 
 -- a side with no token that it had not
-pub side_next : {N : Type 0} (moved : Bool) (past : List Entry) (e : Entry) (at : Side) (old new : Peer N) (kept kept' : List Kept) (size size' : ℕ)
+pub side_next : (moved : Bool) (past : List Entry) (e : Entry) (at : Side) (old new : Stance) (kept kept' : List Kept) (size size' : ℕ)
     → new.lines ≡ before at (e ∷ past) → new.counter ≡ cond moved (old.counter + 1) old.counter → size + 1 ≤ size' → length new.lines ≤ size'
     → HeldBefore at kept kept' → ((t : ℕ) → TokenTells (e ∷ past) at (cond moved (old.counter + 1) old.counter) t (slice_get kept' t))
     → Fits at new kept' size' → ChannelsTell (e ∷ past) at new.channels → SideTells past at old kept size → SideTells (e ∷ past) at new kept' size'
@@ -184,7 +189,7 @@ channels_stay past e at held another tell = record {
 }
 
 -- the side that does not act
-pub side_stays : {N : Type 0} (past : List Entry) (e : Entry) (at : Side) (peer : Peer N) (kept kept' : List Kept) (size size' : ℕ)
+pub side_stays : (past : List Entry) (e : Entry) (at : Side) (peer : Stance) (kept kept' : List Kept) (size size' : ℕ)
     → same_side (side_of e.step) at ≡ false → size + 1 ≤ size' → HeldBefore at kept kept'
     → ((t : ℕ) → TokenTells (e ∷ past) at peer.counter t (slice_get kept' t)) → SideTells past at peer kept size → SideTells (e ∷ past) at peer kept' size'
 side_stays past e at peer kept kept' size size' another grows was tokens told_it =

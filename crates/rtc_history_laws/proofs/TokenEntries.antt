@@ -1,21 +1,22 @@
 -- What a past says of a pair after an entry that spends a token, or makes an offer.
 use Rattle.std.proofs.Common.{◌≡◌, ◌≤◌, ◌<◌, ◌+◌, ◌^◌, ◌==◌, ℕ, List, [], ◌∷◌, ◌++◌, map, length, All, true, false, Some, None, refl, sym, ◌∙◌, ap, arith, cond, append-nil, length-set, ◌⊎◌, inl, inr}
-use Rattle.std.specs.Prelude.{slice_get, slice_set, option_map}
+use Rattle.std.specs.Prelude.{slice_get, slice_set, option_map, is_some}
 use Rattle.std.proofs.lemmas.Bool.{eq-eqb, and_right, both_ways}
 use Rattle.std.proofs.lemmas.List.{length-map, drop_all}
 use Rattle.std.proofs.lemmas.List.Elements.{All-set, All-get_or}
 use Rattle.std.proofs.lemmas.Option.{slice_get_within, get_or_from_slice_get}
-use Rattle.rtc_change.specs.PendingOffer.{PendingOffer, added_mids, added_rows}
-use Rattle.rtc_peer_state.specs.declared.peer.Peer.{Peer}
+use Rattle.rtc_change.specs.PendingOffer.{PendingOffer, added_mids, added_rows, staged_restart}
+use Rattle.rtc_peer_state.specs.Stance.{Stance}
 use Rattle.rtc_peer_state.specs.Calls.{raised}
 use Rattle.rtc_history.specs.declared.side.Side.{Side}
 use Rattle.rtc_history.specs.Sides.{same_side, other_side, side_of}
-use Rattle.rtc_history.specs.Past.{Entry, sdps, spends, is_spent, is_offer_of, holds_token, makes, added_in}
+use Rattle.rtc_history.specs.Past.{Entry, sdps, spends, is_spent, is_offer_of, holds_token, makes, added_in, restarts_in}
 use Rattle.rtc_history.specs.declared.kept.Kept.{Kept}
-use Rattle.rtc_history.specs.PairState.{PairState, peer_at, made_sdp, token_for, held_token}
+use Rattle.rtc_history.specs.PairState.{made_sdp, token_for, held_token}
 use Rattle.rtc_history_laws.proofs.PushedLists.{push_places, set_places, map-slice_set}
 use Rattle.rtc_history_laws.proofs.Tells.{TokenTells, SideTells, Tells, IsUntold, Fits, HeldBefore, same_side-self, same_side-other, raised-small, token_next, no_token, held_before, fits_moved, fits_same, side_next}
 use Rattle.rtc_history_laws.proofs.Entries.{Goes, rows_told, tells_next, each_grown, said_at, same_offer, says_pushed, texts_pushed, no_choice, unheld}
+use Rattle.rtc_history_laws.proofs.StanceSteps.{PairStance}
 
 -- ---- an entry that spends a token
 
@@ -28,7 +29,7 @@ pub All-slice_get : {A : Type 0} (P : A → Type 0) (xs : List A) (k : ℕ) (x :
 All-slice_get P xs k x there each = let e = get_or_from_slice_get xs k x x there in rw (← e) (All-get_or P xs k x (slice_get_within xs k x there) each)
 
 -- only the token that is spent was right
-fits_spent : {N : Type 0} (past : List Entry) (at : Side) (old new : Peer N) (kept kept' : List Kept) (size size' k : ℕ) (token : PendingOffer)
+fits_spent : (past : List Entry) (at : Side) (old new : Stance) (kept kept' : List Kept) (size size' k : ℕ) (token : PendingOffer)
     → new.counter ≡ old.counter → size < 2 ^ 32 → held_token kept at k ≡ Some token → held_token kept' at k ≡ None → old.counter ≡ raised token.id
     → HeldBefore at kept kept' → SideTells past at old kept size → Fits at new kept' size'
 fits_spent past at old new kept kept' size size' k token counter small held spent right was told t other is right' =
@@ -42,17 +43,17 @@ fits_spent past at old new kept kept' size size' k token counter small held spen
     absurd (let e : None ≡ Some other = sym spent ∙ ap (held_token kept' at) here ∙ is in cc)
 
 -- there are as many rows, or the token that is spent was right
-abbrev pub StaysOrRight : {N : Type 0} → Side → Peer N → List Kept → ℕ → Peer N → Type 0
+abbrev pub StaysOrRight : Side → Stance → List Kept → ℕ → Stance → Type 0
 StaysOrRight at old kept k new = (length new.lines ≡ length old.lines) ⊎ ((token : PendingOffer) × (held_token kept at k ≡ Some token) × (old.counter ≡ raised token.id))
 
-fits_either : {N : Type 0} (past : List Entry) (at : Side) (old new : Peer N) (kept kept' : List Kept) (size size' k : ℕ) → StaysOrRight at old kept k new
+fits_either : (past : List Entry) (at : Side) (old new : Stance) (kept kept' : List Kept) (size size' k : ℕ) → StaysOrRight at old kept k new
     → new.counter ≡ old.counter → size < 2 ^ 32 → size ≤ size' → held_token kept' at k ≡ None → HeldBefore at kept kept' → SideTells past at old kept size → Fits at new kept' size'
 fits_either past at old new kept kept' size size' k (inl lines) counter small grows spent was told = fits_same past at old new kept kept' size size' counter lines grows was told
 fits_either past at old new kept kept' size size' k (inr right) counter small grows spent was told =
     fits_spent past at old new kept kept' size size' k right.0 counter small right.1 spent right.2 was told
 
-pub spent_tells : {N : Type 0} (past : List Entry) (e : Entry) (old new : PairState N) (k : ℕ) (kept : Kept) → Goes false past e old new
-    → StaysOrRight (side_of e.step) (peer_at (side_of e.step) old) old.sdps k (peer_at (side_of e.step) new)
+pub spent_tells : (past : List Entry) (e : Entry) (old new : PairStance) (k : ℕ) (kept : Kept) → Goes false past e old new
+    → StaysOrRight (side_of e.step) (old.sides (side_of e.step)) old.sdps k (new.sides (side_of e.step))
     → slice_get old.sdps k ≡ Some kept → new.sdps ≡ slice_set old.sdps k (bare kept)
     → ((t : ℕ) → spends t e.step e.outcome ≡ (k == t)) → ((t : ℕ) → makes t e.outcome ≡ false) → Tells past old → Tells (e ∷ past) new
 spent_tells past e old new k kept goes right there changed spends_k unmade tells =
@@ -89,12 +90,12 @@ spent_tells past e old new k kept goes right there changed spends_k unmade tells
           (All-slice_get (λ (one : Kept). length one.sdp.lines ≤ new.size) old.sdps k kept there (each_grown old.sdps old.size new.size size tells.each))
           (each_grown old.sdps old.size new.size size tells.each));
     })
-    (side_next false past e at (peer_at at old) (peer_at at new) old.sdps new.sdps old.size new.size (rows_told false past e old new goes) goes.counter goes.grows goes.few (was at)
+    (side_next false past e at (old.sides at) (new.sides at) old.sdps new.sdps old.size new.size (rows_told false past e old new goes) goes.counter goes.grows goes.few (was at)
     (λ t. elim (place t) [
       | inl h ↦ rw h.1 (token_next false past e at _ t _ (untold at t h.0) goes.mine ((tells.sides at).tokens t))
       | inr h ↦ rw h.2 (gone at _ t h.1)
     ])
-    (fits_either past at (peer_at at old) (peer_at at new) old.sdps new.sdps old.size new.size k right goes.counter small size (spent at) (was at) (tells.sides at))
+    (fits_either past at (old.sides at) (new.sides at) old.sdps new.sdps old.size new.size k right goes.counter small size (spent at) (was at) (tells.sides at))
     goes.channels (tells.sides at))
     (was (other_side at))
     (λ t. elim (place t) [
@@ -111,22 +112,23 @@ spent_tells past e old new k kept goes right there changed spends_k unmade tells
 -- The token of a new offer, at the side that made it.
 offer_token : (past : List Entry) (e : Entry) (at : Side) (counter t : ℕ) (kept : Kept) (token : PendingOffer) → same_side kept.at at ≡ true → kept.offer ≡ true
     → token_for at (Some kept) ≡ Some token → token.id ≡ counter → ((place : ℕ) → added_in place e.step e.outcome e.table e.made ≡ added_rows place token.changes)
-    → slice_get (sdps (e ∷ past)) t ≡ Some (made_sdp kept) → spends t e.step e.outcome ≡ false → is_spent t past ≡ false → makes t e.outcome ≡ true
+    → restarts_in e.outcome ≡ is_some (staged_restart token.changes) → slice_get (sdps (e ∷ past)) t ≡ Some (made_sdp kept) → spends t e.step e.outcome ≡ false → is_spent t past ≡ false → makes t e.outcome ≡ true
     → TokenTells (e ∷ past) at (counter + 1) t (Some kept)
-offer_token past e at counter t kept token mine offer found id adds said unspent never_spent makes_it =
+offer_token past e at counter t kept token mine offer found id adds restarts said unspent never_spent makes_it =
     let it : (other : PendingOffer) → token_for at (Some kept) ≡ Some other → token ≡ other = λ other is. let same : Some token ≡ Some other = sym found ∙ is in cc in
     record {
       held = rw (found, said, offer, mine, unspent, never_spent) refl;
       right = λ other is. let n : other.id ≡ counter = ap (λ k. k.id) (sym (it other is)) ∙ id in rw makes_it (eq-eqb (counter + 1) (other.id + 1) (omega (arith, n)));
       older = λ other is. let n : other.id ≡ counter = ap (λ k. k.id) (sym (it other is)) ∙ id in omega (arith, n);
       changes = λ other is place. rw makes_it (ap (λ k. added_rows place k.changes) (sym (it other is)) ∙ sym (adds place));
+      restarts = λ other is. rw makes_it (ap (λ k. is_some (staged_restart k.changes)) (sym (it other is)) ∙ sym restarts);
     }
 
 -- a token from before, or that of the new offer
 abbrev Origin : Side → List Kept → PendingOffer → ℕ → PendingOffer → Type 0
 Origin at kept token t other = (held_token kept at t ≡ Some other) ⊎ ((t ≡ length kept) × (token ≡ other))
 
-one_each_offered : {N : Type 0} (past : List Entry) (at : Side) (old : Peer N) (kept : List Kept) (size : ℕ) (token : PendingOffer) → token.id ≡ old.counter → SideTells past at old kept size
+one_each_offered : (past : List Entry) (at : Side) (old : Stance) (kept : List Kept) (size : ℕ) (token : PendingOffer) → token.id ≡ old.counter → SideTells past at old kept size
     → (t u : ℕ) (one other : PendingOffer) → Origin at kept token t one → Origin at kept token u other → one.id ≡ other.id → t ≡ u
 one_each_offered past at old kept size token id told t u one other (inl is) (inl is') same = told.one_each t u one other is is' same
 one_each_offered past at old kept size token id told t u one other (inl is) (inr new) same =
@@ -137,7 +139,7 @@ one_each_offered past at old kept size token id told t u one other (inr new) (in
     absurd (omega (arith, same, id, ap (λ k. k.id) new.1))
 one_each_offered past at old kept size token id told t u one other (inr new) (inr new') same = new.0 ∙ sym new'.0
 
-fits_offered : {N : Type 0} (past : List Entry) (at : Side) (old new : Peer N) (kept : List Kept) (size size' : ℕ) (token : PendingOffer) → new.counter ≡ old.counter + 1 → size < 2 ^ 32
+fits_offered : (past : List Entry) (at : Side) (old new : Stance) (kept : List Kept) (size size' : ℕ) (token : PendingOffer) → new.counter ≡ old.counter + 1 → size < 2 ^ 32
     → length new.lines + length (added_mids token.changes) ≤ size' → SideTells past at old kept size
     → (t : ℕ) (other : PendingOffer) → Origin at kept token t other → new.counter ≡ raised other.id → length new.lines + length (added_mids other.changes) ≤ size'
 fits_offered past at old new kept size size' token counter small fit told t other (inl is) right =
@@ -145,12 +147,13 @@ fits_offered past at old new kept size size' token counter small fit told t othe
 fits_offered past at old new kept size size' token counter small fit told t other (inr made) right =
     let n : length (added_mids token.changes) ≡ length (added_mids other.changes) = ap (λ k. length (added_mids k.changes)) made.1 in omega arith
 
-pub offered_tells : {N : Type 0} (past : List Entry) (e : Entry) (old new : PairState N) (kept : Kept) (token : PendingOffer) → Goes true past e old new
-    → kept.at ≡ side_of e.step → kept.offer ≡ true → kept.token ≡ Some token → token.id ≡ (peer_at (side_of e.step) old).counter
+pub offered_tells : (past : List Entry) (e : Entry) (old new : PairStance) (kept : Kept) (token : PendingOffer) → Goes true past e old new
+    → kept.at ≡ side_of e.step → kept.offer ≡ true → kept.token ≡ Some token → token.id ≡ (old.sides (side_of e.step)).counter
     → ((place : ℕ) → added_in place e.step e.outcome e.table e.made ≡ added_rows place token.changes)
-    → length kept.sdp.lines ≤ new.size → length (peer_at (side_of e.step) new).lines + length (added_mids token.changes) ≤ new.size → new.sdps ≡ old.sdps ++ kept ∷ []
+    → restarts_in e.outcome ≡ is_some (staged_restart token.changes)
+    → length kept.sdp.lines ≤ new.size → length (new.sides (side_of e.step)).lines + length (added_mids token.changes) ≤ new.size → new.sdps ≡ old.sdps ++ kept ∷ []
     → ((t : ℕ) → spends t e.step e.outcome ≡ false) → ((t : ℕ) → makes t e.outcome ≡ (length old.sdps == t)) → Tells past old → Tells (e ∷ past) new
-offered_tells past e old new kept token goes by offer has id adds few fit pushed unspent makes_it tells =
+offered_tells past e old new kept token goes by offer has id adds restarts few fit pushed unspent makes_it tells =
     let at = side_of e.step in
     let size : old.size ≤ new.size = omega (arith, goes.grows) in
     let small : old.size < 2 ^ 32 = omega (arith, goes.grows, goes.small) in
@@ -174,12 +177,12 @@ offered_tells past e old new kept token goes by offer has id adds few fit pushed
       rows = rows_told true past e old new goes;
       tokens = λ t. rw goes.counter (elim (place t) [
         | inl h ↦ rw h.1 (token_next true past e at _ t _ (untold at t h.0 h.1) goes.mine ((tells.sides at).tokens t))
-        | inr h ↦ rw h.2 (offer_token past e at _ t kept token mine offer found id adds (last t h.2) (unspent t) (tells.later t (omega (arith, said_count, h.0))) (makes_it t ∙ h.1))
+        | inr h ↦ rw h.2 (offer_token past e at _ t kept token mine offer found id adds restarts (last t h.2) (unspent t) (tells.later t (omega (arith, said_count, h.0))) (makes_it t ∙ h.1))
       ]);
-      counts = let c : (peer_at at old).counter ≤ old.size = (tells.sides at).counts in omega (arith, goes.counter, goes.grows);
+      counts = let c : (old.sides at).counter ≤ old.size = (tells.sides at).counts in omega (arith, goes.counter, goes.grows);
       few = goes.few;
-      one_each = λ t u one other is is'. one_each_offered past at (peer_at at old) old.sdps old.size token id (tells.sides at) t u one other (origin t one is) (origin u other is');
-      fits = λ t other is. fits_offered past at (peer_at at old) (peer_at at new) old.sdps old.size new.size token goes.counter small fit (tells.sides at) t other (origin t other is);
+      one_each = λ t u one other is is'. one_each_offered past at (old.sides at) old.sdps old.size token id (tells.sides at) t u one other (origin t one is) (origin u other is');
+      fits = λ t other is. fits_offered past at (old.sides at) (new.sides at) old.sdps old.size new.size token goes.counter small fit (tells.sides at) t other (origin t other is);
       channels = goes.channels;
     })
     (held_before (other_side at) old.sdps new.sdps (λ t. elim (place t) [ inl h ↦ inl h.1 | inr h ↦ inr (ap (token_for (other_side at)) h.2 ∙ none) ]))

@@ -12,7 +12,7 @@ unopened channel = record channel { config = None }
 
 -- what steps tell of channels: all but what each is to be opened with
 abbrev pub told : Channels → Channels
-told held = record { given = held.given; rows = map unopened held.rows }
+told held = record held { rows = map unopened held.rows }
 
 -- Channels that steps tell alike.
 pub record AreToldAlike (held held' : Channels) : Type 0 where
@@ -45,7 +45,7 @@ rows_shown id config (channel ∷ rest) = by (has_id id channel) (rows_shown id 
 
 confirmed_told : (id : ℕ) (config : ChannelConfig) (held : Channels) → AreToldAlike held (confirmed id config held)
 confirmed_told id config held = record {
-  same = ap (λ (rows : List Channel). record { given = held.given; rows = rows }) (rows_told id config held.rows);
+  same = ap (λ (rows : List Channel). record held { rows = rows }) (rows_told id config held.rows);
   shown = rows_shown id config held.rows;
   below = λ below. below_confirmed held.given id config held.rows below;
 }
@@ -85,7 +85,7 @@ pub record IsToldMore (held : Channels) (config : ChannelConfig) : Type 0 where
 
 pub told_more : (held : Channels) (config : ChannelConfig) → IsToldMore held config
 told_more held config = record {
-  same = ap (λ (rows : List Channel). record { given = held.given + 1; rows = rows }) (map-append unopened held.rows (unconfirmed held.given config ∷ []));
+  same = ap (λ (rows : List Channel). record held { given = held.given + 1; rows = rows }) (map-append unopened held.rows (unconfirmed held.given config ∷ []));
   shown = map-append channel_row held.rows (unconfirmed held.given config ∷ []);
   below = λ below. below_one_more (held.given + 1) held.rows (unconfirmed held.given config) (below_more held.given (held.given + 1) held.rows below (omega arith)) (omega arith);
 }

@@ -12,25 +12,27 @@ use Rattle.rtc_history.specs.declared.outcome.Outcome.{Outcome}
 use Rattle.rtc_history.specs.declared.outcome.Outcome.TheVariants.{NoSuch, Alloc}
 use Rattle.rtc_history.specs.declared.table.Table.{Table}
 use Rattle.rtc_history.specs.Past.{Entry, MadeSdp, sdps, remote_sdp, was_called, is_offer_of, holds_token, spends, is_spent, is_right}
-use Rattle.rtc_history.specs.Sound.{RepliesToAnswer, IsSound, asked_in, view_in}
-use Rattle.rtc_history.specs.Runs.{Sound}
+use Rattle.rtc_history.specs.Sound.{RepliesToAnswer, IsSound, asked_in}
+use Rattle.rtc_history_laws.proofs.SoundPasts.{Sound}
 use Rattle.rtc_history_laws.proofs.Takings.{answer_taking}
+use Rattle.rtc_history.specs.Views.{Stances, view_in}
+use Rattle.rtc_peer_state.specs.Stance.{held_by}
 
 called_held : (held right : Bool) (asked : Asked) (sdp : Option Sdp) (view : Held) (outcome : Outcome) (after : List LineRow) → RepliesToAnswer held right asked sdp view outcome after → was_called outcome ≡ true → held ≡ true
 called_held true right asked sdp view outcome after takes was = refl
 called_held false right asked sdp view NoSuch after takes was = absurd (cc)
 called_held false right asked sdp view outcome after takes was = absurd takes
 
-unspent_step : (past : List Entry) (step : Step) (outcome : Outcome) (table : Option Table) (made : List MadeSdp) (n : ℕ) → IsSound past step outcome table made → length (sdps past) ≤ n → spends n step outcome ≡ false
-unspent_step past (Negotiate at ops apply) outcome table made n sound most = refl
-unspent_step past (AcceptOffer at k) outcome table made n sound most = refl
-unspent_step past (AcceptAnswer at t a) Alloc None made n sound most = and_false (t == n)
+unspent_step : (fresh between : Stances) (past : List Entry) (step : Step) (outcome : Outcome) (table : Option Table) (made : List MadeSdp) (n : ℕ) → IsSound fresh past between step outcome table made → length (sdps past) ≤ n → spends n step outcome ≡ false
+unspent_step fresh between past (Negotiate at ops apply) outcome table made n sound most = refl
+unspent_step fresh between past (AcceptOffer at k) outcome table made n sound most = refl
+unspent_step fresh between past (AcceptAnswer at t a) Alloc None made n sound most = and_false (t == n)
   where
     and_false : (b : Bool) → (b && false) ≡ false
     and_false true = refl
     and_false false = refl
-unspent_step past (AcceptAnswer at t a) outcome (Some table) made n sound most =
-    by (λ was. called_held (holds_token at t past) (is_right at t past) (asked_in at t past) (remote_sdp false at a past) (view_in at past) outcome table.lines (answer_taking past at t a outcome table made sound) was) (was_called outcome) refl
+unspent_step fresh between past (AcceptAnswer at t a) outcome (Some table) made n sound most =
+    by (λ was. called_held (holds_token at t past) (is_right at t past) (asked_in at t past) (remote_sdp false at a past) (view_in fresh at past (held_by (between at))) outcome table.lines (answer_taking fresh between past at t a outcome table made sound) was) (was_called outcome) refl
   where
     and_false : (b : Bool) → (b && false) ≡ false
     and_false true = refl
@@ -46,11 +48,11 @@ unspent_step past (AcceptAnswer at t a) outcome (Some table) made n sound most =
         let parts = and_parts (is_offer_of at (slice_get (sdps past) t)) (not (is_spent t past)) (held is) in
         let less : t < length (sdps past) = within (slice_get (sdps past) t) refl parts.0 in
         rw (ne_eqb t n (λ e. omega arith)) refl
-unspent_step past (AcceptAnswer at t a) outcome None made n sound most = absurd sound
+unspent_step fresh between past (AcceptAnswer at t a) outcome None made n sound most = absurd sound
 
 -- no token past the SDPs is spent
-pub unspent_later : (past : List Entry) (n : ℕ) → Sound past → length (sdps past) ≤ n → is_spent n past ≡ false
-unspent_later [] n sound most = refl
-unspent_later (last ∷ past) n sound most =
+pub unspent_later : (fresh : Stances) (past : List Entry) (n : ℕ) → Sound fresh past → length (sdps past) ≤ n → is_spent n past ≡ false
+unspent_later fresh [] n sound most = refl
+unspent_later fresh (last ∷ past) n sound most =
     let fewer : length (sdps past) ≤ n = omega (arith, length-append (sdps past) last.made) in
-    rw (unspent_step past last.step last.outcome last.table last.made n sound.0.replied fewer) (unspent_later past n sound.1 fewer)
+    rw (unspent_step fresh sound.0.between past last.step last.outcome last.table last.made n sound.0.sound.replied fewer) (unspent_later fresh past n sound.1 fewer)
