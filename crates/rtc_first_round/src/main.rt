@@ -1,22 +1,35 @@
 //! Two peers in one process agree on an audio line, and the lines of both are printed.
 #![tactic(auto)]
 
+use rtc_assoc::PlainAssociation;
 use rtc_peer::{
     Direction, Ids, Lines, MediaKind, Mid, Rtc, RtcConfig, RtcError, SdpAnswer, SdpApi, SdpOffer,
     SdpPendingOffer,
 };
-use rtc_plain_ids::CountIds;
+use rtc_plain::{CountIds, PlainDtls, PlainIce, PlainMedia};
 use rtc_wire::{Moment, Text};
 use std::alloc::{AllocError, Global};
 use std::io;
 
-fn build<N: Ids + Drop>(alloc: Global, ids: N) -> Result<Rtc<N>, AllocError> {
+// A peer over parts in memory.
+type Peer<N> = Rtc<PlainIce, PlainDtls, PlainAssociation, PlainMedia, N>;
+
+fn build<N: Ids + Drop>(alloc: Global, ids: N) -> Result<Peer<N>, AllocError> {
     let config = RtcConfig::new(alloc)?;
-    Rtc::build(alloc, config, Moment::FAR_PAST, ids)
+    Rtc::build(
+        alloc,
+        config,
+        Moment::FAR_PAST,
+        PlainIce::new(alloc),
+        PlainDtls::new(alloc),
+        PlainAssociation::new(alloc),
+        PlainMedia::new(alloc),
+        ids,
+    )
 }
 
 fn stage<N: Ids>(
-    api: &mut SdpApi<'_, N>,
+    api: &mut SdpApi<'_, PlainIce, PlainDtls, PlainAssociation, PlainMedia, N>,
     kind: MediaKind,
     dir: Direction,
 ) -> Result<Mid, AllocError> {
@@ -24,7 +37,7 @@ fn stage<N: Ids>(
 }
 
 fn offer<N: Ids + Drop>(
-    left: &mut Rtc<N>,
+    left: &mut Peer<N>,
     kind: MediaKind,
     dir: Direction,
 ) -> Result<Option<(SdpOffer, SdpPendingOffer)>, AllocError> {
@@ -33,7 +46,7 @@ fn offer<N: Ids + Drop>(
     api.apply()
 }
 
-fn answer<N: Ids + Drop>(alloc: Global, right: &mut Rtc<N>, text: &str) -> Result<Text, RtcError> {
+fn answer<N: Ids + Drop>(alloc: Global, right: &mut Peer<N>, text: &str) -> Result<Text, RtcError> {
     let offer = SdpOffer::from_sdp_string(alloc, text)?;
     let answer = right.sdp_api().accept_offer(offer)?;
     Ok(answer.to_sdp_string()?)
@@ -41,7 +54,7 @@ fn answer<N: Ids + Drop>(alloc: Global, right: &mut Rtc<N>, text: &str) -> Resul
 
 fn finish<N: Ids + Drop>(
     alloc: Global,
-    left: &mut Rtc<N>,
+    left: &mut Peer<N>,
     token: SdpPendingOffer,
     text: &str,
 ) -> Result<(), RtcError> {
@@ -52,8 +65,8 @@ fn finish<N: Ids + Drop>(
 // The text of each goes to the other side by signalling.
 fn negotiate<N: Ids + Drop>(
     alloc: Global,
-    left: &mut Rtc<N>,
-    right: &mut Rtc<N>,
+    left: &mut Peer<N>,
+    right: &mut Peer<N>,
 ) -> Result<(), RtcError> {
     let Some((offer, token)) = offer(left, MediaKind::Audio, Direction::SendOnly)? else {
         return Ok(());
@@ -81,8 +94,8 @@ fn show(alloc: Global, left: &Lines, right: &Lines) -> Result<String, AllocError
 
 fn meet<N: Ids + Drop>(
     alloc: Global,
-    left: &mut Rtc<N>,
-    right: &mut Rtc<N>,
+    left: &mut Peer<N>,
+    right: &mut Peer<N>,
 ) -> Result<String, RtcError> {
     negotiate(alloc, left, right)?;
     Ok(show(alloc, left.lines(), right.lines())?)

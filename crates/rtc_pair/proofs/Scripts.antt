@@ -1,22 +1,28 @@
 -- What was read, said of what a source had left.
-use Rattle.std.proofs.Common.{◌≡◌, ◌≤◌, ◌^◌, ◌⊎◌, inl, inr, ℕ, true, List, length, Option, sym, subst}
+use Rattle.std.proofs.Common.{◌≡◌, ◌≤◌, ◌^◌, ◌⊎◌, inl, inr, ℕ, Bool, true, List, length, Option, Result, Ok, Err, IfOk, subst}
 use Rattle.std.specs.declared.alloc.Global.{Global}
 use Rattle.std.specs.Io.KnownBytes.{Consumes, IsAtEnd}
-use Rattle.rtc_history.specs.declared.step.Step.{Step}
-use Rattle.rtc_history.specs.PairState.{PairState}
+use Rattle.rtc_run.specs.ProgramPair.{plain_parts, PlainPairState}
 use Rattle.rtc_io.proofs.Told.{reads_input}
 use Rattle.rtc_io.specs.Programs.{ReadsInput}
 use Rattle.rtc_script.specs.Script.{IsScript, IsRefused}
+use Rattle.rtc_script.specs.declared.script.Script.{Script}
 use Rattle.rtc_script.specs.declared.script_error.ScriptError.{ScriptError}
 use Rattle.rtc_script.specs.declared.script_error.ScriptError.TheVariants.{Line}
-use Rattle.rtc_pair.specs.Answers.{PerformsSteps, RunsScript}
+use Rattle.rtc_history.specs.declared.reply.Reply.{Reply}
+use Rattle.rtc_io.proofs.Told.{breaks_off_as}
+use Rattle.rtc_io.specs.Saying.{BreaksOff}
+use Rattle.rtc_script.specs.Report.{report}
+use Rattle.rtc_delivery.specs.Delivered.{AllReadBack}
+use Rattle.rtc_history.specs.Runs.{Runs}
+use Rattle.rtc_pair.specs.Answers.{IsPairOf, IsReport, RanScript, KeepsReport, PerformsScript, RunsScript}
 
-pub reads_script : (a b : Option (List ℕ)) (bytes slice : List ℕ) (steps performed : List Step)
-    → Consumes a b bytes → IsAtEnd b → length bytes ≤ 2 ^ 20 → slice ≡ bytes → IsScript slice steps → performed ≡ steps
-    → ReadsInput a b (λ text. IsScript text performed)
-reads_script a b bytes slice steps performed taken ended short same script steps_are =
-    let Q : List ℕ → Type 0 = λ (text : List ℕ). IsScript text performed in
-    reads_input a b bytes Q taken ended short (subst Q same (subst (λ (ss : List Step). IsScript slice ss) (sym steps_are) script))
+pub reads_script : (a b : Option (List ℕ)) (bytes slice : List ℕ) (script : Script)
+    → Consumes a b bytes → IsAtEnd b → length bytes ≤ 2 ^ 20 → slice ≡ bytes → IsScript slice script
+    → ReadsInput a b (λ text. IsScript text script)
+reads_script a b bytes slice script taken ended short same is =
+    let Q : List ℕ → Type 0 = λ (text : List ℕ). IsScript text script in
+    reads_input a b bytes Q taken ended short (subst Q same is)
 
 pub reads_no_script : (a b : Option (List ℕ)) (bytes slice : List ℕ) (error : ScriptError) (line : ℕ)
     → Consumes a b bytes → IsAtEnd b → length bytes ≤ 2 ^ 20 → slice ≡ bytes → IsRefused slice error → error ≡ Line line
@@ -25,8 +31,42 @@ reads_no_script a b bytes slice error line taken ended short same refused error_
     let Q : List ℕ → Type 0 = λ (text : List ℕ). IsRefused text (Line line) in
     reads_input a b bytes Q taken ended short (subst Q same (subst (λ (e : ScriptError). IsRefused slice e) error_is refused))
 
-pub runs_or : (alloc : Global) (a b written written' : Option (List ℕ)) (last : Option (PairState ℕ)) (steps : List Step) (R : Type 0)
-    → ReadsInput a b (λ text. IsScript text steps) → PerformsSteps alloc true steps written written' last ⊎ R
+pub runs_or : (alloc : Global) (a b written written' : Option (List ℕ)) (last : Option PlainPairState) (script : Script) (R : Type 0)
+    → ReadsInput a b (λ text. IsScript text script) → PerformsScript alloc true script written written' last ⊎ R
     → RunsScript alloc true a b written written' last ⊎ R
-runs_or alloc a b written written' last steps R read (inl performs) = inl (record { steps = steps; read = read; performs = performs })
-runs_or alloc a b written written' last steps R read (inr rest) = inr rest
+runs_or alloc a b written written' last script R read (inl performs) = inl (record { script = script; read = read; performs = performs })
+runs_or alloc a b written written' last script R read (inr rest) = inr rest
+
+-- replies that are joined with the pair are those of the run
+pub ran_joined : {E : Type 0} (alloc : Global) (script : Script) (start pair : PlainPairState) (replies : Result (List Reply) E)
+    (result : Result (PlainPairState × List Reply) E) → IfOk result (λ joined. (joined.0 ≡ pair) × (replies ≡ Ok joined.1))
+    → IsPairOf alloc script start → IfOk replies (λ told. Runs plain_parts start script.steps told pair)
+    → IfOk replies (λ told. AllReadBack pair.sdps) → IfOk result (λ ran. RanScript alloc script ran.1 ran.0)
+ran_joined {E = E} alloc script start pair replies (Ok (kept, told)) (kept_is, told_is) program runs read_back =
+    let Q : Result (List Reply) E → Type 0 = λ (r : Result (List Reply) E). IfOk r (λ told. Runs plain_parts start script.steps told pair) in
+    let U : Result (List Reply) E → Type 0 = λ (r : Result (List Reply) E). IfOk r (λ told. AllReadBack pair.sdps) in
+    let ran : Runs plain_parts start script.steps told pair = subst Q told_is runs in
+    let read : AllReadBack pair.sdps = subst U told_is read_back in
+    record { start = start; program = program; runs = rw kept_is ran; read_back = rw kept_is read }
+ran_joined alloc script start pair replies (Err error) joined program runs read_back = tt
+
+-- a script was run, and its report was written
+pub performs : (alloc : Global) (lacking : Bool) (script : Script) (replies : List Reply) (pair : PlainPairState) (written written' : Option (List ℕ))
+    (last : Option PlainPairState) → RanScript alloc script replies pair → KeepsReport lacking script.steps replies pair written written' last
+    → PerformsScript alloc lacking script written written' last
+performs alloc lacking script replies pair written written' last ran keeps = record { replies = replies; pair = pair; ran = ran; keeps = keeps }
+
+pub performs_or : (alloc : Global) (lacking : Bool) (script : Script) (replies : List Reply) (pair : PlainPairState) (written written' : Option (List ℕ))
+    (last : Option PlainPairState) (R : Type 0) → RanScript alloc script replies pair → KeepsReport lacking script.steps replies pair written written' last ⊎ R
+    → PerformsScript alloc lacking script written written' last ⊎ R
+performs_or alloc lacking script replies pair written written' last R ran (inl keeps) =
+    inl (performs alloc lacking script replies pair written written' last ran keeps)
+performs_or alloc lacking script replies pair written written' last R ran (inr rest) = inr rest
+
+-- a report that is broken off is that of the run
+pub report_off : (alloc : Global) (script : Script) (replies : List Reply) (pair : PlainPairState) (written written' : Option (List ℕ)) (faults faults' : ℕ)
+    → RanScript alloc script replies pair → BreaksOff (λ text. text ≡ report script.steps replies) written written' faults faults'
+    → BreaksOff (IsReport alloc script) written written' faults faults'
+report_off alloc script replies pair written written' faults faults' ran off =
+    let P : List ℕ → Type 0 = λ (text : List ℕ). text ≡ report script.steps replies in
+    breaks_off_as P (IsReport alloc script) written written' faults faults' (λ text is. record { replies = replies; pair = pair; ran = ran; is = is }) off

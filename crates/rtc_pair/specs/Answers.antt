@@ -5,16 +5,18 @@ use Rattle.std.specs.declared.alloc.Global.{Global}
 use Rattle.std.specs.Io.KnownBytes.{Appends}
 use Rattle.rtc_io.specs.Faults.{Rose}
 use Rattle.rtc_io.specs.Programs.{Program, ReadsInput, IsTooLong, fault_line, long_line}
-use Rattle.rtc_history.specs.declared.step.Step.{Step}
+use Rattle.rtc_history.specs.declared.side.Side.TheVariants.{Left, Right}
 use Rattle.rtc_history.specs.declared.reply.Reply.{Reply}
+use Rattle.rtc_history.specs.declared.step.Step.{Step}
 use Rattle.rtc_history.specs.Memory.{lacks_memory}
-use Rattle.rtc_history.specs.PairState.{PairState}
 use Rattle.rtc_history.specs.Runs.{Runs}
 use Rattle.rtc_delivery.specs.Delivered.{AllReadBack}
-use Rattle.rtc_run.specs.ProgramPair.{counting, program_pair}
+use Rattle.rtc_run.specs.ProgramPair.{plain_parts, PlainPairState, IsProgramPair}
 use Rattle.rtc_script.specs.Script.{IsScript, IsRefused}
 use Rattle.rtc_script.specs.declared.script_error.ScriptError.TheVariants.{Line}
 use Rattle.rtc_script.specs.Report.{report}
+use Rattle.rtc_script.specs.declared.script.Script.{Script}
+use Rattle.rtc_script.specs.Settings.{sets_lite}
 
 -- the words of a run
 abbrev pub run_words : List (List ℕ)
@@ -24,16 +26,27 @@ run_words = codes "run" ∷ []
 abbrev pub lack_memory : List Reply → Bool
 lack_memory replies = list_any lacks_memory replies
 
--- This text is the report of a run of steps on the program's pair, in which each description that was made is read as it was written.
-pub record IsReport (alloc : Global) (steps : List Step) (text : List ℕ) : Type 0 where
-  pub replies : List Reply
-  pub pair : PairState ℕ
-  pub runs : Runs counting (program_pair alloc) steps replies pair
-  pub read_back : AllReadBack pair.sdps
-  pub is : text ≡ report steps replies
+-- The pair of the program, as the settings of a script make it.
+abbrev pub IsPairOf : Global → Script → PlainPairState → Type 0
+IsPairOf alloc script pair = IsProgramPair alloc (sets_lite Left script.settings) (sets_lite Right script.settings) pair
 
--- the texts of the program: it reads scripts, and answers each with the report of a run of its steps
-abbrev pub script_program : Global → Program (List Step)
+-- A script was run on the program's pair with these replies, which left this pair, and each description that was made is read as it was
+-- written.
+pub record RanScript (alloc : Global) (script : Script) (replies : List Reply) (pair : PlainPairState) : Type 0 where
+  pub start : PlainPairState
+  pub program : IsPairOf alloc script start
+  pub runs : Runs plain_parts start script.steps replies pair
+  pub read_back : AllReadBack pair.sdps
+
+-- This text is the report of a run of a script.
+pub record IsReport (alloc : Global) (script : Script) (text : List ℕ) : Type 0 where
+  pub replies : List Reply
+  pub pair : PlainPairState
+  pub ran : RanScript alloc script replies pair
+  pub is : text ≡ report script.steps replies
+
+-- the texts of the program: it reads scripts, and answers each with the report of its run
+abbrev pub script_program : Global → Program Script
 script_program alloc = record {
   usage = codes "usage: rtc_pair run | rtc_pair demo N S\n";
   subject = codes "script";
@@ -50,28 +63,32 @@ TellsFault faults faults' written written' = Rose faults faults' × Appends writ
 abbrev pub TellsLength : Global → Option (List ℕ) → Option (List ℕ) → Option (List ℕ) → Type 0
 TellsLength alloc left written written' = IsTooLong left × Appends written written' (long_line (script_program alloc).subject)
 
--- Steps were performed on the program's pair, which is left, and their report was written.
-pub record PerformsSteps (alloc : Global) (lacking : Bool) (steps : List Step) (written written' : Option (List ℕ))
-    (last : Option (PairState ℕ)) : Type 0 where
-  pub replies : List Reply
-  pub pair : PairState ℕ
+-- The report of steps and their replies was written, and what they were performed on is kept.
+pub record KeepsReport {P : Type 0} (lacking : Bool) (steps : List Step) (replies : List Reply) (performed : P)
+    (written written' : Option (List ℕ)) (last : Option P) : Type 0 where
   pub reported : Appends written written' (report steps replies)
-  pub runs : Runs counting (program_pair alloc) steps replies pair
-  pub read_back : AllReadBack pair.sdps
-  pub kept : last ≡ Some pair
+  pub kept : last ≡ Some performed
   pub memory : lack_memory replies ≡ lacking
 
--- A script was read to the end of the input, and its steps were performed.
+-- A script was run, its report was written, and the pair is left.
+pub record PerformsScript (alloc : Global) (lacking : Bool) (script : Script) (written written' : Option (List ℕ))
+    (last : Option PlainPairState) : Type 0 where
+  pub replies : List Reply
+  pub pair : PlainPairState
+  pub ran : RanScript alloc script replies pair
+  pub keeps : KeepsReport lacking script.steps replies pair written written' last
+
+-- A script was read to the end of the input, and performed.
 pub record RunsScript (alloc : Global) (lacking : Bool) (left left' written written' : Option (List ℕ))
-    (last : Option (PairState ℕ)) : Type 0 where
-  pub steps : List Step
-  pub read : ReadsInput left left' (λ bytes. IsScript bytes steps)
-  pub performs : PerformsSteps alloc lacking steps written written' last
+    (last : Option PlainPairState) : Type 0 where
+  pub script : Script
+  pub read : ReadsInput left left' (λ bytes. IsScript bytes script)
+  pub performs : PerformsScript alloc lacking script written written' last
 
 -- what is left of a source is known to be a script that is not too long
 abbrev pub TellsScript : Option (List ℕ) → Type 0
 TellsScript None = ⊥
-TellsScript (Some bytes) = (length bytes ≤ 2 ^ 20) × ((steps : List Step) × IsScript bytes steps)
+TellsScript (Some bytes) = (length bytes ≤ 2 ^ 20) × ((script : Script) × IsScript bytes script)
 
 -- A script is performed, unless memory runs out, where a run is asked for and neither the source nor the sink fails.
 abbrev pub CompletesScript : List (List ℕ) → Option (List ℕ) → (faults faults' taken taken' status : ℕ) → Type 0

@@ -8,7 +8,7 @@ pub use rtc_history::{Made, Op, OpAnswer, Outcome, Reply, Side, Step, Table};
 use rtc_io::{OUT_OF_MEMORY, collect_words};
 pub use rtc_io::{MemSink, MemSource, Sink, Source, StdSink, StdSource};
 pub use rtc_run::{Pair, PlainPair, run_pair};
-pub use rtc_script::{Script, ScriptError, read_script, write_report};
+pub use rtc_script::{Script, ScriptError, Setting, read_script, write_report};
 use std::process::ExitCode;
 pub use top::pair_main;
 

@@ -3,12 +3,19 @@ ghost use Rattle.std.specs.Prelude.{◌≡◌, ◌≢◌, ◌<◌, ◌≤◌, �
 ghost use Rattle.std.specs.Io.KnownBytes.{Appends};
 ghost use Rattle.rtc_io.specs.Saying.{BreaksOff};
 ghost use Rattle.rtc_io.specs.Programs.{IsDue, RefusesInput};
+ghost use Rattle.rtc_history.specs.Fresh.{IsFresh};
 ghost use Rattle.rtc_history.specs.Sizes.{steps_size};
+ghost use Rattle.rtc_delivery.specs.Delivered.{ArePeersFormed};
+ghost use Rattle.rtc_run.specs.ProgramPair.{plain_parts};
+ghost use Rattle.rtc_script.specs.Report.{report};
 ghost use Rattle.rtc_pair.specs.Answers.{
   run_words,
   script_program,
+  IsPairOf,
   IsReport,
-  PerformsSteps,
+  RanScript,
+  KeepsReport,
+  PerformsScript,
   RunsScript,
   CompletesScript,
   TellsFault,
@@ -17,13 +24,14 @@ ghost use Rattle.rtc_pair.specs.Answers.{
 };
 
 use crate::asking::ask_for_run;
-use rtc_history::{Reply, Step};
+use rtc_history::{Reply, Side, Step};
 use rtc_io::{
     OUT_OF_MEMORY, SINK_FAILED, Sink, Source, USAGE, read_input, refuse_input, say, write_all,
 };
 use rtc_run::{PlainPair, make_pair, run_pair};
-use rtc_script::{ScriptError, read_script, write_report};
-use std::alloc::Global;
+use rtc_script::{Script, ScriptError, read_script, write_report};
+use rtc_wire::Seq;
+use std::alloc::{AllocError, Global};
 
 fn lack_memory(replies: &[Reply]) -> bool
     ensures { result ≡ lack_memory replies.now }
@@ -36,42 +44,98 @@ fn lack_memory(replies: &[Reply]) -> bool
     false
 }
 
-// Performs steps on the program's pair, and writes their report.
-fn perform_script<W: Sink>(
+// The pair of the program, as the settings of a script make it.
+fn make_program_pair(alloc: Global, script: &Script) -> Result<PlainPair, AllocError>
+    ensures program { IfOk result (λ pair. IsPairOf alloc script.now pair) }
+    ensures fresh { IfOk result (λ pair. IsFresh plain_parts pair) }
+    ensures formed { IfOk result (λ pair. ArePeersFormed plain_parts pair) }
+{
+    make_pair(
+        alloc,
+        script.sets_lite(Side::Left),
+        script.sets_lite(Side::Right),
+    )
+}
+
+// Replies, with what the steps were performed on.
+fn join_replies<P: Drop>(
+    performed: P,
+    replies: Result<Seq<Reply>, AllocError>,
+) -> Result<(P, Seq<Reply>), AllocError>
+    ensures { IfOk result (λ joined. (joined.0 ≡ performed) × (replies ≡ Ok joined.1)) }
+{
+    match replies {
+        Ok(replies) => Ok((performed, replies)),
+        Err(error) => Err(error),
+    }
+}
+
+// The pair of the program after the steps of a script, and their replies.
+fn run_script(alloc: Global, script: &Script) -> Result<(PlainPair, Seq<Reply>), AllocError>
+    requires { steps_size script.now.steps < 2 ^ 32 }
+    ensures { IfOk result (λ ran. RanScript alloc script.now ran.1 ran.0) }
+{
+    let mut pair = make_program_pair(alloc, script)?;
+    let replies = run_pair(alloc, &mut pair, script.steps.as_slice());
+    join_replies(pair, replies)
+}
+
+// Writes the report of steps and their replies, and then keeps what they were performed on.
+fn report_steps<W: Sink, P: Drop>(
     alloc: Global,
     steps: &[Step],
+    replies: &[Reply],
     output: &mut W,
-    last: &mut Option<PlainPair>,
+    performed: P,
+    last: &mut Option<P>,
 ) -> u8
-    requires { steps_size steps.now < 2 ^ 32 }
-    ensures done { result ≡ 0 → PerformsSteps alloc false steps.now (W.written output.old) (W.written output.new) last.new }
+    ensures done { result ≡ 0 → KeepsReport false steps.now replies.now performed (W.written output.old) (W.written output.new) last.new }
     ensures write { result ≡ 5
-        → BreaksOff (IsReport alloc steps.now)
+        → BreaksOff (λ text. text ≡ report steps.now replies.now)
         (W.written output.old) (W.written output.new) (W.faults output.old) (W.faults output.new) }
     ensures memory { result ≡ 6
-        → PerformsSteps alloc true steps.now (W.written output.old) (W.written output.new) last.new
+        → KeepsReport true steps.now replies.now performed (W.written output.old) (W.written output.new) last.new
         ⊎ ((output.new ≡ output.old) × (last.new ≡ last.old)) }
     ensures kept { result ≡ 5 → last.new ≡ last.old }
     ensures statuses { (result ≡ 0) ⊎ (result ≡ 5) ⊎ (result ≡ 6) }
 {
-    let Ok(mut pair) = make_pair(alloc) else {
-        return OUT_OF_MEMORY;
-    };
-    let Ok(replies) = run_pair(alloc, &mut pair, steps) else {
-        return OUT_OF_MEMORY;
-    };
-    let Ok(text) = write_report(alloc, steps, replies.as_slice()) else {
+    let Ok(text) = write_report(alloc, steps, replies) else {
         return OUT_OF_MEMORY;
     };
     let Ok(()) = write_all(output, text.as_slice()) else {
         return SINK_FAILED;
     };
-    *last = Some(pair);
-    if lack_memory(replies.as_slice()) {
+    *last = Some(performed);
+    if lack_memory(replies) {
         OUT_OF_MEMORY
     } else {
         0
     }
+}
+
+// Runs a script, and writes its report.
+fn perform_script<W: Sink>(
+    alloc: Global,
+    script: &Script,
+    output: &mut W,
+    last: &mut Option<PlainPair>,
+) -> u8
+    requires { steps_size script.now.steps < 2 ^ 32 }
+    ensures done { result ≡ 0 → PerformsScript alloc false script.now (W.written output.old) (W.written output.new) last.new }
+    ensures write { result ≡ 5
+        → BreaksOff (IsReport alloc script.now)
+        (W.written output.old) (W.written output.new) (W.faults output.old) (W.faults output.new) }
+    ensures memory { result ≡ 6
+        → PerformsScript alloc true script.now (W.written output.old) (W.written output.new) last.new
+        ⊎ ((output.new ≡ output.old) × (last.new ≡ last.old)) }
+    ensures kept { result ≡ 5 → last.new ≡ last.old }
+    ensures statuses { (result ≡ 0) ⊎ (result ≡ 5) ⊎ (result ≡ 6) }
+{
+    let Ok((pair, replies)) = run_script(alloc, script) else {
+        return OUT_OF_MEMORY;
+    };
+    let steps = script.steps.as_slice();
+    report_steps(alloc, steps, replies.as_slice(), output, pair, last)
 }
 
 /// Reads a script from `input`, performs it, and writes its report to `output`; answers the status to end with.
@@ -113,7 +177,7 @@ pub fn pair_main<R: Source, W: Sink>(
         Err(status) => return status,
     };
     match read_script(alloc, bytes.as_slice()) {
-        Ok(script) => perform_script(alloc, script.steps.as_slice(), output, last),
+        Ok(script) => perform_script(alloc, &script, output, last),
         Err(ScriptError::Line(line)) => refuse_input(alloc, "script", line, output),
         Err(ScriptError::Alloc) => OUT_OF_MEMORY,
     }

@@ -6,25 +6,31 @@ use Rattle.rtc_change.specs.Held.{Held, Asked}
 use Rattle.rtc_change.specs.Plans.{verdict}
 use Rattle.rtc_change.specs.declared.refusal.Refusal.{Refusal}
 use Rattle.rtc_change.specs.declared.refusal.Refusal.TheVariants.{RemoteSdp as RefusedSdp, Sdp as RefusedAsSdp}
-use Rattle.rtc_peer_state.specs.declared.rtc_error.RtcError.TheVariants.{RemoteSdp, Sdp as SdpRefused, ChangesOutOfOrder, BadChannel, Alloc as PeerAlloc}
+use Rattle.rtc_peer_state.specs.declared.rtc_error.RtcError.TheVariants.{RemoteSdp, Sdp as SdpRefused, Dtls, ChangesOutOfOrder, BadChannel, Alloc as PeerAlloc}
+use Rattle.rtc_dtls.specs.declared.dtls_error.DtlsError.TheVariants.{WouldBlock, Fault, Alloc as DtlsAlloc}
 use Rattle.rtc_history.specs.declared.side.Side.{Side}
 use Rattle.rtc_history.specs.declared.step.Step.TheVariants.{AcceptOffer, AcceptAnswer}
 use Rattle.rtc_history.specs.declared.outcome.Outcome.{Outcome}
 use Rattle.rtc_history.specs.declared.outcome.Outcome.TheVariants.{Negotiated, Answered, Finished, Refused, NoSuch, Alloc}
 use Rattle.rtc_history.specs.declared.table.Table.{Table}
 use Rattle.rtc_history.specs.Past.{Entry, MadeSdp, sdps, remote_sdp, holds_token, is_right}
-use Rattle.rtc_history.specs.Sound.{IsSound, RepliesToOffer, RepliesToAnswer, view_in, asked_in}
-use Rattle.rtc_run.specs.Completeness.{SucceedsOrLacks, IsFaultlessOffer, IsFaultlessAnswer, FaultlessOffersPass, FaultlessAnswersPass}
+use Rattle.rtc_history.specs.Sound.{IsSound, RepliesToOffer, RepliesToAnswer, asked_in}
+use Rattle.rtc_history.specs.Views.{Stances, view_in}
+use Rattle.rtc_peer_state.specs.Stance.{held_by}
+use Rattle.rtc_run.specs.Completeness.{SucceedsOrFails, IsFaultlessOffer, IsFaultlessAnswer, FaultlessOffersPass, FaultlessAnswersPass}
 
 -- one cause is not none
 no_cause : {R : Type 0} (found : Option Refusal) (why : Refusal) → found ≡ Some why → found ≡ None → R
 no_cause {R} found why is none = absurd (let bad : Some why ≡ None = sym is ∙ none in cc)
 
 offer_passes : (sdp : Sdp) (view : Held) (next : ℕ) (outcome : Outcome) (after : List LineRow) → RepliesToOffer (Some sdp) view next outcome after
-    → verdict view None sdp ≡ None → SucceedsOrLacks outcome
+    → verdict view None sdp ≡ None → SucceedsOrFails outcome
 offer_passes sdp view next (Answered k) after replies passes = refl
 offer_passes sdp view next (Refused (RemoteSdp why)) after replies passes = no_cause (verdict view None sdp) (RefusedSdp why) replies.0 passes
 offer_passes sdp view next (Refused (SdpRefused error)) after replies passes = no_cause (verdict view None sdp) (RefusedAsSdp error) replies.0 passes
+offer_passes sdp view next (Refused (Dtls Fault)) after replies passes = refl
+offer_passes sdp view next (Refused (Dtls WouldBlock)) after replies passes = absurd replies
+offer_passes sdp view next (Refused (Dtls DtlsAlloc)) after replies passes = absurd replies
 offer_passes sdp view next (Refused ChangesOutOfOrder) after replies passes = absurd replies
 offer_passes sdp view next (Refused BadChannel) after replies passes = absurd replies
 offer_passes sdp view next (Refused PeerAlloc) after replies passes = refl
@@ -33,26 +39,29 @@ offer_passes sdp view next Finished after replies passes = absurd replies
 offer_passes sdp view next NoSuch after replies passes = absurd replies
 offer_passes sdp view next Alloc after replies passes = absurd replies
 
-offer_taken : (past : List Entry) (at : Side) (k : ℕ) (outcome : Outcome) (table : Table) → IsFaultlessOffer past at k
-    → RepliesToOffer (remote_sdp true at k past) (view_in at past) (length (sdps past)) outcome table.lines → SucceedsOrLacks outcome
-offer_taken past at k outcome table faultless replies =
-    let P : Option Sdp → Type 0 = λ (found : Option Sdp). RepliesToOffer found (view_in at past) (length (sdps past)) outcome table.lines in
-    offer_passes faultless.offer (view_in at past) (length (sdps past)) outcome table.lines (subst P faultless.there replies) faultless.passes
+offer_taken : (fresh : Stances) (past : List Entry) (between : Stances) (at : Side) (k : ℕ) (outcome : Outcome) (table : Table) → IsFaultlessOffer fresh past between at k
+    → RepliesToOffer (remote_sdp true at k past) (view_in fresh at past (held_by (between at))) (length (sdps past)) outcome table.lines → SucceedsOrFails outcome
+offer_taken fresh past between at k outcome table faultless replies =
+    let P : Option Sdp → Type 0 = λ (found : Option Sdp). RepliesToOffer found (view_in fresh at past (held_by (between at))) (length (sdps past)) outcome table.lines in
+    offer_passes faultless.offer (view_in fresh at past (held_by (between at))) (length (sdps past)) outcome table.lines (subst P faultless.there replies) faultless.passes
 
 pub faultless_offers : FaultlessOffersPass
-faultless_offers past at k (Answered n) (Some table) made sound faultless = refl
-faultless_offers past at k (Refused error) (Some table) made sound faultless = offer_taken past at k (Refused error) table faultless sound.0
-faultless_offers past at k (Negotiated answers what) (Some table) made sound faultless = offer_taken past at k (Negotiated answers what) table faultless sound.0
-faultless_offers past at k Finished (Some table) made sound faultless = refl
-faultless_offers past at k NoSuch (Some table) made sound faultless = offer_taken past at k NoSuch table faultless sound.0
-faultless_offers past at k Alloc table made sound faultless = refl
-faultless_offers past at k outcome None made sound faultless = absurd sound
+faultless_offers fresh past between at k (Answered n) (Some table) made sound faultless = refl
+faultless_offers fresh past between at k (Refused error) (Some table) made sound faultless = offer_taken fresh past between at k (Refused error) table faultless sound.0
+faultless_offers fresh past between at k (Negotiated answers what) (Some table) made sound faultless = offer_taken fresh past between at k (Negotiated answers what) table faultless sound.0
+faultless_offers fresh past between at k Finished (Some table) made sound faultless = refl
+faultless_offers fresh past between at k NoSuch (Some table) made sound faultless = offer_taken fresh past between at k NoSuch table faultless sound.0
+faultless_offers fresh past between at k Alloc table made sound faultless = refl
+faultless_offers fresh past between at k outcome None made sound faultless = absurd sound
 
 answer_passes : (asked : Asked) (sdp : Sdp) (view : Held) (outcome : Outcome) (after : List LineRow) → RepliesToAnswer true true asked (Some sdp) view outcome after
-    → verdict view (Some asked) sdp ≡ None → SucceedsOrLacks outcome
+    → verdict view (Some asked) sdp ≡ None → SucceedsOrFails outcome
 answer_passes asked sdp view Finished after replies passes = refl
 answer_passes asked sdp view (Refused (RemoteSdp why)) after replies passes = no_cause (verdict view (Some asked) sdp) (RefusedSdp why) replies.0 passes
 answer_passes asked sdp view (Refused (SdpRefused error)) after replies passes = no_cause (verdict view (Some asked) sdp) (RefusedAsSdp error) replies.0 passes
+answer_passes asked sdp view (Refused (Dtls Fault)) after replies passes = refl
+answer_passes asked sdp view (Refused (Dtls WouldBlock)) after replies passes = absurd replies
+answer_passes asked sdp view (Refused (Dtls DtlsAlloc)) after replies passes = absurd replies
 answer_passes asked sdp view (Refused ChangesOutOfOrder) after replies passes = absurd replies
 answer_passes asked sdp view (Refused BadChannel) after replies passes = absurd replies
 answer_passes asked sdp view (Refused PeerAlloc) after replies passes = refl
@@ -61,20 +70,20 @@ answer_passes asked sdp view (Answered k) after replies passes = absurd replies
 answer_passes asked sdp view NoSuch after replies passes = absurd replies
 answer_passes asked sdp view Alloc after replies passes = absurd replies
 
-answer_taken : (past : List Entry) (at : Side) (t a : ℕ) (outcome : Outcome) (table : Table) → IsFaultlessAnswer past at t a
-    → RepliesToAnswer (holds_token at t past) (is_right at t past) (asked_in at t past) (remote_sdp false at a past) (view_in at past) outcome table.lines → SucceedsOrLacks outcome
-answer_taken past at t a outcome table faultless replies =
-    let P : Bool → Type 0 = λ (held : Bool). RepliesToAnswer held (is_right at t past) (asked_in at t past) (remote_sdp false at a past) (view_in at past) outcome table.lines in
-    let Q : Bool → Type 0 = λ (right : Bool). RepliesToAnswer true right (asked_in at t past) (remote_sdp false at a past) (view_in at past) outcome table.lines in
-    let F : Option Sdp → Type 0 = λ (found : Option Sdp). RepliesToAnswer true true (asked_in at t past) found (view_in at past) outcome table.lines in
-    answer_passes (asked_in at t past) faultless.answer (view_in at past) outcome table.lines
+answer_taken : (fresh : Stances) (past : List Entry) (between : Stances) (at : Side) (t a : ℕ) (outcome : Outcome) (table : Table) → IsFaultlessAnswer fresh past between at t a
+    → RepliesToAnswer (holds_token at t past) (is_right at t past) (asked_in at t past) (remote_sdp false at a past) (view_in fresh at past (held_by (between at))) outcome table.lines → SucceedsOrFails outcome
+answer_taken fresh past between at t a outcome table faultless replies =
+    let P : Bool → Type 0 = λ (held : Bool). RepliesToAnswer held (is_right at t past) (asked_in at t past) (remote_sdp false at a past) (view_in fresh at past (held_by (between at))) outcome table.lines in
+    let Q : Bool → Type 0 = λ (right : Bool). RepliesToAnswer true right (asked_in at t past) (remote_sdp false at a past) (view_in fresh at past (held_by (between at))) outcome table.lines in
+    let F : Option Sdp → Type 0 = λ (found : Option Sdp). RepliesToAnswer true true (asked_in at t past) found (view_in fresh at past (held_by (between at))) outcome table.lines in
+    answer_passes (asked_in at t past) faultless.answer (view_in fresh at past (held_by (between at))) outcome table.lines
     (subst F faultless.there (subst Q faultless.right (subst P faultless.held replies))) faultless.passes
 
 pub faultless_answers : FaultlessAnswersPass
-faultless_answers past at t a Finished (Some table) made sound faultless = refl
-faultless_answers past at t a (Refused error) (Some table) made sound faultless = answer_taken past at t a (Refused error) table faultless sound.0
-faultless_answers past at t a (Negotiated answers what) (Some table) made sound faultless = answer_taken past at t a (Negotiated answers what) table faultless sound.0
-faultless_answers past at t a (Answered n) (Some table) made sound faultless = refl
-faultless_answers past at t a NoSuch (Some table) made sound faultless = answer_taken past at t a NoSuch table faultless sound.0
-faultless_answers past at t a Alloc table made sound faultless = refl
-faultless_answers past at t a outcome None made sound faultless = absurd sound
+faultless_answers fresh past between at t a Finished (Some table) made sound faultless = refl
+faultless_answers fresh past between at t a (Refused error) (Some table) made sound faultless = answer_taken fresh past between at t a (Refused error) table faultless sound.0
+faultless_answers fresh past between at t a (Negotiated answers what) (Some table) made sound faultless = answer_taken fresh past between at t a (Negotiated answers what) table faultless sound.0
+faultless_answers fresh past between at t a (Answered n) (Some table) made sound faultless = refl
+faultless_answers fresh past between at t a NoSuch (Some table) made sound faultless = answer_taken fresh past between at t a NoSuch table faultless sound.0
+faultless_answers fresh past between at t a Alloc table made sound faultless = refl
+faultless_answers fresh past between at t a outcome None made sound faultless = absurd sound

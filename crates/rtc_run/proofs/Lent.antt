@@ -6,42 +6,43 @@ use Rattle.rtc_channels.specs.Channels.{Channel, channel_row, channel_rows}
 use Rattle.rtc_change.specs.PendingOffer.{PendingOffer}
 use Rattle.rtc_peer_state.specs.declared.peer.Peer.{Peer}
 use Rattle.rtc_peer_state.specs.declared.rtc_error.RtcError.{RtcError}
-use Rattle.rtc_ids.specs.Draws.{Draws}
-use Rattle.rtc_peer_state.specs.Calls.{AcceptsOffer, AcceptsAnswer}
+use Rattle.rtc_peer_state.specs.Acceptances.{AcceptsOffer, AcceptsAnswer}
 use Rattle.rtc_history.specs.Performs.{lent}
 use Rattle.rtc_run.proofs.ChannelCounts.{offer_channels, answer_channels}
 use Rattle.rtc_run.proofs.RowsLeft.{offer_rows, answer_rows}
+use Rattle.rtc_peer_state.specs.Meanings.{Meanings}
 
-pub accepted_offer : {N : Type 0} (draws : Draws N) (old p r q : Peer N) (offer : Sdp) (result : Result Sdp RtcError) → p ≡ lent old → AcceptsOffer draws p offer result r → q ≡ r → AcceptsOffer draws (lent old) offer result q
-accepted_offer {N} draws old p r q offer result p_is h same =
-    let F : Peer N → Type 0 = λ (x : Peer N). AcceptsOffer draws x offer result r in
-    let G : Peer N → Type 0 = λ (x : Peer N). AcceptsOffer draws (lent old) offer result x in
-    subst G (sym same) (subst F p_is h)
+module _ {I D S M E X T W N : Type 0} (m : Meanings I D S M E X T W N) where
+  pub accepted_offer : (old p r q : Peer I D S M N) (offer : Sdp) (result : Result Sdp RtcError) → p ≡ lent old → AcceptsOffer m p offer result r → q ≡ r → AcceptsOffer m (lent old) offer result q
+  accepted_offer old p r q offer result p_is h same =
+      let F : Peer I D S M N → Type 0 = λ (x : Peer I D S M N). AcceptsOffer m x offer result r in
+      let G : Peer I D S M N → Type 0 = λ (x : Peer I D S M N). AcceptsOffer m (lent old) offer result x in
+      subst G (sym same) (subst F p_is h)
 
-pub accepted_answer : {N : Type 0} (draws : Draws N) (old p r q : Peer N) (token : PendingOffer) (answer : Sdp) (result : Result (Unit {0}) RtcError) → p ≡ lent old → AcceptsAnswer draws p token answer result r → q ≡ r → AcceptsAnswer draws (lent old) token answer result q
-accepted_answer {N} draws old p r q token answer result p_is h same =
-    let F : Peer N → Type 0 = λ (x : Peer N). AcceptsAnswer draws x token answer result r in
-    let G : Peer N → Type 0 = λ (x : Peer N). AcceptsAnswer draws (lent old) token answer result x in
-    subst G (sym same) (subst F p_is h)
+  pub accepted_answer : (old p r q : Peer I D S M N) (token : PendingOffer) (answer : Sdp) (result : Result (Unit {0}) RtcError) → p ≡ lent old → AcceptsAnswer m p token answer result r → q ≡ r → AcceptsAnswer m (lent old) token answer result q
+  accepted_answer old p r q token answer result p_is h same =
+      let F : Peer I D S M N → Type 0 = λ (x : Peer I D S M N). AcceptsAnswer m x token answer result r in
+      let G : Peer I D S M N → Type 0 = λ (x : Peer I D S M N). AcceptsAnswer m (lent old) token answer result x in
+      subst G (sym same) (subst F p_is h)
 
--- how many rows an SDP leaves
-pub rows_of_offer : {N : Type 0} (draws : Draws N) (old p r : Peer N) (offer : Sdp) (result : Result Sdp RtcError) (rows : List LineRow) → p ≡ lent old → AcceptsOffer draws p offer result r → rows ≡ r.lines → length rows ≤ length old.lines + length offer.lines
-rows_of_offer {N} draws old p r offer result rows p_is h same =
-    let F : Peer N → Type 0 = λ (x : Peer N). AcceptsOffer draws x offer result r in
-    let G : List LineRow → Type 0 = λ (x : List LineRow). length x ≤ length old.lines + length offer.lines in
-    subst G (sym same) (offer_rows draws (lent old) r offer result (subst F p_is h))
+  -- how many rows an SDP leaves
+  pub rows_of_offer : (old p r : Peer I D S M N) (offer : Sdp) (result : Result Sdp RtcError) (rows : List LineRow) → p ≡ lent old → AcceptsOffer m p offer result r → rows ≡ r.lines → length rows ≤ length old.lines + length offer.lines
+  rows_of_offer old p r offer result rows p_is h same =
+      let F : Peer I D S M N → Type 0 = λ (x : Peer I D S M N). AcceptsOffer m x offer result r in
+      let G : List LineRow → Type 0 = λ (x : List LineRow). length x ≤ length old.lines + length offer.lines in
+      subst G (sym same) (offer_rows m (lent old) r offer result (subst F p_is h))
 
-pub rows_of_answer : {N : Type 0} (draws : Draws N) (old p r : Peer N) (token : PendingOffer) (answer : Sdp) (result : Result (Unit {0}) RtcError) (rows : List LineRow) → p ≡ lent old → AcceptsAnswer draws p token answer result r → rows ≡ r.lines → length rows ≤ length old.lines + length answer.lines
-rows_of_answer {N} draws old p r token answer result rows p_is h same =
-    let F : Peer N → Type 0 = λ (x : Peer N). AcceptsAnswer draws x token answer result r in
-    let G : List LineRow → Type 0 = λ (x : List LineRow). length x ≤ length old.lines + length answer.lines in
-    subst G (sym same) (answer_rows draws (lent old) r token answer result (subst F p_is h))
+  pub rows_of_answer : (old p r : Peer I D S M N) (token : PendingOffer) (answer : Sdp) (result : Result (Unit {0}) RtcError) (rows : List LineRow) → p ≡ lent old → AcceptsAnswer m p token answer result r → rows ≡ r.lines → length rows ≤ length old.lines + length answer.lines
+  rows_of_answer old p r token answer result rows p_is h same =
+      let F : Peer I D S M N → Type 0 = λ (x : Peer I D S M N). AcceptsAnswer m x token answer result r in
+      let G : List LineRow → Type 0 = λ (x : List LineRow). length x ≤ length old.lines + length answer.lines in
+      subst G (sym same) (answer_rows m (lent old) r token answer result (subst F p_is h))
 
--- the channels that an SDP leaves show as before
-pub channels_of_offer : {N : Type 0} (draws : Draws N) (old p r : Peer N) (offer : Sdp) (result : Result Sdp RtcError) (channels : List Channel) → p ≡ lent old → AcceptsOffer draws p offer result r → channels ≡ r.channels.rows → map channel_row channels ≡ channel_rows old.channels
-channels_of_offer {N} draws old p r offer result channels p_is h same =
-    ap (λ (rows : List Channel). map channel_row rows) same ∙ (offer_channels draws p r offer result h ∙ ap (λ (x : Peer N). channel_rows x.channels) p_is)
+  -- the channels that an SDP leaves show as before
+  pub channels_of_offer : (old p r : Peer I D S M N) (offer : Sdp) (result : Result Sdp RtcError) (channels : List Channel) → p ≡ lent old → AcceptsOffer m p offer result r → channels ≡ r.channels.rows → map channel_row channels ≡ channel_rows old.channels
+  channels_of_offer old p r offer result channels p_is h same =
+      ap (λ (rows : List Channel). map channel_row rows) same ∙ (offer_channels m p r offer result h ∙ ap (λ (x : Peer I D S M N). channel_rows x.channels) p_is)
 
-pub channels_of_answer : {N : Type 0} (draws : Draws N) (old p r : Peer N) (token : PendingOffer) (answer : Sdp) (result : Result (Unit {0}) RtcError) (channels : List Channel) → p ≡ lent old → AcceptsAnswer draws p token answer result r → channels ≡ r.channels.rows → map channel_row channels ≡ channel_rows old.channels
-channels_of_answer {N} draws old p r token answer result channels p_is h same =
-    ap (λ (rows : List Channel). map channel_row rows) same ∙ (answer_channels draws p r token answer result h ∙ ap (λ (x : Peer N). channel_rows x.channels) p_is)
+  pub channels_of_answer : (old p r : Peer I D S M N) (token : PendingOffer) (answer : Sdp) (result : Result (Unit {0}) RtcError) (channels : List Channel) → p ≡ lent old → AcceptsAnswer m p token answer result r → channels ≡ r.channels.rows → map channel_row channels ≡ channel_rows old.channels
+  channels_of_answer old p r token answer result channels p_is h same =
+      ap (λ (rows : List Channel). map channel_row rows) same ∙ (answer_channels m p r token answer result h ∙ ap (λ (x : Peer I D S M N). channel_rows x.channels) p_is)

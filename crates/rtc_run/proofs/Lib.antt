@@ -7,3 +7,4 @@ pub mod Lent
 pub mod RowsLeft
 pub mod Paired
 pub mod FaultlessSdps
+pub mod PlainPeers

@@ -3,39 +3,47 @@ use Rattle.std.proofs.Common.{◌≡◌, ◌≤◌, ◌+◌, List, length, Bool,
 use Rattle.rtc_sdp_values.specs.declared.line_row.LineRow.{LineRow}
 use Rattle.rtc_sdp_values.specs.declared.sdp.Sdp.{Sdp}
 use Rattle.rtc_change.specs.PendingOffer.{PendingOffer}
-use Rattle.rtc_change.specs.ParsedLines.{parsed_lines}
+use Rattle.rtc_tables.specs.ParsedLines.{parsed_lines}
 use Rattle.rtc_change.specs.TableAfter.{table_after}
 use Rattle.rtc_peer_state.specs.declared.peer.Peer.{Peer}
 use Rattle.rtc_peer_state.specs.declared.rtc_error.RtcError.{RtcError}
-use Rattle.rtc_peer_state.specs.declared.rtc_error.RtcError.TheVariants.{RemoteSdp, Sdp as SdpRefused, ChangesOutOfOrder, BadChannel, Alloc as PeerAlloc}
-use Rattle.rtc_ids.specs.Draws.{Draws}
-use Rattle.rtc_peer_state.specs.Calls.{AcceptsOffer, AcceptsAnswer}
+use Rattle.rtc_peer_state.specs.declared.rtc_error.RtcError.TheVariants.{RemoteSdp, Sdp as SdpRefused, Dtls, ChangesOutOfOrder, BadChannel, Alloc as PeerAlloc}
+use Rattle.rtc_dtls.specs.declared.dtls_error.DtlsError.TheVariants.{WouldBlock, Fault, Alloc as DtlsAlloc}
+use Rattle.rtc_peer_state.specs.Acceptances.{AcceptsOffer, AcceptsAnswer}
 use Rattle.rtc_history_laws.proofs.OfferSteps.{taken_within}
+use Rattle.rtc_peer_state.specs.Meanings.{Meanings}
 
 rows_of_taken : (rows : List LineRow) (sdp : Sdp) (offer : Bool) → length (table_after rows (parsed_lines sdp) offer) ≤ length rows + length sdp.lines
 rows_of_taken rows sdp offer = taken_within rows sdp offer (length rows + length sdp.lines) (omega arith) (omega arith)
 
-same_rows : {N : Type 0} (p q : Peer N) (sdp : Sdp) → q.lines ≡ p.lines → length q.lines ≤ length p.lines + length sdp.lines
-same_rows p q sdp e = let same : length q.lines ≡ length p.lines = ap length e in omega arith
+module _ {I D S M E X T W N : Type 0} (m : Meanings I D S M E X T W N) where
+  same_rows : (p q : Peer I D S M N) (sdp : Sdp) → q.lines ≡ p.lines → length q.lines ≤ length p.lines + length sdp.lines
+  same_rows p q sdp e = let same : length q.lines ≡ length p.lines = ap length e in omega arith
 
-pub offer_rows : {N : Type 0} (draws : Draws N) (p q : Peer N) (offer : Sdp) (result : Result Sdp RtcError) → AcceptsOffer draws p offer result q → length q.lines ≤ length p.lines + length offer.lines
-offer_rows draws p q offer (Ok answer) h =
-    let most : length (table_after p.lines (parsed_lines offer) true) ≤ length p.lines + length offer.lines = rows_of_taken p.lines offer true in
-    let rows : length q.lines ≡ length (table_after p.lines (parsed_lines offer) true) = ap (λ p. length p.lines) h.rest in
-    omega (arith, most, rows)
-offer_rows draws p q offer (Err (RemoteSdp why)) h = same_rows p q offer (ap (λ p. p.lines) h.1)
-offer_rows draws p q offer (Err (SdpRefused error)) h = same_rows p q offer (ap (λ p. p.lines) h.1)
-offer_rows draws p q offer (Err ChangesOutOfOrder) h = absurd h
-offer_rows draws p q offer (Err BadChannel) h = absurd h
-offer_rows draws p q offer (Err PeerAlloc) h = same_rows p q offer (ap (λ p. p.lines) h.1)
+  pub offer_rows : (p q : Peer I D S M N) (offer : Sdp) (result : Result Sdp RtcError) → AcceptsOffer m p offer result q → length q.lines ≤ length p.lines + length offer.lines
+  offer_rows p q offer (Ok answer) h =
+      let most : length (table_after p.lines (parsed_lines offer) true) ≤ length p.lines + length offer.lines = rows_of_taken p.lines offer true in
+      let rows : length q.lines ≡ length (table_after p.lines (parsed_lines offer) true) = ap (λ p. length p.lines) h.rest in
+      omega (arith, most, rows)
+  offer_rows p q offer (Err (RemoteSdp why)) h = same_rows p q offer (ap (λ p. p.lines) h.1)
+  offer_rows p q offer (Err (SdpRefused error)) h = same_rows p q offer (ap (λ p. p.lines) h.1)
+  offer_rows p q offer (Err (Dtls Fault)) h = same_rows p q offer (ap (λ p. p.lines) h.rest)
+  offer_rows p q offer (Err (Dtls WouldBlock)) h = absurd h
+  offer_rows p q offer (Err (Dtls DtlsAlloc)) h = absurd h
+  offer_rows p q offer (Err ChangesOutOfOrder) h = absurd h
+  offer_rows p q offer (Err BadChannel) h = absurd h
+  offer_rows p q offer (Err PeerAlloc) h = same_rows p q offer (ap (λ p. p.lines) h.rest)
 
-pub answer_rows : {N : Type 0} (draws : Draws N) (p q : Peer N) (token : PendingOffer) (answer : Sdp) (result : Result (Unit {0}) RtcError) → AcceptsAnswer draws p token answer result q → length q.lines ≤ length p.lines + length answer.lines
-answer_rows draws p q token answer (Ok done) h =
-    let most : length (table_after p.lines (parsed_lines answer) false) ≤ length p.lines + length answer.lines = rows_of_taken p.lines answer false in
-    let rows : length q.lines ≡ length (table_after p.lines (parsed_lines answer) false) = ap (λ p. length p.lines) h.rest in
-    omega (arith, most, rows)
-answer_rows draws p q token answer (Err (RemoteSdp why)) h = same_rows p q answer (ap (λ p. p.lines) h.1.1)
-answer_rows draws p q token answer (Err (SdpRefused error)) h = same_rows p q answer (ap (λ p. p.lines) h.1.1)
-answer_rows draws p q token answer (Err BadChannel) h = absurd h
-answer_rows draws p q token answer (Err ChangesOutOfOrder) h = same_rows p q answer (ap (λ p. p.lines) h.1)
-answer_rows draws p q token answer (Err PeerAlloc) h = same_rows p q answer (ap (λ p. p.lines) h.1.1)
+  pub answer_rows : (p q : Peer I D S M N) (token : PendingOffer) (answer : Sdp) (result : Result (Unit {0}) RtcError) → AcceptsAnswer m p token answer result q → length q.lines ≤ length p.lines + length answer.lines
+  answer_rows p q token answer (Ok done) h =
+      let most : length (table_after p.lines (parsed_lines answer) false) ≤ length p.lines + length answer.lines = rows_of_taken p.lines answer false in
+      let rows : length q.lines ≡ length (table_after p.lines (parsed_lines answer) false) = ap (λ p. length p.lines) h.rest in
+      omega (arith, most, rows)
+  answer_rows p q token answer (Err (RemoteSdp why)) h = same_rows p q answer (ap (λ p. p.lines) h.1.1)
+  answer_rows p q token answer (Err (SdpRefused error)) h = same_rows p q answer (ap (λ p. p.lines) h.1.1)
+  answer_rows p q token answer (Err (Dtls Fault)) h = same_rows p q answer (ap (λ p. p.lines) h.rest)
+  answer_rows p q token answer (Err (Dtls WouldBlock)) h = absurd h
+  answer_rows p q token answer (Err (Dtls DtlsAlloc)) h = absurd h
+  answer_rows p q token answer (Err BadChannel) h = absurd h
+  answer_rows p q token answer (Err ChangesOutOfOrder) h = same_rows p q answer (ap (λ p. p.lines) h.1)
+  answer_rows p q token answer (Err PeerAlloc) h = same_rows p q answer (ap (λ p. p.lines) h.rest)

@@ -5,7 +5,6 @@ use Rattle.rtc_channels.specs.Channels.{channel_rows}
 use Rattle.rtc_lines.specs.declared.sdp_offer.SdpOffer.{SdpOffer}
 use Rattle.rtc_change.specs.PendingOffer.{PendingOffer}
 use Rattle.rtc_peer_state.specs.declared.peer.Peer.{Peer}
-use Rattle.rtc_ids.specs.Draws.{Draws}
 use Rattle.rtc_peer_state.specs.Calls.{Applies}
 use Rattle.rtc_peer.specs.Described.{sdp_of_offer}
 use Rattle.rtc_history.specs.declared.op.Op.{Op}
@@ -14,59 +13,59 @@ use Rattle.rtc_history.specs.Memory.{answers_lack}
 use Rattle.rtc_history.specs.Performs.{PerformsOps, lent}
 use Rattle.rtc_run.specs.declared.applied.Applied.{Applied}
 use Rattle.rtc_run.specs.declared.applied.Applied.TheVariants.{NotAsked, Nothing, Offer, Alloc}
-use Rattle.rtc_history_laws.proofs.Staging.{Stages as StagesOps, ops_stage}
 use Rattle.rtc_run.specs.Stages.{Stages, Becomes}
-use Rattle.rtc_run.proofs.ChannelCounts.{ops_channels, alone_channels, alone_lines}
+use Rattle.rtc_run.proofs.ChannelCounts.{ops_channels, ops_rows, alone_channels, alone_lines}
+use Rattle.rtc_peer_state.specs.Meanings.{Meanings}
 
--- what is made of staged changes keeps the number of rows
-becomes_rows : {N : Type 0} (asked : Bool) (p q : Peer N) (applied : Applied) → Becomes asked p applied q → length q.lines ≡ length p.lines
-becomes_rows false p q NotAsked h = ap (λ r. length r.lines) h
-becomes_rows true p q Nothing h = ap (λ r. length r.lines) h.1 ∙ ap length (alone_lines p.staged p)
-becomes_rows true p q (Offer offer token) h = ap (λ r. length r.lines) h.3
-becomes_rows true p q Alloc h = ap (λ r. length r.lines) h
-becomes_rows asked p q applied h = absurd h
+module _ {I D S M E X T W N : Type 0} (m : Meanings I D S M E X T W N) where
+  -- what is made of staged changes keeps the number of rows
+  becomes_rows : (asked : Bool) (p q : Peer I D S M N) (applied : Applied) → Becomes m asked p applied q → length q.lines ≡ length p.lines
+  becomes_rows false p q NotAsked h = ap (λ r. length r.lines) h
+  becomes_rows true p q Nothing h = ap (λ r. length r.lines) h.1 ∙ ap length (alone_lines p.staged p)
+  becomes_rows true p q (Offer offer token) h = ap (λ r. length r.lines) h.4
+  becomes_rows true p q Alloc h = ap (λ r. length r.lines) h
+  becomes_rows asked p q applied h = absurd h
 
--- and the channels that are shown
-becomes_channels : {N : Type 0} (asked : Bool) (p q : Peer N) (applied : Applied) → Becomes asked p applied q → channel_rows q.channels ≡ channel_rows p.channels
-becomes_channels false p q NotAsked h = ap (λ r. channel_rows r.channels) h
-becomes_channels true p q Nothing h = ap (λ r. channel_rows r.channels) h.1 ∙ alone_channels p.staged p
-becomes_channels true p q (Offer offer token) h = ap (λ r. channel_rows r.channels) h.3
-becomes_channels true p q Alloc h = ap (λ r. channel_rows r.channels) h
-becomes_channels asked p q applied h = absurd h
+  -- and the channels that are shown
+  becomes_channels : (asked : Bool) (p q : Peer I D S M N) (applied : Applied) → Becomes m asked p applied q → channel_rows q.channels ≡ channel_rows p.channels
+  becomes_channels false p q NotAsked h = ap (λ r. channel_rows r.channels) h
+  becomes_channels true p q Nothing h = ap (λ r. channel_rows r.channels) h.1 ∙ alone_channels p.staged p
+  becomes_channels true p q (Offer offer token) h = ap (λ r. channel_rows r.channels) h.4
+  becomes_channels true p q Alloc h = ap (λ r. channel_rows r.channels) h
+  becomes_channels asked p q applied h = absurd h
 
-stages : {N : Type 0} (draws : Draws N) (old p between q : Peer N) (ops : List Op) (apply asked : Bool) (answers slice : List OpAnswer) (applied : Applied) → p ≡ lent old → PerformsOps draws p ops answers between → slice ≡ answers → asked ≡ (apply && not (answers_lack slice)) → Becomes asked between applied q → Stages draws old ops apply answers applied q
-stages {N} draws old p between q ops apply asked answers slice applied p_is performs slice_is asked_is becomes =
-    let F : List OpAnswer → Bool = λ (xs : List OpAnswer). apply && not (answers_lack xs) in
-    let here : PerformsOps draws (lent old) ops answers between = subst (λ (x : Peer N). PerformsOps draws x ops answers between) p_is performs in
-    let then : Becomes (apply && not (answers_lack answers)) between applied q = subst (λ (b : Bool). Becomes b between applied q) (asked_is ∙ ap F slice_is) becomes in
-    let staged : StagesOps (lent old) ops answers between = ops_stage draws (lent old) between ops answers here in
-    let told : length (channel_rows q.channels) ≡ length (channel_rows between.channels) = ap length (becomes_channels (apply && not (answers_lack answers)) between q applied then) in
-    record {
-      between = between;
-      performs = here;
-      becomes = then;
-      rows = becomes_rows (apply && not (answers_lack answers)) between q applied then ∙ staged.rows;
-      channels = omega (arith, told, ops_channels draws (lent old) between ops answers here);
-    }
+  stages : (old p between q : Peer I D S M N) (ops : List Op) (apply asked : Bool) (answers slice : List OpAnswer) (applied : Applied) → p ≡ lent old → PerformsOps m p ops answers between → slice ≡ answers → asked ≡ (apply && not (answers_lack slice)) → Becomes m asked between applied q → Stages m old ops apply answers applied q
+  stages old p between q ops apply asked answers slice applied p_is performs slice_is asked_is becomes =
+      let F : List OpAnswer → Bool = λ (xs : List OpAnswer). apply && not (answers_lack xs) in
+      let here : PerformsOps m (lent old) ops answers between = subst (λ (x : Peer I D S M N). PerformsOps m x ops answers between) p_is performs in
+      let then : Becomes m (apply && not (answers_lack answers)) between applied q = subst (λ (b : Bool). Becomes m b between applied q) (asked_is ∙ ap F slice_is) becomes in
+      let told : length (channel_rows q.channels) ≡ length (channel_rows between.channels) = ap length (becomes_channels (apply && not (answers_lack answers)) between q applied then) in
+      record {
+        between = between;
+        performs = here;
+        becomes = then;
+        rows = becomes_rows (apply && not (answers_lack answers)) between q applied then ∙ ops_rows m (lent old) between ops answers here;
+        channels = omega (arith, told, ops_channels m (lent old) between ops answers here);
+      }
 
-pub stages_not : {N : Type 0} (draws : Draws N) (old p between q : Peer N) (ops : List Op) (apply : Bool) (answers slice : List OpAnswer) → p ≡ lent old → PerformsOps draws p ops answers between → slice ≡ answers → false ≡ (apply && not (answers_lack slice)) → q ≡ between → Stages draws old ops apply answers NotAsked q
-stages_not draws old p between q ops apply answers slice p_is performs slice_is asked_is same =
-    stages draws old p between q ops apply false answers slice NotAsked p_is performs slice_is asked_is same
+  pub stages_not : (old p between q : Peer I D S M N) (ops : List Op) (apply : Bool) (answers slice : List OpAnswer) → p ≡ lent old → PerformsOps m p ops answers between → slice ≡ answers → false ≡ (apply && not (answers_lack slice)) → q ≡ between → Stages m old ops apply answers NotAsked q
+  stages_not old p between q ops apply answers slice p_is performs slice_is asked_is same =
+      stages old p between q ops apply false answers slice NotAsked p_is performs slice_is asked_is same
 
-pub stages_offer : {N : Type 0} (draws : Draws N) (old p between r q : Peer N) (ops : List Op) (apply : Bool) (answers slice : List OpAnswer) (result : Result (Option (SdpOffer × PendingOffer)) AllocError) (made : Option (SdpOffer × PendingOffer)) (offer : SdpOffer) (token : PendingOffer) → p ≡ lent old → PerformsOps draws p ops answers between → slice ≡ answers → true ≡ (apply && not (answers_lack slice)) → result ≡ Ok made → made ≡ Some (offer, token) → Applies between (sdp_of_offer result) r → q ≡ r → Stages draws old ops apply answers (Offer offer token) q
-stages_offer {N} draws old p between r q ops apply answers slice result made offer token p_is performs slice_is asked_is result_is made_is applies same =
-    let F : Result (Option (SdpOffer × PendingOffer)) AllocError → Type 0 = λ (x : Result (Option (SdpOffer × PendingOffer)) AllocError). Applies between (sdp_of_offer x) r in
-    let G : Peer N → Type 0 = λ (x : Peer N). Applies between (Ok (Some (offer.0, token))) x in
-    stages draws old p between q ops apply true answers slice (Offer offer token) p_is performs slice_is asked_is (subst G (sym same) (subst F (result_is ∙ ap Ok made_is) applies))
+  pub stages_offer : (old p between r q : Peer I D S M N) (ops : List Op) (apply : Bool) (answers slice : List OpAnswer) (result : Result (Option (SdpOffer × PendingOffer)) AllocError) (made : Option (SdpOffer × PendingOffer)) (offer : SdpOffer) (token : PendingOffer) → p ≡ lent old → PerformsOps m p ops answers between → slice ≡ answers → true ≡ (apply && not (answers_lack slice)) → result ≡ Ok made → made ≡ Some (offer, token) → Applies m between (sdp_of_offer result) r → q ≡ r → Stages m old ops apply answers (Offer offer token) q
+  stages_offer old p between r q ops apply answers slice result made offer token p_is performs slice_is asked_is result_is made_is applies same =
+      let F : Result (Option (SdpOffer × PendingOffer)) AllocError → Type 0 = λ (x : Result (Option (SdpOffer × PendingOffer)) AllocError). Applies m between (sdp_of_offer x) r in
+      let G : Peer I D S M N → Type 0 = λ (x : Peer I D S M N). Applies m between (Ok (Some (offer.0, token))) x in
+      stages old p between q ops apply true answers slice (Offer offer token) p_is performs slice_is asked_is (subst G (sym same) (subst F (result_is ∙ ap Ok made_is) applies))
 
-pub stages_nothing : {N : Type 0} (draws : Draws N) (old p between r q : Peer N) (ops : List Op) (apply : Bool) (answers slice : List OpAnswer) (result : Result (Option (SdpOffer × PendingOffer)) AllocError) (made : Option (SdpOffer × PendingOffer)) → p ≡ lent old → PerformsOps draws p ops answers between → slice ≡ answers → true ≡ (apply && not (answers_lack slice)) → result ≡ Ok made → made ≡ None → Applies between (sdp_of_offer result) r → q ≡ r → Stages draws old ops apply answers Nothing q
-stages_nothing {N} draws old p between r q ops apply answers slice result made p_is performs slice_is asked_is result_is made_is applies same =
-    let F : Result (Option (SdpOffer × PendingOffer)) AllocError → Type 0 = λ (x : Result (Option (SdpOffer × PendingOffer)) AllocError). Applies between (sdp_of_offer x) r in
-    let G : Peer N → Type 0 = λ (x : Peer N). Applies between (Ok None) x in
-    stages draws old p between q ops apply true answers slice Nothing p_is performs slice_is asked_is (subst G (sym same) (subst F (result_is ∙ ap Ok made_is) applies))
+  pub stages_nothing : (old p between r q : Peer I D S M N) (ops : List Op) (apply : Bool) (answers slice : List OpAnswer) (result : Result (Option (SdpOffer × PendingOffer)) AllocError) (made : Option (SdpOffer × PendingOffer)) → p ≡ lent old → PerformsOps m p ops answers between → slice ≡ answers → true ≡ (apply && not (answers_lack slice)) → result ≡ Ok made → made ≡ None → Applies m between (sdp_of_offer result) r → q ≡ r → Stages m old ops apply answers Nothing q
+  stages_nothing old p between r q ops apply answers slice result made p_is performs slice_is asked_is result_is made_is applies same =
+      let F : Result (Option (SdpOffer × PendingOffer)) AllocError → Type 0 = λ (x : Result (Option (SdpOffer × PendingOffer)) AllocError). Applies m between (sdp_of_offer x) r in
+      let G : Peer I D S M N → Type 0 = λ (x : Peer I D S M N). Applies m between (Ok None) x in
+      stages old p between q ops apply true answers slice Nothing p_is performs slice_is asked_is (subst G (sym same) (subst F (result_is ∙ ap Ok made_is) applies))
 
-pub stages_alloc : {N : Type 0} (draws : Draws N) (old p between r q : Peer N) (ops : List Op) (apply : Bool) (answers slice : List OpAnswer) (result : Result (Option (SdpOffer × PendingOffer)) AllocError) (e : AllocError) → p ≡ lent old → PerformsOps draws p ops answers between → slice ≡ answers → true ≡ (apply && not (answers_lack slice)) → result ≡ Err e → Applies between (sdp_of_offer result) r → q ≡ r → Stages draws old ops apply answers Alloc q
-stages_alloc {N} draws old p between r q ops apply answers slice result e p_is performs slice_is asked_is result_is applies same =
-    let F : Result (Option (SdpOffer × PendingOffer)) AllocError → Type 0 = λ (x : Result (Option (SdpOffer × PendingOffer)) AllocError). Applies between (sdp_of_offer x) r in
-    let G : Peer N → Type 0 = λ (x : Peer N). Applies between (Err e) x in
-    stages draws old p between q ops apply true answers slice Alloc p_is performs slice_is asked_is (subst G (sym same) (subst F result_is applies))
+  pub stages_alloc : (old p between r q : Peer I D S M N) (ops : List Op) (apply : Bool) (answers slice : List OpAnswer) (result : Result (Option (SdpOffer × PendingOffer)) AllocError) (e : AllocError) → p ≡ lent old → PerformsOps m p ops answers between → slice ≡ answers → true ≡ (apply && not (answers_lack slice)) → result ≡ Err e → Applies m between (sdp_of_offer result) r → q ≡ r → Stages m old ops apply answers Alloc q
+  stages_alloc old p between r q ops apply answers slice result e p_is performs slice_is asked_is result_is applies same =
+      let F : Result (Option (SdpOffer × PendingOffer)) AllocError → Type 0 = λ (x : Result (Option (SdpOffer × PendingOffer)) AllocError). Applies m between (sdp_of_offer x) r in
+      let G : Peer I D S M N → Type 0 = λ (x : Peer I D S M N). Applies m between (Err e) x in
+      stages old p between q ops apply true answers slice Alloc p_is performs slice_is asked_is (subst G (sym same) (subst F result_is applies))

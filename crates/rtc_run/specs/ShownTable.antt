@@ -3,5 +3,5 @@ use Rattle.rtc_channels.specs.Channels.{channel_rows}
 use Rattle.rtc_peer_state.specs.declared.peer.Peer.{Peer}
 use Rattle.rtc_history.specs.declared.table.Table.{Table}
 
-abbrev pub shown_table : {N : Type 0} → Peer N → Table
+abbrev pub shown_table : {I D S M N : Type 0} → Peer I D S M N → Table
 shown_table p = record { lines = p.lines; channels = channel_rows p.channels }

@@ -3,19 +3,20 @@ ghost use Rattle.std.specs.Prelude.{◌≡◌, ◌+◌, ◌<◌, ◌≤◌, ◌^
 ghost use Rattle.std.specs.Prelude.{IsTrue, IsSome, IfSome, IfNone, OnSome, is_some, slice_get};
 ghost use Rattle.std.specs.Option.{option_copied};
 ghost use Rattle.rtc_channels.specs.Channels.{channel_rows};
-ghost use Rattle.rtc_peer_state.specs.Calls.{AcceptsAnswer, AcceptsOffer};
+ghost use Rattle.rtc_peer_state.specs.Acceptances.{AcceptsAnswer, AcceptsOffer};
 ghost use Rattle.rtc_peer.specs.Described.{sdp_of_answer};
 ghost use Rattle.rtc_delivery.specs.Delivered.{AllReadBack};
 ghost use Rattle.rtc_history.specs.Sides.{same_side};
 ghost use Rattle.rtc_history.specs.PairState.{kept_remote_sdp, held_token, spent};
 ghost use Rattle.rtc_history.specs.Performs.{StepAcceptsAnswer, StepAcceptsOffer, kept_answer, lent};
+ghost use Rattle.rtc_peer_state.specs.Meanings.{meanings};
 
 use crate::replying::{make_room, reply_no_memory, reply_no_such, reply_with, room_for};
 use rtc_change::SdpPendingOffer;
 use rtc_delivery::{deliver_kept_answer, deliver_kept_offer};
 use rtc_history::{Kept, Outcome, Reply, Side};
 use rtc_lines::{SdpAnswer, SdpOffer};
-use rtc_peer::{Ids, Rtc, RtcError};
+use rtc_peer::{Association, DtlsInstance, IceAgent, Ids, MediaSession, Rtc, RtcError};
 use rtc_sdp_values::Sdp;
 use std::alloc::Global;
 
@@ -53,8 +54,12 @@ fn keep_answer(at: Side, answer: SdpAnswer) -> Kept
     }
 }
 
-fn accept_offer<N: Ids>(rtc: &mut Rtc<N>, offer: SdpOffer) -> Result<SdpAnswer, RtcError>
-    ensures accepts { AcceptsOffer N.ids (lent rtc.old.core) offer.0 (sdp_of_answer result) rtc.new.core }
+fn accept_offer<I: IceAgent, D: DtlsInstance, S: Association, M: MediaSession, N: Ids>(
+    rtc: &mut Rtc<I, D, S, M, N>,
+    offer: SdpOffer,
+) -> Result<SdpAnswer, RtcError>
+    ensures accepts { AcceptsOffer (meanings I.ice D.dtls S.association M.media N.ids)
+        (lent rtc.old.core) offer.0 (sdp_of_answer result) rtc.new.core }
     ensures rows { length rtc.new.core.lines ≤ length rtc.old.core.lines + length offer.0.lines }
     ensures channels { channel_rows rtc.new.core.channels ≡ channel_rows rtc.old.core.channels }
 {
@@ -62,16 +67,17 @@ fn accept_offer<N: Ids>(rtc: &mut Rtc<N>, offer: SdpOffer) -> Result<SdpAnswer, 
 }
 
 /// Delivers the offer of a number to a peer, which accepts or refuses it.
-pub fn deliver_and_accept_offer<N: Ids>(
-    alloc: Global,
-    rtc: &mut Rtc<N>,
-    sdps: &mut Vec<Kept>,
-    at: Side,
-    offer: u32,
-) -> Reply
+pub fn deliver_and_accept_offer<
+    I: IceAgent,
+    D: DtlsInstance,
+    S: Association,
+    M: MediaSession,
+    N: Ids,
+>(alloc: Global, rtc: &mut Rtc<I, D, S, M, N>, sdps: &mut Vec<Kept>, at: Side, offer: u32) -> Reply
     requires count { length sdps.old.items < 2 ^ 32 }
     requires read_back { AllReadBack sdps.old.items }
-    ensures { StepAcceptsOffer N.ids at (kept_remote_sdp true sdps.old.items at offer) rtc.old.core sdps.old.items
+    ensures { StepAcceptsOffer (meanings I.ice D.dtls S.association M.media N.ids)
+        at (kept_remote_sdp true sdps.old.items at offer) rtc.old.core sdps.old.items
         result.outcome result.table rtc.new.core sdps.new.items }
 {
     let delivered = match find_sdp(sdps, true, at, offer) {
@@ -119,12 +125,13 @@ fn take_token(sdps: &mut Vec<Kept>, at: Side, number: u32) -> Option<SdpPendingO
     kept.token.take()
 }
 
-fn accept_answer<N: Ids>(
-    rtc: &mut Rtc<N>,
+fn accept_answer<I: IceAgent, D: DtlsInstance, S: Association, M: MediaSession, N: Ids>(
+    rtc: &mut Rtc<I, D, S, M, N>,
     pending: SdpPendingOffer,
     answer: SdpAnswer,
 ) -> Result<(), RtcError>
-    ensures accepts { AcceptsAnswer N.ids (lent rtc.old.core) pending answer.0 result rtc.new.core }
+    ensures accepts { AcceptsAnswer (meanings I.ice D.dtls S.association M.media N.ids)
+        (lent rtc.old.core) pending answer.0 result rtc.new.core }
     ensures rows { length rtc.new.core.lines ≤ length rtc.old.core.lines + length answer.0.lines }
     ensures channels { channel_rows rtc.new.core.channels ≡ channel_rows rtc.old.core.channels }
 {
@@ -132,16 +139,23 @@ fn accept_answer<N: Ids>(
 }
 
 /// Delivers the answer of a number to a peer, which accepts or refuses it with the token of a number.
-pub fn deliver_and_accept_answer<N: Ids>(
+pub fn deliver_and_accept_answer<
+    I: IceAgent,
+    D: DtlsInstance,
+    S: Association,
+    M: MediaSession,
+    N: Ids,
+>(
     alloc: Global,
-    rtc: &mut Rtc<N>,
+    rtc: &mut Rtc<I, D, S, M, N>,
     sdps: &mut Vec<Kept>,
     at: Side,
     token: u32,
     answer: u32,
 ) -> Reply
     requires read_back { AllReadBack sdps.old.items }
-    ensures { StepAcceptsAnswer N.ids token (held_token sdps.old.items at token) (kept_remote_sdp false sdps.old.items at answer)
+    ensures { StepAcceptsAnswer (meanings I.ice D.dtls S.association M.media N.ids)
+        token (held_token sdps.old.items at token) (kept_remote_sdp false sdps.old.items at answer)
         rtc.old.core sdps.old.items result.outcome result.table rtc.new.core sdps.new.items }
 {
     let delivered = match find_sdp(sdps, false, at, answer) {

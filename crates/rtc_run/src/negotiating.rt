@@ -1,30 +1,36 @@
 //! Ops of a step at one peer.
 ghost use Rattle.std.specs.Prelude.{◌≡◌, ◌+◌, ◌<◌, ◌≤◌, ◌^◌, ◌-◌, ◌++◌, [], ◌∷◌, length, slice_get, vec_capacity, vec_len};
 ghost use Rattle.std.specs.Prelude.{Some, IfOk, not, ◌&&◌, true, false};
-ghost use Rattle.rtc_change.specs.RowChanges.{media_mid};
+ghost use Rattle.rtc_tables.specs.RowChanges.{media_mid};
 ghost use Rattle.rtc_channels.specs.Channels.{channel_rows};
 ghost use Rattle.rtc_history.specs.Memory.{answers_lack};
-ghost use Rattle.rtc_history.specs.declared.op.Op.TheVariants.{AddMedia, SetDirection, StopMedia, AddChannel};
+ghost use Rattle.rtc_history.specs.declared.op.Op.TheVariants.{AddMedia, SetDirection, StopMedia, AddChannel, IceRestart};
 ghost use Rattle.rtc_history.specs.declared.outcome.Outcome.TheVariants.{Negotiated};
 ghost use Rattle.rtc_history.specs.Performs.{Negotiates, PerformsOps, kept_offer};
 ghost use Rattle.rtc_run.specs.RefusedChannel.{refused_channel};
 ghost use Rattle.rtc_run.specs.ShownTable.{shown_table};
 ghost use Rattle.rtc_run.specs.Stages.{Stages};
+ghost use Rattle.rtc_peer_state.specs.Meanings.{meanings};
 
 use crate::applied::Applied;
 use crate::replying::{Room, make_room, reply_no_memory, reply_with};
 use rtc_change::SdpPendingOffer;
 use rtc_history::{Kept, Made, Op, OpAnswer, Outcome, Reply, Side, do_answers_lack};
 use rtc_lines::SdpOffer;
-use rtc_peer::{Ids, Rtc, RtcError, SdpApi};
+use rtc_peer::{Association, DtlsInstance, IceAgent, Ids, MediaSession, Rtc, RtcError, SdpApi};
 use rtc_sdp_values::{Direction, LineRow, MediaKind, Mid};
 use rtc_wire::{ChannelConfig, Seq, TryCopy};
 use std::alloc::Global;
 
 // Stages a media line whose stream and track names are drawn.
-fn add_line<N: Ids>(api: &mut SdpApi<'_, N>, kind: MediaKind, dir: Direction) -> OpAnswer
+fn add_line<I: IceAgent, D: DtlsInstance, S: Association, M: MediaSession, N: Ids>(
+    api: &mut SdpApi<'_, I, D, S, M, N>,
+    kind: MediaKind,
+    dir: Direction,
+) -> OpAnswer
     ensures same_reference { api.new.rtc.ghost_name ≡ api.old.rtc.ghost_name }
-    ensures performs { PerformsOps N.ids api.old.rtc.now.core (AddMedia kind dir ∷ []) (result ∷ []) api.new.rtc.now.core }
+    ensures performs { PerformsOps (meanings I.ice D.dtls S.association M.media N.ids)
+        api.old.rtc.now.core (AddMedia kind dir ∷ []) (result ∷ []) api.new.rtc.now.core }
 {
     match api.add_media(kind, dir, None, None, None) {
         Ok(mid) => OpAnswer::Mid(mid),
@@ -46,9 +52,14 @@ fn find_line(rows: &[LineRow], place: u32) -> Option<Mid>
 }
 
 // Sets the direction of the line at a place.
-fn set_line<N: Ids>(api: &mut SdpApi<'_, N>, place: u32, dir: Direction) -> OpAnswer
+fn set_line<I: IceAgent, D: DtlsInstance, S: Association, M: MediaSession, N: Ids>(
+    api: &mut SdpApi<'_, I, D, S, M, N>,
+    place: u32,
+    dir: Direction,
+) -> OpAnswer
     ensures same_reference { api.new.rtc.ghost_name ≡ api.old.rtc.ghost_name }
-    ensures performs { PerformsOps N.ids api.old.rtc.now.core (SetDirection place dir ∷ []) (result ∷ []) api.new.rtc.now.core }
+    ensures performs { PerformsOps (meanings I.ice D.dtls S.association M.media N.ids)
+        api.old.rtc.now.core (SetDirection place dir ∷ []) (result ∷ []) api.new.rtc.now.core }
 {
     let Some(mid) = find_line(api.lines().rows(), place) else {
         return OpAnswer::NoLine;
@@ -60,9 +71,13 @@ fn set_line<N: Ids>(api: &mut SdpApi<'_, N>, place: u32, dir: Direction) -> OpAn
 }
 
 // Stops the line at a place.
-fn stop_line<N: Ids>(api: &mut SdpApi<'_, N>, place: u32) -> OpAnswer
+fn stop_line<I: IceAgent, D: DtlsInstance, S: Association, M: MediaSession, N: Ids>(
+    api: &mut SdpApi<'_, I, D, S, M, N>,
+    place: u32,
+) -> OpAnswer
     ensures same_reference { api.new.rtc.ghost_name ≡ api.old.rtc.ghost_name }
-    ensures performs { PerformsOps N.ids api.old.rtc.now.core (StopMedia place ∷ []) (result ∷ []) api.new.rtc.now.core }
+    ensures performs { PerformsOps (meanings I.ice D.dtls S.association M.media N.ids)
+        api.old.rtc.now.core (StopMedia place ∷ []) (result ∷ []) api.new.rtc.now.core }
 {
     let Some(mid) = find_line(api.lines().rows(), place) else {
         return OpAnswer::NoLine;
@@ -84,9 +99,13 @@ fn answer_refusal(error: &RtcError) -> OpAnswer
 }
 
 // Stages a channel that is opened with a copy of the config.
-fn add_channel<N: Ids>(api: &mut SdpApi<'_, N>, config: &ChannelConfig) -> OpAnswer
+fn add_channel<I: IceAgent, D: DtlsInstance, S: Association, M: MediaSession, N: Ids>(
+    api: &mut SdpApi<'_, I, D, S, M, N>,
+    config: &ChannelConfig,
+) -> OpAnswer
     ensures same_reference { api.new.rtc.ghost_name ≡ api.old.rtc.ghost_name }
-    ensures performs { PerformsOps N.ids api.old.rtc.now.core (AddChannel config.now ∷ []) (result ∷ []) api.new.rtc.now.core }
+    ensures performs { PerformsOps (meanings I.ice D.dtls S.association M.media N.ids)
+        api.old.rtc.now.core (AddChannel config.now ∷ []) (result ∷ []) api.new.rtc.now.core }
 {
     let Ok(config) = config.copy() else {
         return OpAnswer::Alloc;
@@ -97,24 +116,49 @@ fn add_channel<N: Ids>(api: &mut SdpApi<'_, N>, config: &ChannelConfig) -> OpAns
     }
 }
 
-fn perform_op<N: Ids>(api: &mut SdpApi<'_, N>, op: &Op) -> OpAnswer
+// Stages a restart of ICE.
+fn stage_restart<I: IceAgent, D: DtlsInstance, S: Association, M: MediaSession, N: Ids>(
+    api: &mut SdpApi<'_, I, D, S, M, N>,
+    keep: bool,
+) -> OpAnswer
     ensures same_reference { api.new.rtc.ghost_name ≡ api.old.rtc.ghost_name }
-    ensures performs { PerformsOps N.ids api.old.rtc.now.core (op.now ∷ []) (result ∷ []) api.new.rtc.now.core }
+    ensures performs { PerformsOps (meanings I.ice D.dtls S.association M.media N.ids)
+        api.old.rtc.now.core (IceRestart keep ∷ []) (result ∷ []) api.new.rtc.now.core }
+{
+    match api.ice_restart(keep) {
+        Ok(creds) => OpAnswer::Creds(creds),
+        Err(_) => OpAnswer::Alloc,
+    }
+}
+
+fn perform_op<I: IceAgent, D: DtlsInstance, S: Association, M: MediaSession, N: Ids>(
+    api: &mut SdpApi<'_, I, D, S, M, N>,
+    op: &Op,
+) -> OpAnswer
+    ensures same_reference { api.new.rtc.ghost_name ≡ api.old.rtc.ghost_name }
+    ensures performs { PerformsOps (meanings I.ice D.dtls S.association M.media N.ids)
+        api.old.rtc.now.core (op.now ∷ []) (result ∷ []) api.new.rtc.now.core }
 {
     match op {
         Op::AddMedia { kind, dir } => add_line(api, *kind, *dir),
         Op::SetDirection { place, dir } => set_line(api, *place, *dir),
         Op::StopMedia { place } => stop_line(api, *place),
         Op::AddChannel { config } => add_channel(api, config),
+        Op::IceRestart { keep } => stage_restart(api, *keep),
     }
 }
 
 // Performs ops in order, up to the first that answers `Alloc`.
-fn perform_ops<N: Ids>(api: &mut SdpApi<'_, N>, ops: &[Op], room: Vec<OpAnswer>) -> Seq<OpAnswer>
+fn perform_ops<I: IceAgent, D: DtlsInstance, S: Association, M: MediaSession, N: Ids>(
+    api: &mut SdpApi<'_, I, D, S, M, N>,
+    ops: &[Op],
+    room: Vec<OpAnswer>,
+) -> Seq<OpAnswer>
     requires empty { room.items ≡ [] }
     requires room { length ops.now ≤ vec_capacity room }
     ensures same_reference { api.new.rtc.ghost_name ≡ api.old.rtc.ghost_name }
-    ensures performs { PerformsOps N.ids api.old.rtc.now.core ops.now result api.new.rtc.now.core }
+    ensures performs { PerformsOps (meanings I.ice D.dtls S.association M.media N.ids)
+        api.old.rtc.now.core ops.now result api.new.rtc.now.core }
 {
     let mut room = room;
     for op in ops {
@@ -136,15 +180,15 @@ fn is_asked(apply: bool, answers: &[OpAnswer]) -> bool
 }
 
 // Performs ops at a peer, and applies what they staged if the step asks for it.
-fn perform_and_apply<N: Ids>(
-    rtc: &mut Rtc<N>,
+fn perform_and_apply<I: IceAgent, D: DtlsInstance, S: Association, M: MediaSession, N: Ids>(
+    rtc: &mut Rtc<I, D, S, M, N>,
     ops: &[Op],
     apply: bool,
     room: Vec<OpAnswer>,
 ) -> (Seq<OpAnswer>, Applied)
     requires empty { room.items ≡ [] }
     requires room { length ops.now ≤ vec_capacity room }
-    ensures { Stages N.ids rtc.old.core ops.now apply result.0 result.1 rtc.new.core }
+    ensures { Stages (meanings I.ice D.dtls S.association M.media N.ids) rtc.old.core ops.now apply result.0 result.1 rtc.new.core }
 {
     let mut api = rtc.sdp_api();
     let answers = perform_ops(&mut api, ops, room);
@@ -179,7 +223,12 @@ fn keep_offer(at: Side, offer: SdpOffer, token: SdpPendingOffer) -> Kept
 }
 
 // The reply to a step of ops.
-fn reply_made<N: Ids>(answers: Seq<OpAnswer>, made: Made, room: Room, rtc: &Rtc<N>) -> Reply
+fn reply_made<I: IceAgent, D: DtlsInstance, S: Association, M: MediaSession, N: Ids>(
+    answers: Seq<OpAnswer>,
+    made: Made,
+    room: Room,
+    rtc: &Rtc<I, D, S, M, N>,
+) -> Reply
     requires no_lines { room.lines.items ≡ [] }
     requires no_channels { room.channels.items ≡ [] }
     requires lines { length rtc.now.core.lines ≤ vec_capacity room.lines }
@@ -191,16 +240,17 @@ fn reply_made<N: Ids>(answers: Seq<OpAnswer>, made: Made, room: Room, rtc: &Rtc<
 }
 
 /// Performs ops at a peer, and applies what they staged if the step asks for it.
-pub fn negotiate<N: Ids>(
+pub fn negotiate<I: IceAgent, D: DtlsInstance, S: Association, M: MediaSession, N: Ids>(
     alloc: Global,
-    rtc: &mut Rtc<N>,
+    rtc: &mut Rtc<I, D, S, M, N>,
     sdps: &mut Vec<Kept>,
     at: Side,
     ops: &[Op],
     apply: bool,
 ) -> Reply
     requires count { length sdps.old.items < 2 ^ 32 }
-    ensures { Negotiates N.ids at ops.now apply rtc.old.core sdps.old.items result.outcome result.table rtc.new.core sdps.new.items }
+    ensures { Negotiates (meanings I.ice D.dtls S.association M.media N.ids)
+        at ops.now apply rtc.old.core sdps.old.items result.outcome result.table rtc.new.core sdps.new.items }
 {
     let Ok(answers) = Vec::with_capacity(alloc, ops.len()) else {
         return reply_no_memory();

@@ -1,29 +1,31 @@
 //! Pairs of peers.
 ghost use Rattle.std.specs.Prelude.{◌≡◌, ◌+◌, ◌<◌, ◌≤◌, ◌^◌, ◌-◌, [], IsTrue, ◌↔◌, length, Some, None, All};
+ghost use Rattle.rtc_peer_state.specs.Meanings.{meanings};
 
 use crate::performing::perform_step;
 use rtc_history::{Kept, Reply, Side, Step};
-use rtc_peer::{Ids, Rtc};
+use rtc_peer::{Association, DtlsInstance, IceAgent, Ids, MediaSession, Rtc};
 use rtc_wire::Addr;
 use std::alloc::Global;
 use std::marker::Model;
 
 /// Two peers, an address of each, the session descriptions that they made, and the tokens of their offers.
 #[derive(Drop)]
-pub struct Pair<N: Ids> {
+pub struct Pair<I: IceAgent, D: DtlsInstance, S: Association, M: MediaSession, N: Ids> {
     alloc: Global,
-    left: Rtc<N>,
-    right: Rtc<N>,
+    left: Rtc<I, D, S, M, N>,
+    right: Rtc<I, D, S, M, N>,
     left_addr: Addr,
     right_addr: Addr,
     sdps: Vec<Kept>,
     size: u64,
 }
 
-impl<N: Ids> Model for Pair<N> {
+impl<I: IceAgent, D: DtlsInstance, S: Association, M: MediaSession, N: Ids> Model
+    for Pair<I, D, S, M, N> {
     ghost use Rattle.rtc_history.specs.PairState.{PairState};
 
-    ghost Value = { PairState N };
+    ghost Value = { PairState I D S M N };
 
     ghost view = { λ pair. record {
       left = pair.left;
@@ -35,7 +37,7 @@ impl<N: Ids> Model for Pair<N> {
     } };
 }
 
-impl<N: Ids> Pair<N> {
+impl<I: IceAgent, D: DtlsInstance, S: Association, M: MediaSession, N: Ids> Pair<I, D, S, M, N> {
     ghost use Rattle.rtc_history.specs.PairState.{PairState};
     ghost use Rattle.rtc_history.specs.Performs.{Performs};
     ghost use Rattle.rtc_delivery.specs.Delivered.{AllReadBack};
@@ -44,11 +46,11 @@ impl<N: Ids> Pair<N> {
     /// A pair of peers that made no session description yet.
     pub fn new(
         alloc: Global,
-        left: Rtc<N>,
-        right: Rtc<N>,
+        left: Rtc<I, D, S, M, N>,
+        right: Rtc<I, D, S, M, N>,
         left_addr: Addr,
         right_addr: Addr,
-    ) -> Pair<N>
+    ) -> Pair<I, D, S, M, N>
         ensures { result ≡ record { left = left; right = right; left_addr = left_addr; right_addr = right_addr; sdps = []; size = 0 } }
     {
         Pair {
@@ -63,14 +65,14 @@ impl<N: Ids> Pair<N> {
     }
 
     /// Lends the left peer.
-    pub fn left(&self) -> &Rtc<N>
+    pub fn left(&self) -> &Rtc<I, D, S, M, N>
         ensures { result.now ≡ self.now.left }
     {
         &self.left
     }
 
     /// Lends the right peer.
-    pub fn right(&self) -> &Rtc<N>
+    pub fn right(&self) -> &Rtc<I, D, S, M, N>
         ensures { result.now ≡ self.now.right }
     {
         &self.right
@@ -88,7 +90,7 @@ impl<N: Ids> Pair<N> {
         requires count { length self.old.sdps < 2 ^ 32 }
         requires read_back { AllReadBack self.old.sdps }
         requires size { self.old.size + step_size step.now < 2 ^ 32 }
-        ensures { Performs N.ids self.old step.now result.outcome result.table self.new }
+        ensures { Performs (meanings I.ice D.dtls S.association M.media N.ids) self.old step.now result.outcome result.table self.new }
     {
         self.size += step.size();
         match step.side() {

@@ -2,23 +2,25 @@
 ghost use Rattle.std.specs.Prelude.{◌<◌, ◌^◌, length};
 ghost use Rattle.rtc_delivery.specs.Delivered.{AllReadBack};
 ghost use Rattle.rtc_history.specs.Performs.{Acts};
+ghost use Rattle.rtc_peer_state.specs.Meanings.{meanings};
 
 use crate::accepting::{deliver_and_accept_answer, deliver_and_accept_offer};
 use crate::negotiating::negotiate;
 use rtc_history::{Kept, Reply, Step};
-use rtc_peer::{Ids, Rtc};
+use rtc_peer::{Association, DtlsInstance, IceAgent, Ids, MediaSession, Rtc};
 use std::alloc::Global;
 
 /// Performs a step at the peer that acts, with the session descriptions of both peers.
-pub fn perform_step<N: Ids>(
+pub fn perform_step<I: IceAgent, D: DtlsInstance, S: Association, M: MediaSession, N: Ids>(
     alloc: Global,
-    rtc: &mut Rtc<N>,
+    rtc: &mut Rtc<I, D, S, M, N>,
     sdps: &mut Vec<Kept>,
     step: &Step,
 ) -> Reply
     requires count { length sdps.old.items < 2 ^ 32 }
     requires read_back { AllReadBack sdps.old.items }
-    ensures { Acts N.ids step.now rtc.old.core sdps.old.items result.outcome result.table rtc.new.core sdps.new.items }
+    ensures { Acts (meanings I.ice D.dtls S.association M.media N.ids)
+        step.now rtc.old.core sdps.old.items result.outcome result.table rtc.new.core sdps.new.items }
 {
     match step {
         Step::Negotiate { at, ops, apply } => {

@@ -1,41 +1,93 @@
 //! The pair that scripts are performed on.
-ghost use Rattle.std.specs.Prelude.{◌≡◌, ◌≤◌, IfOk, Some, length};
-ghost use Rattle.rtc_peer_state.specs.Built.{built};
-ghost use Rattle.rtc_peer_state.specs.Formed.{IsFormed};
+ghost use Rattle.std.specs.Prelude.{◌≡◌, ◌≤◌, [], true, IfOk, OnOk, Ok, Some, None, length};
+ghost use Rattle.rtc_plain_ice.specs.Contents.{fresh_ice};
+ghost use Rattle.rtc_plain_ice.specs.PlainMeaning.{plain_ice};
+ghost use Rattle.rtc_plain_dtls.specs.Contents.{fresh_dtls};
+ghost use Rattle.rtc_assoc_state.specs.Contents.{fresh_contents};
+ghost use Rattle.rtc_plain_media.specs.MediaContents.{fresh_media};
+ghost use Rattle.rtc_peer_state.specs.Built.{Builds};
+ghost use Rattle.rtc_peer_state.specs.Formed.{IsFormed, IsHostCandidate};
+ghost use Rattle.rtc_peer_state.specs.Stance.{stance_of};
 ghost use Rattle.rtc_delivery.specs.Delivered.{ArePeersFormed};
-ghost use Rattle.rtc_history.specs.Fresh.{IsFresh};
-ghost use Rattle.rtc_run.specs.ProgramPair.{counting, program_pair};
+ghost use Rattle.rtc_history.specs.Fresh.{IsFresh, IsJustBuilt};
+ghost use Rattle.rtc_run.specs.ProgramPair.{plain_parts, host_at, IsProgramPeer, IsProgramPair};
 
 use crate::Pair;
-use rtc_peer::{Rtc, RtcConfig};
-use rtc_plain_ids::CountIds;
-use rtc_wire::{Addr, Moment};
+use rtc_assoc_end::PlainAssociation;
+use rtc_peer::{Candidate, Rtc, RtcConfig};
+use rtc_plain::{CountIds, PlainDtls, PlainIce, PlainMedia};
+use rtc_wire::{Addr, Moment, Protocol};
 use std::alloc::{AllocError, Global};
 
-/// A pair whose peers draw numbers by counting up.
-pub type PlainPair = Pair<CountIds>;
+/// A peer over parts in memory, which draws numbers by counting up.
+pub type PlainPeer = Rtc<PlainIce, PlainDtls, PlainAssociation, PlainMedia, CountIds>;
 
-// A peer with the certificate `name`, whose numbers count up from `first`.
-fn make_peer(alloc: Global, name: &str, first: u64) -> Result<Rtc<CountIds>, AllocError>
+/// A pair of such peers.
+pub type PlainPair = Pair<PlainIce, PlainDtls, PlainAssociation, PlainMedia, CountIds>;
+
+fn make_config(alloc: Global, lite: bool, name: &str) -> Result<RtcConfig, AllocError>
     requires { length name.now ≤ 1900 }
-    ensures state { IfOk result (λ rtc. rtc.core ≡ built counting alloc (record { cert = Some name.now }) 0 first) }
-    ensures formed { IfOk result (λ rtc. IsFormed rtc.core) }
+    ensures { IfOk result (λ config. config ≡ record { ice_lite = lite; creds = None; cert = Some name.now }) }
 {
     let mut cert = Vec::new(alloc);
     cert.extend_from_slice(name.as_bytes())?;
-    let config = RtcConfig::new(alloc)?.set_dtls_cert(cert);
-    Rtc::build(alloc, config, Moment::FAR_PAST, CountIds::starting(first))
+    let config = RtcConfig::new(alloc)?;
+    Ok(config.set_ice_lite(lite).set_dtls_cert(cert))
 }
 
-/// Two fresh peers at moment 0, whose certificates and first numbers are fixed, so that every report can be told beforehand.
-#[tactic(auto, unfolding(crate::specs::ProgramPair::program_pair))]
-pub fn make_pair(alloc: Global) -> Result<PlainPair, AllocError>
-    ensures state { IfOk result (λ pair. pair ≡ program_pair alloc) }
-    ensures fresh { IfOk result (λ pair. IsFresh pair) }
-    ensures formed { IfOk result (λ pair. ArePeersFormed pair) }
+fn build_peer(alloc: Global, config: RtcConfig, first: u64) -> Result<PlainPeer, AllocError>
+    ensures built { IfOk result (λ rtc. Builds plain_parts alloc config 0 fresh_ice fresh_dtls fresh_contents fresh_media first rtc.core) }
+    ensures formed { IfOk result (λ rtc. config.creds ≡ None → IsFormed (stance_of plain_parts rtc.core)) }
 {
-    let left = make_peer(alloc, "abc", 1)?;
-    let right = make_peer(alloc, "def", 1_000_001)?;
+    Rtc::build(
+        alloc,
+        config,
+        Moment::FAR_PAST,
+        PlainIce::new(alloc),
+        PlainDtls::new(alloc),
+        PlainAssociation::new(alloc),
+        PlainMedia::new(alloc),
+        CountIds::starting(first),
+    )
+}
+
+// Gives a peer its address, which a fresh agent takes.
+fn add_address(alloc: Global, rtc: &mut PlainPeer, addr: Addr) -> Result<(), AllocError>
+    requires { rtc.old.core.ice.settings.candidates ≡ [] }
+    ensures added { OnOk result (plain_ice.local_added rtc.old.core.ice (host_at addr) (Ok true) rtc.new.core.ice) }
+    ensures others { rtc.new.core ≡ record rtc.old.core { ice = rtc.new.core.ice } }
+{
+    let candidate = Candidate::host(alloc, addr, Protocol::Udp)?;
+    rtc.add_local_candidate(candidate)?;
+    Ok(())
+}
+
+// A peer with the certificate `name` and an address, whose numbers count up from `first`.
+fn make_peer(
+    alloc: Global,
+    lite: bool,
+    name: &str,
+    first: u64,
+    addr: Addr,
+) -> Result<PlainPeer, AllocError>
+    requires { length name.now ≤ 1900 }
+    ensures peer { IfOk result (λ rtc. IsProgramPeer alloc lite name.now first addr rtc.core) }
+    ensures fresh { IfOk result (λ rtc. IsJustBuilt (stance_of plain_parts rtc.core)) }
+    ensures formed { IfOk result (λ rtc. IsHostCandidate (host_at addr) → IsFormed (stance_of plain_parts rtc.core)) }
+{
+    let config = make_config(alloc, lite, name)?;
+    let mut rtc = build_peer(alloc, config, first)?;
+    add_address(alloc, &mut rtc, addr)?;
+    Ok(rtc)
+}
+
+/// Two fresh peers at moment 0, each lite or not, whose certificates, addresses and first numbers are fixed, so that every report
+/// can be told beforehand.
+pub fn make_pair(alloc: Global, left_lite: bool, right_lite: bool) -> Result<PlainPair, AllocError>
+    ensures state { IfOk result (λ pair. IsProgramPair alloc left_lite right_lite pair) }
+    ensures fresh { IfOk result (λ pair. IsFresh plain_parts pair) }
+    ensures formed { IfOk result (λ pair. ArePeersFormed plain_parts pair) }
+{
     let left_addr = Addr {
         ip: [1, 1, 1, 1],
         port: 1000,
@@ -44,5 +96,7 @@ pub fn make_pair(alloc: Global) -> Result<PlainPair, AllocError>
         ip: [2, 2, 2, 2],
         port: 2000,
     };
+    let left = make_peer(alloc, left_lite, "abc", 1, left_addr)?;
+    let right = make_peer(alloc, right_lite, "def", 1_000_001, right_addr)?;
     Ok(Pair::new(alloc, left, right, left_addr, right_addr))
 }

@@ -7,7 +7,7 @@ ghost use Rattle.rtc_run.specs.ShownTable.{shown_table};
 
 use rtc_channels::ChannelRow;
 use rtc_history::{Kept, Outcome, Reply, Table};
-use rtc_peer::{Ids, Rtc};
+use rtc_peer::{Association, DtlsInstance, IceAgent, Ids, MediaSession, Rtc};
 use rtc_sdp_values::LineRow;
 use rtc_wire::Seq;
 use std::alloc::{AllocError, Global};
@@ -20,9 +20,9 @@ pub struct Room {
 }
 
 /// Room for the table of a peer that gets so many lines and channels more.
-pub fn room_for<N: Ids>(
+pub fn room_for<I: IceAgent, D: DtlsInstance, S: Association, M: MediaSession, N: Ids>(
     alloc: Global,
-    rtc: &Rtc<N>,
+    rtc: &Rtc<I, D, S, M, N>,
     lines: usize,
     channels: usize,
 ) -> Result<Room, AllocError>
@@ -41,9 +41,9 @@ pub fn room_for<N: Ids>(
 
 /// Room for the table of a peer that gets so many lines and channels more, and for one more session description behind those that
 /// are kept.
-pub fn make_room<N: Ids>(
+pub fn make_room<I: IceAgent, D: DtlsInstance, S: Association, M: MediaSession, N: Ids>(
     alloc: Global,
-    rtc: &Rtc<N>,
+    rtc: &Rtc<I, D, S, M, N>,
     lines: usize,
     channels: usize,
     sdps: &mut Vec<Kept>,
@@ -76,7 +76,10 @@ fn fill_lines(room: Vec<LineRow>, rows: &[LineRow]) -> Seq<LineRow>
 }
 
 // Puts the rows of the channels into `room`.
-fn fill_channels<N: Ids>(room: Vec<ChannelRow>, rtc: &Rtc<N>) -> Seq<ChannelRow>
+fn fill_channels<I: IceAgent, D: DtlsInstance, S: Association, M: MediaSession, N: Ids>(
+    room: Vec<ChannelRow>,
+    rtc: &Rtc<I, D, S, M, N>,
+) -> Seq<ChannelRow>
     requires empty { room.items ≡ [] }
     requires room { length (channel_rows rtc.now.core.channels) ≤ vec_capacity room }
     ensures { result ≡ channel_rows rtc.now.core.channels }
@@ -93,7 +96,11 @@ fn fill_channels<N: Ids>(room: Vec<ChannelRow>, rtc: &Rtc<N>) -> Seq<ChannelRow>
 }
 
 /// The reply with an outcome and the table of a peer.
-pub fn reply_with<N: Ids>(outcome: Outcome, room: Room, rtc: &Rtc<N>) -> Reply
+pub fn reply_with<I: IceAgent, D: DtlsInstance, S: Association, M: MediaSession, N: Ids>(
+    outcome: Outcome,
+    room: Room,
+    rtc: &Rtc<I, D, S, M, N>,
+) -> Reply
     requires no_lines { room.lines.items ≡ [] }
     requires no_channels { room.channels.items ≡ [] }
     requires lines { length rtc.now.core.lines ≤ vec_capacity room.lines }
@@ -121,7 +128,10 @@ pub fn reply_no_memory() -> Reply
 }
 
 /// The reply to a step that names what is not there.
-pub fn reply_no_such<N: Ids>(alloc: Global, rtc: &Rtc<N>) -> Reply
+pub fn reply_no_such<I: IceAgent, D: DtlsInstance, S: Association, M: MediaSession, N: Ids>(
+    alloc: Global,
+    rtc: &Rtc<I, D, S, M, N>,
+) -> Reply
     ensures { IsNoSuch rtc.now.core result.outcome result.table }
 {
     match room_for(alloc, rtc, 0, 0) {

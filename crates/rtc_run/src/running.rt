@@ -4,10 +4,11 @@ ghost use Rattle.rtc_history.specs.Sizes.{steps_size};
 ghost use Rattle.rtc_delivery.specs.Delivered.{AllReadBack, ArePeersFormed};
 ghost use Rattle.rtc_history.specs.Fresh.{IsFresh};
 ghost use Rattle.rtc_history.specs.Runs.{Runs};
+ghost use Rattle.rtc_peer_state.specs.Meanings.{meanings};
 
 use crate::Pair;
 use rtc_history::{Reply, Step};
-use rtc_peer::Ids;
+use rtc_peer::{Association, DtlsInstance, IceAgent, Ids, MediaSession};
 use rtc_wire::Seq;
 use std::alloc::{AllocError, Global};
 
@@ -15,15 +16,15 @@ use std::alloc::{AllocError, Global};
 ///
 /// Offers and answers reach the other peer as signalling delivers them: written, and read again. Room for the replies is made first,
 /// so an error leaves both peers as they were.
-pub fn run_pair<N: Ids>(
+pub fn run_pair<I: IceAgent, D: DtlsInstance, S: Association, M: MediaSession, N: Ids>(
     alloc: Global,
-    pair: &mut Pair<N>,
+    pair: &mut Pair<I, D, S, M, N>,
     steps: &[Step],
 ) -> Result<Seq<Reply>, AllocError>
-    requires fresh { IsFresh pair.old }
-    requires formed { ArePeersFormed pair.old }
+    requires fresh { IsFresh (meanings I.ice D.dtls S.association M.media N.ids) pair.old }
+    requires formed { ArePeersFormed (meanings I.ice D.dtls S.association M.media N.ids) pair.old }
     requires sizes { steps_size steps.now < 2 ^ 32 }
-    ensures runs { IfOk result (λ replies. Runs N.ids pair.old steps.now replies pair.new) }
+    ensures runs { IfOk result (λ replies. Runs (meanings I.ice D.dtls S.association M.media N.ids) pair.old steps.now replies pair.new) }
     ensures read_back { IfOk result (λ replies. AllReadBack pair.new.sdps) }
     ensures untouched { OnErr result (pair.new ≡ pair.old) }
 {

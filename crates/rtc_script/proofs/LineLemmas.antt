@@ -12,12 +12,12 @@ use Rattle.rtc_script.proofs.LabelLemmas.{one_label}
 use Rattle.rtc_script.proofs.ZipLemmas.{one_zip}
 use Rattle.rtc_history.specs.Sides.{side_of}
 use Rattle.rtc_history.specs.declared.op.Op.{Op}
-use Rattle.rtc_history.specs.declared.op.Op.TheVariants.{AddMedia, SetDirection, StopMedia, AddChannel}
+use Rattle.rtc_history.specs.declared.op.Op.TheVariants.{AddMedia, SetDirection, StopMedia, AddChannel, IceRestart}
 use Rattle.rtc_history.specs.declared.side.Side.{Side}
 use Rattle.rtc_history.specs.declared.side.Side.TheVariants.{Left, Right}
 use Rattle.rtc_history.specs.declared.step.Step.{Step}
 use Rattle.rtc_history.specs.declared.step.Step.TheVariants.{Negotiate, AcceptOffer, AcceptAnswer}
-use Rattle.rtc_script.specs.Words.{side_text, kind_text, direction_text}
+use Rattle.rtc_script.specs.Words.{side_text, kind_text, direction_text, keep_text}
 
 side_from : List ℕ → Side
 side_from text = cond (eqb (get_or text 0 0) 76) Left Right
@@ -45,7 +45,7 @@ one_direction : (a b : Direction) → direction_text a ≡ direction_text b → 
 one_direction a b same = sym (direction_again a) ∙ ap direction_from same ∙ direction_again b
 
 -- two verbs have the same letters
-same_letter : (n : ℕ) (verb a b : List ℕ) → verb ≡ a → verb ≡ b → get_or a n 0 ≡ get_or b n 0
+pub same_letter : (n : ℕ) (verb a b : List ℕ) → verb ≡ a → verb ≡ b → get_or a n 0 ≡ get_or b n 0
 same_letter n verb a b is is' = ap (λ (text : List ℕ). get_or text n 0) (sym is ∙ is')
 
 kind_from : List ℕ → MediaKind
@@ -86,6 +86,28 @@ no_channel Video same = absurd (omega (arith, same_letter 0 (codes "video") (cod
 pub no_stopped : codes "stop" ≡ codes "channel" → ⊥
 no_stopped same = absurd (omega (arith, same_letter 0 (codes "stop") (codes "stop") (codes "channel") refl same))
 
+-- nor is one named restart, nor are a stopped line and a channel
+no_restart : (kind : MediaKind) → kind_text kind ≡ codes "restart" → ⊥
+no_restart Audio same = absurd (omega (arith, same_letter 0 (codes "audio") (codes "audio") (codes "restart") refl same))
+no_restart Video same = absurd (omega (arith, same_letter 0 (codes "video") (codes "video") (codes "restart") refl same))
+
+stop_no_restart : codes "stop" ≡ codes "restart" → ⊥
+stop_no_restart same = absurd (omega (arith, same_letter 0 (codes "stop") (codes "stop") (codes "restart") refl same))
+
+channel_no_restart : codes "channel" ≡ codes "restart" → ⊥
+channel_no_restart same = absurd (omega (arith, same_letter 0 (codes "channel") (codes "channel") (codes "restart") refl same))
+
+keep_from : List ℕ → Bool
+keep_from text = eqb (get_or text 0 0) 107
+
+keep_again : (keep : Bool) → keep_from (keep_text keep) ≡ keep
+unfolding keep_from
+keep_again true = refl
+keep_again false = refl
+
+one_keep : (a b : Bool) → keep_text a ≡ keep_text b → a ≡ b
+one_keep a b same = sym (keep_again a) ∙ ap keep_from same ∙ keep_again b
+
 -- a word is that of one op
 one_op : (word : List ℕ) (a b : Op) → IsOp word a → IsOp word b → a ≡ b
 one_op word (AddMedia kind dir) (AddMedia kind' dir') is is' =
@@ -118,6 +140,15 @@ one_op word (AddChannel config) (AddChannel config') is is' =
     let label = one_label config.label config'.label is.1 is'.1 words in
     let same : config ≡ config' = is.2 ∙ ap with_label label ∙ sym is'.2 in
     rw same refl
+one_op word (AddMedia kind dir) (IceRestart keep) is is' = absurd (no_restart kind (first_same _ _ _ _ (sym is ∙ is')))
+one_op word (IceRestart keep) (AddMedia kind dir) is is' = absurd (no_restart kind (first_same _ _ _ _ (sym is' ∙ is)))
+one_op word (SetDirection place to) (IceRestart keep) is is' = absurd (two_or_three _ _ _ _ _ (sym is' ∙ is.0))
+one_op word (IceRestart keep) (SetDirection place to) is is' = absurd (two_or_three _ _ _ _ _ (sym is ∙ is'.0))
+one_op word (StopMedia place) (IceRestart keep) is is' = absurd (stop_no_restart (first_same _ _ _ _ (sym is.0 ∙ is')))
+one_op word (IceRestart keep) (StopMedia place) is is' = absurd (stop_no_restart (first_same _ _ _ _ (sym is'.0 ∙ is)))
+one_op word (AddChannel config) (IceRestart keep) is is' = absurd (channel_no_restart (first_same _ _ _ _ (sym is.0 ∙ is')))
+one_op word (IceRestart keep) (AddChannel config) is is' = absurd (channel_no_restart (first_same _ _ _ _ (sym is'.0 ∙ is)))
+one_op word (IceRestart keep) (IceRestart keep') is is' = ap IceRestart (one_keep keep keep' (first_same _ _ _ _ (rest_same _ _ _ _ (sym is ∙ is'))))
 
 applied_from : List ℕ → Bool
 applied_from text = eqb (get_or text 0 0) 111

@@ -2,12 +2,12 @@
 use Rattle.std.proofs.Common.{◌≡◌, ◌≢◌, ◌+◌, ◌-◌, ◌^◌, ◌≤◌, ◌<◌, ◌∙◌, ℕ, zero, suc, List, [], ◌∷◌, ◌++◌, length, take, min, refl, ap, sym, subst, add-one, length-append, lit<, arith, Bor}
 use Rattle.std.proofs.Math.Seq.{take-length}
 use Rattle.std.proofs.lemmas.List.{take-append-le, length-map}
-use Rattle.rtc_script.specs.Script.{HaveLines, ArePieces, BeginsScript, AreRefused, header}
+use Rattle.rtc_script.specs.Script.{HaveLines, ArePieces, BeginsScript, AreRefused, header, empty_script}
 use Rattle.rtc_script.specs.Steps.{FailsAt}
 use Rattle.rtc_script.specs.declared.script_error.ScriptError.TheVariants.{Line}
-use Rattle.rtc_script.specs.Lines.{IsLine}
-use Rattle.rtc_script.proofs.ZipLemmas.{texts, front_zip}
-use Rattle.rtc_history.specs.declared.step.Step.{Step}
+use Rattle.rtc_script.specs.declared.script.Script.{Script}
+use Rattle.rtc_script.proofs.ZipLemmas.{texts}
+use Rattle.rtc_script.proofs.SettingLines.{front_script, front_lines}
 
 -- a shorter front of a front is a front
 front_of_front : (k j : ℕ) (xs : List (List ℕ)) → k ≤ j → take k (take j xs) ≡ take k xs
@@ -31,15 +31,15 @@ front_is (l ∷ lines) (o ∷ other) end same =
     (cc, h.1)
 
 -- a script may begin with the header and lines of steps, as many as there are
-begins : (rest : List (List ℕ)) (end : List ℕ) (j : ℕ) (steps : List Step) → j ≤ length rest → HaveLines (take j rest) steps → (k : ℕ) → k < suc (suc j) → BeginsScript (header ∷ rest ++ end ∷ []) k
-begins rest end j steps le are zero lt = (omega (arith, length-append rest (end ∷ [])), ([], refl))
-begins rest end j steps le are (suc k) lt =
+begins : (rest : List (List ℕ)) (end : List ℕ) (j : ℕ) (script : Script) → j ≤ length rest → HaveLines (take j rest) script → (k : ℕ) → k < suc (suc j) → BeginsScript (header ∷ rest ++ end ∷ []) k
+begins rest end j script le are zero lt = (omega (arith, length-append rest (end ∷ [])), (empty_script, refl))
+begins rest end j script le are (suc k) lt =
     let front : take k (take j rest) ≡ take k (rest ++ end ∷ []) = front_of_front k j rest (omega arith) ∙ sym (take-append-le k rest (end ∷ []) (omega arith)) in
-    let P : List (List ℕ) → Type 0 = λ lines. HaveLines lines (take k steps) in
-    (omega (arith, length-append rest (end ∷ [])), (take k steps, (refl, subst P front (front_zip IsLine k (take j rest) steps are))))
+    let P : List (List ℕ) → Type 0 = λ lines. HaveLines lines (front_script k script) in
+    (omega (arith, length-append rest (end ∷ [])), (front_script k script, (refl, subst P front (front_lines k (take j rest) script are))))
 
 -- and with no line that is of no step
-begins_no_more : (rest : List (List ℕ)) (end : List ℕ) (place : ℕ) → place < length rest → ((steps : List Step) → HaveLines (take (suc place) rest) steps → ⊥) → BeginsScript (header ∷ rest ++ end ∷ []) (suc (suc place)) → ⊥
+begins_no_more : (rest : List (List ℕ)) (end : List ℕ) (place : ℕ) → place < length rest → ((script : Script) → HaveLines (take (suc place) rest) script → ⊥) → BeginsScript (header ∷ rest ++ end ∷ []) (suc (suc place)) → ⊥
 begins_no_more rest end place lt none begins =
     let front : take (suc place) (rest ++ end ∷ []) ≡ take (suc place) rest = take-append-le (suc place) rest (end ∷ []) (omega arith) in
     let P : List (List ℕ) → Type 0 = λ lines. HaveLines lines begins.1.0 in
@@ -48,7 +48,7 @@ begins_no_more rest end place lt none begins =
 -- a text without a line is refused at line 1
 pub no_first_line : (end : List ℕ) → AreRefused (end ∷ []) (Line 1)
 no_first_line end = (
-  λ steps are. no_script are.0 are.1,
+  λ script are. no_script are.0 are.1,
   (1, ((λ k lt. first_line k lt), λ begins. absurd (omega (arith, begins.0))), refl),
 )
   where
@@ -57,25 +57,25 @@ no_first_line end = (
     no_script (l ∷ lines) same = cc
 
     first_line : (k : ℕ) → k < 1 → BeginsScript (end ∷ []) k
-    first_line zero lt = (lit< tt, ([], refl))
+    first_line zero lt = (lit< tt, (empty_script, refl))
     first_line (suc k) lt = absurd (omega arith)
 
 -- and so is one whose first line is no header
 pub wrong_header : (first : List ℕ) (rest : List (List ℕ)) (end : List ℕ) → first ≢ header → AreRefused (first ∷ rest ++ end ∷ []) (Line 1)
 wrong_header first rest end wrong = (
-  λ steps are. let same = are.1 in wrong cc,
+  λ script are. let same = are.1 in wrong cc,
   (1, ((λ k lt. first_line k lt), λ begins. wrong begins.1.1.0), refl),
 )
   where
     first_line : (k : ℕ) → k < 1 → BeginsScript (first ∷ rest ++ end ∷ []) k
-    first_line zero lt = (omega arith, ([], refl))
+    first_line zero lt = (omega arith, (empty_script, refl))
     first_line (suc k) lt = absurd (omega arith)
 
 -- a line that is of no step is refused
 pub wrong_step : (rest : List (List ℕ)) (end : List ℕ) (place told : ℕ) → FailsAt rest place → told ≡ min (place + 2) (2 ^ 32 - 1) → AreRefused (header ∷ rest ++ end ∷ []) (Line told)
 wrong_step rest end place told stops is =
-    let none : (steps : List Step) → HaveLines (take (suc place) rest) steps → ⊥ = rw add-one at stops.2 in (
-      λ steps are. no_script steps are,
+    let none : (script : Script) → HaveLines (take (suc place) rest) script → ⊥ = rw add-one at stops.2 in (
+      λ script are. no_script script are,
       (
         suc (suc place),
         (
@@ -86,22 +86,22 @@ wrong_step rest end place told stops is =
       ),
     )
   where
-    no_script : (steps : List Step) → ArePieces (header ∷ rest ++ end ∷ []) steps → ⊥
-    no_script steps are =
+    no_script : (script : Script) → ArePieces (header ∷ rest ++ end ∷ []) script → ⊥
+    no_script script are =
         let same : rest ++ end ∷ [] ≡ are.0 ++ [] ∷ [] = let e = are.1 in cc in
         let lines = front_is rest are.0 end same in
-        let P : List (List ℕ) → Type 0 = λ lines. HaveLines lines steps in
-        stops.2 (take (place + 1) steps) (front_zip IsLine (place + 1) rest steps (subst P (sym lines.0) are.2))
+        let P : List (List ℕ) → Type 0 = λ lines. HaveLines lines script in
+        stops.2 (front_script (place + 1) script) (front_lines (place + 1) rest script (subst P (sym lines.0) are.2))
 
 -- a last line without LF is refused
-pub unended : (rest : List (List ℕ)) (end : List ℕ) (steps : List Step) (told : ℕ) → HaveLines rest steps → end ≢ [] → told ≡ min (length rest + 2) (2 ^ 32 - 1) → AreRefused (header ∷ rest ++ end ∷ []) (Line told)
-unended rest end steps told are more is =
-    let P : List (List ℕ) → Type 0 = λ lines. HaveLines lines steps in (
-      λ steps are. let same : rest ++ end ∷ [] ≡ are.0 ++ [] ∷ [] = let e = are.1 in cc in more (front_is rest are.0 end same).1,
+pub unended : (rest : List (List ℕ)) (end : List ℕ) (script : Script) (told : ℕ) → HaveLines rest script → end ≢ [] → told ≡ min (length rest + 2) (2 ^ 32 - 1) → AreRefused (header ∷ rest ++ end ∷ []) (Line told)
+unended rest end script told are more is =
+    let P : List (List ℕ) → Type 0 = λ lines. HaveLines lines script in (
+      λ script are. let same : rest ++ end ∷ [] ≡ are.0 ++ [] ∷ [] = let e = are.1 in cc in more (front_is rest are.0 end same).1,
       (
         suc (suc (length rest)),
         (
-          begins rest end (length rest) steps (omega arith) (subst P (sym (take-length rest)) are),
+          begins rest end (length rest) script (omega arith) (subst P (sym (take-length rest)) are),
           λ begins. absurd (omega (arith, begins.0, length-append rest (end ∷ []))),
         ),
         omega (arith, is),
@@ -112,17 +112,23 @@ unended rest end steps told are more is =
 cut_is : (lines rest : List (Bor (List ℕ))) (first : Bor (List ℕ)) (end : List ℕ) → lines ≡ first ∷ rest → first.now ≡ header → header ∷ texts rest ++ end ∷ [] ≡ texts lines ++ end ∷ []
 cut_is lines rest first end is head = sym (ap (λ (all : List (Bor (List ℕ))). texts all ++ end ∷ []) is ∙ ap (λ (line : List ℕ). line ∷ texts rest ++ end ∷ []) head)
 
+pub none_refused : (lines : List (Bor (List ℕ))) (end : List ℕ) → lines ≡ [] → AreRefused (texts lines ++ end ∷ []) (Line 1)
+none_refused lines end none = rw none (no_first_line end)
+
+pub header_refused : (lines rest : List (Bor (List ℕ))) (first : Bor (List ℕ)) (end : List ℕ) → lines ≡ first ∷ rest → first.now ≢ header → AreRefused (texts lines ++ end ∷ []) (Line 1)
+header_refused lines rest first end is wrong = rw is (wrong_header first.now (texts rest) end wrong)
+
 pub step_refused : (lines rest : List (Bor (List ℕ))) (first : Bor (List ℕ)) (end : List ℕ) (place told : ℕ) → lines ≡ first ∷ rest → first.now ≡ header → FailsAt (texts rest) place → told ≡ min (place + 2) (2 ^ 32 - 1) → AreRefused (texts lines ++ end ∷ []) (Line told)
 step_refused lines rest first end place told is head stops number =
     let P : List (List ℕ) → Type 0 = λ cut. AreRefused cut (Line told) in
     subst P (cut_is lines rest first end is head) (wrong_step (texts rest) end place told stops number)
 
-pub end_refused : (lines rest : List (Bor (List ℕ))) (first : Bor (List ℕ)) (end : List ℕ) (steps : List Step) (told : ℕ) → lines ≡ first ∷ rest → first.now ≡ header → HaveLines (texts rest) steps → end ≢ [] → told ≡ min (length rest + 2) (2 ^ 32 - 1) → AreRefused (texts lines ++ end ∷ []) (Line told)
-end_refused lines rest first end steps told is head are more number =
+pub end_refused : (lines rest : List (Bor (List ℕ))) (first : Bor (List ℕ)) (end : List ℕ) (script : Script) (told : ℕ) → lines ≡ first ∷ rest → first.now ≡ header → HaveLines (texts rest) script → end ≢ [] → told ≡ min (length rest + 2) (2 ^ 32 - 1) → AreRefused (texts lines ++ end ∷ []) (Line told)
+end_refused lines rest first end script told is head are more number =
     let P : List (List ℕ) → Type 0 = λ cut. AreRefused cut (Line told) in
     let count : told ≡ min (length (texts rest) + 2) (2 ^ 32 - 1) = rw length-map number in
-    subst P (cut_is lines rest first end is head) (unended (texts rest) end steps told are more count)
+    subst P (cut_is lines rest first end is head) (unended (texts rest) end script told are more count)
 
-pub script_read : (lines rest : List (Bor (List ℕ))) (first : Bor (List ℕ)) (end : List ℕ) (steps : List Step) → lines ≡ first ∷ rest → first.now ≡ header → HaveLines (texts rest) steps → end ≡ [] → ArePieces (texts lines ++ end ∷ []) steps
-script_read lines rest first end steps is head are none =
+pub script_read : (lines rest : List (Bor (List ℕ))) (first : Bor (List ℕ)) (end : List ℕ) (script : Script) → lines ≡ first ∷ rest → first.now ≡ header → HaveLines (texts rest) script → end ≡ [] → ArePieces (texts lines ++ end ∷ []) script
+script_read lines rest first end script is head are none =
     (texts rest, sym (cut_is lines rest first end is head) ∙ ap (λ (last : List ℕ). header ∷ texts rest ++ last ∷ []) none, are)

@@ -7,8 +7,10 @@ use Rattle.std.proofs.lemmas.Slice.Zip.{AllZip-long}
 use Rattle.rtc_fields.specs.Lines.{pieces}
 use Rattle.rtc_fields.specs.Words.{words}
 use Rattle.rtc_script.specs.Lines.{IsOp, IsAct, IsLine, AreStepWords}
-use Rattle.rtc_script.specs.Script.{IsScript, HaveLines, header}
+use Rattle.rtc_script.specs.Script.{IsScript, HaveSteps, HaveBoth, header}
 use Rattle.rtc_script.specs.declared.script.Script.{Script}
+use Rattle.rtc_script.specs.declared.setting.Setting.{Setting}
+use Rattle.rtc_history.specs.declared.side.Side.{Side}
 use Rattle.rtc_script.specs.declared.script_error.ScriptError.{ScriptError}
 use Rattle.rtc_history.specs.Sizes.{step_size, steps_size}
 use Rattle.rtc_history.specs.declared.step.Step.{Step}
@@ -42,24 +44,31 @@ text_more : (line : List ℕ) (lines : List (List ℕ)) → length (text_of (lin
 text_more line [] = omega (arith, length-append line (10 ∷ []))
 text_more line (next ∷ lines) = omega (arith, length-append line (10 ∷ text_of (next ∷ lines)))
 
-lines_small : (lines : List (List ℕ)) (steps : List Step) → HaveLines lines steps → steps_size steps ≤ length (text_of lines)
-lines_small [] [] h = omega arith
-lines_small [] (step ∷ steps) h = absurd h
-lines_small (line ∷ lines) [] h = absurd h
-lines_small (line ∷ lines) (step ∷ steps) h =
+steps_small : (lines : List (List ℕ)) (steps : List Step) → HaveSteps lines steps → steps_size steps ≤ length (text_of lines)
+steps_small [] [] h = omega arith
+steps_small [] (step ∷ steps) h = absurd h
+steps_small (line ∷ lines) [] h = absurd h
+steps_small (line ∷ lines) (step ∷ steps) h =
     let first : step_size step ≤ length line = line_small line step h.0 in
-    let others : steps_size steps ≤ length (text_of lines) = lines_small lines steps h.1 in
+    let others : steps_size steps ≤ length (text_of lines) = steps_small lines steps h.1 in
+    omega (arith, text_more line lines)
+
+lines_small : (lines : List (List ℕ)) (settings : List (Side × Setting)) (steps : List Step) → HaveBoth lines settings steps → steps_size steps ≤ length (text_of lines)
+lines_small lines [] steps h = steps_small lines steps h
+lines_small [] (setting ∷ settings) steps h = absurd h
+lines_small (line ∷ lines) (setting ∷ settings) steps h =
+    let others : steps_size steps ≤ length (text_of lines) = lines_small lines settings steps h.1 in
     omega (arith, text_more line lines)
 
 -- so many bytes hold fewer steps and ops than a pair may perform
-pub script_small : (text : List ℕ) (steps : List Step) → IsScript text steps → length text ≤ 2 ^ 20 → steps_size steps < 2 ^ 32
-script_small text steps h short =
+pub script_small : (text : List ℕ) (script : Script) → IsScript text script → length text ≤ 2 ^ 20 → steps_size script.steps < 2 ^ 32
+script_small text script h short =
     let all : join_with_byte 10 (pieces text) ≡ text = join_with_byte-slice_split 10 text in
     let whole : length (text_of (header ∷ h.0)) ≡ length text = ap length (sym (ap (join_with_byte 10) h.1) ∙ all) in
-    let sizes : steps_size steps ≤ length (text_of h.0) = lines_small h.0 steps h.2 in
+    let sizes : steps_size script.steps ≤ length (text_of h.0) = lines_small h.0 script.settings script.steps h.2 in
     omega (arith, text_more header h.0)
 
 -- so a script that is read of so many bytes has few steps
-pub read_small : (text : List ℕ) (read : Result Script ScriptError) → IfOk read (λ (script : Script). IsScript text script.steps) → length text ≤ 2 ^ 20 → IfOk read (λ (script : Script). steps_size script.steps < 2 ^ 32)
-read_small text (Ok script) is short = script_small text script.steps is short
+pub read_small : (text : List ℕ) (read : Result Script ScriptError) → IfOk read (λ (script : Script). IsScript text script) → length text ≤ 2 ^ 20 → IfOk read (λ (script : Script). steps_size script.steps < 2 ^ 32)
+read_small text (Ok script) is short = script_small text script is short
 read_small text (Err error) is short = tt

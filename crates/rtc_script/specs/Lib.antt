@@ -5,3 +5,4 @@ pub mod Steps
 pub mod Outcomes
 pub mod Report
 pub mod Rows
+pub mod Settings

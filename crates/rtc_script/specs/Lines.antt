@@ -1,4 +1,4 @@
--- The line of a step: words parted by single spaces.
+-- The lines of settings and of steps: words parted by single spaces.
 use Rattle.std.specs.Prelude.{◌≡◌, ◌<◌, ◌^◌, ℕ, Bool, true, false, List, [], ◌∷◌, map, All, codes}
 use Rattle.std.specs.Fmt.{decimal}
 use Rattle.std.specs.List.{AllZip}
@@ -8,10 +8,12 @@ use Rattle.rtc_wire.specs.ChannelConfig.{fresh}
 use Rattle.rtc_wire.specs.declared.channel_config.ChannelConfig.{ChannelConfig}
 use Rattle.rtc_history.specs.Sides.{side_of}
 use Rattle.rtc_history.specs.declared.op.Op.{Op}
-use Rattle.rtc_history.specs.declared.op.Op.TheVariants.{AddMedia, SetDirection, StopMedia, AddChannel}
+use Rattle.rtc_history.specs.declared.op.Op.TheVariants.{AddMedia, SetDirection, StopMedia, AddChannel, IceRestart}
+use Rattle.rtc_history.specs.declared.side.Side.{Side}
 use Rattle.rtc_history.specs.declared.step.Step.{Step}
 use Rattle.rtc_history.specs.declared.step.Step.TheVariants.{Negotiate, AcceptOffer, AcceptAnswer}
-use Rattle.rtc_script.specs.Words.{side_text, kind_text, direction_text, hex_word}
+use Rattle.rtc_script.specs.Words.{side_text, kind_text, direction_text, hex_word, keep_text, setting_text}
+use Rattle.rtc_script.specs.declared.setting.Setting.{Setting}
 
 -- what a channel is opened with that differs from the usual in its label alone
 abbrev pub with_label : List ℕ → ChannelConfig
@@ -24,6 +26,7 @@ AreOpParts found (SetDirection place dir) = (found ≡ codes "dir" ∷ decimal p
 AreOpParts found (StopMedia place) = (found ≡ codes "stop" ∷ decimal place ∷ []) × (place < 2 ^ 32)
 AreOpParts found (AddChannel config) =
     (found ≡ codes "channel" ∷ hex_word config.label ∷ []) × IsUtf8 config.label × (config ≡ with_label config.label)
+AreOpParts found (IceRestart keep) = found ≡ codes "restart" ∷ keep_text keep ∷ []
 
 -- the word of an op: parts with a colon between
 abbrev pub IsOp : List ℕ → Op → Type 0
@@ -57,3 +60,11 @@ AreStepWords (side ∷ verb ∷ rest) step = (side ≡ side_text (side_of step))
 -- the line of a step
 abbrev pub IsLine : List ℕ → Step → Type 0
 IsLine line step = AreStepWords (words line) step
+
+-- the verb of settings, the letter of a side, and what it is set to
+abbrev pub AreSettingWords : List (List ℕ) → Side × Setting → Type 0
+AreSettingWords found setting = found ≡ codes "set" ∷ side_text setting.0 ∷ setting_text setting.1 ∷ []
+
+-- the line of a setting
+abbrev pub IsSetting : List ℕ → Side × Setting → Type 0
+IsSetting line setting = AreSettingWords (words line) setting

@@ -3,11 +3,12 @@ use Rattle.std.specs.Prelude.{ℕ, Bool, true, false, List, [], ◌∷◌, ◌++
 use Rattle.std.specs.Fmt.{decimal}
 use Rattle.rtc_peer_state.specs.RtcErrorText.{rtc_error_text}
 use Rattle.rtc_peer_state.specs.declared.rtc_error.RtcError.{RtcError}
-use Rattle.rtc_peer_state.specs.declared.rtc_error.RtcError.TheVariants.{RemoteSdp, Sdp, ChangesOutOfOrder, BadChannel, Alloc as PeerAlloc}
+use Rattle.rtc_peer_state.specs.declared.rtc_error.RtcError.TheVariants.{RemoteSdp, Sdp, Dtls, ChangesOutOfOrder, BadChannel}
+use Rattle.rtc_peer_state.specs.declared.rtc_error.RtcError.TheVariants.{Alloc as PeerAlloc}
 use Rattle.rtc_history.specs.declared.made.Made.{Made}
 use Rattle.rtc_history.specs.declared.made.Made.TheVariants.{NotAsked, Nothing, Offer, Alloc as MadeAlloc}
 use Rattle.rtc_history.specs.declared.op_answer.OpAnswer.{OpAnswer}
-use Rattle.rtc_history.specs.declared.op_answer.OpAnswer.TheVariants.{Mid, Changed, NoLine, Channel}
+use Rattle.rtc_history.specs.declared.op_answer.OpAnswer.TheVariants.{Mid, Changed, NoLine, Channel, Creds}
 use Rattle.rtc_history.specs.declared.op_answer.OpAnswer.TheVariants.{BadChannel as NoChannel, Alloc as OpAlloc}
 use Rattle.rtc_history.specs.declared.outcome.Outcome.{Outcome}
 use Rattle.rtc_history.specs.declared.outcome.Outcome.TheVariants.{Negotiated, Answered, Finished, Refused, NoSuch, Alloc}
@@ -28,6 +29,7 @@ op_answer_text (Changed changed) = changed_text changed
 op_answer_text NoLine = codes "none"
 op_answer_text (Channel id) = codes "c" ++ decimal id
 op_answer_text NoChannel = codes "bad"
+op_answer_text (Creds creds) = creds.ufrag
 op_answer_text OpAlloc = no_memory
 
 -- answers behind the first, each behind a comma
@@ -50,6 +52,7 @@ made_text MadeAlloc = no_memory
 abbrev pub refusal_text : RtcError → List ℕ
 refusal_text (RemoteSdp why) = codes "refused 1 " ++ rtc_error_text (RemoteSdp why)
 refusal_text (Sdp error) = codes "refused 2 " ++ rtc_error_text (Sdp error)
+refusal_text (Dtls error) = codes "refused 4 " ++ rtc_error_text (Dtls error)
 refusal_text ChangesOutOfOrder = codes "refused 7 " ++ rtc_error_text ChangesOutOfOrder
 refusal_text BadChannel = codes "refused 8 " ++ rtc_error_text BadChannel
 refusal_text PeerAlloc = no_memory

@@ -1,5 +1,5 @@
 -- The words that scripts and reports share.
-use Rattle.std.specs.Prelude.{ℕ, List, [], ◌∷◌, codes}
+use Rattle.std.specs.Prelude.{ℕ, Bool, true, false, List, [], ◌∷◌, codes}
 use Rattle.hex.specs.Hex.{encode_lower}
 use Rattle.rtc_sdp_values.specs.declared.direction.Direction.{Direction}
 use Rattle.rtc_sdp_values.specs.declared.direction.Direction.TheVariants.{SendRecv, SendOnly, RecvOnly, Inactive}
@@ -7,6 +7,8 @@ use Rattle.rtc_sdp_values.specs.declared.media_kind.MediaKind.{MediaKind}
 use Rattle.rtc_sdp_values.specs.declared.media_kind.MediaKind.TheVariants.{Audio, Video}
 use Rattle.rtc_history.specs.declared.side.Side.{Side}
 use Rattle.rtc_history.specs.declared.side.Side.TheVariants.{Left, Right}
+use Rattle.rtc_script.specs.declared.setting.Setting.{Setting}
+use Rattle.rtc_script.specs.declared.setting.Setting.TheVariants.{Lite}
 
 -- the letter of a side
 abbrev pub side_text : Side → List ℕ
@@ -29,3 +31,11 @@ kind_text Video = codes "video"
 abbrev pub hex_word : List ℕ → List ℕ
 hex_word [] = codes "-"
 hex_word (byte ∷ bytes) = encode_lower (byte ∷ bytes)
+
+-- whether a restart of ICE keeps the local candidates
+abbrev pub keep_text : Bool → List ℕ
+keep_text true = codes "keep"
+keep_text false = codes "new"
+
+abbrev pub setting_text : Setting → List ℕ
+setting_text Lite = codes "lite"

@@ -18,6 +18,8 @@ mod reports;
 mod rows;
 mod script;
 mod script_error;
+mod setting;
+mod settings;
 mod sides;
 mod steps;
 
@@ -25,3 +27,4 @@ pub use reading::read_script;
 pub use reports::write_report;
 pub use script::Script;
 pub use script_error::ScriptError;
+pub use setting::Setting;

@@ -1,6 +1,7 @@
 //! Ops of a line.
-ghost use Rattle.std.specs.Prelude.{◌≡◌, ◌≢◌, ◌<◌, ◌^◌, [], ◌∷◌, List, IfOk, IfSome, IfNone, map, codes};
+ghost use Rattle.std.specs.Prelude.{◌≡◌, ◌≢◌, ◌<◌, ◌^◌, [], ◌∷◌, Bool, List, IfOk, IfSome, IfNone, map, codes};
 ghost use Rattle.rtc_script.specs.Lines.{AreOpParts, IsOp, AreOps};
+ghost use Rattle.rtc_script.specs.Words.{keep_text};
 ghost use Rattle.rtc_history.specs.declared.op.Op.{Op};
 
 use crate::cutting::cut_parts;
@@ -12,7 +13,21 @@ use rtc_history::Op;
 use rtc_wire::{ChannelConfig, Seq};
 use std::alloc::{AllocError, Global};
 
-// An op of two parts that adds no channel: it adds a line, or stops one.
+// Whether a restart keeps the local candidates.
+fn read_keep(word: &[u8]) -> Option<bool>
+    ensures some { IfSome result (λ keep. word.now ≡ keep_text keep) }
+    ensures none { IfNone result ((keep : Bool) → word.now ≢ keep_text keep) }
+{
+    if word == b"keep".as_slice() {
+        Some(true)
+    } else if word == b"new".as_slice() {
+        Some(false)
+    } else {
+        None
+    }
+}
+
+// An op of two parts that adds no channel: it adds a line, stops one, or restarts ICE.
 fn read_two_parts(word: &[u8], value: &[u8]) -> Option<Op>
     requires { word.now ≢ codes "channel" }
     ensures some { IfSome result (λ op. AreOpParts (word.now ∷ value.now ∷ []) op) }
@@ -21,6 +36,10 @@ fn read_two_parts(word: &[u8], value: &[u8]) -> Option<Op>
     if word == b"stop".as_slice() {
         let place = read_u32(value)?;
         return Some(Op::StopMedia { place });
+    }
+    if word == b"restart".as_slice() {
+        let keep = read_keep(value)?;
+        return Some(Op::IceRestart { keep });
     }
     let kind = read_kind(word)?;
     let dir = read_direction(value)?;

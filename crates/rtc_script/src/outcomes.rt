@@ -20,6 +20,7 @@ fn push_answer(out: &mut String, answer: &OpAnswer) -> Result<(), AllocError>
             push_long(out, id.number())
         }
         OpAnswer::BadChannel => out.push_str("bad"),
+        OpAnswer::Creds(creds) => out.push_str(creds.ufrag.as_str()),
         OpAnswer::Alloc => out.push_str("nomemory"),
     }
 }

@@ -1,6 +1,6 @@
 //! The steps of many lines.
 ghost use Rattle.std.specs.Prelude.{◌≡◌, IfOk, IfErr, map};
-ghost use Rattle.rtc_script.specs.Script.{HaveLines};
+ghost use Rattle.rtc_script.specs.Script.{HaveSteps};
 ghost use Rattle.rtc_script.specs.Steps.{IsStepsError};
 ghost use Rattle.rtc_script.specs.declared.steps.StepsError.TheVariants.{Alloc};
 
@@ -34,7 +34,7 @@ impl<T: Drop> From<AllocFailed<T>> for StepsError {
 
 /// Reads the lines behind a header, one step each.
 pub fn read_steps(alloc: Global, lines: &[&[u8]]) -> Result<Vec<Step>, StepsError>
-    ensures ok { IfOk result (λ steps. HaveLines (map (λ line. line.now) lines.now) steps.items) }
+    ensures ok { IfOk result (λ steps. HaveSteps (map (λ line. line.now) lines.now) steps.items) }
     ensures err { IfErr result (λ error. IsStepsError (map (λ line. line.now) lines.now) error) }
 {
     let mut steps = Vec::new(alloc);

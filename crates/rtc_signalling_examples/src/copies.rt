@@ -1,7 +1,6 @@
-//! Copies of staged changes, sources of lines, offers and answers.
+//! Copies of staged changes, offers and answers.
 use rtc_change::{AddMedia, Change, Changes};
 use rtc_lines::{Direction, MediaKind, Mid, Msid, Sdp, SdpAnswer, SdpOffer, Ssrc};
-use rtc_peer_state::LineSources;
 use rtc_wire::{Seq, Text, TryCopy};
 use std::alloc::{AllocError, Global};
 
@@ -15,7 +14,8 @@ fn no_text(alloc: Global) -> Text {
     Text::new(String::new(alloc))
 }
 
-fn media(alloc: Global, mid: Mid, ssrcs: Seq<(Ssrc, Option<Ssrc>)>) -> AddMedia {
+/// A line of audio that sends, without names.
+pub fn media(alloc: Global, mid: Mid, ssrcs: Seq<(Ssrc, Option<Ssrc>)>) -> AddMedia {
     AddMedia {
         mid,
         cname: no_text(alloc),
@@ -39,15 +39,6 @@ fn are_changes_copied(alloc: Global, mid: Mid) -> Result<bool, AllocError> {
     changes.push(Change::Direction(mid, Direction::Inactive))?;
     let changes = Changes(changes);
     Ok(changes.copy()? == changes)
-}
-
-// Whether the sources of a line are copied.
-fn are_sources_copied(alloc: Global, mid: Mid) -> Result<bool, AllocError> {
-    let sources = LineSources {
-        mid,
-        ssrcs: sources(alloc)?,
-    };
-    Ok(sources.copy()? == sources)
 }
 
 fn without_lines(alloc: Global) -> Sdp {
@@ -78,7 +69,6 @@ pub fn does_agree(alloc: Global, example: &str) -> Result<bool, AllocError> {
     match example {
         "of changes" => are_changes_copied(alloc, mid),
         "of offers and answers" => are_sdps_copied(alloc),
-        "of sources" => are_sources_copied(alloc, mid),
         _ => Ok(false),
     }
 }

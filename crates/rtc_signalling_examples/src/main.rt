@@ -1,8 +1,9 @@
 //! Runs stored examples of signalling: scripts of two peers, session descriptions, copies, and frames of a gateway.
 //!
 //! Each line of the input names an example, and is printed again behind `agrees` or `differs`: `script PATH` gives
-//! `PATH.report`, `description PATH` is `PATH.sdp` and is read as `PATH.expected` says, and `changes NAME`,
-//! `copies NAME` and `gateway NAME` are calls.
+//! `PATH.report`, `orderly PATH rounds N finished N` performs `PATH.orderly`, which accepts N answers, each of them with success,
+//! `description PATH` is `PATH.sdp` and is read as `PATH.expected` says, and `changes NAME`, `copies NAME` and `gateway NAME` are
+//! calls.
 #![tactic(auto)]
 
 mod changes;
@@ -27,6 +28,16 @@ fn is_performed<R: Files + AllocGlobal>(rt: &R, path: &str) -> io::Result<bool> 
     Ok(report.as_slice() == expected.as_slice())
 }
 
+// Whether the rounds of an orderly script end as it says behind its path.
+fn is_finished<R: Files + AllocGlobal>(rt: &R, name: &str) -> io::Result<bool> {
+    let Some((path, expected)) = name.split_once(' ') else {
+        return Ok(false);
+    };
+    let script = read(rt, path, "orderly")?;
+    let rounds = scripts::rounds(rt.alloc(), script.as_slice())?;
+    Ok(rounds.as_slice() == expected.as_bytes())
+}
+
 fn is_read<R: Files + AllocGlobal>(rt: &R, path: &str) -> io::Result<bool> {
     let description = read(rt, path, "sdp")?;
     let expected = read(rt, path, "expected")?;
@@ -40,6 +51,7 @@ fn does_agree<R: Files + AllocGlobal>(rt: &R, subject: &str, name: &str) -> io::
         "copies" => Ok(copies::does_agree(rt.alloc(), name)?),
         "description" => is_read(rt, name),
         "gateway" => Ok(gateways::does_agree(rt.alloc(), name)?),
+        "orderly" => is_finished(rt, name),
         "script" => is_performed(rt, name),
         _ => Ok(false),
     }

@@ -1,10 +1,7 @@
 use Rattle.std.proofs.Common.{refl, ◌≡◌, ◌≢◌, ◌<◌, ◌≤◌, ◌^◌, length, List, map, sym, subst, rules}
 use Rattle.std.specs.String.{string_bytes}
 use Rattle.rtc_io.proofs.Told.{answer_due, refusal_due, unread_due}
-use Rattle.rtc_history.specs.declared.step.Step.{Step}
-use Rattle.rtc_history.specs.Sizes.{steps_size}
 use Rattle.rtc_pair.specs.Answers.{run_words, script_program}
-use Rattle.rtc_script.proofs.SmallScripts.{script_small}
 use Rattle.rtc_pair.proofs.Completes.{completes_unread, completes_read, completes_refused}
 use Rattle.rtc_pair.proofs.Scripts.{reads_script, reads_no_script, runs_or}
 use Rattle.rtc_pair.proofs.top.pair_main.Goals as goal
@@ -12,21 +9,21 @@ use Rattle.rtc_pair.proofs.top.pair_main.Goals as goal
 pub perform_script-requires : goal.perform_script-requires
 perform_script-requires g c =
     let short : length c.as_slice.result.now ≤ 2 ^ 20 = search rules in
-    subst (λ (steps : List Step). steps_size steps < 2 ^ 32) (sym c.as_slice-in-Ok-read_script.ensures) (script_small c.as_slice.result.now c.in-Ok-read_script.script.steps c.in-Ok-read_script.ensures.some short)
+    c.in-Ok-read_script.ensures.few short
 
 pub returns-in-Ok-read_script-clause-done : goal.returns-in-Ok-read_script-clause-done
 returns-in-Ok-read_script-clause-done g c =
-    let read = reads_script _ _ c.in-Ok.bytes c.as_slice.result.now c.in-Ok-read_script.script.steps c.as_slice-in-Ok-read_script.result.now c.in-Ok.ensures.bytes c.in-Ok.ensures.end c.in-Ok.ensures.within (search rules) c.in-Ok-read_script.ensures.some c.as_slice-in-Ok-read_script.ensures in
-    λ ended. record { steps = _; read = read; performs = rw c.in-Ok.ensures.silent at (c.perform_script.ensures.done ended) }
+    let read = reads_script _ _ c.in-Ok.bytes c.as_slice.result.now c.in-Ok-read_script.script c.in-Ok.ensures.bytes c.in-Ok.ensures.end c.in-Ok.ensures.within (search rules) c.in-Ok-read_script.ensures.some in
+    λ ended. record { script = _; read = read; performs = rw c.in-Ok.ensures.silent at (c.perform_script.ensures.done ended) }
 
 pub returns-in-Ok-read_script-clause-write : goal.returns-in-Ok-read_script-clause-write
 returns-in-Ok-read_script-clause-write g c =
-    let read = reads_script _ _ c.in-Ok.bytes c.as_slice.result.now c.in-Ok-read_script.script.steps c.as_slice-in-Ok-read_script.result.now c.in-Ok.ensures.bytes c.in-Ok.ensures.end c.in-Ok.ensures.within (search rules) c.in-Ok-read_script.ensures.some c.as_slice-in-Ok-read_script.ensures in
+    let read = reads_script _ _ c.in-Ok.bytes c.as_slice.result.now c.in-Ok-read_script.script c.in-Ok.ensures.bytes c.in-Ok.ensures.end c.in-Ok.ensures.within (search rules) c.in-Ok-read_script.ensures.some in
     λ ended. answer_due (script_program c.args.alloc) _ _ _ _ _ _ _ _ _ _ _ (search rules) read (rw c.in-Ok.ensures.silent at (c.perform_script.ensures.write ended))
 
 pub returns-in-Ok-read_script-clause-memory : goal.returns-in-Ok-read_script-clause-memory
 returns-in-Ok-read_script-clause-memory g c =
-    let read = reads_script _ _ c.in-Ok.bytes c.as_slice.result.now c.in-Ok-read_script.script.steps c.as_slice-in-Ok-read_script.result.now c.in-Ok.ensures.bytes c.in-Ok.ensures.end c.in-Ok.ensures.within (search rules) c.in-Ok-read_script.ensures.some c.as_slice-in-Ok-read_script.ensures in
+    let read = reads_script _ _ c.in-Ok.bytes c.as_slice.result.now c.in-Ok-read_script.script c.in-Ok.ensures.bytes c.in-Ok.ensures.end c.in-Ok.ensures.within (search rules) c.in-Ok-read_script.ensures.some in
     λ ended. runs_or _ _ _ _ _ _ _ _ read (rw c.in-Ok.ensures.silent at (c.perform_script.ensures.memory ended))
 
 pub returns-in-Err-Line-clause-refused : goal.returns-in-Err-Line-clause-refused

@@ -1,4 +1,9 @@
+use Rattle.std.proofs.Common.{refl}
+use Rattle.rtc_run.proofs.PlainPeers.{pair_fresh, pair_formed, left_host, right_host}
 use Rattle.rtc_run.proofs.plain_pair.make_pair.Goals as goal
 
+pub returns-clause-fresh : goal.returns-clause-fresh
+returns-clause-fresh c = rw c.new.ensures (pair_fresh _ c.in_ok-left.ensures.fresh c.in_ok-right.ensures.fresh refl refl)
+
 pub returns-clause-formed : goal.returns-clause-formed
-returns-clause-formed c = rw c.new.ensures (record { left = c.in_ok-left.ensures.formed; right = c.in_ok-right.ensures.formed })
+returns-clause-formed c = rw c.new.ensures (pair_formed _ (c.in_ok-left.ensures.formed left_host) (c.in_ok-right.ensures.formed right_host))

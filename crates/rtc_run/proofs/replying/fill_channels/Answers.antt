@@ -1,5 +1,5 @@
 use Rattle.std.proofs.Common.{rules}
-use Rattle.rtc_run.proofs.ChannelCounts.{row_pushed}
+use Rattle.rtc_run.proofs.ChannelCounts.{row_pushed, rows_told}
 use Rattle.rtc_run.proofs.replying.fill_channels.Goals as goal
 
 pub loop-k-preserved : goal.loop-k-preserved
@@ -9,3 +9,6 @@ loop-k-preserved g c =
       count = search rules;
       room = search rules;
     }
+
+pub returns-in_default : goal.returns-in_default
+returns-in_default g c = rows_told _ c.loop-k.k c.loop-k.room.items _ c.channel_row.result c.channel_row.ensures (search rules) c.loop-k.invariant.filled c.new.ensures

@@ -2,8 +2,16 @@ use Rattle.std.proofs.Common.{◌≡◌, ◌≢◌, ◌+◌, ◌-◌, ◌^◌, [
 use Rattle.std.proofs.lemmas.Bool.Decides.{nat_tests}
 use Rattle.std.proofs.lemmas.List.{nil_from_length}
 use Rattle.rtc_script.specs.Script.{header}
-use Rattle.rtc_script.proofs.RefusedScripts.{step_refused, end_refused, script_read}
+use Rattle.rtc_script.proofs.RefusedScripts.{none_refused, header_refused, step_refused, end_refused, script_read}
 use Rattle.rtc_script.proofs.reading.read_pieces.Goals as goal
+
+pub returns-in_default-clause-none : goal.returns-in_default-clause-none
+returns-in_default-clause-none c = none_refused _ _ (nil_from_length _ c.in_default.ensures.cases)
+
+pub returns-then-not-is_header-clause-none : goal.returns-then-not-is_header-clause-none
+returns-then-not-is_header-clause-none c =
+    let wrong : c.in-Some.first.now.now ≢ header = search rules in
+    header_refused _ _ _ _ c.in-Some.ensures.cases.0 wrong
 
 pub returns-in-Err-NotStep-clause-none : goal.returns-in-Err-NotStep-clause-none
 returns-in-Err-NotStep-clause-none c =
@@ -21,4 +29,4 @@ pub returns-clause-some : goal.returns-clause-some
 returns-clause-some c =
     let head : c.in-Some.first.now.now ≡ header = search rules in
     let none : c.args.end.now ≡ [] = nil_from_length _ (grind (arith, nat_tests, c.is_empty.ensures, c.if-not-is_empty.false)) in
-    script_read _ _ _ _ _ c.in-Some.ensures.cases.0 head (rw c.new.ensures c.in-Ok.ensures.ok) none
+    script_read _ _ _ _ _ c.in-Some.ensures.cases.0 head c.in-Ok.ensures.ok none

@@ -1,0 +1,139 @@
+-- The peers of the program were just built, and make session descriptions that are read back.
+use Rattle.std.proofs.Common.{◌≡◌, ◌∙◌, ◌≤◌, ℕ, Bool, true, false, List, [], ◌∷◌, ◌++◌, length, Option, Some, None, Ok, refl, sym, ap, subst, arith}
+use Rattle.std.specs.List.{AllByRecursion}
+use Rattle.std.specs.declared.alloc.Global.{Global}
+use Rattle.rtc_wire.specs.declared.addr.Addr.{Addr}
+use Rattle.rtc_sdp_values.specs.declared.candidate.Candidate.{Candidate}
+use Rattle.rtc_sdp_values.specs.declared.ice_creds.IceCreds.{IceCreds}
+use Rattle.rtc_plain_ice.specs.Calls.{lite_set, local_set, local_added}
+use Rattle.rtc_plain_ice.specs.Contents.{IceContents, fresh_ice}
+use Rattle.rtc_plain_ice.specs.PlainMeaning.{plain_ice}
+use Rattle.rtc_plain_dtls.specs.Contents.{fresh_dtls}
+use Rattle.rtc_assoc_state.specs.Contents.{fresh_contents}
+use Rattle.rtc_plain_media.specs.MediaContents.{fresh_media}
+use Rattle.rtc_peer_state.specs.Built.{Builds}
+use Rattle.rtc_peer_state.specs.Config.{Config}
+use Rattle.rtc_peer_state.specs.Formed.{IsFormed, IsHostCandidate}
+use Rattle.rtc_peer_state.specs.Stance.{stance_of}
+use Rattle.rtc_history.specs.declared.side.Side.{Side}
+use Rattle.rtc_history.specs.declared.side.Side.TheVariants.{Left, Right}
+use Rattle.rtc_history.specs.Fresh.{IsFresh, IsJustBuilt}
+use Rattle.rtc_history.specs.PairState.{stances_of}
+use Rattle.rtc_run.specs.ProgramPair.{PlainPeer, PlainPairState, plain_parts, host_at, left_address, right_address, IsProgramPeer}
+
+-- no candidate and no credentials of the other side are there after the first two calls
+fresh_after : (lite : Bool) (creds : IceCreds) → (local_set creds (lite_set lite fresh_ice)).settings.candidates ≡ []
+unfolding local_set lite_set
+fresh_after lite creds = refl
+
+alone_after : (lite : Bool) (creds : IceCreds) → (local_set creds (lite_set lite fresh_ice)).settings.remote ≡ None
+unfolding local_set lite_set
+alone_after lite creds = refl
+
+added_remote : (c : Candidate) (p : IceContents) → (local_added c p).settings.remote ≡ p.settings.remote
+unfolding local_added
+added_remote c p = refl
+
+added_local : (c : Candidate) (p : IceContents) → (local_added c p).settings.local ≡ p.settings.local
+unfolding local_added
+added_local c p = refl
+
+added_candidates : (c : Candidate) (p : IceContents) → (local_added c p).settings.candidates ≡ p.settings.candidates ++ c ∷ []
+unfolding local_added
+added_candidates c p = refl
+
+abbrev pub IsBuilt : Global → Config → ℕ → PlainPeer → Type 0
+IsBuilt alloc config first p = Builds plain_parts alloc config 0 fresh_ice fresh_dtls fresh_contents fresh_media first p
+
+pub built_bare : (alloc : Global) (config : Config) (first : ℕ) (p : PlainPeer) → IsBuilt alloc config first p → p.ice.settings.candidates ≡ []
+built_bare alloc config first p h =
+    ap (λ (ice : IceContents). ice.settings.candidates) (h.by_creds ∙ ap (local_set _) h.by_lite) ∙ fresh_after config.ice_lite _
+
+built_alone : (alloc : Global) (config : Config) (first : ℕ) (p : PlainPeer) → IsBuilt alloc config first p → p.ice.settings.remote ≡ None
+built_alone alloc config first p h =
+    ap (λ (ice : IceContents). ice.settings.remote) (h.by_creds ∙ ap (local_set _) h.by_lite) ∙ alone_after config.ice_lite _
+
+-- how a peer was built and given its address
+pub record Makes (alloc : Global) (lite : Bool) (cert : List ℕ) (first : ℕ) (addr : Addr) (config : Config) (built p : PlainPeer) : Type 0 where
+  pub config_is : config ≡ record { ice_lite = lite; creds = None; cert = Some cert }
+  pub builds : IsBuilt alloc config first built
+  pub added : plain_ice.local_added built.ice (host_at addr) (Ok true) p.ice
+  pub rest : p ≡ record built { ice = p.ice }
+
+pub program_peer : (alloc : Global) (lite : Bool) (cert : List ℕ) (first : ℕ) (addr : Addr) (config : Config) (built p : PlainPeer)
+    → Makes alloc lite cert first addr config built p → IsProgramPeer alloc lite cert first addr p
+program_peer alloc lite cert first addr config built p h = record {
+  built = built;
+  by_build = subst (λ (c : Config). IsBuilt alloc c first built) h.config_is h.builds;
+  by_address = h.added;
+  rest = h.rest;
+}
+
+pub program_fresh : (alloc : Global) (lite : Bool) (cert : List ℕ) (first : ℕ) (addr : Addr) (config : Config) (built p : PlainPeer)
+    → Makes alloc lite cert first addr config built p → IsJustBuilt (stance_of plain_parts p)
+program_fresh alloc lite cert first addr config built p h = record {
+  lines = ap (λ (q : PlainPeer). q.lines) h.rest ∙ ap (λ (q : PlainPeer). q.lines) h.builds.rest;
+  staged = ap (λ (q : PlainPeer). q.staged) h.rest ∙ ap (λ (q : PlainPeer). q.staged) h.builds.rest;
+  channels = ap (λ (q : PlainPeer). q.channels) h.rest ∙ ap (λ (q : PlainPeer). q.channels) h.builds.rest;
+  counter = ap (λ (q : PlainPeer). q.counter) h.rest ∙ ap (λ (q : PlainPeer). q.counter) h.builds.rest;
+  remote = ap (λ (ice : IceContents). ice.settings.remote) h.added.1 ∙ added_remote (host_at addr) built.ice ∙ built_alone alloc config first built h.builds;
+  fingerprint = ap (λ (q : PlainPeer). q.fingerprint) h.rest ∙ ap (λ (q : PlainPeer). q.fingerprint) h.builds.rest;
+}
+
+pub program_formed : (alloc : Global) (lite : Bool) (cert : List ℕ) (first : ℕ) (addr : Addr) (config : Config) (built p : PlainPeer)
+    → Makes alloc lite cert first addr config built p → (config.creds ≡ None → IsFormed (stance_of plain_parts built)) → IsHostCandidate (host_at addr)
+    → IsFormed (stance_of plain_parts p)
+program_formed alloc lite cert first addr config built p h formed host =
+    let was : IsFormed (stance_of plain_parts built) = formed (ap (λ (c : Config). c.creds) h.config_is) in
+    let candidates : p.ice.settings.candidates ≡ host_at addr ∷ [] =
+    ap (λ (ice : IceContents). ice.settings.candidates) h.added.1 ∙ added_candidates (host_at addr) built.ice
+    ∙ ap (λ (list : List Candidate). list ++ host_at addr ∷ []) (built_bare alloc config first built h.builds) in
+    let creds : p.ice.settings.local ≡ built.ice.settings.local =
+    ap (λ (ice : IceContents). ice.settings.local) h.added.1 ∙ added_local (host_at addr) built.ice in
+    record {
+      session = rw (ap (λ (q : PlainPeer). q.session_id) h.rest) was.session;
+      creds = rw creds was.creds;
+      candidates = rw candidates (host, tt);
+      fingerprint = rw (ap (λ (q : PlainPeer). q.dtls) h.rest) was.fingerprint;
+      rows = rw (ap (λ (q : PlainPeer). q.lines) h.rest) was.rows;
+      staged = rw (ap (λ (q : PlainPeer). q.staged) h.rest) was.staged;
+      restarts = rw (ap (λ (q : PlainPeer). q.staged) h.rest) was.restarts;
+    }
+
+pub left_host : IsHostCandidate (host_at left_address)
+left_host = record {
+  foundation = refl;
+  component = omega arith;
+  proto = refl;
+  priority = omega arith;
+  four = refl;
+  bytes = (omega arith, (omega arith, (omega arith, (omega arith, tt))));
+  port = omega arith;
+  kind = refl;
+}
+
+pub right_host : IsHostCandidate (host_at right_address)
+right_host = record {
+  foundation = refl;
+  component = omega arith;
+  proto = refl;
+  priority = omega arith;
+  four = refl;
+  bytes = (omega arith, (omega arith, (omega arith, (omega arith, tt))));
+  port = omega arith;
+  kind = refl;
+}
+
+fresh_at : (pair : PlainPairState) (at : Side) → IsJustBuilt (stance_of plain_parts pair.left.core) → IsJustBuilt (stance_of plain_parts pair.right.core)
+    → IsJustBuilt (stances_of plain_parts pair at)
+fresh_at pair Left left right = left
+fresh_at pair Right left right = right
+
+pub pair_fresh : (pair : PlainPairState) → IsJustBuilt (stance_of plain_parts pair.left.core) → IsJustBuilt (stance_of plain_parts pair.right.core)
+    → pair.sdps ≡ [] → pair.size ≡ 0 → IsFresh plain_parts pair
+pair_fresh pair left right sdps size = record { built = λ at. fresh_at pair at left right; sdps = sdps; size = size }
+
+pub pair_formed : (pair : PlainPairState) → IsFormed (stance_of plain_parts pair.left.core) → IsFormed (stance_of plain_parts pair.right.core)
+    → (at : Side) → IsFormed (stances_of plain_parts pair at)
+pair_formed pair left right Left = left
+pair_formed pair left right Right = right
