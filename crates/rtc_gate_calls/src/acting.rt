@@ -17,6 +17,7 @@ ghost use Rattle.std.specs.Prelude.{
   slice_get,
   ◌==◌,
 };
+ghost use Rattle.std.specs.List.{remove};
 ghost use Rattle.rtc_gate_calls.specs.GateState.{ConnectionState, connection_numbered, without_first};
 ghost use Rattle.rtc_gate_calls.specs.Gate.{AreNumbered};
 ghost use Rattle.rtc_gate_calls.specs.Delivering.{connection_changed_at, IsAt};
@@ -55,6 +56,17 @@ pub fn take_from(connections: &mut [Connection], conn: u32) -> Result<Option<Byt
     Ok(next_at(connections, place, conn))
 }
 
+// Takes the connection at a place out, and answers its name.
+#[tactic(auto, using(crate::proofs::ConnectionLemmas::got))]
+fn take_out(connections: &mut Vec<Connection>, place: usize) -> ShortToken
+    requires { place < length connections.old.items }
+    ensures name { (connection : ConnectionState) → slice_get connections.old.items place ≡ Some connection → result ≡ connection.name }
+    ensures left { connections.new.items ≡ remove connections.old.items place }
+{
+    let connection = connections.remove(place);
+    connection.name()
+}
+
 /// Lets a connection go, and answers its name.
 pub fn leave_from(connections: &mut Vec<Connection>, conn: u32) -> Result<ShortToken, NotHere>
     requires { AreNumbered 0 connections.old.items (2 ^ 32) }
@@ -66,8 +78,8 @@ pub fn leave_from(connections: &mut Vec<Connection>, conn: u32) -> Result<ShortT
     let Some(place) = place_of(connections.as_slice(), conn) else {
         return Err(NotHere);
     };
-    let connection = connections.remove(place);
-    Ok(connection.name())
+    let name = take_out(connections, place);
+    Ok(name)
 }
 
 /// Whether the stream of a connection stays shorter than 2^64 bytes with so many more; true where nobody has the number.
