@@ -1,9 +1,9 @@
 #!/usr/bin/env python3
 """Writes `stdin` and `stdout` of the programs that the gate runs over stored examples, those of crates/rtc_*_examples that have
 `data/calls`. `stdin` names each
-example of the crate's `data/`: the lines of `data/calls`, and the scripts and descriptions, each beside what it expects. `stdout` has
-each of these lines behind `agrees`. With --check nothing is written, and what is not current is refused, as are an example without
-what it expects and a call that `data/calls` leaves out.
+example of the crate's `data/`: the lines of each file `calls`, and the scripts and descriptions, each beside what it expects. `stdout`
+has each of these lines behind `agrees`. With --check nothing is written, and what is not current is refused, as are an example without
+what it expects and a call that `data/calls` leaves out. `data/orderly/` is made by tests/orderly_scripts.py.
 
 usage: tests/examples.py [--check]
 """
@@ -31,7 +31,8 @@ def stems(folder, ending):
 # The lines that name a crate's examples, and what is wrong with them.
 def examples(crate):
     data = os.path.join(crate, "data")
-    lines, wrong = read(os.path.join(data, "calls")).splitlines(), []
+    calls = sorted(glob.glob(os.path.join(data, "**", "calls"), recursive=True))
+    lines, wrong = [line for path in calls for line in read(path).splitlines()], []
     for (given, expected), word in ENDINGS.items():
         paths = stems(data, given)
         wrong += [f"{path} is without its .{given} or .{expected}" for path in sorted(paths ^ stems(data, expected))]

@@ -1,7 +1,8 @@
 #!/usr/bin/env python3
 """Counts instructions of the proved programs by valgrind --tool=callgrind, so that growth is seen. It is no part of the gate.
 
-usage: tests/measure.py [PART..]     PART is descriptions, rounds, messages, associations, forged or frames; without one all are counted
+usage: tests/measure.py [PART..]     PART is descriptions, rounds, orderly, messages, associations, forged or frames; without one all
+are counted
 
 The programs are those that the gate left in crates/*/out/. Each figure is a difference of two runs, so that the start of the
 program is not in it. docs/PERFORMANCE.md has the tables.
@@ -79,6 +80,29 @@ def rounds():
         print(f"| {lines:,} | {one - start:,} | {(one - start) // lines:,} | {two - one:,} | {(two - one) // lines:,} |")
 
 
+# A first round, and so many more by both sides in turn, each with one op: a direction, which turns the line since it was the other
+# side's; a stop of a line that is live; or a restart of ICE.
+def orderly_script(lines, rounds, kind):
+    text = "str0m-pair 1\nL offer" + " audio:sendrecv" * lines + "\nR accept 0\nL answer 0 1\n"
+    for number in range(rounds):
+        at, other, offer = "LR"[number % 2], "RL"[number % 2], 2 * number + 2
+        op = {"directions": "dir:0:sendonly", "stops": f"stop:{number + 1}", "restarts": "restart:keep"}[kind]
+        text += f"{at} offer {op}\n{other} accept {offer}\n{at} answer {offer} {offer + 1}\n"
+    return text.encode()
+
+
+# What a round of a long script costs, on lines that no round adds to.
+def orderly():
+    print("| Rounds that | Lines | Rounds | Instructions | A round | A round and line |\n|---|---|---|---|---|---|")
+    for kind, lines in (("directions", 10), ("restarts", 10), ("stops", 100)):
+        start, _ = count([program("rtc_pair"), "run"], orderly_script(lines, 0, kind))
+        for rounds in (1, 10, 30, 60):
+            cost, report = count([program("rtc_pair"), "run"], orderly_script(lines, rounds, kind))
+            if report.count(b" finished\n") != rounds + 1:
+                sys.exit(f"measure: a round of {rounds} that are {kind} did not finish")
+            print(f"| {kind} | {lines} | {rounds} | {cost - start:,} | {(cost - start) // rounds:,} | {(cost - start) // rounds // lines:,} |")
+
+
 def messages():
     print("| Bytes | Instructions | A byte |\n|---|---|---|")
     start, _ = count([program("rtc_association_examples")], b"messages of 0 bytes\n")
@@ -150,7 +174,7 @@ def frames():
 
 
 def main():
-    parts = {"descriptions": descriptions, "rounds": rounds, "messages": messages, "associations": associations, "forged": forged, "frames": frames}
+    parts = {"descriptions": descriptions, "rounds": rounds, "orderly": orderly, "messages": messages, "associations": associations, "forged": forged, "frames": frames}
     wanted = sys.argv[1:] or list(parts)
     if any(name not in parts for name in wanted):
         sys.exit(__doc__)
