@@ -12,19 +12,23 @@ pub record Reporting : Type 0 where
   pub last : Option ℕ
   pub events : List StatsEvent
 
--- whether a round is due at a moment: an interval or more has passed since the last moment
+-- the moment of the round after one: an interval later, at most the last of all moments
+abbrev pub round_after : ℕ → ℕ → ℕ
+round_after interval last = min (last + interval) (2 ^ 64 - 1)
+
+-- whether a round is due at a moment: that of the round after the last one has come
 abbrev pub is_round_due : ℕ → Option ℕ → ℕ → Bool
 is_round_due interval None now = false
-is_round_due interval (Some last) now = nat_le (last + interval) now
+is_round_due interval (Some last) now = nat_le (round_after interval last) now
 
 -- the last moment, or this one where there was none
 abbrev pub since : Option ℕ → ℕ → ℕ
 since None now = now
 since (Some last) now = last
 
--- the next round's moment, at most the last of all moments
+-- the next round's moment, once a moment is known
 abbrev pub next_round : Reporting → Option ℕ
-next_round stats = option_map (λ last. min (last + stats.interval) (2 ^ 64 - 1)) stats.last
+next_round stats = option_map (round_after stats.interval) stats.last
 
 -- the report on the peer itself
 abbrev pub peer_report : StatsSnapshot → PeerStats

@@ -92,13 +92,11 @@ fn reports_of(alloc: Global, snapshot: &StatsSnapshot) -> Result<Vec<StatsEvent>
     Ok(reports)
 }
 
-// Whether at least an interval lies between two moments.
+// Whether the moment an interval after the last one, at most the last of all moments, has come.
 fn is_past(interval: Span, last: Moment, now: Moment) -> bool
     ensures { result ≡ spec.is_round_due interval (Some last) now }
 {
-    let last = last.nanos();
-    let now = now.nanos();
-    last <= now && interval.nanos() <= now - last
+    last.plus(interval) <= now
 }
 
 impl Stats {
