@@ -13,5 +13,6 @@ pub mod Orderly
 pub mod SoundEntry
 pub mod PairState
 pub mod Performs
+pub mod SoundParts
 pub mod Runs
 pub mod Fresh

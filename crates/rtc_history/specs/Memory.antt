@@ -67,6 +67,10 @@ tells_fault (Refused error) = is_fault error
 tells_fault NoSuch = false
 tells_fault Alloc = false
 
+-- whether one of these replies tells that a part failed
+abbrev pub tell_fault : List Reply → Bool
+tell_fault replies = list_any (λ reply. tells_fault reply.outcome) replies
+
 -- whether memory ran out or a part failed
 abbrev pub fails : Outcome → Bool
 fails outcome = outcome_lacks outcome || tells_fault outcome

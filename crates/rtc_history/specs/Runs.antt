@@ -9,6 +9,7 @@ use Rattle.rtc_history.specs.Past.{Entry, before, channels_shown, sdps, steps_of
 use Rattle.rtc_history.specs.SoundEntry.{IsSoundEntry}
 use Rattle.rtc_history.specs.PairState.{PairState, peer_at, made_sdp, stances_of}
 use Rattle.rtc_history.specs.Performs.{Enters}
+use Rattle.rtc_history.specs.SoundParts.{IsSoundOfParts}
 
 -- A pair goes through a past, newest entry first: each entry leads from the pair before it to the pair after it.
 abbrev pub Went : {P : Type 0} → (List Entry → P → Entry → P → Type 0) → (P → Type 0) → List Entry → P → Type 0
@@ -20,11 +21,13 @@ module _ {I D S M E X T W N : Type 0} (m : Meanings I D S M E X T W N) where
   abbrev pub Reached : PairState I D S M N → List Entry → PairState I D S M N → Type 0
   Reached start past pair = Went (λ earlier between entry after. Enters m between entry after) (λ fresh. fresh ≡ start) past pair
 
-  -- the calls of a step lead from one pair to another, and its entry is sound after the entries before it
+  -- the calls of a step lead from one pair to another, and its entry is sound after the entries before it, also in what it tells of the
+  -- parts
   abbrev pub EntersSoundly : PairState I D S M N → List Entry → PairState I D S M N → Entry → PairState I D S M N → Type 0
   EntersSoundly start earlier between entry after =
       Enters m between entry after
       × IsSoundEntry (stances_of m start) earlier (stances_of m between) entry (stances_of m after)
+      × IsSoundOfParts m between entry after
 
   -- A run by these steps, with these replies.
   pub record Runs (start : PairState I D S M N) (steps : List Step) (replies : List Reply) (pair : PairState I D S M N) : Type 0 where

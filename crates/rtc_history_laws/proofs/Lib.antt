@@ -53,4 +53,7 @@ pub mod OrderlyNext
 pub mod OrderlySounds
 pub mod StanceRuns
 pub mod Reaches
+pub mod CountedFaults
+pub mod SoundSides
+pub mod PartsSound
 pub mod MoreSteps

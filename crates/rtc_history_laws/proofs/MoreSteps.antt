@@ -7,7 +7,7 @@ use Rattle.rtc_history.specs.declared.reply.Reply.{Reply}
 use Rattle.rtc_history.specs.Sizes.{steps_size}
 use Rattle.rtc_history.specs.Past.{Entry}
 use Rattle.rtc_history.specs.PairState.{PairState, made_sdp}
-use Rattle.rtc_history.specs.Performs.{Performs, sdps_behind}
+use Rattle.rtc_history.specs.Performs.{Performs, Enters, sdps_behind}
 use Rattle.rtc_history.specs.Runs.{Went, EntersSoundly, Runs}
 use Rattle.rtc_history.specs.Fresh.{IsFresh}
 use Rattle.rtc_history_laws.proofs.StanceSteps.{pair_stance}
@@ -16,6 +16,7 @@ use Rattle.rtc_history_laws.proofs.StanceRuns.{StanceReached, StanceRan, fresh_s
 use Rattle.rtc_history_laws.proofs.Bounds.{IsWithin}
 use Rattle.rtc_history_laws.proofs.Tells.{Tells}
 use Rattle.rtc_history_laws.proofs.Around.{entry}
+use Rattle.rtc_history_laws.proofs.PartsSound.{parts_sound}
 use Rattle.rtc_history_laws.proofs.Reaches.{reached_tells, reached_within, reached_size}
 use Rattle.rtc_history_laws.proofs.OrderlySounds.{sound_next}
 
@@ -39,12 +40,14 @@ module _ {I D S M E X T W N : Type 0} (m : Meanings I D S M E X T W N) where
   runs_more laws start old new steps replies step reply fresh run performs small =
       let last : Entry = entry step reply.outcome reply.table (sdps_behind old.sdps new.sdps) in
       let ran : StanceRan (pair_stance m start) run.past (pair_stance m old) = ran_stands m laws start run.past old run.went in
+      let enters : Enters m old last new = record { performs = performs; made = refl } in
       let went : Went (EntersSoundly m start) (λ fresh. fresh ≡ start) (last ∷ run.past) new = (
         old,
         run.went,
         (
-          record { performs = performs; made = refl },
+          enters,
           sound_next (pair_stance m start) (pair_stance m old) (pair_stance m new) run.past step reply.outcome reply.table (fresh_stands m start fresh) ran (performs_stands m laws old step reply.outcome reply.table new performs) small,
+          parts_sound m laws old last new enters,
         ),
       ) in
       let tells : Tells (last ∷ run.past) (pair_stance m new) = reached_tells (pair_stance m start) (pair_stance m new) (last ∷ run.past) (fresh_stands m start fresh) (ran_reached (pair_stance m start) (last ∷ run.past) (pair_stance m new) (ran_stands m laws start (last ∷ run.past) new went)) small in

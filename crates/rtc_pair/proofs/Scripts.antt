@@ -2,6 +2,7 @@
 use Rattle.std.proofs.Common.{◌≡◌, ◌≤◌, ◌^◌, ◌⊎◌, inl, inr, ℕ, Bool, true, List, length, Option, Result, Ok, Err, IfOk, subst}
 use Rattle.std.specs.declared.alloc.Global.{Global}
 use Rattle.std.specs.Io.KnownBytes.{Consumes, IsAtEnd}
+use Rattle.rtc_run.proofs.PlainFaults.{plain_unfaulted}
 use Rattle.rtc_run.specs.ProgramPair.{plain_parts, PlainPairState}
 use Rattle.rtc_io.proofs.Told.{reads_input}
 use Rattle.rtc_io.specs.Programs.{ReadsInput}
@@ -47,7 +48,13 @@ ran_joined {E = E} alloc script start pair replies (Ok (kept, told)) (kept_is, t
     let U : Result (List Reply) E → Type 0 = λ (r : Result (List Reply) E). IfOk r (λ told. AllReadBack pair.sdps) in
     let ran : Runs plain_parts start script.steps told pair = subst Q told_is runs in
     let read : AllReadBack pair.sdps = subst U told_is read_back in
-    record { start = start; program = program; runs = rw kept_is ran; read_back = rw kept_is read }
+    record {
+      start = start;
+      program = program;
+      runs = rw kept_is ran;
+      read_back = rw kept_is read;
+      no_fault = plain_unfaulted start pair script.steps told ran;
+    }
 ran_joined alloc script start pair replies (Err error) joined program runs read_back = tt
 
 -- a script was run, and its report was written

@@ -1,5 +1,5 @@
 -- What the program does and answers.
-use Rattle.std.specs.Prelude.{◌≡◌, ◌≤◌, ◌^◌, ◌⊎◌, ℕ, Bool, List, [], ◌∷◌, length, codes, Option, Some, None}
+use Rattle.std.specs.Prelude.{◌≡◌, ◌≤◌, ◌^◌, ◌⊎◌, ℕ, Bool, false, List, [], ◌∷◌, length, codes, Option, Some, None}
 use Rattle.std.specs.List.{list_any}
 use Rattle.std.specs.declared.alloc.Global.{Global}
 use Rattle.std.specs.Io.KnownBytes.{Appends}
@@ -8,7 +8,7 @@ use Rattle.rtc_io.specs.Programs.{Program, ReadsInput, IsTooLong, fault_line, lo
 use Rattle.rtc_history.specs.declared.side.Side.TheVariants.{Left, Right}
 use Rattle.rtc_history.specs.declared.reply.Reply.{Reply}
 use Rattle.rtc_history.specs.declared.step.Step.{Step}
-use Rattle.rtc_history.specs.Memory.{lacks_memory}
+use Rattle.rtc_history.specs.Memory.{lacks_memory, tell_fault}
 use Rattle.rtc_history.specs.Runs.{Runs}
 use Rattle.rtc_delivery.specs.Delivered.{AllReadBack}
 use Rattle.rtc_run.specs.ProgramPair.{plain_parts, PlainPairState, IsProgramPair}
@@ -31,12 +31,13 @@ abbrev pub IsPairOf : Global → Script → PlainPairState → Type 0
 IsPairOf alloc script pair = IsProgramPair alloc (sets_lite Left script.settings) (sets_lite Right script.settings) pair
 
 -- A script was run on the program's pair with these replies, which left this pair, and each description that was made is read as it was
--- written.
+-- written. No reply tells that a part failed: those in memory never do.
 pub record RanScript (alloc : Global) (script : Script) (replies : List Reply) (pair : PlainPairState) : Type 0 where
   pub start : PlainPairState
   pub program : IsPairOf alloc script start
   pub runs : Runs plain_parts start script.steps replies pair
   pub read_back : AllReadBack pair.sdps
+  pub no_fault : tell_fault replies ≡ false
 
 -- This text is the report of a run of a script.
 pub record IsReport (alloc : Global) (script : Script) (text : List ℕ) : Type 0 where

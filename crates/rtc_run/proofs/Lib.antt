@@ -8,3 +8,4 @@ pub mod RowsLeft
 pub mod Paired
 pub mod FaultlessSdps
 pub mod PlainPeers
+pub mod PlainFaults

@@ -1,16 +1,23 @@
--- Session descriptions (SDPs) that no cause refuses are accepted, unless memory runs out or a part fails.
+-- Session descriptions (SDPs) that no cause refuses are accepted, unless memory runs out or a part fails; and no reply tells that a part
+-- failed where none did.
 use Rattle.std.specs.Prelude.{◌≡◌, ◌||◌, ℕ, true, false, List, Option, Some, None}
 use Rattle.rtc_sdp_values.specs.declared.sdp.Sdp.{Sdp}
 use Rattle.rtc_change.specs.Plans.{verdict}
+use Rattle.rtc_peer_state.specs.Meanings.{Meanings}
 use Rattle.rtc_peer_state.specs.Stance.{held_by}
 use Rattle.rtc_history.specs.declared.side.Side.{Side}
 use Rattle.rtc_history.specs.declared.outcome.Outcome.{Outcome}
+use Rattle.rtc_history.specs.declared.reply.Reply.{Reply}
+use Rattle.rtc_history.specs.declared.step.Step.{Step}
 use Rattle.rtc_history.specs.declared.step.Step.TheVariants.{AcceptOffer, AcceptAnswer}
 use Rattle.rtc_history.specs.declared.table.Table.{Table}
-use Rattle.rtc_history.specs.Memory.{fails}
+use Rattle.rtc_history.specs.Memory.{fails, tell_fault}
 use Rattle.rtc_history.specs.Orderly.{is_ok}
+use Rattle.rtc_history.specs.PairState.{PairState}
 use Rattle.rtc_history.specs.Past.{Entry, MadeSdp, remote_sdp, holds_token, is_right}
+use Rattle.rtc_history.specs.Runs.{Runs}
 use Rattle.rtc_history.specs.Sound.{IsSound, asked_in}
+use Rattle.rtc_history.specs.SoundParts.{CountsFault}
 use Rattle.rtc_history.specs.Views.{Stances, view_in}
 
 -- a step succeeded, or tells that memory ran out or that a part failed
@@ -43,3 +50,10 @@ FaultlessAnswersPass =
     (made : List MadeSdp)
     → IsSound fresh past between (AcceptAnswer at t a) outcome table made → IsFaultlessAnswer fresh past between at t a
     → SucceedsOrFails outcome
+
+module _ {I D S M E X T W N : Type 0} (m : Meanings I D S M E X T W N) where
+  -- where neither DTLS part of a pair failed in a run, no reply of it tells a fault
+  abbrev pub FaultsAreCounted : Type 0
+  FaultsAreCounted =
+      (start : PairState I D S M N) (steps : List Step) (replies : List Reply) (pair : PairState I D S M N)
+      → Runs m start steps replies pair → ((at : Side) → ¬ CountsFault m at start pair) → tell_fault replies ≡ false

@@ -1,8 +1,16 @@
-//! Laws of sound replies.
-ghost use Rattle.rtc_run.specs.Completeness.{FaultlessAnswersPass, FaultlessOffersPass};
+//! Laws of sound replies, and of runs.
+ghost use Rattle.rtc_peer_state.specs.Meanings.{meanings};
+ghost use Rattle.rtc_run.specs.Completeness.{FaultlessAnswersPass, FaultlessOffersPass, FaultsAreCounted};
 
-/// An offer or answer for which no cause of refusal holds is accepted, unless memory runs out.
+use rtc_peer::{Association, DtlsInstance, IceAgent, Ids, MediaSession};
+
+/// An offer or answer for which no cause of refusal holds is accepted, unless memory runs out or the DTLS part fails.
 pub fn faultless_descriptions_pass()
     ensures offers { FaultlessOffersPass }
     ensures answers { FaultlessAnswersPass }
+{}
+
+/// No reply of a run tells a fault where neither DTLS part of its pair counted one.
+pub fn faults_are_counted<I: IceAgent, D: DtlsInstance, S: Association, M: MediaSession, N: Ids>()
+    ensures { FaultsAreCounted (meanings I.ice D.dtls S.association M.media N.ids) }
 {}

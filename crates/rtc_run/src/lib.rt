@@ -11,7 +11,7 @@ mod plain_pair;
 mod replying;
 mod running;
 
-pub use laws::faultless_descriptions_pass;
+pub use laws::{faultless_descriptions_pass, faults_are_counted};
 pub use pair::Pair;
 pub use plain_pair::{PlainPair, make_pair};
 pub use rtc_delivery::{deliver_answer, deliver_offer};

@@ -1,0 +1,38 @@
+-- What an entry of a run tells of the parts of its pair.
+use Rattle.std.specs.Prelude.{◌≡◌, ◌≤◌, ℕ, Bool, true, false}
+use Rattle.rtc_io.specs.Faults.{Rose}
+use Rattle.rtc_media.specs.MediaLaws.{SameLines}
+use Rattle.rtc_peer_state.specs.Meanings.{Meanings}
+use Rattle.rtc_history.specs.declared.side.Side.{Side}
+use Rattle.rtc_history.specs.declared.outcome.Outcome.{Outcome}
+use Rattle.rtc_history.specs.declared.outcome.Outcome.TheVariants.{Negotiated, Answered, Finished, Refused, NoSuch, Alloc}
+use Rattle.rtc_history.specs.Memory.{tells_fault}
+use Rattle.rtc_history.specs.Past.{Entry}
+use Rattle.rtc_history.specs.PairState.{PairState, peer_at}
+use Rattle.rtc_history.specs.Sides.{side_of}
+
+-- whether an outcome tells that a peer refused an offer, an answer or a token
+abbrev pub tells_refusal : Outcome → Bool
+tells_refusal (Negotiated answers made) = false
+tells_refusal (Answered k) = false
+tells_refusal Finished = false
+tells_refusal (Refused error) = true
+tells_refusal NoSuch = false
+tells_refusal Alloc = false
+
+module _ {I D S M E X T W N : Type 0} (m : Meanings I D S M E X T W N) where
+  -- how often the DTLS part of a side failed
+  abbrev pub dtls_faults : Side → PairState I D S M N → ℕ
+  dtls_faults at pair = m.dtls.faults (peer_at at pair).dtls.instance
+
+  -- the DTLS part of a side failed between two pairs
+  abbrev pub CountsFault : Side → PairState I D S M N → PairState I D S M N → Type 0
+  CountsFault at before after = Rose (dtls_faults at before) (dtls_faults at after)
+
+  -- No count of faults falls, and a reply tells a fault only where the DTLS part of the acting side failed in this step. A side that
+  -- refuses, for whatever cause, leaves the lines of its media part, and the sources that are in use.
+  pub record IsSoundOfParts (between : PairState I D S M N) (entry : Entry) (after : PairState I D S M N) : Type 0 where
+    pub later : (at : Side) → dtls_faults at between ≤ dtls_faults at after
+    pub fault : tells_fault entry.outcome ≡ true → CountsFault (side_of entry.step) between after
+    pub media : tells_refusal entry.outcome ≡ true
+        → SameLines m.media (peer_at (side_of entry.step) between).media (peer_at (side_of entry.step) after).media
