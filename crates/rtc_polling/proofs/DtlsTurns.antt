@@ -1,0 +1,63 @@
+-- Outputs of the DTLS connection that a poll takes.
+use Rattle.std.proofs.Common.{◌≡◌, ◌<◌, ◌≤◌, ◌-◌, ◌^◌, ℕ, Bool, true, List, [], ◌∷◌, Option, Some, None, Result, Ok, Err}
+use Rattle.std.proofs.Common.{refl, sym, ap, subst, arith}
+use Rattle.std.specs.declared.alloc.AllocError.{AllocError}
+use Rattle.rtc_dtls.specs.declared.dtls_output.DtlsOutput.{DtlsOutput}
+use Rattle.rtc_dtls.specs.declared.dtls_output.DtlsOutput.TheVariants as outputs
+use Rattle.rtc_dtls.specs.DtlsActs.{DtlsMoved}
+use Rattle.rtc_dtls.specs.DtlsDrawn.{DrewPacket, draws_output}
+use Rattle.rtc_dtls.specs.DtlsLaws.{DtlsLaws}
+use Rattle.rtc_dtls.specs.DtlsMeaning.{DtlsMeaning}
+use Rattle.rtc_dtls.specs.DtlsState.{DtlsState, PollsOutput, drawn_by}
+use Rattle.rtc_dtls.specs.DtlsWords.{takes}
+use Rattle.rtc_peer_state.specs.Meanings.{Meanings}
+use Rattle.rtc_polling.specs.declared.met.Met.TheVariants.{Again}
+use Rattle.rtc_polling.specs.declared.polled_peer.PolledPeer.{PolledPeer}
+use Rattle.rtc_polling.specs.Connection.{with_dtls}
+use Rattle.rtc_polling.specs.DtlsStages.{ChecksCert, TakesKeys, TakesCloseNotify, TakesDtlsOutput, TakesDtlsAnswer, PollsDtlsOutput}
+
+module _ {D : Type 0} (m : DtlsMeaning D) (laws : DtlsLaws m) where
+  -- packets that are taken lower what the part holds
+  takes_held : (p q : D) (packets : List (List ℕ)) → DtlsMoved m p (takes packets) q → m.held q ≤ m.held p
+  takes_held p q [] moved = subst (λ (x : D). m.held x ≤ m.held p) (sym moved) (omega arith)
+  takes_held p q (packet ∷ packets) moved =
+      let falls = laws.drawn_falls p moved.0 (DrewPacket packet) refl moved.1.0 in
+      let rest = takes_held moved.0 q packets moved.1.1 in
+      omega (arith, falls, rest)
+
+module _ {I D S M E X T W N : Type 0} (m : Meanings I D S M E X T W N) where
+  -- an output that is followed by the next is none of a moment, and leaves the instance
+  pub taken_output : (output : DtlsOutput) (p q : PolledPeer I D S M N) → TakesDtlsOutput m output p Again q
+      → (draws_output (drawn_by output) ≡ true)
+      × ((q.peer.dtls.instance ≡ p.peer.dtls.instance) × (q.peer.dtls.active ≡ p.peer.dtls.active))
+  unfolding ChecksCert TakesKeys TakesCloseNotify
+  taken_output outputs.Connected p q taken =
+      (refl, (ap (λ (x : PolledPeer I D S M N). x.peer.dtls.instance) taken.1, ap (λ (x : PolledPeer I D S M N). x.peer.dtls.active) taken.1))
+  taken_output (outputs.KeyingMaterial key profile) p q taken =
+      (refl, (ap (λ (x : PolledPeer I D S M N). x.peer.dtls.instance) taken.1, ap (λ (x : PolledPeer I D S M N). x.peer.dtls.active) taken.1))
+  taken_output (outputs.PeerCert cert) p q taken =
+      (refl, (ap (λ (x : PolledPeer I D S M N). x.peer.dtls.instance) taken.3, ap (λ (x : PolledPeer I D S M N). x.peer.dtls.active) taken.3))
+  taken_output (outputs.ApplicationData bytes) p q taken =
+      (refl, (ap (λ (x : PolledPeer I D S M N). x.peer.dtls.instance) taken.1, ap (λ (x : PolledPeer I D S M N). x.peer.dtls.active) taken.1))
+  taken_output (outputs.Timeout moment) p q taken = cc (taken.0)
+  taken_output outputs.CloseNotify p q taken = absurd taken
+
+  module _ (laws : DtlsLaws m.dtls) where
+    answer_falls : (active : Option Bool) (answer : Result DtlsOutput AllocError) (dtls : DtlsState D) (p q : PolledPeer I D S M N)
+        → PollsOutput m.dtls p.peer.dtls active answer dtls → TakesDtlsAnswer m answer (with_dtls dtls p) Again q
+        → m.dtls.held q.peer.dtls.instance < m.dtls.held p.peer.dtls.instance
+    answer_falls None (Ok output) dtls p q polled taken =
+        let is : output ≡ outputs.Timeout (2 ^ 64 - 1) = cc (polled.0) in
+        cc ((subst (λ (x : DtlsOutput). TakesDtlsOutput m x (with_dtls dtls p) Again q) is taken).0)
+    answer_falls (Some active) (Ok output) dtls p q polled taken =
+        let drains = polled.0 in
+        let kept = taken_output output (with_dtls dtls p) q taken in
+        let taking = takes_held m.dtls laws p.peer.dtls.instance drains.1.0 drains.0 drains.1.1.0 in
+        let falls = laws.drawn_falls drains.1.0 dtls.instance (drawn_by output) kept.0 drains.1.1.1 in
+        subst (λ (x : D). m.dtls.held x < m.dtls.held p.peer.dtls.instance) (sym kept.1.0) (omega (arith, taking, falls))
+    answer_falls active (Err error) dtls p q polled taken = cc (taken.0)
+
+    -- each output that is followed by the next lowers what the part holds
+    pub dtls_turn_falls : (p q : PolledPeer I D S M N) → PollsDtlsOutput m p Again q
+        → m.dtls.held q.peer.dtls.instance < m.dtls.held p.peer.dtls.instance
+    dtls_turn_falls p q turn = answer_falls p.peer.dtls.active turn.answer turn.dtls p q turn.by_poll turn.by_answer

@@ -1,0 +1,14 @@
+use Rattle.rtc_peer_state.specs.Meanings.{meanings}
+use Rattle.rtc_polling.specs.DtlsStages.{PollsDtlsOutput}
+use Rattle.rtc_polling.proofs.DtlsTurns.{dtls_turn_falls}
+use Rattle.rtc_polling.proofs.StageLemmas.{over_more, repeats_end}
+use Rattle.rtc_polling.proofs.polled_peer.PolledPeer.poll_dtls_outputs.Goals as goal
+
+pub outputs-preserved : goal.outputs-preserved
+outputs-preserved g c = over_more (PollsDtlsOutput (meanings g.I.IceAgent.ice g.D.DtlsInstance.dtls g.S.Association.association g.M.MediaSession.media g.N.Ids.ids)) _ _ _ c.outputs.invariant c.in-Again.ensures
+
+pub outputs-smaller : goal.outputs-smaller
+outputs-smaller g c = dtls_turn_falls (meanings g.I.IceAgent.ice g.D.DtlsInstance.dtls g.S.Association.association g.M.MediaSession.media g.N.Ids.ids) g.met.D.DtlsInstance.laws _ _ c.in-Again.ensures
+
+pub returns-in_default : goal.returns-in_default
+returns-in_default g c = repeats_end _ _ _ _ _ c.outputs.invariant c.poll_dtls_output.ensures c.in_default.not-Again

@@ -1,0 +1,12 @@
+use Rattle.std.proofs.Common.{ℕ}
+use Rattle.rtc_peer_state.specs.Meanings.{meanings}
+use Rattle.rtc_polling.specs.IceStages.{PollsIceEvent}
+use Rattle.rtc_polling.specs.Stages.{StartsOver}
+use Rattle.rtc_polling.proofs.polled_peer.PolledPeer.poll_ice_events.Given as goal
+
+abbrev pub invariant-events : goal.invariant-events
+invariant-events g l =
+    (turns : ℕ) × StartsOver (PollsIceEvent (meanings g.I.IceAgent.ice g.D.DtlsInstance.dtls g.S.Association.association g.M.MediaSession.media g.N.Ids.ids)) turns l.fn.self l.self
+
+abbrev pub decreases-events : goal.decreases-events
+decreases-events g l = g.I.IceAgent.ice.held l.self.peer.ice

@@ -1,0 +1,35 @@
+-- A peer with its connection, and what changes of it.
+use Rattle.std.specs.Prelude.{◌-◌, ◌^◌, Bool, [], None}
+use Rattle.rtc_parts_values.specs.declared.reason.Reason.TheVariants.{NotHappening}
+use Rattle.rtc_dtls.specs.DtlsState.{DtlsState}
+use Rattle.rtc_peer_state.specs.declared.phase.Phase.TheVariants.{Closed}
+use Rattle.rtc_polling.specs.declared.handshake.Handshake.TheVariants.{Pending}
+use Rattle.rtc_polling.specs.declared.transport.Transport.{Transport}
+use Rattle.rtc_polling.specs.declared.polled_peer.PolledPeer.{PolledPeer}
+
+-- nothing is known of the other side
+abbrev pub no_transport : Bool → Transport
+no_transport verifies = record {
+  send_addr = None;
+  discovered = [];
+  handshake = Pending;
+  dtls_wake = 2 ^ 64 - 1;
+  verifies = verifies;
+  last_reason = NotHappening;
+  received = 0;
+  sent = 0;
+}
+
+-- the peer with another ICE agent, DTLS connection or media part
+abbrev pub with_ice : {I D S M N : Type 0} → I → PolledPeer I D S M N → PolledPeer I D S M N
+with_ice ice p = record p { peer = record p.peer { ice = ice } }
+
+abbrev pub with_dtls : {I D S M N : Type 0} → DtlsState D → PolledPeer I D S M N → PolledPeer I D S M N
+with_dtls dtls p = record p { peer = record p.peer { dtls = dtls } }
+
+abbrev pub with_media : {I D S M N : Type 0} → M → PolledPeer I D S M N → PolledPeer I D S M N
+with_media media p = record p { peer = record p.peer { media = media } }
+
+-- the peer, closed
+abbrev pub closed_peer : {I D S M N : Type 0} → PolledPeer I D S M N → PolledPeer I D S M N
+closed_peer p = record p { peer = record p.peer { phase = Closed } }

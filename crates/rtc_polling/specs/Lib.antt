@@ -1,0 +1,16 @@
+pub mod RecentAddrs
+pub mod RawPackets
+pub mod ErrorTexts
+pub mod Connection
+pub mod Stages
+pub mod Certificates
+pub mod Closing
+pub mod IceStages
+pub mod DtlsStages
+pub mod MediaStages
+pub mod SendStages
+pub mod Deadlines
+pub mod Walk
+pub mod Inputs
+pub mod Readings
+pub mod Kept

@@ -1,0 +1,8 @@
+-- The addresses that are remembered.
+use Rattle.std.specs.Prelude.{List, [], ◌∷◌, ◌++◌}
+use Rattle.circular_buffer.specs.Buffer.{keep_last}
+use Rattle.rtc_wire.specs.declared.addr.Addr.{Addr}
+
+-- addresses with one more, of which the last 20 stay
+abbrev pub with_recent : Addr → List Addr → List Addr
+with_recent addr addrs = keep_last 20 (addrs ++ addr ∷ [])

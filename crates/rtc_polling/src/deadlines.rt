@@ -1,0 +1,54 @@
+//! When a peer wants a timeout.
+ghost use Rattle.std.specs.Prelude.{◌≡◌};
+ghost use Rattle.rtc_peer_state.specs.Meanings.{meanings};
+ghost use Rattle.rtc_polling.specs.Deadlines.{sooner as sooner_of, wanted_for, least_deadline};
+
+use crate::PolledPeer;
+use rtc_association::Association;
+use rtc_dtls::DtlsInstance;
+use rtc_ice::IceAgent;
+use rtc_ids::Ids;
+use rtc_media::MediaSession;
+use rtc_parts_values::Reason;
+use rtc_wire::Moment;
+
+fn sooner(first: (Moment, Reason), other: Option<(Moment, Reason)>) -> (Moment, Reason)
+    ensures { result ≡ sooner_of first other }
+{
+    match other {
+        None => first,
+        Some(other) => {
+            if other.0.nanos() < first.0.nanos() {
+                other
+            } else {
+                first
+            }
+        }
+    }
+}
+
+fn wanted(reason: Reason, moment: Option<Moment>) -> Option<(Moment, Reason)>
+    ensures { result ≡ wanted_for reason moment }
+{
+    match moment {
+        None => None,
+        Some(moment) => Some((moment, reason)),
+    }
+}
+
+impl<I: IceAgent, D: DtlsInstance, S: Association, M: MediaSession, N: Ids> PolledPeer<
+    I,
+    D,
+    S,
+    M,
+    N,
+> {
+    /// The least deadline, with its reason.
+    pub(crate) fn least_deadline(&self) -> (Moment, Reason)
+        ensures { result ≡ least_deadline (meanings I.ice D.dtls S.association M.media N.ids) self.now }
+    {
+        let dtls = (self.transport.dtls_wake, Reason::DTLS);
+        let ice = wanted(Reason::Ice, self.peer.ice.poll_timeout());
+        sooner(sooner(dtls, ice), self.peer.media.poll_timeout())
+    }
+}

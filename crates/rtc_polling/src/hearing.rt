@@ -1,0 +1,166 @@
+//! Inputs.
+ghost use Rattle.std.specs.Prelude.{◌≡◌};
+ghost use Rattle.rtc_peer_state.specs.Meanings.{meanings};
+ghost use Rattle.rtc_polling.specs.Inputs.{GivesTime, TakesTime, HearsStun, HearsDtls, HearsMedia, HearsKind, Hears, HandlesInput};
+
+use crate::sending::count_bytes;
+use crate::{Input, PolledPeer, TransportError};
+use rtc_association::Association;
+use rtc_dtls::{DtlsError, DtlsInstance};
+use rtc_ice::IceAgent;
+use rtc_ids::Ids;
+use rtc_media::{MediaError, MediaSession};
+use rtc_peer_state::Phase;
+use rtc_wire::{DatagramRecv, Moment, Receive, StunView};
+
+impl<I: IceAgent, D: DtlsInstance, S: Association, M: MediaSession, N: Ids> PolledPeer<
+    I,
+    D,
+    S,
+    M,
+    N,
+> {
+    #[tactic(auto, unfolding(crate::specs::Inputs::GivesTime))]
+    fn give_time(&mut self, now: Moment) -> Result<(), TransportError>
+        ensures { GivesTime (meanings I.ice D.dtls S.association M.media N.ids) now self.old result self.new }
+    {
+        self.peer.greatest = now;
+        match self.peer.ice.handle_timeout(now) {
+            Ok(()) => {}
+            Err(_) => {
+                self.peer.phase = Phase::Closed;
+                return Err(TransportError::Alloc);
+            }
+        }
+        match self.peer.media.handle_timeout(now) {
+            Ok(()) => Ok(()),
+            Err(error) => match error {
+                MediaError::Alloc => {
+                    self.peer.phase = Phase::Closed;
+                    Err(TransportError::Alloc)
+                }
+                cause => Err(TransportError::Media(cause)),
+            },
+        }
+    }
+
+    fn take_time(&mut self, now: Moment) -> Result<(), TransportError>
+        ensures { TakesTime (meanings I.ice D.dtls S.association M.media N.ids) now self.old result self.new }
+    {
+        if now.nanos() < self.peer.greatest.nanos() {
+            return Ok(());
+        }
+        self.give_time(now)
+    }
+
+    #[tactic(auto, unfolding(crate::specs::Inputs::HearsStun))]
+    fn hear_stun(
+        &mut self,
+        now: Moment,
+        datagram: &Receive<'_>,
+        message: &StunView<'_>,
+    ) -> Result<(), TransportError>
+        ensures { HearsStun (meanings I.ice D.dtls S.association M.media N.ids)
+            now datagram.now message.now.bytes.now self.old result self.new }
+    {
+        match self.peer.ice.handle_packet(
+            now,
+            datagram.proto,
+            datagram.source,
+            datagram.destination,
+            message,
+        ) {
+            Ok(()) => Ok(()),
+            Err(_) => {
+                self.peer.phase = Phase::Closed;
+                Err(TransportError::Alloc)
+            }
+        }
+    }
+
+    #[tactic(auto, unfolding(crate::specs::Inputs::HearsDtls))]
+    fn hear_dtls(&mut self, bytes: &[u8]) -> Result<(), TransportError>
+        ensures { HearsDtls (meanings I.ice D.dtls S.association M.media N.ids) bytes.now self.old result self.new }
+    {
+        self.transport.received = count_bytes(self.transport.received, bytes);
+        match self.peer.dtls.handle_receive(bytes) {
+            Ok(()) => Ok(()),
+            Err(DtlsError::WouldBlock) => unreachable!(),
+            Err(DtlsError::Fault) => Err(TransportError::Dtls(DtlsError::Fault)),
+            Err(DtlsError::Alloc) => {
+                self.peer.phase = Phase::Closed;
+                Err(TransportError::Alloc)
+            }
+        }
+    }
+
+    #[tactic(auto, unfolding(crate::specs::Inputs::HearsMedia))]
+    fn hear_rtp(&mut self, now: Moment, bytes: &[u8]) -> Result<(), TransportError>
+        ensures { HearsMedia (meanings I.ice D.dtls S.association M.media N.ids)
+            (λ a r b. M.media.rtp_given a now bytes.now r b) bytes.now self.old result self.new }
+    {
+        self.transport.received = count_bytes(self.transport.received, bytes);
+        match self.peer.media.handle_rtp(now, bytes) {
+            Ok(()) => Ok(()),
+            Err(_) => {
+                self.peer.phase = Phase::Closed;
+                Err(TransportError::Alloc)
+            }
+        }
+    }
+
+    #[tactic(auto, unfolding(crate::specs::Inputs::HearsMedia))]
+    fn hear_rtcp(&mut self, now: Moment, bytes: &[u8]) -> Result<(), TransportError>
+        ensures { HearsMedia (meanings I.ice D.dtls S.association M.media N.ids)
+            (λ a r b. M.media.rtcp_given a now bytes.now r b) bytes.now self.old result self.new }
+    {
+        self.transport.received = count_bytes(self.transport.received, bytes);
+        match self.peer.media.handle_rtcp(now, bytes) {
+            Ok(()) => Ok(()),
+            Err(_) => {
+                self.peer.phase = Phase::Closed;
+                Err(TransportError::Alloc)
+            }
+        }
+    }
+
+    fn hear_kind(
+        &mut self,
+        now: Moment,
+        datagram: &Receive<'_>,
+        contents: &DatagramRecv<'_>,
+    ) -> Result<(), TransportError>
+        ensures { HearsKind (meanings I.ice D.dtls S.association M.media N.ids) now datagram.now contents.now self.old result self.new }
+    {
+        match contents {
+            DatagramRecv::Stun(message) => self.hear_stun(now, datagram, message),
+            DatagramRecv::Dtls(bytes) => self.hear_dtls(bytes),
+            DatagramRecv::Rtp(bytes) => self.hear_rtp(now, bytes),
+            DatagramRecv::Rtcp(bytes) => self.hear_rtcp(now, bytes),
+        }
+    }
+
+    fn hear(&mut self, now: Moment, datagram: &Receive<'_>) -> Result<(), TransportError>
+        ensures { Hears (meanings I.ice D.dtls S.association M.media N.ids) now datagram.now self.old result self.new }
+    {
+        match self.hear_kind(now, datagram, &datagram.contents) {
+            Ok(()) => {}
+            Err(error) => return Err(error),
+        }
+        self.take_time(now)
+    }
+
+    /// Takes a moment or a datagram. A moment before the greatest that was taken changes no time; a datagram goes to its
+    /// part, and its moment is taken where the part does not fail. A closed peer ignores every input.
+    pub fn handle_input(&mut self, input: &Input<'_>) -> Result<(), TransportError>
+        ensures { HandlesInput (meanings I.ice D.dtls S.association M.media N.ids) input.now self.old result self.new }
+    {
+        match self.peer.phase {
+            Phase::Alive | Phase::Closing => match input {
+                Input::Timeout(now) => self.take_time(*now),
+                Input::Receive(now, datagram) => self.hear(*now, datagram),
+            },
+            Phase::Closed => Ok(()),
+        }
+    }
+}

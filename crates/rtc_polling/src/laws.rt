@@ -1,0 +1,44 @@
+//! What holds of every poll, input and close, whatever the parts are.
+ghost use Rattle.std.specs.Prelude.{◌≡◌, Result, Err};
+ghost use Rattle.rtc_peer_state.specs.declared.phase.Phase.TheVariants.{Closed};
+ghost use Rattle.rtc_peer_state.specs.Meanings.{meanings};
+ghost use Rattle.rtc_polling.specs.declared.input.Input.{Input as Given};
+ghost use Rattle.rtc_polling.specs.declared.polled_peer.PolledPeer.{PolledPeer as Polled};
+ghost use Rattle.rtc_polling.specs.declared.transport_error.TransportError.TheVariants.{Alloc};
+ghost use Rattle.rtc_polling.specs.Closing.{ClosesPeer};
+ghost use Rattle.rtc_polling.specs.Inputs.{HandlesInput};
+ghost use Rattle.rtc_polling.specs.Kept.{KeepsNegotiation};
+ghost use Rattle.rtc_polling.specs.Walk.{PollsPeer};
+
+use rtc_association::Association;
+use rtc_dtls::DtlsInstance;
+use rtc_ice::IceAgent;
+use rtc_ids::Ids;
+use rtc_media::MediaSession;
+
+/// PollsPeer, inputs and closing change nothing of what negotiation keeps: rows, what is staged, channels, the counter of
+/// offers, the announced fingerprint, the association and the source of numbers.
+pub fn negotiation_is_kept<I: IceAgent, D: DtlsInstance, S: Association, M: MediaSession, N: Ids>()
+    ensures polls { (p q : Polled I D S M N) (answer : _)
+        → PollsPeer (meanings I.ice D.dtls S.association M.media N.ids) p answer q → KeepsNegotiation p q }
+    ensures inputs { (p q : Polled I D S M N) (input : Given) (answer : _)
+        → HandlesInput (meanings I.ice D.dtls S.association M.media N.ids) input p answer q → KeepsNegotiation p q }
+    ensures closes { (p q : Polled I D S M N) (answer : _)
+        → ClosesPeer (meanings I.ice D.dtls S.association M.media N.ids) p answer q → KeepsNegotiation p q }
+{}
+
+/// Want of memory in a poll, an input or a close leaves the peer closed.
+pub fn want_of_memory_closes<
+    I: IceAgent,
+    D: DtlsInstance,
+    S: Association,
+    M: MediaSession,
+    N: Ids,
+>()
+    ensures polls { (p q : Polled I D S M N)
+        → PollsPeer (meanings I.ice D.dtls S.association M.media N.ids) p (Err Alloc) q → q.peer.phase ≡ Closed }
+    ensures inputs { (p q : Polled I D S M N) (input : Given)
+        → HandlesInput (meanings I.ice D.dtls S.association M.media N.ids) input p (Err Alloc) q → q.peer.phase ≡ Closed }
+    ensures closes { (p q : Polled I D S M N)
+        → ClosesPeer (meanings I.ice D.dtls S.association M.media N.ids) p (Err Alloc) q → q.peer.phase ≡ Closed }
+{}

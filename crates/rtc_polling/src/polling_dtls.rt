@@ -1,0 +1,170 @@
+//! What a poll takes from the DTLS connection.
+ghost use Rattle.std.specs.Prelude.{◌≡◌, ◌≤◌, length};
+ghost use Rattle.rtc_peer_state.specs.Meanings.{meanings};
+ghost use Rattle.rtc_polling.specs.DtlsStages.{GivesDtlsTime, TimesDtls, TakesKeys, TakesCloseNotify, TakesDtlsOutput};
+ghost use Rattle.rtc_polling.specs.DtlsStages.{PollsDtlsOutput, PollsDtlsOutputs, TellsConnected, has_come as is_past, is_dtls_due};
+ghost use Rattle.rtc_polling.specs.DtlsStages.{finished_handshake, silenced_handshake};
+
+use crate::met::Met;
+use crate::{Event, Handshake, PolledPeer, TransportError};
+use rtc_association::Association;
+use rtc_dtls::{DtlsError, DtlsInstance, DtlsOutput, SrtpProfile};
+use rtc_ice::IceAgent;
+use rtc_ids::Ids;
+use rtc_media::MediaSession;
+use rtc_peer_state::Phase;
+use rtc_wire::Moment;
+
+fn has_come(moment: Moment, greatest: Moment) -> bool
+    ensures { result ≡ is_past moment greatest }
+{
+    moment.nanos() != Moment::FAR_FUTURE.nanos() && moment.nanos() <= greatest.nanos()
+}
+
+fn finish(handshake: Handshake) -> Handshake
+    ensures { result ≡ finished_handshake handshake }
+{
+    match handshake {
+        Handshake::Pending | Handshake::Finished => Handshake::Finished,
+        Handshake::Told => Handshake::Told,
+    }
+}
+
+fn silence(handshake: Handshake) -> Handshake
+    ensures { result ≡ silenced_handshake handshake }
+{
+    match handshake {
+        Handshake::Pending => Handshake::Pending,
+        Handshake::Finished | Handshake::Told => Handshake::Told,
+    }
+}
+
+impl<I: IceAgent, D: DtlsInstance, S: Association, M: MediaSession, N: Ids> PolledPeer<
+    I,
+    D,
+    S,
+    M,
+    N,
+> {
+    /// Whether the moment that the DTLS part asked for has come.
+    pub(crate) fn is_dtls_due(&self) -> bool
+        ensures { result ≡ is_dtls_due self.now }
+    {
+        has_come(self.transport.dtls_wake, self.peer.greatest)
+    }
+
+    #[tactic(auto, unfolding(crate::specs::DtlsStages::GivesDtlsTime))]
+    fn give_dtls_time(&mut self) -> Met<M::E>
+        ensures { GivesDtlsTime (meanings I.ice D.dtls S.association M.media N.ids) self.old result self.new }
+    {
+        match self.peer.dtls.handle_timeout(self.peer.greatest) {
+            Ok(()) => Met::Nothing,
+            Err(DtlsError::WouldBlock) => unreachable!(),
+            Err(DtlsError::Fault) => {
+                self.peer.phase = Phase::Closed;
+                Met::Error(TransportError::Dtls(DtlsError::Fault))
+            }
+            Err(DtlsError::Alloc) => {
+                self.peer.phase = Phase::Closed;
+                Met::Error(TransportError::Alloc)
+            }
+        }
+    }
+
+    /// Hands a moment that the DTLS part asked for, and that has come, to it.
+    pub(crate) fn time_dtls(&mut self) -> Met<M::E>
+        ensures { TimesDtls (meanings I.ice D.dtls S.association M.media N.ids) self.old result self.new }
+    {
+        if self.is_dtls_due() {
+            return self.give_dtls_time();
+        }
+        Met::Nothing
+    }
+
+    #[tactic(auto, unfolding(crate::specs::DtlsStages::TakesKeys))]
+    fn take_keys(&mut self, key: &[u8], profile: SrtpProfile, active: bool) -> Met<M::E>
+        ensures { TakesKeys (meanings I.ice D.dtls S.association M.media N.ids) key.now profile active self.old result self.new }
+    {
+        match self.peer.media.set_keying(key, profile, active) {
+            Ok(()) => Met::Again,
+            Err(_) => {
+                self.peer.phase = Phase::Closed;
+                Met::Error(TransportError::Alloc)
+            }
+        }
+    }
+
+    #[tactic(auto, unfolding(crate::specs::DtlsStages::TakesCloseNotify))]
+    fn take_close_notify(&mut self) -> Met<M::E>
+        ensures { TakesCloseNotify (meanings I.ice D.dtls S.association M.media N.ids) self.old result self.new }
+    {
+        match self.close() {
+            Ok(()) => {
+                self.transport.handshake = silence(self.transport.handshake);
+                Met::Event(Event::Closed)
+            }
+            Err(error) => Met::Error(error),
+        }
+    }
+
+    fn take_dtls_output(&mut self, output: &DtlsOutput<'_>) -> Met<M::E>
+        ensures { TakesDtlsOutput (meanings I.ice D.dtls S.association M.media N.ids) output.now self.old result self.new }
+    {
+        match output {
+            DtlsOutput::Connected => {
+                self.transport.handshake = finish(self.transport.handshake);
+                Met::Again
+            }
+            DtlsOutput::KeyingMaterial(key, profile) => {
+                let active = self.peer.dtls.is_active().unwrap_or(false);
+                self.take_keys(key, *profile, active)
+            }
+            DtlsOutput::PeerCert(cert) => self.check_cert(cert),
+            DtlsOutput::ApplicationData(_) => Met::Again,
+            DtlsOutput::Timeout(moment) => {
+                self.transport.dtls_wake = *moment;
+                Met::Nothing
+            }
+            DtlsOutput::CloseNotify => self.take_close_notify(),
+        }
+    }
+
+    fn poll_dtls_output(&mut self, buf: &mut [u8]) -> Met<M::E>
+        requires { 2000 ≤ length buf.old }
+        ensures { PollsDtlsOutput (meanings I.ice D.dtls S.association M.media N.ids) self.old result self.new }
+    {
+        match self.peer.dtls.poll_output(buf) {
+            Ok(output) => self.take_dtls_output(&output),
+            Err(_) => {
+                self.peer.phase = Phase::Closed;
+                Met::Error(TransportError::Alloc)
+            }
+        }
+    }
+
+    /// PollsPeer outputs of the connection up to the moment that it asks for.
+    pub(crate) fn poll_dtls_outputs(&mut self, buf: &mut [u8]) -> Met<M::E>
+        requires { 2000 ≤ length buf.old }
+        ensures { PollsDtlsOutputs (meanings I.ice D.dtls S.association M.media N.ids) self.old result self.new }
+    {
+        'outputs: loop {
+            match self.poll_dtls_output(buf) {
+                Met::Again => {}
+                met => return met,
+            }
+        }
+    }
+
+    /// Tells once that the handshake is finished.
+    pub(crate) fn tell_connected(&mut self) -> Met<M::E>
+        ensures { TellsConnected self.old result self.new }
+    {
+        match self.transport.handshake {
+            Handshake::Finished => {
+                self.transport.handshake = Handshake::Told;
+                Met::Event(Event::Connected)
+            }
+            Handshake::Pending | Handshake::Told => Met::Nothing,
+        }
+    }
+}

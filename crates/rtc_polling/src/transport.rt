@@ -1,0 +1,46 @@
+//! The connection to the other side.
+ghost use Rattle.std.specs.Prelude.{◌≡◌, IfOk};
+ghost use Rattle.rtc_polling.specs.Connection.{no_transport};
+
+use crate::{Handshake, RecentAddrs, SendAddr};
+use rtc_parts_values::Reason;
+use rtc_wire::Moment;
+use std::alloc::{AllocError, Global};
+
+/// What a peer keeps of its connection to the other side, beside its parts.
+#[derive(Drop)]
+pub struct Transport {
+    /// Where DTLS and media datagrams go, once ICE nominated a pair.
+    pub send_addr: Option<SendAddr>,
+    pub discovered: RecentAddrs,
+    pub handshake: Handshake,
+    /// The moment that the DTLS part asked for when it was polled last; `FAR_FUTURE` before.
+    pub dtls_wake: Moment,
+    /// Whether the certificate of the other side has to match the fingerprint that it announced.
+    pub verifies: bool,
+    /// The reason of the last timeout that was answered.
+    pub last_reason: Reason,
+    /// The bytes of the DTLS, RTP and RTCP datagrams that came in, at most `u64::MAX`.
+    pub received: u64,
+    /// The bytes of all datagrams that went out, at most `u64::MAX`.
+    pub sent: u64,
+}
+
+impl Transport {
+    /// Nothing is known of the other side.
+    pub fn new(alloc: Global, verifies: bool) -> Result<Transport, AllocError>
+        ensures { IfOk result (λ made. made ≡ no_transport verifies) }
+    {
+        let discovered = RecentAddrs::new(alloc)?;
+        Ok(Transport {
+            send_addr: None,
+            discovered,
+            handshake: Handshake::Pending,
+            dtls_wake: Moment::FAR_FUTURE,
+            verifies,
+            last_reason: Reason::NotHappening,
+            received: 0,
+            sent: 0,
+        })
+    }
+}

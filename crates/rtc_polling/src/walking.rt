@@ -1,0 +1,161 @@
+//! PollsPeer.
+ghost use Rattle.std.specs.Prelude.{◌≢◌, ◌≤◌, length};
+ghost use Rattle.rtc_peer_state.specs.Meanings.{meanings};
+ghost use Rattle.rtc_polling.specs.Stages.{RepeatsStage};
+ghost use Rattle.rtc_polling.specs.declared.met.Met.TheVariants.{Again};
+ghost use Rattle.rtc_polling.specs.Walk.{AnswersMet, PollsPeer, Rests, SendsDatagrams, StartsOverWhenDue, TellsArrivals, TellsConnection};
+ghost use Rattle.rtc_polling.specs.Walk.{VisitsParts, Waits, Walks};
+
+use crate::met::Met;
+use crate::{Output, PolledPeer, TransportError};
+use rtc_association::Association;
+use rtc_dtls::DtlsInstance;
+use rtc_ice::IceAgent;
+use rtc_ids::Ids;
+use rtc_media::MediaSession;
+use rtc_parts_values::Reason;
+use rtc_peer_state::Phase;
+use rtc_wire::{DATAGRAM_MAX_PACKET_SIZE, Moment};
+
+impl<I: IceAgent, D: DtlsInstance, S: Association, M: MediaSession, N: Ids> PolledPeer<
+    I,
+    D,
+    S,
+    M,
+    N,
+> {
+    #[tactic(auto, unfolding(crate::specs::Walk::TellsConnection))]
+    fn tell_connection(&mut self, buf: &mut [u8]) -> Met<M::E>
+        requires { 2000 ≤ length buf.old }
+        ensures { TellsConnection (meanings I.ice D.dtls S.association M.media N.ids) self.old result self.new }
+    {
+        match self.poll_ice_events() {
+            Met::Nothing => {}
+            met => return met,
+        }
+        match self.time_dtls() {
+            Met::Nothing => {}
+            met => return met,
+        }
+        match self.poll_dtls_outputs(buf) {
+            Met::Nothing => {}
+            met => return met,
+        }
+        self.tell_connected()
+    }
+
+    #[tactic(auto, unfolding(crate::specs::Walk::TellsArrivals))]
+    fn tell_arrivals(&mut self) -> Met<M::E>
+        ensures { TellsArrivals (meanings I.ice D.dtls S.association M.media N.ids) self.old result self.new }
+    {
+        match self.tell_media() {
+            Met::Nothing => {}
+            met => return met,
+        }
+        self.tell_fallible_media()
+    }
+
+    #[tactic(auto, unfolding(crate::specs::Walk::SendsDatagrams))]
+    fn send_datagrams(&mut self) -> Met<M::E>
+        ensures { SendsDatagrams (meanings I.ice D.dtls S.association M.media N.ids) self.old result self.new }
+    {
+        match self.send_checks() {
+            Met::Nothing => {}
+            met => return met,
+        }
+        self.send_by_pair()
+    }
+
+    fn start_over_when_due(&mut self) -> Met<M::E>
+        ensures { StartsOverWhenDue self.old result self.new }
+    {
+        if self.is_dtls_due() {
+            return Met::Again;
+        }
+        Met::Nothing
+    }
+
+    #[tactic(auto, unfolding(crate::specs::Walk::VisitsParts))]
+    fn visit_parts(&mut self, buf: &mut [u8]) -> Met<M::E>
+        requires { 2000 ≤ length buf.old }
+        ensures { VisitsParts (meanings I.ice D.dtls S.association M.media N.ids) self.old result self.new }
+    {
+        match self.tell_connection(buf) {
+            Met::Nothing => {}
+            met => return met,
+        }
+        match self.tell_arrivals() {
+            Met::Nothing => {}
+            met => return met,
+        }
+        match self.send_datagrams() {
+            Met::Nothing => {}
+            met => return met,
+        }
+        self.start_over_when_due()
+    }
+
+    fn walk(&mut self, buf: &mut [u8]) -> Met<M::E>
+        requires { 2000 ≤ length buf.old }
+        ensures { RepeatsStage (VisitsParts (meanings I.ice D.dtls S.association M.media N.ids)) self.old result self.new }
+    {
+        'visits: loop {
+            match self.visit_parts(buf) {
+                Met::Again => {}
+                met => return met,
+            }
+        }
+    }
+
+    fn rest(&mut self) -> Result<Output<M::E>, TransportError>
+        ensures { Rests self.old result self.new }
+    {
+        self.transport.last_reason = Reason::NotHappening;
+        Ok(Output::Timeout(Moment::FAR_FUTURE))
+    }
+
+    fn wait(&mut self) -> Result<Output<M::E>, TransportError>
+        ensures { Waits (meanings I.ice D.dtls S.association M.media N.ids) self.old result self.new }
+    {
+        if self.is_closing_done() {
+            self.peer.phase = Phase::Closed;
+            return self.rest();
+        }
+        let (moment, reason) = self.least_deadline();
+        let wake = Moment::from_nanos(self.peer.greatest.nanos().max(moment.nanos()));
+        self.transport.last_reason = reason;
+        Ok(Output::Timeout(wake))
+    }
+
+    fn answer_met(&mut self, met: Met<M::E>) -> Result<Output<M::E>, TransportError>
+        requires { met ≢ Again }
+        ensures { AnswersMet (meanings I.ice D.dtls S.association M.media N.ids) met self.old result self.new }
+    {
+        match met {
+            Met::Nothing => self.wait(),
+            Met::Again => unreachable!(),
+            Met::Transmit(transmit) => Ok(Output::Transmit(transmit)),
+            Met::Event(event) => Ok(Output::Event(event)),
+            Met::Error(error) => Err(error),
+        }
+    }
+
+    fn walk_parts(&mut self) -> Result<Output<M::E>, TransportError>
+        ensures { Walks (meanings I.ice D.dtls S.association M.media N.ids) self.old result self.new }
+    {
+        let mut buf = [0u8; DATAGRAM_MAX_PACKET_SIZE];
+        let met = self.walk(&mut buf);
+        self.answer_met(met)
+    }
+
+    /// The first thing that the peer has to give: events and datagrams, or the moment at which a timeout is wanted as
+    /// input. It is called until it answers a timeout, after each input and each other call.
+    pub fn poll_output(&mut self) -> Result<Output<M::E>, TransportError>
+        ensures { PollsPeer (meanings I.ice D.dtls S.association M.media N.ids) self.old result self.new }
+    {
+        match self.peer.phase {
+            Phase::Alive | Phase::Closing => self.walk_parts(),
+            Phase::Closed => self.rest(),
+        }
+    }
+}
