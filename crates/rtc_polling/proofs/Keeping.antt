@@ -1,4 +1,4 @@
--- PollsPeer, inputs and closing change nothing of what negotiation keeps.
+-- Polls, inputs and closing change nothing of what negotiation keeps.
 use Rattle.std.proofs.Common.{◌≡◌, ℕ, Bool, true, false, List, Option, Some, None, Result, Ok, Err, refl, sym, ap, subst, ◌∙◌}
 use Rattle.std.specs.declared.alloc.AllocError.{AllocError}
 use Rattle.rtc_wire.specs.declared.datagram_recv.DatagramRecv.{DatagramRecv}

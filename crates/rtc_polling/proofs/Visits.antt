@@ -254,7 +254,7 @@ module _ {I D S M E X T W N : Type 0} (m : Meanings I D S M E X T W N) where
           (
             keeps_as first.0 third.0 q third.1.1.1
                 (keeps_join first.0 second.0 third.0 (arrivals_keep m first.0 second.0 second.1.0) (datagrams_keep m second.0 third.0 third.1.0)),
-            subst (λ (x : PolledPeer I D S M N). is_dtls_due x ≡ true) (sym third.1.1.1) due,
+            subst (λ (x : PolledPeer I D S M N). is_dtls_due x ≡ true) {x = third.0} (sym {b = third.0} third.1.1.1) due,
           ),
         ),
       )

@@ -16,7 +16,7 @@ use rtc_ice::IceAgent;
 use rtc_ids::Ids;
 use rtc_media::MediaSession;
 
-/// PollsPeer, inputs and closing change nothing of what negotiation keeps: rows, what is staged, channels, the counter of
+/// Polls, inputs and closing change nothing of what negotiation keeps: rows, what is staged, channels, the counter of
 /// offers, the announced fingerprint, the association and the source of numbers.
 pub fn negotiation_is_kept<I: IceAgent, D: DtlsInstance, S: Association, M: MediaSession, N: Ids>()
     ensures polls { (p q : Polled I D S M N) (answer : _)

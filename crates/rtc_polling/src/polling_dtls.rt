@@ -142,7 +142,7 @@ impl<I: IceAgent, D: DtlsInstance, S: Association, M: MediaSession, N: Ids> Poll
         }
     }
 
-    /// PollsPeer outputs of the connection up to the moment that it asks for.
+    /// Polls outputs of the connection up to the moment that it asks for.
     pub(crate) fn poll_dtls_outputs(&mut self, buf: &mut [u8]) -> Met<M::E>
         requires { 2000 ≤ length buf.old }
         ensures { PollsDtlsOutputs (meanings I.ice D.dtls S.association M.media N.ids) self.old result self.new }

@@ -53,7 +53,7 @@ impl<I: IceAgent, D: DtlsInstance, S: Association, M: MediaSession, N: Ids> Poll
         self.take_ice_event(event)
     }
 
-    /// PollsPeer events of the agent up to one that is told.
+    /// Polls events of the agent up to one that is told.
     pub(crate) fn poll_ice_events(&mut self) -> Met<M::E>
         ensures { PollsIceEvents (meanings I.ice D.dtls S.association M.media N.ids) self.old result self.new }
     {

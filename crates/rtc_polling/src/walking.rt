@@ -1,4 +1,4 @@
-//! PollsPeer.
+//! Polls.
 ghost use Rattle.std.specs.Prelude.{◌≢◌, ◌≤◌, length};
 ghost use Rattle.rtc_peer_state.specs.Meanings.{meanings};
 ghost use Rattle.rtc_polling.specs.Stages.{RepeatsStage};
