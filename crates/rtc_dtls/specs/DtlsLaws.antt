@@ -8,7 +8,7 @@ use Rattle.rtc_dtls.specs.DtlsMeaning.{DtlsMeaning}
 use Rattle.rtc_dtls.specs.DtlsActs.{DtlsAct, DtlsActed, DtlsMoved}
 
 -- an answer of a call that never has to wait, where the count of faults went from one number to another: a fault comes
--- only where the count rose, and want of memory may come at any time
+-- only where the count rose, and running out of memory may come at any time
 abbrev pub DtlsAnswered : (before after : ℕ) → Result (Unit {0}) DtlsError → Type 0
 DtlsAnswered before after (Ok _) = before ≤ after
 DtlsAnswered before after (Err WouldBlock) = ⊥

@@ -46,7 +46,7 @@ fn send_and_write<W: Sink>(alloc: Global, file: &[u8], sizes: &[u32], output: &m
 /// Reads a file from `input`, sends it to a receiver in the sessions that the words ask for, and writes what came over to
 /// `output`; answers the status to end with.
 ///
-/// A fault of the sink (5) may come in place of any other status, and want of memory (6) in place of any but 2.
+/// A fault of the sink (5) may come in place of any other status, and out of memory (6) in place of any but 2.
 pub fn file_main<R: Source, W: Sink>(
     alloc: Global,
     words: &[String],

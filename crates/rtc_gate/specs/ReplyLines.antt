@@ -7,7 +7,7 @@ use Rattle.rtc_gate_calls.specs.declared.gate_reply.GateReply.{GateReply}
 use Rattle.rtc_gate_calls.specs.declared.gate_reply.GateReply.TheVariants.{Joined, Left, Fed, Took, Refused}
 use Rattle.rtc_gate.specs.HexWords.{word_of_bytes}
 
--- the words of a refusal; want of memory ends the program before it is written
+-- the words of a refusal; running out of memory ends the program before it is written
 abbrev pub refusal_words : GateError → List ℕ
 refusal_words BadName = codes "badname"
 refusal_words NameTaken = codes "nametaken"

@@ -67,7 +67,7 @@ fed_twice n p q cs (Some s) is =
 pub feed_twice : (gate : GateState) (n : ℕ) (p q : List ℕ) → after_feed (after_feed gate n p) n q ≡ after_feed gate n (p ++ q)
 feed_twice gate n p q = ap (λ (cs : List ConnectionState). let g : GateState = record { joined = gate.joined; connections = cs } in g) (fed_twice n p q gate.connections (connection_numbered gate.connections n) refl)
 
--- the gate that calls leave, want of memory aside
+-- the gate that calls leave, running out of memory aside
 abbrev pub gate_from : GateState → List GateCall → GateState
 gate_from gate [] = gate
 gate_from gate (call ∷ calls) = gate_from (after_call gate call) calls

@@ -81,7 +81,7 @@ is_bad_frame NoSuch = false
 is_bad_frame (BadFrame at) = true
 is_bad_frame Alloc = false
 
--- whether a piece came in: it was refused neither for want of memory nor because nobody has the number
+-- whether a piece came in: it was refused neither for lack of memory nor because nobody has the number
 abbrev pub came_in : GateReply → Bool
 came_in (Joined number) = false
 came_in Left = false

@@ -36,14 +36,14 @@ abbrev pub took_reply : Result (Option (List ℕ)) GateError → GateReply
 took_reply (Ok frame) = Took frame
 took_reply (Err error) = Refused error
 
--- what a call is answered, want of memory aside
+-- what a call is answered, running out of memory aside
 abbrev pub reply_to : GateState → GateCall → GateReply
 reply_to gate (Join name) = joined_reply (join_answer gate.joined (roster_of gate.connections) name)
 reply_to gate (Leave number) = left_reply (leave_answer (connection_numbered gate.connections number))
 reply_to gate (Feed number piece) = fed_reply (feed_answer (connection_numbered gate.connections number) piece)
 reply_to gate (Take number) = took_reply (take_answer (connection_numbered gate.connections number))
 
--- the gate that a call leaves, want of memory aside
+-- the gate that a call leaves, running out of memory aside
 abbrev pub after_call : GateState → GateCall → GateState
 after_call gate (Join name) = after_join gate name
 after_call gate (Leave number) = after_leave gate number

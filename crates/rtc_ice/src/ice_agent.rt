@@ -22,7 +22,7 @@ pub trait IceAgent: StunReader {
     fn ice_lite(&self) -> bool
         ensures { result ≡ (ice.settings self.now).lite };
 
-    /// Sets whether this side picks the pair (RFC 8445, section 6.1.1).
+    /// Sets whether this side is controlling (RFC 8445, section 6.1.1).
     fn set_controlling(&mut self, on: bool)
         ensures { ice.controlling_set self.old on self.new };
 

@@ -58,7 +58,7 @@ pub record MediaLaws {M E X T W : Type 0} (m : MediaMeaning M E X T W) : Type 0 
   -- a stream that is dropped is gone, and the answer says whether it was there
   pub rx_removal : (p q : M) (ssrc : Ssrc) (b : Bool) → m.rx_removed p ssrc b q → (b ≡ m.has_rx p ssrc) × (m.has_rx q ssrc ≡ false)
   pub tx_removal : (p q : M) (ssrc : Ssrc) (b : Bool) → m.tx_removed p ssrc b q → (b ≡ m.has_tx p ssrc) × (m.has_tx q ssrc ≡ false)
-  -- the count of faults never falls, and an error other than want of memory comes only where it rose
+  -- the count of faults never falls, and an error other than running out of memory comes only where it rose
   pub faults_rise : (p q : M) (act : MediaAct) → MediaActed m p act q → m.faults p ≤ m.faults q
   pub time_fault : (p q : M) (now : ℕ) (e : MediaError) → e ≢ Alloc → m.timed p now (Err e) q → Rose (m.faults p) (m.faults q)
   pub event_fault : (p q : M) (now : ℕ) (e : MediaError) → e ≢ Alloc → m.told_fallible p now (Err e) q → Rose (m.faults p) (m.faults q)

@@ -19,12 +19,12 @@ use Rattle.rtc_plain_dtls.specs.Calls.{
   dtls_output_given,
 }
 
--- a certificate is kept, or for want of memory nothing changes
+-- a certificate is kept, or nothing changes where memory runs out
 abbrev pub KeepsCert : DtlsContents → DtlsContents → Result (Unit {0}) AllocError → DtlsContents → Type 0
 KeepsCert p done (Ok _) q = q ≡ done
 KeepsCert p done (Err _) q = q ≡ p
 
--- a call that leaves these contents, or for want of memory changes nothing. A plain part has no faults
+-- a call that leaves these contents, or changes nothing where memory runs out. A plain part has no faults
 abbrev pub LeavesDtls : DtlsContents → DtlsContents → Result (Unit {0}) DtlsError → DtlsContents → Type 0
 LeavesDtls p done (Ok _) q = q ≡ done
 LeavesDtls p done (Err WouldBlock) q = ⊥
