@@ -6,8 +6,8 @@ ghost use Rattle.rtc_gate_calls.specs.Replies.{IsPossible};
 ghost use Rattle.rtc_gate_calls.specs.Sizes.{call_size, calls_size};
 ghost use Rattle.rtc_gate_calls.specs.declared.gate_call.GateCall.{GateCall};
 
-/// For every list of calls, running out of memory in any of them: a connection that is here took what is due to it, up to what waits for it,
-/// and one that has left took a front of it.
+/// For every list of calls, some of which may run out of memory: a connection that is here took what is due to it, up to what waits
+/// for it, and one that has left took a front of it.
 pub fn due_is_delivered()
     ensures { (past : List GateEvent) → WereAnswered past → DeliversDue past }
 {}
