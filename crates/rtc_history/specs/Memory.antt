@@ -2,7 +2,7 @@
 use Rattle.std.specs.Prelude.{Bool, true, false, ◌||◌, List}
 use Rattle.std.specs.List.{list_any}
 use Rattle.rtc_peer_state.specs.declared.rtc_error.RtcError.{RtcError}
-use Rattle.rtc_peer_state.specs.declared.rtc_error.RtcError.TheVariants.{RemoteSdp, Sdp, Dtls, ChangesOutOfOrder, BadChannel}
+use Rattle.rtc_peer_state.specs.declared.rtc_error.RtcError.TheVariants.{RemoteSdp, Sdp, Dtls, Sctp, ChangesOutOfOrder, BadChannel}
 use Rattle.rtc_peer_state.specs.declared.rtc_error.RtcError.TheVariants.{Alloc as PeerAlloc}
 use Rattle.rtc_history.specs.declared.op_answer.OpAnswer.{OpAnswer}
 use Rattle.rtc_history.specs.declared.op_answer.OpAnswer.TheVariants.{Mid, Changed, NoLine, Channel, Creds}
@@ -35,6 +35,7 @@ abbrev pub error_lacks : RtcError → Bool
 error_lacks (RemoteSdp why) = false
 error_lacks (Sdp error) = false
 error_lacks (Dtls error) = false
+error_lacks (Sctp error) = false
 error_lacks ChangesOutOfOrder = false
 error_lacks BadChannel = false
 error_lacks PeerAlloc = true
@@ -54,6 +55,7 @@ abbrev pub is_fault : RtcError → Bool
 is_fault (RemoteSdp why) = false
 is_fault (Sdp error) = false
 is_fault (Dtls error) = true
+is_fault (Sctp error) = true
 is_fault ChangesOutOfOrder = false
 is_fault BadChannel = false
 is_fault PeerAlloc = false

@@ -17,13 +17,13 @@ ghost use Rattle.rtc_peer_state.specs.Stance.{stance_of};
 ghost use Rattle.rtc_negotiation.specs.Growths.{following_of, GrowsOffer, GrowsAnswer};
 
 use crate::describing::make_sdp;
-use crate::drawing_creds::make_creds;
 use crate::following::Following;
 use crate::growth::Growth;
 use crate::heading::{make_head, role_after, setup_of_role};
 use crate::updating::list_updates;
 use rtc_association::Association;
 use rtc_change::{Change, Changes, Plan};
+use rtc_drawing::make_creds;
 use rtc_dtls::{Dtls, DtlsInstance};
 use rtc_ice::IceAgent;
 use rtc_ids::Ids;

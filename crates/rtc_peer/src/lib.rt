@@ -20,4 +20,5 @@ pub use rtc_lines::{
 };
 pub use rtc_media::MediaSession;
 pub use rtc_peer_state::{RtcConfig, RtcError};
+pub use rtc_sctp::{ProtoError, SctpError};
 pub use sdp_api::SdpApi;

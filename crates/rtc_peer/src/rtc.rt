@@ -86,8 +86,8 @@ impl<
         requires fresh { AreFresh (meanings I.ice D.dtls S.association M.media N.ids) ice dtls association media }
         ensures built { IfOk result (λ rtc. Builds (meanings I.ice D.dtls S.association M.media N.ids)
             alloc config start ice dtls association media ids rtc.core) }
-        ensures formed { IfOk result (λ rtc. IfSome config.creds AreTokenCreds → IsFormed (stance_of (meanings I.ice D.dtls S.association M.media N.ids)
-            rtc.core)) }
+        ensures formed { IfOk result (λ rtc. IfSome config.creds AreTokenCreds
+            → IsFormed (stance_of (meanings I.ice D.dtls S.association M.media N.ids) rtc.core)) }
     {
         let core = build_peer(alloc, config, start, ice, dtls, association, media, ids)?;
         let _session = core.session_id;

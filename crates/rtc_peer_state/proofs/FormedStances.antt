@@ -27,6 +27,7 @@ use Rattle.rtc_peer_state.specs.declared.rtc_error.RtcError.TheVariants.{
   RemoteSdp,
   Sdp as SdpRefused,
   Dtls,
+  Sctp,
   ChangesOutOfOrder,
   BadChannel,
   Alloc,
@@ -130,6 +131,7 @@ adds_channel_formed s config (Err Alloc) t adds formed = rw adds formed
 adds_channel_formed s config (Err (RemoteSdp why)) t adds formed = absurd adds
 adds_channel_formed s config (Err (SdpRefused error)) t adds formed = absurd adds
 adds_channel_formed s config (Err (Dtls error)) t adds formed = absurd adds
+adds_channel_formed s config (Err (Sctp error)) t adds formed = absurd adds
 adds_channel_formed s config (Err ChangesOutOfOrder) t adds formed = absurd adds
 
 -- rows that are alike have the same mids
@@ -261,6 +263,8 @@ offered_formed s offer (Err (Dtls Fault)) t accepts names formed =
     broken_formed s accepts.1.restart (raised s.counter) t accepts.1.breaks accepts.1.followed.tokens formed
 offered_formed s offer (Err (Dtls WouldBlock)) t accepts names formed = absurd accepts
 offered_formed s offer (Err (Dtls DtlsAlloc)) t accepts names formed = absurd accepts
+offered_formed s offer (Err (Sctp error)) t accepts names formed =
+    broken_formed s accepts.2.restart (raised s.counter) t accepts.2.breaks accepts.2.followed.tokens formed
 offered_formed s offer (Err ChangesOutOfOrder) t accepts names formed = absurd accepts
 offered_formed s offer (Err BadChannel) t accepts names formed = absurd accepts
 offered_formed s offer (Err Alloc) t accepts names formed =
@@ -283,5 +287,7 @@ answered_formed s token answer (Err (Dtls Fault)) t accepts restarts names forme
     broken_formed s (staged_restart token.changes) s.counter t accepts.2 (restart_token token.changes restarts) formed
 answered_formed s token answer (Err (Dtls WouldBlock)) t accepts restarts names formed = absurd accepts
 answered_formed s token answer (Err (Dtls DtlsAlloc)) t accepts restarts names formed = absurd accepts
+answered_formed s token answer (Err (Sctp error)) t accepts restarts names formed =
+    broken_formed s (staged_restart token.changes) s.counter t accepts.3 (restart_token token.changes restarts) formed
 answered_formed s token answer (Err Alloc) t accepts restarts names formed =
     broken_formed s (staged_restart token.changes) s.counter t accepts.1 (restart_token token.changes restarts) formed

@@ -21,6 +21,7 @@ use Rattle.rtc_peer_state.specs.declared.rtc_error.RtcError.TheVariants.{
   RemoteSdp,
   Sdp as SdpRefused,
   Dtls,
+  Sctp,
   ChangesOutOfOrder,
   BadChannel,
   Alloc,
@@ -29,10 +30,12 @@ use Rattle.rtc_peer_state.specs.Acceptances.{
   Refuses,
   OfferAccepted,
   OfferFaulted,
+  OfferUnstarted,
   OfferStopped,
   AcceptsOffer,
   AnswerAccepted,
   AnswerFaulted,
+  AnswerUnstarted,
   AnswerStopped,
   AcceptsAnswer,
   followed_restart,
@@ -123,6 +126,17 @@ faulted_offer_stands m laws p offer q h = record {
       (left_after m.ice laws.ice p.ice q.ice _ _ _ _ h.ice_follows);
 }
 
+unstarted_offer_stands : {I D S M E X T W N : Type 0} (m : Meanings I D S M E X T W N) → PartsLaws m → (p : Peer I D S M N) (offer : Sdp)
+    (q : Peer I D S M N) → OfferUnstarted m p offer q → BreaksOffer (stance_of m p) offer (stance_of m q)
+unstarted_offer_stands m laws p offer q h = record {
+  restart = followed_restart m p offer;
+  followed = followed_stands m p offer;
+  breaks = breaks_by (stance_of m p) (followed_restart m p offer) (raised p.counter) (m.ice.settings q.ice) q.dtls.local q.dtls.active
+      (stance_of m q)
+      (ap (stance_of m) h.rest) (start_keeps_local m.dtls p.dtls q.dtls _ _ _ _ h.dtls_starts)
+      (left_after m.ice laws.ice p.ice q.ice _ _ _ _ h.ice_follows);
+}
+
 stopped_offer_stands : {I D S M E X T W N : Type 0} (m : Meanings I D S M E X T W N) → PartsLaws m → (p : Peer I D S M N) (offer : Sdp)
     (q : Peer I D S M N) → OfferStopped m p offer q → BreaksOffer (stance_of m p) offer (stance_of m q)
 stopped_offer_stands m laws p offer q h = record {
@@ -143,6 +157,7 @@ accepts_offer_stands m laws p offer (Err (SdpRefused error)) q h = refuses_stand
 accepts_offer_stands m laws p offer (Err (Dtls Fault)) q h = (h.passes, faulted_offer_stands m laws p offer q h)
 accepts_offer_stands m laws p offer (Err (Dtls WouldBlock)) q h = absurd h
 accepts_offer_stands m laws p offer (Err (Dtls DtlsAlloc)) q h = absurd h
+accepts_offer_stands m laws p offer (Err (Sctp error)) q h = (h.0, h.1.passes, unstarted_offer_stands m laws p offer q h.1)
 accepts_offer_stands m laws p offer (Err ChangesOutOfOrder) q h = absurd h
 accepts_offer_stands m laws p offer (Err BadChannel) q h = absurd h
 accepts_offer_stands m laws p offer (Err Alloc) q h = stopped_offer_stands m laws p offer q h
@@ -174,6 +189,15 @@ faulted_answer_stands m laws p token answer q h =
     (ap (stance_of m) h.rest) (start_keeps_local m.dtls p.dtls q.dtls _ _ _ _ h.dtls_fails)
     (left_after m.ice laws.ice p.ice q.ice _ _ _ _ h.ice_follows)
 
+unstarted_answer_stands : {I D S M E X T W N : Type 0} (m : Meanings I D S M E X T W N) → PartsLaws m
+    → (p : Peer I D S M N) (token : PendingOffer)
+    (answer : Sdp) (q : Peer I D S M N) → AnswerUnstarted m p token answer q
+    → Breaks (stance_of m p) (staged_restart token.changes) p.counter (stance_of m q)
+unstarted_answer_stands m laws p token answer q h =
+    breaks_by (stance_of m p) (staged_restart token.changes) p.counter (m.ice.settings q.ice) q.dtls.local q.dtls.active (stance_of m q)
+    (ap (stance_of m) h.rest) (start_keeps_local m.dtls p.dtls q.dtls _ _ _ _ h.dtls_starts)
+    (left_after m.ice laws.ice p.ice q.ice _ _ _ _ h.ice_follows)
+
 stopped_answer_stands : {I D S M E X T W N : Type 0} (m : Meanings I D S M E X T W N) → PartsLaws m
     → (p : Peer I D S M N) (token : PendingOffer)
     (answer : Sdp) (q : Peer I D S M N) → AnswerStopped m p token answer q
@@ -197,4 +221,6 @@ accepts_answer_stands m laws p token answer (Err (SdpRefused error)) q h =
 accepts_answer_stands m laws p token answer (Err (Dtls Fault)) q h = (h.right, h.passes, faulted_answer_stands m laws p token answer q h)
 accepts_answer_stands m laws p token answer (Err (Dtls WouldBlock)) q h = absurd h
 accepts_answer_stands m laws p token answer (Err (Dtls DtlsAlloc)) q h = absurd h
+accepts_answer_stands m laws p token answer (Err (Sctp error)) q h =
+    (h.1.right, h.0, h.1.passes, unstarted_answer_stands m laws p token answer q h.1)
 accepts_answer_stands m laws p token answer (Err Alloc) q h = (h.right, stopped_answer_stands m laws p token answer q h)

@@ -31,6 +31,8 @@ use Rattle.rtc_sdp_values.specs.declared.ice_creds.IceCreds.{IceCreds}
 use Rattle.rtc_sdp_values.specs.declared.sdp.Sdp.{Sdp}
 use Rattle.rtc_channels.specs.Channels.{is_bad_channel, with_channel, all_confirmed}
 use Rattle.rtc_dtls.specs.declared.dtls_error.DtlsError.TheVariants.{WouldBlock, Fault, Alloc as DtlsAlloc}
+use Rattle.rtc_sctp.specs.declared.proto_error.ProtoError.TheVariants.{Fault as AssociationFault}
+use Rattle.rtc_sctp.specs.declared.sctp_error.SctpError.TheVariants.{Proto}
 use Rattle.rtc_change.specs.declared.add_media.AddMedia.{AddMedia as Media}
 use Rattle.rtc_change.specs.declared.change.Change.{Change}
 use Rattle.rtc_change.specs.declared.change.Change.TheVariants.{AddMedia, AddApp, AddChannel, Direction as SetDirection}
@@ -48,6 +50,7 @@ use Rattle.rtc_peer_state.specs.declared.rtc_error.RtcError.TheVariants.{
   RemoteSdp,
   Sdp as SdpRefused,
   Dtls,
+  Sctp,
   ChangesOutOfOrder,
   BadChannel,
   Alloc,
@@ -113,6 +116,7 @@ StanceAddsChannel s config (Err Alloc) t = t ≡ s
 StanceAddsChannel s config (Err (RemoteSdp why)) t = ⊥
 StanceAddsChannel s config (Err (SdpRefused error)) t = ⊥
 StanceAddsChannel s config (Err (Dtls error)) t = ⊥
+StanceAddsChannel s config (Err (Sctp error)) t = ⊥
 StanceAddsChannel s config (Err ChangesOutOfOrder) t = ⊥
 
 abbrev pub StanceStagesRestart : Stance → Bool → Result IceCreds AllocError → Stance → Type 0
@@ -185,6 +189,8 @@ StanceAcceptsOffer s offer (Err (SdpRefused error)) t = StanceRefuses s None off
 StanceAcceptsOffer s offer (Err (Dtls Fault)) t = (verdict (held_by s) None offer ≡ None) × BreaksOffer s offer t
 StanceAcceptsOffer s offer (Err (Dtls WouldBlock)) t = ⊥
 StanceAcceptsOffer s offer (Err (Dtls DtlsAlloc)) t = ⊥
+StanceAcceptsOffer s offer (Err (Sctp error)) t =
+    (error ≡ Proto AssociationFault) × (verdict (held_by s) None offer ≡ None) × BreaksOffer s offer t
 StanceAcceptsOffer s offer (Err ChangesOutOfOrder) t = ⊥
 StanceAcceptsOffer s offer (Err BadChannel) t = ⊥
 StanceAcceptsOffer s offer (Err Alloc) t = BreaksOffer s offer t
@@ -210,4 +216,9 @@ StanceAcceptsAnswer s token answer (Err (Dtls Fault)) t =
     × Breaks s (staged_restart token.changes) s.counter t
 StanceAcceptsAnswer s token answer (Err (Dtls WouldBlock)) t = ⊥
 StanceAcceptsAnswer s token answer (Err (Dtls DtlsAlloc)) t = ⊥
+StanceAcceptsAnswer s token answer (Err (Sctp error)) t =
+    (s.counter ≡ raised token.id)
+    × (error ≡ Proto AssociationFault)
+    × (verdict (held_by s) (Some (asked_by s.lines token)) answer ≡ None)
+    × Breaks s (staged_restart token.changes) s.counter t
 StanceAcceptsAnswer s token answer (Err Alloc) t = (s.counter ≡ raised token.id) × Breaks s (staged_restart token.changes) s.counter t

@@ -18,6 +18,7 @@ use Rattle.rtc_peer_state.specs.declared.rtc_error.RtcError.TheVariants.{
   RemoteSdp,
   Sdp as SdpRefused,
   Dtls,
+  Sctp,
   ChangesOutOfOrder,
   BadChannel,
   Alloc,
@@ -83,6 +84,7 @@ adds_channel_stands m laws p config (Err Alloc) q h = ap (stance_of m) h.1
 adds_channel_stands m laws p config (Err (RemoteSdp why)) q h = absurd h
 adds_channel_stands m laws p config (Err (SdpRefused error)) q h = absurd h
 adds_channel_stands m laws p config (Err (Dtls error)) q h = absurd h
+adds_channel_stands m laws p config (Err (Sctp error)) q h = absurd h
 adds_channel_stands m laws p config (Err ChangesOutOfOrder) q h = absurd h
 
 pub stages_restart_stands : {I D S M E X T W N : Type 0} (m : Meanings I D S M E X T W N) → PartsLaws m

@@ -1,12 +1,13 @@
 //! Errors of a peer's calls.
 ghost use Rattle.std.specs.Prelude.{◌≡◌, Some};
 ghost use Rattle.rtc_peer_state.specs.declared.rtc_error.RtcError.TheVariants.{Alloc};
-ghost use Rattle.rtc_peer_state.specs.RtcErrors.{error_of_channel, error_of_dtls, error_of_sdp, error_of_refusal};
+ghost use Rattle.rtc_peer_state.specs.RtcErrors.{error_of_channel, error_of_dtls, error_of_sctp, error_of_sdp, error_of_refusal};
 ghost use Rattle.rtc_peer_state.specs.RtcErrorText as text;
 
 use rtc_change::{Refusal, Why};
 use rtc_channels::ChannelError;
 use rtc_dtls::DtlsError;
+use rtc_sctp::SctpError;
 use rtc_sdp_values::SdpError;
 use std::alloc::{AllocError, AllocFailed};
 use std::error::Error;
@@ -21,6 +22,8 @@ pub enum RtcError {
     Sdp(SdpError),
     /// The DTLS part failed.
     Dtls(DtlsError),
+    /// The association failed.
+    Sctp(SctpError),
     /// An offer was made or given since the token was made, be it one that was refused.
     ChangesOutOfOrder,
     /// No channel can be made of the config.
@@ -38,6 +41,7 @@ impl fmt::Display for RtcError {
             RtcError::RemoteSdp(why) => write!(f, "remote sdp: {why}"),
             RtcError::Sdp(cause) => write!(f, "{cause}"),
             RtcError::Dtls(cause) => write!(f, "{cause}"),
+            RtcError::Sctp(cause) => write!(f, "{cause}"),
             RtcError::ChangesOutOfOrder => f.write_str("Changes made out of order"),
             RtcError::BadChannel => f.write_str("channel config refused"),
             RtcError::Alloc => f.write_str("out of memory"),
@@ -106,6 +110,25 @@ impl From<DtlsError> for RtcError {
             DtlsError::WouldBlock => RtcError::Dtls(DtlsError::WouldBlock),
             DtlsError::Fault => RtcError::Dtls(DtlsError::Fault),
             DtlsError::Alloc => RtcError::Alloc,
+        }
+    }
+}
+
+impl From<SctpError> for RtcError {
+    ghost from_gives = { λ lower e. e ≡ error_of_sctp lower };
+
+    fn from(error: SctpError) -> RtcError {
+        match error {
+            SctpError::Proto(cause) => RtcError::Sctp(SctpError::Proto(cause)),
+            SctpError::WriteBeforeEstablished => {
+                RtcError::Sctp(SctpError::WriteBeforeEstablished)
+            }
+            SctpError::DcepOpenTooSmall => RtcError::Sctp(SctpError::DcepOpenTooSmall),
+            SctpError::DcepIncorrectMessageType => {
+                RtcError::Sctp(SctpError::DcepIncorrectMessageType)
+            }
+            SctpError::DcepBadUtf8 => RtcError::Sctp(SctpError::DcepBadUtf8),
+            SctpError::Alloc => RtcError::Alloc,
         }
     }
 }

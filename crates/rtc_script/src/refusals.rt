@@ -13,6 +13,7 @@ pub fn push_refusal(out: &mut String, error: &RtcError) -> Result<(), AllocError
         RtcError::RemoteSdp(_) => write!(out, "refused 1 {error}"),
         RtcError::Sdp(_) => write!(out, "refused 2 {error}"),
         RtcError::Dtls(_) => write!(out, "refused 4 {error}"),
+        RtcError::Sctp(_) => write!(out, "refused 5 {error}"),
         RtcError::ChangesOutOfOrder => write!(out, "refused 7 {error}"),
         RtcError::BadChannel => write!(out, "refused 8 {error}"),
         RtcError::Alloc => out.push_str("nomemory"),

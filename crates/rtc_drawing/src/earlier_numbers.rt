@@ -15,7 +15,7 @@ pub struct EarlierNumbers {
 
 impl Model for EarlierNumbers {
     ghost use Rattle.std.specs.Prelude.{ℕ, List};
-    ghost use Rattle.rtc_negotiation.specs.EarlierNumbers.{HasNumbers};
+    ghost use Rattle.rtc_drawing.specs.EarlierNumbers.{HasNumbers};
 
     ghost Value = { List ℕ };
 

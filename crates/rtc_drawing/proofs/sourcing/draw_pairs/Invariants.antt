@@ -2,7 +2,7 @@ use Rattle.std.proofs.Common.{◌≡◌, ◌++◌, ◌-◌, []}
 use Rattle.std.specs.List.{flat_map}
 use Rattle.rtc_ids.specs.Draws.{Later}
 use Rattle.rtc_peer_state.specs.Sources.{has_source, pair_numbers, next_pairs, after_pairs}
-use Rattle.rtc_negotiation.proofs.sourcing.draw_pairs.Given as goal
+use Rattle.rtc_drawing.proofs.sourcing.draw_pairs.Given as goal
 
 abbrev pub invariant-loop : goal.invariant-loop
 invariant-loop g l =

@@ -1,6 +1,6 @@
 use Rattle.std.proofs.Common.{◌≡◌, ◌-◌, ◌^◌, ◌||◌}
 use Rattle.rtc_peer_state.specs.Sources.{has_source, is_number, unused, drawn_source}
-use Rattle.rtc_negotiation.proofs.sourcing.find_source.Given as goal
+use Rattle.rtc_drawing.proofs.sourcing.find_source.Given as goal
 
 abbrev pub invariant-loop : goal.invariant-loop
 invariant-loop g l =

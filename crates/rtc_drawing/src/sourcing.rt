@@ -52,9 +52,9 @@ fn draw_source<M: MediaSession, N: Ids>(ids: &mut N, media: &M, earlier: &Earlie
     Ssrc(find_source(media, earlier, first))
 }
 
-/// A source for a line of a kind, with that of its retransmissions; its numbers are passed over from then on.
+// A source for a line of a kind, with that of its retransmissions; its numbers are passed over from then on.
 #[tactic(auto, using(rtc_ids::proofs::LaterLemmas::later_once, rtc_ids::proofs::LaterLemmas::later_twice))]
-pub fn draw_pair<M: MediaSession, N: Ids>(
+fn draw_pair<M: MediaSession, N: Ids>(
     ids: &mut N,
     media: &M,
     earlier: &mut EarlierNumbers,

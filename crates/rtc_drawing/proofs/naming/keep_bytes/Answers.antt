@@ -2,8 +2,8 @@ use Rattle.std.proofs.Common.{◌≡◌, true, false, sym, subst, List, ℕ}
 use Rattle.std.specs.Str.{IsUtf8}
 use Rattle.rtc_fields.proofs.TokenLemmas.{token_bytes_utf8}
 use Rattle.rtc_peer_state.specs.Names.{kept_bytes}
-use Rattle.rtc_negotiation.proofs.Tokens.{kept_bytes_pass}
-use Rattle.rtc_negotiation.proofs.naming.keep_bytes.Goals as goal
+use Rattle.rtc_drawing.proofs.Tokens.{kept_bytes_pass}
+use Rattle.rtc_drawing.proofs.naming.keep_bytes.Goals as goal
 
 pub unreachable-requires : goal.unreachable-requires
 unreachable-requires c =

@@ -2,8 +2,8 @@ use Rattle.std.proofs.Common.{◌≡◌, ◌∙◌, ◌++◌, ◌∷◌, [], Lis
 use Rattle.std.specs.List.{flat_map}
 use Rattle.rtc_peer_state.specs.Sources.{has_source, pair_numbers}
 use Rattle.rtc_ids.proofs.LaterLemmas.{later_none, later_join}
-use Rattle.rtc_negotiation.proofs.Pairs.{one_pair, one_draw, one_more_pair}
-use Rattle.rtc_negotiation.proofs.sourcing.draw_pairs.Goals as goal
+use Rattle.rtc_drawing.proofs.Pairs.{one_pair, one_draw, one_more_pair}
+use Rattle.rtc_drawing.proofs.sourcing.draw_pairs.Goals as goal
 
 pub loop-init : goal.loop-init
 loop-init g c =

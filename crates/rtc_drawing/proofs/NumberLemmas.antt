@@ -8,7 +8,7 @@ use Rattle.std.specs.BTreeSet.{BTreeSet}
 use Rattle.std.proofs.lemmas.Bool.Decides.{nat_tests}
 use Rattle.std.proofs.lemmas.List.Folds.{list_any-append}
 use Rattle.rtc_peer_state.specs.Sources.{is_number}
-use Rattle.rtc_negotiation.specs.EarlierNumbers.{HasNumbers}
+use Rattle.rtc_drawing.specs.EarlierNumbers.{HasNumbers}
 
 at_number : (k q : ℕ) → is_at (nat_cmp k) q ≡ (k == q)
 at_number k q = grind (arith, nat_tests)

@@ -1,7 +1,7 @@
 use Rattle.std.proofs.Common.{◌≡◌, ◌-◌, ◌+◌, ◌^◌, ◌||◌, suc, ℕ, true, false, arith, sym, ap, ◌∙◌, refl}
 use Rattle.rtc_peer_state.specs.Sources.{has_source, is_number, unused}
-use Rattle.rtc_negotiation.proofs.Tries.{unused-used, unused-free, unused-none}
-use Rattle.rtc_negotiation.proofs.sourcing.find_source.Goals as goal
+use Rattle.rtc_drawing.proofs.Tries.{unused-used, unused-free, unused-none}
+use Rattle.rtc_drawing.proofs.sourcing.find_source.Goals as goal
 
 pub loop-init : goal.loop-init
 loop-init g c = refl

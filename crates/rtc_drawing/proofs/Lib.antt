@@ -1,0 +1,3 @@
+pub mod Tries
+pub mod Pairs
+pub mod NumberLemmas
