@@ -1,4 +1,3 @@
-pub mod Tokens
 pub mod Counts
 pub mod ConfirmLemmas
 pub mod ShownLemmas
