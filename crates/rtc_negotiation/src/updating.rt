@@ -183,12 +183,6 @@ struct NamedRow<'a> {
     line: &'a MediaLine,
 }
 
-fn name_row<'a>(before: Option<&'a LineRow>, row: &'a LineRow, line: &'a MediaLine) -> NamedRow<'a>
-    ensures { result ≡ record { before = before.entry; row = row.entry; line = line.entry } }
-{
-    NamedRow { before, row, line }
-}
-
 // Appends what the media part is told of a row.
 fn push_update<M: MediaSession, N: Ids>(
     alloc: Global,
@@ -261,7 +255,11 @@ pub fn list_updates<M: MediaSession, N: Ids>(
             return Ok(updates);
         };
         let sending = find_sending(alloc, media, changes, row.mid())?;
-        let named = name_row(row_at(before, place), row, line);
+        let named = NamedRow {
+            before: row_at(before, place),
+            row,
+            line,
+        };
         push_update(
             alloc,
             ids,

@@ -1,4 +1,4 @@
-use Rattle.std.proofs.Common.{◌≡◌, ◌∙◌, ap, arith}
+use Rattle.std.proofs.Common.{◌≡◌, ◌∙◌, Ok, Err, ap, arith}
 use Rattle.rtc_tables.specs.declared.plan.Plan.{Plan}
 use Rattle.rtc_peer_state.specs.Calls.{raised}
 use Rattle.rtc_peer_state.specs.Meanings.{meanings}
@@ -16,7 +16,7 @@ returns-in-Err-move_parts g c =
     let right : c.args.peer.now.counter ≡ raised c.args.token.id = grind (arith, c.if-peer-change_id.false, c.change_id.ensures) in
     let grown = rw c.into_changes-changes.ensures at c.in-Ok-grow_answer.ensures.grows in
     let moves = answer_moves (meanings g.I.IceAgent.ice g.D.DtlsInstance.dtls g.S.Association.association g.M.MediaSession.media g.N.Ids.ids) c.args.peer.now c.grow_answer.new.peer c.args.token.changes c.args.answer c.in-Ok-grow_answer.growth
-    c.as_slice.result.now _ c.move_parts.new.ice c.move_parts.new.dtls c.move_parts.new.sctp grown
+    c.as_slice.result.now (Err c.in-Err-move_parts.error) c.move_parts.new.ice c.move_parts.new.dtls c.move_parts.new.sctp grown
     (c.as_slice.ensures ∙ ap (λ (plan : Plan). plan.rows) c.in-Ok.ensures.plans.1) c.in-Err-move_parts.ensures in
     answer_fails (meanings g.I.IceAgent.ice g.D.DtlsInstance.dtls g.S.Association.association g.M.MediaSession.media g.N.Ids.ids) g.met.M.MediaSession.laws c.args.peer.now c.grow_answer.new.peer c.args.token c.args.answer c.in-Ok-grow_answer.growth
     c.in-Err-move_parts.error c.move_parts.new.ice c.move_parts.new.dtls c.move_parts.new.sctp right grown c.in-Ok-grow_answer.ensures.later (c.in-Ok.ensures.plans.0) moves
@@ -26,7 +26,7 @@ returns g c =
     let right : c.args.peer.now.counter ≡ raised c.args.token.id = grind (arith, c.if-peer-change_id.false, c.change_id.ensures) in
     let grown = rw c.into_changes-changes.ensures at c.in-Ok-grow_answer.ensures.grows in
     let moves = answer_moves (meanings g.I.IceAgent.ice g.D.DtlsInstance.dtls g.S.Association.association g.M.MediaSession.media g.N.Ids.ids) c.args.peer.now c.grow_answer.new.peer c.args.token.changes c.args.answer c.in-Ok-grow_answer.growth
-    c.as_slice.result.now _ c.move_parts.new.ice c.move_parts.new.dtls c.move_parts.new.sctp grown
+    c.as_slice.result.now (Ok tt) c.move_parts.new.ice c.move_parts.new.dtls c.move_parts.new.sctp grown
     (c.as_slice.ensures ∙ ap (λ (plan : Plan). plan.rows) c.in-Ok.ensures.plans.1) c.in-Ok-move_parts.ensures in
     answer_accepted (meanings g.I.IceAgent.ice g.D.DtlsInstance.dtls g.S.Association.association g.M.MediaSession.media g.N.Ids.ids) c.args.peer.now c.grow_answer.new.peer c.args.token c.args.answer c.in-Ok-grow_answer.growth
     c.move_parts.new.ice c.move_parts.new.dtls c.move_parts.new.sctp c.commit.new.self c.commit-2.new.self c.confirm_channels.new.channels right grown (c.in-Ok.ensures.plans.0) moves c.commit.ensures

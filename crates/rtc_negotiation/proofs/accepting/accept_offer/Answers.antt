@@ -1,4 +1,4 @@
-use Rattle.std.proofs.Common.{◌∙◌, ap}
+use Rattle.std.proofs.Common.{◌∙◌, Ok, Err, ap}
 use Rattle.rtc_tables.specs.declared.plan.Plan.{Plan}
 use Rattle.rtc_peer_state.specs.Meanings.{meanings}
 use Rattle.rtc_negotiation.proofs.AcceptanceLemmas.{offer_refused, offer_moves, offer_fails, offer_accepted}
@@ -12,7 +12,7 @@ returns-in-Err g c =
 pub returns-in-Err-move_parts : goal.returns-in-Err-move_parts
 returns-in-Err-move_parts g c =
     let moves = offer_moves (meanings g.I.IceAgent.ice g.D.DtlsInstance.dtls g.S.Association.association g.M.MediaSession.media g.N.Ids.ids) c.args.peer.now c.grow_offer.new.peer c.args.offer c.in-Ok-grow_offer.growth
-    c.as_slice.result.now _ c.move_parts.new.ice c.move_parts.new.dtls c.move_parts.new.sctp c.in-Ok-grow_offer.ensures.grows
+    c.as_slice.result.now (Err c.in-Err-move_parts.error) c.move_parts.new.ice c.move_parts.new.dtls c.move_parts.new.sctp c.in-Ok-grow_offer.ensures.grows
     (c.as_slice.ensures ∙ ap (λ (plan : Plan). plan.rows) c.in-Ok.ensures.plans.1) c.in-Err-move_parts.ensures in
     offer_fails (meanings g.I.IceAgent.ice g.D.DtlsInstance.dtls g.S.Association.association g.M.MediaSession.media g.N.Ids.ids) g.met.M.MediaSession.laws c.args.peer.now c.grow_offer.new.peer c.args.offer c.in-Ok-grow_offer.growth
     c.in-Err-move_parts.error c.move_parts.new.ice c.move_parts.new.dtls c.move_parts.new.sctp c.in-Ok-grow_offer.ensures.grows c.in-Ok-grow_offer.ensures.later (c.in-Ok.ensures.plans.0) moves
@@ -20,7 +20,7 @@ returns-in-Err-move_parts g c =
 pub returns : goal.returns
 returns g c =
     let moves = offer_moves (meanings g.I.IceAgent.ice g.D.DtlsInstance.dtls g.S.Association.association g.M.MediaSession.media g.N.Ids.ids) c.args.peer.now c.grow_offer.new.peer c.args.offer c.in-Ok-grow_offer.growth
-    c.as_slice.result.now _ c.move_parts.new.ice c.move_parts.new.dtls c.move_parts.new.sctp c.in-Ok-grow_offer.ensures.grows
+    c.as_slice.result.now (Ok tt) c.move_parts.new.ice c.move_parts.new.dtls c.move_parts.new.sctp c.in-Ok-grow_offer.ensures.grows
     (c.as_slice.ensures ∙ ap (λ (plan : Plan). plan.rows) c.in-Ok.ensures.plans.1) c.in-Ok-move_parts.ensures in
     offer_accepted (meanings g.I.IceAgent.ice g.D.DtlsInstance.dtls g.S.Association.association g.M.MediaSession.media g.N.Ids.ids) c.args.peer.now c.grow_offer.new.peer c.args.offer c.in-Some.answer c.in-Ok-grow_offer.growth
     c.move_parts.new.ice c.move_parts.new.dtls c.move_parts.new.sctp c.commit.new.self c.commit-2.new.self c.in-Ok-grow_offer.ensures.grows c.in-Some.is (c.in-Ok.ensures.plans.0) moves c.commit.ensures

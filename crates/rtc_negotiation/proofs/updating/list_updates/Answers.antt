@@ -15,9 +15,9 @@ loop-row-preserved g c =
       place = omega (arith, c.loop-row.invariant.place);
       updates = one_update g.N.Ids.ids (has_source g.M.MediaSession.media c.args.media.now) (λ mid. sending_of (g.M.MediaSession.media.line c.args.media.now mid) (added_media c.args.changes.now mid) mid) c.args.offer c.loop-row.row-index _ c.loop-row.place c.args.before.now c.args.rows.now c.args.lines.now _ _ c.loop-row.ids _ c.loop-row.updates.items _ _ _
           c.row-item.result c.in-Some.line.now c.in_ok-sending.sending next rows_are lines_are c.loop-row.invariant.place c.row_at.ensures sent
-          (rw c.name_row-named.ensures at c.in_ok-push_update.ensures.updates) (rw c.name_row-named.ensures at c.in_ok-push_update.ensures.earlier) (rw c.name_row-named.ensures at c.in_ok-push_update.ensures.after) c.loop-row.invariant.updates;
+          c.in_ok-push_update.ensures.updates c.in_ok-push_update.ensures.earlier c.in_ok-push_update.ensures.after c.loop-row.invariant.updates;
       after = one_update_after g.N.Ids.ids (has_source g.M.MediaSession.media c.args.media.now) (λ mid. sending_of (g.M.MediaSession.media.line c.args.media.now mid) (added_media c.args.changes.now mid) mid) c.loop-row.row-index _ c.args.rows.now c.args.lines.now c.loop-row.ids _ _
-          c.row-item.result c.in-Some.line.now c.in_ok-sending.sending next rows_are lines_are sent (rw c.name_row-named.ensures at c.in_ok-push_update.ensures.after) c.loop-row.invariant.after;
+          c.row-item.result c.in-Some.line.now c.in_ok-sending.sending next rows_are lines_are sent c.in_ok-push_update.ensures.after c.loop-row.invariant.after;
       later = later_join g.N.Ids.ids c.args.ids.now c.loop-row.ids _ c.loop-row.invariant.later c.in_ok-push_update.ensures.later;
     }
 
