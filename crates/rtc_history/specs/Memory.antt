@@ -2,6 +2,7 @@
 use Rattle.std.specs.Prelude.{Bool, true, false, ◌||◌, List}
 use Rattle.std.specs.List.{list_any}
 use Rattle.rtc_peer_state.specs.declared.rtc_error.RtcError.{RtcError}
+use Rattle.rtc_peer_state.specs.declared.rtc_error.RtcError.TheVariants.{Net, Media as MediaFailed}
 use Rattle.rtc_peer_state.specs.declared.rtc_error.RtcError.TheVariants.{RemoteSdp, Sdp, Dtls, Sctp, ChangesOutOfOrder, BadChannel}
 use Rattle.rtc_peer_state.specs.declared.rtc_error.RtcError.TheVariants.{Alloc as PeerAlloc}
 use Rattle.rtc_history.specs.declared.op_answer.OpAnswer.{OpAnswer}
@@ -37,6 +38,8 @@ error_lacks (Sdp error) = false
 error_lacks (Dtls error) = false
 error_lacks (Sctp error) = false
 error_lacks ChangesOutOfOrder = false
+error_lacks (Net cause) = false
+error_lacks (MediaFailed cause) = false
 error_lacks BadChannel = false
 error_lacks PeerAlloc = true
 
@@ -57,6 +60,8 @@ is_fault (Sdp error) = false
 is_fault (Dtls error) = true
 is_fault (Sctp error) = true
 is_fault ChangesOutOfOrder = false
+is_fault (Net cause) = false
+is_fault (MediaFailed cause) = true
 is_fault BadChannel = false
 is_fault PeerAlloc = false
 

@@ -14,6 +14,7 @@ use Rattle.rtc_tables.specs.ParsedLines.{parsed_lines}
 use Rattle.rtc_change.specs.TableAfter.{table_after}
 use Rattle.rtc_peer_state.specs.Stance.{Stance}
 use Rattle.rtc_peer_state.specs.declared.rtc_error.RtcError.{RtcError}
+use Rattle.rtc_peer_state.specs.declared.rtc_error.RtcError.TheVariants.{Net, Media as MediaFailed}
 use Rattle.rtc_peer_state.specs.declared.rtc_error.RtcError.TheVariants.{RemoteSdp, Sdp as SdpRefused, Dtls, Sctp, ChangesOutOfOrder, BadChannel, Alloc as PeerAlloc}
 use Rattle.rtc_peer_state.specs.Calls.{raised, fitting_channels}
 use Rattle.rtc_history.specs.declared.side.Side.{Side}
@@ -125,6 +126,8 @@ answer_reply fresh between past at t a size found (Some token) (Some sdp) old ne
       refl said view (h.2.lines ∙ ap (λ p. p.lines) h.0.1),
   shown_by past at old new table shown (ap (λ p. channel_rows p.channels) h.0.1) h.2,
 )
+answer_reply fresh between past at t a size found (Some token) (Some sdp) old new kept kept' (Refused (Net cause)) (Some table) made is told_it low small said view rows shown h = absurd h.0
+answer_reply fresh between past at t a size found (Some token) (Some sdp) old new kept kept' (Refused (MediaFailed cause)) (Some table) made is told_it low small said view rows shown h = absurd h.0
 answer_reply fresh between past at t a size found (Some token) (Some sdp) old new kept kept' (Refused BadChannel) (Some table) made is told_it low small said view rows shown h = absurd h.0
 answer_reply fresh between past at t a size found token sdp old new kept kept' outcome table made is told_it low small said view rows shown h = absurd h
 
@@ -221,5 +224,7 @@ answer_tells past at t a (Some token) (Some sdp) old new (Refused PeerAlloc) (So
     refused_tells past at t a token PeerAlloc table made old new is h.1 (ap (λ p. p.lines) h.0.1.rest) (ap (λ p. p.counter) h.0.1.rest) (ap (λ p. p.channels) h.0.1.rest) h.2 around tells
 answer_tells past at t a (Some token) (Some sdp) old new (Refused ChangesOutOfOrder) (Some table) made few is h around tells =
     refused_tells past at t a token ChangesOutOfOrder table made old new is h.1 (ap (λ p. p.lines) h.0.1) (ap (λ p. p.counter) h.0.1) (ap (λ p. p.channels) h.0.1) h.2 around tells
+answer_tells past at t a (Some token) (Some sdp) old new (Refused (Net cause)) (Some table) made few is h around tells = absurd h.0
+answer_tells past at t a (Some token) (Some sdp) old new (Refused (MediaFailed cause)) (Some table) made few is h around tells = absurd h.0
 answer_tells past at t a (Some token) (Some sdp) old new (Refused BadChannel) (Some table) made few is h around tells = absurd h.0
 answer_tells past at t a token sdp old new outcome table made few is h around tells = absurd h

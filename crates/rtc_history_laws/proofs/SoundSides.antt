@@ -14,6 +14,7 @@ use Rattle.rtc_change.specs.PendingOffer.{PendingOffer}
 use Rattle.rtc_tables.specs.RowChanges.{RowChange, directed_row, stopped_row}
 use Rattle.rtc_peer_state.specs.declared.peer.Peer.{Peer}
 use Rattle.rtc_peer_state.specs.declared.rtc_error.RtcError.{RtcError}
+use Rattle.rtc_peer_state.specs.declared.rtc_error.RtcError.TheVariants.{Net, Media as MediaFailed}
 use Rattle.rtc_peer_state.specs.declared.rtc_error.RtcError.TheVariants.{RemoteSdp, Sdp as SdpRefused, Dtls, ChangesOutOfOrder, BadChannel, Alloc as PeerAlloc}
 use Rattle.rtc_peer_state.specs.Acceptances.{AcceptsOffer, AcceptsAnswer}
 use Rattle.rtc_peer_state.specs.Calls.{ChangesLine, after_channels_alone}
@@ -95,6 +96,8 @@ module _ {I D S M E X T W N : Type 0} (m : Meanings I D S M E X T W N) (laws : P
   offer_refused p q offer (Dtls WouldBlock) h = absurd h
   offer_refused p q offer (Dtls DtlsAlloc) h = absurd h
   offer_refused p q offer ChangesOutOfOrder h = absurd h
+  offer_refused p q offer (Net cause) h = absurd h
+  offer_refused p q offer (MediaFailed cause) h = absurd h
   offer_refused p q offer BadChannel h = absurd h
   offer_refused p q offer PeerAlloc h = record {
     later = stop_later m.dtls laws.dtls p.dtls q.dtls _ _ h.dtls_stops;
@@ -116,6 +119,8 @@ module _ {I D S M E X T W N : Type 0} (m : Meanings I D S M E X T W N) (laws : P
   answer_refused p q token answer (Dtls WouldBlock) h = absurd h
   answer_refused p q token answer (Dtls DtlsAlloc) h = absurd h
   answer_refused p q token answer ChangesOutOfOrder h = refused p q ChangesOutOfOrder refl (ap (λ (r : Peer I D S M N). r.dtls) h.1) (ap (λ (r : Peer I D S M N). r.media) h.1)
+  answer_refused p q token answer (Net cause) h = absurd h
+  answer_refused p q token answer (MediaFailed cause) h = absurd h
   answer_refused p q token answer BadChannel h = absurd h
   answer_refused p q token answer PeerAlloc h = record {
     later = stop_later m.dtls laws.dtls p.dtls q.dtls _ _ h.dtls_stops;

@@ -25,6 +25,8 @@ use Rattle.rtc_peer_state.specs.declared.rtc_error.RtcError.TheVariants.{
   Sdp as SdpRefused,
   Dtls,
   Sctp,
+  Net,
+  Media as MediaFailed,
   ChangesOutOfOrder,
   BadChannel,
   Alloc,
@@ -154,6 +156,8 @@ module _ {I D S M E X T W N : Type 0} (m : Meanings I D S M E X T W N) where
   offer_fails laws p q offer growth (RemoteSdp why) ice dtls sctp grown later passes moves = absurd moves
   offer_fails laws p q offer growth (SdpRefused error) ice dtls sctp grown later passes moves = absurd moves
   offer_fails laws p q offer growth ChangesOutOfOrder ice dtls sctp grown later passes moves = absurd moves
+  offer_fails laws p q offer growth (Net cause) ice dtls sctp grown later passes moves = absurd moves
+  offer_fails laws p q offer growth (MediaFailed cause) ice dtls sctp grown later passes moves = absurd moves
   offer_fails laws p q offer growth BadChannel ice dtls sctp grown later passes moves = absurd moves
 
   -- the offer is accepted

@@ -27,6 +27,8 @@ use Rattle.rtc_peer_state.specs.declared.rtc_error.RtcError.TheVariants.{
   Sdp as SdpRefused,
   Dtls,
   Sctp,
+  Net,
+  Media as MediaFailed,
   ChangesOutOfOrder,
   BadChannel,
   Alloc,
@@ -147,6 +149,8 @@ module _ {I D S M E X T W N : Type 0} (m : Meanings I D S M E X T W N) where
   answer_fails laws p q token answer growth (RemoteSdp why) ice dtls sctp right grown later passes moves = absurd moves
   answer_fails laws p q token answer growth (SdpRefused error) ice dtls sctp right grown later passes moves = absurd moves
   answer_fails laws p q token answer growth ChangesOutOfOrder ice dtls sctp right grown later passes moves = absurd moves
+  answer_fails laws p q token answer growth (Net cause) ice dtls sctp right grown later passes moves = absurd moves
+  answer_fails laws p q token answer growth (MediaFailed cause) ice dtls sctp right grown later passes moves = absurd moves
   answer_fails laws p q token answer growth BadChannel ice dtls sctp right grown later passes moves = absurd moves
 
   -- the answer is accepted

@@ -19,6 +19,8 @@ use Rattle.rtc_peer_state.specs.declared.rtc_error.RtcError.TheVariants.{
   Sdp as SdpRefused,
   Dtls,
   Sctp,
+  Net,
+  Media as MediaFailed,
   ChangesOutOfOrder,
   BadChannel,
   Alloc,
@@ -64,4 +66,6 @@ module _ {I D S : Type 0} (ice : IceMeaning I) (dtls : DtlsMeaning D) (associati
   MovesParts i d s following sdp rows now (Err (RemoteSdp why)) j e t = ⊥
   MovesParts i d s following sdp rows now (Err (SdpRefused error)) j e t = ⊥
   MovesParts i d s following sdp rows now (Err ChangesOutOfOrder) j e t = ⊥
+  MovesParts i d s following sdp rows now (Err (Net cause)) j e t = ⊥
+  MovesParts i d s following sdp rows now (Err (MediaFailed cause)) j e t = ⊥
   MovesParts i d s following sdp rows now (Err BadChannel) j e t = ⊥

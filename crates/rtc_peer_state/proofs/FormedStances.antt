@@ -28,6 +28,8 @@ use Rattle.rtc_peer_state.specs.declared.rtc_error.RtcError.TheVariants.{
   Sdp as SdpRefused,
   Dtls,
   Sctp,
+  Net,
+  Media as MediaFailed,
   ChangesOutOfOrder,
   BadChannel,
   Alloc,
@@ -132,6 +134,8 @@ adds_channel_formed s config (Err (RemoteSdp why)) t adds formed = absurd adds
 adds_channel_formed s config (Err (SdpRefused error)) t adds formed = absurd adds
 adds_channel_formed s config (Err (Dtls error)) t adds formed = absurd adds
 adds_channel_formed s config (Err (Sctp error)) t adds formed = absurd adds
+adds_channel_formed s config (Err (Net cause)) t adds formed = absurd adds
+adds_channel_formed s config (Err (MediaFailed cause)) t adds formed = absurd adds
 adds_channel_formed s config (Err ChangesOutOfOrder) t adds formed = absurd adds
 
 -- rows that are alike have the same mids
@@ -266,6 +270,8 @@ offered_formed s offer (Err (Dtls DtlsAlloc)) t accepts names formed = absurd ac
 offered_formed s offer (Err (Sctp error)) t accepts names formed =
     broken_formed s accepts.2.restart (raised s.counter) t accepts.2.breaks accepts.2.followed.tokens formed
 offered_formed s offer (Err ChangesOutOfOrder) t accepts names formed = absurd accepts
+offered_formed s offer (Err (Net cause)) t accepts names formed = absurd accepts
+offered_formed s offer (Err (MediaFailed cause)) t accepts names formed = absurd accepts
 offered_formed s offer (Err BadChannel) t accepts names formed = absurd accepts
 offered_formed s offer (Err Alloc) t accepts names formed =
     broken_formed s accepts.restart (raised s.counter) t accepts.breaks accepts.followed.tokens formed
@@ -277,6 +283,8 @@ answered_formed s token answer (Ok done) t accepts restarts names formed =
     rw accepts.rest (counted_formed (followed_by s (staged_restart token.changes) answer false) s.counter
     (all_confirmed (fitting_channels token.changes) s.channels)
     (followed_formed s (staged_restart token.changes) answer false (restart_token token.changes restarts) names formed))
+answered_formed s token answer (Err (Net cause)) t accepts restarts names formed = absurd accepts
+answered_formed s token answer (Err (MediaFailed cause)) t accepts restarts names formed = absurd accepts
 answered_formed s token answer (Err BadChannel) t accepts restarts names formed = absurd accepts
 answered_formed s token answer (Err ChangesOutOfOrder) t accepts restarts names formed = rw accepts.1 formed
 answered_formed s token answer (Err (RemoteSdp why)) t accepts restarts names formed =

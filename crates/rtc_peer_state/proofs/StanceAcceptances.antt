@@ -22,6 +22,8 @@ use Rattle.rtc_peer_state.specs.declared.rtc_error.RtcError.TheVariants.{
   Sdp as SdpRefused,
   Dtls,
   Sctp,
+  Net,
+  Media as MediaFailed,
   ChangesOutOfOrder,
   BadChannel,
   Alloc,
@@ -159,6 +161,8 @@ accepts_offer_stands m laws p offer (Err (Dtls WouldBlock)) q h = absurd h
 accepts_offer_stands m laws p offer (Err (Dtls DtlsAlloc)) q h = absurd h
 accepts_offer_stands m laws p offer (Err (Sctp error)) q h = (h.0, h.1.passes, unstarted_offer_stands m laws p offer q h.1)
 accepts_offer_stands m laws p offer (Err ChangesOutOfOrder) q h = absurd h
+accepts_offer_stands m laws p offer (Err (Net cause)) q h = absurd h
+accepts_offer_stands m laws p offer (Err (MediaFailed cause)) q h = absurd h
 accepts_offer_stands m laws p offer (Err BadChannel) q h = absurd h
 accepts_offer_stands m laws p offer (Err Alloc) q h = stopped_offer_stands m laws p offer q h
 
@@ -212,6 +216,8 @@ pub accepts_answer_stands : {I D S M E X T W N : Type 0} (m : Meanings I D S M E
     (answer : Sdp) (result : Result (Unit {0}) RtcError) (q : Peer I D S M N) → AcceptsAnswer m p token answer result q
     → StanceAcceptsAnswer (stance_of m p) token answer result (stance_of m q)
 accepts_answer_stands m laws p token answer (Ok done) q h = accepted_answer_stands m laws p token answer q h
+accepts_answer_stands m laws p token answer (Err (Net cause)) q h = absurd h
+accepts_answer_stands m laws p token answer (Err (MediaFailed cause)) q h = absurd h
 accepts_answer_stands m laws p token answer (Err BadChannel) q h = absurd h
 accepts_answer_stands m laws p token answer (Err ChangesOutOfOrder) q h = (h.0, ap (stance_of m) h.1)
 accepts_answer_stands m laws p token answer (Err (RemoteSdp why)) q h =

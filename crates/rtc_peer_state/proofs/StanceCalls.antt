@@ -51,6 +51,8 @@ use Rattle.rtc_peer_state.specs.declared.rtc_error.RtcError.TheVariants.{
   Sdp as SdpRefused,
   Dtls,
   Sctp,
+  Net,
+  Media as MediaFailed,
   ChangesOutOfOrder,
   BadChannel,
   Alloc,
@@ -117,6 +119,8 @@ StanceAddsChannel s config (Err (RemoteSdp why)) t = ⊥
 StanceAddsChannel s config (Err (SdpRefused error)) t = ⊥
 StanceAddsChannel s config (Err (Dtls error)) t = ⊥
 StanceAddsChannel s config (Err (Sctp error)) t = ⊥
+StanceAddsChannel s config (Err (Net cause)) t = ⊥
+StanceAddsChannel s config (Err (MediaFailed cause)) t = ⊥
 StanceAddsChannel s config (Err ChangesOutOfOrder) t = ⊥
 
 abbrev pub StanceStagesRestart : Stance → Bool → Result IceCreds AllocError → Stance → Type 0
@@ -192,6 +196,8 @@ StanceAcceptsOffer s offer (Err (Dtls DtlsAlloc)) t = ⊥
 StanceAcceptsOffer s offer (Err (Sctp error)) t =
     (error ≡ Proto AssociationFault) × (verdict (held_by s) None offer ≡ None) × BreaksOffer s offer t
 StanceAcceptsOffer s offer (Err ChangesOutOfOrder) t = ⊥
+StanceAcceptsOffer s offer (Err (Net cause)) t = ⊥
+StanceAcceptsOffer s offer (Err (MediaFailed cause)) t = ⊥
 StanceAcceptsOffer s offer (Err BadChannel) t = ⊥
 StanceAcceptsOffer s offer (Err Alloc) t = BreaksOffer s offer t
 
@@ -204,6 +210,8 @@ pub record StandsAnswer (s : Stance) (token : PendingOffer) (answer : Sdp) (t : 
 
 abbrev pub StanceAcceptsAnswer : Stance → PendingOffer → Sdp → Result (Unit {0}) RtcError → Stance → Type 0
 StanceAcceptsAnswer s token answer (Ok done) t = StandsAnswer s token answer t
+StanceAcceptsAnswer s token answer (Err (Net cause)) t = ⊥
+StanceAcceptsAnswer s token answer (Err (MediaFailed cause)) t = ⊥
 StanceAcceptsAnswer s token answer (Err BadChannel) t = ⊥
 StanceAcceptsAnswer s token answer (Err ChangesOutOfOrder) t = (s.counter ≢ raised token.id) × (t ≡ s)
 StanceAcceptsAnswer s token answer (Err (RemoteSdp why)) t =

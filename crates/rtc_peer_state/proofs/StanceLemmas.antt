@@ -19,6 +19,8 @@ use Rattle.rtc_peer_state.specs.declared.rtc_error.RtcError.TheVariants.{
   Sdp as SdpRefused,
   Dtls,
   Sctp,
+  Net,
+  Media as MediaFailed,
   ChangesOutOfOrder,
   BadChannel,
   Alloc,
@@ -85,6 +87,8 @@ adds_channel_stands m laws p config (Err (RemoteSdp why)) q h = absurd h
 adds_channel_stands m laws p config (Err (SdpRefused error)) q h = absurd h
 adds_channel_stands m laws p config (Err (Dtls error)) q h = absurd h
 adds_channel_stands m laws p config (Err (Sctp error)) q h = absurd h
+adds_channel_stands m laws p config (Err (Net cause)) q h = absurd h
+adds_channel_stands m laws p config (Err (MediaFailed cause)) q h = absurd h
 adds_channel_stands m laws p config (Err ChangesOutOfOrder) q h = absurd h
 
 pub stages_restart_stands : {I D S M E X T W N : Type 0} (m : Meanings I D S M E X T W N) → PartsLaws m

@@ -27,6 +27,9 @@ use Rattle.rtc_tables.specs.declared.why.Why.TheVariants.{
   PlaceTaken,
   AnswerRecycles,
   WrongNewLines,
+  NoMatch,
+  UnknownHash,
+  NoneAnnounced,
 }
 use Rattle.rtc_change.specs.Held.{Asked}
 use Rattle.rtc_tables.specs.ParsedLines.{parsed_lines}
@@ -43,6 +46,8 @@ use Rattle.rtc_peer_state.specs.declared.rtc_error.RtcError.TheVariants.{
   Sdp as SdpRefused,
   Dtls,
   Sctp,
+  Net,
+  Media as MediaFailed,
   ChangesOutOfOrder,
   BadChannel,
   Alloc,
@@ -67,6 +72,9 @@ phase_after (MovedLine mid) phase = phase
 phase_after (PlaceTaken mid) phase = phase
 phase_after (AnswerRecycles mid) phase = phase
 phase_after (WrongNewLines wrong) phase = phase
+phase_after (NoMatch expected got) phase = Closed
+phase_after (UnknownHash name) phase = Closed
+phase_after NoneAnnounced phase = Closed
 
 abbrev pub refused_phase : Refusal → Phase → Phase
 refused_phase (RefusedSdp why) phase = phase_after why phase
@@ -212,6 +220,8 @@ module _ {I D S M E X T W N : Type 0} (m : Meanings I D S M E X T W N) where
   AcceptsOffer p offer (Err (Dtls DtlsAlloc)) q = ⊥
   AcceptsOffer p offer (Err (Sctp error)) q = (error ≡ Proto AssociationFault) × OfferUnstarted p offer q
   AcceptsOffer p offer (Err ChangesOutOfOrder) q = ⊥
+  AcceptsOffer p offer (Err (Net cause)) q = ⊥
+  AcceptsOffer p offer (Err (MediaFailed cause)) q = ⊥
   AcceptsOffer p offer (Err BadChannel) q = ⊥
   AcceptsOffer p offer (Err Alloc) q = OfferStopped p offer q
 
@@ -279,6 +289,8 @@ module _ {I D S M E X T W N : Type 0} (m : Meanings I D S M E X T W N) where
   -- A peer accepts an answer with the token of its offer, or refuses it.
   abbrev pub AcceptsAnswer : Peer I D S M N → PendingOffer → Sdp → Result (Unit {0}) RtcError → Peer I D S M N → Type 0
   AcceptsAnswer p token answer (Ok done) q = AnswerAccepted p token answer q
+  AcceptsAnswer p token answer (Err (Net cause)) q = ⊥
+  AcceptsAnswer p token answer (Err (MediaFailed cause)) q = ⊥
   AcceptsAnswer p token answer (Err BadChannel) q = ⊥
   AcceptsAnswer p token answer (Err ChangesOutOfOrder) q = (p.counter ≢ raised token.id) × (q ≡ p)
   AcceptsAnswer p token answer (Err (RemoteSdp why)) q =

@@ -48,6 +48,8 @@ use Rattle.rtc_peer_state.specs.declared.rtc_error.RtcError.TheVariants.{
   Sdp as SdpRefused,
   Dtls,
   Sctp,
+  Net,
+  Media as MediaFailed,
   ChangesOutOfOrder,
   BadChannel,
   Alloc,
@@ -189,6 +191,8 @@ module _ {I D S M E X T W N : Type 0} (m : Meanings I D S M E X T W N) where
   AddsChannel p config (Err (SdpRefused error)) q = ⊥
   AddsChannel p config (Err (Dtls error)) q = ⊥
   AddsChannel p config (Err (Sctp error)) q = ⊥
+  AddsChannel p config (Err (Net cause)) q = ⊥
+  AddsChannel p config (Err (MediaFailed cause)) q = ⊥
   AddsChannel p config (Err ChangesOutOfOrder) q = ⊥
 
   -- A restart of ICE is staged, in place of one that was; its credentials are drawn.

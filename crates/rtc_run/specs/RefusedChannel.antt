@@ -1,5 +1,6 @@
 -- The answer to an op that adds a channel where the peer makes none: it refuses the config, or memory ran out.
 use Rattle.rtc_peer_state.specs.declared.rtc_error.RtcError.{RtcError}
+use Rattle.rtc_peer_state.specs.declared.rtc_error.RtcError.TheVariants.{Net, Media as MediaFailed}
 use Rattle.rtc_peer_state.specs.declared.rtc_error.RtcError.TheVariants.{RemoteSdp, Sdp, Dtls, Sctp, ChangesOutOfOrder, BadChannel, Alloc}
 use Rattle.rtc_history.specs.declared.op_answer.OpAnswer.{OpAnswer}
 use Rattle.rtc_history.specs.declared.op_answer.OpAnswer.TheVariants.{BadChannel as NoChannel, Alloc as OpAlloc}
@@ -9,6 +10,8 @@ refused_channel (RemoteSdp why) = OpAlloc
 refused_channel (Sdp error) = OpAlloc
 refused_channel (Dtls error) = OpAlloc
 refused_channel (Sctp error) = OpAlloc
+refused_channel (Net cause) = OpAlloc
+refused_channel (MediaFailed cause) = OpAlloc
 refused_channel ChangesOutOfOrder = OpAlloc
 refused_channel BadChannel = NoChannel
 refused_channel Alloc = OpAlloc
