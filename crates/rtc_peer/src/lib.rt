@@ -3,6 +3,7 @@
 //! The crate passes on all that its callers name, so that a program lists `rtc_peer`, `rtc_wire` and a crate with a source of numbers.
 #![tactic(auto)]
 
+mod polls;
 mod rtc;
 mod sdp_api;
 
@@ -18,7 +19,9 @@ pub use rtc_lines::{
     IceCreds, Inconsistent, LineKind, LineRow, MediaKind, MediaLine, Mid, Msid, PayloadRow, Pt,
     Rid, Sdp, SdpAnswer, SdpError, SdpOffer, Setup, Simulcast, SimulcastLayer, Ssrc,
 };
-pub use rtc_media::MediaSession;
+pub use rtc_media::{MediaError, MediaSession};
+pub use rtc_parts_values::Reason;
 pub use rtc_peer_state::{RtcConfig, RtcError};
+pub use rtc_polling::{ChannelData, Event, Input, Output};
 pub use rtc_sctp::{ProtoError, SctpError};
 pub use sdp_api::SdpApi;

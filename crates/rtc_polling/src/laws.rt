@@ -4,7 +4,7 @@ ghost use Rattle.rtc_peer_state.specs.declared.phase.Phase.TheVariants.{Closed};
 ghost use Rattle.rtc_peer_state.specs.Meanings.{meanings};
 ghost use Rattle.rtc_polling.specs.declared.input.Input.{Input as Given};
 ghost use Rattle.rtc_polling.specs.declared.polled_peer.PolledPeer.{PolledPeer as Polled};
-ghost use Rattle.rtc_polling.specs.declared.transport_error.TransportError.TheVariants.{Alloc};
+ghost use Rattle.rtc_peer_state.specs.declared.rtc_error.RtcError.TheVariants.{Alloc};
 ghost use Rattle.rtc_polling.specs.Closing.{ClosesPeer};
 ghost use Rattle.rtc_polling.specs.Inputs.{HandlesInput};
 ghost use Rattle.rtc_polling.specs.Kept.{KeepsNegotiation};
@@ -36,9 +36,9 @@ pub fn want_of_memory_closes<
     N: Ids,
 >()
     ensures polls { (p q : Polled I D S M N)
-        → PollsPeer (meanings I.ice D.dtls S.association M.media N.ids) p (Err Alloc) q → q.peer.phase ≡ Closed }
+        → PollsPeer (meanings I.ice D.dtls S.association M.media N.ids) p (Err Alloc) q → q.core.phase ≡ Closed }
     ensures inputs { (p q : Polled I D S M N) (input : Given)
-        → HandlesInput (meanings I.ice D.dtls S.association M.media N.ids) input p (Err Alloc) q → q.peer.phase ≡ Closed }
+        → HandlesInput (meanings I.ice D.dtls S.association M.media N.ids) input p (Err Alloc) q → q.core.phase ≡ Closed }
     ensures closes { (p q : Polled I D S M N)
-        → ClosesPeer (meanings I.ice D.dtls S.association M.media N.ids) p (Err Alloc) q → q.peer.phase ≡ Closed }
+        → ClosesPeer (meanings I.ice D.dtls S.association M.media N.ids) p (Err Alloc) q → q.core.phase ≡ Closed }
 {}

@@ -18,7 +18,7 @@ use std::alloc::AllocError;
 /// A peer with its connection to the other side. Its fields are public for the crates that work on it.
 #[derive(Drop)]
 pub struct PolledPeer<I, D, S, M, N> {
-    pub peer: Peer<I, D, S, M, N>,
+    pub core: Peer<I, D, S, M, N>,
     pub transport: Transport,
 }
 
@@ -47,10 +47,13 @@ impl<I: Drop, D: Drop, S: Drop, M: Drop, N: Drop> PolledPeer<I, D, S, M, N> {
         peer: Peer<I, D, S, M, N>,
         verifies: bool,
     ) -> Result<PolledPeer<I, D, S, M, N>, AllocError>
-        ensures { IfOk result (λ made. made ≡ record { peer = peer; transport = no_transport verifies }) }
+        ensures { IfOk result (λ made. made ≡ record { core = peer; transport = no_transport verifies }) }
     {
         let transport = Transport::new(peer.alloc, verifies)?;
-        Ok(PolledPeer { peer, transport })
+        Ok(PolledPeer {
+            core: peer,
+            transport,
+        })
     }
 }
 
@@ -74,17 +77,17 @@ impl<I: IceAgent, D: DtlsInstance, S: Association, M: MediaSession, N: Ids> Poll
     pub fn is_connected(&self) -> bool
         ensures { result ≡ is_peer_connected (meanings I.ice D.dtls S.association M.media N.ids) self.now }
     {
-        let found = self.peer.ice.state().is_connected();
-        found && is_finished(self.transport.handshake) && self.peer.media.is_connected()
+        let found = self.core.ice.state().is_connected();
+        found && is_finished(self.transport.handshake) && self.core.media.is_connected()
     }
 
     fn is_meant(&self, source: Addr, contents: &DatagramRecv<'_>) -> bool
         ensures { result ≡ is_meant_for (meanings I.ice D.dtls S.association M.media N.ids) self.now source contents.now }
     {
         match contents {
-            DatagramRecv::Stun(message) => self.peer.ice.accepts_message(message),
+            DatagramRecv::Stun(message) => self.core.ice.accepts_message(message),
             DatagramRecv::Dtls(_) | DatagramRecv::Rtp(_) | DatagramRecv::Rtcp(_) => {
-                self.peer.ice.has_viable_remote_candidate(source)
+                self.core.ice.has_viable_remote_candidate(source)
             }
         }
     }
