@@ -6,17 +6,25 @@ use Rattle.rtc_io.specs.Faults.{Rose}
 use Rattle.rtc_dtls.specs.declared.dtls_error.DtlsError.TheVariants.{WouldBlock, Fault, Alloc as DtlsAlloc}
 use Rattle.rtc_dtls.specs.DtlsState.{DtlsState}
 use Rattle.rtc_sctp.specs.Streams.{SctpStreams}
+use Rattle.rtc_sctp.specs.declared.proto_error.ProtoError.TheVariants.{Fault as AssociationFault}
+use Rattle.rtc_sctp.specs.declared.sctp_error.SctpError.{SctpError}
+use Rattle.rtc_sctp.specs.declared.sctp_error.SctpError.TheVariants.{Proto}
 use Rattle.rtc_media.specs.MediaLaws.{SameLines}
 use Rattle.rtc_sdp_values.specs.declared.direction.Direction.{Direction}
 use Rattle.rtc_sdp_values.specs.declared.direction.Direction.TheVariants.{Inactive}
+use Rattle.rtc_sdp_values.specs.Sdp.{sdp_setup, max_message_size_of}
 use Rattle.rtc_sdp_values.specs.declared.sdp.Sdp.{Sdp}
 use Rattle.rtc_change.specs.declared.change.Change.{Change}
 use Rattle.rtc_change.specs.PendingOffer.{PendingOffer}
+use Rattle.rtc_change.specs.TableAfter.{table_after}
+use Rattle.rtc_tables.specs.ParsedLines.{parsed_lines}
 use Rattle.rtc_tables.specs.RowChanges.{RowChange, directed_row, stopped_row}
 use Rattle.rtc_peer_state.specs.declared.peer.Peer.{Peer}
 use Rattle.rtc_peer_state.specs.declared.rtc_error.RtcError.{RtcError}
 use Rattle.rtc_peer_state.specs.declared.rtc_error.RtcError.TheVariants.{RemoteSdp, Sdp as SdpRefused, Dtls, Sctp, ChangesOutOfOrder, BadChannel, Alloc as PeerAlloc}
-use Rattle.rtc_peer_state.specs.Acceptances.{AcceptsOffer, AcceptsAnswer}
+use Rattle.rtc_peer_state.specs.Acceptances.{StartsBySdp, StopsBySdp, AcceptsOffer, AcceptsAnswer}
+use Rattle.rtc_peer_state.specs.MadeSdp.{role_after}
+use Rattle.rtc_peer_state.specs.PartMoves.{remote_limit}
 use Rattle.rtc_peer_state.specs.Calls.{ChangesLine, after_channels_alone}
 use Rattle.rtc_peer_state.specs.Meanings.{Meanings, PartsLaws}
 use Rattle.rtc_history.specs.declared.side.Side.{Side}
@@ -100,10 +108,26 @@ module _ {I D S M E X T W N : Type 0} (m : Meanings I D S M E X T W N) (laws : P
 
   -- ---- acceptances
 
+  -- the association as an offer or an answer starts it
+  sdp_later : (p : Peer I D S M N) (offer : Bool) (sdp : Sdp) (r : Result (Unit {0}) SctpError) (s : SctpStreams S) → StartsBySdp m p offer sdp r s
+      → m.association.faults p.sctp.association ≤ m.association.faults s.association
+  sdp_later p offer sdp r s h = sctp_later m.association laws.association p.sctp s (table_after p.lines (parsed_lines sdp) offer)
+      (role_after p.dtls.active (sdp_setup sdp)) p.greatest (remote_limit (max_message_size_of sdp)) r h
+
+  sdp_fault : (p : Peer I D S M N) (offer : Bool) (sdp : Sdp) (s : SctpStreams S) → StartsBySdp m p offer sdp (Err (Proto AssociationFault)) s
+      → Rose (m.association.faults p.sctp.association) (m.association.faults s.association)
+  sdp_fault p offer sdp s h = sctp_fault m.association laws.association p.sctp s (table_after p.lines (parsed_lines sdp) offer)
+      (role_after p.dtls.active (sdp_setup sdp)) p.greatest (remote_limit (max_message_size_of sdp)) h
+
+  sdp_stop_later : (p : Peer I D S M N) (offer : Bool) (sdp : Sdp) (s : SctpStreams S) → StopsBySdp m p offer sdp s
+      → m.association.faults p.sctp.association ≤ m.association.faults s.association
+  sdp_stop_later p offer sdp s h = sctp_stop_later m.association laws.association p.sctp s (table_after p.lines (parsed_lines sdp) offer)
+      (role_after p.dtls.active (sdp_setup sdp)) p.greatest (remote_limit (max_message_size_of sdp)) h
+
   offer_accepted : (p q : Peer I D S M N) (k : ℕ) (offer answer : Sdp) → AcceptsOffer m p offer (Ok answer) q → IsSoundOfSide p (Answered k) q
   offer_accepted p q k offer answer h = accepted p q (Answered k) (λ part. refl) refl
       (by_part (λ part. faults_of part p ≤ faults_of part q) (start_later m.dtls laws.dtls p.dtls q.dtls _ _ _ _ h.dtls_starts)
-      (sctp_later m.association laws.association p.sctp q.sctp _ _ _ _ _ h.sctp_starts))
+      (sdp_later p true offer (Ok tt) q.sctp h.sctp_starts))
 
   offer_refused : (p q : Peer I D S M N) (offer : Sdp) (error : RtcError) → AcceptsOffer m p offer (Err error) q → IsSoundOfSide p (Refused error) q
   offer_refused p q offer (RemoteSdp why) h = refused p q (RemoteSdp why) (λ part. refl) (ap counting_parts h.1) (ap (λ (r : Peer I D S M N). r.media) h.1)
@@ -119,16 +143,16 @@ module _ {I D S M E X T W N : Type 0} (m : Meanings I D S M E X T W N) (laws : P
   offer_refused p q offer (Dtls DtlsAlloc) h = absurd h
   offer_refused p q offer (Sctp error) h = record {
     later = by_part (λ part. faults_of part p ≤ faults_of part q) (start_later m.dtls laws.dtls p.dtls q.dtls _ _ _ _ h.1.dtls_starts)
-        (sctp_later m.association laws.association p.sctp q.sctp _ _ _ _ _ h.1.sctp_fails);
+        (sdp_later p true offer (Err (Proto AssociationFault)) q.sctp h.1.sctp_fails);
     fault = by_part (λ part. is_fault_of (Sctp error) part ≡ true → Rose (faults_of part p) (faults_of part q))
-        (λ told. absurd (cc)) (λ told. sctp_fault m.association laws.association p.sctp q.sctp _ _ _ _ h.1.sctp_fails);
+        (λ told. absurd (cc)) (λ told. sdp_fault p true offer q.sctp h.1.sctp_fails);
     media = λ told. laws.media.prepare_same p.media q.media _ _ h.1.media_prepared;
   }
   offer_refused p q offer ChangesOutOfOrder h = absurd h
   offer_refused p q offer BadChannel h = absurd h
   offer_refused p q offer PeerAlloc h = record {
     later = by_part (λ part. faults_of part p ≤ faults_of part q) (stop_later m.dtls laws.dtls p.dtls q.dtls _ _ h.dtls_stops)
-        (sctp_stop_later m.association laws.association p.sctp q.sctp _ _ _ _ h.sctp_stops);
+        (sdp_stop_later p true offer q.sctp h.sctp_stops);
     fault = λ part told. absurd (cc);
     media = λ told. h.media_kept;
   }
@@ -136,7 +160,7 @@ module _ {I D S M E X T W N : Type 0} (m : Meanings I D S M E X T W N) (laws : P
   answer_accepted : (p q : Peer I D S M N) (token : PendingOffer) (answer : Sdp) → AcceptsAnswer m p token answer (Ok tt) q → IsSoundOfSide p Finished q
   answer_accepted p q token answer h = accepted p q Finished (λ part. refl) refl
       (by_part (λ part. faults_of part p ≤ faults_of part q) (start_later m.dtls laws.dtls p.dtls q.dtls _ _ _ _ h.dtls_starts)
-      (sctp_later m.association laws.association p.sctp q.sctp _ _ _ _ _ h.sctp_starts))
+      (sdp_later p false answer (Ok tt) q.sctp h.sctp_starts))
 
   answer_refused : (p q : Peer I D S M N) (token : PendingOffer) (answer : Sdp) (error : RtcError) → AcceptsAnswer m p token answer (Err error) q → IsSoundOfSide p (Refused error) q
   answer_refused p q token answer (RemoteSdp why) h = refused p q (RemoteSdp why) (λ part. refl) (ap counting_parts h.1.1) (ap (λ (r : Peer I D S M N). r.media) h.1.1)
@@ -152,16 +176,16 @@ module _ {I D S M E X T W N : Type 0} (m : Meanings I D S M E X T W N) (laws : P
   answer_refused p q token answer (Dtls DtlsAlloc) h = absurd h
   answer_refused p q token answer (Sctp error) h = record {
     later = by_part (λ part. faults_of part p ≤ faults_of part q) (start_later m.dtls laws.dtls p.dtls q.dtls _ _ _ _ h.1.dtls_starts)
-        (sctp_later m.association laws.association p.sctp q.sctp _ _ _ _ _ h.1.sctp_fails);
+        (sdp_later p false answer (Err (Proto AssociationFault)) q.sctp h.1.sctp_fails);
     fault = by_part (λ part. is_fault_of (Sctp error) part ≡ true → Rose (faults_of part p) (faults_of part q))
-        (λ told. absurd (cc)) (λ told. sctp_fault m.association laws.association p.sctp q.sctp _ _ _ _ h.1.sctp_fails);
+        (λ told. absurd (cc)) (λ told. sdp_fault p false answer q.sctp h.1.sctp_fails);
     media = λ told. laws.media.prepare_same p.media q.media _ _ h.1.media_prepared;
   }
   answer_refused p q token answer ChangesOutOfOrder h = refused p q ChangesOutOfOrder (λ part. refl) (ap counting_parts h.1) (ap (λ (r : Peer I D S M N). r.media) h.1)
   answer_refused p q token answer BadChannel h = absurd h
   answer_refused p q token answer PeerAlloc h = record {
     later = by_part (λ part. faults_of part p ≤ faults_of part q) (stop_later m.dtls laws.dtls p.dtls q.dtls _ _ h.dtls_stops)
-        (sctp_stop_later m.association laws.association p.sctp q.sctp _ _ _ _ h.sctp_stops);
+        (sdp_stop_later p false answer q.sctp h.sctp_stops);
     fault = λ part told. absurd (cc);
     media = λ told. h.media_kept;
   }

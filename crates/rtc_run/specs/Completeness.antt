@@ -56,4 +56,5 @@ module _ {I D S M E X T W N : Type 0} (m : Meanings I D S M E X T W N) where
   abbrev pub FaultsAreCounted : Type 0
   FaultsAreCounted =
       (start : PairState I D S M N) (steps : List Step) (replies : List Reply) (pair : PairState I D S M N)
-      → Runs m start steps replies pair → ((part : CountedPart) (at : Side) → ¬ CountsFault m part at start pair) → tell_fault replies ≡ false
+      → Runs m start steps replies pair → ((part : CountedPart) (at : Side) → ¬ CountsFault m part at start pair)
+      → tell_fault replies ≡ false
