@@ -28,9 +28,9 @@ module _ {I D S M E X T W N : Type 0} (m : Meanings I D S M E X T W N) where
       record {
         later = by_part (λ part. (at : Side) → faults_at m part at old ≤ faults_at m part at new)
             (both_sides (λ at. faults_at m DtlsPart at old ≤ faults_at m DtlsPart at new) (side_of last.step) (acts.later DtlsPart)
-                (equal_below (faults_at m DtlsPart (other_side (side_of last.step)) old) (faults_at m DtlsPart (other_side (side_of last.step)) new) (same DtlsPart)))
+            (equal_below (faults_at m DtlsPart (other_side (side_of last.step)) old) (faults_at m DtlsPart (other_side (side_of last.step)) new) (same DtlsPart)))
             (both_sides (λ at. faults_at m AssociationPart at old ≤ faults_at m AssociationPart at new) (side_of last.step) (acts.later AssociationPart)
-                (equal_below (faults_at m AssociationPart (other_side (side_of last.step)) old) (faults_at m AssociationPart (other_side (side_of last.step)) new) (same AssociationPart)));
+            (equal_below (faults_at m AssociationPart (other_side (side_of last.step)) old) (faults_at m AssociationPart (other_side (side_of last.step)) new) (same AssociationPart)));
         fault = acts.fault;
         media = acts.media;
       }
