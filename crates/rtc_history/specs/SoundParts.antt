@@ -2,6 +2,7 @@
 use Rattle.std.specs.Prelude.{◌≡◌, ◌≤◌, ℕ, Bool, true, false}
 use Rattle.rtc_io.specs.Faults.{Rose}
 use Rattle.rtc_media.specs.MediaLaws.{SameLines}
+use Rattle.rtc_peer_state.specs.declared.peer.Peer.{Peer}
 use Rattle.rtc_peer_state.specs.Meanings.{Meanings}
 use Rattle.rtc_history.specs.declared.side.Side.{Side}
 use Rattle.rtc_history.specs.declared.outcome.Outcome.{Outcome}
@@ -21,10 +22,13 @@ tells_refusal NoSuch = false
 tells_refusal Alloc = false
 
 module _ {I D S M E X T W N : Type 0} (m : Meanings I D S M E X T W N) where
-  -- how often this part of a side failed
+  -- how often this part of a peer failed
+  abbrev pub faults_of : CountedPart → Peer I D S M N → ℕ
+  faults_of DtlsPart p = m.dtls.faults p.dtls.instance
+  faults_of AssociationPart p = m.association.faults p.sctp.association
+
   abbrev pub faults_at : CountedPart → Side → PairState I D S M N → ℕ
-  faults_at DtlsPart at pair = m.dtls.faults (peer_at at pair).dtls.instance
-  faults_at AssociationPart at pair = m.association.faults (peer_at at pair).sctp.association
+  faults_at part at pair = faults_of part (peer_at at pair)
 
   -- this part of a side failed between two pairs
   abbrev pub CountsFault : CountedPart → Side → PairState I D S M N → PairState I D S M N → Type 0

@@ -2,6 +2,7 @@
 use Rattle.std.proofs.Common.{◌≡◌, ◌≤◌, ◌∙◌, List, [], ◌∷◌, Bool, true, false, refl, sym, ap, arith}
 use Rattle.std.proofs.lemmas.List.Folds.{list_any-append}
 use Rattle.rtc_peer_state.specs.Meanings.{Meanings, PartsLaws}
+use Rattle.rtc_peer_state.specs.Whole.{Whole}
 use Rattle.rtc_history.specs.declared.side.Side.{Side}
 use Rattle.rtc_history.specs.declared.reply.Reply.{Reply}
 use Rattle.rtc_history.specs.declared.step.Step.{Step}
@@ -11,9 +12,9 @@ use Rattle.rtc_history.specs.PairState.{PairState, peer_at}
 use Rattle.rtc_history.specs.Performs.{Enters}
 use Rattle.rtc_history.specs.Runs.{Went, EntersSoundly, Runs}
 use Rattle.rtc_history.specs.Sides.{side_of, other_side}
-use Rattle.rtc_history.specs.SoundParts.{faults_at, CountsFault, IsSoundOfParts}
+use Rattle.rtc_history.specs.SoundParts.{faults_of, faults_at, CountsFault, IsSoundOfParts}
 use Rattle.rtc_history.proofs.BothSides.{both_sides}
-use Rattle.rtc_history_laws.proofs.CountedFaults.{by_part, equal_below, rose_along}
+use Rattle.rtc_history_laws.proofs.CountedFaults.{equal_below, rose_along}
 use Rattle.rtc_history_laws.proofs.SoundSides.{IsSoundOfSide, acts_side}
 
 module _ {I D S M E X T W N : Type 0} (m : Meanings I D S M E X T W N) where
@@ -23,14 +24,10 @@ module _ {I D S M E X T W N : Type 0} (m : Meanings I D S M E X T W N) where
       let acts : IsSoundOfSide m laws (peer_at (side_of last.step) old) last.outcome (peer_at (side_of last.step) new) =
       acts_side m laws last.step (peer_at (side_of last.step) old) old.sdps last.outcome last.table (peer_at (side_of last.step) new) new.sdps enters.performs.acts in
       let same : (part : CountedPart) → faults_at m part (other_side (side_of last.step)) new ≡ faults_at m part (other_side (side_of last.step)) old =
-      by_part (λ part. faults_at m part (other_side (side_of last.step)) new ≡ faults_at m part (other_side (side_of last.step)) old)
-      (ap (λ rtc. m.dtls.faults rtc.core.dtls.instance) enters.performs.other) (ap (λ rtc. m.association.faults rtc.core.sctp.association) enters.performs.other) in
+      λ part. ap (λ (rtc : Whole I D S M N). faults_of m part rtc.core) enters.performs.other in
       record {
-        later = by_part (λ part. (at : Side) → faults_at m part at old ≤ faults_at m part at new)
-            (both_sides (λ at. faults_at m DtlsPart at old ≤ faults_at m DtlsPart at new) (side_of last.step) (acts.later DtlsPart)
-            (equal_below (faults_at m DtlsPart (other_side (side_of last.step)) old) (faults_at m DtlsPart (other_side (side_of last.step)) new) (same DtlsPart)))
-            (both_sides (λ at. faults_at m AssociationPart at old ≤ faults_at m AssociationPart at new) (side_of last.step) (acts.later AssociationPart)
-            (equal_below (faults_at m AssociationPart (other_side (side_of last.step)) old) (faults_at m AssociationPart (other_side (side_of last.step)) new) (same AssociationPart)));
+        later = λ part. both_sides (λ at. faults_at m part at old ≤ faults_at m part at new) (side_of last.step) (acts.later part)
+            (equal_below (faults_at m part (other_side (side_of last.step)) old) (faults_at m part (other_side (side_of last.step)) new) (same part));
         fault = acts.fault;
         media = acts.media;
       }

@@ -44,33 +44,28 @@ use Rattle.rtc_history.specs.declared.kept.Kept.{Kept}
 use Rattle.rtc_history.specs.Memory.{CountedPart, DtlsPart, AssociationPart, answers_lack, tells_fault_of, is_fault_of}
 use Rattle.rtc_history.specs.PairState.{kept_remote_sdp, held_token}
 use Rattle.rtc_history.specs.Performs.{PerformsOps, MakesOf, Negotiates, StepAcceptsOffer, StepAcceptsAnswer, Acts, lent}
-use Rattle.rtc_history.specs.SoundParts.{tells_refusal}
+use Rattle.rtc_history.specs.SoundParts.{tells_refusal, faults_of}
 use Rattle.rtc_history_laws.proofs.CountedFaults.{by_part, start_later, start_fault, stop_later, sctp_later, sctp_fault, sctp_stop_later}
 
 module _ {I D S M E X T W N : Type 0} (m : Meanings I D S M E X T W N) (laws : PartsLaws m) where
-  -- how often this part of a peer failed
-  abbrev pub faults_of : CountedPart → Peer I D S M N → ℕ
-  faults_of DtlsPart p = m.dtls.faults p.dtls.instance
-  faults_of AssociationPart p = m.association.faults p.sctp.association
-
   -- what an outcome tells of the parts of the peer that acted
   pub record IsSoundOfSide (old : Peer I D S M N) (outcome : Outcome) (new : Peer I D S M N) : Type 0 where
-    pub later : (part : CountedPart) → faults_of part old ≤ faults_of part new
-    pub fault : (part : CountedPart) → tells_fault_of outcome part ≡ true → Rose (faults_of part old) (faults_of part new)
+    pub later : (part : CountedPart) → faults_of m part old ≤ faults_of m part new
+    pub fault : (part : CountedPart) → tells_fault_of outcome part ≡ true → Rose (faults_of m part old) (faults_of m part new)
     pub media : tells_refusal outcome ≡ true → SameLines m.media old.media new.media
 
   -- the parts that count their faults
   abbrev pub counting_parts : Peer I D S M N → DtlsState D × SctpStreams S
   counting_parts p = (p.dtls, p.sctp)
 
-  same_dtls : (p q : Peer I D S M N) → q.dtls ≡ p.dtls → faults_of DtlsPart p ≤ faults_of DtlsPart q
-  same_dtls p q same = let e : faults_of DtlsPart q ≡ faults_of DtlsPart p = ap (λ (d : DtlsState D). m.dtls.faults d.instance) same in omega arith
+  same_dtls : (p q : Peer I D S M N) → q.dtls ≡ p.dtls → faults_of m DtlsPart p ≤ faults_of m DtlsPart q
+  same_dtls p q same = let e : faults_of m DtlsPart q ≡ faults_of m DtlsPart p = ap (λ (d : DtlsState D). m.dtls.faults d.instance) same in omega arith
 
-  same_sctp : (p q : Peer I D S M N) → q.sctp ≡ p.sctp → faults_of AssociationPart p ≤ faults_of AssociationPart q
-  same_sctp p q same = let e : faults_of AssociationPart q ≡ faults_of AssociationPart p = ap (λ (s : SctpStreams S). m.association.faults s.association) same in omega arith
+  same_sctp : (p q : Peer I D S M N) → q.sctp ≡ p.sctp → faults_of m AssociationPart p ≤ faults_of m AssociationPart q
+  same_sctp p q same = let e : faults_of m AssociationPart q ≡ faults_of m AssociationPart p = ap (λ (s : SctpStreams S). m.association.faults s.association) same in omega arith
 
-  same_count : (p q : Peer I D S M N) → counting_parts q ≡ counting_parts p → (part : CountedPart) → faults_of part p ≤ faults_of part q
-  same_count p q same = by_part (λ part. faults_of part p ≤ faults_of part q)
+  same_count : (p q : Peer I D S M N) → counting_parts q ≡ counting_parts p → (part : CountedPart) → faults_of m part p ≤ faults_of m part q
+  same_count p q same = by_part (λ part. faults_of m part p ≤ faults_of m part q)
       (same_dtls p q (ap (λ (c : DtlsState D × SctpStreams S). c.0) same)) (same_sctp p q (ap (λ (c : DtlsState D × SctpStreams S). c.1) same))
 
   same_media : (p q : M) → q ≡ p → SameLines m.media p q
@@ -90,7 +85,7 @@ module _ {I D S M E X T W N : Type 0} (m : Meanings I D S M E X T W N) (laws : P
 
   -- an acceptance that succeeded
   accepted : (p q : Peer I D S M N) (outcome : Outcome) → ((part : CountedPart) → tells_fault_of outcome part ≡ false) → tells_refusal outcome ≡ false
-      → ((part : CountedPart) → faults_of part p ≤ faults_of part q) → IsSoundOfSide p outcome q
+      → ((part : CountedPart) → faults_of m part p ≤ faults_of m part q) → IsSoundOfSide p outcome q
   accepted p q outcome unfaulted unrefused later = record {
     later = later;
     fault = λ part told. absurd (untold (tells_fault_of outcome) part (unfaulted part) told);
@@ -126,32 +121,32 @@ module _ {I D S M E X T W N : Type 0} (m : Meanings I D S M E X T W N) (laws : P
 
   offer_accepted : (p q : Peer I D S M N) (k : ℕ) (offer answer : Sdp) → AcceptsOffer m p offer (Ok answer) q → IsSoundOfSide p (Answered k) q
   offer_accepted p q k offer answer h = accepted p q (Answered k) (λ part. refl) refl
-      (by_part (λ part. faults_of part p ≤ faults_of part q) (start_later m.dtls laws.dtls p.dtls q.dtls _ _ _ _ h.dtls_starts)
+      (by_part (λ part. faults_of m part p ≤ faults_of m part q) (start_later m.dtls laws.dtls p.dtls q.dtls _ _ _ _ h.dtls_starts)
       (sdp_later p true offer (Ok tt) q.sctp h.sctp_starts))
 
   offer_refused : (p q : Peer I D S M N) (offer : Sdp) (error : RtcError) → AcceptsOffer m p offer (Err error) q → IsSoundOfSide p (Refused error) q
   offer_refused p q offer (RemoteSdp why) h = refused p q (RemoteSdp why) (λ part. refl) (ap counting_parts h.1) (ap (λ (r : Peer I D S M N). r.media) h.1)
   offer_refused p q offer (SdpRefused error) h = refused p q (SdpRefused error) (λ part. refl) (ap counting_parts h.1) (ap (λ (r : Peer I D S M N). r.media) h.1)
   offer_refused p q offer (Dtls Fault) h = record {
-    later = by_part (λ part. faults_of part p ≤ faults_of part q) (start_later m.dtls laws.dtls p.dtls q.dtls _ _ _ _ h.dtls_fails)
+    later = by_part (λ part. faults_of m part p ≤ faults_of m part q) (start_later m.dtls laws.dtls p.dtls q.dtls _ _ _ _ h.dtls_fails)
         (same_sctp p q (ap (λ (r : Peer I D S M N). r.sctp) h.rest));
-    fault = by_part (λ part. is_fault_of (Dtls Fault) part ≡ true → Rose (faults_of part p) (faults_of part q))
+    fault = by_part (λ part. is_fault_of (Dtls Fault) part ≡ true → Rose (faults_of m part p) (faults_of m part q))
         (λ told. start_fault m.dtls laws.dtls p.dtls q.dtls _ _ _ h.dtls_fails) (λ told. absurd (cc));
     media = λ told. laws.media.prepare_same p.media q.media _ _ h.media_prepared;
   }
   offer_refused p q offer (Dtls WouldBlock) h = absurd h
   offer_refused p q offer (Dtls DtlsAlloc) h = absurd h
   offer_refused p q offer (Sctp error) h = record {
-    later = by_part (λ part. faults_of part p ≤ faults_of part q) (start_later m.dtls laws.dtls p.dtls q.dtls _ _ _ _ h.1.dtls_starts)
+    later = by_part (λ part. faults_of m part p ≤ faults_of m part q) (start_later m.dtls laws.dtls p.dtls q.dtls _ _ _ _ h.1.dtls_starts)
         (sdp_later p true offer (Err (Proto AssociationFault)) q.sctp h.1.sctp_fails);
-    fault = by_part (λ part. is_fault_of (Sctp error) part ≡ true → Rose (faults_of part p) (faults_of part q))
+    fault = by_part (λ part. is_fault_of (Sctp error) part ≡ true → Rose (faults_of m part p) (faults_of m part q))
         (λ told. absurd (cc)) (λ told. sdp_fault p true offer q.sctp h.1.sctp_fails);
     media = λ told. laws.media.prepare_same p.media q.media _ _ h.1.media_prepared;
   }
   offer_refused p q offer ChangesOutOfOrder h = absurd h
   offer_refused p q offer BadChannel h = absurd h
   offer_refused p q offer PeerAlloc h = record {
-    later = by_part (λ part. faults_of part p ≤ faults_of part q) (stop_later m.dtls laws.dtls p.dtls q.dtls _ _ h.dtls_stops)
+    later = by_part (λ part. faults_of m part p ≤ faults_of m part q) (stop_later m.dtls laws.dtls p.dtls q.dtls _ _ h.dtls_stops)
         (sdp_stop_later p true offer q.sctp h.sctp_stops);
     fault = λ part told. absurd (cc);
     media = λ told. h.media_kept;
@@ -159,32 +154,32 @@ module _ {I D S M E X T W N : Type 0} (m : Meanings I D S M E X T W N) (laws : P
 
   answer_accepted : (p q : Peer I D S M N) (token : PendingOffer) (answer : Sdp) → AcceptsAnswer m p token answer (Ok tt) q → IsSoundOfSide p Finished q
   answer_accepted p q token answer h = accepted p q Finished (λ part. refl) refl
-      (by_part (λ part. faults_of part p ≤ faults_of part q) (start_later m.dtls laws.dtls p.dtls q.dtls _ _ _ _ h.dtls_starts)
+      (by_part (λ part. faults_of m part p ≤ faults_of m part q) (start_later m.dtls laws.dtls p.dtls q.dtls _ _ _ _ h.dtls_starts)
       (sdp_later p false answer (Ok tt) q.sctp h.sctp_starts))
 
   answer_refused : (p q : Peer I D S M N) (token : PendingOffer) (answer : Sdp) (error : RtcError) → AcceptsAnswer m p token answer (Err error) q → IsSoundOfSide p (Refused error) q
   answer_refused p q token answer (RemoteSdp why) h = refused p q (RemoteSdp why) (λ part. refl) (ap counting_parts h.1.1) (ap (λ (r : Peer I D S M N). r.media) h.1.1)
   answer_refused p q token answer (SdpRefused error) h = refused p q (SdpRefused error) (λ part. refl) (ap counting_parts h.1.1) (ap (λ (r : Peer I D S M N). r.media) h.1.1)
   answer_refused p q token answer (Dtls Fault) h = record {
-    later = by_part (λ part. faults_of part p ≤ faults_of part q) (start_later m.dtls laws.dtls p.dtls q.dtls _ _ _ _ h.dtls_fails)
+    later = by_part (λ part. faults_of m part p ≤ faults_of m part q) (start_later m.dtls laws.dtls p.dtls q.dtls _ _ _ _ h.dtls_fails)
         (same_sctp p q (ap (λ (r : Peer I D S M N). r.sctp) h.rest));
-    fault = by_part (λ part. is_fault_of (Dtls Fault) part ≡ true → Rose (faults_of part p) (faults_of part q))
+    fault = by_part (λ part. is_fault_of (Dtls Fault) part ≡ true → Rose (faults_of m part p) (faults_of m part q))
         (λ told. start_fault m.dtls laws.dtls p.dtls q.dtls _ _ _ h.dtls_fails) (λ told. absurd (cc));
     media = λ told. laws.media.prepare_same p.media q.media _ _ h.media_prepared;
   }
   answer_refused p q token answer (Dtls WouldBlock) h = absurd h
   answer_refused p q token answer (Dtls DtlsAlloc) h = absurd h
   answer_refused p q token answer (Sctp error) h = record {
-    later = by_part (λ part. faults_of part p ≤ faults_of part q) (start_later m.dtls laws.dtls p.dtls q.dtls _ _ _ _ h.1.dtls_starts)
+    later = by_part (λ part. faults_of m part p ≤ faults_of m part q) (start_later m.dtls laws.dtls p.dtls q.dtls _ _ _ _ h.1.dtls_starts)
         (sdp_later p false answer (Err (Proto AssociationFault)) q.sctp h.1.sctp_fails);
-    fault = by_part (λ part. is_fault_of (Sctp error) part ≡ true → Rose (faults_of part p) (faults_of part q))
+    fault = by_part (λ part. is_fault_of (Sctp error) part ≡ true → Rose (faults_of m part p) (faults_of m part q))
         (λ told. absurd (cc)) (λ told. sdp_fault p false answer q.sctp h.1.sctp_fails);
     media = λ told. laws.media.prepare_same p.media q.media _ _ h.1.media_prepared;
   }
   answer_refused p q token answer ChangesOutOfOrder h = refused p q ChangesOutOfOrder (λ part. refl) (ap counting_parts h.1) (ap (λ (r : Peer I D S M N). r.media) h.1)
   answer_refused p q token answer BadChannel h = absurd h
   answer_refused p q token answer PeerAlloc h = record {
-    later = by_part (λ part. faults_of part p ≤ faults_of part q) (stop_later m.dtls laws.dtls p.dtls q.dtls _ _ h.dtls_stops)
+    later = by_part (λ part. faults_of m part p ≤ faults_of m part q) (stop_later m.dtls laws.dtls p.dtls q.dtls _ _ h.dtls_stops)
         (sdp_stop_later p false answer q.sctp h.sctp_stops);
     fault = λ part told. absurd (cc);
     media = λ told. h.media_kept;
