@@ -184,7 +184,7 @@ fn list_line_updates<I: IceAgent, D: DtlsInstance, S: Association, M: MediaSessi
     Ok(updates)
 }
 
-// Makes the updates ready. Where memory lacks, the lines are as they were.
+// Makes the updates ready. Where memory runs out, the lines are as they were.
 fn prepare_media<M: MediaSession>(media: &mut M, updates: &[MediaUpdate]) -> Result<(), AllocError>
     ensures ok { OnOk result (M.media.prepared media.old updates.now (Ok tt) media.new) }
     ensures err { OnErr result (SameLines M.media media.old media.new) }

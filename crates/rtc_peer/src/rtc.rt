@@ -2,13 +2,14 @@
 ghost use Rattle.std.specs.Prelude.{◌≡◌, ◌≢◌, IsTrue, ◌↔◌, [], IfOk, IfSome, slice_get, true};
 ghost use Rattle.std.specs.Option.{option_copied};
 ghost use Rattle.rtc_channels.specs.Channels.{channel_rows};
+ghost use Rattle.rtc_peer_state.specs.declared.phase.Phase.TheVariants.{Closed};
 ghost use Rattle.rtc_peer_state.specs.Acceptances.{AcceptsOffer, AcceptsAnswer};
 ghost use Rattle.rtc_peer_state.specs.Calls.{AddsMedia, AddsChannel, StagesRestart, SetsDirection, StopsMedia, Applies};
 ghost use Rattle.rtc_peer_state.specs.Built.{AreFresh, Builds};
-ghost use Rattle.rtc_peer_state.specs.Formed.{AreTokenCreds, IsFormed};
+ghost use Rattle.rtc_peer_state.specs.Formed.{AreSdpCreds, IsFormed};
 ghost use Rattle.rtc_peer_state.specs.Meanings.{meanings};
 ghost use Rattle.rtc_peer_state.specs.Stance.{stance_of};
-ghost use Rattle.rtc_polling.specs.Connection.{closed_peer, no_transport, with_ice};
+ghost use Rattle.rtc_polling.specs.Connection.{no_transport};
 ghost use Rattle.rtc_peer.specs.Described.{sdp_of_answer, sdp_of_offer};
 ghost use Rattle.rtc_peer.specs.Labelled.{labelled_config};
 ghost use Rattle.rtc_peer.specs.Readings.{media_row_of, is_alive_phase, AddsRemote};
@@ -88,7 +89,7 @@ impl<
         ensures built { IfOk result (λ rtc. Builds (meanings I.ice D.dtls S.association M.media N.ids)
             alloc config start ice dtls association media ids rtc.core) }
         ensures unconnected { IfOk result (λ rtc. rtc.transport ≡ no_transport true) }
-        ensures formed { IfOk result (λ rtc. IfSome config.creds AreTokenCreds
+        ensures formed { IfOk result (λ rtc. IfSome config.creds AreSdpCreds
             → IsFormed (stance_of (meanings I.ice D.dtls S.association M.media N.ids) rtc.core)) }
     {
         let transport = Transport::new(alloc, true)?;
@@ -151,7 +152,8 @@ impl<I: IceAgent, D: DtlsInstance, S: Association, M: MediaSession, N: Ids> Rtc<
 
     /// Closes the peer at once, without a word to the other side.
     pub fn disconnect(&mut self)
-        ensures { self.new ≡ closed_peer self.old }
+        ensures closed { self.new.core ≡ record self.old.core { phase = Closed } }
+        ensures connection { self.new.transport ≡ self.old.transport }
     {
         self.polled.core.phase = Phase::Closed;
     }
@@ -160,7 +162,8 @@ impl<I: IceAgent, D: DtlsInstance, S: Association, M: MediaSession, N: Ids> Rtc<
     /// agent may have it already.
     pub fn add_local_candidate(&mut self, candidate: Candidate) -> Result<bool, AllocError>
         ensures added { I.ice.local_added self.old.core.ice candidate result self.new.core.ice }
-        ensures others { self.new ≡ with_ice self.new.core.ice self.old }
+        ensures others { self.new.core ≡ record self.old.core { ice = self.new.core.ice } }
+        ensures connection { self.new.transport ≡ self.old.transport }
     {
         self.polled.core.ice.add_local_candidate(candidate)
     }
@@ -168,7 +171,8 @@ impl<I: IceAgent, D: DtlsInstance, S: Association, M: MediaSession, N: Ids> Rtc<
     /// Gives the ICE agent an address of the other side that came apart from an offer or an answer (RFC 8838).
     pub fn add_remote_candidate(&mut self, candidate: Candidate) -> Result<(), AllocError>
         ensures added { AddsRemote I.ice self.old.core.ice candidate result self.new.core.ice }
-        ensures others { self.new ≡ with_ice self.new.core.ice self.old }
+        ensures others { self.new.core ≡ record self.old.core { ice = self.new.core.ice } }
+        ensures connection { self.new.transport ≡ self.old.transport }
     {
         match self.polled.core.ice.add_remote_candidate(candidate) {
             Ok(_taken) => Ok(()),

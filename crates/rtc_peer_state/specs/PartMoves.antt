@@ -54,7 +54,7 @@ module _ {I : Type 0} (ice : IceMeaning I) where
     pub by_candidates : TakesCandidates told candidates (Ok tt) reachable
     pub by_control : TakesControl reachable control q
 
-  -- Memory lacks as the agent is to follow a session description: before that, at the restart, at a candidate, or behind it.
+  -- Memory runs out as the agent is to follow a session description: before that, at the restart, at a candidate, or behind it.
   pub data StopsFollowing (p : I) (restart : Option (IceCreds × Bool)) (creds : Option IceCreds) (candidates : List Candidate)
       (control : Option Bool) (q : I) : Type 0 where
     NotBegun : q ≡ p → StopsFollowing p restart creds candidates control q
@@ -84,7 +84,7 @@ module _ {D : Type 0} (dtls : DtlsMeaning D) where
   StartsDtls p None active now r q = TakesRole p active now r q
   StartsDtls p (Some role) active now r q = (r ≡ Ok tt) × (q ≡ p)
 
-  -- Memory lacks before the role is taken, as it is taken, or behind it.
+  -- Memory runs out before the role is taken, as it is taken, or behind it.
   pub data StopsStarting (p : DtlsState D) (active : Bool) (now : ℕ) (q : DtlsState D) : Type 0 where
     NotStarted : q ≡ p → StopsStarting p active now q
     AtRole : StartsDtls p p.active active now (Err DtlsAlloc) q → StopsStarting p active now q
@@ -111,7 +111,7 @@ module _ {S : Type 0} (association : AssociationMeaning S) where
       → Type 0
   StartsSctp p rows client now max r q = StartsWhere (needs_start rows p) p client now max r q
 
-  -- Memory lacks before the association is started, or as it is started.
+  -- Memory runs out before the association is started, or as it is started.
   pub data StopsSctp (p : SctpStreams S) (rows : List LineRow) (client : Bool) (now max : ℕ) (q : SctpStreams S) : Type 0 where
     NotInited : q ≡ p → StopsSctp p rows client now max q
     AtInit : StartsSctp p rows client now max (Err SctpAlloc) q → StopsSctp p rows client now max q
