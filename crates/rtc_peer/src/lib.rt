@@ -12,7 +12,7 @@ pub use rtc_association::Association;
 pub use rtc_change::{AddMedia, Change, Changes, Lines, NewLine, SdpPendingOffer, Why};
 pub use rtc_channels::{ChannelError, ChannelRow};
 pub use rtc_dtls::{DtlsError, DtlsInstance};
-pub use rtc_ice::IceAgent;
+pub use rtc_ice::{IceAgent, IceConnectionState};
 pub use rtc_ids::Ids;
 pub use rtc_lines::{
     Candidate, CandidateKind, CodecConfig, Direction, Extension, ExtensionMap, Fingerprint,
