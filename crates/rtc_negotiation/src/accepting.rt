@@ -82,10 +82,8 @@ fn close_unknown(phase: Phase, why: &Why) -> Phase
     ensures { result ≡ phase_after why.now phase }
 {
     match why {
-        Why::NoFingerprint
-        | Why::NoMatch { .. }
-        | Why::UnknownHash(_)
-        | Why::NoneAnnounced => Phase::Closed,
+        Why::NoFingerprint | Why::NoMatch { .. } | Why::UnknownHash(_) | Why::NoneAnnounced =>
+            Phase::Closed,
         Why::NoLines
         | Why::BothLite
         | Why::NoCredentials

@@ -220,7 +220,14 @@ impl<I: IceAgent, D: DtlsInstance, S: Association, M: MediaSession, N: Ids> Rtc<
             (wanted_line kind dir stream_id track_id simulcast) result self.new.core }
         ensures connection { self.new.transport ≡ self.old.transport }
     {
-        stage_media(&mut self.polled.core, kind, dir, stream_id, track_id, simulcast)
+        stage_media(
+            &mut self.polled.core,
+            kind,
+            dir,
+            stream_id,
+            track_id,
+            simulcast,
+        )
     }
 
     pub(crate) fn stage_channel(&mut self, config: ChannelConfig) -> Result<ChannelId, RtcError>

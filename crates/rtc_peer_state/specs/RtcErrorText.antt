@@ -27,7 +27,6 @@ net_error_text (Stun why) = codes "not a STUN message"
 net_error_text (Io kind EmptyDatagram) = codes "Empty datagram"
 net_error_text (Io kind UnknownDatagram) = codes "Unknown datagram"
 
-
 unfoldable pub rtc_error_text : RtcError → List ℕ
 rtc_error_text (RemoteSdp why) = codes "remote sdp: " ++ why_text why
 rtc_error_text (Sdp error) = sdp_error_text error

@@ -1,5 +1,6 @@
 -- What polls, inputs and closing leave to negotiation.
 use Rattle.std.specs.Prelude.{◌≡◌}
+use Rattle.rtc_peer_state.specs.Meanings.{Meanings}
 use Rattle.rtc_polling.specs.declared.polled_peer.PolledPeer.{PolledPeer}
 
 -- nothing changed of what negotiation keeps: rows, what is staged, channels, counter, fingerprint, association and source of numbers
@@ -12,3 +13,10 @@ KeepsNegotiation p q =
       dtls = q.core.dtls;
       media = q.core.media;
     }
+
+-- the settings of the ICE agent stay, and so do the DTLS role and the fingerprint of this side
+abbrev pub KeepsParts : {I D S M E X T W N : Type 0} → Meanings I D S M E X T W N → PolledPeer I D S M N → PolledPeer I D S M N → Type 0
+KeepsParts m p q =
+    (m.ice.settings q.core.ice ≡ m.ice.settings p.core.ice)
+    × (q.core.dtls.active ≡ p.core.dtls.active)
+    × (q.core.dtls.local ≡ p.core.dtls.local)

@@ -3,8 +3,8 @@ ghost use Rattle.std.specs.Prelude.{◌≡◌, IfOk};
 ghost use Rattle.rtc_polling.specs.Certificates.{Hashes, cert_refusal, hash_name, is_checked_hash, cert_mismatch};
 ghost use Rattle.rtc_polling.specs.DtlsStages.{ChecksCert};
 
-use crate::met::Met;
 use crate::PolledPeer;
+use crate::met::Met;
 use rtc_association::Association;
 use rtc_dtls::DtlsInstance;
 use rtc_ice::IceAgent;

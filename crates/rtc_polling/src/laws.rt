@@ -2,6 +2,7 @@
 ghost use Rattle.std.specs.Prelude.{◌≡◌, Result, Err};
 ghost use Rattle.rtc_peer_state.specs.declared.phase.Phase.TheVariants.{Closed};
 ghost use Rattle.rtc_peer_state.specs.Meanings.{meanings};
+ghost use Rattle.rtc_peer_state.specs.Stance.{stance_of};
 ghost use Rattle.rtc_polling.specs.declared.input.Input.{Input as Given};
 ghost use Rattle.rtc_polling.specs.declared.polled_peer.PolledPeer.{PolledPeer as Polled};
 ghost use Rattle.rtc_peer_state.specs.declared.rtc_error.RtcError.TheVariants.{Alloc};
@@ -25,6 +26,23 @@ pub fn negotiation_is_kept<I: IceAgent, D: DtlsInstance, S: Association, M: Medi
         → HandlesInput (meanings I.ice D.dtls S.association M.media N.ids) input p answer q → KeepsNegotiation p q }
     ensures closes { (p q : Polled I D S M N) (answer : _)
         → ClosesPeer (meanings I.ice D.dtls S.association M.media N.ids) p answer q → KeepsNegotiation p q }
+{}
+
+/// Polls, inputs and closing leave all that negotiation reads of a peer: beside what it keeps, the settings of the ICE agent,
+/// the DTLS role and the fingerprint of this side.
+pub fn stance_is_kept<I: IceAgent, D: DtlsInstance, S: Association, M: MediaSession, N: Ids>()
+    ensures polls { (p q : Polled I D S M N) (answer : _)
+        → PollsPeer (meanings I.ice D.dtls S.association M.media N.ids) p answer q
+        → stance_of (meanings I.ice D.dtls S.association M.media N.ids) q.core
+        ≡ stance_of (meanings I.ice D.dtls S.association M.media N.ids) p.core }
+    ensures inputs { (p q : Polled I D S M N) (input : Given) (answer : _)
+        → HandlesInput (meanings I.ice D.dtls S.association M.media N.ids) input p answer q
+        → stance_of (meanings I.ice D.dtls S.association M.media N.ids) q.core
+        ≡ stance_of (meanings I.ice D.dtls S.association M.media N.ids) p.core }
+    ensures closes { (p q : Polled I D S M N) (answer : _)
+        → ClosesPeer (meanings I.ice D.dtls S.association M.media N.ids) p answer q
+        → stance_of (meanings I.ice D.dtls S.association M.media N.ids) q.core
+        ≡ stance_of (meanings I.ice D.dtls S.association M.media N.ids) p.core }
 {}
 
 /// Want of memory in a poll, an input or a close leaves the peer closed.

@@ -3,9 +3,7 @@ use crate::descriptions::Side;
 use crate::log::Log;
 use crate::peers::Peer;
 use rtc_assoc_end::PlainAssociation;
-use rtc_peer::{
-    Direction, Ids, LineRow, MediaKind, Mid, RtcError, SdpAnswer, SdpApi, SdpOffer,
-};
+use rtc_peer::{Direction, Ids, LineRow, MediaKind, Mid, RtcError, SdpAnswer, SdpApi, SdpOffer};
 use rtc_plain::{PlainDtls, PlainIce, PlainMedia};
 use std::alloc::Global;
 

@@ -97,11 +97,7 @@ fn perform_line<N: Ids + Drop>(
     }
 }
 
-fn put_connected<N: Ids + Drop>(
-    peer: &Peer<N>,
-    at: Side,
-    log: &mut Log,
-) -> Result<(), AllocError> {
+fn put_connected<N: Ids + Drop>(peer: &Peer<N>, at: Side, log: &mut Log) -> Result<(), AllocError> {
     let letter = at.letter();
     let connected = peer.is_connected();
     writeln!(log.told, "{letter} connected {connected}")

@@ -125,11 +125,7 @@ fn put_result(log: &mut Log, told: Result<(), RtcError>) -> Result<(), AllocErro
 }
 
 /// Gives a peer a moment.
-pub fn time<N: Ids + Drop>(
-    peer: &mut Peer<N>,
-    log: &mut Log,
-    now: u64,
-) -> Result<(), AllocError> {
+pub fn time<N: Ids + Drop>(peer: &mut Peer<N>, log: &mut Log, now: u64) -> Result<(), AllocError> {
     let input = Input::Timeout(Moment::from_nanos(now));
     let told = peer.handle_input(&input);
     put_result(log, told)

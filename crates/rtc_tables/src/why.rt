@@ -18,7 +18,10 @@ pub enum Why {
     /// Neither the session nor a line has ICE credentials.
     NoCredentials,
     /// An answer has other credentials than are known, and its offer did not restart ICE.
-    UnaskedRestart { kept: IceCreds, got: IceCreds },
+    UnaskedRestart {
+        kept: IceCreds,
+        got: IceCreds,
+    },
     /// No fingerprint is known, and there is none. The peer is then closed.
     NoFingerprint,
     /// A line is at another place than its row, or of a kind that its row or its place does not allow.
