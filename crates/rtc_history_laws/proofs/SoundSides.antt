@@ -231,7 +231,11 @@ module _ {I D S M E X T W N : Type 0} (m : Meanings I D S M E X T W N) (laws : P
 
   -- a peer that is lent has the parts that it had
   lends : (old new : Peer I D S M N) (outcome : Outcome) → IsSoundOfSide (lent old) outcome new → IsSoundOfSide old outcome new
-  lends old new outcome h = record { later = h.later; fault = h.fault; media = h.media }
+  lends old new outcome h = record {
+    later = by_part (λ part. faults_of m part old ≤ faults_of m part new) (h.later DtlsPart) (h.later AssociationPart);
+    fault = by_part (λ part. tells_fault_of outcome part ≡ true → Rose (faults_of m part old) (faults_of m part new)) (h.fault DtlsPart) (h.fault AssociationPart);
+    media = h.media;
+  }
 
   negotiate_side : (at : Side) (ops : List Op) (apply : Bool) (old : Peer I D S M N) (sdps : List Kept) (outcome : Outcome) (table : Option Table) (new : Peer I D S M N) (sdps' : List Kept)
       → Negotiates m at ops apply old sdps outcome table new sdps' → IsSoundOfSide old outcome new

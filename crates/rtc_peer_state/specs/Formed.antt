@@ -1,5 +1,5 @@
 -- Peers whose session descriptions are read back as they were written.
-use Rattle.std.specs.Prelude.{◌≡◌, ◌<◌, ◌≤◌, ◌^◌, true, List, length, codes, IfSome}
+use Rattle.std.specs.Prelude.{◌≡◌, ◌<◌, ◌≤◌, ◌^◌, ℕ, true, List, length, codes, IfSome}
 use Rattle.std.specs.List.{AllByRecursion}
 use Rattle.rtc_fields.specs.Cuts.{Lacks}
 use Rattle.rtc_fields.specs.Tokens.{is_token, is_short_token}
