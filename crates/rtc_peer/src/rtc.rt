@@ -202,7 +202,8 @@ impl<I: IceAgent, D: DtlsInstance, S: Association, M: MediaSession, N: Ids> Rtc<
         pending: SdpPendingOffer,
         answer: SdpAnswer,
     ) -> Result<(), RtcError>
-        ensures accepts { AcceptsAnswer (meanings I.ice D.dtls S.association M.media N.ids) self.old.core pending answer.0 result self.new.core }
+        ensures accepts { AcceptsAnswer (meanings I.ice D.dtls S.association M.media N.ids)
+            self.old.core pending answer.0 result self.new.core }
         ensures connection { self.new.transport ≡ self.old.transport }
     {
         accept_answer(&mut self.polled.core, pending, answer.0)

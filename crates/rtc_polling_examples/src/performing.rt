@@ -3,7 +3,7 @@ use crate::descriptions::Side;
 use crate::log::Log;
 use crate::negotiating::{accept, answer, offer};
 use crate::peers::{Peer, address, build};
-use crate::polling::{close, datagram, drain, poll, time};
+use crate::polling::{accepts_from, close, datagram, drain, poll, time};
 use rtc_peer::{Ids, RtcError};
 use rtc_plain::CountIds;
 use rtc_wire::Addr;
@@ -97,10 +97,52 @@ fn perform_line<N: Ids + Drop>(
     }
 }
 
-fn put_connected<N: Ids + Drop>(peer: &Peer<N>, at: Side, log: &mut Log) -> Result<(), AllocError> {
+// The address of a side.
+fn address_of(side: Side) -> Addr {
+    match side {
+        Side::Left => Addr {
+            ip: [1, 1, 1, 1],
+            port: 1000,
+        },
+        Side::Right => Addr {
+            ip: [2, 2, 2, 2],
+            port: 2000,
+        },
+    }
+}
+
+// Whether a peer takes packets from its other side, and from an address that it never heard of.
+fn put_accepted<N: Ids + Drop>(
+    peer: &Peer<N>,
+    at: Side,
+    other: Side,
+    log: &mut Log,
+) -> Result<(), AllocError> {
+    let letter = at.letter();
+    let here = address_of(at);
+    let near = accepts_from(peer, address_of(other), here);
+    let stranger = Addr {
+        ip: [9, 9, 9, 9],
+        port: 9,
+    };
+    let far = accepts_from(peer, stranger, here);
+    writeln!(log.told, "{letter} accepts {near} {far}")
+}
+
+fn put_connected<N: Ids + Drop>(
+    peer: &Peer<N>,
+    at: Side,
+    other: Side,
+    log: &mut Log,
+) -> Result<(), AllocError> {
     let letter = at.letter();
     let connected = peer.is_connected();
-    writeln!(log.told, "{letter} connected {connected}")
+    writeln!(log.told, "{letter} connected {connected}")?;
+    if connected {
+        put_accepted(peer, at, other, log)
+    } else {
+        Ok(())
+    }
 }
 
 fn perform_lines<N: Ids + Drop>(
@@ -117,8 +159,8 @@ fn perform_lines<N: Ids + Drop>(
             step = step.saturating_add(1);
         }
     }
-    put_connected(left, Side::Left, log)?;
-    put_connected(right, Side::Right, log)
+    put_connected(left, Side::Left, Side::Right, log)?;
+    put_connected(right, Side::Right, Side::Left, log)
 }
 
 fn meet<N: Ids + Drop>(
@@ -127,22 +169,8 @@ fn meet<N: Ids + Drop>(
     right: &mut Peer<N>,
     script: &str,
 ) -> Result<String, AllocError> {
-    address(
-        alloc,
-        left,
-        Addr {
-            ip: [1, 1, 1, 1],
-            port: 1000,
-        },
-    )?;
-    address(
-        alloc,
-        right,
-        Addr {
-            ip: [2, 2, 2, 2],
-            port: 2000,
-        },
-    )?;
+    address(alloc, left, address_of(Side::Left))?;
+    address(alloc, right, address_of(Side::Right))?;
     let mut log = Log::new(alloc);
     perform_lines(alloc, left, right, &mut log, script)?;
     Ok(log.told)

@@ -5,7 +5,7 @@ use crate::log::Log;
 use crate::peers::Peer;
 use rtc_peer::{Ids, Input, Output, RtcError};
 use rtc_plain::{PlainIce, PlainMediaEvent};
-use rtc_wire::{Moment, Receive};
+use rtc_wire::{Addr, Moment, Protocol, Receive};
 use std::alloc::{AllocError, Global};
 
 // No drain of a stored script has so many outputs.
@@ -137,7 +137,6 @@ pub fn close<N: Ids + Drop>(peer: &mut Peer<N>, log: &mut Log) -> Result<(), All
     put_result(log, told)
 }
 
-// A datagram that the peer takes for its own is given to it, as one socket would do.
 fn hear<N: Ids + Drop>(
     peer: &mut Peer<N>,
     now: Moment,
@@ -163,4 +162,12 @@ pub fn datagram<N: Ids + Drop>(
         },
     };
     put_result(log, told)
+}
+
+/// Whether a peer takes a DTLS packet from an address for its own.
+pub fn accepts_from<N: Ids + Drop>(peer: &Peer<N>, source: Addr, destination: Addr) -> bool {
+    match Receive::new::<PlainIce>(Protocol::Udp, source, destination, &[22u8]) {
+        Ok(received) => peer.accepts(&Input::Receive(Moment::FAR_PAST, received)),
+        Err(_) => false,
+    }
 }
