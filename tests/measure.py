@@ -1,8 +1,8 @@
 #!/usr/bin/env python3
 """Counts instructions of the proved programs by valgrind --tool=callgrind, so that growth is seen. It is no part of the gate.
 
-usage: tests/measure.py [PART..]     PART is descriptions, rounds, orderly, messages, associations, forged or frames; without one all
-are counted
+usage: tests/measure.py [PART..]     PART is descriptions, rounds, orderly, messages, associations, forged, frames or polls; without one
+all are counted
 
 The programs are those that the gate left in crates/*/out/. Each figure is a difference of two runs, so that the start of the
 program is not in it. docs/PERFORMANCE.md has the tables.
@@ -21,14 +21,17 @@ def program(name):
     return os.path.join(TOP, "crates", name, "out", name)
 
 
-def count(words, given):
+def count(words, given, files={}, status=0):
     with tempfile.TemporaryDirectory() as folder:
+        for name, bytes_of in files.items():
+            with open(os.path.join(folder, name), "wb") as file:
+                file.write(bytes_of)
         out = os.path.join(folder, "callgrind")
         done = subprocess.run(
             ["valgrind", "--tool=callgrind", f"--callgrind-out-file={out}", *words],
             input=given, capture_output=True, timeout=1200, cwd=folder,
         )
-        if done.returncode != 0:
+        if done.returncode != status:
             sys.exit(f"measure: {words[0]} ended with status {done.returncode}: {done.stdout[:200]!r}")
         return int(re.search(rb"Collected : (\d+)", done.stderr)[1]), done.stdout
 
@@ -173,8 +176,24 @@ def frames():
             print(f"| {size:,} | {number} | {how} | {cost - start:,} | {(cost - start) / fed:.1f} | {base - start:,} | {(cost - base) / fed:.1f} |")
 
 
+# Two peers that negotiated n lines. The drain of the answering one tells an event a line; a poll behind it tells a deadline. The
+# expected lines of the program are left empty, so that it ends with status 1.
+def polls():
+    def cost(lines, steps):
+        text = "str0m-pair 1\nL offer" + " audio:sendrecv" * lines + "\nR accept 0\nL answer 0 1\n" + steps
+        files = {"measured.script": text.encode(), "measured.polls": b""}
+        return count([program("rtc_polling_examples")], b"measured\n", files, 1)[0]
+
+    print("| Lines | A drain that tells of all | A line | A poll with nothing to tell |\n|---|---|---|---|")
+    for lines in (1, 10, 100, 1_000):
+        start = cost(lines, "")
+        drained = cost(lines, "R drain\n")
+        polled = cost(lines, "R drain\n" + "R poll\n" * 10)
+        print(f"| {lines:,} | {drained - start:,} | {(drained - start) // lines:,} | {(polled - drained) // 10:,} |")
+
+
 def main():
-    parts = {"descriptions": descriptions, "rounds": rounds, "orderly": orderly, "messages": messages, "associations": associations, "forged": forged, "frames": frames}
+    parts = {"descriptions": descriptions, "rounds": rounds, "orderly": orderly, "messages": messages, "associations": associations, "forged": forged, "frames": frames, "polls": polls}
     wanted = sys.argv[1:] or list(parts)
     if any(name not in parts for name in wanted):
         sys.exit(__doc__)

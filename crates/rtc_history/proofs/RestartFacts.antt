@@ -6,9 +6,11 @@ use Rattle.rtc_sdp_values.specs.declared.line_row.LineRow.{LineRow}
 use Rattle.rtc_sdp_values.specs.declared.media_kind.MediaKind.TheVariants.{Audio}
 use Rattle.rtc_sdp_values.specs.declared.direction.Direction.TheVariants.{SendRecv}
 use Rattle.rtc_dtls.specs.declared.dtls_error.DtlsError.TheVariants.{Fault}
+use Rattle.rtc_sctp.specs.declared.proto_error.ProtoError.TheVariants.{Fault as AssociationFault}
+use Rattle.rtc_sctp.specs.declared.sctp_error.SctpError.TheVariants.{Proto}
 use Rattle.rtc_tables.specs.declared.why.Why.TheVariants.{BothLite, UnaskedRestart}
 use Rattle.rtc_change.specs.Plans.{verdict, head_verdict, side_verdict}
-use Rattle.rtc_peer_state.specs.declared.rtc_error.RtcError.TheVariants.{RemoteSdp, Dtls}
+use Rattle.rtc_peer_state.specs.declared.rtc_error.RtcError.TheVariants.{RemoteSdp, Dtls, Sctp}
 use Rattle.rtc_history.specs.declared.side.Side.TheVariants.{Left, Right}
 use Rattle.rtc_history.specs.declared.op.Op.TheVariants.{AddMedia, SetDirection, IceRestart}
 use Rattle.rtc_history.specs.declared.op_answer.OpAnswer.TheVariants.{Mid, Changed, Creds}
@@ -82,6 +84,12 @@ fault_told : (made : List MadeSdp) → IsSound plain restarted plain (AcceptOffe
 unfolding verdict head_verdict side_verdict inconsistency
 fault_told made = ((refl, refl), refl)
 
+-- so may be that of an association
+association_fault_told : (made : List MadeSdp)
+    → IsSound plain restarted plain (AcceptOffer Right 2) (Refused (Sctp (Proto AssociationFault))) (Some (shows (there ∷ []))) made
+unfolding verdict head_verdict side_verdict inconsistency
+association_fault_told made = ((refl, refl, refl), refl)
+
 abbrev broken : List Entry
 broken = entry (AcceptOffer Right 2) (Refused (Dtls Fault)) (there ∷ []) [] [] ∷ restarted
 
@@ -91,6 +99,9 @@ broken_side = refl
 
 other_side_firm : is_firm Left broken ≡ true
 other_side_firm = refl
+
+unstarted_side : is_firm Right (entry (AcceptOffer Right 2) (Refused (Sctp (Proto AssociationFault))) (there ∷ []) [] [] ∷ restarted) ≡ false
+unstarted_side = refl
 
 -- ---- both sides are lite
 

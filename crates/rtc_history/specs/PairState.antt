@@ -6,7 +6,7 @@ use Rattle.rtc_change.specs.PendingOffer.{PendingOffer}
 use Rattle.rtc_peer_state.specs.declared.peer.Peer.{Peer}
 use Rattle.rtc_peer_state.specs.Meanings.{Meanings}
 use Rattle.rtc_peer_state.specs.Stance.{stance_of}
-use Rattle.rtc_peer_state.specs.Whole.{Whole}
+use Rattle.rtc_polling.specs.declared.polled_peer.PolledPeer.{PolledPeer}
 use Rattle.rtc_history.specs.declared.side.Side.{Side}
 use Rattle.rtc_history.specs.declared.side.Side.TheVariants.{Left, Right}
 use Rattle.rtc_history.specs.Sides.{same_side}
@@ -15,15 +15,15 @@ use Rattle.rtc_history.specs.Views.{Stances}
 use Rattle.rtc_history.specs.declared.kept.Kept.{Kept}
 
 pub record PairState (I D S M N : Type 0) : Type 0 where
-  pub left : Whole I D S M N
-  pub right : Whole I D S M N
+  pub left : PolledPeer I D S M N
+  pub right : PolledPeer I D S M N
   pub left_addr : Addr
   pub right_addr : Addr
   pub sdps : List Kept
   -- the sum of the sizes of the steps performed so far
   pub size : ℕ
 
-abbrev pub rtc_at : {I D S M N : Type 0} → Side → PairState I D S M N → Whole I D S M N
+abbrev pub rtc_at : {I D S M N : Type 0} → Side → PairState I D S M N → PolledPeer I D S M N
 rtc_at Left pair = pair.left
 rtc_at Right pair = pair.right
 

@@ -14,8 +14,10 @@ use Rattle.rtc_change.specs.TableAfter.{table_after, with_front}
 use Rattle.rtc_change.specs.Plans.{verdict}
 use Rattle.rtc_change.specs.declared.refusal.Refusal.TheVariants.{RemoteSdp as RefusedSdp, Sdp as RefusedAsSdp}
 use Rattle.rtc_dtls.specs.declared.dtls_error.DtlsError.TheVariants.{Fault}
+use Rattle.rtc_sctp.specs.declared.proto_error.ProtoError.TheVariants.{Fault as AssociationFault}
+use Rattle.rtc_sctp.specs.declared.sctp_error.SctpError.TheVariants.{Proto}
 use Rattle.rtc_peer_state.specs.Stance.{held_by}
-use Rattle.rtc_peer_state.specs.declared.rtc_error.RtcError.TheVariants.{RemoteSdp, Sdp as SdpRefused, Dtls}
+use Rattle.rtc_peer_state.specs.declared.rtc_error.RtcError.TheVariants.{RemoteSdp, Sdp as SdpRefused, Dtls, Sctp}
 use Rattle.rtc_peer_state.specs.declared.rtc_error.RtcError.TheVariants.{ChangesOutOfOrder, Alloc as PeerAlloc}
 use Rattle.rtc_history.specs.declared.side.Side.{Side}
 use Rattle.rtc_history.specs.declared.op.Op.{Op}
@@ -135,6 +137,8 @@ RepliesToOffer (Some sdp) view next (Refused (RemoteSdp why)) after = (verdict v
 RepliesToOffer (Some sdp) view next (Refused (SdpRefused error)) after =
     (verdict view None sdp ≡ Some (RefusedAsSdp error)) × (after ≡ view.lines)
 RepliesToOffer (Some sdp) view next (Refused (Dtls Fault)) after = (verdict view None sdp ≡ None) × (after ≡ view.lines)
+RepliesToOffer (Some sdp) view next (Refused (Sctp error)) after =
+    (error ≡ Proto AssociationFault) × (verdict view None sdp ≡ None) × (after ≡ view.lines)
 RepliesToOffer (Some sdp) view next (Refused PeerAlloc) after = after ≡ view.lines
 RepliesToOffer sdp view next outcome after = ⊥
 
@@ -150,6 +154,8 @@ RepliesToAnswer true true asked (Some sdp) view (Refused (RemoteSdp why)) after 
 RepliesToAnswer true true asked (Some sdp) view (Refused (SdpRefused error)) after =
     (verdict view (Some asked) sdp ≡ Some (RefusedAsSdp error)) × (after ≡ view.lines)
 RepliesToAnswer true true asked (Some sdp) view (Refused (Dtls Fault)) after = (verdict view (Some asked) sdp ≡ None) × (after ≡ view.lines)
+RepliesToAnswer true true asked (Some sdp) view (Refused (Sctp error)) after =
+    (error ≡ Proto AssociationFault) × (verdict view (Some asked) sdp ≡ None) × (after ≡ view.lines)
 RepliesToAnswer true true asked (Some sdp) view (Refused PeerAlloc) after = after ≡ view.lines
 RepliesToAnswer held right asked sdp view outcome after = ⊥
 

@@ -14,7 +14,8 @@ use Rattle.rtc_tables.specs.ParsedLines.{parsed_lines}
 use Rattle.rtc_change.specs.TableAfter.{table_after}
 use Rattle.rtc_peer_state.specs.Stance.{Stance}
 use Rattle.rtc_peer_state.specs.declared.rtc_error.RtcError.{RtcError}
-use Rattle.rtc_peer_state.specs.declared.rtc_error.RtcError.TheVariants.{RemoteSdp, Sdp as SdpRefused, Dtls, ChangesOutOfOrder, BadChannel, Alloc as PeerAlloc}
+use Rattle.rtc_peer_state.specs.declared.rtc_error.RtcError.TheVariants.{Net, Media as MediaFailed}
+use Rattle.rtc_peer_state.specs.declared.rtc_error.RtcError.TheVariants.{RemoteSdp, Sdp as SdpRefused, Dtls, Sctp, ChangesOutOfOrder, BadChannel, Alloc as PeerAlloc}
 use Rattle.rtc_peer_state.specs.Calls.{raised, fitting_channels}
 use Rattle.rtc_history.specs.declared.side.Side.{Side}
 use Rattle.rtc_history.specs.declared.step.Step.TheVariants.{AcceptAnswer}
@@ -107,6 +108,12 @@ answer_reply fresh between past at t a size found (Some token) (Some sdp) old ne
 )
 answer_reply fresh between past at t a size found (Some token) (Some sdp) old new kept kept' (Refused (Dtls WouldBlock)) (Some table) made is told_it low small said view rows shown h = absurd h.0
 answer_reply fresh between past at t a size found (Some token) (Some sdp) old new kept kept' (Refused (Dtls DtlsAlloc)) (Some table) made is told_it low small said view rows shown h = absurd h.0
+answer_reply fresh between past at t a size found (Some token) (Some sdp) old new kept kept' (Refused (Sctp error)) (Some table) made is told_it low small said view rows shown h = (
+  answer_by true _ true _ (asked_by old.lines token) _ (Some sdp) _ (held_by old) _ (Refused (Sctp error)) table.lines (sym told_it.held ∙ ap is_some is)
+      (now_right old.counter size token.id (is_right at t past) h.0.0 (told_it.right token is) (told_it.older token is) low small)
+      (asked_told past at old.counter t found token old.lines told_it is rows) said view (h.0.1, h.0.2, h.2.lines ∙ ap (λ p. p.lines) h.0.3.rest),
+  shown_by past at old new table shown (ap (λ p. channel_rows p.channels) h.0.3.rest) h.2,
+)
 answer_reply fresh between past at t a size found (Some token) (Some sdp) old new kept kept' (Refused PeerAlloc) (Some table) made is told_it low small said view rows shown h = (
   answer_by true _ true _ (asked_in at t past) _ (Some sdp) _ (held_by old) _ (Refused PeerAlloc) table.lines (sym told_it.held ∙ ap is_some is)
       (now_right old.counter size token.id (is_right at t past) h.0.0 (told_it.right token is) (told_it.older token is) low small)
@@ -119,6 +126,8 @@ answer_reply fresh between past at t a size found (Some token) (Some sdp) old ne
       refl said view (h.2.lines ∙ ap (λ p. p.lines) h.0.1),
   shown_by past at old new table shown (ap (λ p. channel_rows p.channels) h.0.1) h.2,
 )
+answer_reply fresh between past at t a size found (Some token) (Some sdp) old new kept kept' (Refused (Net cause)) (Some table) made is told_it low small said view rows shown h = absurd h.0
+answer_reply fresh between past at t a size found (Some token) (Some sdp) old new kept kept' (Refused (MediaFailed cause)) (Some table) made is told_it low small said view rows shown h = absurd h.0
 answer_reply fresh between past at t a size found (Some token) (Some sdp) old new kept kept' (Refused BadChannel) (Some table) made is told_it low small said view rows shown h = absurd h.0
 answer_reply fresh between past at t a size found token sdp old new kept kept' outcome table made is told_it low small said view rows shown h = absurd h
 
@@ -209,9 +218,13 @@ answer_tells past at t a (Some token) (Some sdp) old new (Refused (Dtls Fault)) 
     refused_tells past at t a token (Dtls Fault) table made old new is h.1 (ap (λ p. p.lines) h.0.2.rest) (ap (λ p. p.counter) h.0.2.rest) (ap (λ p. p.channels) h.0.2.rest) h.2 around tells
 answer_tells past at t a (Some token) (Some sdp) old new (Refused (Dtls WouldBlock)) (Some table) made few is h around tells = absurd h.0
 answer_tells past at t a (Some token) (Some sdp) old new (Refused (Dtls DtlsAlloc)) (Some table) made few is h around tells = absurd h.0
+answer_tells past at t a (Some token) (Some sdp) old new (Refused (Sctp error)) (Some table) made few is h around tells =
+    refused_tells past at t a token (Sctp error) table made old new is h.1 (ap (λ p. p.lines) h.0.3.rest) (ap (λ p. p.counter) h.0.3.rest) (ap (λ p. p.channels) h.0.3.rest) h.2 around tells
 answer_tells past at t a (Some token) (Some sdp) old new (Refused PeerAlloc) (Some table) made few is h around tells =
     refused_tells past at t a token PeerAlloc table made old new is h.1 (ap (λ p. p.lines) h.0.1.rest) (ap (λ p. p.counter) h.0.1.rest) (ap (λ p. p.channels) h.0.1.rest) h.2 around tells
 answer_tells past at t a (Some token) (Some sdp) old new (Refused ChangesOutOfOrder) (Some table) made few is h around tells =
     refused_tells past at t a token ChangesOutOfOrder table made old new is h.1 (ap (λ p. p.lines) h.0.1) (ap (λ p. p.counter) h.0.1) (ap (λ p. p.channels) h.0.1) h.2 around tells
+answer_tells past at t a (Some token) (Some sdp) old new (Refused (Net cause)) (Some table) made few is h around tells = absurd h.0
+answer_tells past at t a (Some token) (Some sdp) old new (Refused (MediaFailed cause)) (Some table) made few is h around tells = absurd h.0
 answer_tells past at t a (Some token) (Some sdp) old new (Refused BadChannel) (Some table) made few is h around tells = absurd h.0
 answer_tells past at t a token sdp old new outcome table made few is h around tells = absurd h

@@ -14,7 +14,8 @@ use Rattle.rtc_change.specs.TableAfter.{table_after}
 use Rattle.rtc_change.proofs.TableAfterLemmas.{length_table_after}
 use Rattle.rtc_peer_state.specs.Stance.{Stance}
 use Rattle.rtc_peer_state.specs.declared.rtc_error.RtcError.{RtcError}
-use Rattle.rtc_peer_state.specs.declared.rtc_error.RtcError.TheVariants.{RemoteSdp, Sdp as SdpRefused, ChangesOutOfOrder, BadChannel, Alloc as PeerAlloc, Dtls}
+use Rattle.rtc_peer_state.specs.declared.rtc_error.RtcError.TheVariants.{Net, Media as MediaFailed}
+use Rattle.rtc_peer_state.specs.declared.rtc_error.RtcError.TheVariants.{RemoteSdp, Sdp as SdpRefused, ChangesOutOfOrder, BadChannel, Alloc as PeerAlloc, Dtls, Sctp}
 use Rattle.rtc_peer_state.specs.Calls.{raised}
 use Rattle.rtc_peer_state.specs.MadeSdp.{answer_sdp, row_line, answer_head}
 use Rattle.rtc_history.specs.declared.side.Side.{Side}
@@ -62,9 +63,13 @@ offer_reply fresh between past at k (Some sdp) old new kept kept' (Refused (Dtls
     (offer_by (Some sdp) _ (held_by old) _ (length kept) _ (Refused (Dtls Fault)) table.lines said view next (h.0.0, h.2.lines ∙ ap (λ p. p.lines) h.0.1.breaks.rest), shown_by past at old new table shown (ap (λ p. channel_rows p.channels) h.0.1.breaks.rest) h.2)
 offer_reply fresh between past at k (Some sdp) old new kept kept' (Refused (Dtls WouldBlock)) (Some table) made said view shown next h = absurd h.0
 offer_reply fresh between past at k (Some sdp) old new kept kept' (Refused (Dtls DtlsAlloc)) (Some table) made said view shown next h = absurd h.0
+offer_reply fresh between past at k (Some sdp) old new kept kept' (Refused (Sctp error)) (Some table) made said view shown next h =
+    (offer_by (Some sdp) _ (held_by old) _ (length kept) _ (Refused (Sctp error)) table.lines said view next (h.0.0, h.0.1, h.2.lines ∙ ap (λ p. p.lines) h.0.2.breaks.rest), shown_by past at old new table shown (ap (λ p. channel_rows p.channels) h.0.2.breaks.rest) h.2)
 offer_reply fresh between past at k (Some sdp) old new kept kept' (Refused PeerAlloc) (Some table) made said view shown next h =
     (offer_by (Some sdp) _ (held_by old) _ (length kept) _ (Refused PeerAlloc) table.lines said view next (h.2.lines ∙ ap (λ p. p.lines) h.0.breaks.rest), shown_by past at old new table shown (ap (λ p. channel_rows p.channels) h.0.breaks.rest) h.2)
 offer_reply fresh between past at k (Some sdp) old new kept kept' (Refused ChangesOutOfOrder) (Some table) made said view shown next h = absurd h.0
+offer_reply fresh between past at k (Some sdp) old new kept kept' (Refused (Net cause)) (Some table) made said view shown next h = absurd h.0
+offer_reply fresh between past at k (Some sdp) old new kept kept' (Refused (MediaFailed cause)) (Some table) made said view shown next h = absurd h.0
 offer_reply fresh between past at k (Some sdp) old new kept kept' (Refused BadChannel) (Some table) made said view shown next h = absurd h.0
 offer_reply fresh between past at k offer old new kept kept' outcome table made said view shown next h = absurd h
 
@@ -132,9 +137,13 @@ offer_tells past at k (Some sdp) old new (Refused (Dtls Fault)) (Some table) mad
     refused_tells past at k (Dtls Fault) table made old new (ap (λ p. p.lines) h.0.1.breaks.rest) (ap (λ p. p.counter) h.0.1.breaks.rest) (ap (λ p. p.channels) h.0.1.breaks.rest) h.1 h.2 around tells
 offer_tells past at k (Some sdp) old new (Refused (Dtls WouldBlock)) (Some table) made few h around tells = absurd h.0
 offer_tells past at k (Some sdp) old new (Refused (Dtls DtlsAlloc)) (Some table) made few h around tells = absurd h.0
+offer_tells past at k (Some sdp) old new (Refused (Sctp error)) (Some table) made few h around tells =
+    refused_tells past at k (Sctp error) table made old new (ap (λ p. p.lines) h.0.2.breaks.rest) (ap (λ p. p.counter) h.0.2.breaks.rest) (ap (λ p. p.channels) h.0.2.breaks.rest) h.1 h.2 around tells
 offer_tells past at k (Some sdp) old new (Refused PeerAlloc) (Some table) made few h around tells =
     refused_tells past at k PeerAlloc table made old new (ap (λ p. p.lines) h.0.breaks.rest) (ap (λ p. p.counter) h.0.breaks.rest) (ap (λ p. p.channels) h.0.breaks.rest) h.1 h.2 around tells
 offer_tells past at k (Some sdp) old new (Refused ChangesOutOfOrder) (Some table) made few h around tells = absurd h.0
+offer_tells past at k (Some sdp) old new (Refused (Net cause)) (Some table) made few h around tells = absurd h.0
+offer_tells past at k (Some sdp) old new (Refused (MediaFailed cause)) (Some table) made few h around tells = absurd h.0
 offer_tells past at k (Some sdp) old new (Refused BadChannel) (Some table) made few h around tells = absurd h.0
 offer_tells past at k (Some sdp) old new (Answered n) (Some table) made few h around tells =
     let most : length (table_after (old.sides at).lines (parsed_lines sdp) true) ≤ old.size = taken_within (old.sides at).lines sdp true old.size (tells.sides at).few (few sdp refl) in

@@ -5,7 +5,7 @@ use Rattle.rtc_sdp_values.specs.declared.line_row.LineRow.{LineRow}
 use Rattle.rtc_sdp_values.specs.declared.sdp.Sdp.{Sdp}
 use Rattle.rtc_change.specs.Held.{Held, Asked}
 use Rattle.rtc_change.specs.Plans.{verdict, side_verdict}
-use Rattle.rtc_peer_state.specs.declared.rtc_error.RtcError.TheVariants.{RemoteSdp, Sdp as SdpRefused, Alloc as PeerAlloc, Dtls}
+use Rattle.rtc_peer_state.specs.declared.rtc_error.RtcError.TheVariants.{RemoteSdp, Sdp as SdpRefused, Alloc as PeerAlloc, Dtls, Sctp}
 use Rattle.rtc_history.specs.declared.side.Side.{Side}
 use Rattle.rtc_history.specs.declared.op.Op.{Op}
 use Rattle.rtc_history.specs.declared.step.Step.TheVariants.{Negotiate, AcceptOffer, AcceptAnswer}
@@ -53,6 +53,7 @@ offer_answers (Some sdp) said view next (Answered k) after is passes takes enoug
 offer_answers (Some sdp) said view next (Refused (RemoteSdp why)) after is passes takes enough = absurd (let same : sdp ≡ said = cc in let e = rw same at takes.0 in cc)
 offer_answers (Some sdp) said view next (Refused (SdpRefused error)) after is passes takes enough = absurd (let same : sdp ≡ said = cc in let e = rw same at takes.0 in cc)
 offer_answers (Some sdp) said view next (Refused (Dtls error)) after is passes takes enough = absurd (cc)
+offer_answers (Some sdp) said view next (Refused (Sctp error)) after is passes takes enough = absurd (cc)
 offer_answers (Some sdp) said view next (Refused PeerAlloc) after is passes takes enough = absurd (cc)
 offer_answers (Some sdp) said view next outcome after is passes takes enough = absurd takes
 
@@ -66,6 +67,7 @@ answer_finishes true true asked (Some sdp) said view Finished after held_is righ
 answer_finishes true true asked (Some sdp) said view (Refused (RemoteSdp why)) after held_is right_is is passes takes enough = absurd (let same : sdp ≡ said = cc in let e = rw same at takes.0 in cc)
 answer_finishes true true asked (Some sdp) said view (Refused (SdpRefused error)) after held_is right_is is passes takes enough = absurd (let same : sdp ≡ said = cc in let e = rw same at takes.0 in cc)
 answer_finishes true true asked (Some sdp) said view (Refused (Dtls error)) after held_is right_is is passes takes enough = absurd (cc)
+answer_finishes true true asked (Some sdp) said view (Refused (Sctp error)) after held_is right_is is passes takes enough = absurd (cc)
 answer_finishes true true asked (Some sdp) said view (Refused PeerAlloc) after held_is right_is is passes takes enough = absurd (cc)
 answer_finishes true true asked (Some sdp) said view outcome after held_is right_is is passes takes enough = absurd takes
 

@@ -6,7 +6,7 @@ use Rattle.std.proofs.lemmas.Bool.{eq-eqb, both_ways, or_parts, and_parts}
 use Rattle.rtc_sdp_values.specs.declared.line_row.LineRow.{LineRow}
 use Rattle.rtc_sdp_values.specs.declared.sdp.Sdp.{Sdp}
 use Rattle.rtc_change.specs.Held.{Asked}
-use Rattle.rtc_peer_state.specs.declared.rtc_error.RtcError.TheVariants.{RemoteSdp, Sdp as SdpRefused, ChangesOutOfOrder, Alloc as PeerAlloc, Dtls}
+use Rattle.rtc_peer_state.specs.declared.rtc_error.RtcError.TheVariants.{RemoteSdp, Sdp as SdpRefused, ChangesOutOfOrder, Alloc as PeerAlloc, Dtls, Sctp}
 use Rattle.rtc_history.specs.declared.side.Side.{Side}
 use Rattle.rtc_history.specs.declared.step.Step.{Step}
 use Rattle.rtc_history.specs.declared.step.Step.TheVariants.{Negotiate, AcceptOffer, AcceptAnswer}
@@ -75,6 +75,7 @@ answer_rows fresh between past at true true asked (Some sdp) Finished after take
 answer_rows fresh between past at true true asked (Some sdp) (Refused (RemoteSdp why)) after takes = inl takes.1
 answer_rows fresh between past at true true asked (Some sdp) (Refused (SdpRefused error)) after takes = inl takes.1
 answer_rows fresh between past at true true asked (Some sdp) (Refused (Dtls Fault)) after takes = inl takes.1
+answer_rows fresh between past at true true asked (Some sdp) (Refused (Sctp error)) after takes = inl takes.2
 answer_rows fresh between past at true true asked (Some sdp) (Refused PeerAlloc) after takes = inl takes
 answer_rows fresh between past at held right asked sdp outcome after takes = absurd takes
 

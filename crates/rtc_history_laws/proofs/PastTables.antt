@@ -6,7 +6,7 @@ use Rattle.rtc_sdp_values.specs.declared.sdp.Sdp.{Sdp}
 use Rattle.rtc_change.specs.Held.{Held, Asked}
 use Rattle.rtc_tables.specs.Table.{IsTable}
 use Rattle.rtc_change.proofs.VerdictLemmas.{unrefused_table}
-use Rattle.rtc_peer_state.specs.declared.rtc_error.RtcError.TheVariants.{RemoteSdp, Sdp as SdpRefused, ChangesOutOfOrder, Alloc as PeerAlloc, Dtls}
+use Rattle.rtc_peer_state.specs.declared.rtc_error.RtcError.TheVariants.{RemoteSdp, Sdp as SdpRefused, ChangesOutOfOrder, Alloc as PeerAlloc, Dtls, Sctp}
 use Rattle.rtc_history.specs.declared.side.Side.{Side}
 use Rattle.rtc_history.specs.declared.step.Step.{Step}
 use Rattle.rtc_history.specs.declared.step.Step.TheVariants.{Negotiate, AcceptOffer, AcceptAnswer}
@@ -32,6 +32,7 @@ taken_table (Some sdp) view next (Answered k) after takes table = same_table _ a
 taken_table (Some sdp) view next (Refused (RemoteSdp why)) after takes table = same_table view.lines after takes.1 table
 taken_table (Some sdp) view next (Refused (SdpRefused error)) after takes table = same_table view.lines after takes.1 table
 taken_table (Some sdp) view next (Refused (Dtls Fault)) after takes table = same_table view.lines after takes.1 table
+taken_table (Some sdp) view next (Refused (Sctp error)) after takes table = same_table view.lines after takes.2 table
 taken_table (Some sdp) view next (Refused PeerAlloc) after takes table = same_table view.lines after takes table
 taken_table sdp view next outcome after takes table = absurd takes
 
@@ -44,6 +45,7 @@ answer_table true true asked (Some sdp) view Finished after takes table = same_t
 answer_table true true asked (Some sdp) view (Refused (RemoteSdp why)) after takes table = same_table view.lines after takes.1 table
 answer_table true true asked (Some sdp) view (Refused (SdpRefused error)) after takes table = same_table view.lines after takes.1 table
 answer_table true true asked (Some sdp) view (Refused (Dtls Fault)) after takes table = same_table view.lines after takes.1 table
+answer_table true true asked (Some sdp) view (Refused (Sctp error)) after takes table = same_table view.lines after takes.2 table
 answer_table true true asked (Some sdp) view (Refused PeerAlloc) after takes table = same_table view.lines after takes table
 answer_table held right asked sdp view outcome after takes table = absurd takes
 

@@ -10,7 +10,8 @@ use Rattle.rtc_change.proofs.VerdictLemmas.{unrefused}
 use Rattle.rtc_tables.specs.RowChanges.{RowChange}
 use Rattle.rtc_sdp_values.specs.declared.direction.Direction.{Direction}
 use Rattle.rtc_peer_state.specs.Stance.{Stance, held_by}
-use Rattle.rtc_peer_state.specs.declared.rtc_error.RtcError.TheVariants.{RemoteSdp, Sdp as SdpRefused, Dtls, ChangesOutOfOrder, BadChannel, Alloc as PeerAlloc}
+use Rattle.rtc_peer_state.specs.declared.rtc_error.RtcError.TheVariants.{Net, Media as MediaFailed}
+use Rattle.rtc_peer_state.specs.declared.rtc_error.RtcError.TheVariants.{RemoteSdp, Sdp as SdpRefused, Dtls, Sctp, ChangesOutOfOrder, BadChannel, Alloc as PeerAlloc}
 use Rattle.rtc_peer_state.proofs.StanceCalls.{StanceChangesLine, stance_alone}
 use Rattle.rtc_history.specs.declared.side.Side.{Side}
 use Rattle.rtc_history.specs.declared.kept.Kept.{Kept}
@@ -110,10 +111,13 @@ offer_sees fresh past at k (Some sdp) old new kept kept' (Answered n) (Some tabl
 offer_sees fresh past at k (Some sdp) old new kept kept' (Refused (RemoteSdp why)) (Some table) made said h sees = sees_still fresh past _ at old new (ap (λ s. s.ice) h.0.1) (ap (λ s. s.fingerprint) h.0.1) refl sees
 offer_sees fresh past at k (Some sdp) old new kept kept' (Refused (SdpRefused error)) (Some table) made said h sees = sees_still fresh past _ at old new (ap (λ s. s.ice) h.0.1) (ap (λ s. s.fingerprint) h.0.1) refl sees
 offer_sees fresh past at k (Some sdp) old new kept kept' (Refused (Dtls Fault)) (Some table) made said h sees = sees_broken fresh past _ at old new h.0.1.breaks.lite (here_breaks at true refl) sees
+offer_sees fresh past at k (Some sdp) old new kept kept' (Refused (Sctp error)) (Some table) made said h sees = sees_broken fresh past _ at old new h.0.2.breaks.lite (here_breaks at true refl) sees
 offer_sees fresh past at k (Some sdp) old new kept kept' (Refused PeerAlloc) (Some table) made said h sees = sees_broken fresh past _ at old new h.0.breaks.lite (here_breaks at true refl) sees
 offer_sees fresh past at k (Some sdp) old new kept kept' (Refused (Dtls WouldBlock)) (Some table) made said h sees = absurd h.0
 offer_sees fresh past at k (Some sdp) old new kept kept' (Refused (Dtls DtlsAlloc)) (Some table) made said h sees = absurd h.0
 offer_sees fresh past at k (Some sdp) old new kept kept' (Refused ChangesOutOfOrder) (Some table) made said h sees = absurd h.0
+offer_sees fresh past at k (Some sdp) old new kept kept' (Refused (Net cause)) (Some table) made said h sees = absurd h.0
+offer_sees fresh past at k (Some sdp) old new kept kept' (Refused (MediaFailed cause)) (Some table) made said h sees = absurd h.0
 offer_sees fresh past at k (Some sdp) old new kept kept' (Refused BadChannel) (Some table) made said h sees = absurd h.0
 offer_sees fresh past at k offer old new kept kept' outcome table made said h sees = absurd h
 
@@ -134,9 +138,12 @@ answer_sees fresh past at t a (Some token) (Some sdp) old new kept kept' (Refuse
 answer_sees fresh past at t a (Some token) (Some sdp) old new kept kept' (Refused (RemoteSdp why)) (Some table) made said h sees = sees_still fresh past _ at old new (ap (λ s. s.ice) h.0.1.1) (ap (λ s. s.fingerprint) h.0.1.1) refl sees
 answer_sees fresh past at t a (Some token) (Some sdp) old new kept kept' (Refused (SdpRefused error)) (Some table) made said h sees = sees_still fresh past _ at old new (ap (λ s. s.ice) h.0.1.1) (ap (λ s. s.fingerprint) h.0.1.1) refl sees
 answer_sees fresh past at t a (Some token) (Some sdp) old new kept kept' (Refused (Dtls Fault)) (Some table) made said h sees = sees_broken fresh past _ at old new h.0.2.lite (here_breaks at true refl) sees
+answer_sees fresh past at t a (Some token) (Some sdp) old new kept kept' (Refused (Sctp error)) (Some table) made said h sees = sees_broken fresh past _ at old new h.0.3.lite (here_breaks at true refl) sees
 answer_sees fresh past at t a (Some token) (Some sdp) old new kept kept' (Refused PeerAlloc) (Some table) made said h sees = sees_broken fresh past _ at old new h.0.1.lite (here_breaks at true refl) sees
 answer_sees fresh past at t a (Some token) (Some sdp) old new kept kept' (Refused (Dtls WouldBlock)) (Some table) made said h sees = absurd h.0
 answer_sees fresh past at t a (Some token) (Some sdp) old new kept kept' (Refused (Dtls DtlsAlloc)) (Some table) made said h sees = absurd h.0
+answer_sees fresh past at t a (Some token) (Some sdp) old new kept kept' (Refused (Net cause)) (Some table) made said h sees = absurd h.0
+answer_sees fresh past at t a (Some token) (Some sdp) old new kept kept' (Refused (MediaFailed cause)) (Some table) made said h sees = absurd h.0
 answer_sees fresh past at t a (Some token) (Some sdp) old new kept kept' (Refused BadChannel) (Some table) made said h sees = absurd h.0
 answer_sees fresh past at t a token sdp old new kept kept' outcome table made said h sees = absurd h
 

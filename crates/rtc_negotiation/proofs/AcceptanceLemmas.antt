@@ -1,42 +1,54 @@
 -- An offer that is accepted or refused, put together from the steps of the call.
-use Rattle.std.proofs.Common.{◌≡◌, ◌∙◌, ℕ, Bool, true, false, List, [], Option, Some, None, Result, Ok, Err, refl, sym, ap, subst}
+use Rattle.std.proofs.Common.{◌≡◌, ◌∙◌, Bool, true, List, [], Option, Some, None, Result, Ok, Err, refl, sym, ap, subst}
 use Rattle.std.specs.Option.{option_or}
-use Rattle.std.specs.declared.alloc.AllocError.{AllocError}
-use Rattle.rtc_sdp_values.specs.Sdp.{creds_of, candidates_of, sdp_fingerprint, sdp_setup}
-use Rattle.rtc_sdp_values.specs.declared.fingerprint.Fingerprint.{Fingerprint}
+use Rattle.rtc_sdp_values.specs.Sdp.{sdp_fingerprint}
 use Rattle.rtc_sdp_values.specs.declared.ice_creds.IceCreds.{IceCreds}
 use Rattle.rtc_sdp_values.specs.declared.line_row.LineRow.{LineRow}
 use Rattle.rtc_sdp_values.specs.declared.sdp.Sdp.{Sdp}
+use Rattle.rtc_sdp_values.specs.declared.sdp_error.SdpError.TheVariants.{Alloc as SdpAlloc, Parse, Inconsistent}
 use Rattle.rtc_tables.specs.ParsedLines.{parsed_lines}
-use Rattle.rtc_change.specs.Plans.{verdict}
+use Rattle.rtc_change.specs.Plans.{PlansSdp, verdict}
 use Rattle.rtc_change.specs.TableAfter.{table_after}
-use Rattle.rtc_dtls.specs.declared.dtls_error.DtlsError.{DtlsError}
-use Rattle.rtc_dtls.specs.declared.dtls_error.DtlsError.TheVariants.{Fault, Alloc as DtlsAlloc}
+use Rattle.rtc_change.specs.declared.refusal.Refusal.{Refusal}
+use Rattle.rtc_change.specs.declared.refusal.Refusal.TheVariants.{RemoteSdp as RefusedSdp, Sdp as RefusedText, Alloc as NoMemory}
+use Rattle.rtc_dtls.specs.declared.dtls_error.DtlsError.TheVariants.{WouldBlock, Fault, Alloc as DtlsAlloc}
 use Rattle.rtc_dtls.specs.DtlsState.{DtlsState}
-use Rattle.rtc_media.specs.MediaLaws.{MediaLaws, SameLines}
+use Rattle.rtc_sctp.specs.Streams.{SctpStreams}
+use Rattle.rtc_media.specs.MediaLaws.{MediaLaws}
 use Rattle.rtc_ids.specs.Draws.{Later}
+use Rattle.rtc_ids.proofs.LaterLemmas.{later_none}
 use Rattle.rtc_peer_state.specs.declared.peer.Peer.{Peer}
-use Rattle.rtc_peer_state.specs.Acceptances.{OfferAccepted, OfferFaulted, OfferStopped, followed_restart, answer_ids, updates_for, ids_after_updates}
+use Rattle.rtc_peer_state.specs.declared.phase.Phase.{Phase}
+use Rattle.rtc_peer_state.specs.declared.rtc_error.RtcError.{RtcError}
+use Rattle.rtc_peer_state.specs.declared.rtc_error.RtcError.TheVariants.{
+  RemoteSdp,
+  Sdp as SdpRefused,
+  Dtls,
+  Sctp,
+  Net,
+  Media as MediaFailed,
+  ChangesOutOfOrder,
+  BadChannel,
+  Alloc,
+}
+use Rattle.rtc_peer_state.specs.Acceptances.{AcceptsOffer, OfferAccepted, OfferStopped, refused_phase}
+use Rattle.rtc_peer_state.specs.Acceptances.{followed_restart, answer_ids, ids_after_updates}
 use Rattle.rtc_peer_state.specs.Calls.{raised, control_for}
-use Rattle.rtc_peer_state.specs.MadeSdp.{answer_sdp, role_for}
+use Rattle.rtc_peer_state.specs.MadeSdp.{answer_sdp}
 use Rattle.rtc_peer_state.specs.Meanings.{Meanings}
-use Rattle.rtc_peer_state.specs.PartMoves.{FollowsSdp, StopsFollowing, NotBegun, Behind, StartsDtls, NotStarted, AtRole}
+use Rattle.rtc_peer_state.specs.PartMoves.{NotBegun, NotStarted, NotInited}
+use Rattle.rtc_peer_state.specs.RtcErrors.{error_of_refusal}
 use Rattle.rtc_peer_state.specs.Stance.{stance_of, held_by}
 use Rattle.rtc_negotiation.specs.declared.following.Following.{Following}
 use Rattle.rtc_negotiation.specs.declared.growth.Growth.{Growth}
 use Rattle.rtc_negotiation.specs.Growths.{following_of, GrowsOffer, LacksGrowth}
+use Rattle.rtc_negotiation.specs.Moves.{MovesParts}
+use Rattle.rtc_negotiation.proofs.MediaLemmas.{same_lines}
 
 module _ {I D S M E X T W N : Type 0} (m : Meanings I D S M E X T W N) where
   -- the peer whose counter is raised
   abbrev pub counted : Peer I D S M N → Peer I D S M N
   counted p = record p { counter = raised p.counter }
-
-  -- the agent follows what was made ready
-  abbrev pub FollowsReady : I → Following → I → Type 0
-  FollowsReady i following j = FollowsSdp m.ice i following.restart following.creds following.candidates following.control j
-
-  abbrev pub StopsReady : I → Following → I → Type 0
-  StopsReady i following j = StopsFollowing m.ice i following.restart following.creds following.candidates following.control j
 
   -- the answer is not a matter of the counter
   same_answer : (p : Peer I D S M N) (restart : Option (IceCreds × Bool)) (offer : Sdp)
@@ -46,121 +58,128 @@ module _ {I D S M E X T W N : Type 0} (m : Meanings I D S M E X T W N) where
 
   -- memory lacked before parts were touched
   pub offer_lacks : (p q : Peer I D S M N) (offer : Sdp) → LacksGrowth m (counted p) q → OfferStopped m p offer q
-  offer_lacks p q offer lacks =
-      let ice : q.ice ≡ p.ice = ap (λ (x : Peer I D S M N). x.ice) lacks.2 in
-      let dtls : q.dtls ≡ p.dtls = ap (λ (x : Peer I D S M N). x.dtls) lacks.2 in
-      record {
-        later = lacks.0;
-        ice_stops = NotBegun ice;
-        dtls_stops = NotStarted dtls;
-        media_kept = lacks.1;
-        rest = subst (λ (i : I). q ≡ record p { counter = raised p.counter; ids = q.ids; ice = i; dtls = q.dtls; media = q.media }) (sym ice)
-            (subst (λ (d : DtlsState D). q ≡ record p { counter = raised p.counter; ids = q.ids; dtls = d; media = q.media }) (sym dtls) lacks.2);
-      }
+  offer_lacks p q offer lacks = record {
+    later = lacks.0;
+    ice_stops = NotBegun (ap (λ (x : Peer I D S M N). x.ice) lacks.2);
+    dtls_stops = NotStarted (ap (λ (x : Peer I D S M N). x.dtls) lacks.2);
+    sctp_stops = NotInited (ap (λ (x : Peer I D S M N). x.sctp) lacks.2);
+    media_kept = lacks.1;
+    rest = ap (λ (x : Peer I D S M N). record x { ids = q.ids; ice = q.ice; dtls = q.dtls; sctp = q.sctp; media = q.media }) lacks.2;
+  }
 
-  grown_ice : (p q : Peer I D S M N) (offer : Sdp) (growth : Growth) → GrowsOffer m (counted p) offer (Ok growth) q → q.ice ≡ p.ice
-  grown_ice p q offer growth grown = ap (λ (x : Peer I D S M N). x.ice) grown.2
+  -- the offer is refused as it is judged
+  judged : (p : Peer I D S M N) (offer : Sdp) (refusal : Refusal) → PlansSdp (held_by (stance_of m p)) None offer (Err refusal)
+      → AcceptsOffer m p offer (Err (error_of_refusal refusal)) (record p { counter = raised p.counter; phase = refused_phase refusal p.phase })
+  judged p offer (RefusedSdp why) plans = (plans, refl)
+  judged p offer (RefusedText SdpAlloc) plans = offer_lacks p (counted p) offer (later_none m.ids p.ids, same_lines m.media p.media, refl)
+  judged p offer (RefusedText (Parse line)) plans = (plans, refl)
+  judged p offer (RefusedText (Inconsistent cause)) plans = (plans, refl)
+  judged p offer NoMemory plans = offer_lacks p (counted p) offer (later_none m.ids p.ids, same_lines m.media p.media, refl)
 
-  grown_dtls : (p q : Peer I D S M N) (offer : Sdp) (growth : Growth) → GrowsOffer m (counted p) offer (Ok growth) q → q.dtls ≡ p.dtls
-  grown_dtls p q offer growth grown = ap (λ (x : Peer I D S M N). x.dtls) grown.2
+  pub offer_refused : (p : Peer I D S M N) (offer : Sdp) (refusal : Refusal) (error : RtcError) (phase : Phase)
+      → PlansSdp (held_by (stance_of m p)) None offer (Err refusal) → error ≡ error_of_refusal refusal → phase ≡ refused_phase refusal p.phase
+      → AcceptsOffer m p offer (Err error) (record p { counter = raised p.counter; phase = phase })
+  offer_refused p offer refusal error phase plans error_is phase_is =
+      subst (λ (e : RtcError). AcceptsOffer m p offer (Err e) (record p { counter = raised p.counter; phase = phase })) (sym error_is)
+      (subst (λ (x : Phase). AcceptsOffer m p offer (Err (error_of_refusal refusal)) (record p { counter = raised p.counter; phase = x })) (sym phase_is)
+      (judged p offer refusal plans))
 
-  grown_greatest : (p q : Peer I D S M N) (offer : Sdp) (growth : Growth) → GrowsOffer m (counted p) offer (Ok growth) q → q.greatest ≡ p.greatest
-  grown_greatest p q offer growth grown = ap (λ (x : Peer I D S M N). x.greatest) grown.2
-
-  offered : Peer I D S M N → Sdp → Following
+  abbrev pub offered : Peer I D S M N → Sdp → Following
   offered p offer = following_of (followed_restart m p offer) offer (control_for p.dtls.active offer.ice_lite)
 
-  follows : (p q : Peer I D S M N) (offer : Sdp) (growth : Growth) (ice : I) → GrowsOffer m (counted p) offer (Ok growth) q → FollowsReady q.ice growth.following ice
-      → FollowsSdp m.ice p.ice (followed_restart m p offer) (creds_of offer) (candidates_of offer) (control_for p.dtls.active offer.ice_lite) ice
-  follows p q offer growth ice grown h =
-      subst (λ (f : Following). FollowsReady p.ice f ice) (ap (λ (x : Growth). x.following) grown.0)
-      (subst (λ (i : I). FollowsReady i growth.following ice) (grown_ice p q offer growth grown) h)
+  -- the parts of a peer follow an offer
+  abbrev pub OfferMoves : Peer I D S M N → Sdp → Result (Unit {0}) RtcError → I → DtlsState D → SctpStreams S → Type 0
+  OfferMoves p offer r ice dtls sctp =
+      MovesParts m.ice m.dtls m.association p.ice p.dtls p.sctp (offered p offer) offer (table_after p.lines (parsed_lines offer) true) p.greatest r ice dtls sctp
 
-  stops : (p q : Peer I D S M N) (offer : Sdp) (growth : Growth) (ice : I) → GrowsOffer m (counted p) offer (Ok growth) q → StopsReady q.ice growth.following ice
-      → StopsFollowing m.ice p.ice (followed_restart m p offer) (creds_of offer) (candidates_of offer) (control_for p.dtls.active offer.ice_lite) ice
-  stops p q offer growth ice grown h =
-      subst (λ (f : Following). StopsReady p.ice f ice) (ap (λ (x : Growth). x.following) grown.0)
-      (subst (λ (i : I). StopsReady i growth.following ice) (grown_ice p q offer growth grown) h)
+  -- what is made ready leaves the parts that follow it
+  pub offer_moves : (p q : Peer I D S M N) (offer : Sdp) (growth : Growth) (rows : List LineRow) (r : Result (Unit {0}) RtcError) (ice : I) (dtls : DtlsState D)
+      (sctp : SctpStreams S) → GrowsOffer m (counted p) offer (Ok growth) q → rows ≡ table_after p.lines (parsed_lines offer) true
+      → MovesParts m.ice m.dtls m.association q.ice q.dtls q.sctp growth.following offer rows q.greatest r ice dtls sctp → OfferMoves p offer r ice dtls sctp
+  offer_moves p q offer growth rows r ice dtls sctp grown rows_are moves =
+      subst (λ (xs : List LineRow). MovesParts m.ice m.dtls m.association p.ice p.dtls p.sctp (offered p offer) offer xs p.greatest r ice dtls sctp) rows_are
+      (subst (λ (f : Following). MovesParts m.ice m.dtls m.association p.ice p.dtls p.sctp f offer rows p.greatest r ice dtls sctp)
+      (ap (λ (x : Growth). x.following) grown.0)
+      (subst (λ (x : Peer I D S M N). MovesParts m.ice m.dtls m.association x.ice x.dtls x.sctp growth.following offer rows x.greatest r ice dtls sctp) grown.2 moves))
 
-  starts : (p q : Peer I D S M N) (offer : Sdp) (growth : Growth) (r : Result (Unit {0}) DtlsError) (dtls : DtlsState D) → GrowsOffer m (counted p) offer (Ok growth) q
-      → StartsDtls m.dtls q.dtls q.dtls.active (role_for (sdp_setup offer)) q.greatest r dtls
-      → StartsDtls m.dtls p.dtls p.dtls.active (role_for (sdp_setup offer)) p.greatest r dtls
-  starts p q offer growth r dtls grown h =
-      subst (λ (n : ℕ). StartsDtls m.dtls p.dtls p.dtls.active (role_for (sdp_setup offer)) n r dtls) (grown_greatest p q offer growth grown)
-      (subst (λ (d : DtlsState D). StartsDtls m.dtls d d.active (role_for (sdp_setup offer)) q.greatest r dtls) (grown_dtls p q offer growth grown) h)
-
-  -- the lines of the media part stay while updates are prepared, and numbers are drawn
-  kept_lines : MediaLaws m.media → (p q : Peer I D S M N) (offer : Sdp) (growth : Growth) → GrowsOffer m (counted p) offer (Ok growth) q → SameLines m.media p.media q.media
-  kept_lines laws p q offer growth grown = laws.prepare_same p.media q.media _ (Ok tt) grown.1
-
-  -- what was made ready leaves the rest of the peer
-  framed : (p q : Peer I D S M N) (offer : Sdp) (growth : Growth) → GrowsOffer m (counted p) offer (Ok growth) q
-      → q ≡ record p { counter = raised p.counter; ids = q.ids; dtls = q.dtls; media = q.media }
-  framed p q offer growth grown =
-      subst (λ (n : N). q ≡ record p { counter = raised p.counter; ids = n; dtls = q.dtls; media = q.media }) (sym (ap (λ (x : Peer I D S M N). x.ids) grown.2))
-      (subst (λ (d : DtlsState D). q ≡ record p {
+  -- the peer once parts have moved
+  moved : (p q : Peer I D S M N) (offer : Sdp) (growth : Growth) (ice : I) (dtls : DtlsState D) (sctp : SctpStreams S) → GrowsOffer m (counted p) offer (Ok growth) q
+      → record q { ice = ice; dtls = dtls; sctp = sctp } ≡ record p {
         counter = raised p.counter;
         ids = ids_after_updates m p true [] offer (answer_ids m p offer);
-        dtls = d;
+        ice = ice;
+        dtls = dtls;
+        sctp = sctp;
         media = q.media;
-      }) (sym (grown_dtls p q offer growth grown)) grown.2)
-
-  -- memory lacked as the agent followed
-  pub offer_stops_following : MediaLaws m.media → (p q : Peer I D S M N) (offer : Sdp) (growth : Growth) (ice : I) → GrowsOffer m (counted p) offer (Ok growth) q
-      → Later m.ids p.ids q.ids → StopsReady q.ice growth.following ice → OfferStopped m p offer (record q { ice = ice })
-  offer_stops_following laws p q offer growth ice grown later h =
-      let dtls : q.dtls ≡ p.dtls = grown_dtls p q offer growth grown in
-      record {
-        later = later;
-        ice_stops = stops p q offer growth ice grown h;
-        dtls_stops = NotStarted dtls;
-        media_kept = kept_lines laws p q offer growth grown;
-        rest = ap (λ (x : Peer I D S M N). record x { ice = ice }) (framed p q offer growth grown);
       }
+  moved p q offer growth ice dtls sctp grown = ap (λ (x : Peer I D S M N). record x { ice = ice; dtls = dtls; sctp = sctp }) grown.2
 
-  -- memory lacked as the DTLS part took its role
-  pub offer_stops_starting : MediaLaws m.media → (p q : Peer I D S M N) (offer : Sdp) (growth : Growth) (ice : I) (dtls : DtlsState D) → GrowsOffer m (counted p) offer (Ok growth) q
-      → Later m.ids p.ids q.ids → FollowsReady q.ice growth.following ice → StartsDtls m.dtls q.dtls q.dtls.active (role_for (sdp_setup offer)) q.greatest (Err DtlsAlloc) dtls
-      → OfferStopped m p offer (record q { ice = ice; dtls = dtls })
-  offer_stops_starting laws p q offer growth ice dtls grown later followed started = record {
-    later = later;
-    ice_stops = Behind (follows p q offer growth ice grown followed);
-    dtls_stops = AtRole (starts p q offer growth (Err DtlsAlloc) dtls grown started);
-    media_kept = kept_lines laws p q offer growth grown;
-    rest = ap (λ (x : Peer I D S M N). record x { ice = ice; dtls = dtls; ids = q.ids }) grown.2;
-  }
-
-  -- the DTLS part failed
-  pub offer_faults : (p q : Peer I D S M N) (offer : Sdp) (growth : Growth) (ice : I) (dtls : DtlsState D) → GrowsOffer m (counted p) offer (Ok growth) q
-      → verdict (held_by (stance_of m p)) None offer ≡ None → FollowsReady q.ice growth.following ice
-      → StartsDtls m.dtls q.dtls q.dtls.active (role_for (sdp_setup offer)) q.greatest (Err Fault) dtls → OfferFaulted m p offer (record q { ice = ice; dtls = dtls })
-  offer_faults p q offer growth ice dtls grown passes followed started = record {
+  -- a part failed, or memory lacked
+  pub offer_fails : MediaLaws m.media → (p q : Peer I D S M N) (offer : Sdp) (growth : Growth) (error : RtcError) (ice : I) (dtls : DtlsState D) (sctp : SctpStreams S)
+      → GrowsOffer m (counted p) offer (Ok growth) q → Later m.ids p.ids q.ids → verdict (held_by (stance_of m p)) None offer ≡ None
+      → OfferMoves p offer (Err error) ice dtls sctp → AcceptsOffer m p offer (Err error) (record q { ice = ice; dtls = dtls; sctp = sctp })
+  offer_fails laws p q offer growth (Dtls Fault) ice dtls sctp grown later passes moves = record {
     passes = passes;
-    ice_follows = follows p q offer growth ice grown followed;
-    dtls_fails = starts p q offer growth (Err Fault) dtls grown started;
+    ice_follows = moves.0;
+    dtls_fails = moves.1;
     media_prepared = grown.1;
-    rest = ap (λ (x : Peer I D S M N). record x { ice = ice; dtls = dtls }) grown.2;
+    rest = moved p q offer growth ice dtls sctp grown ∙ ap (λ (s : SctpStreams S). record p {
+      counter = raised p.counter;
+      ids = ids_after_updates m p true [] offer (answer_ids m p offer);
+      ice = ice;
+      dtls = dtls;
+      sctp = s;
+      media = q.media;
+    }) moves.2;
   }
+  offer_fails laws p q offer growth (Sctp error) ice dtls sctp grown later passes moves = (
+    moves.0,
+    record {
+      passes = passes;
+      ice_follows = moves.1;
+      dtls_starts = moves.2;
+      sctp_fails = moves.3;
+      media_prepared = grown.1;
+      rest = moved p q offer growth ice dtls sctp grown;
+    },
+  )
+  offer_fails laws p q offer growth Alloc ice dtls sctp grown later passes moves = record {
+    later = later;
+    ice_stops = moves.0;
+    dtls_stops = moves.1;
+    sctp_stops = moves.2;
+    media_kept = laws.prepare_same p.media q.media _ (Ok tt) grown.1;
+    rest = ap (λ (x : Peer I D S M N). record x { ids = q.ids; ice = ice; dtls = dtls; sctp = sctp }) grown.2;
+  }
+  offer_fails laws p q offer growth (Dtls WouldBlock) ice dtls sctp grown later passes moves = absurd moves
+  offer_fails laws p q offer growth (Dtls DtlsAlloc) ice dtls sctp grown later passes moves = absurd moves
+  offer_fails laws p q offer growth (RemoteSdp why) ice dtls sctp grown later passes moves = absurd moves
+  offer_fails laws p q offer growth (SdpRefused error) ice dtls sctp grown later passes moves = absurd moves
+  offer_fails laws p q offer growth ChangesOutOfOrder ice dtls sctp grown later passes moves = absurd moves
+  offer_fails laws p q offer growth (Net cause) ice dtls sctp grown later passes moves = absurd moves
+  offer_fails laws p q offer growth (MediaFailed cause) ice dtls sctp grown later passes moves = absurd moves
+  offer_fails laws p q offer growth BadChannel ice dtls sctp grown later passes moves = absurd moves
 
   -- the offer is accepted
-  pub offer_accepted : (p q : Peer I D S M N) (offer answer : Sdp) (growth : Growth) (ice : I) (dtls : DtlsState D) (media : M) (lines : List LineRow)
-      → GrowsOffer m (counted p) offer (Ok growth) q → growth.answer ≡ Some answer → verdict (held_by (stance_of m p)) None offer ≡ None → FollowsReady q.ice growth.following ice
-      → StartsDtls m.dtls q.dtls q.dtls.active (role_for (sdp_setup offer)) q.greatest (Ok tt) dtls → m.media.committed q.media media
-      → lines ≡ table_after p.lines (parsed_lines offer) true
-      → OfferAccepted m p offer answer (record q { ice = ice; dtls = dtls; fingerprint = growth.fingerprint; media = media; lines = lines })
-  offer_accepted p q offer answer growth ice dtls media lines grown made passes followed started committed lines_are =
+  pub offer_accepted : (p q : Peer I D S M N) (offer answer : Sdp) (growth : Growth) (ice : I) (dtls : DtlsState D) (sctp : SctpStreams S) (media : M) (lines : List LineRow)
+      → GrowsOffer m (counted p) offer (Ok growth) q → growth.answer ≡ Some answer → verdict (held_by (stance_of m p)) None offer ≡ None
+      → OfferMoves p offer (Ok tt) ice dtls sctp → m.media.committed q.media media → lines ≡ table_after p.lines (parsed_lines offer) true
+      → OfferAccepted m p offer answer (record q { ice = ice; dtls = dtls; sctp = sctp; fingerprint = growth.fingerprint; media = media; lines = lines })
+  offer_accepted p q offer answer growth ice dtls sctp media lines grown made passes moves committed lines_are =
       let shown : Some answer ≡ Some (answer_sdp (stance_of m p) (followed_restart m p offer) offer) =
       sym made ∙ ap (λ (x : Growth). x.answer) grown.0 ∙ ap Some (same_answer p (followed_restart m p offer) offer) in
       let told : growth.fingerprint ≡ option_or p.fingerprint (sdp_fingerprint offer) = ap (λ (x : Growth). x.fingerprint) grown.0 in
       record {
         passes = passes;
         answered = cc;
-        ice_follows = follows p q offer growth ice grown followed;
-        dtls_starts = starts p q offer growth (Ok tt) dtls grown started;
+        ice_follows = moves.0;
+        dtls_starts = moves.1;
+        sctp_starts = moves.2;
         media_updated = record { prepared = q.media; by_prepare = grown.1; by_commit = committed };
         rest = rw (told, lines_are) (ap (λ (x : Peer I D S M N). record x {
           ice = ice;
           dtls = dtls;
+          sctp = sctp;
           fingerprint = option_or p.fingerprint (sdp_fingerprint offer);
           media = media;
           lines = table_after p.lines (parsed_lines offer) true;

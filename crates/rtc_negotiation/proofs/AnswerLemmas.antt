@@ -1,151 +1,180 @@
 -- An answer that is accepted or refused, put together from the steps of the call.
-use Rattle.std.proofs.Common.{◌≡◌, ◌∙◌, ℕ, Bool, true, false, List, [], Option, Some, None, Result, Ok, Err, refl, sym, ap, subst}
+use Rattle.std.proofs.Common.{◌≡◌, ◌∙◌, false, List, Some, None, Result, Ok, Err, refl, sym, ap, subst}
 use Rattle.std.specs.Option.{option_or}
-use Rattle.std.specs.declared.alloc.AllocError.{AllocError}
-use Rattle.rtc_sdp_values.specs.Sdp.{creds_of, candidates_of, sdp_fingerprint, sdp_setup}
-use Rattle.rtc_sdp_values.specs.declared.fingerprint.Fingerprint.{Fingerprint}
-use Rattle.rtc_sdp_values.specs.declared.ice_creds.IceCreds.{IceCreds}
+use Rattle.rtc_sdp_values.specs.Sdp.{sdp_fingerprint}
 use Rattle.rtc_sdp_values.specs.declared.line_row.LineRow.{LineRow}
 use Rattle.rtc_sdp_values.specs.declared.sdp.Sdp.{Sdp}
+use Rattle.rtc_sdp_values.specs.declared.sdp_error.SdpError.TheVariants.{Alloc as SdpAlloc, Parse, Inconsistent}
 use Rattle.rtc_tables.specs.ParsedLines.{parsed_lines}
 use Rattle.rtc_channels.specs.Channels.{Channels, all_confirmed}
 use Rattle.rtc_change.specs.declared.change.Change.{Change}
+use Rattle.rtc_change.specs.declared.refusal.Refusal.{Refusal}
+use Rattle.rtc_change.specs.declared.refusal.Refusal.TheVariants.{RemoteSdp as RefusedSdp, Sdp as RefusedText, Alloc as NoMemory}
 use Rattle.rtc_change.specs.PendingOffer.{PendingOffer, staged_restart}
-use Rattle.rtc_change.specs.Plans.{verdict, asked_by}
-use Rattle.rtc_negotiation.proofs.AcceptanceLemmas.{FollowsReady, StopsReady}
+use Rattle.rtc_change.specs.Plans.{PlansSdp, verdict, asked_by}
 use Rattle.rtc_change.specs.TableAfter.{table_after}
-use Rattle.rtc_dtls.specs.declared.dtls_error.DtlsError.{DtlsError}
-use Rattle.rtc_dtls.specs.declared.dtls_error.DtlsError.TheVariants.{Fault, Alloc as DtlsAlloc}
+use Rattle.rtc_dtls.specs.declared.dtls_error.DtlsError.TheVariants.{WouldBlock, Fault, Alloc as DtlsAlloc}
 use Rattle.rtc_dtls.specs.DtlsState.{DtlsState}
-use Rattle.rtc_media.specs.MediaLaws.{MediaLaws, SameLines}
+use Rattle.rtc_sctp.specs.Streams.{SctpStreams}
+use Rattle.rtc_media.specs.MediaLaws.{MediaLaws}
 use Rattle.rtc_ids.specs.Draws.{Later}
+use Rattle.rtc_ids.proofs.LaterLemmas.{later_none}
 use Rattle.rtc_peer_state.specs.declared.peer.Peer.{Peer}
-use Rattle.rtc_peer_state.specs.Acceptances.{AnswerAccepted, AnswerFaulted, AnswerStopped, updates_for, ids_after_updates}
+use Rattle.rtc_peer_state.specs.declared.phase.Phase.{Phase}
+use Rattle.rtc_peer_state.specs.declared.rtc_error.RtcError.{RtcError}
+use Rattle.rtc_peer_state.specs.declared.rtc_error.RtcError.TheVariants.{
+  RemoteSdp,
+  Sdp as SdpRefused,
+  Dtls,
+  Sctp,
+  Net,
+  Media as MediaFailed,
+  ChangesOutOfOrder,
+  BadChannel,
+  Alloc,
+}
+use Rattle.rtc_peer_state.specs.Acceptances.{AcceptsAnswer, AnswerAccepted, AnswerStopped, refused_phase, ids_after_updates}
 use Rattle.rtc_peer_state.specs.Calls.{raised, fitting_channels}
-use Rattle.rtc_peer_state.specs.MadeSdp.{role_for}
 use Rattle.rtc_peer_state.specs.Meanings.{Meanings}
-use Rattle.rtc_peer_state.specs.PartMoves.{FollowsSdp, StopsFollowing, NotBegun, Behind, StartsDtls, NotStarted, AtRole}
+use Rattle.rtc_peer_state.specs.PartMoves.{NotBegun, NotStarted, NotInited}
+use Rattle.rtc_peer_state.specs.RtcErrors.{error_of_refusal}
 use Rattle.rtc_peer_state.specs.Stance.{stance_of, held_by}
 use Rattle.rtc_negotiation.specs.declared.following.Following.{Following}
 use Rattle.rtc_negotiation.specs.declared.growth.Growth.{Growth}
 use Rattle.rtc_negotiation.specs.Growths.{following_of, GrowsAnswer, LacksGrowth}
+use Rattle.rtc_negotiation.specs.Moves.{MovesParts}
+use Rattle.rtc_negotiation.proofs.MediaLemmas.{same_lines}
 
 module _ {I D S M E X T W N : Type 0} (m : Meanings I D S M E X T W N) where
   -- memory lacked before parts were touched
   pub answer_lacks : (p q : Peer I D S M N) (token : PendingOffer) (answer : Sdp) → p.counter ≡ raised token.id → LacksGrowth m p q → AnswerStopped m p token answer q
-  answer_lacks p q token answer right lacks =
-      let ice : q.ice ≡ p.ice = ap (λ (x : Peer I D S M N). x.ice) lacks.2 in
-      let dtls : q.dtls ≡ p.dtls = ap (λ (x : Peer I D S M N). x.dtls) lacks.2 in
-      record {
-        right = right;
-        later = lacks.0;
-        ice_stops = NotBegun ice;
-        dtls_stops = NotStarted dtls;
-        media_kept = lacks.1;
-        rest = subst (λ (i : I). q ≡ record p { ids = q.ids; ice = i; dtls = q.dtls; media = q.media }) (sym ice)
-            (subst (λ (d : DtlsState D). q ≡ record p { ids = q.ids; dtls = d; media = q.media }) (sym dtls) lacks.2);
+  answer_lacks p q token answer right lacks = record {
+    right = right;
+    later = lacks.0;
+    ice_stops = NotBegun (ap (λ (x : Peer I D S M N). x.ice) lacks.2);
+    dtls_stops = NotStarted (ap (λ (x : Peer I D S M N). x.dtls) lacks.2);
+    sctp_stops = NotInited (ap (λ (x : Peer I D S M N). x.sctp) lacks.2);
+    media_kept = lacks.1;
+    rest = ap (λ (x : Peer I D S M N). record x { ids = q.ids; ice = q.ice; dtls = q.dtls; sctp = q.sctp; media = q.media }) lacks.2;
+  }
+
+  -- the answer is refused as it is judged
+  judged : (p : Peer I D S M N) (token : PendingOffer) (answer : Sdp) (refusal : Refusal) → p.counter ≡ raised token.id
+      → PlansSdp (held_by (stance_of m p)) (Some (asked_by p.lines token)) answer (Err refusal)
+      → AcceptsAnswer m p token answer (Err (error_of_refusal refusal)) (record p { phase = refused_phase refusal p.phase })
+  judged p token answer (RefusedSdp why) right plans = (right, (plans, refl))
+  judged p token answer (RefusedText SdpAlloc) right plans = answer_lacks p p token answer right (later_none m.ids p.ids, same_lines m.media p.media, refl)
+  judged p token answer (RefusedText (Parse line)) right plans = (right, (plans, refl))
+  judged p token answer (RefusedText (Inconsistent cause)) right plans = (right, (plans, refl))
+  judged p token answer NoMemory right plans = answer_lacks p p token answer right (later_none m.ids p.ids, same_lines m.media p.media, refl)
+
+  pub answer_refused : (p : Peer I D S M N) (token : PendingOffer) (answer : Sdp) (refusal : Refusal) (error : RtcError) (phase : Phase) → p.counter ≡ raised token.id
+      → PlansSdp (held_by (stance_of m p)) (Some (asked_by p.lines token)) answer (Err refusal) → error ≡ error_of_refusal refusal
+      → phase ≡ refused_phase refusal p.phase → AcceptsAnswer m p token answer (Err error) (record p { phase = phase })
+  answer_refused p token answer refusal error phase right plans error_is phase_is =
+      subst (λ (e : RtcError). AcceptsAnswer m p token answer (Err e) (record p { phase = phase })) (sym error_is)
+      (subst (λ (x : Phase). AcceptsAnswer m p token answer (Err (error_of_refusal refusal)) (record p { phase = x })) (sym phase_is) (judged p token answer refusal right plans))
+
+  abbrev pub answered : List Change → Sdp → Following
+  answered changes answer = following_of (staged_restart changes) answer None
+
+  -- the parts of a peer follow an answer
+  abbrev pub AnswerMoves : Peer I D S M N → List Change → Sdp → Result (Unit {0}) RtcError → I → DtlsState D → SctpStreams S → Type 0
+  AnswerMoves p changes answer r ice dtls sctp =
+      MovesParts m.ice m.dtls m.association p.ice p.dtls p.sctp (answered changes answer) answer (table_after p.lines (parsed_lines answer) false) p.greatest r ice dtls sctp
+
+  -- what is made ready leaves the parts that follow it
+  pub answer_moves : (p q : Peer I D S M N) (changes : List Change) (answer : Sdp) (growth : Growth) (rows : List LineRow) (r : Result (Unit {0}) RtcError) (ice : I)
+      (dtls : DtlsState D) (sctp : SctpStreams S) → GrowsAnswer m p changes answer (Ok growth) q → rows ≡ table_after p.lines (parsed_lines answer) false
+      → MovesParts m.ice m.dtls m.association q.ice q.dtls q.sctp growth.following answer rows q.greatest r ice dtls sctp → AnswerMoves p changes answer r ice dtls sctp
+  answer_moves p q changes answer growth rows r ice dtls sctp grown rows_are moves =
+      subst (λ (xs : List LineRow). MovesParts m.ice m.dtls m.association p.ice p.dtls p.sctp (answered changes answer) answer xs p.greatest r ice dtls sctp) rows_are
+      (subst (λ (f : Following). MovesParts m.ice m.dtls m.association p.ice p.dtls p.sctp f answer rows p.greatest r ice dtls sctp)
+      (ap (λ (x : Growth). x.following) grown.0)
+      (subst (λ (x : Peer I D S M N). MovesParts m.ice m.dtls m.association x.ice x.dtls x.sctp growth.following answer rows x.greatest r ice dtls sctp) grown.2 moves))
+
+  -- the peer once parts have moved
+  moved : (p q : Peer I D S M N) (changes : List Change) (answer : Sdp) (growth : Growth) (ice : I) (dtls : DtlsState D) (sctp : SctpStreams S)
+      → GrowsAnswer m p changes answer (Ok growth) q → record q { ice = ice; dtls = dtls; sctp = sctp } ≡ record p {
+        ids = ids_after_updates m p false changes answer p.ids;
+        ice = ice;
+        dtls = dtls;
+        sctp = sctp;
+        media = q.media;
       }
+  moved p q changes answer growth ice dtls sctp grown = ap (λ (x : Peer I D S M N). record x { ice = ice; dtls = dtls; sctp = sctp }) grown.2
 
-  grown_ice : (p q : Peer I D S M N) (changes : List Change) (answer : Sdp) (growth : Growth) → GrowsAnswer m p changes answer (Ok growth) q → q.ice ≡ p.ice
-  grown_ice p q changes answer growth grown = ap (λ (x : Peer I D S M N). x.ice) grown.2
-
-  grown_dtls : (p q : Peer I D S M N) (changes : List Change) (answer : Sdp) (growth : Growth) → GrowsAnswer m p changes answer (Ok growth) q → q.dtls ≡ p.dtls
-  grown_dtls p q changes answer growth grown = ap (λ (x : Peer I D S M N). x.dtls) grown.2
-
-  grown_greatest : (p q : Peer I D S M N) (changes : List Change) (answer : Sdp) (growth : Growth) → GrowsAnswer m p changes answer (Ok growth) q → q.greatest ≡ p.greatest
-  grown_greatest p q changes answer growth grown = ap (λ (x : Peer I D S M N). x.greatest) grown.2
-
-  follows : (p q : Peer I D S M N) (changes : List Change) (answer : Sdp) (growth : Growth) (ice : I) → GrowsAnswer m p changes answer (Ok growth) q
-      → FollowsReady m q.ice growth.following ice → FollowsSdp m.ice p.ice (staged_restart changes) (creds_of answer) (candidates_of answer) None ice
-  follows p q changes answer growth ice grown h =
-      subst (λ (f : Following). FollowsReady m p.ice f ice) (ap (λ (x : Growth). x.following) grown.0)
-      (subst (λ (i : I). FollowsReady m i growth.following ice) (grown_ice p q changes answer growth grown) h)
-
-  stops : (p q : Peer I D S M N) (changes : List Change) (answer : Sdp) (growth : Growth) (ice : I) → GrowsAnswer m p changes answer (Ok growth) q
-      → StopsReady m q.ice growth.following ice → StopsFollowing m.ice p.ice (staged_restart changes) (creds_of answer) (candidates_of answer) None ice
-  stops p q changes answer growth ice grown h =
-      subst (λ (f : Following). StopsReady m p.ice f ice) (ap (λ (x : Growth). x.following) grown.0)
-      (subst (λ (i : I). StopsReady m i growth.following ice) (grown_ice p q changes answer growth grown) h)
-
-  starts : (p q : Peer I D S M N) (changes : List Change) (answer : Sdp) (growth : Growth) (r : Result (Unit {0}) DtlsError) (dtls : DtlsState D)
-      → GrowsAnswer m p changes answer (Ok growth) q → StartsDtls m.dtls q.dtls q.dtls.active (role_for (sdp_setup answer)) q.greatest r dtls
-      → StartsDtls m.dtls p.dtls p.dtls.active (role_for (sdp_setup answer)) p.greatest r dtls
-  starts p q changes answer growth r dtls grown h =
-      subst (λ (n : ℕ). StartsDtls m.dtls p.dtls p.dtls.active (role_for (sdp_setup answer)) n r dtls) (grown_greatest p q changes answer growth grown)
-      (subst (λ (d : DtlsState D). StartsDtls m.dtls d d.active (role_for (sdp_setup answer)) q.greatest r dtls) (grown_dtls p q changes answer growth grown) h)
-
-  kept_lines : MediaLaws m.media → (p q : Peer I D S M N) (changes : List Change) (answer : Sdp) (growth : Growth) → GrowsAnswer m p changes answer (Ok growth) q
-      → SameLines m.media p.media q.media
-  kept_lines laws p q changes answer growth grown = laws.prepare_same p.media q.media _ (Ok tt) grown.1
-
-  framed : (p q : Peer I D S M N) (changes : List Change) (answer : Sdp) (growth : Growth) → GrowsAnswer m p changes answer (Ok growth) q
-      → q ≡ record p { ids = q.ids; dtls = q.dtls; media = q.media }
-  framed p q changes answer growth grown =
-      subst (λ (n : N). q ≡ record p { ids = n; dtls = q.dtls; media = q.media }) (sym (ap (λ (x : Peer I D S M N). x.ids) grown.2))
-      (subst (λ (d : DtlsState D). q ≡ record p { ids = ids_after_updates m p false changes answer p.ids; dtls = d; media = q.media })
-      (sym (grown_dtls p q changes answer growth grown)) grown.2)
-
-  -- memory lacked as the agent followed
-  pub answer_stops_following : MediaLaws m.media → (p q : Peer I D S M N) (token : PendingOffer) (answer : Sdp) (growth : Growth) (ice : I) → p.counter ≡ raised token.id
-      → GrowsAnswer m p token.changes answer (Ok growth) q → Later m.ids p.ids q.ids → StopsReady m q.ice growth.following ice
-      → AnswerStopped m p token answer (record q { ice = ice })
-  answer_stops_following laws p q token answer growth ice right grown later h = record {
-    right = right;
-    later = later;
-    ice_stops = stops p q token.changes answer growth ice grown h;
-    dtls_stops = NotStarted (grown_dtls p q token.changes answer growth grown);
-    media_kept = kept_lines laws p q token.changes answer growth grown;
-    rest = ap (λ (x : Peer I D S M N). record x { ice = ice }) (framed p q token.changes answer growth grown);
-  }
-
-  -- memory lacked as the DTLS part took its role
-  pub answer_stops_starting : MediaLaws m.media → (p q : Peer I D S M N) (token : PendingOffer) (answer : Sdp) (growth : Growth) (ice : I) (dtls : DtlsState D)
-      → p.counter ≡ raised token.id → GrowsAnswer m p token.changes answer (Ok growth) q → Later m.ids p.ids q.ids → FollowsReady m q.ice growth.following ice
-      → StartsDtls m.dtls q.dtls q.dtls.active (role_for (sdp_setup answer)) q.greatest (Err DtlsAlloc) dtls
-      → AnswerStopped m p token answer (record q { ice = ice; dtls = dtls })
-  answer_stops_starting laws p q token answer growth ice dtls right grown later followed started = record {
-    right = right;
-    later = later;
-    ice_stops = Behind (follows p q token.changes answer growth ice grown followed);
-    dtls_stops = AtRole (starts p q token.changes answer growth (Err DtlsAlloc) dtls grown started);
-    media_kept = kept_lines laws p q token.changes answer growth grown;
-    rest = ap (λ (x : Peer I D S M N). record x { ice = ice; dtls = dtls; ids = q.ids }) grown.2;
-  }
-
-  -- the DTLS part failed
-  pub answer_faults : (p q : Peer I D S M N) (token : PendingOffer) (answer : Sdp) (growth : Growth) (ice : I) (dtls : DtlsState D) → p.counter ≡ raised token.id
-      → GrowsAnswer m p token.changes answer (Ok growth) q → verdict (held_by (stance_of m p)) (Some (asked_by p.lines token)) answer ≡ None
-      → FollowsReady m q.ice growth.following ice → StartsDtls m.dtls q.dtls q.dtls.active (role_for (sdp_setup answer)) q.greatest (Err Fault) dtls
-      → AnswerFaulted m p token answer (record q { ice = ice; dtls = dtls })
-  answer_faults p q token answer growth ice dtls right grown passes followed started = record {
+  -- a part failed, or memory lacked
+  pub answer_fails : MediaLaws m.media → (p q : Peer I D S M N) (token : PendingOffer) (answer : Sdp) (growth : Growth) (error : RtcError) (ice : I) (dtls : DtlsState D)
+      (sctp : SctpStreams S) → p.counter ≡ raised token.id → GrowsAnswer m p token.changes answer (Ok growth) q → Later m.ids p.ids q.ids
+      → verdict (held_by (stance_of m p)) (Some (asked_by p.lines token)) answer ≡ None → AnswerMoves p token.changes answer (Err error) ice dtls sctp
+      → AcceptsAnswer m p token answer (Err error) (record q { ice = ice; dtls = dtls; sctp = sctp })
+  answer_fails laws p q token answer growth (Dtls Fault) ice dtls sctp right grown later passes moves = record {
     right = right;
     passes = passes;
-    ice_follows = follows p q token.changes answer growth ice grown followed;
-    dtls_fails = starts p q token.changes answer growth (Err Fault) dtls grown started;
+    ice_follows = moves.0;
+    dtls_fails = moves.1;
     media_prepared = grown.1;
-    rest = ap (λ (x : Peer I D S M N). record x { ice = ice; dtls = dtls }) grown.2;
+    rest = moved p q token.changes answer growth ice dtls sctp grown ∙ ap (λ (s : SctpStreams S). record p {
+      ids = ids_after_updates m p false token.changes answer p.ids;
+      ice = ice;
+      dtls = dtls;
+      sctp = s;
+      media = q.media;
+    }) moves.2;
   }
+  answer_fails laws p q token answer growth (Sctp error) ice dtls sctp right grown later passes moves = (
+    moves.0,
+    record {
+      right = right;
+      passes = passes;
+      ice_follows = moves.1;
+      dtls_starts = moves.2;
+      sctp_fails = moves.3;
+      media_prepared = grown.1;
+      rest = moved p q token.changes answer growth ice dtls sctp grown;
+    },
+  )
+  answer_fails laws p q token answer growth Alloc ice dtls sctp right grown later passes moves = record {
+    right = right;
+    later = later;
+    ice_stops = moves.0;
+    dtls_stops = moves.1;
+    sctp_stops = moves.2;
+    media_kept = laws.prepare_same p.media q.media _ (Ok tt) grown.1;
+    rest = ap (λ (x : Peer I D S M N). record x { ids = q.ids; ice = ice; dtls = dtls; sctp = sctp }) grown.2;
+  }
+  answer_fails laws p q token answer growth (Dtls WouldBlock) ice dtls sctp right grown later passes moves = absurd moves
+  answer_fails laws p q token answer growth (Dtls DtlsAlloc) ice dtls sctp right grown later passes moves = absurd moves
+  answer_fails laws p q token answer growth (RemoteSdp why) ice dtls sctp right grown later passes moves = absurd moves
+  answer_fails laws p q token answer growth (SdpRefused error) ice dtls sctp right grown later passes moves = absurd moves
+  answer_fails laws p q token answer growth ChangesOutOfOrder ice dtls sctp right grown later passes moves = absurd moves
+  answer_fails laws p q token answer growth (Net cause) ice dtls sctp right grown later passes moves = absurd moves
+  answer_fails laws p q token answer growth (MediaFailed cause) ice dtls sctp right grown later passes moves = absurd moves
+  answer_fails laws p q token answer growth BadChannel ice dtls sctp right grown later passes moves = absurd moves
 
   -- the answer is accepted
-  pub answer_accepted : (p q : Peer I D S M N) (token : PendingOffer) (answer : Sdp) (growth : Growth) (ice : I) (dtls : DtlsState D) (media : M) (lines : List LineRow)
-      (channels : Channels) → p.counter ≡ raised token.id → GrowsAnswer m p token.changes answer (Ok growth) q
-      → verdict (held_by (stance_of m p)) (Some (asked_by p.lines token)) answer ≡ None → FollowsReady m q.ice growth.following ice
-      → StartsDtls m.dtls q.dtls q.dtls.active (role_for (sdp_setup answer)) q.greatest (Ok tt) dtls → m.media.committed q.media media
-      → lines ≡ table_after p.lines (parsed_lines answer) false → channels ≡ all_confirmed (fitting_channels token.changes) q.channels
-      → AnswerAccepted m p token answer (record q { ice = ice; dtls = dtls; fingerprint = growth.fingerprint; media = media; lines = lines; channels = channels })
-  answer_accepted p q token answer growth ice dtls media lines channels right grown passes followed started committed lines_are confirmed =
+  pub answer_accepted : (p q : Peer I D S M N) (token : PendingOffer) (answer : Sdp) (growth : Growth) (ice : I) (dtls : DtlsState D) (sctp : SctpStreams S) (media : M)
+      (lines : List LineRow) (channels : Channels) → p.counter ≡ raised token.id → GrowsAnswer m p token.changes answer (Ok growth) q
+      → verdict (held_by (stance_of m p)) (Some (asked_by p.lines token)) answer ≡ None → AnswerMoves p token.changes answer (Ok tt) ice dtls sctp
+      → m.media.committed q.media media → lines ≡ table_after p.lines (parsed_lines answer) false → channels ≡ all_confirmed (fitting_channels token.changes) q.channels
+      → AnswerAccepted m p token answer
+      (record q { ice = ice; dtls = dtls; sctp = sctp; fingerprint = growth.fingerprint; media = media; lines = lines; channels = channels })
+  answer_accepted p q token answer growth ice dtls sctp media lines channels right grown passes moves committed lines_are confirmed =
       let told : growth.fingerprint ≡ option_or p.fingerprint (sdp_fingerprint answer) = ap (λ (x : Growth). x.fingerprint) grown.0 in
       let now : channels ≡ all_confirmed (fitting_channels token.changes) p.channels =
       confirmed ∙ ap (λ (x : Peer I D S M N). all_confirmed (fitting_channels token.changes) x.channels) grown.2 in
       record {
         right = right;
         passes = passes;
-        ice_follows = follows p q token.changes answer growth ice grown followed;
-        dtls_starts = starts p q token.changes answer growth (Ok tt) dtls grown started;
+        ice_follows = moves.0;
+        dtls_starts = moves.1;
+        sctp_starts = moves.2;
         media_updated = record { prepared = q.media; by_prepare = grown.1; by_commit = committed };
         rest = rw (told, lines_are, now) (ap (λ (x : Peer I D S M N). record x {
           ice = ice;
           dtls = dtls;
+          sctp = sctp;
           fingerprint = option_or p.fingerprint (sdp_fingerprint answer);
           media = media;
           lines = table_after p.lines (parsed_lines answer) false;

@@ -1,5 +1,5 @@
 -- What an acceptance makes ready, put together from its steps.
-use Rattle.std.proofs.Common.{◌≡◌, ◌∙◌, Bool, true, List, [], Option, Some, Ok, refl, ap, subst}
+use Rattle.std.proofs.Common.{◌≡◌, ◌∙◌, Bool, true, List, [], Option, Some, Ok, ap, subst}
 use Rattle.std.specs.Option.{option_or}
 use Rattle.rtc_sdp_values.specs.Sdp.{creds_of, sdp_fingerprint}
 use Rattle.rtc_sdp_values.specs.declared.ice_creds.IceCreds.{IceCreds}

@@ -1,14 +1,12 @@
-pub mod Tries
-pub mod Tokens
 pub mod Counts
-pub mod Pairs
 pub mod ConfirmLemmas
 pub mod ShownLemmas
-pub mod NumberLemmas
 pub mod FollowLemmas
 pub mod UpdateLemmas
 pub mod StagedMedia
 pub mod MediaLemmas
+pub mod BuildLemmas
 pub mod GrowthLemmas
+pub mod MoveLemmas
 pub mod AcceptanceLemmas
 pub mod AnswerLemmas

@@ -1,4 +1,4 @@
 pub mod ShownChannels
-pub mod EarlierNumbers
 pub mod Growths
+pub mod Moves
 pub mod StagedNames

@@ -3,18 +3,18 @@ ghost use Rattle.std.specs.Prelude.{◌≡◌, ◌≤◌, length, is_some, IfOk,
 ghost use Rattle.std.specs.Option.{option_copied};
 ghost use Rattle.rtc_change.specs.Plans.{PlansSdp, asked_by};
 ghost use Rattle.rtc_tables.specs.Table.{IsTable};
-ghost use Rattle.rtc_peer_state.specs.Acceptances.{AcceptsOffer, AcceptsAnswer, phase_after};
+ghost use Rattle.rtc_peer_state.specs.Acceptances.{AcceptsOffer, AcceptsAnswer, phase_after, refused_phase};
 ghost use Rattle.rtc_peer_state.specs.Meanings.{meanings};
+ghost use Rattle.rtc_peer_state.specs.RtcErrors.{error_of_refusal};
 ghost use Rattle.rtc_peer_state.specs.Stance.{stance_of, held_by};
 
 use crate::confirming::confirm_channels;
-use crate::following::{follow, start_dtls};
 use crate::growing::{grow_answer, grow_offer};
 use crate::growth::Growth;
-use crate::heading::role_for;
+use crate::moving::move_parts;
 use rtc_association::Association;
 use rtc_change::{Plan, Refusal, SdpPendingOffer, View, Why, count_added, plan_answer, plan_offer};
-use rtc_dtls::{DtlsError, DtlsInstance};
+use rtc_dtls::DtlsInstance;
 use rtc_ice::IceAgent;
 use rtc_ids::Ids;
 use rtc_media::MediaSession;
@@ -82,7 +82,8 @@ fn close_unknown(phase: Phase, why: &Why) -> Phase
     ensures { result ≡ phase_after why.now phase }
 {
     match why {
-        Why::NoFingerprint => Phase::Closed,
+        Why::NoFingerprint | Why::NoMatch { .. } | Why::UnknownHash(_) | Why::NoneAnnounced =>
+            Phase::Closed,
         Why::NoLines
         | Why::BothLite
         | Why::NoCredentials
@@ -91,6 +92,21 @@ fn close_unknown(phase: Phase, why: &Why) -> Phase
         | Why::PlaceTaken(_)
         | Why::AnswerRecycles(_)
         | Why::WrongNewLines(_) => phase,
+    }
+}
+
+// Why an offer or an answer is refused, as a peer tells it.
+fn refuse(phase: &mut Phase, refusal: Refusal) -> RtcError
+    ensures error { result ≡ error_of_refusal refusal }
+    ensures phase { phase.new ≡ refused_phase refusal phase.old }
+{
+    match refusal {
+        Refusal::RemoteSdp(why) => {
+            *phase = close_unknown(*phase, &why);
+            RtcError::RemoteSdp(why)
+        }
+        Refusal::Sdp(error) => RtcError::from(error),
+        Refusal::Alloc => RtcError::Alloc,
     }
 }
 
@@ -104,12 +120,7 @@ pub fn accept_offer<I: IceAgent, D: DtlsInstance, S: Association, M: MediaSessio
     peer.counter = peer.counter.wrapping_add(1);
     let plan = match judge_offer(peer, &offer) {
         Ok(plan) => plan,
-        Err(Refusal::RemoteSdp(why)) => {
-            peer.phase = close_unknown(peer.phase, &why);
-            return Err(RtcError::RemoteSdp(why));
-        }
-        Err(Refusal::Sdp(error)) => return Err(RtcError::Sdp(error)),
-        Err(Refusal::Alloc) => return Err(RtcError::Alloc),
+        Err(refusal) => return Err(refuse(&mut peer.phase, refusal)),
     };
     let Ok(growth) = grow_offer(peer, &offer, &plan) else {
         return Err(RtcError::Alloc);
@@ -120,15 +131,17 @@ pub fn accept_offer<I: IceAgent, D: DtlsInstance, S: Association, M: MediaSessio
         fingerprint,
     } = growth;
     let Some(answer) = answer else { unreachable!() };
-    match follow(&mut peer.ice, following) {
+    match move_parts(
+        &mut peer.ice,
+        &mut peer.dtls,
+        &mut peer.sctp,
+        following,
+        &offer,
+        plan.rows.as_slice(),
+        peer.greatest,
+    ) {
         Ok(()) => {}
-        Err(_) => return Err(RtcError::Alloc),
-    }
-    match start_dtls(&mut peer.dtls, role_for(offer.setup()), peer.greatest) {
-        Ok(()) => {}
-        Err(DtlsError::WouldBlock) => unreachable!(),
-        Err(DtlsError::Fault) => return Err(RtcError::Dtls(DtlsError::Fault)),
-        Err(DtlsError::Alloc) => return Err(RtcError::Alloc),
+        Err(error) => return Err(error),
     }
     peer.fingerprint = fingerprint;
     peer.media.commit();
@@ -149,31 +162,25 @@ pub fn accept_answer<I: IceAgent, D: DtlsInstance, S: Association, M: MediaSessi
     }
     let plan = match judge_answer(peer, &token, &answer) {
         Ok(plan) => plan,
-        Err(Refusal::RemoteSdp(why)) => {
-            peer.phase = close_unknown(peer.phase, &why);
-            return Err(RtcError::RemoteSdp(why));
-        }
-        Err(Refusal::Sdp(error)) => return Err(RtcError::Sdp(error)),
-        Err(Refusal::Alloc) => return Err(RtcError::Alloc),
+        Err(refusal) => return Err(refuse(&mut peer.phase, refusal)),
     };
     let changes = token.into_changes();
     let Ok(growth) = grow_answer(peer, &changes, &answer, &plan) else {
         return Err(RtcError::Alloc);
     };
-    let Growth {
-        answer: _,
+    let following = growth.following;
+    let fingerprint = growth.fingerprint;
+    match move_parts(
+        &mut peer.ice,
+        &mut peer.dtls,
+        &mut peer.sctp,
         following,
-        fingerprint,
-    } = growth;
-    match follow(&mut peer.ice, following) {
+        &answer,
+        plan.rows.as_slice(),
+        peer.greatest,
+    ) {
         Ok(()) => {}
-        Err(_) => return Err(RtcError::Alloc),
-    }
-    match start_dtls(&mut peer.dtls, role_for(answer.setup()), peer.greatest) {
-        Ok(()) => {}
-        Err(DtlsError::WouldBlock) => unreachable!(),
-        Err(DtlsError::Fault) => return Err(RtcError::Dtls(DtlsError::Fault)),
-        Err(DtlsError::Alloc) => return Err(RtcError::Alloc),
+        Err(error) => return Err(error),
     }
     peer.fingerprint = fingerprint;
     peer.media.commit();

@@ -1,23 +1,24 @@
 //! Peers that are built.
 ghost use Rattle.std.specs.Prelude.{◌≡◌, ◌≤◌, ◌<◌, ◌^◌, IfOk, OnOk, length, ℕ};
 ghost use Rattle.std.specs.Option.{option_copied};
-ghost use Rattle.rtc_peer_state.specs.Built.{Builds, creds_or, after_creds, cert_or, after_cert};
+ghost use Rattle.rtc_peer_state.specs.Built.{Builds, creds_or, after_creds, cert_or, after_cert, empty_peer as EmptyPeer};
 ghost use Rattle.rtc_peer_state.specs.Meanings.{meanings};
 
-use crate::drawing_creds::make_creds;
 use rtc_association::Association;
 use rtc_change::Lines;
 use rtc_channels::ChannelHandler;
+use rtc_drawing::make_creds;
 use rtc_dtls::{Dtls, DtlsInstance};
 use rtc_ice::IceAgent;
 use rtc_ids::Ids;
 use rtc_media::MediaSession;
 use rtc_peer_state::{Peer, Phase, RtcConfig, Staged};
+use rtc_sctp::RtcSctp;
 use rtc_sdp_values::IceCreds;
-use rtc_wire::{Bytes, Moment, TryCopy};
+use rtc_wire::{Bytes, LOCAL_MAX_MESSAGE_SIZE, Moment, TryCopy};
 use std::alloc::{AllocError, Global};
 
-// The sizes of datagrams that a DTLS part aims at and warns of, in bytes.
+// The sizes of datagrams that the DTLS part and the association aim at, and that the DTLS part warns of, in bytes.
 const MTU: (usize, usize) = (1150, 1280);
 
 // The credentials that are given, or else those that are drawn.
@@ -56,6 +57,36 @@ fn make_cert<N: Ids>(alloc: Global, ids: &mut N, given: Option<&[u8]>) -> Result
     }
 }
 
+fn empty_peer<I, D, S, M, N>(
+    alloc: Global,
+    session_id: u64,
+    start: Moment,
+    ice: I,
+    dtls: Dtls<D>,
+    sctp: RtcSctp<S>,
+    media: M,
+    ids: N,
+) -> Peer<I, D, S, M, N>
+    ensures { result ≡ EmptyPeer alloc session_id start ice dtls sctp media ids }
+{
+    Peer {
+        alloc,
+        lines: Lines::new(alloc),
+        staged: Staged::new(alloc),
+        channels: ChannelHandler::new(alloc),
+        counter: 0,
+        session_id,
+        phase: Phase::Alive,
+        fingerprint: None,
+        greatest: start,
+        ice,
+        dtls,
+        sctp,
+        media,
+        ids,
+    }
+}
+
 /// A peer with no rows over fresh parts, as its config says: the number of its session is drawn, and its credentials and its certificate
 /// where none are set.
 pub fn build_peer<
@@ -74,6 +105,7 @@ pub fn build_peer<
     media: M,
     ids: N,
 ) -> Result<Peer<I, D, S, M, N>, AllocError>
+    requires { S.association.fresh association }
     ensures { IfOk result (λ p. Builds (meanings I.ice D.dtls S.association M.media N.ids)
         alloc config start ice dtls association media ids p) }
 {
@@ -85,20 +117,6 @@ pub fn build_peer<
     ice.set_ice_lite(config.ice_lite());
     ice.set_local_credentials(creds);
     let dtls = Dtls::new(alloc, cert.as_slice(), dtls, MTU)?;
-    Ok(Peer {
-        alloc,
-        lines: Lines::new(alloc),
-        staged: Staged::new(alloc),
-        channels: ChannelHandler::new(alloc),
-        counter: 0,
-        session_id,
-        phase: Phase::Alive,
-        fingerprint: None,
-        greatest: start,
-        ice,
-        dtls,
-        association,
-        media,
-        ids,
-    })
+    let sctp = RtcSctp::new(alloc, MTU.0, LOCAL_MAX_MESSAGE_SIZE, start, association);
+    Ok(empty_peer(alloc, session_id, start, ice, dtls, sctp, media, ids))
 }

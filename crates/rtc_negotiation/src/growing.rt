@@ -17,13 +17,13 @@ ghost use Rattle.rtc_peer_state.specs.Stance.{stance_of};
 ghost use Rattle.rtc_negotiation.specs.Growths.{following_of, GrowsOffer, GrowsAnswer};
 
 use crate::describing::make_sdp;
-use crate::drawing_creds::make_creds;
 use crate::following::Following;
 use crate::growth::Growth;
 use crate::heading::{make_head, role_after, setup_of_role};
 use crate::updating::list_updates;
 use rtc_association::Association;
 use rtc_change::{Change, Changes, Plan};
+use rtc_drawing::make_creds;
 use rtc_dtls::{Dtls, DtlsInstance};
 use rtc_ice::IceAgent;
 use rtc_ids::Ids;
@@ -184,7 +184,7 @@ fn list_line_updates<I: IceAgent, D: DtlsInstance, S: Association, M: MediaSessi
     Ok(updates)
 }
 
-// Makes the updates ready. Where memory lacks, the lines are as they were.
+// Makes the updates ready. Where memory runs out, the lines are as they were.
 fn prepare_media<M: MediaSession>(media: &mut M, updates: &[MediaUpdate]) -> Result<(), AllocError>
     ensures ok { OnOk result (M.media.prepared media.old updates.now (Ok tt) media.new) }
     ensures err { OnErr result (SameLines M.media media.old media.new) }

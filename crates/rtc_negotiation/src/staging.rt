@@ -1,18 +1,16 @@
 //! Lines and channels that are staged.
-ghost use Rattle.std.specs.Prelude.{◌≡◌, [], IfOk, OnOk};
+ghost use Rattle.std.specs.Prelude.{◌≡◌, IfOk, OnOk};
 ghost use Rattle.rtc_ids.specs.Draws.{Later};
-ghost use Rattle.rtc_peer_state.specs.Sources.{has_source, next_pairs, after_pairs, pair_count};
-ghost use Rattle.rtc_negotiation.specs.StagedNames.{given_name, drawn_stream, drawn_track, after_names};
+ghost use Rattle.rtc_peer_state.specs.Sources.{has_source, after_pairs, pair_count};
+ghost use Rattle.rtc_negotiation.specs.StagedNames.{given_name, drawn_msid, drawn_media, after_names};
 ghost use Rattle.rtc_peer_state.specs.Calls.{AddsMedia, AddsChannel, StagesRestart};
 ghost use Rattle.rtc_peer_state.specs.Meanings.{meanings};
 
-use crate::drawing_creds::make_creds;
-use crate::naming::{draw_name, keep_name};
-use crate::sourcing::draw_first_pairs;
 use crate::updating::count_pairs;
 use rtc_association::Association;
 use rtc_change::AddMedia;
 use rtc_channels::ChannelError;
+use rtc_drawing::{draw_first_pairs, draw_name, keep_name, make_creds};
 use rtc_dtls::DtlsInstance;
 use rtc_ice::IceAgent;
 use rtc_ids::Ids;
@@ -21,6 +19,28 @@ use rtc_peer_state::{Peer, RtcError};
 use rtc_sdp_values::{Direction, IceCreds, MediaKind, Mid, Msid, Simulcast};
 use rtc_wire::{ChannelConfig, ChannelId, TryCopy};
 use std::alloc::{AllocError, Global};
+
+// The names of a stream and of its track: those that are given, or else drawn ones.
+#[tactic(auto, using(rtc_ids::proofs::LaterLemmas::later_none, rtc_ids::proofs::LaterLemmas::later_join))]
+fn draw_msid<N: Ids>(
+    alloc: Global,
+    ids: &mut N,
+    stream_id: Option<String>,
+    track_id: Option<String>,
+) -> Result<Msid, AllocError>
+    ensures msid { IfOk result (λ msid. msid ≡ drawn_msid N.ids (given_name stream_id) (given_name track_id) ids.old) }
+    ensures after { OnOk result (ids.new ≡ after_names N.ids (given_name stream_id) (given_name track_id) ids.old) }
+    ensures later { Later N.ids ids.old ids.new }
+{
+    let stream = keep_name(alloc, stream_id)?;
+    let stream_id = draw_name(alloc, ids, "s", stream)?;
+    let track = keep_name(alloc, track_id)?;
+    let track_id = draw_name(alloc, ids, "t", track)?;
+    Ok(Msid {
+        stream_id,
+        track_id,
+    })
+}
 
 // A media line of a mid: its names are drawn, and its sources.
 #[tactic(auto, using(rtc_ids::proofs::LaterLemmas::later_none, rtc_ids::proofs::LaterLemmas::later_join))]
@@ -35,37 +55,25 @@ fn make_media<M: MediaSession, N: Ids>(
     track_id: Option<String>,
     simulcast: Option<Simulcast>,
 ) -> Result<AddMedia, AllocError>
-    ensures media { IfOk result (λ made. made ≡ record {
-      mid = mid;
-      cname = drawn_track N.ids (given_name stream_id) (given_name track_id) ids.old;
-      msid = record {
-        stream_id = drawn_stream N.ids (given_name stream_id) ids.old;
-        track_id = drawn_track N.ids (given_name stream_id) (given_name track_id) ids.old;
-      };
+    ensures media { IfOk result (λ made. made ≡ drawn_media N.ids (has_source M.media media.now) mid (record {
       kind = kind;
       dir = dir;
-      ssrcs = next_pairs N.ids (has_source M.media media.now) kind [] (pair_count simulcast)
-          (after_names N.ids (given_name stream_id) (given_name track_id) ids.old);
+      stream = given_name stream_id;
+      track = given_name track_id;
       simulcast = simulcast;
-    }) }
+    }) ids.old) }
     ensures after { OnOk result (ids.new ≡ after_pairs N.ids (has_source M.media media.now) kind (pair_count simulcast)
         (after_names N.ids (given_name stream_id) (given_name track_id) ids.old)) }
     ensures later { Later N.ids ids.old ids.new }
 {
-    let stream = keep_name(alloc, stream_id)?;
-    let stream_id = draw_name(alloc, ids, "s", stream)?;
-    let track = keep_name(alloc, track_id)?;
-    let track_id = draw_name(alloc, ids, "t", track)?;
-    let cname = track_id.copy()?;
+    let msid = draw_msid(alloc, ids, stream_id, track_id)?;
+    let cname = msid.track_id.copy()?;
     let count = count_pairs(&simulcast);
     let ssrcs = draw_first_pairs(alloc, ids, media, kind, count)?;
     Ok(AddMedia {
         mid,
         cname,
-        msid: Msid {
-            stream_id,
-            track_id,
-        },
+        msid,
         kind,
         dir,
         ssrcs,

@@ -6,8 +6,7 @@ ghost use Rattle.rtc_ids.specs.Draws.{Later};
 ghost use Rattle.rtc_peer_state.specs.MadeSdp.{is_stopped};
 ghost use Rattle.rtc_peer_state.specs.Sources.{has_source, pair_numbers, pair_count as PairCount};
 ghost use Rattle.rtc_peer_state.specs.LineUpdates.{
-  added_media,
-  sending_of,
+  line_sending,
   has_none,
   row_kind,
   wants_sources as WantsSources,
@@ -22,10 +21,9 @@ ghost use Rattle.rtc_peer_state.specs.LineUpdates.{
 };
 
 use crate::describing::is_stopped_row;
-use crate::earlier_numbers::EarlierNumbers;
 use crate::sent_on_lines::find_sending;
-use crate::sourcing::draw_pairs;
 use rtc_change::Change;
+use rtc_drawing::{EarlierNumbers, draw_pairs};
 use rtc_ids::Ids;
 use rtc_media::{MediaSession, MediaUpdate};
 use rtc_peer_state::Sending;
@@ -197,9 +195,11 @@ fn push_update<M: MediaSession, N: Ids>(
     updates: &mut Vec<MediaUpdate>,
 ) -> Result<(), AllocError>
     ensures updates { OnOk result (updates.new.items ≡ updates.old.items ++ if_media named.now.row.now (RowUpdate offer
-        (option_copied named.now.before) named.now.row.now named.now.line.now sending (row_pairs N.ids (has_source M.media media.now) sending earlier.old named.now.row.now ids.old))) }
+        (option_copied named.now.before) named.now.row.now named.now.line.now sending
+        (row_pairs N.ids (has_source M.media media.now) sending earlier.old named.now.row.now ids.old))) }
     ensures earlier { OnOk result (earlier.new
-        ≡ earlier.old ++ flat_map pair_numbers (row_pairs N.ids (has_source M.media media.now) sending earlier.old named.now.row.now ids.old)) }
+        ≡ earlier.old ++ flat_map pair_numbers
+        (row_pairs N.ids (has_source M.media media.now) sending earlier.old named.now.row.now ids.old)) }
     ensures after { OnOk result (ids.new ≡ after_row N.ids (has_source M.media media.now) sending named.now.row.now ids.old) }
     ensures later { Later N.ids ids.old ids.new }
 {
@@ -241,12 +241,10 @@ pub fn list_updates<M: MediaSession, N: Ids>(
     rows: &[LineRow],
     lines: &[MediaLine],
 ) -> Result<Vec<MediaUpdate>, AllocError>
-    ensures updates { IfOk result (λ updates. updates.items
-        ≡ row_updates N.ids (has_source M.media media.now)
-        (λ mid. sending_of (M.media.line media.now mid) (added_media changes.now mid) mid) offer before.now rows.now lines.now [] ids.old) }
-    ensures after { OnOk result (ids.new
-        ≡ after_updates N.ids (has_source M.media media.now)
-        (λ mid. sending_of (M.media.line media.now mid) (added_media changes.now mid) mid) rows.now lines.now ids.old) }
+    ensures updates { IfOk result (λ updates. updates.items ≡ row_updates N.ids (has_source M.media media.now)
+        (line_sending (M.media.line media.now) changes.now) offer before.now rows.now lines.now [] ids.old) }
+    ensures after { OnOk result (ids.new ≡ after_updates N.ids (has_source M.media media.now)
+        (line_sending (M.media.line media.now) changes.now) rows.now lines.now ids.old) }
     ensures later { Later N.ids ids.old ids.new }
 {
     let mut updates = Vec::new(alloc);

@@ -3,6 +3,7 @@
 //! The crate passes on all that its callers name, so that a program lists `rtc_peer`, `rtc_wire` and a crate with a source of numbers.
 #![tactic(auto)]
 
+mod polls;
 mod rtc;
 mod sdp_api;
 
@@ -11,13 +12,16 @@ pub use rtc_association::Association;
 pub use rtc_change::{AddMedia, Change, Changes, Lines, NewLine, SdpPendingOffer, Why};
 pub use rtc_channels::{ChannelError, ChannelRow};
 pub use rtc_dtls::{DtlsError, DtlsInstance};
-pub use rtc_ice::IceAgent;
+pub use rtc_ice::{IceAgent, IceConnectionState};
 pub use rtc_ids::Ids;
 pub use rtc_lines::{
     Candidate, CandidateKind, CodecConfig, Direction, Extension, ExtensionMap, Fingerprint,
     IceCreds, Inconsistent, LineKind, LineRow, MediaKind, MediaLine, Mid, Msid, PayloadRow, Pt,
     Rid, Sdp, SdpAnswer, SdpError, SdpOffer, Setup, Simulcast, SimulcastLayer, Ssrc,
 };
-pub use rtc_media::MediaSession;
+pub use rtc_media::{MediaError, MediaSession};
+pub use rtc_parts_values::Reason;
 pub use rtc_peer_state::{RtcConfig, RtcError};
+pub use rtc_polling::{ChannelData, Event, Input, Output};
+pub use rtc_sctp::{ProtoError, SctpError};
 pub use sdp_api::SdpApi;

@@ -1,14 +1,15 @@
 //! The peer that callers hold.
-ghost use Rattle.std.specs.Prelude.{◌≡◌, ◌≢◌, IsTrue, ◌↔◌, [], IfOk, IfSome, slice_get};
+ghost use Rattle.std.specs.Prelude.{◌≡◌, ◌≢◌, IsTrue, ◌↔◌, [], IfOk, IfSome, slice_get, true};
 ghost use Rattle.std.specs.Option.{option_copied};
 ghost use Rattle.rtc_channels.specs.Channels.{channel_rows};
 ghost use Rattle.rtc_peer_state.specs.declared.phase.Phase.TheVariants.{Closed};
 ghost use Rattle.rtc_peer_state.specs.Acceptances.{AcceptsOffer, AcceptsAnswer};
 ghost use Rattle.rtc_peer_state.specs.Calls.{AddsMedia, AddsChannel, StagesRestart, SetsDirection, StopsMedia, Applies};
 ghost use Rattle.rtc_peer_state.specs.Built.{AreFresh, Builds};
-ghost use Rattle.rtc_peer_state.specs.Formed.{AreTokenCreds, IsFormed};
+ghost use Rattle.rtc_peer_state.specs.Formed.{AreSdpCreds, IsFormed};
 ghost use Rattle.rtc_peer_state.specs.Meanings.{meanings};
 ghost use Rattle.rtc_peer_state.specs.Stance.{stance_of};
+ghost use Rattle.rtc_polling.specs.Connection.{no_transport};
 ghost use Rattle.rtc_peer.specs.Described.{sdp_of_answer, sdp_of_offer};
 ghost use Rattle.rtc_peer.specs.Labelled.{labelled_config};
 ghost use Rattle.rtc_peer.specs.Readings.{media_row_of, is_alive_phase, AddsRemote};
@@ -29,7 +30,8 @@ use rtc_negotiation::{
     accept_answer, accept_offer, apply_staged, build_peer, list_channels, set_direction,
     show_channel, stage_channel, stage_media, stage_restart, stop_media,
 };
-use rtc_peer_state::{Peer, Phase, RtcConfig, RtcError};
+use rtc_peer_state::{Phase, RtcConfig, RtcError};
+use rtc_polling::{PolledPeer, Transport};
 use rtc_wire::{ChannelConfig, ChannelId, Moment, Seq, Text};
 use std::alloc::{AllocError, Global};
 use std::marker::Model;
@@ -52,16 +54,16 @@ fn media_row(lines: &Lines, mid: Mid) -> Option<&LineRow>
 /// It reads no clock and no socket: moments, offers and answers are arguments of its calls.
 #[derive(Drop)]
 pub struct Rtc<I: IceAgent, D: DtlsInstance, S: Association, M: MediaSession, N: Ids> {
-    core: Peer<I, D, S, M, N>,
+    pub(crate) polled: PolledPeer<I, D, S, M, N>,
 }
 
 impl<I: IceAgent, D: DtlsInstance, S: Association, M: MediaSession, N: Ids> Model
     for Rtc<I, D, S, M, N> {
-    ghost use Rattle.rtc_peer_state.specs.Whole.{Whole};
+    ghost use Rattle.rtc_polling.specs.declared.polled_peer.PolledPeer.{PolledPeer};
 
-    ghost Value = { Whole I D S M N };
+    ghost Value = { PolledPeer I D S M N };
 
-    ghost view = { λ rtc. record { core = rtc.core } };
+    ghost view = { λ rtc. rtc.polled };
 }
 
 impl<
@@ -72,7 +74,7 @@ impl<
     N: Ids + Drop,
 > Rtc<I, D, S, M, N> {
     /// The peer of a config over five fresh parts. It draws the number of its session, and its credentials and its certificate
-    /// where none are set.
+    /// where none are set. The certificate of the other side has to match the fingerprint that it announces.
     pub fn build(
         alloc: Global,
         config: RtcConfig,
@@ -86,12 +88,16 @@ impl<
         requires fresh { AreFresh (meanings I.ice D.dtls S.association M.media N.ids) ice dtls association media }
         ensures built { IfOk result (λ rtc. Builds (meanings I.ice D.dtls S.association M.media N.ids)
             alloc config start ice dtls association media ids rtc.core) }
-        ensures formed { IfOk result (λ rtc. IfSome config.creds AreTokenCreds → IsFormed (stance_of (meanings I.ice D.dtls S.association M.media N.ids)
-            rtc.core)) }
+        ensures unconnected { IfOk result (λ rtc. rtc.transport ≡ no_transport true) }
+        ensures formed { IfOk result (λ rtc. IfSome config.creds AreSdpCreds
+            → IsFormed (stance_of (meanings I.ice D.dtls S.association M.media N.ids) rtc.core)) }
     {
+        let transport = Transport::new(alloc, true)?;
         let core = build_peer(alloc, config, start, ice, dtls, association, media, ids)?;
         let _session = core.session_id;
-        Ok(Rtc { core })
+        Ok(Rtc {
+            polled: PolledPeer { core, transport },
+        })
     }
 }
 
@@ -100,8 +106,9 @@ impl<I: IceAgent, D: DtlsInstance, S: Association, M: MediaSession, N: Ids> Rtc<
     pub fn sdp_api(&mut self) -> SdpApi<'_, I, D, S, M, N>
         ensures same_reference { result.rtc.ghost_name ≡ self.entry.ghost_name }
         ensures peer { result.rtc.now.core ≡ record self.old.core { staged = [] } }
+        ensures connection { result.rtc.now.transport ≡ self.old.transport }
     {
-        self.core.staged.clear();
+        self.polled.core.staged.clear();
         SdpApi { rtc: self }
     }
 
@@ -109,35 +116,35 @@ impl<I: IceAgent, D: DtlsInstance, S: Association, M: MediaSession, N: Ids> Rtc<
     pub fn lines(&self) -> &Lines
         ensures { result.now ≡ self.now.core.lines }
     {
-        &self.core.lines
+        &self.polled.core.lines
     }
 
     /// The rows of the data channels, in order of their numbers.
     pub fn channels(&self) -> Result<Seq<ChannelRow>, AllocError>
         ensures { IfOk result (λ rows. rows ≡ channel_rows self.now.core.channels) }
     {
-        list_channels(&self.core)
+        list_channels(&self.polled.core)
     }
 
     /// The row of the data channel at a place of `channels`, from 0.
     pub fn channel_row(&self, k: usize) -> Option<ChannelRow>
         ensures { result ≡ slice_get (channel_rows self.now.core.channels) k }
     {
-        show_channel(&self.core, k)
+        show_channel(&self.polled.core, k)
     }
 
     /// The row of the media line of a mid.
     pub fn media(&self, mid: Mid) -> Option<&LineRow>
         ensures { option_copied result ≡ media_row_of self.now.core.lines mid }
     {
-        media_row(&self.core.lines, mid)
+        media_row(&self.polled.core.lines, mid)
     }
 
     /// Whether the peer is not closed.
     pub fn is_alive(&self) -> bool
         ensures { result ≡ is_alive_phase self.now.core.phase }
     {
-        match self.core.phase {
+        match self.polled.core.phase {
             Phase::Alive | Phase::Closing => true,
             Phase::Closed => false,
         }
@@ -145,9 +152,10 @@ impl<I: IceAgent, D: DtlsInstance, S: Association, M: MediaSession, N: Ids> Rtc<
 
     /// Closes the peer at once, without a word to the other side.
     pub fn disconnect(&mut self)
-        ensures { self.new.core ≡ record self.old.core { phase = Closed } }
+        ensures closed { self.new.core ≡ record self.old.core { phase = Closed } }
+        ensures connection { self.new.transport ≡ self.old.transport }
     {
-        self.core.phase = Phase::Closed;
+        self.polled.core.phase = Phase::Closed;
     }
 
     /// Gives the ICE agent an address of this side, which offers and answers then tell. Ok says whether it was taken: an
@@ -155,16 +163,18 @@ impl<I: IceAgent, D: DtlsInstance, S: Association, M: MediaSession, N: Ids> Rtc<
     pub fn add_local_candidate(&mut self, candidate: Candidate) -> Result<bool, AllocError>
         ensures added { I.ice.local_added self.old.core.ice candidate result self.new.core.ice }
         ensures others { self.new.core ≡ record self.old.core { ice = self.new.core.ice } }
+        ensures connection { self.new.transport ≡ self.old.transport }
     {
-        self.core.ice.add_local_candidate(candidate)
+        self.polled.core.ice.add_local_candidate(candidate)
     }
 
     /// Gives the ICE agent an address of the other side that came apart from an offer or an answer (RFC 8838).
     pub fn add_remote_candidate(&mut self, candidate: Candidate) -> Result<(), AllocError>
         ensures added { AddsRemote I.ice self.old.core.ice candidate result self.new.core.ice }
         ensures others { self.new.core ≡ record self.old.core { ice = self.new.core.ice } }
+        ensures connection { self.new.transport ≡ self.old.transport }
     {
-        match self.core.ice.add_remote_candidate(candidate) {
+        match self.polled.core.ice.add_remote_candidate(candidate) {
             Ok(_taken) => Ok(()),
             Err(error) => Err(error),
         }
@@ -173,14 +183,15 @@ impl<I: IceAgent, D: DtlsInstance, S: Association, M: MediaSession, N: Ids> Rtc<
     pub(crate) fn has_staged(&self) -> bool
         ensures { IsTrue result ↔ (self.now.core.staged ≢ []) }
     {
-        !self.core.staged.is_empty()
+        !self.polled.core.staged.is_empty()
     }
 
     pub(crate) fn accept_offer(&mut self, offer: SdpOffer) -> Result<SdpAnswer, RtcError>
-        ensures { AcceptsOffer (meanings I.ice D.dtls S.association M.media N.ids)
+        ensures accepts { AcceptsOffer (meanings I.ice D.dtls S.association M.media N.ids)
             self.old.core offer.0 (sdp_of_answer result) self.new.core }
+        ensures connection { self.new.transport ≡ self.old.transport }
     {
-        match accept_offer(&mut self.core, offer.0) {
+        match accept_offer(&mut self.polled.core, offer.0) {
             Ok(answer) => Ok(SdpAnswer(answer)),
             Err(error) => Err(error),
         }
@@ -191,9 +202,11 @@ impl<I: IceAgent, D: DtlsInstance, S: Association, M: MediaSession, N: Ids> Rtc<
         pending: SdpPendingOffer,
         answer: SdpAnswer,
     ) -> Result<(), RtcError>
-        ensures { AcceptsAnswer (meanings I.ice D.dtls S.association M.media N.ids) self.old.core pending answer.0 result self.new.core }
+        ensures accepts { AcceptsAnswer (meanings I.ice D.dtls S.association M.media N.ids)
+            self.old.core pending answer.0 result self.new.core }
+        ensures connection { self.new.transport ≡ self.old.transport }
     {
-        accept_answer(&mut self.core, pending, answer.0)
+        accept_answer(&mut self.polled.core, pending, answer.0)
     }
 
     pub(crate) fn stage(
@@ -204,49 +217,63 @@ impl<I: IceAgent, D: DtlsInstance, S: Association, M: MediaSession, N: Ids> Rtc<
         track_id: Option<String>,
         simulcast: Option<Simulcast>,
     ) -> Result<Mid, AllocError>
-        ensures { AddsMedia (meanings I.ice D.dtls S.association M.media N.ids) self.old.core
+        ensures adds { AddsMedia (meanings I.ice D.dtls S.association M.media N.ids) self.old.core
             (wanted_line kind dir stream_id track_id simulcast) result self.new.core }
+        ensures connection { self.new.transport ≡ self.old.transport }
     {
-        stage_media(&mut self.core, kind, dir, stream_id, track_id, simulcast)
+        stage_media(
+            &mut self.polled.core,
+            kind,
+            dir,
+            stream_id,
+            track_id,
+            simulcast,
+        )
     }
 
     pub(crate) fn stage_channel(&mut self, config: ChannelConfig) -> Result<ChannelId, RtcError>
-        ensures { AddsChannel (meanings I.ice D.dtls S.association M.media N.ids) self.old.core config result self.new.core }
+        ensures adds { AddsChannel (meanings I.ice D.dtls S.association M.media N.ids) self.old.core config result self.new.core }
+        ensures connection { self.new.transport ≡ self.old.transport }
     {
-        stage_channel(&mut self.core, config)
+        stage_channel(&mut self.polled.core, config)
     }
 
     pub(crate) fn stage_labelled(&mut self, label: String) -> Result<ChannelId, RtcError>
-        ensures { AddsChannel (meanings I.ice D.dtls S.association M.media N.ids) self.old.core
+        ensures adds { AddsChannel (meanings I.ice D.dtls S.association M.media N.ids) self.old.core
             (labelled_config label) result self.new.core }
+        ensures connection { self.new.transport ≡ self.old.transport }
     {
-        let mut config = ChannelConfig::new(self.core.alloc);
+        let mut config = ChannelConfig::new(self.polled.core.alloc);
         config.label = Text::new(label);
-        stage_channel(&mut self.core, config)
+        stage_channel(&mut self.polled.core, config)
     }
 
     pub(crate) fn stage_restart(&mut self, keeps: bool) -> Result<IceCreds, AllocError>
-        ensures { StagesRestart (meanings I.ice D.dtls S.association M.media N.ids) self.old.core keeps result self.new.core }
+        ensures stages { StagesRestart (meanings I.ice D.dtls S.association M.media N.ids) self.old.core keeps result self.new.core }
+        ensures connection { self.new.transport ≡ self.old.transport }
     {
-        stage_restart(&mut self.core, keeps)
+        stage_restart(&mut self.polled.core, keeps)
     }
 
     pub(crate) fn set_direction(&mut self, mid: Mid, dir: Direction) -> Result<bool, AllocError>
-        ensures { SetsDirection self.old.core mid dir result self.new.core }
+        ensures sets { SetsDirection self.old.core mid dir result self.new.core }
+        ensures connection { self.new.transport ≡ self.old.transport }
     {
-        set_direction(&mut self.core, mid, dir)
+        set_direction(&mut self.polled.core, mid, dir)
     }
 
     pub(crate) fn stop_media(&mut self, mid: Mid) -> Result<bool, AllocError>
-        ensures { StopsMedia self.old.core mid result self.new.core }
+        ensures stops { StopsMedia self.old.core mid result self.new.core }
+        ensures connection { self.new.transport ≡ self.old.transport }
     {
-        stop_media(&mut self.core, mid)
+        stop_media(&mut self.polled.core, mid)
     }
 
     pub(crate) fn apply(&mut self) -> Result<Option<(SdpOffer, SdpPendingOffer)>, AllocError>
-        ensures { Applies (meanings I.ice D.dtls S.association M.media N.ids) self.old.core (sdp_of_offer result) self.new.core }
+        ensures applies { Applies (meanings I.ice D.dtls S.association M.media N.ids) self.old.core (sdp_of_offer result) self.new.core }
+        ensures connection { self.new.transport ≡ self.old.transport }
     {
-        match apply_staged(&mut self.core)? {
+        match apply_staged(&mut self.polled.core)? {
             Some((offer, token)) => Ok(Some((SdpOffer(offer), token))),
             None => Ok(None),
         }

@@ -40,8 +40,9 @@ impl<'a, I: IceAgent, D: DtlsInstance, S: Association, M: MediaSession, N: Ids> 
     ///
     /// An offer of this side that still awaits its answer is superseded, also where the offer is refused.
     pub fn accept_offer(self, offer: SdpOffer) -> Result<SdpAnswer, RtcError>
-        ensures { AcceptsOffer (meanings I.ice D.dtls S.association M.media N.ids)
+        ensures accepts { AcceptsOffer (meanings I.ice D.dtls S.association M.media N.ids)
             self.entry.rtc.now.core offer.0 (sdp_of_answer result) self.exit.0.now.core }
+        ensures connection { self.exit.0.now.transport ≡ self.entry.rtc.now.transport }
     {
         self.rtc.accept_offer(offer)
     }
@@ -49,8 +50,9 @@ impl<'a, I: IceAgent, D: DtlsInstance, S: Association, M: MediaSession, N: Ids> 
     /// Accepts the answer to an offer of this side (RFC 8829, section 5.11). The token is spent, also where the answer is
     /// refused.
     pub fn accept_answer(self, pending: SdpPendingOffer, answer: SdpAnswer) -> Result<(), RtcError>
-        ensures { AcceptsAnswer (meanings I.ice D.dtls S.association M.media N.ids)
+        ensures accepts { AcceptsAnswer (meanings I.ice D.dtls S.association M.media N.ids)
             self.entry.rtc.now.core pending answer.0 result self.exit.0.now.core }
+        ensures connection { self.exit.0.now.transport ≡ self.entry.rtc.now.transport }
     {
         self.rtc.accept_answer(pending, answer)
     }
@@ -84,6 +86,7 @@ impl<'a, I: IceAgent, D: DtlsInstance, S: Association, M: MediaSession, N: Ids> 
         ensures same_reference { self.new.rtc.ghost_name ≡ self.old.rtc.ghost_name }
         ensures adds { AddsMedia (meanings I.ice D.dtls S.association M.media N.ids) self.old.rtc.now.core
             (wanted_line kind dir stream_id track_id simulcast) result self.new.rtc.now.core }
+        ensures connection { self.new.rtc.now.transport ≡ self.old.rtc.now.transport }
     {
         self.rtc.stage(kind, dir, stream_id, track_id, simulcast)
     }
@@ -93,6 +96,7 @@ impl<'a, I: IceAgent, D: DtlsInstance, S: Association, M: MediaSession, N: Ids> 
         ensures same_reference { self.new.rtc.ghost_name ≡ self.old.rtc.ghost_name }
         ensures adds { AddsChannel (meanings I.ice D.dtls S.association M.media N.ids)
             self.old.rtc.now.core (labelled_config label) result self.new.rtc.now.core }
+        ensures connection { self.new.rtc.now.transport ≡ self.old.rtc.now.transport }
     {
         self.rtc.stage_labelled(label)
     }
@@ -105,6 +109,7 @@ impl<'a, I: IceAgent, D: DtlsInstance, S: Association, M: MediaSession, N: Ids> 
         ensures same_reference { self.new.rtc.ghost_name ≡ self.old.rtc.ghost_name }
         ensures adds { AddsChannel (meanings I.ice D.dtls S.association M.media N.ids)
             self.old.rtc.now.core config result self.new.rtc.now.core }
+        ensures connection { self.new.rtc.now.transport ≡ self.old.rtc.now.transport }
     {
         self.rtc.stage_channel(config)
     }
@@ -116,6 +121,7 @@ impl<'a, I: IceAgent, D: DtlsInstance, S: Association, M: MediaSession, N: Ids> 
     pub fn set_direction(&mut self, mid: Mid, dir: Direction) -> Result<bool, AllocError>
         ensures same_reference { self.new.rtc.ghost_name ≡ self.old.rtc.ghost_name }
         ensures sets { SetsDirection self.old.rtc.now.core mid dir result self.new.rtc.now.core }
+        ensures connection { self.new.rtc.now.transport ≡ self.old.rtc.now.transport }
     {
         self.rtc.set_direction(mid, dir)
     }
@@ -128,6 +134,7 @@ impl<'a, I: IceAgent, D: DtlsInstance, S: Association, M: MediaSession, N: Ids> 
     pub fn stop_media(&mut self, mid: Mid) -> Result<bool, AllocError>
         ensures same_reference { self.new.rtc.ghost_name ≡ self.old.rtc.ghost_name }
         ensures stops { StopsMedia self.old.rtc.now.core mid result self.new.rtc.now.core }
+        ensures connection { self.new.rtc.now.transport ≡ self.old.rtc.now.transport }
     {
         self.rtc.stop_media(mid)
     }
@@ -138,6 +145,7 @@ impl<'a, I: IceAgent, D: DtlsInstance, S: Association, M: MediaSession, N: Ids> 
         ensures same_reference { self.new.rtc.ghost_name ≡ self.old.rtc.ghost_name }
         ensures stages { StagesRestart (meanings I.ice D.dtls S.association M.media N.ids)
             self.old.rtc.now.core keep_local_candidates result self.new.rtc.now.core }
+        ensures connection { self.new.rtc.now.transport ≡ self.old.rtc.now.transport }
     {
         self.rtc.stage_restart(keep_local_candidates)
     }
@@ -147,8 +155,9 @@ impl<'a, I: IceAgent, D: DtlsInstance, S: Association, M: MediaSession, N: Ids> 
     /// None where nothing but channels is staged, which no offer tells of: these are confirmed, and an offer that awaits its
     /// answer is superseded. None, and nothing happens, where nothing is staged.
     pub fn apply(self) -> Result<Option<(SdpOffer, SdpPendingOffer)>, AllocError>
-        ensures { Applies (meanings I.ice D.dtls S.association M.media N.ids)
+        ensures applies { Applies (meanings I.ice D.dtls S.association M.media N.ids)
             self.entry.rtc.now.core (sdp_of_offer result) self.exit.0.now.core }
+        ensures connection { self.exit.0.now.transport ≡ self.entry.rtc.now.transport }
     {
         self.rtc.apply()
     }

@@ -10,3 +10,4 @@ pub mod StanceLemmas
 pub mod StanceAcceptances
 pub mod FormedHeads
 pub mod FormedStances
+mod LimitFacts

@@ -27,6 +27,7 @@ use Rattle.rtc_peer_state.specs.PartMoves.{
   StopsStarting,
   NotStarted,
   AtRole,
+  BehindRole,
 }
 
 -- ---- the ICE agent
@@ -164,3 +165,4 @@ pub stop_keeps_local : {D : Type 0} (dtls : DtlsMeaning D) (p q : DtlsState D) (
     → StopsStarting dtls p active now q → q.local ≡ p.local
 stop_keeps_local dtls p q active now (NotStarted same) = ap (λ d. d.local) same
 stop_keeps_local dtls p q active now (AtRole starts) = start_keeps_local dtls p q p.active active now (Err DtlsAlloc) starts
+stop_keeps_local dtls p q active now (BehindRole starts) = start_keeps_local dtls p q p.active active now (Ok tt) starts

@@ -21,6 +21,9 @@ use Rattle.rtc_peer_state.specs.declared.rtc_error.RtcError.TheVariants.{
   RemoteSdp,
   Sdp as SdpRefused,
   Dtls,
+  Sctp,
+  Net,
+  Media as MediaFailed,
   ChangesOutOfOrder,
   BadChannel,
   Alloc,
@@ -29,20 +32,22 @@ use Rattle.rtc_peer_state.specs.Acceptances.{
   Refuses,
   OfferAccepted,
   OfferFaulted,
+  OfferUnstarted,
   OfferStopped,
   AcceptsOffer,
   AnswerAccepted,
   AnswerFaulted,
+  AnswerUnstarted,
   AnswerStopped,
   AcceptsAnswer,
   followed_restart,
 }
 use Rattle.rtc_peer_state.specs.Calls.{raised, fitting_channels}
 use Rattle.rtc_peer_state.specs.Creds.{new_creds}
-use Rattle.rtc_peer_state.specs.Formed.{AreTokenCreds}
+use Rattle.rtc_peer_state.specs.Formed.{AreSdpCreds}
 use Rattle.rtc_peer_state.specs.Meanings.{Meanings, PartsLaws}
 use Rattle.rtc_peer_state.specs.Stance.{Stance, stance_of, held_by}
-use Rattle.rtc_peer_state.proofs.BuiltPeers.{drawn_creds_token}
+use Rattle.rtc_peer_state.proofs.BuiltPeers.{drawn_creds_words}
 use Rattle.rtc_peer_state.proofs.StanceLemmas.{parts_stand}
 use Rattle.rtc_peer_state.proofs.PartMovesLemmas.{AreLeft, restarted_by, followed_settings, told_creds, left_settings, left_after}
 use Rattle.rtc_peer_state.proofs.PartMovesLemmas.{role_taken, start_keeps_local, stop_keeps_local}
@@ -65,10 +70,10 @@ new_creds_keep : {N : Type 0} (draws : Draws N) (ids : N) (restarts : Bool) → 
 new_creds_keep draws ids true = refl
 new_creds_keep draws ids false = tt
 
-new_creds_tokens : {N : Type 0} (draws : Draws N) (ids : N) (restarts : Bool)
-    → IfSome (new_creds draws ids restarts) (λ r. AreTokenCreds r.0)
-new_creds_tokens draws ids true = drawn_creds_token (draws.drawn ids)
-new_creds_tokens draws ids false = tt
+new_creds_words : {N : Type 0} (draws : Draws N) (ids : N) (restarts : Bool)
+    → IfSome (new_creds draws ids restarts) (λ r. AreSdpCreds r.0)
+new_creds_words draws ids true = drawn_creds_words (draws.drawn ids)
+new_creds_words draws ids false = tt
 
 followed_stands : {I D S M E X T W N : Type 0} (m : Meanings I D S M E X T W N) (p : Peer I D S M N) (offer : Sdp)
     → IsFollowed (stance_of m p) offer (followed_restart m p offer)
@@ -77,7 +82,7 @@ followed_stands m p offer =
     record {
       there = new_creds_there m.ids p.ids restarts;
       keeps = new_creds_keep m.ids p.ids restarts;
-      tokens = new_creds_tokens m.ids p.ids restarts;
+      tokens = new_creds_words m.ids p.ids restarts;
     }
 
 -- what is left where a part failed or memory lacked
@@ -123,6 +128,17 @@ faulted_offer_stands m laws p offer q h = record {
       (left_after m.ice laws.ice p.ice q.ice _ _ _ _ h.ice_follows);
 }
 
+unstarted_offer_stands : {I D S M E X T W N : Type 0} (m : Meanings I D S M E X T W N) → PartsLaws m → (p : Peer I D S M N) (offer : Sdp)
+    (q : Peer I D S M N) → OfferUnstarted m p offer q → BreaksOffer (stance_of m p) offer (stance_of m q)
+unstarted_offer_stands m laws p offer q h = record {
+  restart = followed_restart m p offer;
+  followed = followed_stands m p offer;
+  breaks = breaks_by (stance_of m p) (followed_restart m p offer) (raised p.counter) (m.ice.settings q.ice) q.dtls.local q.dtls.active
+      (stance_of m q)
+      (ap (stance_of m) h.rest) (start_keeps_local m.dtls p.dtls q.dtls _ _ _ _ h.dtls_starts)
+      (left_after m.ice laws.ice p.ice q.ice _ _ _ _ h.ice_follows);
+}
+
 stopped_offer_stands : {I D S M E X T W N : Type 0} (m : Meanings I D S M E X T W N) → PartsLaws m → (p : Peer I D S M N) (offer : Sdp)
     (q : Peer I D S M N) → OfferStopped m p offer q → BreaksOffer (stance_of m p) offer (stance_of m q)
 stopped_offer_stands m laws p offer q h = record {
@@ -143,7 +159,10 @@ accepts_offer_stands m laws p offer (Err (SdpRefused error)) q h = refuses_stand
 accepts_offer_stands m laws p offer (Err (Dtls Fault)) q h = (h.passes, faulted_offer_stands m laws p offer q h)
 accepts_offer_stands m laws p offer (Err (Dtls WouldBlock)) q h = absurd h
 accepts_offer_stands m laws p offer (Err (Dtls DtlsAlloc)) q h = absurd h
+accepts_offer_stands m laws p offer (Err (Sctp error)) q h = (h.0, h.1.passes, unstarted_offer_stands m laws p offer q h.1)
 accepts_offer_stands m laws p offer (Err ChangesOutOfOrder) q h = absurd h
+accepts_offer_stands m laws p offer (Err (Net cause)) q h = absurd h
+accepts_offer_stands m laws p offer (Err (MediaFailed cause)) q h = absurd h
 accepts_offer_stands m laws p offer (Err BadChannel) q h = absurd h
 accepts_offer_stands m laws p offer (Err Alloc) q h = stopped_offer_stands m laws p offer q h
 
@@ -174,6 +193,15 @@ faulted_answer_stands m laws p token answer q h =
     (ap (stance_of m) h.rest) (start_keeps_local m.dtls p.dtls q.dtls _ _ _ _ h.dtls_fails)
     (left_after m.ice laws.ice p.ice q.ice _ _ _ _ h.ice_follows)
 
+unstarted_answer_stands : {I D S M E X T W N : Type 0} (m : Meanings I D S M E X T W N) → PartsLaws m
+    → (p : Peer I D S M N) (token : PendingOffer)
+    (answer : Sdp) (q : Peer I D S M N) → AnswerUnstarted m p token answer q
+    → Breaks (stance_of m p) (staged_restart token.changes) p.counter (stance_of m q)
+unstarted_answer_stands m laws p token answer q h =
+    breaks_by (stance_of m p) (staged_restart token.changes) p.counter (m.ice.settings q.ice) q.dtls.local q.dtls.active (stance_of m q)
+    (ap (stance_of m) h.rest) (start_keeps_local m.dtls p.dtls q.dtls _ _ _ _ h.dtls_starts)
+    (left_after m.ice laws.ice p.ice q.ice _ _ _ _ h.ice_follows)
+
 stopped_answer_stands : {I D S M E X T W N : Type 0} (m : Meanings I D S M E X T W N) → PartsLaws m
     → (p : Peer I D S M N) (token : PendingOffer)
     (answer : Sdp) (q : Peer I D S M N) → AnswerStopped m p token answer q
@@ -188,6 +216,8 @@ pub accepts_answer_stands : {I D S M E X T W N : Type 0} (m : Meanings I D S M E
     (answer : Sdp) (result : Result (Unit {0}) RtcError) (q : Peer I D S M N) → AcceptsAnswer m p token answer result q
     → StanceAcceptsAnswer (stance_of m p) token answer result (stance_of m q)
 accepts_answer_stands m laws p token answer (Ok done) q h = accepted_answer_stands m laws p token answer q h
+accepts_answer_stands m laws p token answer (Err (Net cause)) q h = absurd h
+accepts_answer_stands m laws p token answer (Err (MediaFailed cause)) q h = absurd h
 accepts_answer_stands m laws p token answer (Err BadChannel) q h = absurd h
 accepts_answer_stands m laws p token answer (Err ChangesOutOfOrder) q h = (h.0, ap (stance_of m) h.1)
 accepts_answer_stands m laws p token answer (Err (RemoteSdp why)) q h =
@@ -197,4 +227,6 @@ accepts_answer_stands m laws p token answer (Err (SdpRefused error)) q h =
 accepts_answer_stands m laws p token answer (Err (Dtls Fault)) q h = (h.right, h.passes, faulted_answer_stands m laws p token answer q h)
 accepts_answer_stands m laws p token answer (Err (Dtls WouldBlock)) q h = absurd h
 accepts_answer_stands m laws p token answer (Err (Dtls DtlsAlloc)) q h = absurd h
+accepts_answer_stands m laws p token answer (Err (Sctp error)) q h =
+    (h.1.right, h.0, h.1.passes, unstarted_answer_stands m laws p token answer q h.1)
 accepts_answer_stands m laws p token answer (Err Alloc) q h = (h.right, stopped_answer_stands m laws p token answer q h)

@@ -31,6 +31,8 @@ use Rattle.rtc_sdp_values.specs.declared.ice_creds.IceCreds.{IceCreds}
 use Rattle.rtc_sdp_values.specs.declared.sdp.Sdp.{Sdp}
 use Rattle.rtc_channels.specs.Channels.{is_bad_channel, with_channel, all_confirmed}
 use Rattle.rtc_dtls.specs.declared.dtls_error.DtlsError.TheVariants.{WouldBlock, Fault, Alloc as DtlsAlloc}
+use Rattle.rtc_sctp.specs.declared.proto_error.ProtoError.TheVariants.{Fault as AssociationFault}
+use Rattle.rtc_sctp.specs.declared.sctp_error.SctpError.TheVariants.{Proto}
 use Rattle.rtc_change.specs.declared.add_media.AddMedia.{AddMedia as Media}
 use Rattle.rtc_change.specs.declared.change.Change.{Change}
 use Rattle.rtc_change.specs.declared.change.Change.TheVariants.{AddMedia, AddApp, AddChannel, Direction as SetDirection}
@@ -48,13 +50,16 @@ use Rattle.rtc_peer_state.specs.declared.rtc_error.RtcError.TheVariants.{
   RemoteSdp,
   Sdp as SdpRefused,
   Dtls,
+  Sctp,
+  Net,
+  Media as MediaFailed,
   ChangesOutOfOrder,
   BadChannel,
   Alloc,
 }
 use Rattle.rtc_peer_state.specs.Acceptances.{counter_after}
 use Rattle.rtc_peer_state.specs.Calls.{Wanted, raised, fitting_channels}
-use Rattle.rtc_peer_state.specs.Formed.{AreTokenCreds}
+use Rattle.rtc_peer_state.specs.Formed.{AreSdpCreds}
 use Rattle.rtc_peer_state.specs.MadeSdp.{creds_in_use, candidates_in_use, offer_sdp, answer_sdp, role_after}
 use Rattle.rtc_peer_state.specs.Names.{is_held}
 use Rattle.rtc_peer_state.specs.Staging.{lacks_app, with_restart}
@@ -113,10 +118,13 @@ StanceAddsChannel s config (Err Alloc) t = t ≡ s
 StanceAddsChannel s config (Err (RemoteSdp why)) t = ⊥
 StanceAddsChannel s config (Err (SdpRefused error)) t = ⊥
 StanceAddsChannel s config (Err (Dtls error)) t = ⊥
+StanceAddsChannel s config (Err (Sctp error)) t = ⊥
+StanceAddsChannel s config (Err (Net cause)) t = ⊥
+StanceAddsChannel s config (Err (MediaFailed cause)) t = ⊥
 StanceAddsChannel s config (Err ChangesOutOfOrder) t = ⊥
 
 abbrev pub StanceStagesRestart : Stance → Bool → Result IceCreds AllocError → Stance → Type 0
-StanceStagesRestart s keeps (Ok creds) t = AreTokenCreds creds × (t ≡ record s { staged = with_restart creds keeps s.staged })
+StanceStagesRestart s keeps (Ok creds) t = AreSdpCreds creds × (t ≡ record s { staged = with_restart creds keeps s.staged })
 StanceStagesRestart s keeps (Err error) t = t ≡ s
 
 abbrev pub stance_alone : List Change → Stance → Stance
@@ -144,7 +152,7 @@ StanceRefuses s asked sdp why t =
 pub record IsFollowed (s : Stance) (offer : Sdp) (restart : Option (IceCreds × Bool)) : Type 0 where
   pub there : is_some restart ≡ is_restart s.ice.remote (creds_of offer)
   pub keeps : IfSome restart (λ r. r.1 ≡ true)
-  pub tokens : IfSome restart (λ r. AreTokenCreds r.0)
+  pub tokens : IfSome restart (λ r. AreSdpCreds r.0)
 
 -- what is left once an offer or an answer was followed
 abbrev pub followed_by : Stance → Option (IceCreds × Bool) → Sdp → Bool → Stance
@@ -185,7 +193,11 @@ StanceAcceptsOffer s offer (Err (SdpRefused error)) t = StanceRefuses s None off
 StanceAcceptsOffer s offer (Err (Dtls Fault)) t = (verdict (held_by s) None offer ≡ None) × BreaksOffer s offer t
 StanceAcceptsOffer s offer (Err (Dtls WouldBlock)) t = ⊥
 StanceAcceptsOffer s offer (Err (Dtls DtlsAlloc)) t = ⊥
+StanceAcceptsOffer s offer (Err (Sctp error)) t =
+    (error ≡ Proto AssociationFault) × (verdict (held_by s) None offer ≡ None) × BreaksOffer s offer t
 StanceAcceptsOffer s offer (Err ChangesOutOfOrder) t = ⊥
+StanceAcceptsOffer s offer (Err (Net cause)) t = ⊥
+StanceAcceptsOffer s offer (Err (MediaFailed cause)) t = ⊥
 StanceAcceptsOffer s offer (Err BadChannel) t = ⊥
 StanceAcceptsOffer s offer (Err Alloc) t = BreaksOffer s offer t
 
@@ -198,6 +210,8 @@ pub record StandsAnswer (s : Stance) (token : PendingOffer) (answer : Sdp) (t : 
 
 abbrev pub StanceAcceptsAnswer : Stance → PendingOffer → Sdp → Result (Unit {0}) RtcError → Stance → Type 0
 StanceAcceptsAnswer s token answer (Ok done) t = StandsAnswer s token answer t
+StanceAcceptsAnswer s token answer (Err (Net cause)) t = ⊥
+StanceAcceptsAnswer s token answer (Err (MediaFailed cause)) t = ⊥
 StanceAcceptsAnswer s token answer (Err BadChannel) t = ⊥
 StanceAcceptsAnswer s token answer (Err ChangesOutOfOrder) t = (s.counter ≢ raised token.id) × (t ≡ s)
 StanceAcceptsAnswer s token answer (Err (RemoteSdp why)) t =
@@ -210,4 +224,9 @@ StanceAcceptsAnswer s token answer (Err (Dtls Fault)) t =
     × Breaks s (staged_restart token.changes) s.counter t
 StanceAcceptsAnswer s token answer (Err (Dtls WouldBlock)) t = ⊥
 StanceAcceptsAnswer s token answer (Err (Dtls DtlsAlloc)) t = ⊥
+StanceAcceptsAnswer s token answer (Err (Sctp error)) t =
+    (s.counter ≡ raised token.id)
+    × (error ≡ Proto AssociationFault)
+    × (verdict (held_by s) (Some (asked_by s.lines token)) answer ≡ None)
+    × Breaks s (staged_restart token.changes) s.counter t
 StanceAcceptsAnswer s token answer (Err Alloc) t = (s.counter ≡ raised token.id) × Breaks s (staged_restart token.changes) s.counter t

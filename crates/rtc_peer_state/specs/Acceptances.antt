@@ -1,12 +1,16 @@
 -- How a peer accepts an offer or an answer: by the answer of the call, the peer before and the peer after.
 use Rattle.std.specs.Prelude.{◌≡◌, ◌≢◌, ℕ, Bool, true, false, List, [], length, take, is_some, Option, Some, None, Result, Ok, Err}
 use Rattle.std.specs.Option.{option_or}
-use Rattle.rtc_sdp_values.specs.Sdp.{creds_of, candidates_of, sdp_fingerprint, sdp_setup}
+use Rattle.rtc_sdp_values.specs.Sdp.{creds_of, candidates_of, sdp_fingerprint, sdp_setup, max_message_size_of}
 use Rattle.rtc_sdp_values.specs.declared.ice_creds.IceCreds.{IceCreds}
 use Rattle.rtc_sdp_values.specs.declared.line_row.LineRow.{LineRow}
 use Rattle.rtc_sdp_values.specs.declared.sdp.Sdp.{Sdp}
 use Rattle.rtc_channels.specs.Channels.{all_confirmed}
 use Rattle.rtc_dtls.specs.declared.dtls_error.DtlsError.TheVariants.{WouldBlock, Fault, Alloc as DtlsAlloc}
+use Rattle.rtc_sctp.specs.Streams.{SctpStreams}
+use Rattle.rtc_sctp.specs.declared.proto_error.ProtoError.TheVariants.{Fault as AssociationFault}
+use Rattle.rtc_sctp.specs.declared.sctp_error.SctpError.{SctpError}
+use Rattle.rtc_sctp.specs.declared.sctp_error.SctpError.TheVariants.{Proto}
 use Rattle.rtc_media.specs.MediaLaws.{SameLines}
 use Rattle.rtc_media.specs.declared.media_update.MediaUpdate.{MediaUpdate}
 use Rattle.rtc_change.specs.declared.change.Change.{Change}
@@ -23,6 +27,9 @@ use Rattle.rtc_tables.specs.declared.why.Why.TheVariants.{
   PlaceTaken,
   AnswerRecycles,
   WrongNewLines,
+  NoMatch,
+  UnknownHash,
+  NoneAnnounced,
 }
 use Rattle.rtc_change.specs.Held.{Asked}
 use Rattle.rtc_tables.specs.ParsedLines.{parsed_lines}
@@ -38,6 +45,9 @@ use Rattle.rtc_peer_state.specs.declared.rtc_error.RtcError.TheVariants.{
   RemoteSdp,
   Sdp as SdpRefused,
   Dtls,
+  Sctp,
+  Net,
+  Media as MediaFailed,
   ChangesOutOfOrder,
   BadChannel,
   Alloc,
@@ -45,10 +55,10 @@ use Rattle.rtc_peer_state.specs.declared.rtc_error.RtcError.TheVariants.{
 use Rattle.rtc_peer_state.specs.declared.sending.Sending.{Sending}
 use Rattle.rtc_peer_state.specs.Calls.{raised, control_for, fitting_channels, uses_source}
 use Rattle.rtc_peer_state.specs.Creds.{new_creds, after_new_creds}
-use Rattle.rtc_peer_state.specs.LineUpdates.{sending_of, added_media, row_updates, after_updates}
-use Rattle.rtc_peer_state.specs.MadeSdp.{answer_sdp, role_for}
+use Rattle.rtc_peer_state.specs.LineUpdates.{line_sending, row_updates, after_updates}
+use Rattle.rtc_peer_state.specs.MadeSdp.{answer_sdp, role_for, role_after}
 use Rattle.rtc_peer_state.specs.Meanings.{Meanings}
-use Rattle.rtc_peer_state.specs.PartMoves.{FollowsSdp, StopsFollowing, StartsDtls, StopsStarting}
+use Rattle.rtc_peer_state.specs.PartMoves.{FollowsSdp, StopsFollowing, StartsDtls, StopsStarting, StartsSctp, StopsSctp, remote_limit}
 use Rattle.rtc_peer_state.specs.Stance.{stance_of, held_by}
 
 -- a side whose certificate could not be checked is closed
@@ -62,6 +72,9 @@ phase_after (MovedLine mid) phase = phase
 phase_after (PlaceTaken mid) phase = phase
 phase_after (AnswerRecycles mid) phase = phase
 phase_after (WrongNewLines wrong) phase = phase
+phase_after (NoMatch expected got) phase = Closed
+phase_after (UnknownHash name) phase = Closed
+phase_after NoneAnnounced phase = Closed
 
 abbrev pub refused_phase : Refusal → Phase → Phase
 refused_phase (RefusedSdp why) phase = phase_after why phase
@@ -82,13 +95,25 @@ module _ {I D S M E X T W N : Type 0} (m : Meanings I D S M E X T W N) where
   abbrev pub Refuses : Peer I D S M N → Option Asked → Sdp → Refusal → Peer I D S M N → Type 0
   Refuses p asked sdp why q = (verdict (held_by (stance_of m p)) asked sdp ≡ Some why) × (q ≡ after_refusal asked why p)
 
+  -- The rows that an offer or an answer leaves start the association, where they are the first with a line of the data channels: as
+  -- client where this side has the active DTLS role.
+  abbrev pub StartsBySdp : Peer I D S M N → Bool → Sdp → Result (Unit {0}) SctpError → SctpStreams S → Type 0
+  StartsBySdp p offer sdp r s =
+      StartsSctp m.association p.sctp (table_after p.lines (parsed_lines sdp) offer) (role_after p.dtls.active (sdp_setup sdp)) p.greatest
+      (remote_limit (max_message_size_of sdp)) r s
+
+  abbrev pub StopsBySdp : Peer I D S M N → Bool → Sdp → SctpStreams S → Type 0
+  StopsBySdp p offer sdp s =
+      StopsSctp m.association p.sctp (table_after p.lines (parsed_lines sdp) offer) (role_after p.dtls.active (sdp_setup sdp)) p.greatest
+      (remote_limit (max_message_size_of sdp)) s
+
   -- the rows that the lines of a session description leave
   abbrev pub rows_of_sdp : Peer I D S M N → Bool → Sdp → List LineRow
   rows_of_sdp p offer sdp = take (length sdp.lines) (table_after p.lines (parsed_lines sdp) offer)
 
   -- what is sent on the line of a mid, by what the media part has of it and by what was staged
   abbrev pub sends_on : Peer I D S M N → List Change → List ℕ → Sending
-  sends_on p changes mid = sending_of (m.media.line p.media mid) (added_media changes mid) mid
+  sends_on p changes mid = line_sending (m.media.line p.media) changes mid
 
   -- what the media part is told, where these numbers are drawn from
   abbrev pub updates_for : Peer I D S M N → Bool → List Change → Sdp → N → List MediaUpdate
@@ -125,6 +150,7 @@ module _ {I D S M E X T W N : Type 0} (m : Meanings I D S M E X T W N) where
     pub answered : answer ≡ answer_sdp (stance_of m p) (followed_restart p offer) offer
     pub ice_follows : FollowsOffer p offer q
     pub dtls_starts : StartsDtls m.dtls p.dtls p.dtls.active (role_for (sdp_setup offer)) p.greatest (Ok tt) q.dtls
+    pub sctp_starts : StartsBySdp p true offer (Ok tt) q.sctp
     pub media_updated : UpdatesMedia p.media (updates_for p true [] offer (answer_ids p offer)) q.media
     pub rest : q ≡ record p {
       counter = raised p.counter;
@@ -133,10 +159,11 @@ module _ {I D S M E X T W N : Type 0} (m : Meanings I D S M E X T W N) where
       ids = ids_after_updates p true [] offer (answer_ids p offer);
       ice = q.ice;
       dtls = q.dtls;
+      sctp = q.sctp;
       media = q.media;
     }
 
-  -- the DTLS part failed as it was started: rows and fingerprint stay, and the updates stay prepared
+  -- the DTLS part failed as it was started: rows, association and fingerprint stay, and the updates stay prepared
   pub record OfferFaulted (p : Peer I D S M N) (offer : Sdp) (q : Peer I D S M N) : Type 0 where
     pub passes : verdict (held_by (stance_of m p)) None offer ≡ None
     pub ice_follows : FollowsOffer p offer q
@@ -150,14 +177,38 @@ module _ {I D S M E X T W N : Type 0} (m : Meanings I D S M E X T W N) where
       media = q.media;
     }
 
+  -- the association failed as it was started, behind the DTLS part: rows and fingerprint stay, and the updates stay prepared
+  pub record OfferUnstarted (p : Peer I D S M N) (offer : Sdp) (q : Peer I D S M N) : Type 0 where
+    pub passes : verdict (held_by (stance_of m p)) None offer ≡ None
+    pub ice_follows : FollowsOffer p offer q
+    pub dtls_starts : StartsDtls m.dtls p.dtls p.dtls.active (role_for (sdp_setup offer)) p.greatest (Ok tt) q.dtls
+    pub sctp_fails : StartsBySdp p true offer (Err (Proto AssociationFault)) q.sctp
+    pub media_prepared : m.media.prepared p.media (updates_for p true [] offer (answer_ids p offer)) (Ok tt) q.media
+    pub rest : q ≡ record p {
+      counter = raised p.counter;
+      ids = ids_after_updates p true [] offer (answer_ids p offer);
+      ice = q.ice;
+      dtls = q.dtls;
+      sctp = q.sctp;
+      media = q.media;
+    }
+
   -- there was no memory: the parts have come so far, and the rest of the peer stays
   pub record OfferStopped (p : Peer I D S M N) (offer : Sdp) (q : Peer I D S M N) : Type 0 where
     pub later : Later m.ids p.ids q.ids
     pub ice_stops : StopsFollowing m.ice p.ice (followed_restart p offer) (creds_of offer) (candidates_of offer)
         (control_for p.dtls.active offer.ice_lite) q.ice
     pub dtls_stops : StopsStarting m.dtls p.dtls (role_for (sdp_setup offer)) p.greatest q.dtls
+    pub sctp_stops : StopsBySdp p true offer q.sctp
     pub media_kept : SameLines m.media p.media q.media
-    pub rest : q ≡ record p { counter = raised p.counter; ids = q.ids; ice = q.ice; dtls = q.dtls; media = q.media }
+    pub rest : q ≡ record p {
+      counter = raised p.counter;
+      ids = q.ids;
+      ice = q.ice;
+      dtls = q.dtls;
+      sctp = q.sctp;
+      media = q.media;
+    }
 
   -- A peer accepts an offer, or refuses it.
   abbrev pub AcceptsOffer : Peer I D S M N → Sdp → Result Sdp RtcError → Peer I D S M N → Type 0
@@ -167,7 +218,10 @@ module _ {I D S M E X T W N : Type 0} (m : Meanings I D S M E X T W N) where
   AcceptsOffer p offer (Err (Dtls Fault)) q = OfferFaulted p offer q
   AcceptsOffer p offer (Err (Dtls WouldBlock)) q = ⊥
   AcceptsOffer p offer (Err (Dtls DtlsAlloc)) q = ⊥
+  AcceptsOffer p offer (Err (Sctp error)) q = (error ≡ Proto AssociationFault) × OfferUnstarted p offer q
   AcceptsOffer p offer (Err ChangesOutOfOrder) q = ⊥
+  AcceptsOffer p offer (Err (Net cause)) q = ⊥
+  AcceptsOffer p offer (Err (MediaFailed cause)) q = ⊥
   AcceptsOffer p offer (Err BadChannel) q = ⊥
   AcceptsOffer p offer (Err Alloc) q = OfferStopped p offer q
 
@@ -182,6 +236,7 @@ module _ {I D S M E X T W N : Type 0} (m : Meanings I D S M E X T W N) where
     pub passes : verdict (held_by (stance_of m p)) (Some (asked_by p.lines token)) answer ≡ None
     pub ice_follows : FollowsAnswer p token answer q
     pub dtls_starts : StartsDtls m.dtls p.dtls p.dtls.active (role_for (sdp_setup answer)) p.greatest (Ok tt) q.dtls
+    pub sctp_starts : StartsBySdp p false answer (Ok tt) q.sctp
     pub media_updated : UpdatesMedia p.media (updates_for p false token.changes answer p.ids) q.media
     pub rest : q ≡ record p {
       lines = table_after p.lines (parsed_lines answer) false;
@@ -190,6 +245,7 @@ module _ {I D S M E X T W N : Type 0} (m : Meanings I D S M E X T W N) where
       ids = ids_after_updates p false token.changes answer p.ids;
       ice = q.ice;
       dtls = q.dtls;
+      sctp = q.sctp;
       media = q.media;
     }
 
@@ -206,17 +262,35 @@ module _ {I D S M E X T W N : Type 0} (m : Meanings I D S M E X T W N) where
       media = q.media;
     }
 
+  pub record AnswerUnstarted (p : Peer I D S M N) (token : PendingOffer) (answer : Sdp) (q : Peer I D S M N) : Type 0 where
+    pub right : p.counter ≡ raised token.id
+    pub passes : verdict (held_by (stance_of m p)) (Some (asked_by p.lines token)) answer ≡ None
+    pub ice_follows : FollowsAnswer p token answer q
+    pub dtls_starts : StartsDtls m.dtls p.dtls p.dtls.active (role_for (sdp_setup answer)) p.greatest (Ok tt) q.dtls
+    pub sctp_fails : StartsBySdp p false answer (Err (Proto AssociationFault)) q.sctp
+    pub media_prepared : m.media.prepared p.media (updates_for p false token.changes answer p.ids) (Ok tt) q.media
+    pub rest : q ≡ record p {
+      ids = ids_after_updates p false token.changes answer p.ids;
+      ice = q.ice;
+      dtls = q.dtls;
+      sctp = q.sctp;
+      media = q.media;
+    }
+
   pub record AnswerStopped (p : Peer I D S M N) (token : PendingOffer) (answer : Sdp) (q : Peer I D S M N) : Type 0 where
     pub right : p.counter ≡ raised token.id
     pub later : Later m.ids p.ids q.ids
     pub ice_stops : StopsFollowing m.ice p.ice (staged_restart token.changes) (creds_of answer) (candidates_of answer) None q.ice
     pub dtls_stops : StopsStarting m.dtls p.dtls (role_for (sdp_setup answer)) p.greatest q.dtls
+    pub sctp_stops : StopsBySdp p false answer q.sctp
     pub media_kept : SameLines m.media p.media q.media
-    pub rest : q ≡ record p { ids = q.ids; ice = q.ice; dtls = q.dtls; media = q.media }
+    pub rest : q ≡ record p { ids = q.ids; ice = q.ice; dtls = q.dtls; sctp = q.sctp; media = q.media }
 
   -- A peer accepts an answer with the token of its offer, or refuses it.
   abbrev pub AcceptsAnswer : Peer I D S M N → PendingOffer → Sdp → Result (Unit {0}) RtcError → Peer I D S M N → Type 0
   AcceptsAnswer p token answer (Ok done) q = AnswerAccepted p token answer q
+  AcceptsAnswer p token answer (Err (Net cause)) q = ⊥
+  AcceptsAnswer p token answer (Err (MediaFailed cause)) q = ⊥
   AcceptsAnswer p token answer (Err BadChannel) q = ⊥
   AcceptsAnswer p token answer (Err ChangesOutOfOrder) q = (p.counter ≢ raised token.id) × (q ≡ p)
   AcceptsAnswer p token answer (Err (RemoteSdp why)) q =
@@ -226,4 +300,5 @@ module _ {I D S M E X T W N : Type 0} (m : Meanings I D S M E X T W N) where
   AcceptsAnswer p token answer (Err (Dtls Fault)) q = AnswerFaulted p token answer q
   AcceptsAnswer p token answer (Err (Dtls WouldBlock)) q = ⊥
   AcceptsAnswer p token answer (Err (Dtls DtlsAlloc)) q = ⊥
+  AcceptsAnswer p token answer (Err (Sctp error)) q = (error ≡ Proto AssociationFault) × AnswerUnstarted p token answer q
   AcceptsAnswer p token answer (Err Alloc) q = AnswerStopped p token answer q

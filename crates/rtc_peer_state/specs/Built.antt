@@ -4,7 +4,8 @@ use Rattle.std.specs.Prelude.{◌≡◌, ℕ, List, [], Option, Some, None}
 use Rattle.std.specs.Int.{to_be_bytes, w64}
 use Rattle.std.specs.declared.alloc.Global.{Global}
 use Rattle.rtc_sdp_values.specs.declared.ice_creds.IceCreds.{IceCreds}
-use Rattle.rtc_dtls.specs.DtlsState.{BeginsDtls}
+use Rattle.rtc_dtls.specs.DtlsState.{DtlsState, BeginsDtls}
+use Rattle.rtc_sctp.specs.Streams.{SctpStreams, no_streams}
 use Rattle.rtc_peer_state.specs.declared.peer.Peer.{Peer}
 use Rattle.rtc_peer_state.specs.declared.phase.Phase.TheVariants.{Alive}
 use Rattle.rtc_peer_state.specs.Creds.{drawn_creds}
@@ -41,6 +42,25 @@ module _ {N : Type 0} (draws : Draws N) where
   abbrev pub cert_drawn : Config → N → N
   cert_drawn config ids = after_cert config.cert (creds_drawn config ids)
 
+-- a peer with no rows, no channels and no offer yet
+abbrev pub empty_peer : {I D S M N : Type 0} → Global → (session start : ℕ) → I → DtlsState D → SctpStreams S → M → N → Peer I D S M N
+empty_peer alloc session start ice dtls sctp media ids = record {
+  alloc = alloc;
+  lines = [];
+  staged = [];
+  channels = no_channels;
+  counter = 0;
+  session_id = session;
+  phase = Alive;
+  fingerprint = None;
+  greatest = start;
+  ice = ice;
+  dtls = dtls;
+  sctp = sctp;
+  media = media;
+  ids = ids;
+}
+
 module _ {I D S M E X T W N : Type 0} (m : Meanings I D S M E X T W N) where
   -- parts that are as they were made
   pub record AreFresh (ice : I) (dtls : D) (association : S) (media : M) : Type 0 where
@@ -49,26 +69,15 @@ module _ {I D S M E X T W N : Type 0} (m : Meanings I D S M E X T W N) where
     pub fresh_association : m.association.fresh association
     pub fresh_media : m.media.fresh media
 
-  -- The peer of a config, over these parts: the agent is given the credentials and whether it is lite, and the DTLS part the certificate.
+  -- The peer of a config, over these parts: the agent is given the credentials and whether it is lite, the DTLS part the certificate,
+  -- and the association its limits.
   pub record Builds (alloc : Global) (config : Config) (start : ℕ) (ice : I) (dtls : D) (association : S) (media : M) (ids : N)
       (p : Peer I D S M N) : Type 0 where
     pub lite_set : I
     pub by_lite : m.ice.lite_set ice config.ice_lite lite_set
     pub by_creds : m.ice.local_set lite_set (creds_or m.ids config.creds (session_drawn m.ids ids)) p.ice
     pub by_cert : BeginsDtls m.dtls (cert_or m.ids config.cert (creds_drawn m.ids config ids)) dtls (1150, 1280) p.dtls
-    pub rest : p ≡ record {
-      alloc = alloc;
-      lines = [];
-      staged = [];
-      channels = no_channels;
-      counter = 0;
-      session_id = m.ids.drawn ids;
-      phase = Alive;
-      fingerprint = None;
-      greatest = start;
-      ice = p.ice;
-      dtls = p.dtls;
-      association = association;
-      media = media;
-      ids = cert_drawn m.ids config ids;
-    }
+    -- datagrams of 1150 bytes leave 1062 for a packet of the association
+    pub by_limits : m.association.limits_set association 1062 262144 p.sctp.association
+    pub streams : p.sctp ≡ no_streams 1150 262144 start p.sctp.association
+    pub rest : p ≡ empty_peer alloc (m.ids.drawn ids) start p.ice p.dtls p.sctp media (cert_drawn m.ids config ids)

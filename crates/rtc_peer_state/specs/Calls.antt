@@ -47,6 +47,9 @@ use Rattle.rtc_peer_state.specs.declared.rtc_error.RtcError.TheVariants.{
   RemoteSdp,
   Sdp as SdpRefused,
   Dtls,
+  Sctp,
+  Net,
+  Media as MediaFailed,
   ChangesOutOfOrder,
   BadChannel,
   Alloc,
@@ -187,6 +190,9 @@ module _ {I D S M E X T W N : Type 0} (m : Meanings I D S M E X T W N) where
   AddsChannel p config (Err (RemoteSdp why)) q = ⊥
   AddsChannel p config (Err (SdpRefused error)) q = ⊥
   AddsChannel p config (Err (Dtls error)) q = ⊥
+  AddsChannel p config (Err (Sctp error)) q = ⊥
+  AddsChannel p config (Err (Net cause)) q = ⊥
+  AddsChannel p config (Err (MediaFailed cause)) q = ⊥
   AddsChannel p config (Err ChangesOutOfOrder) q = ⊥
 
   -- A restart of ICE is staged, in place of one that was; its credentials are drawn.

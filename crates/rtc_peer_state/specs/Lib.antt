@@ -13,6 +13,5 @@ pub mod Calls
 pub mod Acceptances
 pub mod Built
 pub mod Formed
-pub mod Whole
 pub mod RtcErrorText
 pub mod RtcErrors

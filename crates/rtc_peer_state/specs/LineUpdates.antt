@@ -64,6 +64,10 @@ sending_of None (Some media) mid = record {
 }
 sending_of None None mid = bare_sending mid
 
+-- what is sent on the line of a mid, by what a media part has of lines and by what was staged
+abbrev pub line_sending : (List ℕ → Option MediaUpdate) → List Change → List ℕ → Sending
+line_sending line changes mid = sending_of (line mid) (added_media changes mid) mid
+
 abbrev pub has_none : List Pair → Bool
 has_none [] = true
 has_none (pair ∷ pairs) = false

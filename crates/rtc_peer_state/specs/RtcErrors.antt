@@ -7,8 +7,12 @@ use Rattle.rtc_channels.specs.declared.channel_error.ChannelError.{ChannelError}
 use Rattle.rtc_channels.specs.declared.channel_error.ChannelError.TheVariants.{BadChannel as RefusedChannel, Alloc as ChannelAlloc}
 use Rattle.rtc_dtls.specs.declared.dtls_error.DtlsError.{DtlsError}
 use Rattle.rtc_dtls.specs.declared.dtls_error.DtlsError.TheVariants.{WouldBlock, Fault, Alloc as DtlsAlloc}
+use Rattle.rtc_media.specs.declared.media_error.MediaError.{MediaError}
+use Rattle.rtc_media.specs.declared.media_error.MediaError.TheVariants as media
+use Rattle.rtc_sctp.specs.declared.sctp_error.SctpError.{SctpError}
+use Rattle.rtc_sctp.specs.declared.sctp_error.SctpError.TheVariants as sctp
 use Rattle.rtc_peer_state.specs.declared.rtc_error.RtcError.{RtcError}
-use Rattle.rtc_peer_state.specs.declared.rtc_error.RtcError.TheVariants.{RemoteSdp, Sdp, Dtls, BadChannel, Alloc}
+use Rattle.rtc_peer_state.specs.declared.rtc_error.RtcError.TheVariants.{RemoteSdp, Sdp, Dtls, Sctp, Media, BadChannel, Alloc}
 
 -- want of memory below is want of memory
 abbrev pub error_of_sdp : SdpError → RtcError
@@ -29,3 +33,25 @@ abbrev pub error_of_dtls : DtlsError → RtcError
 error_of_dtls WouldBlock = Dtls WouldBlock
 error_of_dtls Fault = Dtls Fault
 error_of_dtls DtlsAlloc = Alloc
+
+abbrev pub error_of_sctp : SctpError → RtcError
+error_of_sctp (sctp.Proto cause) = Sctp (sctp.Proto cause)
+error_of_sctp sctp.WriteBeforeEstablished = Sctp sctp.WriteBeforeEstablished
+error_of_sctp sctp.DcepOpenTooSmall = Sctp sctp.DcepOpenTooSmall
+error_of_sctp sctp.DcepIncorrectMessageType = Sctp sctp.DcepIncorrectMessageType
+error_of_sctp sctp.DcepBadUtf8 = Sctp sctp.DcepBadUtf8
+error_of_sctp sctp.Alloc = Alloc
+
+abbrev pub error_of_media : MediaError → RtcError
+error_of_media media.Alloc = Alloc
+error_of_media media.Rtp = Media media.Rtp
+error_of_media (media.Packet mid pt) = Media (media.Packet mid pt)
+error_of_media (media.UnknownPt pt) = Media (media.UnknownPt pt)
+error_of_media (media.UnknownRid rid) = Media (media.UnknownRid rid)
+error_of_media media.NoSenderSource = Media media.NoSenderSource
+error_of_media media.ResendRequiresRtxPt = Media media.ResendRequiresRtxPt
+error_of_media (media.NotSendingDirection dir) = Media (media.NotSendingDirection dir)
+error_of_media media.NotReceivingDirection = Media media.NotReceivingDirection
+error_of_media (media.NoReceiverSource rid) = Media (media.NoReceiverSource rid)
+error_of_media media.FeedbackNotEnabled = Media media.FeedbackNotEnabled
+error_of_media media.WriteWithoutPoll = Media media.WriteWithoutPoll

@@ -3,6 +3,7 @@ use crate::{Phase, Staged};
 use rtc_change::Lines;
 use rtc_channels::ChannelHandler;
 use rtc_dtls::Dtls;
+use rtc_sctp::RtcSctp;
 use rtc_sdp_values::Fingerprint;
 use rtc_wire::Moment;
 use std::alloc::Global;
@@ -26,7 +27,8 @@ pub struct Peer<I, D, S, M, N> {
     pub greatest: Moment,
     pub ice: I,
     pub dtls: Dtls<D>,
-    pub association: S,
+    /// The streams of the data channels, over the association.
+    pub sctp: RtcSctp<S>,
     pub media: M,
     pub ids: N,
 }

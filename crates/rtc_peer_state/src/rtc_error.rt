@@ -1,13 +1,17 @@
 //! Errors of a peer's calls.
 ghost use Rattle.std.specs.Prelude.{◌≡◌, Some};
-ghost use Rattle.rtc_peer_state.specs.declared.rtc_error.RtcError.TheVariants.{Alloc};
-ghost use Rattle.rtc_peer_state.specs.RtcErrors.{error_of_channel, error_of_dtls, error_of_sdp, error_of_refusal};
+ghost use Rattle.rtc_peer_state.specs.declared.rtc_error.RtcError.TheVariants.{Alloc, Net};
+ghost use Rattle.rtc_peer_state.specs.RtcErrors.{error_of_channel, error_of_dtls, error_of_media, error_of_sctp, error_of_sdp, error_of_refusal};
 ghost use Rattle.rtc_peer_state.specs.RtcErrorText as text;
+ghost use Rattle.rtc_peer_state.specs.RtcErrorText.{net_error_text};
 
 use rtc_change::{Refusal, Why};
 use rtc_channels::ChannelError;
 use rtc_dtls::DtlsError;
+use rtc_media::MediaError;
+use rtc_sctp::SctpError;
 use rtc_sdp_values::SdpError;
+use rtc_wire::{IoText, NetError};
 use std::alloc::{AllocError, AllocFailed};
 use std::error::Error;
 use std::fmt;
@@ -15,18 +19,36 @@ use std::fmt;
 /// Why a call of a peer is refused.
 #[derive(Debug, PartialEq, Eq, Drop)]
 pub enum RtcError {
-    /// The offer or answer of the other side cannot be accepted.
+    /// The offer or answer of the other side cannot be accepted, or its certificate is not the announced one.
     RemoteSdp(Why),
     /// The session description of the other side is inconsistent.
     Sdp(SdpError),
+    /// A datagram is of no kind, or is malformed.
+    Net(NetError),
     /// The DTLS part failed.
     Dtls(DtlsError),
+    /// The association failed.
+    Sctp(SctpError),
+    /// The media part failed.
+    Media(MediaError),
     /// An offer was made or given since the token was made, be it one that was refused.
     ChangesOutOfOrder,
     /// No channel can be made of the config.
     BadChannel,
     /// There was too little memory, or a table would have 2^32 - 1 lines or more.
     Alloc,
+}
+
+// What a refusal of a datagram prints.
+#[tactic(auto, unfolding(crate::specs::RtcErrorText::net_error_text))]
+fn net_text(error: &NetError) -> &str
+    ensures { result.now ≡ net_error_text error.now }
+{
+    match error {
+        NetError::Stun(_) => "not a STUN message",
+        NetError::Io(_, IoText::EmptyDatagram) => "Empty datagram",
+        NetError::Io(_, IoText::UnknownDatagram) => "Unknown datagram",
+    }
 }
 
 impl fmt::Display for RtcError {
@@ -37,7 +59,10 @@ impl fmt::Display for RtcError {
         match self {
             RtcError::RemoteSdp(why) => write!(f, "remote sdp: {why}"),
             RtcError::Sdp(cause) => write!(f, "{cause}"),
+            RtcError::Net(cause) => f.write_str(net_text(cause)),
             RtcError::Dtls(cause) => write!(f, "{cause}"),
+            RtcError::Sctp(cause) => write!(f, "{cause}"),
+            RtcError::Media(cause) => write!(f, "{cause}"),
             RtcError::ChangesOutOfOrder => f.write_str("Changes made out of order"),
             RtcError::BadChannel => f.write_str("channel config refused"),
             RtcError::Alloc => f.write_str("out of memory"),
@@ -106,6 +131,60 @@ impl From<DtlsError> for RtcError {
             DtlsError::WouldBlock => RtcError::Dtls(DtlsError::WouldBlock),
             DtlsError::Fault => RtcError::Dtls(DtlsError::Fault),
             DtlsError::Alloc => RtcError::Alloc,
+        }
+    }
+}
+
+impl From<SctpError> for RtcError {
+    ghost from_gives = { λ lower e. e ≡ error_of_sctp lower };
+
+    fn from(error: SctpError) -> RtcError {
+        match error {
+            SctpError::Proto(cause) => RtcError::Sctp(SctpError::Proto(cause)),
+            SctpError::WriteBeforeEstablished => {
+                RtcError::Sctp(SctpError::WriteBeforeEstablished)
+            }
+            SctpError::DcepOpenTooSmall => RtcError::Sctp(SctpError::DcepOpenTooSmall),
+            SctpError::DcepIncorrectMessageType => {
+                RtcError::Sctp(SctpError::DcepIncorrectMessageType)
+            }
+            SctpError::DcepBadUtf8 => RtcError::Sctp(SctpError::DcepBadUtf8),
+            SctpError::Alloc => RtcError::Alloc,
+        }
+    }
+}
+
+impl From<NetError> for RtcError {
+    ghost from_gives = { λ lower e. e ≡ Net lower };
+
+    fn from(error: NetError) -> RtcError {
+        RtcError::Net(error)
+    }
+}
+
+impl From<MediaError> for RtcError {
+    ghost from_gives = { λ lower e. e ≡ error_of_media lower };
+
+    fn from(error: MediaError) -> RtcError {
+        match error {
+            MediaError::Alloc => RtcError::Alloc,
+            MediaError::Rtp => RtcError::Media(MediaError::Rtp),
+            MediaError::Packet(mid, pt) => RtcError::Media(MediaError::Packet(mid, pt)),
+            MediaError::UnknownPt(pt) => RtcError::Media(MediaError::UnknownPt(pt)),
+            MediaError::UnknownRid(rid) => RtcError::Media(MediaError::UnknownRid(rid)),
+            MediaError::NoSenderSource => RtcError::Media(MediaError::NoSenderSource),
+            MediaError::ResendRequiresRtxPt => RtcError::Media(MediaError::ResendRequiresRtxPt),
+            MediaError::NotSendingDirection(dir) => {
+                RtcError::Media(MediaError::NotSendingDirection(dir))
+            }
+            MediaError::NotReceivingDirection => {
+                RtcError::Media(MediaError::NotReceivingDirection)
+            }
+            MediaError::NoReceiverSource(rid) => {
+                RtcError::Media(MediaError::NoReceiverSource(rid))
+            }
+            MediaError::FeedbackNotEnabled => RtcError::Media(MediaError::FeedbackNotEnabled),
+            MediaError::WriteWithoutPoll => RtcError::Media(MediaError::WriteWithoutPoll),
         }
     }
 }

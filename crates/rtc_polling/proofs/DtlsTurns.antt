@@ -29,35 +29,35 @@ module _ {I D S M E X T W N : Type 0} (m : Meanings I D S M E X T W N) where
   -- an output that is followed by the next is none of a moment, and leaves the instance
   pub taken_output : (output : DtlsOutput) (p q : PolledPeer I D S M N) → TakesDtlsOutput m output p Again q
       → (draws_output (drawn_by output) ≡ true)
-      × ((q.peer.dtls.instance ≡ p.peer.dtls.instance) × (q.peer.dtls.active ≡ p.peer.dtls.active))
+      × ((q.core.dtls.instance ≡ p.core.dtls.instance) × (q.core.dtls.active ≡ p.core.dtls.active))
   unfolding ChecksCert TakesKeys TakesCloseNotify
   taken_output outputs.Connected p q taken =
-      (refl, (ap (λ (x : PolledPeer I D S M N). x.peer.dtls.instance) taken.1, ap (λ (x : PolledPeer I D S M N). x.peer.dtls.active) taken.1))
+      (refl, (ap (λ (x : PolledPeer I D S M N). x.core.dtls.instance) taken.1, ap (λ (x : PolledPeer I D S M N). x.core.dtls.active) taken.1))
   taken_output (outputs.KeyingMaterial key profile) p q taken =
-      (refl, (ap (λ (x : PolledPeer I D S M N). x.peer.dtls.instance) taken.1, ap (λ (x : PolledPeer I D S M N). x.peer.dtls.active) taken.1))
+      (refl, (ap (λ (x : PolledPeer I D S M N). x.core.dtls.instance) taken.1, ap (λ (x : PolledPeer I D S M N). x.core.dtls.active) taken.1))
   taken_output (outputs.PeerCert cert) p q taken =
-      (refl, (ap (λ (x : PolledPeer I D S M N). x.peer.dtls.instance) taken.3, ap (λ (x : PolledPeer I D S M N). x.peer.dtls.active) taken.3))
+      (refl, (ap (λ (x : PolledPeer I D S M N). x.core.dtls.instance) taken.3, ap (λ (x : PolledPeer I D S M N). x.core.dtls.active) taken.3))
   taken_output (outputs.ApplicationData bytes) p q taken =
-      (refl, (ap (λ (x : PolledPeer I D S M N). x.peer.dtls.instance) taken.1, ap (λ (x : PolledPeer I D S M N). x.peer.dtls.active) taken.1))
+      (refl, (ap (λ (x : PolledPeer I D S M N). x.core.dtls.instance) taken.1, ap (λ (x : PolledPeer I D S M N). x.core.dtls.active) taken.1))
   taken_output (outputs.Timeout moment) p q taken = cc (taken.0)
   taken_output outputs.CloseNotify p q taken = absurd taken
 
   module _ (laws : DtlsLaws m.dtls) where
     answer_falls : (active : Option Bool) (answer : Result DtlsOutput AllocError) (dtls : DtlsState D) (p q : PolledPeer I D S M N)
-        → PollsOutput m.dtls p.peer.dtls active answer dtls → TakesDtlsAnswer m answer (with_dtls dtls p) Again q
-        → m.dtls.held q.peer.dtls.instance < m.dtls.held p.peer.dtls.instance
+        → PollsOutput m.dtls p.core.dtls active answer dtls → TakesDtlsAnswer m answer (with_dtls dtls p) Again q
+        → m.dtls.held q.core.dtls.instance < m.dtls.held p.core.dtls.instance
     answer_falls None (Ok output) dtls p q polled taken =
         let is : output ≡ outputs.Timeout (2 ^ 64 - 1) = cc (polled.0) in
         cc ((subst (λ (x : DtlsOutput). TakesDtlsOutput m x (with_dtls dtls p) Again q) is taken).0)
     answer_falls (Some active) (Ok output) dtls p q polled taken =
         let drains = polled.0 in
         let kept = taken_output output (with_dtls dtls p) q taken in
-        let taking = takes_held m.dtls laws p.peer.dtls.instance drains.1.0 drains.0 drains.1.1.0 in
+        let taking = takes_held m.dtls laws p.core.dtls.instance drains.1.0 drains.0 drains.1.1.0 in
         let falls = laws.drawn_falls drains.1.0 dtls.instance (drawn_by output) kept.0 drains.1.1.1 in
-        subst (λ (x : D). m.dtls.held x < m.dtls.held p.peer.dtls.instance) (sym kept.1.0) (omega (arith, taking, falls))
+        subst (λ (x : D). m.dtls.held x < m.dtls.held p.core.dtls.instance) (sym kept.1.0) (omega (arith, taking, falls))
     answer_falls active (Err error) dtls p q polled taken = cc (taken.0)
 
     -- each output that is followed by the next lowers what the part holds
     pub dtls_turn_falls : (p q : PolledPeer I D S M N) → PollsDtlsOutput m p Again q
-        → m.dtls.held q.peer.dtls.instance < m.dtls.held p.peer.dtls.instance
-    dtls_turn_falls p q turn = answer_falls p.peer.dtls.active turn.answer turn.dtls p q turn.by_poll turn.by_answer
+        → m.dtls.held q.core.dtls.instance < m.dtls.held p.core.dtls.instance
+    dtls_turn_falls p q turn = answer_falls p.core.dtls.active turn.answer turn.dtls p q turn.by_poll turn.by_answer

@@ -33,10 +33,10 @@ later_is_to_come moment greatest (inr never) = rw never refl
 
 -- the moments by which a timer of DTLS is due are the same
 abbrev pub KeepsMoments : {I D S M N : Type 0} → PolledPeer I D S M N → PolledPeer I D S M N → Type 0
-KeepsMoments p q = (q.transport.dtls_wake ≡ p.transport.dtls_wake) × (q.peer.greatest ≡ p.peer.greatest)
+KeepsMoments p q = (q.transport.dtls_wake ≡ p.transport.dtls_wake) × (q.core.greatest ≡ p.core.greatest)
 
 pub due_kept : {I D S M N : Type 0} (p q : PolledPeer I D S M N) → KeepsMoments p q → is_dtls_due q ≡ is_dtls_due p
-due_kept p q kept = ap (λ (w : ℕ). has_come w q.peer.greatest) kept.0 ∙ ap (λ (g : ℕ). has_come p.transport.dtls_wake g) kept.1
+due_kept p q kept = ap (λ (w : ℕ). has_come w q.core.greatest) kept.0 ∙ ap (λ (g : ℕ). has_come p.transport.dtls_wake g) kept.1
 
 pub keeps_as : {I D S M N : Type 0} (p n q : PolledPeer I D S M N) → q ≡ n → KeepsMoments p n → KeepsMoments p q
 keeps_as {I} {D} {S} {M} {N} p n q e kept = subst (λ (x : PolledPeer I D S M N). KeepsMoments p x) (sym e) kept

@@ -21,8 +21,8 @@ use Rattle.rtc_polling.specs.declared.met.Met.TheVariants.{Nothing, Again, Trans
 use Rattle.rtc_polling.specs.declared.output.Output.{Output}
 use Rattle.rtc_polling.specs.declared.polled_peer.PolledPeer.{PolledPeer}
 use Rattle.rtc_polling.specs.declared.send_addr.SendAddr.{SendAddr}
-use Rattle.rtc_polling.specs.declared.transport_error.TransportError.{TransportError}
-use Rattle.rtc_polling.specs.declared.transport_error.TransportError.TheVariants.{RemoteSdp, Dtls, Media, Alloc}
+use Rattle.rtc_peer_state.specs.declared.rtc_error.RtcError.{RtcError}
+use Rattle.rtc_peer_state.specs.declared.rtc_error.RtcError.TheVariants.{RemoteSdp, Dtls, Media, Alloc}
 use Rattle.rtc_polling.specs.Closing.{BeginsClosing, ClosesPeer, ClosesPeerFrom, is_closing_complete}
 use Rattle.rtc_polling.specs.Connection.{with_dtls, with_ice}
 use Rattle.rtc_polling.specs.DtlsStages.{GivesDtlsTime, TimesDtls, TimesDtlsIf, TakesDtlsOutput, TakesDtlsAnswer, PollsDtlsOutput}
@@ -42,11 +42,11 @@ keeps_self p = refl
 keeps_on : {I D S M N : Type 0} (p q r : PolledPeer I D S M N) → KeepsNegotiation p q → KeepsNegotiation q r → KeepsNegotiation p r
 keeps_on {I} {D} {S} {M} {N} p q r a b =
     b ∙ ap (λ (x : Peer I D S M N). record x {
-      phase = r.peer.phase;
-      greatest = r.peer.greatest;
-      ice = r.peer.ice;
-      dtls = r.peer.dtls;
-      media = r.peer.media;
+      phase = r.core.phase;
+      greatest = r.core.greatest;
+      ice = r.core.ice;
+      dtls = r.core.dtls;
+      media = r.core.media;
     }) a
 
 -- where the peer afterwards is another that keeps it
@@ -69,23 +69,22 @@ repeats_keeps stage one p r q h =
     (one h.last r q h.ends)
 
 module _ {I D S M E X T W N : Type 0} (m : Meanings I D S M E X T W N) where
-  begins_keeps : (p : PolledPeer I D S M N) (r : Result (Unit {0}) TransportError) (q : PolledPeer I D S M N) → BeginsClosing m p r q → KeepsNegotiation p q
+  begins_keeps : (p : PolledPeer I D S M N) (r : Result (Unit {0}) RtcError) (q : PolledPeer I D S M N) → BeginsClosing m p r q → KeepsNegotiation p q
   unfolding BeginsClosing
   begins_keeps p (Ok done) q h = keeps_by p _ q h.2 refl
   begins_keeps p (Err (Dtls cause)) q h = keeps_by p _ q h.3 refl
   begins_keeps p (Err Alloc) q h = keeps_by p _ q h.0 refl
-  begins_keeps p (Err (RemoteSdp why)) q h = absurd h
-  begins_keeps p (Err (Media cause)) q h = absurd h
+  begins_keeps p (Err error) q h = absurd h
 
-  closes_from_keeps : (phase : Phase) (p : PolledPeer I D S M N) (r : Result (Unit {0}) TransportError) (q : PolledPeer I D S M N)
+  closes_from_keeps : (phase : Phase) (p : PolledPeer I D S M N) (r : Result (Unit {0}) RtcError) (q : PolledPeer I D S M N)
       → ClosesPeerFrom m phase p r q → KeepsNegotiation p q
   closes_from_keeps Alive p r q h = begins_keeps p r q h
   closes_from_keeps Closing p r q h = keeps_by p p q h.1 refl
   closes_from_keeps Closed p r q h = keeps_by p p q h.1 refl
 
   -- closing keeps it
-  pub close_keeps : (p : PolledPeer I D S M N) (r : Result (Unit {0}) TransportError) (q : PolledPeer I D S M N) → ClosesPeer m p r q → KeepsNegotiation p q
-  close_keeps p r q h = closes_from_keeps p.peer.phase p r q h
+  pub close_keeps : (p : PolledPeer I D S M N) (r : Result (Unit {0}) RtcError) (q : PolledPeer I D S M N) → ClosesPeer m p r q → KeepsNegotiation p q
+  close_keeps p r q h = closes_from_keeps p.core.phase p r q h
 
   taken_event_keeps : (event : Option IceEvent) (ice : I) (p : PolledPeer I D S M N) (r : Met E) (q : PolledPeer I D S M N)
       → TakesIceEvent event (with_ice ice p) r q → KeepsNegotiation p q
@@ -206,12 +205,12 @@ module _ {I D S M E X T W N : Type 0} (m : Meanings I D S M E X T W N) where
       (else_keeps (TellsArrivals m) _ arrivals_keep_it
       (else_keeps (SendsDatagrams m) StartsOverWhenDue datagrams_keep_it (λ p r q h. keeps_by p p q h.1 refl)))
 
-  waits_keep : (complete : Bool) (p : PolledPeer I D S M N) (answer : Result (Output E) TransportError) (q : PolledPeer I D S M N)
+  waits_keep : (complete : Bool) (p : PolledPeer I D S M N) (answer : Result (Output E) RtcError) (q : PolledPeer I D S M N)
       → WaitsIf m complete p answer q → KeepsNegotiation p q
   waits_keep true p answer q h = keeps_by p _ q h.1 refl
   waits_keep false p answer q h = keeps_by p _ q h.1 refl
 
-  met_keeps : (met : Met E) (p : PolledPeer I D S M N) (answer : Result (Output E) TransportError) (q : PolledPeer I D S M N)
+  met_keeps : (met : Met E) (p : PolledPeer I D S M N) (answer : Result (Output E) RtcError) (q : PolledPeer I D S M N)
       → AnswersMet m met p answer q → KeepsNegotiation p q
   met_keeps Nothing p answer q h = waits_keep (is_closing_complete m p) p answer q h
   met_keeps Again p answer q h = absurd h
@@ -219,43 +218,42 @@ module _ {I D S M E X T W N : Type 0} (m : Meanings I D S M E X T W N) where
   met_keeps (MetEvent event) p answer q h = keeps_by p p q h.1 refl
   met_keeps (Error error) p answer q h = keeps_by p p q h.1 refl
 
-  walks_keep : (p : PolledPeer I D S M N) (answer : Result (Output E) TransportError) (q : PolledPeer I D S M N) → Walks m p answer q → KeepsNegotiation p q
+  walks_keep : (p : PolledPeer I D S M N) (answer : Result (Output E) RtcError) (q : PolledPeer I D S M N) → Walks m p answer q → KeepsNegotiation p q
   walks_keep p answer q h =
       keeps_on p h.visited q (repeats_keeps (VisitsParts m) visits_keep p h.met h.visited h.by_visits) (met_keeps h.met h.visited answer q h.by_answer)
 
-  polls_from_keep : (phase : Phase) (p : PolledPeer I D S M N) (answer : Result (Output E) TransportError) (q : PolledPeer I D S M N)
+  polls_from_keep : (phase : Phase) (p : PolledPeer I D S M N) (answer : Result (Output E) RtcError) (q : PolledPeer I D S M N)
       → PollsPeerFrom m phase p answer q → KeepsNegotiation p q
   polls_from_keep Alive p answer q h = walks_keep p answer q h
   polls_from_keep Closing p answer q h = walks_keep p answer q h
   polls_from_keep Closed p answer q h = keeps_by p _ q h.1 refl
 
   -- a poll keeps it
-  pub poll_keeps : (p : PolledPeer I D S M N) (answer : Result (Output E) TransportError) (q : PolledPeer I D S M N) → PollsPeer m p answer q
+  pub poll_keeps : (p : PolledPeer I D S M N) (answer : Result (Output E) RtcError) (q : PolledPeer I D S M N) → PollsPeer m p answer q
       → KeepsNegotiation p q
-  poll_keeps p answer q h = polls_from_keep p.peer.phase p answer q h
+  poll_keeps p answer q h = polls_from_keep p.core.phase p answer q h
 
-  time_given_keeps : (now : ℕ) (p : PolledPeer I D S M N) (r : Result (Unit {0}) TransportError) (q : PolledPeer I D S M N) → GivesTime m now p r q
+  time_given_keeps : (now : ℕ) (p : PolledPeer I D S M N) (r : Result (Unit {0}) RtcError) (q : PolledPeer I D S M N) → GivesTime m now p r q
       → KeepsNegotiation p q
   unfolding GivesTime
   time_given_keeps now p (Ok done) q h = keeps_by p _ q h.2 refl
   time_given_keeps now p (Err (Media cause)) q h = keeps_by p _ q h.3 refl
   time_given_keeps now p (Err Alloc) q h = keeps_by p _ q h.0 refl
-  time_given_keeps now p (Err (RemoteSdp why)) q h = absurd h
-  time_given_keeps now p (Err (Dtls cause)) q h = absurd h
+  time_given_keeps now p (Err error) q h = absurd h
 
-  time_keeps : (earlier : Bool) (now : ℕ) (p : PolledPeer I D S M N) (r : Result (Unit {0}) TransportError) (q : PolledPeer I D S M N)
+  time_keeps : (earlier : Bool) (now : ℕ) (p : PolledPeer I D S M N) (r : Result (Unit {0}) RtcError) (q : PolledPeer I D S M N)
       → TakesTimeIf m earlier now p r q → KeepsNegotiation p q
   time_keeps true now p r q h = keeps_by p p q h.1 refl
   time_keeps false now p r q h = time_given_keeps now p r q h
 
-  stun_keeps : (now : ℕ) (datagram : Receive) (bytes : List ℕ) (p : PolledPeer I D S M N) (r : Result (Unit {0}) TransportError)
+  stun_keeps : (now : ℕ) (datagram : Receive) (bytes : List ℕ) (p : PolledPeer I D S M N) (r : Result (Unit {0}) RtcError)
       (q : PolledPeer I D S M N) → HearsStun m now datagram bytes p r q → KeepsNegotiation p q
   unfolding HearsStun
   stun_keeps now datagram bytes p (Ok done) q h = keeps_by p _ q h.1 refl
   stun_keeps now datagram bytes p (Err Alloc) q h = keeps_by p _ q h.1 refl
   stun_keeps now datagram bytes p (Err _) q h = absurd h
 
-  dtls_keeps : (bytes : List ℕ) (p : PolledPeer I D S M N) (r : Result (Unit {0}) TransportError) (q : PolledPeer I D S M N) → HearsDtls m bytes p r q
+  dtls_keeps : (bytes : List ℕ) (p : PolledPeer I D S M N) (r : Result (Unit {0}) RtcError) (q : PolledPeer I D S M N) → HearsDtls m bytes p r q
       → KeepsNegotiation p q
   unfolding HearsDtls
   dtls_keeps bytes p (Ok done) q h = keeps_by p _ q h.1 refl
@@ -264,37 +262,37 @@ module _ {I D S M E X T W N : Type 0} (m : Meanings I D S M E X T W N) where
   dtls_keeps bytes p (Err _) q h = absurd h
 
   media_keeps : (given : M → Result (Unit {0}) AllocError → M → Type 0) (bytes : List ℕ) (p : PolledPeer I D S M N)
-      (r : Result (Unit {0}) TransportError) (q : PolledPeer I D S M N) → HearsMedia m given bytes p r q → KeepsNegotiation p q
+      (r : Result (Unit {0}) RtcError) (q : PolledPeer I D S M N) → HearsMedia m given bytes p r q → KeepsNegotiation p q
   unfolding HearsMedia
   media_keeps given bytes p (Ok done) q h = keeps_by p _ q h.1 refl
   media_keeps given bytes p (Err Alloc) q h = keeps_by p _ q h.1 refl
   media_keeps given bytes p (Err _) q h = absurd h
 
-  kind_keeps : (now : ℕ) (datagram : Receive) (contents : DatagramRecv) (p : PolledPeer I D S M N) (r : Result (Unit {0}) TransportError)
+  kind_keeps : (now : ℕ) (datagram : Receive) (contents : DatagramRecv) (p : PolledPeer I D S M N) (r : Result (Unit {0}) RtcError)
       (q : PolledPeer I D S M N) → HearsKind m now datagram contents p r q → KeepsNegotiation p q
   kind_keeps now datagram (datagrams.Stun view) p r q h = stun_keeps now datagram view.bytes.now p r q h
   kind_keeps now datagram (datagrams.Dtls bytes) p r q h = dtls_keeps bytes.now p r q h
   kind_keeps now datagram (datagrams.Rtp bytes) p r q h = media_keeps _ bytes.now p r q h
   kind_keeps now datagram (datagrams.Rtcp bytes) p r q h = media_keeps _ bytes.now p r q h
 
-  hears_keep : (now : ℕ) (datagram : Receive) (p : PolledPeer I D S M N) (r : Result (Unit {0}) TransportError) (q : PolledPeer I D S M N)
+  hears_keep : (now : ℕ) (datagram : Receive) (p : PolledPeer I D S M N) (r : Result (Unit {0}) RtcError) (q : PolledPeer I D S M N)
       → Hears m now datagram p r q → KeepsNegotiation p q
   hears_keep now datagram p r q (Heard between heard time) =
       keeps_on p between q (kind_keeps now datagram datagram.contents p (Ok tt) between heard) (time_keeps _ now between r q time)
   hears_keep now datagram p r q (PartFailed error is heard) = kind_keeps now datagram datagram.contents p (Err error) q heard
 
-  input_by_keeps : (input : Input) (p : PolledPeer I D S M N) (r : Result (Unit {0}) TransportError) (q : PolledPeer I D S M N)
+  input_by_keeps : (input : Input) (p : PolledPeer I D S M N) (r : Result (Unit {0}) RtcError) (q : PolledPeer I D S M N)
       → HandlesInputBy m input p r q → KeepsNegotiation p q
   input_by_keeps (TimeCame now) p r q h = time_keeps _ now p r q h
   input_by_keeps (Datagram now datagram) p r q h = hears_keep now datagram p r q h
 
-  input_in_keeps : (phase : Phase) (input : Input) (p : PolledPeer I D S M N) (r : Result (Unit {0}) TransportError) (q : PolledPeer I D S M N)
+  input_in_keeps : (phase : Phase) (input : Input) (p : PolledPeer I D S M N) (r : Result (Unit {0}) RtcError) (q : PolledPeer I D S M N)
       → HandlesInputIn m phase input p r q → KeepsNegotiation p q
   input_in_keeps Alive input p r q h = input_by_keeps input p r q h
   input_in_keeps Closing input p r q h = input_by_keeps input p r q h
   input_in_keeps Closed input p r q h = keeps_by p p q h.1 refl
 
   -- an input keeps it
-  pub input_keeps : (input : Input) (p : PolledPeer I D S M N) (r : Result (Unit {0}) TransportError) (q : PolledPeer I D S M N) → HandlesInput m input p r q
+  pub input_keeps : (input : Input) (p : PolledPeer I D S M N) (r : Result (Unit {0}) RtcError) (q : PolledPeer I D S M N) → HandlesInput m input p r q
       → KeepsNegotiation p q
-  input_keeps input p r q h = input_in_keeps p.peer.phase input p r q h
+  input_keeps input p r q h = input_in_keeps p.core.phase input p r q h

@@ -19,8 +19,8 @@ use Rattle.rtc_polling.specs.declared.met.Met.{Met}
 use Rattle.rtc_polling.specs.declared.met.Met.TheVariants.{Nothing, Again, Transmit, Event as MetEvent, Error}
 use Rattle.rtc_polling.specs.declared.polled_peer.PolledPeer.{PolledPeer}
 use Rattle.rtc_polling.specs.declared.send_addr.SendAddr.{SendAddr}
-use Rattle.rtc_polling.specs.declared.transport_error.TransportError.{TransportError}
-use Rattle.rtc_polling.specs.declared.transport_error.TransportError.TheVariants.{Alloc}
+use Rattle.rtc_peer_state.specs.declared.rtc_error.RtcError.{RtcError}
+use Rattle.rtc_peer_state.specs.declared.rtc_error.RtcError.TheVariants.{Alloc}
 use Rattle.rtc_polling.specs.Closing.{BeginsClosing, ClosesPeer, ClosesPeerFrom, is_closing_complete}
 use Rattle.rtc_polling.specs.DtlsStages.{GivesDtlsTime, TimesDtls, TimesDtlsIf, TakesDtlsOutput, TakesDtlsAnswer}
 use Rattle.rtc_polling.specs.DtlsStages.{PollsDtlsOutputs, TakesKeys, TakesCloseNotify, ChecksCert, TellsConnectedFrom, is_dtls_due}
@@ -33,15 +33,15 @@ use Rattle.rtc_polling.specs.Walk.{StartsOverWhenDue, TellsConnection, TellsArri
 
 -- a stage that lacks memory leaves the peer closed
 abbrev ClosesWhenLacking : {I D S M E N : Type 0} → Stage (PolledPeer I D S M N) E → Type 0
-ClosesWhenLacking {I} {D} {S} {M} {E} {N} stage = (p q : PolledPeer I D S M N) → stage p (Error Alloc) q → q.peer.phase ≡ Closed
+ClosesWhenLacking {I} {D} {S} {M} {E} {N} stage = (p q : PolledPeer I D S M N) → stage p (Error Alloc) q → q.core.phase ≡ Closed
 
 else_lacks : {I D S M E N : Type 0} (first rest : Stage (PolledPeer I D S M N) E) → ClosesWhenLacking first → ClosesWhenLacking rest
     → ClosesWhenLacking (FollowedBy first rest)
 else_lacks first rest one other p q (Stopped met stage) = one p q stage
 else_lacks first rest one other p q (WentOn between stage after) = other between q after
 
-phase_is : {I D S M N : Type 0} (n q : PolledPeer I D S M N) → q ≡ n → n.peer.phase ≡ Closed → q.peer.phase ≡ Closed
-phase_is {I} {D} {S} {M} {N} n q is closed = subst (λ (x : PolledPeer I D S M N). x.peer.phase ≡ Closed) (sym is) closed
+phase_is : {I D S M N : Type 0} (n q : PolledPeer I D S M N) → q ≡ n → n.core.phase ≡ Closed → q.core.phase ≡ Closed
+phase_is {I} {D} {S} {M} {N} n q is closed = subst (λ (x : PolledPeer I D S M N). x.core.phase ≡ Closed) (sym is) closed
 
 not_met_error : {E : Type 0} (event : IceEvent) → ◌≡◌ {A = Met E} (Error Alloc) (met_of_ice_event event) → ⊥
 not_met_error events.IceRestart e = cc (e)
@@ -54,46 +54,46 @@ not_over true e = cc (e)
 not_over false e = cc (e)
 
 module _ {I D S M E X T W N : Type 0} (m : Meanings I D S M E X T W N) where
-  begins_lacks : (p q : PolledPeer I D S M N) → BeginsClosing m p (Err Alloc) q → q.peer.phase ≡ Closed
+  begins_lacks : (p q : PolledPeer I D S M N) → BeginsClosing m p (Err Alloc) q → q.core.phase ≡ Closed
   unfolding BeginsClosing
-  begins_lacks p q h = ap (λ (x : PolledPeer I D S M N). x.peer.phase) h.0
+  begins_lacks p q h = ap (λ (x : PolledPeer I D S M N). x.core.phase) h.0
 
-  closes_lacks : (phase : Phase) (p q : PolledPeer I D S M N) → ClosesPeerFrom m phase p (Err Alloc) q → q.peer.phase ≡ Closed
+  closes_lacks : (phase : Phase) (p q : PolledPeer I D S M N) → ClosesPeerFrom m phase p (Err Alloc) q → q.core.phase ≡ Closed
   closes_lacks Alive p q h = begins_lacks p q h
   closes_lacks Closing p q h = cc (h.0)
   closes_lacks Closed p q h = cc (h.0)
 
   -- a close that lacks memory
-  pub close_lacks : (p q : PolledPeer I D S M N) → ClosesPeer m p (Err Alloc) q → q.peer.phase ≡ Closed
-  close_lacks p q h = closes_lacks p.peer.phase p q h
+  pub close_lacks : (p q : PolledPeer I D S M N) → ClosesPeer m p (Err Alloc) q → q.core.phase ≡ Closed
+  close_lacks p q h = closes_lacks p.core.phase p q h
 
-  event_lacks : (event : Option IceEvent) (p q : PolledPeer I D S M N) → TakesIceEvent {E = E} event p (Error Alloc) q → q.peer.phase ≡ Closed
+  event_lacks : (event : Option IceEvent) (p q : PolledPeer I D S M N) → TakesIceEvent {E = E} event p (Error Alloc) q → q.core.phase ≡ Closed
   event_lacks None p q h = cc (h.0)
   event_lacks (Some event) p q h = absurd (not_met_error event h.0)
 
   ice_lacks : ClosesWhenLacking (PollsIceEvents m)
   ice_lacks p q h = event_lacks h.ends.event _ q h.ends.by_event
 
-  time_lacks : (due : Bool) (p q : PolledPeer I D S M N) → TimesDtlsIf m due p (Error Alloc) q → q.peer.phase ≡ Closed
+  time_lacks : (due : Bool) (p q : PolledPeer I D S M N) → TimesDtlsIf m due p (Error Alloc) q → q.core.phase ≡ Closed
   unfolding GivesDtlsTime
-  time_lacks true p q h = ap (λ (x : PolledPeer I D S M N). x.peer.phase) h.1
+  time_lacks true p q h = ap (λ (x : PolledPeer I D S M N). x.core.phase) h.1
   time_lacks false p q h = cc (h.0)
 
-  output_lacks : (output : DtlsOutput) (p q : PolledPeer I D S M N) → TakesDtlsOutput m output p (Error Alloc) q → q.peer.phase ≡ Closed
+  output_lacks : (output : DtlsOutput) (p q : PolledPeer I D S M N) → TakesDtlsOutput m output p (Error Alloc) q → q.core.phase ≡ Closed
   unfolding TakesKeys ChecksCert TakesCloseNotify
   output_lacks outputs.Connected p q h = cc (h.0)
-  output_lacks (outputs.KeyingMaterial key profile) p q h = ap (λ (x : PolledPeer I D S M N). x.peer.phase) h.1
-  output_lacks (outputs.PeerCert cert) p q h = ap (λ (x : PolledPeer I D S M N). x.peer.phase) h
+  output_lacks (outputs.KeyingMaterial key profile) p q h = ap (λ (x : PolledPeer I D S M N). x.core.phase) h.1
+  output_lacks (outputs.PeerCert cert) p q h = ap (λ (x : PolledPeer I D S M N). x.core.phase) h
   output_lacks (outputs.ApplicationData bytes) p q h = cc (h.0)
   output_lacks (outputs.Timeout moment) p q h = cc (h.0)
   output_lacks outputs.CloseNotify p q h = close_lacks p q h
 
   answer_lacks_memory : (answer : Result DtlsOutput AllocError) (p q : PolledPeer I D S M N) → TakesDtlsAnswer m answer p (Error Alloc) q
-      → q.peer.phase ≡ Closed
+      → q.core.phase ≡ Closed
   answer_lacks_memory (Ok output) p q h = output_lacks output p q h
-  answer_lacks_memory (Err error) p q h = ap (λ (x : PolledPeer I D S M N). x.peer.phase) h.1
+  answer_lacks_memory (Err error) p q h = ap (λ (x : PolledPeer I D S M N). x.core.phase) h.1
 
-  connected_lacks : (handshake : Handshake) (p q : PolledPeer I D S M N) → TellsConnectedFrom {E = E} handshake p (Error Alloc) q → q.peer.phase ≡ Closed
+  connected_lacks : (handshake : Handshake) (p q : PolledPeer I D S M N) → TellsConnectedFrom {E = E} handshake p (Error Alloc) q → q.core.phase ≡ Closed
   connected_lacks Pending p q h = cc (h.0)
   connected_lacks Finished p q h = cc (h.0)
   connected_lacks Told p q h = cc (h.0)
@@ -109,9 +109,9 @@ module _ {I D S M E X T W N : Type 0} (m : Meanings I D S M E X T W N) where
   arrivals_lack : ClosesWhenLacking (TellsArrivals m)
   unfolding TellsArrivals TellsMedia TellsFallibleMedia
   arrivals_lack =
-      else_lacks (TellsMedia m) (TellsFallibleMedia m) (λ p q h. absurd h) (λ p q h. ap (λ (x : PolledPeer I D S M N). x.peer.phase) h.1)
+      else_lacks (TellsMedia m) (TellsFallibleMedia m) (λ p q h. absurd h) (λ p q h. ap (λ (x : PolledPeer I D S M N). x.core.phase) h.1)
 
-  sends_lack : (addr : Option SendAddr) (p q : PolledPeer I D S M N) → SendsBy m addr p (Error Alloc) q → q.peer.phase ≡ Closed
+  sends_lack : (addr : Option SendAddr) (p q : PolledPeer I D S M N) → SendsBy m addr p (Error Alloc) q → q.core.phase ≡ Closed
   unfolding SendsDtlsPacket SendsMediaDatagram
   sends_lack None p q h = cc (h.0)
   sends_lack (Some addr) p q h = else_lacks (SendsDtlsPacket m addr) (SendsMediaDatagram m addr) (λ a b k. absurd k) (λ a b k. absurd k) p q h
@@ -127,57 +127,57 @@ module _ {I D S M E X T W N : Type 0} (m : Meanings I D S M E X T W N) where
       (else_lacks (TellsArrivals m) _ arrivals_lack
       (else_lacks (SendsDatagrams m) StartsOverWhenDue datagrams_lack (λ p q h. absurd (not_over (is_dtls_due p) h.0))))
 
-  waits_lack : (complete : Bool) (p q : PolledPeer I D S M N) → WaitsIf m complete p (Err Alloc) q → q.peer.phase ≡ Closed
+  waits_lack : (complete : Bool) (p q : PolledPeer I D S M N) → WaitsIf m complete p (Err Alloc) q → q.core.phase ≡ Closed
   waits_lack true p q h = cc (h.0)
   waits_lack false p q h = cc (h.0)
 
-  met_lacks : (met : Met E) (v p q : PolledPeer I D S M N) → VisitsParts m v met p → AnswersMet m met p (Err Alloc) q → q.peer.phase ≡ Closed
+  met_lacks : (met : Met E) (v p q : PolledPeer I D S M N) → VisitsParts m v met p → AnswersMet m met p (Err Alloc) q → q.core.phase ≡ Closed
   met_lacks Nothing v p q visits h = waits_lack (is_closing_complete m p) p q h
   met_lacks Again v p q visits h = absurd h
   met_lacks (Transmit transmit) v p q visits h = cc (h.0)
   met_lacks (MetEvent event) v p q visits h = cc (h.0)
   met_lacks (Error error) v p q visits h =
       let is : error ≡ Alloc = cc (h.0) in
-      phase_is p q h.1 (visits_lack v p (subst (λ (e : TransportError). VisitsParts m v (Error e) p) is visits))
+      phase_is p q h.1 (visits_lack v p (subst (λ (e : RtcError). VisitsParts m v (Error e) p) is visits))
 
-  polls_lack : (phase : Phase) (p q : PolledPeer I D S M N) → PollsPeerFrom m phase p (Err Alloc) q → q.peer.phase ≡ Closed
+  polls_lack : (phase : Phase) (p q : PolledPeer I D S M N) → PollsPeerFrom m phase p (Err Alloc) q → q.core.phase ≡ Closed
   polls_lack Alive p q h = met_lacks h.met h.by_visits.last h.visited q h.by_visits.ends h.by_answer
   polls_lack Closing p q h = met_lacks h.met h.by_visits.last h.visited q h.by_visits.ends h.by_answer
   polls_lack Closed p q h = cc (h.0)
 
   -- a poll that lacks memory
-  pub poll_lacks : (p q : PolledPeer I D S M N) → PollsPeer m p (Err Alloc) q → q.peer.phase ≡ Closed
-  poll_lacks p q h = polls_lack p.peer.phase p q h
+  pub poll_lacks : (p q : PolledPeer I D S M N) → PollsPeer m p (Err Alloc) q → q.core.phase ≡ Closed
+  poll_lacks p q h = polls_lack p.core.phase p q h
 
-  input_time_lacks : (earlier : Bool) (now : ℕ) (p q : PolledPeer I D S M N) → TakesTimeIf m earlier now p (Err Alloc) q → q.peer.phase ≡ Closed
+  input_time_lacks : (earlier : Bool) (now : ℕ) (p q : PolledPeer I D S M N) → TakesTimeIf m earlier now p (Err Alloc) q → q.core.phase ≡ Closed
   unfolding GivesTime
   input_time_lacks true now p q h = cc (h.0)
-  input_time_lacks false now p q h = ap (λ (x : PolledPeer I D S M N). x.peer.phase) h.0
+  input_time_lacks false now p q h = ap (λ (x : PolledPeer I D S M N). x.core.phase) h.0
 
   kind_lacks : (now : ℕ) (datagram : Receive) (contents : DatagramRecv) (p q : PolledPeer I D S M N) → HearsKind m now datagram contents p (Err Alloc) q
-      → q.peer.phase ≡ Closed
+      → q.core.phase ≡ Closed
   unfolding HearsStun HearsDtls HearsMedia
-  kind_lacks now datagram (datagrams.Stun view) p q h = ap (λ (x : PolledPeer I D S M N). x.peer.phase) h.1
-  kind_lacks now datagram (datagrams.Dtls bytes) p q h = ap (λ (x : PolledPeer I D S M N). x.peer.phase) h.1
-  kind_lacks now datagram (datagrams.Rtp bytes) p q h = ap (λ (x : PolledPeer I D S M N). x.peer.phase) h.1
-  kind_lacks now datagram (datagrams.Rtcp bytes) p q h = ap (λ (x : PolledPeer I D S M N). x.peer.phase) h.1
+  kind_lacks now datagram (datagrams.Stun view) p q h = ap (λ (x : PolledPeer I D S M N). x.core.phase) h.1
+  kind_lacks now datagram (datagrams.Dtls bytes) p q h = ap (λ (x : PolledPeer I D S M N). x.core.phase) h.1
+  kind_lacks now datagram (datagrams.Rtp bytes) p q h = ap (λ (x : PolledPeer I D S M N). x.core.phase) h.1
+  kind_lacks now datagram (datagrams.Rtcp bytes) p q h = ap (λ (x : PolledPeer I D S M N). x.core.phase) h.1
 
-  hears_lacks : (now : ℕ) (datagram : Receive) (p q : PolledPeer I D S M N) → Hears m now datagram p (Err Alloc) q → q.peer.phase ≡ Closed
+  hears_lacks : (now : ℕ) (datagram : Receive) (p q : PolledPeer I D S M N) → Hears m now datagram p (Err Alloc) q → q.core.phase ≡ Closed
   hears_lacks now datagram p q (Heard between heard time) = input_time_lacks _ now between q time
   hears_lacks now datagram p q (PartFailed error is heard) =
       let lacking : error ≡ Alloc = cc (is) in
       kind_lacks now datagram datagram.contents p q
-      (subst (λ (e : TransportError). HearsKind m now datagram datagram.contents p (Err e) q) lacking heard)
+      (subst (λ (e : RtcError). HearsKind m now datagram datagram.contents p (Err e) q) lacking heard)
 
-  input_by_lacks : (input : Input) (p q : PolledPeer I D S M N) → HandlesInputBy m input p (Err Alloc) q → q.peer.phase ≡ Closed
+  input_by_lacks : (input : Input) (p q : PolledPeer I D S M N) → HandlesInputBy m input p (Err Alloc) q → q.core.phase ≡ Closed
   input_by_lacks (TimeCame now) p q h = input_time_lacks _ now p q h
   input_by_lacks (Datagram now datagram) p q h = hears_lacks now datagram p q h
 
-  input_in_lacks : (phase : Phase) (input : Input) (p q : PolledPeer I D S M N) → HandlesInputIn m phase input p (Err Alloc) q → q.peer.phase ≡ Closed
+  input_in_lacks : (phase : Phase) (input : Input) (p q : PolledPeer I D S M N) → HandlesInputIn m phase input p (Err Alloc) q → q.core.phase ≡ Closed
   input_in_lacks Alive input p q h = input_by_lacks input p q h
   input_in_lacks Closing input p q h = input_by_lacks input p q h
   input_in_lacks Closed input p q h = cc (h.0)
 
   -- an input that lacks memory
-  pub input_lacks : (input : Input) (p q : PolledPeer I D S M N) → HandlesInput m input p (Err Alloc) q → q.peer.phase ≡ Closed
-  input_lacks input p q h = input_in_lacks p.peer.phase input p q h
+  pub input_lacks : (input : Input) (p q : PolledPeer I D S M N) → HandlesInput m input p (Err Alloc) q → q.core.phase ≡ Closed
+  input_lacks input p q h = input_in_lacks p.core.phase input p q h

@@ -4,5 +4,8 @@ pub mod DtlsTurns
 pub mod DueMoments
 pub mod Visits
 pub mod Keeping
+pub mod DtlsRoles
+pub mod Standing
+pub mod StandingInputs
 pub mod Lacking
 pub mod StandardFacts

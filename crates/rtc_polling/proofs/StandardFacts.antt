@@ -2,13 +2,14 @@
 use Rattle.std.proofs.Common.{◌≡◌, ◌-◌, ◌^◌, ℕ, Bool, true, false, List, [], ◌∷◌, Some, None, codes, refl}
 use Rattle.rtc_parts_values.specs.declared.reason.Reason.TheVariants.{NotHappening, DTLS, Ice}
 use Rattle.rtc_sdp_values.specs.declared.fingerprint.Fingerprint.{Fingerprint}
-use Rattle.rtc_polling.specs.declared.cert_refusal.CertRefusal.TheVariants.{NoMatch, UnknownHash, NoneAnnounced}
-use Rattle.rtc_polling.specs.declared.transport_error.TransportError.TheVariants.{RemoteSdp}
+use Rattle.rtc_tables.specs.declared.why.Why.TheVariants.{NoMatch, UnknownHash, NoneAnnounced}
+use Rattle.rtc_peer_state.specs.declared.rtc_error.RtcError.TheVariants.{RemoteSdp}
+use Rattle.rtc_tables.specs.WhyText.{why_text}
+use Rattle.rtc_peer_state.specs.RtcErrorText.{rtc_error_text}
 use Rattle.rtc_polling.specs.Certificates.{cert_refusal}
 use Rattle.rtc_polling.specs.Connection.{no_transport}
 use Rattle.rtc_polling.specs.Deadlines.{sooner}
 use Rattle.rtc_polling.specs.DtlsStages.{has_come}
-use Rattle.rtc_polling.specs.ErrorTexts.{cert_refusal_text, transport_error_text}
 
 -- a fingerprint by sha-256 of these bytes
 abbrev sha_256 : List ℕ → Fingerprint
@@ -32,13 +33,13 @@ none_announced_is_refused verifies got = refl
 pub unverified_is_taken : (announced got : Fingerprint) → cert_refusal (Some announced) false got ≡ None
 unverified_is_taken announced got = refl
 
-pub no_match_prints : (expected got : Fingerprint) → transport_error_text (RemoteSdp (NoMatch expected got))
+pub no_match_prints : (expected got : Fingerprint) → rtc_error_text (RemoteSdp (NoMatch expected got))
     ≡ codes "remote sdp: remote fingerprint no match"
-unfolding transport_error_text cert_refusal_text
+unfolding rtc_error_text why_text
 no_match_prints expected got = refl
 
-pub md5_prints : transport_error_text (RemoteSdp (UnknownHash (codes "md5"))) ≡ codes "remote sdp: unsupported fingerprint hash function: md5"
-unfolding transport_error_text cert_refusal_text
+pub md5_prints : rtc_error_text (RemoteSdp (UnknownHash (codes "md5"))) ≡ codes "remote sdp: unsupported fingerprint hash function: md5"
+unfolding rtc_error_text why_text
 md5_prints = refl
 
 pub new_peer_waits_for_nothing : (verifies : Bool) → (no_transport verifies).last_reason ≡ NotHappening

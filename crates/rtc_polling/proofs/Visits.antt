@@ -61,9 +61,9 @@ module _ {I D S M E X T W N : Type 0} (m : Meanings I D S M E X T W N) where
   -- turns of outputs keep the greatest moment and the role, and move the instance
   abbrev MovesDtls : PolledPeer I D S M N → PolledPeer I D S M N → Type 0
   MovesDtls p q =
-      (q.peer.greatest ≡ p.peer.greatest)
-      × ((q.peer.dtls.active ≡ p.peer.dtls.active)
-      × ((acts : List DtlsAct) × DtlsMoved m.dtls p.peer.dtls.instance acts q.peer.dtls.instance))
+      (q.core.greatest ≡ p.core.greatest)
+      × ((q.core.dtls.active ≡ p.core.dtls.active)
+      × ((acts : List DtlsAct) × DtlsMoved m.dtls p.core.dtls.instance acts q.core.dtls.instance))
 
   moves_none : (p : PolledPeer I D S M N) → MovesDtls p p
   moves_none p = (refl, (refl, ([], refl)))
@@ -75,29 +75,29 @@ module _ {I D S M E X T W N : Type 0} (m : Meanings I D S M E X T W N) where
       b.1.0 ∙ a.1.0,
       (
         a.1.1.0 ++ b.1.1.0,
-        dtls_moved-append m.dtls p.peer.dtls.instance q.peer.dtls.instance r.peer.dtls.instance a.1.1.0 b.1.1.0 a.1.1.1 b.1.1.1,
+        dtls_moved-append m.dtls p.core.dtls.instance q.core.dtls.instance r.core.dtls.instance a.1.1.0 b.1.1.0 a.1.1.1 b.1.1.1,
       ),
     ),
   )
 
   -- an output that is followed by the next keeps the greatest moment
-  output_greatest : (output : DtlsOutput) (p q : PolledPeer I D S M N) → TakesDtlsOutput m output p Again q → q.peer.greatest ≡ p.peer.greatest
+  output_greatest : (output : DtlsOutput) (p q : PolledPeer I D S M N) → TakesDtlsOutput m output p Again q → q.core.greatest ≡ p.core.greatest
   unfolding ChecksCert TakesKeys TakesCloseNotify
-  output_greatest outputs.Connected p q taken = ap (λ (x : PolledPeer I D S M N). x.peer.greatest) taken.1
-  output_greatest (outputs.KeyingMaterial key profile) p q taken = ap (λ (x : PolledPeer I D S M N). x.peer.greatest) taken.1
-  output_greatest (outputs.PeerCert cert) p q taken = ap (λ (x : PolledPeer I D S M N). x.peer.greatest) taken.3
-  output_greatest (outputs.ApplicationData bytes) p q taken = ap (λ (x : PolledPeer I D S M N). x.peer.greatest) taken.1
-  output_greatest (outputs.Timeout moment) p q taken = ap (λ (x : PolledPeer I D S M N). x.peer.greatest) taken.1
+  output_greatest outputs.Connected p q taken = ap (λ (x : PolledPeer I D S M N). x.core.greatest) taken.1
+  output_greatest (outputs.KeyingMaterial key profile) p q taken = ap (λ (x : PolledPeer I D S M N). x.core.greatest) taken.1
+  output_greatest (outputs.PeerCert cert) p q taken = ap (λ (x : PolledPeer I D S M N). x.core.greatest) taken.3
+  output_greatest (outputs.ApplicationData bytes) p q taken = ap (λ (x : PolledPeer I D S M N). x.core.greatest) taken.1
+  output_greatest (outputs.Timeout moment) p q taken = ap (λ (x : PolledPeer I D S M N). x.core.greatest) taken.1
   output_greatest outputs.CloseNotify p q taken = absurd taken
 
   polled_moves : (active : Option Bool) (output : DtlsOutput) (state : DtlsState D) (p : PolledPeer I D S M N) → draws_output (drawn_by output) ≡ true
-      → PollsOutput m.dtls p.peer.dtls active (Ok output) state → (acts : List DtlsAct) × DtlsMoved m.dtls p.peer.dtls.instance acts state.instance
+      → PollsOutput m.dtls p.core.dtls active (Ok output) state → (acts : List DtlsAct) × DtlsMoved m.dtls p.core.dtls.instance acts state.instance
   polled_moves None output state p draws polled = ([], ap (λ (x : DtlsState D). x.instance) polled.1)
   polled_moves (Some active) output state p draws polled =
       let drains = polled.0 in
       let act = drawn_act m.dtls (drawn_by output) drains.1.0 state.instance draws drains.1.1.1 in (
         takes drains.0 ++ act.0 ∷ [],
-        dtls_moved-append m.dtls p.peer.dtls.instance drains.1.0 state.instance (takes drains.0) (act.0 ∷ []) drains.1.1.0
+        dtls_moved-append m.dtls p.core.dtls.instance drains.1.0 state.instance (takes drains.0) (act.0 ∷ []) drains.1.1.0
             (dtls_moved-one m.dtls drains.1.0 state.instance act.0 act.1),
       )
 
@@ -107,14 +107,14 @@ module _ {I D S M E X T W N : Type 0} (m : Meanings I D S M E X T W N) where
   polled_role (Some active) answer p state polled = ap (λ (x : DtlsState D). x.active) polled.1
 
   turn_moves_by : (answer : Result DtlsOutput AllocError) (state : DtlsState D) (p q : PolledPeer I D S M N)
-      → PollsOutput m.dtls p.peer.dtls p.peer.dtls.active answer state → TakesDtlsAnswer m answer (with_dtls state p) Again q → MovesDtls p q
+      → PollsOutput m.dtls p.core.dtls p.core.dtls.active answer state → TakesDtlsAnswer m answer (with_dtls state p) Again q → MovesDtls p q
   turn_moves_by (Ok output) state p q polled taken =
       let kept = taken_output m output (with_dtls state p) q taken in
-      let moved = polled_moves p.peer.dtls.active output state p kept.0 polled in (
+      let moved = polled_moves p.core.dtls.active output state p kept.0 polled in (
         output_greatest output (with_dtls state p) q taken,
         (
-          kept.1.1 ∙ polled_role p.peer.dtls.active (Ok output) p.peer.dtls state polled,
-          (moved.0, subst (λ (x : D). DtlsMoved m.dtls p.peer.dtls.instance moved.0 x) (sym kept.1.0) moved.1),
+          kept.1.1 ∙ polled_role p.core.dtls.active (Ok output) p.core.dtls state polled,
+          (moved.0, subst (λ (x : D). DtlsMoved m.dtls p.core.dtls.instance moved.0 x) (sym kept.1.0) moved.1),
         ),
       )
   turn_moves_by (Err error) state p q polled taken = cc (taken.0)
@@ -137,9 +137,9 @@ module _ {I D S M E X T W N : Type 0} (m : Meanings I D S M E X T W N) where
 
     -- the moment that is kept
     abbrev KeepsMoment : PolledPeer I D S M N → PolledPeer I D S M N → Type 0
-    KeepsMoment p q = (q.peer.greatest ≡ p.peer.greatest) × AskedFor p.peer.dtls.active p.peer.dtls.instance q.transport.dtls_wake
+    KeepsMoment p q = (q.core.greatest ≡ p.core.greatest) × AskedFor p.core.dtls.active p.core.dtls.instance q.transport.dtls_wake
 
-    ends_with : (output : DtlsOutput) (state : DtlsState D) (p q : PolledPeer I D S M N) → PollsOutput m.dtls p.peer.dtls p.peer.dtls.active (Ok output) state
+    ends_with : (output : DtlsOutput) (state : DtlsState D) (p q : PolledPeer I D S M N) → PollsOutput m.dtls p.core.dtls p.core.dtls.active (Ok output) state
         → TakesDtlsOutput m output (with_dtls state p) Nothing q → KeepsMoment p q
     unfolding ChecksCert TakesKeys TakesCloseNotify
     ends_with outputs.Connected state p q polled taken = cc (taken.0)
@@ -147,15 +147,15 @@ module _ {I D S M E X T W N : Type 0} (m : Meanings I D S M E X T W N) where
     ends_with (outputs.PeerCert cert) state p q polled taken = absurd taken
     ends_with (outputs.ApplicationData bytes) state p q polled taken = cc (taken.0)
     ends_with (outputs.Timeout moment) state p q polled taken = (
-      ap (λ (x : PolledPeer I D S M N). x.peer.greatest) taken.1,
-      subst (λ (w : ℕ). AskedFor p.peer.dtls.active p.peer.dtls.instance w)
+      ap (λ (x : PolledPeer I D S M N). x.core.greatest) taken.1,
+      subst (λ (w : ℕ). AskedFor p.core.dtls.active p.core.dtls.instance w)
           (sym (ap (λ (x : PolledPeer I D S M N). x.transport.dtls_wake) taken.1))
-          (asked_for p.peer.dtls.active moment p.peer.dtls state polled),
+          (asked_for p.core.dtls.active moment p.core.dtls state polled),
     )
     ends_with outputs.CloseNotify state p q polled taken = absurd taken
 
     ends_by : (answer : Result DtlsOutput AllocError) (state : DtlsState D) (p q : PolledPeer I D S M N)
-        → PollsOutput m.dtls p.peer.dtls p.peer.dtls.active answer state → TakesDtlsAnswer m answer (with_dtls state p) Nothing q → KeepsMoment p q
+        → PollsOutput m.dtls p.core.dtls p.core.dtls.active answer state → TakesDtlsAnswer m answer (with_dtls state p) Nothing q → KeepsMoment p q
     ends_by (Ok output) state p q polled taken = ends_with output state p q polled taken
     ends_by (Err error) state p q polled taken = cc (taken.0)
 
@@ -172,29 +172,29 @@ module _ {I D S M E X T W N : Type 0} (m : Meanings I D S M E X T W N) where
         let later = laws.asks_later timed.0 i asked.0 greatest (moved.0 ++ asked.1.0.0) timed.1 all in
         later_is_to_come moment greatest (subst (λ (w : ℕ). IsLater greatest w) (sym asked.1.1) later)
 
-    outputs_end : (p q : PolledPeer I D S M N) → Timed p.peer.dtls.active p.peer.greatest p.peer.dtls.instance → PollsDtlsOutputs m p Nothing q
+    outputs_end : (p q : PolledPeer I D S M N) → Timed p.core.dtls.active p.core.greatest p.core.dtls.instance → PollsDtlsOutputs m p Nothing q
         → is_dtls_due q ≡ false
     outputs_end p q timed h =
         let moved = over_carries (PollsDtlsOutput m) MovesDtls moves_none moves_join turn_moves h.turns p h.last h.over in
         let ended = ends_by h.ends.answer h.ends.dtls h.last q h.ends.by_poll h.ends.by_answer in
-        let asked = subst (λ (a : Option Bool). AskedFor a h.last.peer.dtls.instance q.transport.dtls_wake) moved.1.0 ended.1 in
+        let asked = subst (λ (a : Option Bool). AskedFor a h.last.core.dtls.instance q.transport.dtls_wake) moved.1.0 ended.1 in
         ap (λ (g : ℕ). has_come q.transport.dtls_wake g) (ended.0 ∙ moved.0)
-        ∙ asked_later p.peer.dtls.active p.peer.greatest q.transport.dtls_wake p.peer.dtls.instance h.last.peer.dtls.instance timed moved.1.1 asked
+        ∙ asked_later p.core.dtls.active p.core.greatest q.transport.dtls_wake p.core.dtls.instance h.last.core.dtls.instance timed moved.1.1 asked
 
-    timed_by : (active : Option Bool) (p q : PolledPeer I D S M N) → p.peer.dtls.active ≡ active
-        → HandsOn m.dtls p.peer.dtls active (λ i r j. m.dtls.timed i p.peer.greatest r j) (Ok tt) q.peer.dtls → q.peer.greatest ≡ p.peer.greatest
-        → Timed q.peer.dtls.active q.peer.greatest q.peer.dtls.instance
+    timed_by : (active : Option Bool) (p q : PolledPeer I D S M N) → p.core.dtls.active ≡ active
+        → HandsOn m.dtls p.core.dtls active (λ i r j. m.dtls.timed i p.core.greatest r j) (Ok tt) q.core.dtls → q.core.greatest ≡ p.core.greatest
+        → Timed q.core.dtls.active q.core.greatest q.core.dtls.instance
     timed_by None p q role handed kept =
-        let still : q.peer.dtls.active ≡ None = ap (λ (x : DtlsState D). x.active) handed.1 ∙ role in
-        subst (λ (a : Option Bool). Timed a q.peer.greatest q.peer.dtls.instance) (sym still) tt
+        let still : q.core.dtls.active ≡ None = ap (λ (x : DtlsState D). x.active) handed.1 ∙ role in
+        subst (λ (a : Option Bool). Timed a q.core.greatest q.core.dtls.instance) (sym still) tt
     timed_by (Some active) p q role handed kept =
-        let still : q.peer.dtls.active ≡ Some active = ap (λ (x : DtlsState D). x.active) handed.1 ∙ role in
-        let given = subst (λ (g : ℕ). m.dtls.timed p.peer.dtls.instance g (Ok tt) q.peer.dtls.instance) (sym kept) handed.0 in
-        subst (λ (a : Option Bool). Timed a q.peer.greatest q.peer.dtls.instance) (sym still) (p.peer.dtls.instance, given)
+        let still : q.core.dtls.active ≡ Some active = ap (λ (x : DtlsState D). x.active) handed.1 ∙ role in
+        let given = subst (λ (g : ℕ). m.dtls.timed p.core.dtls.instance g (Ok tt) q.core.dtls.instance) (sym kept) handed.0 in
+        subst (λ (a : Option Bool). Timed a q.core.greatest q.core.dtls.instance) (sym still) (p.core.dtls.instance, given)
 
-    given_time : (p q : PolledPeer I D S M N) → GivesDtlsTime m p Nothing q → Timed q.peer.dtls.active q.peer.greatest q.peer.dtls.instance
+    given_time : (p q : PolledPeer I D S M N) → GivesDtlsTime m p Nothing q → Timed q.core.dtls.active q.core.greatest q.core.dtls.instance
     unfolding GivesDtlsTime
-    given_time p q given = timed_by p.peer.dtls.active p q refl given.0 (ap (λ (x : PolledPeer I D S M N). x.peer.greatest) given.1)
+    given_time p q given = timed_by p.core.dtls.active p q refl given.0 (ap (λ (x : PolledPeer I D S M N). x.core.greatest) given.1)
 
     -- a walk that began with a moment that had come does not end with one
     connection_settles : (p q : PolledPeer I D S M N) → is_dtls_due p ≡ true → TellsConnection m p Nothing q → is_dtls_due q ≡ false

@@ -3,8 +3,8 @@ use Rattle.std.specs.Prelude.{if◌then◌else◌, ℕ, ◌≡◌, ◌||◌, Boo
 use Rattle.std.specs.Str.{bytes_eq}
 use Rattle.rtc_sdp_values.specs.declared.fingerprint.Fingerprint.{Fingerprint}
 use Rattle.rtc_sdp_values.specs.Fingerprint.{certificate_fingerprint}
-use Rattle.rtc_polling.specs.declared.cert_refusal.CertRefusal.{CertRefusal}
-use Rattle.rtc_polling.specs.declared.cert_refusal.CertRefusal.TheVariants.{NoMatch, UnknownHash, NoneAnnounced}
+use Rattle.rtc_tables.specs.declared.why.Why.{Why}
+use Rattle.rtc_tables.specs.declared.why.Why.TheVariants.{NoMatch, UnknownHash, NoneAnnounced}
 
 -- the names of the hash functions by which certificates are checked
 abbrev pub is_checked_hash : List ℕ → Bool
@@ -20,14 +20,14 @@ abbrev pub Hashes : Option Fingerprint → List ℕ → Fingerprint → Type 0
 Hashes announced cert got = certificate_fingerprint (hash_name announced) cert ≡ Some got
 
 -- why a certificate with a fingerprint is refused by the announced one
-abbrev pub cert_mismatch : Fingerprint → Fingerprint → Option CertRefusal
+abbrev pub cert_mismatch : Fingerprint → Fingerprint → Option Why
 cert_mismatch announced got =
     if is_checked_hash announced.hash_func
     then (if bytes_eq announced.bytes got.bytes then None else Some (NoMatch announced got))
     else Some (UnknownHash announced.hash_func)
 
 -- why it is refused: nothing was announced, or it is to be verified and does not match
-abbrev pub cert_refusal : Option Fingerprint → (verifies : Bool) → Fingerprint → Option CertRefusal
+abbrev pub cert_refusal : Option Fingerprint → (verifies : Bool) → Fingerprint → Option Why
 cert_refusal None verifies got = Some NoneAnnounced
 cert_refusal (Some announced) true got = cert_mismatch announced got
 cert_refusal (Some announced) false got = None

@@ -4,17 +4,17 @@ use Rattle.rtc_dtls.specs.declared.dtls_error.DtlsError.TheVariants.{Fault, Allo
 use Rattle.rtc_peer_state.specs.declared.phase.Phase.{Phase}
 use Rattle.rtc_peer_state.specs.declared.phase.Phase.TheVariants.{Alive, Closing, Closed}
 use Rattle.rtc_peer_state.specs.Meanings.{Meanings}
-use Rattle.rtc_polling.specs.declared.transport_error.TransportError.{TransportError}
-use Rattle.rtc_polling.specs.declared.transport_error.TransportError.TheVariants.{RemoteSdp, Dtls, Media, Alloc}
+use Rattle.rtc_peer_state.specs.declared.rtc_error.RtcError.{RtcError}
+use Rattle.rtc_peer_state.specs.declared.rtc_error.RtcError.TheVariants.{Dtls, Alloc}
 use Rattle.rtc_polling.specs.declared.polled_peer.PolledPeer.{PolledPeer}
 
 -- the peer in another phase, with what its closing did to the media part and to the instance of its DTLS connection
 abbrev pub shut_peer : {I D S M N : Type 0} → Phase → M → D → PolledPeer I D S M N → PolledPeer I D S M N
 shut_peer phase media instance p = record p {
-  peer = record p.peer {
+  core = record p.core {
     phase = phase;
     media = media;
-    dtls = record p.peer.dtls { instance = instance };
+    dtls = record p.core.dtls { instance = instance };
   };
 }
 
@@ -26,35 +26,34 @@ is_phase_closing Closed = false
 module _ {I D S M E X T W N : Type 0} (m : Meanings I D S M E X T W N) where
   -- Media says goodbye (RFC 3550, section 6.6), and the DTLS connection is closed (RFC 8446, section 6.1). A fault or want of memory
   -- leaves the peer closed.
-  unfoldable pub BeginsClosing : PolledPeer I D S M N → Result (Unit {0}) TransportError → PolledPeer I D S M N → Type 0
+  unfoldable pub BeginsClosing : PolledPeer I D S M N → Result (Unit {0}) RtcError → PolledPeer I D S M N → Type 0
   BeginsClosing p (Ok done) q =
-      m.media.rtp_shut p.peer.media (Ok tt) q.peer.media
-      × m.dtls.shut p.peer.dtls.instance (Ok tt) q.peer.dtls.instance
-      × (q ≡ shut_peer Closing q.peer.media q.peer.dtls.instance p)
+      m.media.rtp_shut p.core.media (Ok tt) q.core.media
+      × m.dtls.shut p.core.dtls.instance (Ok tt) q.core.dtls.instance
+      × (q ≡ shut_peer Closing q.core.media q.core.dtls.instance p)
   BeginsClosing p (Err (Dtls cause)) q =
       (cause ≡ Fault)
-      × m.media.rtp_shut p.peer.media (Ok tt) q.peer.media
-      × m.dtls.shut p.peer.dtls.instance (Err Fault) q.peer.dtls.instance
-      × (q ≡ shut_peer Closed q.peer.media q.peer.dtls.instance p)
+      × m.media.rtp_shut p.core.media (Ok tt) q.core.media
+      × m.dtls.shut p.core.dtls.instance (Err Fault) q.core.dtls.instance
+      × (q ≡ shut_peer Closed q.core.media q.core.dtls.instance p)
   BeginsClosing p (Err Alloc) q =
-      (q ≡ shut_peer Closed q.peer.media q.peer.dtls.instance p)
-      × ((m.media.rtp_shut p.peer.media (Err alloc_error) q.peer.media × (q.peer.dtls.instance ≡ p.peer.dtls.instance))
-      ⊎ (m.media.rtp_shut p.peer.media (Ok tt) q.peer.media × m.dtls.shut p.peer.dtls.instance (Err DtlsAlloc) q.peer.dtls.instance))
-  BeginsClosing p (Err (RemoteSdp why)) q = ⊥
-  BeginsClosing p (Err (Media cause)) q = ⊥
+      (q ≡ shut_peer Closed q.core.media q.core.dtls.instance p)
+      × ((m.media.rtp_shut p.core.media (Err alloc_error) q.core.media × (q.core.dtls.instance ≡ p.core.dtls.instance))
+      ⊎ (m.media.rtp_shut p.core.media (Ok tt) q.core.media × m.dtls.shut p.core.dtls.instance (Err DtlsAlloc) q.core.dtls.instance))
+  BeginsClosing p (Err error) q = ⊥
 
   -- Closing begins once.
-  abbrev pub ClosesPeerFrom : Phase → PolledPeer I D S M N → Result (Unit {0}) TransportError → PolledPeer I D S M N → Type 0
+  abbrev pub ClosesPeerFrom : Phase → PolledPeer I D S M N → Result (Unit {0}) RtcError → PolledPeer I D S M N → Type 0
   ClosesPeerFrom Alive p r q = BeginsClosing p r q
   ClosesPeerFrom Closing p r q = (r ≡ Ok tt) × (q ≡ p)
   ClosesPeerFrom Closed p r q = (r ≡ Ok tt) × (q ≡ p)
 
-  abbrev pub ClosesPeer : PolledPeer I D S M N → Result (Unit {0}) TransportError → PolledPeer I D S M N → Type 0
-  ClosesPeer p r q = ClosesPeerFrom p.peer.phase p r q
+  abbrev pub ClosesPeer : PolledPeer I D S M N → Result (Unit {0}) RtcError → PolledPeer I D S M N → Type 0
+  ClosesPeer p r q = ClosesPeerFrom p.core.phase p r q
 
   -- whether nothing of a closing is left to do: its packets and goodbyes were given out
   abbrev pub is_closing_complete : PolledPeer I D S M N → Bool
   is_closing_complete p =
-      is_phase_closing p.peer.phase
-      && (m.dtls.closed p.peer.dtls.instance && (length p.peer.dtls.packets == 0))
-      && m.media.rtp_closed p.peer.media
+      is_phase_closing p.core.phase
+      && (m.dtls.closed p.core.dtls.instance && (length p.core.dtls.packets == 0))
+      && m.media.rtp_closed p.core.media

@@ -22,14 +22,14 @@ no_transport verifies = record {
 
 -- the peer with another ICE agent, DTLS connection or media part
 abbrev pub with_ice : {I D S M N : Type 0} → I → PolledPeer I D S M N → PolledPeer I D S M N
-with_ice ice p = record p { peer = record p.peer { ice = ice } }
+with_ice ice p = record p { core = record p.core { ice = ice } }
 
 abbrev pub with_dtls : {I D S M N : Type 0} → DtlsState D → PolledPeer I D S M N → PolledPeer I D S M N
-with_dtls dtls p = record p { peer = record p.peer { dtls = dtls } }
+with_dtls dtls p = record p { core = record p.core { dtls = dtls } }
 
 abbrev pub with_media : {I D S M N : Type 0} → M → PolledPeer I D S M N → PolledPeer I D S M N
-with_media media p = record p { peer = record p.peer { media = media } }
+with_media media p = record p { core = record p.core { media = media } }
 
 -- the peer, closed
 abbrev pub closed_peer : {I D S M N : Type 0} → PolledPeer I D S M N → PolledPeer I D S M N
-closed_peer p = record p { peer = record p.peer { phase = Closed } }
+closed_peer p = record p { core = record p.core { phase = Closed } }

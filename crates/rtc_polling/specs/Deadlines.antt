@@ -19,8 +19,8 @@ module _ {I D S M E X T W N : Type 0} (m : Meanings I D S M E X T W N) where
   -- The least deadline, with its reason. Of equal ones that of DTLS comes first, then that of ICE, then that of media. DTLS has one
   -- always: it asks for the moment of what is not to happen where it wants none.
   abbrev pub least_deadline : PolledPeer I D S M N → ℕ × Reason
-  least_deadline p = sooner (sooner (p.transport.dtls_wake, DTLS) (wanted_for Ice (m.ice.wake p.peer.ice))) (m.media.wake p.peer.media)
+  least_deadline p = sooner (sooner (p.transport.dtls_wake, DTLS) (wanted_for Ice (m.ice.wake p.core.ice))) (m.media.wake p.core.media)
 
   -- when a timeout is wanted: not before the greatest moment that was taken
   abbrev pub wake_moment : PolledPeer I D S M N → ℕ
-  wake_moment p = max p.peer.greatest (least_deadline p).0
+  wake_moment p = max p.core.greatest (least_deadline p).0

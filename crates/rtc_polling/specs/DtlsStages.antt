@@ -14,7 +14,7 @@ use Rattle.rtc_polling.specs.declared.handshake.Handshake.{Handshake}
 use Rattle.rtc_polling.specs.declared.handshake.Handshake.TheVariants.{Pending, Finished, Told}
 use Rattle.rtc_polling.specs.declared.met.Met.{Met}
 use Rattle.rtc_polling.specs.declared.met.Met.TheVariants.{Nothing, Again, Event, Error}
-use Rattle.rtc_polling.specs.declared.transport_error.TransportError.TheVariants.{RemoteSdp, Dtls, Alloc}
+use Rattle.rtc_peer_state.specs.declared.rtc_error.RtcError.TheVariants.{RemoteSdp, Dtls, Alloc}
 use Rattle.rtc_polling.specs.declared.polled_peer.PolledPeer.{PolledPeer}
 use Rattle.rtc_polling.specs.Certificates.{Hashes, cert_refusal}
 use Rattle.rtc_polling.specs.Closing.{ClosesPeer}
@@ -27,7 +27,7 @@ has_come moment greatest = not (moment == (2 ^ 64 - 1)) && nat_le moment greates
 
 -- the DTLS part wants its timeout, by the moment that it asked for when it was polled last
 abbrev pub is_dtls_due : {I D S M N : Type 0} → PolledPeer I D S M N → Bool
-is_dtls_due p = has_come p.transport.dtls_wake p.peer.greatest
+is_dtls_due p = has_come p.transport.dtls_wake p.core.greatest
 
 -- the peer whose handshake has come so far
 abbrev pub with_handshake : {I D S M N : Type 0} → Handshake → PolledPeer I D S M N → PolledPeer I D S M N
@@ -51,19 +51,19 @@ is_dtls_client active = unwrap_or active false
 
 -- the connection knows the fingerprint of the certificate that came
 abbrev pub with_remote : {I D S M N : Type 0} → Fingerprint → PolledPeer I D S M N → PolledPeer I D S M N
-with_remote got p = record p { peer = record p.peer { dtls = record p.peer.dtls { remote = Some got } } }
+with_remote got p = record p { core = record p.core { dtls = record p.core.dtls { remote = Some got } } }
 
 -- a certificate is taken, or refused with its cause
 unfoldable pub ChecksCert : {I D S M E N : Type 0} → List ℕ → Stage (PolledPeer I D S M N) E
 ChecksCert cert p Again q =
     (got : Fingerprint)
-    × Hashes p.peer.fingerprint cert got
-    × (cert_refusal p.peer.fingerprint p.transport.verifies got ≡ None)
+    × Hashes p.core.fingerprint cert got
+    × (cert_refusal p.core.fingerprint p.transport.verifies got ≡ None)
     × (q ≡ with_remote got p)
 ChecksCert cert p (Error (RemoteSdp why)) q =
     (got : Fingerprint)
-    × Hashes p.peer.fingerprint cert got
-    × (cert_refusal p.peer.fingerprint p.transport.verifies got ≡ Some why)
+    × Hashes p.core.fingerprint cert got
+    × (cert_refusal p.core.fingerprint p.transport.verifies got ≡ Some why)
     × (q ≡ closed_peer (with_remote got p))
 ChecksCert cert p (Error Alloc) q = q ≡ closed_peer p
 ChecksCert cert p r q = ⊥
@@ -81,15 +81,15 @@ module _ {I D S M E X T W N : Type 0} (m : Meanings I D S M E X T W N) where
   -- the connection is given the greatest moment; want of memory and a fault close the peer
   unfoldable pub GivesDtlsTime : Stage (PolledPeer I D S M N) E
   GivesDtlsTime p Nothing q =
-      HandsOn m.dtls p.peer.dtls p.peer.dtls.active (λ i r j. m.dtls.timed i p.peer.greatest r j) (Ok tt) q.peer.dtls
-      × (q ≡ with_dtls q.peer.dtls p)
+      HandsOn m.dtls p.core.dtls p.core.dtls.active (λ i r j. m.dtls.timed i p.core.greatest r j) (Ok tt) q.core.dtls
+      × (q ≡ with_dtls q.core.dtls p)
   GivesDtlsTime p (Error (Dtls cause)) q =
       (cause ≡ Fault)
-      × HandsOn m.dtls p.peer.dtls p.peer.dtls.active (λ i r j. m.dtls.timed i p.peer.greatest r j) (Err Fault) q.peer.dtls
-      × (q ≡ closed_peer (with_dtls q.peer.dtls p))
+      × HandsOn m.dtls p.core.dtls p.core.dtls.active (λ i r j. m.dtls.timed i p.core.greatest r j) (Err Fault) q.core.dtls
+      × (q ≡ closed_peer (with_dtls q.core.dtls p))
   GivesDtlsTime p (Error Alloc) q =
-      HandsOn m.dtls p.peer.dtls p.peer.dtls.active (λ i r j. m.dtls.timed i p.peer.greatest r j) (Err DtlsAlloc) q.peer.dtls
-      × (q ≡ closed_peer (with_dtls q.peer.dtls p))
+      HandsOn m.dtls p.core.dtls p.core.dtls.active (λ i r j. m.dtls.timed i p.core.greatest r j) (Err DtlsAlloc) q.core.dtls
+      × (q ≡ closed_peer (with_dtls q.core.dtls p))
   GivesDtlsTime p r q = ⊥
 
   abbrev pub TimesDtlsIf : Bool → Stage (PolledPeer I D S M N) E
@@ -103,10 +103,10 @@ module _ {I D S M E X T W N : Type 0} (m : Meanings I D S M E X T W N) where
   -- the media part takes its keys
   unfoldable pub TakesKeys : List ℕ → SrtpProfile → (active : Bool) → Stage (PolledPeer I D S M N) E
   TakesKeys key profile active p Again q =
-      m.media.keyed p.peer.media key profile active (Ok tt) q.peer.media × (q ≡ with_media q.peer.media p)
+      m.media.keyed p.core.media key profile active (Ok tt) q.core.media × (q ≡ with_media q.core.media p)
   TakesKeys key profile active p (Error Alloc) q =
-      m.media.keyed p.peer.media key profile active (Err alloc_error) q.peer.media
-      × (q ≡ closed_peer (with_media q.peer.media p))
+      m.media.keyed p.core.media key profile active (Err alloc_error) q.core.media
+      × (q ≡ closed_peer (with_media q.core.media p))
   TakesKeys key profile active p r q = ⊥
 
   -- The other side closed the connection: closing begins, unless it has, and this is told each time. That the handshake is finished is
@@ -119,10 +119,10 @@ module _ {I D S M E X T W N : Type 0} (m : Meanings I D S M E X T W N) where
   TakesCloseNotify p (Error error) q = ClosesPeer m p (Err error) q
   TakesCloseNotify p r q = ⊥
 
-  -- what becomes of an output of the connection. No association is started yet that data could go to
+  -- what becomes of an output of the connection. Application data is dropped: no poll hands it to the association yet
   abbrev pub TakesDtlsOutput : DtlsOutput → Stage (PolledPeer I D S M N) E
   TakesDtlsOutput outputs.Connected p r q = (r ≡ Again) × (q ≡ with_handshake (finished_handshake p.transport.handshake) p)
-  TakesDtlsOutput (outputs.KeyingMaterial key profile) p r q = TakesKeys key.now profile (is_dtls_client p.peer.dtls.active) p r q
+  TakesDtlsOutput (outputs.KeyingMaterial key profile) p r q = TakesKeys key.now profile (is_dtls_client p.core.dtls.active) p r q
   TakesDtlsOutput (outputs.PeerCert cert) p r q = ChecksCert cert.now p r q
   TakesDtlsOutput (outputs.ApplicationData bytes) p r q = (r ≡ Again) × (q ≡ p)
   TakesDtlsOutput (outputs.Timeout moment) p r q =
@@ -138,7 +138,7 @@ module _ {I D S M E X T W N : Type 0} (m : Meanings I D S M E X T W N) where
   pub record PollsDtlsOutput (p : PolledPeer I D S M N) (r : Met E) (q : PolledPeer I D S M N) : Type 0 where
     pub answer : Result DtlsOutput AllocError
     pub dtls : DtlsState D
-    pub by_poll : PollsOutput m.dtls p.peer.dtls p.peer.dtls.active answer dtls
+    pub by_poll : PollsOutput m.dtls p.core.dtls p.core.dtls.active answer dtls
     pub by_answer : TakesDtlsAnswer answer (with_dtls dtls p) r q
 
   -- outputs are polled up to the moment that the part asks for, which is kept

@@ -37,7 +37,7 @@ module _ {I D S M E X T W N : Type 0} (m : Meanings I D S M E X T W N) where
   pub record PollsIceEvent (p : PolledPeer I D S M N) (r : Met E) (q : PolledPeer I D S M N) : Type 0 where
     pub event : Option IceEvent
     pub ice : I
-    pub by_poll : m.ice.polled p.peer.ice event ice
+    pub by_poll : m.ice.polled p.core.ice event ice
     pub by_event : TakesIceEvent event (with_ice ice p) r q
 
   -- events are polled up to one that is told

@@ -12,15 +12,15 @@ use Rattle.rtc_peer_state.specs.declared.phase.Phase.TheVariants.{Alive, Closing
 use Rattle.rtc_peer_state.specs.Meanings.{Meanings}
 use Rattle.rtc_polling.specs.declared.input.Input.{Input}
 use Rattle.rtc_polling.specs.declared.input.Input.TheVariants.{Timeout, Receive as Datagram}
-use Rattle.rtc_polling.specs.declared.transport_error.TransportError.{TransportError}
-use Rattle.rtc_polling.specs.declared.transport_error.TransportError.TheVariants.{RemoteSdp, Dtls, Media, Alloc}
+use Rattle.rtc_peer_state.specs.declared.rtc_error.RtcError.{RtcError}
+use Rattle.rtc_peer_state.specs.declared.rtc_error.RtcError.TheVariants.{Dtls, Media, Alloc}
 use Rattle.rtc_polling.specs.declared.polled_peer.PolledPeer.{PolledPeer}
 use Rattle.rtc_polling.specs.Connection.{with_ice, with_dtls, with_media, closed_peer}
 use Rattle.rtc_polling.specs.SendStages.{bytes_counted}
 
 -- the peer that took a moment
 abbrev pub with_moment : {I D S M N : Type 0} → ℕ → PolledPeer I D S M N → PolledPeer I D S M N
-with_moment now p = record p { peer = record p.peer { greatest = now } }
+with_moment now p = record p { core = record p.core { greatest = now } }
 
 -- the peer once bytes came in
 abbrev pub with_received : {I D S M N : Type 0} → List ℕ → PolledPeer I D S M N → PolledPeer I D S M N
@@ -33,67 +33,66 @@ timed_peer now ice media p = with_media media (with_ice ice (with_moment now p))
 module _ {I D S M E X T W N : Type 0} (m : Meanings I D S M E X T W N) where
   -- A moment is handed to the ICE agent and to the media part. It stays taken where the media part fails; want of memory closes the
   -- peer.
-  unfoldable pub GivesTime : ℕ → PolledPeer I D S M N → Result (Unit {0}) TransportError → PolledPeer I D S M N → Type 0
+  unfoldable pub GivesTime : ℕ → PolledPeer I D S M N → Result (Unit {0}) RtcError → PolledPeer I D S M N → Type 0
   GivesTime now p (Ok done) q =
-      m.ice.timed p.peer.ice now (Ok tt) q.peer.ice
-      × m.media.timed p.peer.media now (Ok tt) q.peer.media
-      × (q ≡ timed_peer now q.peer.ice q.peer.media p)
+      m.ice.timed p.core.ice now (Ok tt) q.core.ice
+      × m.media.timed p.core.media now (Ok tt) q.core.media
+      × (q ≡ timed_peer now q.core.ice q.core.media p)
   GivesTime now p (Err (Media cause)) q =
       (cause ≢ MediaAlloc)
-      × m.ice.timed p.peer.ice now (Ok tt) q.peer.ice
-      × m.media.timed p.peer.media now (Err cause) q.peer.media
-      × (q ≡ timed_peer now q.peer.ice q.peer.media p)
+      × m.ice.timed p.core.ice now (Ok tt) q.core.ice
+      × m.media.timed p.core.media now (Err cause) q.core.media
+      × (q ≡ timed_peer now q.core.ice q.core.media p)
   GivesTime now p (Err Alloc) q =
-      (q ≡ closed_peer (timed_peer now q.peer.ice q.peer.media p))
-      × ((m.ice.timed p.peer.ice now (Err alloc_error) q.peer.ice × (q.peer.media ≡ p.peer.media))
-      ⊎ (m.ice.timed p.peer.ice now (Ok tt) q.peer.ice × m.media.timed p.peer.media now (Err MediaAlloc) q.peer.media))
-  GivesTime now p (Err (RemoteSdp why)) q = ⊥
-  GivesTime now p (Err (Dtls cause)) q = ⊥
+      (q ≡ closed_peer (timed_peer now q.core.ice q.core.media p))
+      × ((m.ice.timed p.core.ice now (Err alloc_error) q.core.ice × (q.core.media ≡ p.core.media))
+      ⊎ (m.ice.timed p.core.ice now (Ok tt) q.core.ice × m.media.timed p.core.media now (Err MediaAlloc) q.core.media))
+  GivesTime now p (Err error) q = ⊥
 
-  abbrev pub TakesTimeIf : (earlier : Bool) → ℕ → PolledPeer I D S M N → Result (Unit {0}) TransportError → PolledPeer I D S M N → Type 0
+  abbrev pub TakesTimeIf : (earlier : Bool) → ℕ → PolledPeer I D S M N → Result (Unit {0}) RtcError → PolledPeer I D S M N → Type 0
   TakesTimeIf true now p r q = (r ≡ Ok tt) × (q ≡ p)
   TakesTimeIf false now p r q = GivesTime now p r q
 
   -- A moment before the greatest that was taken is ignored.
-  abbrev pub TakesTime : ℕ → PolledPeer I D S M N → Result (Unit {0}) TransportError → PolledPeer I D S M N → Type 0
-  TakesTime now p r q = TakesTimeIf (nat_lt now p.peer.greatest) now p r q
+  abbrev pub TakesTime : ℕ → PolledPeer I D S M N → Result (Unit {0}) RtcError → PolledPeer I D S M N → Type 0
+  TakesTime now p r q = TakesTimeIf (nat_lt now p.core.greatest) now p r q
 
   -- a message is handed to the ICE agent
-  unfoldable pub HearsStun : ℕ → Receive → List ℕ → PolledPeer I D S M N → Result (Unit {0}) TransportError → PolledPeer I D S M N
+  unfoldable pub HearsStun : ℕ → Receive → List ℕ → PolledPeer I D S M N → Result (Unit {0}) RtcError → PolledPeer I D S M N
       → Type 0
   HearsStun now datagram bytes p (Ok done) q =
-      m.ice.given p.peer.ice now datagram.proto datagram.source datagram.destination bytes (Ok tt) q.peer.ice
-      × (q ≡ with_ice q.peer.ice p)
+      m.ice.given p.core.ice now datagram.proto datagram.source datagram.destination bytes (Ok tt) q.core.ice
+      × (q ≡ with_ice q.core.ice p)
   HearsStun now datagram bytes p (Err Alloc) q =
-      m.ice.given p.peer.ice now datagram.proto datagram.source datagram.destination bytes (Err alloc_error) q.peer.ice
-      × (q ≡ closed_peer (with_ice q.peer.ice p))
+      m.ice.given p.core.ice now datagram.proto datagram.source datagram.destination bytes (Err alloc_error) q.core.ice
+      × (q ≡ closed_peer (with_ice q.core.ice p))
   HearsStun now datagram bytes p (Err error) q = ⊥
 
   -- a packet is handed to the DTLS connection
-  unfoldable pub HearsDtls : List ℕ → PolledPeer I D S M N → Result (Unit {0}) TransportError → PolledPeer I D S M N → Type 0
+  unfoldable pub HearsDtls : List ℕ → PolledPeer I D S M N → Result (Unit {0}) RtcError → PolledPeer I D S M N → Type 0
   HearsDtls bytes p (Ok done) q =
-      HandsOn m.dtls p.peer.dtls p.peer.dtls.active (λ i r j. m.dtls.given i bytes r j) (Ok tt) q.peer.dtls
-      × (q ≡ with_received bytes (with_dtls q.peer.dtls p))
+      HandsOn m.dtls p.core.dtls p.core.dtls.active (λ i r j. m.dtls.given i bytes r j) (Ok tt) q.core.dtls
+      × (q ≡ with_received bytes (with_dtls q.core.dtls p))
   HearsDtls bytes p (Err (Dtls cause)) q =
       (cause ≡ Fault)
-      × HandsOn m.dtls p.peer.dtls p.peer.dtls.active (λ i r j. m.dtls.given i bytes r j) (Err Fault) q.peer.dtls
-      × (q ≡ with_received bytes (with_dtls q.peer.dtls p))
+      × HandsOn m.dtls p.core.dtls p.core.dtls.active (λ i r j. m.dtls.given i bytes r j) (Err Fault) q.core.dtls
+      × (q ≡ with_received bytes (with_dtls q.core.dtls p))
   HearsDtls bytes p (Err Alloc) q =
-      HandsOn m.dtls p.peer.dtls p.peer.dtls.active (λ i r j. m.dtls.given i bytes r j) (Err DtlsAlloc) q.peer.dtls
-      × (q ≡ closed_peer (with_received bytes (with_dtls q.peer.dtls p)))
+      HandsOn m.dtls p.core.dtls p.core.dtls.active (λ i r j. m.dtls.given i bytes r j) (Err DtlsAlloc) q.core.dtls
+      × (q ≡ closed_peer (with_received bytes (with_dtls q.core.dtls p)))
   HearsDtls bytes p (Err error) q = ⊥
 
   -- a packet of a kind is handed to the media part
   unfoldable pub HearsMedia : (M → Result (Unit {0}) AllocError → M → Type 0) → List ℕ → PolledPeer I D S M N
-      → Result (Unit {0}) TransportError → PolledPeer I D S M N → Type 0
-  HearsMedia given bytes p (Ok done) q = given p.peer.media (Ok tt) q.peer.media × (q ≡ with_received bytes (with_media q.peer.media p))
+      → Result (Unit {0}) RtcError → PolledPeer I D S M N → Type 0
+  HearsMedia given bytes p (Ok done) q = given p.core.media (Ok tt) q.core.media × (q ≡ with_received bytes (with_media q.core.media p))
   HearsMedia given bytes p (Err Alloc) q =
-      given p.peer.media (Err alloc_error) q.peer.media
-      × (q ≡ closed_peer (with_received bytes (with_media q.peer.media p)))
+      given p.core.media (Err alloc_error) q.core.media
+      × (q ≡ closed_peer (with_received bytes (with_media q.core.media p)))
   HearsMedia given bytes p (Err error) q = ⊥
 
   -- a datagram is handed to the part of its kind
-  abbrev pub HearsKind : ℕ → Receive → DatagramRecv → PolledPeer I D S M N → Result (Unit {0}) TransportError → PolledPeer I D S M N
+  abbrev pub HearsKind : ℕ → Receive → DatagramRecv → PolledPeer I D S M N → Result (Unit {0}) RtcError → PolledPeer I D S M N
       → Type 0
   HearsKind now datagram (datagrams.Stun view) p r q = HearsStun now datagram view.bytes.now p r q
   HearsKind now datagram (datagrams.Dtls bytes) p r q = HearsDtls bytes.now p r q
@@ -101,22 +100,22 @@ module _ {I D S M E X T W N : Type 0} (m : Meanings I D S M E X T W N) where
   HearsKind now datagram (datagrams.Rtcp bytes) p r q = HearsMedia (λ a r b. m.media.rtcp_given a now bytes.now r b) bytes.now p r q
 
   -- A datagram is handed to its part, and then its moment is taken. Where the part fails, it is not.
-  pub data Hears (now : ℕ) (datagram : Receive) (p : PolledPeer I D S M N) (r : Result (Unit {0}) TransportError)
+  pub data Hears (now : ℕ) (datagram : Receive) (p : PolledPeer I D S M N) (r : Result (Unit {0}) RtcError)
       (q : PolledPeer I D S M N) : Type 0 where
     Heard : (between : PolledPeer I D S M N) → HearsKind now datagram datagram.contents p (Ok tt) between → TakesTime now between r q
         → Hears now datagram p r q
-    PartFailed : (error : TransportError) → r ≡ Err error → HearsKind now datagram datagram.contents p (Err error) q
+    PartFailed : (error : RtcError) → r ≡ Err error → HearsKind now datagram datagram.contents p (Err error) q
         → Hears now datagram p r q
 
-  abbrev pub HandlesInputBy : Input → PolledPeer I D S M N → Result (Unit {0}) TransportError → PolledPeer I D S M N → Type 0
+  abbrev pub HandlesInputBy : Input → PolledPeer I D S M N → Result (Unit {0}) RtcError → PolledPeer I D S M N → Type 0
   HandlesInputBy (Timeout now) p r q = TakesTime now p r q
   HandlesInputBy (Datagram now datagram) p r q = Hears now datagram p r q
 
-  abbrev pub HandlesInputIn : Phase → Input → PolledPeer I D S M N → Result (Unit {0}) TransportError → PolledPeer I D S M N → Type 0
+  abbrev pub HandlesInputIn : Phase → Input → PolledPeer I D S M N → Result (Unit {0}) RtcError → PolledPeer I D S M N → Type 0
   HandlesInputIn Alive input p r q = HandlesInputBy input p r q
   HandlesInputIn Closing input p r q = HandlesInputBy input p r q
   HandlesInputIn Closed input p r q = (r ≡ Ok tt) × (q ≡ p)
 
   -- An input is handed to the parts; a closed peer ignores it.
-  abbrev pub HandlesInput : Input → PolledPeer I D S M N → Result (Unit {0}) TransportError → PolledPeer I D S M N → Type 0
-  HandlesInput input p r q = HandlesInputIn p.peer.phase input p r q
+  abbrev pub HandlesInput : Input → PolledPeer I D S M N → Result (Unit {0}) RtcError → PolledPeer I D S M N → Type 0
+  HandlesInput input p r q = HandlesInputIn p.core.phase input p r q

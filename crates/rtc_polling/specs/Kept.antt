@@ -1,14 +1,22 @@
 -- What polls, inputs and closing leave to negotiation.
 use Rattle.std.specs.Prelude.{◌≡◌}
+use Rattle.rtc_peer_state.specs.Meanings.{Meanings}
 use Rattle.rtc_polling.specs.declared.polled_peer.PolledPeer.{PolledPeer}
 
 -- nothing changed of what negotiation keeps: rows, what is staged, channels, counter, fingerprint, association and source of numbers
 abbrev pub KeepsNegotiation : {I D S M N : Type 0} → PolledPeer I D S M N → PolledPeer I D S M N → Type 0
 KeepsNegotiation p q =
-    q.peer ≡ record p.peer {
-      phase = q.peer.phase;
-      greatest = q.peer.greatest;
-      ice = q.peer.ice;
-      dtls = q.peer.dtls;
-      media = q.peer.media;
+    q.core ≡ record p.core {
+      phase = q.core.phase;
+      greatest = q.core.greatest;
+      ice = q.core.ice;
+      dtls = q.core.dtls;
+      media = q.core.media;
     }
+
+-- the settings of the ICE agent stay, and so do the DTLS role and the fingerprint of this side
+abbrev pub KeepsParts : {I D S M E X T W N : Type 0} → Meanings I D S M E X T W N → PolledPeer I D S M N → PolledPeer I D S M N → Type 0
+KeepsParts m p q =
+    (m.ice.settings q.core.ice ≡ m.ice.settings p.core.ice)
+    × (q.core.dtls.active ≡ p.core.dtls.active)
+    × (q.core.dtls.local ≡ p.core.dtls.local)

@@ -1,6 +1,5 @@
 pub mod RecentAddrs
 pub mod RawPackets
-pub mod ErrorTexts
 pub mod Connection
 pub mod Stages
 pub mod Certificates

@@ -4,7 +4,7 @@ use Rattle.rtc_media.specs.declared.media_error.MediaError.TheVariants.{Alloc as
 use Rattle.rtc_peer_state.specs.Meanings.{Meanings}
 use Rattle.rtc_polling.specs.declared.event.Event.TheVariants.{Media as MediaTold}
 use Rattle.rtc_polling.specs.declared.met.Met.TheVariants.{Nothing, Event, Error}
-use Rattle.rtc_polling.specs.declared.transport_error.TransportError.TheVariants.{Media as MediaFailed, Alloc}
+use Rattle.rtc_peer_state.specs.declared.rtc_error.RtcError.TheVariants.{Media as MediaFailed, Alloc}
 use Rattle.rtc_polling.specs.declared.polled_peer.PolledPeer.{PolledPeer}
 use Rattle.rtc_polling.specs.Connection.{with_media, closed_peer}
 use Rattle.rtc_polling.specs.Stages.{Stage}
@@ -12,21 +12,21 @@ use Rattle.rtc_polling.specs.Stages.{Stage}
 module _ {I D S M E X T W N : Type 0} (m : Meanings I D S M E X T W N) where
   -- the next event that cannot fail
   unfoldable pub TellsMedia : Stage (PolledPeer I D S M N) E
-  TellsMedia p Nothing q = m.media.told p.peer.media None q.peer.media × (q ≡ with_media q.peer.media p)
-  TellsMedia p (Event (MediaTold event)) q = m.media.told p.peer.media (Some event) q.peer.media × (q ≡ with_media q.peer.media p)
+  TellsMedia p Nothing q = m.media.told p.core.media None q.core.media × (q ≡ with_media q.core.media p)
+  TellsMedia p (Event (MediaTold event)) q = m.media.told p.core.media (Some event) q.core.media × (q ≡ with_media q.core.media p)
   TellsMedia p r q = ⊥
 
   -- the next event whose making may fail. A failure leaves the peer as it was, and want of memory closes it
   unfoldable pub TellsFallibleMedia : Stage (PolledPeer I D S M N) E
   TellsFallibleMedia p Nothing q =
-      m.media.told_fallible p.peer.media p.peer.greatest (Ok None) q.peer.media × (q ≡ with_media q.peer.media p)
+      m.media.told_fallible p.core.media p.core.greatest (Ok None) q.core.media × (q ≡ with_media q.core.media p)
   TellsFallibleMedia p (Event (MediaTold event)) q =
-      m.media.told_fallible p.peer.media p.peer.greatest (Ok (Some event)) q.peer.media × (q ≡ with_media q.peer.media p)
+      m.media.told_fallible p.core.media p.core.greatest (Ok (Some event)) q.core.media × (q ≡ with_media q.core.media p)
   TellsFallibleMedia p (Error (MediaFailed cause)) q =
       (cause ≢ MediaAlloc)
-      × m.media.told_fallible p.peer.media p.peer.greatest (Err cause) q.peer.media
-      × (q ≡ with_media q.peer.media p)
+      × m.media.told_fallible p.core.media p.core.greatest (Err cause) q.core.media
+      × (q ≡ with_media q.core.media p)
   TellsFallibleMedia p (Error Alloc) q =
-      m.media.told_fallible p.peer.media p.peer.greatest (Err MediaAlloc) q.peer.media
-      × (q ≡ closed_peer (with_media q.peer.media p))
+      m.media.told_fallible p.core.media p.core.greatest (Err MediaAlloc) q.core.media
+      × (q ≡ closed_peer (with_media q.core.media p))
   TellsFallibleMedia p r q = ⊥

@@ -27,14 +27,14 @@ module _ {I D S M E X T W N : Type 0} (m : Meanings I D S M E X T W N) where
   -- datagrams, application data and media can go both ways
   abbrev pub is_peer_connected : PolledPeer I D S M N → Bool
   is_peer_connected p =
-      state_is_connected (m.ice.state p.peer.ice) && is_handshake_finished p.transport.handshake && m.media.connected p.peer.media
+      state_is_connected (m.ice.state p.core.ice) && is_handshake_finished p.transport.handshake && m.media.connected p.core.media
 
   -- a datagram from an address that is not nominated: of a STUN message the agent decides by its names, of others by the address
   abbrev pub is_meant_for : PolledPeer I D S M N → Addr → DatagramRecv → Bool
-  is_meant_for p source (datagrams.Stun view) = m.ice.accepts p.peer.ice view.bytes.now
-  is_meant_for p source (datagrams.Dtls bytes) = m.ice.viable p.peer.ice source
-  is_meant_for p source (datagrams.Rtp bytes) = m.ice.viable p.peer.ice source
-  is_meant_for p source (datagrams.Rtcp bytes) = m.ice.viable p.peer.ice source
+  is_meant_for p source (datagrams.Stun view) = m.ice.accepts p.core.ice view.bytes.now
+  is_meant_for p source (datagrams.Dtls bytes) = m.ice.viable p.core.ice source
+  is_meant_for p source (datagrams.Rtp bytes) = m.ice.viable p.core.ice source
+  is_meant_for p source (datagrams.Rtcp bytes) = m.ice.viable p.core.ice source
 
   -- an input is for this peer
   abbrev pub is_accepted : PolledPeer I D S M N → Input → Bool

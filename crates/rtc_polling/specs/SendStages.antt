@@ -24,33 +24,33 @@ sent_by addr bytes = record { proto = addr.proto; source = addr.source; destinat
 module _ {I D S M E X T W N : Type 0} (m : Meanings I D S M E X T W N) where
   -- the next datagram of the ICE agent
   unfoldable pub SendsChecks : Stage (PolledPeer I D S M N) E
-  SendsChecks p Nothing q = m.ice.gave p.peer.ice None q.peer.ice × (q ≡ with_ice q.peer.ice p)
+  SendsChecks p Nothing q = m.ice.gave p.core.ice None q.core.ice × (q ≡ with_ice q.core.ice p)
   SendsChecks p (Sent transmit) q =
-      m.ice.gave p.peer.ice (Some transmit) q.peer.ice × (q ≡ with_sent transmit.contents (with_ice q.peer.ice p))
+      m.ice.gave p.core.ice (Some transmit) q.core.ice × (q ≡ with_sent transmit.contents (with_ice q.core.ice p))
   SendsChecks p r q = ⊥
 
   -- the oldest packet of the DTLS connection
   unfoldable pub SendsDtlsPacket : SendAddr → Stage (PolledPeer I D S M N) E
-  SendsDtlsPacket addr p Nothing q = GivesPacket m.dtls p.peer.dtls p.peer.dtls.packets None q.peer.dtls × (q ≡ with_dtls q.peer.dtls p)
+  SendsDtlsPacket addr p Nothing q = GivesPacket m.dtls p.core.dtls p.core.dtls.packets None q.core.dtls × (q ≡ with_dtls q.core.dtls p)
   SendsDtlsPacket addr p (Sent transmit) q =
       (transmit ≡ sent_by addr transmit.contents)
-      × GivesPacket m.dtls p.peer.dtls p.peer.dtls.packets (Some transmit.contents) q.peer.dtls
-      × (q ≡ with_sent transmit.contents (with_dtls q.peer.dtls p))
+      × GivesPacket m.dtls p.core.dtls p.core.dtls.packets (Some transmit.contents) q.core.dtls
+      × (q ≡ with_sent transmit.contents (with_dtls q.core.dtls p))
   SendsDtlsPacket addr p r q = ⊥
 
   -- the next datagram of the media part
   unfoldable pub SendsMediaDatagram : SendAddr → Stage (PolledPeer I D S M N) E
-  SendsMediaDatagram addr p Nothing q = m.media.gave p.peer.media p.peer.greatest None q.peer.media × (q ≡ with_media q.peer.media p)
+  SendsMediaDatagram addr p Nothing q = m.media.gave p.core.media p.core.greatest None q.core.media × (q ≡ with_media q.core.media p)
   SendsMediaDatagram addr p (Sent transmit) q =
       (transmit ≡ sent_by addr transmit.contents)
-      × m.media.gave p.peer.media p.peer.greatest (Some transmit.contents) q.peer.media
-      × (q ≡ with_sent transmit.contents (with_media q.peer.media p))
+      × m.media.gave p.core.media p.core.greatest (Some transmit.contents) q.core.media
+      × (q ≡ with_sent transmit.contents (with_media q.core.media p))
   SendsMediaDatagram addr p r q = ⊥
 
   -- Once a pair is nominated, packets and then media go by it. Before, feedback that waits is dropped.
   abbrev pub SendsBy : Option SendAddr → Stage (PolledPeer I D S M N) E
   SendsBy (Some addr) p r q = FollowedBy (SendsDtlsPacket addr) (SendsMediaDatagram addr) p r q
-  SendsBy None p r q = (r ≡ Nothing) × m.media.cleared p.peer.media q.peer.media × (q ≡ with_media q.peer.media p)
+  SendsBy None p r q = (r ≡ Nothing) × m.media.cleared p.core.media q.core.media × (q ≡ with_media q.core.media p)
 
   abbrev pub SendsByPair : Stage (PolledPeer I D S M N) E
   SendsByPair p r q = SendsBy p.transport.send_addr p r q

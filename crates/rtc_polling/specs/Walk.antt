@@ -9,7 +9,7 @@ use Rattle.rtc_polling.specs.declared.met.Met.{Met}
 use Rattle.rtc_polling.specs.declared.met.Met.TheVariants.{Nothing, Again, Transmit as MetTransmit, Event as MetEvent, Error}
 use Rattle.rtc_polling.specs.declared.output.Output.{Output}
 use Rattle.rtc_polling.specs.declared.output.Output.TheVariants.{Timeout, Transmit, Event}
-use Rattle.rtc_polling.specs.declared.transport_error.TransportError.{TransportError}
+use Rattle.rtc_peer_state.specs.declared.rtc_error.RtcError.{RtcError}
 use Rattle.rtc_polling.specs.declared.polled_peer.PolledPeer.{PolledPeer}
 use Rattle.rtc_polling.specs.Closing.{is_closing_complete}
 use Rattle.rtc_polling.specs.Connection.{closed_peer}
@@ -25,7 +25,7 @@ abbrev pub with_reason : {I D S M N : Type 0} → Reason → PolledPeer I D S M 
 with_reason reason p = record p { transport = record p.transport { last_reason = reason } }
 
 -- a closed peer waits for nothing
-abbrev pub Rests : {I D S M E N : Type 0} → PolledPeer I D S M N → Result (Output E) TransportError → PolledPeer I D S M N → Type 0
+abbrev pub Rests : {I D S M E N : Type 0} → PolledPeer I D S M N → Result (Output E) RtcError → PolledPeer I D S M N → Type 0
 Rests p answer q = (answer ≡ Ok (Timeout (2 ^ 64 - 1))) × (q ≡ with_reason NotHappening p)
 
 -- a walk over the parts starts over where it ends with a moment of DTLS that has come
@@ -49,16 +49,16 @@ module _ {I D S M E X T W N : Type 0} (m : Meanings I D S M E X T W N) where
   unfoldable pub VisitsParts : Stage (PolledPeer I D S M N) E
   VisitsParts = FollowedBy TellsConnection (FollowedBy TellsArrivals (FollowedBy SendsDatagrams StartsOverWhenDue))
 
-  abbrev pub WaitsIf : (complete : Bool) → PolledPeer I D S M N → Result (Output E) TransportError → PolledPeer I D S M N → Type 0
+  abbrev pub WaitsIf : (complete : Bool) → PolledPeer I D S M N → Result (Output E) RtcError → PolledPeer I D S M N → Type 0
   WaitsIf true p answer q = Rests (closed_peer p) answer q
   WaitsIf false p answer q = (answer ≡ Ok (Timeout (wake_moment m p))) × (q ≡ with_reason (least_deadline m p).1 p)
 
   -- Where nothing was met, the least deadline is answered; a closing that is complete leaves the peer closed.
-  abbrev pub Waits : PolledPeer I D S M N → Result (Output E) TransportError → PolledPeer I D S M N → Type 0
+  abbrev pub Waits : PolledPeer I D S M N → Result (Output E) RtcError → PolledPeer I D S M N → Type 0
   Waits p answer q = WaitsIf (is_closing_complete m p) p answer q
 
   -- the answer to what was met
-  abbrev pub AnswersMet : Met E → PolledPeer I D S M N → Result (Output E) TransportError → PolledPeer I D S M N → Type 0
+  abbrev pub AnswersMet : Met E → PolledPeer I D S M N → Result (Output E) RtcError → PolledPeer I D S M N → Type 0
   AnswersMet Nothing p answer q = Waits p answer q
   AnswersMet Again p answer q = ⊥
   AnswersMet (MetTransmit transmit) p answer q = (answer ≡ Ok (Transmit transmit)) × (q ≡ p)
@@ -66,17 +66,17 @@ module _ {I D S M E X T W N : Type 0} (m : Meanings I D S M E X T W N) where
   AnswersMet (Error error) p answer q = (answer ≡ Err error) × (q ≡ p)
 
   -- The parts are visited up to the first thing that they give.
-  pub record Walks (p : PolledPeer I D S M N) (answer : Result (Output E) TransportError) (q : PolledPeer I D S M N) : Type 0 where
+  pub record Walks (p : PolledPeer I D S M N) (answer : Result (Output E) RtcError) (q : PolledPeer I D S M N) : Type 0 where
     pub met : Met E
     pub visited : PolledPeer I D S M N
     pub by_visits : RepeatsStage VisitsParts p met visited
     pub by_answer : AnswersMet met visited answer q
 
-  abbrev pub PollsPeerFrom : Phase → PolledPeer I D S M N → Result (Output E) TransportError → PolledPeer I D S M N → Type 0
+  abbrev pub PollsPeerFrom : Phase → PolledPeer I D S M N → Result (Output E) RtcError → PolledPeer I D S M N → Type 0
   PollsPeerFrom Alive p answer q = Walks p answer q
   PollsPeerFrom Closing p answer q = Walks p answer q
   PollsPeerFrom Closed p answer q = Rests p answer q
 
   -- A poll walks over the parts; a closed peer has nothing to give.
-  abbrev pub PollsPeer : PolledPeer I D S M N → Result (Output E) TransportError → PolledPeer I D S M N → Type 0
-  PollsPeer p answer q = PollsPeerFrom p.peer.phase p answer q
+  abbrev pub PollsPeer : PolledPeer I D S M N → Result (Output E) RtcError → PolledPeer I D S M N → Type 0
+  PollsPeer p answer q = PollsPeerFrom p.core.phase p answer q

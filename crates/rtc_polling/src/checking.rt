@@ -3,15 +3,16 @@ ghost use Rattle.std.specs.Prelude.{◌≡◌, IfOk};
 ghost use Rattle.rtc_polling.specs.Certificates.{Hashes, cert_refusal, hash_name, is_checked_hash, cert_mismatch};
 ghost use Rattle.rtc_polling.specs.DtlsStages.{ChecksCert};
 
+use crate::PolledPeer;
 use crate::met::Met;
-use crate::{CertRefusal, PolledPeer, TransportError};
 use rtc_association::Association;
 use rtc_dtls::DtlsInstance;
 use rtc_ice::IceAgent;
 use rtc_ids::Ids;
 use rtc_media::MediaSession;
-use rtc_peer_state::Phase;
+use rtc_peer_state::{Phase, RtcError};
 use rtc_sdp_values::Fingerprint;
+use rtc_tables::Why;
 use rtc_wire::TryCopy;
 use std::alloc::{AllocError, Global};
 
@@ -49,30 +50,30 @@ fn hash_cert(
     }
 }
 
-fn compare(announced: &Fingerprint, got: &Fingerprint) -> Result<Option<CertRefusal>, AllocError>
+fn compare(announced: &Fingerprint, got: &Fingerprint) -> Result<Option<Why>, AllocError>
     ensures { IfOk result (λ refusal. refusal ≡ cert_mismatch announced.now got.now) }
 {
     if !is_checked(announced.hash_func.as_str()) {
         let name = announced.hash_func.copy()?;
-        return Ok(Some(CertRefusal::UnknownHash(name)));
+        return Ok(Some(Why::UnknownHash(name)));
     }
     if announced.bytes.as_slice() == got.bytes.as_slice() {
         return Ok(None);
     }
     let expected = announced.copy()?;
     let got = got.copy()?;
-    Ok(Some(CertRefusal::NoMatch { expected, got }))
+    Ok(Some(Why::NoMatch { expected, got }))
 }
 
 fn judge(
     announced: &Option<Fingerprint>,
     verifies: bool,
     got: &Fingerprint,
-) -> Result<Option<CertRefusal>, AllocError>
+) -> Result<Option<Why>, AllocError>
     ensures { IfOk result (λ refusal. refusal ≡ cert_refusal announced.now verifies got.now) }
 {
     match announced {
-        None => Ok(Some(CertRefusal::NoneAnnounced)),
+        None => Ok(Some(Why::NoneAnnounced)),
         Some(announced) => {
             if verifies {
                 compare(announced, got)
@@ -95,20 +96,20 @@ impl<I: IceAgent, D: DtlsInstance, S: Association, M: MediaSession, N: Ids> Poll
     pub(crate) fn check_cert(&mut self, cert: &[u8]) -> Met<M::E>
         ensures { ChecksCert cert.now self.old result self.new }
     {
-        let Ok(got) = hash_cert(self.peer.alloc, &self.peer.fingerprint, cert) else {
-            self.peer.phase = Phase::Closed;
-            return Met::Error(TransportError::Alloc);
+        let Ok(got) = hash_cert(self.core.alloc, &self.core.fingerprint, cert) else {
+            self.core.phase = Phase::Closed;
+            return Met::Error(RtcError::Alloc);
         };
-        let Ok(refusal) = judge(&self.peer.fingerprint, self.transport.verifies, &got) else {
-            self.peer.phase = Phase::Closed;
-            return Met::Error(TransportError::Alloc);
+        let Ok(refusal) = judge(&self.core.fingerprint, self.transport.verifies, &got) else {
+            self.core.phase = Phase::Closed;
+            return Met::Error(RtcError::Alloc);
         };
-        self.peer.dtls.set_remote_fingerprint(got);
+        self.core.dtls.set_remote_fingerprint(got);
         match refusal {
             None => Met::Again,
             Some(why) => {
-                self.peer.phase = Phase::Closed;
-                Met::Error(TransportError::RemoteSdp(why))
+                self.core.phase = Phase::Closed;
+                Met::Error(RtcError::RemoteSdp(why))
             }
         }
     }

@@ -3,13 +3,13 @@ ghost use Rattle.std.specs.Prelude.{◌≡◌};
 ghost use Rattle.rtc_peer_state.specs.Meanings.{meanings};
 ghost use Rattle.rtc_polling.specs.Closing.{BeginsClosing, ClosesPeer, is_phase_closing, is_closing_complete};
 
-use crate::{PolledPeer, TransportError};
+use crate::PolledPeer;
 use rtc_association::Association;
 use rtc_dtls::{DtlsError, DtlsInstance};
 use rtc_ice::IceAgent;
 use rtc_ids::Ids;
 use rtc_media::MediaSession;
-use rtc_peer_state::Phase;
+use rtc_peer_state::{Phase, RtcError};
 
 fn is_closing(phase: Phase) -> bool
     ensures { result ≡ is_phase_closing phase }
@@ -28,30 +28,30 @@ impl<I: IceAgent, D: DtlsInstance, S: Association, M: MediaSession, N: Ids> Poll
     N,
 > {
     #[tactic(auto, unfolding(crate::specs::Closing::BeginsClosing))]
-    fn begin_closing(&mut self) -> Result<(), TransportError>
+    fn begin_closing(&mut self) -> Result<(), RtcError>
         ensures { BeginsClosing (meanings I.ice D.dtls S.association M.media N.ids) self.old result self.new }
     {
-        self.peer.phase = Phase::Closed;
-        match self.peer.media.close_rtp() {
+        self.core.phase = Phase::Closed;
+        match self.core.media.close_rtp() {
             Ok(()) => {}
-            Err(_) => return Err(TransportError::Alloc),
+            Err(_) => return Err(RtcError::Alloc),
         }
-        match self.peer.dtls.close() {
+        match self.core.dtls.close() {
             Ok(()) => {}
             Err(DtlsError::WouldBlock) => unreachable!(),
-            Err(DtlsError::Fault) => return Err(TransportError::Dtls(DtlsError::Fault)),
-            Err(DtlsError::Alloc) => return Err(TransportError::Alloc),
+            Err(DtlsError::Fault) => return Err(RtcError::Dtls(DtlsError::Fault)),
+            Err(DtlsError::Alloc) => return Err(RtcError::Alloc),
         }
-        self.peer.phase = Phase::Closing;
+        self.core.phase = Phase::Closing;
         Ok(())
     }
 
     /// Begins to close the peer, which polls then bring to its end: media says goodbye (RFC 3550, section 6.6), and the DTLS
     /// connection is closed (RFC 8446, section 6.1). Nothing happens where this has begun. An error leaves the peer closed.
-    pub fn close(&mut self) -> Result<(), TransportError>
+    pub fn close(&mut self) -> Result<(), RtcError>
         ensures { ClosesPeer (meanings I.ice D.dtls S.association M.media N.ids) self.old result self.new }
     {
-        match self.peer.phase {
+        match self.core.phase {
             Phase::Alive => match self.begin_closing() {
                 Ok(()) => Ok(()),
                 Err(error) => Err(error),
@@ -64,6 +64,6 @@ impl<I: IceAgent, D: DtlsInstance, S: Association, M: MediaSession, N: Ids> Poll
     pub(crate) fn is_closing_done(&self) -> bool
         ensures { result ≡ is_closing_complete (meanings I.ice D.dtls S.association M.media N.ids) self.now }
     {
-        is_closing(self.peer.phase) && self.peer.dtls.is_closed() && self.peer.media.is_rtp_closed()
+        is_closing(self.core.phase) && self.core.dtls.is_closed() && self.core.media.is_rtp_closed()
     }
 }

@@ -48,7 +48,7 @@ impl<I: IceAgent, D: DtlsInstance, S: Association, M: MediaSession, N: Ids> Poll
         ensures { result ≡ least_deadline (meanings I.ice D.dtls S.association M.media N.ids) self.now }
     {
         let dtls = (self.transport.dtls_wake, Reason::DTLS);
-        let ice = wanted(Reason::Ice, self.peer.ice.poll_timeout());
-        sooner(sooner(dtls, ice), self.peer.media.poll_timeout())
+        let ice = wanted(Reason::Ice, self.core.ice.poll_timeout());
+        sooner(sooner(dtls, ice), self.core.media.poll_timeout())
     }
 }

@@ -4,13 +4,13 @@ ghost use Rattle.rtc_peer_state.specs.Meanings.{meanings};
 ghost use Rattle.rtc_polling.specs.Inputs.{GivesTime, TakesTime, HearsStun, HearsDtls, HearsMedia, HearsKind, Hears, HandlesInput};
 
 use crate::sending::count_bytes;
-use crate::{Input, PolledPeer, TransportError};
+use crate::{Input, PolledPeer};
 use rtc_association::Association;
 use rtc_dtls::{DtlsError, DtlsInstance};
 use rtc_ice::IceAgent;
 use rtc_ids::Ids;
 use rtc_media::{MediaError, MediaSession};
-use rtc_peer_state::Phase;
+use rtc_peer_state::{Phase, RtcError};
 use rtc_wire::{DatagramRecv, Moment, Receive, StunView};
 
 impl<I: IceAgent, D: DtlsInstance, S: Association, M: MediaSession, N: Ids> PolledPeer<
@@ -21,33 +21,33 @@ impl<I: IceAgent, D: DtlsInstance, S: Association, M: MediaSession, N: Ids> Poll
     N,
 > {
     #[tactic(auto, unfolding(crate::specs::Inputs::GivesTime))]
-    fn give_time(&mut self, now: Moment) -> Result<(), TransportError>
+    fn give_time(&mut self, now: Moment) -> Result<(), RtcError>
         ensures { GivesTime (meanings I.ice D.dtls S.association M.media N.ids) now self.old result self.new }
     {
-        self.peer.greatest = now;
-        match self.peer.ice.handle_timeout(now) {
+        self.core.greatest = now;
+        match self.core.ice.handle_timeout(now) {
             Ok(()) => {}
             Err(_) => {
-                self.peer.phase = Phase::Closed;
-                return Err(TransportError::Alloc);
+                self.core.phase = Phase::Closed;
+                return Err(RtcError::Alloc);
             }
         }
-        match self.peer.media.handle_timeout(now) {
+        match self.core.media.handle_timeout(now) {
             Ok(()) => Ok(()),
             Err(error) => match error {
                 MediaError::Alloc => {
-                    self.peer.phase = Phase::Closed;
-                    Err(TransportError::Alloc)
+                    self.core.phase = Phase::Closed;
+                    Err(RtcError::Alloc)
                 }
-                cause => Err(TransportError::Media(cause)),
+                cause => Err(RtcError::Media(cause)),
             },
         }
     }
 
-    fn take_time(&mut self, now: Moment) -> Result<(), TransportError>
+    fn take_time(&mut self, now: Moment) -> Result<(), RtcError>
         ensures { TakesTime (meanings I.ice D.dtls S.association M.media N.ids) now self.old result self.new }
     {
-        if now.nanos() < self.peer.greatest.nanos() {
+        if now.nanos() < self.core.greatest.nanos() {
             return Ok(());
         }
         self.give_time(now)
@@ -59,11 +59,11 @@ impl<I: IceAgent, D: DtlsInstance, S: Association, M: MediaSession, N: Ids> Poll
         now: Moment,
         datagram: &Receive<'_>,
         message: &StunView<'_>,
-    ) -> Result<(), TransportError>
+    ) -> Result<(), RtcError>
         ensures { HearsStun (meanings I.ice D.dtls S.association M.media N.ids)
             now datagram.now message.now.bytes.now self.old result self.new }
     {
-        match self.peer.ice.handle_packet(
+        match self.core.ice.handle_packet(
             now,
             datagram.proto,
             datagram.source,
@@ -72,54 +72,54 @@ impl<I: IceAgent, D: DtlsInstance, S: Association, M: MediaSession, N: Ids> Poll
         ) {
             Ok(()) => Ok(()),
             Err(_) => {
-                self.peer.phase = Phase::Closed;
-                Err(TransportError::Alloc)
+                self.core.phase = Phase::Closed;
+                Err(RtcError::Alloc)
             }
         }
     }
 
     #[tactic(auto, unfolding(crate::specs::Inputs::HearsDtls))]
-    fn hear_dtls(&mut self, bytes: &[u8]) -> Result<(), TransportError>
+    fn hear_dtls(&mut self, bytes: &[u8]) -> Result<(), RtcError>
         ensures { HearsDtls (meanings I.ice D.dtls S.association M.media N.ids) bytes.now self.old result self.new }
     {
         self.transport.received = count_bytes(self.transport.received, bytes);
-        match self.peer.dtls.handle_receive(bytes) {
+        match self.core.dtls.handle_receive(bytes) {
             Ok(()) => Ok(()),
             Err(DtlsError::WouldBlock) => unreachable!(),
-            Err(DtlsError::Fault) => Err(TransportError::Dtls(DtlsError::Fault)),
+            Err(DtlsError::Fault) => Err(RtcError::Dtls(DtlsError::Fault)),
             Err(DtlsError::Alloc) => {
-                self.peer.phase = Phase::Closed;
-                Err(TransportError::Alloc)
+                self.core.phase = Phase::Closed;
+                Err(RtcError::Alloc)
             }
         }
     }
 
     #[tactic(auto, unfolding(crate::specs::Inputs::HearsMedia))]
-    fn hear_rtp(&mut self, now: Moment, bytes: &[u8]) -> Result<(), TransportError>
+    fn hear_rtp(&mut self, now: Moment, bytes: &[u8]) -> Result<(), RtcError>
         ensures { HearsMedia (meanings I.ice D.dtls S.association M.media N.ids)
             (λ a r b. M.media.rtp_given a now bytes.now r b) bytes.now self.old result self.new }
     {
         self.transport.received = count_bytes(self.transport.received, bytes);
-        match self.peer.media.handle_rtp(now, bytes) {
+        match self.core.media.handle_rtp(now, bytes) {
             Ok(()) => Ok(()),
             Err(_) => {
-                self.peer.phase = Phase::Closed;
-                Err(TransportError::Alloc)
+                self.core.phase = Phase::Closed;
+                Err(RtcError::Alloc)
             }
         }
     }
 
     #[tactic(auto, unfolding(crate::specs::Inputs::HearsMedia))]
-    fn hear_rtcp(&mut self, now: Moment, bytes: &[u8]) -> Result<(), TransportError>
+    fn hear_rtcp(&mut self, now: Moment, bytes: &[u8]) -> Result<(), RtcError>
         ensures { HearsMedia (meanings I.ice D.dtls S.association M.media N.ids)
             (λ a r b. M.media.rtcp_given a now bytes.now r b) bytes.now self.old result self.new }
     {
         self.transport.received = count_bytes(self.transport.received, bytes);
-        match self.peer.media.handle_rtcp(now, bytes) {
+        match self.core.media.handle_rtcp(now, bytes) {
             Ok(()) => Ok(()),
             Err(_) => {
-                self.peer.phase = Phase::Closed;
-                Err(TransportError::Alloc)
+                self.core.phase = Phase::Closed;
+                Err(RtcError::Alloc)
             }
         }
     }
@@ -129,7 +129,7 @@ impl<I: IceAgent, D: DtlsInstance, S: Association, M: MediaSession, N: Ids> Poll
         now: Moment,
         datagram: &Receive<'_>,
         contents: &DatagramRecv<'_>,
-    ) -> Result<(), TransportError>
+    ) -> Result<(), RtcError>
         ensures { HearsKind (meanings I.ice D.dtls S.association M.media N.ids) now datagram.now contents.now self.old result self.new }
     {
         match contents {
@@ -140,7 +140,7 @@ impl<I: IceAgent, D: DtlsInstance, S: Association, M: MediaSession, N: Ids> Poll
         }
     }
 
-    fn hear(&mut self, now: Moment, datagram: &Receive<'_>) -> Result<(), TransportError>
+    fn hear(&mut self, now: Moment, datagram: &Receive<'_>) -> Result<(), RtcError>
         ensures { Hears (meanings I.ice D.dtls S.association M.media N.ids) now datagram.now self.old result self.new }
     {
         match self.hear_kind(now, datagram, &datagram.contents) {
@@ -152,10 +152,10 @@ impl<I: IceAgent, D: DtlsInstance, S: Association, M: MediaSession, N: Ids> Poll
 
     /// Takes a moment or a datagram. A moment before the greatest that was taken changes no time; a datagram goes to its
     /// part, and its moment is taken where the part does not fail. A closed peer ignores every input.
-    pub fn handle_input(&mut self, input: &Input<'_>) -> Result<(), TransportError>
+    pub fn handle_input(&mut self, input: &Input<'_>) -> Result<(), RtcError>
         ensures { HandlesInput (meanings I.ice D.dtls S.association M.media N.ids) input.now self.old result self.new }
     {
-        match self.peer.phase {
+        match self.core.phase {
             Phase::Alive | Phase::Closing => match input {
                 Input::Timeout(now) => self.take_time(*now),
                 Input::Receive(now, datagram) => self.hear(*now, datagram),

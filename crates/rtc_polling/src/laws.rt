@@ -2,9 +2,10 @@
 ghost use Rattle.std.specs.Prelude.{◌≡◌, Result, Err};
 ghost use Rattle.rtc_peer_state.specs.declared.phase.Phase.TheVariants.{Closed};
 ghost use Rattle.rtc_peer_state.specs.Meanings.{meanings};
+ghost use Rattle.rtc_peer_state.specs.Stance.{stance_of};
 ghost use Rattle.rtc_polling.specs.declared.input.Input.{Input as Given};
 ghost use Rattle.rtc_polling.specs.declared.polled_peer.PolledPeer.{PolledPeer as Polled};
-ghost use Rattle.rtc_polling.specs.declared.transport_error.TransportError.TheVariants.{Alloc};
+ghost use Rattle.rtc_peer_state.specs.declared.rtc_error.RtcError.TheVariants.{Alloc};
 ghost use Rattle.rtc_polling.specs.Closing.{ClosesPeer};
 ghost use Rattle.rtc_polling.specs.Inputs.{HandlesInput};
 ghost use Rattle.rtc_polling.specs.Kept.{KeepsNegotiation};
@@ -27,6 +28,23 @@ pub fn negotiation_is_kept<I: IceAgent, D: DtlsInstance, S: Association, M: Medi
         → ClosesPeer (meanings I.ice D.dtls S.association M.media N.ids) p answer q → KeepsNegotiation p q }
 {}
 
+/// Polls, inputs and closing leave all that negotiation reads of a peer: beside what it keeps, the settings of the ICE agent,
+/// the DTLS role and the fingerprint of this side.
+pub fn stance_is_kept<I: IceAgent, D: DtlsInstance, S: Association, M: MediaSession, N: Ids>()
+    ensures polls { (p q : Polled I D S M N) (answer : _)
+        → PollsPeer (meanings I.ice D.dtls S.association M.media N.ids) p answer q
+        → stance_of (meanings I.ice D.dtls S.association M.media N.ids) q.core
+        ≡ stance_of (meanings I.ice D.dtls S.association M.media N.ids) p.core }
+    ensures inputs { (p q : Polled I D S M N) (input : Given) (answer : _)
+        → HandlesInput (meanings I.ice D.dtls S.association M.media N.ids) input p answer q
+        → stance_of (meanings I.ice D.dtls S.association M.media N.ids) q.core
+        ≡ stance_of (meanings I.ice D.dtls S.association M.media N.ids) p.core }
+    ensures closes { (p q : Polled I D S M N) (answer : _)
+        → ClosesPeer (meanings I.ice D.dtls S.association M.media N.ids) p answer q
+        → stance_of (meanings I.ice D.dtls S.association M.media N.ids) q.core
+        ≡ stance_of (meanings I.ice D.dtls S.association M.media N.ids) p.core }
+{}
+
 /// Want of memory in a poll, an input or a close leaves the peer closed.
 pub fn want_of_memory_closes<
     I: IceAgent,
@@ -36,9 +54,9 @@ pub fn want_of_memory_closes<
     N: Ids,
 >()
     ensures polls { (p q : Polled I D S M N)
-        → PollsPeer (meanings I.ice D.dtls S.association M.media N.ids) p (Err Alloc) q → q.peer.phase ≡ Closed }
+        → PollsPeer (meanings I.ice D.dtls S.association M.media N.ids) p (Err Alloc) q → q.core.phase ≡ Closed }
     ensures inputs { (p q : Polled I D S M N) (input : Given)
-        → HandlesInput (meanings I.ice D.dtls S.association M.media N.ids) input p (Err Alloc) q → q.peer.phase ≡ Closed }
+        → HandlesInput (meanings I.ice D.dtls S.association M.media N.ids) input p (Err Alloc) q → q.core.phase ≡ Closed }
     ensures closes { (p q : Polled I D S M N)
-        → ClosesPeer (meanings I.ice D.dtls S.association M.media N.ids) p (Err Alloc) q → q.peer.phase ≡ Closed }
+        → ClosesPeer (meanings I.ice D.dtls S.association M.media N.ids) p (Err Alloc) q → q.core.phase ≡ Closed }
 {}

@@ -1,7 +1,6 @@
 //! The polled peer: what its parts give, in one order, and what it hands to them.
 #![tactic(auto)]
 
-mod cert_refusal;
 mod channel_data;
 mod checking;
 mod closing;
@@ -21,18 +20,15 @@ mod recent_addrs;
 mod send_addr;
 mod sending;
 mod transport;
-mod transport_error;
 mod walking;
 
-pub use cert_refusal::CertRefusal;
 pub use channel_data::ChannelData;
 pub use event::Event;
 pub use handshake::Handshake;
 pub use input::Input;
-pub use laws::{negotiation_is_kept, want_of_memory_closes};
+pub use laws::{negotiation_is_kept, stance_is_kept, want_of_memory_closes};
 pub use output::Output;
 pub use polled_peer::PolledPeer;
 pub use recent_addrs::RecentAddrs;
 pub use send_addr::SendAddr;
 pub use transport::Transport;
-pub use transport_error::TransportError;

@@ -1,5 +1,6 @@
 //! What a stage of a poll meets.
-use crate::{Event, TransportError};
+use crate::Event;
+use rtc_peer_state::RtcError;
 use rtc_wire::Transmit;
 
 /// What one stage of a poll met. It cannot be a timeout: that is answered where every stage met nothing.
@@ -10,5 +11,5 @@ pub enum Met<E> {
     Again,
     Transmit(Transmit),
     Event(Event<E>),
-    Error(TransportError),
+    Error(RtcError),
 }

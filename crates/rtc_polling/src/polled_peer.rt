@@ -1,7 +1,6 @@
 //! A peer that is polled.
-ghost use Rattle.std.specs.Prelude.{◌≡◌, IfOk};
+ghost use Rattle.std.specs.Prelude.{◌≡◌};
 ghost use Rattle.rtc_peer_state.specs.Meanings.{meanings};
-ghost use Rattle.rtc_polling.specs.Connection.{no_transport};
 ghost use Rattle.rtc_polling.specs.Readings.{is_accepted, is_handshake_finished, is_meant_for, is_nominated, is_peer_connected};
 
 use crate::{Handshake, Input, SendAddr, Transport};
@@ -13,12 +12,11 @@ use rtc_media::MediaSession;
 use rtc_parts_values::Reason;
 use rtc_peer_state::Peer;
 use rtc_wire::{Addr, DatagramRecv};
-use std::alloc::AllocError;
 
-/// A peer with its connection to the other side. Its fields are public for the crates that work on it.
+/// A peer with its connection to the other side. Its fields are public for the crates that work on it; callers hold an `Rtc`.
 #[derive(Drop)]
 pub struct PolledPeer<I, D, S, M, N> {
-    pub peer: Peer<I, D, S, M, N>,
+    pub core: Peer<I, D, S, M, N>,
     pub transport: Transport,
 }
 
@@ -37,20 +35,6 @@ fn leads_to(send_addr: &Option<SendAddr>, addr: &Addr) -> bool
     match send_addr {
         None => false,
         Some(sends) => sends.destination.port == addr.port && sends.destination.ip == addr.ip,
-    }
-}
-
-impl<I: Drop, D: Drop, S: Drop, M: Drop, N: Drop> PolledPeer<I, D, S, M, N> {
-    /// A peer whose other side is not yet known. `verifies` says whether its certificate has to match the fingerprint
-    /// that it announced.
-    pub fn new(
-        peer: Peer<I, D, S, M, N>,
-        verifies: bool,
-    ) -> Result<PolledPeer<I, D, S, M, N>, AllocError>
-        ensures { IfOk result (λ made. made ≡ record { peer = peer; transport = no_transport verifies }) }
-    {
-        let transport = Transport::new(peer.alloc, verifies)?;
-        Ok(PolledPeer { peer, transport })
     }
 }
 
@@ -74,17 +58,17 @@ impl<I: IceAgent, D: DtlsInstance, S: Association, M: MediaSession, N: Ids> Poll
     pub fn is_connected(&self) -> bool
         ensures { result ≡ is_peer_connected (meanings I.ice D.dtls S.association M.media N.ids) self.now }
     {
-        let found = self.peer.ice.state().is_connected();
-        found && is_finished(self.transport.handshake) && self.peer.media.is_connected()
+        let found = self.core.ice.state().is_connected();
+        found && is_finished(self.transport.handshake) && self.core.media.is_connected()
     }
 
     fn is_meant(&self, source: Addr, contents: &DatagramRecv<'_>) -> bool
         ensures { result ≡ is_meant_for (meanings I.ice D.dtls S.association M.media N.ids) self.now source contents.now }
     {
         match contents {
-            DatagramRecv::Stun(message) => self.peer.ice.accepts_message(message),
+            DatagramRecv::Stun(message) => self.core.ice.accepts_message(message),
             DatagramRecv::Dtls(_) | DatagramRecv::Rtp(_) | DatagramRecv::Rtcp(_) => {
-                self.peer.ice.has_viable_remote_candidate(source)
+                self.core.ice.has_viable_remote_candidate(source)
             }
         }
     }

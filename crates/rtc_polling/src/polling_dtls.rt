@@ -6,13 +6,13 @@ ghost use Rattle.rtc_polling.specs.DtlsStages.{PollsDtlsOutput, PollsDtlsOutputs
 ghost use Rattle.rtc_polling.specs.DtlsStages.{finished_handshake, silenced_handshake};
 
 use crate::met::Met;
-use crate::{Event, Handshake, PolledPeer, TransportError};
+use crate::{Event, Handshake, PolledPeer};
 use rtc_association::Association;
 use rtc_dtls::{DtlsError, DtlsInstance, DtlsOutput, SrtpProfile};
 use rtc_ice::IceAgent;
 use rtc_ids::Ids;
 use rtc_media::MediaSession;
-use rtc_peer_state::Phase;
+use rtc_peer_state::{Phase, RtcError};
 use rtc_wire::Moment;
 
 fn has_come(moment: Moment, greatest: Moment) -> bool
@@ -50,23 +50,23 @@ impl<I: IceAgent, D: DtlsInstance, S: Association, M: MediaSession, N: Ids> Poll
     pub(crate) fn is_dtls_due(&self) -> bool
         ensures { result ≡ is_dtls_due self.now }
     {
-        has_come(self.transport.dtls_wake, self.peer.greatest)
+        has_come(self.transport.dtls_wake, self.core.greatest)
     }
 
     #[tactic(auto, unfolding(crate::specs::DtlsStages::GivesDtlsTime))]
     fn give_dtls_time(&mut self) -> Met<M::E>
         ensures { GivesDtlsTime (meanings I.ice D.dtls S.association M.media N.ids) self.old result self.new }
     {
-        match self.peer.dtls.handle_timeout(self.peer.greatest) {
+        match self.core.dtls.handle_timeout(self.core.greatest) {
             Ok(()) => Met::Nothing,
             Err(DtlsError::WouldBlock) => unreachable!(),
             Err(DtlsError::Fault) => {
-                self.peer.phase = Phase::Closed;
-                Met::Error(TransportError::Dtls(DtlsError::Fault))
+                self.core.phase = Phase::Closed;
+                Met::Error(RtcError::Dtls(DtlsError::Fault))
             }
             Err(DtlsError::Alloc) => {
-                self.peer.phase = Phase::Closed;
-                Met::Error(TransportError::Alloc)
+                self.core.phase = Phase::Closed;
+                Met::Error(RtcError::Alloc)
             }
         }
     }
@@ -85,11 +85,11 @@ impl<I: IceAgent, D: DtlsInstance, S: Association, M: MediaSession, N: Ids> Poll
     fn take_keys(&mut self, key: &[u8], profile: SrtpProfile, active: bool) -> Met<M::E>
         ensures { TakesKeys (meanings I.ice D.dtls S.association M.media N.ids) key.now profile active self.old result self.new }
     {
-        match self.peer.media.set_keying(key, profile, active) {
+        match self.core.media.set_keying(key, profile, active) {
             Ok(()) => Met::Again,
             Err(_) => {
-                self.peer.phase = Phase::Closed;
-                Met::Error(TransportError::Alloc)
+                self.core.phase = Phase::Closed;
+                Met::Error(RtcError::Alloc)
             }
         }
     }
@@ -116,7 +116,7 @@ impl<I: IceAgent, D: DtlsInstance, S: Association, M: MediaSession, N: Ids> Poll
                 Met::Again
             }
             DtlsOutput::KeyingMaterial(key, profile) => {
-                let active = self.peer.dtls.is_active().unwrap_or(false);
+                let active = self.core.dtls.is_active().unwrap_or(false);
                 self.take_keys(key, *profile, active)
             }
             DtlsOutput::PeerCert(cert) => self.check_cert(cert),
@@ -133,11 +133,11 @@ impl<I: IceAgent, D: DtlsInstance, S: Association, M: MediaSession, N: Ids> Poll
         requires { 2000 ≤ length buf.old }
         ensures { PollsDtlsOutput (meanings I.ice D.dtls S.association M.media N.ids) self.old result self.new }
     {
-        match self.peer.dtls.poll_output(buf) {
+        match self.core.dtls.poll_output(buf) {
             Ok(output) => self.take_dtls_output(&output),
             Err(_) => {
-                self.peer.phase = Phase::Closed;
-                Met::Error(TransportError::Alloc)
+                self.core.phase = Phase::Closed;
+                Met::Error(RtcError::Alloc)
             }
         }
     }

@@ -49,7 +49,7 @@ impl<I: IceAgent, D: DtlsInstance, S: Association, M: MediaSession, N: Ids> Poll
     fn poll_ice_event(&mut self) -> Met<M::E>
         ensures { PollsIceEvent (meanings I.ice D.dtls S.association M.media N.ids) self.old result self.new }
     {
-        let event = self.peer.ice.poll_event();
+        let event = self.core.ice.poll_event();
         self.take_ice_event(event)
     }
 

@@ -3,13 +3,13 @@ ghost use Rattle.rtc_peer_state.specs.Meanings.{meanings};
 ghost use Rattle.rtc_polling.specs.MediaStages.{TellsMedia, TellsFallibleMedia};
 
 use crate::met::Met;
-use crate::{Event, PolledPeer, TransportError};
+use crate::{Event, PolledPeer};
 use rtc_association::Association;
 use rtc_dtls::DtlsInstance;
 use rtc_ice::IceAgent;
 use rtc_ids::Ids;
 use rtc_media::{MediaError, MediaSession};
-use rtc_peer_state::Phase;
+use rtc_peer_state::{Phase, RtcError};
 
 impl<I: IceAgent, D: DtlsInstance, S: Association, M: MediaSession, N: Ids> PolledPeer<
     I,
@@ -23,7 +23,7 @@ impl<I: IceAgent, D: DtlsInstance, S: Association, M: MediaSession, N: Ids> Poll
     pub(crate) fn tell_media(&mut self) -> Met<M::E>
         ensures { TellsMedia (meanings I.ice D.dtls S.association M.media N.ids) self.old result self.new }
     {
-        match self.peer.media.poll_event() {
+        match self.core.media.poll_event() {
             Some(event) => Met::Event(Event::Media(event)),
             None => Met::Nothing,
         }
@@ -34,17 +34,17 @@ impl<I: IceAgent, D: DtlsInstance, S: Association, M: MediaSession, N: Ids> Poll
     pub(crate) fn tell_fallible_media(&mut self) -> Met<M::E>
         ensures { TellsFallibleMedia (meanings I.ice D.dtls S.association M.media N.ids) self.old result self.new }
     {
-        match self.peer.media.poll_event_fallible(self.peer.greatest) {
+        match self.core.media.poll_event_fallible(self.core.greatest) {
             Ok(told) => match told {
                 Some(event) => Met::Event(Event::Media(event)),
                 None => Met::Nothing,
             },
             Err(error) => match error {
                 MediaError::Alloc => {
-                    self.peer.phase = Phase::Closed;
-                    Met::Error(TransportError::Alloc)
+                    self.core.phase = Phase::Closed;
+                    Met::Error(RtcError::Alloc)
                 }
-                cause => Met::Error(TransportError::Media(cause)),
+                cause => Met::Error(RtcError::Media(cause)),
             },
         }
     }

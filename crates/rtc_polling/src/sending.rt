@@ -44,7 +44,7 @@ impl<I: IceAgent, D: DtlsInstance, S: Association, M: MediaSession, N: Ids> Poll
     pub(crate) fn send_checks(&mut self) -> Met<M::E>
         ensures { SendsChecks (meanings I.ice D.dtls S.association M.media N.ids) self.old result self.new }
     {
-        match self.peer.ice.poll_transmit() {
+        match self.core.ice.poll_transmit() {
             None => Met::Nothing,
             Some(transmit) => {
                 self.transport.sent = count_bytes(
@@ -60,7 +60,7 @@ impl<I: IceAgent, D: DtlsInstance, S: Association, M: MediaSession, N: Ids> Poll
     fn send_dtls(&mut self, sends: SendAddr) -> Met<M::E>
         ensures { SendsDtlsPacket (meanings I.ice D.dtls S.association M.media N.ids) sends self.old result self.new }
     {
-        match self.peer.dtls.poll_packet() {
+        match self.core.dtls.poll_packet() {
             None => Met::Nothing,
             Some(packet) => {
                 self.transport.sent = count_bytes(self.transport.sent, packet.as_slice());
@@ -73,7 +73,7 @@ impl<I: IceAgent, D: DtlsInstance, S: Association, M: MediaSession, N: Ids> Poll
     fn send_media(&mut self, sends: SendAddr) -> Met<M::E>
         ensures { SendsMediaDatagram (meanings I.ice D.dtls S.association M.media N.ids) sends self.old result self.new }
     {
-        match self.peer.media.poll_datagram(self.peer.greatest) {
+        match self.core.media.poll_datagram(self.core.greatest) {
             None => Met::Nothing,
             Some(datagram) => {
                 self.transport.sent = count_bytes(self.transport.sent, datagram.as_slice());
@@ -99,7 +99,7 @@ impl<I: IceAgent, D: DtlsInstance, S: Association, M: MediaSession, N: Ids> Poll
     {
         match self.transport.send_addr {
             None => {
-                self.peer.media.clear_feedback();
+                self.core.media.clear_feedback();
                 Met::Nothing
             }
             Some(sends) => self.send_via(sends),

@@ -7,14 +7,14 @@ ghost use Rattle.rtc_polling.specs.Walk.{AnswersMet, PollsPeer, Rests, SendsData
 ghost use Rattle.rtc_polling.specs.Walk.{VisitsParts, Waits, Walks};
 
 use crate::met::Met;
-use crate::{Output, PolledPeer, TransportError};
+use crate::{Output, PolledPeer};
 use rtc_association::Association;
 use rtc_dtls::DtlsInstance;
 use rtc_ice::IceAgent;
 use rtc_ids::Ids;
 use rtc_media::MediaSession;
 use rtc_parts_values::Reason;
-use rtc_peer_state::Phase;
+use rtc_peer_state::{Phase, RtcError};
 use rtc_wire::{DATAGRAM_MAX_PACKET_SIZE, Moment};
 
 impl<I: IceAgent, D: DtlsInstance, S: Association, M: MediaSession, N: Ids> PolledPeer<
@@ -107,27 +107,27 @@ impl<I: IceAgent, D: DtlsInstance, S: Association, M: MediaSession, N: Ids> Poll
         }
     }
 
-    fn rest(&mut self) -> Result<Output<M::E>, TransportError>
+    fn rest(&mut self) -> Result<Output<M::E>, RtcError>
         ensures { Rests self.old result self.new }
     {
         self.transport.last_reason = Reason::NotHappening;
         Ok(Output::Timeout(Moment::FAR_FUTURE))
     }
 
-    fn wait(&mut self) -> Result<Output<M::E>, TransportError>
+    fn wait(&mut self) -> Result<Output<M::E>, RtcError>
         ensures { Waits (meanings I.ice D.dtls S.association M.media N.ids) self.old result self.new }
     {
         if self.is_closing_done() {
-            self.peer.phase = Phase::Closed;
+            self.core.phase = Phase::Closed;
             return self.rest();
         }
         let (moment, reason) = self.least_deadline();
-        let wake = Moment::from_nanos(self.peer.greatest.nanos().max(moment.nanos()));
+        let wake = Moment::from_nanos(self.core.greatest.nanos().max(moment.nanos()));
         self.transport.last_reason = reason;
         Ok(Output::Timeout(wake))
     }
 
-    fn answer_met(&mut self, met: Met<M::E>) -> Result<Output<M::E>, TransportError>
+    fn answer_met(&mut self, met: Met<M::E>) -> Result<Output<M::E>, RtcError>
         requires { met ≢ Again }
         ensures { AnswersMet (meanings I.ice D.dtls S.association M.media N.ids) met self.old result self.new }
     {
@@ -140,7 +140,7 @@ impl<I: IceAgent, D: DtlsInstance, S: Association, M: MediaSession, N: Ids> Poll
         }
     }
 
-    fn walk_parts(&mut self) -> Result<Output<M::E>, TransportError>
+    fn walk_parts(&mut self) -> Result<Output<M::E>, RtcError>
         ensures { Walks (meanings I.ice D.dtls S.association M.media N.ids) self.old result self.new }
     {
         let mut buf = [0u8; DATAGRAM_MAX_PACKET_SIZE];
@@ -150,10 +150,10 @@ impl<I: IceAgent, D: DtlsInstance, S: Association, M: MediaSession, N: Ids> Poll
 
     /// The first thing that the peer has to give: events and datagrams, or the moment at which a timeout is wanted as
     /// input. It is called until it answers a timeout, after each input and each other call.
-    pub fn poll_output(&mut self) -> Result<Output<M::E>, TransportError>
+    pub fn poll_output(&mut self) -> Result<Output<M::E>, RtcError>
         ensures { PollsPeer (meanings I.ice D.dtls S.association M.media N.ids) self.old result self.new }
     {
-        match self.peer.phase {
+        match self.core.phase {
             Phase::Alive | Phase::Closing => self.walk_parts(),
             Phase::Closed => self.rest(),
         }

@@ -16,7 +16,8 @@ use Rattle.rtc_tables.specs.RowChanges.{RowChange, directed_row, stopped_row, ch
 use Rattle.rtc_tables.proofs.RowChangeLemmas.{KeepsRow, changed_of_alike, length-alike, directed_row_keeps, stopped_row_keeps}
 use Rattle.rtc_peer_state.specs.declared.peer.Peer.{Peer}
 use Rattle.rtc_peer_state.specs.declared.rtc_error.RtcError.{RtcError}
-use Rattle.rtc_peer_state.specs.declared.rtc_error.RtcError.TheVariants.{RemoteSdp, Sdp as SdpRefused, Dtls, ChangesOutOfOrder, BadChannel, Alloc as PeerAlloc}
+use Rattle.rtc_peer_state.specs.declared.rtc_error.RtcError.TheVariants.{Net, Media as MediaFailed}
+use Rattle.rtc_peer_state.specs.declared.rtc_error.RtcError.TheVariants.{RemoteSdp, Sdp as SdpRefused, Dtls, Sctp, ChangesOutOfOrder, BadChannel, Alloc as PeerAlloc}
 use Rattle.rtc_dtls.specs.declared.dtls_error.DtlsError.TheVariants.{WouldBlock, Fault, Alloc as DtlsAlloc}
 use Rattle.rtc_peer_state.specs.Acceptances.{AcceptsOffer, AcceptsAnswer}
 use Rattle.rtc_peer_state.specs.Calls.{ChangesLine, after_channels_alone, fitting_channels}
@@ -157,7 +158,10 @@ module _ {I D S M E X T W N : Type 0} (m : Meanings I D S M E X T W N) where
   offer_channels p q offer (Err (Dtls Fault)) h = ap (λ p. channel_rows p.channels) h.rest
   offer_channels p q offer (Err (Dtls WouldBlock)) h = absurd h
   offer_channels p q offer (Err (Dtls DtlsAlloc)) h = absurd h
+  offer_channels p q offer (Err (Sctp error)) h = ap (λ p. channel_rows p.channels) h.1.rest
   offer_channels p q offer (Err ChangesOutOfOrder) h = absurd h
+  offer_channels p q offer (Err (Net cause)) h = absurd h
+  offer_channels p q offer (Err (MediaFailed cause)) h = absurd h
   offer_channels p q offer (Err BadChannel) h = absurd h
   offer_channels p q offer (Err PeerAlloc) h = ap (λ p. channel_rows p.channels) h.rest
 
@@ -169,6 +173,9 @@ module _ {I D S M E X T W N : Type 0} (m : Meanings I D S M E X T W N) where
   answer_channels p q token answer (Err (Dtls Fault)) h = ap (λ p. channel_rows p.channels) h.rest
   answer_channels p q token answer (Err (Dtls WouldBlock)) h = absurd h
   answer_channels p q token answer (Err (Dtls DtlsAlloc)) h = absurd h
+  answer_channels p q token answer (Err (Sctp error)) h = ap (λ p. channel_rows p.channels) h.1.rest
   answer_channels p q token answer (Err ChangesOutOfOrder) h = ap (λ p. channel_rows p.channels) h.1
+  answer_channels p q token answer (Err (Net cause)) h = absurd h
+  answer_channels p q token answer (Err (MediaFailed cause)) h = absurd h
   answer_channels p q token answer (Err BadChannel) h = absurd h
   answer_channels p q token answer (Err PeerAlloc) h = ap (λ p. channel_rows p.channels) h.rest

@@ -6,7 +6,8 @@ use Rattle.rtc_change.specs.Held.{Held, Asked}
 use Rattle.rtc_change.specs.Plans.{verdict}
 use Rattle.rtc_change.specs.declared.refusal.Refusal.{Refusal}
 use Rattle.rtc_change.specs.declared.refusal.Refusal.TheVariants.{RemoteSdp as RefusedSdp, Sdp as RefusedAsSdp}
-use Rattle.rtc_peer_state.specs.declared.rtc_error.RtcError.TheVariants.{RemoteSdp, Sdp as SdpRefused, Dtls, ChangesOutOfOrder, BadChannel, Alloc as PeerAlloc}
+use Rattle.rtc_peer_state.specs.declared.rtc_error.RtcError.TheVariants.{Net, Media as MediaFailed}
+use Rattle.rtc_peer_state.specs.declared.rtc_error.RtcError.TheVariants.{RemoteSdp, Sdp as SdpRefused, Dtls, Sctp, ChangesOutOfOrder, BadChannel, Alloc as PeerAlloc}
 use Rattle.rtc_dtls.specs.declared.dtls_error.DtlsError.TheVariants.{WouldBlock, Fault, Alloc as DtlsAlloc}
 use Rattle.rtc_history.specs.declared.side.Side.{Side}
 use Rattle.rtc_history.specs.declared.step.Step.TheVariants.{AcceptOffer, AcceptAnswer}
@@ -31,7 +32,10 @@ offer_passes sdp view next (Refused (SdpRefused error)) after replies passes = n
 offer_passes sdp view next (Refused (Dtls Fault)) after replies passes = refl
 offer_passes sdp view next (Refused (Dtls WouldBlock)) after replies passes = absurd replies
 offer_passes sdp view next (Refused (Dtls DtlsAlloc)) after replies passes = absurd replies
+offer_passes sdp view next (Refused (Sctp error)) after replies passes = refl
 offer_passes sdp view next (Refused ChangesOutOfOrder) after replies passes = absurd replies
+offer_passes sdp view next (Refused (Net cause)) after replies passes = absurd replies
+offer_passes sdp view next (Refused (MediaFailed cause)) after replies passes = absurd replies
 offer_passes sdp view next (Refused BadChannel) after replies passes = absurd replies
 offer_passes sdp view next (Refused PeerAlloc) after replies passes = refl
 offer_passes sdp view next (Negotiated answers made) after replies passes = absurd replies
@@ -62,7 +66,10 @@ answer_passes asked sdp view (Refused (SdpRefused error)) after replies passes =
 answer_passes asked sdp view (Refused (Dtls Fault)) after replies passes = refl
 answer_passes asked sdp view (Refused (Dtls WouldBlock)) after replies passes = absurd replies
 answer_passes asked sdp view (Refused (Dtls DtlsAlloc)) after replies passes = absurd replies
+answer_passes asked sdp view (Refused (Sctp error)) after replies passes = refl
 answer_passes asked sdp view (Refused ChangesOutOfOrder) after replies passes = absurd replies
+answer_passes asked sdp view (Refused (Net cause)) after replies passes = absurd replies
+answer_passes asked sdp view (Refused (MediaFailed cause)) after replies passes = absurd replies
 answer_passes asked sdp view (Refused BadChannel) after replies passes = absurd replies
 answer_passes asked sdp view (Refused PeerAlloc) after replies passes = refl
 answer_passes asked sdp view (Negotiated answers made) after replies passes = absurd replies

@@ -11,7 +11,8 @@ use Rattle.rtc_sdp_values.specs.declared.media_kind.MediaKind.{MediaKind}
 use Rattle.rtc_tables.specs.RowChanges.{media_mid}
 use Rattle.rtc_peer_state.specs.declared.peer.Peer.{Peer}
 use Rattle.rtc_peer_state.specs.declared.rtc_error.RtcError.{RtcError}
-use Rattle.rtc_peer_state.specs.declared.rtc_error.RtcError.TheVariants.{RemoteSdp, Sdp, Dtls, ChangesOutOfOrder, BadChannel, Alloc as PeerAlloc}
+use Rattle.rtc_peer_state.specs.declared.rtc_error.RtcError.TheVariants.{Net, Media as MediaFailed}
+use Rattle.rtc_peer_state.specs.declared.rtc_error.RtcError.TheVariants.{RemoteSdp, Sdp, Dtls, Sctp, ChangesOutOfOrder, BadChannel, Alloc as PeerAlloc}
 use Rattle.rtc_ids.proofs.LaterLemmas.{later_none}
 use Rattle.rtc_peer_state.specs.Calls.{AddsMedia, AddsChannel, SetsDirection, StopsMedia, StagesRestart}
 use Rattle.rtc_history.specs.declared.op.Op.{Op}
@@ -88,6 +89,9 @@ module _ {I D S M E X T W N : Type 0} (m : Meanings I D S M E X T W N) where
   no_channel p r config (RemoteSdp why) h = absurd h
   no_channel p r config (Sdp error) h = absurd h
   no_channel p r config (Dtls error) h = absurd h
+  no_channel p r config (Sctp error) h = absurd h
+  no_channel p r config (Net cause) h = absurd h
+  no_channel p r config (MediaFailed cause) h = absurd h
   no_channel p r config ChangesOutOfOrder h = absurd h
   no_channel p r config BadChannel h = (r, h, refl)
   no_channel p r config PeerAlloc h = h

@@ -7,7 +7,8 @@ use Rattle.rtc_tables.specs.ParsedLines.{parsed_lines}
 use Rattle.rtc_change.specs.TableAfter.{table_after}
 use Rattle.rtc_peer_state.specs.declared.peer.Peer.{Peer}
 use Rattle.rtc_peer_state.specs.declared.rtc_error.RtcError.{RtcError}
-use Rattle.rtc_peer_state.specs.declared.rtc_error.RtcError.TheVariants.{RemoteSdp, Sdp as SdpRefused, Dtls, ChangesOutOfOrder, BadChannel, Alloc as PeerAlloc}
+use Rattle.rtc_peer_state.specs.declared.rtc_error.RtcError.TheVariants.{Net, Media as MediaFailed}
+use Rattle.rtc_peer_state.specs.declared.rtc_error.RtcError.TheVariants.{RemoteSdp, Sdp as SdpRefused, Dtls, Sctp, ChangesOutOfOrder, BadChannel, Alloc as PeerAlloc}
 use Rattle.rtc_dtls.specs.declared.dtls_error.DtlsError.TheVariants.{WouldBlock, Fault, Alloc as DtlsAlloc}
 use Rattle.rtc_peer_state.specs.Acceptances.{AcceptsOffer, AcceptsAnswer}
 use Rattle.rtc_history_laws.proofs.OfferSteps.{taken_within}
@@ -30,7 +31,10 @@ module _ {I D S M E X T W N : Type 0} (m : Meanings I D S M E X T W N) where
   offer_rows p q offer (Err (Dtls Fault)) h = same_rows p q offer (ap (λ p. p.lines) h.rest)
   offer_rows p q offer (Err (Dtls WouldBlock)) h = absurd h
   offer_rows p q offer (Err (Dtls DtlsAlloc)) h = absurd h
+  offer_rows p q offer (Err (Sctp error)) h = same_rows p q offer (ap (λ p. p.lines) h.1.rest)
   offer_rows p q offer (Err ChangesOutOfOrder) h = absurd h
+  offer_rows p q offer (Err (Net cause)) h = absurd h
+  offer_rows p q offer (Err (MediaFailed cause)) h = absurd h
   offer_rows p q offer (Err BadChannel) h = absurd h
   offer_rows p q offer (Err PeerAlloc) h = same_rows p q offer (ap (λ p. p.lines) h.rest)
 
@@ -44,6 +48,9 @@ module _ {I D S M E X T W N : Type 0} (m : Meanings I D S M E X T W N) where
   answer_rows p q token answer (Err (Dtls Fault)) h = same_rows p q answer (ap (λ p. p.lines) h.rest)
   answer_rows p q token answer (Err (Dtls WouldBlock)) h = absurd h
   answer_rows p q token answer (Err (Dtls DtlsAlloc)) h = absurd h
+  answer_rows p q token answer (Err (Sctp error)) h = same_rows p q answer (ap (λ p. p.lines) h.1.rest)
+  answer_rows p q token answer (Err (Net cause)) h = absurd h
+  answer_rows p q token answer (Err (MediaFailed cause)) h = absurd h
   answer_rows p q token answer (Err BadChannel) h = absurd h
   answer_rows p q token answer (Err ChangesOutOfOrder) h = same_rows p q answer (ap (λ p. p.lines) h.1)
   answer_rows p q token answer (Err PeerAlloc) h = same_rows p q answer (ap (λ p. p.lines) h.rest)

@@ -3,7 +3,7 @@ use Rattle.std.specs.Prelude.{ℕ, Bool, true, false, List, [], ◌∷◌, ◌++
 use Rattle.std.specs.Fmt.{decimal}
 use Rattle.rtc_peer_state.specs.RtcErrorText.{rtc_error_text}
 use Rattle.rtc_peer_state.specs.declared.rtc_error.RtcError.{RtcError}
-use Rattle.rtc_peer_state.specs.declared.rtc_error.RtcError.TheVariants.{RemoteSdp, Sdp, Dtls, ChangesOutOfOrder, BadChannel}
+use Rattle.rtc_peer_state.specs.declared.rtc_error.RtcError.TheVariants.{RemoteSdp, Sdp, Net, Dtls, Sctp, Media, ChangesOutOfOrder, BadChannel}
 use Rattle.rtc_peer_state.specs.declared.rtc_error.RtcError.TheVariants.{Alloc as PeerAlloc}
 use Rattle.rtc_history.specs.declared.made.Made.{Made}
 use Rattle.rtc_history.specs.declared.made.Made.TheVariants.{NotAsked, Nothing, Offer, Alloc as MadeAlloc}
@@ -52,7 +52,10 @@ made_text MadeAlloc = no_memory
 abbrev pub refusal_text : RtcError → List ℕ
 refusal_text (RemoteSdp why) = codes "refused 1 " ++ rtc_error_text (RemoteSdp why)
 refusal_text (Sdp error) = codes "refused 2 " ++ rtc_error_text (Sdp error)
+refusal_text (Net error) = codes "refused 3 " ++ rtc_error_text (Net error)
 refusal_text (Dtls error) = codes "refused 4 " ++ rtc_error_text (Dtls error)
+refusal_text (Sctp error) = codes "refused 5 " ++ rtc_error_text (Sctp error)
+refusal_text (Media error) = codes "refused 6 " ++ rtc_error_text (Media error)
 refusal_text ChangesOutOfOrder = codes "refused 7 " ++ rtc_error_text ChangesOutOfOrder
 refusal_text BadChannel = codes "refused 8 " ++ rtc_error_text BadChannel
 refusal_text PeerAlloc = no_memory

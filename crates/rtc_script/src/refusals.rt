@@ -12,7 +12,10 @@ pub fn push_refusal(out: &mut String, error: &RtcError) -> Result<(), AllocError
     match error {
         RtcError::RemoteSdp(_) => write!(out, "refused 1 {error}"),
         RtcError::Sdp(_) => write!(out, "refused 2 {error}"),
+        RtcError::Net(_) => write!(out, "refused 3 {error}"),
         RtcError::Dtls(_) => write!(out, "refused 4 {error}"),
+        RtcError::Sctp(_) => write!(out, "refused 5 {error}"),
+        RtcError::Media(_) => write!(out, "refused 6 {error}"),
         RtcError::ChangesOutOfOrder => write!(out, "refused 7 {error}"),
         RtcError::BadChannel => write!(out, "refused 8 {error}"),
         RtcError::Alloc => out.push_str("nomemory"),

@@ -1,4 +1,5 @@
 pub mod SctpErrors
+pub mod SctpErrorText
 pub mod Streams
 pub mod Calls
 pub mod StreamCalls

@@ -1,26 +1,44 @@
 //! Why a call on streams refuses.
+ghost use Rattle.std.specs.Prelude.{Some};
+ghost use Rattle.rtc_sctp.specs.SctpErrorText as text;
+
 use crate::ProtoError;
 use rtc_wire::DcepError;
 use std::alloc::{AllocError, AllocFailed};
-use thiserror::Error;
+use std::error::Error;
+use std::fmt;
 
 /// Why a call on the streams of an association did nothing.
-#[derive(Clone, Copy, Debug, PartialEq, Eq, Error)]
+#[derive(Clone, Copy, Debug, PartialEq, Eq)]
 pub enum SctpError {
-    #[error("{0}")]
     Proto(ProtoError),
     /// The association is not established or is closing, or the stream is not open.
-    #[error("write before the SCTP stream is established")]
     WriteBeforeEstablished,
-    #[error("DCEP open message too small")]
     DcepOpenTooSmall,
-    #[error("DCEP incorrect message type")]
     DcepIncorrectMessageType,
-    #[error("DCEP bad UTF-8 string")]
     DcepBadUtf8,
-    #[error("out of memory")]
     Alloc,
 }
+
+impl fmt::Display for SctpError {
+    ghost output = { λ error. Some (text.sctp_error_text error) };
+
+    #[tactic(auto, unfolding(crate::specs::SctpErrorText::sctp_error_text))]
+    fn fmt<W: fmt::Write>(&self, f: &mut fmt::Formatter<W>) -> fmt::Result {
+        match self {
+            SctpError::Proto(cause) => write!(f, "{cause}"),
+            SctpError::WriteBeforeEstablished => {
+                f.write_str("Write on a stream before it was established")
+            }
+            SctpError::DcepOpenTooSmall => f.write_str("DCEP open message too small"),
+            SctpError::DcepIncorrectMessageType => f.write_str("DCEP incorrect message type"),
+            SctpError::DcepBadUtf8 => f.write_str("DCEP bad UTF-8 string"),
+            SctpError::Alloc => f.write_str("out of memory"),
+        }
+    }
+}
+
+impl Error for SctpError {}
 
 impl From<AllocError> for SctpError {
     ghost use Rattle.std.specs.Prelude.{◌≡◌};

@@ -16,6 +16,9 @@ use Rattle.rtc_tables.specs.declared.why.Why.TheVariants.{
   PlaceTaken,
   AnswerRecycles,
   WrongNewLines,
+  NoMatch,
+  UnknownHash,
+  NoneAnnounced,
 }
 
 unfoldable pub kind_name : LineKind → List ℕ
@@ -38,7 +41,7 @@ new_line_text (NotOffered mid) = codes "Mid in answer is not in offer: " ++ mid
 new_line_text (OtherKind mid) = codes "Answer m-line for mid (" ++ (mid ++ codes ") is of another kind")
 new_line_text (OtherPlace mid) = moved_text mid
 
--- why an offer or an answer is refused; 0xC2 0xA7 is the sign for a section, U+00A7
+-- why an offer, an answer or a certificate is refused; 0xC2 0xA7 is the sign for a section, U+00A7
 unfoldable pub why_text : Why → List ℕ
 why_text NoLines = codes "No m-lines in offer"
 why_text BothLite = codes "Both peers being ICE-Lite not supported"
@@ -50,3 +53,6 @@ why_text (PlaceTaken mid) = moved_text mid
 why_text (AnswerRecycles mid) =
     codes "Answer recycles stopped m-line (not permitted per RFC 8829 " ++ (0xC2 ∷ 0xA7 ∷ codes "5.2.2): " ++ mid)
 why_text (WrongNewLines wrong) = new_line_text wrong
+why_text (NoMatch expected got) = codes "remote fingerprint no match"
+why_text (UnknownHash name) = codes "unsupported fingerprint hash function: " ++ name
+why_text NoneAnnounced = codes "no a=fingerprint before dtls"

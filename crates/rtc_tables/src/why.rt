@@ -1,13 +1,14 @@
-//! Why an offer or an answer is refused.
+//! Why an offer, an answer or a certificate is refused.
 ghost use Rattle.std.specs.Prelude.{Some};
 ghost use Rattle.rtc_tables.specs.WhyText as text;
 
 use crate::NewLine;
-use rtc_sdp_values::{IceCreds, Mid};
+use rtc_sdp_values::{Fingerprint, IceCreds, Mid};
+use rtc_wire::Text;
 use std::error::Error;
 use std::fmt;
 
-/// Why an offer or an answer of the other side is refused.
+/// Why what the other side described or showed is refused: an offer, an answer or a certificate.
 #[derive(Debug, PartialEq, Eq, Drop)]
 pub enum Why {
     /// An offer without m-lines.
@@ -17,7 +18,10 @@ pub enum Why {
     /// Neither the session nor a line has ICE credentials.
     NoCredentials,
     /// An answer has other credentials than are known, and its offer did not restart ICE.
-    UnaskedRestart { kept: IceCreds, got: IceCreds },
+    UnaskedRestart {
+        kept: IceCreds,
+        got: IceCreds,
+    },
     /// No fingerprint is known, and there is none. The peer is then closed.
     NoFingerprint,
     /// A line is at another place than its row, or of a kind that its row or its place does not allow.
@@ -27,6 +31,15 @@ pub enum Why {
     /// A new line of an answer is at the place of a row (RFC 8829, section 5.2.2).
     AnswerRecycles(Mid),
     WrongNewLines(NewLine),
+    /// The hash of the certificate is not the announced one (RFC 8122, section 6.2). The peer is then closed.
+    NoMatch {
+        expected: Fingerprint,
+        got: Fingerprint,
+    },
+    /// The announced hash function of this name is neither `sha-256` nor `sha-1`. The peer is then closed.
+    UnknownHash(Text),
+    /// A certificate came, and no fingerprint was announced. The peer is then closed.
+    NoneAnnounced,
 }
 
 impl fmt::Display for Why {
@@ -54,6 +67,12 @@ impl fmt::Display for Why {
                 )
             }
             Why::WrongNewLines(wrong) => write!(f, "{wrong}"),
+            Why::NoMatch { .. } => f.write_str("remote fingerprint no match"),
+            Why::UnknownHash(name) => {
+                let name = name.as_str();
+                write!(f, "unsupported fingerprint hash function: {name}")
+            }
+            Why::NoneAnnounced => f.write_str("no a=fingerprint before dtls"),
         }
     }
 }

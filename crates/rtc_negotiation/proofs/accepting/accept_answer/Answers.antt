@@ -1,35 +1,33 @@
-use Rattle.std.proofs.Common.{◌≡◌, ◌∙◌, refl, ap, arith}
+use Rattle.std.proofs.Common.{◌≡◌, ◌∙◌, Ok, Err, ap, arith}
 use Rattle.rtc_tables.specs.declared.plan.Plan.{Plan}
-use Rattle.rtc_ids.proofs.LaterLemmas.{later_none}
 use Rattle.rtc_peer_state.specs.Calls.{raised}
 use Rattle.rtc_peer_state.specs.Meanings.{meanings}
-use Rattle.rtc_negotiation.proofs.MediaLemmas.{same_lines}
-use Rattle.rtc_negotiation.proofs.AnswerLemmas.{answer_lacks, answer_stops_following, answer_stops_starting, answer_accepted}
+use Rattle.rtc_negotiation.proofs.AnswerLemmas.{answer_refused, answer_moves, answer_fails, answer_accepted}
 use Rattle.rtc_negotiation.proofs.accepting.accept_answer.Goals as goal
-
-pub returns-in-Err-Alloc : goal.returns-in-Err-Alloc
-returns-in-Err-Alloc g c =
-    let right : c.args.peer.now.counter ≡ raised c.args.token.id = grind (arith, c.if-peer-change_id.false, c.change_id.ensures) in
-    answer_lacks (meanings g.I.IceAgent.ice g.D.DtlsInstance.dtls g.S.Association.association g.M.MediaSession.media g.N.Ids.ids) c.args.peer.now _ c.args.token c.args.answer right (later_none g.N.Ids.ids c.args.peer.now.ids, same_lines g.M.MediaSession.media c.args.peer.now.media, refl)
 
 pub returns-in-Err : goal.returns-in-Err
 returns-in-Err g c =
     let right : c.args.peer.now.counter ≡ raised c.args.token.id = grind (arith, c.if-peer-change_id.false, c.change_id.ensures) in
-    answer_stops_following (meanings g.I.IceAgent.ice g.D.DtlsInstance.dtls g.S.Association.association g.M.MediaSession.media g.N.Ids.ids) g.met.M.MediaSession.laws c.args.peer.now c.grow_answer.new.peer c.args.token c.args.answer c.in-Ok-grow_answer.growth c.follow.new.ice right
-    (rw c.into_changes-changes.ensures at c.in-Ok-grow_answer.ensures.grows) c.in-Ok-grow_answer.ensures.later c.in-Err.ensures.err
+    answer_refused (meanings g.I.IceAgent.ice g.D.DtlsInstance.dtls g.S.Association.association g.M.MediaSession.media g.N.Ids.ids) c.args.peer.now c.args.token c.args.answer c.in-Err.refusal c.refuse.result c.refuse.new.phase right
+    c.in-Err.ensures.plans c.refuse.ensures.error c.refuse.ensures.phase
 
-pub returns-in-Err-Alloc-start_dtls : goal.returns-in-Err-Alloc-start_dtls
-returns-in-Err-Alloc-start_dtls g c =
+pub returns-in-Err-move_parts : goal.returns-in-Err-move_parts
+returns-in-Err-move_parts g c =
     let right : c.args.peer.now.counter ≡ raised c.args.token.id = grind (arith, c.if-peer-change_id.false, c.change_id.ensures) in
-    let started = rw (c.role_for.ensures, c.setup.ensures, c.in-Err-Alloc-start_dtls.field-0-is) at c.in-Err-Alloc-start_dtls.ensures.starts in
-    answer_stops_starting (meanings g.I.IceAgent.ice g.D.DtlsInstance.dtls g.S.Association.association g.M.MediaSession.media g.N.Ids.ids) g.met.M.MediaSession.laws c.args.peer.now c.grow_answer.new.peer c.args.token c.args.answer c.in-Ok-grow_answer.growth c.follow.new.ice c.start_dtls.new.dtls right
-    (rw c.into_changes-changes.ensures at c.in-Ok-grow_answer.ensures.grows) c.in-Ok-grow_answer.ensures.later c.in-Ok-follow.ensures.ok started
+    let grown = rw c.into_changes-changes.ensures at c.in-Ok-grow_answer.ensures.grows in
+    let moves = answer_moves (meanings g.I.IceAgent.ice g.D.DtlsInstance.dtls g.S.Association.association g.M.MediaSession.media g.N.Ids.ids) c.args.peer.now c.grow_answer.new.peer c.args.token.changes c.args.answer c.in-Ok-grow_answer.growth
+    c.as_slice.result.now (Err c.in-Err-move_parts.error) c.move_parts.new.ice c.move_parts.new.dtls c.move_parts.new.sctp grown
+    (c.as_slice.ensures ∙ ap (λ (plan : Plan). plan.rows) c.in-Ok.ensures.plans.1) c.in-Err-move_parts.ensures in
+    answer_fails (meanings g.I.IceAgent.ice g.D.DtlsInstance.dtls g.S.Association.association g.M.MediaSession.media g.N.Ids.ids) g.met.M.MediaSession.laws c.args.peer.now c.grow_answer.new.peer c.args.token c.args.answer c.in-Ok-grow_answer.growth
+    c.in-Err-move_parts.error c.move_parts.new.ice c.move_parts.new.dtls c.move_parts.new.sctp right grown c.in-Ok-grow_answer.ensures.later (c.in-Ok.ensures.plans.0) moves
 
 pub returns : goal.returns
 returns g c =
     let right : c.args.peer.now.counter ≡ raised c.args.token.id = grind (arith, c.if-peer-change_id.false, c.change_id.ensures) in
-    let started = rw (c.role_for.ensures, c.setup.ensures) at c.in-Ok-start_dtls.ensures.starts in
-    answer_accepted (meanings g.I.IceAgent.ice g.D.DtlsInstance.dtls g.S.Association.association g.M.MediaSession.media g.N.Ids.ids) c.args.peer.now c.grow_answer.new.peer c.args.token c.args.answer c.in-Ok-grow_answer.growth c.follow.new.ice c.start_dtls.new.dtls
-    c.commit.new.self c.commit-2.new.self c.confirm_channels.new.channels right
-    (rw c.into_changes-changes.ensures at c.in-Ok-grow_answer.ensures.grows) (c.in-Ok.ensures.plans.0) c.in-Ok-follow.ensures.ok started c.commit.ensures
+    let grown = rw c.into_changes-changes.ensures at c.in-Ok-grow_answer.ensures.grows in
+    let moves = answer_moves (meanings g.I.IceAgent.ice g.D.DtlsInstance.dtls g.S.Association.association g.M.MediaSession.media g.N.Ids.ids) c.args.peer.now c.grow_answer.new.peer c.args.token.changes c.args.answer c.in-Ok-grow_answer.growth
+    c.as_slice.result.now (Ok tt) c.move_parts.new.ice c.move_parts.new.dtls c.move_parts.new.sctp grown
+    (c.as_slice.ensures ∙ ap (λ (plan : Plan). plan.rows) c.in-Ok.ensures.plans.1) c.in-Ok-move_parts.ensures in
+    answer_accepted (meanings g.I.IceAgent.ice g.D.DtlsInstance.dtls g.S.Association.association g.M.MediaSession.media g.N.Ids.ids) c.args.peer.now c.grow_answer.new.peer c.args.token c.args.answer c.in-Ok-grow_answer.growth
+    c.move_parts.new.ice c.move_parts.new.dtls c.move_parts.new.sctp c.commit.new.self c.commit-2.new.self c.confirm_channels.new.channels right grown (c.in-Ok.ensures.plans.0) moves c.commit.ensures
     (c.commit-2.ensures ∙ ap (λ (plan : Plan). plan.rows) c.in-Ok.ensures.plans.1) (rw c.into_changes-changes.ensures at c.confirm_channels.ensures)

@@ -1,4 +1,4 @@
-use Rattle.std.proofs.Common.{◌≡◌, refl, Ok, true, false}
+use Rattle.std.proofs.Common.{refl, Ok, false}
 use Rattle.rtc_negotiation.proofs.FollowLemmas.{takes_role_beginning, takes_role_waiting}
 use Rattle.rtc_negotiation.proofs.following.take_role.Goals as goal
 

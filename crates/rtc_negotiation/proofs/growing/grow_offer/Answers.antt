@@ -1,4 +1,3 @@
-use Rattle.std.proofs.Common.{◌≡◌, refl}
 use Rattle.rtc_peer_state.specs.Meanings.{meanings}
 use Rattle.rtc_negotiation.proofs.GrowthLemmas.{offer_grown}
 use Rattle.rtc_negotiation.proofs.growing.grow_offer.Goals as goal

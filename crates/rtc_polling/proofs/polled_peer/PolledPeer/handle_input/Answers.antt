@@ -5,13 +5,13 @@ use Rattle.rtc_peer_state.specs.declared.phase.Phase.TheVariants.{Alive, Closing
 use Rattle.rtc_peer_state.specs.Meanings.{Meanings, meanings}
 use Rattle.rtc_polling.specs.declared.input.Input.TheVariants.{Receive as Datagram}
 use Rattle.rtc_polling.specs.declared.polled_peer.PolledPeer.{PolledPeer}
-use Rattle.rtc_polling.specs.declared.transport_error.TransportError.{TransportError}
+use Rattle.rtc_peer_state.specs.declared.rtc_error.RtcError.{RtcError}
 use Rattle.rtc_polling.specs.Inputs.{Hears, HandlesInputIn}
 use Rattle.rtc_polling.proofs.polled_peer.PolledPeer.handle_input.Goals as goal
 
 module _ {I D S M E X T W N : Type 0} (m : Meanings I D S M E X T W N) where
   -- a peer that is not closed hears a datagram
-  hears_in : (phase : Phase) (now : ℕ) (datagram : Receive) (p : PolledPeer I D S M N) (r : Result (Unit {0}) TransportError) (q : PolledPeer I D S M N)
+  hears_in : (phase : Phase) (now : ℕ) (datagram : Receive) (p : PolledPeer I D S M N) (r : Result (Unit {0}) RtcError) (q : PolledPeer I D S M N)
       → (phase ≡ Alive) ⊎ (phase ≡ Closing) → Hears m now datagram p r q → HandlesInputIn m phase (Datagram now datagram) p r q
   hears_in Alive now datagram p r q running h = h
   hears_in Closing now datagram p r q running h = h
@@ -22,4 +22,4 @@ pub returns-in-Receive : goal.returns-in-Receive
 returns-in-Receive g c =
     let m = meanings g.I.IceAgent.ice g.D.DtlsInstance.dtls g.S.Association.association g.M.MediaSession.media g.N.Ids.ids in
     let p = c.args.self.now in
-    rw c.in-Receive.is (hears_in m p.peer.phase c.in-Receive.now c.in-Receive.datagram p c.hear.result c.hear.new.self c.in-Alive.is c.hear.ensures)
+    rw c.in-Receive.is (hears_in m p.core.phase c.in-Receive.now c.in-Receive.datagram p c.hear.result c.hear.new.self c.in-Alive.is c.hear.ensures)

@@ -9,4 +9,4 @@ invariant-outputs g l =
     (turns : ℕ) × StartsOver (PollsDtlsOutput (meanings g.I.IceAgent.ice g.D.DtlsInstance.dtls g.S.Association.association g.M.MediaSession.media g.N.Ids.ids)) turns l.fn.self l.self
 
 abbrev pub decreases-outputs : goal.decreases-outputs
-decreases-outputs g l = g.D.DtlsInstance.dtls.held l.self.peer.dtls.instance
+decreases-outputs g l = g.D.DtlsInstance.dtls.held l.self.core.dtls.instance

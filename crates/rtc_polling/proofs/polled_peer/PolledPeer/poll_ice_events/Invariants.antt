@@ -9,4 +9,4 @@ invariant-events g l =
     (turns : ℕ) × StartsOver (PollsIceEvent (meanings g.I.IceAgent.ice g.D.DtlsInstance.dtls g.S.Association.association g.M.MediaSession.media g.N.Ids.ids)) turns l.fn.self l.self
 
 abbrev pub decreases-events : goal.decreases-events
-decreases-events g l = g.I.IceAgent.ice.held l.self.peer.ice
+decreases-events g l = g.I.IceAgent.ice.held l.self.core.ice

@@ -1,0 +1,4 @@
+pub mod Tokens
+pub mod Tries
+pub mod Pairs
+pub mod NumberLemmas

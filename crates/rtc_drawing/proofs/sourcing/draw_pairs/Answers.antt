@@ -1,0 +1,26 @@
+use Rattle.std.proofs.Common.{◌≡◌, ◌∙◌, ◌++◌, ◌∷◌, [], List, ℕ, ◌-◌, ◌+◌, suc, refl, sym, ap, arith, append_assoc, append-nil}
+use Rattle.std.specs.List.{flat_map}
+use Rattle.rtc_peer_state.specs.Sources.{has_source, pair_numbers}
+use Rattle.rtc_ids.proofs.LaterLemmas.{later_none, later_join}
+use Rattle.rtc_drawing.proofs.Pairs.{one_pair, one_draw, one_more_pair}
+use Rattle.rtc_drawing.proofs.sourcing.draw_pairs.Goals as goal
+
+pub loop-init : goal.loop-init
+loop-init g c =
+    let all : c.args.count - 0 ≡ c.args.count = omega arith in
+    record {
+      pairs = rw (all, c.new-pairs.ensures.items) refl;
+      earlier = rw c.new-pairs.ensures.items (sym (append-nil c.args.earlier.now));
+      after = rw all refl;
+      later = later_none g.N.Ids.ids c.args.ids.now;
+    }
+
+pub loop-preserved : goal.loop-preserved
+loop-preserved g c =
+    let one_less : c.args.count - c.loop.counter ≡ suc (c.args.count - (c.loop.counter + 1)) = omega arith in
+    record {
+      pairs = rw c.in_ok-push.ensures.items (one_pair g.N.Ids.ids (has_source g.M.MediaSession.media c.args.media.now) c.args.kind _ _ _ _ _ _ c.loop.ids _ _ one_less c.in_ok-pair.ensures.pair c.in_ok-pair.ensures.earlier c.in_ok-pair.ensures.after c.loop.invariant.pairs);
+      earlier = c.in_ok-pair.ensures.earlier ∙ rw c.in_ok-push.ensures.items (one_more_pair c.args.earlier.now c.loop.earlier c.loop.pairs.items c.in_ok-pair.pair c.loop.invariant.earlier);
+      after = one_draw g.N.Ids.ids (has_source g.M.MediaSession.media c.args.media.now) c.args.kind _ _ c.loop.ids _ _ one_less c.in_ok-pair.ensures.after c.loop.invariant.after;
+      later = later_join g.N.Ids.ids c.args.ids.now c.loop.ids _ c.loop.invariant.later c.in_ok-pair.ensures.later;
+    }

@@ -1,0 +1,69 @@
+//! Polls, inputs and closing of a peer.
+ghost use Rattle.std.specs.Prelude.{◌≡◌};
+ghost use Rattle.rtc_peer_state.specs.Meanings.{meanings};
+ghost use Rattle.rtc_polling.specs.Closing.{ClosesPeer};
+ghost use Rattle.rtc_polling.specs.Inputs.{HandlesInput};
+ghost use Rattle.rtc_polling.specs.Readings.{is_accepted, is_peer_connected};
+ghost use Rattle.rtc_polling.specs.Walk.{PollsPeer};
+
+use crate::Rtc;
+use rtc_association::Association;
+use rtc_dtls::DtlsInstance;
+use rtc_ice::IceAgent;
+use rtc_ids::Ids;
+use rtc_media::MediaSession;
+use rtc_parts_values::Reason;
+use rtc_peer_state::RtcError;
+use rtc_polling::{Input, Output};
+
+impl<I: IceAgent, D: DtlsInstance, S: Association, M: MediaSession, N: Ids> Rtc<I, D, S, M, N> {
+    /// The first thing that the peer has to give: events and datagrams, or the moment at which a timeout is wanted as
+    /// input. It is called until it answers a timeout, after each input and each other call.
+    ///
+    /// A certificate that is not the announced one is refused (RFC 8122, section 6.2), and so the peer is closed. A
+    /// closed peer answers a moment that never comes.
+    pub fn poll_output(&mut self) -> Result<Output<M::E>, RtcError>
+        ensures { PollsPeer (meanings I.ice D.dtls S.association M.media N.ids) self.old result self.new }
+    {
+        self.polled.poll_output()
+    }
+
+    /// The reason of the last timeout that a poll answered; `NotHappening` before the first.
+    pub fn last_timeout_reason(&self) -> Reason
+        ensures { result ≡ self.now.transport.last_reason }
+    {
+        self.polled.last_timeout_reason()
+    }
+
+    /// Whether datagrams, application data and media can go both ways.
+    pub fn is_connected(&self) -> bool
+        ensures { result ≡ is_peer_connected (meanings I.ice D.dtls S.association M.media N.ids) self.now }
+    {
+        self.polled.is_connected()
+    }
+
+    /// Whether an input is for this peer, where several share a socket: a timeout is, and so is a datagram from where
+    /// datagrams go. Of other messages of ICE the agent decides, and other datagrams have to come from a viable candidate
+    /// of the other side.
+    pub fn accepts(&self, input: &Input<'_>) -> bool
+        ensures { result ≡ is_accepted (meanings I.ice D.dtls S.association M.media N.ids) self.now input.now }
+    {
+        self.polled.accepts(input)
+    }
+
+    /// Gives the peer a moment, or a datagram that came at one. A moment before the greatest that it was given changes
+    /// nothing, and a datagram goes to the part of its kind. A closed peer ignores both.
+    pub fn handle_input(&mut self, input: &Input<'_>) -> Result<(), RtcError>
+        ensures { HandlesInput (meanings I.ice D.dtls S.association M.media N.ids) input.now self.old result self.new }
+    {
+        self.polled.handle_input(input)
+    }
+
+    /// Begins to close the peer, which polls then bring to its end: media says goodbye (RFC 3550, section 6.6), and the DTLS
+    /// connection is closed (RFC 8446, section 6.1). Nothing happens where this has begun. An error leaves the peer closed.
+    pub fn close(&mut self) -> Result<(), RtcError>
+        ensures { ClosesPeer (meanings I.ice D.dtls S.association M.media N.ids) self.old result self.new }
+    {
+        self.polled.close()
+    }
+}
