@@ -1,6 +1,6 @@
 -- The causes of refusals, by those of the association.
 use Rattle.std.proofs.Common.{◌≡◌, ℕ, Bool, true, false, List, Option, Some, None, Result, Ok, Err, refl, sym, true≢false}
-use Rattle.std.specs.Prelude.{not, ◌&&◌, ◌||◌}
+use Rattle.std.specs.Prelude.{not, nat_lt, length, ◌&&◌, ◌||◌}
 use Rattle.rtc_io.specs.Faults.{Rose}
 use Rattle.rtc_association.specs.declared.assoc_error.AssocError.{AssocError}
 use Rattle.rtc_association.specs.declared.assoc_error.AssocError.TheVariants as assoc
@@ -13,8 +13,8 @@ use Rattle.rtc_sctp_entries.specs.Part.{AsksStart}
 use Rattle.rtc_sctp.specs.declared.proto_error.ProtoError.TheVariants as proto
 use Rattle.rtc_sctp.specs.declared.sctp_error.SctpError.{SctpError}
 use Rattle.rtc_sctp.specs.declared.sctp_error.SctpError.TheVariants as sctp
-use Rattle.rtc_sctp.specs.Streams.{SctpStreams, is_established}
-use Rattle.rtc_sctp.specs.Calls.{Inits, Shuts, ShutBy, WritesStream, WrittenIf, can_write, is_ended, is_open_stream, write_answer}
+use Rattle.rtc_sctp.specs.Streams.{SctpStreams}
+use Rattle.rtc_sctp.specs.Calls.{Inits, Shuts, ShutBy, WritesStream, WrittenIf, can_write, is_ended, is_open_stream, write_answer, written_ppi, is_nil}
 use Rattle.rtc_sctp.specs.Refusals.{refusal_if, IsRefusedAs, refusal_of_start, refusal_of_message}
 
 -- a message that its stream takes is refused as the association refuses it
@@ -83,22 +83,36 @@ shut_rose : (answer : Result (Unit {0}) AssocError) (ended : Bool) (b a : ℕ) �
     → Answered (need ended assoc.Closing None) b a answer → Rose b a
 shut_rose answer ended b a is asked h = rose answer b a asked (rw is at h)
 
+ended_already : (r : Result (Unit {0}) SctpError) (b a : ℕ) → r ≡ Ok tt → IsRefusedAs None b a r
+ended_already r b a is = rw is refl
+
 module _ {S : Type 0} (m : AssociationMeaning S) (w : AssociationLaws m) where
+  -- how a message is refused that its stream takes
+  abbrev pub refusal_in_use : (id : ℕ) → List ℕ → SctpStreams S → Option SctpError
+  refusal_in_use id bytes p =
+      refusal_if (not (m.has_stream p.association id) || m.closed_here p.association id) (sctp.Proto (proto.NoStream id))
+      (refusal_if (nat_lt (m.max_send p.association) (length bytes)) (sctp.Proto (proto.TooLong (length bytes) p.remote_max)) None)
+
   pub writes_refused : (p q : SctpStreams S) (id : ℕ) (binary : Bool) (bytes : List ℕ) (r : Result ℕ SctpError) → WritesStream m id binary bytes p r q
       → IsRefusedAs (refusal_of_message m id bytes p) (m.faults p.association) (m.faults q.association) r
   writes_refused p q id binary bytes r h = by (can_write m id p) refl h
     where
       by : (b : Bool) → can_write m id p ≡ b → WrittenIf m b id binary bytes p r q
           → IsRefusedAs (refusal_of_message m id bytes p) (m.faults p.association) (m.faults q.association) r
-      by false is k = refused_early (can_write m id p) _ _ _ r is k.0
+      by false is k = refused_early (can_write m id p) (refusal_in_use id bytes p) (m.faults p.association) (m.faults q.association) r is k.0
       by true is k =
-          let free = unended (is_open_stream id p) (m.started p.association) (m.closing p.association || m.closed p.association) is in
-          refused_late (can_write m id p) _ _ _ r _ is k.2.1
-          (written_before_its_end k.0 _ _ _ id _ _ _ _ free (w.write_answer p.association q.association id _ bytes k.0 k.1))
+          let gone = not (m.has_stream p.association id) || m.closed_here p.association id in
+          let long = nat_lt (m.max_send p.association) (length bytes) in
+          let ended = m.closing p.association || m.closed p.association in
+          let free = unended (is_open_stream id p) (m.started p.association) ended is in
+          let answered = w.write_answer p.association q.association id (written_ppi binary (is_nil bytes)) bytes k.0 k.1 in
+          refused_late (can_write m id p) (refusal_in_use id bytes p) (m.faults p.association) (m.faults q.association) r
+          (write_answer id (length bytes) p.remote_max k.0) is k.2
+          (written_before_its_end k.0 gone long ended id (length bytes) p.remote_max (m.faults p.association) (m.faults q.association) free answered)
 
   started_rose : (client : Bool) (p q : S) (now max : ℕ) → AsksStart m client p now max did.Refused q → Rose (m.faults p) (m.faults q)
-  started_rose true p q now max h = rose h.result _ _ h.is (w.connect_answer p q now max h.result h.called)
-  started_rose false p q now max h = rose h.result _ _ h.is (w.accept_answer p q now max h.result h.called)
+  started_rose true p q now max h = rose h.result (m.faults p) (m.faults q) h.is (w.connect_answer p q now max h.result h.called)
+  started_rose false p q now max h = rose h.result (m.faults p) (m.faults q) h.is (w.accept_answer p q now max h.result h.called)
 
   pub inits_refused : (client : Bool) (now max : ℕ) (p q : SctpStreams S) (r : Result (Unit {0}) SctpError) → Inits m client now max p r q
       → IsRefusedAs (refusal_of_start m p) (m.faults p.association) (m.faults q.association) r
@@ -118,8 +132,9 @@ module _ {S : Type 0} (m : AssociationMeaning S) (w : AssociationLaws m) where
   shut_by (Ok x) p q is h = refl
   shut_by (Err (sctp.Proto proto.Started)) p q is h = absurd h
   shut_by (Err (sctp.Proto proto.Fault)) p q is h =
-      let free = begun_unended (m.started p.association) (m.closing p.association || m.closed p.association) is in
-      shut_rose h.0.result _ _ _ free h.0.is (w.shut_answer p.association q.association h.0.result h.0.called)
+      let ended = m.closing p.association || m.closed p.association in
+      let free = begun_unended (m.started p.association) ended is in
+      shut_rose h.0.result ended (m.faults p.association) (m.faults q.association) free h.0.is (w.shut_answer p.association q.association h.0.result h.0.called)
   shut_by (Err (sctp.Proto (proto.TooLong len limit))) p q is h = absurd h
   shut_by (Err (sctp.Proto (proto.NoStream id))) p q is h = absurd h
   shut_by (Err sctp.WriteBeforeEstablished) p q is h = absurd h
@@ -132,9 +147,6 @@ module _ {S : Type 0} (m : AssociationMeaning S) (w : AssociationLaws m) where
       → IsRefusedAs None (m.faults p.association) (m.faults q.association) r
   shuts_refused p q r h = by (is_ended m p.association) refl h
     where
-      nothing : (answer : Result (Unit {0}) SctpError) → answer ≡ Ok tt → IsRefusedAs None (m.faults p.association) (m.faults q.association) answer
-      nothing answer is = rw is refl
-
       by : (b : Bool) → is_ended m p.association ≡ b → ShutBy m b p r q → IsRefusedAs None (m.faults p.association) (m.faults q.association) r
-      by true is k = nothing r k.0
+      by true is k = ended_already r (m.faults p.association) (m.faults q.association) k.0
       by false is k = shut_by r p q is k
