@@ -5,9 +5,9 @@
 mod open_streams;
 mod work;
 
+pub use open_streams::OpenStreams;
 use rtc_io::{OUT_OF_MEMORY, collect_words};
 use std::process::ExitCode;
-pub use open_streams::OpenStreams;
 pub use work::{allocate, idle, message, open_at_once};
 
 /// A number of the command line; 0 where it is none.

@@ -90,11 +90,7 @@ fn unstarted(alloc: Global) -> RtcSctp<PlainAssociation> {
     )
 }
 
-fn settle(
-    alloc: Global,
-    side: &mut RtcSctp<PlainAssociation>,
-    id: u16,
-) -> Result<(), SctpError> {
+fn settle(alloc: Global, side: &mut RtcSctp<PlainAssociation>, id: u16) -> Result<(), SctpError> {
     let mut config = ChannelConfig::new(alloc);
     config.negotiated = Some(id);
     if config.label.as_str().is_empty() && config.protocol.as_str().is_empty() {

@@ -17,12 +17,7 @@ pub fn idle(alloc: Global, streams: u32, polls: u32) -> Result<usize, SctpError>
 
 /// So many messages of one byte over one of so many open streams, each sent, read and acknowledged before the next. It
 /// answers how many were read.
-pub fn message(
-    alloc: Global,
-    streams: u32,
-    id: u32,
-    messages: u32,
-) -> Result<usize, SctpError> {
+pub fn message(alloc: Global, streams: u32, id: u32, messages: u32) -> Result<usize, SctpError> {
     let mut ends = OpenStreams::connected(alloc)?;
     ends.open_all(streams.min(STREAMS) as u16)?;
     let mut count = 0usize;
