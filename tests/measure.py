@@ -1,8 +1,8 @@
 #!/usr/bin/env python3
 """Counts instructions of the proved programs by valgrind --tool=callgrind, so that growth is seen. It is no part of the gate.
 
-usage: tests/measure.py [PART..]     PART is descriptions, rounds, orderly, messages, associations, forged, frames or polls; without one
-all are counted
+usage: tests/measure.py [PART..]     PART is descriptions, rounds, orderly, messages, associations, streams, forged, frames or
+polls; without one all are counted
 
 The programs are those that the gate left in crates/*/out/. Each figure is a difference of two runs, so that the start of the
 program is not in it. docs/PERFORMANCE.md has the tables.
@@ -137,6 +137,32 @@ def associations():
         print(f"| {streams:,} | {more:,} | {more // streams:,} |")
 
 
+# The streams of two peers: a poll that gives nothing, a message over the first or the last of so many open streams, streams that are
+# opened at once, and channels that are given streams.
+def streams():
+    def cost(*words):
+        return count([program("rtc_sctp_measure"), *map(str, words)], b"")[0]
+
+    print("| Open streams | A poll that gives nothing | A stream | A message over the first | Over the last |\n|---|---|---|---|---|")
+    for open_streams in (1, 100, 1_000, 10_000):
+        start = cost("idle", open_streams, 1)
+        poll = (cost("idle", open_streams, 11) - start) // 10
+        start = cost("message", open_streams, 0, 1)
+        first = (cost("message", open_streams, 0, 11) - start) // 10
+        start = cost("message", open_streams, open_streams - 1, 1)
+        last = (cost("message", open_streams, open_streams - 1, 11) - start) // 10
+        print(f"| {open_streams:,} | {poll:,} | {poll // open_streams:,} | {first:,} | {last:,} |")
+    print("\n| Streams opened at once at both ends | Instructions | A stream |\n|---|---|---|")
+    start = cost("open", 0)
+    for at_once in (10, 100, 1_000):
+        more = cost("open", at_once) - start
+        print(f"| {at_once:,} | {more:,} | {more // at_once:,} |")
+    print("\n| Channels given streams at once | Instructions | A channel |\n|---|---|---|")
+    for channels in (100, 1_000, 10_000, 30_000):
+        more = cost("allocate", channels, 1) - cost("allocate", channels, 0)
+        print(f"| {channels:,} | {more:,} | {more // channels:,} |")
+
+
 # The greatest memory of a program, in KiB.
 def memory(words):
     with open(os.devnull, "wb") as nothing:
@@ -193,7 +219,10 @@ def polls():
 
 
 def main():
-    parts = {"descriptions": descriptions, "rounds": rounds, "orderly": orderly, "messages": messages, "associations": associations, "forged": forged, "frames": frames, "polls": polls}
+    parts = {
+        "descriptions": descriptions, "rounds": rounds, "orderly": orderly, "messages": messages, "associations": associations,
+        "streams": streams, "forged": forged, "frames": frames, "polls": polls,
+    }
     wanted = sys.argv[1:] or list(parts)
     if any(name not in parts for name in wanted):
         sys.exit(__doc__)

@@ -22,6 +22,29 @@ fn stream_is_held_twice(scene: &mut Scene) -> Result<(), SctpError> {
     scene.tell_held(4)
 }
 
+// However often streams are given, one that is held stays so.
+fn stream_stays_held(scene: &mut Scene) -> Result<(), SctpError> {
+    scene.hold(4)?;
+    scene.make(Some(4))?;
+    for _ in 0..100u8 {
+        scene.allocate(true)?;
+    }
+    scene.tell_held(4)
+}
+
+// The number of a channel that went is not given again.
+fn numbers_are_not_given_again(scene: &mut Scene) -> Result<(), SctpError> {
+    let first = scene.make(None)?;
+    scene.tell_channel(first)?;
+    let second = scene.make(None)?;
+    scene.tell_channel(second)?;
+    scene.remove(first, false);
+    let third = scene.make(None)?;
+    scene.tell_channel(third)?;
+    let fourth = scene.make(None)?;
+    scene.tell_channel(fourth)
+}
+
 // A settled stream that is held is given once its reset is complete, and then opened.
 fn settled_stream_waits(scene: &mut Scene) -> Result<(), SctpError> {
     scene.start(true)?;
@@ -79,6 +102,12 @@ fn show(alloc: Global) -> Result<String, SctpError> {
     let mut twice = Scene::new(alloc);
     stream_is_held_twice(&mut twice)?;
     report.push_str(twice.report())?;
+    let mut stays = Scene::new(alloc);
+    stream_stays_held(&mut stays)?;
+    report.push_str(stays.report())?;
+    let mut numbers = Scene::new(alloc);
+    numbers_are_not_given_again(&mut numbers)?;
+    report.push_str(numbers.report())?;
     let mut settled = Scene::new(alloc);
     settled_stream_waits(&mut settled)?;
     report.push_str(settled.report())?;

@@ -110,6 +110,11 @@ impl Scene {
         self.tell_number("held", count)
     }
 
+    /// Notes the number of a channel.
+    pub fn tell_channel(&mut self, id: ChannelId) -> Result<(), SctpError> {
+        self.tell_number("channel", id.number())
+    }
+
     /// Notes the stream of a channel.
     pub fn tell_stream(&mut self, id: ChannelId) -> Result<(), SctpError> {
         match self.channels.stream_id_by_channel_id(id) {

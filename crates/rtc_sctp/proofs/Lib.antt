@@ -1,4 +1,5 @@
 pub mod CallLemmas
+pub mod RefusalLemmas
 pub mod TourLemmas
 pub mod PassLemmas
 pub mod StepLemmas

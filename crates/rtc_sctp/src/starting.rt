@@ -1,7 +1,8 @@
 //! The start of an association, and its end.
-ghost use Rattle.std.specs.Prelude.{◌≡◌};
+ghost use Rattle.std.specs.Prelude.{◌≡◌, None};
 ghost use Rattle.rtc_sctp.specs.Calls.{Inits, Shuts, is_ended as IsEnded};
 ghost use Rattle.rtc_sctp.specs.Calls.{limit_or_default as LimitOrDefault, started_state as StartedState};
+ghost use Rattle.rtc_sctp.specs.Refusals.{IsRefusedAs, refusal_of_start};
 
 use crate::streams::RtcSctp;
 use crate::{ProtoError, RtcSctpState, SctpError};
@@ -28,14 +29,7 @@ fn started_state(client: bool) -> RtcSctpState
 }
 
 impl<S: Association> RtcSctp<S> {
-    /// Starts the association. `remote_max` is the longest message that the other end takes, in bytes, where its
-    /// session description says it.
-    pub fn init(
-        &mut self,
-        client: bool,
-        now: Moment,
-        remote_max: Option<u32>,
-    ) -> Result<(), SctpError>
+    fn start(&mut self, client: bool, now: Moment, remote_max: Option<u32>) -> Result<(), SctpError>
         ensures { Inits S.association client now (LimitOrDefault remote_max) self.old result self.new }
     {
         if self.association.is_started() {
@@ -54,6 +48,21 @@ impl<S: Association> RtcSctp<S> {
         }
     }
 
+    /// Starts the association. `remote_max` is the longest message that the other end takes, in bytes, where its
+    /// session description says it.
+    pub fn init(
+        &mut self,
+        client: bool,
+        now: Moment,
+        remote_max: Option<u32>,
+    ) -> Result<(), SctpError>
+        ensures inits { Inits S.association client now (LimitOrDefault remote_max) self.old result self.new }
+        ensures refused { IsRefusedAs (refusal_of_start S.association self.old)
+            (S.association.faults self.old.association) (S.association.faults self.new.association) result }
+    {
+        self.start(client, now, remote_max)
+    }
+
     pub(crate) fn is_ended(&self) -> bool
         ensures { result ≡ IsEnded S.association self.now.association }
     {
@@ -63,8 +72,7 @@ impl<S: Association> RtcSctp<S> {
         true
     }
 
-    /// Shuts the association down, where it was started and is neither closing nor closed.
-    pub fn close(&mut self) -> Result<(), SctpError>
+    fn shut(&mut self) -> Result<(), SctpError>
         ensures { Shuts S.association self.old result self.new }
     {
         if self.is_ended() {
@@ -75,5 +83,14 @@ impl<S: Association> RtcSctp<S> {
             Asked::Refused => Err(SctpError::Proto(ProtoError::Fault)),
             Asked::OutOfMemory => Err(SctpError::Alloc),
         }
+    }
+
+    /// Shuts the association down, where it was started and is neither closing nor closed.
+    pub fn close(&mut self) -> Result<(), SctpError>
+        ensures shuts { Shuts S.association self.old result self.new }
+        ensures refused { IsRefusedAs None (S.association.faults self.old.association)
+            (S.association.faults self.new.association) result }
+    {
+        self.shut()
     }
 }

@@ -1,7 +1,7 @@
 //! The opening and closing of streams from here.
 ghost use Rattle.std.specs.Prelude.{◌≡◌, ◌≤◌, ◌<◌, true, is_some, IsSome, Some, Ok, length, vec_len};
 ghost use Rattle.rtc_sctp_entries.specs.Entries.{Ascend, entry_place, new_entry, marked_entry};
-ghost use Rattle.rtc_sctp_entries.specs.declared.stream_entry_state.StreamEntryState.TheVariants.{AwaitOpen};
+ghost use Rattle.rtc_sctp_entries.specs.declared.stream_entry_state.StreamEntryState.TheVariants.{AwaitOpen, Open};
 ghost use Rattle.rtc_sctp.specs.StreamCalls.{can_take as CanTake, TakesConfig, OpensAwaiting, OpensOver};
 ghost use Rattle.rtc_sctp.specs.StreamCalls.{OpensAt, OpensStream, MarksAt};
 ghost use Rattle.rtc_sctp.specs.StreamCalls.{EndsStream, EndsIf, ClosesAt, ClosesDataStream, SetsThreshold, SetsThresholdAt};
@@ -35,6 +35,14 @@ fn can_take<S: Association>(association: &S, id: u16, config: &ChannelConfig) ->
     config.negotiated.is_some() && (association.is_started() && association.has_stream(id))
 }
 
+// A stream that the other end opened is open by a config.
+fn open_by_config(entry: &mut StreamEntry, config: ChannelConfig)
+    ensures { entry.new ≡ record entry.old { config = Some config; state = Open } }
+{
+    entry.config = Some(config);
+    entry.state = StreamEntryState::Open;
+}
+
 // The config of a stream that the other end opened comes from here.
 fn take_config<S: Association>(
     association: &mut S,
@@ -46,8 +54,7 @@ fn take_config<S: Association>(
     if can_take(association, entry.id, &config) {
         return match part::set_reliability(association, entry.id, &config) {
             Asked::Done => {
-                entry.config = Some(config);
-                entry.state = StreamEntryState::Open;
+                open_by_config(entry, config);
                 Ok(())
             }
             Asked::Refused => {

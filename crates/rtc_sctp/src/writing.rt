@@ -2,6 +2,7 @@
 ghost use Rattle.std.specs.Prelude.{◌≡◌, ◌-◌, if◌then◌else◌, true};
 ghost use Rattle.rtc_sctp.specs.Calls.{is_open_stream, can_write as CanWrite, WritesStream, WrittenIf, buffered_sum};
 ghost use Rattle.rtc_sctp.specs.Calls.{written_ppi as WrittenPpi, write_refusal as WriteRefusal};
+ghost use Rattle.rtc_sctp.specs.Refusals.{IsRefusedAs, refusal_of_message};
 
 use crate::streams::RtcSctp;
 use crate::{ProtoError, SctpError};
@@ -80,13 +81,21 @@ impl<S: Association> RtcSctp<S> {
         }
     }
 
-    /// Writes a message, and answers the number of its bytes.
-    pub fn write(&mut self, id: u16, binary: bool, buf: &[u8]) -> Result<usize, SctpError>
+    fn write_message(&mut self, id: u16, binary: bool, buf: &[u8]) -> Result<usize, SctpError>
         ensures { WritesStream S.association id binary buf.now self.old result self.new }
     {
         if self.can_write(id) {
             return self.write_open(id, binary, buf);
         }
         Err(SctpError::WriteBeforeEstablished)
+    }
+
+    /// Writes a message, and answers the number of its bytes.
+    pub fn write(&mut self, id: u16, binary: bool, buf: &[u8]) -> Result<usize, SctpError>
+        ensures writes { WritesStream S.association id binary buf.now self.old result self.new }
+        ensures refused { IsRefusedAs (refusal_of_message S.association id buf.now self.old)
+            (S.association.faults self.old.association) (S.association.faults self.new.association) result }
+    {
+        self.write_message(id, binary, buf)
     }
 }

@@ -1,5 +1,5 @@
 //! Messages of the other end.
-ghost use Rattle.std.specs.Prelude.{◌≡◌, true};
+ghost use Rattle.std.specs.Prelude.{◌≡◌, true, false};
 ghost use Rattle.rtc_sctp_entries.specs.declared.met.Met.TheVariants.{Output};
 ghost use Rattle.rtc_sctp_entries.specs.declared.sctp_event.SctpEvent.TheVariants.{Data};
 ghost use Rattle.rtc_sctp_entries.specs.Visits.{turn, Acknowledges, TakesUp, TakesOpen, TakesAck, TakesDcep};
@@ -138,10 +138,24 @@ fn take_dcep<S: Association>(
     }
 }
 
-fn give(id: u16, binary: bool, bytes: Bytes) -> Met
-    ensures { result ≡ Output (Data id binary bytes) }
+fn give_text(id: u16, bytes: Bytes) -> Met
+    ensures { result ≡ Output (Data id false bytes) }
 {
-    Met::Output(SctpEvent::Data { id, binary, bytes })
+    Met::Output(SctpEvent::Data {
+        id,
+        binary: false,
+        bytes,
+    })
+}
+
+fn give_binary(id: u16, bytes: Bytes) -> Met
+    ensures { result ≡ Output (Data id true bytes) }
+{
+    Met::Output(SctpEvent::Data {
+        id,
+        binary: true,
+        bytes,
+    })
 }
 
 /// Takes a message by its identifier.
@@ -159,10 +173,10 @@ pub fn take_message<S: Association>(
 {
     match ppi {
         Ppi::Dcep => take_dcep(alloc, bytes.as_slice(), association, entry, resets),
-        Ppi::Text => give(entry.id, false, bytes),
-        Ppi::Binary => give(entry.id, true, bytes),
-        Ppi::EmptyText => give(entry.id, false, Bytes::new(Vec::new(alloc))),
-        Ppi::EmptyBinary => give(entry.id, true, Bytes::new(Vec::new(alloc))),
+        Ppi::Text => give_text(entry.id, bytes),
+        Ppi::Binary => give_binary(entry.id, bytes),
+        Ppi::EmptyText => give_text(entry.id, Bytes::new(Vec::new(alloc))),
+        Ppi::EmptyBinary => give_binary(entry.id, Bytes::new(Vec::new(alloc))),
         Ppi::Other(_) => mark(entry),
     }
 }

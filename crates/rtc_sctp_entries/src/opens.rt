@@ -1,5 +1,5 @@
 //! The opening of streams (RFC 8832, section 6).
-ghost use Rattle.std.specs.Prelude.{◌≡◌, ◌≤◌, true, length, IfOk};
+ghost use Rattle.std.specs.Prelude.{◌≡◌, ◌≤◌, true, length, nat_le, IfOk};
 ghost use Rattle.rtc_wire.specs.ChannelConfig.{open_of};
 ghost use Rattle.rtc_wire.specs.DcepOpen.{open_bytes};
 ghost use Rattle.rtc_sctp_entries.specs.Entries.{config_or_fresh, is_out_of_band as IsOutOfBand, is_short_entry};
@@ -179,6 +179,13 @@ fn begin<S: Association>(
     }
 }
 
+// Whether an opening that was refused first at a moment is given up.
+fn is_timed_out(first: Moment, now: Moment) -> bool
+    ensures { result ≡ nat_le (opening_ends first) now }
+{
+    first.plus(STREAM_OPEN_TIMEOUT) <= now
+}
+
 // An opening is refused for now.
 fn retry<S: Association>(
     now: Moment,
@@ -194,7 +201,7 @@ fn retry<S: Association>(
         entry.refused = Some(now);
         return Met::Nothing;
     };
-    if first.plus(STREAM_OPEN_TIMEOUT) <= now {
+    if is_timed_out(first, now) {
         return close_entry(association, entry, resets);
     }
     Met::Nothing

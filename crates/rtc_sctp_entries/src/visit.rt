@@ -1,6 +1,6 @@
 //! What a poll does with one stream in use.
 ghost use Rattle.std.specs.Prelude.{◌≡◌, true};
-ghost use Rattle.rtc_sctp_entries.specs.Visits.{turn, ReadsEntry, HandsThreshold, AttendsBy, Attends, Visits};
+ghost use Rattle.rtc_sctp_entries.specs.Visits.{turn, ReadBy, ReadsEntry, HandsThreshold, AttendsBy, Attends, Visits};
 
 use crate::asked::Asked;
 use crate::closing::{close_entry, mark};
@@ -13,6 +13,28 @@ use rtc_association::Association;
 use rtc_wire::Moment;
 use std::alloc::Global;
 
+// Takes what was read of an entry's stream. A refused reading marks the entry.
+fn take_heard<S: Association>(
+    alloc: Global,
+    heard: Heard,
+    association: &mut S,
+    entry: &mut StreamEntry,
+    resets: &mut Vec<u16>,
+) -> Met
+    requires { S.association.started association.old ≡ true }
+    ensures { ReadBy S.association heard (turn association.old entry.old resets.old.items)
+        result (turn association.new entry.new resets.new.items) }
+{
+    match heard {
+        Heard::Nothing => Met::Nothing,
+        Heard::Message(ppi, bytes) => {
+            take_message(alloc, ppi, bytes, association, entry, resets)
+        }
+        Heard::Refused => mark(entry),
+        Heard::OutOfMemory => Met::OutOfMemory,
+    }
+}
+
 // Reads one message of an entry's stream.
 fn read_entry<S: Association>(
     alloc: Global,
@@ -24,14 +46,8 @@ fn read_entry<S: Association>(
     ensures { ReadsEntry S.association (turn association.old entry.old resets.old.items)
         result (turn association.new entry.new resets.new.items) }
 {
-    match part::read(association, entry.id) {
-        Heard::Nothing => Met::Nothing,
-        Heard::Message(ppi, bytes) => {
-            take_message(alloc, ppi, bytes, association, entry, resets)
-        }
-        Heard::Refused => mark(entry),
-        Heard::OutOfMemory => Met::OutOfMemory,
-    }
+    let heard = part::read(association, entry.id);
+    take_heard(alloc, heard, association, entry, resets)
 }
 
 // Hands a threshold over once, refused or not.
@@ -80,6 +96,12 @@ fn attend_unmarked<S: Association>(
     }
 }
 
+fn is_marked(entry: &StreamEntry) -> bool
+    ensures { result ≡ entry.now.marked }
+{
+    entry.marked
+}
+
 // Closes, marks or reads an entry past its opening.
 fn attend<S: Association>(
     alloc: Global,
@@ -91,7 +113,7 @@ fn attend<S: Association>(
     ensures { Attends S.association (turn association.old entry.old resets.old.items)
         result (turn association.new entry.new resets.new.items) }
 {
-    if entry.marked {
+    if is_marked(entry) {
         return close_entry(association, entry, resets);
     }
     if association.has_stream(entry.id) {

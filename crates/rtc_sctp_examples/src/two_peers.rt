@@ -9,6 +9,13 @@ const MTU: usize = 1200;
 
 const LONGEST: u32 = 262_144;
 
+/// A side of two peers.
+#[derive(Clone, Copy, Debug, PartialEq, Eq)]
+pub enum Side {
+    Left,
+    Right,
+}
+
 /// The streams of a client, the left side, and of its server. Every packet arrives, and what each side is told is noted.
 #[derive(Drop)]
 pub struct TwoPeers {
@@ -41,28 +48,66 @@ impl TwoPeers {
     /// Hands over what each side has to send, and notes what each is told.
     pub fn exchange(&mut self) -> Result<(), SctpError> {
         for _ in 0..4 {
-            carry("left", &mut self.left, &mut self.right, &mut self.report)?;
-            carry("right", &mut self.right, &mut self.left, &mut self.report)?;
+            self.carry_from(Side::Left)?;
+            self.carry_from(Side::Right)?;
         }
-        pass_time(&mut self.left)?;
-        pass_time(&mut self.right)
+        hand_moment(&mut self.left, Moment::FAR_PAST)?;
+        hand_moment(&mut self.right, Moment::FAR_PAST)
     }
 
-    /// Opens a channel at the left side, to be announced in-band.
-    pub fn open(&mut self, id: u16, label: &str) -> Result<(), SctpError> {
-        let mut config = ChannelConfig::new(self.alloc);
-        config.label = Text::from_str(self.alloc, label)?;
-        let label = config.label.as_str().len();
-        let protocol = config.protocol.as_str().len();
-        if label <= 65_535 && protocol <= 65_535 {
-            self.left.open_stream(id, config)?;
+    /// Hands over what one side has to send, and notes what it is told.
+    pub fn carry_from(&mut self, side: Side) -> Result<(), SctpError> {
+        match side {
+            Side::Left => carry("left", &mut self.left, &mut self.right, &mut self.report),
+            Side::Right => carry("right", &mut self.right, &mut self.left, &mut self.report),
+        }
+    }
+
+    /// Hands over one packet of the left side.
+    pub fn carry_packet(&mut self) -> Result<(), SctpError> {
+        if let Some(SctpEvent::Transmit { packets }) = self.left.poll()? {
+            deliver(&packets, &mut self.right)?;
         }
         Ok(())
     }
 
-    /// Writes a text at the left side.
-    pub fn write(&mut self, id: u16, text: &str) -> Result<(), SctpError> {
-        self.left.write(id, false, text.as_bytes())?;
+    /// Hands the left side a moment, so many seconds after the first.
+    pub fn pass_seconds(&mut self, seconds: u64) -> Result<(), SctpError> {
+        hand_moment(
+            &mut self.left,
+            Moment::from_nanos(seconds.saturating_mul(1_000_000_000)),
+        )
+    }
+
+    /// Opens a channel at one side: in-band, or settled by other means.
+    pub fn open(
+        &mut self,
+        side: Side,
+        id: u16,
+        label: &str,
+        settled: bool,
+    ) -> Result<(), SctpError> {
+        let mut config = ChannelConfig::new(self.alloc);
+        config.label = Text::from_str(self.alloc, label)?;
+        config.negotiated = if settled { Some(id) } else { None };
+        let label = config.label.as_str().len();
+        let protocol = config.protocol.as_str().len();
+        if label > 65_535 || protocol > 65_535 {
+            return Ok(());
+        }
+        match side {
+            Side::Left => self.left.open_stream(id, config)?,
+            Side::Right => self.right.open_stream(id, config)?,
+        }
+        Ok(())
+    }
+
+    /// Writes a text at one side.
+    pub fn write(&mut self, side: Side, id: u16, text: &str) -> Result<(), SctpError> {
+        match side {
+            Side::Left => self.left.write(id, false, text.as_bytes())?,
+            Side::Right => self.right.write(id, false, text.as_bytes())?,
+        };
         Ok(())
     }
 
@@ -72,22 +117,30 @@ impl TwoPeers {
         Ok(())
     }
 
+    /// Notes which generation of a stream each side has.
+    pub fn tell_generation(&mut self, id: u16) -> Result<(), SctpError> {
+        let left = self.left.generation(id);
+        let right = self.right.generation(id);
+        let line = format!(in self.alloc; "generation {left} {right}\n")?;
+        self.report.push_str(line.as_str())?;
+        Ok(())
+    }
+
     /// Shuts the association down at the left side.
     pub fn close(&mut self) -> Result<(), SctpError> {
         self.left.close()
     }
 
     /// What was noted, a line for each event.
-    pub fn into_report(self) -> String {
-        self.report
+    pub fn report(&self) -> &str {
+        self.report.as_str()
     }
 }
 
-// Hands over a moment that changes nothing.
-fn pass_time(side: &mut RtcSctp<PlainAssociation>) -> Result<(), SctpError> {
+fn hand_moment(side: &mut RtcSctp<PlainAssociation>, now: Moment) -> Result<(), SctpError> {
     let mut readiness = Readiness::armed();
     let mut wake = readiness.wake();
-    let handed = side.handle_timeout(Moment::FAR_PAST, &mut wake);
+    let handed = side.handle_timeout(now, &mut wake);
     readiness.fold(wake);
     handed?;
     Ok(())

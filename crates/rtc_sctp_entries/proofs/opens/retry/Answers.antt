@@ -1,10 +1,7 @@
-use Rattle.std.proofs.Common.{◌≡◌, true, rules}
-use Rattle.std.specs.Prelude.{nat_le}
-use Rattle.rtc_sctp_entries.specs.Visits.{opening_ends}
+use Rattle.std.proofs.Common.{◌∙◌, sym, true}
 use Rattle.rtc_sctp_entries.proofs.VisitLemmas.{retried_end}
 use Rattle.rtc_sctp_entries.proofs.opens.retry.Goals as goal
 
-pub returns-then-le : goal.returns-then-le
-returns-then-le g c =
-    let ended : nat_le (opening_ends c.in-Some.first) c.args.now ≡ true = search rules in
-    retried_end _ _ c.in-Some.first _ true _ _ _ c.in-Some.is ended c.close_entry.ensures
+pub returns-then-is_timed_out : goal.returns-then-is_timed_out
+returns-then-is_timed_out g c =
+    retried_end _ _ c.in-Some.first _ true _ _ _ c.in-Some.is (sym c.is_timed_out.ensures ∙ c.if-is_timed_out.true) c.close_entry.ensures

@@ -1,0 +1,35 @@
+-- Why the calls of streams are refused.
+use Rattle.std.specs.Prelude.{ℕ, ◌≡◌, ◌||◌, not, nat_lt, Bool, true, false, List, length, Option, Some, None, Result, Ok, Err}
+use Rattle.rtc_io.specs.Faults.{Rose}
+use Rattle.rtc_association.specs.AssociationMeaning.{AssociationMeaning}
+use Rattle.rtc_sctp.specs.declared.proto_error.ProtoError.TheVariants as proto
+use Rattle.rtc_sctp.specs.declared.sctp_error.SctpError.{SctpError}
+use Rattle.rtc_sctp.specs.declared.sctp_error.SctpError.TheVariants as sctp
+use Rattle.rtc_sctp.specs.Streams.{SctpStreams}
+use Rattle.rtc_sctp.specs.Calls.{can_write}
+
+-- a refusal, where its cause holds, and else what follows
+abbrev pub refusal_if : Bool → SctpError → Option SctpError → Option SctpError
+refusal_if true why next = Some why
+refusal_if false why next = next
+
+-- an answer where a call is to be refused so, and the count of faults of the device went from one number to another: out of memory
+-- may come at any time, and a fault where the count rose
+abbrev pub IsRefusedAs : {T : Type 0} → Option SctpError → (before after : ℕ) → Result T SctpError → Type 0
+IsRefusedAs due before after (Ok x) = due ≡ None
+IsRefusedAs due before after (Err (sctp.Proto proto.Fault)) = Rose before after
+IsRefusedAs due before after (Err sctp.Alloc) = Unit {0}
+IsRefusedAs due before after (Err why) = due ≡ Some why
+
+module _ {S : Type 0} (m : AssociationMeaning S) where
+  -- how a start is refused: where the association was started
+  abbrev pub refusal_of_start : SctpStreams S → Option SctpError
+  refusal_of_start p = refusal_if (m.started p.association) (sctp.Proto proto.Started) None
+
+  -- how a message is refused: where its stream takes none; where the association has no such stream, or this end closed it;
+  -- where it is longer than the other end takes
+  abbrev pub refusal_of_message : (id : ℕ) → List ℕ → SctpStreams S → Option SctpError
+  refusal_of_message id bytes p =
+      refusal_if (not (can_write m id p)) sctp.WriteBeforeEstablished
+      (refusal_if (not (m.has_stream p.association id) || m.closed_here p.association id) (sctp.Proto (proto.NoStream id))
+      (refusal_if (nat_lt (m.max_send p.association) (length bytes)) (sctp.Proto (proto.TooLong (length bytes) p.remote_max)) None))
