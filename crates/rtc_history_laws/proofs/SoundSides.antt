@@ -16,7 +16,7 @@ use Rattle.rtc_peer_state.specs.declared.peer.Peer.{Peer}
 use Rattle.rtc_peer_state.specs.declared.rtc_error.RtcError.{RtcError}
 use Rattle.rtc_peer_state.specs.declared.rtc_error.RtcError.TheVariants.{RemoteSdp, Sdp as SdpRefused, Dtls, ChangesOutOfOrder, BadChannel, Alloc as PeerAlloc}
 use Rattle.rtc_peer_state.specs.Acceptances.{AcceptsOffer, AcceptsAnswer}
-use Rattle.rtc_peer_state.specs.Calls.{ChangesLine, after_channels_alone}
+use Rattle.rtc_peer_state.specs.Calls.{raised, ChangesLine, after_channels_alone}
 use Rattle.rtc_peer_state.specs.Meanings.{Meanings, PartsLaws}
 use Rattle.rtc_history.specs.declared.side.Side.{Side}
 use Rattle.rtc_history.specs.declared.op.Op.{Op}
@@ -36,6 +36,7 @@ use Rattle.rtc_history.specs.Memory.{answers_lack, tells_fault, is_fault}
 use Rattle.rtc_history.specs.PairState.{kept_remote_sdp, held_token}
 use Rattle.rtc_history.specs.Performs.{PerformsOps, MakesOf, Negotiates, StepAcceptsOffer, StepAcceptsAnswer, Acts, lent}
 use Rattle.rtc_history.specs.SoundParts.{tells_refusal}
+use Rattle.rtc_peer_state.proofs.StoppedPeers.{stopped_dtls, stopped_media}
 use Rattle.rtc_history_laws.proofs.CountedFaults.{start_later, start_fault, stop_later}
 
 module _ {I D S M E X T W N : Type 0} (m : Meanings I D S M E X T W N) (laws : PartsLaws m) where
@@ -97,9 +98,9 @@ module _ {I D S M E X T W N : Type 0} (m : Meanings I D S M E X T W N) (laws : P
   offer_refused p q offer ChangesOutOfOrder h = absurd h
   offer_refused p q offer BadChannel h = absurd h
   offer_refused p q offer PeerAlloc h = record {
-    later = stop_later m.dtls laws.dtls p.dtls q.dtls _ _ h.dtls_stops;
+    later = stop_later m.dtls laws.dtls p.dtls q.dtls _ _ (stopped_dtls m (record p { counter = raised p.counter }) _ _ _ _ _ _ q h.stops);
     fault = λ told. absurd (cc);
-    media = λ told. h.media_kept;
+    media = λ told. stopped_media m laws.media (record p { counter = raised p.counter }) _ _ _ _ _ _ q h.stops;
   }
 
   answer_accepted : (p q : Peer I D S M N) (token : PendingOffer) (answer : Sdp) → AcceptsAnswer m p token answer (Ok tt) q → IsSoundOfSide p Finished q
@@ -118,9 +119,9 @@ module _ {I D S M E X T W N : Type 0} (m : Meanings I D S M E X T W N) (laws : P
   answer_refused p q token answer ChangesOutOfOrder h = refused p q ChangesOutOfOrder refl (ap (λ (r : Peer I D S M N). r.dtls) h.1) (ap (λ (r : Peer I D S M N). r.media) h.1)
   answer_refused p q token answer BadChannel h = absurd h
   answer_refused p q token answer PeerAlloc h = record {
-    later = stop_later m.dtls laws.dtls p.dtls q.dtls _ _ h.dtls_stops;
+    later = stop_later m.dtls laws.dtls p.dtls q.dtls _ _ (stopped_dtls m p _ _ _ _ _ _ q h.stops);
     fault = λ told. absurd (cc);
-    media = λ told. h.media_kept;
+    media = λ told. stopped_media m laws.media p _ _ _ _ _ _ q h.stops;
   }
 
   -- ---- ops
