@@ -41,6 +41,6 @@ module _ {I D S M E X T W N : Type 0} (m : Meanings I D S M E X T W N) where
         → q.ids ≡ ids_after_updates m p (is_offer asked) changes sdp drawn
         → m.media.prepared p.media (updates_for m p (is_offer asked) changes sdp drawn) (Ok tt) q.media
         → StopsMoving m.ice m.dtls m.association p.ice p.dtls p.sctp restart (creds_of sdp) (candidates_of sdp) control
-            (role_for (sdp_setup sdp)) (table_after p.lines (parsed_lines sdp) (is_offer asked)) (role_after p.dtls.active (sdp_setup sdp))
-            p.greatest (remote_limit (max_message_size_of sdp)) q.ice q.dtls q.sctp
+        (role_for (sdp_setup sdp)) (table_after p.lines (parsed_lines sdp) (is_offer asked)) (role_after p.dtls.active (sdp_setup sdp))
+        p.greatest (remote_limit (max_message_size_of sdp)) q.ice q.dtls q.sctp
         → StopsAccepting p asked changes sdp restart control drawn q
