@@ -1,5 +1,5 @@
 -- What an acceptance that ran out of memory leaves of the parts of a peer, wherever it stopped.
-use Rattle.std.proofs.Common.{◌≡◌, ◌⊎◌, inl, Bool, List, Option, Result, Ok, Err, ap}
+use Rattle.std.proofs.Common.{◌≡◌, ◌⊎◌, inl, inr, Bool, List, Option, Result, Ok, Err, ap}
 use Rattle.rtc_sdp_values.specs.Sdp.{sdp_setup}
 use Rattle.rtc_sdp_values.specs.declared.ice_creds.IceCreds.{IceCreds}
 use Rattle.rtc_sdp_values.specs.declared.sdp.Sdp.{Sdp}
@@ -78,11 +78,13 @@ module _ {I D S M E X T W N : Type 0} (m : Meanings I D S M E X T W N) where
   pub stopped_local : (p : Peer I D S M N) (asked : Option Asked) (changes : List Change) (sdp : Sdp)
       (restart : Option (IceCreds × Bool)) (control : Option Bool) (drawn : N) (q : Peer I D S M N)
       → StopsAccepting m p asked changes sdp restart control drawn q → q.dtls.local ≡ p.dtls.local
-  stopped_local p asked changes sdp restart control drawn q h =
-      elim (stopped_dtls p asked changes sdp restart control drawn q h) [
-        | inl same ↦ ap (λ d. d.local) same
-        | inr starts ↦ start_keeps_local m.dtls p.dtls q.dtls _ _ _ starts.0 starts.1
-      ]
+  stopped_local p asked changes sdp restart control drawn q h = by (stopped_dtls p asked changes sdp restart control drawn q h)
+    where
+      by : (q.dtls ≡ p.dtls)
+          ⊎ ((r : Result (Unit {0}) DtlsError) × StartsDtls m.dtls p.dtls p.dtls.active (role_for (sdp_setup sdp)) p.greatest r q.dtls)
+          → q.dtls.local ≡ p.dtls.local
+      by (inl same) = ap (λ d. d.local) same
+      by (inr starts) = start_keeps_local m.dtls p.dtls q.dtls _ _ _ starts.0 starts.1
 
   -- the lines of the media part and the sources in use stay
   pub stopped_media : MediaLaws m.media → (p : Peer I D S M N) (asked : Option Asked) (changes : List Change) (sdp : Sdp)
