@@ -12,14 +12,14 @@ returns-in-Ok-clause-others g c = begins_alone g.D.DtlsInstance.dtls c.args.dtls
 
 pub returns-in-Err-Fault-clause-begins : goal.returns-in-Err-Fault-clause-begins
 returns-in-Err-Fault-clause-begins g c =
-    begins_handshake g.D.DtlsInstance.dtls c.args.dtls.now c.handle_receive.new.self (Err Fault) (Ok tt) c.requires c.in-Err-Fault.ensures.taken refl
+    begins_handshake g.D.DtlsInstance.dtls c.args.dtls.now c.handle_receive.new.self (Err Fault) (Ok tt) c.requires (rw c.in-Err-Fault.field-0-is at c.in-Err-Fault.ensures.taken) refl
 
 pub returns-in-Err-Fault-clause-others : goal.returns-in-Err-Fault-clause-others
-returns-in-Err-Fault-clause-others g c = begins_alone g.D.DtlsInstance.dtls c.args.dtls.now c.handle_receive.new.self (Err Fault) c.requires c.in-Err-Fault.ensures.taken
+returns-in-Err-Fault-clause-others g c = begins_alone g.D.DtlsInstance.dtls c.args.dtls.now c.handle_receive.new.self (Err Fault) c.requires (rw c.in-Err-Fault.field-0-is at c.in-Err-Fault.ensures.taken)
 
 pub returns-in-Err-Alloc-clause-begins : goal.returns-in-Err-Alloc-clause-begins
 returns-in-Err-Alloc-clause-begins g c =
-    begins_handshake g.D.DtlsInstance.dtls c.args.dtls.now c.handle_receive.new.self (Err Alloc) (Err Alloc) c.requires c.in-Err-Alloc.ensures.taken refl
+    begins_handshake g.D.DtlsInstance.dtls c.args.dtls.now c.handle_receive.new.self (Err Alloc) (Err Alloc) c.requires (rw c.in-Err-Alloc.field-0-is at c.in-Err-Alloc.ensures.taken) refl
 
 pub returns-in-Err-Alloc-clause-others : goal.returns-in-Err-Alloc-clause-others
-returns-in-Err-Alloc-clause-others g c = begins_alone g.D.DtlsInstance.dtls c.args.dtls.now c.handle_receive.new.self (Err Alloc) c.requires c.in-Err-Alloc.ensures.taken
+returns-in-Err-Alloc-clause-others g c = begins_alone g.D.DtlsInstance.dtls c.args.dtls.now c.handle_receive.new.self (Err Alloc) c.requires (rw c.in-Err-Alloc.field-0-is at c.in-Err-Alloc.ensures.taken)
