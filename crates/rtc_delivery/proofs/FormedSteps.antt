@@ -12,7 +12,7 @@ use Rattle.rtc_tables.proofs.RowChangeLemmas.{directed_row_keeps, stopped_row_ke
 use Rattle.rtc_peer_state.specs.Stance.{Stance}
 use Rattle.rtc_peer_state.specs.Meanings.{Meanings, PartsLaws}
 use Rattle.rtc_peer_state.specs.declared.rtc_error.RtcError.TheVariants.{BadChannel, Alloc as PeerAlloc}
-use Rattle.rtc_peer_state.specs.Formed.{IsFormed, RestartTokens}
+use Rattle.rtc_peer_state.specs.Formed.{IsFormed, RestartWords}
 use Rattle.rtc_peer_state.proofs.Alls.{all-append}
 use Rattle.rtc_delivery.proofs.PlainSdps.{offer_plain, answer_plain, plain_names_tokens}
 use Rattle.rtc_peer_state.proofs.FormedStances.{lent_formed, adds_media_formed, adds_channel_formed, changes_line_formed, stages_restart_formed, applies_formed, made_tokens, offered_formed, answered_formed}
@@ -47,7 +47,7 @@ use Rattle.rtc_history_laws.proofs.StanceRuns.{StanceReached, StanceRan, ran_sta
 -- one that is plain, whose token restarts ICE with credentials that are tokens, if at all
 pub record IsPlainKept (kept : Kept) : Type 0 where
   pub plain : IsPlain kept.sdp
-  pub restarts : IfSome kept.token (λ token. RestartTokens token.changes)
+  pub restarts : IfSome kept.token (λ token. RestartWords token.changes)
 
 abbrev pub ArePlain : List Kept → Type 0
 ArePlain sdps = AllByRecursion IsPlainKept sdps
@@ -94,14 +94,14 @@ push_plain : (sdps sdps' : List Kept) (last : Kept) → sdps' ≡ sdps ++ last �
 push_plain sdps sdps' last pushed whole plain = rw pushed (all-append IsPlainKept sdps (last ∷ []) plain (whole, tt))
 
 -- the token that a side holds
-token_restarts : (sdps : List Kept) (at : Side) (t : ℕ) → ArePlain sdps → IfSome (held_token sdps at t) (λ token. RestartTokens token.changes)
+token_restarts : (sdps : List Kept) (at : Side) (t : ℕ) → ArePlain sdps → IfSome (held_token sdps at t) (λ token. RestartWords token.changes)
 token_restarts sdps at t plain = by (slice_get sdps t) refl
   where
-    picked : (b : Bool) (kept : Kept) → IsPlainKept kept → IfSome (cond b kept.token None) (λ token. RestartTokens token.changes)
+    picked : (b : Bool) (kept : Kept) → IsPlainKept kept → IfSome (cond b kept.token None) (λ token. RestartWords token.changes)
     picked true kept is = is.restarts
     picked false kept is = tt
 
-    by : (found : Option Kept) → slice_get sdps t ≡ found → IfSome (token_for at found) (λ token. RestartTokens token.changes)
+    by : (found : Option Kept) → slice_get sdps t ≡ found → IfSome (token_for at found) (λ token. RestartWords token.changes)
     by None there = tt
     by (Some kept) there = picked (same_side kept.at at) kept (all-get IsPlainKept sdps t kept there plain)
 
@@ -157,7 +157,7 @@ offer_formed at (Some sdp) old new kept kept' (Refused error) (Some table) h who
 offer_formed at offer old new kept kept' outcome table h whole formed plain = absurd h
 
 answer_formed : (t : ℕ) (token : Option PendingOffer) (answer : Option Sdp) (old new : Stance) (kept kept' : List Kept) (outcome : Outcome) (table : Option Table)
-    → StanceStepAcceptsAnswer t token answer old kept outcome table new kept' → ((sdp : Sdp) → answer ≡ Some sdp → IsPlain sdp) → IfSome token (λ one. RestartTokens one.changes) → IsFormed old → ArePlain kept → IsFormed new × ArePlain kept'
+    → StanceStepAcceptsAnswer t token answer old kept outcome table new kept' → ((sdp : Sdp) → answer ≡ Some sdp → IsPlain sdp) → IfSome token (λ one. RestartWords one.changes) → IsFormed old → ArePlain kept → IsFormed new × ArePlain kept'
 answer_formed t None None old new kept kept' Alloc None h whole restarts formed plain = (rw h.peer formed, rw h.sdps_kept plain)
 answer_formed t None (Some sdp) old new kept kept' Alloc None h whole restarts formed plain = (rw h.peer formed, rw h.sdps_kept plain)
 answer_formed t (Some token) None old new kept kept' Alloc None h whole restarts formed plain = (rw h.peer formed, rw h.sdps_kept plain)

@@ -1,12 +1,10 @@
 -- What formed peers make is plain.
 use Rattle.std.proofs.Common.{◌≡◌, ◌<◌, ◌≤◌, ◌^◌, ℕ, Bool, true, false, ltb, List, [], ◌∷◌, map, length, Option, Some, None, refl, sym, ◌∙◌, ap, arith}
 use Rattle.std.specs.Prelude.{IfSome}
-use Rattle.std.specs.List.{AllByRecursion, list_all}
-use Rattle.std.proofs.lemmas.Bool.{le-leb}
+use Rattle.std.specs.List.{AllByRecursion}
+use Rattle.std.proofs.lemmas.Bool.{le-leb, lt-ltb}
 use Rattle.rtc_fields.specs.Cuts.{Lacks}
-use Rattle.rtc_fields.specs.Tokens.{is_token, is_token_byte, is_short_token}
-use Rattle.rtc_fields.proofs.CutLemmas.{token_lacks, no_token_byte}
-use Rattle.rtc_fields.proofs.TokenLemmas.{both}
+use Rattle.rtc_fields.specs.Tokens.{is_short_token}
 use Rattle.rtc_sdp_values.specs.LineRow.{row_mid}
 use Rattle.rtc_sdp_values.specs.declared.direction.Direction.{Direction}
 use Rattle.rtc_sdp_values.specs.declared.fingerprint.Fingerprint.{Fingerprint}
@@ -32,7 +30,7 @@ use Rattle.rtc_change.specs.TableAfter.{table_after}
 use Rattle.rtc_peer_state.specs.declared.sdp_head.SdpHead.{SdpHead}
 use Rattle.rtc_peer_state.proofs.FormedHeads.{IsFormedHead, offer_head_formed, answer_head_formed}
 use Rattle.rtc_peer_state.specs.Stance.{Stance}
-use Rattle.rtc_peer_state.specs.Formed.{AreTokenCreds, IsSha256, IsHostCandidate, HaveTokens, IsFormed}
+use Rattle.rtc_peer_state.specs.Formed.{IsSdpWord, AreSdpCreds, IsSha256, IsHostCandidate, HaveTokens, IsFormed}
 use Rattle.rtc_peer_state.specs.MadeSdp.{is_stopped, row_line, live_mids, with_candidates, sdp_of_rows, offer_head, offered_rows, answer_head, offer_sdp, answer_sdp}
 use Rattle.rtc_peer_state.proofs.Alls.{all-append, all-map}
 use Rattle.rtc_peer_state.proofs.TokenTables.{NameTokens, added_tokens, table_after_tokens}
@@ -43,17 +41,17 @@ lacks_spaceless : (text : List ℕ) → Lacks 32 text → is_spaceless text ≡ 
 lacks_spaceless [] lacks = refl
 lacks_spaceless (byte ∷ text) lacks = rw lacks.0 (lacks_spaceless text lacks.1)
 
-token_word : (most : ℕ) (text : List ℕ) → is_token text ≡ true → length text ≤ most → is_word_up_to most text ≡ true
-token_word most text token few =
-    let some : ltb 0 (length text) ≡ true = (both (ltb 0 (length text)) (list_all is_token_byte text) token).0 in
-    rw (some, le-leb (length text) most few) (lacks_spaceless text (token_lacks 32 (no_token_byte 32 (omega arith)) text token))
+word_form : (most : ℕ) (text : List ℕ) → IsSdpWord most text → is_word_up_to most text ≡ true
+word_form most text word =
+    let some : ltb 0 (length text) ≡ true = lt-ltb 0 (length text) word.some in
+    rw (some, le-leb (length text) most word.size) (lacks_spaceless text word.space)
 
-creds_plain : (creds : IceCreds) → AreTokenCreds creds → IsPlainCreds creds
-creds_plain creds tokens = record {
-  ufrag = token_word 255 creds.ufrag tokens.ufrag tokens.ufrag_size;
-  ufrag_line = token_lacks 10 (no_token_byte 10 (omega arith)) creds.ufrag tokens.ufrag;
-  pass = token_word 256 creds.pass tokens.pass tokens.pass_size;
-  pass_line = token_lacks 10 (no_token_byte 10 (omega arith)) creds.pass tokens.pass;
+creds_plain : (creds : IceCreds) → AreSdpCreds creds → IsPlainCreds creds
+creds_plain creds words = record {
+  ufrag = word_form 255 creds.ufrag words.ufrag;
+  ufrag_line = words.ufrag.line;
+  pass = word_form 256 creds.pass words.pass;
+  pass_line = words.pass.line;
 }
 
 hash_plain : (fingerprint : Fingerprint) → IsSha256 fingerprint → IsPlainHash fingerprint
@@ -277,7 +275,7 @@ offer_plain s formed =
     (all-append (λ row. is_short_token (row_mid row) ≡ true) s.lines (added_rows (length s.lines) s.staged) formed.rows (added_tokens (length s.lines) s.staged formed.staged))
 
 -- The answer of a formed peer to a plain offer is plain, also where it follows a restart.
-pub answer_plain : (s : Stance) (restart : Option (IceCreds × Bool)) (offer : Sdp) → IfSome restart (λ r. AreTokenCreds r.0) → IsFormed s → IsPlain offer → IsPlain (answer_sdp s restart offer)
+pub answer_plain : (s : Stance) (restart : Option (IceCreds × Bool)) (offer : Sdp) → IfSome restart (λ r. AreSdpCreds r.0) → IsFormed s → IsPlain offer → IsPlain (answer_sdp s restart offer)
 unfolding answer_sdp
 answer_plain s restart offer tokens formed plain =
     sdp_plain (answer_head s restart offer) (table_after s.lines (parsed_lines offer) true) (answer_head_formed s restart offer tokens formed)

@@ -1,5 +1,5 @@
 -- Which replies tell that memory ran out, and which that a part failed.
-use Rattle.std.specs.Prelude.{Bool, true, false, ◌||◌, List}
+use Rattle.std.specs.Prelude.{Bool, true, false, not, ◌||◌, List}
 use Rattle.std.specs.List.{list_any}
 use Rattle.rtc_peer_state.specs.declared.rtc_error.RtcError.{RtcError}
 use Rattle.rtc_peer_state.specs.declared.rtc_error.RtcError.TheVariants.{RemoteSdp, Sdp, Dtls, Sctp, ChangesOutOfOrder, BadChannel}
@@ -51,23 +51,40 @@ outcome_lacks Alloc = true
 abbrev pub lacks_memory : Reply → Bool
 lacks_memory reply = outcome_lacks reply.outcome
 
+-- the parts of a peer that count their faults
+pub data CountedPart : Type 0 where
+  DtlsPart : CountedPart
+  AssociationPart : CountedPart
+
+abbrev pub is_dtls_part : CountedPart → Bool
+is_dtls_part DtlsPart = true
+is_dtls_part AssociationPart = false
+
+-- whether an error tells that this part failed
+abbrev pub is_fault_of : RtcError → CountedPart → Bool
+is_fault_of (RemoteSdp why) part = false
+is_fault_of (Sdp error) part = false
+is_fault_of (Dtls error) part = is_dtls_part part
+is_fault_of (Sctp error) part = not (is_dtls_part part)
+is_fault_of ChangesOutOfOrder part = false
+is_fault_of BadChannel part = false
+is_fault_of PeerAlloc part = false
+
 abbrev pub is_fault : RtcError → Bool
-is_fault (RemoteSdp why) = false
-is_fault (Sdp error) = false
-is_fault (Dtls error) = true
-is_fault (Sctp error) = true
-is_fault ChangesOutOfOrder = false
-is_fault BadChannel = false
-is_fault PeerAlloc = false
+is_fault error = is_fault_of error DtlsPart || is_fault_of error AssociationPart
+
+-- whether this part failed
+abbrev pub tells_fault_of : Outcome → CountedPart → Bool
+tells_fault_of (Negotiated answers made) part = false
+tells_fault_of (Answered k) part = false
+tells_fault_of Finished part = false
+tells_fault_of (Refused error) part = is_fault_of error part
+tells_fault_of NoSuch part = false
+tells_fault_of Alloc part = false
 
 -- whether a part failed
 abbrev pub tells_fault : Outcome → Bool
-tells_fault (Negotiated answers made) = false
-tells_fault (Answered k) = false
-tells_fault Finished = false
-tells_fault (Refused error) = is_fault error
-tells_fault NoSuch = false
-tells_fault Alloc = false
+tells_fault outcome = tells_fault_of outcome DtlsPart || tells_fault_of outcome AssociationPart
 
 -- whether one of these replies tells that a part failed
 abbrev pub tell_fault : List Reply → Bool

@@ -2,11 +2,12 @@
 use Rattle.std.specs.Prelude.{◌≡◌, ◌≤◌, ℕ, Bool, true, false}
 use Rattle.rtc_io.specs.Faults.{Rose}
 use Rattle.rtc_media.specs.MediaLaws.{SameLines}
+use Rattle.rtc_peer_state.specs.declared.peer.Peer.{Peer}
 use Rattle.rtc_peer_state.specs.Meanings.{Meanings}
 use Rattle.rtc_history.specs.declared.side.Side.{Side}
 use Rattle.rtc_history.specs.declared.outcome.Outcome.{Outcome}
 use Rattle.rtc_history.specs.declared.outcome.Outcome.TheVariants.{Negotiated, Answered, Finished, Refused, NoSuch, Alloc}
-use Rattle.rtc_history.specs.Memory.{tells_fault}
+use Rattle.rtc_history.specs.Memory.{CountedPart, DtlsPart, AssociationPart, tells_fault_of}
 use Rattle.rtc_history.specs.Past.{Entry}
 use Rattle.rtc_history.specs.PairState.{PairState, peer_at}
 use Rattle.rtc_history.specs.Sides.{side_of}
@@ -21,18 +22,22 @@ tells_refusal NoSuch = false
 tells_refusal Alloc = false
 
 module _ {I D S M E X T W N : Type 0} (m : Meanings I D S M E X T W N) where
-  -- how often the DTLS part of a side failed
-  abbrev pub dtls_faults : Side → PairState I D S M N → ℕ
-  dtls_faults at pair = m.dtls.faults (peer_at at pair).dtls.instance
+  -- how often this part of a peer failed
+  abbrev pub faults_of : CountedPart → Peer I D S M N → ℕ
+  faults_of DtlsPart p = m.dtls.faults p.dtls.instance
+  faults_of AssociationPart p = m.association.faults p.sctp.association
 
-  -- the DTLS part of a side failed between two pairs
-  abbrev pub CountsFault : Side → PairState I D S M N → PairState I D S M N → Type 0
-  CountsFault at before after = Rose (dtls_faults at before) (dtls_faults at after)
+  abbrev pub faults_at : CountedPart → Side → PairState I D S M N → ℕ
+  faults_at part at pair = faults_of part (peer_at at pair)
 
-  -- No count of faults falls, and a reply tells a fault only where the DTLS part of the acting side failed in this step. A side that
+  -- this part of a side failed between two pairs
+  abbrev pub CountsFault : CountedPart → Side → PairState I D S M N → PairState I D S M N → Type 0
+  CountsFault part at before after = Rose (faults_at part at before) (faults_at part at after)
+
+  -- No count of faults falls, and a reply tells a fault only where that part of the acting side failed in this step. A side that
   -- refuses, for whatever cause, leaves the lines of its media part, and the sources that are in use.
   pub record IsSoundOfParts (between : PairState I D S M N) (entry : Entry) (after : PairState I D S M N) : Type 0 where
-    pub later : (at : Side) → dtls_faults at between ≤ dtls_faults at after
-    pub fault : tells_fault entry.outcome ≡ true → CountsFault (side_of entry.step) between after
+    pub later : (part : CountedPart) (at : Side) → faults_at part at between ≤ faults_at part at after
+    pub fault : (part : CountedPart) → tells_fault_of entry.outcome part ≡ true → CountsFault part (side_of entry.step) between after
     pub media : tells_refusal entry.outcome ≡ true
         → SameLines m.media (peer_at (side_of entry.step) between).media (peer_at (side_of entry.step) after).media

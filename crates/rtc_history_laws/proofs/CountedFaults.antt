@@ -1,5 +1,5 @@
--- The count of faults of a DTLS part never falls as its peer starts it, and rises where that tells a fault.
-use Rattle.std.proofs.Common.{◌≡◌, ◌≤◌, ◌+◌, ◌-◌, ◌^◌, ◌⊎◌, inl, inr, ℕ, Bool, true, false, [], Option, Some, None, Result, Ok, Err, sym, ap, subst, arith}
+-- The count of faults of a DTLS part or an association never falls as its peer starts it, and rises where that tells a fault.
+use Rattle.std.proofs.Common.{◌≡◌, ◌≤◌, ◌+◌, ◌-◌, ◌^◌, ◌⊎◌, inl, inr, ℕ, Bool, true, false, List, [], Option, Some, None, Result, Ok, Err, sym, ap, subst, arith}
 use Rattle.std.specs.Prelude.{min}
 use Rattle.rtc_io.specs.Faults.{Rose}
 use Rattle.rtc_dtls.specs.declared.dtls_error.DtlsError.{DtlsError}
@@ -8,7 +8,34 @@ use Rattle.rtc_dtls.specs.DtlsActs.{Given, Stirred, Activated, TimedAt}
 use Rattle.rtc_dtls.specs.DtlsLaws.{DtlsLaws, DtlsAnswered}
 use Rattle.rtc_dtls.specs.DtlsMeaning.{DtlsMeaning}
 use Rattle.rtc_dtls.specs.DtlsState.{DtlsState}
+use Rattle.rtc_sdp_values.specs.declared.line_row.LineRow.{LineRow}
+use Rattle.rtc_parts_values.specs.Why.{Other}
+use Rattle.rtc_association.specs.declared.assoc_error.AssocError.{AssocError}
+use Rattle.rtc_association.specs.declared.assoc_error.AssocError.TheVariants as assoc
+use Rattle.rtc_association.specs.AssociationActs.{Started, Stirred as AssociationStirred, ByConnect, ByAccept, ConnectRefused, AcceptRefused}
+use Rattle.rtc_association.specs.AssociationLaws.{AssociationLaws}
+use Rattle.rtc_association.specs.AssociationMeaning.{AssociationMeaning}
+use Rattle.rtc_association.specs.AssociationNeeds.{Answered}
+use Rattle.rtc_sctp_entries.specs.declared.asked.Asked.TheVariants as did
+use Rattle.rtc_sctp_entries.specs.Answers.{asked_of}
+use Rattle.rtc_sctp_entries.specs.Part.{StartedAs}
+use Rattle.rtc_sctp.specs.Calls.{Inits}
+use Rattle.rtc_sctp.specs.Streams.{SctpStreams}
+use Rattle.rtc_sctp.specs.declared.proto_error.ProtoError.TheVariants as proto
+use Rattle.rtc_sctp.specs.declared.sctp_error.SctpError.{SctpError}
+use Rattle.rtc_sctp.specs.declared.sctp_error.SctpError.TheVariants as sctp
 use Rattle.rtc_peer_state.specs.PartMoves.{begun_answer, BeginsHandshake, BeginsTimed, TakesRole, StartsDtls}
+use Rattle.rtc_history.specs.Memory.{CountedPart, DtlsPart, AssociationPart}
+use Rattle.rtc_peer_state.specs.PartMoves.{needs_start, StartsWhere, StartsSctp}
+
+-- what holds of both parts that count their faults
+pub by_part : (P : CountedPart → Type 0) → P DtlsPart → P AssociationPart → (part : CountedPart) → P part
+by_part P dtls association DtlsPart = dtls
+by_part P dtls association AssociationPart = association
+
+-- an equal count did not fall
+pub equal_below : (before after : ℕ) → after ≡ before → before ≤ after
+equal_below before after same = omega (arith, same)
 
 -- a count that rose between two moments rose from an earlier one to a later one
 pub rose_along : (a b c d : ℕ) → a ≤ b → Rose b c → c ≤ d → Rose a d
@@ -74,3 +101,68 @@ module _ {D : Type 0} (dtls : DtlsMeaning D) (laws : DtlsLaws dtls) where
       → dtls.faults p.instance ≤ dtls.faults q.instance
   stop_later p q active now (inl same) = same_faults p.instance q.instance (ap (λ (d : DtlsState D). d.instance) same)
   stop_later p q active now (inr starts) = start_later p q p.active active now starts.0 starts.1
+
+-- ---- the association
+
+-- a start that is refused tells a fault, since nothing else refuses it
+answered_fault : (before after : ℕ) (r : Result (Unit {0}) AssocError) → asked_of r ≡ did.Refused → Answered None before after r → Rose before after
+answered_fault before after (Ok done) is h = absurd (cc)
+answered_fault before after (Err assoc.StreamExists) is h = absurd (let e = h.0 in cc)
+answered_fault before after (Err assoc.ResetPending) is h = absurd (let e = h.0 in cc)
+answered_fault before after (Err assoc.NoStream) is h = absurd (let e = h.0 in cc)
+answered_fault before after (Err assoc.TooLong) is h = absurd (let e = h.0 in cc)
+answered_fault before after (Err assoc.Closing) is h = absurd (let e = h.0 in cc)
+answered_fault before after (Err assoc.Fault) is h = h
+answered_fault before after (Err assoc.Alloc) is h = absurd (cc)
+
+module _ {S : Type 0} (association : AssociationMeaning S) (laws : AssociationLaws association) where
+  started_later : (client : Bool) (p q : S) (now max : ℕ) (r : Result (Unit {0}) AssocError) → association.started p ≡ false
+      → StartedAs association client p now max r q → association.faults p ≤ association.faults q
+  started_later true p q now max (Ok done) fresh h = laws.faults_rise p q Started (fresh, ByConnect now max h)
+  started_later true p q now max (Err error) fresh h = laws.faults_rise p q (AssociationStirred Other) (ConnectRefused now max error fresh h)
+  started_later false p q now max (Ok done) fresh h = laws.faults_rise p q Started (fresh, ByAccept now max h)
+  started_later false p q now max (Err error) fresh h = laws.faults_rise p q (AssociationStirred Other) (AcceptRefused now max error fresh h)
+
+  started_fault : (client : Bool) (p q : S) (now max : ℕ) (r : Result (Unit {0}) AssocError) → asked_of r ≡ did.Refused
+      → StartedAs association client p now max r q → Rose (association.faults p) (association.faults q)
+  started_fault true p q now max r is h = answered_fault (association.faults p) (association.faults q) r is (laws.connect_answer p q now max r h)
+  started_fault false p q now max r is h = answered_fault (association.faults p) (association.faults q) r is (laws.accept_answer p q now max r h)
+
+  same_association : (p q : SctpStreams S) → q ≡ p → association.faults p.association ≤ association.faults q.association
+  same_association p q same =
+      let e : association.faults q.association ≡ association.faults p.association = ap (λ (s : SctpStreams S). association.faults s.association) same in omega arith
+
+  inits_later : (client : Bool) (now max : ℕ) (p : SctpStreams S) (r : Result (Unit {0}) SctpError) (q : SctpStreams S) → Inits association client now max p r q
+      → association.faults p.association ≤ association.faults q.association
+  inits_later client now max p (Ok done) q h = started_later client p.association q.association now max h.1.result h.0 h.1.called
+  inits_later client now max p (Err (sctp.Proto proto.Started)) q h = same_association p q h.1
+  inits_later client now max p (Err (sctp.Proto proto.Fault)) q h = started_later client p.association q.association now max h.1.result h.0 h.1.called
+  inits_later client now max p (Err sctp.Alloc) q h = started_later client p.association q.association now max h.1.result h.0 h.1.called
+  inits_later client now max p (Err error) q h = absurd h
+
+  where_later : (needed : Bool) (p : SctpStreams S) (client : Bool) (now max : ℕ) (r : Result (Unit {0}) SctpError) (q : SctpStreams S)
+      → StartsWhere association needed p client now max r q → association.faults p.association ≤ association.faults q.association
+  where_later false p client now max r q h = same_association p q h.1
+  where_later true p client now max r q h = inits_later client now max p r q h
+
+  where_fault : (needed : Bool) (p : SctpStreams S) (client : Bool) (now max : ℕ) (q : SctpStreams S)
+      → StartsWhere association needed p client now max (Err (sctp.Proto proto.Fault)) q → Rose (association.faults p.association) (association.faults q.association)
+  where_fault false p client now max q h = absurd (let e = h.0 in cc)
+  where_fault true p client now max q h = started_fault client p.association q.association now max h.1.result h.1.is h.1.called
+
+  -- the count never falls
+  pub sctp_later : (p q : SctpStreams S) (rows : List LineRow) (client : Bool) (now max : ℕ) (r : Result (Unit {0}) SctpError)
+      → StartsSctp association p rows client now max r q → association.faults p.association ≤ association.faults q.association
+  sctp_later p q rows client now max r h = where_later (needs_start association rows p) p client now max r q h
+
+  -- a fault is told only where the count rose
+  pub sctp_fault : (p q : SctpStreams S) (rows : List LineRow) (client : Bool) (now max : ℕ)
+      → StartsSctp association p rows client now max (Err (sctp.Proto proto.Fault)) q → Rose (association.faults p.association) (association.faults q.association)
+  sctp_fault p q rows client now max h = where_fault (needs_start association rows p) p client now max q h
+
+  -- the count never falls where memory lacks
+  pub sctp_stop_later : (p q : SctpStreams S) (rows : List LineRow) (client : Bool) (now max : ℕ)
+      → (q ≡ p) ⊎ ((r : Result (Unit {0}) SctpError) × StartsSctp association p rows client now max r q)
+      → association.faults p.association ≤ association.faults q.association
+  sctp_stop_later p q rows client now max (inl same) = same_association p q same
+  sctp_stop_later p q rows client now max (inr starts) = sctp_later p q rows client now max starts.0 starts.1

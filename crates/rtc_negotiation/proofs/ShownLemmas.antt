@@ -3,7 +3,7 @@ use Rattle.std.proofs.Common.{◌≡◌, ℕ, List, [], ◌∷◌, map, refl, ap
 use Rattle.std.specs.List.{slice_get}
 use Rattle.std.proofs.lemmas.Option.{slice_get-map}
 use Rattle.rtc_channels.specs.declared.channel_row.ChannelRow.{ChannelRow}
-use Rattle.rtc_channels.specs.Channels.{Channel, Channels, numbered_stream, channel_row, channel_rows}
+use Rattle.rtc_channels.specs.Channels.{Channel, numbered_stream, channel_row}
 use Rattle.rtc_negotiation.specs.ShownChannels.{shown_row}
 
 pub shown_rows : (rows : List Channel) → map shown_row (map numbered_stream rows) ≡ map channel_row rows

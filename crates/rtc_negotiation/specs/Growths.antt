@@ -1,5 +1,5 @@
 -- What an acceptance makes ready before the ICE agent and the DTLS part are touched.
-use Rattle.std.specs.Prelude.{◌≡◌, ℕ, Bool, true, false, List, [], Option, Some, None, Result, Ok, Err}
+use Rattle.std.specs.Prelude.{◌≡◌, Bool, true, false, List, [], Option, Some, None, Result, Ok, Err}
 use Rattle.std.specs.Option.{option_or}
 use Rattle.std.specs.declared.alloc.AllocError.{AllocError}
 use Rattle.rtc_sdp_values.specs.Sdp.{creds_of, candidates_of, sdp_fingerprint}

@@ -6,7 +6,7 @@ ghost use Rattle.rtc_peer_state.specs.declared.phase.Phase.TheVariants.{Closed};
 ghost use Rattle.rtc_peer_state.specs.Acceptances.{AcceptsOffer, AcceptsAnswer};
 ghost use Rattle.rtc_peer_state.specs.Calls.{AddsMedia, AddsChannel, StagesRestart, SetsDirection, StopsMedia, Applies};
 ghost use Rattle.rtc_peer_state.specs.Built.{AreFresh, Builds};
-ghost use Rattle.rtc_peer_state.specs.Formed.{AreTokenCreds, IsFormed};
+ghost use Rattle.rtc_peer_state.specs.Formed.{AreSdpCreds, IsFormed};
 ghost use Rattle.rtc_peer_state.specs.Meanings.{meanings};
 ghost use Rattle.rtc_peer_state.specs.Stance.{stance_of};
 ghost use Rattle.rtc_peer.specs.Described.{sdp_of_answer, sdp_of_offer};
@@ -86,7 +86,7 @@ impl<
         requires fresh { AreFresh (meanings I.ice D.dtls S.association M.media N.ids) ice dtls association media }
         ensures built { IfOk result (λ rtc. Builds (meanings I.ice D.dtls S.association M.media N.ids)
             alloc config start ice dtls association media ids rtc.core) }
-        ensures formed { IfOk result (λ rtc. IfSome config.creds AreTokenCreds
+        ensures formed { IfOk result (λ rtc. IfSome config.creds AreSdpCreds
             → IsFormed (stance_of (meanings I.ice D.dtls S.association M.media N.ids) rtc.core)) }
     {
         let core = build_peer(alloc, config, start, ice, dtls, association, media, ids)?;

@@ -1,5 +1,5 @@
 -- The peer that is built is formed.
-use Rattle.std.proofs.Common.{◌≡◌, ◌/◌, ◌%◌, ◌<◌, ◌^◌, ltb, ℕ, zero, suc, true, List, [], ◌∷◌, ◌++◌, length, refl, subst, arith, length-append}
+use Rattle.std.proofs.Common.{◌≡◌, ◌/◌, ◌%◌, ◌<◌, ◌≤◌, ◌^◌, ltb, ℕ, zero, suc, true, List, [], ◌∷◌, ◌++◌, length, refl, subst, arith, length-append}
 use Rattle.std.specs.List.{AllByRecursion, list_all}
 use Rattle.std.specs.Int.{to_be_bytes, bytes_high_first, byte_at, w32}
 use Rattle.std.specs.Prelude.{slice_index}
@@ -9,6 +9,7 @@ use Rattle.sha2.specs.Sha256.{sha256, digest_bytes, final_hash, initial_hash_256
 use Rattle.sha2.proofs.Facts256.{length-sha256}
 use Rattle.std.proofs.lemmas.Bool.Decides.{nat_tests}
 use Rattle.rtc_fields.specs.Tokens.{is_token_byte, is_token}
+use Rattle.rtc_fields.proofs.CutLemmas.{token_lacks, no_token_byte}
 use Rattle.rtc_peer_state.specs.declared.peer.Peer.{Peer}
 use Rattle.std.specs.Prelude.{codes, IfSome, Option, None, Some}
 use Rattle.rtc_sdp_values.specs.Fingerprint.{certificate_fingerprint}
@@ -20,7 +21,7 @@ use Rattle.rtc_peer_state.specs.Meanings.{Meanings, PartsLaws}
 use Rattle.rtc_peer_state.specs.Stance.{stance_of}
 use Rattle.rtc_peer_state.specs.Config.{Config}
 use Rattle.rtc_ids.specs.Draws.{Draws}
-use Rattle.rtc_peer_state.specs.Formed.{AreTokenCreds, IsSha256, IsFormed}
+use Rattle.rtc_peer_state.specs.Formed.{IsSdpWord, AreSdpCreds, IsSha256, IsFormed}
 use Rattle.rtc_peer_state.proofs.Alls.{all-append, all_token}
 
 -- ---- credentials: letters and digits
@@ -37,24 +38,29 @@ length-hex_digits : (count n : ℕ) → length (hex_digits count n) ≡ count
 length-hex_digits zero n = refl
 length-hex_digits (suc count) n = omega (arith, length-append (hex_digits count (n / 16)) (lower_hex_digit (n % 16) ∷ []), length-hex_digits count (n / 16))
 
-token_from : (text : List ℕ) → 0 < length text → list_all is_token_byte text ≡ true → is_token text ≡ true
-token_from text some bytes =
+-- token bytes make a word
+token_word : (most : ℕ) (text : List ℕ) → 0 < length text → length text ≤ most → list_all is_token_byte text ≡ true → IsSdpWord most text
+token_word most text some size bytes =
     let a : ltb 0 (length text) ≡ true = lt-ltb 0 (length text) some in
-    rw (a, bytes) refl
+    let token : is_token text ≡ true = rw (a, bytes) refl in
+    record {
+      some = some;
+      size = size;
+      space = token_lacks 32 (no_token_byte 32 (omega arith)) text token;
+      line = token_lacks 10 (no_token_byte 10 (omega arith)) text token;
+    }
 
 -- the credentials of a draw
-pub drawn_creds_token : (n : ℕ) → AreTokenCreds (drawn_creds n)
+pub drawn_creds_words : (n : ℕ) → AreSdpCreds (drawn_creds n)
 unfolding drawn_creds
-drawn_creds_token n =
+drawn_creds_words n =
     let digits : List ℕ = hex_digits 16 n in
     let bytes : list_all is_token_byte digits ≡ true = hex_digits_are_token 16 n in
     let count : length digits ≡ 16 = length-hex_digits 16 n in
     let twice : length (digits ++ digits) ≡ 32 = omega (arith, length-append digits digits) in
     record {
-      ufrag = token_from (117 ∷ digits) (omega arith) bytes;
-      ufrag_size = omega arith;
-      pass = token_from (digits ++ digits) (omega arith) (all_token digits digits bytes bytes);
-      pass_size = omega arith;
+      ufrag = token_word 255 (117 ∷ digits) (omega arith) (omega arith) bytes;
+      pass = token_word 256 (digits ++ digits) (omega arith) (omega arith) (all_token digits digits bytes bytes);
     }
 
 -- ---- fingerprints: bytes of a digest
@@ -82,22 +88,22 @@ fingerprint_by_sha256 cert made is =
     let same : (let by : Fingerprint = record { hash_func = codes "sha-256"; bytes = sha256 cert } in by) ≡ made = cc in
     subst IsSha256 same (record { name = refl; size = length-sha256 cert; bytes = sha256_small cert })
 
--- credentials that are set are tokens, and so are drawn ones
-creds_are_tokens : {N : Type 0} (draws : Draws N) (set : Option IceCreds) (ids : N) → IfSome set AreTokenCreds → AreTokenCreds (creds_or draws set ids)
-creds_are_tokens draws None ids h = drawn_creds_token (draws.drawn ids)
-creds_are_tokens draws (Some creds) ids h = h
+-- credentials that are set are words, and so are drawn ones
+creds_are_words : {N : Type 0} (draws : Draws N) (set : Option IceCreds) (ids : N) → IfSome set AreSdpCreds → AreSdpCreds (creds_or draws set ids)
+creds_are_words draws None ids h = drawn_creds_words (draws.drawn ids)
+creds_are_words draws (Some creds) ids h = h
 
--- The peer that is built is formed, where the credentials of its config are tokens and numbers that are drawn have 64 bits.
+-- The peer that is built is formed, where the credentials of its config are words and numbers that are drawn have 64 bits.
 pub built_formed : {I D S M E X T W N : Type 0} (m : Meanings I D S M E X T W N) → PartsLaws m → (alloc : Global) (config : Config) (start : ℕ)
     (ice : I) (dtls : D) (association : S) (media : M) (ids : N) (p : Peer I D S M N) → AreFresh m ice dtls association media
-    → IfSome config.creds AreTokenCreds → m.ids.drawn ids < 2 ^ 64 → Builds m alloc config start ice dtls association media ids p → IsFormed (stance_of m p)
+    → IfSome config.creds AreSdpCreds → m.ids.drawn ids < 2 ^ 64 → Builds m alloc config start ice dtls association media ids p → IsFormed (stance_of m p)
 built_formed m laws alloc config start ice dtls association media ids p fresh tokens small built =
     let none : (m.ice.settings ice).candidates ≡ [] = laws.ice.fresh_candidates ice fresh.fresh_ice in
     let lite = laws.ice.lite_settings ice built.lite_set config.ice_lite built.by_lite in
     let local = laws.ice.local_settings built.lite_set p.ice _ built.by_creds in
     record {
       session = rw built.rest small;
-      creds = rw local (creds_are_tokens m.ids config.creds (session_drawn m.ids ids) tokens);
+      creds = rw local (creds_are_words m.ids config.creds (session_drawn m.ids ids) tokens);
       candidates = rw (local, lite, none) tt;
       fingerprint = fingerprint_by_sha256 _ p.dtls.local built.by_cert.fingerprint;
       rows = rw built.rest tt;

@@ -15,7 +15,7 @@ use Rattle.rtc_change.specs.declared.change.Change.{Change}
 use Rattle.rtc_change.specs.declared.change.Change.TheVariants.{AddMedia, AddApp, AddChannel, Direction as SetDirection, IceRestart}
 use Rattle.rtc_change.specs.PendingOffer.{added_rows, staged_restart}
 use Rattle.rtc_peer_state.specs.declared.sdp_head.SdpHead.{SdpHead}
-use Rattle.rtc_peer_state.specs.Formed.{AreTokenCreds, IsSha256, HaveTokens, IsHostCandidate, RestartTokens, IsFormed}
+use Rattle.rtc_peer_state.specs.Formed.{AreSdpCreds, IsSha256, HaveTokens, IsHostCandidate, RestartWords, IsFormed}
 use Rattle.rtc_peer_state.specs.MadeSdp.{creds_in_use, candidates_in_use, offer_head, answer_head, offered_rows}
 use Rattle.rtc_peer_state.specs.Stance.{Stance}
 use Rattle.rtc_peer_state.proofs.Alls.{all-append}
@@ -23,18 +23,18 @@ use Rattle.rtc_peer_state.proofs.TokenTables.{added_tokens}
 
 -- ---- what is in use after a restart
 
-pub restart_token : (changes : List Change) → RestartTokens changes → IfSome (staged_restart changes) (λ restart. AreTokenCreds restart.0)
-restart_token [] tokens = tt
-restart_token (AddMedia media ∷ changes) tokens = restart_token changes tokens.1
-restart_token (AddApp mid ∷ changes) tokens = restart_token changes tokens.1
-restart_token (AddChannel id config ∷ changes) tokens = restart_token changes tokens.1
-restart_token (SetDirection mid dir ∷ changes) tokens = restart_token changes tokens.1
-restart_token (IceRestart creds keeps ∷ changes) tokens = tokens.0
+pub restart_words : (changes : List Change) → RestartWords changes → IfSome (staged_restart changes) (λ restart. AreSdpCreds restart.0)
+restart_words [] tokens = tt
+restart_words (AddMedia media ∷ changes) tokens = restart_words changes tokens.1
+restart_words (AddApp mid ∷ changes) tokens = restart_words changes tokens.1
+restart_words (AddChannel id config ∷ changes) tokens = restart_words changes tokens.1
+restart_words (SetDirection mid dir ∷ changes) tokens = restart_words changes tokens.1
+restart_words (IceRestart creds keeps ∷ changes) tokens = tokens.0
 
-pub creds_in_use_token : (restart : Option (IceCreds × Bool)) (settings : IceSettings) → IfSome restart (λ r. AreTokenCreds r.0)
-    → AreTokenCreds settings.local → AreTokenCreds (creds_in_use restart settings)
-creds_in_use_token None settings tokens local = local
-creds_in_use_token (Some restart) settings tokens local = tokens
+pub creds_in_use_words : (restart : Option (IceCreds × Bool)) (settings : IceSettings) → IfSome restart (λ r. AreSdpCreds r.0)
+    → AreSdpCreds settings.local → AreSdpCreds (creds_in_use restart settings)
+creds_in_use_words None settings tokens local = local
+creds_in_use_words (Some restart) settings tokens local = tokens
 
 if_kept : (keeps : Bool) (candidates : List Candidate) → AllByRecursion IsHostCandidate candidates
     → AllByRecursion IsHostCandidate (if keeps then candidates else [])
@@ -52,24 +52,24 @@ candidates_in_use_hosts (Some restart) settings hosts = if_kept restart.1 settin
 -- a head whose session number, credentials, fingerprint and candidates are those of a formed peer
 pub record IsFormedHead (head : SdpHead) : Type 0 where
   pub session : head.session < 2 ^ 64
-  pub creds : AreTokenCreds head.creds
+  pub creds : AreSdpCreds head.creds
   pub fingerprint : IsSha256 head.fingerprint
   pub candidates : AllByRecursion IsHostCandidate head.candidates
 
 pub offer_head_formed : (s : Stance) → IsFormed s → IsFormedHead (offer_head s)
 offer_head_formed s formed = record {
   session = formed.session;
-  creds = creds_in_use_token (staged_restart s.staged) s.ice (restart_token s.staged formed.restarts) formed.creds;
+  creds = creds_in_use_words (staged_restart s.staged) s.ice (restart_words s.staged formed.restarts) formed.creds;
   fingerprint = formed.fingerprint;
   candidates = candidates_in_use_hosts (staged_restart s.staged) s.ice formed.candidates;
 }
 
-pub answer_head_formed : (s : Stance) (restart : Option (IceCreds × Bool)) (offer : Sdp) → IfSome restart (λ r. AreTokenCreds r.0)
+pub answer_head_formed : (s : Stance) (restart : Option (IceCreds × Bool)) (offer : Sdp) → IfSome restart (λ r. AreSdpCreds r.0)
     → IsFormed s
     → IsFormedHead (answer_head s restart offer)
 answer_head_formed s restart offer tokens formed = record {
   session = formed.session;
-  creds = creds_in_use_token restart s.ice tokens formed.creds;
+  creds = creds_in_use_words restart s.ice tokens formed.creds;
   fingerprint = formed.fingerprint;
   candidates = candidates_in_use_hosts restart s.ice formed.candidates;
 }

@@ -34,12 +34,12 @@ use Rattle.rtc_peer_state.specs.declared.rtc_error.RtcError.TheVariants.{
 }
 use Rattle.rtc_peer_state.specs.Acceptances.{counter_after}
 use Rattle.rtc_peer_state.specs.Calls.{Wanted, raised, fitting_channels}
-use Rattle.rtc_peer_state.specs.Formed.{AreTokenCreds, IsSha256, HaveTokens, AddTokens, IsHostCandidate, RestartTokens, IsFormed}
+use Rattle.rtc_peer_state.specs.Formed.{AreSdpCreds, IsSha256, HaveTokens, AddTokens, IsHostCandidate, RestartWords, IsFormed}
 use Rattle.rtc_peer_state.specs.MadeSdp.{creds_in_use, candidates_in_use}
 use Rattle.rtc_peer_state.specs.Staging.{lacks_app, is_kept_by_restart}
 use Rattle.rtc_peer_state.specs.Stance.{Stance}
 use Rattle.rtc_peer_state.proofs.Alls.{all-append}
-use Rattle.rtc_peer_state.proofs.FormedHeads.{restart_token, creds_in_use_token, candidates_in_use_hosts}
+use Rattle.rtc_peer_state.proofs.FormedHeads.{restart_words, creds_in_use_words, candidates_in_use_hosts}
 use Rattle.rtc_peer_state.proofs.StanceCalls.{
   StanceAddsMedia,
   StanceChangesLine,
@@ -84,7 +84,7 @@ counted_formed s counter channels formed = record {
 }
 
 -- more is staged
-staged_formed : (s : Stance) (more : List Change) → AddTokens more → RestartTokens more → IsFormed s
+staged_formed : (s : Stance) (more : List Change) → AddTokens more → RestartWords more → IsFormed s
     → IsFormed (record s { staged = s.staged ++ more })
 staged_formed s more tokens restarts formed = record {
   session = formed.session;
@@ -94,7 +94,7 @@ staged_formed s more tokens restarts formed = record {
   rows = formed.rows;
   staged = rw (added_mids-append s.staged more)
       (all-append (λ mid. is_short_token mid ≡ true) (added_mids s.staged) (added_mids more) formed.staged tokens);
-  restarts = all-append (λ change. IfSome (restart_of change) (λ restart. AreTokenCreds restart.0)) s.staged more formed.restarts restarts;
+  restarts = all-append (λ change. IfSome (restart_of change) (λ restart. AreSdpCreds restart.0)) s.staged more formed.restarts restarts;
 }
 
 pub adds_media_formed : (s : Stance) (wanted : Wanted) (result : Result (List ℕ) AllocError) (t : Stance)
@@ -112,7 +112,7 @@ channel_tokens s true app id config h = rw h.1 (h.2.1, tt)
 channel_tokens s false app id config h = rw h tt
 
 channel_restarts : (s : Stance) (needed : Bool) (app : List Change) (id : ℕ) (config : ChannelConfig) → IsAppFor s needed app
-    → RestartTokens (app ++ AddChannel id config ∷ [])
+    → RestartWords (app ++ AddChannel id config ∷ [])
 channel_restarts s true app id config h = rw h.1 (tt, (tt, tt))
 channel_restarts s false app id config h = rw h (tt, tt)
 
@@ -123,7 +123,7 @@ adds_channel_formed s config (Ok id) t adds formed =
     let needed : Bool = lacks_app s.lines s.staged in
     let more : List Change = adds.app ++ AddChannel id config ∷ [] in
     let tokens : AddTokens more = channel_tokens s needed adds.app id config adds.app_for in
-    let restarts : RestartTokens more = channel_restarts s needed adds.app id config adds.app_for in
+    let restarts : RestartWords more = channel_restarts s needed adds.app id config adds.app_for in
     rw adds.rest (counted_formed (record s { staged = s.staged ++ more }) s.counter (with_channel s.channels config)
     (staged_formed s more tokens restarts formed))
 adds_channel_formed s config (Err BadChannel) t adds formed = rw adds.1 formed
@@ -168,7 +168,7 @@ kept_tokens (AddChannel id config ∷ changes) tokens = kept_tokens changes toke
 kept_tokens (SetDirection mid dir ∷ changes) tokens = kept_tokens changes tokens
 kept_tokens (IceRestart creds keeps ∷ changes) tokens = kept_tokens changes tokens
 
-kept_restarts : (changes : List Change) → RestartTokens (filter is_kept_by_restart changes)
+kept_restarts : (changes : List Change) → RestartWords (filter is_kept_by_restart changes)
 kept_restarts [] = tt
 kept_restarts (AddMedia media ∷ changes) = (tt, kept_restarts changes)
 kept_restarts (AddApp mid ∷ changes) = (tt, kept_restarts changes)
@@ -210,16 +210,16 @@ applies_formed s (Err error) t applies formed = rw applies formed
 
 -- the restart of an offer has credentials that are tokens
 pub made_tokens : (s : Stance) (made : Sdp × PendingOffer) (t : Stance) → StanceApplies s (Ok (Some made)) t → IsFormed s
-    → RestartTokens made.1.changes
+    → RestartWords made.1.changes
 made_tokens s made t applies formed = rw applies.2 formed.restarts
 
 -- ---- what is accepted
 
-followed_formed : (s : Stance) (restart : Option (IceCreds × Bool)) (sdp : Sdp) (offer : Bool) → IfSome restart (λ r. AreTokenCreds r.0)
+followed_formed : (s : Stance) (restart : Option (IceCreds × Bool)) (sdp : Sdp) (offer : Bool) → IfSome restart (λ r. AreSdpCreds r.0)
     → NameTokens (parsed_lines sdp) → IsFormed s → IsFormed (followed_by s restart sdp offer)
 followed_formed s restart sdp offer tokens names formed = record {
   session = formed.session;
-  creds = creds_in_use_token restart s.ice tokens formed.creds;
+  creds = creds_in_use_words restart s.ice tokens formed.creds;
   candidates = candidates_in_use_hosts restart s.ice formed.candidates;
   fingerprint = formed.fingerprint;
   rows = table_after_tokens s.lines (parsed_lines sdp) offer formed.rows names;
@@ -233,18 +233,18 @@ either P new one other (inl same) p q = subst P (sym same) p
 either P new one other (inr same) p q = subst P (sym same) q
 
 broken_formed : (s : Stance) (restart : Option (IceCreds × Bool)) (counter : ℕ) (t : Stance) → Breaks s restart counter t
-    → IfSome restart (λ r. AreTokenCreds r.0) → IsFormed s → IsFormed t
+    → IfSome restart (λ r. AreSdpCreds r.0) → IsFormed s → IsFormed t
 broken_formed s restart counter t breaks tokens formed = record {
   session = subst (λ (n : ℕ). n < 2 ^ 64) (sym (ap (λ r. r.session) breaks.rest)) formed.session;
-  creds = either AreTokenCreds t.ice.local s.ice.local (creds_in_use restart s.ice) breaks.local formed.creds
-      (creds_in_use_token restart s.ice tokens formed.creds);
+  creds = either AreSdpCreds t.ice.local s.ice.local (creds_in_use restart s.ice) breaks.local formed.creds
+      (creds_in_use_words restart s.ice tokens formed.creds);
   candidates = either (λ hosts. AllByRecursion IsHostCandidate hosts) t.ice.candidates s.ice.candidates
       (candidates_in_use restart s.ice) breaks.candidates
       formed.candidates (candidates_in_use_hosts restart s.ice formed.candidates);
   fingerprint = subst IsSha256 (sym (ap (λ r. r.own_fingerprint) breaks.rest)) formed.fingerprint;
   rows = subst HaveTokens (sym (ap (λ r. r.lines) breaks.rest)) formed.rows;
   staged = subst AddTokens (sym (ap (λ r. r.staged) breaks.rest)) formed.staged;
-  restarts = subst RestartTokens (sym (ap (λ r. r.staged) breaks.rest)) formed.restarts;
+  restarts = subst RestartWords (sym (ap (λ r. r.staged) breaks.rest)) formed.restarts;
 }
 
 refused_formed : (s : Stance) (asked : Option Asked) (sdp : Sdp) (why : Refusal) (t : Stance) → StanceRefuses s asked sdp why t
@@ -272,11 +272,11 @@ offered_formed s offer (Err Alloc) t accepts names formed =
 
 -- An answer whose mids are short tokens is accepted or refused, with a token whose restart has credentials that are tokens.
 pub answered_formed : (s : Stance) (token : PendingOffer) (answer : Sdp) (result : Result (Unit {0}) RtcError) (t : Stance)
-    → StanceAcceptsAnswer s token answer result t → RestartTokens token.changes → NameTokens (parsed_lines answer) → IsFormed s → IsFormed t
+    → StanceAcceptsAnswer s token answer result t → RestartWords token.changes → NameTokens (parsed_lines answer) → IsFormed s → IsFormed t
 answered_formed s token answer (Ok done) t accepts restarts names formed =
     rw accepts.rest (counted_formed (followed_by s (staged_restart token.changes) answer false) s.counter
     (all_confirmed (fitting_channels token.changes) s.channels)
-    (followed_formed s (staged_restart token.changes) answer false (restart_token token.changes restarts) names formed))
+    (followed_formed s (staged_restart token.changes) answer false (restart_words token.changes restarts) names formed))
 answered_formed s token answer (Err BadChannel) t accepts restarts names formed = absurd accepts
 answered_formed s token answer (Err ChangesOutOfOrder) t accepts restarts names formed = rw accepts.1 formed
 answered_formed s token answer (Err (RemoteSdp why)) t accepts restarts names formed =
@@ -284,10 +284,10 @@ answered_formed s token answer (Err (RemoteSdp why)) t accepts restarts names fo
 answered_formed s token answer (Err (SdpRefused error)) t accepts restarts names formed =
     refused_formed s _ answer (RefusedText error) t accepts.1 formed
 answered_formed s token answer (Err (Dtls Fault)) t accepts restarts names formed =
-    broken_formed s (staged_restart token.changes) s.counter t accepts.2 (restart_token token.changes restarts) formed
+    broken_formed s (staged_restart token.changes) s.counter t accepts.2 (restart_words token.changes restarts) formed
 answered_formed s token answer (Err (Dtls WouldBlock)) t accepts restarts names formed = absurd accepts
 answered_formed s token answer (Err (Dtls DtlsAlloc)) t accepts restarts names formed = absurd accepts
 answered_formed s token answer (Err (Sctp error)) t accepts restarts names formed =
-    broken_formed s (staged_restart token.changes) s.counter t accepts.3 (restart_token token.changes restarts) formed
+    broken_formed s (staged_restart token.changes) s.counter t accepts.3 (restart_words token.changes restarts) formed
 answered_formed s token answer (Err Alloc) t accepts restarts names formed =
-    broken_formed s (staged_restart token.changes) s.counter t accepts.1 (restart_token token.changes restarts) formed
+    broken_formed s (staged_restart token.changes) s.counter t accepts.1 (restart_words token.changes restarts) formed

@@ -13,6 +13,8 @@ use Rattle.rtc_dtls.specs.DtlsMeaning.{DtlsMeaning}
 use Rattle.rtc_dtls.specs.DtlsState.{DtlsState}
 use Rattle.rtc_association.specs.AssociationMeaning.{AssociationMeaning}
 use Rattle.rtc_sctp.specs.Streams.{SctpStreams}
+use Rattle.rtc_sctp.specs.declared.sctp_error.SctpError.{SctpError}
+use Rattle.rtc_sctp.specs.declared.sctp_error.SctpError.TheVariants.{Alloc as SctpAlloc}
 use Rattle.rtc_change.specs.Plans.{no_credentials}
 use Rattle.rtc_peer_state.specs.MadeSdp.{creds_in_use, candidates_in_use, role_for, role_after}
 use Rattle.rtc_peer_state.specs.PartMoves.{
@@ -25,6 +27,7 @@ use Rattle.rtc_peer_state.specs.PartMoves.{
   AtRestart,
   AtCandidate,
   StartsDtls,
+  StartsSctp,
   StopsMoving,
   AtAgent,
   AtRole,
@@ -184,3 +187,14 @@ module _ {I D S : Type 0} (ice : IceMeaning I) (dtls : DtlsMeaning D) (associati
       inr (Err DtlsAlloc, lacks)
   dtls_stopped i j d e s t restart creds candidates control active rows client now max (AtStart follows starts lacks) =
       inr (Ok tt, starts)
+
+  -- the association stays, or was started with one answer or another
+  pub sctp_stopped : (i j : I) (d e : DtlsState D) (s t : SctpStreams S) (restart : Option (IceCreds × Bool))
+      (creds : Option IceCreds) (candidates : List Candidate) (control : Option Bool) (active : Bool) (rows : List LineRow)
+      (client : Bool) (now max : ℕ)
+      → StopsMoving ice dtls association i d s restart creds candidates control active rows client now max j e t
+      → (t ≡ s) ⊎ ((r : Result (Unit {0}) SctpError) × StartsSctp association s rows client now max r t)
+  sctp_stopped i j d e s t restart creds candidates control active rows client now max (AtAgent stops same unstarted) = inl unstarted
+  sctp_stopped i j d e s t restart creds candidates control active rows client now max (AtRole follows lacks unstarted) = inl unstarted
+  sctp_stopped i j d e s t restart creds candidates control active rows client now max (AtStart follows starts lacks) =
+      inr (Err SctpAlloc, lacks)

@@ -42,10 +42,10 @@ use Rattle.rtc_peer_state.specs.Acceptances.{
 }
 use Rattle.rtc_peer_state.specs.Calls.{raised, fitting_channels}
 use Rattle.rtc_peer_state.specs.Creds.{new_creds}
-use Rattle.rtc_peer_state.specs.Formed.{AreTokenCreds}
+use Rattle.rtc_peer_state.specs.Formed.{AreSdpCreds}
 use Rattle.rtc_peer_state.specs.Meanings.{Meanings, PartsLaws}
 use Rattle.rtc_peer_state.specs.Stance.{Stance, stance_of, held_by}
-use Rattle.rtc_peer_state.proofs.BuiltPeers.{drawn_creds_token}
+use Rattle.rtc_peer_state.proofs.BuiltPeers.{drawn_creds_words}
 use Rattle.rtc_peer_state.proofs.StanceLemmas.{parts_stand}
 use Rattle.rtc_peer_state.proofs.PartMovesLemmas.{AreLeft, restarted_by, followed_settings, told_creds, left_after}
 use Rattle.rtc_peer_state.proofs.PartMovesLemmas.{role_taken, start_keeps_local}
@@ -69,10 +69,10 @@ new_creds_keep : {N : Type 0} (draws : Draws N) (ids : N) (restarts : Bool) → 
 new_creds_keep draws ids true = refl
 new_creds_keep draws ids false = tt
 
-new_creds_tokens : {N : Type 0} (draws : Draws N) (ids : N) (restarts : Bool)
-    → IfSome (new_creds draws ids restarts) (λ r. AreTokenCreds r.0)
-new_creds_tokens draws ids true = drawn_creds_token (draws.drawn ids)
-new_creds_tokens draws ids false = tt
+new_creds_words : {N : Type 0} (draws : Draws N) (ids : N) (restarts : Bool)
+    → IfSome (new_creds draws ids restarts) (λ r. AreSdpCreds r.0)
+new_creds_words draws ids true = drawn_creds_words (draws.drawn ids)
+new_creds_words draws ids false = tt
 
 followed_stands : {I D S M E X T W N : Type 0} (m : Meanings I D S M E X T W N) (p : Peer I D S M N) (offer : Sdp)
     → IsFollowed (stance_of m p) offer (followed_restart m p offer)
@@ -81,7 +81,7 @@ followed_stands m p offer =
     record {
       there = new_creds_there m.ids p.ids restarts;
       keeps = new_creds_keep m.ids p.ids restarts;
-      tokens = new_creds_tokens m.ids p.ids restarts;
+      tokens = new_creds_words m.ids p.ids restarts;
     }
 
 -- what is left where a part failed or memory lacked

@@ -57,7 +57,7 @@ use Rattle.rtc_peer_state.specs.declared.rtc_error.RtcError.TheVariants.{
 }
 use Rattle.rtc_peer_state.specs.Acceptances.{counter_after}
 use Rattle.rtc_peer_state.specs.Calls.{Wanted, raised, fitting_channels}
-use Rattle.rtc_peer_state.specs.Formed.{AreTokenCreds}
+use Rattle.rtc_peer_state.specs.Formed.{AreSdpCreds}
 use Rattle.rtc_peer_state.specs.MadeSdp.{creds_in_use, candidates_in_use, offer_sdp, answer_sdp, role_after}
 use Rattle.rtc_peer_state.specs.Names.{is_held}
 use Rattle.rtc_peer_state.specs.Staging.{lacks_app, with_restart}
@@ -120,7 +120,7 @@ StanceAddsChannel s config (Err (Sctp error)) t = ⊥
 StanceAddsChannel s config (Err ChangesOutOfOrder) t = ⊥
 
 abbrev pub StanceStagesRestart : Stance → Bool → Result IceCreds AllocError → Stance → Type 0
-StanceStagesRestart s keeps (Ok creds) t = AreTokenCreds creds × (t ≡ record s { staged = with_restart creds keeps s.staged })
+StanceStagesRestart s keeps (Ok creds) t = AreSdpCreds creds × (t ≡ record s { staged = with_restart creds keeps s.staged })
 StanceStagesRestart s keeps (Err error) t = t ≡ s
 
 abbrev pub stance_alone : List Change → Stance → Stance
@@ -148,7 +148,7 @@ StanceRefuses s asked sdp why t =
 pub record IsFollowed (s : Stance) (offer : Sdp) (restart : Option (IceCreds × Bool)) : Type 0 where
   pub there : is_some restart ≡ is_restart s.ice.remote (creds_of offer)
   pub keeps : IfSome restart (λ r. r.1 ≡ true)
-  pub tokens : IfSome restart (λ r. AreTokenCreds r.0)
+  pub tokens : IfSome restart (λ r. AreSdpCreds r.0)
 
 -- what is left once an offer or an answer was followed
 abbrev pub followed_by : Stance → Option (IceCreds × Bool) → Sdp → Bool → Stance

@@ -28,7 +28,7 @@ use Rattle.rtc_peer_state.specs.Calls.{ChangesLine, AddsChannel, StagesRestart, 
 use Rattle.rtc_peer_state.specs.Meanings.{Meanings, PartsLaws}
 use Rattle.rtc_peer_state.specs.Names.{is_held}
 use Rattle.rtc_peer_state.specs.Stance.{Stance, stance_of}
-use Rattle.rtc_peer_state.proofs.BuiltPeers.{drawn_creds_token}
+use Rattle.rtc_peer_state.proofs.BuiltPeers.{drawn_creds_words}
 use Rattle.rtc_peer_state.proofs.DrawnMids.{free_mid_token}
 use Rattle.rtc_peer_state.proofs.PartMovesLemmas.{control_settings}
 use Rattle.rtc_peer_state.proofs.StanceCalls.{StanceAddsMedia, StanceChangesLine, StanceAddsChannel, StanceStagesRestart, StanceApplies}
@@ -91,7 +91,7 @@ pub stages_restart_stands : {I D S M E X T W N : Type 0} (m : Meanings I D S M E
     → (p : Peer I D S M N) (keeps : Bool)
     (result : Result IceCreds AllocError) (q : Peer I D S M N) → StagesRestart m p keeps result q
     → StanceStagesRestart (stance_of m p) keeps result (stance_of m q)
-stages_restart_stands m laws p keeps (Ok creds) q h = (rw h.0 (drawn_creds_token (m.ids.drawn p.ids)), ap (stance_of m) h.1)
+stages_restart_stands m laws p keeps (Ok creds) q h = (rw h.0 (drawn_creds_words (m.ids.drawn p.ids)), ap (stance_of m) h.1)
 stages_restart_stands m laws p keeps (Err error) q h = ap (stance_of m) h.1
 
 alone_stands : {I D S M E X T W N : Type 0} (m : Meanings I D S M E X T W N) (p : Peer I D S M N) (changes : List Change)

@@ -8,10 +8,13 @@ use Rattle.rtc_dtls.specs.declared.dtls_error.DtlsError.{DtlsError}
 use Rattle.rtc_media.specs.MediaLaws.{MediaLaws, SameLines}
 use Rattle.rtc_change.specs.declared.change.Change.{Change}
 use Rattle.rtc_change.specs.Held.{Asked}
+use Rattle.rtc_change.specs.Plans.{is_offer}
+use Rattle.rtc_sctp.specs.declared.sctp_error.SctpError.{SctpError}
 use Rattle.rtc_peer_state.specs.declared.peer.Peer.{Peer}
 use Rattle.rtc_peer_state.specs.MadeSdp.{role_for}
 use Rattle.rtc_peer_state.specs.Meanings.{Meanings}
 use Rattle.rtc_peer_state.specs.PartMoves.{StartsDtls}
+use Rattle.rtc_peer_state.specs.SdpMoves.{StartsBySdp}
 use Rattle.rtc_peer_state.specs.StoppedAcceptances.{
   StopsPreparing,
   BeforeSources,
@@ -22,7 +25,7 @@ use Rattle.rtc_peer_state.specs.StoppedAcceptances.{
   AtPreparing,
   AtParts,
 }
-use Rattle.rtc_peer_state.proofs.PartMovesLemmas.{AreLeft, left_same, left_stopped, dtls_stopped, start_keeps_local}
+use Rattle.rtc_peer_state.proofs.PartMovesLemmas.{AreLeft, left_same, left_stopped, dtls_stopped, sctp_stopped, start_keeps_local}
 
 module _ {I D S M E X T W N : Type 0} (m : Meanings I D S M E X T W N) where
   -- as it is prepared, it touches the source of numbers and the media part
@@ -73,6 +76,17 @@ module _ {I D S M E X T W N : Type 0} (m : Meanings I D S M E X T W N) where
       inl (ap (λ (x : Peer I D S M N). x.dtls) (preparing_rest p _ changes sdp drawn q stops))
   stopped_dtls p asked changes sdp restart control drawn q (AtParts passes ids prepared moves) =
       dtls_stopped m.ice m.dtls m.association p.ice q.ice p.dtls q.dtls p.sctp q.sctp restart _ _ control _ _ _ _ _ moves
+
+  -- the association is as it was, or was started with one answer or another
+  pub stopped_sctp : (p : Peer I D S M N) (asked : Option Asked) (changes : List Change) (sdp : Sdp)
+      (restart : Option (IceCreds × Bool)) (control : Option Bool) (drawn : N) (q : Peer I D S M N)
+      → StopsAccepting m p asked changes sdp restart control drawn q
+      → (q.sctp ≡ p.sctp) ⊎ ((r : Result (Unit {0}) SctpError) × StartsBySdp m p (is_offer asked) sdp r q.sctp)
+  stopped_sctp p asked changes sdp restart control drawn q (AtVerdict is) = inl (ap (λ (x : Peer I D S M N). x.sctp) is)
+  stopped_sctp p asked changes sdp restart control drawn q (AtPreparing passes stops) =
+      inl (ap (λ (x : Peer I D S M N). x.sctp) (preparing_rest p _ changes sdp drawn q stops))
+  stopped_sctp p asked changes sdp restart control drawn q (AtParts passes ids prepared moves) =
+      sctp_stopped m.ice m.dtls m.association p.ice q.ice p.dtls q.dtls p.sctp q.sctp restart _ _ control _ _ _ _ _ moves
 
   -- its certificate stays
   pub stopped_local : (p : Peer I D S M N) (asked : Option Asked) (changes : List Change) (sdp : Sdp)

@@ -1,6 +1,7 @@
 -- Peers whose session descriptions are read back as they were written.
-use Rattle.std.specs.Prelude.{◌≡◌, ◌<◌, ◌≤◌, ◌^◌, true, List, length, codes, IfSome}
+use Rattle.std.specs.Prelude.{◌≡◌, ◌<◌, ◌≤◌, ◌^◌, ℕ, true, List, length, codes, IfSome}
 use Rattle.std.specs.List.{AllByRecursion}
+use Rattle.rtc_fields.specs.Cuts.{Lacks}
 use Rattle.rtc_fields.specs.Tokens.{is_token, is_short_token}
 use Rattle.rtc_wire.specs.declared.protocol.Protocol.TheVariants.{Udp}
 use Rattle.rtc_sdp_values.specs.LineRow.{row_mid}
@@ -13,12 +14,18 @@ use Rattle.rtc_change.specs.declared.change.Change.{Change}
 use Rattle.rtc_change.specs.PendingOffer.{added_mids, restart_of}
 use Rattle.rtc_peer_state.specs.Stance.{Stance}
 
--- credentials that are tokens, of at most 255 and 256 bytes
-pub record AreTokenCreds (creds : IceCreds) : Type 0 where
-  pub ufrag : is_token creds.ufrag ≡ true
-  pub ufrag_size : length creds.ufrag ≤ 255
-  pub pass : is_token creds.pass ≡ true
-  pub pass_size : length creds.pass ≤ 256
+-- a text of 1 byte to so many, without a space and without a line feed
+pub record IsSdpWord (most : ℕ) (text : List ℕ) : Type 0 where
+  pub some : 0 < length text
+  pub size : length text ≤ most
+  pub space : Lacks 32 text
+  pub line : Lacks 10 text
+
+-- Credentials that a session description can carry: a user fragment of 1 to 255 bytes and a password of 1 to 256, each one word in its
+-- line. The standard's are 4 to 256 and 22 to 256 letters, digits, `+` and `/` (RFC 8839, section 5.4).
+pub record AreSdpCreds (creds : IceCreds) : Type 0 where
+  pub ufrag : IsSdpWord 255 creds.ufrag
+  pub pass : IsSdpWord 256 creds.pass
 
 -- a fingerprint by SHA-256, which has 32 bytes
 pub record IsSha256 (fingerprint : Fingerprint) : Type 0 where
@@ -45,16 +52,16 @@ pub record IsHostCandidate (candidate : Candidate) : Type 0 where
   pub port : candidate.addr.port ≤ 65535
   pub kind : candidate.kind ≡ Host
 
--- restarts that are staged have credentials that are tokens
-abbrev pub RestartTokens : List Change → Type 0
-RestartTokens changes = AllByRecursion (λ change. IfSome (restart_of change) (λ restart. AreTokenCreds restart.0)) changes
+-- restarts that are staged have such credentials
+abbrev pub RestartWords : List Change → Type 0
+RestartWords changes = AllByRecursion (λ change. IfSome (restart_of change) (λ restart. AreSdpCreds restart.0)) changes
 
 -- a peer whose session number, credentials, fingerprint, candidates and mids are such
 pub record IsFormed (s : Stance) : Type 0 where
   pub session : s.session < 2 ^ 64
-  pub creds : AreTokenCreds s.ice.local
+  pub creds : AreSdpCreds s.ice.local
   pub candidates : AllByRecursion IsHostCandidate s.ice.candidates
   pub fingerprint : IsSha256 s.own_fingerprint
   pub rows : HaveTokens s.lines
   pub staged : AddTokens s.staged
-  pub restarts : RestartTokens s.staged
+  pub restarts : RestartWords s.staged

@@ -4,6 +4,7 @@ use Rattle.rtc_ice.specs.IceLaws.{IceLaws}
 use Rattle.rtc_dtls.specs.DtlsMeaning.{DtlsMeaning}
 use Rattle.rtc_dtls.specs.DtlsLaws.{DtlsLaws}
 use Rattle.rtc_association.specs.AssociationMeaning.{AssociationMeaning}
+use Rattle.rtc_association.specs.AssociationLaws.{AssociationLaws}
 use Rattle.rtc_media.specs.MediaMeaning.{MediaMeaning}
 use Rattle.rtc_media.specs.MediaLaws.{MediaLaws}
 use Rattle.rtc_ids.specs.Draws.{Draws}
@@ -31,4 +32,5 @@ meanings ice dtls association media ids = record {
 pub record PartsLaws {I D S M E X T W N : Type 0} (m : Meanings I D S M E X T W N) : Type 0 where
   pub ice : IceLaws m.ice
   pub dtls : DtlsLaws m.dtls
+  pub association : AssociationLaws m.association
   pub media : MediaLaws m.media

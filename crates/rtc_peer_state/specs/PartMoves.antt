@@ -54,7 +54,7 @@ module _ {I : Type 0} (ice : IceMeaning I) where
     pub by_candidates : TakesCandidates told candidates (Ok tt) reachable
     pub by_control : TakesControl reachable control q
 
-  -- Memory lacks as the agent follows a session description: at the restart, or at a candidate.
+  -- Memory runs out as the agent follows a session description: at the restart, or at a candidate.
   pub data StopsFollowing (p : I) (restart : Option (IceCreds × Bool)) (creds : Option IceCreds) (candidates : List Candidate)
       (q : I) : Type 0 where
     AtRestart : (error : AllocError) → RestartsIce p restart (Err error) q → StopsFollowing p restart creds candidates q

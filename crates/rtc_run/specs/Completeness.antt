@@ -11,7 +11,7 @@ use Rattle.rtc_history.specs.declared.reply.Reply.{Reply}
 use Rattle.rtc_history.specs.declared.step.Step.{Step}
 use Rattle.rtc_history.specs.declared.step.Step.TheVariants.{AcceptOffer, AcceptAnswer}
 use Rattle.rtc_history.specs.declared.table.Table.{Table}
-use Rattle.rtc_history.specs.Memory.{fails, tell_fault}
+use Rattle.rtc_history.specs.Memory.{CountedPart, fails, tell_fault}
 use Rattle.rtc_history.specs.Orderly.{is_ok}
 use Rattle.rtc_history.specs.PairState.{PairState}
 use Rattle.rtc_history.specs.Past.{Entry, MadeSdp, remote_sdp, holds_token, is_right}
@@ -56,4 +56,5 @@ module _ {I D S M E X T W N : Type 0} (m : Meanings I D S M E X T W N) where
   abbrev pub FaultsAreCounted : Type 0
   FaultsAreCounted =
       (start : PairState I D S M N) (steps : List Step) (replies : List Reply) (pair : PairState I D S M N)
-      → Runs m start steps replies pair → ((at : Side) → ¬ CountsFault m at start pair) → tell_fault replies ≡ false
+      → Runs m start steps replies pair → ((part : CountedPart) (at : Side) → ¬ CountsFault m part at start pair)
+      → tell_fault replies ≡ false

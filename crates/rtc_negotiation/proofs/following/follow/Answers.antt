@@ -1,4 +1,3 @@
-use Rattle.std.proofs.Common.{◌≡◌, refl, Ok, Err}
 use Rattle.rtc_peer_state.specs.PartMoves.{AtRestart, AtCandidate}
 use Rattle.rtc_negotiation.proofs.following.follow.Goals as goal
 

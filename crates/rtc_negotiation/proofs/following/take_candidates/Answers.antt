@@ -1,4 +1,4 @@
-use Rattle.std.proofs.Common.{◌≡◌, refl, Ok, Err, arith}
+use Rattle.std.proofs.Common.{arith}
 use Rattle.rtc_negotiation.proofs.FollowLemmas.{takes_one_more, takes_no_more, takes_all}
 use Rattle.rtc_negotiation.proofs.following.take_candidates.Goals as goal
 

@@ -1,4 +1,3 @@
-use Rattle.std.proofs.Common.{◌≡◌, refl}
 use Rattle.rtc_peer_state.specs.Meanings.{meanings}
 use Rattle.rtc_negotiation.specs.StagedNames.{given_name}
 use Rattle.rtc_negotiation.proofs.StagedMedia.{staged_stands}

@@ -1,4 +1,4 @@
-use Rattle.std.proofs.Common.{◌≡◌, ◌+◌, suc, drop, refl, arith}
+use Rattle.std.proofs.Common.{◌≡◌, ◌+◌, suc, drop, arith}
 use Rattle.rtc_ids.proofs.LaterLemmas.{later_join}
 use Rattle.rtc_peer_state.specs.Sources.{has_source}
 use Rattle.rtc_peer_state.specs.LineUpdates.{added_media, sending_of}

@@ -1,6 +1,5 @@
-use Rattle.std.proofs.Common.{◌≡◌, ◌++◌, drop, List, ℕ, []}
+use Rattle.std.proofs.Common.{◌≡◌, ◌++◌, drop, []}
 use Rattle.rtc_ids.specs.Draws.{Later}
-use Rattle.rtc_peer_state.specs.declared.sending.Sending.{Sending}
 use Rattle.rtc_peer_state.specs.Sources.{has_source}
 use Rattle.rtc_peer_state.specs.LineUpdates.{added_media, sending_of, row_updates, after_updates}
 use Rattle.rtc_negotiation.proofs.updating.list_updates.Given as goal
