@@ -53,7 +53,7 @@ fn draw_source<M: MediaSession, N: Ids>(ids: &mut N, media: &M, earlier: &Earlie
 }
 
 // A source for a line of a kind, with that of its retransmissions; its numbers are passed over from then on.
-#[tactic(auto, using(rtc_ids::proofs::LaterLemmas::later_once, rtc_ids::proofs::LaterLemmas::later_twice))]
+#[tactic(auto, using(rtc_ids::proofs::LaterLemmas::later_none, rtc_ids::proofs::LaterLemmas::later_once, rtc_ids::proofs::LaterLemmas::later_twice))]
 fn draw_pair<M: MediaSession, N: Ids>(
     ids: &mut N,
     media: &M,
@@ -64,6 +64,7 @@ fn draw_pair<M: MediaSession, N: Ids>(
     ensures earlier { IfOk result (λ pair. earlier.new ≡ earlier.old ++ pair_numbers pair) }
     ensures after { OnOk result (ids.new ≡ after_pair N.ids (has_source M.media media.now) kind ids.old) }
     ensures later { Later N.ids ids.old ids.new }
+    ensures most { Later N.ids ids.new (after_pair N.ids (has_source M.media media.now) kind ids.old) }
 {
     match kind {
         MediaKind::Audio => {
@@ -95,6 +96,7 @@ pub fn draw_pairs<M: MediaSession, N: Ids>(
     ensures earlier { IfOk result (λ pairs. earlier.new ≡ earlier.old ++ flat_map pair_numbers pairs) }
     ensures after { OnOk result (ids.new ≡ after_pairs N.ids (has_source M.media media.now) kind count ids.old) }
     ensures later { Later N.ids ids.old ids.new }
+    ensures most { Later N.ids ids.new (after_pairs N.ids (has_source M.media media.now) kind count ids.old) }
 {
     let mut pairs = Vec::new(alloc);
     for _ in 0..count {

@@ -1,11 +1,11 @@
 -- The count of faults of a DTLS part or an association never falls as its peer starts it, and rises where that tells a fault.
-use Rattle.std.proofs.Common.{◌≡◌, ◌≤◌, ◌+◌, ◌-◌, ◌^◌, ℕ, Bool, true, false, List, [], Option, Some, None, Result, Ok, Err, ap, arith}
+use Rattle.std.proofs.Common.{◌≡◌, ◌≤◌, ◌+◌, ◌-◌, ◌^◌, ◌⊎◌, inl, inr, ℕ, Bool, true, false, List, [], Option, Some, None, Result, Ok, Err, sym, ap, subst, arith}
 use Rattle.std.specs.Prelude.{min}
 use Rattle.rtc_io.specs.Faults.{Rose}
 use Rattle.rtc_dtls.specs.declared.dtls_error.DtlsError.{DtlsError}
-use Rattle.rtc_dtls.specs.declared.dtls_error.DtlsError.TheVariants.{Fault, Alloc as DtlsAlloc}
+use Rattle.rtc_dtls.specs.declared.dtls_error.DtlsError.TheVariants.{WouldBlock, Fault, Alloc as DtlsAlloc}
 use Rattle.rtc_dtls.specs.DtlsActs.{Given, Stirred, Activated, TimedAt}
-use Rattle.rtc_dtls.specs.DtlsLaws.{DtlsLaws}
+use Rattle.rtc_dtls.specs.DtlsLaws.{DtlsLaws, DtlsAnswered}
 use Rattle.rtc_dtls.specs.DtlsMeaning.{DtlsMeaning}
 use Rattle.rtc_dtls.specs.DtlsState.{DtlsState}
 use Rattle.rtc_sdp_values.specs.declared.line_row.LineRow.{LineRow}
@@ -24,9 +24,9 @@ use Rattle.rtc_sctp.specs.Streams.{SctpStreams}
 use Rattle.rtc_sctp.specs.declared.proto_error.ProtoError.TheVariants as proto
 use Rattle.rtc_sctp.specs.declared.sctp_error.SctpError.{SctpError}
 use Rattle.rtc_sctp.specs.declared.sctp_error.SctpError.TheVariants as sctp
-use Rattle.rtc_peer_state.specs.PartMoves.{BeginsHandshake, TakesRole, StartsDtls, StopsStarting, NotStarted, AtRole, BehindRole}
+use Rattle.rtc_peer_state.specs.PartMoves.{begun_answer, BeginsHandshake, BeginsTimed, TakesRole, StartsDtls}
 use Rattle.rtc_history.specs.Memory.{CountedPart, DtlsPart, AssociationPart}
-use Rattle.rtc_peer_state.specs.PartMoves.{needs_start, StartsWhere, StartsSctp, StopsSctp, NotInited, AtInit}
+use Rattle.rtc_peer_state.specs.PartMoves.{needs_start, StartsWhere, StartsSctp}
 
 -- what holds of both parts that count their faults
 pub by_part : (P : CountedPart → Type 0) → P DtlsPart → P AssociationPart → (part : CountedPart) → P part
@@ -45,26 +45,44 @@ module _ {D : Type 0} (dtls : DtlsMeaning D) (laws : DtlsLaws dtls) where
   same_faults : (p q : D) → q ≡ p → dtls.faults p ≤ dtls.faults q
   same_faults p q same = let e : dtls.faults q ≡ dtls.faults p = ap dtls.faults same in omega arith
 
-  handshake_later : (active : Bool) (r : Result (Unit {0}) DtlsError) (p q : D) → BeginsHandshake dtls active r p q → dtls.faults p ≤ dtls.faults q
-  handshake_later true (Ok done) p q h = laws.faults_rise p q (Given []) h
-  handshake_later false (Ok done) p q h = same_faults p q h
-  handshake_later true (Err error) p q h = same_faults p q h
-  handshake_later false (Err error) p q h = same_faults p q h
+  handshake_later : (active : Bool) (r : Result (Unit {0}) DtlsError) (p q : D) → BeginsHandshake dtls active p r q → dtls.faults p ≤ dtls.faults q
+  handshake_later true r p q h = laws.faults_rise p q (Given []) (h.0, h.1)
+  handshake_later false r p q h = same_faults p q h.1
+
+  begins_later : (answer r : Result (Unit {0}) DtlsError) (active : Bool) (p q : D) → BeginsTimed dtls answer active p r q → dtls.faults p ≤ dtls.faults q
+  begins_later (Ok done) r active p q h = handshake_later active r p q h
+  begins_later (Err error) r active p q h = same_faults p q h.1
 
   role_later : (p : DtlsState D) (active : Bool) (now : ℕ) (r : Result (Unit {0}) DtlsError) (q : DtlsState D) → TakesRole dtls p active now r q
       → dtls.faults p.instance ≤ dtls.faults q.instance
   role_later p active now r q h =
       let first : dtls.faults p.instance ≤ dtls.faults h.activated = laws.faults_rise p.instance h.activated (Stirred (Activated active)) h.by_role in
-      let next : dtls.faults h.activated ≤ dtls.faults h.timed = laws.faults_rise h.activated h.timed (Stirred (TimedAt now r)) h.by_time in
-      let last : dtls.faults h.timed ≤ dtls.faults q.instance = handshake_later active r h.timed q.instance h.by_packet in
+      let next : dtls.faults h.activated ≤ dtls.faults h.timed = laws.faults_rise h.activated h.timed (Stirred (TimedAt now h.answer)) h.by_time in
+      let last : dtls.faults h.timed ≤ dtls.faults q.instance = begins_later h.answer r active h.timed q.instance h.by_packet in
       omega arith
+
+  -- a fault that is told is the timer's
+  no_fault : (answer : Result (Unit {0}) DtlsError) → Err Fault ≡ begun_answer answer → ⊥
+  no_fault (Ok done) is = cc
+  no_fault (Err Fault) is = cc
+  no_fault (Err WouldBlock) is = cc
+  no_fault (Err DtlsAlloc) is = cc
+
+  timer_fault : (answer : Result (Unit {0}) DtlsError) (active : Bool) (p q : D) → BeginsTimed dtls answer active p (Err Fault) q → answer ≡ Err Fault
+  timer_fault (Ok done) true p q h = absurd (no_fault h.0 h.2)
+  timer_fault (Ok done) false p q h = absurd (let e = h.0 in cc)
+  timer_fault (Err error) active p q h = sym h.0
 
   role_fault : (p : DtlsState D) (active : Bool) (now : ℕ) (q : DtlsState D) → TakesRole dtls p active now (Err Fault) q
       → Rose (dtls.faults p.instance) (dtls.faults q.instance)
   role_fault p active now q h =
+      let told : h.answer ≡ Err Fault = timer_fault h.answer active h.timed q.instance h.by_packet in
+      let rose : Rose (dtls.faults h.activated) (dtls.faults h.timed) =
+      subst (λ (r : Result (Unit {0}) DtlsError). DtlsAnswered (dtls.faults h.activated) (dtls.faults h.timed) r) told
+      (laws.timed_answer h.activated h.timed now h.answer h.by_time) in
       rose_along (dtls.faults p.instance) (dtls.faults h.activated) (dtls.faults h.timed) (dtls.faults q.instance)
-      (laws.faults_rise p.instance h.activated (Stirred (Activated active)) h.by_role) (laws.timed_answer h.activated h.timed now (Err Fault) h.by_time)
-      (handshake_later active (Err Fault) h.timed q.instance h.by_packet)
+      (laws.faults_rise p.instance h.activated (Stirred (Activated active)) h.by_role) rose
+      (begins_later h.answer (Err Fault) active h.timed q.instance h.by_packet)
 
   -- the count never falls
   pub start_later : (p q : DtlsState D) (role : Option Bool) (active : Bool) (now : ℕ) (r : Result (Unit {0}) DtlsError) → StartsDtls dtls p role active now r q
@@ -79,10 +97,10 @@ module _ {D : Type 0} (dtls : DtlsMeaning D) (laws : DtlsLaws dtls) where
   start_fault p q (Some role) active now h = absurd (let e = h.0 in cc)
 
   -- the count never falls where memory lacks
-  pub stop_later : (p q : DtlsState D) (active : Bool) (now : ℕ) → StopsStarting dtls p active now q → dtls.faults p.instance ≤ dtls.faults q.instance
-  stop_later p q active now (NotStarted h) = same_faults p.instance q.instance (ap (λ (d : DtlsState D). d.instance) h)
-  stop_later p q active now (AtRole h) = start_later p q p.active active now (Err DtlsAlloc) h
-  stop_later p q active now (BehindRole h) = start_later p q p.active active now (Ok tt) h
+  pub stop_later : (p q : DtlsState D) (active : Bool) (now : ℕ) → (q ≡ p) ⊎ ((r : Result (Unit {0}) DtlsError) × StartsDtls dtls p p.active active now r q)
+      → dtls.faults p.instance ≤ dtls.faults q.instance
+  stop_later p q active now (inl same) = same_faults p.instance q.instance (ap (λ (d : DtlsState D). d.instance) same)
+  stop_later p q active now (inr starts) = start_later p q p.active active now starts.0 starts.1
 
 -- ---- the association
 
@@ -143,7 +161,8 @@ module _ {S : Type 0} (association : AssociationMeaning S) (laws : AssociationLa
   sctp_fault p q rows client now max h = where_fault (needs_start association rows p) p client now max q h
 
   -- the count never falls where memory lacks
-  pub sctp_stop_later : (p q : SctpStreams S) (rows : List LineRow) (client : Bool) (now max : ℕ) → StopsSctp association p rows client now max q
+  pub sctp_stop_later : (p q : SctpStreams S) (rows : List LineRow) (client : Bool) (now max : ℕ)
+      → (q ≡ p) ⊎ ((r : Result (Unit {0}) SctpError) × StartsSctp association p rows client now max r q)
       → association.faults p.association ≤ association.faults q.association
-  sctp_stop_later p q rows client now max (NotInited h) = same_association p q h
-  sctp_stop_later p q rows client now max (AtInit h) = sctp_later p q rows client now max (Err sctp.Alloc) h
+  sctp_stop_later p q rows client now max (inl same) = same_association p q same
+  sctp_stop_later p q rows client now max (inr starts) = sctp_later p q rows client now max starts.0 starts.1

@@ -1,5 +1,5 @@
 -- What an acting peer tells of its parts: of the faults of its DTLS part and its association, and of the lines of its media part.
-use Rattle.std.proofs.Common.{◌≡◌, ◌≤◌, ◌∙◌, ℕ, List, [], ◌∷◌, Bool, true, false, not, ◌&&◌, Option, Some, None, Result, Ok, Err, refl, ap, arith}
+use Rattle.std.proofs.Common.{◌≡◌, ◌≤◌, ◌∙◌, ◌⊎◌, ℕ, List, [], ◌∷◌, Bool, true, false, not, ◌&&◌, Option, Some, None, Result, Ok, Err, refl, ap, arith}
 use Rattle.std.specs.Prelude.{alloc_error}
 use Rattle.std.specs.declared.alloc.AllocError.{AllocError}
 use Rattle.rtc_io.specs.Faults.{Rose}
@@ -23,10 +23,10 @@ use Rattle.rtc_peer_state.specs.declared.peer.Peer.{Peer}
 use Rattle.rtc_peer_state.specs.declared.rtc_error.RtcError.{RtcError}
 use Rattle.rtc_peer_state.specs.declared.rtc_error.RtcError.TheVariants.{Net, Media as MediaFailed}
 use Rattle.rtc_peer_state.specs.declared.rtc_error.RtcError.TheVariants.{RemoteSdp, Sdp as SdpRefused, Dtls, Sctp, ChangesOutOfOrder, BadChannel, Alloc as PeerAlloc}
-use Rattle.rtc_peer_state.specs.Acceptances.{StartsBySdp, StopsBySdp, AcceptsOffer, AcceptsAnswer}
+use Rattle.rtc_peer_state.specs.Acceptances.{StartsBySdp, AcceptsOffer, AcceptsAnswer}
 use Rattle.rtc_peer_state.specs.MadeSdp.{role_after}
 use Rattle.rtc_peer_state.specs.PartMoves.{remote_limit}
-use Rattle.rtc_peer_state.specs.Calls.{ChangesLine, after_channels_alone}
+use Rattle.rtc_peer_state.specs.Calls.{raised, ChangesLine, after_channels_alone}
 use Rattle.rtc_peer_state.specs.Meanings.{Meanings, PartsLaws}
 use Rattle.rtc_history.specs.declared.side.Side.{Side}
 use Rattle.rtc_history.specs.declared.op.Op.{Op}
@@ -46,6 +46,7 @@ use Rattle.rtc_history.specs.Memory.{CountedPart, DtlsPart, AssociationPart, ans
 use Rattle.rtc_history.specs.PairState.{kept_remote_sdp, held_token}
 use Rattle.rtc_history.specs.Performs.{PerformsOps, MakesOf, Negotiates, StepAcceptsOffer, StepAcceptsAnswer, Acts, lent}
 use Rattle.rtc_history.specs.SoundParts.{tells_refusal, faults_of}
+use Rattle.rtc_peer_state.proofs.StoppedPeers.{stopped_dtls, stopped_sctp, stopped_media}
 use Rattle.rtc_history_laws.proofs.CountedFaults.{by_part, start_later, start_fault, stop_later, sctp_later, sctp_fault, sctp_stop_later}
 
 module _ {I D S M E X T W N : Type 0} (m : Meanings I D S M E X T W N) (laws : PartsLaws m) where
@@ -115,7 +116,8 @@ module _ {I D S M E X T W N : Type 0} (m : Meanings I D S M E X T W N) (laws : P
   sdp_fault p offer sdp s h = sctp_fault m.association laws.association p.sctp s (table_after p.lines (parsed_lines sdp) offer)
       (role_after p.dtls.active (sdp_setup sdp)) p.greatest (remote_limit (max_message_size_of sdp)) h
 
-  sdp_stop_later : (p : Peer I D S M N) (offer : Bool) (sdp : Sdp) (s : SctpStreams S) → StopsBySdp m p offer sdp s
+  sdp_stop_later : (p : Peer I D S M N) (offer : Bool) (sdp : Sdp) (s : SctpStreams S)
+      → (s ≡ p.sctp) ⊎ ((r : Result (Unit {0}) SctpError) × StartsBySdp m p offer sdp r s)
       → m.association.faults p.sctp.association ≤ m.association.faults s.association
   sdp_stop_later p offer sdp s h = sctp_stop_later m.association laws.association p.sctp s (table_after p.lines (parsed_lines sdp) offer)
       (role_after p.dtls.active (sdp_setup sdp)) p.greatest (remote_limit (max_message_size_of sdp)) h
@@ -149,10 +151,11 @@ module _ {I D S M E X T W N : Type 0} (m : Meanings I D S M E X T W N) (laws : P
   offer_refused p q offer (MediaFailed cause) h = absurd h
   offer_refused p q offer BadChannel h = absurd h
   offer_refused p q offer PeerAlloc h = record {
-    later = by_part (λ part. faults_of m part p ≤ faults_of m part q) (stop_later m.dtls laws.dtls p.dtls q.dtls _ _ h.dtls_stops)
-        (sdp_stop_later p true offer q.sctp h.sctp_stops);
+    later = by_part (λ part. faults_of m part p ≤ faults_of m part q)
+        (stop_later m.dtls laws.dtls p.dtls q.dtls _ _ (stopped_dtls m (record p { counter = raised p.counter }) _ _ _ _ _ _ q h.stops))
+        (sdp_stop_later p true offer q.sctp (stopped_sctp m (record p { counter = raised p.counter }) _ _ _ _ _ _ q h.stops));
     fault = λ part told. absurd (cc);
-    media = λ told. h.media_kept;
+    media = λ told. stopped_media m laws.media (record p { counter = raised p.counter }) _ _ _ _ _ _ q h.stops;
   }
 
   answer_accepted : (p q : Peer I D S M N) (token : PendingOffer) (answer : Sdp) → AcceptsAnswer m p token answer (Ok tt) q → IsSoundOfSide p Finished q
@@ -184,10 +187,11 @@ module _ {I D S M E X T W N : Type 0} (m : Meanings I D S M E X T W N) (laws : P
   answer_refused p q token answer (MediaFailed cause) h = absurd h
   answer_refused p q token answer BadChannel h = absurd h
   answer_refused p q token answer PeerAlloc h = record {
-    later = by_part (λ part. faults_of m part p ≤ faults_of m part q) (stop_later m.dtls laws.dtls p.dtls q.dtls _ _ h.dtls_stops)
-        (sdp_stop_later p false answer q.sctp h.sctp_stops);
+    later = by_part (λ part. faults_of m part p ≤ faults_of m part q)
+        (stop_later m.dtls laws.dtls p.dtls q.dtls _ _ (stopped_dtls m p _ _ _ _ _ _ q h.stops))
+        (sdp_stop_later p false answer q.sctp (stopped_sctp m p _ _ _ _ _ _ q h.stops));
     fault = λ part told. absurd (cc);
-    media = λ told. h.media_kept;
+    media = λ told. stopped_media m laws.media p _ _ _ _ _ _ q h.stops;
   }
 
   -- ---- ops

@@ -14,9 +14,6 @@ use Rattle.rtc_change.specs.declared.refusal.Refusal.TheVariants.{RemoteSdp as R
 use Rattle.rtc_dtls.specs.declared.dtls_error.DtlsError.TheVariants.{WouldBlock, Fault, Alloc as DtlsAlloc}
 use Rattle.rtc_dtls.specs.DtlsState.{DtlsState}
 use Rattle.rtc_sctp.specs.Streams.{SctpStreams}
-use Rattle.rtc_media.specs.MediaLaws.{MediaLaws}
-use Rattle.rtc_ids.specs.Draws.{Later}
-use Rattle.rtc_ids.proofs.LaterLemmas.{later_none}
 use Rattle.rtc_peer_state.specs.declared.peer.Peer.{Peer}
 use Rattle.rtc_peer_state.specs.declared.phase.Phase.{Phase}
 use Rattle.rtc_peer_state.specs.declared.rtc_error.RtcError.{RtcError}
@@ -36,14 +33,14 @@ use Rattle.rtc_peer_state.specs.Acceptances.{followed_restart, answer_ids, ids_a
 use Rattle.rtc_peer_state.specs.Calls.{raised, control_for}
 use Rattle.rtc_peer_state.specs.MadeSdp.{answer_sdp}
 use Rattle.rtc_peer_state.specs.Meanings.{Meanings}
-use Rattle.rtc_peer_state.specs.PartMoves.{NotBegun, NotStarted, NotInited}
 use Rattle.rtc_peer_state.specs.RtcErrors.{error_of_refusal}
 use Rattle.rtc_peer_state.specs.Stance.{stance_of, held_by}
+use Rattle.rtc_peer_state.specs.StoppedAcceptances.{StopsPreparing, StopsAccepting, AtVerdict, AtPreparing, AtParts}
+use Rattle.rtc_peer_state.proofs.StoppedPeers.{preparing_rest}
 use Rattle.rtc_negotiation.specs.declared.following.Following.{Following}
 use Rattle.rtc_negotiation.specs.declared.growth.Growth.{Growth}
-use Rattle.rtc_negotiation.specs.Growths.{following_of, GrowsOffer, LacksGrowth}
+use Rattle.rtc_negotiation.specs.Growths.{following_of, GrowsOffer}
 use Rattle.rtc_negotiation.specs.Moves.{MovesParts}
-use Rattle.rtc_negotiation.proofs.MediaLemmas.{same_lines}
 
 module _ {I D S M E X T W N : Type 0} (m : Meanings I D S M E X T W N) where
   -- the peer whose counter is raised
@@ -56,25 +53,31 @@ module _ {I D S M E X T W N : Type 0} (m : Meanings I D S M E X T W N) where
   unfolding answer_sdp
   same_answer p restart offer = refl
 
-  -- memory lacked before parts were touched
-  pub offer_lacks : (p q : Peer I D S M N) (offer : Sdp) → LacksGrowth m (counted p) q → OfferStopped m p offer q
-  offer_lacks p q offer lacks = record {
-    later = lacks.0;
-    ice_stops = NotBegun (ap (λ (x : Peer I D S M N). x.ice) lacks.2);
-    dtls_stops = NotStarted (ap (λ (x : Peer I D S M N). x.dtls) lacks.2);
-    sctp_stops = NotInited (ap (λ (x : Peer I D S M N). x.sctp) lacks.2);
-    media_kept = lacks.1;
-    rest = ap (λ (x : Peer I D S M N). record x { ids = q.ids; ice = q.ice; dtls = q.dtls; sctp = q.sctp; media = q.media }) lacks.2;
-  }
+  -- memory lacked, which leaves rows, channels and fingerprint wherever it stopped
+  stopped_at : (p q : Peer I D S M N) (offer : Sdp)
+      → StopsAccepting m (counted p) None [] offer (followed_restart m p offer) (control_for p.dtls.active offer.ice_lite) (answer_ids m p offer) q
+      → q ≡ record (counted p) { ids = q.ids; ice = q.ice; dtls = q.dtls; sctp = q.sctp; media = q.media } → OfferStopped m p offer q
+  stopped_at p q offer stops rest = record { stops = stops; rest = rest }
+
+  -- it lacked as the offer was judged
+  offer_unjudged : (p : Peer I D S M N) (offer : Sdp) → OfferStopped m p offer (counted p)
+  offer_unjudged p offer = stopped_at p (counted p) offer (AtVerdict refl) refl
+
+  -- it lacked as what the acceptance needs was prepared
+  pub offer_unprepared : (p q : Peer I D S M N) (offer : Sdp) → verdict (held_by (stance_of m p)) None offer ≡ None
+      → StopsPreparing m (counted p) true [] offer (answer_ids m (counted p) offer) q → OfferStopped m p offer q
+  offer_unprepared p q offer passes stops =
+      stopped_at p q offer (AtPreparing passes stops)
+      (ap (λ (x : Peer I D S M N). record x { ice = q.ice; dtls = q.dtls; sctp = q.sctp }) (preparing_rest m (counted p) true [] offer (answer_ids m p offer) q stops))
 
   -- the offer is refused as it is judged
   judged : (p : Peer I D S M N) (offer : Sdp) (refusal : Refusal) → PlansSdp (held_by (stance_of m p)) None offer (Err refusal)
       → AcceptsOffer m p offer (Err (error_of_refusal refusal)) (record p { counter = raised p.counter; phase = refused_phase refusal p.phase })
   judged p offer (RefusedSdp why) plans = (plans, refl)
-  judged p offer (RefusedText SdpAlloc) plans = offer_lacks p (counted p) offer (later_none m.ids p.ids, same_lines m.media p.media, refl)
+  judged p offer (RefusedText SdpAlloc) plans = offer_unjudged p offer
   judged p offer (RefusedText (Parse line)) plans = (plans, refl)
   judged p offer (RefusedText (Inconsistent cause)) plans = (plans, refl)
-  judged p offer NoMemory plans = offer_lacks p (counted p) offer (later_none m.ids p.ids, same_lines m.media p.media, refl)
+  judged p offer NoMemory plans = offer_unjudged p offer
 
   pub offer_refused : (p : Peer I D S M N) (offer : Sdp) (refusal : Refusal) (error : RtcError) (phase : Phase)
       → PlansSdp (held_by (stance_of m p)) None offer (Err refusal) → error ≡ error_of_refusal refusal → phase ≡ refused_phase refusal p.phase
@@ -115,10 +118,10 @@ module _ {I D S M E X T W N : Type 0} (m : Meanings I D S M E X T W N) where
   moved p q offer growth ice dtls sctp grown = ap (λ (x : Peer I D S M N). record x { ice = ice; dtls = dtls; sctp = sctp }) grown.2
 
   -- a part failed, or memory lacked
-  pub offer_fails : MediaLaws m.media → (p q : Peer I D S M N) (offer : Sdp) (growth : Growth) (error : RtcError) (ice : I) (dtls : DtlsState D) (sctp : SctpStreams S)
-      → GrowsOffer m (counted p) offer (Ok growth) q → Later m.ids p.ids q.ids → verdict (held_by (stance_of m p)) None offer ≡ None
+  pub offer_fails : (p q : Peer I D S M N) (offer : Sdp) (growth : Growth) (error : RtcError) (ice : I) (dtls : DtlsState D) (sctp : SctpStreams S)
+      → GrowsOffer m (counted p) offer (Ok growth) q → verdict (held_by (stance_of m p)) None offer ≡ None
       → OfferMoves p offer (Err error) ice dtls sctp → AcceptsOffer m p offer (Err error) (record q { ice = ice; dtls = dtls; sctp = sctp })
-  offer_fails laws p q offer growth (Dtls Fault) ice dtls sctp grown later passes moves = record {
+  offer_fails p q offer growth (Dtls Fault) ice dtls sctp grown passes moves = record {
     passes = passes;
     ice_follows = moves.0;
     dtls_fails = moves.1;
@@ -132,7 +135,7 @@ module _ {I D S M E X T W N : Type 0} (m : Meanings I D S M E X T W N) where
       media = q.media;
     }) moves.2;
   }
-  offer_fails laws p q offer growth (Sctp error) ice dtls sctp grown later passes moves = (
+  offer_fails p q offer growth (Sctp error) ice dtls sctp grown passes moves = (
     moves.0,
     record {
       passes = passes;
@@ -143,22 +146,17 @@ module _ {I D S M E X T W N : Type 0} (m : Meanings I D S M E X T W N) where
       rest = moved p q offer growth ice dtls sctp grown;
     },
   )
-  offer_fails laws p q offer growth Alloc ice dtls sctp grown later passes moves = record {
-    later = later;
-    ice_stops = moves.0;
-    dtls_stops = moves.1;
-    sctp_stops = moves.2;
-    media_kept = laws.prepare_same p.media q.media _ (Ok tt) grown.1;
-    rest = ap (λ (x : Peer I D S M N). record x { ids = q.ids; ice = ice; dtls = dtls; sctp = sctp }) grown.2;
-  }
-  offer_fails laws p q offer growth (Dtls WouldBlock) ice dtls sctp grown later passes moves = absurd moves
-  offer_fails laws p q offer growth (Dtls DtlsAlloc) ice dtls sctp grown later passes moves = absurd moves
-  offer_fails laws p q offer growth (RemoteSdp why) ice dtls sctp grown later passes moves = absurd moves
-  offer_fails laws p q offer growth (SdpRefused error) ice dtls sctp grown later passes moves = absurd moves
-  offer_fails laws p q offer growth ChangesOutOfOrder ice dtls sctp grown later passes moves = absurd moves
-  offer_fails laws p q offer growth (Net cause) ice dtls sctp grown later passes moves = absurd moves
-  offer_fails laws p q offer growth (MediaFailed cause) ice dtls sctp grown later passes moves = absurd moves
-  offer_fails laws p q offer growth BadChannel ice dtls sctp grown later passes moves = absurd moves
+  offer_fails p q offer growth Alloc ice dtls sctp grown passes moves =
+      stopped_at p (record q { ice = ice; dtls = dtls; sctp = sctp }) offer (AtParts passes (ap (λ (x : Peer I D S M N). x.ids) grown.2) grown.1 moves)
+      (ap (λ (x : Peer I D S M N). record x { ids = q.ids; ice = ice; dtls = dtls; sctp = sctp; media = q.media }) grown.2)
+  offer_fails p q offer growth (Dtls WouldBlock) ice dtls sctp grown passes moves = absurd moves
+  offer_fails p q offer growth (Dtls DtlsAlloc) ice dtls sctp grown passes moves = absurd moves
+  offer_fails p q offer growth (RemoteSdp why) ice dtls sctp grown passes moves = absurd moves
+  offer_fails p q offer growth (SdpRefused error) ice dtls sctp grown passes moves = absurd moves
+  offer_fails p q offer growth ChangesOutOfOrder ice dtls sctp grown passes moves = absurd moves
+  offer_fails p q offer growth (Net cause) ice dtls sctp grown passes moves = absurd moves
+  offer_fails p q offer growth (MediaFailed cause) ice dtls sctp grown passes moves = absurd moves
+  offer_fails p q offer growth BadChannel ice dtls sctp grown passes moves = absurd moves
 
   -- the offer is accepted
   pub offer_accepted : (p q : Peer I D S M N) (offer answer : Sdp) (growth : Growth) (ice : I) (dtls : DtlsState D) (sctp : SctpStreams S) (media : M) (lines : List LineRow)

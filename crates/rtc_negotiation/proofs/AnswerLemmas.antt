@@ -16,9 +16,6 @@ use Rattle.rtc_change.specs.TableAfter.{table_after}
 use Rattle.rtc_dtls.specs.declared.dtls_error.DtlsError.TheVariants.{WouldBlock, Fault, Alloc as DtlsAlloc}
 use Rattle.rtc_dtls.specs.DtlsState.{DtlsState}
 use Rattle.rtc_sctp.specs.Streams.{SctpStreams}
-use Rattle.rtc_media.specs.MediaLaws.{MediaLaws}
-use Rattle.rtc_ids.specs.Draws.{Later}
-use Rattle.rtc_ids.proofs.LaterLemmas.{later_none}
 use Rattle.rtc_peer_state.specs.declared.peer.Peer.{Peer}
 use Rattle.rtc_peer_state.specs.declared.phase.Phase.{Phase}
 use Rattle.rtc_peer_state.specs.declared.rtc_error.RtcError.{RtcError}
@@ -36,37 +33,43 @@ use Rattle.rtc_peer_state.specs.declared.rtc_error.RtcError.TheVariants.{
 use Rattle.rtc_peer_state.specs.Acceptances.{AcceptsAnswer, AnswerAccepted, AnswerStopped, refused_phase, ids_after_updates}
 use Rattle.rtc_peer_state.specs.Calls.{raised, fitting_channels}
 use Rattle.rtc_peer_state.specs.Meanings.{Meanings}
-use Rattle.rtc_peer_state.specs.PartMoves.{NotBegun, NotStarted, NotInited}
 use Rattle.rtc_peer_state.specs.RtcErrors.{error_of_refusal}
 use Rattle.rtc_peer_state.specs.Stance.{stance_of, held_by}
+use Rattle.rtc_peer_state.specs.StoppedAcceptances.{StopsPreparing, StopsAccepting, AtVerdict, AtPreparing, AtParts}
+use Rattle.rtc_peer_state.proofs.StoppedPeers.{preparing_rest}
 use Rattle.rtc_negotiation.specs.declared.following.Following.{Following}
 use Rattle.rtc_negotiation.specs.declared.growth.Growth.{Growth}
-use Rattle.rtc_negotiation.specs.Growths.{following_of, GrowsAnswer, LacksGrowth}
+use Rattle.rtc_negotiation.specs.Growths.{following_of, GrowsAnswer}
 use Rattle.rtc_negotiation.specs.Moves.{MovesParts}
-use Rattle.rtc_negotiation.proofs.MediaLemmas.{same_lines}
 
 module _ {I D S M E X T W N : Type 0} (m : Meanings I D S M E X T W N) where
-  -- memory lacked before parts were touched
-  pub answer_lacks : (p q : Peer I D S M N) (token : PendingOffer) (answer : Sdp) → p.counter ≡ raised token.id → LacksGrowth m p q → AnswerStopped m p token answer q
-  answer_lacks p q token answer right lacks = record {
-    right = right;
-    later = lacks.0;
-    ice_stops = NotBegun (ap (λ (x : Peer I D S M N). x.ice) lacks.2);
-    dtls_stops = NotStarted (ap (λ (x : Peer I D S M N). x.dtls) lacks.2);
-    sctp_stops = NotInited (ap (λ (x : Peer I D S M N). x.sctp) lacks.2);
-    media_kept = lacks.1;
-    rest = ap (λ (x : Peer I D S M N). record x { ids = q.ids; ice = q.ice; dtls = q.dtls; sctp = q.sctp; media = q.media }) lacks.2;
-  }
+  -- memory lacked, which leaves rows, channels and fingerprint wherever it stopped
+  stopped_at : (p q : Peer I D S M N) (token : PendingOffer) (answer : Sdp) → p.counter ≡ raised token.id
+      → StopsAccepting m p (Some (asked_by p.lines token)) token.changes answer (staged_restart token.changes) None p.ids q
+      → q ≡ record p { ids = q.ids; ice = q.ice; dtls = q.dtls; sctp = q.sctp; media = q.media } → AnswerStopped m p token answer q
+  stopped_at p q token answer right stops rest = record { right = right; stops = stops; rest = rest }
+
+  -- it lacked as the answer was judged
+  answer_unjudged : (p : Peer I D S M N) (token : PendingOffer) (answer : Sdp) → p.counter ≡ raised token.id → AnswerStopped m p token answer p
+  answer_unjudged p token answer right = stopped_at p p token answer right (AtVerdict refl) refl
+
+  -- it lacked as what the acceptance needs was prepared
+  pub answer_unprepared : (p q : Peer I D S M N) (token : PendingOffer) (answer : Sdp) → p.counter ≡ raised token.id
+      → verdict (held_by (stance_of m p)) (Some (asked_by p.lines token)) answer ≡ None → StopsPreparing m p false token.changes answer p.ids q
+      → AnswerStopped m p token answer q
+  answer_unprepared p q token answer right passes stops =
+      stopped_at p q token answer right (AtPreparing passes stops)
+      (ap (λ (x : Peer I D S M N). record x { ice = q.ice; dtls = q.dtls; sctp = q.sctp }) (preparing_rest m p false token.changes answer p.ids q stops))
 
   -- the answer is refused as it is judged
   judged : (p : Peer I D S M N) (token : PendingOffer) (answer : Sdp) (refusal : Refusal) → p.counter ≡ raised token.id
       → PlansSdp (held_by (stance_of m p)) (Some (asked_by p.lines token)) answer (Err refusal)
       → AcceptsAnswer m p token answer (Err (error_of_refusal refusal)) (record p { phase = refused_phase refusal p.phase })
   judged p token answer (RefusedSdp why) right plans = (right, (plans, refl))
-  judged p token answer (RefusedText SdpAlloc) right plans = answer_lacks p p token answer right (later_none m.ids p.ids, same_lines m.media p.media, refl)
+  judged p token answer (RefusedText SdpAlloc) right plans = answer_unjudged p token answer right
   judged p token answer (RefusedText (Parse line)) right plans = (right, (plans, refl))
   judged p token answer (RefusedText (Inconsistent cause)) right plans = (right, (plans, refl))
-  judged p token answer NoMemory right plans = answer_lacks p p token answer right (later_none m.ids p.ids, same_lines m.media p.media, refl)
+  judged p token answer NoMemory right plans = answer_unjudged p token answer right
 
   pub answer_refused : (p : Peer I D S M N) (token : PendingOffer) (answer : Sdp) (refusal : Refusal) (error : RtcError) (phase : Phase) → p.counter ≡ raised token.id
       → PlansSdp (held_by (stance_of m p)) (Some (asked_by p.lines token)) answer (Err refusal) → error ≡ error_of_refusal refusal
@@ -105,11 +108,11 @@ module _ {I D S M E X T W N : Type 0} (m : Meanings I D S M E X T W N) where
   moved p q changes answer growth ice dtls sctp grown = ap (λ (x : Peer I D S M N). record x { ice = ice; dtls = dtls; sctp = sctp }) grown.2
 
   -- a part failed, or memory lacked
-  pub answer_fails : MediaLaws m.media → (p q : Peer I D S M N) (token : PendingOffer) (answer : Sdp) (growth : Growth) (error : RtcError) (ice : I) (dtls : DtlsState D)
-      (sctp : SctpStreams S) → p.counter ≡ raised token.id → GrowsAnswer m p token.changes answer (Ok growth) q → Later m.ids p.ids q.ids
+  pub answer_fails : (p q : Peer I D S M N) (token : PendingOffer) (answer : Sdp) (growth : Growth) (error : RtcError) (ice : I) (dtls : DtlsState D)
+      (sctp : SctpStreams S) → p.counter ≡ raised token.id → GrowsAnswer m p token.changes answer (Ok growth) q
       → verdict (held_by (stance_of m p)) (Some (asked_by p.lines token)) answer ≡ None → AnswerMoves p token.changes answer (Err error) ice dtls sctp
       → AcceptsAnswer m p token answer (Err error) (record q { ice = ice; dtls = dtls; sctp = sctp })
-  answer_fails laws p q token answer growth (Dtls Fault) ice dtls sctp right grown later passes moves = record {
+  answer_fails p q token answer growth (Dtls Fault) ice dtls sctp right grown passes moves = record {
     right = right;
     passes = passes;
     ice_follows = moves.0;
@@ -123,7 +126,7 @@ module _ {I D S M E X T W N : Type 0} (m : Meanings I D S M E X T W N) where
       media = q.media;
     }) moves.2;
   }
-  answer_fails laws p q token answer growth (Sctp error) ice dtls sctp right grown later passes moves = (
+  answer_fails p q token answer growth (Sctp error) ice dtls sctp right grown passes moves = (
     moves.0,
     record {
       right = right;
@@ -135,23 +138,18 @@ module _ {I D S M E X T W N : Type 0} (m : Meanings I D S M E X T W N) where
       rest = moved p q token.changes answer growth ice dtls sctp grown;
     },
   )
-  answer_fails laws p q token answer growth Alloc ice dtls sctp right grown later passes moves = record {
-    right = right;
-    later = later;
-    ice_stops = moves.0;
-    dtls_stops = moves.1;
-    sctp_stops = moves.2;
-    media_kept = laws.prepare_same p.media q.media _ (Ok tt) grown.1;
-    rest = ap (λ (x : Peer I D S M N). record x { ids = q.ids; ice = ice; dtls = dtls; sctp = sctp }) grown.2;
-  }
-  answer_fails laws p q token answer growth (Dtls WouldBlock) ice dtls sctp right grown later passes moves = absurd moves
-  answer_fails laws p q token answer growth (Dtls DtlsAlloc) ice dtls sctp right grown later passes moves = absurd moves
-  answer_fails laws p q token answer growth (RemoteSdp why) ice dtls sctp right grown later passes moves = absurd moves
-  answer_fails laws p q token answer growth (SdpRefused error) ice dtls sctp right grown later passes moves = absurd moves
-  answer_fails laws p q token answer growth ChangesOutOfOrder ice dtls sctp right grown later passes moves = absurd moves
-  answer_fails laws p q token answer growth (Net cause) ice dtls sctp right grown later passes moves = absurd moves
-  answer_fails laws p q token answer growth (MediaFailed cause) ice dtls sctp right grown later passes moves = absurd moves
-  answer_fails laws p q token answer growth BadChannel ice dtls sctp right grown later passes moves = absurd moves
+  answer_fails p q token answer growth Alloc ice dtls sctp right grown passes moves =
+      stopped_at p (record q { ice = ice; dtls = dtls; sctp = sctp }) token answer right
+      (AtParts passes (ap (λ (x : Peer I D S M N). x.ids) grown.2) grown.1 moves)
+      (ap (λ (x : Peer I D S M N). record x { ids = q.ids; ice = ice; dtls = dtls; sctp = sctp; media = q.media }) grown.2)
+  answer_fails p q token answer growth (Dtls WouldBlock) ice dtls sctp right grown passes moves = absurd moves
+  answer_fails p q token answer growth (Dtls DtlsAlloc) ice dtls sctp right grown passes moves = absurd moves
+  answer_fails p q token answer growth (RemoteSdp why) ice dtls sctp right grown passes moves = absurd moves
+  answer_fails p q token answer growth (SdpRefused error) ice dtls sctp right grown passes moves = absurd moves
+  answer_fails p q token answer growth ChangesOutOfOrder ice dtls sctp right grown passes moves = absurd moves
+  answer_fails p q token answer growth (Net cause) ice dtls sctp right grown passes moves = absurd moves
+  answer_fails p q token answer growth (MediaFailed cause) ice dtls sctp right grown passes moves = absurd moves
+  answer_fails p q token answer growth BadChannel ice dtls sctp right grown passes moves = absurd moves
 
   -- the answer is accepted
   pub answer_accepted : (p q : Peer I D S M N) (token : PendingOffer) (answer : Sdp) (growth : Growth) (ice : I) (dtls : DtlsState D) (sctp : SctpStreams S) (media : M)

@@ -6,7 +6,7 @@ use Rattle.rtc_ice.specs.IceMeaning.{IceMeaning}
 use Rattle.rtc_dtls.specs.declared.dtls_error.DtlsError.{DtlsError}
 use Rattle.rtc_dtls.specs.DtlsMeaning.{DtlsMeaning}
 use Rattle.rtc_dtls.specs.DtlsState.{DtlsState, SetsRole, HandsOn}
-use Rattle.rtc_peer_state.specs.PartMoves.{TakesCandidates, BeginsHandshake, TakesRole}
+use Rattle.rtc_peer_state.specs.PartMoves.{TakesCandidates, begun_answer, BeginsHandshake, BeginsTimed, TakesRole}
 
 -- what is taken of the candidates that are left is taken of all
 abbrev pub TakesLast : {I : Type 0} → IceMeaning I → I → List Candidate → I → List Candidate → Type 0
@@ -49,35 +49,36 @@ pushed_role : {D : Type 0} (dtls : DtlsMeaning D) (t q : DtlsState D) (active : 
     → HandsOn dtls t t.active (GivenNothing dtls) r q → HandsOn dtls t (Some active) (GivenNothing dtls) r q
 pushed_role dtls t q active r is given = subst (λ (o : Option Bool). HandsOn dtls t o (GivenNothing dtls) r q) is given
 
--- a side that waits, or whose timer failed
-pub takes_role_waiting : {D : Type 0} (dtls : DtlsMeaning D) (p a t : DtlsState D) (active : Bool) (now : ℕ) (r : Result (Unit {0}) DtlsError) → p.active ≡ None
-    → SetsRole dtls p p.active active a → HandsOn dtls a a.active (TimedAt dtls now) r t → BeginsHandshake dtls active r t.instance t.instance → TakesRole dtls p active now r t
-takes_role_waiting dtls p a t active now r none set0 timed0 begins =
+-- a role that is taken, by what each call did
+pub takes_role : {D : Type 0} (dtls : DtlsMeaning D) (p a t q : DtlsState D) (active : Bool) (now : ℕ) (answer r : Result (Unit {0}) DtlsError) → p.active ≡ None
+    → SetsRole dtls p p.active active a → HandsOn dtls a a.active (TimedAt dtls now) answer t → BeginsTimed dtls answer active t.instance r q.instance
+    → q ≡ record t { instance = q.instance } → TakesRole dtls p active now r q
+takes_role dtls p a t q active now answer r none set0 timed0 begins others =
     let set = set_role dtls p a active none set0 in
-    let timed = timed_role dtls a t active now r (ap (λ x. x.active) set.1) timed0 in
+    let timed = timed_role dtls a t active now answer (ap (λ x. x.active) set.1) timed0 in
     record {
       activated = a.instance;
       timed = t.instance;
+      answer = answer;
       by_role = set.0;
       by_time = timed.0;
       by_packet = begins;
-      rest = timed.1 ∙ ap (λ (x : DtlsState _). record x { instance = t.instance }) set.1;
+      rest = others ∙ ap (λ (x : DtlsState _). record x { instance = q.instance }) (timed.1 ∙ ap (λ (x : DtlsState _). record x { instance = t.instance }) set.1);
     }
 
--- a side that begins
-pub takes_role_beginning : {D : Type 0} (dtls : DtlsMeaning D) (p a t q : DtlsState D) (now : ℕ) (r : Result (Unit {0}) DtlsError) → p.active ≡ None
-    → SetsRole dtls p p.active true a → HandsOn dtls a a.active (TimedAt dtls now) (Ok tt) t → HandsOn dtls t t.active (GivenNothing dtls) r q
-    → TakesRole dtls p true now (Ok tt) q
-takes_role_beginning dtls p a t q now r none set0 timed0 given0 =
-    let set = set_role dtls p a true none set0 in
-    let timed = timed_role dtls a t true now (Ok tt) (ap (λ x. x.active) set.1) timed0 in
-    let role : t.active ≡ Some true = ap (λ x. x.active) timed.1 ∙ ap (λ x. x.active) set.1 in
-    let given = pushed_role dtls t q true r role given0 in
-    record {
-      activated = a.instance;
-      timed = t.instance;
-      by_role = set.0;
-      by_time = timed.0;
-      by_packet = (r, given.0);
-      rest = given.1 ∙ ap (λ (x : DtlsState _). record x { instance = q.instance }) (timed.1 ∙ ap (λ (x : DtlsState _). record x { instance = t.instance }) set.1);
-    }
+-- the role that is set stays as the timer is told
+pub role_stays : {D : Type 0} (dtls : DtlsMeaning D) (p a t : DtlsState D) (active : Bool) (now : ℕ) (answer : Result (Unit {0}) DtlsError) → p.active ≡ None
+    → SetsRole dtls p p.active active a → HandsOn dtls a a.active (TimedAt dtls now) answer t → t.active ≡ Some active
+role_stays dtls p a t active now answer none set0 timed0 =
+    let set = set_role dtls p a active none set0 in
+    let timed = timed_role dtls a t active now answer (ap (λ x. x.active) set.1) timed0 in
+    ap (λ x. x.active) timed.1 ∙ ap (λ x. x.active) set.1
+
+-- an active side begins by a packet of no bytes
+pub begins_handshake : {D : Type 0} (dtls : DtlsMeaning D) (t q : DtlsState D) (answer r : Result (Unit {0}) DtlsError) → t.active ≡ Some true
+    → HandsOn dtls t t.active (GivenNothing dtls) answer q → r ≡ begun_answer answer → BeginsHandshake dtls true t.instance r q.instance
+begins_handshake dtls t q answer r role given0 is = (answer, (pushed_role dtls t q true answer role given0).0, is)
+
+pub begins_alone : {D : Type 0} (dtls : DtlsMeaning D) (t q : DtlsState D) (answer : Result (Unit {0}) DtlsError) → t.active ≡ Some true
+    → HandsOn dtls t t.active (GivenNothing dtls) answer q → q ≡ record t { instance = q.instance }
+begins_alone dtls t q answer role given0 = (pushed_role dtls t q true answer role given0).1

@@ -1,11 +1,14 @@
 -- What an acceptance makes ready, put together from its steps.
-use Rattle.std.proofs.Common.{◌≡◌, ◌∙◌, Bool, true, List, [], Option, Some, Ok, ap, subst}
+use Rattle.std.proofs.Common.{◌≡◌, ◌∙◌, Bool, true, List, [], Option, Some, Ok, Err, refl, ap, subst}
+use Rattle.std.specs.declared.alloc.AllocError.{AllocError}
 use Rattle.std.specs.Option.{option_or}
 use Rattle.rtc_sdp_values.specs.Sdp.{creds_of, sdp_fingerprint}
 use Rattle.rtc_sdp_values.specs.declared.ice_creds.IceCreds.{IceCreds}
 use Rattle.rtc_sdp_values.specs.declared.sdp.Sdp.{Sdp}
 use Rattle.rtc_media.specs.declared.media_update.MediaUpdate.{MediaUpdate}
+use Rattle.rtc_change.specs.declared.change.Change.{Change}
 use Rattle.rtc_change.specs.Plans.{is_restart}
+use Rattle.rtc_ids.specs.Draws.{Later}
 use Rattle.rtc_peer_state.specs.declared.peer.Peer.{Peer}
 use Rattle.rtc_peer_state.specs.Acceptances.{followed_restart, answer_ids, updates_for, ids_after_updates}
 use Rattle.rtc_peer_state.specs.Calls.{control_for}
@@ -13,6 +16,7 @@ use Rattle.rtc_peer_state.specs.Creds.{new_creds, after_new_creds}
 use Rattle.rtc_peer_state.specs.MadeSdp.{answer_sdp}
 use Rattle.rtc_peer_state.specs.Meanings.{Meanings}
 use Rattle.rtc_peer_state.specs.Stance.{stance_of}
+use Rattle.rtc_peer_state.specs.StoppedAcceptances.{StopsPreparing, BeforeSources, AmongSources, AtUpdates}
 use Rattle.rtc_negotiation.specs.declared.growth.Growth.{Growth}
 use Rattle.rtc_negotiation.specs.Growths.{following_of, GrowsOffer}
 
@@ -40,3 +44,32 @@ offer_grown {I} {D} {S} {M} {E} {X} {T} {W} {N} m p q offer restarts restart ids
           (subst (λ (x : M). m.media.prepared x updates (Ok tt) media) same prepared),
       ap (λ (x : Peer I D S M N). record x { media = media }) (others ∙ ap (λ (n : N). record p { ids = n }) last),
     )
+
+-- what was drawn before sources
+pub drawn_creds_ids : {I D S M E X T W N : Type 0} (m : Meanings I D S M E X T W N) (p : Peer I D S M N) (offer : Sdp) (restarts : Bool) (ids : N)
+    → restarts ≡ is_restart (m.ice.settings p.ice).remote (creds_of offer) → ids ≡ after_new_creds m.ids p.ids restarts → ids ≡ answer_ids m p offer
+drawn_creds_ids m p offer restarts ids is ids_is = ids_is ∙ ap (after_new_creds m.ids p.ids) is
+
+module _ {I D S M E X T W N : Type 0} (m : Meanings I D S M E X T W N) where
+  -- memory lacked before sources were drawn
+  pub stops_before_sources : (p : Peer I D S M N) (offer : Bool) (changes : List Change) (sdp : Sdp) (drawn ids : N) → ids ≡ drawn
+      → StopsPreparing m p offer changes sdp drawn (record p { ids = ids })
+  stops_before_sources p offer changes sdp drawn ids is = BeforeSources (ap (λ (n : N). record p { ids = n }) is)
+
+  -- it lacked among them
+  pub stops_among_sources : (p q : Peer I D S M N) (offer : Bool) (changes : List Change) (sdp : Sdp) (drawn ids : N) → ids ≡ drawn → q ≡ record p { ids = q.ids }
+      → Later m.ids ids q.ids → Later m.ids q.ids (ids_after_updates m p offer changes sdp ids) → StopsPreparing m p offer changes sdp drawn q
+  stops_among_sources p q offer changes sdp drawn ids is others some most =
+      AmongSources (subst (λ (n : N). Later m.ids n q.ids) is some) (subst (λ (n : N). Later m.ids q.ids (ids_after_updates m p offer changes sdp n)) is most) others
+
+  -- it lacked as the media part prepared its updates
+  pub stops_at_updates : (p q : Peer I D S M N) (offer : Bool) (changes : List Change) (sdp : Sdp) (drawn ids : N) (updates : List MediaUpdate) (error : AllocError)
+      (media : M) → ids ≡ drawn → q ≡ record p { ids = q.ids } → updates ≡ updates_for m p offer changes sdp ids → q.ids ≡ ids_after_updates m p offer changes sdp ids
+      → m.media.prepared q.media updates (Err error) media → StopsPreparing m p offer changes sdp drawn (record q { media = media })
+  stops_at_updates p q offer changes sdp drawn ids updates error media is others updates_are after lacks =
+      let same : q.media ≡ p.media = ap (λ (x : Peer I D S M N). x.media) others in
+      let last : q.ids ≡ ids_after_updates m p offer changes sdp drawn = after ∙ ap (λ (n : N). ids_after_updates m p offer changes sdp n) is in
+      AtUpdates error
+      (subst (λ (us : List MediaUpdate). m.media.prepared p.media us (Err error) media) (updates_are ∙ ap (λ (n : N). updates_for m p offer changes sdp n) is)
+      (subst (λ (x : M). m.media.prepared x updates (Err error) media) same lacks))
+      (ap (λ (x : Peer I D S M N). record x { media = media }) (others ∙ ap (λ (n : N). record p { ids = n }) last))

@@ -14,7 +14,7 @@ use Rattle.rtc_sctp.specs.declared.proto_error.ProtoError.TheVariants.{Started, 
 use Rattle.rtc_sctp.specs.declared.sctp_error.SctpError.{SctpError}
 use Rattle.rtc_sctp.specs.declared.sctp_error.SctpError.TheVariants as sctp
 use Rattle.rtc_peer_state.specs.MadeSdp.{role_after}
-use Rattle.rtc_peer_state.specs.PartMoves.{Behind, BehindRole, AtInit, needs_start, StartsWhere, remote_limit}
+use Rattle.rtc_peer_state.specs.PartMoves.{AtStart, needs_start, StartsWhere, remote_limit}
 use Rattle.rtc_peer_state.specs.RtcErrors.{error_of_sctp}
 use Rattle.rtc_negotiation.specs.declared.following.Following.{Following}
 use Rattle.rtc_negotiation.specs.Moves.{FollowsReady, DtlsMoves, SctpMoves, MovesParts}
@@ -45,4 +45,4 @@ module _ {I D S : Type 0} (ice : IceMeaning I) (dtls : DtlsMeaning D) (associati
       by true is sctp.DcepIncorrectMessageType h = absurd h
       by true is sctp.DcepBadUtf8 h = absurd h
       by true is sctp.Alloc h =
-          (Behind follows, BehindRole role, AtInit (subst (λ (b : Bool). StartsWhere association b s (role_after d.active (sdp_setup sdp)) now (remote_limit (max_message_size_of sdp)) (Err sctp.Alloc) t) is h))
+          AtStart follows role (subst (λ (b : Bool). StartsWhere association b s (role_after d.active (sdp_setup sdp)) now (remote_limit (max_message_size_of sdp)) (Err sctp.Alloc) t) is h)

@@ -1,15 +1,17 @@
 -- The updates of rows, one row at a time.
-use Rattle.std.proofs.Common.{◌≡◌, ◌∙◌, ℕ, zero, suc, Bool, List, [], ◌∷◌, ◌++◌, drop, length, slice_index_or, ◌<◌, arith, Option, Some, None, refl, sym, ap, subst, append_assoc, append-nil}
+use Rattle.std.proofs.Common.{◌≡◌, ◌∙◌, ℕ, zero, suc, Bool, true, false, List, [], ◌∷◌, ◌++◌, drop, length, slice_index_or, ◌<◌, arith, Option, Some, None, refl, sym, ap, subst, append_assoc, append-nil}
 use Rattle.std.specs.Prelude.{slice_get}
 use Rattle.std.specs.List.{flat_map}
 use Rattle.rtc_sdp_values.specs.LineRow.{row_mid}
 use Rattle.rtc_sdp_values.specs.declared.line_row.LineRow.{LineRow}
 use Rattle.rtc_sdp_values.specs.declared.media_line.MediaLine.{MediaLine}
 use Rattle.rtc_media.specs.declared.media_update.MediaUpdate.{MediaUpdate}
-use Rattle.rtc_ids.specs.Draws.{Draws}
+use Rattle.rtc_ids.specs.Draws.{Draws, Later}
+use Rattle.rtc_ids.proofs.LaterLemmas.{later_none, later_join}
 use Rattle.rtc_peer_state.specs.declared.sending.Sending.{Sending}
-use Rattle.rtc_peer_state.specs.Sources.{pair_numbers}
-use Rattle.rtc_peer_state.specs.LineUpdates.{first_row, rows_behind, if_media, row_update, row_pairs, after_row, row_updates, after_updates}
+use Rattle.rtc_peer_state.specs.Sources.{pair_numbers, pair_count, after_pairs}
+use Rattle.rtc_peer_state.specs.LineUpdates.{first_row, rows_behind, if_media, row_update, row_kind, row_pairs, wants_sources, after_row, row_updates, after_updates}
+use Rattle.rtc_drawing.proofs.Pairs.{after_pairs_later}
 
 -- what is at a place is the first of those from there on
 from_here : {A : Type 0} (k : ℕ) (xs : List A) (x : A) → Some x ≡ slice_get xs k → drop k xs ≡ x ∷ drop (suc k) xs
@@ -82,3 +84,41 @@ pub after_no_updates : {N : Type 0} (draws : Draws N) (used : ℕ → Bool) (sen
 after_no_updates draws used sends [] lines ids last none h = h
 after_no_updates draws used sends (row ∷ rows) lines ids last none h =
     subst (λ (ls : List MediaLine). after_updates draws used sends (row ∷ rows) ls ids ≡ last) none h
+
+-- ---- how many numbers are drawn at most
+
+after_row_later : {N : Type 0} (draws : Draws N) (used : ℕ → Bool) (sending : Sending) (row : LineRow) (ids : N) → Later draws ids (after_row draws used sending row ids)
+after_row_later {N} draws used sending row ids = by (wants_sources row sending)
+  where
+    by : (wants : Bool) → Later draws ids (elim wants [
+      | true ↦ after_pairs draws used (row_kind row) (pair_count sending.simulcast) ids
+      | false ↦ ids
+    ])
+    by true = after_pairs_later draws used (row_kind row) (pair_count sending.simulcast) ids
+    by false = later_none draws ids
+
+after_updates_later : {N : Type 0} (draws : Draws N) (used : ℕ → Bool) (sends : List ℕ → Sending) (rows : List LineRow) (lines : List MediaLine) (ids : N)
+    → Later draws ids (after_updates draws used sends rows lines ids)
+after_updates_later draws used sends [] lines ids = later_none draws ids
+after_updates_later draws used sends (row ∷ rows) [] ids = later_none draws ids
+after_updates_later draws used sends (row ∷ rows) (line ∷ lines) ids =
+    later_join draws ids (after_row draws used (sends (row_mid row)) row ids) _ (after_row_later draws used (sends (row_mid row)) row ids)
+    (after_updates_later draws used sends rows lines (after_row draws used (sends (row_mid row)) row ids))
+
+-- where memory lacks between rows, no more numbers were drawn than for all of them
+pub most_updates : {N : Type 0} (draws : Draws N) (used : ℕ → Bool) (sends : List ℕ → Sending) (rows : List LineRow) (lines : List MediaLine) (ids last : N)
+    → after_updates draws used sends rows lines ids ≡ last → Later draws ids last
+most_updates {N} draws used sends rows lines ids last h = subst (λ (x : N). Later draws ids x) h (after_updates_later draws used sends rows lines ids)
+
+-- and where it lacks at a row
+pub most_with_row : {N : Type 0} (draws : Draws N) (used : ℕ → Bool) (sends : List ℕ → Sending) (k : ℕ) (rows : List LineRow) (lines : List MediaLine)
+    (ids stopped last : N) (row : LineRow) (line : MediaLine) (sending : Sending)
+    → drop k rows ≡ row ∷ drop (suc k) rows → drop k lines ≡ line ∷ drop (suc k) lines → sending ≡ sends (row_mid row)
+    → Later draws stopped (after_row draws used sending row ids) → after_updates draws used sends (drop k rows) (drop k lines) ids ≡ last → Later draws stopped last
+most_with_row {N} draws used sends k rows lines ids stopped last row line sending rows_are lines_are sent most h =
+    let all : after_updates draws used sends (row ∷ drop (suc k) rows) (line ∷ drop (suc k) lines) ids ≡ last =
+    subst (λ (ls : List MediaLine). after_updates draws used sends (row ∷ drop (suc k) rows) ls ids ≡ last) lines_are
+    (subst (λ (rs : List LineRow). after_updates draws used sends rs (drop k lines) ids ≡ last) rows_are h) in
+    later_join draws stopped (after_row draws used (sends (row_mid row)) row ids) last
+    (subst (λ (s : Sending). Later draws stopped (after_row draws used s row ids)) sent most)
+    (most_updates draws used sends (drop (suc k) rows) (drop (suc k) lines) (after_row draws used (sends (row_mid row)) row ids) last all)

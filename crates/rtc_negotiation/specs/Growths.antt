@@ -5,16 +5,15 @@ use Rattle.std.specs.declared.alloc.AllocError.{AllocError}
 use Rattle.rtc_sdp_values.specs.Sdp.{creds_of, candidates_of, sdp_fingerprint}
 use Rattle.rtc_sdp_values.specs.declared.ice_creds.IceCreds.{IceCreds}
 use Rattle.rtc_sdp_values.specs.declared.sdp.Sdp.{Sdp}
-use Rattle.rtc_media.specs.MediaLaws.{SameLines}
 use Rattle.rtc_change.specs.PendingOffer.{staged_restart}
 use Rattle.rtc_change.specs.declared.change.Change.{Change}
-use Rattle.rtc_ids.specs.Draws.{Later}
 use Rattle.rtc_peer_state.specs.declared.peer.Peer.{Peer}
 use Rattle.rtc_peer_state.specs.Acceptances.{followed_restart, answer_ids, updates_for, ids_after_updates}
 use Rattle.rtc_peer_state.specs.Calls.{control_for}
 use Rattle.rtc_peer_state.specs.MadeSdp.{answer_sdp}
 use Rattle.rtc_peer_state.specs.Meanings.{Meanings}
 use Rattle.rtc_peer_state.specs.Stance.{stance_of}
+use Rattle.rtc_peer_state.specs.StoppedAcceptances.{StopsPreparing}
 use Rattle.rtc_negotiation.specs.declared.following.Following.{Following}
 use Rattle.rtc_negotiation.specs.declared.growth.Growth.{Growth}
 
@@ -28,10 +27,6 @@ following_of restart sdp control = record {
 }
 
 module _ {I D S M E X T W N : Type 0} (m : Meanings I D S M E X T W N) where
-  -- memory lacked: numbers may have been drawn, and updates prepared
-  abbrev pub LacksGrowth : Peer I D S M N → Peer I D S M N → Type 0
-  LacksGrowth p q = Later m.ids p.ids q.ids × SameLines m.media p.media q.media × (q ≡ record p { ids = q.ids; media = q.media })
-
   abbrev pub GrowsOffer : Peer I D S M N → Sdp → Result Growth AllocError → Peer I D S M N → Type 0
   GrowsOffer p offer (Ok growth) q =
       (growth ≡ record {
@@ -41,7 +36,7 @@ module _ {I D S M E X T W N : Type 0} (m : Meanings I D S M E X T W N) where
       })
       × m.media.prepared p.media (updates_for m p true [] offer (answer_ids m p offer)) (Ok tt) q.media
       × (q ≡ record p { ids = ids_after_updates m p true [] offer (answer_ids m p offer); media = q.media })
-  GrowsOffer p offer (Err error) q = LacksGrowth p q
+  GrowsOffer p offer (Err error) q = StopsPreparing m p true [] offer (answer_ids m p offer) q
 
   abbrev pub GrowsAnswer : Peer I D S M N → List Change → Sdp → Result Growth AllocError → Peer I D S M N → Type 0
   GrowsAnswer p changes answer (Ok growth) q =
@@ -52,4 +47,4 @@ module _ {I D S M E X T W N : Type 0} (m : Meanings I D S M E X T W N) where
       })
       × m.media.prepared p.media (updates_for m p false changes answer p.ids) (Ok tt) q.media
       × (q ≡ record p { ids = ids_after_updates m p false changes answer p.ids; media = q.media })
-  GrowsAnswer p changes answer (Err error) q = LacksGrowth p q
+  GrowsAnswer p changes answer (Err error) q = StopsPreparing m p false changes answer p.ids q

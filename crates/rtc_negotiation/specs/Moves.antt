@@ -26,16 +26,13 @@ use Rattle.rtc_peer_state.specs.declared.rtc_error.RtcError.TheVariants.{
   Alloc,
 }
 use Rattle.rtc_peer_state.specs.MadeSdp.{role_for, role_after}
-use Rattle.rtc_peer_state.specs.PartMoves.{FollowsSdp, StopsFollowing, StartsDtls, StopsStarting, StartsSctp, StopsSctp, remote_limit}
+use Rattle.rtc_peer_state.specs.PartMoves.{FollowsSdp, StartsDtls, StartsSctp, StopsMoving, remote_limit}
 use Rattle.rtc_negotiation.specs.declared.following.Following.{Following}
 
 module _ {I : Type 0} (ice : IceMeaning I) where
   -- the agent follows what was made ready
   abbrev pub FollowsReady : I → Following → I → Type 0
   FollowsReady i following j = FollowsSdp ice i following.restart following.creds following.candidates following.control j
-
-  abbrev pub StopsReady : I → Following → I → Type 0
-  StopsReady i following j = StopsFollowing ice i following.restart following.creds following.candidates following.control j
 
 -- the three parts move in this order, each once those before it have: the agent, the DTLS part, the association
 module _ {I D S : Type 0} (ice : IceMeaning I) (dtls : DtlsMeaning D) (association : AssociationMeaning S) where
@@ -58,9 +55,8 @@ module _ {I D S : Type 0} (ice : IceMeaning I) (dtls : DtlsMeaning D) (associati
       × DtlsMoves d sdp now (Ok tt) e
       × SctpMoves d s sdp rows now (Err (Proto AssociationFault)) t
   MovesParts i d s following sdp rows now (Err Alloc) j e t =
-      StopsReady ice i following j
-      × StopsStarting dtls d (role_for (sdp_setup sdp)) now e
-      × StopsSctp association s rows (role_after d.active (sdp_setup sdp)) now (remote_limit (max_message_size_of sdp)) t
+      StopsMoving ice dtls association i d s following.restart following.creds following.candidates following.control
+      (role_for (sdp_setup sdp)) rows (role_after d.active (sdp_setup sdp)) now (remote_limit (max_message_size_of sdp)) j e t
   MovesParts i d s following sdp rows now (Err (Dtls WouldBlock)) j e t = ⊥
   MovesParts i d s following sdp rows now (Err (Dtls DtlsAlloc)) j e t = ⊥
   MovesParts i d s following sdp rows now (Err (RemoteSdp why)) j e t = ⊥

@@ -122,8 +122,9 @@ pub fn accept_offer<I: IceAgent, D: DtlsInstance, S: Association, M: MediaSessio
         Ok(plan) => plan,
         Err(refusal) => return Err(refuse(&mut peer.phase, refusal)),
     };
-    let Ok(growth) = grow_offer(peer, &offer, &plan) else {
-        return Err(RtcError::Alloc);
+    let growth = match grow_offer(peer, &offer, &plan) {
+        Ok(growth) => growth,
+        Err(_) => return Err(RtcError::Alloc),
     };
     let Growth {
         answer,
@@ -165,8 +166,9 @@ pub fn accept_answer<I: IceAgent, D: DtlsInstance, S: Association, M: MediaSessi
         Err(refusal) => return Err(refuse(&mut peer.phase, refusal)),
     };
     let changes = token.into_changes();
-    let Ok(growth) = grow_answer(peer, &changes, &answer, &plan) else {
-        return Err(RtcError::Alloc);
+    let growth = match grow_answer(peer, &changes, &answer, &plan) {
+        Ok(growth) => growth,
+        Err(_) => return Err(RtcError::Alloc),
     };
     let following = growth.following;
     let fingerprint = growth.fingerprint;

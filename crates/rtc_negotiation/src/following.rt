@@ -1,8 +1,8 @@
 //! The ICE agent and the DTLS part as an offer or an answer is followed.
-ghost use Rattle.std.specs.Prelude.{◌≡◌, ◌≢◌, OnOk, OnErr, Some, None, Ok, Err};
+ghost use Rattle.std.specs.Prelude.{◌≡◌, ◌≢◌, OnOk, OnErr, Some, None, Ok, Err, true};
 ghost use Rattle.rtc_dtls.specs.declared.dtls_error.DtlsError.TheVariants.{WouldBlock};
 ghost use Rattle.rtc_peer_state.specs.PartMoves.{RestartsIce, TakesCreds, TakesCandidates, TakesControl};
-ghost use Rattle.rtc_peer_state.specs.PartMoves.{FollowsSdp, StopsFollowing, StartsDtls, TakesRole};
+ghost use Rattle.rtc_peer_state.specs.PartMoves.{FollowsSdp, StopsFollowing, StartsDtls, TakesRole, BeginsHandshake};
 
 use rtc_dtls::{Dtls, DtlsError, DtlsInstance};
 use rtc_ice::IceAgent;
@@ -65,7 +65,7 @@ pub fn follow<I: IceAgent>(ice: &mut I, following: Following) -> Result<(), Allo
     ensures ok { OnOk result (FollowsSdp I.ice ice.old
         following.restart following.creds following.candidates following.control ice.new) }
     ensures err { OnErr result (StopsFollowing I.ice ice.old
-        following.restart following.creds following.candidates following.control ice.new) }
+        following.restart following.creds following.candidates ice.new) }
 {
     match restart(ice, following.restart) {
         Ok(()) => {}
@@ -78,6 +78,21 @@ pub fn follow<I: IceAgent>(ice: &mut I, following: Following) -> Result<(), Allo
     }
     take_control(ice, following.control);
     Ok(())
+}
+
+// An active side begins the handshake by a packet of no bytes, whose fault is ignored.
+fn begin_handshake<D: DtlsInstance>(dtls: &mut Dtls<D>) -> Result<(), DtlsError>
+    requires { dtls.old.active ≡ Some true }
+    ensures begins { BeginsHandshake D.dtls true dtls.old.instance result dtls.new.instance }
+    ensures others { dtls.new ≡ record dtls.old { instance = dtls.new.instance } }
+    ensures never_blocked { result ≢ Err WouldBlock }
+{
+    match dtls.handle_receive(&[]) {
+        Ok(()) => Ok(()),
+        Err(DtlsError::Fault) => Ok(()),
+        Err(DtlsError::WouldBlock) => unreachable!(),
+        Err(DtlsError::Alloc) => Err(DtlsError::Alloc),
+    }
 }
 
 // The first role is taken, with the greatest moment that was given.
@@ -95,10 +110,13 @@ fn take_role<D: DtlsInstance>(
         Ok(()) => {}
         Err(error) => return Err(error),
     }
-    if active {
-        let _ = dtls.handle_receive(&[]);
+    if !active {
+        return Ok(());
     }
-    Ok(())
+    match begin_handshake(dtls) {
+        Ok(()) => Ok(()),
+        Err(error) => Err(error),
+    }
 }
 
 /// The DTLS part takes a role where it has none.

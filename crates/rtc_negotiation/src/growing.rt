@@ -1,5 +1,5 @@
 //! What takes memory in an acceptance, before parts are touched.
-ghost use Rattle.std.specs.Prelude.{◌≡◌, ◌≤◌, length, take, IfOk, OnOk, OnErr, Ok, Some, None, true, false, [], option_map};
+ghost use Rattle.std.specs.Prelude.{◌≡◌, ◌≤◌, length, take, IfOk, OnOk, Some, None, true, false, [], option_map};
 ghost use Rattle.std.specs.Option.{option_or, option_copied};
 ghost use Rattle.rtc_sdp_values.specs.Sdp.{creds_of, candidates_of, sdp_fingerprint};
 ghost use Rattle.rtc_ids.specs.Draws.{Later};
@@ -7,7 +7,6 @@ ghost use Rattle.rtc_change.specs.PendingOffer.{staged_restart};
 ghost use Rattle.rtc_change.specs.Plans.{is_restart};
 ghost use Rattle.rtc_change.specs.TableAfter.{table_after};
 ghost use Rattle.rtc_tables.specs.ParsedLines.{parsed_lines};
-ghost use Rattle.rtc_media.specs.MediaLaws.{SameLines};
 ghost use Rattle.rtc_peer_state.specs.Acceptances.{updates_for, ids_after_updates};
 ghost use Rattle.rtc_peer_state.specs.Calls.{control_for as ControlFor};
 ghost use Rattle.rtc_peer_state.specs.Creds.{new_creds, after_new_creds};
@@ -34,15 +33,13 @@ use rtc_wire::TryCopy;
 use std::alloc::{AllocError, Global};
 
 // The restart by which a restart of the other side is followed: with drawn credentials, and the candidates kept.
-#[tactic(auto, using(rtc_ids::proofs::LaterLemmas::later_none, rtc_ids::proofs::LaterLemmas::later_once))]
 fn draw_restart<N: Ids>(
     alloc: Global,
     ids: &mut N,
     restarts: bool,
 ) -> Result<Option<(IceCreds, bool)>, AllocError>
     ensures restart { IfOk result (λ restart. restart ≡ new_creds N.ids ids.old restarts) }
-    ensures after { OnOk result (ids.new ≡ after_new_creds N.ids ids.old restarts) }
-    ensures later { Later N.ids ids.old ids.new }
+    ensures after { ids.new ≡ after_new_creds N.ids ids.old restarts }
 {
     if !restarts {
         return Ok(None);
@@ -169,6 +166,8 @@ fn list_line_updates<I: IceAgent, D: DtlsInstance, S: Association, M: MediaSessi
     ensures after { OnOk result (peer.new.ids
         ≡ ids_after_updates (meanings I.ice D.dtls S.association M.media N.ids) peer.old offer changes.now sdp.now peer.old.ids) }
     ensures later { Later N.ids peer.old.ids peer.new.ids }
+    ensures most { Later N.ids peer.new.ids
+        (ids_after_updates (meanings I.ice D.dtls S.association M.media N.ids) peer.old offer changes.now sdp.now peer.old.ids) }
     ensures others { peer.new ≡ record peer.old { ids = peer.new.ids } }
 {
     let updates = list_updates(
@@ -184,10 +183,9 @@ fn list_line_updates<I: IceAgent, D: DtlsInstance, S: Association, M: MediaSessi
     Ok(updates)
 }
 
-// Makes the updates ready. Where memory runs out, the lines are as they were.
+// Makes the updates ready.
 fn prepare_media<M: MediaSession>(media: &mut M, updates: &[MediaUpdate]) -> Result<(), AllocError>
-    ensures ok { OnOk result (M.media.prepared media.old updates.now (Ok tt) media.new) }
-    ensures err { OnErr result (SameLines M.media media.old media.new) }
+    ensures { M.media.prepared media.old updates.now result media.new }
 {
     match media.prepare(updates) {
         Ok(()) => Ok(()),
@@ -221,7 +219,6 @@ fn grow_followed<I: IceAgent, D: DtlsInstance, S: Association, M: MediaSession, 
 }
 
 /// Makes ready what the acceptance of an offer needs: credentials are drawn before sources.
-#[tactic(auto, using(rtc_ids::proofs::LaterLemmas::later_none, rtc_ids::proofs::LaterLemmas::later_join, crate::proofs::MediaLemmas::same_lines))]
 pub fn grow_offer<I: IceAgent, D: DtlsInstance, S: Association, M: MediaSession, N: Ids>(
     peer: &mut Peer<I, D, S, M, N>,
     offer: &Sdp,
@@ -230,14 +227,24 @@ pub fn grow_offer<I: IceAgent, D: DtlsInstance, S: Association, M: MediaSession,
     requires rows { plan.now.rows ≡ table_after peer.old.lines (parsed_lines offer.now) true }
     requires restart { plan.now.restart ≡ is_restart (I.ice.settings peer.old.ice).remote (creds_of offer.now) }
     requires count { length offer.now.lines ≤ length plan.now.rows }
-    ensures grows { GrowsOffer (meanings I.ice D.dtls S.association M.media N.ids) peer.old offer.now result peer.new }
-    ensures later { Later N.ids peer.old.ids peer.new.ids }
+    ensures { GrowsOffer (meanings I.ice D.dtls S.association M.media N.ids) peer.old offer.now result peer.new }
 {
-    let restart = draw_restart(peer.alloc, &mut peer.ids, plan.restart)?;
-    let growth = grow_followed(peer, offer, plan.rows.as_slice(), restart)?;
-    let updates = list_line_updates(peer, true, &[], offer, plan.rows.as_slice())?;
-    prepare_media(&mut peer.media, updates.as_slice())?;
-    Ok(growth)
+    let restart = match draw_restart(peer.alloc, &mut peer.ids, plan.restart) {
+        Ok(restart) => restart,
+        Err(error) => return Err(error),
+    };
+    let growth = match grow_followed(peer, offer, plan.rows.as_slice(), restart) {
+        Ok(growth) => growth,
+        Err(error) => return Err(error),
+    };
+    let updates = match list_line_updates(peer, true, &[], offer, plan.rows.as_slice()) {
+        Ok(updates) => updates,
+        Err(error) => return Err(error),
+    };
+    match prepare_media(&mut peer.media, updates.as_slice()) {
+        Ok(()) => Ok(growth),
+        Err(error) => Err(error),
+    }
 }
 
 fn copy_restart(changes: &Changes) -> Result<Option<(IceCreds, bool)>, AllocError>
@@ -273,7 +280,6 @@ fn grow_answered(
 }
 
 /// Makes ready what the acceptance of an answer needs.
-#[tactic(auto, using(rtc_ids::proofs::LaterLemmas::later_none, crate::proofs::MediaLemmas::same_lines))]
 pub fn grow_answer<I: IceAgent, D: DtlsInstance, S: Association, M: MediaSession, N: Ids>(
     peer: &mut Peer<I, D, S, M, N>,
     changes: &Changes,
@@ -282,17 +288,24 @@ pub fn grow_answer<I: IceAgent, D: DtlsInstance, S: Association, M: MediaSession
 ) -> Result<Growth, AllocError>
     requires rows { plan.now.rows ≡ table_after peer.old.lines (parsed_lines answer.now) false }
     requires count { length answer.now.lines ≤ length plan.now.rows }
-    ensures grows { GrowsAnswer (meanings I.ice D.dtls S.association M.media N.ids) peer.old changes.now.0 answer.now result peer.new }
-    ensures later { Later N.ids peer.old.ids peer.new.ids }
+    ensures { GrowsAnswer (meanings I.ice D.dtls S.association M.media N.ids) peer.old changes.now.0 answer.now result peer.new }
 {
-    let growth = grow_answered(changes, answer, &peer.fingerprint)?;
-    let updates = list_line_updates(
+    let growth = match grow_answered(changes, answer, &peer.fingerprint) {
+        Ok(growth) => growth,
+        Err(error) => return Err(error),
+    };
+    let updates = match list_line_updates(
         peer,
         false,
         changes.0.as_slice(),
         answer,
         plan.rows.as_slice(),
-    )?;
-    prepare_media(&mut peer.media, updates.as_slice())?;
-    Ok(growth)
+    ) {
+        Ok(updates) => updates,
+        Err(error) => return Err(error),
+    };
+    match prepare_media(&mut peer.media, updates.as_slice()) {
+        Ok(()) => Ok(growth),
+        Err(error) => Err(error),
+    }
 }

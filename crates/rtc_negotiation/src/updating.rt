@@ -74,6 +74,7 @@ fn draw_row<M: MediaSession, N: Ids>(
     ensures earlier { IfOk result (λ pairs. earlier.new ≡ earlier.old ++ flat_map pair_numbers pairs) }
     ensures after { OnOk result (ids.new ≡ after_row N.ids (has_source M.media media.now) sending.now row.now ids.old) }
     ensures later { Later N.ids ids.old ids.new }
+    ensures most { Later N.ids ids.new (after_row N.ids (has_source M.media media.now) sending.now row.now ids.old) }
 {
     if !wants_sources(row, sending) {
         return Ok(Seq::empty(alloc));
@@ -202,6 +203,7 @@ fn push_update<M: MediaSession, N: Ids>(
         (row_pairs N.ids (has_source M.media media.now) sending earlier.old named.now.row.now ids.old)) }
     ensures after { OnOk result (ids.new ≡ after_row N.ids (has_source M.media media.now) sending named.now.row.now ids.old) }
     ensures later { Later N.ids ids.old ids.new }
+    ensures most { Later N.ids ids.new (after_row N.ids (has_source M.media media.now) sending named.now.row.now ids.old) }
 {
     let drawn = draw_row(alloc, ids, media, earlier, named.row, &sending)?;
     let update = row_update(
@@ -246,6 +248,8 @@ pub fn list_updates<M: MediaSession, N: Ids>(
     ensures after { OnOk result (ids.new ≡ after_updates N.ids (has_source M.media media.now)
         (line_sending (M.media.line media.now) changes.now) rows.now lines.now ids.old) }
     ensures later { Later N.ids ids.old ids.new }
+    ensures most { Later N.ids ids.new (after_updates N.ids (has_source M.media media.now)
+        (line_sending (M.media.line media.now) changes.now) rows.now lines.now ids.old) }
 {
     let mut updates = Vec::new(alloc);
     let mut earlier = EarlierNumbers::new(alloc);

@@ -7,6 +7,7 @@ pub mod StagedLemmas
 pub mod StanceCalls
 pub mod PartMovesLemmas
 pub mod StanceLemmas
+pub mod StoppedPeers
 pub mod StanceAcceptances
 pub mod FormedHeads
 pub mod FormedStances

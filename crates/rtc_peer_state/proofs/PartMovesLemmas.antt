@@ -3,6 +3,7 @@ use Rattle.std.proofs.Common.{◌≡◌, ◌∙◌, ◌⊎◌, inl, inr, ℕ, Bo
 use Rattle.std.specs.declared.alloc.AllocError.{AllocError}
 use Rattle.rtc_sdp_values.specs.declared.candidate.Candidate.{Candidate}
 use Rattle.rtc_sdp_values.specs.declared.ice_creds.IceCreds.{IceCreds}
+use Rattle.rtc_sdp_values.specs.declared.line_row.LineRow.{LineRow}
 use Rattle.rtc_sdp_values.specs.declared.setup.Setup.{Setup}
 use Rattle.rtc_ice.specs.IceLaws.{IceLaws}
 use Rattle.rtc_ice.specs.IceMeaning.{IceMeaning, IceSettings}
@@ -10,6 +11,10 @@ use Rattle.rtc_dtls.specs.declared.dtls_error.DtlsError.{DtlsError}
 use Rattle.rtc_dtls.specs.declared.dtls_error.DtlsError.TheVariants.{Alloc as DtlsAlloc}
 use Rattle.rtc_dtls.specs.DtlsMeaning.{DtlsMeaning}
 use Rattle.rtc_dtls.specs.DtlsState.{DtlsState}
+use Rattle.rtc_association.specs.AssociationMeaning.{AssociationMeaning}
+use Rattle.rtc_sctp.specs.Streams.{SctpStreams}
+use Rattle.rtc_sctp.specs.declared.sctp_error.SctpError.{SctpError}
+use Rattle.rtc_sctp.specs.declared.sctp_error.SctpError.TheVariants.{Alloc as SctpAlloc}
 use Rattle.rtc_change.specs.Plans.{no_credentials}
 use Rattle.rtc_peer_state.specs.MadeSdp.{creds_in_use, candidates_in_use, role_for, role_after}
 use Rattle.rtc_peer_state.specs.PartMoves.{
@@ -19,15 +24,14 @@ use Rattle.rtc_peer_state.specs.PartMoves.{
   TakesControl,
   FollowsSdp,
   StopsFollowing,
-  NotBegun,
   AtRestart,
   AtCandidate,
-  Behind,
   StartsDtls,
-  StopsStarting,
-  NotStarted,
+  StartsSctp,
+  StopsMoving,
+  AtAgent,
   AtRole,
-  BehindRole,
+  AtStart,
 }
 
 -- ---- the ICE agent
@@ -103,7 +107,7 @@ pub record AreLeft (s : IceSettings) (restart : Option (IceCreds × Bool)) (t : 
   pub local : (t.local ≡ s.local) ⊎ (t.local ≡ creds_in_use restart s)
   pub candidates : (t.candidates ≡ s.candidates) ⊎ (t.candidates ≡ candidates_in_use restart s)
 
-left_same : (s t : IceSettings) (restart : Option (IceCreds × Bool)) → t ≡ s → AreLeft s restart t
+pub left_same : (s t : IceSettings) (restart : Option (IceCreds × Bool)) → t ≡ s → AreLeft s restart t
 left_same s t restart same = record {
   lite = ap (λ r. r.lite) same;
   local = inl (ap (λ r. r.local) same);
@@ -123,27 +127,23 @@ left_followed s t restart (Some creds) same = record {
   candidates = inr (ap (λ r. r.candidates) same);
 }
 
-pub left_settings : {I : Type 0} (ice : IceMeaning I) → IceLaws ice
+stopped_settings : {I : Type 0} (ice : IceMeaning I) → IceLaws ice
     → (p q : I) (restart : Option (IceCreds × Bool)) (creds : Option IceCreds)
-    (candidates : List Candidate) (control : Option Bool) → StopsFollowing ice p restart creds candidates control q
-    → AreLeft (ice.settings p) restart (ice.settings q)
-left_settings ice laws p q restart creds candidates control (NotBegun same) = left_same _ _ restart (ap ice.settings same)
-left_settings ice laws p q restart creds candidates control (AtRestart error stopped) =
+    (candidates : List Candidate) → StopsFollowing ice p restart creds candidates q → AreLeft (ice.settings p) restart (ice.settings q)
+stopped_settings ice laws p q restart creds candidates (AtRestart error stopped) =
     left_same _ _ restart (no_restart_settings ice laws p q restart error stopped)
-left_settings ice laws p q restart creds candidates control (AtCandidate restarted told error by_restart by_creds by_candidates) =
+stopped_settings ice laws p q restart creds candidates (AtCandidate restarted told error by_restart by_creds by_candidates) =
     left_followed _ _ restart creds (
     candidates_settings ice laws told q candidates (Err error) by_candidates
     ∙ creds_settings ice laws restarted told creds by_creds
     ∙ ap (told_by creds) (restart_settings ice laws p restarted restart by_restart)
     )
-left_settings ice laws p q restart creds candidates control (Behind follows) =
-    left_followed _ _ restart creds (followed_settings ice laws p q restart creds candidates control follows)
 
 pub left_after : {I : Type 0} (ice : IceMeaning I) → IceLaws ice → (p q : I) (restart : Option (IceCreds × Bool)) (creds : Option IceCreds)
     (candidates : List Candidate) (control : Option Bool) → FollowsSdp ice p restart creds candidates control q
     → AreLeft (ice.settings p) restart (ice.settings q)
 left_after ice laws p q restart creds candidates control follows =
-    left_settings ice laws p q restart creds candidates control (Behind follows)
+    left_followed _ _ restart creds (followed_settings ice laws p q restart creds candidates control follows)
 
 -- ---- the DTLS part
 
@@ -161,8 +161,40 @@ pub start_keeps_local : {D : Type 0} (dtls : DtlsMeaning D) (p q : DtlsState D) 
 start_keeps_local dtls p q None active now r h = ap (λ d. d.local) h.rest
 start_keeps_local dtls p q (Some role) active now r h = ap (λ d. d.local) h.1
 
-pub stop_keeps_local : {D : Type 0} (dtls : DtlsMeaning D) (p q : DtlsState D) (active : Bool) (now : ℕ)
-    → StopsStarting dtls p active now q → q.local ≡ p.local
-stop_keeps_local dtls p q active now (NotStarted same) = ap (λ d. d.local) same
-stop_keeps_local dtls p q active now (AtRole starts) = start_keeps_local dtls p q p.active active now (Err DtlsAlloc) starts
-stop_keeps_local dtls p q active now (BehindRole starts) = start_keeps_local dtls p q p.active active now (Ok tt) starts
+-- ---- the parts, where memory lacks at one of them
+
+module _ {I D S : Type 0} (ice : IceMeaning I) (dtls : DtlsMeaning D) (association : AssociationMeaning S) where
+  pub left_stopped : IceLaws ice → (i j : I) (d e : DtlsState D) (s t : SctpStreams S) (restart : Option (IceCreds × Bool))
+      (creds : Option IceCreds) (candidates : List Candidate) (control : Option Bool) (active : Bool) (rows : List LineRow)
+      (client : Bool) (now max : ℕ)
+      → StopsMoving ice dtls association i d s restart creds candidates control active rows client now max j e t
+      → AreLeft (ice.settings i) restart (ice.settings j)
+  left_stopped laws i j d e s t restart creds candidates control active rows client now max (AtAgent stops same unstarted) =
+      stopped_settings ice laws i j restart creds candidates stops
+  left_stopped laws i j d e s t restart creds candidates control active rows client now max (AtRole follows lacks unstarted) =
+      left_after ice laws i j restart creds candidates control follows
+  left_stopped laws i j d e s t restart creds candidates control active rows client now max (AtStart follows starts lacks) =
+      left_after ice laws i j restart creds candidates control follows
+
+  -- the DTLS part stays, or was started with one answer or another
+  pub dtls_stopped : (i j : I) (d e : DtlsState D) (s t : SctpStreams S) (restart : Option (IceCreds × Bool))
+      (creds : Option IceCreds) (candidates : List Candidate) (control : Option Bool) (active : Bool) (rows : List LineRow)
+      (client : Bool) (now max : ℕ)
+      → StopsMoving ice dtls association i d s restart creds candidates control active rows client now max j e t
+      → (e ≡ d) ⊎ ((r : Result (Unit {0}) DtlsError) × StartsDtls dtls d d.active active now r e)
+  dtls_stopped i j d e s t restart creds candidates control active rows client now max (AtAgent stops same unstarted) = inl same
+  dtls_stopped i j d e s t restart creds candidates control active rows client now max (AtRole follows lacks unstarted) =
+      inr (Err DtlsAlloc, lacks)
+  dtls_stopped i j d e s t restart creds candidates control active rows client now max (AtStart follows starts lacks) =
+      inr (Ok tt, starts)
+
+  -- the association stays, or was started with one answer or another
+  pub sctp_stopped : (i j : I) (d e : DtlsState D) (s t : SctpStreams S) (restart : Option (IceCreds × Bool))
+      (creds : Option IceCreds) (candidates : List Candidate) (control : Option Bool) (active : Bool) (rows : List LineRow)
+      (client : Bool) (now max : ℕ)
+      → StopsMoving ice dtls association i d s restart creds candidates control active rows client now max j e t
+      → (t ≡ s) ⊎ ((r : Result (Unit {0}) SctpError) × StartsSctp association s rows client now max r t)
+  sctp_stopped i j d e s t restart creds candidates control active rows client now max (AtAgent stops same unstarted) = inl unstarted
+  sctp_stopped i j d e s t restart creds candidates control active rows client now max (AtRole follows lacks unstarted) = inl unstarted
+  sctp_stopped i j d e s t restart creds candidates control active rows client now max (AtStart follows starts lacks) =
+      inr (Err SctpAlloc, lacks)

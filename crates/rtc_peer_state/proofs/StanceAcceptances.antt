@@ -49,8 +49,9 @@ use Rattle.rtc_peer_state.specs.Meanings.{Meanings, PartsLaws}
 use Rattle.rtc_peer_state.specs.Stance.{Stance, stance_of, held_by}
 use Rattle.rtc_peer_state.proofs.BuiltPeers.{drawn_creds_words}
 use Rattle.rtc_peer_state.proofs.StanceLemmas.{parts_stand}
-use Rattle.rtc_peer_state.proofs.PartMovesLemmas.{AreLeft, restarted_by, followed_settings, told_creds, left_settings, left_after}
-use Rattle.rtc_peer_state.proofs.PartMovesLemmas.{role_taken, start_keeps_local, stop_keeps_local}
+use Rattle.rtc_peer_state.proofs.PartMovesLemmas.{AreLeft, restarted_by, followed_settings, told_creds, left_after}
+use Rattle.rtc_peer_state.proofs.PartMovesLemmas.{role_taken, start_keeps_local}
+use Rattle.rtc_peer_state.proofs.StoppedPeers.{stopped_ice, stopped_local}
 use Rattle.rtc_peer_state.proofs.StanceCalls.{StanceRefuses, StanceAcceptsOffer, StanceAcceptsAnswer, StandsOffer, StandsAnswer}
 use Rattle.rtc_peer_state.proofs.StanceCalls.{BreaksOffer, Breaks, IsFollowed, followed_by}
 
@@ -146,8 +147,8 @@ stopped_offer_stands m laws p offer q h = record {
   followed = followed_stands m p offer;
   breaks = breaks_by (stance_of m p) (followed_restart m p offer) (raised p.counter) (m.ice.settings q.ice) q.dtls.local q.dtls.active
       (stance_of m q)
-      (ap (stance_of m) h.rest) (stop_keeps_local m.dtls p.dtls q.dtls _ _ h.dtls_stops)
-      (left_settings m.ice laws.ice p.ice q.ice _ _ _ _ h.ice_stops);
+      (ap (stance_of m) h.rest) (stopped_local m (record p { counter = raised p.counter }) _ _ _ _ _ _ q h.stops)
+      (stopped_ice m laws.ice (record p { counter = raised p.counter }) _ _ _ _ _ _ q h.stops);
 }
 
 pub accepts_offer_stands : {I D S M E X T W N : Type 0} (m : Meanings I D S M E X T W N) → PartsLaws m → (p : Peer I D S M N) (offer : Sdp)
@@ -208,8 +209,8 @@ stopped_answer_stands : {I D S M E X T W N : Type 0} (m : Meanings I D S M E X T
     → Breaks (stance_of m p) (staged_restart token.changes) p.counter (stance_of m q)
 stopped_answer_stands m laws p token answer q h =
     breaks_by (stance_of m p) (staged_restart token.changes) p.counter (m.ice.settings q.ice) q.dtls.local q.dtls.active (stance_of m q)
-    (ap (stance_of m) h.rest) (stop_keeps_local m.dtls p.dtls q.dtls _ _ h.dtls_stops)
-    (left_settings m.ice laws.ice p.ice q.ice _ _ _ _ h.ice_stops)
+    (ap (stance_of m) h.rest) (stopped_local m p _ _ _ _ _ _ q h.stops)
+    (stopped_ice m laws.ice p _ _ _ _ _ _ q h.stops)
 
 pub accepts_answer_stands : {I D S M E X T W N : Type 0} (m : Meanings I D S M E X T W N) → PartsLaws m
     → (p : Peer I D S M N) (token : PendingOffer)

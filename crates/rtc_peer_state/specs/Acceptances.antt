@@ -1,19 +1,12 @@
 -- How a peer accepts an offer or an answer: by the answer of the call, the peer before and the peer after.
-use Rattle.std.specs.Prelude.{◌≡◌, ◌≢◌, ℕ, Bool, true, false, List, [], length, take, is_some, Option, Some, None, Result, Ok, Err}
+use Rattle.std.specs.Prelude.{◌≡◌, ◌≢◌, ℕ, true, false, [], Option, Some, None, Result, Ok, Err}
 use Rattle.std.specs.Option.{option_or}
-use Rattle.rtc_sdp_values.specs.Sdp.{creds_of, candidates_of, sdp_fingerprint, sdp_setup, max_message_size_of}
-use Rattle.rtc_sdp_values.specs.declared.ice_creds.IceCreds.{IceCreds}
-use Rattle.rtc_sdp_values.specs.declared.line_row.LineRow.{LineRow}
+use Rattle.rtc_sdp_values.specs.Sdp.{sdp_fingerprint, sdp_setup}
 use Rattle.rtc_sdp_values.specs.declared.sdp.Sdp.{Sdp}
 use Rattle.rtc_channels.specs.Channels.{all_confirmed}
 use Rattle.rtc_dtls.specs.declared.dtls_error.DtlsError.TheVariants.{WouldBlock, Fault, Alloc as DtlsAlloc}
-use Rattle.rtc_sctp.specs.Streams.{SctpStreams}
 use Rattle.rtc_sctp.specs.declared.proto_error.ProtoError.TheVariants.{Fault as AssociationFault}
-use Rattle.rtc_sctp.specs.declared.sctp_error.SctpError.{SctpError}
 use Rattle.rtc_sctp.specs.declared.sctp_error.SctpError.TheVariants.{Proto}
-use Rattle.rtc_media.specs.MediaLaws.{SameLines}
-use Rattle.rtc_media.specs.declared.media_update.MediaUpdate.{MediaUpdate}
-use Rattle.rtc_change.specs.declared.change.Change.{Change}
 use Rattle.rtc_change.specs.declared.refusal.Refusal.{Refusal}
 use Rattle.rtc_change.specs.declared.refusal.Refusal.TheVariants.{RemoteSdp as RefusedSdp, Sdp as RefusedText, Alloc as NoMemory}
 use Rattle.rtc_tables.specs.declared.why.Why.{Why}
@@ -34,9 +27,8 @@ use Rattle.rtc_tables.specs.declared.why.Why.TheVariants.{
 use Rattle.rtc_change.specs.Held.{Asked}
 use Rattle.rtc_tables.specs.ParsedLines.{parsed_lines}
 use Rattle.rtc_change.specs.PendingOffer.{PendingOffer, staged_restart}
-use Rattle.rtc_change.specs.Plans.{verdict, asked_by, is_restart}
+use Rattle.rtc_change.specs.Plans.{verdict, asked_by}
 use Rattle.rtc_change.specs.TableAfter.{table_after}
-use Rattle.rtc_ids.specs.Draws.{Later}
 use Rattle.rtc_peer_state.specs.declared.peer.Peer.{Peer}
 use Rattle.rtc_peer_state.specs.declared.phase.Phase.{Phase}
 use Rattle.rtc_peer_state.specs.declared.phase.Phase.TheVariants.{Closed}
@@ -52,14 +44,22 @@ use Rattle.rtc_peer_state.specs.declared.rtc_error.RtcError.TheVariants.{
   BadChannel,
   Alloc,
 }
-use Rattle.rtc_peer_state.specs.declared.sending.Sending.{Sending}
-use Rattle.rtc_peer_state.specs.Calls.{raised, control_for, fitting_channels, uses_source}
-use Rattle.rtc_peer_state.specs.Creds.{new_creds, after_new_creds}
-use Rattle.rtc_peer_state.specs.LineUpdates.{line_sending, row_updates, after_updates}
-use Rattle.rtc_peer_state.specs.MadeSdp.{answer_sdp, role_for, role_after}
+use Rattle.rtc_peer_state.specs.Calls.{raised, control_for, fitting_channels}
+use Rattle.rtc_peer_state.specs.MadeSdp.{answer_sdp, role_for}
 use Rattle.rtc_peer_state.specs.Meanings.{Meanings}
-use Rattle.rtc_peer_state.specs.PartMoves.{FollowsSdp, StopsFollowing, StartsDtls, StopsStarting, StartsSctp, StopsSctp, remote_limit}
+use Rattle.rtc_peer_state.specs.PartMoves.{StartsDtls}
+pub use Rattle.rtc_peer_state.specs.SdpMoves.{
+  StartsBySdp,
+  updates_for,
+  ids_after_updates,
+  UpdatesMedia,
+  followed_restart,
+  answer_ids,
+  FollowsOffer,
+  FollowsAnswer,
+}
 use Rattle.rtc_peer_state.specs.Stance.{stance_of, held_by}
+use Rattle.rtc_peer_state.specs.StoppedAcceptances.{StopsAccepting}
 
 -- a side whose certificate could not be checked is closed
 abbrev pub phase_after : Why → Phase → Phase
@@ -95,68 +95,19 @@ module _ {I D S M E X T W N : Type 0} (m : Meanings I D S M E X T W N) where
   abbrev pub Refuses : Peer I D S M N → Option Asked → Sdp → Refusal → Peer I D S M N → Type 0
   Refuses p asked sdp why q = (verdict (held_by (stance_of m p)) asked sdp ≡ Some why) × (q ≡ after_refusal asked why p)
 
-  -- The rows that an offer or an answer leaves start the association, where they are the first with a line of the data channels: as
-  -- client where this side has the active DTLS role.
-  abbrev pub StartsBySdp : Peer I D S M N → Bool → Sdp → Result (Unit {0}) SctpError → SctpStreams S → Type 0
-  StartsBySdp p offer sdp r s =
-      StartsSctp m.association p.sctp (table_after p.lines (parsed_lines sdp) offer) (role_after p.dtls.active (sdp_setup sdp)) p.greatest
-      (remote_limit (max_message_size_of sdp)) r s
-
-  abbrev pub StopsBySdp : Peer I D S M N → Bool → Sdp → SctpStreams S → Type 0
-  StopsBySdp p offer sdp s =
-      StopsSctp m.association p.sctp (table_after p.lines (parsed_lines sdp) offer) (role_after p.dtls.active (sdp_setup sdp)) p.greatest
-      (remote_limit (max_message_size_of sdp)) s
-
-  -- the rows that the lines of a session description leave
-  abbrev pub rows_of_sdp : Peer I D S M N → Bool → Sdp → List LineRow
-  rows_of_sdp p offer sdp = take (length sdp.lines) (table_after p.lines (parsed_lines sdp) offer)
-
-  -- what is sent on the line of a mid, by what the media part has of it and by what was staged
-  abbrev pub sends_on : Peer I D S M N → List Change → List ℕ → Sending
-  sends_on p changes mid = line_sending (m.media.line p.media) changes mid
-
-  -- what the media part is told, where these numbers are drawn from
-  abbrev pub updates_for : Peer I D S M N → Bool → List Change → Sdp → N → List MediaUpdate
-  updates_for p offer changes sdp ids =
-      row_updates m.ids (uses_source m p) (sends_on p changes) offer p.lines (rows_of_sdp p offer sdp) sdp.lines [] ids
-
-  abbrev pub ids_after_updates : Peer I D S M N → Bool → List Change → Sdp → N → N
-  ids_after_updates p offer changes sdp ids =
-      after_updates m.ids (uses_source m p) (sends_on p changes) (rows_of_sdp p offer sdp) sdp.lines ids
-
-  -- the media part is told of the lines, and applies what it was told
-  pub record UpdatesMedia (p : M) (updates : List MediaUpdate) (q : M) : Type 0 where
-    pub prepared : M
-    pub by_prepare : m.media.prepared p updates (Ok tt) prepared
-    pub by_commit : m.media.committed prepared q
-
-  -- the restart by which a peer follows that of an offer
-  abbrev pub followed_restart : Peer I D S M N → Sdp → Option (IceCreds × Bool)
-  followed_restart p offer = new_creds m.ids p.ids (is_restart (m.ice.settings p.ice).remote (creds_of offer))
-
-  -- new credentials are drawn before sources
-  abbrev pub answer_ids : Peer I D S M N → Sdp → N
-  answer_ids p offer = after_new_creds m.ids p.ids (is_restart (m.ice.settings p.ice).remote (creds_of offer))
-
-  -- the agent follows an offer; while there is no DTLS role, this side picks the pair exactly where the other one is lite
-  abbrev pub FollowsOffer : Peer I D S M N → Sdp → Peer I D S M N → Type 0
-  FollowsOffer p offer q =
-      FollowsSdp m.ice p.ice (followed_restart p offer) (creds_of offer) (candidates_of offer)
-      (control_for p.dtls.active offer.ice_lite) q.ice
-
   -- an offer is accepted, and answered
   pub record OfferAccepted (p : Peer I D S M N) (offer answer : Sdp) (q : Peer I D S M N) : Type 0 where
     pub passes : verdict (held_by (stance_of m p)) None offer ≡ None
-    pub answered : answer ≡ answer_sdp (stance_of m p) (followed_restart p offer) offer
-    pub ice_follows : FollowsOffer p offer q
+    pub answered : answer ≡ answer_sdp (stance_of m p) (followed_restart m p offer) offer
+    pub ice_follows : FollowsOffer m p offer q
     pub dtls_starts : StartsDtls m.dtls p.dtls p.dtls.active (role_for (sdp_setup offer)) p.greatest (Ok tt) q.dtls
-    pub sctp_starts : StartsBySdp p true offer (Ok tt) q.sctp
-    pub media_updated : UpdatesMedia p.media (updates_for p true [] offer (answer_ids p offer)) q.media
+    pub sctp_starts : StartsBySdp m p true offer (Ok tt) q.sctp
+    pub media_updated : UpdatesMedia m p.media (updates_for m p true [] offer (answer_ids m p offer)) q.media
     pub rest : q ≡ record p {
       counter = raised p.counter;
       lines = table_after p.lines (parsed_lines offer) true;
       fingerprint = option_or p.fingerprint (sdp_fingerprint offer);
-      ids = ids_after_updates p true [] offer (answer_ids p offer);
+      ids = ids_after_updates m p true [] offer (answer_ids m p offer);
       ice = q.ice;
       dtls = q.dtls;
       sctp = q.sctp;
@@ -166,12 +117,12 @@ module _ {I D S M E X T W N : Type 0} (m : Meanings I D S M E X T W N) where
   -- the DTLS part failed as it was started: rows, association and fingerprint stay, and the updates stay prepared
   pub record OfferFaulted (p : Peer I D S M N) (offer : Sdp) (q : Peer I D S M N) : Type 0 where
     pub passes : verdict (held_by (stance_of m p)) None offer ≡ None
-    pub ice_follows : FollowsOffer p offer q
+    pub ice_follows : FollowsOffer m p offer q
     pub dtls_fails : StartsDtls m.dtls p.dtls p.dtls.active (role_for (sdp_setup offer)) p.greatest (Err Fault) q.dtls
-    pub media_prepared : m.media.prepared p.media (updates_for p true [] offer (answer_ids p offer)) (Ok tt) q.media
+    pub media_prepared : m.media.prepared p.media (updates_for m p true [] offer (answer_ids m p offer)) (Ok tt) q.media
     pub rest : q ≡ record p {
       counter = raised p.counter;
-      ids = ids_after_updates p true [] offer (answer_ids p offer);
+      ids = ids_after_updates m p true [] offer (answer_ids m p offer);
       ice = q.ice;
       dtls = q.dtls;
       media = q.media;
@@ -180,27 +131,23 @@ module _ {I D S M E X T W N : Type 0} (m : Meanings I D S M E X T W N) where
   -- the association failed as it was started, behind the DTLS part: rows and fingerprint stay, and the updates stay prepared
   pub record OfferUnstarted (p : Peer I D S M N) (offer : Sdp) (q : Peer I D S M N) : Type 0 where
     pub passes : verdict (held_by (stance_of m p)) None offer ≡ None
-    pub ice_follows : FollowsOffer p offer q
+    pub ice_follows : FollowsOffer m p offer q
     pub dtls_starts : StartsDtls m.dtls p.dtls p.dtls.active (role_for (sdp_setup offer)) p.greatest (Ok tt) q.dtls
-    pub sctp_fails : StartsBySdp p true offer (Err (Proto AssociationFault)) q.sctp
-    pub media_prepared : m.media.prepared p.media (updates_for p true [] offer (answer_ids p offer)) (Ok tt) q.media
+    pub sctp_fails : StartsBySdp m p true offer (Err (Proto AssociationFault)) q.sctp
+    pub media_prepared : m.media.prepared p.media (updates_for m p true [] offer (answer_ids m p offer)) (Ok tt) q.media
     pub rest : q ≡ record p {
       counter = raised p.counter;
-      ids = ids_after_updates p true [] offer (answer_ids p offer);
+      ids = ids_after_updates m p true [] offer (answer_ids m p offer);
       ice = q.ice;
       dtls = q.dtls;
       sctp = q.sctp;
       media = q.media;
     }
 
-  -- there was no memory: the parts have come so far, and the rest of the peer stays
+  -- there was no memory: the acceptance stopped at the place that is stated, and rows, channels and fingerprint stay wherever that is
   pub record OfferStopped (p : Peer I D S M N) (offer : Sdp) (q : Peer I D S M N) : Type 0 where
-    pub later : Later m.ids p.ids q.ids
-    pub ice_stops : StopsFollowing m.ice p.ice (followed_restart p offer) (creds_of offer) (candidates_of offer)
-        (control_for p.dtls.active offer.ice_lite) q.ice
-    pub dtls_stops : StopsStarting m.dtls p.dtls (role_for (sdp_setup offer)) p.greatest q.dtls
-    pub sctp_stops : StopsBySdp p true offer q.sctp
-    pub media_kept : SameLines m.media p.media q.media
+    pub stops : StopsAccepting m (record p { counter = raised p.counter }) None [] offer (followed_restart m p offer)
+        (control_for p.dtls.active offer.ice_lite) (answer_ids m p offer) q
     pub rest : q ≡ record p {
       counter = raised p.counter;
       ids = q.ids;
@@ -225,24 +172,19 @@ module _ {I D S M E X T W N : Type 0} (m : Meanings I D S M E X T W N) where
   AcceptsOffer p offer (Err BadChannel) q = ⊥
   AcceptsOffer p offer (Err Alloc) q = OfferStopped p offer q
 
-  -- the agent follows an answer: where its offer restarted ICE, the credentials that were offered are taken
-  abbrev pub FollowsAnswer : Peer I D S M N → PendingOffer → Sdp → Peer I D S M N → Type 0
-  FollowsAnswer p token answer q =
-      FollowsSdp m.ice p.ice (staged_restart token.changes) (creds_of answer) (candidates_of answer) None q.ice
-
   -- an answer is accepted; the channels that were staged with its offer and are still there are confirmed
   pub record AnswerAccepted (p : Peer I D S M N) (token : PendingOffer) (answer : Sdp) (q : Peer I D S M N) : Type 0 where
     pub right : p.counter ≡ raised token.id
     pub passes : verdict (held_by (stance_of m p)) (Some (asked_by p.lines token)) answer ≡ None
-    pub ice_follows : FollowsAnswer p token answer q
+    pub ice_follows : FollowsAnswer m p token answer q
     pub dtls_starts : StartsDtls m.dtls p.dtls p.dtls.active (role_for (sdp_setup answer)) p.greatest (Ok tt) q.dtls
-    pub sctp_starts : StartsBySdp p false answer (Ok tt) q.sctp
-    pub media_updated : UpdatesMedia p.media (updates_for p false token.changes answer p.ids) q.media
+    pub sctp_starts : StartsBySdp m p false answer (Ok tt) q.sctp
+    pub media_updated : UpdatesMedia m p.media (updates_for m p false token.changes answer p.ids) q.media
     pub rest : q ≡ record p {
       lines = table_after p.lines (parsed_lines answer) false;
       channels = all_confirmed (fitting_channels token.changes) p.channels;
       fingerprint = option_or p.fingerprint (sdp_fingerprint answer);
-      ids = ids_after_updates p false token.changes answer p.ids;
+      ids = ids_after_updates m p false token.changes answer p.ids;
       ice = q.ice;
       dtls = q.dtls;
       sctp = q.sctp;
@@ -252,11 +194,11 @@ module _ {I D S M E X T W N : Type 0} (m : Meanings I D S M E X T W N) where
   pub record AnswerFaulted (p : Peer I D S M N) (token : PendingOffer) (answer : Sdp) (q : Peer I D S M N) : Type 0 where
     pub right : p.counter ≡ raised token.id
     pub passes : verdict (held_by (stance_of m p)) (Some (asked_by p.lines token)) answer ≡ None
-    pub ice_follows : FollowsAnswer p token answer q
+    pub ice_follows : FollowsAnswer m p token answer q
     pub dtls_fails : StartsDtls m.dtls p.dtls p.dtls.active (role_for (sdp_setup answer)) p.greatest (Err Fault) q.dtls
-    pub media_prepared : m.media.prepared p.media (updates_for p false token.changes answer p.ids) (Ok tt) q.media
+    pub media_prepared : m.media.prepared p.media (updates_for m p false token.changes answer p.ids) (Ok tt) q.media
     pub rest : q ≡ record p {
-      ids = ids_after_updates p false token.changes answer p.ids;
+      ids = ids_after_updates m p false token.changes answer p.ids;
       ice = q.ice;
       dtls = q.dtls;
       media = q.media;
@@ -265,12 +207,12 @@ module _ {I D S M E X T W N : Type 0} (m : Meanings I D S M E X T W N) where
   pub record AnswerUnstarted (p : Peer I D S M N) (token : PendingOffer) (answer : Sdp) (q : Peer I D S M N) : Type 0 where
     pub right : p.counter ≡ raised token.id
     pub passes : verdict (held_by (stance_of m p)) (Some (asked_by p.lines token)) answer ≡ None
-    pub ice_follows : FollowsAnswer p token answer q
+    pub ice_follows : FollowsAnswer m p token answer q
     pub dtls_starts : StartsDtls m.dtls p.dtls p.dtls.active (role_for (sdp_setup answer)) p.greatest (Ok tt) q.dtls
-    pub sctp_fails : StartsBySdp p false answer (Err (Proto AssociationFault)) q.sctp
-    pub media_prepared : m.media.prepared p.media (updates_for p false token.changes answer p.ids) (Ok tt) q.media
+    pub sctp_fails : StartsBySdp m p false answer (Err (Proto AssociationFault)) q.sctp
+    pub media_prepared : m.media.prepared p.media (updates_for m p false token.changes answer p.ids) (Ok tt) q.media
     pub rest : q ≡ record p {
-      ids = ids_after_updates p false token.changes answer p.ids;
+      ids = ids_after_updates m p false token.changes answer p.ids;
       ice = q.ice;
       dtls = q.dtls;
       sctp = q.sctp;
@@ -279,11 +221,7 @@ module _ {I D S M E X T W N : Type 0} (m : Meanings I D S M E X T W N) where
 
   pub record AnswerStopped (p : Peer I D S M N) (token : PendingOffer) (answer : Sdp) (q : Peer I D S M N) : Type 0 where
     pub right : p.counter ≡ raised token.id
-    pub later : Later m.ids p.ids q.ids
-    pub ice_stops : StopsFollowing m.ice p.ice (staged_restart token.changes) (creds_of answer) (candidates_of answer) None q.ice
-    pub dtls_stops : StopsStarting m.dtls p.dtls (role_for (sdp_setup answer)) p.greatest q.dtls
-    pub sctp_stops : StopsBySdp p false answer q.sctp
-    pub media_kept : SameLines m.media p.media q.media
+    pub stops : StopsAccepting m p (Some (asked_by p.lines token)) token.changes answer (staged_restart token.changes) None p.ids q
     pub rest : q ≡ record p { ids = q.ids; ice = q.ice; dtls = q.dtls; sctp = q.sctp; media = q.media }
 
   -- A peer accepts an answer with the token of its offer, or refuses it.

@@ -10,6 +10,8 @@ pub mod MadeSdp
 pub mod LineUpdates
 pub mod PartMoves
 pub mod Calls
+pub mod SdpMoves
+pub mod StoppedAcceptances
 pub mod Acceptances
 pub mod Built
 pub mod Formed

@@ -8,7 +8,7 @@ use Rattle.rtc_sdp_values.specs.declared.line_row.LineRow.{LineRow}
 use Rattle.rtc_tables.specs.Table.{app_of}
 use Rattle.rtc_ice.specs.IceMeaning.{IceMeaning}
 use Rattle.rtc_dtls.specs.declared.dtls_error.DtlsError.{DtlsError}
-use Rattle.rtc_dtls.specs.declared.dtls_error.DtlsError.TheVariants.{Alloc as DtlsAlloc}
+use Rattle.rtc_dtls.specs.declared.dtls_error.DtlsError.TheVariants.{WouldBlock, Fault, Alloc as DtlsAlloc}
 use Rattle.rtc_dtls.specs.DtlsMeaning.{DtlsMeaning}
 use Rattle.rtc_dtls.specs.DtlsState.{DtlsState}
 use Rattle.rtc_association.specs.AssociationMeaning.{AssociationMeaning}
@@ -54,41 +54,45 @@ module _ {I : Type 0} (ice : IceMeaning I) where
     pub by_candidates : TakesCandidates told candidates (Ok tt) reachable
     pub by_control : TakesControl reachable control q
 
-  -- Memory runs out as the agent is to follow a session description: before that, at the restart, at a candidate, or behind it.
+  -- Memory runs out as the agent follows a session description: at the restart, or at a candidate.
   pub data StopsFollowing (p : I) (restart : Option (IceCreds × Bool)) (creds : Option IceCreds) (candidates : List Candidate)
-      (control : Option Bool) (q : I) : Type 0 where
-    NotBegun : q ≡ p → StopsFollowing p restart creds candidates control q
-    AtRestart : (error : AllocError) → RestartsIce p restart (Err error) q → StopsFollowing p restart creds candidates control q
+      (q : I) : Type 0 where
+    AtRestart : (error : AllocError) → RestartsIce p restart (Err error) q → StopsFollowing p restart creds candidates q
     AtCandidate : (restarted told : I) (error : AllocError) → RestartsIce p restart (Ok tt) restarted → TakesCreds restarted creds told
-        → TakesCandidates told candidates (Err error) q → StopsFollowing p restart creds candidates control q
-    Behind : FollowsSdp p restart creds candidates control q → StopsFollowing p restart creds candidates control q
+        → TakesCandidates told candidates (Err error) q → StopsFollowing p restart creds candidates q
+
+-- what a side that begins answers, by what the packet of no bytes was answered: its fault is ignored
+abbrev pub begun_answer : Result (Unit {0}) DtlsError → Result (Unit {0}) DtlsError
+begun_answer (Ok done) = Ok tt
+begun_answer (Err Fault) = Ok tt
+begun_answer (Err WouldBlock) = Err WouldBlock
+begun_answer (Err DtlsAlloc) = Err DtlsAlloc
 
 module _ {D : Type 0} (dtls : DtlsMeaning D) where
-  -- an active side begins the handshake by a packet of no bytes, whose fault is ignored
-  abbrev pub BeginsHandshake : Bool → Result (Unit {0}) DtlsError → D → D → Type 0
-  BeginsHandshake true (Ok done) p q = (r : Result (Unit {0}) DtlsError) × dtls.given p [] r q
-  BeginsHandshake false (Ok done) p q = q ≡ p
-  BeginsHandshake active (Err error) p q = q ≡ p
+  -- an active side begins the handshake by a packet of no bytes
+  abbrev pub BeginsHandshake : Bool → D → Result (Unit {0}) DtlsError → D → Type 0
+  BeginsHandshake false p r q = (r ≡ Ok tt) × (q ≡ p)
+  BeginsHandshake true p r q = (answer : Result (Unit {0}) DtlsError) × dtls.given p [] answer q × (r ≡ begun_answer answer)
+
+  -- it begins only once the timer was told the moment
+  abbrev pub BeginsTimed : Result (Unit {0}) DtlsError → Bool → D → Result (Unit {0}) DtlsError → D → Type 0
+  BeginsTimed (Ok done) active p r q = BeginsHandshake active p r q
+  BeginsTimed (Err error) active p r q = (r ≡ Err error) × (q ≡ p)
 
   -- The first role is taken, with the greatest moment that was given.
   pub record TakesRole (p : DtlsState D) (active : Bool) (now : ℕ) (r : Result (Unit {0}) DtlsError) (q : DtlsState D) : Type 0 where
     pub activated : D
     pub timed : D
+    pub answer : Result (Unit {0}) DtlsError
     pub by_role : dtls.activated p.instance active activated
-    pub by_time : dtls.timed activated now r timed
-    pub by_packet : BeginsHandshake active r timed q.instance
+    pub by_time : dtls.timed activated now answer timed
+    pub by_packet : BeginsTimed answer active timed r q.instance
     pub rest : q ≡ record p { instance = q.instance; active = Some active }
 
   -- A role is taken where there is none; the first one stays.
   abbrev pub StartsDtls : DtlsState D → Option Bool → Bool → ℕ → Result (Unit {0}) DtlsError → DtlsState D → Type 0
   StartsDtls p None active now r q = TakesRole p active now r q
   StartsDtls p (Some role) active now r q = (r ≡ Ok tt) × (q ≡ p)
-
-  -- Memory runs out before the role is taken, as it is taken, or behind it.
-  pub data StopsStarting (p : DtlsState D) (active : Bool) (now : ℕ) (q : DtlsState D) : Type 0 where
-    NotStarted : q ≡ p → StopsStarting p active now q
-    AtRole : StartsDtls p p.active active now (Err DtlsAlloc) q → StopsStarting p active now q
-    BehindRole : StartsDtls p p.active active now (Ok tt) q → StopsStarting p active now q
 
 -- the longest message that the other side takes, by what its line for the data channels tells: 0 stands for any length, 32 bits hold
 -- no more, and where it tells none it is 65536 bytes (RFC 8841, section 6.1)
@@ -111,7 +115,17 @@ module _ {S : Type 0} (association : AssociationMeaning S) where
       → Type 0
   StartsSctp p rows client now max r q = StartsWhere (needs_start rows p) p client now max r q
 
-  -- Memory runs out before the association is started, or as it is started.
-  pub data StopsSctp (p : SctpStreams S) (rows : List LineRow) (client : Bool) (now max : ℕ) (q : SctpStreams S) : Type 0 where
-    NotInited : q ≡ p → StopsSctp p rows client now max q
-    AtInit : StartsSctp p rows client now max (Err SctpAlloc) q → StopsSctp p rows client now max q
+-- the three parts that follow a session description
+module _ {I D S : Type 0} (ice : IceMeaning I) (dtls : DtlsMeaning D) (association : AssociationMeaning S) where
+  -- Memory lacks at one of the parts, which follow in this order: the agent, the DTLS part (at the timer, or at the packet of no bytes),
+  -- the association. Those before it have followed, and those behind it are as they were.
+  pub data StopsMoving (i : I) (d : DtlsState D) (s : SctpStreams S) (restart : Option (IceCreds × Bool)) (creds : Option IceCreds)
+      (candidates : List Candidate) (control : Option Bool) (active : Bool) (rows : List LineRow) (client : Bool) (now max : ℕ) (j : I)
+      (e : DtlsState D) (t : SctpStreams S) : Type 0 where
+    AtAgent : StopsFollowing ice i restart creds candidates j → e ≡ d → t ≡ s
+        → StopsMoving i d s restart creds candidates control active rows client now max j e t
+    AtRole : FollowsSdp ice i restart creds candidates control j → StartsDtls dtls d d.active active now (Err DtlsAlloc) e → t ≡ s
+        → StopsMoving i d s restart creds candidates control active rows client now max j e t
+    AtStart : FollowsSdp ice i restart creds candidates control j → StartsDtls dtls d d.active active now (Ok tt) e
+        → StartsSctp association s rows client now max (Err SctpAlloc) t
+        → StopsMoving i d s restart creds candidates control active rows client now max j e t

@@ -2,7 +2,7 @@ use Rattle.std.proofs.Common.{◌≡◌, ◌∙◌, ◌++◌, ◌∷◌, [], Lis
 use Rattle.std.specs.List.{flat_map}
 use Rattle.rtc_peer_state.specs.Sources.{has_source, pair_numbers}
 use Rattle.rtc_ids.proofs.LaterLemmas.{later_none, later_join}
-use Rattle.rtc_drawing.proofs.Pairs.{one_pair, one_draw, one_more_pair}
+use Rattle.rtc_drawing.proofs.Pairs.{one_pair, one_draw, one_more_pair, most_pairs, later_same}
 use Rattle.rtc_drawing.proofs.sourcing.draw_pairs.Goals as goal
 
 pub loop-init : goal.loop-init
@@ -24,3 +24,14 @@ loop-preserved g c =
       after = one_draw g.N.Ids.ids (has_source g.M.MediaSession.media c.args.media.now) c.args.kind _ _ c.loop.ids _ _ one_less c.in_ok-pair.ensures.after c.loop.invariant.after;
       later = later_join g.N.Ids.ids c.args.ids.now c.loop.ids _ c.loop.invariant.later c.in_ok-pair.ensures.later;
     }
+
+pub returns-in_err-pair-clause-most : goal.returns-in_err-pair-clause-most
+returns-in_err-pair-clause-most g c =
+    let one_less : c.args.count - c.loop.counter ≡ suc (c.args.count - (c.loop.counter + 1)) = omega arith in
+    most_pairs g.N.Ids.ids (has_source g.M.MediaSession.media c.args.media.now) c.args.kind _ _ c.loop.ids _ _ one_less c.in_err-pair.ensures.most c.loop.invariant.after
+
+pub returns-in_err-push-clause-most : goal.returns-in_err-push-clause-most
+returns-in_err-push-clause-most g c =
+    let one_less : c.args.count - c.loop.counter ≡ suc (c.args.count - (c.loop.counter + 1)) = omega arith in
+    most_pairs g.N.Ids.ids (has_source g.M.MediaSession.media c.args.media.now) c.args.kind _ _ c.loop.ids _ _ one_less
+    (later_same g.N.Ids.ids _ _ c.in_ok-pair.ensures.after) c.loop.invariant.after

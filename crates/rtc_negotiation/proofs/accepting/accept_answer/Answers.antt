@@ -2,7 +2,7 @@ use Rattle.std.proofs.Common.{◌≡◌, ◌∙◌, Ok, Err, ap, arith}
 use Rattle.rtc_tables.specs.declared.plan.Plan.{Plan}
 use Rattle.rtc_peer_state.specs.Calls.{raised}
 use Rattle.rtc_peer_state.specs.Meanings.{meanings}
-use Rattle.rtc_negotiation.proofs.AnswerLemmas.{answer_refused, answer_moves, answer_fails, answer_accepted}
+use Rattle.rtc_negotiation.proofs.AnswerLemmas.{answer_refused, answer_unprepared, answer_moves, answer_fails, answer_accepted}
 use Rattle.rtc_negotiation.proofs.accepting.accept_answer.Goals as goal
 
 pub returns-in-Err : goal.returns-in-Err
@@ -11,20 +11,26 @@ returns-in-Err g c =
     answer_refused (meanings g.I.IceAgent.ice g.D.DtlsInstance.dtls g.S.Association.association g.M.MediaSession.media g.N.Ids.ids) c.args.peer.now c.args.token c.args.answer c.in-Err.refusal c.refuse.result c.refuse.new.phase right
     c.in-Err.ensures.plans c.refuse.ensures.error c.refuse.ensures.phase
 
+pub returns-in-Err-grow_answer : goal.returns-in-Err-grow_answer
+returns-in-Err-grow_answer g c =
+    let right : c.args.peer.now.counter ≡ raised c.args.token.id = grind (arith, c.if-peer-change_id.false, c.change_id.ensures) in
+    answer_unprepared (meanings g.I.IceAgent.ice g.D.DtlsInstance.dtls g.S.Association.association g.M.MediaSession.media g.N.Ids.ids) c.args.peer.now c.grow_answer.new.peer c.args.token c.args.answer right
+    (c.in-Ok.ensures.plans.0) (rw c.into_changes-changes.ensures at c.in-Err-grow_answer.ensures)
+
 pub returns-in-Err-move_parts : goal.returns-in-Err-move_parts
 returns-in-Err-move_parts g c =
     let right : c.args.peer.now.counter ≡ raised c.args.token.id = grind (arith, c.if-peer-change_id.false, c.change_id.ensures) in
-    let grown = rw c.into_changes-changes.ensures at c.in-Ok-grow_answer.ensures.grows in
+    let grown = rw c.into_changes-changes.ensures at c.in-Ok-grow_answer.ensures in
     let moves = answer_moves (meanings g.I.IceAgent.ice g.D.DtlsInstance.dtls g.S.Association.association g.M.MediaSession.media g.N.Ids.ids) c.args.peer.now c.grow_answer.new.peer c.args.token.changes c.args.answer c.in-Ok-grow_answer.growth
     c.as_slice.result.now (Err c.in-Err-move_parts.error) c.move_parts.new.ice c.move_parts.new.dtls c.move_parts.new.sctp grown
     (c.as_slice.ensures ∙ ap (λ (plan : Plan). plan.rows) c.in-Ok.ensures.plans.1) c.in-Err-move_parts.ensures in
-    answer_fails (meanings g.I.IceAgent.ice g.D.DtlsInstance.dtls g.S.Association.association g.M.MediaSession.media g.N.Ids.ids) g.met.M.MediaSession.laws c.args.peer.now c.grow_answer.new.peer c.args.token c.args.answer c.in-Ok-grow_answer.growth
-    c.in-Err-move_parts.error c.move_parts.new.ice c.move_parts.new.dtls c.move_parts.new.sctp right grown c.in-Ok-grow_answer.ensures.later (c.in-Ok.ensures.plans.0) moves
+    answer_fails (meanings g.I.IceAgent.ice g.D.DtlsInstance.dtls g.S.Association.association g.M.MediaSession.media g.N.Ids.ids) c.args.peer.now c.grow_answer.new.peer c.args.token c.args.answer c.in-Ok-grow_answer.growth
+    c.in-Err-move_parts.error c.move_parts.new.ice c.move_parts.new.dtls c.move_parts.new.sctp right grown (c.in-Ok.ensures.plans.0) moves
 
 pub returns : goal.returns
 returns g c =
     let right : c.args.peer.now.counter ≡ raised c.args.token.id = grind (arith, c.if-peer-change_id.false, c.change_id.ensures) in
-    let grown = rw c.into_changes-changes.ensures at c.in-Ok-grow_answer.ensures.grows in
+    let grown = rw c.into_changes-changes.ensures at c.in-Ok-grow_answer.ensures in
     let moves = answer_moves (meanings g.I.IceAgent.ice g.D.DtlsInstance.dtls g.S.Association.association g.M.MediaSession.media g.N.Ids.ids) c.args.peer.now c.grow_answer.new.peer c.args.token.changes c.args.answer c.in-Ok-grow_answer.growth
     c.as_slice.result.now (Ok tt) c.move_parts.new.ice c.move_parts.new.dtls c.move_parts.new.sctp grown
     (c.as_slice.ensures ∙ ap (λ (plan : Plan). plan.rows) c.in-Ok.ensures.plans.1) c.in-Ok-move_parts.ensures in

@@ -1,7 +1,7 @@
 use Rattle.std.proofs.Common.{◌∙◌, Ok, Err, ap}
 use Rattle.rtc_tables.specs.declared.plan.Plan.{Plan}
 use Rattle.rtc_peer_state.specs.Meanings.{meanings}
-use Rattle.rtc_negotiation.proofs.AcceptanceLemmas.{offer_refused, offer_moves, offer_fails, offer_accepted}
+use Rattle.rtc_negotiation.proofs.AcceptanceLemmas.{offer_refused, offer_unprepared, offer_moves, offer_fails, offer_accepted}
 use Rattle.rtc_negotiation.proofs.accepting.accept_offer.Goals as goal
 
 pub returns-in-Err : goal.returns-in-Err
@@ -9,19 +9,24 @@ returns-in-Err g c =
     offer_refused (meanings g.I.IceAgent.ice g.D.DtlsInstance.dtls g.S.Association.association g.M.MediaSession.media g.N.Ids.ids) c.args.peer.now c.args.offer c.in-Err.refusal c.refuse.result c.refuse.new.phase
     c.in-Err.ensures.plans c.refuse.ensures.error c.refuse.ensures.phase
 
+pub returns-in-Err-grow_offer : goal.returns-in-Err-grow_offer
+returns-in-Err-grow_offer g c =
+    offer_unprepared (meanings g.I.IceAgent.ice g.D.DtlsInstance.dtls g.S.Association.association g.M.MediaSession.media g.N.Ids.ids) c.args.peer.now c.grow_offer.new.peer c.args.offer
+    (c.in-Ok.ensures.plans.0) c.in-Err-grow_offer.ensures
+
 pub returns-in-Err-move_parts : goal.returns-in-Err-move_parts
 returns-in-Err-move_parts g c =
     let moves = offer_moves (meanings g.I.IceAgent.ice g.D.DtlsInstance.dtls g.S.Association.association g.M.MediaSession.media g.N.Ids.ids) c.args.peer.now c.grow_offer.new.peer c.args.offer c.in-Ok-grow_offer.growth
-    c.as_slice.result.now (Err c.in-Err-move_parts.error) c.move_parts.new.ice c.move_parts.new.dtls c.move_parts.new.sctp c.in-Ok-grow_offer.ensures.grows
+    c.as_slice.result.now (Err c.in-Err-move_parts.error) c.move_parts.new.ice c.move_parts.new.dtls c.move_parts.new.sctp c.in-Ok-grow_offer.ensures
     (c.as_slice.ensures ∙ ap (λ (plan : Plan). plan.rows) c.in-Ok.ensures.plans.1) c.in-Err-move_parts.ensures in
-    offer_fails (meanings g.I.IceAgent.ice g.D.DtlsInstance.dtls g.S.Association.association g.M.MediaSession.media g.N.Ids.ids) g.met.M.MediaSession.laws c.args.peer.now c.grow_offer.new.peer c.args.offer c.in-Ok-grow_offer.growth
-    c.in-Err-move_parts.error c.move_parts.new.ice c.move_parts.new.dtls c.move_parts.new.sctp c.in-Ok-grow_offer.ensures.grows c.in-Ok-grow_offer.ensures.later (c.in-Ok.ensures.plans.0) moves
+    offer_fails (meanings g.I.IceAgent.ice g.D.DtlsInstance.dtls g.S.Association.association g.M.MediaSession.media g.N.Ids.ids) c.args.peer.now c.grow_offer.new.peer c.args.offer c.in-Ok-grow_offer.growth
+    c.in-Err-move_parts.error c.move_parts.new.ice c.move_parts.new.dtls c.move_parts.new.sctp c.in-Ok-grow_offer.ensures (c.in-Ok.ensures.plans.0) moves
 
 pub returns : goal.returns
 returns g c =
     let moves = offer_moves (meanings g.I.IceAgent.ice g.D.DtlsInstance.dtls g.S.Association.association g.M.MediaSession.media g.N.Ids.ids) c.args.peer.now c.grow_offer.new.peer c.args.offer c.in-Ok-grow_offer.growth
-    c.as_slice.result.now (Ok tt) c.move_parts.new.ice c.move_parts.new.dtls c.move_parts.new.sctp c.in-Ok-grow_offer.ensures.grows
+    c.as_slice.result.now (Ok tt) c.move_parts.new.ice c.move_parts.new.dtls c.move_parts.new.sctp c.in-Ok-grow_offer.ensures
     (c.as_slice.ensures ∙ ap (λ (plan : Plan). plan.rows) c.in-Ok.ensures.plans.1) c.in-Ok-move_parts.ensures in
     offer_accepted (meanings g.I.IceAgent.ice g.D.DtlsInstance.dtls g.S.Association.association g.M.MediaSession.media g.N.Ids.ids) c.args.peer.now c.grow_offer.new.peer c.args.offer c.in-Some.answer c.in-Ok-grow_offer.growth
-    c.move_parts.new.ice c.move_parts.new.dtls c.move_parts.new.sctp c.commit.new.self c.commit-2.new.self c.in-Ok-grow_offer.ensures.grows c.in-Some.is (c.in-Ok.ensures.plans.0) moves c.commit.ensures
+    c.move_parts.new.ice c.move_parts.new.dtls c.move_parts.new.sctp c.commit.new.self c.commit-2.new.self c.in-Ok-grow_offer.ensures c.in-Some.is (c.in-Ok.ensures.plans.0) moves c.commit.ensures
     (c.commit-2.ensures ∙ ap (λ (plan : Plan). plan.rows) c.in-Ok.ensures.plans.1)

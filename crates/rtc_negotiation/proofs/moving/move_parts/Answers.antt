@@ -1,5 +1,10 @@
+use Rattle.std.proofs.Common.{refl}
+use Rattle.rtc_peer_state.specs.PartMoves.{AtAgent}
 use Rattle.rtc_negotiation.proofs.MoveLemmas.{sctp_fails}
 use Rattle.rtc_negotiation.proofs.moving.move_parts.Goals as goal
+
+pub returns-in-Err : goal.returns-in-Err
+returns-in-Err g c = AtAgent c.in-Err.ensures.err refl refl
 
 pub returns-in-Err-start_sctp : goal.returns-in-Err-start_sctp
 returns-in-Err-start_sctp g c =

@@ -2,7 +2,7 @@ use Rattle.std.proofs.Common.{◌≡◌, ◌+◌, suc, drop, arith}
 use Rattle.rtc_ids.proofs.LaterLemmas.{later_join}
 use Rattle.rtc_peer_state.specs.Sources.{has_source}
 use Rattle.rtc_peer_state.specs.LineUpdates.{added_media, sending_of}
-use Rattle.rtc_negotiation.proofs.UpdateLemmas.{from_place, from_index, none_from, one_update, one_update_after, no_updates, after_no_updates}
+use Rattle.rtc_negotiation.proofs.UpdateLemmas.{from_place, from_index, none_from, one_update, one_update_after, no_updates, after_no_updates, most_updates, most_with_row}
 use Rattle.rtc_negotiation.proofs.updating.list_updates.Goals as goal
 
 pub loop-row-preserved : goal.loop-row-preserved
@@ -32,3 +32,27 @@ returns-in_default-clause-after g c =
     after_no_updates g.N.Ids.ids (has_source g.M.MediaSession.media c.args.media.now) (λ mid. sending_of (g.M.MediaSession.media.line c.args.media.now mid) (added_media c.args.changes.now mid) mid)
     (drop c.loop-row.row-index c.args.rows.now) (drop c.loop-row.row-index c.args.lines.now) c.loop-row.ids _
     (none_from c.loop-row.row-index c.loop-row.place c.args.lines.now c.loop-row.invariant.place c.in_default.ensures) c.loop-row.invariant.after
+
+pub returns-in_default-clause-most : goal.returns-in_default-clause-most
+returns-in_default-clause-most g c =
+    most_updates g.N.Ids.ids (has_source g.M.MediaSession.media c.args.media.now) (λ mid. sending_of (g.M.MediaSession.media.line c.args.media.now mid) (added_media c.args.changes.now mid) mid)
+    (drop c.loop-row.row-index c.args.rows.now) (drop c.loop-row.row-index c.args.lines.now) c.loop-row.ids _ c.loop-row.invariant.after
+
+pub returns-in_err-sending-clause-most : goal.returns-in_err-sending-clause-most
+returns-in_err-sending-clause-most g c =
+    most_updates g.N.Ids.ids (has_source g.M.MediaSession.media c.args.media.now) (λ mid. sending_of (g.M.MediaSession.media.line c.args.media.now mid) (added_media c.args.changes.now mid) mid)
+    (drop c.loop-row.row-index c.args.rows.now) (drop c.loop-row.row-index c.args.lines.now) c.loop-row.ids _ c.loop-row.invariant.after
+
+pub returns-in_err-push_update-clause-most : goal.returns-in_err-push_update-clause-most
+returns-in_err-push_update-clause-most g c =
+    let rows_are = from_index c.loop-row.row-index c.args.rows.now c.row-item.result c.row-item.result c.loop-row-test.true c.row-item.is in
+    let lines_are = from_place c.loop-row.row-index c.loop-row.place c.args.lines.now c.in-Some.line.now c.loop-row.invariant.place c.in-Some.ensures in
+    let sent = rw c.mid.ensures at c.in_ok-sending.ensures in
+    most_with_row g.N.Ids.ids (has_source g.M.MediaSession.media c.args.media.now) (λ mid. sending_of (g.M.MediaSession.media.line c.args.media.now mid) (added_media c.args.changes.now mid) mid)
+    c.loop-row.row-index c.args.rows.now c.args.lines.now c.loop-row.ids _ _ c.row-item.result c.in-Some.line.now c.in_ok-sending.sending rows_are lines_are sent
+    c.in_err-push_update.ensures.most c.loop-row.invariant.after
+
+pub returns-clause-most : goal.returns-clause-most
+returns-clause-most g c =
+    most_updates g.N.Ids.ids (has_source g.M.MediaSession.media c.args.media.now) (λ mid. sending_of (g.M.MediaSession.media.line c.args.media.now mid) (added_media c.args.changes.now mid) mid)
+    (drop c.loop-row.row-index c.args.rows.now) (drop c.loop-row.row-index c.args.lines.now) c.loop-row.ids _ c.loop-row.invariant.after
