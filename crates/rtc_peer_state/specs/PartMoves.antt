@@ -117,7 +117,7 @@ module _ {S : Type 0} (association : AssociationMeaning S) where
 
 -- the three parts that follow a session description
 module _ {I D S : Type 0} (ice : IceMeaning I) (dtls : DtlsMeaning D) (association : AssociationMeaning S) where
-  -- Memory lacks at one of the parts, which follow in this order: the agent, the DTLS part (at the timer, or at the packet of no bytes),
+  -- Memory runs out at one of the parts, which follow in this order: the agent, the DTLS part (at the timer, or at the packet of no bytes),
   -- the association. Those before it have followed, and those behind it are as they were.
   pub data StopsMoving (i : I) (d : DtlsState D) (s : SctpStreams S) (restart : Option (IceCreds × Bool)) (creds : Option IceCreds)
       (candidates : List Candidate) (control : Option Bool) (active : Bool) (rows : List LineRow) (client : Bool) (now max : ℕ) (j : I)

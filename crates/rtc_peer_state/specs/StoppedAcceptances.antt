@@ -18,7 +18,7 @@ use Rattle.rtc_peer_state.specs.SdpMoves.{updates_for, ids_after_updates}
 use Rattle.rtc_peer_state.specs.Stance.{stance_of, held_by}
 
 module _ {I D S M E X T W N : Type 0} (m : Meanings I D S M E X T W N) where
-  -- Memory lacks before the agent, the DTLS part and the association are touched: before sources are drawn, among them, or as the
+  -- Memory runs out before the agent, the DTLS part and the association are touched: before sources are drawn, among them, or as the
   -- media part prepares its updates. What is drawn before sources is given.
   pub data StopsPreparing (p : Peer I D S M N) (offer : Bool) (changes : List Change) (sdp : Sdp) (drawn : N) (q : Peer I D S M N)
       : Type 0 where
@@ -30,7 +30,7 @@ module _ {I D S M E X T W N : Type 0} (m : Meanings I D S M E X T W N) where
         → q ≡ record p { ids = ids_after_updates m p offer changes sdp drawn; media = q.media }
         → StopsPreparing p offer changes sdp drawn q
 
-  -- Memory lacks as an offer or an answer is judged, which changes nothing; as what its acceptance needs is prepared; or, once the
+  -- Memory runs out as an offer or an answer is judged, which changes nothing; as what its acceptance needs is prepared; or, once the
   -- media part has prepared its updates, as the other parts follow.
   pub data StopsAccepting (p : Peer I D S M N) (asked : Option Asked) (changes : List Change) (sdp : Sdp)
       (restart : Option (IceCreds × Bool)) (control : Option Bool) (drawn : N) (q : Peer I D S M N) : Type 0 where
