@@ -120,7 +120,7 @@ at_first at past app = record {
   channels = channels_given at past;
 }
 
--- An offer is made exactly where the step applies staged changes and some have to be offered, unless memory lacks.
+-- An offer is made exactly where the step applies staged changes and some have to be offered, unless memory runs out.
 abbrev pub MadeOf : Bool → Bool → Made → ℕ → Type 0
 MadeOf false offers NotAsked next = Unit {0}
 MadeOf true true (Offer k) next = k ≡ next

@@ -8,6 +8,8 @@ pub mod PlacedRows
 pub mod ToldChannels
 pub mod StagedApps
 pub mod StagedChanges
+pub mod StagedOps
+pub mod StagedChannelOps
 pub mod Staging
 pub mod AnsweredOps
 pub mod PushedLists

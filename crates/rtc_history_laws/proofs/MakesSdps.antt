@@ -31,7 +31,8 @@ use Rattle.rtc_history.specs.SaidRows.{row_said, are_live, MakesSdp}
 use Rattle.rtc_history.specs.declared.kept.Kept.{Kept}
 use Rattle.rtc_history.specs.PairState.{made_sdp, kept_remote_sdp, held_token, spent}
 use Rattle.rtc_history.specs.Performs.{kept_offer, kept_answer}
-use Rattle.rtc_history_laws.proofs.Staging.{Stages, ops_stage}
+use Rattle.rtc_history_laws.proofs.StagedOps.{Stages}
+use Rattle.rtc_history_laws.proofs.Staging.{ops_stage}
 use Rattle.rtc_history_laws.proofs.NegotiateSteps.{made_lines}
 use Rattle.rtc_history_laws.proofs.OfferApps.{behind, none_behind, one_behind, app_is_told}
 use Rattle.rtc_history_laws.proofs.OfferTables.{offer_table}

@@ -36,7 +36,8 @@ use Rattle.rtc_history_laws.proofs.SaidSdps.{length-with}
 use Rattle.rtc_history_laws.proofs.OfferApps.{behind, app_is_told}
 use Rattle.rtc_history_laws.proofs.AnsweredOps.{midway, ops_answered}
 use Rattle.rtc_history_laws.proofs.StagedChanges.{are_some}
-use Rattle.rtc_history_laws.proofs.Staging.{Stages, ops_stage}
+use Rattle.rtc_history_laws.proofs.StagedOps.{Stages}
+use Rattle.rtc_history_laws.proofs.Staging.{ops_stage}
 use Rattle.rtc_history_laws.proofs.Tells.{ChannelsTell, Tells, same_side-self, same_side-other, raised-small}
 use Rattle.rtc_history_laws.proofs.TokenEntries.{offered_tells}
 use Rattle.rtc_history_laws.proofs.Around.{Around, entry, goes_on, channels_kept, quiet_tells}

@@ -73,7 +73,7 @@ fn make_offer<I: IceAgent, D: DtlsInstance, S: Association, M: MediaSession, N: 
     make_sdp(peer.alloc, head, rows.as_slice())
 }
 
-// Whether this side picks the pair of candidates, where that is still to be settled.
+// Whether this side is controlling, where that is still to be settled.
 fn control_of_offer<I: IceAgent, D: DtlsInstance>(ice: &I, dtls: &Dtls<D>) -> Option<bool>
     ensures { result ≡ control_for dtls.now.active (not (I.ice.settings ice.now).lite) }
 {

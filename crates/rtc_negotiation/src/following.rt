@@ -51,7 +51,7 @@ fn take_candidates<I: IceAgent>(ice: &mut I, candidates: Vec<Candidate>) -> Resu
     Ok(())
 }
 
-/// Sets which side picks the pair, where this is asked.
+/// Sets which side is controlling, where this is asked.
 pub fn take_control<I: IceAgent>(ice: &mut I, control: Option<bool>)
     ensures { TakesControl I.ice ice.old control ice.new }
 {

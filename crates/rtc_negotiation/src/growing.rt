@@ -105,7 +105,7 @@ fn make_following(
     })
 }
 
-// Which side picks the pair, where that is still to be settled.
+// Which side is controlling, where that is still to be settled.
 fn control_for<D: DtlsInstance>(dtls: &Dtls<D>, on: bool) -> Option<bool>
     ensures { result ≡ ControlFor dtls.now.active on }
 {

@@ -114,7 +114,7 @@ after_channels_alone (change ∷ changes) p = record p {
   channels = all_confirmed (fitting_channels (change ∷ changes)) p.channels;
 }
 
--- which side picks the pair is settled while there is no DTLS role
+-- which side is controlling is settled while there is no DTLS role
 abbrev pub control_for : Option Bool → Bool → Option Bool
 control_for None on = Some on
 control_for (Some role) on = None

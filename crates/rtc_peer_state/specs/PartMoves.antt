@@ -28,7 +28,7 @@ module _ {I : Type 0} (ice : IceMeaning I) where
   TakesCreds p None q = q ≡ p
   TakesCreds p (Some creds) q = ice.remote_set p creds q
 
-  -- its candidates are taken in order, up to the first for which memory lacks
+  -- its candidates are taken in order, up to the first at which memory runs out
   abbrev pub TakesCandidates : I → List Candidate → Result (Unit {0}) AllocError → I → Type 0
   TakesCandidates p [] r q = (r ≡ Ok tt) × (q ≡ p)
   TakesCandidates p (candidate ∷ candidates) r q =
@@ -38,7 +38,7 @@ module _ {I : Type 0} (ice : IceMeaning I) where
         | Err error ↦ (r ≡ Err error) × (q ≡ between)
       ]
 
-  -- which side picks the pair is set where this is asked
+  -- which side is controlling is set where this is asked
   abbrev pub TakesControl : I → Option Bool → I → Type 0
   TakesControl p None q = q ≡ p
   TakesControl p (Some on) q = ice.controlling_set p on q

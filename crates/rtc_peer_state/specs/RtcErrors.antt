@@ -14,7 +14,7 @@ use Rattle.rtc_sctp.specs.declared.sctp_error.SctpError.TheVariants as sctp
 use Rattle.rtc_peer_state.specs.declared.rtc_error.RtcError.{RtcError}
 use Rattle.rtc_peer_state.specs.declared.rtc_error.RtcError.TheVariants.{RemoteSdp, Sdp, Dtls, Sctp, Media, BadChannel, Alloc}
 
--- want of memory below is want of memory
+-- running out of memory below is running out of memory here
 abbrev pub error_of_sdp : SdpError → RtcError
 error_of_sdp SdpAlloc = Alloc
 error_of_sdp (Parse line) = Sdp (Parse line)

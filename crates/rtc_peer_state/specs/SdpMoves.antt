@@ -60,7 +60,7 @@ module _ {I D S M E X T W N : Type 0} (m : Meanings I D S M E X T W N) where
   abbrev pub answer_ids : Peer I D S M N → Sdp → N
   answer_ids p offer = after_new_creds m.ids p.ids (is_restart (m.ice.settings p.ice).remote (creds_of offer))
 
-  -- the agent follows an offer; while there is no DTLS role, this side picks the pair exactly where the other one is lite
+  -- the agent follows an offer; while there is no DTLS role, this side is controlling exactly where the other one is lite
   abbrev pub FollowsOffer : Peer I D S M N → Sdp → Peer I D S M N → Type 0
   FollowsOffer p offer q =
       FollowsSdp m.ice p.ice (followed_restart p offer) (creds_of offer) (candidates_of offer)

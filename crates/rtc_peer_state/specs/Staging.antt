@@ -28,7 +28,7 @@ module _ {N : Type 0} (draws : Draws N) where
   after_app ids true = draws.after ids
   after_app ids false = ids
 
-  -- A channel is made and staged, or refused; where memory lacks, nothing has changed.
+  -- A channel is made and staged, or refused; where memory runs out, nothing has changed.
   abbrev pub StagesChannel : List LineRow → N → List Change → Channels → ChannelConfig → Result ℕ ChannelError → N → List Change
       → Channels → Type 0
   StagesChannel rows ids staged held config (Ok id) ids' staged' held' =

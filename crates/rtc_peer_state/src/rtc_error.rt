@@ -1,7 +1,8 @@
 //! Errors of a peer's calls.
 ghost use Rattle.std.specs.Prelude.{◌≡◌, Some};
 ghost use Rattle.rtc_peer_state.specs.declared.rtc_error.RtcError.TheVariants.{Alloc, Net};
-ghost use Rattle.rtc_peer_state.specs.RtcErrors.{error_of_channel, error_of_dtls, error_of_media, error_of_sctp, error_of_sdp, error_of_refusal};
+ghost use Rattle.rtc_peer_state.specs.RtcErrors.{error_of_channel, error_of_dtls, error_of_media};
+ghost use Rattle.rtc_peer_state.specs.RtcErrors.{error_of_sctp, error_of_sdp, error_of_refusal};
 ghost use Rattle.rtc_peer_state.specs.RtcErrorText as text;
 ghost use Rattle.rtc_peer_state.specs.RtcErrorText.{net_error_text};
 

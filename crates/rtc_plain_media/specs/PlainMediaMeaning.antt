@@ -28,7 +28,7 @@ use Rattle.rtc_plain_media.specs.MediaCalls.{
   writer_marked,
 }
 
--- a call that takes memory: Ok leaves this, and want of memory leaves the part as it was
+-- a call that takes memory: Ok leaves this, and running out of memory leaves the part as it was
 abbrev pub MediaLeaves : {E : Type 0} → MediaContents → MediaContents → Result (Unit {0}) E → MediaContents → Type 0
 MediaLeaves p left (Ok _) q = q ≡ left
 MediaLeaves p left (Err _) q = q ≡ p

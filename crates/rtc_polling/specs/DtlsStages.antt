@@ -78,7 +78,7 @@ abbrev pub TellsConnected : {I D S M E N : Type 0} → Stage (PolledPeer I D S M
 TellsConnected p r q = TellsConnectedFrom p.transport.handshake p r q
 
 module _ {I D S M E X T W N : Type 0} (m : Meanings I D S M E X T W N) where
-  -- the connection is given the greatest moment; want of memory and a fault close the peer
+  -- the connection is given the greatest moment; running out of memory and a fault close the peer
   unfoldable pub GivesDtlsTime : Stage (PolledPeer I D S M N) E
   GivesDtlsTime p Nothing q =
       HandsOn m.dtls p.core.dtls p.core.dtls.active (λ i r j. m.dtls.timed i p.core.greatest r j) (Ok tt) q.core.dtls
@@ -129,7 +129,7 @@ module _ {I D S M E X T W N : Type 0} (m : Meanings I D S M E X T W N) where
       (r ≡ Nothing) × (q ≡ record p { transport = record p.transport { dtls_wake = moment } })
   TakesDtlsOutput outputs.CloseNotify p r q = TakesCloseNotify p r q
 
-  -- what becomes of the answer of its poll; want of memory closes the peer
+  -- what becomes of the answer of its poll; running out of memory closes the peer
   abbrev pub TakesDtlsAnswer : Result DtlsOutput AllocError → Stage (PolledPeer I D S M N) E
   TakesDtlsAnswer (Ok output) p r q = TakesDtlsOutput output p r q
   TakesDtlsAnswer (Err error) p r q = (r ≡ Error Alloc) × (q ≡ closed_peer p)

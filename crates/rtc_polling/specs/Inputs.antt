@@ -31,8 +31,8 @@ abbrev pub timed_peer : {I D S M N : Type 0} → ℕ → I → M → PolledPeer 
 timed_peer now ice media p = with_media media (with_ice ice (with_moment now p))
 
 module _ {I D S M E X T W N : Type 0} (m : Meanings I D S M E X T W N) where
-  -- A moment is handed to the ICE agent and to the media part. It stays taken where the media part fails; want of memory closes the
-  -- peer.
+  -- A moment is handed to the ICE agent and to the media part. It stays taken where the media part fails; running out of memory closes
+  -- the peer.
   unfoldable pub GivesTime : ℕ → PolledPeer I D S M N → Result (Unit {0}) RtcError → PolledPeer I D S M N → Type 0
   GivesTime now p (Ok done) q =
       m.ice.timed p.core.ice now (Ok tt) q.core.ice

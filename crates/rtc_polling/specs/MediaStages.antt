@@ -16,7 +16,7 @@ module _ {I D S M E X T W N : Type 0} (m : Meanings I D S M E X T W N) where
   TellsMedia p (Event (MediaTold event)) q = m.media.told p.core.media (Some event) q.core.media × (q ≡ with_media q.core.media p)
   TellsMedia p r q = ⊥
 
-  -- the next event whose making may fail. A failure leaves the peer as it was, and want of memory closes it
+  -- the next event whose making may fail. A failure leaves the peer as it was, and running out of memory closes it
   unfoldable pub TellsFallibleMedia : Stage (PolledPeer I D S M N) E
   TellsFallibleMedia p Nothing q =
       m.media.told_fallible p.core.media p.core.greatest (Ok None) q.core.media × (q ≡ with_media q.core.media p)

@@ -45,7 +45,7 @@ pub fn stance_is_kept<I: IceAgent, D: DtlsInstance, S: Association, M: MediaSess
         ≡ stance_of (meanings I.ice D.dtls S.association M.media N.ids) p.core }
 {}
 
-/// Want of memory in a poll, an input or a close leaves the peer closed.
+/// Running out of memory in a poll, an input or a close leaves the peer closed.
 pub fn want_of_memory_closes<
     I: IceAgent,
     D: DtlsInstance,
