@@ -9,7 +9,7 @@ use Rattle.rtc_plain_ice.specs.Places.{has_place}
 use Rattle.rtc_plain_ice.specs.Contents.{IceContents, fresh_ice, ice_wake, is_viable, accepts_bytes, rtt_sum, rtt_count}
 use Rattle.rtc_plain_ice.specs.Calls as call
 
--- a call that leaves these contents, or for want of memory changes nothing
+-- a call that leaves these contents, or changes nothing where memory runs out
 abbrev pub LeavesIce : IceContents → IceContents → Result (Unit {0}) AllocError → IceContents → Type 0
 LeavesIce p done (Ok _) q = q ≡ done
 LeavesIce p done (Err _) q = q ≡ p
