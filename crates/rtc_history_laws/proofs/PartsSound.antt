@@ -2,7 +2,7 @@
 use Rattle.std.proofs.Common.{◌≡◌, ◌≤◌, ◌∙◌, List, [], ◌∷◌, Bool, true, false, refl, sym, ap, arith}
 use Rattle.std.proofs.lemmas.List.Folds.{list_any-append}
 use Rattle.rtc_peer_state.specs.Meanings.{Meanings, PartsLaws}
-use Rattle.rtc_peer_state.specs.Whole.{Whole}
+use Rattle.rtc_polling.specs.declared.polled_peer.PolledPeer.{PolledPeer}
 use Rattle.rtc_history.specs.declared.side.Side.{Side}
 use Rattle.rtc_history.specs.declared.reply.Reply.{Reply}
 use Rattle.rtc_history.specs.declared.step.Step.{Step}
@@ -24,7 +24,7 @@ module _ {I D S M E X T W N : Type 0} (m : Meanings I D S M E X T W N) where
       let acts : IsSoundOfSide m laws (peer_at (side_of last.step) old) last.outcome (peer_at (side_of last.step) new) =
       acts_side m laws last.step (peer_at (side_of last.step) old) old.sdps last.outcome last.table (peer_at (side_of last.step) new) new.sdps enters.performs.acts in
       let same : (part : CountedPart) → faults_at m part (other_side (side_of last.step)) new ≡ faults_at m part (other_side (side_of last.step)) old =
-      λ part. ap (λ (rtc : Whole I D S M N). faults_of m part rtc.core) enters.performs.other in
+      λ part. ap (λ (rtc : PolledPeer I D S M N). faults_of m part rtc.core) enters.performs.other in
       record {
         later = λ part. both_sides (λ at. faults_at m part at old ≤ faults_at m part at new) (side_of last.step) (acts.later part)
             (equal_below (faults_at m part (other_side (side_of last.step)) old) (faults_at m part (other_side (side_of last.step)) new) (same part));
