@@ -1,5 +1,5 @@
 -- What looks among codecs and parameters find, where one of them has lost its text.
-use Rattle.std.proofs.Common.{◌≡◌, ◌<◌, ◌&&◌, ◌||◌, not, ℕ, zero, suc, false, true, Bool, eqb, eq-eqb, List, [], ◌∷◌, ◌++◌, length, drop, get_or, slice_set, Option, Some, None, Result, Ok, Err, IfOk, OnOk, option_map, option_and_then, refl, sym, ap, ◌∙◌, ◌+◌, arith, append_assoc, add-one, drop-cons, if◌then◌else◌}
+use Rattle.std.proofs.Common.{◌≡◌, ◌<◌, ◌&&◌, ◌||◌, not, ℕ, zero, suc, false, true, Bool, eqb, eq-eqb, List, [], ◌∷◌, ◌++◌, length, drop, get_or, slice_set, Option, Some, None, option_map, option_and_then, refl, sym, ap, ◌∙◌, ◌+◌, arith, append_assoc, add-one, drop-cons, if◌then◌else◌}
 use Rattle.std.specs.List.{filter_map, list_any, cons_option}
 use Rattle.std.specs.Option.{option_or, unwrap_or}
 use Rattle.std.proofs.lemmas.Bool.{eqb-true, eqb-false, ne_eqb}
