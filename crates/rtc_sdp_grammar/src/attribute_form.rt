@@ -18,6 +18,7 @@ use rtc_fields::cut;
 use rtc_sdp_values::Direction;
 use std::alloc::{AllocError, Global};
 
+#[inline(always)]
 fn or_refused(level: Level, what: Strict, read: Option<Attribute>) -> Item
     ensures { result ≡ spec.row_item level (spec.Refuses what) read }
 {
@@ -27,6 +28,7 @@ fn or_refused(level: Level, what: Strict, read: Option<Attribute>) -> Item
     }
 }
 
+#[inline(always)]
 fn or_skipped(level: Level, read: Option<Attribute>) -> Item
     ensures { result ≡ spec.row_item level spec.IsSkipped read }
 {
@@ -36,6 +38,7 @@ fn or_skipped(level: Level, read: Option<Attribute>) -> Item
     }
 }
 
+#[inline(always)]
 fn lite(value: Option<&str>) -> Option<Attribute>
     ensures { result ≡ forms.bare LiteLine (names.bytes_shown value.entry) }
 {
@@ -45,6 +48,7 @@ fn lite(value: Option<&str>) -> Option<Attribute>
     }
 }
 
+#[inline(always)]
 fn direction(dir: Direction, value: Option<&str>) -> Option<Attribute>
     ensures { result ≡ forms.bare (DirectionLine dir) (names.bytes_shown value.entry) }
 {
@@ -54,6 +58,7 @@ fn direction(dir: Direction, value: Option<&str>) -> Option<Attribute>
     }
 }
 
+#[inline(always)]
 fn of_3(alloc: Global, name: &str, value: Option<&str>) -> Result<Item, AllocError>
     ensures { IfOk result (λ item. item ≡ spec.looked_up (names.of_length 3 spec.table) name.now (names.bytes_shown value.entry)) }
 {
@@ -67,6 +72,7 @@ fn of_3(alloc: Global, name: &str, value: Option<&str>) -> Result<Item, AllocErr
     }
 }
 
+#[inline(always)]
 fn of_4(alloc: Global, name: &str, value: Option<&str>) -> Result<Item, AllocError>
     ensures { IfOk result (λ item. item ≡ spec.looked_up (names.of_length 4 spec.table) name.now (names.bytes_shown value.entry)) }
 {
@@ -84,6 +90,7 @@ fn of_4(alloc: Global, name: &str, value: Option<&str>) -> Result<Item, AllocErr
     }
 }
 
+#[inline(always)]
 fn of_5(alloc: Global, name: &str, value: Option<&str>) -> Result<Item, AllocError>
     ensures { IfOk result (λ item. item ≡ spec.looked_up (names.of_length 5 spec.table) name.now (names.bytes_shown value.entry)) }
 {
@@ -97,6 +104,7 @@ fn of_5(alloc: Global, name: &str, value: Option<&str>) -> Result<Item, AllocErr
     }
 }
 
+#[inline(always)]
 fn of_6(alloc: Global, name: &str, value: Option<&str>) -> Result<Item, AllocError>
     ensures { IfOk result (λ item. item ≡ spec.looked_up (names.of_length 6 spec.table) name.now (names.bytes_shown value.entry)) }
 {
@@ -110,6 +118,7 @@ fn of_6(alloc: Global, name: &str, value: Option<&str>) -> Result<Item, AllocErr
     }
 }
 
+#[inline(always)]
 fn of_7(alloc: Global, name: &str, value: Option<&str>) -> Result<Item, AllocError>
     ensures { IfOk result (λ item. item ≡ spec.looked_up (names.of_length 7 spec.table) name.now (names.bytes_shown value.entry)) }
 {
@@ -121,6 +130,7 @@ fn of_7(alloc: Global, name: &str, value: Option<&str>) -> Result<Item, AllocErr
     }
 }
 
+#[inline(always)]
 fn of_8(name: &str, value: Option<&str>) -> Item
     ensures { result ≡ spec.looked_up (names.of_length 8 spec.table) name.now (names.bytes_shown value.entry) }
 {
@@ -139,6 +149,7 @@ fn of_8(name: &str, value: Option<&str>) -> Item
     }
 }
 
+#[inline(always)]
 fn of_9(alloc: Global, name: &str, value: Option<&str>) -> Result<Item, AllocError>
     ensures { IfOk result (λ item. item ≡ spec.looked_up (names.of_length 9 spec.table) name.now (names.bytes_shown value.entry)) }
 {
@@ -159,6 +170,7 @@ fn of_9(alloc: Global, name: &str, value: Option<&str>) -> Result<Item, AllocErr
     }
 }
 
+#[inline(always)]
 fn of_10(name: &str, value: Option<&str>) -> Item
     ensures { result ≡ spec.looked_up (names.of_length 10 spec.table) name.now (names.bytes_shown value.entry) }
 {
@@ -169,6 +181,7 @@ fn of_10(name: &str, value: Option<&str>) -> Item
     }
 }
 
+#[inline(always)]
 fn of_11(alloc: Global, name: &str, value: Option<&str>) -> Result<Item, AllocError>
     ensures { IfOk result (λ item. item ≡ spec.looked_up (names.of_length 11 spec.table) name.now (names.bytes_shown value.entry)) }
 {
@@ -180,6 +193,7 @@ fn of_11(alloc: Global, name: &str, value: Option<&str>) -> Result<Item, AllocEr
     }
 }
 
+#[inline(always)]
 fn of_16(name: &str, value: Option<&str>) -> Item
     ensures { result ≡ spec.looked_up (names.of_length 16 spec.table) name.now (names.bytes_shown value.entry) }
 {
@@ -191,6 +205,7 @@ fn of_16(name: &str, value: Option<&str>) -> Item
 }
 
 /// What an attribute of this name says: `a=NAME:VALUE`, or `a=NAME`.
+#[inline(always)]
 fn attribute_item(alloc: Global, name: &str, value: Option<&str>) -> Result<Item, AllocError>
     ensures { IfOk result (λ item. item ≡ spec.attribute_item name.now (names.bytes_shown value.entry)) }
 {
@@ -210,6 +225,7 @@ fn attribute_item(alloc: Global, name: &str, value: Option<&str>) -> Result<Item
 }
 
 /// What an `a=` line says (RFC 8866, section 5.13).
+#[inline(always)]
 pub(crate) fn attribute(alloc: Global, value: &str) -> Result<Item, AllocError>
     ensures { IfOk result (λ item. item ≡ attribute_line value.now) }
 {

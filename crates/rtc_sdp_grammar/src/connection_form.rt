@@ -24,6 +24,7 @@ use rtc_sdp_values::Mid;
 use std::alloc::{AllocError, Global};
 
 /// What a `mid` attribute says (RFC 5888, section 4).
+#[inline(always)]
 pub(crate) fn mid(value: Option<&str>) -> Option<Attribute>
     ensures { result ≡ forms.valued (forms.saying MidLine forms.short_token) (bytes_shown value.entry) }
 {
@@ -32,6 +33,7 @@ pub(crate) fn mid(value: Option<&str>) -> Option<Attribute>
 }
 
 /// What a `setup` attribute says (RFC 4145, section 4).
+#[inline(always)]
 pub(crate) fn setup(value: Option<&str>) -> Option<Attribute>
     ensures { result ≡ forms.valued (forms.saying SetupLine (forms.one_of form.setup_words)) (bytes_shown value.entry) }
 {
@@ -40,6 +42,7 @@ pub(crate) fn setup(value: Option<&str>) -> Option<Attribute>
 }
 
 /// What a `max-message-size` attribute says (RFC 8841, section 6).
+#[inline(always)]
 pub(crate) fn message_size(value: Option<&str>) -> Option<Attribute>
     ensures { result ≡ forms.valued (forms.saying MessageSizeLine spec_number) (bytes_shown value.entry) }
 {
@@ -48,6 +51,7 @@ pub(crate) fn message_size(value: Option<&str>) -> Option<Attribute>
 }
 
 /// What an `ice-ufrag` attribute says (RFC 8839, section 5.4).
+#[inline(always)]
 pub(crate) fn ufrag(alloc: Global, value: Option<&str>) -> Result<Option<Attribute>, AllocError>
     ensures { IfOk result (λ read. read ≡ forms.valued (forms.saying UfragLine (forms.word_up_to 255)) (bytes_shown value.entry)) }
 {
@@ -61,6 +65,7 @@ pub(crate) fn ufrag(alloc: Global, value: Option<&str>) -> Result<Option<Attribu
 }
 
 /// What an `ice-pwd` attribute says (RFC 8839, section 5.4).
+#[inline(always)]
 pub(crate) fn password(alloc: Global, value: Option<&str>) -> Result<Option<Attribute>, AllocError>
     ensures { IfOk result (λ read. read ≡ forms.valued (forms.saying PasswordLine (forms.word_up_to 256)) (bytes_shown value.entry)) }
 {
@@ -74,6 +79,7 @@ pub(crate) fn password(alloc: Global, value: Option<&str>) -> Result<Option<Attr
 }
 
 /// What a `fingerprint` attribute says (RFC 8122, section 5).
+#[inline(always)]
 pub(crate) fn fingerprint(
     alloc: Global,
     value: Option<&str>,

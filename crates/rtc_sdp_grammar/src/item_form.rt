@@ -67,6 +67,7 @@ fn lettered(alloc: Global, name: &str, value: &str) -> Result<Item, AllocError>
 }
 
 /// What stands behind `a=`; None where the line begins otherwise.
+#[inline(always)]
 fn attribute_value(line: &str) -> Option<&str>
     ensures { IfSome result (λ value. line.now ≡ 97 ∷ 61 ∷ value.now) }
 {
@@ -74,8 +75,10 @@ fn attribute_value(line: &str) -> Option<&str>
 }
 
 /// What one line says (RFC 8866, section 5).
-// Most lines are attributes, whose letter is looked at first.
+// Most lines are attributes, whose letter is looked at first. What they say is large: the calls on its way up are inlined, so that
+// it is not moved at each of them.
 #[tactic(auto, using(crate::proofs::WordLemmas::blank_line, crate::proofs::WordLemmas::a_line, crate::proofs::WordLemmas::other_line))]
+#[inline(always)]
 pub fn item_of(alloc: Global, line: &str) -> Result<Item, AllocError>
     ensures { IfOk result (λ item. item ≡ spec.item_of line.now) }
 {

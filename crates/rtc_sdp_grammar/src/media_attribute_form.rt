@@ -22,6 +22,7 @@ use rtc_sdp_attributes::{
 use std::alloc::{AllocError, Global};
 
 /// What an `rtpmap` attribute says (RFC 8866, section 6.6).
+#[inline(always)]
 pub(crate) fn codec(alloc: Global, value: Option<&str>) -> Result<Option<Attribute>, AllocError>
     ensures { IfOk result (λ read. read ≡ forms.valued (forms.saying CodecLine form.rtpmap) (bytes_shown value.entry)) }
 {
@@ -35,6 +36,7 @@ pub(crate) fn codec(alloc: Global, value: Option<&str>) -> Result<Option<Attribu
 }
 
 /// What an `fmtp` attribute says (RFC 8866, section 6.15).
+#[inline(always)]
 pub(crate) fn parameters(
     alloc: Global,
     value: Option<&str>,
@@ -51,6 +53,7 @@ pub(crate) fn parameters(
 }
 
 /// What an `extmap` attribute says (RFC 8285, section 8).
+#[inline(always)]
 pub(crate) fn extension(value: Option<&str>) -> Option<Attribute>
     ensures { result ≡ forms.valued (forms.saying ExtensionLine form.extmap) (bytes_shown value.entry) }
 {
@@ -59,6 +62,7 @@ pub(crate) fn extension(value: Option<&str>) -> Option<Attribute>
 }
 
 /// What an `msid` attribute says (RFC 8830, section 2).
+#[inline(always)]
 pub(crate) fn stream(alloc: Global, value: Option<&str>) -> Result<Option<Attribute>, AllocError>
     ensures { IfOk result (λ read. read ≡ forms.valued (forms.saying StreamLine form.msid) (bytes_shown value.entry)) }
 {
@@ -101,6 +105,7 @@ pub(crate) fn layer_list(
 }
 
 /// What an `ssrc` attribute says (RFC 5576, section 6.1).
+#[inline(always)]
 pub(crate) fn source(alloc: Global, value: Option<&str>) -> Result<Option<Attribute>, AllocError>
     ensures { IfOk result (λ read. read ≡ forms.valued (forms.saying SourceLine form.source) (bytes_shown value.entry)) }
 {

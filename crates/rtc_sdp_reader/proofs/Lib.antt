@@ -1,3 +1,4 @@
+pub mod RowLemmas
 pub mod PayloadLookups
 pub mod PayloadLaw
 pub mod LayerLaw

@@ -1,5 +1,5 @@
 -- Whole descriptions, computed from the definitions.
-use Rattle.std.proofs.Common.{◌≡◌, ℕ, false, true, List, [], ◌∷◌, Option, Some, None, Ok, Err, refl}
+use Rattle.std.proofs.Common.{◌≡◌, false, [], ◌∷◌, Some, None, Ok, Err, refl}
 use Rattle.std.specs.Prelude.{codes}
 use Rattle.rtc_fields.specs.Numbers.{number}
 use Rattle.rtc_sdp_values.specs.declared.direction.Direction.TheVariants.{SendOnly}

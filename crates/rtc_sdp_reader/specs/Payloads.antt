@@ -20,6 +20,9 @@ pub record PayloadEntry : Type 0 where
 abbrev pub codec_for : ℕ → Rtpmap → Option Rtpmap
 codec_for pt codec = if codec.pt.0 == pt then Some codec else None
 
+abbrev pub parameters_for : ℕ → Fmtp → Option Fmtp
+parameters_for pt fmtp = if fmtp.pt.0 == pt then Some fmtp else None
+
 abbrev pub fmtp_text_for : ℕ → Fmtp → Option (List ℕ)
 fmtp_text_for pt fmtp = if fmtp.pt.0 == pt then Some fmtp.text else None
 

@@ -1,5 +1,5 @@
 -- The state of the reader, step by step. Contracts of inner functions cite this; proofs/Resume ties it to the reading of a text.
-use Rattle.std.specs.Prelude.{◌≡◌, ℕ, ◌==◌, Bool, true, false, List, [], ◌∷◌, ◌++◌, Option, Some, None, Result, Ok, Err, if◌then◌else◌}
+use Rattle.std.specs.Prelude.{◌≡◌, ℕ, ◌==◌, Bool, true, false, [], ◌∷◌, ◌++◌, Option, Some, None, Result, Ok, Err, if◌then◌else◌}
 use Rattle.std.specs.List.{cons_option}
 use Rattle.std.specs.Option.{option_or, unwrap_or}
 use Rattle.rtc_sdp_values.specs.declared.media_line.MediaLine.{MediaLine}
@@ -30,7 +30,7 @@ use Rattle.rtc_sdp_grammar.specs.declared.attribute.Attribute.TheVariants.{
   SourceLine,
 }
 use Rattle.rtc_sdp_grammar.specs.declared.item.Item.{Item}
-use Rattle.rtc_sdp_grammar.specs.declared.item.Item.TheVariants.{Blank, Bad, BadMedia, Skipped, Version, Origin, Media, Says, Malformed}
+use Rattle.rtc_sdp_grammar.specs.declared.item.Item.TheVariants.{Blank, Bad, BadMedia, Version, Origin, Media, Says, Malformed}
 use Rattle.rtc_sdp_grammar.specs.declared.level.Level.{Level}
 use Rattle.rtc_sdp_grammar.specs.declared.media_head.MediaHead.{MediaHead}
 use Rattle.rtc_sdp_reader.specs.declared.part.Part.{Part}

@@ -2,14 +2,12 @@
 ghost use Rattle.std.specs.Prelude.{◌≡◌, IfOk, option_map};
 ghost use Rattle.rtc_sdp_reader.specs.Layers as layers;
 ghost use Rattle.rtc_sdp_reader.specs.LineValue as spec;
-ghost use Rattle.rtc_sdp_reader.specs.Payloads.{payload_rows as rows_with_links};
 
 use crate::session_value::creds_made;
 use crate::{Part, payload_rows, simulcast_value, sources};
 use rtc_sdp_attributes::{RidLine, SimulcastLine};
 use rtc_sdp_grammar::MediaHead;
-use rtc_sdp_values::{Direction, MediaLine, Mid, PayloadRow, Simulcast};
-use rtc_wire::Seq;
+use rtc_sdp_values::{Direction, MediaLine, Mid, Simulcast};
 use std::alloc::{AllocError, Global};
 
 /// The layers of the first list.
@@ -27,17 +25,6 @@ fn simulcast_in(
     Ok(Some(simulcast))
 }
 
-fn payloads_in(alloc: Global, head: &MediaHead, part: &Part) -> Result<Seq<PayloadRow>, AllocError>
-    ensures { IfOk result (λ rows. rows ≡ rows_with_links head.now.formats part.now.codecs part.now.parameters) }
-{
-    payload_rows(
-        alloc,
-        head.formats.as_slice(),
-        part.codecs.as_slice(),
-        part.parameters.as_slice(),
-    )
-}
-
 fn line_named(
     alloc: Global,
     head: &MediaHead,
@@ -46,7 +33,7 @@ fn line_named(
 ) -> Result<MediaLine, AllocError>
     ensures { IfOk result (λ line. line ≡ spec.line_named head.now part mid) }
 {
-    let payloads = payloads_in(alloc, head, &part)?;
+    let payloads = payload_rows(alloc, head.formats.as_slice(), part.codecs, part.parameters)?;
     let simulcast = simulcast_in(alloc, part.layers.as_slice(), &part.layer_list)?;
     let ssrcs = sources(alloc, part.sources.as_slice(), part.pairs.as_slice())?;
     Ok(MediaLine {

@@ -1,9 +1,8 @@
 //! The formats of a media line.
-ghost use Rattle.std.specs.Prelude.{◌≡◌, map, IfOk, IfSome, MatchOption, option_map, option_and_then, Some, None};
-ghost use Rattle.std.specs.List.{filter_map};
+ghost use Rattle.std.specs.Prelude.{◌≡◌, ◌==◌, ◌&&◌, ◌<◌, ◌++◌, [], ℕ, false, length, map, IfOk, IfSome, OnOk, option_and_then};
+ghost use Rattle.std.specs.List.{cons_option, list_any, slice_get};
 ghost use Rattle.std.specs.Option.{option_copied};
 ghost use Rattle.rtc_fields.specs.Fields.{first};
-ghost use Rattle.rtc_sdp_attributes.specs.declared.rtpmap.Rtpmap.{Rtpmap as SpecRtpmap};
 ghost use Rattle.rtc_sdp_reader.specs.Payloads as spec;
 
 use crate::link::Link;
@@ -12,6 +11,7 @@ use rtc_sdp_attributes::{Fmtp, Rtpmap, read_apt, read_red_primary};
 use rtc_sdp_values::{PayloadRow, Pt};
 use rtc_wire::{Seq, Text, TryCopy};
 use std::alloc::{AllocError, Global};
+use std::mem;
 
 fn codec_for(codecs: &[Rtpmap], pt: u8) -> Option<&Rtpmap>
     ensures { option_copied result ≡ first (spec.codec_for pt) codecs.now }
@@ -124,16 +124,73 @@ fn red_among(pt: u8, links: &[Link]) -> Option<Pt>
     None
 }
 
+fn is_primary(codec: &str) -> bool
+    ensures { result ≡ spec.is_primary codec.now }
+{
+    !(is_rtx(codec) || is_red(codec))
+}
+
+/// A text, which goes along where it is not read again, and is copied else.
+fn given(alloc: Global, text: &mut Text, goes: bool) -> Result<Text, AllocError>
+    ensures given { IfOk result (λ given. given ≡ text.old) }
+    ensures kept { goes ≡ false → text.new ≡ text.old }
+{
+    if goes {
+        let empty = Text::new(String::new(alloc));
+        Ok(mem::replace(text, empty))
+    } else {
+        text.copy()
+    }
+}
+
+fn fmtp_place(fmtps: &[Fmtp], pt: u8) -> Option<usize>
+    ensures place { IfSome result (λ place. place < length fmtps.now) }
+    ensures fmtp { option_and_then (slice_get fmtps.now) result ≡ first (spec.parameters_for pt) fmtps.now }
+{
+    for i in 0..fmtps.len() {
+        if fmtps[i].pt.0 == pt {
+            return Some(i);
+        }
+    }
+    None
+}
+
+fn codec_place(codecs: &[Rtpmap], pt: u8) -> Option<usize>
+    ensures place { IfSome result (λ place. place < length codecs.now) }
+    ensures codec { option_and_then (slice_get codecs.now) result ≡ first (spec.codec_for pt) codecs.now }
+{
+    for i in 0..codecs.len() {
+        if codecs[i].pt.0 == pt {
+            return Some(i);
+        }
+    }
+    None
+}
+
+/// The parameters of a payload type.
+fn fmtp_given(alloc: Global, fmtps: &mut Vec<Fmtp>, pt: u8, goes: bool) -> Result<Text, AllocError>
+    ensures given { IfOk result (λ text. text ≡ spec.fmtp_for fmtps.old.items pt) }
+    ensures kept { (other : ℕ) → (goes && (other == pt)) ≡ false
+        → spec.fmtp_for fmtps.new.items other ≡ spec.fmtp_for fmtps.old.items other }
+{
+    match fmtp_place(fmtps.as_slice(), pt) {
+        Some(place) => given(alloc, &mut fmtps[place].text, goes),
+        None => Ok(Text::new(String::new(alloc))),
+    }
+}
+
 fn row_made(
     alloc: Global,
     links: &[Link],
-    codec: &Rtpmap,
-    fmtp: &str,
+    codec: &mut Rtpmap,
+    fmtp: Text,
+    goes: bool,
 ) -> Result<PayloadRow, AllocError>
-    ensures { IfOk result (λ row. row ≡ spec.row_made links.now codec.now fmtp.now) }
+    ensures row { IfOk result (λ row. row ≡ spec.row_made links.now codec.old fmtp) }
+    ensures pt { codec.new.pt ≡ codec.old.pt }
+    ensures kept { goes ≡ false → codec.new ≡ codec.old }
 {
-    let name = codec.codec.copy()?;
-    let text = Text::from_str(alloc, fmtp)?;
+    let name = given(alloc, &mut codec.codec, goes)?;
     let pt = codec.pt;
     Ok(PayloadRow {
         pt,
@@ -142,28 +199,29 @@ fn row_made(
         codec: name,
         clock: codec.clock,
         channels: codec.channels,
-        fmtp: text,
+        fmtp,
     })
-}
-
-fn is_primary(codec: &str) -> bool
-    ensures { result ≡ spec.is_primary codec.now }
-{
-    !(is_rtx(codec) || is_red(codec))
 }
 
 fn row_of(
     alloc: Global,
     links: &[Link],
-    codec: &Rtpmap,
-    fmtp: &str,
+    codec: &mut Rtpmap,
+    fmtps: &mut Vec<Fmtp>,
+    goes: bool,
 ) -> Result<Option<PayloadRow>, AllocError>
-    ensures { IfOk result (λ row. row ≡ spec.payload_row_of links.now (record { codec = codec.now; fmtp = fmtp.now })) }
+    ensures row { IfOk result (λ row. row
+        ≡ spec.payload_row_of links.now (record { codec = codec.old; fmtp = spec.fmtp_for fmtps.old.items codec.old.pt.0 })) }
+    ensures pt { codec.new.pt ≡ codec.old.pt }
+    ensures kept { goes ≡ false → codec.new ≡ codec.old }
+    ensures others { (other : ℕ) → (goes && (other == codec.old.pt.0)) ≡ false
+        → spec.fmtp_for fmtps.new.items other ≡ spec.fmtp_for fmtps.old.items other }
 {
     if !is_primary(codec.codec.as_str()) {
         return Ok(None);
     }
-    let row = row_made(alloc, links, codec, fmtp)?;
+    let fmtp = fmtp_given(alloc, fmtps, codec.pt.0, goes)?;
+    let row = row_made(alloc, links, codec, fmtp, goes)?;
     Ok(Some(row))
 }
 
@@ -171,15 +229,34 @@ fn format_row(
     alloc: Global,
     links: &[Link],
     format: u8,
-    codecs: &[Rtpmap],
-    fmtps: &[Fmtp],
+    goes: bool,
+    codecs: &mut Vec<Rtpmap>,
+    fmtps: &mut Vec<Fmtp>,
 ) -> Result<Option<PayloadRow>, AllocError>
-    ensures { IfOk result (λ row. row ≡ option_and_then (spec.payload_row_of links.now) (spec.entry_of codecs.now fmtps.now format)) }
+    ensures row { IfOk result (λ row. row
+        ≡ option_and_then (spec.payload_row_of links.now) (spec.entry_of codecs.old.items fmtps.old.items format)) }
+    ensures others { (other : ℕ) → (goes && (other == format)) ≡ false
+        → spec.entry_of codecs.new.items fmtps.new.items other ≡ spec.entry_of codecs.old.items fmtps.old.items other }
 {
-    match codec_for(codecs, format) {
-        Some(codec) => row_of(alloc, links, codec, fmtp_for(fmtps, format)),
+    match codec_place(codecs.as_slice(), format) {
+        Some(place) => row_of(alloc, links, &mut codecs[place], fmtps, goes),
         None => Ok(None),
     }
+}
+
+fn is_among(format: u8, formats: &[u8]) -> bool
+    ensures { result ≡ list_any (λ other. other == format) formats.now }
+{
+    formats.iter().any(|other| *other == format)
+}
+
+fn push_row(rows: &mut Vec<PayloadRow>, row: Option<PayloadRow>) -> Result<(), AllocError>
+    ensures { OnOk result (rows.new.items ≡ rows.old.items ++ cons_option row []) }
+{
+    if let Some(row) = row {
+        rows.push(row)?;
+    }
+    Ok(())
 }
 
 /// The payload rows of a media line: the codecs of its list, in its order, with their retransmissions and redundant packets.
@@ -187,18 +264,27 @@ fn format_row(
 pub fn payload_rows(
     alloc: Global,
     formats: &[u8],
-    codecs: &[Rtpmap],
-    fmtps: &[Fmtp],
+    codecs: Seq<Rtpmap>,
+    fmtps: Seq<Fmtp>,
 ) -> Result<Seq<PayloadRow>, AllocError>
-    ensures { IfOk result (λ rows. rows ≡ spec.payload_rows formats.now codecs.now fmtps.now) }
+    ensures { IfOk result (λ rows. rows ≡ spec.payload_rows formats.now codecs fmtps) }
 {
-    let links = links_of(alloc, formats, codecs, fmtps)?;
-    let mut rows = Seq::empty(alloc);
-    for format in formats {
-        let Some(row) = format_row(alloc, links.as_slice(), *format, codecs, fmtps)? else {
-            continue;
-        };
-        rows.push(row)?;
+    let links = links_of(alloc, formats, codecs.as_slice(), fmtps.as_slice())?;
+    let mut codecs = codecs.into_vec();
+    let mut fmtps = fmtps.into_vec();
+    let mut rows = Vec::with_capacity(alloc, formats.len().min(codecs.len()))?;
+    for i in 0..formats.len() {
+        let format = formats[i];
+        let goes = !is_among(format, &formats[i + 1..]);
+        let row = format_row(
+            alloc,
+            links.as_slice(),
+            format,
+            goes,
+            &mut codecs,
+            &mut fmtps,
+        )?;
+        push_row(&mut rows, row)?;
     }
-    Ok(rows)
+    Ok(Seq::new(rows))
 }
