@@ -2,9 +2,10 @@
 use Rattle.std.proofs.Common.{ℕ, zero, suc, ◌≡◌, ◌+◌, ◌≤◌, ◌<◌, ◌==◌, ◌||◌, Bool, true, false, cond, inl, inr, Option, Some, None, List, [], ◌∷◌, ◌++◌, length, get_or, set, refl, sym, ap, ◌∙◌, arith}
 use Rattle.std.specs.List.{position, list_any}
 use Rattle.std.specs.Option.{unwrap_or}
-use Rattle.std.specs.Prelude.{IsSome}
+use Rattle.std.specs.Prelude.{IsSome, is_some}
 use Rattle.std.specs.Ordering.{nat_cmp, is_eq}
 use Rattle.std.specs.BTreeMap.{BTreeMap, get}
+use Rattle.std.specs.Map.{lookup}
 use Rattle.std.proofs.lemmas.Bool.Decides.{eqb_tells}
 use Rattle.rtc_assoc_state.specs.declared.close_state.CloseState.{CloseState}
 use Rattle.rtc_assoc_state.specs.declared.close_state.CloseState.TheVariants.{Unclosed, Queued, Acknowledged}
@@ -112,15 +113,23 @@ stream_rows-add row g state i gs old new r l e u =
     rows-push 0 old new gs g row (ap (λ n. row_with g (state_at n new)) here ∙ ap (row_with g) (state_at-own i state old new u) ∙ r) (λ q k. state_at-other i state old new u q (λ j. k (j ∙ sym here)))
     ∙ put-none row (stream_rows old gs) e
 
+-- the same states show the same rows
+pub stream_rows-unchanged : (old new : BTreeMap ℕ StreamState) (gs : List StreamGeneration) → new.entries ≡ old.entries → stream_rows new gs ≡ stream_rows old gs
+stream_rows-unchanged old new gs h = rows-same 0 old new gs (λ q l. ap (λ es. unwrap_or (lookup (λ k. is_eq (nat_cmp q k)) es) gone_state) h)
+
+none_is : (o : Option StreamState) → is_some o ≡ false → o ≡ None
+none_is None e = refl
+none_is (Some s) e = absurd cc
+
 -- room for a state changes no row
-pub stream_rows-room : (i : ℕ) (old new : BTreeMap ℕ StreamState) (gs : List StreamGeneration) → get nat_cmp old i ≡ None → ((q : ℕ) → get nat_cmp new q ≡ cond (is_eq (nat_cmp i q)) (Some gone_state) (get nat_cmp old q)) → stream_rows new gs ≡ stream_rows old gs
-stream_rows-room i old new gs e u = rows-same 0 old new gs (λ q l. same q)
+pub stream_rows-room : (i : ℕ) (state : StreamState) (old new : BTreeMap ℕ StreamState) (gs : List StreamGeneration) → state ≡ gone_state → is_some (get nat_cmp old i) ≡ false → ((q : ℕ) → get nat_cmp new q ≡ cond (is_eq (nat_cmp i q)) (Some state) (get nat_cmp old q)) → stream_rows new gs ≡ stream_rows old gs
+stream_rows-room i state old new gs g e u = rows-same 0 old new gs (λ q l. same q)
   where
     same : (q : ℕ) → state_at q new ≡ state_at q old
     same q = elim (eqb_tells i q) [
-      | inl h ↦ ap (λ o. unwrap_or o gone_state) (u q ∙ ap (λ b. cond b (Some gone_state) (get nat_cmp old q)) (is_eq-nat_cmp i q ∙ h.0))
-          ∙ ap (λ o. unwrap_or o gone_state) (sym e) ∙ ap (λ k. state_at k old) h.1
-      | inr h ↦ ap (λ o. unwrap_or o gone_state) (u q ∙ ap (λ b. cond b (Some gone_state) (get nat_cmp old q)) (is_eq-nat_cmp i q ∙ h.0))
+      | inl h ↦ ap (λ o. unwrap_or o gone_state) (u q ∙ ap (λ b. cond b (Some state) (get nat_cmp old q)) (is_eq-nat_cmp i q ∙ h.0)) ∙ g
+          ∙ ap (λ o. unwrap_or o gone_state) (sym (none_is (get nat_cmp old i) e)) ∙ ap (λ k. state_at k old) h.1
+      | inr h ↦ ap (λ o. unwrap_or o gone_state) (u q ∙ ap (λ b. cond b (Some state) (get nat_cmp old q)) (is_eq-nat_cmp i q ∙ h.0))
     ]
 
 -- the place of a stream is one of a generation

@@ -109,10 +109,11 @@ impl StreamTable {
     {
         let place = self.place_for(id);
         make_state(&mut self.states, place)?;
-        if !self.places.contains_key(&id) {
-            self.places.insert(id, 0)?;
-        }
         self.generations.reserve(1)?;
+        if self.places.contains_key(&id) {
+            return Ok(());
+        }
+        self.places.insert(id, 0)?;
         Ok(())
     }
 

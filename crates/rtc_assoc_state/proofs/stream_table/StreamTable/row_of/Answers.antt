@@ -1,4 +1,5 @@
-use Rattle.std.proofs.Common.{sym, ap, ◌∙◌, arith, common_steps}
+use Rattle.std.proofs.Common.{sym, ap, ◌∙◌, arith}
+use Rattle.std.proofs.lemmas.Grind.{common_steps}
 use Rattle.rtc_assoc_state.specs.StreamTable.{state_at, row_with, stream_rows}
 use Rattle.rtc_assoc_state.proofs.RowLemmas.{stream_of-found, stream_of-none}
 use Rattle.rtc_assoc_state.proofs.StateLemmas.{row_found, place_within}
