@@ -47,17 +47,11 @@ impl StreamState {
 pub fn state_in(states: &BTreeMap<usize, StreamState>, place: usize) -> StreamState
     ensures { result ≡ state_at place states.now }
 {
-    states
-        .get(&place)
-        .copied()
-        .unwrap_or(StreamState::gone())
+    states.get(&place).copied().unwrap_or(StreamState::gone())
 }
 
 /// Makes room for the state of the stream at a place.
-pub fn make_state(
-    states: &mut BTreeMap<usize, StreamState>,
-    place: usize,
-) -> Result<(), AllocError>
+pub fn make_state(states: &mut BTreeMap<usize, StreamState>, place: usize) -> Result<(), AllocError>
     ensures same { (generations : List StreamGeneration) → stream_rows states.new generations ≡ stream_rows states.old generations }
     ensures room { OnOk result (IsSome (get nat_cmp states.new place)) }
 {

@@ -29,7 +29,7 @@ returns-then-last-clause-sound c =
     let parts = ap (λ g. row_with g c.state.result) c.reset_count.ensures ∙ ap (row_with (generation_in c.args.row)) c.state.ensures in
     let place_is : c.len-place.result ≡ length c.args.self.now.generations.items = omega (arith, c.len-place.ensures) in
     let put_is = ap (stream_rows c.keep_state.new.states) c.push_generation.ensures
-        ∙ stream_rows-add c.args.row c.reset_count.result c.state.result c.len-place.result c.args.self.now.generations.items c.args.self.now.states c.keep_state.new.states parts place_is c.requires.absent c.keep_state.ensures in
+    ∙ stream_rows-add c.args.row c.reset_count.result c.state.result c.len-place.result c.args.self.now.generations.items c.args.self.now.states c.keep_state.new.states parts place_is c.requires.absent c.keep_state.ensures in
     let rows = stream_rows c.args.self.now.states c.args.self.now.generations.items in
     let end_is : c.len-place.result ≡ length rows = place_is ∙ sym (length-stream_rows c.args.self.now.states c.args.self.now.generations.items) in
     subst (λ (l : List StreamRow). SoundTable l c.set_place.new.places true) (sym put_is)
@@ -48,7 +48,7 @@ returns-else-last-clause-sound c =
     let parts = ap (λ g. row_with g c.state.result) c.reset_count.ensures ∙ ap (row_with (generation_in c.args.row)) c.state.ensures in
     let place_is : c.len-place.result ≡ length c.args.self.now.generations.items = omega (arith, c.len-place.ensures) in
     let put_is = ap (stream_rows c.keep_state.new.states) c.push_generation.ensures
-        ∙ stream_rows-add c.args.row c.reset_count.result c.state.result c.len-place.result c.args.self.now.generations.items c.args.self.now.states c.keep_state.new.states parts place_is c.requires.absent c.keep_state.ensures in
+    ∙ stream_rows-add c.args.row c.reset_count.result c.state.result c.len-place.result c.args.self.now.generations.items c.args.self.now.states c.keep_state.new.states parts place_is c.requires.absent c.keep_state.ensures in
     let rows = stream_rows c.args.self.now.states c.args.self.now.generations.items in
     let end_is : c.len-place.result ≡ length rows = place_is ∙ sym (length-stream_rows c.args.self.now.states c.args.self.now.generations.items) in
     subst (λ (l : List StreamRow). SoundTable l c.set_place.new.places c.args.self.now.at_last) (sym put_is)

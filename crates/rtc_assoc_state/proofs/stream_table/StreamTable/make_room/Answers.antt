@@ -17,6 +17,6 @@ pub returns-clause-place : goal.returns-clause-place
 returns-clause-place c =
     let rows_is = ap (stream_rows c.make_state.new.states) c.in_ok-reserve.ensures.items ∙ c.in_ok-make_state.ensures.same c.args.self.now.generations.items in
     record {
-      place = ap is_some c.in_ok-insert.ensures.updates.1.0;
+      place = ap is_some c.in_ok-insert.ensures.updates.1;
       state = subst (λ n. IsSome (get nat_cmp c.make_state.new.states n)) (c.place_for-place.ensures ∙ ap (row_place c.args.id) (sym rows_is)) c.in_ok-make_state.ensures.room;
     }

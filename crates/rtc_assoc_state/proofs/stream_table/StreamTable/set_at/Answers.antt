@@ -60,7 +60,7 @@ returns-else-was-clause-sound c =
     let within = place_within c.args.row.stream c.args.place c.args.self.now.states c.args.self.now.generations.items c.requires.place in
     let before = row_with c.index.result.now (state_at c.args.place c.args.self.now.states) in
     let own = stream_of-found c.args.row.stream rows c.args.place before before c.requires.place
-        (row_found c.args.place c.args.self.now.states c.args.self.now.generations.items c.index.result.now c.index.result.now before within c.index.ensures) in
+    (row_found c.args.place c.args.self.now.states c.args.self.now.generations.items c.index.result.now c.index.result.now before within c.index.ensures) in
     subst (λ (l : List StreamRow). SoundTable l c.args.self.now.places c.args.self.now.at_last) (sym put_is)
     (sound-set_same c.args.row rows c.args.self.now.places c.args.place c.args.self.now.at_last c.requires.sound c.requires.place
     (sym c.is_at_last_generation-is.ensures ∙ c.if-is.false)
