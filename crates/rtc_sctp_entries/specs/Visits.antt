@@ -59,6 +59,11 @@ GivesEvent e t met t' = (met ≡ Output e) × (t' ≡ t)
 abbrev pub Starves : {S : Type 0} → Turn S → Met → Turn S → Type 0
 Starves t met t' = (met ≡ OutOfMemory) × (t' ≡ t)
 
+-- the entry is open, with a label
+abbrev pub TellsOpen : {S : Type 0} → List ℕ → Turn S → Met → Turn S → Type 0
+TellsOpen label t met t' =
+    (met ≡ Output (event.Open t.entry.id label)) × (t' ≡ record t { entry = open_entry t.entry })
+
 -- what is told where an entry is closed
 abbrev pub close_event : StreamEntry → List ℕ → SctpEvent
 close_event entry resets = event.Close entry.id (has_reset entry.id resets)
@@ -180,9 +185,9 @@ module _ {S : Type 0} (m : AssociationMeaning S) where
     pub asks : AsksOpen m t.association t.entry.id answer between
     pub then : OpenedBy answer now (record t { association = between }) met t'
 
-  -- the acknowledgement of an open message is written: the entry is open, with a label
+  -- the acknowledgement of an open message is written
   abbrev pub AcknowledgedBy : Asked → List ℕ → Turn S → Met → Turn S → Type 0
-  AcknowledgedBy did.Done label t met t' = (met ≡ Output (event.Open t.entry.id label)) × (t' ≡ record t { entry = open_entry t.entry })
+  AcknowledgedBy did.Done label t met t' = TellsOpen label t met t'
   AcknowledgedBy did.Refused label t met t' = Closes t met t'
   AcknowledgedBy did.OutOfMemory label t met t' = Starves t met t'
 
