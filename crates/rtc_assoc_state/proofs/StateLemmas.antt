@@ -13,7 +13,7 @@ use Rattle.rtc_assoc_state.specs.declared.stream_row.StreamRow.{StreamRow}
 use Rattle.rtc_assoc_state.specs.declared.stream_generation.StreamGeneration.{StreamGeneration}
 use Rattle.rtc_assoc_state.specs.declared.stream_state.StreamState.{StreamState}
 use Rattle.rtc_assoc_state.specs.Streams.{stream_of, put, is_unclosed, any_at_last_generation}
-use Rattle.rtc_assoc_state.specs.StreamTable.{gone_state, is_in_use, kept_state, state_at, row_with, rows_from_place, stream_rows, is_last_generation}
+use Rattle.rtc_assoc_state.specs.StreamTable.{gone_state, kept_state, state_at, row_with, rows_from_place, stream_rows, is_last_generation}
 use Rattle.rtc_assoc_state.proofs.Firsts.{found_position, at_within}
 use Rattle.rtc_assoc_state.proofs.RowLemmas.{stream_of-found, put-found, put-none}
 use Rattle.rtc_assoc_state.proofs.AmountLemmas.{is_eq-nat_cmp}

@@ -1,6 +1,6 @@
 use Rattle.std.proofs.Common.{◌≡◌, length, sym, ap, ◌∙◌, arith}
 use Rattle.std.specs.Option.{unwrap_or}
-use Rattle.rtc_assoc_state.specs.StreamTable.{stream_rows, row_place}
+use Rattle.rtc_assoc_state.specs.StreamTable.{stream_rows}
 use Rattle.rtc_assoc_state.proofs.StateLemmas.{length-stream_rows}
 use Rattle.rtc_assoc_state.proofs.stream_table.StreamTable.place_for.Goals as goal
 

@@ -1,4 +1,4 @@
-use Rattle.std.proofs.Common.{◌≡◌, ◌<◌, true, List, length, sym, ap, subst, ◌∙◌, arith, set}
+use Rattle.std.proofs.Common.{true, List, sym, ap, subst, ◌∙◌, arith, set}
 use Rattle.std.proofs.lemmas.Grind.{common_steps}
 use Rattle.std.specs.List.{list_any}
 use Rattle.rtc_assoc_state.specs.declared.stream_row.StreamRow.{StreamRow}
