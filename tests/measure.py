@@ -130,11 +130,12 @@ def associations():
     for streams in (300, 3_000, 30_000):
         more = cost("pieces", streams) - start
         print(f"| {streams:,} | {more:,} | {more // streams:,} |")
-    print("\n| Streams reset one after another | Instructions | A stream |\n|---|---|---|")
+    print("\n| Streams reset one after another | Instructions | A stream | Greatest memory, KiB |\n|---|---|---|---|")
     start = cost("resets", 0)
     for streams in (300, 3_000, 30_000):
         more = cost("resets", streams) - start
-        print(f"| {streams:,} | {more:,} | {more // streams:,} |")
+        most = memory([program("rtc_assoc_measure"), "resets", str(streams)])
+        print(f"| {streams:,} | {more:,} | {more // streams:,} | {most:,} |")
 
 
 # The streams of two peers: a poll that gives nothing, a message over the first or the last of so many open streams, streams that are

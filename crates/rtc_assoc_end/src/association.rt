@@ -40,6 +40,7 @@ pub struct PlainAssociation {
 
 impl Model for PlainAssociation {
     ghost use Rattle.rtc_assoc_state.specs.Contents.{Contents};
+    ghost use Rattle.rtc_assoc_state.specs.StreamTable.{stream_rows};
     ghost use Rattle.rtc_assoc_end.specs.SoundContents.{SoundContents};
 
     ghost Value = { Contents };
@@ -50,7 +51,7 @@ impl Model for PlainAssociation {
       clock = a.clock;
       outbox = record { acked = a.acked; items = a.items.items };
       inbox = record { received = a.received; parts = a.parts; unread = a.unread };
-      streams = a.streams.rows.items;
+      streams = stream_rows a.streams.states a.streams.generations.items;
       events = a.events.items;
       packets = a.packets.items;
     } };
@@ -58,7 +59,7 @@ impl Model for PlainAssociation {
     ghost use Rattle.std.specs.VecDeque.{deque_len};
 
     ghost invariant = { λ a. SoundContents a.limits.max_payload a.acked (deque_len a.items) a.amounts a.items.items
-        a.streams.rows.items a.streams.places a.streams.at_last };
+        (stream_rows a.streams.states a.streams.generations.items) a.streams.places a.streams.at_last };
 }
 
 impl PlainAssociation {

@@ -15,7 +15,9 @@ mod queues;
 mod role;
 mod settling;
 mod standing;
+mod stream_generation;
 mod stream_row;
+mod stream_state;
 mod stream_table;
 mod unread;
 
@@ -29,6 +31,8 @@ pub use queues::{append_all, enqueue};
 pub use role::Role;
 pub use settling::settle;
 pub use standing::Standing;
+pub use stream_generation::StreamGeneration;
 pub use stream_row::StreamRow;
+pub use stream_state::StreamState;
 pub use stream_table::StreamTable;
 pub use unread::Unread;

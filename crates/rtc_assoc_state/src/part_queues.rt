@@ -71,7 +71,7 @@ pub fn add_piece(
 }
 
 /// Takes out what came of a message: its bytes, joined.
-fn take_joined(
+pub fn take_joined(
     alloc: Global,
     queues: &mut BTreeMap<u16, Vec<Partial>>,
     stream: u16,
@@ -90,7 +90,7 @@ fn take_joined(
 }
 
 /// Drops what came of a message.
-fn drop_joined(queues: &mut BTreeMap<u16, Vec<Partial>>, stream: u16, generation: u32)
+pub fn drop_joined(queues: &mut BTreeMap<u16, Vec<Partial>>, stream: u16, generation: u32)
     requires { SoundQueues vec_items stream_of_part queues.old }
     ensures rest { all_queued vec_items queues.new.entries
         ≡ without_part stream generation (all_queued vec_items queues.old.entries) }
@@ -113,7 +113,7 @@ fn has_no_parts(queues: &BTreeMap<u16, Vec<Partial>>, stream: u16) -> bool
 }
 
 /// Lets the queue of a stream go where it is empty.
-fn release_parts(queues: &mut BTreeMap<u16, Vec<Partial>>, stream: u16)
+pub fn release_parts(queues: &mut BTreeMap<u16, Vec<Partial>>, stream: u16)
     requires { SoundQueues vec_items stream_of_part queues.old }
     ensures same { all_queued vec_items queues.new.entries ≡ all_queued vec_items queues.old.entries }
     ensures sound { SoundQueues vec_items stream_of_part queues.new }
@@ -121,33 +121,4 @@ fn release_parts(queues: &mut BTreeMap<u16, Vec<Partial>>, stream: u16)
     if has_no_parts(queues, stream) {
         queues.remove(&stream);
     }
-}
-
-/// Takes out what came of a message, joined; the last message of a stream takes its queue along.
-pub fn join_parts(
-    alloc: Global,
-    queues: &mut BTreeMap<u16, Vec<Partial>>,
-    stream: u16,
-    generation: u32,
-) -> Bytes
-    requires { SoundQueues vec_items stream_of_part queues.old }
-    ensures bytes { result ≡ bytes_so_far stream generation (all_queued vec_items queues.old.entries) }
-    ensures rest { all_queued vec_items queues.new.entries
-        ≡ without_part stream generation (all_queued vec_items queues.old.entries) }
-    ensures sound { SoundQueues vec_items stream_of_part queues.new }
-{
-    let bytes = take_joined(alloc, queues, stream, generation);
-    release_parts(queues, stream);
-    bytes
-}
-
-/// Drops what came of a message, and the queue of its stream where nothing is left of it.
-pub fn forget_part(queues: &mut BTreeMap<u16, Vec<Partial>>, stream: u16, generation: u32)
-    requires { SoundQueues vec_items stream_of_part queues.old }
-    ensures rest { all_queued vec_items queues.new.entries
-        ≡ without_part stream generation (all_queued vec_items queues.old.entries) }
-    ensures sound { SoundQueues vec_items stream_of_part queues.new }
-{
-    drop_joined(queues, stream, generation);
-    release_parts(queues, stream);
 }

@@ -2,7 +2,7 @@
 ghost use Rattle.std.specs.Prelude.{◌≡◌, [], OnOk, OnErr};
 ghost use Rattle.rtc_assoc_state.specs.Inbox.{bytes_so_far, with_bytes, without_part};
 
-use crate::part_queues::{add_piece, begin_parts, forget_part, join_parts};
+use crate::part_queues::{add_piece, begin_parts, drop_joined, release_parts, take_joined};
 use crate::partial::Partial;
 use rtc_assoc_packets::ItemHeader;
 use rtc_wire::Bytes;
@@ -64,13 +64,16 @@ impl Parts {
         ensures bytes { result ≡ bytes_so_far stream generation self.old }
         ensures rest { self.new ≡ without_part stream generation self.old }
     {
-        join_parts(alloc, &mut self.queues, stream, generation)
+        let bytes = take_joined(alloc, &mut self.queues, stream, generation);
+        release_parts(&mut self.queues, stream);
+        bytes
     }
 
     /// Drops what came of a message.
     pub fn forget(&mut self, stream: u16, generation: u32)
         ensures { self.new ≡ without_part stream generation self.old }
     {
-        forget_part(&mut self.queues, stream, generation);
+        drop_joined(&mut self.queues, stream, generation);
+        release_parts(&mut self.queues, stream);
     }
 }

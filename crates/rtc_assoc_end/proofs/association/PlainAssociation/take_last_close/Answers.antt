@@ -3,6 +3,9 @@ use Rattle.rtc_assoc_state.specs.Calls.{item_counted, finished, reset_told, answ
 use Rattle.rtc_assoc_end.proofs.SaysLemmas.{queues_acknowledgement}
 use Rattle.rtc_assoc_end.proofs.association.PlainAssociation.take_last_close.Goals as goal
 
+pub count_item-requires-clause-place : goal.count_item-requires-clause-place
+count_item-requires-clause-place c = rw c.reset.ensures c.in_ok-make_room.ensures.place
+
 pub returns-clause-ok : goal.returns-clause-ok
 unfolding item_counted finished reset_told answered
 returns-clause-ok c =
