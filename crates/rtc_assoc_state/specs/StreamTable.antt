@@ -61,10 +61,10 @@ pub record SoundTable (rows : List StreamRow) (places : BTreeMap ℕ ℕ) (at_la
   pub last_is : at_last ≡ any_at_last_generation rows
 
 -- where the row of a stream stands, or would be added
-abbrev pub row_place : ℕ → List StreamRow → ℕ
-row_place id rows = unwrap_or (position (λ row. row.stream == id) rows) (length rows)
+abbrev pub stream_place : ℕ → List StreamRow → ℕ
+stream_place id rows = unwrap_or (position (λ row. row.stream == id) rows) (length rows)
 
 -- room for the row of a stream in the maps of a table
 pub record HasRowRoom (id : ℕ) (rows : List StreamRow) (places : BTreeMap ℕ ℕ) (states : BTreeMap ℕ StreamState) : Type 0 where
   pub place : IsSome (get nat_cmp places id)
-  pub state : IsSome (get nat_cmp states (row_place id rows))
+  pub state : IsSome (get nat_cmp states (stream_place id rows))

@@ -5,7 +5,7 @@ ghost use Rattle.std.specs.List.{list_any};
 ghost use Rattle.std.specs.Ordering.{nat_cmp, is_eq};
 ghost use Rattle.std.specs.BTreeMap.{get};
 ghost use Rattle.rtc_assoc_state.specs.Streams.{stream_of, put, is_unclosed};
-ghost use Rattle.rtc_assoc_state.specs.StreamTable.{SoundTable, HasRowRoom, stream_rows, row_place, is_last_generation};
+ghost use Rattle.rtc_assoc_state.specs.StreamTable.{SoundTable, HasRowRoom, stream_rows, stream_place, is_last_generation};
 
 use crate::close_state::CloseState;
 use crate::stream_generation::StreamGeneration;
@@ -61,7 +61,7 @@ impl StreamTable {
     /// The place of a stream, or the one that it would get.
     fn place_for(&self, id: u16) -> usize
         requires { SoundTable (stream_rows self.now.states self.now.generations.items) self.now.places self.now.at_last }
-        ensures { result ≡ row_place id (stream_rows self.now.states self.now.generations.items) }
+        ensures { result ≡ stream_place id (stream_rows self.now.states self.now.generations.items) }
     {
         match self.place_of(id) {
             Some(place) => place,

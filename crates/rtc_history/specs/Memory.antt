@@ -54,7 +54,7 @@ outcome_lacks Alloc = true
 abbrev pub lacks_memory : Reply → Bool
 lacks_memory reply = outcome_lacks reply.outcome
 
--- the parts of a peer that count their faults
+-- the parts of a peer whose faults an acceptance can tell
 pub data CountedPart : Type 0 where
   DtlsPart : CountedPart
   AssociationPart : CountedPart

@@ -30,7 +30,7 @@ abbrev pub last_accepted : Side → List Entry → Option Sdp
 last_accepted at [] = None
 last_accepted at (entry ∷ past) = option_or (accepted_by at entry.step entry.outcome past) (last_accepted at past)
 
--- whether an outcome tells that a peer's call was broken off: a part failed, or memory lacked
+-- whether an outcome tells that a peer's call was broken off: a part failed, or memory ran out
 abbrev pub is_broken_off : Outcome → Bool
 is_broken_off (Negotiated answers made) = false
 is_broken_off (Answered k) = false

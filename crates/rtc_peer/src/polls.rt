@@ -20,7 +20,7 @@ impl<I: IceAgent, D: DtlsInstance, S: Association, M: MediaSession, N: Ids> Rtc<
     /// The first thing that the peer has to give: events and datagrams, or the moment at which a timeout is wanted as
     /// input. It is called until it answers a timeout, after each input and each other call.
     ///
-    /// A certificate that is not the announced one is refused (RFC 8122, section 6.2), and so the peer is closed. A
+    /// A certificate that is not the announced one is refused (RFC 8122, section 6.2), and the peer is then closed. A
     /// closed peer answers a moment that never comes.
     pub fn poll_output(&mut self) -> Result<Output<M::E>, RtcError>
         ensures { PollsPeer (meanings I.ice D.dtls S.association M.media N.ids) self.old result self.new }
@@ -60,7 +60,7 @@ impl<I: IceAgent, D: DtlsInstance, S: Association, M: MediaSession, N: Ids> Rtc<
     }
 
     /// Begins to close the peer, which polls then bring to its end: media says goodbye (RFC 3550, section 6.6), and the DTLS
-    /// connection is closed (RFC 8446, section 6.1). Nothing happens where this has begun. An error leaves the peer closed.
+    /// connection is closed (RFC 5246, section 7.2.1). Nothing happens where this has begun. An error leaves the peer closed.
     pub fn close(&mut self) -> Result<(), RtcError>
         ensures { ClosesPeer (meanings I.ice D.dtls S.association M.media N.ids) self.old result self.new }
     {

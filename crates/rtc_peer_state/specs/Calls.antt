@@ -120,7 +120,7 @@ control_for None on = Some on
 control_for (Some role) on = None
 
 module _ {I D S M E X T W N : Type 0} (m : Meanings I D S M E X T W N) where
-  -- Memory lacked: numbers may have been drawn, and nothing else has changed.
+  -- Memory ran out: numbers may have been drawn, and nothing else has changed.
   abbrev pub LacksMemory : Peer I D S M N → Peer I D S M N → Type 0
   LacksMemory p q = Later m.ids p.ids q.ids × (q ≡ record p { ids = q.ids })
 
@@ -202,8 +202,8 @@ module _ {I D S M E X T W N : Type 0} (m : Meanings I D S M E X T W N) where
       × (q ≡ record p { staged = with_restart creds keeps p.staged; ids = m.ids.after p.ids })
   StagesRestart p keeps (Err error) q = LacksMemory p q
 
-  -- What is staged is applied: it is offered, unless it is channels alone. While there is no DTLS role, the side that offers picks the
-  -- pair of candidates, unless it is lite (RFC 8445, section 6.1.1).
+  -- What is staged is applied: it is offered, unless it is channels alone. While there is no DTLS role, the side that offers is
+  -- controlling, unless it is lite (RFC 8445, section 6.1.1).
   abbrev pub Applies : Peer I D S M N → Result (Option (Sdp × PendingOffer)) AllocError → Peer I D S M N → Type 0
   Applies p (Ok None) q = (do_offer p.staged ≡ false) × (q ≡ after_channels_alone p.staged p)
   Applies p (Ok (Some made)) q =

@@ -24,7 +24,7 @@ is_phase_closing Closing = true
 is_phase_closing Closed = false
 
 module _ {I D S M E X T W N : Type 0} (m : Meanings I D S M E X T W N) where
-  -- Media says goodbye (RFC 3550, section 6.6), and the DTLS connection is closed (RFC 8446, section 6.1). A fault, or running
+  -- Media says goodbye (RFC 3550, section 6.6), and the DTLS connection is closed (RFC 5246, section 7.2.1). A fault, or running
   -- out of memory, leaves the peer closed.
   unfoldable pub BeginsClosing : PolledPeer I D S M N → Result (Unit {0}) RtcError → PolledPeer I D S M N → Type 0
   BeginsClosing p (Ok done) q =

@@ -4,7 +4,7 @@ use Rattle.std.specs.Option.{unwrap_or}
 use Rattle.std.specs.Ordering.{nat_cmp}
 use Rattle.std.specs.BTreeMap.{get}
 use Rattle.rtc_assoc_state.specs.declared.stream_row.StreamRow.{StreamRow}
-use Rattle.rtc_assoc_state.specs.StreamTable.{SoundTable, row_with, generation_in, stream_rows, row_place}
+use Rattle.rtc_assoc_state.specs.StreamTable.{SoundTable, row_with, generation_in, stream_rows, stream_place}
 use Rattle.rtc_assoc_state.proofs.StateLemmas.{length-stream_rows, stream_rows-add}
 use Rattle.rtc_assoc_state.proofs.TableLemmas.{sound-add_last, sound-add_same}
 use Rattle.rtc_assoc_state.proofs.stream_table.StreamTable.add.Goals as goal
@@ -13,7 +13,7 @@ pub keep_state-requires : goal.keep_state-requires
 keep_state-requires c =
     let rows = stream_rows c.args.self.now.states c.args.self.now.generations.items in
     let here : length c.args.self.now.generations.items ≡ c.len-place.result = omega (arith, c.len-place.ensures) in
-    let place_is : row_place c.args.row.stream rows ≡ c.len-place.result =
+    let place_is : stream_place c.args.row.stream rows ≡ c.len-place.result =
     ap (λ o. unwrap_or o (length rows)) c.requires.absent ∙ length-stream_rows c.args.self.now.states c.args.self.now.generations.items ∙ here in
     subst (λ n. IsSome (get nat_cmp c.args.self.now.states n)) place_is c.requires.place.state
 
