@@ -164,14 +164,12 @@ def streams():
         print(f"| {channels:,} | {more:,} | {more // channels:,} |")
 
 
-# The greatest memory of a program, in KiB.
+# The greatest memory of a program, in KiB. Its parent is small, since the memory of a parent before the program starts counts too.
 def memory(words):
-    with open(os.devnull, "wb") as nothing:
-        child = subprocess.Popen(words, stdin=subprocess.DEVNULL, stdout=nothing)
-        _, status, usage = os.wait4(child.pid, 0)
-    if status != 0:
-        sys.exit(f"measure: {words[0]} ended with status {status}")
-    return usage.ru_maxrss
+    done = subprocess.run(["/usr/bin/time", "-f", "%M", *words], stdin=subprocess.DEVNULL, capture_output=True)
+    if done.returncode != 0:
+        sys.exit(f"measure: {words[0]} ended with status {done.returncode}")
+    return int(done.stderr)
 
 
 # Packets that somebody else made, each with a message of another generation to come.
