@@ -218,9 +218,41 @@ fn closings(alloc: Global) -> Result<bool, AllocError> {
     Ok(succeeds(closed))
 }
 
+// The passive side sends its certificate again one second later.
+fn repeats_answer<D: DtlsInstance>(right: &mut Dtls<D>, buf: &mut [u8]) -> Result<bool, DtlsError> {
+    let answered = answers(right, buf)?;
+    wait_until(right, 1)?;
+    let waiting = waits(right, buf, 2_000_000_000);
+    let again = sends(right, answer());
+    let rest = is_empty(right);
+    Ok(answered && waiting && again && rest)
+}
+
+// The active side sends its finish again where the certificate comes again, and tells of nothing.
+fn repeats_finish<D: DtlsInstance>(left: &mut Dtls<D>, buf: &mut [u8]) -> Result<bool, DtlsError> {
+    left.set_active(true);
+    let finished = finishes(left, buf)?;
+    left.handle_receive(answer())?;
+    let resting = waits(left, buf, u64::MAX);
+    let again = sends(left, finish());
+    let rest = is_empty(left);
+    Ok(finished && resting && again && rest)
+}
+
+// Whether the certificate of the passive side and the finish are made good where they are lost.
+fn flights(alloc: Global) -> Result<bool, AllocError> {
+    let mut buf = buffer(alloc)?;
+    let mut left = connect(alloc, b"abc")?;
+    let mut right = connect(alloc, b"def")?;
+    let answered = repeats_answer(&mut right, &mut buf);
+    let finished = repeats_finish(&mut left, &mut buf);
+    Ok(succeeds(answered) && succeeds(finished))
+}
+
 /// Whether an example of DTLS connections gives what is expected.
 pub fn does_agree(alloc: Global, example: &str) -> Result<bool, AllocError> {
     match example {
+        "certificate and finish are sent again" => flights(alloc),
         "close is told once" => closings(alloc),
         "data waits for the handshake" => blocked(alloc),
         "handshake ends on both sides" => handshakes(alloc),
