@@ -1,8 +1,8 @@
 #!/usr/bin/env python3
 """Counts instructions of the proved programs by valgrind --tool=callgrind, so that growth is seen. It is no part of the gate.
 
-usage: tests/measure.py [PART..]     PART is descriptions, rounds, messages, associations, forged, sources or frames; without one
-all are counted
+usage: tests/measure.py [PART..]     PART is descriptions, rounds, orderly, messages, associations, forged, lookups or frames;
+without one all are counted
 
 The programs are those that the gate left in crates/*/out/. Each figure is a difference of two runs, so that the start of the
 program is not in it. docs/PERFORMANCE.md has the tables.
@@ -151,15 +151,17 @@ def forged():
         print(f"| {packets:,} | {memory([program('rtc_assoc_measure'), 'forged', str(packets)]):,} |")
 
 
-# Whether an ssrc is in use, asked of a media part with so many lines.
-def sources():
+# Look-ups of the last of so many entries of a plain part.
+def lookups():
     def cost(*words):
-        return count([program("rtc_media_measure"), *map(str, words)], b"")[0]
+        return count([program("rtc_parts_measure"), *map(str, words)], b"")[0]
 
-    print("| Lines | Questions | Instructions | A question |\n|---|---|---|---|")
-    for lines in (10, 100, 1_000):
-        more = cost(lines, 10_000) - cost(lines, 0)
-        print(f"| {lines:,} | 10,000 | {more:,} | {more / 10_000:.1f} |")
+    print("| Entries | An ssrc in use | A stream by line and layer | The address of a candidate |\n|---|---|---|---|")
+    for entries in (10, 100, 1_000, 10_000):
+        costs = []
+        for subject in ("sources", "streams", "candidates"):
+            costs.append((cost(subject, entries, 10_000) - cost(subject, entries, 0)) / 10_000)
+        print(f"| {entries:,} | " + " | ".join(f"{each:.1f}" for each in costs) + " |")
 
 
 # Frames of n bytes, passed from one connection to another, each fed whole or a byte at a time. The words of the script are longer
@@ -185,7 +187,7 @@ def frames():
 
 
 def main():
-    parts = {"descriptions": descriptions, "rounds": rounds, "messages": messages, "associations": associations, "forged": forged, "sources": sources, "frames": frames}
+    parts = {"descriptions": descriptions, "rounds": rounds, "orderly": orderly, "messages": messages, "associations": associations, "forged": forged, "lookups": lookups, "frames": frames}
     wanted = sys.argv[1:] or list(parts)
     if any(name not in parts for name in wanted):
         sys.exit(__doc__)

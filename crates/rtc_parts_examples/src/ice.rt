@@ -2,6 +2,7 @@
 use crate::agents::{
     LEFT, RIGHT, creds, discovers, give, is_quiet, makes_check, nominates, prepare, sends, wakes_at,
 };
+use crate::candidates;
 use rtc_ice::{IceAgent, IceEvent};
 use rtc_plain_ice::PlainIce;
 use rtc_sdp_values::IceCreds;
@@ -226,6 +227,7 @@ fn restarts(alloc: Global) -> Result<bool, AllocError> {
 /// Whether an example of ICE agents gives what is expected.
 pub fn does_agree(alloc: Global, example: &str) -> Result<bool, AllocError> {
     match example {
+        "candidates are found by address and protocol" => candidates::found(alloc),
         "checks nominate a pair at both agents" => nomination(alloc),
         "lite agent takes the pair of a check" => lite(alloc),
         "other messages are ignored" => other_messages(alloc),

@@ -4,6 +4,7 @@
 #![tactic(auto)]
 
 mod agents;
+mod candidates;
 mod connections;
 mod dtls;
 mod ice;

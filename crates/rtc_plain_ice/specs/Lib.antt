@@ -1,4 +1,5 @@
 pub mod Places
+pub mod PlaceTables
 pub mod Messages
 pub mod Contents
 pub mod Calls

@@ -2,10 +2,13 @@
 ghost use Rattle.std.specs.Prelude.{◌≡◌};
 ghost use Rattle.rtc_plain_ice.specs.Contents.{fresh_ice};
 
+use crate::addr_table::AddrTable;
+use crate::candidate_table::CandidateTable;
 use crate::check::Check;
+use indexmap::IndexSet;
 use rtc_ice::{IceConnectionState, IceEvent};
-use rtc_sdp_values::{Candidate, IceCreds};
-use rtc_wire::{Addr, Span, Text, Transmit};
+use rtc_sdp_values::IceCreds;
+use rtc_wire::{Span, Text, Transmit};
 use std::alloc::Global;
 use std::collections::VecDeque;
 use std::marker::Model;
@@ -21,10 +24,10 @@ pub struct PlainIce {
     pub(crate) lite: bool,
     pub(crate) local: IceCreds,
     pub(crate) remote: Option<IceCreds>,
-    pub(crate) candidates: Vec<Candidate>,
+    pub(crate) candidates: CandidateTable,
     pub(crate) controlling: bool,
-    pub(crate) remote_candidates: Vec<Candidate>,
-    pub(crate) discovered: Vec<Addr>,
+    pub(crate) remote_candidates: CandidateTable,
+    pub(crate) discovered: AddrTable,
     pub(crate) state: IceConnectionState,
     pub(crate) rto: Span,
     pub(crate) checks: u64,
@@ -37,6 +40,7 @@ pub struct PlainIce {
 
 impl Model for PlainIce {
     ghost use Rattle.rtc_plain_ice.specs.Contents.{IceContents};
+    ghost use Rattle.rtc_plain_ice.specs.PlaceTables.{addrs_of};
 
     ghost Value = { IceContents };
 
@@ -45,11 +49,11 @@ impl Model for PlainIce {
         lite = a.lite;
         local = a.local;
         remote = a.remote;
-        candidates = a.candidates.items;
+        candidates = a.candidates;
       };
       controlling = a.controlling;
-      remote_candidates = a.remote_candidates.items;
-      discovered = a.discovered.items;
+      remote_candidates = a.remote_candidates;
+      discovered = addrs_of a.discovered.keys;
       state = a.state;
       rto = a.rto;
       checks = a.checks;
@@ -74,10 +78,10 @@ impl PlainIce {
                 pass: Text::new(String::new(alloc)),
             },
             remote: None,
-            candidates: Vec::new(alloc),
+            candidates: CandidateTable::new(alloc),
             controlling: false,
-            remote_candidates: Vec::new(alloc),
-            discovered: Vec::new(alloc),
+            remote_candidates: CandidateTable::new(alloc),
+            discovered: IndexSet::new(alloc),
             state: IceConnectionState::New,
             rto: Span::from_millis(250),
             checks: 0,

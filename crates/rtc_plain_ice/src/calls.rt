@@ -6,8 +6,8 @@ ghost use Rattle.rtc_plain_ice.specs.Calls.{restarted, is_due};
 ghost use Rattle.rtc_plain_ice.specs.PlainMeaning.{Invalidates, AddsTo};
 ghost use Rattle.rtc_plain_ice.specs.Calls as call;
 
+use crate::addr_table::holds_addr;
 use crate::agent::PlainIce;
-use crate::candidates::{add, holds, holds_addr, holds_candidate_addr, remove};
 use crate::check::{Check, Ends};
 use crate::message::read;
 use rtc_ice::IceEvent;
@@ -71,11 +71,11 @@ impl PlainIce {
     pub(crate) fn withdraw(&mut self, c: &Candidate) -> bool
         ensures { Invalidates self.old c.now result self.new }
     {
-        if !holds(self.candidates.as_slice(), c) && !holds(self.remote_candidates.as_slice(), c) {
+        if !self.candidates.holds(c) && !self.remote_candidates.holds(c) {
             return false;
         }
-        remove(&mut self.candidates, c);
-        remove(&mut self.remote_candidates, c);
+        self.candidates.remove(c);
+        self.remote_candidates.remove(c);
         true
     }
 
@@ -108,8 +108,7 @@ impl PlainIce {
     pub(crate) fn sees(&self, a: Addr) -> bool
         ensures { result ≡ is_viable self.now a }
     {
-        holds_candidate_addr(self.remote_candidates.as_slice(), &a)
-            || holds_addr(self.discovered.as_slice(), &a)
+        self.remote_candidates.holds_addr(&a) || holds_addr(&self.discovered, &a)
     }
 
     pub(crate) fn is_meant(&self, bytes: &[u8]) -> bool

@@ -1,14 +1,16 @@
 //! The plain ICE agent: checks and responses in memory, without any security.
 #![tactic(auto)]
 
+mod addr_key;
+mod addr_table;
 mod agent;
 mod calls;
-mod candidates;
+mod candidate_table;
 mod check;
 mod datagrams;
 mod message;
 mod part;
-mod protocol;
+mod place_key;
 mod queues;
 mod receiving;
 

@@ -2,7 +2,6 @@
 ghost use Rattle.std.specs.Prelude.{◌≡◌};
 
 use crate::agent::PlainIce;
-use crate::candidates::add;
 use crate::message::is_message;
 use rtc_ice::{IceAgent, IceConnectionState, IceEvent};
 use rtc_sdp_values::{Candidate, IceCreds};
@@ -73,7 +72,7 @@ impl IceAgent for PlainIce {
 
     #[tactic(auto, unfolding(crate::specs::Calls::local_added))]
     fn add_local_candidate(&mut self, c: Candidate) -> Result<bool, AllocError> {
-        add(&mut self.candidates, c)
+        self.candidates.add(c)
     }
 
     fn local_candidates(&self) -> &[Candidate] {
@@ -82,7 +81,7 @@ impl IceAgent for PlainIce {
 
     #[tactic(auto, unfolding(crate::specs::Calls::remote_added))]
     fn add_remote_candidate(&mut self, c: Candidate) -> Result<bool, AllocError> {
-        add(&mut self.remote_candidates, c)
+        self.remote_candidates.add(c)
     }
 
     fn invalidate_candidate(&mut self, c: &Candidate) -> bool {

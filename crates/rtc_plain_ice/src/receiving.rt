@@ -5,9 +5,9 @@ ghost use Rattle.rtc_plain_ice.specs.Calls.{check_came, response_came, ice_input
 ghost use Rattle.rtc_plain_ice.specs.Messages.{message_bytes};
 ghost use Rattle.rtc_plain_ice.specs.PlainMeaning.{PollsEvent, PollsTransmit};
 
+use crate::addr_table::remember;
 use crate::agent::PlainIce;
 use crate::calls::is_check_due;
-use crate::candidates::remember;
 use crate::check::{Check, Ends};
 use crate::message::{CHECK, Message, RESPONSE, number_bytes, read, write};
 use crate::queues::{nominate, start_checking, tell};

@@ -1,22 +1,9 @@
-//! Asks a plain media part with so many lines which ssrcs are in use, so that a tool that counts instructions sees what that costs.
-#![tactic(auto)]
-
-use rtc_io::collect_words;
+//! Ssrcs in use among the lines of a media part.
 use rtc_media::{MediaSession, MediaUpdate};
 use rtc_plain_media::PlainMedia;
 use rtc_sdp_values::{Direction, LineRow, MediaKind, Mid, Ssrc};
 use rtc_wire::Seq;
 use std::alloc::{AllocError, Global};
-use std::io;
-use std::process::ExitCode;
-
-/// A number of the command line; 0 where it is none.
-fn number(words: &[String], place: usize) -> u32 {
-    match words.get(place) {
-        None => 0,
-        Some(word) => word.as_str().parse::<u32>().unwrap_or(0),
-    }
-}
 
 /// The update of a line that sends a stream with its retransmissions.
 fn update(alloc: Global, place: u32, mid: Mid) -> Result<MediaUpdate, AllocError> {
@@ -56,23 +43,16 @@ fn add_lines<M: MediaSession>(part: &mut M, alloc: Global, count: u32) -> Result
     Ok(())
 }
 
-/// How many of the ssrcs below a number are in use.
-fn count_used(alloc: Global, lines: u32, below: u32) -> Result<u32, AllocError> {
+/// Asks so many times whether the source of the last line is in use.
+pub fn count_found(alloc: Global, lines: u32, times: u32) -> Result<u32, AllocError> {
     let mut part = PlainMedia::new(alloc);
     add_lines(&mut part, alloc, lines)?;
-    let mut used: u32 = 0;
-    for ssrc in 0..below {
-        if part.ssrc_used(Ssrc(ssrc)) {
-            used = used.saturating_add(1);
+    let last = Ssrc(lines.saturating_sub(1));
+    let mut found: u32 = 0;
+    for _ in 0..times {
+        if part.ssrc_used(last) {
+            found = found.saturating_add(1);
         }
     }
-    Ok(used)
-}
-
-fn main(rt: HostRuntime) -> io::Result<ExitCode> {
-    let words = collect_words(&rt)?;
-    let words = words.as_slice();
-    let used = count_used(rt.alloc(), number(words, 0), number(words, 1))?;
-    println!(rt; "{used}")?;
-    Ok(ExitCode::SUCCESS)
+    Ok(found)
 }
