@@ -14,11 +14,7 @@ fn address(place: u32) -> Addr {
 }
 
 /// Gives an agent so many remote candidates, each with a port of its own.
-fn add_candidates<A: IceAgent>(
-    agent: &mut A,
-    alloc: Global,
-    count: u32,
-) -> Result<(), AllocError> {
+fn add_candidates<A: IceAgent>(agent: &mut A, alloc: Global, count: u32) -> Result<(), AllocError> {
     for place in 0..count {
         let candidate = Candidate::host(alloc, address(place), Protocol::Udp)?;
         agent.add_remote_candidate(candidate)?;

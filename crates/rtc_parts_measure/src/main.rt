@@ -19,12 +19,7 @@ fn number(words: &[String], place: usize) -> u32 {
 }
 
 /// How many look-ups found what they were for.
-fn count_found(
-    alloc: Global,
-    subject: &str,
-    entries: u32,
-    times: u32,
-) -> Result<u32, AllocError> {
+fn count_found(alloc: Global, subject: &str, entries: u32, times: u32) -> Result<u32, AllocError> {
     match subject {
         "sources" => sources::count_found(alloc, entries, times),
         "streams" => streams::count_found(alloc, entries, times),
@@ -38,7 +33,12 @@ fn main(rt: HostRuntime) -> io::Result<ExitCode> {
     let words = words.as_slice();
     let found = match words.first() {
         None => 0,
-        Some(subject) => count_found(rt.alloc(), subject.as_str(), number(words, 1), number(words, 2))?,
+        Some(subject) => count_found(
+            rt.alloc(),
+            subject.as_str(),
+            number(words, 1),
+            number(words, 2),
+        )?,
     };
     println!(rt; "{found}")?;
     Ok(ExitCode::SUCCESS)

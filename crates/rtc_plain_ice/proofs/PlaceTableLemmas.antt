@@ -1,8 +1,10 @@
 -- What tables of places and of addresses find, after each change of them.
-use Rattle.std.proofs.Common.{◌≡◌, ◌==◌, ◌&&◌, ◌||◌, ◌++◌, ℕ, Bool, true, false, not, cond, List, [], ◌∷◌, filter, map, nat_eq, refl, sym, ap, subst, ◌∙◌, arith}
+use Rattle.std.proofs.Common.{◌≡◌, ◌==◌, ◌&&◌, ◌||◌, ◌++◌, ℕ, Bool, true, false, not, cond, true≢false, List, [], ◌∷◌, filter, map, nat_eq, Result, Ok, Err, refl, sym, ap, subst, ◌∙◌, arith}
 use Rattle.std.proofs.lemmas.Bool.Decides.{Decides-eqb}
+use Rattle.std.proofs.lemmas.Grind.{common_steps}
 use Rattle.std.proofs.lemmas.Slice.Eq.{bytes_eq-Decides}
 use Rattle.std.specs.List.{list_any}
+use Rattle.std.specs.Prelude.{IsOk, IfOk}
 use Rattle.std.specs.Str.{bytes_eq}
 use Rattle.rtc_wire.specs.declared.addr.Addr.{Addr}
 use Rattle.rtc_wire.specs.declared.protocol.Protocol.{Protocol}
@@ -11,16 +13,13 @@ use Rattle.rtc_sdp_values.specs.declared.candidate.Candidate.{Candidate}
 use Rattle.rtc_plain_ice.specs.declared.addr_key.AddrKey.{AddrKey}
 use Rattle.rtc_plain_ice.specs.declared.place_key.PlaceKey.{PlaceKey}
 use Rattle.rtc_plain_ice.specs.Places.{protocol_number, is_same_addr, is_same_place, has_viable, has_addr, with_addr, without_place}
-use Rattle.rtc_plain_ice.specs.PlaceTables.{addr_key, place_key, same_addr_key, same_place_key, addrs_of}
+use Rattle.rtc_plain_ice.specs.PlaceTables.{addr_key, place_key, same_addr_key, same_place_key, key_with, has_key, addrs_of}
 
 both : (s t : Bool) → s && t ≡ true → (s ≡ true) × (t ≡ true)
 both true t h = (refl, h)
 both false t h = absurd cc
 
-key_with : ℕ → AddrKey → PlaceKey
-key_with proto addr = record { proto = proto; addr = addr }
-
-addr_with : ℕ → List ℕ → AddrKey
+abbrev addr_with : ℕ → List ℕ → AddrKey
 addr_with port ip = record { port = port; ip = ip }
 
 -- keys that are found equal are the same
@@ -72,77 +71,87 @@ address_kept a keys = by (list_any (same_addr_key (addr_key a)) keys) (has_addr 
     by true false is = absurd cc
     by false true is = absurd cc
 
--- whether a candidate has a key
-has_key : PlaceKey → Candidate → Bool
-has_key key c = same_place_key (place_key c) key
-
--- one more candidate
-pub any_behind : (key : PlaceKey) (rows : List Candidate) (c : Candidate) → list_any (λ x. same_place_key (place_key x) key) (rows ++ c ∷ []) ≡ (same_place_key (place_key c) key || list_any (λ x. same_place_key (place_key x) key) rows)
-any_behind key [] c = refl
-any_behind key (x ∷ xs) c =
-    ap (λ (b : Bool). has_key key x || b) (any_behind key xs c) ∙ exchanged (has_key key x) (has_key key c) (list_any (has_key key) xs)
-  where
-    exchanged : (s t r : Bool) → (s || (t || r)) ≡ (t || (s || r))
-    exchanged true true r = refl
-    exchanged true false r = refl
-    exchanged false true r = refl
-    exchanged false false r = refl
-
 -- candidates of one place are gone, and no others
-pub any_without : (key : PlaceKey) (c : Candidate) (rows : List Candidate) → list_any (λ x. same_place_key (place_key x) key) (without_place c rows)
-    ≡ cond (same_place_key (place_key c) key) false (list_any (λ x. same_place_key (place_key x) key) rows)
-any_without key c [] = none (has_key key c)
+moved : (key : PlaceKey) (x c : Candidate) → is_same_place x c ≡ true → has_key key x ≡ has_key key c
+moved key x c is = ap (λ (k : PlaceKey). same_place_key k key) (same_key (place_key x) (place_key c) is)
+
+apart : (key : PlaceKey) (x c : Candidate) → is_same_place x c ≡ false → has_key key c ≡ true → has_key key x ≡ false
+apart key x c is held = by (has_key key x) refl
   where
-    none : (b : Bool) → false ≡ cond b false false
-    none true = refl
-    none false = refl
+    by : (b : Bool) → has_key key x ≡ b → b ≡ false
+    by false h = refl
+    by true h =
+        let one : key ≡ place_key c = sym (same_key (place_key c) key held) in
+        absurd (true≢false (sym (subst (λ (k : PlaceKey). same_place_key (place_key x) k ≡ true) one h) ∙ is))
+
+none_left : (b : Bool) → false ≡ cond b false false
+none_left true = refl
+none_left false = refl
+
+any_without : (key : PlaceKey) (c : Candidate) (rows : List Candidate) → list_any (has_key key) (without_place c rows) ≡ cond (has_key key c) false (list_any (has_key key) rows)
+any_without key c [] = none_left (has_key key c)
 any_without key c (x ∷ xs) = by (is_same_place x c) refl (has_key key c) refl (any_without key c xs)
   where
     by : (gone : Bool) → is_same_place x c ≡ gone → (b : Bool) → has_key key c ≡ b → list_any (has_key key) (without_place c xs) ≡ cond (has_key key c) false (list_any (has_key key) xs)
-        → list_any (has_key key) (without_place c (x ∷ xs)) ≡ cond (has_key key c) false (list_any (has_key key) (x ∷ xs))
-    by true is true of rest = rw is (rest ∙ rw of refl)
-    by true is false of rest =
-        let own : has_key key x ≡ false = ap (λ (k : PlaceKey). same_place_key k key) (same_key (place_key x) (place_key c) is) ∙ of in
-        rw is (rest ∙ rw of (rw own refl))
-    by false is true of rest =
-        let other : has_key key x ≡ false = apart (has_key key x) refl in
-        rw is (rw other (rest ∙ rw of refl))
-      where
-        apart : (b : Bool) → has_key key x ≡ b → has_key key x ≡ false
-        apart false h = h
-        apart true h =
-            let one : place_key c ≡ key = same_key (place_key c) key of in
-            absurd (clash (is_same_place x c) (subst (λ (k : PlaceKey). same_place_key (place_key x) k ≡ true) (sym one) h) is)
-          where
-            clash : (s : Bool) → s ≡ true → s ≡ false → ⊥
-            clash true h k = cc
-            clash false h k = cc
-    by false is false of rest = rw is (rw of (ap (λ (b : Bool). has_key key x || b) (rest ∙ rw of refl)))
+        → list_any (has_key key) (cond (not gone) (x ∷ without_place c xs) (without_place c xs)) ≡ cond b false (has_key key x || list_any (has_key key) xs)
+    by true is true own rest = rest ∙ ap (λ (s : Bool). cond s false (list_any (has_key key) xs)) own
+    by true is false own rest =
+        rest ∙ ap (λ (s : Bool). cond s false (list_any (has_key key) xs)) own
+        ∙ sym (ap (λ (s : Bool). s || list_any (has_key key) xs) (moved key x c is ∙ own))
+    by false is true own rest =
+        ap (λ (s : Bool). s || list_any (has_key key) (without_place c xs)) (apart key x c is own)
+        ∙ rest ∙ ap (λ (s : Bool). cond s false (list_any (has_key key) xs)) own
+    by false is false own rest = ap (λ (b : Bool). has_key key x || b) (rest ∙ ap (λ (s : Bool). cond s false (list_any (has_key key) xs)) own)
+
+pub found_without : (key : PlaceKey) (rows left : List Candidate) (c : Candidate) (k : PlaceKey) (old new : Bool) → k ≡ place_key c → old ≡ list_any (has_key key) rows
+    → left ≡ without_place c rows → new ≡ cond (same_place_key k key) false old → new ≡ list_any (has_key key) left
+found_without key rows left c k old new own held kept is =
+    is
+    ∙ ap (λ (other : PlaceKey). cond (same_place_key other key) false old) own
+    ∙ ap (λ (b : Bool). cond (has_key key c) false b) held
+    ∙ sym (any_without key c rows)
+    ∙ sym (ap (λ (l : List Candidate). list_any (has_key key) l) kept)
 
 -- an address is that of a candidate where it is so with one of the protocols
-pub viable_found : (a : Addr) (rows : List Candidate) → (list_any (has_key (key_with 0 (addr_key a))) rows || (list_any (has_key (key_with 1 (addr_key a))) rows
-    || (list_any (has_key (key_with 2 (addr_key a))) rows || list_any (has_key (key_with 3 (addr_key a))) rows))) ≡ has_viable a rows
+abbrev hits : Protocol → ℕ → Bool → Bool
+hits proto n same = (protocol_number proto == n) && same
+
+hit_once : (proto : Protocol) (same p q r s : Bool) → ((((hits proto 0 same || p) || (hits proto 1 same || q)) || (hits proto 2 same || r)) || (hits proto 3 same || s)) ≡ (same || (((p || q) || r) || s))
+hit_once Udp true p q r s = refl
+hit_once Udp false p q r s = refl
+hit_once Tcp true true q r s = refl
+hit_once Tcp true false q r s = refl
+hit_once Tcp false p q r s = refl
+hit_once SslTcp true true q r s = refl
+hit_once SslTcp true false true r s = refl
+hit_once SslTcp true false false r s = refl
+hit_once SslTcp false p q r s = refl
+hit_once Tls true true q r s = refl
+hit_once Tls true false true r s = refl
+hit_once Tls true false false true s = refl
+hit_once Tls true false false false s = refl
+hit_once Tls false p q r s = refl
+
+pub viable_found : (a : Addr) (rows : List Candidate) → (((list_any (has_key (key_with 0 (addr_key a))) rows || list_any (has_key (key_with 1 (addr_key a))) rows)
+    || list_any (has_key (key_with 2 (addr_key a))) rows) || list_any (has_key (key_with 3 (addr_key a))) rows) ≡ has_viable a rows
 viable_found a [] = refl
 viable_found a (x ∷ xs) =
-    by x.proto (is_same_addr x.addr a) (list_any (has_key (key_with 0 (addr_key a))) xs) (list_any (has_key (key_with 1 (addr_key a))) xs)
-        (list_any (has_key (key_with 2 (addr_key a))) xs) (list_any (has_key (key_with 3 (addr_key a))) xs)
+    hit_once x.proto (is_same_addr x.addr a) (list_any (has_key (key_with 0 (addr_key a))) xs) (list_any (has_key (key_with 1 (addr_key a))) xs)
+    (list_any (has_key (key_with 2 (addr_key a))) xs) (list_any (has_key (key_with 3 (addr_key a))) xs)
     ∙ ap (λ (b : Bool). is_same_addr x.addr a || b) (viable_found a xs)
-  where
-    at : Protocol → ℕ → Bool → Bool
-    at proto n same = (protocol_number proto == n) && same
 
-    by : (proto : Protocol) (same p q r s : Bool) → ((at proto 0 same || p) || ((at proto 1 same || q) || ((at proto 2 same || r) || (at proto 3 same || s)))) ≡ (same || (p || (q || (r || s))))
-    by Udp true p q r s = refl
-    by Udp false p q r s = refl
-    by Tcp true true q r s = refl
-    by Tcp true false q r s = refl
-    by Tcp false p q r s = refl
-    by SslTcp true true q r s = refl
-    by SslTcp true false true r s = refl
-    by SslTcp true false false r s = refl
-    by SslTcp false p q r s = refl
-    by Tls true true q r s = refl
-    by Tls true false true r s = refl
-    by Tls true false false true s = refl
-    by Tls true false false false s = refl
-    by Tls false p q r s = refl
+pub all_viable : (a : Addr) (key : AddrKey) (rows : List Candidate) (p q r s t : Bool) → key ≡ addr_key a → p ≡ list_any (has_key (key_with 0 key)) rows → q ≡ list_any (has_key (key_with 1 key)) rows
+    → r ≡ list_any (has_key (key_with 2 key)) rows → s ≡ list_any (has_key (key_with 3 key)) rows → t ≡ (((p || q) || r) || s) → t ≡ has_viable a rows
+all_viable a key rows p q r s t own udp tcp ssl tls is =
+    is
+    ∙ ap (λ (b : Bool). ((b || q) || r) || s) udp
+    ∙ ap (λ (b : Bool). ((list_any (has_key (key_with 0 key)) rows || b) || r) || s) tcp
+    ∙ ap (λ (b : Bool). ((list_any (has_key (key_with 0 key)) rows || list_any (has_key (key_with 1 key)) rows) || b) || s) ssl
+    ∙ ap (λ (b : Bool). ((list_any (has_key (key_with 0 key)) rows || list_any (has_key (key_with 1 key)) rows) || list_any (has_key (key_with 2 key)) rows) || b) tls
+    ∙ ap (λ (k : AddrKey). ((list_any (has_key (key_with 0 k)) rows || list_any (has_key (key_with 1 k)) rows) || list_any (has_key (key_with 2 k)) rows) || list_any (has_key (key_with 3 k)) rows) own
+    ∙ viable_found a rows
+
+-- a call that ended well did what it says
+pub if_ok : {T E : Type 0} (P : Type 0) (r : Result T E) → IsOk r → IfOk r (λ _. P) → P
+if_ok P (Ok x) i h = h
+if_ok P (Err e) i h = grind (arith, common_steps)

@@ -21,10 +21,17 @@ same_addr_key a b = (a.port == b.port) && bytes_eq a.ip b.ip
 abbrev pub same_place_key : PlaceKey → PlaceKey → Bool
 same_place_key a b = (a.proto == b.proto) && same_addr_key a.addr b.addr
 
+abbrev pub key_with : ℕ → AddrKey → PlaceKey
+key_with proto addr = record { proto = proto; addr = addr }
+
+-- whether a candidate has a key
+abbrev pub has_key : PlaceKey → Candidate → Bool
+has_key key c = same_place_key (place_key c) key
+
 -- the addresses of keys
 abbrev pub addrs_of : List AddrKey → List Addr
 addrs_of keys = map (λ key. record { port = key.port; ip = key.ip }) keys
 
 -- the places of the candidates are in the table, and no others
 abbrev pub FindsPlaces : {S : Type 0} → IndexSet PlaceKey S → List Candidate → Type 0
-FindsPlaces places candidates = (key : PlaceKey) → contains same_place_key places key ≡ list_any (λ c. same_place_key (place_key c) key) candidates
+FindsPlaces places candidates = (key : PlaceKey) → contains same_place_key places key ≡ list_any (has_key key) candidates

@@ -4,12 +4,16 @@ ghost use Rattle.std.specs.Prelude.{
   ◌∷◌,
   [],
   ◌++◌,
+  ◌||◌,
   if◌then◌else◌,
   IfOk,
+  OnOk,
   OnErr,
   not,
 };
-ghost use Rattle.rtc_plain_ice.specs.Places.{has_place, without_place, has_viable};
+ghost use Rattle.std.specs.List.{list_any};
+ghost use Rattle.rtc_plain_ice.specs.Places.{is_same_place, has_place, without_place, has_viable};
+ghost use Rattle.rtc_plain_ice.specs.PlaceTables.{has_key, key_with};
 
 use crate::addr_key::AddrKey;
 use crate::place_key::PlaceKey;
@@ -36,6 +40,20 @@ impl Model for CandidateTable {
     ghost view = { λ t. t.rows.items };
 
     ghost invariant = { λ t. FindsPlaces t.places t.rows.items };
+}
+
+/// Whether two candidates have one address and one protocol.
+fn same_place(a: &Candidate, b: &Candidate) -> bool
+    ensures { result ≡ is_same_place a.now b.now }
+{
+    PlaceKey::of_candidate(a) == PlaceKey::of_candidate(b)
+}
+
+/// Whether one of the four is true.
+fn is_any(udp: bool, tcp: bool, ssl_tcp: bool, tls: bool) -> bool
+    ensures { result ≡ (((udp || tcp) || ssl_tcp) || tls) }
+{
+    udp || tcp || ssl_tcp || tls
 }
 
 impl CandidateTable {
@@ -68,10 +86,19 @@ impl CandidateTable {
         ensures { result ≡ has_viable a.now self.now }
     {
         let addr = AddrKey::new(a);
-        self.places.contains(&PlaceKey { proto: 0, addr })
-            || self.places.contains(&PlaceKey { proto: 1, addr })
-            || self.places.contains(&PlaceKey { proto: 2, addr })
-            || self.places.contains(&PlaceKey { proto: 3, addr })
+        let udp = self.holds_at(0, addr);
+        let tcp = self.holds_at(1, addr);
+        let ssl_tcp = self.holds_at(2, addr);
+        let tls = self.holds_at(3, addr);
+        is_any(udp, tcp, ssl_tcp, tls)
+    }
+
+    /// Whether a candidate of this protocol and address is there.
+    fn holds_at(&self, proto: u8, addr: AddrKey) -> bool
+        ensures { result ≡ list_any (has_key (key_with proto addr)) self.now }
+    {
+        let key = PlaceKey { proto, addr };
+        self.places.contains(&key)
     }
 
     /// Adds a candidate unless its address and protocol are there. Answers whether it was added.
@@ -106,9 +133,8 @@ impl CandidateTable {
         ensures { self.new ≡ without_place c.now self.old }
     {
         let key = PlaceKey::of_candidate(c);
-        if self.places.swap_remove(&key) {
-            self.rows.retain(|x| PlaceKey::of_candidate(x) != key);
-        }
+        self.places.swap_remove(&key);
+        self.rows.retain(|x| !same_place(x, c));
     }
 
     pub fn clear(&mut self)

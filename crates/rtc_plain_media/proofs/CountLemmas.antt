@@ -38,16 +38,16 @@ count_without n gone (e ∷ es) = by (gone e.0.mid) refl (count_without n gone e
     by true is rest = rw is (omega (arith, rest))
     by false is rest = rw is (omega (arith, rest))
 
+abbrev update_in : Option HeldLine → MediaUpdate → MediaUpdate
+update_in None other = other
+update_in (Some held) other = held.update
+
 -- a writer's mark is no source
 pub count_marked : (n : ℕ) (test : LineKey → Bool) (line : HeldLine) (mark : PlainMark) (lines : Lines) → Some line ≡ lookup test lines
     → lines_count n (set_value test lines (record line { mark = mark })) ≡ lines_count n lines
 count_marked n test line mark [] found = refl
 count_marked n test line mark (e ∷ es) found = by (test e.0) refl found (count_marked n test line mark es)
   where
-    update_in : Option HeldLine → MediaUpdate → MediaUpdate
-    update_in None other = other
-    update_in (Some held) other = held.update
-
     by : (b : Bool) → test e.0 ≡ b → Some line ≡ lookup test (e ∷ es) → (Some line ≡ lookup test es → lines_count n (set_value test es (record line { mark = mark })) ≡ lines_count n es)
         → lines_count n (set_value test (e ∷ es) (record line { mark = mark })) ≡ lines_count n (e ∷ es)
     by true is found rest =

@@ -1,45 +1,5 @@
 -- The places of streams, their names and their numbers, after each change of their rows.
-use Rattle.std.proofs.Common.{
-  ◌≡◌,
-  ◌==◌,
-  ◌+◌,
-  ◌*◌,
-  ◌<◌,
-  ◌≤◌,
-  ◌++◌,
-  ◌||◌,
-  ◌&&◌,
-  ℕ,
-  zero,
-  suc,
-  Bool,
-  true,
-  false,
-  cond,
-  nat_lt,
-  nat_eq,
-  Option,
-  Some,
-  None,
-  List,
-  [],
-  ◌∷◌,
-  length,
-  filter,
-  slice_set,
-  slice_index_or,
-  position,
-  is_some,
-  Result,
-  Ok,
-  Err,
-  refl,
-  sym,
-  ap,
-  subst,
-  ◌∙◌,
-  arith,
-}
+use Rattle.std.proofs.Common.{◌≡◌, ◌==◌, ◌+◌, ◌*◌, ◌<◌, ◌≤◌, ◌++◌, ◌||◌, ◌&&◌, ℕ, zero, suc, Bool, true, false, cond, nat_lt, nat_eq, Option, Some, None, List, [], ◌∷◌, length, filter, slice_set, slice_index_or, position, is_some, Result, Ok, Err, refl, sym, ap, subst, ◌∙◌, arith}
 use Rattle.std.proofs.lemmas.Bool.Decides.{Decides-eqb}
 use Rattle.std.proofs.lemmas.Grind.{common_steps}
 use Rattle.std.specs.List.{list_any, position_from, position_or_len}
@@ -89,10 +49,10 @@ named_from mid rid rows =
 pub same_number : (a b : ℕ) → nat_eq a b ≡ true → a ≡ b
 same_number a b h = (Decides-eqb a b).0 h
 
-layer_named : List ℕ → LayerKey
+abbrev layer_named : List ℕ → LayerKey
 layer_named rid = record { rid = rid }
 
-named_so : List ℕ → Option LayerKey → StreamName
+abbrev named_so : List ℕ → Option LayerKey → StreamName
 named_so mid layer = record { line = record { mid = mid }; layer = layer }
 
 same_layers : (a b : Option LayerKey) → option_eq same_layer a b ≡ true → a ≡ b
