@@ -119,7 +119,7 @@ ssrc_most n (Some ssrc) = once_most n ssrc.0
 pub source_most : (n : ℕ) (source : Ssrc × Option Ssrc) → source_count n source ≤ 2
 source_most n source = omega (arith, once_most n source.0.0, ssrc_most n source.1)
 
-sources_most : (n : ℕ) (sources : List (Ssrc × Option Ssrc)) → sources_count n sources ≤ 2 * length sources
+pub sources_most : (n : ℕ) (sources : List (Ssrc × Option Ssrc)) → sources_count n sources ≤ 2 * length sources
 sources_most n [] = omega arith
 sources_most n (source ∷ sources) = omega (arith, source_most n source, sources_most n sources)
 

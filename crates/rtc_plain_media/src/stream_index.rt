@@ -38,7 +38,8 @@ ghost use Rattle.rtc_plain_media.specs.StreamIndex.{
   IndexesStreams,
 };
 
-use crate::stream_name::StreamName;
+use crate::line_key::LineKey;
+use crate::stream_name::{LayerKey, StreamName};
 use crate::stream_row::StreamRow;
 use indexmap::{IndexMap, IndexSet};
 use rtc_sdp_values::{Mid, Rid, Ssrc};
@@ -68,11 +69,12 @@ fn put_place(places: &mut IndexMap<u32, usize>, number: u32, at: usize)
 }
 
 /// Puts the place of a line and a layer, where they have none, in room that was made.
-fn put_name(names: &mut IndexMap<StreamName, usize>, name: StreamName, at: usize)
+fn put_name(names: &mut IndexMap<StreamName, usize>, line: LineKey, layer: Option<LayerKey>, at: usize)
     requires { 0 < spare names.old }
-    ensures put { PutsPlace same_name name at names.old names.new }
+    ensures put { PutsPlace same_name (record { line = line; layer = layer }) at names.old names.new }
     ensures room { UsesRoomOfOne names.old names.new }
 {
+    let name = StreamName { line, layer };
     if names.contains_key(&name) {
         return;
     }
@@ -196,7 +198,8 @@ impl StreamIndex {
         ensures room { UsesRowOf self.old self.new }
     {
         put_place(&mut self.places, row.ssrc.0, at);
-        put_name(&mut self.names, StreamName::of_row(row), at);
+        let name = StreamName::of_row(row);
+        put_name(&mut self.names, name.line, name.layer, at);
         put_numbers(&mut self.numbers, row);
     }
 

@@ -109,6 +109,40 @@ impl StreamTable {
         ensures ok { OnOk result (self.new ≡ put_row (made_stream_row ssrc rtx mid rid) self.old) }
         ensures err { OnErr result (self.new ≡ self.old) }
     {
+        match self.place_of(ssrc) {
+            Some(at) => {
+                self.rows[at] = StreamRow {
+                    ssrc,
+                    rtx,
+                    mid,
+                    rid,
+                    mark: PlainMark { count: 0 },
+                };
+                self.index.rebuild(self.rows.as_slice());
+                Ok(at)
+            }
+            None => {
+                let at = self.push(ssrc, rtx, mid, rid)?;
+                Ok(at)
+            }
+        }
+    }
+
+    /// Puts a row behind the others, and answers its place.
+    fn push(
+        &mut self,
+        ssrc: Ssrc,
+        rtx: Option<Ssrc>,
+        mid: Mid,
+        rid: Option<Rid>,
+    ) -> Result<usize, AllocError>
+        ensures place { IfOk result (λ at. at ≡ length self.old) }
+        ensures ok { OnOk result (self.new ≡ self.old ++ made_stream_row ssrc rtx mid rid ∷ []) }
+        ensures err { OnErr result (self.new ≡ self.old) }
+    {
+        let at = self.rows.len();
+        self.index.make_room(at + 1)?;
+        self.rows.reserve(1)?;
         let row = StreamRow {
             ssrc,
             rtx,
@@ -116,29 +150,8 @@ impl StreamTable {
             rid,
             mark: PlainMark { count: 0 },
         };
-        match self.place_of(ssrc) {
-            Some(at) => {
-                self.rows[at] = row;
-                self.index.rebuild(self.rows.as_slice());
-                Ok(at)
-            }
-            None => {
-                let at = self.push(row)?;
-                Ok(at)
-            }
-        }
-    }
-
-    /// Puts a row behind the others, and answers its place.
-    fn push(&mut self, row: StreamRow) -> Result<usize, AllocError>
-        ensures place { IfOk result (λ at. at ≡ length self.old) }
-        ensures ok { OnOk result (self.new ≡ self.old ++ row ∷ []) }
-        ensures err { OnErr result (self.new ≡ self.old) }
-    {
-        let at = self.rows.len();
-        self.index.make_room(at + 1)?;
-        self.rows.push(row)?;
         self.index.add(&row, at);
+        self.rows.push_reserved(row);
         Ok(at)
     }
 

@@ -6,6 +6,6 @@ use Rattle.rtc_plain_media.proofs.plain_media.PlainMedia.lines_use.Goals as goal
 
 pub returns : goal.returns
 returns c =
-    ap (λ (n : ℕ). nat_lt 0 n) (c.count_of.ensures ∙ c.self.invariant.1.1.exact c.args.ssrc.0)
+    ap (λ (n : ℕ). nat_lt 0 n) (c.count_of.ensures ∙ c.self.invariant.2.exact c.args.ssrc.0)
     ∙ sym (lines_used c.args.ssrc c.self.inside.lines.entries)
     ∙ ap (λ (p : MediaContents). list_any (line_uses c.args.ssrc) p.lines) c.self.view_is

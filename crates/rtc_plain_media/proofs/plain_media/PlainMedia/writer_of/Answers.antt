@@ -14,9 +14,7 @@ pub invariant_of-self-lent : goal.invariant_of-self-lent
 invariant_of-self-lent c = λ w.
     let p = c.self.inside in
     let written = c.get_mut.follows.holds (record c.in-Some.line.now { mark = w }) in (
-      omega (arith, c.self.invariant.0, written.1.1.1.1.1.1),
-      (
-        c.self.invariant.1.0,
-        keeps_marked p.counts p.most p.pending.items p.lines.entries _ (same_key (key_of c.args.mid)) c.in-Some.line.now w written.0 c.in-Some.ensures.value c.self.invariant.1.1,
-      ),
+      omega (arith, c.self.invariant.0, written.6),
+      c.self.invariant.1,
+      keeps_marked p.counts p.most p.pending.items p.lines.entries _ (same_key (key_of c.args.mid)) c.in-Some.line.now w written.0 c.in-Some.ensures.value c.self.invariant.2,
     )

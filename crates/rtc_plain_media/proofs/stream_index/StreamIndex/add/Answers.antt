@@ -9,7 +9,7 @@ pub returns-clause-found : goal.returns-clause-found
 returns-clause-found c = λ before last held.
     let old = c.args.self.now in
     let row = c.args.row.now in
-    let named = subst (λ (k : StreamName). PutsPlace same_name k c.args.at old.names c.put_name.new.names) c.of_row.ensures c.put_name.ensures.put in
+    let named = subst (λ (k : StreamName). PutsPlace same_name (record { line = k.line; layer = k.layer }) c.args.at old.names c.put_name.new.names) c.of_row-name.ensures c.put_name.ensures.put in
     record {
       places = place_added nat_eq old.places c.put_place.new.places (λ (r : StreamRow). r.ssrc.0) before row c.args.at last held.places c.put_place.ensures.put;
       names = place_added same_name old.names c.put_name.new.names (λ (r : StreamRow). stream_name r.mid r.rid) before row c.args.at last held.names named;
