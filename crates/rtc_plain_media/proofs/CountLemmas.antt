@@ -1,6 +1,5 @@
 -- How often numbers stand among the sources of lines, after each change of the lines.
-use Rattle.std.proofs.Common.{◌≡◌, ◌==◌, ◌+◌, ◌-◌, ◌*◌, ◌^◌, ◌<◌, ◌≤◌, ◌++◌, ◌||◌, ℕ, nat_eq, Bool, true, false, not, cond, nat_lt, filter, Option, Some, None, List, [], ◌∷◌, length, refl, sym, ap, subst, ◌∙◌, arith}
-use Rattle.std.proofs.lemmas.Grind.{common_steps}
+use Rattle.std.proofs.Common.{◌≡◌, ◌==◌, ◌+◌, ◌-◌, ◌*◌, ◌^◌, ◌<◌, ◌≤◌, ◌||◌, ℕ, nat_eq, Bool, true, false, cond, nat_lt, Option, Some, None, List, [], ◌∷◌, length, refl, sym, ap, ◌∙◌, arith}
 use Rattle.std.specs.List.{list_any}
 use Rattle.std.specs.Map.{lookup, set_value}
 use Rattle.std.specs.Option.{unwrap_or}
@@ -14,7 +13,6 @@ use Rattle.rtc_plain_media.specs.Streams.{is_ssrc}
 use Rattle.rtc_media.specs.MediaUpdates.{update_mid}
 use Rattle.rtc_plain_media.specs.Lines.{Lines, same_key, key_of, held_line, writer_mark, set_line, without_lines}
 use Rattle.rtc_plain_media.specs.MediaContents.{source_uses, line_uses}
-use Rattle.rtc_plain_media.specs.MediaCalls.{writer_marked}
 use Rattle.rtc_plain_media.specs.SourceCounts.{same_once, ssrc_count, source_count, sources_count, update_count, lines_count, held_count, gone_count, update_numbers, updates_numbers, count_for, CountsLines, CountsLess, KeepsCounts}
 
 -- a line is put in the place of that of its key, or goes last

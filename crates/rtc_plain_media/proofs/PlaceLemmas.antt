@@ -1,5 +1,5 @@
 -- The places of streams, their names and their numbers, after each change of their rows.
-use Rattle.std.proofs.Common.{◌≡◌, ◌==◌, ◌+◌, ◌*◌, ◌<◌, ◌≤◌, ◌++◌, ◌||◌, ◌&&◌, ℕ, zero, suc, Bool, true, false, cond, nat_lt, nat_eq, Option, Some, None, List, [], ◌∷◌, length, filter, slice_set, slice_index_or, position, is_some, Result, Ok, Err, refl, sym, ap, subst, ◌∙◌, arith}
+use Rattle.std.proofs.Common.{◌≡◌, ◌==◌, ◌+◌, ◌≤◌, ◌++◌, ◌||◌, ◌&&◌, ℕ, zero, suc, Bool, true, false, cond, nat_lt, nat_eq, Option, Some, None, List, [], ◌∷◌, length, filter, slice_set, slice_index_or, position, is_some, Result, Ok, Err, refl, sym, ap, subst, ◌∙◌, arith}
 use Rattle.std.proofs.lemmas.Bool.Decides.{Decides-eqb}
 use Rattle.std.proofs.lemmas.Grind.{common_steps}
 use Rattle.std.specs.List.{list_any, position_from, position_or_len}
@@ -9,13 +9,12 @@ use Rattle.indexmap.specs.IndexMap.{IndexMap, get, Updates}
 use Rattle.indexmap.specs.IndexSet as set
 use Rattle.rtc_media.specs.MediaUpdates.{same_mid}
 use Rattle.rtc_plain_media.specs.declared.plain_mark.PlainMark.{PlainMark}
-use Rattle.rtc_plain_media.specs.declared.line_key.LineKey.{LineKey}
 use Rattle.rtc_plain_media.specs.declared.stream_row.StreamRow.{StreamRow}
 use Rattle.rtc_plain_media.specs.declared.stream_name.LayerKey.{LayerKey}
 use Rattle.rtc_plain_media.specs.declared.stream_name.StreamName.{StreamName}
 use Rattle.rtc_plain_media.specs.declared.stream_index.StreamIndex.{StreamIndex}
 use Rattle.rtc_plain_media.specs.Lines.{same_key}
-use Rattle.rtc_plain_media.specs.Streams.{Streams, has_ssrc, has_name, same_rid}
+use Rattle.rtc_plain_media.specs.Streams.{Streams, has_name, same_rid}
 use Rattle.rtc_plain_media.specs.StreamIndex.{same_layer, same_name, layer_key, stream_name, is_numbered, has_stream_name, uses_number, or_else, PutsPlace, KeepsEntries, FindsStreams, FitsStreams, HasSpare, IndexesStreams}
 use Rattle.rtc_plain_media.specs.UpdateLemmas.{same_is}
 

@@ -1,11 +1,10 @@
 -- Streams that are found without a walk over them: by ssrc, by line and layer, and by each number that one has.
-use Rattle.std.specs.Prelude.{◌≡◌, ◌==◌, ◌&&◌, ◌||◌, ◌+◌, ◌*◌, ◌≤◌, nat_eq, ℕ, Bool, List, Option, Some, None, length, if◌then◌else◌}
+use Rattle.std.specs.Prelude.{◌≡◌, ◌==◌, ◌&&◌, ◌+◌, ◌*◌, ◌≤◌, nat_eq, ℕ, Bool, List, Option, Some, None, length, if◌then◌else◌}
 use Rattle.std.specs.List.{list_any, position_from}
-use Rattle.std.specs.Option.{option_eq, option_map}
+use Rattle.std.specs.Option.{option_eq}
 use Rattle.indexmap.specs.IndexMap.{IndexMap, get, spare, index_map_len}
 use Rattle.indexmap.specs.IndexSet as set
 use Rattle.rtc_media.specs.MediaUpdates.{same_mid}
-use Rattle.rtc_plain_media.specs.declared.line_key.LineKey.{LineKey}
 use Rattle.rtc_plain_media.specs.declared.stream_row.StreamRow.{StreamRow}
 use Rattle.rtc_plain_media.specs.declared.stream_name.LayerKey.{LayerKey}
 use Rattle.rtc_plain_media.specs.declared.stream_name.StreamName.{StreamName}

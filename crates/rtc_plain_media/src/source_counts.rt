@@ -122,7 +122,7 @@ pub fn drop_line(counts: &mut SourceCounts, line: &MediaUpdate)
     drop_sources(counts, line.ssrcs_rx.as_slice());
 }
 
-/// A sum; want of memory where it is beyond the range.
+/// A sum, or out of memory where it is beyond the range.
 pub fn add(count: usize, more: usize) -> Result<usize, AllocError>
     ensures sum { IfOk result (λ sum. sum ≡ count + more) }
     ensures fits { IfOk result (λ sum. sum < 2 ^ 64) }
@@ -133,7 +133,7 @@ pub fn add(count: usize, more: usize) -> Result<usize, AllocError>
     }
 }
 
-/// How many numbers an update can have at most; want of memory where that is beyond the range.
+/// How many numbers an update can have at most, or out of memory where that is beyond the range.
 fn numbers_of(update: &MediaUpdate) -> Result<usize, AllocError>
     ensures { IfOk result (λ numbers. numbers ≡ update_numbers update.now) }
 {
@@ -145,7 +145,7 @@ fn numbers_of(update: &MediaUpdate) -> Result<usize, AllocError>
     Ok(numbers)
 }
 
-/// How many numbers some updates can have at most; want of memory where that is beyond the range.
+/// How many numbers some updates can have at most, or out of memory where that is beyond the range.
 pub fn numbers_in(updates: &[MediaUpdate]) -> Result<usize, AllocError>
     ensures { IfOk result (λ numbers. numbers ≡ updates_numbers updates.now) }
 {

@@ -69,7 +69,12 @@ fn put_place(places: &mut IndexMap<u32, usize>, number: u32, at: usize)
 }
 
 /// Puts the place of a line and a layer, where they have none, in room that was made.
-fn put_name(names: &mut IndexMap<StreamName, usize>, line: LineKey, layer: Option<LayerKey>, at: usize)
+fn put_name(
+    names: &mut IndexMap<StreamName, usize>,
+    line: LineKey,
+    layer: Option<LayerKey>,
+    at: usize,
+)
     requires { 0 < spare names.old }
     ensures put { PutsPlace same_name (record { line = line; layer = layer }) at names.old names.new }
     ensures room { UsesRoomOfOne names.old names.new }

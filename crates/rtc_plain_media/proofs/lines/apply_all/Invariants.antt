@@ -1,4 +1,4 @@
-use Rattle.std.proofs.Common.{◌≡◌, ◌≤◌, ◌<◌, ◌+◌, ◌^◌, ◌++◌, ℕ}
+use Rattle.std.proofs.Common.{◌≡◌, ◌≤◌, ◌+◌, ◌++◌, ℕ}
 use Rattle.std.specs.VecDeque.{deque_len, deque_capacity}
 use Rattle.indexmap.specs.IndexMap.{spare}
 use Rattle.rtc_plain_media.specs.Lines.{lines_after, events_after}

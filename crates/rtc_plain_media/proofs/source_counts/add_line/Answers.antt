@@ -5,5 +5,11 @@ use Rattle.rtc_plain_media.proofs.source_counts.add_line.Goals as goal
 
 pub add_sources-requires-2-clause-fits : goal.add_sources-requires-2-clause-fits
 add_sources-requires-2-clause-fits c = λ n.
-    omega (arith, c.requires.fits n, c.add_sources.ensures.counts n, sources_most n c.as_slice.result.now,
-    ap (λ (l : List (Ssrc × Option Ssrc)). length l) c.as_slice.ensures, ap (λ (l : List (Ssrc × Option Ssrc)). length l) c.as_slice-2.ensures)
+    omega (
+      arith,
+      c.requires.fits n,
+      c.add_sources.ensures.counts n,
+      sources_most n c.as_slice.result.now,
+      ap (λ (l : List (Ssrc × Option Ssrc)). length l) c.as_slice.ensures,
+      ap (λ (l : List (Ssrc × Option Ssrc)). length l) c.as_slice-2.ensures,
+    )

@@ -1,8 +1,8 @@
-use Rattle.std.proofs.Common.{◌==◌, ◌||◌, nat_eq, ap, rules, ◌∙◌, sym, Bool, Option, Some, None}
+use Rattle.std.proofs.Common.{◌==◌, ◌||◌, nat_eq, ap, ◌∙◌, sym, Option}
 use Rattle.indexmap.specs.IndexSet as set
 use Rattle.rtc_sdp_values.specs.declared.ssrc.Ssrc.{Ssrc}
 use Rattle.rtc_plain_media.specs.Streams.{is_ssrc}
-use Rattle.rtc_plain_media.proofs.PlaceLemmas.{numbers_one, numbers_both}
+use Rattle.rtc_plain_media.proofs.PlaceLemmas.{numbers_both}
 use Rattle.rtc_plain_media.proofs.stream_index.put_numbers.Goals as goal
 
 pub returns-in-Some-clause-put : goal.returns-in-Some-clause-put

@@ -1,5 +1,4 @@
-use Rattle.std.proofs.Common.{◌≡◌, ◌≤◌, List, refl, sym, ap, ◌∙◌, arith}
-use Rattle.indexmap.specs.IndexMap.{spare}
+use Rattle.std.proofs.Common.{◌≡◌, List, refl, sym, ap, ◌∙◌, arith}
 use Rattle.rtc_media.specs.declared.media_update.MediaUpdate.{MediaUpdate}
 use Rattle.rtc_plain_media.specs.SourceCounts.{updates_numbers}
 use Rattle.rtc_plain_media.proofs.CountLemmas.{keeps_reserved, keeps_prepared}

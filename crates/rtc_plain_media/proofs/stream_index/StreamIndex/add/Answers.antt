@@ -1,4 +1,4 @@
-use Rattle.std.proofs.Common.{◌||◌, ◌+◌, Bool, nat_eq, sym, ap, subst, ◌∙◌, arith}
+use Rattle.std.proofs.Common.{◌||◌, Bool, nat_eq, sym, ap, subst, ◌∙◌, arith}
 use Rattle.rtc_plain_media.specs.declared.stream_row.StreamRow.{StreamRow}
 use Rattle.rtc_plain_media.specs.declared.stream_name.StreamName.{StreamName}
 use Rattle.rtc_plain_media.specs.StreamIndex.{same_name, stream_name, uses_number, PutsPlace}

@@ -1,6 +1,5 @@
 use Rattle.std.proofs.Common.{◌≡◌, ◌+◌, ◌-◌, ◌++◌, ◌∷◌, [], ℕ, take, length, sym, subst, arith}
 use Rattle.std.proofs.lemmas.Grind.{common_steps}
-use Rattle.std.proofs.lemmas.List.{take_more}
 use Rattle.rtc_plain_media.specs.Streams.{Streams}
 use Rattle.rtc_plain_media.specs.StreamIndex.{FindsStreams}
 use Rattle.rtc_plain_media.proofs.PlaceLemmas.{has_less}

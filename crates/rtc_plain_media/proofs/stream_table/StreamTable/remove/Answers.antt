@@ -1,4 +1,4 @@
-use Rattle.std.proofs.Common.{◌≡◌, Bool, not, filter, rules, ap, is_some, ◌∙◌, length, sym, subst, arith, ℕ, ◌≤◌}
+use Rattle.std.proofs.Common.{◌≡◌, Bool, not, filter, rules, ap, is_some, ◌∙◌, length, sym, subst, arith, ℕ}
 use Rattle.std.proofs.lemmas.Fn.{filter_same}
 use Rattle.rtc_plain_media.specs.declared.stream_row.StreamRow.{StreamRow}
 use Rattle.rtc_plain_media.specs.StreamIndex.{FitsStreams, IndexesStreams}
