@@ -49,7 +49,12 @@ fn streams_use<M: MediaSession>(part: &mut M, mid: Mid) -> Result<bool, AllocErr
     Ok(made && renumbered && removed && uses(part, &[]))
 }
 
-fn make_layers<M: MediaSession>(part: &mut M, mid: Mid, low: Rid, high: Rid) -> Result<(), AllocError> {
+fn make_layers<M: MediaSession>(
+    part: &mut M,
+    mid: Mid,
+    low: Rid,
+    high: Rid,
+) -> Result<(), AllocError> {
     let _ = part.declare_stream_tx(Ssrc(1), None, mid, Some(low))?;
     let _ = part.declare_stream_tx(Ssrc(2), None, mid, Some(high))?;
     let _ = part.declare_stream_tx(Ssrc(3), None, mid, Some(high))?;

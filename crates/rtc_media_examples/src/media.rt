@@ -1,10 +1,9 @@
 //! The calls of the media part in memory, with the bytes and events that its rules state.
-use crate::lookups;
-use crate::reports;
 use crate::sessions::{
     commit, counts, is_silent, sends, settings, shows, tells_added, tells_changed, tells_rtcp,
     tells_rtp, update,
 };
+use crate::{lookups, reports};
 use rtc_media::{MediaError, MediaSession, RawPacket, SrtpProfile, StatsSnapshot};
 use rtc_plain_media::{PlainMark, PlainMedia, PlainMediaEvent};
 use rtc_sdp_values::{Direction, Mid, Ssrc};
