@@ -101,10 +101,25 @@ fn meet<N: Ids + Drop>(
     Ok(show(alloc, left.lines(), right.lines())?)
 }
 
+// Gives what was told of something, once that is dropped.
+fn release<P: Drop, T>(_done: P, told: T) -> T {
+    told
+}
+
+fn meet_another<N: Ids + Drop>(
+    alloc: Global,
+    left: &mut Peer<N>,
+    right: N,
+) -> Result<String, RtcError> {
+    let mut right = build(alloc, right)?;
+    let text = meet(alloc, left, &mut right);
+    release(right, text)
+}
+
 fn run<N: Ids + Drop>(alloc: Global, left: N, right: N) -> Result<String, RtcError> {
     let mut left = build(alloc, left)?;
-    let mut right = build(alloc, right)?;
-    meet(alloc, &mut left, &mut right)
+    let text = meet_another(alloc, &mut left, right);
+    release(left, text)
 }
 
 fn main(rt: HostRuntime) -> io::Result<()> {

@@ -3,7 +3,6 @@
 //! Each line of the input names an example, and is printed again behind `agrees` or `differs`.
 #![tactic(auto)]
 
-mod lookups;
 mod media;
 mod reports;
 mod sessions;

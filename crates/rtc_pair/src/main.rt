@@ -12,6 +12,11 @@ pub use rtc_script::{Script, ScriptError, Setting, read_script, write_report};
 use std::process::ExitCode;
 pub use top::pair_main;
 
+// Ends with a status, once what was kept is dropped.
+fn end<P: Drop>(status: u8, _kept: Option<P>) -> ExitCode {
+    ExitCode::from(status)
+}
+
 fn main(rt: HostRuntime) -> ExitCode {
     let Ok(words) = collect_words(&rt) else {
         return ExitCode::from(OUT_OF_MEMORY);
@@ -26,5 +31,5 @@ fn main(rt: HostRuntime) -> ExitCode {
         &mut output,
         &mut last,
     );
-    ExitCode::from(status)
+    end(status, last)
 }

@@ -1,5 +1,4 @@
 pub mod StreamLemmas
 pub mod LendLemmas
 pub mod PlaceLemmas
-pub mod CountLemmas
 pub mod RemovalLemmas

@@ -13,9 +13,7 @@ mod plain_media;
 mod plain_media_event;
 mod readings;
 mod sendings;
-mod source_counts;
-mod stream_index;
-mod stream_name;
+mod stream_places;
 mod stream_row;
 mod stream_table;
 

@@ -3,7 +3,6 @@ ghost use Rattle.std.specs.Prelude.{◌≡◌};
 
 use crate::PlainMediaEvent;
 use crate::lines::Lines;
-use crate::source_counts::SourceCounts;
 use crate::stream_table::StreamTable;
 use indexmap::IndexMap;
 use rtc_media::MediaUpdate;
@@ -21,10 +20,6 @@ pub struct PlainMedia {
     pub(crate) is_keyed: bool,
     pub(crate) is_shut: bool,
     pub(crate) lines: Lines,
-    /// How often each ssrc stands among the sources of the lines.
-    pub(crate) counts: SourceCounts,
-    /// How many ssrcs the updates so far can have had at most. No count is greater.
-    pub(crate) most: usize,
     pub(crate) pending: VecDeque<MediaUpdate>,
     pub(crate) rx: StreamTable,
     pub(crate) tx: StreamTable,
@@ -52,10 +47,8 @@ impl Model for PlainMedia {
     ghost use Rattle.std.specs.Prelude.{◌+◌, ◌≤◌};
     ghost use Rattle.std.specs.VecDeque.{deque_len, deque_capacity};
     ghost use Rattle.indexmap.specs.IndexMap.{spare};
-    ghost use Rattle.rtc_plain_media.specs.SourceCounts.{KeepsCounts};
 
-    ghost invariant = { λ m. (deque_len m.pending ≤ spare m.lines) × (deque_len m.events + deque_len m.pending ≤ deque_capacity m.events)
-        × KeepsCounts m.counts m.most m.pending.items m.lines.entries };
+    ghost invariant = { λ m. (deque_len m.pending ≤ spare m.lines) × (deque_len m.events + deque_len m.pending ≤ deque_capacity m.events) };
 }
 
 impl PlainMedia {
@@ -71,8 +64,6 @@ impl PlainMedia {
             is_keyed: false,
             is_shut: false,
             lines: IndexMap::new(alloc),
-            counts: IndexMap::new(alloc),
-            most: 0,
             pending: VecDeque::new(alloc),
             rx: StreamTable::new(alloc),
             tx: StreamTable::new(alloc),

@@ -176,17 +176,31 @@ fn meet<N: Ids + Drop>(
     Ok(log.told)
 }
 
+// Gives what was told of something, once that is dropped.
+fn release<P: Drop, T>(_done: P, told: T) -> T {
+    told
+}
+
+fn meet_another<N: Ids + Drop>(
+    alloc: Global,
+    left: &mut Peer<N>,
+    right: N,
+    script: &str,
+) -> Result<String, AllocError> {
+    let mut right = build(alloc, script.contains("set R lite"), "def", right)?;
+    let told = meet(alloc, left, &mut right, script);
+    release(right, told)
+}
+
 fn run<N: Ids + Drop>(
     alloc: Global,
     left: N,
     right: N,
     script: &str,
 ) -> Result<String, AllocError> {
-    let left_lite = script.contains("set L lite");
-    let right_lite = script.contains("set R lite");
-    let mut left = build(alloc, left_lite, "abc", left)?;
-    let mut right = build(alloc, right_lite, "def", right)?;
-    meet(alloc, &mut left, &mut right, script)
+    let mut left = build(alloc, script.contains("set L lite"), "abc", left)?;
+    let told = meet_another(alloc, &mut left, right, script);
+    release(left, told)
 }
 
 /// What the polls, inputs and closes of a script tell.

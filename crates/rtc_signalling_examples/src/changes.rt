@@ -1,9 +1,10 @@
 //! Staged changes: channels that are taken out of them, the lines that they add, and what peers tell of them.
 use crate::copies::media;
+use crate::releasing::release;
 use rtc_assoc_end::PlainAssociation;
 use rtc_change::{Change, Changes, Lines, SdpPendingOffer, count_added};
 use rtc_lines::{Candidate, Direction, LineRow, MediaKind, MediaLine, Mid, SdpOffer, Setup};
-use rtc_peer::{Rtc, RtcConfig, RtcError};
+use rtc_peer::{Association, DtlsInstance, IceAgent, Ids, MediaSession, Rtc, RtcConfig, RtcError};
 use rtc_plain::{CountIds, PlainDtls, PlainIce, PlainMedia};
 use rtc_run::{deliver_answer, deliver_offer};
 use rtc_wire::{Addr, ChannelConfig, ChannelId, Moment, Protocol, Seq, Text};
@@ -102,7 +103,10 @@ fn build(alloc: Global, first: u64) -> Result<Peer, AllocError> {
 }
 
 // Whether a peer's offer of a channel is written as it is to be.
-fn writes_channel(alloc: Global, left: &mut Peer) -> Result<bool, RtcError> {
+fn writes_channel<I: IceAgent, D: DtlsInstance, S: Association, M: MediaSession, N: Ids>(
+    alloc: Global,
+    left: &mut Rtc<I, D, S, M, N>,
+) -> Result<bool, RtcError> {
     let addr = Addr {
         ip: [1, 1, 1, 1],
         port: 1000,
@@ -121,11 +125,12 @@ fn writes_channel(alloc: Global, left: &mut Peer) -> Result<bool, RtcError> {
 
 fn is_channel_offered(alloc: Global) -> Result<bool, RtcError> {
     let mut left = build(alloc, 1)?;
-    writes_channel(alloc, &mut left)
+    let told = writes_channel(alloc, &mut left);
+    release(left, told)
 }
 
-fn offer_line(
-    left: &mut Peer,
+fn offer_line<I: IceAgent, D: DtlsInstance, S: Association, M: MediaSession, N: Ids>(
+    left: &mut Rtc<I, D, S, M, N>,
     kind: MediaKind,
 ) -> Result<Option<(SdpOffer, SdpPendingOffer)>, AllocError> {
     let mut api = left.sdp_api();
@@ -145,7 +150,11 @@ fn all_have_setup(lines: &[MediaLine], setup: Setup) -> bool {
 
 // Whether an offer leaves the role in DTLS to the other side, its answer takes one, and a later offer leaves it open again
 // (RFC 8842, sections 5.2, 5.3 and 5.5).
-fn tell_roles(alloc: Global, left: &mut Peer, right: &mut Peer) -> Result<bool, RtcError> {
+fn tell_roles<I: IceAgent, D: DtlsInstance, S: Association, M: MediaSession, N: Ids>(
+    alloc: Global,
+    left: &mut Rtc<I, D, S, M, N>,
+    right: &mut Rtc<I, D, S, M, N>,
+) -> Result<bool, RtcError> {
     let Some((offer, token)) = offer_line(left, MediaKind::Audio)? else {
         return Ok(false);
     };
@@ -165,12 +174,14 @@ fn tell_roles(alloc: Global, left: &mut Peer, right: &mut Peer) -> Result<bool, 
 
 fn tell_roles_to_another(alloc: Global, left: &mut Peer) -> Result<bool, RtcError> {
     let mut right = build(alloc, 1_000_001)?;
-    tell_roles(alloc, left, &mut right)
+    let told = tell_roles(alloc, left, &mut right);
+    release(right, told)
 }
 
 fn are_roles_told(alloc: Global) -> Result<bool, RtcError> {
     let mut left = build(alloc, 1)?;
-    tell_roles_to_another(alloc, &mut left)
+    let told = tell_roles_to_another(alloc, &mut left);
+    release(left, told)
 }
 
 fn answer(alloc: Global, example: &str, mid: Mid) -> Result<bool, RtcError> {

@@ -10,6 +10,7 @@ mod changes;
 mod copies;
 mod descriptions;
 mod gateways;
+mod releasing;
 mod scripts;
 
 use std::process::ExitCode;

@@ -2,6 +2,7 @@
 ghost use Rattle.std.specs.Prelude.{◌≤◌, ◌<◌, ◌^◌, length};
 ghost use Rattle.rtc_history.specs.Sizes.{steps_size};
 
+use crate::releasing::release;
 use rtc_history::{Outcome, Reply, Side, Step};
 use rtc_io::INPUT_LIMIT;
 use rtc_run::{make_pair, run_pair};
@@ -52,7 +53,8 @@ fn replies_to(alloc: Global, script: &Script) -> Result<Seq<Reply>, AllocError>
     let left_lite = script.sets_lite(Side::Left);
     let right_lite = script.sets_lite(Side::Right);
     let mut pair = make_pair(alloc, left_lite, right_lite)?;
-    run_pair(alloc, &mut pair, script.steps.as_slice())
+    let replies = run_pair(alloc, &mut pair, script.steps.as_slice());
+    release(pair, replies)
 }
 
 // What is told of a script that was read.
