@@ -1,5 +1,6 @@
 //! Candidates that an ICE agent finds by their addresses and protocols.
 use crate::agents::{LEFT, RIGHT, creds, give};
+use crate::releasing::release;
 use rtc_ice::IceAgent;
 use rtc_plain_ice::PlainIce;
 use rtc_sdp_values::Candidate;
@@ -54,13 +55,18 @@ fn discovers<A: IceAgent>(agent: &mut A) -> Result<bool, AllocError> {
     Ok(agent.has_viable_remote_candidate(LEFT))
 }
 
+fn finds_each<A: IceAgent>(agent: &mut A, alloc: Global) -> Result<bool, AllocError> {
+    let own = creds(alloc, "rr")?;
+    agent.set_local_credentials(own);
+    let taken = takes_each(agent, alloc)?;
+    let withdrawn = withdraws_each(agent, alloc)?;
+    let discovered = discovers(agent)?;
+    Ok(taken && withdrawn && discovered)
+}
+
 /// Whether candidates are found by address and protocol, and addresses that checks came from.
 pub fn found(alloc: Global) -> Result<bool, AllocError> {
     let mut agent = PlainIce::new(alloc);
-    let own = creds(alloc, "rr")?;
-    agent.set_local_credentials(own);
-    let taken = takes_each(&mut agent, alloc)?;
-    let withdrawn = withdraws_each(&mut agent, alloc)?;
-    let discovered = discovers(&mut agent)?;
-    Ok(taken && withdrawn && discovered)
+    let told = finds_each(&mut agent, alloc);
+    release(agent, told)
 }

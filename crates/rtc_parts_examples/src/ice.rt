@@ -3,6 +3,7 @@ use crate::agents::{
     LEFT, RIGHT, creds, discovers, give, is_quiet, makes_check, nominates, prepare, sends, wakes_at,
 };
 use crate::candidates;
+use crate::releasing::{keep, release};
 use rtc_ice::{IceAgent, IceEvent};
 use rtc_plain_ice::PlainIce;
 use rtc_sdp_values::IceCreds;
@@ -51,14 +52,14 @@ fn length() -> &'static [u8] {
 
 fn left_agent(alloc: Global) -> Result<PlainIce, AllocError> {
     let mut agent = PlainIce::new(alloc);
-    prepare(&mut agent, alloc, "ll", "rr", LEFT, RIGHT)?;
-    Ok(agent)
+    let prepared = prepare(&mut agent, alloc, "ll", "rr", LEFT, RIGHT);
+    keep(agent, prepared)
 }
 
 fn right_agent(alloc: Global) -> Result<PlainIce, AllocError> {
     let mut agent = PlainIce::new(alloc);
-    prepare(&mut agent, alloc, "rr", "ll", RIGHT, LEFT)?;
-    Ok(agent)
+    let prepared = prepare(&mut agent, alloc, "rr", "ll", RIGHT, LEFT);
+    keep(agent, prepared)
 }
 
 // The left agent makes its first check, and would make the next a quarter of a second later.
@@ -140,13 +141,23 @@ fn check_each_other<A: IceAgent>(left: &mut A, right: &mut A) -> Result<bool, Al
     Ok(all_checked && all_answered && all_nominated)
 }
 
+fn nominate_both<A: IceAgent>(left: &mut A, right: &mut A) -> Result<bool, AllocError> {
+    let nominated = check_each_other(left, right)?;
+    let resting = rest(left, right);
+    Ok(nominated && resting)
+}
+
+fn nominate_with(alloc: Global, left: &mut PlainIce) -> Result<bool, AllocError> {
+    let mut right = right_agent(alloc)?;
+    let told = nominate_both(left, &mut right);
+    release(right, told)
+}
+
 // Whether checks and their responses nominate the pair at both agents.
 fn nomination(alloc: Global) -> Result<bool, AllocError> {
     let mut left = left_agent(alloc)?;
-    let mut right = right_agent(alloc)?;
-    let nominated = check_each_other(&mut left, &mut right)?;
-    let resting = rest(&left, &right);
-    Ok(nominated && resting)
+    let told = nominate_with(alloc, &mut left);
+    release(left, told)
 }
 
 // A lite agent makes no check, and takes the pair by which one came.
@@ -170,13 +181,23 @@ fn check_lite<A: IceAgent>(left: &mut A, right: &mut A) -> Result<bool, AllocErr
     Ok(checked && taken && nominated)
 }
 
+fn nominate_lite<A: IceAgent>(left: &mut A, right: &mut A) -> Result<bool, AllocError> {
+    let nominated = check_lite(left, right)?;
+    let resting = rest(left, right);
+    Ok(nominated && resting)
+}
+
+fn nominate_lite_with(alloc: Global, left: &mut PlainIce) -> Result<bool, AllocError> {
+    let mut right = right_agent(alloc)?;
+    let told = nominate_lite(left, &mut right);
+    release(right, told)
+}
+
 // Whether an agent that checks and a lite one take the pair.
 fn lite(alloc: Global) -> Result<bool, AllocError> {
     let mut left = left_agent(alloc)?;
-    let mut right = right_agent(alloc)?;
-    let nominated = check_lite(&mut left, &mut right)?;
-    let resting = rest(&left, &right);
-    Ok(nominated && resting)
+    let told = nominate_lite_with(alloc, &mut left);
+    release(left, told)
 }
 
 fn ignores<A: IceAgent>(right: &mut A, bytes: &[u8]) -> Result<bool, AllocError> {
@@ -197,12 +218,17 @@ fn ignores_malformed<A: IceAgent>(right: &mut A) -> Result<bool, AllocError> {
     Ok(other_cookie && other_length)
 }
 
+fn ignores_each<A: IceAgent>(right: &mut A) -> Result<bool, AllocError> {
+    let others = ignores_others(right)?;
+    let malformed = ignores_malformed(right)?;
+    Ok(others && malformed)
+}
+
 // Whether messages for another agent, and malformed ones, are ignored.
 fn other_messages(alloc: Global) -> Result<bool, AllocError> {
     let mut right = right_agent(alloc)?;
-    let others = ignores_others(&mut right)?;
-    let malformed = ignores_malformed(&mut right)?;
-    Ok(others && malformed)
+    let told = ignores_each(&mut right);
+    release(right, told)
 }
 
 // A restart with new credentials leaves so many local candidates.
@@ -214,14 +240,19 @@ fn leaves<A: IceAgent>(agent: &mut A, c: IceCreds, keep: bool) -> Result<usize, 
     }
 }
 
+fn restarts_twice<A: IceAgent>(alloc: Global, left: &mut A) -> Result<bool, AllocError> {
+    let second = creds(alloc, "l2")?;
+    let kept = leaves(left, second, true)?;
+    let third = creds(alloc, "l3")?;
+    let cleared = leaves(left, third, false)?;
+    Ok(kept == 1 && cleared == 0)
+}
+
 // Whether a restart keeps or clears the local candidates.
 fn restarts(alloc: Global) -> Result<bool, AllocError> {
     let mut left = left_agent(alloc)?;
-    let second = creds(alloc, "l2")?;
-    let kept = leaves(&mut left, second, true)?;
-    let third = creds(alloc, "l3")?;
-    let cleared = leaves(&mut left, third, false)?;
-    Ok(kept == 1 && cleared == 0)
+    let told = restarts_twice(alloc, &mut left);
+    release(left, told)
 }
 
 /// Whether an example of ICE agents gives what is expected.

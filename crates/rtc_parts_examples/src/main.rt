@@ -8,6 +8,7 @@ mod candidates;
 mod connections;
 mod dtls;
 mod ice;
+mod releasing;
 
 use std::alloc::{AllocError, Global};
 use std::io;
