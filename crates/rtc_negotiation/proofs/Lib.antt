@@ -2,7 +2,6 @@ pub mod Counts
 pub mod ConfirmLemmas
 pub mod ShownLemmas
 pub mod FollowLemmas
-pub mod UpdateLemmas
 pub mod StagedMedia
 pub mod MediaLemmas
 pub mod BuildLemmas

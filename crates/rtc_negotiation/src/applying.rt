@@ -7,11 +7,10 @@ ghost use Rattle.rtc_peer_state.specs.Meanings.{meanings};
 ghost use Rattle.rtc_peer_state.specs.Stance.{stance_of};
 
 use crate::confirming::confirm_channels;
-use crate::describing::{list_offered_rows, make_sdp};
 use crate::following::take_control;
-use crate::heading::make_head;
 use rtc_association::Association;
 use rtc_change::{Change, SdpPendingOffer, find_restart};
+use rtc_describing::{list_offered_rows, make_head, make_sdp};
 use rtc_dtls::{Dtls, DtlsInstance};
 use rtc_ice::IceAgent;
 use rtc_ids::Ids;

@@ -15,13 +15,11 @@ ghost use Rattle.rtc_peer_state.specs.Meanings.{meanings};
 ghost use Rattle.rtc_peer_state.specs.Stance.{stance_of};
 ghost use Rattle.rtc_negotiation.specs.Growths.{following_of, GrowsOffer, GrowsAnswer};
 
-use crate::describing::make_sdp;
-use crate::following::Following;
+use crate::copying::{copy_restart, first_fingerprint, lend_restart, make_following};
 use crate::growth::Growth;
-use crate::heading::{make_head, role_after, setup_of_role};
-use crate::updating::list_updates;
 use rtc_association::Association;
 use rtc_change::{Change, Changes, Plan};
+use rtc_describing::{list_updates, make_head, make_sdp, role_after, setup_of_role};
 use rtc_drawing::make_creds;
 use rtc_dtls::{Dtls, DtlsInstance};
 use rtc_ice::IceAgent;
@@ -29,7 +27,6 @@ use rtc_ids::Ids;
 use rtc_media::{MediaSession, MediaUpdate};
 use rtc_peer_state::{Peer, SdpHead};
 use rtc_sdp_values::{Fingerprint, IceCreds, LineRow, Sdp};
-use rtc_wire::TryCopy;
 use std::alloc::{AllocError, Global};
 
 // The restart by which a restart of the other side is followed: with drawn credentials, and the candidates kept.
@@ -47,62 +44,6 @@ fn draw_restart<N: Ids>(
     let n = ids.draw();
     let creds = make_creds(alloc, n)?;
     Ok(Some((creds, true)))
-}
-
-// A restart, lent.
-fn lend_restart(restart: &Option<(IceCreds, bool)>) -> Option<(&IceCreds, bool)>
-    ensures { option_map (λ asked. (asked.0.now, asked.1)) result ≡ restart.now }
-{
-    match restart {
-        None => None,
-        Some((creds, keeps)) => Some((creds, *keeps)),
-    }
-}
-
-// The fingerprint that is known, or else that which is told.
-fn first_fingerprint(
-    known: &Option<Fingerprint>,
-    sdp: &Sdp,
-) -> Result<Option<Fingerprint>, AllocError>
-    ensures { IfOk result (λ fingerprint. fingerprint ≡ option_or known.now (sdp_fingerprint sdp.now)) }
-{
-    if let Some(known) = known {
-        let copied = known.copy()?;
-        return Ok(Some(copied));
-    }
-    let Some(told) = sdp.fingerprint() else {
-        return Ok(None);
-    };
-    let copied = told.copy()?;
-    Ok(Some(copied))
-}
-
-fn copy_creds(sdp: &Sdp) -> Result<Option<IceCreds>, AllocError>
-    ensures { IfOk result (λ creds. creds ≡ creds_of sdp.now) }
-{
-    let Some(creds) = sdp.ice_creds() else {
-        return Ok(None);
-    };
-    let copied = creds.copy()?;
-    Ok(Some(copied))
-}
-
-// What the agent is to follow.
-fn make_following(
-    restart: Option<(IceCreds, bool)>,
-    sdp: &Sdp,
-    control: Option<bool>,
-) -> Result<Following, AllocError>
-    ensures { IfOk result (λ following. following ≡ following_of restart sdp.now control) }
-{
-    let creds = copy_creds(sdp)?;
-    let candidates = sdp.candidates()?;
-    Ok(Following {
-        restart,
-        creds,
-        candidates,
-        control,
-    })
 }
 
 // Which side is controlling, where that is still to be settled.
@@ -245,16 +186,6 @@ pub fn grow_offer<I: IceAgent, D: DtlsInstance, S: Association, M: MediaSession,
         Ok(()) => Ok(growth),
         Err(error) => Err(error),
     }
-}
-
-fn copy_restart(changes: &Changes) -> Result<Option<(IceCreds, bool)>, AllocError>
-    ensures { IfOk result (λ restart. restart ≡ staged_restart changes.now.0) }
-{
-    let Some((creds, keeps)) = changes.restart() else {
-        return Ok(None);
-    };
-    let copied = creds.copy()?;
-    Ok(Some((copied, keeps)))
 }
 
 // What the acceptance of an answer needs besides the updates.

@@ -6,17 +6,14 @@ mod applying;
 mod building;
 mod changing;
 mod confirming;
-mod describing;
+mod copying;
 mod following;
 mod growing;
 mod growth;
-mod heading;
 mod moving;
-mod sent_on_lines;
 mod showing;
 mod staging;
 mod starting_sctp;
-mod updating;
 
 pub use accepting::{accept_answer, accept_offer};
 pub use applying::apply_staged;

@@ -2,9 +2,9 @@
 ghost use Rattle.rtc_negotiation.specs.Moves.{MovesParts};
 
 use crate::following::{Following, follow, start_dtls};
-use crate::heading::{role_after, role_for};
 use crate::starting_sctp::start_sctp;
 use rtc_association::Association;
+use rtc_describing::{role_after, role_for};
 use rtc_dtls::{Dtls, DtlsError, DtlsInstance};
 use rtc_ice::IceAgent;
 use rtc_peer_state::RtcError;

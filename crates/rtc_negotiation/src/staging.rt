@@ -6,10 +6,10 @@ ghost use Rattle.rtc_negotiation.specs.StagedNames.{given_name, drawn_msid, draw
 ghost use Rattle.rtc_peer_state.specs.Calls.{AddsMedia, AddsChannel, StagesRestart};
 ghost use Rattle.rtc_peer_state.specs.Meanings.{meanings};
 
-use crate::updating::count_pairs;
 use rtc_association::Association;
 use rtc_change::AddMedia;
 use rtc_channels::ChannelError;
+use rtc_describing::count_pairs;
 use rtc_drawing::{draw_first_pairs, draw_name, keep_name, make_creds};
 use rtc_dtls::DtlsInstance;
 use rtc_ice::IceAgent;

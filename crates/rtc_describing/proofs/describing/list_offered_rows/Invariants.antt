@@ -1,6 +1,6 @@
 use Rattle.std.proofs.Common.{◌≡◌, ◌++◌, ◌+◌, drop, length}
 use Rattle.rtc_change.specs.PendingOffer.{added_mids, added_rows}
-use Rattle.rtc_negotiation.proofs.describing.list_offered_rows.Given as goal
+use Rattle.rtc_describing.proofs.describing.list_offered_rows.Given as goal
 
 abbrev pub invariant-loop-change : goal.invariant-loop-change
 invariant-loop-change l =

@@ -2,8 +2,8 @@ use Rattle.std.proofs.Common.{◌≡◌, ◌+◌, suc, drop, arith}
 use Rattle.rtc_ids.proofs.LaterLemmas.{later_join}
 use Rattle.rtc_peer_state.specs.Sources.{has_source}
 use Rattle.rtc_peer_state.specs.LineUpdates.{added_media, sending_of}
-use Rattle.rtc_negotiation.proofs.UpdateLemmas.{from_place, from_index, none_from, one_update, one_update_after, no_updates, after_no_updates, most_updates, most_with_row}
-use Rattle.rtc_negotiation.proofs.updating.list_updates.Goals as goal
+use Rattle.rtc_describing.proofs.UpdateLemmas.{from_place, from_index, none_from, one_update, one_update_after, no_updates, after_no_updates, most_updates, most_with_row}
+use Rattle.rtc_describing.proofs.updating.list_updates.Goals as goal
 
 pub loop-row-preserved : goal.loop-row-preserved
 loop-row-preserved g c =
@@ -24,7 +24,7 @@ loop-row-preserved g c =
 pub returns-in_default-clause-updates : goal.returns-in_default-clause-updates
 returns-in_default-clause-updates g c =
     no_updates g.N.Ids.ids (has_source g.M.MediaSession.media c.args.media.now) (λ mid. sending_of (g.M.MediaSession.media.line c.args.media.now mid) (added_media c.args.changes.now mid) mid) c.args.offer
-    (drop c.loop-row.row-index c.args.before.now) (drop c.loop-row.row-index c.args.rows.now) (drop c.loop-row.row-index c.args.lines.now) c.loop-row.earlier c.loop-row.ids c.loop-row.updates.items _
+    (drop c.loop-row.row-index c.args.before.now) (drop c.loop-row.row-index c.args.rows.now) (drop c.loop-row.row-index c.args.lines.now) c.loop-row.drawn c.loop-row.ids c.loop-row.updates.items _
     (none_from c.loop-row.row-index c.loop-row.place c.args.lines.now c.loop-row.invariant.place c.in_default.ensures) c.loop-row.invariant.updates
 
 pub returns-in_default-clause-after : goal.returns-in_default-clause-after

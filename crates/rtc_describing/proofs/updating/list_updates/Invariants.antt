@@ -2,14 +2,14 @@ use Rattle.std.proofs.Common.{◌≡◌, ◌++◌, drop, []}
 use Rattle.rtc_ids.specs.Draws.{Later}
 use Rattle.rtc_peer_state.specs.Sources.{has_source}
 use Rattle.rtc_peer_state.specs.LineUpdates.{added_media, sending_of, row_updates, after_updates}
-use Rattle.rtc_negotiation.proofs.updating.list_updates.Given as goal
+use Rattle.rtc_describing.proofs.updating.list_updates.Given as goal
 
 abbrev pub invariant-loop-row : goal.invariant-loop-row
 invariant-loop-row g l = record {
   place : l.place ≡ l.row-index;
   updates : l.updates.items ++ row_updates g.N.Ids.ids (has_source g.M.MediaSession.media l.media)
       (λ mid. sending_of (g.M.MediaSession.media.line l.media mid) (added_media l.changes mid) mid) l.offer
-      (drop l.row-index l.before) (drop l.row-index l.rows) (drop l.row-index l.lines) l.earlier l.ids
+      (drop l.row-index l.before) (drop l.row-index l.rows) (drop l.row-index l.lines) l.drawn l.ids
       ≡ row_updates g.N.Ids.ids (has_source g.M.MediaSession.media l.media)
       (λ mid. sending_of (g.M.MediaSession.media.line l.media mid) (added_media l.changes mid) mid) l.offer l.before l.rows l.lines [] l.fn.ids;
   after : after_updates g.N.Ids.ids (has_source g.M.MediaSession.media l.media)

@@ -176,9 +176,10 @@ fn push_if_media(
     }
 }
 
-// A row with the row that stood at its place before and the m-line that names it.
+// A row of an offer or an answer, with the row that stood at its place before and the m-line that names it.
 #[derive(Drop)]
 struct NamedRow<'a> {
+    offer: bool,
     before: Option<&'a LineRow>,
     row: &'a LineRow,
     line: &'a MediaLine,
@@ -190,12 +191,11 @@ fn push_update<M: MediaSession, N: Ids>(
     ids: &mut N,
     media: &M,
     earlier: &mut EarlierNumbers,
-    offer: bool,
     named: &NamedRow<'_>,
     sending: Sending,
     updates: &mut Vec<MediaUpdate>,
 ) -> Result<(), AllocError>
-    ensures updates { OnOk result (updates.new.items ≡ updates.old.items ++ if_media named.now.row.now (RowUpdate offer
+    ensures updates { OnOk result (updates.new.items ≡ updates.old.items ++ if_media named.now.row.now (RowUpdate named.now.offer
         (option_copied named.now.before) named.now.row.now named.now.line.now sending
         (row_pairs N.ids (has_source M.media media.now) sending earlier.old named.now.row.now ids.old))) }
     ensures earlier { OnOk result (earlier.new
@@ -208,7 +208,7 @@ fn push_update<M: MediaSession, N: Ids>(
     let drawn = draw_row(alloc, ids, media, earlier, named.row, &sending)?;
     let update = row_update(
         alloc,
-        offer,
+        named.offer,
         named.before,
         named.row,
         named.line,
@@ -252,7 +252,7 @@ pub fn list_updates<M: MediaSession, N: Ids>(
         (line_sending (M.media.line media.now) changes.now) rows.now lines.now ids.old) }
 {
     let mut updates = Vec::new(alloc);
-    let mut earlier = EarlierNumbers::new(alloc);
+    let mut drawn = EarlierNumbers::new(alloc);
     let mut place = 0;
     for row in rows {
         let Some(line) = line_at(lines, place) else {
@@ -260,20 +260,12 @@ pub fn list_updates<M: MediaSession, N: Ids>(
         };
         let sending = find_sending(alloc, media, changes, row.mid())?;
         let named = NamedRow {
+            offer,
             before: row_at(before, place),
             row,
             line,
         };
-        push_update(
-            alloc,
-            ids,
-            media,
-            &mut earlier,
-            offer,
-            &named,
-            sending,
-            &mut updates,
-        )?;
+        push_update(alloc, ids, media, &mut drawn, &named, sending, &mut updates)?;
         place += 1;
     }
     Ok(updates)
