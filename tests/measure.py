@@ -1,8 +1,8 @@
 #!/usr/bin/env python3
 """Counts instructions of the proved programs by valgrind --tool=callgrind, so that growth is seen. It is no part of the gate.
 
-usage: tests/measure.py [PART..]     PART is descriptions, rounds, orderly, messages, associations, streams, forged, frames or
-polls; without one all are counted
+usage: tests/measure.py [PART..]     PART is descriptions, rounds, orderly, messages, associations, streams, forged, lookups,
+frames or polls; without one all are counted
 
 The programs are those that the gate left in crates/*/out/. Each figure is a difference of two runs, so that the start of the
 program is not in it. docs/PERFORMANCE.md has the tables.
@@ -179,6 +179,19 @@ def forged():
         print(f"| {packets:,} | {memory([program('rtc_assoc_measure'), 'forged', str(packets)]):,} |")
 
 
+# Look-ups of the last of so many entries of a plain part.
+def lookups():
+    def cost(*words):
+        return count([program("rtc_parts_measure"), *map(str, words)], b"")[0]
+
+    print("| Entries | An ssrc in use | A stream by line and layer | The address of a candidate |\n|---|---|---|---|")
+    for entries in (10, 100, 1_000, 10_000):
+        costs = []
+        for subject in ("sources", "streams", "candidates"):
+            costs.append((cost(subject, entries, 10_000) - cost(subject, entries, 0)) / 10_000)
+        print(f"| {entries:,} | " + " | ".join(f"{each:.1f}" for each in costs) + " |")
+
+
 # Frames of n bytes, passed from one connection to another, each fed whole or a byte at a time. The words of the script are longer
 # where pieces are short, so that a script of empty pieces is counted beside it.
 def calls_of(size, count, piece):
@@ -220,7 +233,7 @@ def polls():
 def main():
     parts = {
         "descriptions": descriptions, "rounds": rounds, "orderly": orderly, "messages": messages, "associations": associations,
-        "streams": streams, "forged": forged, "frames": frames, "polls": polls,
+        "streams": streams, "forged": forged, "lookups": lookups, "frames": frames, "polls": polls,
     }
     wanted = sys.argv[1:] or list(parts)
     if any(name not in parts for name in wanted):

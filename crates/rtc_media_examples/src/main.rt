@@ -3,6 +3,8 @@
 //! Each line of the input names an example, and is printed again behind `agrees` or `differs`.
 #![tactic(auto)]
 
+mod exchanges;
+mod lookups;
 mod media;
 mod reports;
 mod sessions;

@@ -1,9 +1,9 @@
 //! The calls of the media part in memory, with the bytes and events that its rules state.
-use crate::reports;
 use crate::sessions::{
     commit, counts, is_silent, sends, settings, shows, tells_added, tells_changed, tells_rtcp,
     tells_rtp, update,
 };
+use crate::{exchanges, lookups, reports};
 use rtc_media::{MediaError, MediaSession, RawPacket, SrtpProfile, StatsSnapshot};
 use rtc_plain_media::{PlainMark, PlainMedia, PlainMediaEvent};
 use rtc_sdp_values::{Direction, Mid, Ssrc};
@@ -220,11 +220,14 @@ pub fn does_agree(alloc: Global, example: &str) -> Result<bool, AllocError> {
         "feedback has its header and is cleared" => feedback(alloc),
         "goodbye is said once" => goodbyes(alloc),
         "has no timers and no statistics" => absences(alloc),
+        "layers of a line are found" => lookups::layers(alloc),
         "lines come and turn" => lines(alloc),
         "packets are told by their lengths" => packets(alloc),
+        "packets go from part to part" => exchanges::exchanged(alloc),
         "raw packets are copied" => reports::copies(alloc),
         "raw packets are told before their lengths" => raw(alloc),
         "reports are put together" => Ok(reports::merged()),
+        "ssrcs in use are found" => lookups::sources(alloc),
         "streams go with their line" => streams(alloc),
         _ => Ok(false),
     }

@@ -14,7 +14,6 @@ use std::marker::Model;
 ///
 /// The active side sends its certificate as a hello until the passive side's comes, which it answers by a finish. The
 /// passive side sends its own until the finish or application data comes.
-#[derive(Drop)]
 pub struct PlainDtls {
     pub(crate) alloc: Global,
     pub(crate) cert: Bytes,
@@ -43,6 +42,22 @@ impl Model for PlainDtls {
     } };
 
     ghost invariant = { λ a. length a.cert ≤ 1900 };
+}
+
+// Written out, so that the proof of what owns a part sees one call and not the drop of each field.
+impl Drop for PlainDtls {
+    fn drop(self) {
+        let PlainDtls {
+            alloc: _alloc,
+            cert: _cert,
+            phase: _phase,
+            greatest: _greatest,
+            closed: _closed,
+            notified: _notified,
+            packets: _packets,
+            outputs: _outputs,
+        } = self;
+    }
 }
 
 impl PlainDtls {

@@ -18,7 +18,6 @@ use std::marker::Model;
 ///
 /// It checks the pair of its first local and its first remote candidate until a response comes, which nominates the
 /// pair. A lite agent makes no check, and takes the pair by which the first one came.
-#[derive(Drop)]
 pub struct PlainIce {
     pub(crate) alloc: Global,
     pub(crate) lite: bool,
@@ -63,6 +62,30 @@ impl Model for PlainIce {
       events = a.events.items;
       transmits = a.transmits.items;
     } };
+}
+
+// Written out, so that the proof of what owns an agent sees one call and not the drop of each field.
+impl Drop for PlainIce {
+    fn drop(self) {
+        let PlainIce {
+            alloc: _alloc,
+            lite: _lite,
+            local: _local,
+            remote: _remote,
+            candidates: _candidates,
+            controlling: _controlling,
+            remote_candidates: _remote_candidates,
+            discovered: _discovered,
+            state: _state,
+            rto: _rto,
+            checks: _checks,
+            check: _check,
+            nominated: _nominated,
+            rtt: _rtt,
+            events: _events,
+            transmits: _transmits,
+        } = self;
+    }
 }
 
 impl PlainIce {

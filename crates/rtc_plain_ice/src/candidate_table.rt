@@ -24,7 +24,6 @@ use std::alloc::{AllocError, Global};
 use std::marker::Model;
 
 /// Candidates in the order in which they were added, which are found by address and protocol.
-#[derive(Drop)]
 pub struct CandidateTable {
     rows: Vec<Candidate>,
     places: IndexSet<PlaceKey>,
@@ -54,6 +53,16 @@ fn is_any(udp: bool, tcp: bool, ssl_tcp: bool, tls: bool) -> bool
     ensures { result ≡ (((udp || tcp) || ssl_tcp) || tls) }
 {
     udp || tcp || ssl_tcp || tls
+}
+
+// Written out, so that the proof of what owns a table sees one call.
+impl Drop for CandidateTable {
+    fn drop(self) {
+        let CandidateTable {
+            rows: _rows,
+            places: _places,
+        } = self;
+    }
 }
 
 impl CandidateTable {

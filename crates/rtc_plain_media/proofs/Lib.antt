@@ -1,4 +1,5 @@
 pub mod StreamLemmas
 pub mod LendLemmas
 pub mod PlaceLemmas
+pub mod CountLemmas
 pub mod RemovalLemmas

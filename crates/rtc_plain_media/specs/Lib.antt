@@ -1,8 +1,9 @@
 pub mod Streams
-pub mod StreamPlaces
 pub mod PlainMediaEvent
 pub mod Feedback
 pub mod Lines
+pub mod SourceCounts
+pub mod StreamIndex
 pub mod MediaContents
 pub mod MediaCalls
 pub mod PlainMediaMeaning

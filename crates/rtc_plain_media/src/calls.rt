@@ -9,6 +9,7 @@ use crate::datagram::datagram;
 use crate::event_queue::{make_room, queue_packet};
 use crate::lines::{apply_all, drop_line, drop_removed};
 use crate::plain_media::PlainMedia;
+use crate::source_counts::{self, numbers_in};
 use rtc_media::{MediaUpdate, RawPacket};
 use rtc_sdp_values::Mid;
 use rtc_wire::{Bytes, DatagramSend, TryCopy};
@@ -42,9 +43,13 @@ impl PlainMedia {
     {
         let copies = copy_updates(self.alloc, updates)?;
         let count = copies.len();
+        let coming = numbers_in(updates)?;
+        let most = source_counts::add(self.most, coming)?;
+        self.counts.reserve(coming)?;
         self.lines.reserve(count)?;
         make_room(&mut self.events, self.pending.len(), count)?;
         self.pending = copies;
+        self.most = most;
         Ok(())
     }
 
@@ -52,17 +57,22 @@ impl PlainMedia {
     pub(crate) fn apply(&mut self)
         ensures { self.new ≡ call.applied self.old }
     {
-        drop_removed(&mut self.lines, &self.pending);
+        drop_removed(&mut self.lines, &mut self.counts, &self.pending);
         self.rx.drop_removed(&self.pending);
         self.tx.drop_removed(&self.pending);
-        apply_all(&mut self.lines, &mut self.events, &mut self.pending);
+        apply_all(
+            &mut self.lines,
+            &mut self.counts,
+            &mut self.events,
+            &mut self.pending,
+        );
     }
 
     /// Drops a line and its streams.
     pub(crate) fn drop_line(&mut self, mid: Mid)
         ensures { self.new ≡ call.line_dropped mid self.old }
     {
-        drop_line(&mut self.lines, mid);
+        drop_line(&mut self.lines, &mut self.counts, mid);
         self.rx.drop_line(mid);
         self.tx.drop_line(mid);
     }

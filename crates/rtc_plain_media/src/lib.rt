@@ -13,7 +13,9 @@ mod plain_media;
 mod plain_media_event;
 mod readings;
 mod sendings;
-mod stream_places;
+mod source_counts;
+mod stream_index;
+mod stream_name;
 mod stream_row;
 mod stream_table;
 

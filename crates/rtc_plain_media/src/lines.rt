@@ -1,11 +1,12 @@
 //! Lines, and what updates make of them.
-ghost use Rattle.std.specs.Prelude.{◌≡◌, ◌≤◌, ◌<◌, ◌+◌, ◌++◌, []};
+ghost use Rattle.std.specs.Prelude.{◌≡◌, ◌≤◌, ◌<◌, ◌+◌, ◌-◌, ◌^◌, ◌++◌, [], ℕ};
 ghost use Rattle.std.specs.List.{list_any};
 ghost use Rattle.std.specs.Option.{option_copied};
 ghost use Rattle.std.specs.VecDeque.{deque_len, deque_capacity};
-ghost use Rattle.indexmap.specs.IndexMap.{spare};
+ghost use Rattle.indexmap.specs.IndexMap.{insert_entry, spare};
 ghost use Rattle.rtc_media.specs.MediaUpdates.{removed_by, removes, same_mid, update_mid};
 ghost use Rattle.rtc_plain_media.specs.Lines.{
+  same_key,
   set_line,
   held_line,
   writer_mark,
@@ -18,9 +19,20 @@ ghost use Rattle.rtc_plain_media.specs.Lines.{
   without_lines,
   removes_some,
 };
+ghost use Rattle.rtc_plain_media.specs.SourceCounts.{
+  count_for,
+  gone_count,
+  update_count,
+  held_count,
+  update_numbers,
+  updates_numbers,
+  CountsLines,
+  CountsLess,
+};
 
 use crate::held_line::HeldLine;
 use crate::line_key::LineKey;
+use crate::source_counts::{self, SourceCounts};
 use crate::{PlainMark, PlainMediaEvent};
 use indexmap::IndexMap;
 use rtc_media::MediaUpdate;
@@ -94,13 +106,46 @@ fn tell(events: &mut VecDeque<PlainMediaEvent>, event: Option<PlainMediaEvent>)
     }
 }
 
-/// Puts an update in the place of the line of its mid, and tells of it. Room was made for both.
-fn apply(lines: &mut Lines, events: &mut VecDeque<PlainMediaEvent>, update: MediaUpdate)
+/// Puts a line in room that was made, and answers the line of its mid before.
+fn put_line(lines: &mut Lines, key: LineKey, line: HeldLine) -> Option<HeldLine>
+    requires { 0 < spare lines.old }
+    ensures before { result ≡ held_line key.mid lines.old.entries }
+    ensures entries { lines.new.entries ≡ insert_entry same_key lines.old.entries key line }
+    ensures spare { spare lines.old ≤ spare lines.new + 1 }
+{
+    match lines.insert(key, line) {
+        Ok(before) => before,
+        Err(_) => unreachable!(),
+    }
+}
+
+/// Counts no more the sources of a line, where there was one.
+fn drop_sources(counts: &mut SourceCounts, line: Option<HeldLine>)
+    ensures counts { (n : ℕ) → count_for counts.new n ≡ count_for counts.old n - held_count n line }
+    ensures room { spare counts.old ≤ spare counts.new }
+{
+    if let Some(line) = line {
+        source_counts::drop_line(counts, &line.update);
+    }
+}
+
+/// Puts an update in the place of the line of its mid, and tells of it. Room was made for all of it.
+fn apply(
+    lines: &mut Lines,
+    counts: &mut SourceCounts,
+    events: &mut VecDeque<PlainMediaEvent>,
+    update: MediaUpdate,
+)
     requires lines { 0 < spare lines.old }
+    requires counts { update_numbers update ≤ spare counts.old }
+    requires fits { (n : ℕ) → count_for counts.old n + update_numbers update < 2 ^ 64 }
     requires events { deque_len events.old < deque_capacity events.old }
     ensures lines { lines.new.entries ≡ set_line update lines.old.entries }
+    ensures counts { (n : ℕ) → count_for counts.new n
+        ≡ count_for counts.old n + update_count n update - held_count n (held_line (update_mid update) lines.old.entries) }
     ensures events { events.new.items ≡ events.old.items ++ events_of update lines.old.entries }
     ensures spare { spare lines.old ≤ spare lines.new + 1 }
+    ensures room { spare counts.old ≤ spare counts.new + update_numbers update }
     ensures len { deque_len events.new ≤ deque_len events.old + 1 }
     ensures capacity { deque_capacity events.old ≤ deque_capacity events.new }
 {
@@ -110,27 +155,33 @@ fn apply(lines: &mut Lines, events: &mut VecDeque<PlainMediaEvent>, update: Medi
     let event = event_at(lines, &key, &update);
     let mark = mark_at(lines, &key);
     tell(events, event);
-    if lines.insert(key, HeldLine { update, mark }).is_err() {
-        unreachable!();
-    }
+    source_counts::add_line(counts, &update);
+    let before = put_line(lines, key, HeldLine { update, mark });
+    drop_sources(counts, before);
 }
 
 /// Applies updates in turn. Room was made for all of them.
 pub fn apply_all(
     lines: &mut Lines,
+    counts: &mut SourceCounts,
     events: &mut VecDeque<PlainMediaEvent>,
     pending: &mut VecDeque<MediaUpdate>,
 )
     requires lines { deque_len pending.old ≤ spare lines.old }
+    requires counts { updates_numbers pending.old.items ≤ spare counts.old }
+    requires counted { CountsLines counts.old lines.old.entries }
+    requires fits { (n : ℕ) → count_for counts.old n + updates_numbers pending.old.items < 2 ^ 64 }
     requires events { deque_len events.old + deque_len pending.old ≤ deque_capacity events.old }
     ensures lines { lines.new.entries ≡ lines_after pending.old.items lines.old.entries }
+    ensures counts { CountsLines counts.new lines.new.entries }
+    ensures most { (n : ℕ) → count_for counts.new n ≤ count_for counts.old n + updates_numbers pending.old.items }
     ensures events { events.new.items ≡ events.old.items ++ events_after pending.old.items lines.old.entries }
     ensures pending { pending.new.items ≡ [] }
     ensures empty { deque_len pending.new ≡ 0 }
     ensures room { deque_len events.new ≤ deque_capacity events.new }
 {
     while let Some(update) = pending.pop_front() {
-        apply(lines, events, update);
+        apply(lines, counts, events, update);
     }
 }
 
@@ -172,21 +223,55 @@ pub fn any_removal(updates: &VecDeque<MediaUpdate>) -> bool
     updates.iter().any(|update| update.removed.is_some())
 }
 
+/// Counts the sources of lines no more that some updates remove.
+fn drop_removed_sources(counts: &mut SourceCounts, lines: &Lines, updates: &VecDeque<MediaUpdate>)
+    ensures counts { (n : ℕ) → count_for counts.new n
+        ≡ count_for counts.old n - gone_count n (removed_by updates.now.items) lines.now.entries }
+    ensures room { spare counts.old ≤ spare counts.new }
+{
+    for (key, line) in lines.iter() {
+        if is_removed(updates, key.mid) {
+            source_counts::drop_line(counts, &line.update);
+        }
+    }
+}
+
+/// Counts the sources of a line no more.
+fn drop_sources_of(counts: &mut SourceCounts, lines: &Lines, mid: Mid)
+    ensures counts { (n : ℕ) → count_for counts.new n
+        ≡ count_for counts.old n - gone_count n (λ other. same_mid other mid) lines.now.entries }
+    ensures room { spare counts.old ≤ spare counts.new }
+{
+    for (key, line) in lines.iter() {
+        if key.mid == mid {
+            source_counts::drop_line(counts, &line.update);
+        }
+    }
+}
+
 /// Drops the lines that some updates remove. The lines are looked through only where one does.
-pub fn drop_removed(lines: &mut Lines, updates: &VecDeque<MediaUpdate>)
+pub fn drop_removed(lines: &mut Lines, counts: &mut SourceCounts, updates: &VecDeque<MediaUpdate>)
     ensures lines { lines.new.entries ≡ without_lines (removed_by updates.now.items) lines.old.entries }
     ensures spare { spare lines.old ≤ spare lines.new }
+    ensures counts { CountsLines counts.old lines.old.entries → CountsLines counts.new lines.new.entries }
+    ensures less { CountsLess counts.old counts.new }
+    ensures room { spare counts.old ≤ spare counts.new }
 {
     if !any_removal(updates) {
         return;
     }
+    drop_removed_sources(counts, lines, updates);
     lines.retain(|key, _line| !is_removed(updates, key.mid));
 }
 
 /// Drops a line.
-pub fn drop_line(lines: &mut Lines, mid: Mid)
+pub fn drop_line(lines: &mut Lines, counts: &mut SourceCounts, mid: Mid)
     ensures lines { lines.new.entries ≡ without_lines (λ other. same_mid other mid) lines.old.entries }
     ensures spare { spare lines.old ≤ spare lines.new }
+    ensures counts { CountsLines counts.old lines.old.entries → CountsLines counts.new lines.new.entries }
+    ensures less { CountsLess counts.old counts.new }
+    ensures room { spare counts.old ≤ spare counts.new }
 {
+    drop_sources_of(counts, lines, mid);
     lines.retain(|key, _line| key.mid != mid);
 }

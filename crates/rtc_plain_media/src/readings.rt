@@ -5,7 +5,6 @@ ghost use Rattle.std.specs.Option.{option_copied};
 ghost use Rattle.rtc_plain_media.specs.Lines.{held_line};
 ghost use Rattle.rtc_plain_media.specs.MediaContents.{
   update_of,
-  source_uses,
   line_uses,
   media_uses,
   is_media_closed,
@@ -14,46 +13,16 @@ ghost use Rattle.rtc_plain_media.specs.MediaContents.{
 };
 
 use crate::line_key::LineKey;
-use crate::lines::Lines;
 use crate::plain_media::PlainMedia;
+use crate::source_counts::count_of;
 use rtc_media::MediaUpdate;
 use rtc_sdp_values::{Mid, PayloadRow, Ssrc};
-
-/// Whether a source of a line, or its retransmissions, has an ssrc.
-fn source_uses(source: &(Ssrc, Option<Ssrc>), ssrc: Ssrc) -> bool
-    ensures { result ≡ source_uses ssrc source.now }
-{
-    if source.0.0 == ssrc.0 {
-        return true;
-    }
-    match source.1 {
-        Some(other) => other.0 == ssrc.0,
-        None => false,
-    }
-}
-
-/// Whether one of some sources has an ssrc.
-fn any_uses(sources: &[(Ssrc, Option<Ssrc>)], ssrc: Ssrc) -> bool
-    ensures { result ≡ list_any (source_uses ssrc) sources.now }
-{
-    sources.iter().any(|source| source_uses(source, ssrc))
-}
 
 /// Whether one of some payload rows has redundancy.
 fn any_red(rows: &[PayloadRow]) -> bool
     ensures { result ≡ list_any has_red rows.now }
 {
     rows.iter().any(|row| row.red.is_some())
-}
-
-/// Whether a source of some line has an ssrc.
-fn lines_use(lines: &Lines, ssrc: Ssrc) -> bool
-    ensures { result ≡ list_any (line_uses ssrc) lines.now.entries }
-{
-    lines.iter().any(|(_, line)| {
-        any_uses(line.update.ssrcs_tx.as_slice(), ssrc)
-            || any_uses(line.update.ssrcs_rx.as_slice(), ssrc)
-    })
 }
 
 impl PlainMedia {
@@ -69,7 +38,14 @@ impl PlainMedia {
     pub(crate) fn uses(&self, ssrc: Ssrc) -> bool
         ensures { result ≡ media_uses self.now ssrc }
     {
-        self.rx.uses(ssrc) || self.tx.uses(ssrc) || lines_use(&self.lines, ssrc)
+        self.rx.uses(ssrc) || self.tx.uses(ssrc) || self.lines_use(ssrc)
+    }
+
+    /// Whether a source of some line has an ssrc.
+    fn lines_use(&self, ssrc: Ssrc) -> bool
+        ensures { result ≡ list_any (line_uses ssrc) self.now.lines }
+    {
+        0 < count_of(&self.counts, ssrc.0)
     }
 
     pub(crate) fn is_closed(&self) -> bool

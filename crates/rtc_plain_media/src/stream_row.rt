@@ -1,6 +1,6 @@
 //! Rows of stream tables.
 ghost use Rattle.std.specs.Prelude.{◌≡◌};
-ghost use Rattle.rtc_plain_media.specs.Streams.{row_uses, row_can_renumber, is_ssrc, numbered};
+ghost use Rattle.rtc_plain_media.specs.Streams.{row_can_renumber, is_ssrc, numbered};
 
 use crate::PlainMark;
 use rtc_sdp_values::{Mid, Rid, Ssrc};
@@ -27,13 +27,6 @@ fn is_ssrc(held: Option<Ssrc>, ssrc: Ssrc) -> bool
 }
 
 impl StreamRow {
-    /// Whether the stream or its retransmissions have an ssrc.
-    pub fn uses(&self, ssrc: Ssrc) -> bool
-        ensures { result ≡ row_uses ssrc self.now }
-    {
-        self.ssrc.0 == ssrc.0 || is_ssrc(self.rtx, ssrc)
-    }
-
     /// Whether both numbers are new to it.
     pub fn can_renumber(&self, ssrc: Ssrc, rtx: Option<Ssrc>) -> bool
         ensures { result ≡ row_can_renumber ssrc rtx self.now }

@@ -38,34 +38,39 @@ ghost use Rattle.rtc_plain_media.specs.Streams.{
 
 use crate::PlainMark;
 use crate::lines::{any_removal, is_removed};
-use crate::stream_places::{
-    StreamPlaces, add_place, find_places, forget_places, keep_places, place_of,
-};
+use crate::stream_index::StreamIndex;
 use crate::stream_row::StreamRow;
 use rtc_media::{MediaUpdate, NoStream};
 use rtc_sdp_values::{Mid, Rid, Ssrc};
 use std::alloc::{AllocError, Global};
-use std::collections::{BTreeMap, VecDeque};
+use std::collections::VecDeque;
 use std::marker::Model;
-use std::mem;
 
 /// The streams of one direction, in the order in which they were added. Look-ups take the first that fits.
-#[derive(Drop)]
 pub struct StreamTable {
-    alloc: Global,
     rows: Vec<StreamRow>,
-    places: StreamPlaces,
+    index: StreamIndex,
 }
 
 impl Model for StreamTable {
-    ghost use Rattle.rtc_plain_media.specs.StreamPlaces.{ServesStreams};
+    ghost use Rattle.rtc_plain_media.specs.StreamIndex.{IndexesStreams};
     ghost use Rattle.rtc_plain_media.specs.Streams.{Streams};
 
     ghost Value = { Streams };
 
     ghost view = { λ t. t.rows.items };
 
-    ghost invariant = { λ t. ServesStreams t.places t.rows.items };
+    ghost invariant = { λ t. IndexesStreams t.index t.rows.items };
+}
+
+// Written out, so that the proof of what owns a table sees one call.
+impl Drop for StreamTable {
+    fn drop(self) {
+        let StreamTable {
+            rows: _rows,
+            index: _index,
+        } = self;
+    }
 }
 
 impl StreamTable {
@@ -76,38 +81,28 @@ impl StreamTable {
         ensures { result ≡ [] }
     {
         StreamTable {
-            alloc,
             rows: Vec::new(alloc),
-            places: Some(BTreeMap::new(alloc)),
+            index: StreamIndex::new(alloc),
         }
     }
 
     fn place_of(&self, ssrc: Ssrc) -> Option<usize>
         ensures { result ≡ position (has_ssrc ssrc) self.now }
     {
-        place_of(&self.places, self.rows.as_slice(), ssrc)
+        self.index.place_of(ssrc)
     }
 
     fn place_of_name(&self, mid: Mid, rid: Option<Rid>) -> Option<usize>
         ensures { result ≡ position (has_name mid rid) self.now }
     {
-        self.rows
-            .iter()
-            .position(|row| row.mid == mid && row.rid == rid)
-    }
-
-    /// Whether a stream is of a line.
-    pub fn has_line(&self, mid: Mid) -> bool
-        ensures { result ≡ list_any (is_of_line mid) self.now }
-    {
-        self.rows.iter().any(|row| row.mid == mid)
+        self.index.place_of_name(mid, rid)
     }
 
     /// Whether a stream or its retransmissions have an ssrc.
     pub fn uses(&self, ssrc: Ssrc) -> bool
         ensures { result ≡ list_any (row_uses ssrc) self.now }
     {
-        self.rows.iter().any(|row| row.uses(ssrc))
+        self.index.uses(ssrc)
     }
 
     /// Puts a row in the place of the first of its ssrc, or else as a last one, and answers its place.
@@ -123,6 +118,40 @@ impl StreamTable {
         ensures ok { OnOk result (self.new ≡ put_row (made_stream_row ssrc rtx mid rid) self.old) }
         ensures err { OnErr result (self.new ≡ self.old) }
     {
+        match self.place_of(ssrc) {
+            Some(at) => {
+                self.rows[at] = StreamRow {
+                    ssrc,
+                    rtx,
+                    mid,
+                    rid,
+                    mark: PlainMark { count: 0 },
+                };
+                self.index.rebuild(self.rows.as_slice());
+                Ok(at)
+            }
+            None => {
+                let at = self.push(ssrc, rtx, mid, rid)?;
+                Ok(at)
+            }
+        }
+    }
+
+    /// Puts a row behind the others, and answers its place.
+    fn push(
+        &mut self,
+        ssrc: Ssrc,
+        rtx: Option<Ssrc>,
+        mid: Mid,
+        rid: Option<Rid>,
+    ) -> Result<usize, AllocError>
+        ensures place { IfOk result (λ at. at ≡ length self.old) }
+        ensures ok { OnOk result (self.new ≡ self.old ++ made_stream_row ssrc rtx mid rid ∷ []) }
+        ensures err { OnErr result (self.new ≡ self.old) }
+    {
+        let at = self.rows.len();
+        self.index.make_room(at + 1)?;
+        self.rows.reserve(1)?;
         let row = StreamRow {
             ssrc,
             rtx,
@@ -130,30 +159,8 @@ impl StreamTable {
             rid,
             mark: PlainMark { count: 0 },
         };
-        match self.place_of(ssrc) {
-            Some(at) => {
-                self.rows[at] = row;
-                Ok(at)
-            }
-            None => {
-                let at = self.push(row)?;
-                Ok(at)
-            }
-        }
-    }
-
-    /// Puts a row behind the others, none of which has its ssrc, and answers its place.
-    fn push(&mut self, row: StreamRow) -> Result<usize, AllocError>
-        requires { position (has_ssrc row.ssrc) self.old ≡ None }
-        ensures place { IfOk result (λ at. at ≡ length self.old) }
-        ensures ok { OnOk result (self.new ≡ self.old ++ row ∷ []) }
-        ensures err { OnErr result (self.new ≡ self.old) }
-    {
-        let at = self.rows.len();
-        let ssrc = row.ssrc;
-        self.rows.push(row)?;
-        let places = mem::replace(&mut self.places, None);
-        self.places = add_place(places, self.alloc, self.rows.as_slice(), ssrc, at);
+        self.index.add(&row, at);
+        self.rows.push_reserved(row);
         Ok(at)
     }
 
@@ -181,7 +188,7 @@ impl StreamTable {
         let there = self.place_of(ssrc).is_some();
         let count = self.rows.len();
         self.rows.retain(|row| !(row.ssrc.0 == ssrc.0));
-        keep_places(&mut self.places, self.rows.as_slice(), self.alloc, count);
+        self.index.refresh(self.rows.as_slice(), count);
         there
     }
 
@@ -191,7 +198,7 @@ impl StreamTable {
     {
         let count = self.rows.len();
         self.rows.retain(|row| row.mid != mid);
-        keep_places(&mut self.places, self.rows.as_slice(), self.alloc, count);
+        self.index.refresh(self.rows.as_slice(), count);
     }
 
     /// Drops the streams of lines that some updates remove. The streams are looked through only where one does.
@@ -203,7 +210,7 @@ impl StreamTable {
         }
         let count = self.rows.len();
         self.rows.retain(|row| !is_removed(updates, row.mid));
-        forget_places(&mut self.places, self.rows.as_slice(), count);
+        self.index.refresh(self.rows.as_slice(), count);
     }
 
     /// The mark of the stream of an ssrc.
@@ -248,7 +255,7 @@ impl StreamTable {
                 if row.can_renumber(ssrc, rtx) {
                     let row = row.numbered(ssrc, rtx);
                     self.rows[at] = row;
-                    self.places = find_places(self.alloc, self.rows.as_slice());
+                    self.index.rebuild(self.rows.as_slice());
                     Some(&mut self.rows[at].mark)
                 } else {
                     None

@@ -1,7 +1,7 @@
 use Rattle.std.proofs.Common.{◌≡◌, true, false, refl, ap, ◌∙◌, is_some, rules}
 use Rattle.std.specs.List.{list_any}
 use Rattle.rtc_plain_media.specs.Streams.{has_ssrc, marked}
-use Rattle.rtc_plain_media.proofs.PlaceLemmas.{serves_marked}
+use Rattle.rtc_plain_media.proofs.PlaceLemmas.{indexes_marked}
 use Rattle.rtc_plain_media.proofs.StreamLemmas.{change_first-at, any-position}
 use Rattle.rtc_plain_media.proofs.stream_table.StreamTable.mark.Goals as goal
 
@@ -18,4 +18,4 @@ returns-in-None c =
     ((refl, (λ _. tt), c.self.view_is), search (rules, found))
 
 pub invariant_of-self-lent : goal.invariant_of-self-lent
-invariant_of-self-lent c = λ w. serves_marked c.self.inside.places c.self.inside.rows.items c.in-Some.at c.index_mut.result.now w c.index_mut.ensures.value c.self.invariant
+invariant_of-self-lent c = λ w. indexes_marked c.self.inside.index c.self.inside.rows.items c.in-Some.at c.index_mut.result.now w c.index_mut.ensures.value c.self.invariant

@@ -1,9 +1,10 @@
-use Rattle.std.proofs.Common.{◌≡◌, Bool, not, filter, rules, ap, is_some, ◌∙◌, length, subst, arith}
+use Rattle.std.proofs.Common.{◌≡◌, Bool, not, filter, rules, ap, is_some, ◌∙◌, length, sym, subst, arith, ℕ}
 use Rattle.std.proofs.lemmas.Fn.{filter_same}
 use Rattle.rtc_plain_media.specs.declared.stream_row.StreamRow.{StreamRow}
-use Rattle.rtc_plain_media.specs.StreamPlaces.{ServesStreams}
+use Rattle.rtc_plain_media.specs.StreamIndex.{FitsStreams, IndexesStreams}
 use Rattle.rtc_plain_media.specs.Streams.{Streams, has_ssrc}
 use Rattle.rtc_plain_media.proofs.StreamLemmas.{any-position}
+use Rattle.rtc_plain_media.proofs.PlaceLemmas.{filter_most}
 use Rattle.rtc_plain_media.proofs.stream_table.StreamTable.remove.Goals as goal
 
 pub returns-clause-answer : goal.returns-clause-answer
@@ -15,10 +16,23 @@ returns-clause-rest c =
     let kept : c.retain.new.self.items ≡ filter keeps c.self.inside.rows.items = filter_same _ _ _ (λ x b f' k. search rules) _ _ c.retain.ensures.filtered in
     kept ∙ ap (filter keeps) c.self.view_is
 
+pub refresh-requires-clause-fits : goal.refresh-requires-clause-fits
+refresh-requires-clause-fits c =
+    let count : c.len-count.result ≡ length c.self.inside.rows.items = omega (arith, c.len-count.ensures) in
+    subst (λ (n : ℕ). FitsStreams c.self.inside.index n) (sym count) c.self.invariant.1
+
+pub refresh-requires-clause-fewer : goal.refresh-requires-clause-fewer
+refresh-requires-clause-fewer c =
+    let keeps : StreamRow → Bool = λ row. not (has_ssrc c.args.ssrc row) in
+    let kept : c.retain.new.self.items ≡ filter keeps c.self.inside.rows.items = filter_same _ _ _ (λ x b f' k. search rules) _ _ c.retain.ensures.filtered in
+    let count : c.len-count.result ≡ length c.self.inside.rows.items = omega (arith, c.len-count.ensures) in
+    let left = ap (λ (l : Streams). length l) (c.as_slice.ensures.value ∙ kept) in
+    omega (arith, left, count, filter_most keeps c.self.inside.rows.items)
+
 pub invariant_of-self : goal.invariant_of-self
 invariant_of-self c =
     let keeps : StreamRow → Bool = λ row. not (has_ssrc c.args.ssrc row) in
     let kept : c.retain.new.self.items ≡ filter keeps c.self.inside.rows.items = filter_same _ _ _ (λ x b f' k. search rules) _ _ c.retain.ensures.filtered in
     let count : c.len-count.result ≡ length c.self.inside.rows.items = omega (arith, c.len-count.ensures) in
-    subst (λ (l : Streams). ServesStreams c.keep_places.new.places l) c.as_slice.ensures.value
-    (c.keep_places.ensures c.self.inside.rows.items keeps (c.as_slice.ensures.value ∙ kept) count c.self.invariant)
+    subst (λ (l : Streams). IndexesStreams c.refresh.new.self l) c.as_slice.ensures.value
+    (c.refresh.ensures c.self.inside.rows.items keeps (c.as_slice.ensures.value ∙ kept) count c.self.invariant.0)

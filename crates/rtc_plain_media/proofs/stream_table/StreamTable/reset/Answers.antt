@@ -1,8 +1,8 @@
-use Rattle.std.proofs.Common.{◌≡◌, true, false, slice_set, refl, sym, ap, subst, ◌∙◌, is_some, rules}
+use Rattle.std.proofs.Common.{◌≡◌, true, false, slice_set, length, refl, sym, ap, subst, ◌∙◌, is_some, rules}
 use Rattle.std.specs.List.{list_any}
-use Rattle.rtc_plain_media.specs.StreamPlaces.{ServesStreams}
+use Rattle.rtc_plain_media.specs.StreamIndex.{FitsStreams, IndexesStreams}
 use Rattle.rtc_plain_media.specs.Streams.{Streams, has_name, renumbered, row_can_renumber, can_renumber}
-use Rattle.rtc_plain_media.proofs.PlaceLemmas.{serves_marked}
+use Rattle.rtc_plain_media.proofs.PlaceLemmas.{indexes_marked, fits_set}
 use Rattle.rtc_plain_media.proofs.StreamLemmas.{renumbered-at, any-position, first_passes-at, first_passes-none}
 use Rattle.rtc_plain_media.proofs.stream_table.StreamTable.reset.Goals as goal
 
@@ -30,8 +30,13 @@ returns-in-None c =
     let found : false ≡ can_renumber a.mid a.rid a.ssrc a.rtx a.self.now = first_passes-none fits (row_can_renumber a.ssrc a.rtx) a.self.now none in
     ((refl, (λ _. tt), c.self.view_is), search (rules, found))
 
+pub rebuild-requires : goal.rebuild-requires
+rebuild-requires c =
+    subst (λ (l : Streams). FitsStreams c.self.inside.index (length l)) (sym c.as_slice.ensures.value)
+    (fits_set c.self.inside.index c.self.inside.rows.items c.in-Some.at c.numbered-row.result c.self.invariant)
+
 pub invariant_of-self-lent : goal.invariant_of-self-lent
 invariant_of-self-lent c = λ w.
     let made = slice_set c.self.inside.rows.items c.in-Some.at c.numbered-row.result in
-    let served = subst (λ (l : Streams). ServesStreams c.find_places.result l) c.as_slice.ensures.value c.find_places.ensures in
-    serves_marked c.find_places.result made c.in-Some.at c.index_mut-then-can_renumber.result.now w c.index_mut-then-can_renumber.ensures.value served
+    let held = subst (λ (l : Streams). IndexesStreams c.rebuild.new.self l) c.as_slice.ensures.value c.rebuild.ensures in
+    indexes_marked c.rebuild.new.self made c.in-Some.at c.index_mut-then-can_renumber.result.now w c.index_mut-then-can_renumber.ensures.value held
