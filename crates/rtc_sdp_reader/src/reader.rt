@@ -34,21 +34,13 @@ pub struct Reader {
 }
 
 /// The line part that ends here, if one does.
-fn line_at(alloc: Global, stage: &Stage, part: Part) -> Result<Option<MediaLine>, AllocError>
-    ensures { IfOk result (λ line. line ≡ spec.line_at stage.now part) }
+fn line_at(alloc: Global, stage: &Stage, part: &mut Part) -> Result<Option<MediaLine>, AllocError>
+    ensures { IfOk result (λ line. line ≡ spec.line_at stage.now part.old) }
 {
     match stage {
         Stage::InLine(own) => line_of(alloc, own, part),
         _ => Ok(None),
     }
-}
-
-/// The part, which leaves an empty one.
-fn take_part(alloc: Global, part: &mut Part) -> Part
-    ensures taken { result ≡ part.old }
-    ensures left { part.new ≡ spec.empty_part }
-{
-    std::mem::replace(part, Part::empty(alloc))
 }
 
 fn push_line(lines: &mut Seq<MediaLine>, line: Option<MediaLine>) -> Result<(), AllocError>
@@ -101,11 +93,11 @@ impl Reader {
     }
 
     /// Begins a line part.
-    pub(crate) fn begin(&mut self, alloc: Global, head: MediaHead)
+    pub(crate) fn begin(&mut self, head: MediaHead)
         ensures { self.new ≡ spec.begun_line self.old head }
     {
         self.stage = Stage::InLine(head);
-        self.part = Part::empty(alloc);
+        self.part.clear();
         self.mids = 0;
         self.begun = self.number;
         self.refused = None;
@@ -115,8 +107,8 @@ impl Reader {
     pub(crate) fn end(&mut self, alloc: Global) -> Result<(), AllocError>
         ensures { OnOk result (self.new ≡ spec.part_ended self.old) }
     {
-        let part = take_part(alloc, &mut self.part);
-        let line = line_at(alloc, &self.stage, part)?;
+        let line = line_at(alloc, &self.stage, &mut self.part)?;
+        self.part.clear();
         push_line(&mut self.lines, line)
     }
 
