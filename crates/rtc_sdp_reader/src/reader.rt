@@ -11,6 +11,7 @@ use rtc_sdp_grammar::MediaHead;
 use rtc_sdp_values::{MediaLine, Sdp, SdpError};
 use rtc_wire::Seq;
 use std::alloc::{AllocError, Global};
+use std::mem;
 
 /// What was read so far.
 #[derive(Debug, Drop)]
@@ -112,33 +113,27 @@ impl Reader {
         push_line(&mut self.lines, line)
     }
 
-    /// The value, without a line part that is being built.
-    fn made(self) -> Sdp
-        ensures { result ≡ spec.made self }
+    /// The value, without a line part that is being built. It is taken out of the reader.
+    fn made(&mut self, alloc: Global) -> Sdp
+        ensures { result ≡ spec.made self.old }
     {
-        let Reader {
-            id,
-            session,
-            lines,
-            ..
-        } = self;
-        sdp_made(id, session, lines)
+        let lines = mem::replace(&mut self.lines, Seq::empty(alloc));
+        sdp_made(alloc, self.id, &mut self.session, lines)
     }
 
-    /// The value, at the end of the text.
-    pub(crate) fn finish(self, alloc: Global) -> Result<Sdp, SdpError>
-        ensures { GivesReading result (spec.finish self) }
+    /// The value, at the end of the text. It is taken out of the reader.
+    pub(crate) fn finish(&mut self, alloc: Global) -> Result<Sdp, SdpError>
+        ensures { GivesReading result (spec.finish self.old) }
     {
-        let mut reader = self;
-        match reader.place() {
-            Place::First | Place::Second => Err(SdpError::Parse(reader.number.saturating_add(1))),
-            Place::Session => Ok(reader.made()),
+        match self.place() {
+            Place::First | Place::Second => Err(SdpError::Parse(self.number.saturating_add(1))),
+            Place::Session => Ok(self.made(alloc)),
             Place::Line => {
-                if let Some(number) = reader.part_refusal() {
+                if let Some(number) = self.part_refusal() {
                     return Err(SdpError::Parse(number));
                 }
-                reader.end(alloc)?;
-                Ok(reader.made())
+                self.end(alloc)?;
+                Ok(self.made(alloc))
             }
         }
     }
