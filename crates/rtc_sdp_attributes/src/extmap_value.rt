@@ -4,10 +4,10 @@ ghost use Rattle.rtc_sdp_attributes.specs.Forms;
 ghost use Rattle.rtc_sdp_attributes.specs.AttributeForms as form;
 ghost use Rattle.rtc_sdp_attributes.specs.AttributeTexts as written;
 
+use crate::put_decimal;
 use rtc_fields::{cut, number_up_to};
 use rtc_sdp_values::{Direction, Extension};
 use std::alloc::AllocError;
-use std::fmt::Write;
 
 fn direction_of(word: &str) -> Option<Direction>
     ensures { result ≡ Forms.one_of form.direction_words word.now }
@@ -65,7 +65,7 @@ pub fn read_extmap(value: &str) -> Option<(u8, Extension)>
 pub fn put_extmap(out: &mut String, id: u8, extension: Extension) -> Result<(), AllocError>
     ensures { OnOk result (string_bytes out.new ≡ string_bytes out.old ++ written.extmap_text id extension) }
 {
-    let uri = extension.uri();
-    write!(out, "{id} {uri}")?;
-    Ok(())
+    put_decimal(out, id as u64)?;
+    out.push_str(" ")?;
+    out.push_str(extension.uri())
 }

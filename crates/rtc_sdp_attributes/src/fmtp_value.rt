@@ -4,12 +4,11 @@ ghost use Rattle.rtc_fields.specs.Fields.{first};
 ghost use Rattle.rtc_sdp_attributes.specs.AttributeForms as form;
 ghost use Rattle.rtc_sdp_attributes.specs.AttributeTexts as written;
 
-use crate::Fmtp;
+use crate::{Fmtp, put_decimal};
 use rtc_fields::{cut, number_up_to, parts, without_blanks};
 use rtc_sdp_values::Pt;
 use rtc_wire::Text;
 use std::alloc::{AllocError, Global};
-use std::fmt::Write;
 
 /// The parameters that a value gives to a payload type (RFC 8866, section 6.15), at least one byte.
 pub fn read_fmtp(alloc: Global, value: &str) -> Result<Option<Fmtp>, AllocError>
@@ -36,9 +35,9 @@ pub fn read_fmtp(alloc: Global, value: &str) -> Result<Option<Fmtp>, AllocError>
 pub fn put_fmtp(out: &mut String, pt: Pt, text: &str) -> Result<(), AllocError>
     ensures { OnOk result (string_bytes out.new ≡ string_bytes out.old ++ written.fmtp_text pt.0 text.now) }
 {
-    let number = pt.0;
-    write!(out, "{number} {text}")?;
-    Ok(())
+    put_decimal(out, pt.0 as u64)?;
+    out.push_str(" ")?;
+    out.push_str(text)
 }
 
 fn apt_pair(pair: &str) -> Option<u64>
@@ -78,9 +77,8 @@ pub fn read_apt(alloc: Global, text: &str) -> Result<Option<u64>, AllocError>
 pub fn put_apt(out: &mut String, pt: Pt) -> Result<(), AllocError>
     ensures { OnOk result (string_bytes out.new ≡ string_bytes out.old ++ written.apt_text pt.0) }
 {
-    let number = pt.0;
-    write!(out, "apt={number}")?;
-    Ok(())
+    out.push_str("apt=")?;
+    put_decimal(out, pt.0 as u64)
 }
 
 /// The payload type that the parameters of redundant packets name first (RFC 2198, section 5).
@@ -98,7 +96,7 @@ pub fn read_red_primary(text: &str) -> Option<u64>
 pub fn put_red(out: &mut String, pt: Pt) -> Result<(), AllocError>
     ensures { OnOk result (string_bytes out.new ≡ string_bytes out.old ++ written.red_text pt.0) }
 {
-    let number = pt.0;
-    write!(out, "{number}/{number}")?;
-    Ok(())
+    put_decimal(out, pt.0 as u64)?;
+    out.push_str("/")?;
+    put_decimal(out, pt.0 as u64)
 }

@@ -2,6 +2,7 @@
 #![tactic(auto)]
 
 mod candidate_value;
+mod decimal_text;
 mod extmap_value;
 mod fingerprint_value;
 mod fmtp;
@@ -21,6 +22,7 @@ mod ssrc_value;
 mod word_value;
 
 pub use candidate_value::{put_candidate, read_candidate};
+pub use decimal_text::put_decimal;
 pub use extmap_value::{put_extmap, read_extmap};
 pub use fingerprint_value::{put_fingerprint, read_fingerprint};
 pub use fmtp::Fmtp;

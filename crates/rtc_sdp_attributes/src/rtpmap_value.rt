@@ -3,12 +3,11 @@ ghost use Rattle.std.specs.Prelude.{◌≡◌, ◌++◌, IfOk, OnOk, string_byte
 ghost use Rattle.rtc_sdp_attributes.specs.AttributeForms as form;
 ghost use Rattle.rtc_sdp_attributes.specs.AttributeTexts as written;
 
-use crate::Rtpmap;
+use crate::{Rtpmap, put_decimal};
 use rtc_fields::{cut, is_token, number_up_to};
 use rtc_sdp_values::Pt;
 use rtc_wire::Text;
 use std::alloc::{AllocError, Global};
-use std::fmt::Write;
 
 /// The clock and the channels, one where none are named.
 fn rate_of(text: &str) -> Option<(u64, u64)>
@@ -66,10 +65,14 @@ pub fn put_rtpmap(
 ) -> Result<(), AllocError>
     ensures { OnOk result (string_bytes out.new ≡ string_bytes out.old ++ written.rtpmap_text pt.0 codec.now clock channels) }
 {
-    let number = pt.0;
-    write!(out, "{number} {codec}/{clock}")?;
+    put_decimal(out, pt.0 as u64)?;
+    out.push_str(" ")?;
+    out.push_str(codec)?;
+    out.push_str("/")?;
+    put_decimal(out, clock as u64)?;
     if channels != 1 {
-        write!(out, "/{channels}")?;
+        out.push_str("/")?;
+        put_decimal(out, channels as u64)?;
     }
     Ok(())
 }

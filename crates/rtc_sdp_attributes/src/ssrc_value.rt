@@ -3,12 +3,11 @@ ghost use Rattle.std.specs.Prelude.{◌≡◌, ◌++◌, IfOk, OnOk, string_byte
 ghost use Rattle.rtc_sdp_attributes.specs.AttributeForms as form;
 ghost use Rattle.rtc_sdp_attributes.specs.AttributeTexts as written;
 
-use crate::SsrcName;
+use crate::{SsrcName, put_decimal};
 use rtc_fields::{cut, number_up_to};
 use rtc_sdp_values::{Msid, Ssrc};
 use rtc_wire::Text;
 use std::alloc::{AllocError, Global};
-use std::fmt::Write;
 
 fn ssrc_number(word: &str) -> Option<u64>
     ensures { result ≡ form.ssrc_number word.now }
@@ -44,9 +43,9 @@ pub fn read_ssrc_name(alloc: Global, value: &str) -> Result<Option<SsrcName>, Al
 pub fn put_ssrc_name(out: &mut String, ssrc: Ssrc, cname: &str) -> Result<(), AllocError>
     ensures { OnOk result (string_bytes out.new ≡ string_bytes out.old ++ written.ssrc_name_text ssrc.0 cname.now) }
 {
-    let number = ssrc.0;
-    write!(out, "{number} cname:{cname}")?;
-    Ok(())
+    put_decimal(out, ssrc.0 as u64)?;
+    out.push_str(" cname:")?;
+    out.push_str(cname)
 }
 
 /// Appends the value that names the stream and the track of a source.
@@ -55,11 +54,11 @@ pub fn put_ssrc_msid(out: &mut String, ssrc: Ssrc, msid: &Msid) -> Result<(), Al
     ensures { OnOk result (string_bytes out.new
         ≡ string_bytes out.old ++ written.ssrc_msid_text ssrc.0 msid.now.stream_id msid.now.track_id) }
 {
-    let number = ssrc.0;
-    let stream = msid.stream_id.as_str();
-    let track = msid.track_id.as_str();
-    write!(out, "{number} msid:{stream} {track}")?;
-    Ok(())
+    put_decimal(out, ssrc.0 as u64)?;
+    out.push_str(" msid:")?;
+    out.push_str(msid.stream_id.as_str())?;
+    out.push_str(" ")?;
+    out.push_str(msid.track_id.as_str())
 }
 
 /// The source and that of its retransmissions that a value of `ssrc-group` names (RFC 5576, section 4.2); None for other groups.
@@ -81,8 +80,8 @@ pub fn read_ssrc_pair(value: &str) -> Option<(Ssrc, Ssrc)>
 pub fn put_ssrc_pair(out: &mut String, ssrc: Ssrc, rtx: Ssrc) -> Result<(), AllocError>
     ensures { OnOk result (string_bytes out.new ≡ string_bytes out.old ++ written.ssrc_pair_text ssrc.0 rtx.0) }
 {
-    let number = ssrc.0;
-    let other = rtx.0;
-    write!(out, "FID {number} {other}")?;
-    Ok(())
+    out.push_str("FID ")?;
+    put_decimal(out, ssrc.0 as u64)?;
+    out.push_str(" ")?;
+    put_decimal(out, rtx.0 as u64)
 }

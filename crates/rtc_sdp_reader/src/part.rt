@@ -65,6 +65,32 @@ impl Part {
         }
     }
 
+    /// Drops what the attributes said. The lists keep their room.
+    pub(crate) fn clear(&mut self)
+        ensures { self.new ≡ spec.empty_part }
+    {
+        self.mid = None;
+        self.groups.clear();
+        self.setup = None;
+        self.dir = None;
+        self.ufrag = None;
+        self.pass = None;
+        self.lite = false;
+        self.fingerprint = None;
+        self.candidates.clear();
+        self.max_message_size = None;
+        self.sctp_init = None;
+        self.codecs.clear();
+        self.parameters.clear();
+        self.exts.clear();
+        self.msid = None;
+        self.layers.clear();
+        self.layer_list = None;
+        self.cname = None;
+        self.sources.clear();
+        self.pairs.clear();
+    }
+
     /// Puts an attribute into its field.
     pub(crate) fn put(&mut self, attribute: Attribute) -> Result<(), AllocError>
         ensures { OnOk result (self.new ≡ spec.put_attribute self.old attribute) }

@@ -82,7 +82,7 @@ fn links_of(
 ) -> Result<Vec<Link>, AllocError>
     ensures { IfOk result (λ links. links.items ≡ map spec.link_of (spec.entries formats.now codecs.now fmtps.now)) }
 {
-    let mut links = Vec::new(alloc);
+    let mut links = Vec::with_capacity(alloc, formats.len().min(codecs.len()))?;
     for format in formats {
         let Some(codec) = codec_for(codecs, *format) else {
             continue;
@@ -259,32 +259,40 @@ fn push_row(rows: &mut Vec<PayloadRow>, row: Option<PayloadRow>) -> Result<(), A
     Ok(())
 }
 
-/// The payload rows of a media line: the codecs of its list, in its order, with their retransmissions and redundant packets.
 #[tactic(auto, unfolding(crate::specs::Payloads::payload_rows))]
-pub fn payload_rows(
+fn rows_of(
     alloc: Global,
     formats: &[u8],
-    codecs: Seq<Rtpmap>,
-    fmtps: Seq<Fmtp>,
+    codecs: &mut Vec<Rtpmap>,
+    fmtps: &mut Vec<Fmtp>,
 ) -> Result<Seq<PayloadRow>, AllocError>
-    ensures { IfOk result (λ rows. rows ≡ spec.payload_rows formats.now codecs fmtps) }
+    ensures { IfOk result (λ rows. rows ≡ spec.payload_rows formats.now codecs.old.items fmtps.old.items) }
 {
     let links = links_of(alloc, formats, codecs.as_slice(), fmtps.as_slice())?;
-    let mut codecs = codecs.into_vec();
-    let mut fmtps = fmtps.into_vec();
     let mut rows = Vec::with_capacity(alloc, formats.len().min(codecs.len()))?;
     for i in 0..formats.len() {
         let format = formats[i];
         let goes = !is_among(format, &formats[i + 1..]);
-        let row = format_row(
-            alloc,
-            links.as_slice(),
-            format,
-            goes,
-            &mut codecs,
-            &mut fmtps,
-        )?;
+        let row = format_row(alloc, links.as_slice(), format, goes, codecs, fmtps)?;
         push_row(&mut rows, row)?;
     }
     Ok(Seq::new(rows))
+}
+
+/// The payload rows of a media line: the codecs of its list, in its order, with their retransmissions and redundant packets. Their
+/// texts go into the rows.
+pub fn payload_rows(
+    alloc: Global,
+    formats: &[u8],
+    codecs: &mut Seq<Rtpmap>,
+    fmtps: &mut Seq<Fmtp>,
+) -> Result<Seq<PayloadRow>, AllocError>
+    ensures { IfOk result (λ rows. rows ≡ spec.payload_rows formats.now codecs.old fmtps.old) }
+{
+    let mut own_codecs = mem::replace(codecs, Seq::empty(alloc)).into_vec();
+    let mut own_fmtps = mem::replace(fmtps, Seq::empty(alloc)).into_vec();
+    let rows = rows_of(alloc, formats, &mut own_codecs, &mut own_fmtps)?;
+    *codecs = Seq::new(own_codecs);
+    *fmtps = Seq::new(own_fmtps);
+    Ok(rows)
 }

@@ -11,6 +11,7 @@ use rtc_sdp_grammar::MediaHead;
 use rtc_sdp_values::{MediaLine, Sdp, SdpError};
 use rtc_wire::Seq;
 use std::alloc::{AllocError, Global};
+use std::mem;
 
 /// What was read so far.
 #[derive(Debug, Drop)]
@@ -34,21 +35,13 @@ pub struct Reader {
 }
 
 /// The line part that ends here, if one does.
-fn line_at(alloc: Global, stage: &Stage, part: Part) -> Result<Option<MediaLine>, AllocError>
-    ensures { IfOk result (λ line. line ≡ spec.line_at stage.now part) }
+fn line_at(alloc: Global, stage: &Stage, part: &mut Part) -> Result<Option<MediaLine>, AllocError>
+    ensures { IfOk result (λ line. line ≡ spec.line_at stage.now part.old) }
 {
     match stage {
         Stage::InLine(own) => line_of(alloc, own, part),
         _ => Ok(None),
     }
-}
-
-/// The part, which leaves an empty one.
-fn take_part(alloc: Global, part: &mut Part) -> Part
-    ensures taken { result ≡ part.old }
-    ensures left { part.new ≡ spec.empty_part }
-{
-    std::mem::replace(part, Part::empty(alloc))
 }
 
 fn push_line(lines: &mut Seq<MediaLine>, line: Option<MediaLine>) -> Result<(), AllocError>
@@ -101,11 +94,11 @@ impl Reader {
     }
 
     /// Begins a line part.
-    pub(crate) fn begin(&mut self, alloc: Global, head: MediaHead)
+    pub(crate) fn begin(&mut self, head: MediaHead)
         ensures { self.new ≡ spec.begun_line self.old head }
     {
         self.stage = Stage::InLine(head);
-        self.part = Part::empty(alloc);
+        self.part.clear();
         self.mids = 0;
         self.begun = self.number;
         self.refused = None;
@@ -115,38 +108,32 @@ impl Reader {
     pub(crate) fn end(&mut self, alloc: Global) -> Result<(), AllocError>
         ensures { OnOk result (self.new ≡ spec.part_ended self.old) }
     {
-        let part = take_part(alloc, &mut self.part);
-        let line = line_at(alloc, &self.stage, part)?;
+        let line = line_at(alloc, &self.stage, &mut self.part)?;
+        self.part.clear();
         push_line(&mut self.lines, line)
     }
 
-    /// The value, without a line part that is being built.
-    fn made(self) -> Sdp
-        ensures { result ≡ spec.made self }
+    /// The value, without a line part that is being built. It is taken out of the reader.
+    fn made(&mut self, alloc: Global) -> Sdp
+        ensures { result ≡ spec.made self.old }
     {
-        let Reader {
-            id,
-            session,
-            lines,
-            ..
-        } = self;
-        sdp_made(id, session, lines)
+        let lines = mem::replace(&mut self.lines, Seq::empty(alloc));
+        sdp_made(alloc, self.id, &mut self.session, lines)
     }
 
-    /// The value, at the end of the text.
-    pub(crate) fn finish(self, alloc: Global) -> Result<Sdp, SdpError>
-        ensures { GivesReading result (spec.finish self) }
+    /// The value, at the end of the text. It is taken out of the reader.
+    pub(crate) fn finish(&mut self, alloc: Global) -> Result<Sdp, SdpError>
+        ensures { GivesReading result (spec.finish self.old) }
     {
-        let mut reader = self;
-        match reader.place() {
-            Place::First | Place::Second => Err(SdpError::Parse(reader.number.saturating_add(1))),
-            Place::Session => Ok(reader.made()),
+        match self.place() {
+            Place::First | Place::Second => Err(SdpError::Parse(self.number.saturating_add(1))),
+            Place::Session => Ok(self.made(alloc)),
             Place::Line => {
-                if let Some(number) = reader.part_refusal() {
+                if let Some(number) = self.part_refusal() {
                     return Err(SdpError::Parse(number));
                 }
-                reader.end(alloc)?;
-                Ok(reader.made())
+                self.end(alloc)?;
+                Ok(self.made(alloc))
             }
         }
     }

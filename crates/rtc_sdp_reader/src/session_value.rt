@@ -6,6 +6,8 @@ ghost use Rattle.rtc_sdp_reader.specs.SessionValue as spec;
 use crate::Part;
 use rtc_sdp_values::{IceCreds, MediaLine, Sdp};
 use rtc_wire::{Seq, Text};
+use std::alloc::Global;
+use std::mem;
 
 /// The credentials, where both of them are.
 pub(crate) fn creds_made(ufrag: Option<Text>, pass: Option<Text>) -> Option<IceCreds>
@@ -17,26 +19,23 @@ pub(crate) fn creds_made(ufrag: Option<Text>, pass: Option<Text>) -> Option<IceC
     Some(IceCreds { ufrag, pass })
 }
 
-/// The value that a session part and line parts make.
-pub(crate) fn sdp_made(id: Option<u64>, session: Part, lines: Seq<MediaLine>) -> Sdp
-    ensures { result ≡ spec.sdp_made id session lines }
+/// The value that a session part and line parts make. What it says is taken out of its part.
+pub(crate) fn sdp_made(
+    alloc: Global,
+    id: Option<u64>,
+    session: &mut Part,
+    lines: Seq<MediaLine>,
+) -> Sdp
+    ensures { result ≡ spec.sdp_made id session.old lines }
 {
-    let Part {
-        groups,
-        setup,
-        ufrag,
-        pass,
-        lite,
-        fingerprint,
-        ..
-    } = session;
+    let creds = creds_made(session.ufrag.take(), session.pass.take());
     Sdp {
         id: id.unwrap_or(0),
-        groups,
-        ice_lite: lite,
-        creds: creds_made(ufrag, pass),
-        fingerprint,
-        setup,
+        groups: mem::replace(&mut session.groups, Seq::empty(alloc)),
+        ice_lite: session.lite,
+        creds,
+        fingerprint: session.fingerprint.take(),
+        setup: session.setup,
         lines,
     }
 }

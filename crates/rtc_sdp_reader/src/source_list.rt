@@ -37,7 +37,21 @@ fn rtx_numbers(alloc: Global, pairs: &[(Ssrc, Ssrc)]) -> Result<BTreeSet<u32>, A
     Ok(found)
 }
 
-fn each_once(alloc: Global, numbers: &[u32]) -> Result<Vec<u32>, AllocError>
+/// Each number once, by looks through those that came.
+fn each_of_few(alloc: Global, numbers: &[u32]) -> Result<Vec<u32>, AllocError>
+    ensures { IfOk result (λ once. once.items ≡ spec_each_once eqb numbers.now) }
+{
+    let mut once = Vec::new(alloc);
+    for number in numbers {
+        if !once.contains(number) {
+            once.push(*number)?;
+        }
+    }
+    Ok(once)
+}
+
+/// Each number once. A set keeps those that came, so that the time is not in the square of the numbers.
+fn each_of_many(alloc: Global, numbers: &[u32]) -> Result<Vec<u32>, AllocError>
     ensures { IfOk result (λ once. once.items ≡ spec_each_once eqb numbers.now) }
 {
     let mut seen = BTreeSet::new(alloc);
@@ -48,6 +62,16 @@ fn each_once(alloc: Global, numbers: &[u32]) -> Result<Vec<u32>, AllocError>
         }
     }
     Ok(once)
+}
+
+fn each_once(alloc: Global, numbers: &[u32]) -> Result<Vec<u32>, AllocError>
+    ensures { IfOk result (λ once. once.items ≡ spec_each_once eqb numbers.now) }
+{
+    if numbers.len() <= 8 {
+        each_of_few(alloc, numbers)
+    } else {
+        each_of_many(alloc, numbers)
+    }
 }
 
 /// The sources of a media line: those that have a name, each once, with those of their retransmissions.

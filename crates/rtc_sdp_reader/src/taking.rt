@@ -84,7 +84,7 @@ impl Reader {
         Ok(())
     }
 
-    fn take_in_session(&mut self, alloc: Global, item: Item) -> Result<(), SdpError>
+    fn take_in_session(&mut self, item: Item) -> Result<(), SdpError>
         ensures { StepsTo result self.new (spec.take_in_session self.old item) }
     {
         match item {
@@ -95,7 +95,7 @@ impl Reader {
                 Ok(())
             }
             Item::Media(head) => {
-                self.begin(alloc, head);
+                self.begin(head);
                 Ok(())
             }
             Item::Malformed(level, _) => {
@@ -155,7 +155,7 @@ impl Reader {
             return Err(SdpError::Parse(number));
         }
         self.end(alloc)?;
-        self.begin(alloc, head);
+        self.begin(head);
         Ok(())
     }
 
@@ -185,7 +185,7 @@ impl Reader {
         match place {
             Place::First => self.take_first(&item),
             Place::Second => self.take_second(&item),
-            Place::Session => self.take_in_session(alloc, item),
+            Place::Session => self.take_in_session(item),
             Place::Line => self.take_in_line(alloc, item),
         }
     }

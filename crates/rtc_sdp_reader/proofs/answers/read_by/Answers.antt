@@ -9,10 +9,10 @@ use Rattle.rtc_sdp_values.specs.declared.sdp.Sdp.{Sdp}
 use Rattle.rtc_sdp_values.specs.declared.sdp_error.SdpError.{SdpError}
 use Rattle.rtc_sdp_reader.specs.Reading.{GivesReading, reading}
 use Rattle.rtc_sdp_reader.proofs.Resume.{resume, from, start_law, stepped, goes_on, stops, handed, done}
-use Rattle.rtc_sdp_reader.proofs.answers.read.Goals as goal
+use Rattle.rtc_sdp_reader.proofs.answers.read_by.Goals as goal
 
 pub loop-line-init : goal.loop-line-init
-loop-line-init c = (tt, tt, ap (λ r. resume r (items_of c.args.text.now)) c.new-reader.ensures ∙ start_law (items_of c.args.text.now))
+loop-line-init c = (tt, tt, ap (λ r. resume r (items_of c.args.text.now)) c.requires ∙ start_law (items_of c.args.text.now))
 
 pub returns-in_err-take : goal.returns-in_err-take
 returns-in_err-take c =

@@ -2,8 +2,8 @@ use Rattle.std.proofs.Common.{◌≡◌, ℕ, eqb, Bool, not, List, sym, ◌∙�
 use Rattle.std.proofs.lemmas.Bool.Decides.{eqb_tells}
 use Rattle.rtc_fields.proofs.OnceLemmas.{among, grown, once_more}
 use Rattle.rtc_sdp_reader.proofs.NumberLemmas.{HasNumbers, numbers_grown, grew}
-use Rattle.rtc_sdp_reader.proofs.source_list.each_once.Goals as goal
-use Rattle.rtc_sdp_reader.proofs.source_list.each_once.Goals.{then-branch+in_ok-push, else-branch}
+use Rattle.rtc_sdp_reader.proofs.source_list.each_of_many.Goals as goal
+use Rattle.rtc_sdp_reader.proofs.source_list.each_of_many.Goals.{then-branch+in_ok-push, else-branch}
 
 pub loop-number-preserved : goal.loop-number-preserved
 loop-number-preserved c =

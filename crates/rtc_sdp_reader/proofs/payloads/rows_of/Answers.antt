@@ -4,7 +4,7 @@ use Rattle.std.proofs.lemmas.List.{take_rest}
 use Rattle.rtc_sdp_reader.specs.Payloads as spec
 use Rattle.rtc_sdp_reader.specs.declared.link.Link.{Link}
 use Rattle.rtc_sdp_reader.proofs.RowLemmas.{entries_kept, rows_step}
-use Rattle.rtc_sdp_reader.proofs.payloads.payload_rows.Goals as goal
+use Rattle.rtc_sdp_reader.proofs.payloads.rows_of.Goals as goal
 
 pub loop-i-preserved : goal.loop-i-preserved
 loop-i-preserved c =

@@ -3,7 +3,7 @@ use Rattle.std.specs.Ordering.{nat_cmp}
 use Rattle.std.specs.BTreeSet as set
 use Rattle.rtc_fields.specs.Once.{each_once}
 use Rattle.rtc_fields.proofs.OnceLemmas.{among}
-use Rattle.rtc_sdp_reader.proofs.source_list.each_once.Given as goal
+use Rattle.rtc_sdp_reader.proofs.source_list.each_of_many.Given as goal
 
 abbrev pub invariant-loop-number : goal.invariant-loop-number
 invariant-loop-number l = record {

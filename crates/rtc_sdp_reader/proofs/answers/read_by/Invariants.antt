@@ -3,7 +3,7 @@ use Rattle.std.proofs.Common.{◌≡◌, length}
 use Rattle.rtc_fields.specs.Lines.{lines}
 use Rattle.rtc_sdp_reader.specs.Reading.{reading}
 use Rattle.rtc_sdp_reader.proofs.Resume.{resume, from}
-use Rattle.rtc_sdp_reader.proofs.answers.read.Given as goal
+use Rattle.rtc_sdp_reader.proofs.answers.read_by.Given as goal
 
 abbrev pub invariant-loop-line : goal.invariant-loop-line
 invariant-loop-line l =
