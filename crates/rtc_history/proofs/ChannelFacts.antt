@@ -42,7 +42,7 @@ left_mid = codes "m3"
 abbrev right_mid : List ℕ
 right_mid = codes "m1000003"
 
-abbrev crossed : List Entry
+abbrev crossed : {E : Type 0} → List (Entry E)
 crossed =
     entry (AcceptOffer Right 0) (Answered 3) (App 0 left_mid ∷ []) (0 ∷ []) (says Right false (App 0 left_mid ∷ []))
     ∷ entry (AcceptOffer Left 1) (Answered 2) (App 0 right_mid ∷ []) (0 ∷ []) (says Left false (App 0 right_mid ∷ []))
@@ -64,20 +64,20 @@ crossed_refused made = (refl, refl)
 
 -- ---- a channel alone, once there is a line
 
-abbrev with_line : List Entry
+abbrev with_line : {E : Type 0} → List (Entry E)
 with_line =
     entry (AcceptAnswer Left 0 1) Finished (App 0 left_mid ∷ []) (0 ∷ []) []
     ∷ entry (AcceptOffer Right 0) (Answered 1) (App 0 left_mid ∷ []) [] (says Right false (App 0 left_mid ∷ []))
     ∷ entry (offers_channel Left) (Negotiated (Channel 0 ∷ []) (Offer 0)) [] (0 ∷ []) (says Left true (App 0 left_mid ∷ []))
     ∷ []
 
-abbrev more_audio : List Entry
+abbrev more_audio : {E : Type 0} → List (Entry E)
 more_audio =
     entry (Negotiate Left (AddMedia Audio SendRecv ∷ []) true) (Negotiated (Mid (codes "m4") ∷ []) (Offer 2)) (App 0 left_mid ∷ []) (0 ∷ [])
     (says Left true (App 0 left_mid ∷ Media 1 (codes "m4") Audio SendRecv false false ∷ []))
     ∷ with_line
 
-abbrev more_channels : List Entry
+abbrev more_channels : {E : Type 0} → List (Entry E)
 more_channels = entry (offers_channel Left) (Negotiated (Channel 1 ∷ []) Nothing) (App 0 left_mid ∷ []) (0 ∷ 1 ∷ []) [] ∷ more_audio
 
 -- it makes no offer

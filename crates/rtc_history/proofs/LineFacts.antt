@@ -35,7 +35,7 @@ abbrev pub there : LineRow
 there = Media 0 audio_mid Audio SendRecv false true
 
 -- a round of one audio line, offered by the left side
-abbrev pub one_round : List Entry
+abbrev pub one_round : {E : Type 0} → List (Entry E)
 one_round =
     entry (AcceptAnswer Left 0 1) Finished (here ∷ []) [] []
     ∷ entry (AcceptOffer Right 0) (Answered 1) (there ∷ []) [] (says Right false (there ∷ []))
@@ -54,7 +54,7 @@ halted = Media 0 audio_mid Audio Inactive true false
 only_line_stopped : IsSound plain one_round plain (Negotiate Left (StopMedia 0 ∷ []) true) (Negotiated (Changed true ∷ []) (Offer 2)) (Some (record { lines = halted ∷ []; channels = [] })) (says Left true (halted ∷ []))
 only_line_stopped = (((refl, refl), refl), refl, refl)
 
-abbrev with_halted : List Entry
+abbrev with_halted : {E : Type 0} → List (Entry E)
 with_halted = entry (Negotiate Left (StopMedia 0 ∷ []) true) (Negotiated (Changed true ∷ []) (Offer 2)) (halted ∷ []) [] (says Left true (halted ∷ [])) ∷ one_round
 
 -- its offer groups no line, and is refused
@@ -78,7 +78,7 @@ abbrev pub receiving : LineRow
 receiving = Media 0 audio_mid Audio RecvOnly false true
 
 -- the right side accepts a video line, whose offer the left side then supersedes
-abbrev with_lost_offer : List Entry
+abbrev with_lost_offer : {E : Type 0} → List (Entry E)
 with_lost_offer =
     entry (AcceptOffer Right 4) (Answered 5) (receiving ∷ video_there ∷ []) [] (says Right false (receiving ∷ video_there ∷ []))
     ∷ entry (Negotiate Left (SetDirection 0 SendOnly ∷ []) true) (Negotiated (Changed true ∷ []) (Offer 4)) (sending ∷ []) [] (says Left true (sending ∷ []))

@@ -35,7 +35,7 @@ restart_offered made = (refl, refl, refl)
 restart_not_offered : (made : List MadeSdp) (table : Table) → IsSound plain one_round plain (Negotiate Left (IceRestart true ∷ []) true) (Negotiated (Creds other_creds ∷ []) Nothing) (Some table) made → ⊥
 restart_not_offered made table sound = sound.1
 
-abbrev restarted : List Entry
+abbrev restarted : {E : Type 0} → List (Entry E)
 restarted =
     entry (Negotiate Left (IceRestart true ∷ []) true) (Negotiated (Creds other_creds ∷ []) (Offer 2)) (here ∷ []) [] (says_with other_creds false Left true (here ∷ []))
     ∷ one_round
@@ -54,7 +54,7 @@ restart_accepted : (made : List MadeSdp) → IsSound plain restarted plain (Acce
 unfolding verdict head_verdict side_verdict inconsistency
 restart_accepted made = ((refl, refl, refl), refl)
 
-abbrev answered : List Entry
+abbrev answered : {E : Type 0} → List (Entry E)
 answered = entry (AcceptOffer Right 2) (Answered 3) (there ∷ []) [] (says_with other_creds false Right false (there ∷ [])) ∷ restarted
 
 known_after : creds_told (last_accepted Right answered) ≡ Some other_creds
@@ -67,7 +67,7 @@ answer_accepted made = ((refl, refl), refl)
 
 -- ---- an answer restarts ICE, and its offer did not
 
-abbrev unasked : List Entry
+abbrev unasked : {E : Type 0} → List (Entry E)
 unasked =
     entry (AcceptOffer Right 2) (Answered 3) (receiving ∷ []) [] (says_with other_creds false Right false (receiving ∷ []))
     ∷ entry (Negotiate Left (SetDirection 0 SendOnly ∷ []) true) (Negotiated (Changed true ∷ []) (Offer 2)) (sending ∷ []) [] (says Left true (sending ∷ []))
@@ -90,7 +90,7 @@ association_fault_told : (made : List MadeSdp)
 unfolding verdict head_verdict side_verdict inconsistency
 association_fault_told made = ((refl, refl, refl), refl)
 
-abbrev broken : List Entry
+abbrev broken : {E : Type 0} → List (Entry E)
 broken = entry (AcceptOffer Right 2) (Refused (Dtls Fault)) (there ∷ []) [] [] ∷ restarted
 
 -- from then on the past does not tell what the side knows
@@ -108,7 +108,7 @@ unstarted_side = refl
 abbrev lite_sides : Stances
 lite_sides at = record (plain at) { ice = record (plain at).ice { lite = true } }
 
-abbrev lite_offer : List Entry
+abbrev lite_offer : {E : Type 0} → List (Entry E)
 lite_offer =
     entry (Negotiate Left (AddMedia Audio SendRecv ∷ []) true) (Negotiated (Mid (109 ∷ 51 ∷ []) ∷ []) (Offer 0)) [] [] (says_with worked_creds true Left true (here ∷ []))
     ∷ []
