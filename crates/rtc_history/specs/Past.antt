@@ -69,20 +69,20 @@ packets_in at (Timeout moment reason ∷ outputs) = packets_in at outputs
 packets_in at (Packet number len ∷ outputs) = (at, len) ∷ packets_in at outputs
 packets_in at (Event event ∷ outputs) = packets_in at outputs
 
-abbrev pub packets_of : {E : Type 0} → Side → Outcome E → List (Side × ℕ)
-packets_of at (Negotiated answers made) = []
-packets_of at (Answered k) = []
-packets_of at Finished = []
-packets_of at Done = []
-packets_of at (Polled outputs end) = packets_in at outputs
-packets_of at (Refused error) = []
-packets_of at NoSuch = []
-packets_of at Alloc = []
+abbrev pub packets_told : {E : Type 0} → Side → Outcome E → List (Side × ℕ)
+packets_told at (Negotiated answers made) = []
+packets_told at (Answered k) = []
+packets_told at Finished = []
+packets_told at Done = []
+packets_told at (Polled outputs end) = packets_in at outputs
+packets_told at (Refused error) = []
+packets_told at NoSuch = []
+packets_told at Alloc = []
 
 -- the datagrams that replies show, in order
 abbrev pub packets_shown : {E : Type 0} → List (Entry E) → List (Side × ℕ)
 packets_shown [] = []
-packets_shown (entry ∷ past) = packets_shown past ++ packets_of (side_of entry.step) entry.outcome
+packets_shown (entry ∷ past) = packets_shown past ++ packets_told (side_of entry.step) entry.outcome
 
 -- an SDP, if it is an offer (or an answer) of the other side
 abbrev pub sdp_for : Bool → Side → Option MadeSdp → Option Sdp

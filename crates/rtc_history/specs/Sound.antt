@@ -164,15 +164,15 @@ abbrev pub asked_in : {E : Type 0} → Side → ℕ → List (Entry E) → Asked
 asked_in at t past = record { added = added_by (length (before at past)) t past; restarts = restarts_by t past }
 
 -- an input was taken, or a close begun, or either was refused
-abbrev pub is_taken : {E : Type 0} → Outcome E → Bool
-is_taken (Negotiated answers made) = false
-is_taken (Answered k) = false
-is_taken Finished = false
-is_taken Done = true
-is_taken (Polled outputs end) = false
-is_taken (Refused error) = true
-is_taken NoSuch = false
-is_taken Alloc = false
+abbrev pub is_handled : {E : Type 0} → Outcome E → Bool
+is_handled (Negotiated answers made) = false
+is_handled (Answered k) = false
+is_handled Finished = false
+is_handled Done = true
+is_handled (Polled outputs end) = false
+is_handled (Refused error) = true
+is_handled NoSuch = false
+is_handled Alloc = false
 
 -- a datagram was taken or refused, or is not there
 abbrev pub is_heard : {E : Type 0} → Outcome E → Bool
@@ -218,9 +218,9 @@ IsSound fresh past between (AcceptAnswer at token answer) outcome (Some table) s
     (holds_token at token past) (is_right at token past) (asked_in at token past)
     (remote_sdp false at answer past) (view_in fresh at past (held_by (between at))) outcome table.lines
     × (table.channels ≡ channels_shown at past)
-IsSound fresh past between (Time at now) outcome (Some table) said = (is_taken outcome ≡ true) × ShowsOld at past table
+IsSound fresh past between (Time at now) outcome (Some table) said = (is_handled outcome ≡ true) × ShowsOld at past table
 IsSound fresh past between (Datagram at packet now) outcome (Some table) said = (is_heard outcome ≡ true) × ShowsOld at past table
 IsSound fresh past between (Poll at) outcome (Some table) said = (is_polled outcome ≡ true) × ShowsOld at past table
 IsSound fresh past between (Drain at) outcome (Some table) said = (is_polled outcome ≡ true) × ShowsOld at past table
-IsSound fresh past between (Close at) outcome (Some table) said = (is_taken outcome ≡ true) × ShowsOld at past table
+IsSound fresh past between (Close at) outcome (Some table) said = (is_handled outcome ≡ true) × ShowsOld at past table
 IsSound fresh past between step outcome table said = ⊥

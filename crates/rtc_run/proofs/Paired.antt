@@ -11,7 +11,7 @@ use Rattle.rtc_history.specs.Performs.{Acts, Performs}
 use Rattle.rtc_peer_state.specs.Meanings.{Meanings}
 
 module _ {I D S M E X T W N : Type 0} (m : Meanings I D S M E X T W N) where
-  pub performs_at : (old new : PairState I D S M N) (step : Step) (outcome : Outcome) (table : Option Table) (at : Side) → side_of step ≡ at
+  pub performs_at : (old new : PairState I D S M N) (step : Step) (outcome : Outcome E) (table : Option Table) (at : Side) → side_of step ≡ at
       → Acts m step (peer_at at old) old.sdps outcome table (peer_at at new) new.sdps → rtc_at (other_side at) new ≡ rtc_at (other_side at) old
       → new.left_addr ≡ old.left_addr → new.right_addr ≡ old.right_addr → new.size ≡ old.size + step_size step → Performs m old step outcome table new
   performs_at old new step outcome table at is acts other left_addr right_addr size = record {

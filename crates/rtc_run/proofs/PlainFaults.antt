@@ -14,5 +14,5 @@ plain_uncounted : (start pair : PlainPairState) (part : CountedPart) (at : Side)
 plain_uncounted start pair DtlsPart at counts = let rose : min (0 + 1) (2 ^ 64 - 1) ≤ 0 = counts in absurd (omega arith)
 plain_uncounted start pair AssociationPart at counts = let rose : min (0 + 1) (2 ^ 64 - 1) ≤ 0 = counts in absurd (omega arith)
 
-pub plain_unfaulted : (start pair : PlainPairState) (steps : List Step) (replies : List Reply) → Runs plain_parts start steps replies pair → tell_fault replies ≡ false
+pub plain_unfaulted : {E : Type 0} → (start pair : PlainPairState) (steps : List Step) (replies : List (Reply E)) → Runs plain_parts start steps replies pair → tell_fault replies ≡ false
 plain_unfaulted start pair steps replies run = runs_unfaulted plain_parts start steps replies pair run (plain_uncounted start pair)
