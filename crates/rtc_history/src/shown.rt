@@ -9,9 +9,6 @@ pub enum Shown<E> {
     /// When a timeout is wanted as input, and what for.
     Timeout(Moment, Reason),
     /// A datagram was sent: its number, and how many bytes it has.
-    Packet {
-        number: u64,
-        len: usize,
-    },
+    Packet { number: u64, len: usize },
     Event(Event<E>),
 }

@@ -44,7 +44,7 @@ answered_within (AddMedia kind dir ∷ ops) (answer ∷ answers) held = let rest
 answered_within (SetDirection place dir ∷ ops) (answer ∷ answers) held = let rest = answered_within ops answers held in omega (arith, rest)
 answered_within (StopMedia place ∷ ops) (answer ∷ answers) held = let rest = answered_within ops answers held in omega (arith, rest)
 
-step_within : (here : Bool) (step : Step) (outcome : Outcome) (held : Channels) → (channels_after here step outcome held).given ≤ held.given + step_size step
+step_within : {E : Type 0} → (here : Bool) (step : Step) (outcome : Outcome E) (held : Channels) → (channels_after here step outcome held).given ≤ held.given + step_size step
 step_within false step outcome held = omega arith
 step_within true (AcceptOffer at k) outcome held = omega arith
 step_within true (AcceptAnswer at t a) outcome held = omega arith
@@ -56,7 +56,7 @@ step_within true (Negotiate at ops apply) NoSuch held = omega arith
 step_within true (Negotiate at ops apply) Alloc held = omega arith
 
 -- a side was given no more channels than the sizes of the steps
-pub given_within : (at : Side) (past : List Entry) → (channels_given at past).given ≤ steps_size (steps_of past)
+pub given_within : {E : Type 0} → (at : Side) (past : List (Entry E)) → (channels_given at past).given ≤ steps_size (steps_of past)
 given_within at [] = omega arith
 given_within at (entry ∷ past) =
     let rest : (channels_given at past).given ≤ steps_size (steps_of past) = given_within at past in

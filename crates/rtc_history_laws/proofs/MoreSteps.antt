@@ -34,11 +34,11 @@ module _ {I D S M E X T W N : Type 0} (m : Meanings I D S M E X T W N) where
   }
 
   -- a run of one more step
-  pub runs_more : PartsLaws m → (start old new : PairState I D S M N) (steps : List Step) (replies : List Reply) (step : Step) (reply : Reply)
+  pub runs_more : PartsLaws m → (start old new : PairState I D S M N) (steps : List Step) (replies : List (Reply E)) (step : Step) (reply : Reply E)
       → IsFresh m start → Runs m start steps replies old → Performs m old step reply.outcome reply.table new → new.size < 2 ^ 32
       → Runs m start (steps ++ step ∷ []) (replies ++ reply ∷ []) new
   runs_more laws start old new steps replies step reply fresh run performs small =
-      let last : Entry = entry step reply.outcome reply.table (sdps_behind old.sdps new.sdps) in
+      let last : Entry E = entry step reply.outcome reply.table (sdps_behind old.sdps new.sdps) in
       let ran : StanceRan (pair_stance m start) run.past (pair_stance m old) = ran_stands m laws start run.past old run.went in
       let enters : Enters m old last new = record { performs = performs; made = refl } in
       let went : Went (EntersSoundly m start) (λ fresh. fresh ≡ start) (last ∷ run.past) new = (
@@ -63,15 +63,15 @@ module _ {I D S M E X T W N : Type 0} (m : Meanings I D S M E X T W N) where
 
   -- ---- sizes
 
-  run_reached : PartsLaws m → (start pair : PairState I D S M N) (steps : List Step) (replies : List Reply) → (run : Runs m start steps replies pair) → StanceReached (pair_stance m start) run.past (pair_stance m pair)
+  run_reached : PartsLaws m → (start pair : PairState I D S M N) (steps : List Step) (replies : List (Reply E)) → (run : Runs m start steps replies pair) → StanceReached (pair_stance m start) run.past (pair_stance m pair)
   run_reached laws start pair steps replies run = ran_reached (pair_stance m start) run.past (pair_stance m pair) (ran_stands m laws start run.past pair run.went)
 
   -- the size of a pair is that of the steps of its run
-  pub runs_size : PartsLaws m → (start pair : PairState I D S M N) (steps : List Step) (replies : List Reply) → IsFresh m start → Runs m start steps replies pair → pair.size ≡ steps_size steps
+  pub runs_size : PartsLaws m → (start pair : PairState I D S M N) (steps : List Step) (replies : List (Reply E)) → IsFresh m start → Runs m start steps replies pair → pair.size ≡ steps_size steps
   runs_size laws start pair steps replies fresh run =
       omega (arith, reached_size (pair_stance m start) (pair_stance m pair) run.past (run_reached laws start pair steps replies run), fresh.size, ap steps_size run.steps_are)
 
   -- a pair is within the size of the steps of its run
-  pub runs_within : PartsLaws m → (start pair : PairState I D S M N) (steps : List Step) (replies : List Reply) → IsFresh m start → Runs m start steps replies pair → pair.size < 2 ^ 32 → IsWithin (pair_stance m pair)
+  pub runs_within : PartsLaws m → (start pair : PairState I D S M N) (steps : List Step) (replies : List (Reply E)) → IsFresh m start → Runs m start steps replies pair → pair.size < 2 ^ 32 → IsWithin (pair_stance m pair)
   runs_within laws start pair steps replies fresh run small =
       reached_within (pair_stance m start) (pair_stance m pair) run.past (fresh_stands m start fresh) (run_reached laws start pair steps replies run) small

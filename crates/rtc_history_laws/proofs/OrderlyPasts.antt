@@ -26,7 +26,7 @@ use Rattle.rtc_history_laws.proofs.OrderlyOps.{negotiated_goes_on}
 use Rattle.rtc_history.specs.Views.{Stances}
 
 -- A step in order gives its Ok or tells a want of memory, and where none is told, the course goes on.
-pub step_goes_on : (fresh between : Stances) (past : List Entry) (step : Step) (outcome : Outcome) (table : Option Table) (made : List MadeSdp) (course course' : Course) → Sound fresh past → InCourse course past → SidePasses fresh between past step
+pub step_goes_on : {E : Type 0} → (fresh between : Stances) (past : List (Entry E)) (step : Step) (outcome : Outcome E) (table : Option Table) (made : List MadeSdp) (course course' : Course) → Sound fresh past → InCourse course past → SidePasses fresh between past step
     → steps_size (steps_of past) + step_size step < 2 ^ 64 - 1 → IsSound fresh past between step outcome table made → MakesSdp step outcome table made → after_step course step ≡ Some course' → GoesOn outcome course' (entry step outcome table made ∷ past)
 step_goes_on fresh between past (Negotiate at ops apply) outcome table made course course' sound is side few replied says after = record {
   ok = negotiated_ok fresh between past at ops apply outcome table made course course' _ (omega arith) after replied;
@@ -81,7 +81,7 @@ equal_lines rows others same = absurd same
 pub in_step : (rows others : List LineRow) (sides : Stances) → Aligned rows others → ((at : Side) → AreCurrent sides at) → AreInStep rows others sides
 in_step rows others sides same current = record { equal = equal_lines rows others same; app = app_mid-aligned rows others same; current = current }
 
-pub idle_aligned : (phase : Phase) (past : List Entry) → IsIdle phase → InPhase phase past → Aligned (before Left past) (before Right past)
+pub idle_aligned : {E : Type 0} → (phase : Phase) (past : List (Entry E)) → IsIdle phase → InPhase phase past → Aligned (before Left past) (before Right past)
 idle_aligned Idle past idle same = same
 idle_aligned (AwaitsAnswer side n said) past idle out = absurd idle
 idle_aligned (AwaitsEnd side n m said) past idle out = absurd idle

@@ -103,7 +103,7 @@ StanceMakesOf true at p sdps (Offer k) q sdps' =
 StanceMakesOf true at p sdps MadeAlloc q sdps' = StanceApplies p (Err alloc_error) q × (sdps' ≡ sdps)
 StanceMakesOf asked at p sdps made q sdps' = ⊥
 
-abbrev pub StanceNegotiates : Side → List Op → Bool → Stance → List Kept → Outcome → Option Table → Stance → List Kept → Type 0
+abbrev pub StanceNegotiates : {E : Type 0} → Side → List Op → Bool → Stance → List Kept → Outcome E → Option Table → Stance → List Kept → Type 0
 StanceNegotiates at ops apply old sdps Alloc None new sdps' = StanceStays old sdps new sdps'
 StanceNegotiates at ops apply old sdps (Negotiated answers made) (Some table) new sdps' =
     (p : Stance)
@@ -112,7 +112,7 @@ StanceNegotiates at ops apply old sdps (Negotiated answers made) (Some table) ne
     × StanceShows table new
 StanceNegotiates at ops apply old sdps outcome table new sdps' = ⊥
 
-abbrev pub StanceStepAcceptsOffer : Side → Option Sdp → Stance → List Kept → Outcome → Option Table → Stance → List Kept → Type 0
+abbrev pub StanceStepAcceptsOffer : {E : Type 0} → Side → Option Sdp → Stance → List Kept → Outcome E → Option Table → Stance → List Kept → Type 0
 StanceStepAcceptsOffer at offer old sdps Alloc None new sdps' = StanceStays old sdps new sdps'
 StanceStepAcceptsOffer at None old sdps NoSuch (Some table) new sdps' = StanceStays old sdps new sdps' × StanceShows table old
 StanceStepAcceptsOffer at (Some sdp) old sdps (Answered k) (Some table) new sdps' =
@@ -127,7 +127,7 @@ StanceStepAcceptsOffer at (Some sdp) old sdps (Refused error) (Some table) new s
     × StanceShows table new
 StanceStepAcceptsOffer at offer old sdps outcome table new sdps' = ⊥
 
-abbrev pub StanceStepAcceptsAnswer : ℕ → Option PendingOffer → Option Sdp → Stance → List Kept → Outcome → Option Table → Stance
+abbrev pub StanceStepAcceptsAnswer : {E : Type 0} → ℕ → Option PendingOffer → Option Sdp → Stance → List Kept → Outcome E → Option Table → Stance
     → List Kept → Type 0
 StanceStepAcceptsAnswer t token answer old sdps Alloc None new sdps' = StanceStays old sdps new sdps'
 StanceStepAcceptsAnswer t None answer old sdps NoSuch (Some table) new sdps' = StanceStays old sdps new sdps' × StanceShows table old
@@ -142,18 +142,18 @@ StanceStepAcceptsAnswer t (Some token) (Some sdp) old sdps (Refused error) (Some
     × StanceShows table new
 StanceStepAcceptsAnswer t token answer old sdps outcome table new sdps' = ⊥
 
-abbrev pub StanceActs : Step → Stance → List Kept → Outcome → Option Table → Stance → List Kept → Type 0
+abbrev pub StanceActs : {E : Type 0} → Step → Stance → List Kept → Outcome E → Option Table → Stance → List Kept → Type 0
 StanceActs (Negotiate at ops apply) old sdps outcome table new sdps' = StanceNegotiates at ops apply old sdps outcome table new sdps'
 StanceActs (AcceptOffer at offer) old sdps outcome table new sdps' =
     StanceStepAcceptsOffer at (kept_remote_sdp true sdps at offer) old sdps outcome table new sdps'
 StanceActs (AcceptAnswer at token answer) old sdps outcome table new sdps' =
     StanceStepAcceptsAnswer token (held_token sdps at token) (kept_remote_sdp false sdps at answer) old sdps outcome table new sdps'
 
-pub record StancePerforms (old : PairStance) (step : Step) (outcome : Outcome) (table : Option Table) (new : PairStance) : Type 0 where
+pub record StancePerforms {E : Type 0} (old : PairStance) (step : Step) (outcome : Outcome E) (table : Option Table) (new : PairStance) : Type 0 where
   pub acts : StanceActs step (old.sides (side_of step)) old.sdps outcome table (new.sides (side_of step)) new.sdps
   pub other : new.sides (other_side (side_of step)) ≡ old.sides (other_side (side_of step))
   pub size : new.size ≡ old.size + step_size step
 
-pub record StanceEnters (old : PairStance) (entry : Entry) (new : PairStance) : Type 0 where
+pub record StanceEnters {E : Type 0} (old : PairStance) (entry : Entry E) (new : PairStance) : Type 0 where
   pub performs : StancePerforms old entry.step entry.outcome entry.table new
   pub made : entry.made ≡ made_by old new

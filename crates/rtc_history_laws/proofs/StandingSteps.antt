@@ -85,14 +85,14 @@ module _ {I D S M E X T W N : Type 0} (m : Meanings I D S M E X T W N) (laws : P
   makes_stand true at p sdps MadeAlloc q sdps' h = (applies_stands m laws p (Err alloc_error) q h.0, h.1)
   makes_stand asked at p sdps made q sdps' h = absurd h
 
-  negotiates_stands : (at : Side) (ops : List Op) (apply : Bool) (old : Peer I D S M N) (sdps : List Kept) (outcome : Outcome) (table : Option Table) (new : Peer I D S M N) (sdps' : List Kept)
+  negotiates_stands : (at : Side) (ops : List Op) (apply : Bool) (old : Peer I D S M N) (sdps : List Kept) (outcome : Outcome E) (table : Option Table) (new : Peer I D S M N) (sdps' : List Kept)
       → Negotiates m at ops apply old sdps outcome table new sdps' → StanceNegotiates at ops apply (stance_of m old) sdps outcome table (stance_of m new) sdps'
   negotiates_stands at ops apply old sdps Alloc None new sdps' h = stays_stands old new sdps sdps' h
   negotiates_stands at ops apply old sdps (Negotiated answers made) (Some table) new sdps' h =
       (stance_of m h.0, ops_stand _ ops answers h.0 h.1, makes_stand (apply && not (answers_lack answers)) at h.0 sdps made new sdps' h.2, shows_stands table new h.3)
   negotiates_stands at ops apply old sdps outcome table new sdps' h = absurd h
 
-  step_offer_stands : (at : Side) (offer : Option Sdp) (old : Peer I D S M N) (sdps : List Kept) (outcome : Outcome) (table : Option Table) (new : Peer I D S M N) (sdps' : List Kept)
+  step_offer_stands : (at : Side) (offer : Option Sdp) (old : Peer I D S M N) (sdps : List Kept) (outcome : Outcome E) (table : Option Table) (new : Peer I D S M N) (sdps' : List Kept)
       → StepAcceptsOffer m at offer old sdps outcome table new sdps' → StanceStepAcceptsOffer at offer (stance_of m old) sdps outcome table (stance_of m new) sdps'
   step_offer_stands at None old sdps Alloc None new sdps' h = stays_stands old new sdps sdps' h
   step_offer_stands at (Some sdp) old sdps Alloc None new sdps' h = stays_stands old new sdps sdps' h
@@ -103,7 +103,7 @@ module _ {I D S M E X T W N : Type 0} (m : Meanings I D S M E X T W N) (laws : P
       (accepts_offer_stands m laws _ sdp (Err error) new h.0, h.1, shows_stands table new h.2)
   step_offer_stands at offer old sdps outcome table new sdps' h = absurd h
 
-  step_answer_stands : (t : ℕ) (token : Option PendingOffer) (answer : Option Sdp) (old : Peer I D S M N) (sdps : List Kept) (outcome : Outcome) (table : Option Table) (new : Peer I D S M N) (sdps' : List Kept)
+  step_answer_stands : (t : ℕ) (token : Option PendingOffer) (answer : Option Sdp) (old : Peer I D S M N) (sdps : List Kept) (outcome : Outcome E) (table : Option Table) (new : Peer I D S M N) (sdps' : List Kept)
       → StepAcceptsAnswer m t token answer old sdps outcome table new sdps' → StanceStepAcceptsAnswer t token answer (stance_of m old) sdps outcome table (stance_of m new) sdps'
   step_answer_stands t None None old sdps Alloc None new sdps' h = stays_stands old new sdps sdps' h
   step_answer_stands t None (Some sdp) old sdps Alloc None new sdps' h = stays_stands old new sdps sdps' h
@@ -118,14 +118,14 @@ module _ {I D S M E X T W N : Type 0} (m : Meanings I D S M E X T W N) (laws : P
       (accepts_answer_stands m laws _ token sdp (Err error) new h.0, h.1, shows_stands table new h.2)
   step_answer_stands t token answer old sdps outcome table new sdps' h = absurd h
 
-  acts_stand : (step : Step) (old : Peer I D S M N) (sdps : List Kept) (outcome : Outcome) (table : Option Table) (new : Peer I D S M N) (sdps' : List Kept)
+  acts_stand : (step : Step) (old : Peer I D S M N) (sdps : List Kept) (outcome : Outcome E) (table : Option Table) (new : Peer I D S M N) (sdps' : List Kept)
       → Acts m step old sdps outcome table new sdps' → StanceActs step (stance_of m old) sdps outcome table (stance_of m new) sdps'
   acts_stand (Negotiate at ops apply) old sdps outcome table new sdps' h = negotiates_stands at ops apply old sdps outcome table new sdps' h
   acts_stand (AcceptOffer at k) old sdps outcome table new sdps' h = step_offer_stands at (kept_remote_sdp true sdps at k) old sdps outcome table new sdps' h
   acts_stand (AcceptAnswer at t a) old sdps outcome table new sdps' h = step_answer_stands t (held_token sdps at t) (kept_remote_sdp false sdps at a) old sdps outcome table new sdps' h
 
   -- A step of a pair, as negotiation sees it.
-  pub performs_stands : (old : PairState I D S M N) (step : Step) (outcome : Outcome) (table : Option Table) (new : PairState I D S M N) → Performs m old step outcome table new
+  pub performs_stands : (old : PairState I D S M N) (step : Step) (outcome : Outcome E) (table : Option Table) (new : PairState I D S M N) → Performs m old step outcome table new
       → StancePerforms (pair_stance m old) step outcome table (pair_stance m new)
   performs_stands old step outcome table new performs = record {
     acts = acts_stand step (peer_at (side_of step) old) old.sdps outcome table (peer_at (side_of step) new) new.sdps performs.acts;
@@ -133,5 +133,5 @@ module _ {I D S M E X T W N : Type 0} (m : Meanings I D S M E X T W N) (laws : P
     size = performs.size;
   }
 
-  pub enters_stands : (old : PairState I D S M N) (entry : Entry) (new : PairState I D S M N) → Enters m old entry new → StanceEnters (pair_stance m old) entry (pair_stance m new)
+  pub enters_stands : (old : PairState I D S M N) (entry : Entry E) (new : PairState I D S M N) → Enters m old entry new → StanceEnters (pair_stance m old) entry (pair_stance m new)
   enters_stands old entry new enters = record { performs = performs_stands old entry.step entry.outcome entry.table new enters.performs; made = enters.made }
