@@ -105,7 +105,7 @@ after_answer at t a course (AwaitsEnd side n m said) =
     then Some (moved_on at course (course_rows_after false 0 (course_rows at course) said) course.sdps Idle)
     else None
 
--- the course after a step, if it is in order
+-- the course after a step, if it is in order; inputs, polls and closes leave it
 abbrev pub after_step : Course → Step → Option Course
 after_step course (Negotiate at ops apply) = after_ops apply at ops course (rows_after_ops ops (course_rows at course))
 after_step course (AcceptOffer at k) = after_offer at k course course.phase
@@ -147,10 +147,21 @@ is_ok (Refused error) = false
 is_ok NoSuch = false
 is_ok Alloc = false
 
--- Orderly steps of a pair that can connect succeed until memory runs out or a part fails.
+-- whether a step negotiates
+abbrev pub negotiates : Step → Bool
+negotiates (Negotiate at ops apply) = true
+negotiates (AcceptOffer at offer) = true
+negotiates (AcceptAnswer at token answer) = true
+negotiates (Time at now) = false
+negotiates (Datagram at packet now) = false
+negotiates (Poll at) = false
+negotiates (Drain at) = false
+negotiates (Close at) = false
+
+-- Orderly steps of a pair that can connect succeed in what they negotiate, until memory runs out or a part fails.
 abbrev pub OkWhereOrderly : {E : Type 0} → Stances → List (Entry E) → Step → Outcome E → Type 0
 OkWhereOrderly fresh past step outcome =
-    can_connect fresh ≡ true → are_orderly (steps_of past ++ step ∷ []) ≡ true → has_failed past ≡ false
+    negotiates step ≡ true → can_connect fresh ≡ true → are_orderly (steps_of past ++ step ∷ []) ≡ true → has_failed past ≡ false
     → (is_ok outcome || fails outcome) ≡ true
 
 -- nothing is outstanding

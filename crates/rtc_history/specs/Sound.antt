@@ -204,6 +204,11 @@ ShowsOld at past table = (table.lines ≡ before at past) × (table.channels ≡
 -- past and the step. The channels that are shown are those before, and one more that waits for each that was added. Inputs, polls and
 -- closes change no row.
 abbrev pub IsSound : {E : Type 0} → Stances → List (Entry E) → Stances → Step → Outcome E → Option Table → List MadeSdp → Type 0
+IsSound fresh past between (Time at now) outcome (Some table) said = (is_handled outcome ≡ true) × ShowsOld at past table
+IsSound fresh past between (Datagram at packet now) outcome (Some table) said = (is_heard outcome ≡ true) × ShowsOld at past table
+IsSound fresh past between (Poll at) outcome (Some table) said = (is_polled outcome ≡ true) × ShowsOld at past table
+IsSound fresh past between (Drain at) outcome (Some table) said = (is_polled outcome ≡ true) × ShowsOld at past table
+IsSound fresh past between (Close at) outcome (Some table) said = (is_handled outcome ≡ true) × ShowsOld at past table
 IsSound fresh past between step Alloc None said = Unit {0}
 IsSound fresh past between (Negotiate at ops apply) (Negotiated answers made) (Some table) said =
     OpsAnswered (at_first at past (new_app table.lines said)) ops answers table.lines
@@ -218,9 +223,4 @@ IsSound fresh past between (AcceptAnswer at token answer) outcome (Some table) s
     (holds_token at token past) (is_right at token past) (asked_in at token past)
     (remote_sdp false at answer past) (view_in fresh at past (held_by (between at))) outcome table.lines
     × (table.channels ≡ channels_shown at past)
-IsSound fresh past between (Time at now) outcome (Some table) said = (is_handled outcome ≡ true) × ShowsOld at past table
-IsSound fresh past between (Datagram at packet now) outcome (Some table) said = (is_heard outcome ≡ true) × ShowsOld at past table
-IsSound fresh past between (Poll at) outcome (Some table) said = (is_polled outcome ≡ true) × ShowsOld at past table
-IsSound fresh past between (Drain at) outcome (Some table) said = (is_polled outcome ≡ true) × ShowsOld at past table
-IsSound fresh past between (Close at) outcome (Some table) said = (is_handled outcome ≡ true) × ShowsOld at past table
 IsSound fresh past between step outcome table said = ⊥

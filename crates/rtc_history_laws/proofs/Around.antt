@@ -6,7 +6,7 @@ use Rattle.std.proofs.lemmas.Option.{slice_get-map}
 use Rattle.rtc_sdp_values.specs.declared.sdp.Sdp.{Sdp}
 use Rattle.rtc_history.specs.declared.side.Side.{Side}
 use Rattle.rtc_history.specs.declared.step.Step.{Step}
-use Rattle.rtc_history.specs.declared.step.Step.TheVariants.{Negotiate, AcceptOffer, AcceptAnswer}
+use Rattle.rtc_history.specs.declared.step.Step.TheVariants.{Negotiate, AcceptOffer, AcceptAnswer, Time, Datagram, Poll, Drain, Close}
 use Rattle.rtc_history.specs.declared.outcome.Outcome.{Outcome}
 use Rattle.rtc_history.specs.declared.table.Table.{Table}
 use Rattle.rtc_history.specs.Sides.{same_side, other_side, side_of}
@@ -35,6 +35,11 @@ one_at_least : (step : Step) → 1 ≤ step_size step
 one_at_least (Negotiate at ops apply) = omega arith
 one_at_least (AcceptOffer at offer) = omega arith
 one_at_least (AcceptAnswer at token answer) = omega arith
+one_at_least (Time at now) = omega arith
+one_at_least (Datagram at packet now) = omega arith
+one_at_least (Poll at) = omega arith
+one_at_least (Drain at) = omega arith
+one_at_least (Close at) = omega arith
 
 pub size_grows : (step : Step) (made : List MadeSdp) (old new : PairStance) → Around step made old new → old.size + 1 ≤ new.size
 size_grows step made old new around = omega (arith, one_at_least step, around.size)

@@ -11,9 +11,9 @@ use Rattle.rtc_history.specs.declared.op.Op.TheVariants.{AddMedia, SetDirection,
 use Rattle.rtc_history.specs.declared.op_answer.OpAnswer.{OpAnswer}
 use Rattle.rtc_history.specs.declared.op_answer.OpAnswer.TheVariants.{Mid, Changed, NoLine, Channel as Numbered, BadChannel, Alloc as OpAlloc, Creds}
 use Rattle.rtc_history.specs.declared.step.Step.{Step}
-use Rattle.rtc_history.specs.declared.step.Step.TheVariants.{Negotiate, AcceptOffer, AcceptAnswer}
+use Rattle.rtc_history.specs.declared.step.Step.TheVariants.{Negotiate, AcceptOffer, AcceptAnswer, Time, Datagram, Poll, Drain, Close}
 use Rattle.rtc_history.specs.declared.outcome.Outcome.{Outcome}
-use Rattle.rtc_history.specs.declared.outcome.Outcome.TheVariants.{Negotiated, Answered, Finished, Refused, NoSuch, Alloc}
+use Rattle.rtc_history.specs.declared.outcome.Outcome.TheVariants.{Negotiated, Answered, Finished, Done, Polled, Refused, NoSuch, Alloc}
 use Rattle.rtc_history.specs.Sides.{same_side, side_of}
 use Rattle.rtc_history.specs.Sizes.{step_size, steps_size}
 use Rattle.rtc_history.specs.Answers.{channels_answered, with_numbered}
@@ -48,9 +48,16 @@ step_within : {E : Type 0} → (here : Bool) (step : Step) (outcome : Outcome E)
 step_within false step outcome held = omega arith
 step_within true (AcceptOffer at k) outcome held = omega arith
 step_within true (AcceptAnswer at t a) outcome held = omega arith
+step_within true (Time at now) outcome held = omega arith
+step_within true (Datagram at packet now) outcome held = omega arith
+step_within true (Poll at) outcome held = omega arith
+step_within true (Drain at) outcome held = omega arith
+step_within true (Close at) outcome held = omega arith
 step_within true (Negotiate at ops apply) (Negotiated answers made) held = let some = answered_within ops answers held in omega (arith, some)
 step_within true (Negotiate at ops apply) (Answered k) held = omega arith
 step_within true (Negotiate at ops apply) Finished held = omega arith
+step_within true (Negotiate at ops apply) Done held = omega arith
+step_within true (Negotiate at ops apply) (Polled outputs end) held = omega arith
 step_within true (Negotiate at ops apply) (Refused error) held = omega arith
 step_within true (Negotiate at ops apply) NoSuch held = omega arith
 step_within true (Negotiate at ops apply) Alloc held = omega arith

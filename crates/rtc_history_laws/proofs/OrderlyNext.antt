@@ -15,7 +15,7 @@ use Rattle.rtc_history.specs.declared.op.Op.{Op}
 use Rattle.rtc_history.specs.declared.made.Made.{Made}
 use Rattle.rtc_history.specs.declared.made.Made.TheVariants.{NotAsked, Nothing, Offer, Alloc as MadeAlloc}
 use Rattle.rtc_history.specs.declared.step.Step.{Step}
-use Rattle.rtc_history.specs.declared.step.Step.TheVariants.{Negotiate, AcceptOffer, AcceptAnswer}
+use Rattle.rtc_history.specs.declared.step.Step.TheVariants.{Negotiate, AcceptOffer, AcceptAnswer, Time, Datagram, Poll, Drain, Close}
 use Rattle.rtc_history.specs.declared.outcome.Outcome.{Outcome}
 use Rattle.rtc_history.specs.declared.outcome.Outcome.TheVariants.{Negotiated, Answered, Finished, Refused, NoSuch, Alloc}
 use Rattle.rtc_history.specs.declared.table.Table.{Table}
@@ -24,7 +24,7 @@ use Rattle.rtc_history.specs.Memory.{answers_lack, fails}
 use Rattle.rtc_history.specs.Sides.{other_side}
 use Rattle.rtc_history.specs.Past.{Entry, MadeSdp, sdps}
 use Rattle.rtc_history.specs.SaidRows.{row_said}
-use Rattle.rtc_history.specs.Orderly.{Phase, Idle, AwaitsAnswer, AwaitsEnd, Course, course_rows, moved_on, after_ops, after_step, is_ok, AreCurrent}
+use Rattle.rtc_history.specs.Orderly.{Phase, Idle, AwaitsAnswer, AwaitsEnd, Course, course_rows, moved_on, after_ops, after_step, is_ok, negotiates, AreCurrent}
 use Rattle.rtc_history.specs.Performs.{kept_offer, kept_answer}
 use Rattle.rtc_history.specs.PairState.{made_sdp, kept_remote_sdp, held_token}
 use Rattle.rtc_history.proofs.BothSides.{both_sides}
@@ -228,8 +228,16 @@ enough_ok outcome either enough = by (is_ok outcome) refl
     by true is = refl
     by false is = absurd (let e : false ≡ true = rw (is, enough) at either in cc)
 
+-- a step that negotiates nothing leaves what is outstanding
+rest_round : (old new : PairStance) (at : Side) (course course' : Course) → Some course ≡ Some course' → new.sides at ≡ old.sides at → new.sides (other_side at) ≡ old.sides (other_side at)
+    → new.sdps ≡ old.sdps → InRound course.phase old → InRound course'.phase new
+rest_round old new at course course' after mine other kept round =
+    let same : course ≡ course' = cc in
+    let ice : SameIce old new = both_sides (λ side. (new.sides side).ice ≡ (old.sides side).ice) at (ap (λ (s : Stance). s.ice) mine) (ap (λ (s : Stance). s.ice) other) in
+    subst (λ (c : Course). InRound c.phase new) same (round_stays course.phase old new ice kept round)
+
 pub round_next : {E : Type 0} → (fresh : Stances) (past : List (Entry E)) (old new : PairStance) (step : Step) (outcome : Outcome E) (table : Option Table) (made : List MadeSdp) (course course' : Course) → IsOnCourse fresh past old course
-    → Tells (entry step outcome table made ∷ past) new → StancePerforms old step outcome table new → after_step course step ≡ Some course' → (is_ok outcome || fails outcome) ≡ true → fails outcome ≡ false
+    → Tells (entry step outcome table made ∷ past) new → StancePerforms old step outcome table new → after_step course step ≡ Some course' → (negotiates step ≡ true → (is_ok outcome || fails outcome) ≡ true) → fails outcome ≡ false
     → InCourse course' (entry step outcome table made ∷ past) → InRound course'.phase new
 round_next fresh past old new (Negotiate at ops apply) outcome table made course course' on tells' performs after either enough next =
     ops_next past (entry (Negotiate at ops apply) outcome table made) old new at ops apply outcome table course course' on.tells tells' on.course_is on.round performs.acts performs.other enough after next
@@ -242,11 +250,21 @@ round_next {E} fresh past old new (AcceptOffer at k) outcome table made course c
     (subst (λ (one : Side). StanceStepAcceptsOffer one (kept_remote_sdp true old.sdps one k) (old.sides one) old.sdps outcome table (new.sides one) new.sdps → new.sides (other_side one) ≡ old.sides (other_side one)
     → InCourse (moved_on one course (rows one) (course.sdps + 1) (AwaitsEnd it.side k course.sdps (rows one))) (e ∷ past) → InRound (moved_on one course (rows one) (course.sdps + 1) (AwaitsEnd it.side k course.sdps (rows one))).phase new) it.at_is
     (λ acts other next. accept_next past e old new it.side k outcome table course (rows (other_side it.side)) on.tells tells' on.course_is out acts
-    (subst (λ (one : Side). new.sides one ≡ old.sides one) (other_twice it.side) other) (enough_ok outcome either enough) next)
+    (subst (λ (one : Side). new.sides one ≡ old.sides one) (other_twice it.side) other) (enough_ok outcome (either refl) enough) next)
     performs.acts performs.other) next
 round_next fresh past old new (AcceptAnswer at t a) outcome table made course course' on tells' performs after either enough next =
     let it = end_course at t a course course.phase course' after in
     let out : IsAnswerOut at t a old = subst (λ (phase : Phase). InRound phase old) it.phase_is on.round in
     subst (λ (c : Course). InRound c.phase new) it.course_is
     (subst (λ (phase : Phase). InRound phase new) (sym (moved_phase at course (course_rows_after false 0 (course_rows at course) it.said) course.sdps Idle))
-    (end_next old new at t a outcome table out performs.acts performs.other (enough_ok outcome either enough)))
+    (end_next old new at t a outcome table out performs.acts performs.other (enough_ok outcome (either refl) enough)))
+round_next fresh past old new (Time at now) outcome table made course course' on tells' performs after either enough next =
+    rest_round old new at course course' after performs.acts.stays.peer performs.other performs.acts.stays.sdps_kept on.round
+round_next fresh past old new (Datagram at packet now) outcome table made course course' on tells' performs after either enough next =
+    rest_round old new at course course' after performs.acts.stays.peer performs.other performs.acts.stays.sdps_kept on.round
+round_next fresh past old new (Poll at) outcome table made course course' on tells' performs after either enough next =
+    rest_round old new at course course' after performs.acts.stays.peer performs.other performs.acts.stays.sdps_kept on.round
+round_next fresh past old new (Drain at) outcome table made course course' on tells' performs after either enough next =
+    rest_round old new at course course' after performs.acts.stays.peer performs.other performs.acts.stays.sdps_kept on.round
+round_next fresh past old new (Close at) outcome table made course course' on tells' performs after either enough next =
+    rest_round old new at course course' after performs.acts.stays.peer performs.other performs.acts.stays.sdps_kept on.round

@@ -15,7 +15,7 @@ use Rattle.rtc_history.specs.Past.{Entry, MadeSdp, before, steps_of}
 use Rattle.rtc_history.specs.Sound.{IsSound}
 use Rattle.rtc_history.specs.SaidRows.{MakesSdp}
 use Rattle.rtc_history.specs.SoundEntry.{IsSoundEntry}
-use Rattle.rtc_history.specs.Orderly.{Phase, Idle, AwaitsAnswer, AwaitsEnd, Course, course_of, after_step, has_failed, can_connect, IsIdle, AreCurrent, OkWhereOrderly, InStepWhereOrderly}
+use Rattle.rtc_history.specs.Orderly.{Phase, Idle, AwaitsAnswer, AwaitsEnd, Course, course_of, after_step, has_failed, can_connect, IsIdle, AreCurrent, OkWhereOrderly, InStepWhereOrderly, negotiates}
 use Rattle.rtc_history_laws.proofs.StanceSteps.{PairStance, StancePerforms, StanceEnters, made_by}
 use Rattle.rtc_history_laws.proofs.StanceRuns.{IsFreshStance, StanceReached, StanceRan, ran_reached, ran_sound}
 use Rattle.rtc_history_laws.proofs.SoundPasts.{Sound}
@@ -62,7 +62,7 @@ on_course start old past course fresh reached small is = record {
 
 -- a step that is in order goes on in the course
 step_goes : {E : Type 0} → (start old new : PairStance) (past : List (Entry E)) (step : Step) (outcome : Outcome E) (table : Option Table) (made : List MadeSdp) (course course' : Course) → IsFreshStance start → can_connect start.sides ≡ true → StanceRan start past old
-    → IsStep start past old new step outcome table made → IsOrderly past old course → after_step course step ≡ Some course' → GoesOn outcome course' (entry step outcome table made ∷ past)
+    → IsStep start past old new step outcome table made → IsOrderly past old course → after_step course step ≡ Some course' → GoesOn (negotiates step) outcome course' (entry step outcome table made ∷ past)
 step_goes start old new past step outcome table made course course' fresh connect ran is orderly after =
     let reached : StanceReached start past old = ran_reached start past old ran in
     let around : Around step made old new = around_of old new step outcome table made is.performs is.made_is is.small in
@@ -120,15 +120,15 @@ ran_orderly start pair (last ∷ past) course fresh connect ran small enough is 
 ok_where_orderly : {E : Type 0} → (start old new : PairStance) (past : List (Entry E)) (step : Step) (outcome : Outcome E) (table : Option Table) (made : List MadeSdp) → IsFreshStance start → StanceRan start past old → old.size < 2 ^ 32
     → IsStep start past old new step outcome table made → OkWhereOrderly start.sides past step outcome
 ok_where_orderly start old new past step outcome table made fresh ran small is =
-    λ connect orderly enough. by connect enough (course_of (steps_of past)) refl (ap is_some (sym (follow_last (Some start_course) (steps_of past) step)) ∙ orderly)
+    λ negotiating connect orderly enough. by negotiating connect enough (course_of (steps_of past)) refl (ap is_some (sym (follow_last (Some start_course) (steps_of past) step)) ∙ orderly)
   where
-    of_step : can_connect start.sides ≡ true → (c : Course) → IsOrderly past old c → (found : Option Course) → after_step c step ≡ found → is_some found ≡ true → IsOkOrFails outcome
-    of_step connect c on None after some = absurd (cc)
-    of_step connect c on (Some course) after some = (step_goes start old new past step outcome table made c course fresh connect ran is on after).ok
+    of_step : negotiates step ≡ true → can_connect start.sides ≡ true → (c : Course) → IsOrderly past old c → (found : Option Course) → after_step c step ≡ found → is_some found ≡ true → IsOkOrFails outcome
+    of_step negotiating connect c on None after some = absurd (cc)
+    of_step negotiating connect c on (Some course) after some = (step_goes start old new past step outcome table made c course fresh connect ran is on after).ok negotiating
 
-    by : can_connect start.sides ≡ true → has_failed past ≡ false → (found : Option Course) → course_of (steps_of past) ≡ found → is_some (next_of found step) ≡ true → IsOkOrFails outcome
-    by connect enough None before_it some = absurd (cc)
-    by connect enough (Some c) before_it some = of_step connect c (ran_orderly start old past c fresh connect ran small enough before_it) (after_step c step) refl some
+    by : negotiates step ≡ true → can_connect start.sides ≡ true → has_failed past ≡ false → (found : Option Course) → course_of (steps_of past) ≡ found → is_some (next_of found step) ≡ true → IsOkOrFails outcome
+    by negotiating connect enough None before_it some = absurd (cc)
+    by negotiating connect enough (Some c) before_it some = of_step negotiating connect c (ran_orderly start old past c fresh connect ran small enough before_it) (after_step c step) refl some
 
 idle_current : (phase : Phase) (pair : PairStance) → IsIdle phase → InRound phase pair → (at : Side) → AreCurrent pair.sides at
 idle_current Idle pair idle out = out

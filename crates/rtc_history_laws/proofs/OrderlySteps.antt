@@ -8,7 +8,7 @@ use Rattle.rtc_change.specs.Plans.{verdict, side_verdict}
 use Rattle.rtc_peer_state.specs.declared.rtc_error.RtcError.TheVariants.{RemoteSdp, Sdp as SdpRefused, Alloc as PeerAlloc, Dtls, Sctp}
 use Rattle.rtc_history.specs.declared.side.Side.{Side}
 use Rattle.rtc_history.specs.declared.op.Op.{Op}
-use Rattle.rtc_history.specs.declared.step.Step.TheVariants.{Negotiate, AcceptOffer, AcceptAnswer}
+use Rattle.rtc_history.specs.declared.step.Step.TheVariants.{Negotiate, AcceptOffer, AcceptAnswer, Time, Datagram, Poll, Drain, Close}
 use Rattle.rtc_history.specs.declared.outcome.Outcome.{Outcome}
 use Rattle.rtc_history.specs.declared.outcome.Outcome.TheVariants.{Negotiated, Answered, Finished, Refused, Alloc}
 use Rattle.rtc_history.specs.declared.table.Table.{Table}
@@ -85,9 +85,9 @@ ok_or_fails outcome enough = by (fails outcome) refl
 
 -- ---- each acceptance in its phase
 
--- What a step in order comes to: its Ok or a failure, and where nothing fails, the course goes on.
-pub record GoesOn {E : Type 0} (outcome : Outcome E) (course : Course) (past : List (Entry E)) : Type 0 where
-  pub ok : IsOkOrFails outcome
+-- What a step in order comes to: its Ok or a failure, where it negotiates; and where nothing fails, the course goes on.
+pub record GoesOn {E : Type 0} (negotiating : Bool) (outcome : Outcome E) (course : Course) (past : List (Entry E)) : Type 0 where
+  pub ok : negotiating ≡ true → IsOkOrFails outcome
   pub next : fails outcome ≡ false → InCourse course past
 
 -- The offer or answer that a step delivers tells of its side what it has to.
@@ -97,6 +97,11 @@ SidePasses fresh between past (AcceptOffer at k) =
     (sdp : Sdp) → remote_sdp true at k past ≡ Some sdp → side_verdict (view_in fresh at past (held_by (between at))) true sdp ≡ None
 SidePasses fresh between past (AcceptAnswer at t a) =
     (sdp : Sdp) → remote_sdp false at a past ≡ Some sdp → side_verdict (view_in fresh at past (held_by (between at))) (restarts_by t past) sdp ≡ None
+SidePasses fresh between past (Time at now) = Unit {0}
+SidePasses fresh between past (Datagram at packet now) = Unit {0}
+SidePasses fresh between past (Poll at) = Unit {0}
+SidePasses fresh between past (Drain at) = Unit {0}
+SidePasses fresh between past (Close at) = Unit {0}
 
 -- the course after the other side accepts an offer
 abbrev pub accepted_course : Side → ℕ → List LineRow → Course → Course
@@ -104,15 +109,15 @@ accepted_course at n rows course = moved_on (other_side at) course rows (course.
 
 pub accept_goes_on : {E : Type 0} → (fresh between : Stances) (past : List (Entry E)) (at : Side) (n : ℕ) (said : List LineRow) (course : Course) (outcome : Outcome E) (table : Option Table) (made : List MadeSdp) → Sound fresh past → InCourse course past → IsOffered at n said past → SidePasses fresh between past (AcceptOffer (other_side at) n)
     → IsSound fresh past between (AcceptOffer (other_side at) n) outcome table made → MakesSdp (AcceptOffer (other_side at) n) outcome table made
-    → GoesOn outcome (accepted_course at n (course_rows_after true 0 (course_rows (other_side at) course) said) course) (entry (AcceptOffer (other_side at) n) outcome table made ∷ past)
-accept_goes_on fresh between past at n said course Alloc None made sound is out side replied says = record { ok = refl; next = λ enough. absurd (cc) }
+    → GoesOn true outcome (accepted_course at n (course_rows_after true 0 (course_rows (other_side at) course) said) course) (entry (AcceptOffer (other_side at) n) outcome table made ∷ past)
+accept_goes_on fresh between past at n said course Alloc None made sound is out side replied says = record { ok = λ negotiating. refl; next = λ enough. absurd (cc) }
 accept_goes_on {E} fresh between past at n said course outcome (Some table) made sound is out side replied says =
     let may : MayAccept out.offer at n past = may_accept fresh at n said past sound out in
     let passes = accept_passes fresh at n said past (view_in fresh (other_side at) past (held_by (between (other_side at)))) sound out refl (side out.offer.sdp may.remote_is) in
     let takes = offer_taking fresh between past (other_side at) n outcome table made replied in
     let comes : fails outcome ≡ false → (j : ℕ) × (outcome ≡ Answered j) =
     offer_answers (remote_sdp true (other_side at) n past) out.offer.sdp (view_in fresh (other_side at) past (held_by (between (other_side at)))) (length (sdps past)) outcome table.lines may.remote_is passes takes in
-    record { ok = ok_or_fails outcome (λ enough. ap is_ok (comes enough).1); next = λ enough. by (comes enough).0 outcome (comes enough).1 replied says }
+    record { ok = λ negotiating. ok_or_fails outcome (λ enough. ap is_ok (comes enough).1); next = λ enough. by (comes enough).0 outcome (comes enough).1 replied says }
   where
     rows : List LineRow
     rows = course_rows_after true 0 (course_rows (other_side at) course) said
@@ -130,15 +135,15 @@ accept_goes_on fresh between past at n said course outcome table made sound is o
 
 pub end_goes_on : {E : Type 0} → (fresh between : Stances) (past : List (Entry E)) (at : Side) (n m : ℕ) (said : List LineRow) (course : Course) (outcome : Outcome E) (table : Option Table) (made : List MadeSdp) → Sound fresh past → InCourse course past → IsAnswered at n m said past → SidePasses fresh between past (AcceptAnswer at n m)
     → IsSound fresh past between (AcceptAnswer at n m) outcome table made → MakesSdp (AcceptAnswer at n m) outcome table made
-    → GoesOn outcome (moved_on at course (course_rows_after false 0 (course_rows at course) said) course.sdps Idle) (entry (AcceptAnswer at n m) outcome table made ∷ past)
-end_goes_on fresh between past at n m said course Alloc None made sound is out side replied says = record { ok = refl; next = λ enough. absurd (cc) }
+    → GoesOn true outcome (moved_on at course (course_rows_after false 0 (course_rows at course) said) course.sdps Idle) (entry (AcceptAnswer at n m) outcome table made ∷ past)
+end_goes_on fresh between past at n m said course Alloc None made sound is out side replied says = record { ok = λ negotiating. refl; next = λ enough. absurd (cc) }
 end_goes_on {E} fresh between past at n m said course outcome (Some table) made sound is out side replied says =
     let may : MayEnd out.answer at n m past = may_end fresh at n m said past sound out in
     let passes = end_passes fresh at n m said past (view_in fresh at past (held_by (between at))) sound out refl (side out.answer.sdp may.remote_is) in
     let takes = answer_taking fresh between past at n m outcome table made replied in
     let comes : fails outcome ≡ false → outcome ≡ Finished =
     answer_finishes _ _ (asked_in at n past) _ out.answer.sdp (view_in fresh at past (held_by (between at))) outcome table.lines may.held may.right may.remote_is passes takes in
-    record { ok = ok_or_fails outcome (λ enough. ap is_ok (comes enough)); next = λ enough. by outcome (comes enough) replied says }
+    record { ok = λ negotiating. ok_or_fails outcome (λ enough. ap is_ok (comes enough)); next = λ enough. by outcome (comes enough) replied says }
   where
     rows : List LineRow
     rows = course_rows_after false 0 (course_rows at course) said

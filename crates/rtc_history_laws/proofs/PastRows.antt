@@ -9,7 +9,7 @@ use Rattle.rtc_change.specs.Held.{Asked}
 use Rattle.rtc_peer_state.specs.declared.rtc_error.RtcError.TheVariants.{RemoteSdp, Sdp as SdpRefused, ChangesOutOfOrder, Alloc as PeerAlloc, Dtls, Sctp}
 use Rattle.rtc_history.specs.declared.side.Side.{Side}
 use Rattle.rtc_history.specs.declared.step.Step.{Step}
-use Rattle.rtc_history.specs.declared.step.Step.TheVariants.{Negotiate, AcceptOffer, AcceptAnswer}
+use Rattle.rtc_history.specs.declared.step.Step.TheVariants.{Negotiate, AcceptOffer, AcceptAnswer, Time, Datagram, Poll, Drain, Close}
 use Rattle.rtc_history.specs.declared.outcome.Outcome.{Outcome}
 use Rattle.rtc_history.specs.declared.outcome.Outcome.TheVariants.{Negotiated, Answered, Finished, Refused, NoSuch, Alloc}
 use Rattle.rtc_history.specs.declared.table.Table.{Table}
@@ -96,6 +96,11 @@ stayed fresh between past (AcceptAnswer at u answer) outcome (Some table) made t
           let one : u ≡ t = one_right fresh past at u t sound taken.2 right held.0 mine in
           both_ways (spends t (AcceptAnswer at u answer) outcome) unspent (rw (taken.0, eq-eqb u t one) refl))
     ]
+stayed fresh between past (Time at now) outcome (Some table) made t sound replied right mine still unspent unset = replied.1.0
+stayed fresh between past (Datagram at packet now) outcome (Some table) made t sound replied right mine still unspent unset = replied.1.0
+stayed fresh between past (Poll at) outcome (Some table) made t sound replied right mine still unspent unset = replied.1.0
+stayed fresh between past (Drain at) outcome (Some table) made t sound replied right mine still unspent unset = replied.1.0
+stayed fresh between past (Close at) outcome (Some table) made t sound replied right mine still unspent unset = replied.1.0
 stayed fresh between past step outcome table made t sound replied right mine still unspent unset = absurd replied
 
 -- the same of a step of either side

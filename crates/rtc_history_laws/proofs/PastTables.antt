@@ -9,7 +9,7 @@ use Rattle.rtc_change.proofs.VerdictLemmas.{unrefused_table}
 use Rattle.rtc_peer_state.specs.declared.rtc_error.RtcError.TheVariants.{RemoteSdp, Sdp as SdpRefused, ChangesOutOfOrder, Alloc as PeerAlloc, Dtls, Sctp}
 use Rattle.rtc_history.specs.declared.side.Side.{Side}
 use Rattle.rtc_history.specs.declared.step.Step.{Step}
-use Rattle.rtc_history.specs.declared.step.Step.TheVariants.{Negotiate, AcceptOffer, AcceptAnswer}
+use Rattle.rtc_history.specs.declared.step.Step.TheVariants.{Negotiate, AcceptOffer, AcceptAnswer, Time, Datagram, Poll, Drain, Close}
 use Rattle.rtc_history.specs.declared.outcome.Outcome.{Outcome}
 use Rattle.rtc_history.specs.declared.outcome.Outcome.TheVariants.{Negotiated, Answered, Finished, Refused, NoSuch, Alloc}
 use Rattle.rtc_history.specs.declared.table.Table.{Table}
@@ -58,6 +58,11 @@ reply_table fresh between past (AcceptOffer at offer) outcome (Some after) made 
     taken_table (remote_sdp true at offer past) (view_in fresh at past (held_by (between at))) _ outcome after.lines (offer_taking fresh between past at offer outcome after made sound) table
 reply_table fresh between past (AcceptAnswer at token answer) outcome (Some after) made sound table =
     answer_table (holds_token at token past) (is_right at token past) (asked_in at token past) (remote_sdp false at answer past) (view_in fresh at past (held_by (between at))) outcome after.lines (answer_taking fresh between past at token answer outcome after made sound) table
+reply_table fresh between past (Time at now) outcome (Some after) made sound table = same_table (before at past) after.lines sound.1.0 table
+reply_table fresh between past (Datagram at packet now) outcome (Some after) made sound table = same_table (before at past) after.lines sound.1.0 table
+reply_table fresh between past (Poll at) outcome (Some after) made sound table = same_table (before at past) after.lines sound.1.0 table
+reply_table fresh between past (Drain at) outcome (Some after) made sound table = same_table (before at past) after.lines sound.1.0 table
+reply_table fresh between past (Close at) outcome (Some after) made sound table = same_table (before at past) after.lines sound.1.0 table
 reply_table fresh between past step outcome after made sound table = absurd sound
 
 -- The rows of a side are a table.

@@ -5,7 +5,7 @@ use Rattle.rtc_tables.specs.Table.{IsTable}
 use Rattle.rtc_peer_state.specs.Stance.{Stance}
 use Rattle.rtc_history.specs.declared.side.Side.{Side}
 use Rattle.rtc_history.specs.declared.step.Step.{Step}
-use Rattle.rtc_history.specs.declared.step.Step.TheVariants.{Negotiate, AcceptOffer, AcceptAnswer}
+use Rattle.rtc_history.specs.declared.step.Step.TheVariants.{Negotiate, AcceptOffer, AcceptAnswer, Time, Datagram, Poll, Drain, Close}
 use Rattle.rtc_history.specs.declared.outcome.Outcome.{Outcome}
 use Rattle.rtc_history.specs.declared.table.Table.{Table}
 use Rattle.rtc_history.specs.declared.kept.Kept.{Kept}
@@ -27,6 +27,7 @@ use Rattle.rtc_history_laws.proofs.SeenSteps.{step_sees}
 use Rattle.rtc_history_laws.proofs.NegotiateSteps.{negotiate_reply, negotiate_tells}
 use Rattle.rtc_history_laws.proofs.OfferSteps.{offer_reply, offer_tells}
 use Rattle.rtc_history_laws.proofs.AnswerSteps.{answer_reply, answer_tells}
+use Rattle.rtc_history_laws.proofs.Rests.{handled_rests, heard_rests, polled_rests, told_rests, rest_tells, time_reply, datagram_reply, poll_reply, drain_reply, close_reply}
 
 -- ---- one step
 
@@ -46,6 +47,16 @@ step_sound fresh past old new (AcceptAnswer at t a) outcome table tells sees row
     answer_reply fresh old.sides past at t a old.size (slice_get old.sdps t) (held_token old.sdps at t) (kept_remote_sdp false old.sdps at a) (old.sides at) (new.sides at) old.sdps new.sdps outcome table (made_by old new)
     refl ((tells.sides at).tokens t) (tells.sides at).counts (omega (arith, performs.size)) (remote_sdp-told past old false at a tells) (view_is fresh past at (old.sides at) (tells.sides at).rows (sees at)) (sym (tells.sides at).rows)
     (sym (tells.sides at).channels.shown) performs.acts
+step_sound fresh past old new (Time at now) outcome table tells sees rows performs small =
+    time_reply fresh old.sides past at now (old.sides at) outcome table (made_by old new) (sym (tells.sides at).rows) (sym (tells.sides at).channels.shown) performs.acts.told
+step_sound fresh past old new (Datagram at packet now) outcome table tells sees rows performs small =
+    datagram_reply fresh old.sides past at packet now (old.sides at) outcome table (made_by old new) (sym (tells.sides at).rows) (sym (tells.sides at).channels.shown) performs.acts.told
+step_sound fresh past old new (Poll at) outcome table tells sees rows performs small =
+    poll_reply fresh old.sides past at (old.sides at) outcome table (made_by old new) (sym (tells.sides at).rows) (sym (tells.sides at).channels.shown) performs.acts.told
+step_sound fresh past old new (Drain at) outcome table tells sees rows performs small =
+    drain_reply fresh old.sides past at (old.sides at) outcome table (made_by old new) (sym (tells.sides at).rows) (sym (tells.sides at).channels.shown) performs.acts.told
+step_sound fresh past old new (Close at) outcome table tells sees rows performs small =
+    close_reply fresh old.sides past at (old.sides at) outcome table (made_by old new) (sym (tells.sides at).rows) (sym (tells.sides at).channels.shown) performs.acts.told
 
 pub step_tells : {E : Type 0} → (past : List (Entry E)) (old new : PairStance) (step : Step) (outcome : Outcome E) (table : Option Table) (made : List MadeSdp)
     → Tells past old → StancePerforms old step outcome table new → Around step made old new → Tells (entry step outcome table made ∷ past) new
@@ -55,6 +66,11 @@ step_tells past old new (AcceptOffer at k) outcome table made tells performs aro
     offer_tells past at k (kept_remote_sdp true old.sdps at k) old new outcome table made (λ sdp. sdp_within past old true at k sdp tells) performs.acts around tells
 step_tells past old new (AcceptAnswer at t a) outcome table made tells performs around =
     answer_tells past at t a (held_token old.sdps at t) (kept_remote_sdp false old.sdps at a) old new outcome table made (λ sdp. sdp_within past old false at a sdp tells) refl performs.acts around tells
+step_tells past old new (Time at now) outcome table made tells performs around = rest_tells past (Time at now) outcome table made old new _ tt (told_rests _ outcome table (old.sides at) handled_rests performs.acts.told) performs.acts around tells
+step_tells past old new (Datagram at packet now) outcome table made tells performs around = rest_tells past (Datagram at packet now) outcome table made old new _ tt (told_rests _ outcome table (old.sides at) heard_rests performs.acts.told) performs.acts around tells
+step_tells past old new (Poll at) outcome table made tells performs around = rest_tells past (Poll at) outcome table made old new _ tt (told_rests _ outcome table (old.sides at) polled_rests performs.acts.told) performs.acts around tells
+step_tells past old new (Drain at) outcome table made tells performs around = rest_tells past (Drain at) outcome table made old new _ tt (told_rests _ outcome table (old.sides at) polled_rests performs.acts.told) performs.acts around tells
+step_tells past old new (Close at) outcome table made tells performs around = rest_tells past (Close at) outcome table made old new _ tt (told_rests _ outcome table (old.sides at) handled_rests performs.acts.told) performs.acts around tells
 
 -- ---- all steps
 

@@ -23,20 +23,21 @@ use Rattle.rtc_history.specs.declared.side.Side.{Side}
 use Rattle.rtc_history.specs.declared.op.Op.{Op}
 use Rattle.rtc_history.specs.declared.op.Op.TheVariants.{AddMedia, SetDirection, StopMedia, AddChannel, IceRestart}
 use Rattle.rtc_history.specs.declared.step.Step.{Step}
-use Rattle.rtc_history.specs.declared.step.Step.TheVariants.{Negotiate, AcceptOffer, AcceptAnswer}
+use Rattle.rtc_history.specs.declared.step.Step.TheVariants.{Negotiate, AcceptOffer, AcceptAnswer, Time, Datagram, Poll, Drain, Close}
 use Rattle.rtc_history.specs.declared.op_answer.OpAnswer.{OpAnswer}
 use Rattle.rtc_history.specs.declared.op_answer.OpAnswer.TheVariants.{Mid, Changed, NoLine, Channel, Creds}
 use Rattle.rtc_history.specs.declared.op_answer.OpAnswer.TheVariants.{BadChannel as NoChannel, Alloc as OpAlloc}
 use Rattle.rtc_history.specs.declared.made.Made.{Made}
 use Rattle.rtc_history.specs.declared.made.Made.TheVariants.{NotAsked, Nothing, Offer, Alloc as MadeAlloc}
 use Rattle.rtc_history.specs.declared.outcome.Outcome.{Outcome}
-use Rattle.rtc_history.specs.declared.outcome.Outcome.TheVariants.{Negotiated, Answered, Finished, Refused, NoSuch, Alloc}
+use Rattle.rtc_history.specs.declared.outcome.Outcome.TheVariants.{Negotiated, Answered, Finished, Done, Polled, Refused, NoSuch, Alloc}
 use Rattle.rtc_history.specs.declared.table.Table.{Table}
 use Rattle.rtc_history.specs.declared.kept.Kept.{Kept}
 use Rattle.rtc_history.specs.Memory.{answers_lack}
 use Rattle.rtc_history.specs.Sides.{side_of, other_side}
 use Rattle.rtc_history.specs.Sizes.{step_size}
 use Rattle.rtc_history.specs.Past.{Entry, MadeSdp}
+use Rattle.rtc_history.specs.Sound.{is_handled, is_heard, is_polled}
 use Rattle.rtc_history.specs.Views.{Stances}
 use Rattle.rtc_history.specs.PairState.{PairState, stances_of, kept_remote_sdp, held_token, spent}
 use Rattle.rtc_history.specs.Performs.{CallsLine, kept_offer, kept_answer, wanted, sdps_behind}
@@ -142,12 +143,28 @@ StanceStepAcceptsAnswer t (Some token) (Some sdp) old sdps (Refused error) (Some
     × StanceShows table new
 StanceStepAcceptsAnswer t token answer old sdps outcome table new sdps' = ⊥
 
+-- what is shown of a step that negotiates nothing: that memory ran out, or an outcome that it may have, and the table
+abbrev pub RestTold : {E : Type 0} → (Outcome E → Bool) → Outcome E → Option Table → Stance → Type 0
+RestTold may outcome None s = outcome ≡ Alloc
+RestTold may outcome (Some table) s = (may outcome ≡ true) × StanceShows table s
+
+-- a step that negotiates nothing: an input, polls or a close
+pub record StanceRests {E : Type 0} (may : Outcome E → Bool) (old : Stance) (sdps : List Kept) (outcome : Outcome E) (table : Option Table)
+    (new : Stance) (sdps' : List Kept) : Type 0 where
+  pub stays : StanceStays old sdps new sdps'
+  pub told : RestTold may outcome table old
+
 abbrev pub StanceActs : {E : Type 0} → Step → Stance → List Kept → Outcome E → Option Table → Stance → List Kept → Type 0
 StanceActs (Negotiate at ops apply) old sdps outcome table new sdps' = StanceNegotiates at ops apply old sdps outcome table new sdps'
 StanceActs (AcceptOffer at offer) old sdps outcome table new sdps' =
     StanceStepAcceptsOffer at (kept_remote_sdp true sdps at offer) old sdps outcome table new sdps'
 StanceActs (AcceptAnswer at token answer) old sdps outcome table new sdps' =
     StanceStepAcceptsAnswer token (held_token sdps at token) (kept_remote_sdp false sdps at answer) old sdps outcome table new sdps'
+StanceActs (Time at now) old sdps outcome table new sdps' = StanceRests is_handled old sdps outcome table new sdps'
+StanceActs (Datagram at packet now) old sdps outcome table new sdps' = StanceRests is_heard old sdps outcome table new sdps'
+StanceActs (Poll at) old sdps outcome table new sdps' = StanceRests is_polled old sdps outcome table new sdps'
+StanceActs (Drain at) old sdps outcome table new sdps' = StanceRests is_polled old sdps outcome table new sdps'
+StanceActs (Close at) old sdps outcome table new sdps' = StanceRests is_handled old sdps outcome table new sdps'
 
 pub record StancePerforms {E : Type 0} (old : PairStance) (step : Step) (outcome : Outcome E) (table : Option Table) (new : PairStance) : Type 0 where
   pub acts : StanceActs step (old.sides (side_of step)) old.sdps outcome table (new.sides (side_of step)) new.sdps

@@ -3,7 +3,7 @@ use Rattle.std.proofs.Common.{ℕ, true, false, List, length, Some}
 use Rattle.rtc_history.specs.declared.side.Side.{Side}
 use Rattle.rtc_history.specs.declared.step.Step.TheVariants.{AcceptOffer, AcceptAnswer}
 use Rattle.rtc_history.specs.declared.outcome.Outcome.{Outcome}
-use Rattle.rtc_history.specs.declared.outcome.Outcome.TheVariants.{Negotiated, Answered, Finished, Refused, NoSuch, Alloc}
+use Rattle.rtc_history.specs.declared.outcome.Outcome.TheVariants.{Negotiated, Answered, Finished, Done, Polled, Refused, NoSuch, Alloc}
 use Rattle.rtc_history.specs.declared.table.Table.{Table}
 use Rattle.rtc_history.specs.Past.{Entry, MadeSdp, sdps, remote_sdp, holds_token, is_right}
 use Rattle.rtc_history.specs.Sound.{RepliesToOffer, RepliesToAnswer, IsSound, asked_in}
@@ -16,6 +16,8 @@ pub offer_taking : {E : Type 0} → (fresh between : Stances) (past : List (Entr
 offer_taking fresh between past at k (Negotiated answers what) table made sound = sound.0
 offer_taking fresh between past at k (Answered n) table made sound = sound.0
 offer_taking fresh between past at k Finished table made sound = sound.0
+offer_taking fresh between past at k Done table made sound = sound.0
+offer_taking fresh between past at k (Polled outputs end) table made sound = sound.0
 offer_taking fresh between past at k (Refused error) table made sound = sound.0
 offer_taking fresh between past at k NoSuch table made sound = sound.0
 offer_taking fresh between past at k Alloc table made sound = sound.0
@@ -25,6 +27,8 @@ pub answer_taking : {E : Type 0} → (fresh between : Stances) (past : List (Ent
 answer_taking fresh between past at t a (Negotiated answers what) table made sound = sound.0
 answer_taking fresh between past at t a (Answered k) table made sound = sound.0
 answer_taking fresh between past at t a Finished table made sound = sound.0
+answer_taking fresh between past at t a Done table made sound = sound.0
+answer_taking fresh between past at t a (Polled outputs end) table made sound = sound.0
 answer_taking fresh between past at t a (Refused error) table made sound = sound.0
 answer_taking fresh between past at t a NoSuch table made sound = sound.0
 answer_taking fresh between past at t a Alloc table made sound = sound.0

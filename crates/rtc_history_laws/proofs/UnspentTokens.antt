@@ -7,7 +7,7 @@ use Rattle.rtc_sdp_values.specs.declared.line_row.LineRow.{LineRow}
 use Rattle.rtc_sdp_values.specs.declared.sdp.Sdp.{Sdp}
 use Rattle.rtc_change.specs.Held.{Held, Asked}
 use Rattle.rtc_history.specs.declared.step.Step.{Step}
-use Rattle.rtc_history.specs.declared.step.Step.TheVariants.{Negotiate, AcceptOffer, AcceptAnswer}
+use Rattle.rtc_history.specs.declared.step.Step.TheVariants.{Negotiate, AcceptOffer, AcceptAnswer, Time, Datagram, Poll, Drain, Close}
 use Rattle.rtc_history.specs.declared.outcome.Outcome.{Outcome}
 use Rattle.rtc_history.specs.declared.outcome.Outcome.TheVariants.{NoSuch, Alloc}
 use Rattle.rtc_history.specs.declared.table.Table.{Table}
@@ -26,6 +26,11 @@ called_held false right asked sdp view outcome after takes was = absurd takes
 unspent_step : {E : Type 0} → (fresh between : Stances) (past : List (Entry E)) (step : Step) (outcome : Outcome E) (table : Option Table) (made : List MadeSdp) (n : ℕ) → IsSound fresh past between step outcome table made → length (sdps past) ≤ n → spends n step outcome ≡ false
 unspent_step fresh between past (Negotiate at ops apply) outcome table made n sound most = refl
 unspent_step fresh between past (AcceptOffer at k) outcome table made n sound most = refl
+unspent_step fresh between past (Time at now) outcome table made n sound most = refl
+unspent_step fresh between past (Datagram at packet now) outcome table made n sound most = refl
+unspent_step fresh between past (Poll at) outcome table made n sound most = refl
+unspent_step fresh between past (Drain at) outcome table made n sound most = refl
+unspent_step fresh between past (Close at) outcome table made n sound most = refl
 unspent_step fresh between past (AcceptAnswer at t a) Alloc None made n sound most = and_false (t == n)
   where
     and_false : (b : Bool) → (b && false) ≡ false
