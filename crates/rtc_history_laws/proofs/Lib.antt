@@ -61,4 +61,5 @@ pub mod Reaches
 pub mod CountedFaults
 pub mod SoundSides
 pub mod PartsSound
+pub mod SentPackets
 pub mod MoreSteps

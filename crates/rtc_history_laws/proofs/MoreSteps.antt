@@ -1,12 +1,12 @@
 -- A run goes on by a step that is performed.
-use Rattle.std.proofs.Common.{◌≡◌, ◌<◌, ◌^◌, List, [], ◌∷◌, ◌++◌, map, refl, ap, arith}
+use Rattle.std.proofs.Common.{◌≡◌, ◌<◌, ◌^◌, ℕ, Bool, List, [], ◌∷◌, ◌++◌, map, refl, ap, arith}
 use Rattle.rtc_channels.specs.Channels.{channel_rows}
 use Rattle.rtc_peer_state.specs.Meanings.{Meanings, PartsLaws}
 use Rattle.rtc_history.specs.declared.step.Step.{Step}
 use Rattle.rtc_history.specs.declared.reply.Reply.{Reply}
 use Rattle.rtc_history.specs.Sizes.{steps_size}
-use Rattle.rtc_history.specs.Past.{Entry}
-use Rattle.rtc_history.specs.PairState.{PairState, made_sdp}
+use Rattle.rtc_history.specs.Past.{Entry, packets_shown}
+use Rattle.rtc_history.specs.PairState.{PairState, made_sdp, size_sent}
 use Rattle.rtc_history.specs.Performs.{Performs, Enters, sdps_behind}
 use Rattle.rtc_history.specs.Runs.{Went, EntersSoundly, Runs}
 use Rattle.rtc_history.specs.Fresh.{IsFresh}
@@ -16,6 +16,7 @@ use Rattle.rtc_history_laws.proofs.StanceRuns.{StanceReached, StanceRan, fresh_s
 use Rattle.rtc_history_laws.proofs.Bounds.{IsWithin}
 use Rattle.rtc_history_laws.proofs.Tells.{Tells}
 use Rattle.rtc_history_laws.proofs.Around.{entry}
+use Rattle.rtc_history_laws.proofs.SentPackets.{packets_performed}
 use Rattle.rtc_history_laws.proofs.PartsSound.{parts_sound}
 use Rattle.rtc_history_laws.proofs.Reaches.{reached_tells, reached_within, reached_size}
 use Rattle.rtc_history_laws.proofs.OrderlySounds.{sound_next}
