@@ -24,7 +24,7 @@ use Rattle.rtc_history.specs.declared.op_answer.OpAnswer.TheVariants.{Mid, Chang
 use Rattle.rtc_history.specs.declared.made.Made.{Made}
 use Rattle.rtc_history.specs.declared.made.Made.TheVariants.{NotAsked, Nothing, Offer, Alloc as MadeAlloc}
 use Rattle.rtc_history.specs.declared.step.Step.{Step}
-use Rattle.rtc_history.specs.declared.step.Step.TheVariants.{Negotiate, AcceptOffer, AcceptAnswer}
+use Rattle.rtc_history.specs.declared.step.Step.TheVariants.{Negotiate, AcceptOffer, AcceptAnswer, Time, Datagram, Poll, Drain, Close}
 use Rattle.rtc_history.specs.declared.outcome.Outcome.{Outcome}
 use Rattle.rtc_history.specs.declared.outcome.Outcome.TheVariants.{Negotiated, Answered, Finished, Refused, NoSuch, Alloc}
 use Rattle.rtc_history.specs.declared.table.Table.{Table}
@@ -179,6 +179,11 @@ acts_formed (AcceptOffer at k) old new kept kept' outcome table acts formed plai
     offer_formed at (kept_remote_sdp true kept at k) old new kept kept' outcome table acts (λ sdp is. remote_plain true kept at k sdp is plain) formed plain
 acts_formed (AcceptAnswer at t a) old new kept kept' outcome table acts formed plain =
     answer_formed t (held_token kept at t) (kept_remote_sdp false kept at a) old new kept kept' outcome table acts (λ sdp is. remote_plain false kept at a sdp is plain) (token_restarts kept at t plain) formed plain
+acts_formed (Time at now) old new kept kept' outcome table acts formed plain = (rw acts.stays.peer formed, rw acts.stays.sdps_kept plain)
+acts_formed (Datagram at packet now) old new kept kept' outcome table acts formed plain = (rw acts.stays.peer formed, rw acts.stays.sdps_kept plain)
+acts_formed (Poll at) old new kept kept' outcome table acts formed plain = (rw acts.stays.peer formed, rw acts.stays.sdps_kept plain)
+acts_formed (Drain at) old new kept kept' outcome table acts formed plain = (rw acts.stays.peer formed, rw acts.stays.sdps_kept plain)
+acts_formed (Close at) old new kept kept' outcome table acts formed plain = (rw acts.stays.peer formed, rw acts.stays.sdps_kept plain)
 
 -- ---- all steps
 
@@ -205,8 +210,8 @@ reached_formed start pair (last ∷ past) none formed reached =
 
 module _ {I D S M E X T W N : Type 0} (m : Meanings I D S M E X T W N) where
   -- the session descriptions of a run read back as they are
-  pub runs_read_back : PartsLaws m → (start pair : PairState I D S M N) (steps : List Step) (replies : List (Reply E))
-      → IsFresh m start → ArePeersFormed m start → Runs m start steps replies pair → AllReadBack pair.sdps
+  pub runs_read_back : {stun : List ℕ → Bool} → PartsLaws m → (start pair : PairState I D S M N) (steps : List Step) (replies : List (Reply E))
+      → IsFresh m start → ArePeersFormed m start → Runs m stun start steps replies pair → AllReadBack pair.sdps
   runs_read_back laws start pair steps replies fresh formed run =
       let ran : StanceRan (pair_stance m start) run.past (pair_stance m pair) = ran_stands m laws start run.past pair run.went in
       plain_read_back pair.sdps (reached_formed (pair_stance m start) (pair_stance m pair) run.past fresh.sdps formed (ran_reached (pair_stance m start) run.past (pair_stance m pair) ran)).plain

@@ -1,14 +1,14 @@
 -- What each entry of a run tells of the parts of its pair, and what follows for all of its replies.
-use Rattle.std.proofs.Common.{◌≡◌, ◌≤◌, ◌∙◌, List, [], ◌∷◌, Bool, true, false, refl, sym, ap, arith}
+use Rattle.std.proofs.Common.{◌≡◌, ◌≤◌, ◌∙◌, List, [], ◌∷◌, ℕ, Bool, true, false, refl, sym, ap, arith}
 use Rattle.std.proofs.lemmas.List.Folds.{list_any-append}
 use Rattle.rtc_peer_state.specs.Meanings.{Meanings, PartsLaws}
 use Rattle.rtc_polling.specs.declared.polled_peer.PolledPeer.{PolledPeer}
 use Rattle.rtc_history.specs.declared.side.Side.{Side}
 use Rattle.rtc_history.specs.declared.reply.Reply.{Reply}
 use Rattle.rtc_history.specs.declared.step.Step.{Step}
-use Rattle.rtc_history.specs.Memory.{CountedPart, DtlsPart, AssociationPart, tells_fault_of, tells_fault, tell_fault}
+use Rattle.rtc_history.specs.Memory.{CountedPart, DtlsPart, AssociationPart, MediaPart, tells_fault_of, tells_fault, tell_fault}
 use Rattle.rtc_history.specs.Past.{Entry, reply_of, replies_of}
-use Rattle.rtc_history.specs.PairState.{PairState, peer_at}
+use Rattle.rtc_history.specs.PairState.{PairState, rtc_at, peer_at}
 use Rattle.rtc_history.specs.Performs.{Enters}
 use Rattle.rtc_history.specs.Runs.{Went, EntersSoundly, Runs}
 use Rattle.rtc_history.specs.Sides.{side_of, other_side}
@@ -57,7 +57,8 @@ module _ {I D S M E X T W N : Type 0} (m : Meanings I D S M E X T W N) (stun : L
   last_unfaulted : (start between pair : PairState I D S M N) (past : List (Entry E)) (last : Entry E) → Went (EntersSoundly m stun start) (λ fresh. fresh ≡ start) past between → IsSoundOfParts m between last pair
       → ((part : CountedPart) (at : Side) → CountsFault m part at start pair → ⊥) → tells_fault last.outcome ≡ false
   last_unfaulted start between pair past last ran sound uncounted =
-      rw (last_untold start between pair past last ran sound uncounted DtlsPart, last_untold start between pair past last ran sound uncounted AssociationPart) refl
+      rw (last_untold start between pair past last ran sound uncounted DtlsPart, last_untold start between pair past last ran sound uncounted AssociationPart,
+      last_untold start between pair past last ran sound uncounted MediaPart) refl
 
   ran_unfaulted : (start : PairState I D S M N) (past : List (Entry E)) (pair : PairState I D S M N) → Went (EntersSoundly m stun start) (λ fresh. fresh ≡ start) past pair
       → ((part : CountedPart) (at : Side) → CountsFault m part at start pair → ⊥) → tell_fault (replies_of past) ≡ false
