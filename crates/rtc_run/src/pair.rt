@@ -54,7 +54,14 @@ impl<I: IceAgent, D: DtlsInstance, S: Association, M: MediaSession, N: Ids> Pair
         right_addr: Addr,
     ) -> Pair<I, D, S, M, N>
         ensures { result ≡ record {
-            left = left; right = right; left_addr = left_addr; right_addr = right_addr; sdps = []; packets = []; size = 0 } }
+          left = left;
+          right = right;
+          left_addr = left_addr;
+          right_addr = right_addr;
+          sdps = [];
+          packets = [];
+          size = 0;
+        } }
     {
         Pair {
             alloc,
