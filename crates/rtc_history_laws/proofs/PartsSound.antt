@@ -57,8 +57,11 @@ module _ {I D S M E X T W N : Type 0} (m : Meanings I D S M E X T W N) (stun : L
   last_unfaulted : (start between pair : PairState I D S M N) (past : List (Entry E)) (last : Entry E) → Went (EntersSoundly m stun start) (λ fresh. fresh ≡ start) past between → IsSoundOfParts m between last pair
       → ((part : CountedPart) (at : Side) → CountsFault m part at start pair → ⊥) → tells_fault last.outcome ≡ false
   last_unfaulted start between pair past last ran sound uncounted =
-      rw (last_untold start between pair past last ran sound uncounted DtlsPart, last_untold start between pair past last ran sound uncounted AssociationPart,
-      last_untold start between pair past last ran sound uncounted MediaPart) refl
+      rw (
+        last_untold start between pair past last ran sound uncounted DtlsPart,
+        last_untold start between pair past last ran sound uncounted AssociationPart,
+        last_untold start between pair past last ran sound uncounted MediaPart,
+      ) refl
 
   ran_unfaulted : (start : PairState I D S M N) (past : List (Entry E)) (pair : PairState I D S M N) → Went (EntersSoundly m stun start) (λ fresh. fresh ≡ start) past pair
       → ((part : CountedPart) (at : Side) → CountsFault m part at start pair → ⊥) → tell_fault (replies_of past) ≡ false

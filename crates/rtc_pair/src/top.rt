@@ -72,7 +72,10 @@ fn join_replies<P: Drop>(
 }
 
 // The pair of the program after the steps of a script, and their replies.
-fn run_script(alloc: Global, script: &Script) -> Result<(PlainPair, Seq<Reply<PlainMediaEvent>>), AllocError>
+fn run_script(
+    alloc: Global,
+    script: &Script,
+) -> Result<(PlainPair, Seq<Reply<PlainMediaEvent>>), AllocError>
     requires { steps_size script.now.steps < 2 ^ 32 }
     ensures { IfOk result (λ ran. RanScript alloc script.now ran.1 ran.0) }
 {
