@@ -39,7 +39,11 @@ fn count_finished(replies: &[Reply<PlainMediaEvent>]) -> usize {
     count
 }
 
-fn tell_rounds(alloc: Global, steps: &[Step], replies: &[Reply<PlainMediaEvent>]) -> Result<Vec<u8>, AllocError> {
+fn tell_rounds(
+    alloc: Global,
+    steps: &[Step],
+    replies: &[Reply<PlainMediaEvent>],
+) -> Result<Vec<u8>, AllocError> {
     let rounds = count_rounds(steps);
     let finished = count_finished(replies);
     let told = format!(in alloc; "rounds {rounds} finished {finished}")?;
