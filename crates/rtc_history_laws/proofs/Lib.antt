@@ -1,4 +1,5 @@
 pub mod StanceSteps
+pub mod StandingPolls
 pub mod StandingSteps
 pub mod RestartChanges
 pub mod Bounds
@@ -17,6 +18,7 @@ pub mod Tells
 pub mod Entries
 pub mod TokenEntries
 pub mod Around
+pub mod Rests
 pub mod OfferSteps
 pub mod AnswerSteps
 pub mod OfferApps
@@ -45,6 +47,7 @@ pub mod RoundRows
 pub mod UnspentTokens
 pub mod Courses
 pub mod OrderlySteps
+pub mod RestCourses
 pub mod CourseSteps
 pub mod OrderlyOps
 pub mod OrderlyPasts
@@ -58,4 +61,5 @@ pub mod Reaches
 pub mod CountedFaults
 pub mod SoundSides
 pub mod PartsSound
+pub mod SentPackets
 pub mod MoreSteps

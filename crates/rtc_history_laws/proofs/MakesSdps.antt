@@ -18,7 +18,7 @@ use Rattle.rtc_history.specs.declared.op_answer.OpAnswer.{OpAnswer}
 use Rattle.rtc_history.specs.declared.made.Made.{Made}
 use Rattle.rtc_history.specs.declared.made.Made.TheVariants.{NotAsked, Nothing, Offer, Alloc as MadeAlloc}
 use Rattle.rtc_history.specs.declared.step.Step.{Step}
-use Rattle.rtc_history.specs.declared.step.Step.TheVariants.{Negotiate, AcceptOffer, AcceptAnswer}
+use Rattle.rtc_history.specs.declared.step.Step.TheVariants.{Negotiate, AcceptOffer, AcceptAnswer, Time, Datagram, Poll, Drain, Close}
 use Rattle.rtc_history.specs.declared.outcome.Outcome.{Outcome}
 use Rattle.rtc_history.specs.declared.outcome.Outcome.TheVariants.{Negotiated, Answered, Finished, Refused, NoSuch, Alloc}
 use Rattle.rtc_history.specs.declared.table.Table.{Table}
@@ -84,7 +84,7 @@ makes_of at true p q ops answers apply kept kept' (Offer k) table h rows adds di
     }
 makes_of at asked p q ops answers apply kept kept' made table h rows adds distinct = absurd h
 
-negotiate_makes : (fresh between : Stances) (at : Side) (ops : List Op) (apply : Bool) (old new : Stance) (kept kept' : List Kept) (outcome : Outcome) (table : Option Table) (past : List Entry)
+negotiate_makes : {E : Type 0} → (fresh between : Stances) (at : Side) (ops : List Op) (apply : Bool) (old new : Stance) (kept kept' : List Kept) (outcome : Outcome E) (table : Option Table) (past : List (Entry E))
     → StanceNegotiates at ops apply old kept outcome table new kept' → IsTable (before at past) → IsSound fresh past between (Negotiate at ops apply) outcome table (behind kept kept')
     → MakesSdp (Negotiate at ops apply) outcome table (behind kept kept')
 negotiate_makes fresh between at ops apply old new kept kept' Alloc None past h is sound = none_behind kept kept' h.sdps_kept
@@ -99,7 +99,7 @@ negotiate_makes fresh between at ops apply old new kept kept' (Negotiated answer
     (offer_table past at ops answers table (behind kept kept') is sound.0).distinct
 negotiate_makes fresh between at ops apply old new kept kept' outcome table past h is sound = absurd h
 
-offer_makes : (at : Side) (k : ℕ) (offer : Option Sdp) (old new : Stance) (kept kept' : List Kept) (outcome : Outcome) (table : Option Table)
+offer_makes : {E : Type 0} → (at : Side) (k : ℕ) (offer : Option Sdp) (old new : Stance) (kept kept' : List Kept) (outcome : Outcome E) (table : Option Table)
     → StanceStepAcceptsOffer at offer old kept outcome table new kept' → IsTable (rows_or true table (old.lines)) → MakesSdp (AcceptOffer at k) outcome table (behind kept kept')
 offer_makes at k None old new kept kept' Alloc None h is = none_behind kept kept' h.sdps_kept
 offer_makes at k (Some sdp) old new kept kept' Alloc None h is = none_behind kept kept' h.sdps_kept
@@ -125,7 +125,7 @@ spent_behind t kept kept' same =
     let count : length kept' ≡ length kept = ap length same ∙ length-spent t kept in
     ap (map made_sdp) (drop_all (length kept) kept' (omega arith))
 
-answer_makes : (at : Side) (t a : ℕ) (token : Option PendingOffer) (answer : Option Sdp) (old new : Stance) (kept kept' : List Kept) (outcome : Outcome) (table : Option Table)
+answer_makes : {E : Type 0} → (at : Side) (t a : ℕ) (token : Option PendingOffer) (answer : Option Sdp) (old new : Stance) (kept kept' : List Kept) (outcome : Outcome E) (table : Option Table)
     → StanceStepAcceptsAnswer t token answer old kept outcome table new kept' → MakesSdp (AcceptAnswer at t a) outcome table (behind kept kept')
 answer_makes at t a None None old new kept kept' Alloc None h = none_behind kept kept' h.sdps_kept
 answer_makes at t a None (Some sdp) old new kept kept' Alloc None h = none_behind kept kept' h.sdps_kept
@@ -139,7 +139,7 @@ answer_makes at t a (Some token) (Some sdp) old new kept kept' (Refused error) (
 answer_makes at t a token answer old new kept kept' outcome table h = absurd h
 
 -- A step that is performed makes the SDP that says the rows of its side.
-pub makes_sdp : (fresh between : Stances) (past : List Entry) (old new : PairStance) (step : Step) (outcome : Outcome) (table : Option Table)
+pub makes_sdp : {E : Type 0} → (fresh between : Stances) (past : List (Entry E)) (old new : PairStance) (step : Step) (outcome : Outcome E) (table : Option Table)
     → StancePerforms old step outcome table new → IsTable (before (side_of step) past) → IsSound fresh past between step outcome table (made_by old new)
     → before (side_of step) past ≡ (old.sides (side_of step)).lines → MakesSdp step outcome table (made_by old new)
 makes_sdp fresh between past old new (Negotiate at ops apply) outcome table performs is sound rows =
@@ -149,3 +149,8 @@ makes_sdp fresh between past old new (AcceptOffer at k) outcome table performs i
     (subst (λ (list : List LineRow). IsTable (rows_or true table list)) rows (reply_table fresh between past (AcceptOffer at k) outcome table (made_by old new) sound is))
 makes_sdp fresh between past old new (AcceptAnswer at t a) outcome table performs is sound rows =
     answer_makes at t a (held_token old.sdps at t) (kept_remote_sdp false old.sdps at a) (old.sides at) (new.sides at) old.sdps new.sdps outcome table performs.acts
+makes_sdp fresh between past old new (Time at now) outcome table performs is sound rows = none_behind old.sdps new.sdps performs.acts.stays.sdps_kept
+makes_sdp fresh between past old new (Datagram at packet now) outcome table performs is sound rows = none_behind old.sdps new.sdps performs.acts.stays.sdps_kept
+makes_sdp fresh between past old new (Poll at) outcome table performs is sound rows = none_behind old.sdps new.sdps performs.acts.stays.sdps_kept
+makes_sdp fresh between past old new (Drain at) outcome table performs is sound rows = none_behind old.sdps new.sdps performs.acts.stays.sdps_kept
+makes_sdp fresh between past old new (Close at) outcome table performs is sound rows = none_behind old.sdps new.sdps performs.acts.stays.sdps_kept

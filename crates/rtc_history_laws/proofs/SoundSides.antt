@@ -51,7 +51,7 @@ use Rattle.rtc_history_laws.proofs.CountedFaults.{by_part, start_later, start_fa
 
 module _ {I D S M E X T W N : Type 0} (m : Meanings I D S M E X T W N) (laws : PartsLaws m) where
   -- what an outcome tells of the parts of the peer that acted
-  pub record IsSoundOfSide (old : Peer I D S M N) (outcome : Outcome) (new : Peer I D S M N) : Type 0 where
+  pub record IsSoundOfSide (old : Peer I D S M N) (outcome : Outcome E) (new : Peer I D S M N) : Type 0 where
     pub later : (part : CountedPart) → faults_of m part old ≤ faults_of m part new
     pub fault : (part : CountedPart) → tells_fault_of outcome part ≡ true → Rose (faults_of m part old) (faults_of m part new)
     pub media : tells_refusal outcome ≡ true → SameLines m.media old.media new.media
@@ -77,7 +77,7 @@ module _ {I D S M E X T W N : Type 0} (m : Meanings I D S M E X T W N) (laws : P
   untold told part unfaulted told_it = absurd (cc)
 
   -- an outcome that is no refusal, of a peer whose DTLS part and association stay
-  unmoved : (p q : Peer I D S M N) (outcome : Outcome) → ((part : CountedPart) → tells_fault_of outcome part ≡ false) → tells_refusal outcome ≡ false
+  unmoved : (p q : Peer I D S M N) (outcome : Outcome E) → ((part : CountedPart) → tells_fault_of outcome part ≡ false) → tells_refusal outcome ≡ false
       → counting_parts q ≡ counting_parts p → IsSoundOfSide p outcome q
   unmoved p q outcome unfaulted unrefused same = record {
     later = same_count p q same;
@@ -86,7 +86,7 @@ module _ {I D S M E X T W N : Type 0} (m : Meanings I D S M E X T W N) (laws : P
   }
 
   -- an acceptance that succeeded
-  accepted : (p q : Peer I D S M N) (outcome : Outcome) → ((part : CountedPart) → tells_fault_of outcome part ≡ false) → tells_refusal outcome ≡ false
+  accepted : (p q : Peer I D S M N) (outcome : Outcome E) → ((part : CountedPart) → tells_fault_of outcome part ≡ false) → tells_refusal outcome ≡ false
       → ((part : CountedPart) → faults_of m part p ≤ faults_of m part q) → IsSoundOfSide p outcome q
   accepted p q outcome unfaulted unrefused later = record {
     later = later;
@@ -234,21 +234,21 @@ module _ {I D S M E X T W N : Type 0} (m : Meanings I D S M E X T W N) (laws : P
   -- ---- steps
 
   -- a peer that is lent has the parts that it had
-  lends : (old new : Peer I D S M N) (outcome : Outcome) → IsSoundOfSide (lent old) outcome new → IsSoundOfSide old outcome new
+  lends : (old new : Peer I D S M N) (outcome : Outcome E) → IsSoundOfSide (lent old) outcome new → IsSoundOfSide old outcome new
   lends old new outcome h = record {
     later = by_part (λ part. faults_of m part old ≤ faults_of m part new) (h.later DtlsPart) (h.later AssociationPart);
     fault = by_part (λ part. tells_fault_of outcome part ≡ true → Rose (faults_of m part old) (faults_of m part new)) (h.fault DtlsPart) (h.fault AssociationPart);
     media = h.media;
   }
 
-  negotiate_side : (at : Side) (ops : List Op) (apply : Bool) (old : Peer I D S M N) (sdps : List Kept) (outcome : Outcome) (table : Option Table) (new : Peer I D S M N) (sdps' : List Kept)
+  negotiate_side : (at : Side) (ops : List Op) (apply : Bool) (old : Peer I D S M N) (sdps : List Kept) (outcome : Outcome E) (table : Option Table) (new : Peer I D S M N) (sdps' : List Kept)
       → Negotiates m at ops apply old sdps outcome table new sdps' → IsSoundOfSide old outcome new
   negotiate_side at ops apply old sdps Alloc None new sdps' h = unmoved old new Alloc (λ part. refl) refl (ap counting_parts h.peer)
   negotiate_side at ops apply old sdps (Negotiated answers made) (Some table) new sdps' h =
       unmoved old new (Negotiated answers made) (λ part. refl) refl (makes_counting (apply && not (answers_lack answers)) at h.0 sdps made new sdps' h.2 ∙ ops_counting _ ops answers h.0 h.1)
   negotiate_side at ops apply old sdps outcome table new sdps' h = absurd h
 
-  offer_side : (at : Side) (offer : Option Sdp) (old : Peer I D S M N) (sdps : List Kept) (outcome : Outcome) (table : Option Table) (new : Peer I D S M N) (sdps' : List Kept)
+  offer_side : (at : Side) (offer : Option Sdp) (old : Peer I D S M N) (sdps : List Kept) (outcome : Outcome E) (table : Option Table) (new : Peer I D S M N) (sdps' : List Kept)
       → StepAcceptsOffer m at offer old sdps outcome table new sdps' → IsSoundOfSide old outcome new
   offer_side at None old sdps Alloc None new sdps' h = unmoved old new Alloc (λ part. refl) refl (ap counting_parts h.peer)
   offer_side at (Some sdp) old sdps Alloc None new sdps' h = unmoved old new Alloc (λ part. refl) refl (ap counting_parts h.peer)
@@ -257,7 +257,7 @@ module _ {I D S M E X T W N : Type 0} (m : Meanings I D S M E X T W N) (laws : P
   offer_side at (Some sdp) old sdps (Refused error) (Some table) new sdps' h = lends old new (Refused error) (offer_refused (lent old) new sdp error h.0)
   offer_side at offer old sdps outcome table new sdps' h = absurd h
 
-  answer_side : (t : ℕ) (token : Option PendingOffer) (answer : Option Sdp) (old : Peer I D S M N) (sdps : List Kept) (outcome : Outcome) (table : Option Table) (new : Peer I D S M N) (sdps' : List Kept)
+  answer_side : (t : ℕ) (token : Option PendingOffer) (answer : Option Sdp) (old : Peer I D S M N) (sdps : List Kept) (outcome : Outcome E) (table : Option Table) (new : Peer I D S M N) (sdps' : List Kept)
       → StepAcceptsAnswer m t token answer old sdps outcome table new sdps' → IsSoundOfSide old outcome new
   answer_side t None None old sdps Alloc None new sdps' h = unmoved old new Alloc (λ part. refl) refl (ap counting_parts h.peer)
   answer_side t None (Some sdp) old sdps Alloc None new sdps' h = unmoved old new Alloc (λ part. refl) refl (ap counting_parts h.peer)
@@ -271,7 +271,7 @@ module _ {I D S M E X T W N : Type 0} (m : Meanings I D S M E X T W N) (laws : P
   answer_side t token answer old sdps outcome table new sdps' h = absurd h
 
   -- What a step tells of the parts of the peer that acts.
-  pub acts_side : (step : Step) (old : Peer I D S M N) (sdps : List Kept) (outcome : Outcome) (table : Option Table) (new : Peer I D S M N) (sdps' : List Kept)
+  pub acts_side : (step : Step) (old : Peer I D S M N) (sdps : List Kept) (outcome : Outcome E) (table : Option Table) (new : Peer I D S M N) (sdps' : List Kept)
       → Acts m step old sdps outcome table new sdps' → IsSoundOfSide old outcome new
   acts_side (Negotiate at ops apply) old sdps outcome table new sdps' h = negotiate_side at ops apply old sdps outcome table new sdps' h
   acts_side (AcceptOffer at k) old sdps outcome table new sdps' h = offer_side at (kept_remote_sdp true sdps at k) old sdps outcome table new sdps' h
