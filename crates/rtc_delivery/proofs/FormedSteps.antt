@@ -24,7 +24,7 @@ use Rattle.rtc_history.specs.declared.op_answer.OpAnswer.TheVariants.{Mid, Chang
 use Rattle.rtc_history.specs.declared.made.Made.{Made}
 use Rattle.rtc_history.specs.declared.made.Made.TheVariants.{NotAsked, Nothing, Offer, Alloc as MadeAlloc}
 use Rattle.rtc_history.specs.declared.step.Step.{Step}
-use Rattle.rtc_history.specs.declared.step.Step.TheVariants.{Negotiate, AcceptOffer, AcceptAnswer}
+use Rattle.rtc_history.specs.declared.step.Step.TheVariants.{Negotiate, AcceptOffer, AcceptAnswer, Time, Datagram, Poll, Drain, Close}
 use Rattle.rtc_history.specs.declared.outcome.Outcome.{Outcome}
 use Rattle.rtc_history.specs.declared.outcome.Outcome.TheVariants.{Negotiated, Answered, Finished, Refused, NoSuch, Alloc}
 use Rattle.rtc_history.specs.declared.table.Table.{Table}
@@ -136,14 +136,14 @@ makes_formed true at p q kept kept' (Offer k) h formed plain = (
 )
 makes_formed asked at p q kept kept' made h formed plain = absurd h
 
-negotiates_formed : (at : Side) (ops : List Op) (apply : Bool) (old new : Stance) (kept kept' : List Kept) (outcome : Outcome) (table : Option Table)
+negotiates_formed : {E : Type 0} → (at : Side) (ops : List Op) (apply : Bool) (old new : Stance) (kept kept' : List Kept) (outcome : Outcome E) (table : Option Table)
     → StanceNegotiates at ops apply old kept outcome table new kept' → IsFormed old → ArePlain kept → IsFormed new × ArePlain kept'
 negotiates_formed at ops apply old new kept kept' Alloc None h formed plain = (rw h.peer formed, rw h.sdps_kept plain)
 negotiates_formed at ops apply old new kept kept' (Negotiated answers made) (Some table) h formed plain =
     makes_formed (apply && not (answers_lack answers)) at h.0 new kept kept' made h.2 (ops_formed (lent old) h.0 ops answers h.1 (lent_formed old formed)) plain
 negotiates_formed at ops apply old new kept kept' outcome table h formed plain = absurd h
 
-offer_formed : (at : Side) (offer : Option Sdp) (old new : Stance) (kept kept' : List Kept) (outcome : Outcome) (table : Option Table)
+offer_formed : {E : Type 0} → (at : Side) (offer : Option Sdp) (old new : Stance) (kept kept' : List Kept) (outcome : Outcome E) (table : Option Table)
     → StanceStepAcceptsOffer at offer old kept outcome table new kept' → ((sdp : Sdp) → offer ≡ Some sdp → IsPlain sdp) → IsFormed old → ArePlain kept → IsFormed new × ArePlain kept'
 offer_formed at None old new kept kept' Alloc None h whole formed plain = (rw h.peer formed, rw h.sdps_kept plain)
 offer_formed at (Some sdp) old new kept kept' Alloc None h whole formed plain = (rw h.peer formed, rw h.sdps_kept plain)
@@ -156,7 +156,7 @@ offer_formed at (Some sdp) old new kept kept' (Refused error) (Some table) h who
     (offered_formed (lent old) sdp (Err error) new h.0 (plain_names_tokens sdp (whole sdp refl)) (lent_formed old formed), rw h.1 plain)
 offer_formed at offer old new kept kept' outcome table h whole formed plain = absurd h
 
-answer_formed : (t : ℕ) (token : Option PendingOffer) (answer : Option Sdp) (old new : Stance) (kept kept' : List Kept) (outcome : Outcome) (table : Option Table)
+answer_formed : {E : Type 0} → (t : ℕ) (token : Option PendingOffer) (answer : Option Sdp) (old new : Stance) (kept kept' : List Kept) (outcome : Outcome E) (table : Option Table)
     → StanceStepAcceptsAnswer t token answer old kept outcome table new kept' → ((sdp : Sdp) → answer ≡ Some sdp → IsPlain sdp) → IfSome token (λ one. RestartWords one.changes) → IsFormed old → ArePlain kept → IsFormed new × ArePlain kept'
 answer_formed t None None old new kept kept' Alloc None h whole restarts formed plain = (rw h.peer formed, rw h.sdps_kept plain)
 answer_formed t None (Some sdp) old new kept kept' Alloc None h whole restarts formed plain = (rw h.peer formed, rw h.sdps_kept plain)
@@ -171,7 +171,7 @@ answer_formed t (Some token) (Some sdp) old new kept kept' (Refused error) (Some
     (answered_formed (lent old) token sdp (Err error) new h.0 restarts (plain_names_tokens sdp (whole sdp refl)) (lent_formed old formed), rw h.1 (spent_plain t kept plain))
 answer_formed t token answer old new kept kept' outcome table h whole restarts formed plain = absurd h
 
-acts_formed : (step : Step) (old new : Stance) (kept kept' : List Kept) (outcome : Outcome) (table : Option Table)
+acts_formed : {E : Type 0} → (step : Step) (old new : Stance) (kept kept' : List Kept) (outcome : Outcome E) (table : Option Table)
     → StanceActs step old kept outcome table new kept' → IsFormed old → ArePlain kept → IsFormed new × ArePlain kept'
 acts_formed (Negotiate at ops apply) old new kept kept' outcome table acts formed plain =
     negotiates_formed at ops apply old new kept kept' outcome table acts formed plain
@@ -179,6 +179,11 @@ acts_formed (AcceptOffer at k) old new kept kept' outcome table acts formed plai
     offer_formed at (kept_remote_sdp true kept at k) old new kept kept' outcome table acts (λ sdp is. remote_plain true kept at k sdp is plain) formed plain
 acts_formed (AcceptAnswer at t a) old new kept kept' outcome table acts formed plain =
     answer_formed t (held_token kept at t) (kept_remote_sdp false kept at a) old new kept kept' outcome table acts (λ sdp is. remote_plain false kept at a sdp is plain) (token_restarts kept at t plain) formed plain
+acts_formed (Time at now) old new kept kept' outcome table acts formed plain = (rw acts.stays.peer formed, rw acts.stays.sdps_kept plain)
+acts_formed (Datagram at packet now) old new kept kept' outcome table acts formed plain = (rw acts.stays.peer formed, rw acts.stays.sdps_kept plain)
+acts_formed (Poll at) old new kept kept' outcome table acts formed plain = (rw acts.stays.peer formed, rw acts.stays.sdps_kept plain)
+acts_formed (Drain at) old new kept kept' outcome table acts formed plain = (rw acts.stays.peer formed, rw acts.stays.sdps_kept plain)
+acts_formed (Close at) old new kept kept' outcome table acts formed plain = (rw acts.stays.peer formed, rw acts.stays.sdps_kept plain)
 
 -- ---- all steps
 
@@ -187,7 +192,7 @@ pub record IsWellFormed (pair : PairStance) : Type 0 where
   pub sides : (at : Side) → IsFormed (pair.sides at)
   pub plain : ArePlain pair.sdps
 
-pub performs_formed : (old new : PairStance) (step : Step) (outcome : Outcome) (table : Option Table) → StancePerforms old step outcome table new → IsWellFormed old → IsWellFormed new
+pub performs_formed : {E : Type 0} → (old new : PairStance) (step : Step) (outcome : Outcome E) (table : Option Table) → StancePerforms old step outcome table new → IsWellFormed old → IsWellFormed new
 performs_formed old new step outcome table performs formed =
     let at : Side = side_of step in
     let acts : IsFormed (new.sides at) × ArePlain new.sdps = acts_formed step (old.sides at) (new.sides at) old.sdps new.sdps outcome table performs.acts (formed.sides at) formed.plain in
@@ -197,7 +202,7 @@ performs_formed old new step outcome table performs formed =
     }
 
 -- A pair that is reached from formed peers is formed.
-pub reached_formed : (start pair : PairStance) (past : List Entry) → start.sdps ≡ [] → ((at : Side) → IsFormed (start.sides at)) → StanceReached start past pair → IsWellFormed pair
+pub reached_formed : {E : Type 0} → (start pair : PairStance) (past : List (Entry E)) → start.sdps ≡ [] → ((at : Side) → IsFormed (start.sides at)) → StanceReached start past pair → IsWellFormed pair
 reached_formed start pair [] none formed reached = let same : pair ≡ start = reached in rw same (record { sides = formed; plain = rw none tt })
 reached_formed start pair (last ∷ past) none formed reached =
     let enters : StanceEnters reached.0 last pair = reached.2 in
@@ -205,8 +210,8 @@ reached_formed start pair (last ∷ past) none formed reached =
 
 module _ {I D S M E X T W N : Type 0} (m : Meanings I D S M E X T W N) where
   -- the session descriptions of a run read back as they are
-  pub runs_read_back : PartsLaws m → (start pair : PairState I D S M N) (steps : List Step) (replies : List Reply)
-      → IsFresh m start → ArePeersFormed m start → Runs m start steps replies pair → AllReadBack pair.sdps
-  runs_read_back laws start pair steps replies fresh formed run =
-      let ran : StanceRan (pair_stance m start) run.past (pair_stance m pair) = ran_stands m laws start run.past pair run.went in
+  pub runs_read_back : (stun : List ℕ → Bool) → PartsLaws m → (start pair : PairState I D S M N) (steps : List Step) (replies : List (Reply E))
+      → IsFresh m start → ArePeersFormed m start → Runs m stun start steps replies pair → AllReadBack pair.sdps
+  runs_read_back stun laws start pair steps replies fresh formed run =
+      let ran : StanceRan (pair_stance m start) run.past (pair_stance m pair) = ran_stands m stun laws start run.past pair run.went in
       plain_read_back pair.sdps (reached_formed (pair_stance m start) (pair_stance m pair) run.past fresh.sdps formed (ran_reached (pair_stance m start) run.past (pair_stance m pair) ran)).plain

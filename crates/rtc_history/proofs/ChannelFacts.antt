@@ -42,7 +42,7 @@ left_mid = codes "m3"
 abbrev right_mid : List ℕ
 right_mid = codes "m1000003"
 
-abbrev crossed : List Entry
+abbrev crossed : List (Entry (Unit {0}))
 crossed =
     entry (AcceptOffer Right 0) (Answered 3) (App 0 left_mid ∷ []) (0 ∷ []) (says Right false (App 0 left_mid ∷ []))
     ∷ entry (AcceptOffer Left 1) (Answered 2) (App 0 right_mid ∷ []) (0 ∷ []) (says Left false (App 0 right_mid ∷ []))
@@ -59,32 +59,32 @@ crossed_token : is_right Left 0 crossed ≡ false
 crossed_token = refl
 
 crossed_refused : (made : List MadeSdp)
-    → IsSound plain crossed plain (AcceptAnswer Left 0 3) (Refused ChangesOutOfOrder) (Some (record { lines = App 0 right_mid ∷ []; channels = waiting_row 0 ∷ [] })) made
+    → IsSound {E = Unit {0}} plain crossed plain (AcceptAnswer Left 0 3) (Refused ChangesOutOfOrder) (Some (record { lines = App 0 right_mid ∷ []; channels = waiting_row 0 ∷ [] })) made
 crossed_refused made = (refl, refl)
 
 -- ---- a channel alone, once there is a line
 
-abbrev with_line : List Entry
+abbrev with_line : List (Entry (Unit {0}))
 with_line =
     entry (AcceptAnswer Left 0 1) Finished (App 0 left_mid ∷ []) (0 ∷ []) []
     ∷ entry (AcceptOffer Right 0) (Answered 1) (App 0 left_mid ∷ []) [] (says Right false (App 0 left_mid ∷ []))
     ∷ entry (offers_channel Left) (Negotiated (Channel 0 ∷ []) (Offer 0)) [] (0 ∷ []) (says Left true (App 0 left_mid ∷ []))
     ∷ []
 
-abbrev more_audio : List Entry
+abbrev more_audio : List (Entry (Unit {0}))
 more_audio =
     entry (Negotiate Left (AddMedia Audio SendRecv ∷ []) true) (Negotiated (Mid (codes "m4") ∷ []) (Offer 2)) (App 0 left_mid ∷ []) (0 ∷ [])
     (says Left true (App 0 left_mid ∷ Media 1 (codes "m4") Audio SendRecv false false ∷ []))
     ∷ with_line
 
-abbrev more_channels : List Entry
+abbrev more_channels : List (Entry (Unit {0}))
 more_channels = entry (offers_channel Left) (Negotiated (Channel 1 ∷ []) Nothing) (App 0 left_mid ∷ []) (0 ∷ 1 ∷ []) [] ∷ more_audio
 
 -- it makes no offer
-channel_alone : IsSound plain more_audio plain (offers_channel Left) (Negotiated (Channel 1 ∷ []) Nothing) (Some (record { lines = App 0 left_mid ∷ []; channels = waiting_row 0 ∷ waiting_row 1 ∷ [] })) []
+channel_alone : IsSound {E = Unit {0}} plain more_audio plain (offers_channel Left) (Negotiated (Channel 1 ∷ []) Nothing) (Some (record { lines = App 0 left_mid ∷ []; channels = waiting_row 0 ∷ waiting_row 1 ∷ [] })) []
 channel_alone = (((refl, (omega arith, tt)), tt, refl), tt, refl)
 
-channel_alone_offered : (made : List MadeSdp) (table : Table) → IsSound plain more_audio plain (offers_channel Left) (Negotiated (Channel 1 ∷ []) (Offer 3)) (Some table) made → ⊥
+channel_alone_offered : (made : List MadeSdp) (table : Table) → IsSound {E = Unit {0}} plain more_audio plain (offers_channel Left) (Negotiated (Channel 1 ∷ []) (Offer 3)) (Some table) made → ⊥
 channel_alone_offered made table sound = sound.1
 
 -- it supersedes the token that was outstanding
@@ -99,14 +99,14 @@ token_kept : is_right Left 2 (entry (Negotiate Left [] true) (Negotiated [] Noth
 token_kept = refl
 
 -- a number is not given twice
-number_again : (what : Made) (table : Table) (made : List MadeSdp) → IsSound plain more_audio plain (offers_channel Left) (Negotiated (Channel 0 ∷ []) what) (Some table) made → ⊥
+number_again : (what : Made) (table : Table) (made : List MadeSdp) → IsSound {E = Unit {0}} plain more_audio plain (offers_channel Left) (Negotiated (Channel 0 ∷ []) what) (Some table) made → ⊥
 number_again what table made sound = let same : 0 < 0 = sound.0.0.1.0 in absurd (omega arith)
 
 -- ---- a channel that is refused
 
 -- a label that is too long gets no channel and no line, and there is nothing to offer
 overlong : (label : List ℕ) → is_overlong label ≡ true
-    → IsSound plain [] plain (Negotiate Left (AddChannel (labelled label) ∷ []) true) (Negotiated (BadChannel ∷ []) Nothing) (Some (record { lines = []; channels = [] })) []
+    → IsSound {E = Unit {0}} plain [] plain (Negotiate Left (AddChannel (labelled label) ∷ []) true) (Negotiated (BadChannel ∷ []) Nothing) (Some (record { lines = []; channels = [] })) []
 overlong label long = ((rw long refl, refl), tt, refl)
 
 offer_is : (one other : Sdp) → ◌≡◌ {A = List MadeSdp} (record { at = Left; offer = true; sdp = one } ∷ []) (record { at = Left; offer = true; sdp = other } ∷ []) → one ≡ other
@@ -116,5 +116,5 @@ none_said : (lines : List ParsedLine) (line : ParsedLine) → lines ≡ [] → l
 none_said lines line none one = absurd (cc)
 
 -- a channel that is offered needs a line of data channels in the offer
-line_missing : MakesSdp (offers_channel Left) (Negotiated (Channel 0 ∷ []) (Offer 0)) (Some (record { lines = []; channels = waiting_row 0 ∷ [] })) (says Left true []) → ⊥
+line_missing : MakesSdp {E = Unit {0}} (offers_channel Left) (Negotiated (Channel 0 ∷ []) (Offer 0)) (Some (record { lines = []; channels = waiting_row 0 ∷ [] })) (says Left true []) → ⊥
 line_missing made = none_said (parsed_lines made.sdp) _ (ap parsed_lines (sym (offer_is (sdp_of_rows worked_head []) made.sdp made.one))) made.says

@@ -35,7 +35,7 @@ abbrev pub there : LineRow
 there = Media 0 audio_mid Audio SendRecv false true
 
 -- a round of one audio line, offered by the left side
-abbrev pub one_round : List Entry
+abbrev pub one_round : List (Entry (Unit {0}))
 one_round =
     entry (AcceptAnswer Left 0 1) Finished (here ∷ []) [] []
     ∷ entry (AcceptOffer Right 0) (Answered 1) (there ∷ []) [] (says Right false (there ∷ []))
@@ -43,7 +43,7 @@ one_round =
     ∷ []
 
 -- where no line stands, none is set and none is stopped
-no_lines_there : IsSound plain one_round plain (Negotiate Left (SetDirection 3 Inactive ∷ StopMedia 3 ∷ []) false) (Negotiated (NoLine ∷ NoLine ∷ []) NotAsked) (Some (record { lines = here ∷ []; channels = [] })) []
+no_lines_there : IsSound {E = Unit {0}} plain one_round plain (Negotiate Left (SetDirection 3 Inactive ∷ StopMedia 3 ∷ []) false) (Negotiated (NoLine ∷ NoLine ∷ []) NotAsked) (Some (record { lines = here ∷ []; channels = [] })) []
 no_lines_there = ((refl, (refl, refl)), tt, refl)
 
 -- ---- the only line is stopped
@@ -51,15 +51,15 @@ no_lines_there = ((refl, (refl, refl)), tt, refl)
 abbrev halted : LineRow
 halted = Media 0 audio_mid Audio Inactive true false
 
-only_line_stopped : IsSound plain one_round plain (Negotiate Left (StopMedia 0 ∷ []) true) (Negotiated (Changed true ∷ []) (Offer 2)) (Some (record { lines = halted ∷ []; channels = [] })) (says Left true (halted ∷ []))
+only_line_stopped : IsSound {E = Unit {0}} plain one_round plain (Negotiate Left (StopMedia 0 ∷ []) true) (Negotiated (Changed true ∷ []) (Offer 2)) (Some (record { lines = halted ∷ []; channels = [] })) (says Left true (halted ∷ []))
 only_line_stopped = (((refl, refl), refl), refl, refl)
 
-abbrev with_halted : List Entry
+abbrev with_halted : List (Entry (Unit {0}))
 with_halted = entry (Negotiate Left (StopMedia 0 ∷ []) true) (Negotiated (Changed true ∷ []) (Offer 2)) (halted ∷ []) [] (says Left true (halted ∷ [])) ∷ one_round
 
 -- its offer groups no line, and is refused
 none_grouped : (made : List MadeSdp)
-    → IsSound plain with_halted plain (AcceptOffer Right 2) (Refused (Sdp (Inconsistent EmptyGroup))) (Some (record { lines = there ∷ []; channels = [] })) made
+    → IsSound {E = Unit {0}} plain with_halted plain (AcceptOffer Right 2) (Refused (Sdp (Inconsistent EmptyGroup))) (Some (record { lines = there ∷ []; channels = [] })) made
 unfolding verdict head_verdict side_verdict inconsistency
 none_grouped made = ((refl, refl), refl)
 
@@ -78,7 +78,7 @@ abbrev pub receiving : LineRow
 receiving = Media 0 audio_mid Audio RecvOnly false true
 
 -- the right side accepts a video line, whose offer the left side then supersedes
-abbrev with_lost_offer : List Entry
+abbrev with_lost_offer : List (Entry (Unit {0}))
 with_lost_offer =
     entry (AcceptOffer Right 4) (Answered 5) (receiving ∷ video_there ∷ []) [] (says Right false (receiving ∷ video_there ∷ []))
     ∷ entry (Negotiate Left (SetDirection 0 SendOnly ∷ []) true) (Negotiated (Changed true ∷ []) (Offer 4)) (sending ∷ []) [] (says Left true (sending ∷ []))
@@ -88,6 +88,6 @@ with_lost_offer =
 
 -- the answer has a line more than its offer asked for
 line_too_many : (made : List MadeSdp)
-    → IsSound plain with_lost_offer plain (AcceptAnswer Left 4 5) (Refused (RemoteSdp (WrongNewLines (Count 0 1)))) (Some (record { lines = sending ∷ []; channels = [] })) made
+    → IsSound {E = Unit {0}} plain with_lost_offer plain (AcceptAnswer Left 4 5) (Refused (RemoteSdp (WrongNewLines (Count 0 1)))) (Some (record { lines = sending ∷ []; channels = [] })) made
 unfolding verdict head_verdict side_verdict inconsistency
 line_too_many made = ((refl, refl), refl)

@@ -29,13 +29,13 @@ shows rows = record { lines = rows; channels = [] }
 
 -- ---- a restart is offered
 
-restart_offered : (made : List MadeSdp) → IsSound plain one_round plain (Negotiate Left (IceRestart true ∷ []) true) (Negotiated (Creds other_creds ∷ []) (Offer 2)) (Some (shows (here ∷ []))) made
+restart_offered : (made : List MadeSdp) → IsSound {E = Unit {0}} plain one_round plain (Negotiate Left (IceRestart true ∷ []) true) (Negotiated (Creds other_creds ∷ []) (Offer 2)) (Some (shows (here ∷ []))) made
 restart_offered made = (refl, refl, refl)
 
-restart_not_offered : (made : List MadeSdp) (table : Table) → IsSound plain one_round plain (Negotiate Left (IceRestart true ∷ []) true) (Negotiated (Creds other_creds ∷ []) Nothing) (Some table) made → ⊥
+restart_not_offered : (made : List MadeSdp) (table : Table) → IsSound {E = Unit {0}} plain one_round plain (Negotiate Left (IceRestart true ∷ []) true) (Negotiated (Creds other_creds ∷ []) Nothing) (Some table) made → ⊥
 restart_not_offered made table sound = sound.1
 
-abbrev restarted : List Entry
+abbrev restarted : List (Entry (Unit {0}))
 restarted =
     entry (Negotiate Left (IceRestart true ∷ []) true) (Negotiated (Creds other_creds ∷ []) (Offer 2)) (here ∷ []) [] (says_with other_creds false Left true (here ∷ []))
     ∷ one_round
@@ -50,47 +50,47 @@ no_restart_told = refl
 known_before : creds_told (last_accepted Right restarted) ≡ Some worked_creds
 known_before = refl
 
-restart_accepted : (made : List MadeSdp) → IsSound plain restarted plain (AcceptOffer Right 2) (Answered 3) (Some (shows (there ∷ []))) made
+restart_accepted : (made : List MadeSdp) → IsSound {E = Unit {0}} plain restarted plain (AcceptOffer Right 2) (Answered 3) (Some (shows (there ∷ []))) made
 unfolding verdict head_verdict side_verdict inconsistency
 restart_accepted made = ((refl, refl, refl), refl)
 
-abbrev answered : List Entry
+abbrev answered : List (Entry (Unit {0}))
 answered = entry (AcceptOffer Right 2) (Answered 3) (there ∷ []) [] (says_with other_creds false Right false (there ∷ [])) ∷ restarted
 
 known_after : creds_told (last_accepted Right answered) ≡ Some other_creds
 known_after = refl
 
 -- the answer may restart ICE too, since its offer did
-answer_accepted : (made : List MadeSdp) → IsSound plain answered plain (AcceptAnswer Left 2 3) Finished (Some (shows (here ∷ []))) made
+answer_accepted : (made : List MadeSdp) → IsSound {E = Unit {0}} plain answered plain (AcceptAnswer Left 2 3) Finished (Some (shows (here ∷ []))) made
 unfolding verdict head_verdict side_verdict inconsistency
 answer_accepted made = ((refl, refl), refl)
 
 -- ---- an answer restarts ICE, and its offer did not
 
-abbrev unasked : List Entry
+abbrev unasked : List (Entry (Unit {0}))
 unasked =
     entry (AcceptOffer Right 2) (Answered 3) (receiving ∷ []) [] (says_with other_creds false Right false (receiving ∷ []))
     ∷ entry (Negotiate Left (SetDirection 0 SendOnly ∷ []) true) (Negotiated (Changed true ∷ []) (Offer 2)) (sending ∷ []) [] (says Left true (sending ∷ []))
     ∷ one_round
 
-unasked_refused : (made : List MadeSdp) → IsSound plain unasked plain (AcceptAnswer Left 2 3) (Refused (RemoteSdp (UnaskedRestart worked_creds other_creds))) (Some (shows (sending ∷ []))) made
+unasked_refused : (made : List MadeSdp) → IsSound {E = Unit {0}} plain unasked plain (AcceptAnswer Left 2 3) (Refused (RemoteSdp (UnaskedRestart worked_creds other_creds))) (Some (shows (sending ∷ []))) made
 unfolding verdict head_verdict side_verdict inconsistency
 unasked_refused made = ((refl, refl), refl)
 
 -- ---- a part fails
 
 -- the acceptance of what no cause refuses may be broken off, and leaves the rows
-fault_told : (made : List MadeSdp) → IsSound plain restarted plain (AcceptOffer Right 2) (Refused (Dtls Fault)) (Some (shows (there ∷ []))) made
+fault_told : (made : List MadeSdp) → IsSound {E = Unit {0}} plain restarted plain (AcceptOffer Right 2) (Refused (Dtls Fault)) (Some (shows (there ∷ []))) made
 unfolding verdict head_verdict side_verdict inconsistency
 fault_told made = ((refl, refl), refl)
 
 -- so may be that of an association
 association_fault_told : (made : List MadeSdp)
-    → IsSound plain restarted plain (AcceptOffer Right 2) (Refused (Sctp (Proto AssociationFault))) (Some (shows (there ∷ []))) made
+    → IsSound {E = Unit {0}} plain restarted plain (AcceptOffer Right 2) (Refused (Sctp (Proto AssociationFault))) (Some (shows (there ∷ []))) made
 unfolding verdict head_verdict side_verdict inconsistency
 association_fault_told made = ((refl, refl, refl), refl)
 
-abbrev broken : List Entry
+abbrev broken : List (Entry (Unit {0}))
 broken = entry (AcceptOffer Right 2) (Refused (Dtls Fault)) (there ∷ []) [] [] ∷ restarted
 
 -- from then on the past does not tell what the side knows
@@ -108,16 +108,16 @@ unstarted_side = refl
 abbrev lite_sides : Stances
 lite_sides at = record (plain at) { ice = record (plain at).ice { lite = true } }
 
-abbrev lite_offer : List Entry
+abbrev lite_offer : List (Entry (Unit {0}))
 lite_offer =
     entry (Negotiate Left (AddMedia Audio SendRecv ∷ []) true) (Negotiated (Mid (109 ∷ 51 ∷ []) ∷ []) (Offer 0)) [] [] (says_with worked_creds true Left true (here ∷ []))
     ∷ []
 
-both_lite_refused : (made : List MadeSdp) → IsSound lite_sides lite_offer lite_sides (AcceptOffer Right 0) (Refused (RemoteSdp BothLite)) (Some (shows [])) made
+both_lite_refused : (made : List MadeSdp) → IsSound {E = Unit {0}} lite_sides lite_offer lite_sides (AcceptOffer Right 0) (Refused (RemoteSdp BothLite)) (Some (shows [])) made
 unfolding verdict head_verdict side_verdict inconsistency
 both_lite_refused made = ((refl, refl), refl)
 
 -- a side that is not lite accepts it
-one_lite_accepted : (made : List MadeSdp) → IsSound plain lite_offer plain (AcceptOffer Right 0) (Answered 1) (Some (shows (there ∷ []))) made
+one_lite_accepted : (made : List MadeSdp) → IsSound {E = Unit {0}} plain lite_offer plain (AcceptOffer Right 0) (Answered 1) (Some (shows (there ∷ []))) made
 unfolding verdict head_verdict side_verdict inconsistency
 one_lite_accepted made = ((refl, refl, refl), refl)

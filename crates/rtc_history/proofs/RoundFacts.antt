@@ -13,7 +13,7 @@ use Rattle.rtc_history.specs.declared.outcome.Outcome.TheVariants.{Negotiated, A
 use Rattle.rtc_history.specs.Past.{Entry, MadeSdp, is_right}
 use Rattle.rtc_history.specs.Rounds.{is_own, has_set, EndsRound}
 
-abbrev offered : List MadeSdp → Entry
+abbrev offered : List MadeSdp → Entry (Unit {0})
 offered made = record {
   step = Negotiate Left (AddMedia Audio SendRecv ∷ []) true;
   outcome = Negotiated (Mid (codes "m3") ∷ []) (Offer 0);
@@ -21,7 +21,7 @@ offered made = record {
   made = made;
 }
 
-abbrev answered : List MadeSdp → Entry
+abbrev answered : List MadeSdp → Entry (Unit {0})
 answered made = record {
   step = AcceptOffer Right 0;
   outcome = Answered 1;
@@ -29,7 +29,7 @@ answered made = record {
   made = made;
 }
 
-abbrev round : List MadeSdp → List MadeSdp → List Entry
+abbrev round : List MadeSdp → List MadeSdp → List (Entry (Unit {0}))
 round offer answer = answered answer ∷ offered offer ∷ []
 
 answer_is_own : (offer answer : List MadeSdp) → is_own Left 0 1 (round offer answer) ≡ true

@@ -51,7 +51,7 @@ plain at = record {
 }
 
 -- an entry whose table shows these rows, and a channel of each of these numbers
-abbrev pub entry : Step → Outcome → List LineRow → List ℕ → List MadeSdp → Entry
+abbrev pub entry : Step → Outcome (Unit {0}) → List LineRow → List ℕ → List MadeSdp → Entry (Unit {0})
 entry step outcome rows ids made = record { step = step; outcome = outcome; table = Some (table_of rows ids); made = made }
   where
     table_of : List LineRow → List ℕ → Table

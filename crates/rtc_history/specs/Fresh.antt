@@ -15,8 +15,9 @@ pub record IsJustBuilt (s : Stance) : Type 0 where
   pub remote : s.ice.remote ≡ None
   pub fingerprint : s.fingerprint ≡ None
 
--- both peers were just built; no session description was made and no step performed
+-- both peers were just built; no session description was made, no datagram sent, and no step performed
 pub record IsFresh {I D S M E X T W N : Type 0} (m : Meanings I D S M E X T W N) (pair : PairState I D S M N) : Type 0 where
   pub built : (at : Side) → IsJustBuilt (stances_of m pair at)
   pub sdps : pair.sdps ≡ []
+  pub packets : pair.packets ≡ []
   pub size : pair.size ≡ 0

@@ -10,9 +10,9 @@ use Rattle.rtc_history.specs.declared.side.Side.{Side}
 use Rattle.rtc_history.specs.declared.side.Side.TheVariants.{Left, Right}
 use Rattle.rtc_history.specs.declared.op.Op.{Op}
 use Rattle.rtc_history.specs.declared.step.Step.{Step}
-use Rattle.rtc_history.specs.declared.step.Step.TheVariants.{Negotiate, AcceptOffer, AcceptAnswer}
+use Rattle.rtc_history.specs.declared.step.Step.TheVariants.{Negotiate, AcceptOffer, AcceptAnswer, Time, Datagram, Poll, Drain, Close}
 use Rattle.rtc_history.specs.declared.outcome.Outcome.{Outcome}
-use Rattle.rtc_history.specs.declared.outcome.Outcome.TheVariants.{Negotiated, Answered, Finished, Refused, NoSuch, Alloc}
+use Rattle.rtc_history.specs.declared.outcome.Outcome.TheVariants.{Negotiated, Answered, Finished, Done, Polled, Refused, NoSuch, Alloc}
 use Rattle.rtc_history.specs.Sides.{same_side, other_side}
 use Rattle.rtc_history.specs.Memory.{fails}
 use Rattle.rtc_history.specs.Answers.{is_bad}
@@ -105,11 +105,16 @@ after_answer at t a course (AwaitsEnd side n m said) =
     then Some (moved_on at course (course_rows_after false 0 (course_rows at course) said) course.sdps Idle)
     else None
 
--- the course after a step, if it is in order
+-- the course after a step, if it is in order; inputs, polls and closes leave it
 abbrev pub after_step : Course → Step → Option Course
 after_step course (Negotiate at ops apply) = after_ops apply at ops course (rows_after_ops ops (course_rows at course))
 after_step course (AcceptOffer at k) = after_offer at k course course.phase
 after_step course (AcceptAnswer at t a) = after_answer at t a course course.phase
+after_step course (Time at now) = Some course
+after_step course (Datagram at packet now) = Some course
+after_step course (Poll at) = Some course
+after_step course (Drain at) = Some course
+after_step course (Close at) = Some course
 
 abbrev pub follow : Option Course → List Step → Option Course
 follow course [] = course
@@ -124,7 +129,7 @@ abbrev pub are_orderly : List Step → Bool
 are_orderly steps = is_some (course_of steps)
 
 -- whether an earlier reply tells that memory ran out or that a part failed
-abbrev pub has_failed : List Entry → Bool
+abbrev pub has_failed : {E : Type 0} → List (Entry E) → Bool
 has_failed past = list_any (λ entry. fails entry.outcome) past
 
 -- one of the two ICE agents makes checks (RFC 8445, section 6.1.1)
@@ -132,18 +137,31 @@ abbrev pub can_connect : Stances → Bool
 can_connect fresh = not ((fresh Left).ice.lite && (fresh Right).ice.lite)
 
 -- whether a step succeeded: it was not refused, and neither was a channel of it
-abbrev pub is_ok : Outcome → Bool
+abbrev pub is_ok : {E : Type 0} → Outcome E → Bool
 is_ok (Negotiated answers made) = not (list_any is_bad answers)
 is_ok (Answered k) = true
 is_ok Finished = true
+is_ok Done = true
+is_ok (Polled outputs end) = true
 is_ok (Refused error) = false
 is_ok NoSuch = false
 is_ok Alloc = false
 
--- Orderly steps of a pair that can connect succeed until memory runs out or a part fails.
-abbrev pub OkWhereOrderly : Stances → List Entry → Step → Outcome → Type 0
+-- whether a step negotiates
+abbrev pub negotiates : Step → Bool
+negotiates (Negotiate at ops apply) = true
+negotiates (AcceptOffer at offer) = true
+negotiates (AcceptAnswer at token answer) = true
+negotiates (Time at now) = false
+negotiates (Datagram at packet now) = false
+negotiates (Poll at) = false
+negotiates (Drain at) = false
+negotiates (Close at) = false
+
+-- Orderly steps of a pair that can connect succeed in what they negotiate, until memory runs out or a part fails.
+abbrev pub OkWhereOrderly : {E : Type 0} → Stances → List (Entry E) → Step → Outcome E → Type 0
 OkWhereOrderly fresh past step outcome =
-    can_connect fresh ≡ true → are_orderly (steps_of past ++ step ∷ []) ≡ true → has_failed past ≡ false
+    negotiates step ≡ true → can_connect fresh ≡ true → are_orderly (steps_of past ++ step ∷ []) ≡ true → has_failed past ≡ false
     → (is_ok outcome || fails outcome) ≡ true
 
 -- nothing is outstanding
@@ -167,7 +185,7 @@ pub record AreInStep (rows others : List LineRow) (sides : Stances) : Type 0 whe
   pub current : (at : Side) → AreCurrent sides at
 
 -- After orderly steps that leave no round open, both sides are in step, unless memory ran out or a part failed.
-abbrev pub InStepWhereOrderly : Stances → List Entry → Stances → Type 0
+abbrev pub InStepWhereOrderly : {E : Type 0} → Stances → List (Entry E) → Stances → Type 0
 InStepWhereOrderly fresh past sides =
     (course : Course) → can_connect fresh ≡ true → course_of (steps_of past) ≡ Some course → IsIdle course.phase → has_failed past ≡ false
     → AreInStep (before Left past) (before Right past) sides

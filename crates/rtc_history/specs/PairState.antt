@@ -1,6 +1,8 @@
--- The state of a pair: its two peers, the session descriptions (SDPs) that they made, and the tokens that are not spent.
-use Rattle.std.specs.Prelude.{ℕ, Bool, if◌then◌else◌, List, Option, Some, None, option_map, slice_get, slice_set}
+-- The state of a pair: its two peers, the session descriptions (SDPs) that they made, the tokens that are not spent, and the datagrams
+-- that they sent.
+use Rattle.std.specs.Prelude.{ℕ, Bool, if◌then◌else◌, List, Option, Some, None, option_map, length, slice_get, slice_set}
 use Rattle.rtc_wire.specs.declared.addr.Addr.{Addr}
+use Rattle.rtc_wire.specs.declared.transmit.Transmit.{Transmit}
 use Rattle.rtc_sdp_values.specs.declared.sdp.Sdp.{Sdp}
 use Rattle.rtc_change.specs.PendingOffer.{PendingOffer}
 use Rattle.rtc_peer_state.specs.declared.peer.Peer.{Peer}
@@ -13,6 +15,7 @@ use Rattle.rtc_history.specs.Sides.{same_side}
 use Rattle.rtc_history.specs.Past.{MadeSdp, sdp_for}
 use Rattle.rtc_history.specs.Views.{Stances}
 use Rattle.rtc_history.specs.declared.kept.Kept.{Kept}
+use Rattle.rtc_history.specs.declared.sent_packet.SentPacket.{SentPacket}
 
 pub record PairState (I D S M N : Type 0) : Type 0 where
   pub left : PolledPeer I D S M N
@@ -20,6 +23,8 @@ pub record PairState (I D S M N : Type 0) : Type 0 where
   pub left_addr : Addr
   pub right_addr : Addr
   pub sdps : List Kept
+  -- the datagrams that both sides sent, in the order in which they were polled: the place of each is its number
+  pub packets : List SentPacket
   -- the sum of the sizes of the steps performed so far
   pub size : ℕ
 
@@ -38,9 +43,22 @@ stances_of m pair at = stance_of m (peer_at at pair)
 abbrev pub made_sdp : Kept → MadeSdp
 made_sdp kept = record { at = kept.at; offer = kept.offer; sdp = kept.sdp }
 
+-- a datagram that was sent, by its side and its length
+abbrev pub size_sent : SentPacket → Side × ℕ
+size_sent sent = (sent.at, length sent.transmit.contents)
+
 -- the offer (or the answer) of a number, if the other side made it
 abbrev pub kept_remote_sdp : Bool → List Kept → Side → ℕ → Option Sdp
 kept_remote_sdp offer sdps at k = sdp_for offer at (option_map made_sdp (slice_get sdps k))
+
+-- a datagram that was sent, if the other side sent it
+abbrev pub packet_for : Side → Option SentPacket → Option Transmit
+packet_for at None = None
+packet_for at (Some sent) = if same_side sent.at at then None else Some sent.transmit
+
+-- the datagram of a number, if the other side sent it
+abbrev pub remote_packet : List SentPacket → Side → ℕ → Option Transmit
+remote_packet packets at k = packet_for at (slice_get packets k)
 
 -- the unspent token of an offer that this side made
 abbrev pub token_for : Side → Option Kept → Option PendingOffer

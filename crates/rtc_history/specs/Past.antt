@@ -10,12 +10,14 @@ use Rattle.rtc_channels.specs.Channels.{Channels, no_channels}
 use Rattle.rtc_channels.specs.declared.channel_row.ChannelRow.{ChannelRow}
 use Rattle.rtc_history.specs.declared.side.Side.{Side}
 use Rattle.rtc_history.specs.declared.step.Step.{Step}
-use Rattle.rtc_history.specs.declared.step.Step.TheVariants.{Negotiate, AcceptOffer, AcceptAnswer}
+use Rattle.rtc_history.specs.declared.step.Step.TheVariants.{Negotiate, AcceptOffer, AcceptAnswer, Time, Datagram, Poll, Drain, Close}
 use Rattle.rtc_history.specs.declared.op_answer.OpAnswer.{OpAnswer}
 use Rattle.rtc_history.specs.declared.made.Made.{Made}
 use Rattle.rtc_history.specs.declared.made.Made.TheVariants.{NotAsked, Nothing, Offer, Alloc as MadeAlloc}
+use Rattle.rtc_history.specs.declared.shown.Shown.{Shown}
+use Rattle.rtc_history.specs.declared.shown.Shown.TheVariants.{Timeout, Packet, Event}
 use Rattle.rtc_history.specs.declared.outcome.Outcome.{Outcome}
-use Rattle.rtc_history.specs.declared.outcome.Outcome.TheVariants.{Negotiated, Answered, Finished, Refused, NoSuch, Alloc}
+use Rattle.rtc_history.specs.declared.outcome.Outcome.TheVariants.{Negotiated, Answered, Finished, Done, Polled, Refused, NoSuch, Alloc}
 use Rattle.rtc_history.specs.declared.table.Table.{Table}
 use Rattle.rtc_history.specs.declared.reply.Reply.{Reply}
 use Rattle.rtc_history.specs.Sides.{same_side, side_of}
@@ -28,20 +30,20 @@ pub record MadeSdp : Type 0 where
   pub sdp : Sdp
 
 -- a step with its reply and the SDP that it made, if any. A past is a list of these, newest first.
-pub record Entry : Type 0 where
+pub record Entry (E : Type 0) : Type 0 where
   pub step : Step
-  pub outcome : Outcome
+  pub outcome : Outcome E
   pub table : Option Table
   pub made : List MadeSdp
 
-abbrev pub steps_of : List Entry → List Step
+abbrev pub steps_of : {E : Type 0} → List (Entry E) → List Step
 steps_of [] = []
 steps_of (entry ∷ past) = steps_of past ++ entry.step ∷ []
 
-abbrev pub reply_of : Entry → Reply
+abbrev pub reply_of : {E : Type 0} → Entry E → Reply E
 reply_of entry = record { outcome = entry.outcome; table = entry.table }
 
-abbrev pub replies_of : List Entry → List Reply
+abbrev pub replies_of : {E : Type 0} → List (Entry E) → List (Reply E)
 replies_of [] = []
 replies_of (entry ∷ past) = replies_of past ++ reply_of entry ∷ []
 
@@ -51,14 +53,36 @@ rows_or true None earlier = earlier
 rows_or false table earlier = earlier
 
 -- the rows of a side, as its last reply with a table shows them
-abbrev pub before : Side → List Entry → List LineRow
+abbrev pub before : {E : Type 0} → Side → List (Entry E) → List LineRow
 before at [] = []
 before at (entry ∷ past) = rows_or (same_side (side_of entry.step) at) entry.table (before at past)
 
 -- the SDPs in the order they were made
-abbrev pub sdps : List Entry → List MadeSdp
+abbrev pub sdps : {E : Type 0} → List (Entry E) → List MadeSdp
 sdps [] = []
 sdps (entry ∷ past) = sdps past ++ entry.made
+
+-- the datagrams that outputs of a side show, by their side and length
+abbrev pub packets_in : {E : Type 0} → Side → List (Shown E) → List (Side × ℕ)
+packets_in at [] = []
+packets_in at (Timeout moment reason ∷ outputs) = packets_in at outputs
+packets_in at (Packet number len ∷ outputs) = (at, len) ∷ packets_in at outputs
+packets_in at (Event event ∷ outputs) = packets_in at outputs
+
+abbrev pub packets_told : {E : Type 0} → Side → Outcome E → List (Side × ℕ)
+packets_told at (Negotiated answers made) = []
+packets_told at (Answered k) = []
+packets_told at Finished = []
+packets_told at Done = []
+packets_told at (Polled outputs end) = packets_in at outputs
+packets_told at (Refused error) = []
+packets_told at NoSuch = []
+packets_told at Alloc = []
+
+-- the datagrams that replies show, in order
+abbrev pub packets_shown : {E : Type 0} → List (Entry E) → List (Side × ℕ)
+packets_shown [] = []
+packets_shown (entry ∷ past) = packets_shown past ++ packets_told (side_of entry.step) entry.outcome
 
 -- an SDP, if it is an offer (or an answer) of the other side
 abbrev pub sdp_for : Bool → Side → Option MadeSdp → Option Sdp
@@ -66,25 +90,32 @@ sdp_for offer at None = None
 sdp_for offer at (Some said) = if (if offer then said.offer else not said.offer) && not (same_side said.at at) then Some said.sdp else None
 
 -- the offer (or the answer) of a number, if the other side made it
-abbrev pub remote_sdp : Bool → Side → ℕ → List Entry → Option Sdp
+abbrev pub remote_sdp : {E : Type 0} → Bool → Side → ℕ → List (Entry E) → Option Sdp
 remote_sdp offer at k past = sdp_for offer at (slice_get (sdps past) k)
 
 -- whether a reply says that the peer's accept call was reached
-abbrev pub was_called : Outcome → Bool
+abbrev pub was_called : {E : Type 0} → Outcome E → Bool
 was_called (Negotiated answers made) = false
 was_called (Answered k) = true
 was_called Finished = true
+was_called Done = false
+was_called (Polled outputs end) = false
 was_called (Refused error) = true
 was_called NoSuch = false
 was_called Alloc = false
 
 -- a token is spent by the call that accepts or refuses an answer with it
-abbrev pub spends : ℕ → Step → Outcome → Bool
+abbrev pub spends : {E : Type 0} → ℕ → Step → Outcome E → Bool
 spends t (Negotiate at ops apply) outcome = false
 spends t (AcceptOffer at offer) outcome = false
 spends t (AcceptAnswer at token answer) outcome = (token == t) && was_called outcome
+spends t (Time at now) outcome = false
+spends t (Datagram at packet now) outcome = false
+spends t (Poll at) outcome = false
+spends t (Drain at) outcome = false
+spends t (Close at) outcome = false
 
-abbrev pub is_spent : ℕ → List Entry → Bool
+abbrev pub is_spent : {E : Type 0} → ℕ → List (Entry E) → Bool
 is_spent t [] = false
 is_spent t (entry ∷ past) = spends t entry.step entry.outcome || is_spent t past
 
@@ -93,7 +124,7 @@ is_offer_of at None = false
 is_offer_of at (Some said) = said.offer && same_side said.at at
 
 -- whether a side holds the unspent token of a number
-abbrev pub holds_token : Side → ℕ → List Entry → Bool
+abbrev pub holds_token : {E : Type 0} → Side → ℕ → List (Entry E) → Bool
 holds_token at t past = is_offer_of at (slice_get (sdps past) t) && not (is_spent t past)
 
 -- whether staged changes were applied
@@ -103,19 +134,26 @@ is_applied answers Nothing = do_stage answers
 is_applied answers (Offer k) = true
 is_applied answers MadeAlloc = false
 
-abbrev pub applies : Outcome → Bool
+abbrev pub applies : {E : Type 0} → Outcome E → Bool
 applies (Negotiated answers made) = is_applied answers made
 applies (Answered k) = false
 applies Finished = false
+applies Done = false
+applies (Polled outputs end) = false
 applies (Refused error) = false
 applies NoSuch = false
 applies Alloc = false
 
 -- whether a step applied staged changes of a side, or had it accept or refuse an offer
-abbrev pub moves : Side → Step → Outcome → Bool
+abbrev pub moves : {E : Type 0} → Side → Step → Outcome E → Bool
 moves at (Negotiate side ops apply) outcome = same_side side at && applies outcome
 moves at (AcceptOffer side offer) outcome = same_side side at && was_called outcome
 moves at (AcceptAnswer side token answer) outcome = false
+moves at (Time side now) outcome = false
+moves at (Datagram side packet now) outcome = false
+moves at (Poll side) outcome = false
+moves at (Drain side) outcome = false
+moves at (Close side) outcome = false
 
 abbrev pub is_offer_numbered : ℕ → Made → Bool
 is_offer_numbered t NotAsked = false
@@ -124,16 +162,18 @@ is_offer_numbered t (Offer k) = k == t
 is_offer_numbered t MadeAlloc = false
 
 -- whether a step made the offer of a number
-abbrev pub makes : ℕ → Outcome → Bool
+abbrev pub makes : {E : Type 0} → ℕ → Outcome E → Bool
 makes t (Negotiated answers made) = is_offer_numbered t made
 makes t (Answered k) = false
 makes t Finished = false
+makes t Done = false
+makes t (Polled outputs end) = false
 makes t (Refused error) = false
 makes t NoSuch = false
 makes t Alloc = false
 
 -- since the offer of this number, its side applied no staged changes, and neither accepted nor refused an offer
-abbrev pub is_right : Side → ℕ → List Entry → Bool
+abbrev pub is_right : {E : Type 0} → Side → ℕ → List (Entry E) → Bool
 is_right at t [] = false
 is_right at t (entry ∷ past) = makes t entry.outcome || (not (moves at entry.step entry.outcome) && is_right at t past)
 
@@ -151,27 +191,29 @@ abbrev pub new_app : List LineRow → List MadeSdp → Option (List ℕ)
 new_app rows made = if has_app_row rows then None else app_mid_said made
 
 -- the rows that a step adds, at places from this one on
-abbrev pub added_in : ℕ → Step → Outcome → Option Table → List MadeSdp → List LineRow
+abbrev pub added_in : {E : Type 0} → ℕ → Step → Outcome E → Option Table → List MadeSdp → List LineRow
 added_in place (Negotiate at ops apply) (Negotiated answers what) (Some table) made = added (new_app table.lines made) place ops answers
 added_in place step outcome table made = []
 
 -- the rows that the offer of a number added, at places from this one on
-abbrev pub added_by : ℕ → ℕ → List Entry → List LineRow
+abbrev pub added_by : {E : Type 0} → ℕ → ℕ → List (Entry E) → List LineRow
 added_by place t [] = []
 added_by place t (entry ∷ past) =
     if makes t entry.outcome then added_in place entry.step entry.outcome entry.table entry.made else added_by place t past
 
 -- whether a step staged a restart of ICE
-abbrev pub restarts_in : Outcome → Bool
+abbrev pub restarts_in : {E : Type 0} → Outcome E → Bool
 restarts_in (Negotiated answers made) = do_restart answers
 restarts_in (Answered k) = false
 restarts_in Finished = false
+restarts_in Done = false
+restarts_in (Polled outputs end) = false
 restarts_in (Refused error) = false
 restarts_in NoSuch = false
 restarts_in Alloc = false
 
 -- whether the offer of a number restarted ICE
-abbrev pub restarts_by : ℕ → List Entry → Bool
+abbrev pub restarts_by : {E : Type 0} → ℕ → List (Entry E) → Bool
 restarts_by t [] = false
 restarts_by t (entry ∷ past) = if makes t entry.outcome then restarts_in entry.outcome else restarts_by t past
 
@@ -181,17 +223,17 @@ channel_rows_or true None earlier = earlier
 channel_rows_or false table earlier = earlier
 
 -- the rows of the channels of a side, as its last reply with a table shows them
-abbrev pub channels_shown : Side → List Entry → List ChannelRow
+abbrev pub channels_shown : {E : Type 0} → Side → List (Entry E) → List ChannelRow
 channels_shown at [] = []
 channels_shown at (entry ∷ past) = channel_rows_or (same_side (side_of entry.step) at) entry.table (channels_shown at past)
 
 -- the channels of a side after a step
-abbrev pub channels_after : Bool → Step → Outcome → Channels → Channels
+abbrev pub channels_after : {E : Type 0} → Bool → Step → Outcome E → Channels → Channels
 channels_after true (Negotiate at ops apply) (Negotiated answers made) held = channels_answered ops answers held
 channels_after true step outcome held = held
 channels_after false step outcome held = held
 
 -- The channels that a side was given, applied or not: none of them goes.
-abbrev pub channels_given : Side → List Entry → Channels
+abbrev pub channels_given : {E : Type 0} → Side → List (Entry E) → Channels
 channels_given at [] = no_channels
 channels_given at (entry ∷ past) = channels_after (same_side (side_of entry.step) at) entry.step entry.outcome (channels_given at past)

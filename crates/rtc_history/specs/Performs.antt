@@ -1,6 +1,11 @@
 -- What each step does to a pair: the public calls that it makes, by their relations.
 use Rattle.std.specs.Prelude.{◌≡◌, ◌+◌, ℕ, List, [], ◌∷◌, ◌++◌, map, drop, Bool, true, false, not, ◌&&◌, Option, Some}
-use Rattle.std.specs.Prelude.{None, Ok, Err, length, alloc_error, slice_get}
+use Rattle.std.specs.Prelude.{None, Result, Ok, Err, length, alloc_error, slice_get}
+use Rattle.rtc_wire.specs.DatagramRecv.{kind_by, kind_said, bytes_lent}
+use Rattle.rtc_wire.specs.declared.multiplex_kind.MultiplexKind.{MultiplexKind}
+use Rattle.rtc_wire.specs.declared.net_error.NetError.{NetError}
+use Rattle.rtc_wire.specs.declared.receive.Receive.{Receive}
+use Rattle.rtc_wire.specs.declared.transmit.Transmit.{Transmit}
 use Rattle.rtc_sdp_values.specs.declared.direction.Direction.{Direction}
 use Rattle.rtc_sdp_values.specs.declared.line_row.LineRow.{LineRow}
 use Rattle.rtc_sdp_values.specs.declared.media_kind.MediaKind.{MediaKind}
@@ -8,30 +13,42 @@ use Rattle.rtc_sdp_values.specs.declared.sdp.Sdp.{Sdp}
 use Rattle.rtc_change.specs.PendingOffer.{PendingOffer}
 use Rattle.rtc_tables.specs.RowChanges.{media_mid}
 use Rattle.rtc_peer_state.specs.declared.peer.Peer.{Peer}
-use Rattle.rtc_peer_state.specs.declared.rtc_error.RtcError.TheVariants.{BadChannel, Alloc as PeerAlloc}
+use Rattle.rtc_peer_state.specs.declared.rtc_error.RtcError.{RtcError}
+use Rattle.rtc_peer_state.specs.declared.rtc_error.RtcError.TheVariants.{BadChannel, Net, Alloc as PeerAlloc}
 use Rattle.rtc_peer_state.specs.Acceptances.{AcceptsOffer, AcceptsAnswer}
 use Rattle.rtc_peer_state.specs.Calls.{AddsMedia, SetsDirection, StopsMedia, AddsChannel, StagesRestart, Applies, Wanted}
 use Rattle.rtc_peer_state.specs.Meanings.{Meanings}
 use Rattle.rtc_channels.specs.Channels.{channel_rows}
+use Rattle.rtc_polling.specs.declared.input.Input.TheVariants as given
+use Rattle.rtc_polling.specs.declared.output.Output.TheVariants as polled
+use Rattle.rtc_polling.specs.declared.polled_peer.PolledPeer.{PolledPeer}
+use Rattle.rtc_polling.specs.Closing.{ClosesPeer}
+use Rattle.rtc_polling.specs.Inputs.{HandlesInput}
+use Rattle.rtc_polling.specs.Walk.{PollsPeer}
 use Rattle.rtc_history.specs.declared.side.Side.{Side}
 use Rattle.rtc_history.specs.declared.op.Op.{Op}
 use Rattle.rtc_history.specs.declared.op.Op.TheVariants.{AddMedia, SetDirection, StopMedia, AddChannel, IceRestart}
 use Rattle.rtc_history.specs.declared.step.Step.{Step}
-use Rattle.rtc_history.specs.declared.step.Step.TheVariants.{Negotiate, AcceptOffer, AcceptAnswer}
+use Rattle.rtc_history.specs.declared.step.Step.TheVariants.{Negotiate, AcceptOffer, AcceptAnswer, Time, Datagram, Poll, Drain, Close}
 use Rattle.rtc_history.specs.declared.op_answer.OpAnswer.{OpAnswer}
 use Rattle.rtc_history.specs.declared.op_answer.OpAnswer.TheVariants.{Mid, Changed, NoLine, Channel, Creds}
 use Rattle.rtc_history.specs.declared.op_answer.OpAnswer.TheVariants.{BadChannel as NoChannel, Alloc as OpAlloc}
 use Rattle.rtc_history.specs.declared.made.Made.{Made}
 use Rattle.rtc_history.specs.declared.made.Made.TheVariants.{NotAsked, Nothing, Offer, Alloc as MadeAlloc}
+use Rattle.rtc_history.specs.declared.poll_end.PollEnd.{PollEnd}
+use Rattle.rtc_history.specs.declared.poll_end.PollEnd.TheVariants.{Ended, Refused as EndRefused, NoRoom}
+use Rattle.rtc_history.specs.declared.sent_packet.SentPacket.{SentPacket}
+use Rattle.rtc_history.specs.declared.shown.Shown.{Shown}
+use Rattle.rtc_history.specs.declared.shown.Shown.TheVariants.{Timeout, Packet, Event}
 use Rattle.rtc_history.specs.declared.outcome.Outcome.{Outcome}
-use Rattle.rtc_history.specs.declared.outcome.Outcome.TheVariants.{Negotiated, Answered, Finished, Refused, NoSuch, Alloc}
+use Rattle.rtc_history.specs.declared.outcome.Outcome.TheVariants.{Negotiated, Answered, Finished, Done, Polled, Refused, NoSuch, Alloc}
 use Rattle.rtc_history.specs.declared.table.Table.{Table}
 use Rattle.rtc_history.specs.Memory.{answers_lack}
 use Rattle.rtc_history.specs.Sides.{side_of, other_side}
 use Rattle.rtc_history.specs.Sizes.{step_size}
 use Rattle.rtc_history.specs.Past.{Entry, MadeSdp}
 use Rattle.rtc_history.specs.declared.kept.Kept.{Kept}
-use Rattle.rtc_history.specs.PairState.{PairState, rtc_at, peer_at, made_sdp, kept_remote_sdp, held_token, spent}
+use Rattle.rtc_history.specs.PairState.{PairState, rtc_at, made_sdp, kept_remote_sdp, remote_packet, held_token, spent}
 
 -- the peer as `sdp_api` lends it: earlier staged changes are dropped
 abbrev pub lent : {I D S M N : Type 0} → Peer I D S M N → Peer I D S M N
@@ -51,6 +68,24 @@ wanted kind dir = record { kind = kind; dir = dir; stream = None; track = None; 
 pub record Stays {I D S M N : Type 0} (old : Peer I D S M N) (sdps : List Kept) (new : Peer I D S M N) (sdps' : List Kept) : Type 0 where
   pub peer : new ≡ old
   pub sdps_kept : sdps' ≡ sdps
+
+-- the connection of a peer and the datagrams stay
+pub record LeavesConnection {I D S M N : Type 0} (old : PolledPeer I D S M N) (packets : List SentPacket) (new : PolledPeer I D S M N)
+    (packets' : List SentPacket) : Type 0 where
+  pub connection : new.transport ≡ old.transport
+  pub packets_kept : packets' ≡ packets
+
+-- a datagram as the pair keeps it
+abbrev pub sent_packet : Side → Transmit → SentPacket
+sent_packet at transmit = record { at = at; transmit = transmit }
+
+-- a datagram as it comes in where it was sent to, by its kind
+pub record ComesIn (transmit : Transmit) (kind : MultiplexKind) (datagram : Receive) : Type 0 where
+  pub kind_is : kind_said datagram.contents ≡ kind
+  pub bytes : bytes_lent datagram.contents ≡ transmit.contents
+  pub proto : datagram.proto ≡ transmit.proto
+  pub source : datagram.source ≡ transmit.source
+  pub destination : datagram.destination ≡ transmit.destination
 
 -- a table shows the lines and the channels of a peer
 pub record Shows {I D S M N : Type 0} (table : Table) (peer : Peer I D S M N) : Type 0 where
@@ -101,7 +136,7 @@ module _ {I D S M E X T W N : Type 0} (m : Meanings I D S M E X T W N) where
   MakesOf asked at p sdps made q sdps' = ⊥
 
   -- A peer performs ops, and applies or drops what they staged.
-  abbrev pub Negotiates : Side → List Op → Bool → Peer I D S M N → List Kept → Outcome → Option Table → Peer I D S M N → List Kept
+  abbrev pub Negotiates : Side → List Op → Bool → Peer I D S M N → List Kept → Outcome E → Option Table → Peer I D S M N → List Kept
       → Type 0
   Negotiates at ops apply old sdps Alloc None new sdps' = Stays old sdps new sdps'
   Negotiates at ops apply old sdps (Negotiated answers made) (Some table) new sdps' =
@@ -112,7 +147,7 @@ module _ {I D S M E X T W N : Type 0} (m : Meanings I D S M E X T W N) where
   Negotiates at ops apply old sdps outcome table new sdps' = ⊥
 
   -- A peer accepts or refuses an offer that the other side made.
-  abbrev pub StepAcceptsOffer : Side → Option Sdp → Peer I D S M N → List Kept → Outcome → Option Table → Peer I D S M N → List Kept
+  abbrev pub StepAcceptsOffer : Side → Option Sdp → Peer I D S M N → List Kept → Outcome E → Option Table → Peer I D S M N → List Kept
       → Type 0
   StepAcceptsOffer at offer old sdps Alloc None new sdps' = Stays old sdps new sdps'
   StepAcceptsOffer at None old sdps NoSuch (Some table) new sdps' = Stays old sdps new sdps' × Shows table old
@@ -129,7 +164,7 @@ module _ {I D S M E X T W N : Type 0} (m : Meanings I D S M E X T W N) where
   StepAcceptsOffer at offer old sdps outcome table new sdps' = ⊥
 
   -- A peer accepts or refuses an answer that the other side made; the token of its own offer is spent.
-  abbrev pub StepAcceptsAnswer : ℕ → Option PendingOffer → Option Sdp → Peer I D S M N → List Kept → Outcome → Option Table
+  abbrev pub StepAcceptsAnswer : ℕ → Option PendingOffer → Option Sdp → Peer I D S M N → List Kept → Outcome E → Option Table
       → Peer I D S M N → List Kept → Type 0
   StepAcceptsAnswer t token answer old sdps Alloc None new sdps' = Stays old sdps new sdps'
   StepAcceptsAnswer t None answer old sdps NoSuch (Some table) new sdps' = Stays old sdps new sdps' × Shows table old
@@ -144,18 +179,108 @@ module _ {I D S M E X T W N : Type 0} (m : Meanings I D S M E X T W N) where
       × Shows table new
   StepAcceptsAnswer t token answer old sdps outcome table new sdps' = ⊥
 
-  -- what the acting peer does
-  abbrev pub Acts : Step → Peer I D S M N → List Kept → Outcome → Option Table → Peer I D S M N → List Kept → Type 0
-  Acts (Negotiate at ops apply) old sdps outcome table new sdps' = Negotiates at ops apply old sdps outcome table new sdps'
-  Acts (AcceptOffer at offer) old sdps outcome table new sdps' =
-      StepAcceptsOffer at (kept_remote_sdp true sdps at offer) old sdps outcome table new sdps'
-  Acts (AcceptAnswer at token answer) old sdps outcome table new sdps' =
-      StepAcceptsAnswer token (held_token sdps at token) (kept_remote_sdp false sdps at answer) old sdps outcome table new sdps'
+  -- An input or a close is answered: by `Done`, or by why it was refused. Without memory for the table there is no call.
+  abbrev pub StepCalls : (PolledPeer I D S M N → Result (Unit {0}) RtcError → PolledPeer I D S M N → Type 0) → PolledPeer I D S M N
+      → Outcome E → Option Table → PolledPeer I D S M N → Type 0
+  StepCalls call old Alloc None new = new ≡ old
+  StepCalls call old Done (Some table) new = call old (Ok tt) new × Shows table new.core
+  StepCalls call old (Refused error) (Some table) new = call old (Err error) new × Shows table new.core
+  StepCalls call old outcome table new = ⊥
+
+  -- A datagram is refused where it is of no kind or has not the form of it, and the peer is not called; else it is handed to the peer.
+  abbrev pub HandlesRead : Result MultiplexKind NetError → Transmit → ℕ → PolledPeer I D S M N → Result (Unit {0}) RtcError
+      → PolledPeer I D S M N → Type 0
+  HandlesRead (Err why) transmit now p r q = (r ≡ Err (Net why)) × (q ≡ p)
+  HandlesRead (Ok kind) transmit now p r q =
+      (datagram : Receive) × ComesIn transmit kind datagram × HandlesInput m (given.Receive now datagram) p r q
+
+  -- The peer takes a datagram that the other side sent, where readers of messages of ICE have this test.
+  abbrev pub StepTakesDatagram : (List ℕ → Bool) → Option Transmit → ℕ → PolledPeer I D S M N → Outcome E → Option Table
+      → PolledPeer I D S M N → Type 0
+  StepTakesDatagram stun None now old Alloc None new = new ≡ old
+  StepTakesDatagram stun None now old NoSuch (Some table) new = (new ≡ old) × Shows table old.core
+  StepTakesDatagram stun None now old outcome table new = ⊥
+  StepTakesDatagram stun (Some transmit) now old outcome table new =
+      StepCalls (HandlesRead (kind_by stun transmit.contents) transmit now) old outcome table new
+
+  -- One poll, and what is shown of its output: of a timeout its reason, and of a datagram its number and its length.
+  abbrev pub PollsShown : Side → PolledPeer I D S M N → List SentPacket → Shown E → PolledPeer I D S M N → List SentPacket → Type 0
+  PollsShown at p packets (Timeout moment reason) q packets' =
+      PollsPeer m p (Ok (polled.Timeout moment)) q × (reason ≡ q.transport.last_reason) × (packets' ≡ packets)
+  PollsShown at p packets (Packet number len) q packets' =
+      (transmit : Transmit)
+      × PollsPeer m p (Ok (polled.Transmit transmit)) q
+      × (number ≡ length packets)
+      × (len ≡ length transmit.contents)
+      × (packets' ≡ packets ++ sent_packet at transmit ∷ [])
+  PollsShown at p packets (Event event) q packets' = PollsPeer m p (Ok (polled.Event event)) q × (packets' ≡ packets)
+
+  -- One poll: its output, or its error.
+  abbrev pub PollsOnce : Side → PolledPeer I D S M N → List SentPacket → List (Shown E) → PollEnd → PolledPeer I D S M N → List SentPacket
+      → Type 0
+  PollsOnce at p packets (shown ∷ []) Ended q packets' = PollsShown at p packets shown q packets'
+  PollsOnce at p packets [] (EndRefused error) q packets' = PollsPeer m p (Err error) q × (packets' ≡ packets)
+  PollsOnce at p packets outputs end q packets' = ⊥
+
+  -- Polls up to a timeout or an error, or until there is no room for one more.
+  abbrev pub DrainsOn : Side → PolledPeer I D S M N → List SentPacket → List (Shown E) → PollEnd → PolledPeer I D S M N → List SentPacket
+      → Type 0
+  DrainsOn at p packets [] Ended q packets' = ⊥
+  DrainsOn at p packets [] (EndRefused error) q packets' = PollsPeer m p (Err error) q × (packets' ≡ packets)
+  DrainsOn at p packets [] NoRoom q packets' = (q ≡ p) × (packets' ≡ packets)
+  DrainsOn at p packets (Timeout moment reason ∷ []) Ended q packets' = PollsShown at p packets (Timeout moment reason) q packets'
+  DrainsOn at p packets (Timeout moment reason ∷ outputs) end q packets' = ⊥
+  DrainsOn at p packets (Packet number len ∷ outputs) end q packets' =
+      (between : PolledPeer I D S M N)
+      × (kept : List SentPacket)
+      × PollsShown at p packets (Packet number len) between kept
+      × DrainsOn at between kept outputs end q packets'
+  DrainsOn at p packets (Event event ∷ outputs) end q packets' =
+      (between : PolledPeer I D S M N)
+      × (kept : List SentPacket)
+      × PollsShown at p packets (Event event) between kept
+      × DrainsOn at between kept outputs end q packets'
+
+  -- The same, with one poll at least.
+  abbrev pub Drains : Side → PolledPeer I D S M N → List SentPacket → List (Shown E) → PollEnd → PolledPeer I D S M N → List SentPacket
+      → Type 0
+  Drains at p packets [] NoRoom q packets' = ⊥
+  Drains at p packets outputs end q packets' = DrainsOn at p packets outputs end q packets'
+
+  -- Polls are answered by what they gave. Without memory for the table and for one output there is no poll.
+  abbrev pub StepPolls : (List SentPacket → List (Shown E) → PollEnd → PolledPeer I D S M N → List SentPacket → Type 0)
+      → PolledPeer I D S M N → List SentPacket → Outcome E → Option Table → PolledPeer I D S M N → List SentPacket → Type 0
+  StepPolls polls old packets Alloc None new packets' = (new ≡ old) × (packets' ≡ packets)
+  StepPolls polls old packets (Polled outputs end) (Some table) new packets' = polls packets outputs end new packets' × Shows table new.core
+  StepPolls polls old packets outcome table new packets' = ⊥
+
+  -- What the acting peer does, with the SDPs and the datagrams before and after: negotiation leaves its connection and the datagrams, and
+  -- all else the SDPs.
+  abbrev pub Acts : (List ℕ → Bool) → Step → PolledPeer I D S M N → List Kept → List SentPacket → Outcome E → Option Table
+      → PolledPeer I D S M N → List Kept → List SentPacket → Type 0
+  Acts stun (Negotiate at ops apply) old sdps packets outcome table new sdps' packets' =
+      Negotiates at ops apply old.core sdps outcome table new.core sdps' × LeavesConnection old packets new packets'
+  Acts stun (AcceptOffer at offer) old sdps packets outcome table new sdps' packets' =
+      StepAcceptsOffer at (kept_remote_sdp true sdps at offer) old.core sdps outcome table new.core sdps'
+      × LeavesConnection old packets new packets'
+  Acts stun (AcceptAnswer at token answer) old sdps packets outcome table new sdps' packets' =
+      StepAcceptsAnswer token (held_token sdps at token) (kept_remote_sdp false sdps at answer) old.core sdps outcome table new.core sdps'
+      × LeavesConnection old packets new packets'
+  Acts stun (Time at now) old sdps packets outcome table new sdps' packets' =
+      StepCalls (HandlesInput m (given.Timeout now)) old outcome table new × (sdps' ≡ sdps) × (packets' ≡ packets)
+  Acts stun (Datagram at packet now) old sdps packets outcome table new sdps' packets' =
+      StepTakesDatagram stun (remote_packet packets at packet) now old outcome table new × (sdps' ≡ sdps) × (packets' ≡ packets)
+  Acts stun (Poll at) old sdps packets outcome table new sdps' packets' =
+      StepPolls (PollsOnce at old) old packets outcome table new packets' × (sdps' ≡ sdps)
+  Acts stun (Drain at) old sdps packets outcome table new sdps' packets' =
+      StepPolls (Drains at old) old packets outcome table new packets' × (sdps' ≡ sdps)
+  Acts stun (Close at) old sdps packets outcome table new sdps' packets' =
+      StepCalls (ClosesPeer m) old outcome table new × (sdps' ≡ sdps) × (packets' ≡ packets)
 
   -- A step: what the acting peer does. The other peer and both addresses stay as they were.
-  pub record Performs (old : PairState I D S M N) (step : Step) (outcome : Outcome) (table : Option Table) (new : PairState I D S M N)
-      : Type 0 where
-    pub acts : Acts step (peer_at (side_of step) old) old.sdps outcome table (peer_at (side_of step) new) new.sdps
+  pub record Performs (stun : List ℕ → Bool) (old : PairState I D S M N) (step : Step) (outcome : Outcome E) (table : Option Table)
+      (new : PairState I D S M N) : Type 0 where
+    pub acts : Acts stun step (rtc_at (side_of step) old) old.sdps old.packets outcome table (rtc_at (side_of step) new) new.sdps new.packets
     pub other : rtc_at (other_side (side_of step)) new ≡ rtc_at (other_side (side_of step)) old
     pub left_addr : new.left_addr ≡ old.left_addr
     pub right_addr : new.right_addr ≡ old.right_addr
@@ -166,7 +291,7 @@ abbrev pub sdps_behind : List Kept → List Kept → List MadeSdp
 sdps_behind sdps sdps' = map made_sdp (drop (length sdps) sdps')
 
 -- An entry of a past is a step, its reply, and the SDP that it made.
-pub record Enters {I D S M E X T W N : Type 0} (m : Meanings I D S M E X T W N) (old : PairState I D S M N) (entry : Entry)
-    (new : PairState I D S M N) : Type 0 where
-  pub performs : Performs m old entry.step entry.outcome entry.table new
+pub record Enters {I D S M E X T W N : Type 0} (m : Meanings I D S M E X T W N) (stun : List ℕ → Bool) (old : PairState I D S M N)
+    (entry : Entry E) (new : PairState I D S M N) : Type 0 where
+  pub performs : Performs m stun old entry.step entry.outcome entry.table new
   pub made : entry.made ≡ sdps_behind old.sdps new.sdps

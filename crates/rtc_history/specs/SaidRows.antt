@@ -37,7 +37,7 @@ pub record SaysRows (at : Side) (offer : Bool) (rows : List LineRow) (made : Lis
   pub fits : are_live rows ≡ true → inconsistency sdp ≡ None
 
 -- An offer says the rows of its side, then those that it adds; an answer says those that it leaves; no other SDP is made.
-abbrev pub MakesSdp : Step → Outcome → Option Table → List MadeSdp → Type 0
+abbrev pub MakesSdp : {E : Type 0} → Step → Outcome E → Option Table → List MadeSdp → Type 0
 MakesSdp (Negotiate at ops apply) (Negotiated answers (Offer k)) (Some table) made =
     SaysRows at true (table.lines ++ added (new_app table.lines made) (length table.lines) ops answers) made
 MakesSdp (AcceptOffer at offer) (Answered k) (Some table) made = SaysRows at false table.lines made

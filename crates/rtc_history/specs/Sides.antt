@@ -3,7 +3,7 @@ use Rattle.std.specs.Prelude.{Bool, true, false}
 use Rattle.rtc_history.specs.declared.side.Side.{Side}
 use Rattle.rtc_history.specs.declared.side.Side.TheVariants.{Left, Right}
 use Rattle.rtc_history.specs.declared.step.Step.{Step}
-use Rattle.rtc_history.specs.declared.step.Step.TheVariants.{Negotiate, AcceptOffer, AcceptAnswer}
+use Rattle.rtc_history.specs.declared.step.Step.TheVariants.{Negotiate, AcceptOffer, AcceptAnswer, Time, Datagram, Poll, Drain, Close}
 
 abbrev pub same_side : Side → Side → Bool
 same_side Left Left = true
@@ -20,3 +20,8 @@ abbrev pub side_of : Step → Side
 side_of (Negotiate at ops apply) = at
 side_of (AcceptOffer at offer) = at
 side_of (AcceptAnswer at token answer) = at
+side_of (Time at now) = at
+side_of (Datagram at packet now) = at
+side_of (Poll at) = at
+side_of (Drain at) = at
+side_of (Close at) = at

@@ -1,13 +1,18 @@
 -- The size of steps: how many rows, channels and session descriptions they can add.
 use Rattle.std.specs.Prelude.{◌+◌, ℕ, List, [], ◌∷◌, length}
 use Rattle.rtc_history.specs.declared.step.Step.{Step}
-use Rattle.rtc_history.specs.declared.step.Step.TheVariants.{Negotiate, AcceptOffer, AcceptAnswer}
+use Rattle.rtc_history.specs.declared.step.Step.TheVariants.{Negotiate, AcceptOffer, AcceptAnswer, Time, Datagram, Poll, Drain, Close}
 
 -- one, and one more for each op
 abbrev pub step_size : Step → ℕ
 step_size (Negotiate at ops apply) = 1 + length ops
 step_size (AcceptOffer at offer) = 1
 step_size (AcceptAnswer at token answer) = 1
+step_size (Time at now) = 1
+step_size (Datagram at packet now) = 1
+step_size (Poll at) = 1
+step_size (Drain at) = 1
+step_size (Close at) = 1
 
 abbrev pub steps_size : List Step → ℕ
 steps_size [] = 0

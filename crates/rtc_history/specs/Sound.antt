@@ -23,13 +23,13 @@ use Rattle.rtc_history.specs.declared.side.Side.{Side}
 use Rattle.rtc_history.specs.declared.op.Op.{Op}
 use Rattle.rtc_history.specs.declared.op.Op.TheVariants.{AddMedia, SetDirection, StopMedia, AddChannel, IceRestart}
 use Rattle.rtc_history.specs.declared.step.Step.{Step}
-use Rattle.rtc_history.specs.declared.step.Step.TheVariants.{Negotiate, AcceptOffer, AcceptAnswer}
+use Rattle.rtc_history.specs.declared.step.Step.TheVariants.{Negotiate, AcceptOffer, AcceptAnswer, Time, Datagram, Poll, Drain, Close}
 use Rattle.rtc_history.specs.declared.op_answer.OpAnswer.{OpAnswer}
 use Rattle.rtc_history.specs.declared.op_answer.OpAnswer.TheVariants.{Mid, Changed, NoLine, Channel, BadChannel, Creds, Alloc as OpAlloc}
 use Rattle.rtc_history.specs.declared.made.Made.{Made}
 use Rattle.rtc_history.specs.declared.made.Made.TheVariants.{NotAsked, Nothing, Offer, Alloc as MadeAlloc}
 use Rattle.rtc_history.specs.declared.outcome.Outcome.{Outcome}
-use Rattle.rtc_history.specs.declared.outcome.Outcome.TheVariants.{Negotiated, Answered, Finished, Refused, NoSuch, Alloc}
+use Rattle.rtc_history.specs.declared.outcome.Outcome.TheVariants.{Negotiated, Answered, Finished, Done, Polled, Refused, NoSuch, Alloc}
 use Rattle.rtc_history.specs.declared.table.Table.{Table}
 use Rattle.rtc_history.specs.Memory.{answers_lack}
 use Rattle.rtc_history.specs.Answers.{has_app_row, do_need_offer, with_numbered, rows_waiting}
@@ -112,7 +112,7 @@ OpsAnswered m (op ∷ ops) (OpAlloc ∷ []) after = after ≡ m.rows
 OpsAnswered m ops answers after = ⊥
 
 -- what a side has before the ops of a step, given the mid of the line that its channels bring
-abbrev pub at_first : Side → List Entry → Option (List ℕ) → Midway
+abbrev pub at_first : {E : Type 0} → Side → List (Entry E) → Option (List ℕ) → Midway
 at_first at past app = record {
   rows = before at past;
   held = map row_mid (before at past);
@@ -129,7 +129,7 @@ MadeOf true offers MadeAlloc next = Unit {0}
 MadeOf asked offers made next = ⊥
 
 -- The outcome of accepting an offer: its answer and the rows that it leaves, or the first cause that refuses it.
-abbrev pub RepliesToOffer : Option Sdp → Held → ℕ → Outcome → List LineRow → Type 0
+abbrev pub RepliesToOffer : {E : Type 0} → Option Sdp → Held → ℕ → Outcome E → List LineRow → Type 0
 RepliesToOffer None view next NoSuch after = after ≡ view.lines
 RepliesToOffer (Some sdp) view next (Answered k) after =
     (verdict view None sdp ≡ None) × (after ≡ table_after view.lines (parsed_lines sdp) true) × (k ≡ next)
@@ -143,7 +143,7 @@ RepliesToOffer (Some sdp) view next (Refused PeerAlloc) after = after ≡ view.l
 RepliesToOffer sdp view next outcome after = ⊥
 
 -- The outcome of accepting an answer: the rows that it leaves, where the token is held and right, or the first cause that refuses it.
-abbrev pub RepliesToAnswer : Bool → Bool → Asked → Option Sdp → Held → Outcome → List LineRow → Type 0
+abbrev pub RepliesToAnswer : {E : Type 0} → Bool → Bool → Asked → Option Sdp → Held → Outcome E → List LineRow → Type 0
 RepliesToAnswer false right asked sdp view NoSuch after = after ≡ view.lines
 RepliesToAnswer true right asked None view NoSuch after = after ≡ view.lines
 RepliesToAnswer true false asked (Some sdp) view (Refused ChangesOutOfOrder) after = after ≡ view.lines
@@ -160,12 +160,55 @@ RepliesToAnswer true true asked (Some sdp) view (Refused PeerAlloc) after = afte
 RepliesToAnswer held right asked sdp view outcome after = ⊥
 
 -- what the offer of a token asks of its answer: the rows that it added, placed after the rows of its side, and whether it restarted ICE
-abbrev pub asked_in : Side → ℕ → List Entry → Asked
+abbrev pub asked_in : {E : Type 0} → Side → ℕ → List (Entry E) → Asked
 asked_in at t past = record { added = added_by (length (before at past)) t past; restarts = restarts_by t past }
 
+-- an input was taken, or a close begun, or either was refused
+abbrev pub is_handled : {E : Type 0} → Outcome E → Bool
+is_handled (Negotiated answers made) = false
+is_handled (Answered k) = false
+is_handled Finished = false
+is_handled Done = true
+is_handled (Polled outputs end) = false
+is_handled (Refused error) = true
+is_handled NoSuch = false
+is_handled Alloc = false
+
+-- a datagram was taken or refused, or is not there
+abbrev pub is_heard : {E : Type 0} → Outcome E → Bool
+is_heard (Negotiated answers made) = false
+is_heard (Answered k) = false
+is_heard Finished = false
+is_heard Done = true
+is_heard (Polled outputs end) = false
+is_heard (Refused error) = true
+is_heard NoSuch = true
+is_heard Alloc = false
+
+-- polls gave outputs, and something ended them
+abbrev pub is_polled : {E : Type 0} → Outcome E → Bool
+is_polled (Negotiated answers made) = false
+is_polled (Answered k) = false
+is_polled Finished = false
+is_polled Done = false
+is_polled (Polled outputs end) = true
+is_polled (Refused error) = false
+is_polled NoSuch = false
+is_polled Alloc = false
+
+-- the table that is shown has the rows and the channels from before
+abbrev pub ShowsOld : {E : Type 0} → Side → List (Entry E) → Table → Type 0
+ShowsOld at past table = (table.lines ≡ before at past) × (table.channels ≡ channels_shown at past)
+
 -- The outcome and table of a step after this past, given the SDP that it made, the sides of the fresh pair, and the sides between the
--- past and the step. The channels that are shown are those before, and one more that waits for each that was added.
-abbrev pub IsSound : Stances → List Entry → Stances → Step → Outcome → Option Table → List MadeSdp → Type 0
+-- past and the step. The channels that are shown are those before, and one more that waits for each that was added. Inputs, polls and
+-- closes change no row.
+abbrev pub IsSound : {E : Type 0} → Stances → List (Entry E) → Stances → Step → Outcome E → Option Table → List MadeSdp → Type 0
+IsSound fresh past between (Time at now) outcome (Some table) said = (is_handled outcome ≡ true) × ShowsOld at past table
+IsSound fresh past between (Datagram at packet now) outcome (Some table) said = (is_heard outcome ≡ true) × ShowsOld at past table
+IsSound fresh past between (Poll at) outcome (Some table) said = (is_polled outcome ≡ true) × ShowsOld at past table
+IsSound fresh past between (Drain at) outcome (Some table) said = (is_polled outcome ≡ true) × ShowsOld at past table
+IsSound fresh past between (Close at) outcome (Some table) said = (is_handled outcome ≡ true) × ShowsOld at past table
 IsSound fresh past between step Alloc None said = Unit {0}
 IsSound fresh past between (Negotiate at ops apply) (Negotiated answers made) (Some table) said =
     OpsAnswered (at_first at past (new_app table.lines said)) ops answers table.lines

@@ -5,27 +5,43 @@ use Rattle.rtc_media.specs.MediaLaws.{SameLines}
 use Rattle.rtc_peer_state.specs.declared.peer.Peer.{Peer}
 use Rattle.rtc_peer_state.specs.Meanings.{Meanings}
 use Rattle.rtc_history.specs.declared.side.Side.{Side}
+use Rattle.rtc_history.specs.declared.step.Step.{Step}
+use Rattle.rtc_history.specs.declared.step.Step.TheVariants.{Negotiate, AcceptOffer, AcceptAnswer, Time, Datagram, Poll, Drain, Close}
 use Rattle.rtc_history.specs.declared.outcome.Outcome.{Outcome}
-use Rattle.rtc_history.specs.declared.outcome.Outcome.TheVariants.{Negotiated, Answered, Finished, Refused, NoSuch, Alloc}
-use Rattle.rtc_history.specs.Memory.{CountedPart, DtlsPart, AssociationPart, tells_fault_of}
+use Rattle.rtc_history.specs.declared.outcome.Outcome.TheVariants.{Negotiated, Answered, Finished, Done, Polled, Refused, NoSuch, Alloc}
+use Rattle.rtc_history.specs.Memory.{CountedPart, DtlsPart, AssociationPart, MediaPart, tells_fault_of}
 use Rattle.rtc_history.specs.Past.{Entry}
 use Rattle.rtc_history.specs.PairState.{PairState, peer_at}
 use Rattle.rtc_history.specs.Sides.{side_of}
 
--- whether an outcome tells that a peer refused an offer, an answer or a token
-abbrev pub tells_refusal : Outcome → Bool
+-- whether an outcome tells that a peer refused
+abbrev pub tells_refusal : {E : Type 0} → Outcome E → Bool
 tells_refusal (Negotiated answers made) = false
 tells_refusal (Answered k) = false
 tells_refusal Finished = false
+tells_refusal Done = false
+tells_refusal (Polled outputs end) = false
 tells_refusal (Refused error) = true
 tells_refusal NoSuch = false
 tells_refusal Alloc = false
+
+-- whether a step tells that a peer refused an offer, an answer or a token
+abbrev pub refuses_sdp : {E : Type 0} → Step → Outcome E → Bool
+refuses_sdp (Negotiate at ops apply) outcome = false
+refuses_sdp (AcceptOffer at offer) outcome = tells_refusal outcome
+refuses_sdp (AcceptAnswer at token answer) outcome = tells_refusal outcome
+refuses_sdp (Time at now) outcome = false
+refuses_sdp (Datagram at packet now) outcome = false
+refuses_sdp (Poll at) outcome = false
+refuses_sdp (Drain at) outcome = false
+refuses_sdp (Close at) outcome = false
 
 module _ {I D S M E X T W N : Type 0} (m : Meanings I D S M E X T W N) where
   -- how often this part of a peer failed
   abbrev pub faults_of : CountedPart → Peer I D S M N → ℕ
   faults_of DtlsPart p = m.dtls.faults p.dtls.instance
   faults_of AssociationPart p = m.association.faults p.sctp.association
+  faults_of MediaPart p = m.media.faults p.media
 
   abbrev pub faults_at : CountedPart → Side → PairState I D S M N → ℕ
   faults_at part at pair = faults_of part (peer_at at pair)
@@ -35,9 +51,9 @@ module _ {I D S M E X T W N : Type 0} (m : Meanings I D S M E X T W N) where
   CountsFault part at before after = Rose (faults_at part at before) (faults_at part at after)
 
   -- No count of faults falls, and a reply tells a fault only where that part of the acting side failed in this step. A side that
-  -- refuses, for whatever cause, leaves the lines of its media part, and the sources that are in use.
-  pub record IsSoundOfParts (between : PairState I D S M N) (entry : Entry) (after : PairState I D S M N) : Type 0 where
+  -- refuses an offer or an answer, for whatever cause, leaves the lines of its media part, and the sources that are in use.
+  pub record IsSoundOfParts (between : PairState I D S M N) (entry : Entry E) (after : PairState I D S M N) : Type 0 where
     pub later : (part : CountedPart) (at : Side) → faults_at part at between ≤ faults_at part at after
     pub fault : (part : CountedPart) → tells_fault_of entry.outcome part ≡ true → CountsFault part (side_of entry.step) between after
-    pub media : tells_refusal entry.outcome ≡ true
+    pub media : refuses_sdp entry.step entry.outcome ≡ true
         → SameLines m.media (peer_at (side_of entry.step) between).media (peer_at (side_of entry.step) after).media

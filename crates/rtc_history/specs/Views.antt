@@ -8,9 +8,9 @@ use Rattle.rtc_change.specs.Held.{Held}
 use Rattle.rtc_peer_state.specs.Stance.{Stance}
 use Rattle.rtc_history.specs.declared.side.Side.{Side}
 use Rattle.rtc_history.specs.declared.step.Step.{Step}
-use Rattle.rtc_history.specs.declared.step.Step.TheVariants.{Negotiate, AcceptOffer, AcceptAnswer}
+use Rattle.rtc_history.specs.declared.step.Step.TheVariants.{Negotiate, AcceptOffer, AcceptAnswer, Time, Datagram, Poll, Drain, Close}
 use Rattle.rtc_history.specs.declared.outcome.Outcome.{Outcome}
-use Rattle.rtc_history.specs.declared.outcome.Outcome.TheVariants.{Negotiated, Answered, Finished, Refused, NoSuch, Alloc}
+use Rattle.rtc_history.specs.declared.outcome.Outcome.TheVariants.{Negotiated, Answered, Finished, Done, Polled, Refused, NoSuch, Alloc}
 use Rattle.rtc_history.specs.Memory.{error_lacks, is_fault}
 use Rattle.rtc_history.specs.Sides.{same_side}
 use Rattle.rtc_history.specs.Past.{Entry, before, remote_sdp}
@@ -20,33 +20,40 @@ abbrev pub Stances : Type 0
 Stances = Side → Stance
 
 -- the session description that a step had a side accept, if any
-abbrev pub accepted_by : Side → Step → Outcome → List Entry → Option Sdp
+abbrev pub accepted_by : {E : Type 0} → Side → Step → Outcome E → List (Entry E) → Option Sdp
 accepted_by at (AcceptOffer side k) (Answered n) past = if same_side side at then remote_sdp true at k past else None
 accepted_by at (AcceptAnswer side t a) Finished past = if same_side side at then remote_sdp false at a past else None
 accepted_by at step outcome past = None
 
 -- the last one that a side accepted
-abbrev pub last_accepted : Side → List Entry → Option Sdp
+abbrev pub last_accepted : {E : Type 0} → Side → List (Entry E) → Option Sdp
 last_accepted at [] = None
 last_accepted at (entry ∷ past) = option_or (accepted_by at entry.step entry.outcome past) (last_accepted at past)
 
 -- whether an outcome tells that a peer's call was broken off: a part failed, or memory ran out
-abbrev pub is_broken_off : Outcome → Bool
+abbrev pub is_broken_off : {E : Type 0} → Outcome E → Bool
 is_broken_off (Negotiated answers made) = false
 is_broken_off (Answered k) = false
 is_broken_off Finished = false
+is_broken_off Done = false
+is_broken_off (Polled outputs end) = false
 is_broken_off (Refused error) = error_lacks error || is_fault error
 is_broken_off NoSuch = false
 is_broken_off Alloc = false
 
 -- whether a side's acceptance was broken off
-abbrev pub breaks_off : Side → Step → Outcome → Bool
+abbrev pub breaks_off : {E : Type 0} → Side → Step → Outcome E → Bool
 breaks_off at (Negotiate side ops apply) outcome = false
 breaks_off at (AcceptOffer side k) outcome = same_side side at && is_broken_off outcome
 breaks_off at (AcceptAnswer side t a) outcome = same_side side at && is_broken_off outcome
+breaks_off at (Time side now) outcome = false
+breaks_off at (Datagram side packet now) outcome = false
+breaks_off at (Poll side) outcome = false
+breaks_off at (Drain side) outcome = false
+breaks_off at (Close side) outcome = false
 
 -- no acceptance of a side was broken off, so that the past tells what the side knows of the other one
-abbrev pub is_firm : Side → List Entry → Bool
+abbrev pub is_firm : {E : Type 0} → Side → List (Entry E) → Bool
 is_firm at [] = true
 is_firm at (entry ∷ past) = not (breaks_off at entry.step entry.outcome) && is_firm at past
 
@@ -56,7 +63,7 @@ creds_told (Some sdp) = creds_of sdp
 
 -- What a side judges by, given the sides of the fresh pair and what the side holds. Its ICE agent is lite as in the fresh pair. It knows
 -- the credentials of the last session description that it accepted, and a fingerprint exactly where it accepted one.
-abbrev pub view_in : Stances → Side → List Entry → Held → Held
+abbrev pub view_in : {E : Type 0} → Stances → Side → List (Entry E) → Held → Held
 view_in fresh at past held = record {
   lines = before at past;
   lite = (fresh at).ice.lite;

@@ -1,19 +1,31 @@
 //! Outcomes of steps.
-use crate::{Made, OpAnswer};
+use crate::{Made, OpAnswer, PollEnd, Shown};
 use rtc_peer_state::RtcError;
 use rtc_wire::Seq;
 
-/// The outcome of a step.
+/// The outcome of a step. `E` are the events of the media part.
 #[derive(Debug, PartialEq, Eq, Drop)]
-pub enum Outcome {
-    Negotiated { answers: Seq<OpAnswer>, made: Made },
+pub enum Outcome<E> {
+    Negotiated {
+        answers: Seq<OpAnswer>,
+        made: Made,
+    },
     /// The offer was accepted, and the answer of this number was made.
-    Answered { text: u32 },
+    Answered {
+        text: u32,
+    },
     /// The answer was accepted.
     Finished,
-    /// The peer refused.
+    /// The peer took the input, or was closed.
+    Done,
+    /// What the polls of the step gave, in order, and what ended them.
+    Polled {
+        outputs: Seq<Shown<E>>,
+        end: PollEnd,
+    },
+    /// The peer refused, or a datagram has not the form of its kind.
     Refused(RtcError),
-    /// The other side made no such offer or answer, or this side holds no such token.
+    /// The other side made no such offer or answer or sent no such datagram, or this side holds no such token.
     NoSuch,
     /// Memory ran out before the peer was called: the step did nothing.
     Alloc,

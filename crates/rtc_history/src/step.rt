@@ -2,11 +2,12 @@
 ghost use Rattle.std.specs.Prelude.{◌≡◌, ◌<◌, ◌^◌};
 
 use crate::{Op, Side};
-use rtc_wire::Seq;
+use rtc_wire::{Moment, Seq};
 
 /// What one peer of a pair does in a step.
 ///
 /// Offers and answers are numbered together over both peers, from 0 in the order they were made. A token has the number of its offer.
+/// Datagrams are numbered over both peers, from 0 in the order they were polled.
 #[derive(Debug, PartialEq, Eq, Drop)]
 pub enum Step {
     /// Performs the ops in order on one `SdpApi`, and applies what they staged, or drops it where `apply` is false.
@@ -15,6 +16,16 @@ pub enum Step {
     AcceptOffer { at: Side, offer: u32 },
     /// Accepts an answer of the other side, as signalling delivers it, with the token of an offer of this side.
     AcceptAnswer { at: Side, token: u32, answer: u32 },
+    /// Takes a moment.
+    Time { at: Side, now: Moment },
+    /// Takes a datagram that the other side sent, at a moment.
+    Datagram { at: Side, packet: u64, now: Moment },
+    /// Polls once.
+    Poll { at: Side },
+    /// Polls up to a timeout or an error.
+    Drain { at: Side },
+    /// Begins to close.
+    Close { at: Side },
 }
 
 impl Step {
@@ -30,6 +41,11 @@ impl Step {
             Step::Negotiate { ops, .. } => 1 + ops.len() as u64,
             Step::AcceptOffer { .. } => 1,
             Step::AcceptAnswer { .. } => 1,
+            Step::Time { .. } => 1,
+            Step::Datagram { .. } => 1,
+            Step::Poll { .. } => 1,
+            Step::Drain { .. } => 1,
+            Step::Close { .. } => 1,
         }
     }
 
@@ -41,6 +57,11 @@ impl Step {
             Step::Negotiate { at, .. } => *at,
             Step::AcceptOffer { at, .. } => *at,
             Step::AcceptAnswer { at, .. } => *at,
+            Step::Time { at, .. } => *at,
+            Step::Datagram { at, .. } => *at,
+            Step::Poll { at } => *at,
+            Step::Drain { at } => *at,
+            Step::Close { at } => *at,
         }
     }
 }

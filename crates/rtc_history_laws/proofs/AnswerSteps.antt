@@ -36,15 +36,15 @@ use Rattle.rtc_history_laws.proofs.OfferSteps.{shown_by, taken_within}
 use Rattle.rtc_history_laws.proofs.StanceSteps.{PairStance, StanceShows, StanceStepAcceptsAnswer}
 
 -- the same of equal tokens, SDPs and views
-answer_by : (held held' right right' : Bool) (asked asked' : Asked) (sdp sdp' : Option Sdp) (view view' : Held) (outcome : Outcome) (after : List LineRow)
+answer_by : {E : Type 0} → (held held' right right' : Bool) (asked asked' : Asked) (sdp sdp' : Option Sdp) (view view' : Held) (outcome : Outcome E) (after : List LineRow)
     → held' ≡ held → right' ≡ right → asked' ≡ asked → sdp' ≡ sdp → view' ≡ view
     → RepliesToAnswer held right asked sdp view outcome after → RepliesToAnswer held' right' asked' sdp' view' outcome after
 answer_by held held' right right' asked asked' sdp sdp' view view' outcome after same_held same_right same_asked same_sdp same_view takes =
     rw (same_held, same_right, same_asked, same_sdp, same_view) takes
 
-no_text : (right : Bool) (asked : Asked) (view : Held) (after : List LineRow) → after ≡ view.lines → RepliesToAnswer true right asked None view NoSuch after
-no_text true asked view after e = e
-no_text false asked view after e = e
+no_text : (E : Type 0) (right : Bool) (asked : Asked) (view : Held) (after : List LineRow) → after ≡ view.lines → RepliesToAnswer {E = E} true right asked None view NoSuch after
+no_text E true asked view after e = e
+no_text E false asked view after e = e
 
 now_right : (counter size id : ℕ) (right : Bool) → counter ≡ raised id → (counter == id + 1) ≡ right → id + 1 ≤ counter → counter ≤ size → size < 2 ^ 32 → right ≡ true
 now_right counter size id right e is older low small =
@@ -55,92 +55,92 @@ not_right counter size id right differs is older low small =
     let next : raised id ≡ id + 1 = raised-small id size (omega arith) small in sym is ∙ ne_eqb counter (id + 1) (λ e. differs (e ∙ sym next))
 
 -- what the token asks is what the past says of its offer
-asked_told : (past : List Entry) (at : Side) (counter t : ℕ) (found : Option Kept) (token : PendingOffer) (rows : List LineRow)
+asked_told : {E : Type 0} → (past : List (Entry E)) (at : Side) (counter t : ℕ) (found : Option Kept) (token : PendingOffer) (rows : List LineRow)
     → TokenTells past at counter t found → token_for at found ≡ Some token → before at past ≡ rows → asked_in at t past ≡ asked_by rows token
 asked_told past at counter t found token rows told is same =
     let asked : List LineRow → Bool → Asked = λ rows restarts. record { added = rows; restarts = restarts } in
     rw same (ap (λ rows. asked rows (restarts_by t past)) (sym (told.changes token is (length rows))) ∙ ap (asked (added_rows (length rows) token.changes)) (sym (told.restarts token is)))
 
 -- the reply to an answer that is delivered
-pub answer_reply : (fresh between : Stances) (past : List Entry) (at : Side) (t a size : ℕ) (found : Option Kept) (token : Option PendingOffer) (sdp : Option Sdp) (old new : Stance) (kept kept' : List Kept) (outcome : Outcome) (table : Option Table) (made : List MadeSdp)
+pub answer_reply : {E : Type 0} → (fresh between : Stances) (past : List (Entry E)) (at : Side) (t a size : ℕ) (found : Option Kept) (token : Option PendingOffer) (sdp : Option Sdp) (old new : Stance) (kept kept' : List Kept) (outcome : Outcome E) (table : Option Table) (made : List MadeSdp)
     → token_for at found ≡ token → TokenTells past at old.counter t found → old.counter ≤ size → size < 2 ^ 32 → remote_sdp false at a past ≡ sdp → view_in fresh at past (held_by (between at)) ≡ held_by old → before at past ≡ old.lines
     → channels_shown at past ≡ channel_rows old.channels → StanceStepAcceptsAnswer t token sdp old kept outcome table new kept' → IsSound fresh past between (AcceptAnswer at t a) outcome table made
-answer_reply fresh between past at t a size found None None old new kept kept' Alloc None made is told_it low small said view rows shown h = tt
-answer_reply fresh between past at t a size found None (Some sdp) old new kept kept' Alloc None made is told_it low small said view rows shown h = tt
-answer_reply fresh between past at t a size found (Some token) None old new kept kept' Alloc None made is told_it low small said view rows shown h = tt
-answer_reply fresh between past at t a size found (Some token) (Some sdp) old new kept kept' Alloc None made is told_it low small said view rows shown h = tt
-answer_reply fresh between past at t a size found None None old new kept kept' NoSuch (Some table) made is told_it low small said view rows shown h = (
+answer_reply {E} fresh between past at t a size found None None old new kept kept' Alloc None made is told_it low small said view rows shown h = tt
+answer_reply {E} fresh between past at t a size found None (Some sdp) old new kept kept' Alloc None made is told_it low small said view rows shown h = tt
+answer_reply {E} fresh between past at t a size found (Some token) None old new kept kept' Alloc None made is told_it low small said view rows shown h = tt
+answer_reply {E} fresh between past at t a size found (Some token) (Some sdp) old new kept kept' Alloc None made is told_it low small said view rows shown h = tt
+answer_reply {E} fresh between past at t a size found None None old new kept kept' NoSuch (Some table) made is told_it low small said view rows shown h = (
   answer_by false _ (is_right at t past) _ (asked_in at t past) _ None _ (held_by old) _ NoSuch table.lines (sym told_it.held ∙ ap is_some is) refl refl said view h.1.lines,
   shown_by past at old old table shown refl h.1,
 )
-answer_reply fresh between past at t a size found None (Some sdp) old new kept kept' NoSuch (Some table) made is told_it low small said view rows shown h = (
+answer_reply {E} fresh between past at t a size found None (Some sdp) old new kept kept' NoSuch (Some table) made is told_it low small said view rows shown h = (
   answer_by false _ (is_right at t past) _ (asked_in at t past) _ (Some sdp) _ (held_by old) _ NoSuch table.lines (sym told_it.held ∙ ap is_some is) refl refl said view h.1.lines,
   shown_by past at old old table shown refl h.1,
 )
-answer_reply fresh between past at t a size found (Some token) None old new kept kept' NoSuch (Some table) made is told_it low small said view rows shown h = (
+answer_reply {E} fresh between past at t a size found (Some token) None old new kept kept' NoSuch (Some table) made is told_it low small said view rows shown h = (
   answer_by true _ (is_right at t past) _ (asked_in at t past) _ None _ (held_by old) _ NoSuch table.lines (sym told_it.held ∙ ap is_some is) refl refl said view
-      (no_text (is_right at t past) (asked_in at t past) (held_by old) table.lines h.1.lines),
+      (no_text E (is_right at t past) (asked_in at t past) (held_by old) table.lines h.1.lines),
   shown_by past at old old table shown refl h.1,
 )
-answer_reply fresh between past at t a size found (Some token) (Some sdp) old new kept kept' Finished (Some table) made is told_it low small said view rows shown h = (
+answer_reply {E} fresh between past at t a size found (Some token) (Some sdp) old new kept kept' Finished (Some table) made is told_it low small said view rows shown h = (
   answer_by true _ true _ (asked_by old.lines token) _ (Some sdp) _ (held_by old) _ Finished table.lines (sym told_it.held ∙ ap is_some is)
       (now_right old.counter size token.id (is_right at t past) h.0.right (told_it.right token is) (told_it.older token is) low small)
       (asked_told past at old.counter t found token old.lines told_it is rows) said view (h.0.passes, h.2.lines ∙ ap (λ p. p.lines) h.0.rest),
   shown_by past at old new table shown (ap (λ p. channel_rows p.channels) h.0.rest ∙ (all_confirmed_told (fitting_channels token.changes) old.channels).shown) h.2,
 )
-answer_reply fresh between past at t a size found (Some token) (Some sdp) old new kept kept' (Refused (RemoteSdp why)) (Some table) made is told_it low small said view rows shown h = (
+answer_reply {E} fresh between past at t a size found (Some token) (Some sdp) old new kept kept' (Refused (RemoteSdp why)) (Some table) made is told_it low small said view rows shown h = (
   answer_by true _ true _ (asked_by old.lines token) _ (Some sdp) _ (held_by old) _ (Refused (RemoteSdp why)) table.lines (sym told_it.held ∙ ap is_some is)
       (now_right old.counter size token.id (is_right at t past) h.0.0 (told_it.right token is) (told_it.older token is) low small)
       (asked_told past at old.counter t found token old.lines told_it is rows) said view (h.0.1.0, h.2.lines ∙ ap (λ p. p.lines) h.0.1.1),
   shown_by past at old new table shown (ap (λ p. channel_rows p.channels) h.0.1.1) h.2,
 )
-answer_reply fresh between past at t a size found (Some token) (Some sdp) old new kept kept' (Refused (SdpRefused error)) (Some table) made is told_it low small said view rows shown h = (
+answer_reply {E} fresh between past at t a size found (Some token) (Some sdp) old new kept kept' (Refused (SdpRefused error)) (Some table) made is told_it low small said view rows shown h = (
   answer_by true _ true _ (asked_by old.lines token) _ (Some sdp) _ (held_by old) _ (Refused (SdpRefused error)) table.lines (sym told_it.held ∙ ap is_some is)
       (now_right old.counter size token.id (is_right at t past) h.0.0 (told_it.right token is) (told_it.older token is) low small)
       (asked_told past at old.counter t found token old.lines told_it is rows) said view (h.0.1.0, h.2.lines ∙ ap (λ p. p.lines) h.0.1.1),
   shown_by past at old new table shown (ap (λ p. channel_rows p.channels) h.0.1.1) h.2,
 )
-answer_reply fresh between past at t a size found (Some token) (Some sdp) old new kept kept' (Refused (Dtls Fault)) (Some table) made is told_it low small said view rows shown h = (
+answer_reply {E} fresh between past at t a size found (Some token) (Some sdp) old new kept kept' (Refused (Dtls Fault)) (Some table) made is told_it low small said view rows shown h = (
   answer_by true _ true _ (asked_by old.lines token) _ (Some sdp) _ (held_by old) _ (Refused (Dtls Fault)) table.lines (sym told_it.held ∙ ap is_some is)
       (now_right old.counter size token.id (is_right at t past) h.0.0 (told_it.right token is) (told_it.older token is) low small)
       (asked_told past at old.counter t found token old.lines told_it is rows) said view (h.0.1, h.2.lines ∙ ap (λ p. p.lines) h.0.2.rest),
   shown_by past at old new table shown (ap (λ p. channel_rows p.channels) h.0.2.rest) h.2,
 )
-answer_reply fresh between past at t a size found (Some token) (Some sdp) old new kept kept' (Refused (Dtls WouldBlock)) (Some table) made is told_it low small said view rows shown h = absurd h.0
-answer_reply fresh between past at t a size found (Some token) (Some sdp) old new kept kept' (Refused (Dtls DtlsAlloc)) (Some table) made is told_it low small said view rows shown h = absurd h.0
-answer_reply fresh between past at t a size found (Some token) (Some sdp) old new kept kept' (Refused (Sctp error)) (Some table) made is told_it low small said view rows shown h = (
+answer_reply {E} fresh between past at t a size found (Some token) (Some sdp) old new kept kept' (Refused (Dtls WouldBlock)) (Some table) made is told_it low small said view rows shown h = absurd h.0
+answer_reply {E} fresh between past at t a size found (Some token) (Some sdp) old new kept kept' (Refused (Dtls DtlsAlloc)) (Some table) made is told_it low small said view rows shown h = absurd h.0
+answer_reply {E} fresh between past at t a size found (Some token) (Some sdp) old new kept kept' (Refused (Sctp error)) (Some table) made is told_it low small said view rows shown h = (
   answer_by true _ true _ (asked_by old.lines token) _ (Some sdp) _ (held_by old) _ (Refused (Sctp error)) table.lines (sym told_it.held ∙ ap is_some is)
       (now_right old.counter size token.id (is_right at t past) h.0.0 (told_it.right token is) (told_it.older token is) low small)
       (asked_told past at old.counter t found token old.lines told_it is rows) said view (h.0.1, h.0.2, h.2.lines ∙ ap (λ p. p.lines) h.0.3.rest),
   shown_by past at old new table shown (ap (λ p. channel_rows p.channels) h.0.3.rest) h.2,
 )
-answer_reply fresh between past at t a size found (Some token) (Some sdp) old new kept kept' (Refused PeerAlloc) (Some table) made is told_it low small said view rows shown h = (
+answer_reply {E} fresh between past at t a size found (Some token) (Some sdp) old new kept kept' (Refused PeerAlloc) (Some table) made is told_it low small said view rows shown h = (
   answer_by true _ true _ (asked_in at t past) _ (Some sdp) _ (held_by old) _ (Refused PeerAlloc) table.lines (sym told_it.held ∙ ap is_some is)
       (now_right old.counter size token.id (is_right at t past) h.0.0 (told_it.right token is) (told_it.older token is) low small)
       refl said view (h.2.lines ∙ ap (λ p. p.lines) h.0.1.rest),
   shown_by past at old new table shown (ap (λ p. channel_rows p.channels) h.0.1.rest) h.2,
 )
-answer_reply fresh between past at t a size found (Some token) (Some sdp) old new kept kept' (Refused ChangesOutOfOrder) (Some table) made is told_it low small said view rows shown h = (
+answer_reply {E} fresh between past at t a size found (Some token) (Some sdp) old new kept kept' (Refused ChangesOutOfOrder) (Some table) made is told_it low small said view rows shown h = (
   answer_by true _ false _ (asked_in at t past) _ (Some sdp) _ (held_by old) _ (Refused ChangesOutOfOrder) table.lines (sym told_it.held ∙ ap is_some is)
       (not_right old.counter size token.id (is_right at t past) h.0.0 (told_it.right token is) (told_it.older token is) low small)
       refl said view (h.2.lines ∙ ap (λ p. p.lines) h.0.1),
   shown_by past at old new table shown (ap (λ p. channel_rows p.channels) h.0.1) h.2,
 )
-answer_reply fresh between past at t a size found (Some token) (Some sdp) old new kept kept' (Refused (Net cause)) (Some table) made is told_it low small said view rows shown h = absurd h.0
-answer_reply fresh between past at t a size found (Some token) (Some sdp) old new kept kept' (Refused (MediaFailed cause)) (Some table) made is told_it low small said view rows shown h = absurd h.0
-answer_reply fresh between past at t a size found (Some token) (Some sdp) old new kept kept' (Refused BadChannel) (Some table) made is told_it low small said view rows shown h = absurd h.0
-answer_reply fresh between past at t a size found token sdp old new kept kept' outcome table made is told_it low small said view rows shown h = absurd h
+answer_reply {E} fresh between past at t a size found (Some token) (Some sdp) old new kept kept' (Refused (Net cause)) (Some table) made is told_it low small said view rows shown h = absurd h.0
+answer_reply {E} fresh between past at t a size found (Some token) (Some sdp) old new kept kept' (Refused (MediaFailed cause)) (Some table) made is told_it low small said view rows shown h = absurd h.0
+answer_reply {E} fresh between past at t a size found (Some token) (Some sdp) old new kept kept' (Refused BadChannel) (Some table) made is told_it low small said view rows shown h = absurd h.0
+answer_reply {E} fresh between past at t a size found token sdp old new kept kept' outcome table made is told_it low small said view rows shown h = absurd h
 
 -- ---- what the entry leaves
 
 -- the channels that steps tell are those of before
-channels_go : (past : List Entry) (at : Side) (t a : ℕ) (outcome : Outcome) (table : Option Table) (made : List MadeSdp) (old new : PairStance) → AreToldAlike (old.sides at).channels (new.sides at).channels
+channels_go : {E : Type 0} → (past : List (Entry E)) (at : Side) (t a : ℕ) (outcome : Outcome E) (table : Option Table) (made : List MadeSdp) (old new : PairStance) → AreToldAlike (old.sides at).channels (new.sides at).channels
     → channel_rows_or true table (channels_shown at past) ≡ channel_rows (new.sides at).channels → Tells past old → ChannelsTell (entry (AcceptAnswer at t a) outcome table made ∷ past) at (new.sides at).channels
 channels_go past at t a outcome table made old new alike shown tells =
     channels_kept past (AcceptAnswer at t a) outcome table made (old.sides at).channels (new.sides at).channels (λ held. refl) alike shown (tells.sides at).channels
 
 -- the peer was delivered nothing
-untouched_tells : (past : List Entry) (at : Side) (t a : ℕ) (outcome : Outcome) (table : Option Table) (made : List MadeSdp) (old new : PairStance)
+untouched_tells : {E : Type 0} → (past : List (Entry E)) (at : Side) (t a : ℕ) (outcome : Outcome E) (table : Option Table) (made : List MadeSdp) (old new : PairStance)
     → was_called outcome ≡ false → ((u : ℕ) → makes u outcome ≡ false) → new.sides at ≡ old.sides at → new.sdps ≡ old.sdps → rows_or true table (before at past) ≡ (old.sides at).lines
     → channel_rows_or true table (channels_shown at past) ≡ channel_rows (old.sides at).channels
     → Around (AcceptAnswer at t a) made old new → Tells past old → Tells (entry (AcceptAnswer at t a) outcome table made ∷ past) new
@@ -162,7 +162,7 @@ and_true true = refl
 and_true false = refl
 
 -- the token is spent
-spends_tells : (past : List Entry) (at : Side) (t a : ℕ) (token : PendingOffer) (outcome : Outcome) (table : Table) (made : List MadeSdp) (old new : PairStance)
+spends_tells : {E : Type 0} → (past : List (Entry E)) (at : Side) (t a : ℕ) (token : PendingOffer) (outcome : Outcome E) (table : Table) (made : List MadeSdp) (old new : PairStance)
     → held_token old.sdps at t ≡ Some token → was_called outcome ≡ true → ((u : ℕ) → makes u outcome ≡ false) → new.sdps ≡ spent t old.sdps
     → (new.sides at).counter ≡ (old.sides at).counter → StanceShows table (new.sides at) → AreToldAlike (old.sides at).channels (new.sides at).channels → length (new.sides at).lines ≤ old.size
     → StaysOrRight at (old.sides at) old.sdps t (new.sides at)
@@ -174,7 +174,7 @@ spends_tells past at t a token outcome table made old new is was unmade kept cou
     right found.1 (kept ∙ spent-is t old.sdps found.0 found.1) (λ u. ap (λ b. (t == u) && b) was ∙ and_true (t == u)) unmade tells
 
 -- the peer refused the answer
-refused_tells : (past : List Entry) (at : Side) (t a : ℕ) (token : PendingOffer) (error : RtcError) (table : Table) (made : List MadeSdp) (old new : PairStance)
+refused_tells : {E : Type 0} → (past : List (Entry E)) (at : Side) (t a : ℕ) (token : PendingOffer) (error : RtcError) (table : Table) (made : List MadeSdp) (old new : PairStance)
     → held_token old.sdps at t ≡ Some token → new.sdps ≡ spent t old.sdps → (new.sides at).lines ≡ (old.sides at).lines
     → (new.sides at).counter ≡ (old.sides at).counter → (new.sides at).channels ≡ (old.sides at).channels → StanceShows table (new.sides at)
     → Around (AcceptAnswer at t a) made old new → Tells past old → Tells (entry (AcceptAnswer at t a) (Refused error) (Some table) made ∷ past) new
@@ -188,7 +188,7 @@ told_after : (held held' : Channels) (channels : List (ℕ × ChannelConfig)) �
 told_after held held' channels is = rw is (all_confirmed_told channels held)
 
 -- A step that hands over an answer.
-pub answer_tells : (past : List Entry) (at : Side) (t a : ℕ) (token : Option PendingOffer) (sdp : Option Sdp) (old new : PairStance) (outcome : Outcome) (table : Option Table) (made : List MadeSdp)
+pub answer_tells : {E : Type 0} → (past : List (Entry E)) (at : Side) (t a : ℕ) (token : Option PendingOffer) (sdp : Option Sdp) (old new : PairStance) (outcome : Outcome E) (table : Option Table) (made : List MadeSdp)
     → ((said : Sdp) → sdp ≡ Some said → length said.lines ≤ old.size) → held_token old.sdps at t ≡ token
     → StanceStepAcceptsAnswer t token sdp (old.sides at) old.sdps outcome table (new.sides at) new.sdps
     → Around (AcceptAnswer at t a) made old new → Tells past old → Tells (entry (AcceptAnswer at t a) outcome table made ∷ past) new

@@ -6,7 +6,7 @@ use Rattle.std.proofs.lemmas.Option.{slice_get-map}
 use Rattle.rtc_sdp_values.specs.declared.sdp.Sdp.{Sdp}
 use Rattle.rtc_history.specs.declared.side.Side.{Side}
 use Rattle.rtc_history.specs.declared.step.Step.{Step}
-use Rattle.rtc_history.specs.declared.step.Step.TheVariants.{Negotiate, AcceptOffer, AcceptAnswer}
+use Rattle.rtc_history.specs.declared.step.Step.TheVariants.{Negotiate, AcceptOffer, AcceptAnswer, Time, Datagram, Poll, Drain, Close}
 use Rattle.rtc_history.specs.declared.outcome.Outcome.{Outcome}
 use Rattle.rtc_history.specs.declared.table.Table.{Table}
 use Rattle.rtc_history.specs.Sides.{same_side, other_side, side_of}
@@ -21,7 +21,7 @@ use Rattle.rtc_history_laws.proofs.Entries.{Goes, unmade_tells}
 use Rattle.rtc_history_laws.proofs.TokenEntries.{All-slice_get}
 use Rattle.rtc_history_laws.proofs.StanceSteps.{PairStance, made_by}
 
-abbrev pub entry : Step → Outcome → Option Table → List MadeSdp → Entry
+abbrev pub entry : {E : Type 0} → Step → Outcome E → Option Table → List MadeSdp → Entry E
 entry step outcome table made = record { step = step; outcome = outcome; table = table; made = made }
 
 -- what is known of a step besides what its peer does
@@ -35,11 +35,16 @@ one_at_least : (step : Step) → 1 ≤ step_size step
 one_at_least (Negotiate at ops apply) = omega arith
 one_at_least (AcceptOffer at offer) = omega arith
 one_at_least (AcceptAnswer at token answer) = omega arith
+one_at_least (Time at now) = omega arith
+one_at_least (Datagram at packet now) = omega arith
+one_at_least (Poll at) = omega arith
+one_at_least (Drain at) = omega arith
+one_at_least (Close at) = omega arith
 
 pub size_grows : (step : Step) (made : List MadeSdp) (old new : PairStance) → Around step made old new → old.size + 1 ≤ new.size
 size_grows step made old new around = omega (arith, one_at_least step, around.size)
 
-pub goes_on : (moved : Bool) (past : List Entry) (step : Step) (outcome : Outcome) (table : Option Table) (made : List MadeSdp) (old new : PairStance)
+pub goes_on : {E : Type 0} → (moved : Bool) (past : List (Entry E)) (step : Step) (outcome : Outcome E) (table : Option Table) (made : List MadeSdp) (old new : PairStance)
     → (new.sides (side_of step)).lines ≡ rows_or true table (before (side_of step) past)
     → ChannelsTell (entry step outcome table made ∷ past) (side_of step) (new.sides (side_of step)).channels
     → (new.sides (side_of step)).counter ≡ cond moved ((old.sides (side_of step)).counter + 1) (old.sides (side_of step)).counter
@@ -59,7 +64,7 @@ goes_on moved past step outcome table made old new rows channels counter mine th
 }
 
 -- a step that gives no number leaves the channels that steps tell
-pub channels_kept : (past : List Entry) (step : Step) (outcome : Outcome) (table : Option Table) (made : List MadeSdp) (held held' : Channels)
+pub channels_kept : {E : Type 0} → (past : List (Entry E)) (step : Step) (outcome : Outcome E) (table : Option Table) (made : List MadeSdp) (held held' : Channels)
     → ((before_it : Channels) → channels_after true step outcome before_it ≡ before_it) → AreToldAlike held held' → channel_rows_or true table (channels_shown (side_of step) past) ≡ channel_rows held'
     → ChannelsTell past (side_of step) held → ChannelsTell (entry step outcome table made ∷ past) (side_of step) held'
 channels_kept past step outcome table made held held' gives_none alike shown tell = record {
@@ -69,7 +74,7 @@ channels_kept past step outcome table made held held' gives_none alike shown tel
 }
 
 -- A step that leaves as many rows, and SDPs as they were.
-pub quiet_tells : (moved : Bool) (past : List Entry) (step : Step) (outcome : Outcome) (table : Option Table) (made : List MadeSdp) (old new : PairStance)
+pub quiet_tells : {E : Type 0} → (moved : Bool) (past : List (Entry E)) (step : Step) (outcome : Outcome E) (table : Option Table) (made : List MadeSdp) (old new : PairStance)
     → length (new.sides (side_of step)).lines ≡ length (old.sides (side_of step)).lines → new.sdps ≡ old.sdps
     → (new.sides (side_of step)).lines ≡ rows_or true table (before (side_of step) past)
     → ChannelsTell (entry step outcome table made ∷ past) (side_of step) (new.sides (side_of step)).channels
@@ -85,15 +90,15 @@ quiet_tells moved past step outcome table made old new lines kept rows channels 
 -- ---- SDPs that are delivered
 
 -- what the past says of an SDP is what is kept of it
-pub remote_sdp-told : (past : List Entry) (pair : PairStance) (offer : Bool) (at : Side) (k : ℕ) → Tells past pair → remote_sdp offer at k past ≡ kept_remote_sdp offer pair.sdps at k
+pub remote_sdp-told : {E : Type 0} → (past : List (Entry E)) (pair : PairStance) (offer : Bool) (at : Side) (k : ℕ) → Tells past pair → remote_sdp offer at k past ≡ kept_remote_sdp offer pair.sdps at k
 remote_sdp-told past pair offer at k tells = ap (λ said. sdp_for offer at (slice_get said k)) (sym tells.says) ∙ ap (sdp_for offer at) (slice_get-map made_sdp pair.sdps k)
 
 -- how many SDPs there are
-pub length-told : (past : List Entry) (pair : PairStance) → Tells past pair → length (sdps past) ≡ length pair.sdps
+pub length-told : {E : Type 0} → (past : List (Entry E)) (pair : PairStance) → Tells past pair → length (sdps past) ≡ length pair.sdps
 length-told past pair tells = ap length (sym tells.says) ∙ length-map pair.sdps made_sdp
 
 -- the SDP that is delivered is one of the pair's
-pub sdp_within : (past : List Entry) (pair : PairStance) (offer : Bool) (at : Side) (k : ℕ) (sdp : Sdp) → Tells past pair → kept_remote_sdp offer pair.sdps at k ≡ Some sdp → length sdp.lines ≤ pair.size
+pub sdp_within : {E : Type 0} → (past : List (Entry E)) (pair : PairStance) (offer : Bool) (at : Side) (k : ℕ) (sdp : Sdp) → Tells past pair → kept_remote_sdp offer pair.sdps at k ≡ Some sdp → length sdp.lines ≤ pair.size
 sdp_within past pair offer at k sdp tells is = by (slice_get pair.sdps k) refl is
   where
     picked : (b : Bool) (kept : Kept) → slice_get pair.sdps k ≡ Some kept → cond b (Some kept.sdp) None ≡ Some sdp → length sdp.lines ≤ pair.size

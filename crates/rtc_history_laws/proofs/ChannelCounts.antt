@@ -11,9 +11,9 @@ use Rattle.rtc_history.specs.declared.op.Op.TheVariants.{AddMedia, SetDirection,
 use Rattle.rtc_history.specs.declared.op_answer.OpAnswer.{OpAnswer}
 use Rattle.rtc_history.specs.declared.op_answer.OpAnswer.TheVariants.{Mid, Changed, NoLine, Channel as Numbered, BadChannel, Alloc as OpAlloc, Creds}
 use Rattle.rtc_history.specs.declared.step.Step.{Step}
-use Rattle.rtc_history.specs.declared.step.Step.TheVariants.{Negotiate, AcceptOffer, AcceptAnswer}
+use Rattle.rtc_history.specs.declared.step.Step.TheVariants.{Negotiate, AcceptOffer, AcceptAnswer, Time, Datagram, Poll, Drain, Close}
 use Rattle.rtc_history.specs.declared.outcome.Outcome.{Outcome}
-use Rattle.rtc_history.specs.declared.outcome.Outcome.TheVariants.{Negotiated, Answered, Finished, Refused, NoSuch, Alloc}
+use Rattle.rtc_history.specs.declared.outcome.Outcome.TheVariants.{Negotiated, Answered, Finished, Done, Polled, Refused, NoSuch, Alloc}
 use Rattle.rtc_history.specs.Sides.{same_side, side_of}
 use Rattle.rtc_history.specs.Sizes.{step_size, steps_size}
 use Rattle.rtc_history.specs.Answers.{channels_answered, with_numbered}
@@ -44,19 +44,26 @@ answered_within (AddMedia kind dir ∷ ops) (answer ∷ answers) held = let rest
 answered_within (SetDirection place dir ∷ ops) (answer ∷ answers) held = let rest = answered_within ops answers held in omega (arith, rest)
 answered_within (StopMedia place ∷ ops) (answer ∷ answers) held = let rest = answered_within ops answers held in omega (arith, rest)
 
-step_within : (here : Bool) (step : Step) (outcome : Outcome) (held : Channels) → (channels_after here step outcome held).given ≤ held.given + step_size step
+step_within : {E : Type 0} → (here : Bool) (step : Step) (outcome : Outcome E) (held : Channels) → (channels_after here step outcome held).given ≤ held.given + step_size step
 step_within false step outcome held = omega arith
 step_within true (AcceptOffer at k) outcome held = omega arith
 step_within true (AcceptAnswer at t a) outcome held = omega arith
+step_within true (Time at now) outcome held = omega arith
+step_within true (Datagram at packet now) outcome held = omega arith
+step_within true (Poll at) outcome held = omega arith
+step_within true (Drain at) outcome held = omega arith
+step_within true (Close at) outcome held = omega arith
 step_within true (Negotiate at ops apply) (Negotiated answers made) held = let some = answered_within ops answers held in omega (arith, some)
 step_within true (Negotiate at ops apply) (Answered k) held = omega arith
 step_within true (Negotiate at ops apply) Finished held = omega arith
+step_within true (Negotiate at ops apply) Done held = omega arith
+step_within true (Negotiate at ops apply) (Polled outputs end) held = omega arith
 step_within true (Negotiate at ops apply) (Refused error) held = omega arith
 step_within true (Negotiate at ops apply) NoSuch held = omega arith
 step_within true (Negotiate at ops apply) Alloc held = omega arith
 
 -- a side was given no more channels than the sizes of the steps
-pub given_within : (at : Side) (past : List Entry) → (channels_given at past).given ≤ steps_size (steps_of past)
+pub given_within : {E : Type 0} → (at : Side) (past : List (Entry E)) → (channels_given at past).given ≤ steps_size (steps_of past)
 given_within at [] = omega arith
 given_within at (entry ∷ past) =
     let rest : (channels_given at past).given ≤ steps_size (steps_of past) = given_within at past in

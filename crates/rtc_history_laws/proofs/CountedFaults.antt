@@ -25,13 +25,14 @@ use Rattle.rtc_sctp.specs.declared.proto_error.ProtoError.TheVariants as proto
 use Rattle.rtc_sctp.specs.declared.sctp_error.SctpError.{SctpError}
 use Rattle.rtc_sctp.specs.declared.sctp_error.SctpError.TheVariants as sctp
 use Rattle.rtc_peer_state.specs.PartMoves.{begun_answer, BeginsHandshake, BeginsTimed, TakesRole, StartsDtls}
-use Rattle.rtc_history.specs.Memory.{CountedPart, DtlsPart, AssociationPart}
+use Rattle.rtc_history.specs.Memory.{CountedPart, DtlsPart, AssociationPart, MediaPart}
 use Rattle.rtc_peer_state.specs.PartMoves.{needs_start, StartsWhere, StartsSctp}
 
--- what holds of both parts that count their faults
-pub by_part : (P : CountedPart → Type 0) → P DtlsPart → P AssociationPart → (part : CountedPart) → P part
-by_part P dtls association DtlsPart = dtls
-by_part P dtls association AssociationPart = association
+-- what holds of each part that counts its faults
+pub by_part : (P : CountedPart → Type 0) → P DtlsPart → P AssociationPart → P MediaPart → (part : CountedPart) → P part
+by_part P dtls association media DtlsPart = dtls
+by_part P dtls association media AssociationPart = association
+by_part P dtls association media MediaPart = media
 
 -- an equal count did not fall
 pub equal_below : (before after : ℕ) → after ≡ before → before ≤ after

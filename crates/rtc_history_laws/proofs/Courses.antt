@@ -43,23 +43,23 @@ pub record IsSideOf (seen rows : List LineRow) : Type 0 where
   pub are : map unnamed rows ≡ seen
   pub live : KeepsLive rows
 
-abbrev pub InPhase : Phase → List Entry → Type 0
+abbrev pub InPhase : {E : Type 0} → Phase → List (Entry E) → Type 0
 InPhase Idle past = Aligned (before Left past) (before Right past)
 InPhase (AwaitsAnswer at n said) past = IsOffered at n said past
 InPhase (AwaitsEnd at n m said) past = IsAnswered at n m said past
 
-pub record InCourse (course : Course) (past : List Entry) : Type 0 where
+pub record InCourse {E : Type 0} (course : Course) (past : List (Entry E)) : Type 0 where
   pub count : length (sdps past) ≡ course.sdps
   pub sides : (side : Side) → IsSideOf (course_rows side course) (before side past)
   pub phase : InPhase course.phase past
 
 -- ---- sides
 
-pub aligned_at : (at : Side) (past : List Entry) → Aligned (before Left past) (before Right past) → Aligned (before at past) (before (other_side at) past)
+pub aligned_at : {E : Type 0} → (at : Side) (past : List (Entry E)) → Aligned (before Left past) (before Right past) → Aligned (before at past) (before (other_side at) past)
 aligned_at Left past same = same
 aligned_at Right past same = aligned_sym (before Left past) (before Right past) same
 
-aligned_from : (at : Side) (past : List Entry) → Aligned (before (other_side at) past) (before at past) → Aligned (before Left past) (before Right past)
+aligned_from : {E : Type 0} → (at : Side) (past : List (Entry E)) → Aligned (before (other_side at) past) (before at past) → Aligned (before Left past) (before Right past)
 aligned_from Left past same = aligned_sym (before Right past) (before Left past) same
 aligned_from Right past same = same
 
@@ -68,7 +68,7 @@ other_side-same Left = refl
 other_side-same Right = refl
 
 -- a side goes on, and the other stays
-pub sides_next : (at : Side) (course : Course) (rows : List LineRow) (count : ℕ) (phase : Phase) (table : Table) (past : List Entry) → IsSideOf rows table.lines
+pub sides_next : {E : Type 0} → (at : Side) (course : Course) (rows : List LineRow) (count : ℕ) (phase : Phase) (table : Table) (past : List (Entry E)) → IsSideOf rows table.lines
     → ((side : Side) → IsSideOf (course_rows side course) (before side past)) → (side : Side) → IsSideOf (course_rows side (moved_on at course rows count phase)) (rows_or (same_side at side) (Some table) (before side past))
 sides_next Left course rows count phase table past mine sides Left = mine
 sides_next Left course rows count phase table past mine sides Right = sides Right
@@ -76,7 +76,7 @@ sides_next Right course rows count phase table past mine sides Left = sides Left
 sides_next Right course rows count phase table past mine sides Right = mine
 
 -- A past is in the course where a side has moved on.
-pub moved_in : (at : Side) (course : Course) (rows : List LineRow) (count : ℕ) (phase : Phase) (step : Step) (outcome : Outcome) (table : Table) (made : List MadeSdp) (past : List Entry) → side_of step ≡ at
+pub moved_in : {E : Type 0} → (at : Side) (course : Course) (rows : List LineRow) (count : ℕ) (phase : Phase) (step : Step) (outcome : Outcome E) (table : Table) (made : List MadeSdp) (past : List (Entry E)) → side_of step ≡ at
     → IsSideOf rows table.lines → InCourse course past → length (sdps past ++ made) ≡ count → InPhase phase (entry step outcome (Some table) made ∷ past)
     → InCourse (moved_on at course rows count phase) (entry step outcome (Some table) made ∷ past)
 moved_in at course rows count phase step outcome table made past here mine is counted in_phase = record {
@@ -100,7 +100,7 @@ some_same one other same = cc
 -- ---- an offer is accepted
 
 -- The offer that is outstanding may be delivered to the other side, which does not refuse it.
-pub record MayAccept (offer : OfferSaid) (at : Side) (n : ℕ) (past : List Entry) : Type 0 where
+pub record MayAccept {E : Type 0} (offer : OfferSaid) (at : Side) (n : ℕ) (past : List (Entry E)) : Type 0 where
   pub remote_is : remote_sdp true (other_side at) n past ≡ Some offer.sdp
   pub leaves : table_after (before (other_side at) past) (parsed_lines offer.sdp) true ≡ rows_after (before (other_side at) past) true 0 (map row_said (offer.front ++ offer.more))
   pub here : Follows (before at past) (before at past) (offer.front ++ offer.more)
@@ -113,7 +113,7 @@ offer_follows offer rows same =
     (added_follow rows offer.may (map row_mid offer.front) (length offer.front) offer.more offer.new (λ mid free. has_mid-aligned offer.front rows mid same ∙ sym (among_mids offer.front mid) ∙ free)
     (λ may. has_app-aligned offer.front rows same ∙ offer.first may))
 
-pub may_accept : (fresh : Stances) (at : Side) (n : ℕ) (said : List LineRow) (past : List Entry) → Sound fresh past → (it : IsOffered at n said past) → MayAccept it.offer at n past
+pub may_accept : {E : Type 0} → (fresh : Stances) (at : Side) (n : ℕ) (said : List LineRow) (past : List (Entry E)) → Sound fresh past → (it : IsOffered at n said past) → MayAccept it.offer at n past
 may_accept fresh at n said past sound it =
     let offer : OfferSaid = it.offer in
     let theirs : List LineRow = before (other_side at) past in
@@ -128,7 +128,7 @@ may_accept fresh at n said past sound it =
     }
 
 -- the other side does not refuse the offer, where that tells of its side what it has to
-pub accept_passes : (fresh : Stances) (at : Side) (n : ℕ) (said : List LineRow) (past : List Entry) (view : Held) → Sound fresh past → (it : IsOffered at n said past) → view.lines ≡ before (other_side at) past
+pub accept_passes : {E : Type 0} → (fresh : Stances) (at : Side) (n : ℕ) (said : List LineRow) (past : List (Entry E)) (view : Held) → Sound fresh past → (it : IsOffered at n said past) → view.lines ≡ before (other_side at) past
     → side_verdict view true it.offer.sdp ≡ None → verdict view None it.offer.sdp ≡ None
 accept_passes fresh at n said past view sound it is side =
     let offer : OfferSaid = it.offer in
@@ -136,7 +136,7 @@ accept_passes fresh at n said past view sound it is side =
     offer_passes view (offer.front ++ offer.more) offer.sdp (subst IsTable (sym is) (past_table fresh past (other_side at) sound)) (offer_follows offer view.lines same) offer.whole.one_app offer.says offer.fits offer.live side
 
 -- an offer stays outstanding as the other side accepts it
-offer_stays : (offer : OfferSaid) (at : Side) (n : ℕ) (past : List Entry) (k j : ℕ) (table : Option Table) (made : List MadeSdp) → HasOffered offer at n past
+offer_stays : {E : Type 0} → (offer : OfferSaid) (at : Side) (n : ℕ) (past : List (Entry E)) (k j : ℕ) (table : Option Table) (made : List MadeSdp) → HasOffered offer at n past
     → HasOffered offer at n (entry (AcceptOffer (other_side at) k) (Answered j) table made ∷ past)
 offer_stays offer at n past k j table made has = record {
   right = rw (other_side-same at) has.right;
@@ -147,18 +147,18 @@ offer_stays offer at n past k j table made has = record {
 }
 
 -- What the other side is left with that has accepted the offer.
-pub record Accepted (at : Side) (n m : ℕ) (said : List LineRow) (past : List Entry) (table : Table) : Type 0 where
+pub record Accepted {E : Type 0} (at : Side) (n m : ℕ) (said : List LineRow) (past : List (Entry E)) (table : Table) : Type 0 where
   pub phase : IsAnswered at n m said past
   pub side : IsSideOf said table.lines
 
 -- The other side has accepted the offer.
-pub accepted_next : (fresh between : Stances) (at : Side) (n m : ℕ) (said seen : List LineRow) (past : List Entry) (j : ℕ) (table : Table) (made : List MadeSdp) → Sound fresh past → IsOffered at n said past
+pub accepted_next : {E : Type 0} → (fresh between : Stances) (at : Side) (n m : ℕ) (said seen : List LineRow) (past : List (Entry E)) (j : ℕ) (table : Table) (made : List MadeSdp) → Sound fresh past → IsOffered at n said past
     → IsSideOf seen (before (other_side at) past) → m ≡ length (sdps past)
-    → IsSound fresh past between (AcceptOffer (other_side at) n) (Answered j) (Some table) made → MakesSdp (AcceptOffer (other_side at) n) (Answered j) (Some table) made
+    → IsSound fresh past between (AcceptOffer (other_side at) n) (Answered j) (Some table) made → MakesSdp {E = E} (AcceptOffer (other_side at) n) (Answered j) (Some table) made
     → Accepted at n m (course_rows_after true 0 seen said) (entry (AcceptOffer (other_side at) n) (Answered j) (Some table) made ∷ past) table
-accepted_next fresh between at n m said seen past j table made sound out side count replied says =
+accepted_next {E} fresh between at n m said seen past j table made sound out side count replied says =
     let may : MayAccept out.offer at n past = may_accept fresh at n said past sound out in
-    let it = answered (remote_sdp true (other_side at) n past) (view_in fresh (other_side at) past (held_by (between (other_side at)))) (length (sdps past)) j table.lines replied.0 in
+    let it = answered E (remote_sdp true (other_side at) n past) (view_in fresh (other_side at) past (held_by (between (other_side at)))) (length (sdps past)) j table.lines replied.0 in
     let text_is : it.offer ≡ out.offer.sdp = some_same _ _ (sym it.is ∙ may.remote_is) in
     let after : table.lines ≡ rows_after theirs true 0 (map row_said offered) = it.leaves ∙ ap (λ sdp. table_after theirs (parsed_lines sdp) true) text_is ∙ may.leaves in
     let table_of : IsTable theirs = past_table fresh past (other_side at) sound in
@@ -198,13 +198,13 @@ accepted_next fresh between at n m said seen past j table made sound out side co
 -- ---- an answer is accepted
 
 -- The answer that is outstanding may be delivered to the side that offered, which does not refuse it.
-pub record MayEnd (answer : AnswerSaid) (at : Side) (n m : ℕ) (past : List Entry) : Type 0 where
+pub record MayEnd {E : Type 0} (answer : AnswerSaid) (at : Side) (n m : ℕ) (past : List (Entry E)) : Type 0 where
   pub held : holds_token at n past ≡ true
   pub right : is_right at n past ≡ true
   pub remote_is : remote_sdp false at m past ≡ Some answer.sdp
   pub leaves : table_after (before at past) (parsed_lines answer.sdp) false ≡ rows_after (before at past) false 0 (map row_said answer.rows)
 
-pub may_end : (fresh : Stances) (at : Side) (n m : ℕ) (said : List LineRow) (past : List Entry) → Sound fresh past → (it : IsAnswered at n m said past) → MayEnd it.answer at n m past
+pub may_end : {E : Type 0} → (fresh : Stances) (at : Side) (n m : ℕ) (said : List LineRow) (past : List (Entry E)) → Sound fresh past → (it : IsAnswered at n m said past) → MayEnd it.answer at n m past
 may_end fresh at n m said past sound it =
     let offer : OfferSaid = it.offer in
     let answer : AnswerSaid = it.answer in
@@ -220,7 +220,7 @@ may_end fresh at n m said past sound it =
     }
 
 -- the side that offered does not refuse the answer, where that tells of its side what it has to
-pub end_passes : (fresh : Stances) (at : Side) (n m : ℕ) (said : List LineRow) (past : List Entry) (view : Held) → Sound fresh past → (it : IsAnswered at n m said past) → view.lines ≡ before at past
+pub end_passes : {E : Type 0} → (fresh : Stances) (at : Side) (n m : ℕ) (said : List LineRow) (past : List (Entry E)) (view : Held) → Sound fresh past → (it : IsAnswered at n m said past) → view.lines ≡ before at past
     → side_verdict view (restarts_by n past) it.answer.sdp ≡ None → verdict view (Some (asked_in at n past)) it.answer.sdp ≡ None
 end_passes fresh at n m said past view sound it is side =
     let offer : OfferSaid = it.offer in
@@ -231,17 +231,17 @@ end_passes fresh at n m said past view sound it is side =
     (rw is (it.answered.mine)) answer.table.one_app it.answered.offered (rw is it.has.kept) answer.says answer.fits side)
 
 -- What the side is left with that offered, and has accepted the answer.
-pub record Ended (said : List LineRow) (past : List Entry) (table : Table) : Type 0 where
+pub record Ended {E : Type 0} (said : List LineRow) (past : List (Entry E)) (table : Table) : Type 0 where
   pub phase : InPhase Idle past
   pub side : IsSideOf said table.lines
 
 -- The side that offered has accepted the answer.
-pub ended_next : (fresh between : Stances) (at : Side) (n m : ℕ) (said seen : List LineRow) (past : List Entry) (table : Table) (made : List MadeSdp) → Sound fresh past → IsAnswered at n m said past
+pub ended_next : {E : Type 0} → (fresh between : Stances) (at : Side) (n m : ℕ) (said seen : List LineRow) (past : List (Entry E)) (table : Table) (made : List MadeSdp) → Sound fresh past → IsAnswered at n m said past
     → IsSideOf seen (before at past) → IsSound fresh past between (AcceptAnswer at n m) Finished (Some table) made
     → Ended (course_rows_after false 0 seen said) (entry (AcceptAnswer at n m) Finished (Some table) made ∷ past) table
-ended_next fresh between at n m said seen past table made sound out side replied =
+ended_next {E} fresh between at n m said seen past table made sound out side replied =
     let may : MayEnd out.answer at n m past = may_end fresh at n m said past sound out in
-    let it = answer_taken (holds_token at n past) (is_right at n past) (asked_in at n past) (remote_sdp false at m past) (view_in fresh at past (held_by (between at))) table.lines replied.0 in
+    let it = answer_taken E (holds_token at n past) (is_right at n past) (asked_in at n past) (remote_sdp false at m past) (view_in fresh at past (held_by (between at))) table.lines replied.0 in
     let text_is : it.answer ≡ out.answer.sdp = some_same _ _ (sym it.is ∙ may.remote_is) in
     let after : table.lines ≡ rows_after mine false 0 (map row_said rows) = it.leaves ∙ ap (λ sdp. table_after mine (parsed_lines sdp) false) text_is ∙ may.leaves in
     let apps : SayApps mine rows = follows_say mine 0 mine rows (past_table fresh past at sound) (all_left mine) out.answered.mine in

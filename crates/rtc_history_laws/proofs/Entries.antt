@@ -19,7 +19,7 @@ use Rattle.rtc_history_laws.proofs.Tells.{TokenTells, ChannelsTell, SideTells, T
 use Rattle.rtc_history_laws.proofs.StanceSteps.{PairStance, made_by}
 
 -- What a new entry leaves, whatever it makes: rows and counter of its side, and the other side as it was.
-pub record Goes (moved : Bool) (past : List Entry) (e : Entry) (old new : PairStance) : Type 0 where
+pub record Goes {E : Type 0} (moved : Bool) (past : List (Entry E)) (e : Entry E) (old new : PairStance) : Type 0 where
   pub rows : (new.sides (side_of e.step)).lines ≡ rows_or true e.table (before (side_of e.step) past)
   pub channels : ChannelsTell (e ∷ past) (side_of e.step) (new.sides (side_of e.step)).channels
   pub counter : (new.sides (side_of e.step)).counter ≡ cond moved ((old.sides (side_of e.step)).counter + 1) (old.sides (side_of e.step)).counter
@@ -32,17 +32,17 @@ pub record Goes (moved : Bool) (past : List Entry) (e : Entry) (old new : PairSt
   pub made : e.made ≡ made_by old new
 
 -- the SDPs that a pair keeps, after an entry
-pub record TextsNext (past : List Entry) (e : Entry) (old new : PairStance) : Type 0 where
+pub record TextsNext {E : Type 0} (past : List (Entry E)) (e : Entry E) (old new : PairStance) : Type 0 where
   pub says : map made_sdp new.sdps ≡ sdps (e ∷ past)
   pub later : (t : ℕ) → length (sdps (e ∷ past)) ≤ t → is_spent t (e ∷ past) ≡ false
   pub count : length new.sdps ≤ length old.sdps + 1
   pub each : All (λ kept. length kept.sdp.lines ≤ new.size) new.sdps
 
-pub rows_told : (moved : Bool) (past : List Entry) (e : Entry) (old new : PairStance) → Goes moved past e old new
+pub rows_told : {E : Type 0} → (moved : Bool) (past : List (Entry E)) (e : Entry E) (old new : PairStance) → Goes moved past e old new
     → (new.sides (side_of e.step)).lines ≡ before (side_of e.step) (e ∷ past)
 rows_told moved past e old new goes = goes.rows ∙ sym (ap (λ b. rows_or b e.table (before (side_of e.step) past)) (same_side-self (side_of e.step)))
 
-pub tells_next : (moved : Bool) (past : List Entry) (e : Entry) (old new : PairStance) → Goes moved past e old new → TextsNext past e old new
+pub tells_next : {E : Type 0} → (moved : Bool) (past : List (Entry E)) (e : Entry E) (old new : PairStance) → Goes moved past e old new → TextsNext past e old new
     → SideTells (e ∷ past) (side_of e.step) (new.sides (side_of e.step)) new.sdps new.size
     → HeldBefore (other_side (side_of e.step)) old.sdps new.sdps
     → ((t : ℕ) → TokenTells (e ∷ past) (other_side (side_of e.step)) (old.sides (other_side (side_of e.step))).counter t (slice_get new.sdps t))
@@ -68,22 +68,22 @@ each_grown kept size size' grows each =
     at_most n few = omega arith
 
 -- what a past says of an SDP is what is kept of it
-pub said_at : (past : List Entry) (pair : PairStance) (t : ℕ) → map made_sdp pair.sdps ≡ sdps past → slice_get (sdps past) t ≡ option_map made_sdp (slice_get pair.sdps t)
+pub said_at : {E : Type 0} → (past : List (Entry E)) (pair : PairStance) (t : ℕ) → map made_sdp pair.sdps ≡ sdps past → slice_get (sdps past) t ≡ option_map made_sdp (slice_get pair.sdps t)
 said_at past pair t says = ap (λ said. slice_get said t) (sym says) ∙ slice_get-map made_sdp pair.sdps t
 
 -- an SDP that is kept as it was
-pub same_offer : (past : List Entry) (e : Entry) (old new : PairStance) (side : Side) (t : ℕ) → map made_sdp old.sdps ≡ sdps past → map made_sdp new.sdps ≡ sdps (e ∷ past)
+pub same_offer : {E : Type 0} → (past : List (Entry E)) (e : Entry E) (old new : PairStance) (side : Side) (t : ℕ) → map made_sdp old.sdps ≡ sdps past → map made_sdp new.sdps ≡ sdps (e ∷ past)
     → option_map made_sdp (slice_get new.sdps t) ≡ option_map made_sdp (slice_get old.sdps t) → is_offer_of side (slice_get (sdps (e ∷ past)) t) ≡ is_offer_of side (slice_get (sdps past) t)
 same_offer past e old new side t says says' same = ap (is_offer_of side) (said_at (e ∷ past) new t says' ∙ same ∙ sym (said_at past old t says))
 
 -- ---- an entry that makes no SDP
 
-fits_unmade : (moved : Bool) (past : List Entry) (at : Side) (old new : Stance) (kept kept' : List Kept) (size size' : ℕ)
+fits_unmade : {E : Type 0} → (moved : Bool) (past : List (Entry E)) (at : Side) (old new : Stance) (kept kept' : List Kept) (size size' : ℕ)
     → new.counter ≡ cond moved (old.counter + 1) old.counter → length new.lines ≡ length old.lines → size < 2 ^ 32 → size ≤ size' → HeldBefore at kept kept' → SideTells past at old kept size → Fits at new kept' size'
 fits_unmade true past at old new kept kept' size size' counter lines small grows was told = fits_moved past at old new kept kept' size size' counter small was told
 fits_unmade false past at old new kept kept' size size' counter lines small grows was told = fits_same past at old new kept kept' size size' counter lines grows was told
 
-pub unmade_tells : (moved : Bool) (past : List Entry) (e : Entry) (old new : PairStance) → Goes moved past e old new
+pub unmade_tells : {E : Type 0} → (moved : Bool) (past : List (Entry E)) (e : Entry E) (old new : PairStance) → Goes moved past e old new
     → length (new.sides (side_of e.step)).lines ≡ length (old.sides (side_of e.step)).lines → new.sdps ≡ old.sdps
     → ((t : ℕ) → spends t e.step e.outcome ≡ false) → ((t : ℕ) → makes t e.outcome ≡ false) → Tells past old → Tells (e ∷ past) new
 unmade_tells moved past e old new goes lines kept unspent unmade tells =
@@ -112,7 +112,7 @@ unmade_tells moved past e old new goes lines kept unspent unmade tells =
 -- ---- an entry that makes an SDP
 
 -- the SDP that an entry makes is the last
-pub says_pushed : (past : List Entry) (e : Entry) (old new : PairStance) (kept : Kept) → e.made ≡ made_by old new → new.sdps ≡ old.sdps ++ kept ∷ []
+pub says_pushed : {E : Type 0} → (past : List (Entry E)) (e : Entry E) (old new : PairStance) (kept : Kept) → e.made ≡ made_by old new → new.sdps ≡ old.sdps ++ kept ∷ []
     → map made_sdp old.sdps ≡ sdps past → map made_sdp new.sdps ≡ sdps (e ∷ past)
 says_pushed past e old new kept made pushed says =
     ap (map made_sdp) pushed ∙ map-append made_sdp old.sdps (kept ∷ []) ∙ ap (λ said. said ++ made_sdp kept ∷ []) says
@@ -121,7 +121,7 @@ says_pushed past e old new kept made pushed says =
 fewer : (xs ys : List MadeSdp) (t : ℕ) → length (xs ++ ys) ≤ t → length xs ≤ t
 fewer xs ys t h = omega (arith, length-append xs ys)
 
-pub texts_pushed : (past : List Entry) (e : Entry) (old new : PairStance) (kept : Kept) → e.made ≡ made_by old new → new.sdps ≡ old.sdps ++ kept ∷ []
+pub texts_pushed : {E : Type 0} → (past : List (Entry E)) (e : Entry E) (old new : PairStance) (kept : Kept) → e.made ≡ made_by old new → new.sdps ≡ old.sdps ++ kept ∷ []
     → old.size ≤ new.size → length kept.sdp.lines ≤ new.size → ((t : ℕ) → spends t e.step e.outcome ≡ false) → Tells past old → TextsNext past e old new
 texts_pushed past e old new kept made pushed size few unspent tells = record {
   says = says_pushed past e old new kept made pushed tells.says;
@@ -139,10 +139,10 @@ tokenless : (at : Side) (kept : Kept) → kept.token ≡ None → token_for at (
 tokenless at kept none = ap (λ token. cond (same_side kept.at at) token None) none ∙ no_choice (same_side kept.at at)
 
 -- the token of an SDP that is no offer of this side
-pub unheld : (past : List Entry) (side : Side) (t : ℕ) (said : Option MadeSdp) → slice_get (sdps past) t ≡ said → is_offer_of side said ≡ false → holds_token side t past ≡ false
+pub unheld : {E : Type 0} → (past : List (Entry E)) (side : Side) (t : ℕ) (said : Option MadeSdp) → slice_get (sdps past) t ≡ said → is_offer_of side said ≡ false → holds_token side t past ≡ false
 unheld past side t said is none = rw (is, none) refl
 
-pub answered_tells : (past : List Entry) (e : Entry) (old new : PairStance) (kept : Kept) → Goes true past e old new
+pub answered_tells : {E : Type 0} → (past : List (Entry E)) (e : Entry E) (old new : PairStance) (kept : Kept) → Goes true past e old new
     → kept.offer ≡ false → kept.token ≡ None → length kept.sdp.lines ≤ new.size → new.sdps ≡ old.sdps ++ kept ∷ []
     → ((t : ℕ) → spends t e.step e.outcome ≡ false) → ((t : ℕ) → makes t e.outcome ≡ false) → Tells past old → Tells (e ∷ past) new
 answered_tells past e old new kept goes answer none few pushed unspent unmade tells =

@@ -1,4 +1,5 @@
 pub mod StanceSteps
+pub mod StandingPolls
 pub mod StandingSteps
 pub mod RestartChanges
 pub mod Bounds
@@ -17,6 +18,7 @@ pub mod Tells
 pub mod Entries
 pub mod TokenEntries
 pub mod Around
+pub mod Rests
 pub mod OfferSteps
 pub mod AnswerSteps
 pub mod OfferApps
@@ -45,6 +47,7 @@ pub mod RoundRows
 pub mod UnspentTokens
 pub mod Courses
 pub mod OrderlySteps
+pub mod RestCourses
 pub mod CourseSteps
 pub mod OrderlyOps
 pub mod OrderlyPasts
@@ -56,6 +59,15 @@ pub mod OrderlySounds
 pub mod StanceRuns
 pub mod Reaches
 pub mod CountedFaults
+pub mod MediaFaults
+pub mod GrowingCounts
+pub mod StageCounts
+pub mod ConnectionCounts
+pub mod PollCounts
+pub mod InputCounts
+pub mod OpParts
+pub mod RestSides
 pub mod SoundSides
 pub mod PartsSound
+pub mod SentPackets
 pub mod MoreSteps

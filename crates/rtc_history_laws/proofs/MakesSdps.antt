@@ -18,7 +18,7 @@ use Rattle.rtc_history.specs.declared.op_answer.OpAnswer.{OpAnswer}
 use Rattle.rtc_history.specs.declared.made.Made.{Made}
 use Rattle.rtc_history.specs.declared.made.Made.TheVariants.{NotAsked, Nothing, Offer, Alloc as MadeAlloc}
 use Rattle.rtc_history.specs.declared.step.Step.{Step}
-use Rattle.rtc_history.specs.declared.step.Step.TheVariants.{Negotiate, AcceptOffer, AcceptAnswer}
+use Rattle.rtc_history.specs.declared.step.Step.TheVariants.{Negotiate, AcceptOffer, AcceptAnswer, Time, Datagram, Poll, Drain, Close}
 use Rattle.rtc_history.specs.declared.outcome.Outcome.{Outcome}
 use Rattle.rtc_history.specs.declared.outcome.Outcome.TheVariants.{Negotiated, Answered, Finished, Refused, NoSuch, Alloc}
 use Rattle.rtc_history.specs.declared.table.Table.{Table}
@@ -64,15 +64,15 @@ answer_says p restart sdp rows is table = rw is (sdp_says (answer_head p restart
 
 -- ---- each kind of step
 
-makes_of : (at : Side) (asked : Bool) (p q : Stance) (ops : List Op) (answers : List OpAnswer) (apply : Bool) (kept kept' : List Kept) (made : Made) (table : Table)
+makes_of : (E : Type 0) (at : Side) (asked : Bool) (p q : Stance) (ops : List Op) (answers : List OpAnswer) (apply : Bool) (kept kept' : List Kept) (made : Made) (table : Table)
     → StanceMakesOf asked at p kept made q kept' → table.lines ≡ p.lines
     → ((k : ℕ) → made ≡ Offer k → added_rows (length table.lines) p.staged ≡ added (new_app table.lines (behind kept kept')) (length table.lines) ops answers)
     → Distinct (table.lines ++ added (new_app table.lines (behind kept kept')) (length table.lines) ops answers)
-    → MakesSdp (Negotiate at ops apply) (Negotiated answers made) (Some table) (behind kept kept')
-makes_of at false p q ops answers apply kept kept' NotAsked table h rows adds distinct = none_behind kept kept' h.1
-makes_of at true p q ops answers apply kept kept' Nothing table h rows adds distinct = none_behind kept kept' h.1
-makes_of at true p q ops answers apply kept kept' MadeAlloc table h rows adds distinct = none_behind kept kept' h.1
-makes_of at true p q ops answers apply kept kept' (Offer k) table h rows adds distinct =
+    → MakesSdp {E = E} (Negotiate at ops apply) (Negotiated answers made) (Some table) (behind kept kept')
+makes_of E at false p q ops answers apply kept kept' NotAsked table h rows adds distinct = none_behind kept kept' h.1
+makes_of E at true p q ops answers apply kept kept' Nothing table h rows adds distinct = none_behind kept kept' h.1
+makes_of E at true p q ops answers apply kept kept' MadeAlloc table h rows adds distinct = none_behind kept kept' h.1
+makes_of E at true p q ops answers apply kept kept' (Offer k) table h rows adds distinct =
     let more : List LineRow = added (new_app table.lines (behind kept kept')) (length table.lines) ops answers in
     let apart : Distinct (p.lines ++ more) = subst (λ (list : List LineRow). Distinct (list ++ more)) rows distinct in
     let adds_more : added_rows (length p.lines) p.staged ≡ more = ap (λ (list : List LineRow). added_rows (length list) p.staged) (sym rows) ∙ adds k refl in
@@ -82,24 +82,24 @@ makes_of at true p q ops answers apply kept kept' (Offer k) table h rows adds di
       says = ap (λ (o : Sdp). parsed_lines o) h.1.1 ∙ offer_says p more apart adds_more ∙ ap (λ (list : List LineRow). map row_said (list ++ more)) (sym rows);
       fits = λ live. ap (λ (o : Sdp). inconsistency o) h.1.1 ∙ offer_fits p more apart adds_more (subst (λ (list : List LineRow). are_live (list ++ more) ≡ true) rows live);
     }
-makes_of at asked p q ops answers apply kept kept' made table h rows adds distinct = absurd h
+makes_of E at asked p q ops answers apply kept kept' made table h rows adds distinct = absurd h
 
-negotiate_makes : (fresh between : Stances) (at : Side) (ops : List Op) (apply : Bool) (old new : Stance) (kept kept' : List Kept) (outcome : Outcome) (table : Option Table) (past : List Entry)
+negotiate_makes : {E : Type 0} → (fresh between : Stances) (at : Side) (ops : List Op) (apply : Bool) (old new : Stance) (kept kept' : List Kept) (outcome : Outcome E) (table : Option Table) (past : List (Entry E))
     → StanceNegotiates at ops apply old kept outcome table new kept' → IsTable (before at past) → IsSound fresh past between (Negotiate at ops apply) outcome table (behind kept kept')
     → MakesSdp (Negotiate at ops apply) outcome table (behind kept kept')
-negotiate_makes fresh between at ops apply old new kept kept' Alloc None past h is sound = none_behind kept kept' h.sdps_kept
-negotiate_makes fresh between at ops apply old new kept kept' (Negotiated answers made) (Some table) past h is sound =
+negotiate_makes {E} fresh between at ops apply old new kept kept' Alloc None past h is sound = none_behind kept kept' h.sdps_kept
+negotiate_makes {E} fresh between at ops apply old new kept kept' (Negotiated answers made) (Some table) past h is sound =
     let asked : Bool = apply && not (answers_lack answers) in
     let staged : Stages (lent old) ops answers h.0 = ops_stage (lent old) h.0 ops answers h.1 in
     let left : table.lines ≡ h.0.lines = h.3.lines ∙ made_lines asked at h.0 new kept kept' made h.2 in
     let app : Option (List ℕ) = new_app table.lines (behind kept kept') in
     let app_told = app_is_told asked at (lent old) h.0 new kept kept' made table.lines h.2 left staged.app refl in
-    makes_of at asked h.0 new ops answers apply kept kept' made table h.2 left
+    makes_of E at asked h.0 new ops answers apply kept kept' made table h.2 left
     (λ k is. staged.adds app app_told.told_app (app_told.offered k is) (length table.lines) ∙ ap (λ n. added app n ops answers) (let e : length table.lines + 0 ≡ length table.lines = omega arith in e))
     (offer_table past at ops answers table (behind kept kept') is sound.0).distinct
-negotiate_makes fresh between at ops apply old new kept kept' outcome table past h is sound = absurd h
+negotiate_makes {E} fresh between at ops apply old new kept kept' outcome table past h is sound = absurd h
 
-offer_makes : (at : Side) (k : ℕ) (offer : Option Sdp) (old new : Stance) (kept kept' : List Kept) (outcome : Outcome) (table : Option Table)
+offer_makes : {E : Type 0} → (at : Side) (k : ℕ) (offer : Option Sdp) (old new : Stance) (kept kept' : List Kept) (outcome : Outcome E) (table : Option Table)
     → StanceStepAcceptsOffer at offer old kept outcome table new kept' → IsTable (rows_or true table (old.lines)) → MakesSdp (AcceptOffer at k) outcome table (behind kept kept')
 offer_makes at k None old new kept kept' Alloc None h is = none_behind kept kept' h.sdps_kept
 offer_makes at k (Some sdp) old new kept kept' Alloc None h is = none_behind kept kept' h.sdps_kept
@@ -125,7 +125,7 @@ spent_behind t kept kept' same =
     let count : length kept' ≡ length kept = ap length same ∙ length-spent t kept in
     ap (map made_sdp) (drop_all (length kept) kept' (omega arith))
 
-answer_makes : (at : Side) (t a : ℕ) (token : Option PendingOffer) (answer : Option Sdp) (old new : Stance) (kept kept' : List Kept) (outcome : Outcome) (table : Option Table)
+answer_makes : {E : Type 0} → (at : Side) (t a : ℕ) (token : Option PendingOffer) (answer : Option Sdp) (old new : Stance) (kept kept' : List Kept) (outcome : Outcome E) (table : Option Table)
     → StanceStepAcceptsAnswer t token answer old kept outcome table new kept' → MakesSdp (AcceptAnswer at t a) outcome table (behind kept kept')
 answer_makes at t a None None old new kept kept' Alloc None h = none_behind kept kept' h.sdps_kept
 answer_makes at t a None (Some sdp) old new kept kept' Alloc None h = none_behind kept kept' h.sdps_kept
@@ -139,7 +139,7 @@ answer_makes at t a (Some token) (Some sdp) old new kept kept' (Refused error) (
 answer_makes at t a token answer old new kept kept' outcome table h = absurd h
 
 -- A step that is performed makes the SDP that says the rows of its side.
-pub makes_sdp : (fresh between : Stances) (past : List Entry) (old new : PairStance) (step : Step) (outcome : Outcome) (table : Option Table)
+pub makes_sdp : {E : Type 0} → (fresh between : Stances) (past : List (Entry E)) (old new : PairStance) (step : Step) (outcome : Outcome E) (table : Option Table)
     → StancePerforms old step outcome table new → IsTable (before (side_of step) past) → IsSound fresh past between step outcome table (made_by old new)
     → before (side_of step) past ≡ (old.sides (side_of step)).lines → MakesSdp step outcome table (made_by old new)
 makes_sdp fresh between past old new (Negotiate at ops apply) outcome table performs is sound rows =
@@ -149,3 +149,8 @@ makes_sdp fresh between past old new (AcceptOffer at k) outcome table performs i
     (subst (λ (list : List LineRow). IsTable (rows_or true table list)) rows (reply_table fresh between past (AcceptOffer at k) outcome table (made_by old new) sound is))
 makes_sdp fresh between past old new (AcceptAnswer at t a) outcome table performs is sound rows =
     answer_makes at t a (held_token old.sdps at t) (kept_remote_sdp false old.sdps at a) (old.sides at) (new.sides at) old.sdps new.sdps outcome table performs.acts
+makes_sdp fresh between past old new (Time at now) outcome table performs is sound rows = none_behind old.sdps new.sdps performs.acts.stays.sdps_kept
+makes_sdp fresh between past old new (Datagram at packet now) outcome table performs is sound rows = none_behind old.sdps new.sdps performs.acts.stays.sdps_kept
+makes_sdp fresh between past old new (Poll at) outcome table performs is sound rows = none_behind old.sdps new.sdps performs.acts.stays.sdps_kept
+makes_sdp fresh between past old new (Drain at) outcome table performs is sound rows = none_behind old.sdps new.sdps performs.acts.stays.sdps_kept
+makes_sdp fresh between past old new (Close at) outcome table performs is sound rows = none_behind old.sdps new.sdps performs.acts.stays.sdps_kept

@@ -1,12 +1,12 @@
 -- A run goes on by a step that is performed.
-use Rattle.std.proofs.Common.{◌≡◌, ◌<◌, ◌^◌, List, [], ◌∷◌, ◌++◌, map, refl, ap, arith}
+use Rattle.std.proofs.Common.{◌≡◌, ◌<◌, ◌^◌, ℕ, Bool, List, [], ◌∷◌, ◌++◌, map, refl, ap, arith}
 use Rattle.rtc_channels.specs.Channels.{channel_rows}
 use Rattle.rtc_peer_state.specs.Meanings.{Meanings, PartsLaws}
 use Rattle.rtc_history.specs.declared.step.Step.{Step}
 use Rattle.rtc_history.specs.declared.reply.Reply.{Reply}
 use Rattle.rtc_history.specs.Sizes.{steps_size}
-use Rattle.rtc_history.specs.Past.{Entry}
-use Rattle.rtc_history.specs.PairState.{PairState, made_sdp}
+use Rattle.rtc_history.specs.Past.{Entry, packets_shown}
+use Rattle.rtc_history.specs.PairState.{PairState, made_sdp, size_sent}
 use Rattle.rtc_history.specs.Performs.{Performs, Enters, sdps_behind}
 use Rattle.rtc_history.specs.Runs.{Went, EntersSoundly, Runs}
 use Rattle.rtc_history.specs.Fresh.{IsFresh}
@@ -16,62 +16,65 @@ use Rattle.rtc_history_laws.proofs.StanceRuns.{StanceReached, StanceRan, fresh_s
 use Rattle.rtc_history_laws.proofs.Bounds.{IsWithin}
 use Rattle.rtc_history_laws.proofs.Tells.{Tells}
 use Rattle.rtc_history_laws.proofs.Around.{entry}
+use Rattle.rtc_history_laws.proofs.SentPackets.{packets_performed}
 use Rattle.rtc_history_laws.proofs.PartsSound.{parts_sound}
 use Rattle.rtc_history_laws.proofs.Reaches.{reached_tells, reached_within, reached_size}
 use Rattle.rtc_history_laws.proofs.OrderlySounds.{sound_next}
 
-module _ {I D S M E X T W N : Type 0} (m : Meanings I D S M E X T W N) where
+module _ {I D S M E X T W N : Type 0} (m : Meanings I D S M E X T W N) (stun : List ℕ → Bool) where
   -- a run of no steps
-  pub runs_none : (start : PairState I D S M N) → IsFresh m start → Runs m start [] [] start
+  pub runs_none : (start : PairState I D S M N) → IsFresh m start → Runs m stun start [] [] start
   runs_none start fresh = record {
     past = [];
     steps_are = refl;
     replies_are = refl;
     went = refl;
     kept = ap (map made_sdp) fresh.sdps;
+    packets = ap (map size_sent) fresh.packets;
     rows = λ at. (fresh.built at).lines;
     channels = λ at. ap channel_rows (fresh.built at).channels;
   }
 
   -- a run of one more step
-  pub runs_more : PartsLaws m → (start old new : PairState I D S M N) (steps : List Step) (replies : List Reply) (step : Step) (reply : Reply)
-      → IsFresh m start → Runs m start steps replies old → Performs m old step reply.outcome reply.table new → new.size < 2 ^ 32
-      → Runs m start (steps ++ step ∷ []) (replies ++ reply ∷ []) new
+  pub runs_more : PartsLaws m → (start old new : PairState I D S M N) (steps : List Step) (replies : List (Reply E)) (step : Step) (reply : Reply E)
+      → IsFresh m start → Runs m stun start steps replies old → Performs m stun old step reply.outcome reply.table new → new.size < 2 ^ 32
+      → Runs m stun start (steps ++ step ∷ []) (replies ++ reply ∷ []) new
   runs_more laws start old new steps replies step reply fresh run performs small =
-      let last : Entry = entry step reply.outcome reply.table (sdps_behind old.sdps new.sdps) in
-      let ran : StanceRan (pair_stance m start) run.past (pair_stance m old) = ran_stands m laws start run.past old run.went in
-      let enters : Enters m old last new = record { performs = performs; made = refl } in
-      let went : Went (EntersSoundly m start) (λ fresh. fresh ≡ start) (last ∷ run.past) new = (
+      let last : Entry E = entry step reply.outcome reply.table (sdps_behind old.sdps new.sdps) in
+      let ran : StanceRan (pair_stance m start) run.past (pair_stance m old) = ran_stands m stun laws start run.past old run.went in
+      let enters : Enters m stun old last new = record { performs = performs; made = refl } in
+      let went : Went (EntersSoundly m stun start) (λ fresh. fresh ≡ start) (last ∷ run.past) new = (
         old,
         run.went,
         (
           enters,
           sound_next (pair_stance m start) (pair_stance m old) (pair_stance m new) run.past step reply.outcome reply.table (fresh_stands m start fresh) ran (performs_stands m laws old step reply.outcome reply.table new performs) small,
-          parts_sound m laws old last new enters,
+          parts_sound m stun laws old last new enters,
         ),
       ) in
-      let tells : Tells (last ∷ run.past) (pair_stance m new) = reached_tells (pair_stance m start) (pair_stance m new) (last ∷ run.past) (fresh_stands m start fresh) (ran_reached (pair_stance m start) (last ∷ run.past) (pair_stance m new) (ran_stands m laws start (last ∷ run.past) new went)) small in
+      let tells : Tells (last ∷ run.past) (pair_stance m new) = reached_tells (pair_stance m start) (pair_stance m new) (last ∷ run.past) (fresh_stands m start fresh) (ran_reached (pair_stance m start) (last ∷ run.past) (pair_stance m new) (ran_stands m stun laws start (last ∷ run.past) new went)) small in
       record {
         past = last ∷ run.past;
         steps_are = ap (λ before. before ++ step ∷ []) run.steps_are;
         replies_are = ap (λ before. before ++ reply ∷ []) run.replies_are;
         went = went;
         kept = tells.says;
+        packets = packets_performed m stun old new step reply.outcome reply.table (packets_shown run.past) run.packets performs;
         rows = λ at. (tells.sides at).rows;
         channels = λ at. (tells.sides at).channels.shown;
       }
 
   -- ---- sizes
 
-  run_reached : PartsLaws m → (start pair : PairState I D S M N) (steps : List Step) (replies : List Reply) → (run : Runs m start steps replies pair) → StanceReached (pair_stance m start) run.past (pair_stance m pair)
-  run_reached laws start pair steps replies run = ran_reached (pair_stance m start) run.past (pair_stance m pair) (ran_stands m laws start run.past pair run.went)
+  run_reached : PartsLaws m → (start pair : PairState I D S M N) (steps : List Step) (replies : List (Reply E)) → (run : Runs m stun start steps replies pair) → StanceReached (pair_stance m start) run.past (pair_stance m pair)
+  run_reached laws start pair steps replies run = ran_reached (pair_stance m start) run.past (pair_stance m pair) (ran_stands m stun laws start run.past pair run.went)
 
   -- the size of a pair is that of the steps of its run
-  pub runs_size : PartsLaws m → (start pair : PairState I D S M N) (steps : List Step) (replies : List Reply) → IsFresh m start → Runs m start steps replies pair → pair.size ≡ steps_size steps
+  pub runs_size : PartsLaws m → (start pair : PairState I D S M N) (steps : List Step) (replies : List (Reply E)) → IsFresh m start → Runs m stun start steps replies pair → pair.size ≡ steps_size steps
   runs_size laws start pair steps replies fresh run =
       omega (arith, reached_size (pair_stance m start) (pair_stance m pair) run.past (run_reached laws start pair steps replies run), fresh.size, ap steps_size run.steps_are)
 
   -- a pair is within the size of the steps of its run
-  pub runs_within : PartsLaws m → (start pair : PairState I D S M N) (steps : List Step) (replies : List Reply) → IsFresh m start → Runs m start steps replies pair → pair.size < 2 ^ 32 → IsWithin (pair_stance m pair)
+  pub runs_within : PartsLaws m → (start pair : PairState I D S M N) (steps : List Step) (replies : List (Reply E)) → IsFresh m start → Runs m stun start steps replies pair → pair.size < 2 ^ 32 → IsWithin (pair_stance m pair)
   runs_within laws start pair steps replies fresh run small =
       reached_within (pair_stance m start) (pair_stance m pair) run.past (fresh_stands m start fresh) (run_reached laws start pair steps replies run) small

@@ -87,12 +87,12 @@ made_channels asked at p q kept kept' made h = absurd h
 -- ---- the reply
 
 -- what ops find on the rows and channels of a past
-answered_from : (past : List Entry) (at : Side) (rows : List LineRow) (channels : Channels) (app : Option (List ℕ)) (ops : List Op) (answers : List OpAnswer) (after : List LineRow) → before at past ≡ rows → channels ≡ channels_given at past
+answered_from : {E : Type 0} → (past : List (Entry E)) (at : Side) (rows : List LineRow) (channels : Channels) (app : Option (List ℕ)) (ops : List Op) (answers : List OpAnswer) (after : List LineRow) → before at past ≡ rows → channels ≡ channels_given at past
     → OpsAnswered (record { rows = rows; held = map row_mid rows; app = app; channels = channels }) ops answers after → OpsAnswered (at_first at past app) ops answers after
 answered_from past at rows channels app ops answers after same_rows same_channels answered = rw same_rows (rw (← same_channels) answered)
 
 -- the reply to a step that negotiates
-pub negotiate_reply : (fresh between : Stances) (past : List Entry) (at : Side) (ops : List Op) (apply : Bool) (old new : Stance) (kept kept' : List Kept) (outcome : Outcome) (table : Option Table)
+pub negotiate_reply : {E : Type 0} → (fresh between : Stances) (past : List (Entry E)) (at : Side) (ops : List Op) (apply : Bool) (old new : Stance) (kept kept' : List Kept) (outcome : Outcome E) (table : Option Table)
     → before at past ≡ old.lines → ChannelsTell past at old.channels → IsTable (before at past) → length (sdps past) ≡ length kept
     → StanceNegotiates at ops apply old kept outcome table new kept' → IsSound fresh past between (Negotiate at ops apply) outcome table (behind kept kept')
 negotiate_reply fresh between past at ops apply old new kept kept' Alloc None rows tell table_before next h = tt
@@ -125,11 +125,11 @@ length-offer p =
 -- ---- what the entry leaves
 
 -- what a past says of channels after ops
-channels_next : (past : List Entry) (at : Side) (ops : List Op) (apply : Bool) (answers : List OpAnswer) (what : Made) (table : Table) (made : List MadeSdp) (old p q : Stance)
+channels_next : {E : Type 0} → (past : List (Entry E)) (at : Side) (ops : List Op) (apply : Bool) (answers : List OpAnswer) (what : Made) (table : Table) (made : List MadeSdp) (old p q : Stance)
     → Stages (lent old) ops answers p → AreToldAlike p.channels q.channels → StanceShows table q → ChannelsTell past at old.channels → ChannelsTell (entry (Negotiate at ops apply) (Negotiated answers what) (Some table) made ∷ past) at q.channels
-channels_next past at ops apply answers what table made old p q staged alike shows tell = record {
+channels_next {E} past at ops apply answers what table made old p q staged alike shows tell = record {
   given = alike.same ∙ staged.channels.same ∙ ap (channels_answered ops answers) tell.given
-      ∙ sym (ap (λ b. channels_after b (Negotiate at ops apply) (Negotiated answers what) (channels_given at past)) (same_side-self at));
+      ∙ sym (ap (λ b. channels_after {E = E} b (Negotiate at ops apply) (Negotiated answers what) (channels_given at past)) (same_side-self at));
   shown = sym shows.channels ∙ sym (ap (λ b. channel_rows_or b (Some table) (channels_shown at past)) (same_side-self at));
   below = alike.below (staged.channels.below tell.below);
 }
@@ -138,7 +138,7 @@ here_is : (at : Side) (b moved : Bool) → b ≡ moved → (same_side at at && b
 here_is at b moved is = rw (same_side-self at, is) refl
 
 -- a step of ops that makes no offer, whether what is staged is applied or not
-unoffered_tells : (moved : Bool) (past : List Entry) (at : Side) (ops : List Op) (apply : Bool) (answers : List OpAnswer) (what : Made) (table : Table) (made : List MadeSdp) (p : Stance) (old new : PairStance)
+unoffered_tells : {E : Type 0} → (moved : Bool) (past : List (Entry E)) (at : Side) (ops : List Op) (apply : Bool) (answers : List OpAnswer) (what : Made) (table : Table) (made : List MadeSdp) (p : Stance) (old new : PairStance)
     → is_applied answers what ≡ moved → ((t : ℕ) → is_offer_numbered t what ≡ false) → (new.sides at).lines ≡ p.lines → (new.sides at).counter ≡ cond moved ((old.sides at).counter + 1) (old.sides at).counter
     → AreToldAlike p.channels (new.sides at).channels → new.sdps ≡ old.sdps → Stages (lent (old.sides at)) ops answers p → StanceShows table (new.sides at)
     → Around (Negotiate at ops apply) made old new → Tells past old → Tells (entry (Negotiate at ops apply) (Negotiated answers what) (Some table) made ∷ past) new
@@ -152,7 +152,7 @@ rises_where : (moved : Bool) (counter size : ℕ) → counter ≤ size → size 
 rises_where true counter size low small = raised-small counter size low small
 rises_where false counter size low small = refl
 
-applied_tells : (past : List Entry) (at : Side) (ops : List Op) (apply asked : Bool) (answers : List OpAnswer) (what : Made) (table : Table) (made : List MadeSdp) (p : Stance) (old new : PairStance)
+applied_tells : {E : Type 0} → (past : List (Entry E)) (at : Side) (ops : List Op) (apply asked : Bool) (answers : List OpAnswer) (what : Made) (table : Table) (made : List MadeSdp) (p : Stance) (old new : PairStance)
     → Stages (lent (old.sides at)) ops answers p → StanceMakesOf asked at p old.sdps what (new.sides at) new.sdps → StanceShows table (new.sides at) → made ≡ behind old.sdps new.sdps
     → Around (Negotiate at ops apply) made old new → Tells past old → Tells (entry (Negotiate at ops apply) (Negotiated answers what) (Some table) made ∷ past) new
 applied_tells past at ops apply false answers NotAsked table made p old new staged h shows made_is around tells =
@@ -194,7 +194,7 @@ applied_tells past at ops apply true answers (Offer k) table made p old new stag
 applied_tells past at ops apply asked answers what table made p old new staged h shows made_is around tells = absurd h
 
 -- A step that negotiates.
-pub negotiate_tells : (past : List Entry) (at : Side) (ops : List Op) (apply : Bool) (old new : PairStance) (outcome : Outcome) (table : Option Table) (made : List MadeSdp)
+pub negotiate_tells : {E : Type 0} → (past : List (Entry E)) (at : Side) (ops : List Op) (apply : Bool) (old new : PairStance) (outcome : Outcome E) (table : Option Table) (made : List MadeSdp)
     → StanceNegotiates at ops apply (old.sides at) old.sdps outcome table (new.sides at) new.sdps
     → Around (Negotiate at ops apply) made old new → Tells past old → Tells (entry (Negotiate at ops apply) outcome table made ∷ past) new
 negotiate_tells past at ops apply old new Alloc None made h around tells =

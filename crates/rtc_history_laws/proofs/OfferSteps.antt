@@ -37,16 +37,16 @@ use Rattle.rtc_history_laws.proofs.Around.{Around, entry, goes_on, channels_kept
 use Rattle.rtc_history_laws.proofs.StanceSteps.{PairStance, StanceShows, StanceStepAcceptsOffer, lent}
 
 -- the same of equal SDPs, views and counts
-offer_by : (sdp sdp' : Option Sdp) (view view' : Held) (next next' : ℕ) (outcome : Outcome) (after : List LineRow) → sdp' ≡ sdp → view' ≡ view → next' ≡ next
+offer_by : {E : Type 0} → (sdp sdp' : Option Sdp) (view view' : Held) (next next' : ℕ) (outcome : Outcome E) (after : List LineRow) → sdp' ≡ sdp → view' ≡ view → next' ≡ next
     → RepliesToOffer sdp view next outcome after → RepliesToOffer sdp' view' next' outcome after
 offer_by sdp sdp' view view' next next' outcome after same_sdp same_view same_next takes = rw (same_sdp, same_view, same_next) takes
 
 -- the channels that are shown are those of the past
-pub shown_by : (past : List Entry) (at : Side) (old new : Stance) (table : Table) → channels_shown at past ≡ channel_rows old.channels → channel_rows new.channels ≡ channel_rows old.channels → StanceShows table new → table.channels ≡ channels_shown at past
+pub shown_by : {E : Type 0} → (past : List (Entry E)) (at : Side) (old new : Stance) (table : Table) → channels_shown at past ≡ channel_rows old.channels → channel_rows new.channels ≡ channel_rows old.channels → StanceShows table new → table.channels ≡ channels_shown at past
 shown_by past at old new table before_it same shows = shows.channels ∙ same ∙ sym before_it
 
 -- the reply to an offer that is delivered
-pub offer_reply : (fresh between : Stances) (past : List Entry) (at : Side) (k : ℕ) (offer : Option Sdp) (old new : Stance) (kept kept' : List Kept) (outcome : Outcome) (table : Option Table) (made : List MadeSdp)
+pub offer_reply : {E : Type 0} → (fresh between : Stances) (past : List (Entry E)) (at : Side) (k : ℕ) (offer : Option Sdp) (old new : Stance) (kept kept' : List Kept) (outcome : Outcome E) (table : Option Table) (made : List MadeSdp)
     → remote_sdp true at k past ≡ offer → view_in fresh at past (held_by (between at)) ≡ held_by old → channels_shown at past ≡ channel_rows old.channels → length (sdps past) ≡ length kept → StanceStepAcceptsOffer at offer old kept outcome table new kept'
     → IsSound fresh past between (AcceptOffer at k) outcome table made
 offer_reply fresh between past at k None old new kept kept' Alloc None made said view shown next h = tt
@@ -90,13 +90,13 @@ nowhere : (at : Side) (b : Bool) → (same_side at (other_side at) && b) ≡ fal
 nowhere at b = and_left (same_side at (other_side at)) b (same_side-other at)
 
 -- the channels that steps tell are those of before
-channels_go : (past : List Entry) (at : Side) (k : ℕ) (outcome : Outcome) (table : Option Table) (made : List MadeSdp) (old new : PairStance) → (new.sides at).channels ≡ (old.sides at).channels
+channels_go : {E : Type 0} → (past : List (Entry E)) (at : Side) (k : ℕ) (outcome : Outcome E) (table : Option Table) (made : List MadeSdp) (old new : PairStance) → (new.sides at).channels ≡ (old.sides at).channels
     → channel_rows_or true table (channels_shown at past) ≡ channel_rows (new.sides at).channels → Tells past old → ChannelsTell (entry (AcceptOffer at k) outcome table made ∷ past) at (new.sides at).channels
 channels_go past at k outcome table made old new same shown tells =
     channels_kept past (AcceptOffer at k) outcome table made (old.sides at).channels (new.sides at).channels (λ held. refl) (alike_told (old.sides at).channels (new.sides at).channels same) shown (tells.sides at).channels
 
 -- the peer was delivered nothing
-untouched_tells : (past : List Entry) (at : Side) (k : ℕ) (outcome : Outcome) (table : Option Table) (made : List MadeSdp) (old new : PairStance)
+untouched_tells : {E : Type 0} → (past : List (Entry E)) (at : Side) (k : ℕ) (outcome : Outcome E) (table : Option Table) (made : List MadeSdp) (old new : PairStance)
     → was_called outcome ≡ false → ((t : ℕ) → makes t outcome ≡ false) → new.sides at ≡ old.sides at → new.sdps ≡ old.sdps → rows_or true table (before at past) ≡ (old.sides at).lines
     → channel_rows_or true table (channels_shown at past) ≡ channel_rows (old.sides at).channels
     → Around (AcceptOffer at k) made old new → Tells past old → Tells (entry (AcceptOffer at k) outcome table made ∷ past) new
@@ -106,12 +106,12 @@ untouched_tells past at k outcome table made old new uncalled unmade peer kept r
     (and_right (same_side at at) (was_called outcome) uncalled) (and_right (same_side at (other_side at)) (was_called outcome) uncalled) (λ t. refl) unmade around tells
 
 -- the counter of a pair that is small rises by one
-rises : (past : List Entry) (at : Side) (k : ℕ) (made : List MadeSdp) (old new : PairStance) → (new.sides at).counter ≡ raised (old.sides at).counter
+rises : {E : Type 0} → (past : List (Entry E)) (at : Side) (k : ℕ) (made : List MadeSdp) (old new : PairStance) → (new.sides at).counter ≡ raised (old.sides at).counter
     → Around (AcceptOffer at k) made old new → Tells past old → (new.sides at).counter ≡ (old.sides at).counter + 1
 rises past at k made old new counter around tells = counter ∙ raised-small (old.sides at).counter old.size (tells.sides at).counts (omega (arith, around.size, around.small))
 
 -- the peer refused the offer
-refused_tells : (past : List Entry) (at : Side) (k : ℕ) (error : RtcError) (table : Table) (made : List MadeSdp) (old new : PairStance)
+refused_tells : {E : Type 0} → (past : List (Entry E)) (at : Side) (k : ℕ) (error : RtcError) (table : Table) (made : List MadeSdp) (old new : PairStance)
     → (new.sides at).lines ≡ (old.sides at).lines → (new.sides at).counter ≡ raised (old.sides at).counter → (new.sides at).channels ≡ (old.sides at).channels → new.sdps ≡ old.sdps → StanceShows table (new.sides at)
     → Around (AcceptOffer at k) made old new → Tells past old → Tells (entry (AcceptOffer at k) (Refused error) (Some table) made ∷ past) new
 refused_tells past at k error table made old new lines counter channels kept shows around tells =
@@ -120,7 +120,7 @@ refused_tells past at k error table made old new lines counter channels kept sho
     (here at true refl) (nowhere at true) (λ t. refl) (λ t. refl) around tells
 
 -- A step that hands over an offer.
-pub offer_tells : (past : List Entry) (at : Side) (k : ℕ) (offer : Option Sdp) (old new : PairStance) (outcome : Outcome) (table : Option Table) (made : List MadeSdp)
+pub offer_tells : {E : Type 0} → (past : List (Entry E)) (at : Side) (k : ℕ) (offer : Option Sdp) (old new : PairStance) (outcome : Outcome E) (table : Option Table) (made : List MadeSdp)
     → ((sdp : Sdp) → offer ≡ Some sdp → length sdp.lines ≤ old.size) → StanceStepAcceptsOffer at offer (old.sides at) old.sdps outcome table (new.sides at) new.sdps
     → Around (AcceptOffer at k) made old new → Tells past old → Tells (entry (AcceptOffer at k) outcome table made ∷ past) new
 offer_tells past at k None old new Alloc None made few h around tells =

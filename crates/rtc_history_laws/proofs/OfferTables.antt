@@ -19,14 +19,14 @@ pub app_unneeded : (rows : List LineRow) (said : List MadeSdp) → has_app_row r
 app_unneeded rows said there = rw there refl
 
 -- what ops stage is new beside the rows that they leave
-pub ops_new : (past : List Entry) (at : Side) (app : Option (List ℕ)) (ops : List Op) (answers : List OpAnswer) (after : List LineRow) (place : ℕ) → OpsAnswered (at_first at past app) ops answers after
+pub ops_new : {E : Type 0} → (past : List (Entry E)) (at : Side) (app : Option (List ℕ)) (ops : List Op) (answers : List OpAnswer) (after : List LineRow) (place : ℕ) → OpsAnswered (at_first at past app) ops answers after
     → AreAdded (is_some app) (map row_mid after) place (added app place ops answers)
 ops_new past at app ops answers after place answered =
     subst (λ (held : List (List ℕ)). AreAdded (is_some app) held place (added app place ops answers)) (sym (ops_mids (at_first at past app) ops answers after answered))
     (ops_add (before at past) (map row_mid (before at past)) app (channels_given at past) ops answers after place answered)
 
 -- The rows of an offer are a table.
-pub offer_table : (past : List Entry) (at : Side) (ops : List Op) (answers : List OpAnswer) (table : Table) (said : List MadeSdp) → IsTable (before at past)
+pub offer_table : {E : Type 0} → (past : List (Entry E)) (at : Side) (ops : List Op) (answers : List OpAnswer) (table : Table) (said : List MadeSdp) → IsTable (before at past)
     → OpsAnswered (at_first at past (new_app table.lines said)) ops answers table.lines → IsTable (table.lines ++ added (new_app table.lines said) (length table.lines) ops answers)
 offer_table past at ops answers table said is answered =
     offered_table table.lines (added (new_app table.lines said) (length table.lines) ops answers) (is_some (new_app table.lines said))

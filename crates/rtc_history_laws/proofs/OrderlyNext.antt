@@ -15,7 +15,7 @@ use Rattle.rtc_history.specs.declared.op.Op.{Op}
 use Rattle.rtc_history.specs.declared.made.Made.{Made}
 use Rattle.rtc_history.specs.declared.made.Made.TheVariants.{NotAsked, Nothing, Offer, Alloc as MadeAlloc}
 use Rattle.rtc_history.specs.declared.step.Step.{Step}
-use Rattle.rtc_history.specs.declared.step.Step.TheVariants.{Negotiate, AcceptOffer, AcceptAnswer}
+use Rattle.rtc_history.specs.declared.step.Step.TheVariants.{Negotiate, AcceptOffer, AcceptAnswer, Time, Datagram, Poll, Drain, Close}
 use Rattle.rtc_history.specs.declared.outcome.Outcome.{Outcome}
 use Rattle.rtc_history.specs.declared.outcome.Outcome.TheVariants.{Negotiated, Answered, Finished, Refused, NoSuch, Alloc}
 use Rattle.rtc_history.specs.declared.table.Table.{Table}
@@ -24,7 +24,7 @@ use Rattle.rtc_history.specs.Memory.{answers_lack, fails}
 use Rattle.rtc_history.specs.Sides.{other_side}
 use Rattle.rtc_history.specs.Past.{Entry, MadeSdp, sdps}
 use Rattle.rtc_history.specs.SaidRows.{row_said}
-use Rattle.rtc_history.specs.Orderly.{Phase, Idle, AwaitsAnswer, AwaitsEnd, Course, course_rows, moved_on, after_ops, after_step, is_ok, AreCurrent}
+use Rattle.rtc_history.specs.Orderly.{Phase, Idle, AwaitsAnswer, AwaitsEnd, Course, course_rows, moved_on, after_ops, after_step, is_ok, negotiates, AreCurrent}
 use Rattle.rtc_history.specs.Performs.{kept_offer, kept_answer}
 use Rattle.rtc_history.specs.PairState.{made_sdp, kept_remote_sdp, held_token}
 use Rattle.rtc_history.proofs.BothSides.{both_sides}
@@ -62,7 +62,7 @@ some_lines sdp (row ∷ rows) says live = λ none.
     absurd (omega (arith, both, count, none))
 
 -- the SDP of a number is the one that the past tells
-same_made : (past : List Entry) (pair : PairStance) (n : ℕ) (kept : Kept) (said : MadeSdp) → Tells past pair → slice_get pair.sdps n ≡ Some kept → slice_get (sdps past) n ≡ Some said → said.sdp ≡ kept.sdp
+same_made : {E : Type 0} → (past : List (Entry E)) (pair : PairStance) (n : ℕ) (kept : Kept) (said : MadeSdp) → Tells past pair → slice_get pair.sdps n ≡ Some kept → slice_get (sdps past) n ≡ Some said → said.sdp ≡ kept.sdp
 same_made past pair n kept said tells there told =
     let both : Some (made_sdp kept) ≡ Some said = sym (said_at past pair n tells.says ∙ ap (option_map made_sdp) there) ∙ told in
     let same : made_sdp kept ≡ said = cc in
@@ -84,11 +84,11 @@ same_ice : (at : Side) (old new : PairStance) → (new.sides at).ice ≡ (old.si
 same_ice at old new here there = both_sides (λ side. (new.sides side).ice ≡ (old.sides side).ice) at here (ap (λ (s : Stance). s.ice) there)
 
 -- how many session descriptions there are
-count_is : (past : List Entry) (pair : PairStance) (course : Course) → Tells past pair → InCourse course past → length pair.sdps ≡ course.sdps
+count_is : {E : Type 0} → (past : List (Entry E)) (pair : PairStance) (course : Course) → Tells past pair → InCourse course past → length pair.sdps ≡ course.sdps
 count_is past pair course tells on = sym (length-told past pair tells) ∙ on.count
 
 -- the phase of an offer that was made
-offer_in_phase : (past : List Entry) (at : Side) (course : Course) (rows said : List LineRow) → InCourse (moved_on at course rows (course.sdps + 1) (AwaitsAnswer at course.sdps said)) past → IsOffered at course.sdps said past
+offer_in_phase : {E : Type 0} → (past : List (Entry E)) (at : Side) (course : Course) (rows said : List LineRow) → InCourse (moved_on at course rows (course.sdps + 1) (AwaitsAnswer at course.sdps said)) past → IsOffered at course.sdps said past
 offer_in_phase past at course rows said on =
     subst (λ (phase : Phase). InPhase phase past) (moved_phase at course rows (course.sdps + 1) (AwaitsAnswer at course.sdps said)) on.phase
 
@@ -96,7 +96,7 @@ idle_current : (phase : Phase) (pair : PairStance) → phase ≡ Idle → InRoun
 idle_current phase pair idle out = subst (λ (p : Phase). InRound p pair) idle out
 
 -- an offer that is made where nothing is outstanding
-offer_next : (past : List Entry) (e : Entry) (old new : PairStance) (at : Side) (course : Course) (rows said : List LineRow) (p : Stance) (offer : Sdp × PendingOffer) → Tells past old → Tells (e ∷ past) new → InCourse course past
+offer_next : {E : Type 0} → (past : List (Entry E)) (e : Entry E) (old new : PairStance) (at : Side) (course : Course) (rows said : List LineRow) (p : Stance) (offer : Sdp × PendingOffer) → Tells past old → Tells (e ∷ past) new → InCourse course past
     → course.phase ≡ Idle → InRound course.phase old → SameIce old new → StanceApplies p (Ok (Some offer)) (new.sides at) → new.sdps ≡ old.sdps ++ kept_offer at offer ∷ []
     → InCourse (moved_on at course rows (course.sdps + 1) (AwaitsAnswer at course.sdps said)) (e ∷ past) → InRound (moved_on at course rows (course.sdps + 1) (AwaitsAnswer at course.sdps said)).phase new
 offer_next past e old new at course rows said p offer tells tells' on idle out same h pushed next =
@@ -109,18 +109,18 @@ offer_next past e old new at course rows said p offer tells tells' on idle out s
     subst (λ (phase : Phase). InRound phase new) (sym (moved_phase at course rows (course.sdps + 1) (AwaitsAnswer at course.sdps said)))
     (round (subst (λ (sdp : Sdp). length sdp.lines ≢ 0) text (some_lines outstanding.offer.sdp (outstanding.offer.front ++ outstanding.offer.more) outstanding.offer.says outstanding.offer.live)))
 
-pub ops_next : (past : List Entry) (e : Entry) (old new : PairStance) (at : Side) (ops : List Op) (apply : Bool) (outcome : Outcome) (table : Option Table) (course course' : Course) → Tells past old → Tells (e ∷ past) new → InCourse course past
+pub ops_next : {E : Type 0} → (past : List (Entry E)) (e : Entry E) (old new : PairStance) (at : Side) (ops : List Op) (apply : Bool) (outcome : Outcome E) (table : Option Table) (course course' : Course) → Tells past old → Tells (e ∷ past) new → InCourse course past
     → InRound course.phase old → StanceNegotiates at ops apply (old.sides at) old.sdps outcome table (new.sides at) new.sdps → new.sides (other_side at) ≡ old.sides (other_side at) → fails outcome ≡ false
     → after_ops apply at ops course (rows_after_ops ops (course_rows at course)) ≡ Some course' → InCourse course' (e ∷ past) → InRound course'.phase new
-ops_next past e old new at ops apply Alloc None course course' tells tells' on out h other enough after next = absurd (cc)
-ops_next past e old new at ops apply (Negotiated answers made) (Some table) course course' tells tells' on out h other enough after next =
+ops_next {E} past e old new at ops apply Alloc None course course' tells tells' on out h other enough after next = absurd (cc)
+ops_next {E} past e old new at ops apply (Negotiated answers made) (Some table) course course' tells tells' on out h other enough after next =
     by (apply && must_offer ops (course_rows at course)) refl (makes_either (apply && not (answers_lack answers)) at h.0 (new.sides at) old.sdps new.sdps made h.2)
   where
     rows : List LineRow
     rows = rows_after_ops ops (course_rows at course)
 
     same : SameIce old new
-    same = same_ice at old new (negotiates_keep_side at ops apply (old.sides at) (new.sides at) old.sdps new.sdps (Negotiated answers made) (Some table) h).ice other
+    same = same_ice at old new (negotiates_keep_side {E = E} at ops apply (old.sides at) (new.sides at) old.sdps new.sdps (Negotiated answers made) (Some table) h).ice other
 
     counts : (length old.sdps ≡ course.sdps) × (length new.sdps ≡ course'.sdps)
     counts = (count_is past old course tells on, count_is (e ∷ past) new course' tells' next)
@@ -144,7 +144,7 @@ ops_next past e old new at ops apply (Negotiated answers made) (Some table) cour
         let leads = offer_course apply at ops course course' rows after offers in
         subst (λ (c : Course). InCourse c (e ∷ past) → InRound c.phase new) leads.course_is
         (λ next. offer_next past e old new at course rows (rows ++ rows_added rows ops) h.0 offered.0 tells tells' on leads.idle out same offered.1 offered.2 next) next
-ops_next past e old new at ops apply outcome table course course' tells tells' on out h other enough after next = absurd h
+ops_next {E} past e old new at ops apply outcome table course course' tells tells' on out h other enough after next = absurd h
 
 -- ---- an offer is accepted
 
@@ -156,7 +156,7 @@ pub record IsAnsweredBy (s : Stance) (sdps' sdps : List Kept) (at : Side) (offer
   pub stands : StandsOffer (lent s) sdp answer t
   pub pushed : sdps' ≡ sdps ++ kept_answer at answer ∷ []
 
-answered_by : (at : Side) (offer : Option Sdp) (s t : Stance) (kept kept' : List Kept) (outcome : Outcome) (table : Option Table) → StanceStepAcceptsOffer at offer s kept outcome table t kept' → is_ok outcome ≡ true → IsAnsweredBy s kept' kept at offer t
+answered_by : {E : Type 0} → (at : Side) (offer : Option Sdp) (s t : Stance) (kept kept' : List Kept) (outcome : Outcome E) (table : Option Table) → StanceStepAcceptsOffer at offer s kept outcome table t kept' → is_ok outcome ≡ true → IsAnsweredBy s kept' kept at offer t
 answered_by at None s t kept kept' Alloc None h ok = absurd (cc)
 answered_by at (Some sdp) s t kept kept' Alloc None h ok = absurd (cc)
 answered_by at None s t kept kept' NoSuch (Some table) h ok = absurd (cc)
@@ -164,10 +164,10 @@ answered_by at (Some sdp) s t kept kept' (Answered k) (Some table) h ok = record
 answered_by at (Some sdp) s t kept kept' (Refused error) (Some table) h ok = absurd (cc)
 answered_by at offer s t kept kept' outcome table h ok = absurd h
 
-answer_in_phase : (past : List Entry) (at side : Side) (k : ℕ) (course : Course) (rows : List LineRow) → InCourse (moved_on at course rows (course.sdps + 1) (AwaitsEnd side k course.sdps rows)) past → IsAnswered side k course.sdps rows past
+answer_in_phase : {E : Type 0} → (past : List (Entry E)) (at side : Side) (k : ℕ) (course : Course) (rows : List LineRow) → InCourse (moved_on at course rows (course.sdps + 1) (AwaitsEnd side k course.sdps rows)) past → IsAnswered side k course.sdps rows past
 answer_in_phase past at side k course rows on = subst (λ (phase : Phase). InPhase phase past) (moved_phase at course rows (course.sdps + 1) (AwaitsEnd side k course.sdps rows)) on.phase
 
-accept_next : (past : List Entry) (e : Entry) (old new : PairStance) (side : Side) (k : ℕ) (outcome : Outcome) (table : Option Table) (course : Course) (rows : List LineRow) → Tells past old → Tells (e ∷ past) new → InCourse course past → IsOfferOut side k old
+accept_next : {E : Type 0} → (past : List (Entry E)) (e : Entry E) (old new : PairStance) (side : Side) (k : ℕ) (outcome : Outcome E) (table : Option Table) (course : Course) (rows : List LineRow) → Tells past old → Tells (e ∷ past) new → InCourse course past → IsOfferOut side k old
     → StanceStepAcceptsOffer (other_side side) (kept_remote_sdp true old.sdps (other_side side) k) (old.sides (other_side side)) old.sdps outcome table (new.sides (other_side side)) new.sdps → new.sides side ≡ old.sides side → is_ok outcome ≡ true
     → InCourse (moved_on (other_side side) course rows (course.sdps + 1) (AwaitsEnd side k course.sdps rows)) (e ∷ past)
     → InRound (moved_on (other_side side) course rows (course.sdps + 1) (AwaitsEnd side k course.sdps rows)).phase new
@@ -195,7 +195,7 @@ pub record EndsBy (s : Stance) (token : Option PendingOffer) (answer : Option Sd
   pub is : answer ≡ Some sdp
   pub stands : StandsAnswer (lent s) its sdp t
 
-ends_by : (k : ℕ) (token : Option PendingOffer) (answer : Option Sdp) (s t : Stance) (kept kept' : List Kept) (outcome : Outcome) (table : Option Table) → StanceStepAcceptsAnswer k token answer s kept outcome table t kept' → is_ok outcome ≡ true → EndsBy s token answer t
+ends_by : {E : Type 0} → (k : ℕ) (token : Option PendingOffer) (answer : Option Sdp) (s t : Stance) (kept kept' : List Kept) (outcome : Outcome E) (table : Option Table) → StanceStepAcceptsAnswer k token answer s kept outcome table t kept' → is_ok outcome ≡ true → EndsBy s token answer t
 ends_by k None None s t kept kept' Alloc None h ok = absurd (cc)
 ends_by k None (Some sdp) s t kept kept' Alloc None h ok = absurd (cc)
 ends_by k (Some token) None s t kept kept' Alloc None h ok = absurd (cc)
@@ -207,7 +207,7 @@ ends_by k (Some token) (Some sdp) s t kept kept' Finished (Some table) h ok = re
 ends_by k (Some token) (Some sdp) s t kept kept' (Refused error) (Some table) h ok = absurd (cc)
 ends_by k token answer s t kept kept' outcome table h ok = absurd h
 
-end_next : (old new : PairStance) (at : Side) (t a : ℕ) (outcome : Outcome) (table : Option Table) → IsAnswerOut at t a old
+end_next : {E : Type 0} → (old new : PairStance) (at : Side) (t a : ℕ) (outcome : Outcome E) (table : Option Table) → IsAnswerOut at t a old
     → StanceStepAcceptsAnswer t (held_token old.sdps at t) (kept_remote_sdp false old.sdps at a) (old.sides at) old.sdps outcome table (new.sides at) new.sdps → new.sides (other_side at) ≡ old.sides (other_side at) → is_ok outcome ≡ true
     → InRound Idle new
 end_next old new at t a outcome table out h other ok =
@@ -221,32 +221,50 @@ end_next old new at t a outcome table out h other ok =
 
 -- ---- each step
 
-enough_ok : (outcome : Outcome) → (is_ok outcome || fails outcome) ≡ true → fails outcome ≡ false → is_ok outcome ≡ true
+enough_ok : {E : Type 0} → (outcome : Outcome E) → (is_ok outcome || fails outcome) ≡ true → fails outcome ≡ false → is_ok outcome ≡ true
 enough_ok outcome either enough = by (is_ok outcome) refl
   where
     by : (ok : Bool) → is_ok outcome ≡ ok → ok ≡ true
     by true is = refl
     by false is = absurd (let e : false ≡ true = rw (is, enough) at either in cc)
 
-pub round_next : (fresh : Stances) (past : List Entry) (old new : PairStance) (step : Step) (outcome : Outcome) (table : Option Table) (made : List MadeSdp) (course course' : Course) → IsOnCourse fresh past old course
-    → Tells (entry step outcome table made ∷ past) new → StancePerforms old step outcome table new → after_step course step ≡ Some course' → (is_ok outcome || fails outcome) ≡ true → fails outcome ≡ false
+-- a step that negotiates nothing leaves what is outstanding
+rest_round : (old new : PairStance) (at : Side) (course course' : Course) → Some course ≡ Some course' → new.sides at ≡ old.sides at → new.sides (other_side at) ≡ old.sides (other_side at)
+    → new.sdps ≡ old.sdps → InRound course.phase old → InRound course'.phase new
+rest_round old new at course course' after mine other kept round =
+    let same : course ≡ course' = cc in
+    let ice : SameIce old new = both_sides (λ side. (new.sides side).ice ≡ (old.sides side).ice) at (ap (λ (s : Stance). s.ice) mine) (ap (λ (s : Stance). s.ice) other) in
+    subst (λ (c : Course). InRound c.phase new) same (round_stays course.phase old new ice kept round)
+
+pub round_next : {E : Type 0} → (fresh : Stances) (past : List (Entry E)) (old new : PairStance) (step : Step) (outcome : Outcome E) (table : Option Table) (made : List MadeSdp) (course course' : Course) → IsOnCourse fresh past old course
+    → Tells (entry step outcome table made ∷ past) new → StancePerforms old step outcome table new → after_step course step ≡ Some course' → (negotiates step ≡ true → (is_ok outcome || fails outcome) ≡ true) → fails outcome ≡ false
     → InCourse course' (entry step outcome table made ∷ past) → InRound course'.phase new
 round_next fresh past old new (Negotiate at ops apply) outcome table made course course' on tells' performs after either enough next =
     ops_next past (entry (Negotiate at ops apply) outcome table made) old new at ops apply outcome table course course' on.tells tells' on.course_is on.round performs.acts performs.other enough after next
-round_next fresh past old new (AcceptOffer at k) outcome table made course course' on tells' performs after either enough next =
+round_next {E} fresh past old new (AcceptOffer at k) outcome table made course course' on tells' performs after either enough next =
     let it = accept_course at k course course.phase course' after in
-    let e : Entry = entry (AcceptOffer at k) outcome table made in
+    let e : Entry E = entry (AcceptOffer at k) outcome table made in
     let out : IsOfferOut it.side k old = subst (λ (phase : Phase). InRound phase old) it.phase_is on.round in
     let rows : Side → List LineRow = λ one. course_rows_after true 0 (course_rows one course) it.said in
     subst (λ (c : Course). InCourse c (e ∷ past) → InRound c.phase new) it.course_is
     (subst (λ (one : Side). StanceStepAcceptsOffer one (kept_remote_sdp true old.sdps one k) (old.sides one) old.sdps outcome table (new.sides one) new.sdps → new.sides (other_side one) ≡ old.sides (other_side one)
     → InCourse (moved_on one course (rows one) (course.sdps + 1) (AwaitsEnd it.side k course.sdps (rows one))) (e ∷ past) → InRound (moved_on one course (rows one) (course.sdps + 1) (AwaitsEnd it.side k course.sdps (rows one))).phase new) it.at_is
     (λ acts other next. accept_next past e old new it.side k outcome table course (rows (other_side it.side)) on.tells tells' on.course_is out acts
-    (subst (λ (one : Side). new.sides one ≡ old.sides one) (other_twice it.side) other) (enough_ok outcome either enough) next)
+    (subst (λ (one : Side). new.sides one ≡ old.sides one) (other_twice it.side) other) (enough_ok outcome (either refl) enough) next)
     performs.acts performs.other) next
 round_next fresh past old new (AcceptAnswer at t a) outcome table made course course' on tells' performs after either enough next =
     let it = end_course at t a course course.phase course' after in
     let out : IsAnswerOut at t a old = subst (λ (phase : Phase). InRound phase old) it.phase_is on.round in
     subst (λ (c : Course). InRound c.phase new) it.course_is
     (subst (λ (phase : Phase). InRound phase new) (sym (moved_phase at course (course_rows_after false 0 (course_rows at course) it.said) course.sdps Idle))
-    (end_next old new at t a outcome table out performs.acts performs.other (enough_ok outcome either enough)))
+    (end_next old new at t a outcome table out performs.acts performs.other (enough_ok outcome (either refl) enough)))
+round_next fresh past old new (Time at now) outcome table made course course' on tells' performs after either enough next =
+    rest_round old new at course course' after performs.acts.stays.peer performs.other performs.acts.stays.sdps_kept on.round
+round_next fresh past old new (Datagram at packet now) outcome table made course course' on tells' performs after either enough next =
+    rest_round old new at course course' after performs.acts.stays.peer performs.other performs.acts.stays.sdps_kept on.round
+round_next fresh past old new (Poll at) outcome table made course course' on tells' performs after either enough next =
+    rest_round old new at course course' after performs.acts.stays.peer performs.other performs.acts.stays.sdps_kept on.round
+round_next fresh past old new (Drain at) outcome table made course course' on tells' performs after either enough next =
+    rest_round old new at course course' after performs.acts.stays.peer performs.other performs.acts.stays.sdps_kept on.round
+round_next fresh past old new (Close at) outcome table made course course' on tells' performs after either enough next =
+    rest_round old new at course course' after performs.acts.stays.peer performs.other performs.acts.stays.sdps_kept on.round

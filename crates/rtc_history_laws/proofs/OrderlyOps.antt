@@ -43,11 +43,11 @@ use Rattle.rtc_history_laws.proofs.Courses.{IsSideOf, InPhase, InCourse, aligned
 use Rattle.rtc_history_laws.proofs.CourseSteps.{AreInOrder, in_order, quiet_course, offer_course}
 use Rattle.rtc_history.specs.Views.{Stances}
 
-abbrev ops_entry : Side → List Op → Bool → List OpAnswer → Made → Table → List MadeSdp → Entry
+abbrev ops_entry : {E : Type 0} → Side → List Op → Bool → List OpAnswer → Made → Table → List MadeSdp → Entry E
 ops_entry at ops apply answers what table made = entry (Negotiate at ops apply) (Negotiated answers what) (Some table) made
 
 -- Ops in order that are all answered, each channel by a number, after a past in its course.
-record OpsDone (past : List Entry) (at : Side) (ops : List Op) (apply : Bool) (answers : List OpAnswer) (table : Table) (made : List MadeSdp) (course : Course) : Type 0 where
+record OpsDone {E : Type 0} (past : List (Entry E)) (at : Side) (ops : List Op) (apply : Bool) (answers : List OpAnswer) (table : Table) (made : List MadeSdp) (course : Course) : Type 0 where
   answered : OpsAnswered (at_first at past (new_app table.lines made)) ops answers table.lines
   seen : AreSeen (before at past) (new_app table.lines made) ops answers table.lines
   order : AreInOrder apply at ops course.phase
@@ -56,7 +56,7 @@ record OpsDone (past : List Entry) (at : Side) (ops : List Op) (apply : Bool) (a
 -- ---- rows
 
 -- the rows of either side keep their names
-names_go : (past : List Entry) (at : Side) (ops : List Op) (apply : Bool) (answers : List OpAnswer) (what : Made) (table : Table) (made : List MadeSdp) (course : Course) → OpsDone past at ops apply answers table made course
+names_go : {E : Type 0} → (past : List (Entry E)) (at : Side) (ops : List Op) (apply : Bool) (answers : List OpAnswer) (what : Made) (table : Table) (made : List MadeSdp) (course : Course) → OpsDone past at ops apply answers table made course
     → (side : Side) → Aligned (before side past) (before side (ops_entry at ops apply answers what table made ∷ past))
 names_go past at ops apply answers what table made course ops_are side = by (same_side at side) refl
   where
@@ -67,7 +67,7 @@ names_go past at ops apply answers what table made course ops_are side = by (sam
     by false same = aligned_self (before side past)
 
 -- the rows that the acting side has then
-side_goes : (past : List Entry) (at : Side) (ops : List Op) (apply : Bool) (answers : List OpAnswer) (table : Table) (made : List MadeSdp) (course : Course) → OpsDone past at ops apply answers table made course
+side_goes : {E : Type 0} → (past : List (Entry E)) (at : Side) (ops : List Op) (apply : Bool) (answers : List OpAnswer) (table : Table) (made : List MadeSdp) (course : Course) → OpsDone past at ops apply answers table made course
     → IsSideOf (rows_after_ops ops (course_rows at course)) table.lines
 side_goes past at ops apply answers table made course ops_are =
     let mine = ops_are.is.sides at in
@@ -84,7 +84,7 @@ record OffersNothing (at : Side) (phase : Phase) (answers : List OpAnswer) (what
   unnumbered : (t : ℕ) → is_offer_numbered t what ≡ false
 
 -- What is outstanding stays so, where rows keep their names.
-offered_kept : (past : List Entry) (at : Side) (ops : List Op) (apply : Bool) (answers : List OpAnswer) (what : Made) (table : Table) (made : List MadeSdp) (offer : OfferSaid) (side : Side) (n : ℕ)
+offered_kept : {E : Type 0} → (past : List (Entry E)) (at : Side) (ops : List Op) (apply : Bool) (answers : List OpAnswer) (what : Made) (table : Table) (made : List MadeSdp) (offer : OfferSaid) (side : Side) (n : ℕ)
     → (same_side at side && is_applied answers what) ≡ false → is_offer_numbered n what ≡ false
     → Aligned (before side past) (before side (ops_entry at ops apply answers what table made ∷ past)) → HasOffered offer side n past → HasOffered offer side n (ops_entry at ops apply answers what table made ∷ past)
 offered_kept past at ops apply answers what table made offer side n still unnumbered names has = record {
@@ -95,7 +95,7 @@ offered_kept past at ops apply answers what table made offer side n still unnumb
   kept = aligned_trans offer.front (before side past) _ has.kept names;
 }
 
-answered_kept : (past : List Entry) (last : Entry) (offer : OfferSaid) (answer : AnswerSaid) (side : Side) (m : ℕ) → ((one : Side) → Aligned (before one past) (before one (last ∷ past)))
+answered_kept : {E : Type 0} → (past : List (Entry E)) (last : Entry E) (offer : OfferSaid) (answer : AnswerSaid) (side : Side) (m : ℕ) → ((one : Side) → Aligned (before one past) (before one (last ∷ past)))
     → HasAnswered offer answer side m past → HasAnswered offer answer side m (last ∷ past)
 answered_kept past last offer answer side m names has = record {
   there = stays_there (sdps past) last.made m _ has.there;
@@ -108,7 +108,7 @@ answered_kept past last offer answer side m names has = record {
 aligned_on : (mine mine' theirs theirs' : List LineRow) → Aligned mine mine' → Aligned theirs theirs' → Aligned mine theirs → Aligned mine' theirs'
 aligned_on mine mine' theirs theirs' same_mine same_theirs same = aligned_trans mine' mine theirs' (aligned_sym mine mine' same_mine) (aligned_trans mine theirs theirs' same same_theirs)
 
-phase_kept : (past : List Entry) (at : Side) (ops : List Op) (apply : Bool) (answers : List OpAnswer) (what : Made) (table : Table) (made : List MadeSdp) (phase : Phase) → OffersNothing at phase answers what
+phase_kept : {E : Type 0} → (past : List (Entry E)) (at : Side) (ops : List Op) (apply : Bool) (answers : List OpAnswer) (what : Made) (table : Table) (made : List MadeSdp) (phase : Phase) → OffersNothing at phase answers what
     → ((side : Side) → Aligned (before side past) (before side (ops_entry at ops apply answers what table made ∷ past))) → InPhase phase past → InPhase phase (ops_entry at ops apply answers what table made ∷ past)
 phase_kept past at ops apply answers what table made Idle nothing names same = aligned_on (before Left past) _ (before Right past) _ (names Left) (names Right) same
 phase_kept past at ops apply answers what table made (AwaitsAnswer side n said) nothing names out = record {
@@ -125,7 +125,7 @@ phase_kept past at ops apply answers what table made (AwaitsEnd side n m said) n
   answered = answered_kept past (ops_entry at ops apply answers what table made) out.offer out.answer side m names out.answered;
 }
 
-quiet_goes_on : (past : List Entry) (at : Side) (ops : List Op) (apply : Bool) (answers : List OpAnswer) (what : Made) (table : Table) (made : List MadeSdp) (course : Course) → OpsDone past at ops apply answers table made course
+quiet_goes_on : {E : Type 0} → (past : List (Entry E)) (at : Side) (ops : List Op) (apply : Bool) (answers : List OpAnswer) (what : Made) (table : Table) (made : List MadeSdp) (course : Course) → OpsDone past at ops apply answers table made course
     → OffersNothing at course.phase answers what → made ≡ []
     → InCourse (moved_on at course (rows_after_ops ops (course_rows at course)) course.sdps course.phase) (ops_entry at ops apply answers what table made ∷ past)
 quiet_goes_on past at ops apply answers what table made course ops_are nothing none =
@@ -167,8 +167,8 @@ none_where lines made tells = by (has_app_row lines) refl
     by false is = is
     by true is = absurd (let e : false ≡ true = rw is at tells in cc)
 
-offer_goes_on : (fresh : Stances) (past : List Entry) (at : Side) (ops : List Op) (apply : Bool) (answers : List OpAnswer) (k : ℕ) (table : Table) (made : List MadeSdp) (course : Course) → Sound fresh past → OpsDone past at ops apply answers table made course
-    → length (rows_after_ops ops (course_rows at course) ++ rows_added (rows_after_ops ops (course_rows at course)) ops) ≢ 0 → course.phase ≡ Idle → k ≡ length (sdps past) → MakesSdp (Negotiate at ops apply) (Negotiated answers (Offer k)) (Some table) made
+offer_goes_on : {E : Type 0} → (fresh : Stances) (past : List (Entry E)) (at : Side) (ops : List Op) (apply : Bool) (answers : List OpAnswer) (k : ℕ) (table : Table) (made : List MadeSdp) (course : Course) → Sound fresh past → OpsDone past at ops apply answers table made course
+    → length (rows_after_ops ops (course_rows at course) ++ rows_added (rows_after_ops ops (course_rows at course)) ops) ≢ 0 → course.phase ≡ Idle → k ≡ length (sdps past) → MakesSdp {E = E} (Negotiate at ops apply) (Negotiated answers (Offer k)) (Some table) made
     → let rows : List LineRow = rows_after_ops ops (course_rows at course) in
     InCourse (moved_on at course rows (course.sdps + 1) (AwaitsAnswer at course.sdps (rows ++ rows_added rows ops))) (ops_entry at ops apply answers (Offer k) table made ∷ past)
 offer_goes_on fresh past at ops apply answers k table made course sound ops_are some idle count says =
@@ -227,9 +227,9 @@ nothing_still at ops phase applied right alone side offers = by (same_side at si
     by false is = refl
     by true is = alone (unless (is_offerer at phase) (do_add_channel ops) (subst (λ (one : Side). is_offerer one phase ≡ true) (sym (same_side-true at side is)) offers) right)
 
-ops_go_on : (fresh : Stances) (past : List Entry) (at : Side) (ops : List Op) (apply : Bool) (answers : List OpAnswer) (what : Made) (table : Table) (made : List MadeSdp) (course course' : Course) (lacked staged : Bool)
+ops_go_on : {E : Type 0} → (fresh : Stances) (past : List (Entry E)) (at : Side) (ops : List Op) (apply : Bool) (answers : List OpAnswer) (what : Made) (table : Table) (made : List MadeSdp) (course course' : Course) (lacked staged : Bool)
     → Sound fresh past → OpsDone past at ops apply answers table made course → MadeOf (apply && not lacked) staged what (length (sdps past)) → lacked ≡ false → do_need_offer (has_app_row (before at past)) answers ≡ staged
-    → staged ≡ must_offer ops (course_rows at course) → fails (Negotiated answers what) ≡ false → MakesSdp (Negotiate at ops apply) (Negotiated answers what) (Some table) made
+    → staged ≡ must_offer ops (course_rows at course) → fails {E = E} (Negotiated answers what) ≡ false → MakesSdp {E = E} (Negotiate at ops apply) (Negotiated answers what) (Some table) made
     → after_ops apply at ops course (rows_after_ops ops (course_rows at course)) ≡ Some course' → InCourse course' (ops_entry at ops apply answers what table made ∷ past)
 ops_go_on fresh past at ops apply answers what table made course course' true staged sound ops_are makes unlacked stage_is staged_is enough says after = absurd (cc)
 ops_go_on fresh past at ops false answers NotAsked table made course course' false staged sound ops_are makes unlacked stage_is staged_is enough says after =
@@ -251,13 +251,13 @@ ops_go_on fresh past at ops false answers (Offer k) table made course course' fa
 ops_go_on fresh past at ops true answers Nothing table made course course' false true sound ops_are makes unlacked stage_is staged_is enough says after = absurd makes
 ops_go_on fresh past at ops true answers (Offer k) table made course course' false false sound ops_are makes unlacked stage_is staged_is enough says after = absurd makes
 
-pub negotiated_goes_on : (fresh between : Stances) (past : List Entry) (at : Side) (ops : List Op) (apply : Bool) (outcome : Outcome) (table : Option Table) (made : List MadeSdp) (course course' : Course) → Sound fresh past → InCourse course past
+pub negotiated_goes_on : {E : Type 0} → (fresh between : Stances) (past : List (Entry E)) (at : Side) (ops : List Op) (apply : Bool) (outcome : Outcome E) (table : Option Table) (made : List MadeSdp) (course course' : Course) → Sound fresh past → InCourse course past
     → steps_size (steps_of past) + length ops < 2 ^ 64 - 1 → IsSound fresh past between (Negotiate at ops apply) outcome table made → MakesSdp (Negotiate at ops apply) outcome table made
     → after_ops apply at ops course (rows_after_ops ops (course_rows at course)) ≡ Some course' → fails outcome ≡ false
     → InCourse course' (entry (Negotiate at ops apply) outcome table made ∷ past)
-negotiated_goes_on fresh between past at ops apply Alloc None made course course' sound is few replied says after enough = absurd (cc)
-negotiated_goes_on fresh between past at ops apply (Negotiated answers what) (Some table) made course course' sound is few replied says after enough =
-    let unlacked : answers_lack answers ≡ false = (or_parts _ (answers_lack answers) (or_parts (outcome_lacks (Negotiated answers what)) false enough).0).1 in
+negotiated_goes_on {E} fresh between past at ops apply Alloc None made course course' sound is few replied says after enough = absurd (cc)
+negotiated_goes_on {E} fresh between past at ops apply (Negotiated answers what) (Some table) made course course' sound is few replied says after enough =
+    let unlacked : answers_lack answers ≡ false = (or_parts _ (answers_lack answers) (or_parts (outcome_lacks {E = E} (Negotiated answers what)) false enough).0).1 in
     let order = in_order apply at ops course course' _ after in
     let app : Option (List ℕ) = new_app table.lines made in
     let given : (channels_given at past).given ≤ steps_size (steps_of past) = given_within at past in
@@ -266,4 +266,4 @@ negotiated_goes_on fresh between past at ops apply (Negotiated answers what) (So
     ops_seen (before at past) (map row_mid (before at past)) app (channels_given at past) ops answers table.lines replied.0 unlacked fine in
     ops_go_on fresh past at ops apply answers what table made course course' (answers_lack answers) (do_need_offer (has_app_row (before at past)) answers) sound
     (record { answered = replied.0; seen = seen; order = order; is = is }) replied.1 unlacked refl (seen.staged ∙ ap (must_offer ops) (is.sides at).are) enough says after
-negotiated_goes_on fresh between past at ops apply outcome table made course course' sound is few replied says after enough = absurd replied
+negotiated_goes_on {E} fresh between past at ops apply outcome table made course course' sound is few replied says after enough = absurd replied

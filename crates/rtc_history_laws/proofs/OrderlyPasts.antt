@@ -5,7 +5,7 @@ use Rattle.rtc_sdp_values.specs.declared.line_row.LineRow.TheVariants.{Media, Ap
 use Rattle.rtc_history.specs.declared.side.Side.{Side}
 use Rattle.rtc_history.specs.declared.side.Side.TheVariants.{Left, Right}
 use Rattle.rtc_history.specs.declared.step.Step.{Step}
-use Rattle.rtc_history.specs.declared.step.Step.TheVariants.{Negotiate, AcceptOffer, AcceptAnswer}
+use Rattle.rtc_history.specs.declared.step.Step.TheVariants.{Negotiate, AcceptOffer, AcceptAnswer, Time, Datagram, Poll, Drain, Close}
 use Rattle.rtc_history.specs.declared.outcome.Outcome.{Outcome}
 use Rattle.rtc_history.specs.declared.table.Table.{Table}
 use Rattle.rtc_history.specs.Sizes.{step_size, steps_size}
@@ -14,7 +14,7 @@ use Rattle.rtc_history.specs.Sound.{IsSound}
 use Rattle.rtc_history.specs.Finished.{AreSameLine, Equal}
 use Rattle.rtc_history.specs.SaidRows.{MakesSdp}
 use Rattle.rtc_history.specs.CourseRows.{course_rows_after}
-use Rattle.rtc_history.specs.Orderly.{Phase, Idle, AwaitsAnswer, AwaitsEnd, Course, course_rows, moved_on, after_step, follow, course_of, IsIdle, AreInStep, AreCurrent}
+use Rattle.rtc_history.specs.Orderly.{Phase, Idle, AwaitsAnswer, AwaitsEnd, Course, course_rows, moved_on, after_step, follow, course_of, IsIdle, AreInStep, AreCurrent, negotiates}
 use Rattle.rtc_history_laws.proofs.SoundPasts.{Sound}
 use Rattle.rtc_history_laws.proofs.Around.{entry}
 use Rattle.rtc_history_laws.proofs.RowNames.{SameName, Aligned, app_mid-aligned}
@@ -22,29 +22,40 @@ use Rattle.rtc_history_laws.proofs.RoundRows.{IsOffered, IsAnswered}
 use Rattle.rtc_history_laws.proofs.Courses.{IsSideOf, InPhase, InCourse}
 use Rattle.rtc_history_laws.proofs.CourseSteps.{accept_course, end_course}
 use Rattle.rtc_history_laws.proofs.OrderlySteps.{negotiated_ok, GoesOn, accept_goes_on, end_goes_on, SidePasses}
+use Rattle.rtc_history_laws.proofs.RestCourses.{rest_goes_on}
 use Rattle.rtc_history_laws.proofs.OrderlyOps.{negotiated_goes_on}
 use Rattle.rtc_history.specs.Views.{Stances}
 
 -- A step in order gives its Ok or tells a want of memory, and where none is told, the course goes on.
-pub step_goes_on : (fresh between : Stances) (past : List Entry) (step : Step) (outcome : Outcome) (table : Option Table) (made : List MadeSdp) (course course' : Course) → Sound fresh past → InCourse course past → SidePasses fresh between past step
-    → steps_size (steps_of past) + step_size step < 2 ^ 64 - 1 → IsSound fresh past between step outcome table made → MakesSdp step outcome table made → after_step course step ≡ Some course' → GoesOn outcome course' (entry step outcome table made ∷ past)
+pub step_goes_on : {E : Type 0} → (fresh between : Stances) (past : List (Entry E)) (step : Step) (outcome : Outcome E) (table : Option Table) (made : List MadeSdp) (course course' : Course) → Sound fresh past → InCourse course past → SidePasses fresh between past step
+    → steps_size (steps_of past) + step_size step < 2 ^ 64 - 1 → IsSound fresh past between step outcome table made → MakesSdp step outcome table made → after_step course step ≡ Some course' → GoesOn (negotiates step) outcome course' (entry step outcome table made ∷ past)
 step_goes_on fresh between past (Negotiate at ops apply) outcome table made course course' sound is side few replied says after = record {
-  ok = negotiated_ok fresh between past at ops apply outcome table made course course' _ (omega arith) after replied;
+  ok = λ negotiating. negotiated_ok fresh between past at ops apply outcome table made course course' _ (omega arith) after replied;
   next = λ enough. negotiated_goes_on fresh between past at ops apply outcome table made course course' sound is (omega arith) replied says after enough;
 }
 step_goes_on fresh between past (AcceptOffer at k) outcome table made course course' sound is side few replied says after =
     let it = accept_course at k course course.phase course' after in
     let out : IsOffered it.side k it.said past = subst (λ (phase : Phase). InPhase phase past) it.phase_is is.phase in
-    subst (λ (c : Course). GoesOn outcome c (entry (AcceptOffer at k) outcome table made ∷ past)) it.course_is
+    subst (λ (c : Course). GoesOn true outcome c (entry (AcceptOffer at k) outcome table made ∷ past)) it.course_is
     (subst (λ (one : Side). SidePasses fresh between past (AcceptOffer one k) → IsSound fresh past between (AcceptOffer one k) outcome table made → MakesSdp (AcceptOffer one k) outcome table made
-    → GoesOn outcome (moved_on one course (course_rows_after true 0 (course_rows one course) it.said) (course.sdps + 1) (AwaitsEnd it.side k course.sdps (course_rows_after true 0 (course_rows one course) it.said)))
+    → GoesOn true outcome (moved_on one course (course_rows_after true 0 (course_rows one course) it.said) (course.sdps + 1) (AwaitsEnd it.side k course.sdps (course_rows_after true 0 (course_rows one course) it.said)))
     (entry (AcceptOffer one k) outcome table made ∷ past)) it.at_is
     (λ side replied says. accept_goes_on fresh between past it.side k it.said course outcome table made sound is out side replied says) side replied says)
 step_goes_on fresh between past (AcceptAnswer at t a) outcome table made course course' sound is side few replied says after =
     let it = end_course at t a course course.phase course' after in
     let out : IsAnswered at t a it.said past = subst (λ (phase : Phase). InPhase phase past) it.phase_is is.phase in
-    subst (λ (c : Course). GoesOn outcome c (entry (AcceptAnswer at t a) outcome table made ∷ past)) it.course_is
+    subst (λ (c : Course). GoesOn true outcome c (entry (AcceptAnswer at t a) outcome table made ∷ past)) it.course_is
     (end_goes_on fresh between past at t a it.said course outcome table made sound is out side replied says)
+step_goes_on fresh between past (Time at now) outcome table made course course' sound is side few replied says after =
+    rest_goes_on fresh between past (Time at now) outcome table made course course' tt after is replied says
+step_goes_on fresh between past (Datagram at packet now) outcome table made course course' sound is side few replied says after =
+    rest_goes_on fresh between past (Datagram at packet now) outcome table made course course' tt after is replied says
+step_goes_on fresh between past (Poll at) outcome table made course course' sound is side few replied says after =
+    rest_goes_on fresh between past (Poll at) outcome table made course course' tt after is replied says
+step_goes_on fresh between past (Drain at) outcome table made course course' sound is side few replied says after =
+    rest_goes_on fresh between past (Drain at) outcome table made course course' tt after is replied says
+step_goes_on fresh between past (Close at) outcome table made course course' sound is side few replied says after =
+    rest_goes_on fresh between past (Close at) outcome table made course course' tt after is replied says
 
 -- ---- pasts
 
@@ -59,10 +70,10 @@ follow_last None (first ∷ steps) step = refl
 follow_last (Some course) (first ∷ steps) step = follow_last (after_step course first) steps step
 
 -- no steps are in their course
-pub none_in_course : (course : Course) → course_of [] ≡ Some course → (InCourse course []) × (course.phase ≡ Idle)
-none_in_course course is =
+pub none_in_course : (E : Type 0) (course : Course) → course_of [] ≡ Some course → (InCourse {E = E} course []) × (course.phase ≡ Idle)
+none_in_course E course is =
     let same : record { left = []; right = []; sdps = 0; phase = Idle } ≡ course = cc in
-    subst (λ (c : Course). (InCourse c []) × (c.phase ≡ Idle)) same (record { count = refl; sides = bare; phase = tt }, refl)
+    subst (λ (c : Course). (InCourse {E = E} c []) × (c.phase ≡ Idle)) same (record { count = refl; sides = bare; phase = tt }, refl)
   where
     bare : (side : Side) → IsSideOf (course_rows side (record { left = []; right = []; sdps = 0; phase = Idle })) []
     bare Left = record { are = refl; live = tt }
@@ -81,7 +92,7 @@ equal_lines rows others same = absurd same
 pub in_step : (rows others : List LineRow) (sides : Stances) → Aligned rows others → ((at : Side) → AreCurrent sides at) → AreInStep rows others sides
 in_step rows others sides same current = record { equal = equal_lines rows others same; app = app_mid-aligned rows others same; current = current }
 
-pub idle_aligned : (phase : Phase) (past : List Entry) → IsIdle phase → InPhase phase past → Aligned (before Left past) (before Right past)
+pub idle_aligned : {E : Type 0} → (phase : Phase) (past : List (Entry E)) → IsIdle phase → InPhase phase past → Aligned (before Left past) (before Right past)
 idle_aligned Idle past idle same = same
 idle_aligned (AwaitsAnswer side n said) past idle out = absurd idle
 idle_aligned (AwaitsEnd side n m said) past idle out = absurd idle

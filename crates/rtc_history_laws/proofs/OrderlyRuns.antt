@@ -9,7 +9,7 @@ use Rattle.rtc_history.specs.declared.side.Side.{Side}
 use Rattle.rtc_history.specs.declared.side.Side.TheVariants.{Left, Right}
 use Rattle.rtc_history.specs.declared.kept.Kept.{Kept}
 use Rattle.rtc_history.specs.declared.step.Step.{Step}
-use Rattle.rtc_history.specs.declared.step.Step.TheVariants.{Negotiate, AcceptOffer, AcceptAnswer}
+use Rattle.rtc_history.specs.declared.step.Step.TheVariants.{Negotiate, AcceptOffer, AcceptAnswer, Time, Datagram, Poll, Drain, Close}
 use Rattle.rtc_history.specs.Sides.{same_side, other_side}
 use Rattle.rtc_history.specs.Past.{Entry, sdp_for, remote_sdp, restarts_by}
 use Rattle.rtc_history.specs.Orderly.{Phase, Course, after_step, can_connect}
@@ -61,13 +61,13 @@ lites_apart fresh connect Right = by (fresh Left).ice.lite (fresh Right).ice.lit
 -- ---- no cause that rests on a side holds
 
 -- what is known before a step of orderly steps
-pub record IsOnCourse (fresh : Stances) (past : List Entry) (pair : PairStance) (course : Course) : Type 0 where
+pub record IsOnCourse {E : Type 0} (fresh : Stances) (past : List (Entry E)) (pair : PairStance) (course : Course) : Type 0 where
   pub tells : Tells past pair
   pub sees : (at : Side) → SideSees fresh past at (pair.sides at)
   pub course_is : InCourse course past
   pub round : InRound course.phase pair
 
-offer_side : (fresh : Stances) (past : List Entry) (pair : PairStance) (side : Side) (k : ℕ) → can_connect fresh ≡ true → Tells past pair → ((at : Side) → SideSees fresh past at (pair.sides at)) → IsOfferOut side k pair
+offer_side : {E : Type 0} → (fresh : Stances) (past : List (Entry E)) (pair : PairStance) (side : Side) (k : ℕ) → can_connect fresh ≡ true → Tells past pair → ((at : Side) → SideSees fresh past at (pair.sides at)) → IsOfferOut side k pair
     → SidePasses fresh pair.sides past (AcceptOffer (other_side side) k)
 offer_side fresh past pair side k connect tells sees out =
     λ sdp is.
@@ -80,7 +80,7 @@ offer_side fresh past pair side k connect tells sees out =
     remote_told : (sdp : Sdp) → remote_sdp true (other_side side) k past ≡ Some sdp → Some sdp ≡ kept_remote_sdp true pair.sdps (other_side side) k
     remote_told sdp is = sym is ∙ ap (sdp_for true (other_side side)) (said_at past pair k tells.says)
 
-answer_side : (fresh : Stances) (past : List Entry) (pair : PairStance) (at : Side) (t a : ℕ) → can_connect fresh ≡ true → Tells past pair → ((side : Side) → SideSees fresh past side (pair.sides side)) → IsAnswerOut at t a pair
+answer_side : {E : Type 0} → (fresh : Stances) (past : List (Entry E)) (pair : PairStance) (at : Side) (t a : ℕ) → can_connect fresh ≡ true → Tells past pair → ((side : Side) → SideSees fresh past side (pair.sides side)) → IsAnswerOut at t a pair
     → SidePasses fresh pair.sides past (AcceptAnswer at t a)
 answer_side fresh past pair at t a connect tells sees out =
     λ sdp is.
@@ -95,7 +95,7 @@ answer_side fresh past pair at t a connect tells sees out =
     remote_told : (sdp : Sdp) → remote_sdp false at a past ≡ Some sdp → Some sdp ≡ kept_remote_sdp false pair.sdps at a
     remote_told sdp is = sym is ∙ ap (sdp_for false at) (said_at past pair a tells.says)
 
-pub step_side : (fresh : Stances) (past : List Entry) (pair : PairStance) (step : Step) (course course' : Course) → can_connect fresh ≡ true → IsOnCourse fresh past pair course → after_step course step ≡ Some course'
+pub step_side : {E : Type 0} → (fresh : Stances) (past : List (Entry E)) (pair : PairStance) (step : Step) (course course' : Course) → can_connect fresh ≡ true → IsOnCourse fresh past pair course → after_step course step ≡ Some course'
     → SidePasses fresh pair.sides past step
 step_side fresh past pair (Negotiate at ops apply) course course' connect on after = tt
 step_side fresh past pair (AcceptOffer at k) course course' connect on after =
@@ -105,3 +105,8 @@ step_side fresh past pair (AcceptOffer at k) course course' connect on after =
 step_side fresh past pair (AcceptAnswer at t a) course course' connect on after =
     let it = end_course at t a course course.phase course' after in
     answer_side fresh past pair at t a connect on.tells on.sees (subst (λ (phase : Phase). InRound phase pair) it.phase_is on.round)
+step_side fresh past pair (Time at now) course course' connect on after = tt
+step_side fresh past pair (Datagram at packet now) course course' connect on after = tt
+step_side fresh past pair (Poll at) course course' connect on after = tt
+step_side fresh past pair (Drain at) course course' connect on after = tt
+step_side fresh past pair (Close at) course course' connect on after = tt

@@ -15,7 +15,7 @@ use Rattle.rtc_history.specs.Past.{Entry, MadeSdp, before, steps_of}
 use Rattle.rtc_history.specs.Sound.{IsSound}
 use Rattle.rtc_history.specs.SaidRows.{MakesSdp}
 use Rattle.rtc_history.specs.SoundEntry.{IsSoundEntry}
-use Rattle.rtc_history.specs.Orderly.{Phase, Idle, AwaitsAnswer, AwaitsEnd, Course, course_of, after_step, has_failed, can_connect, IsIdle, AreCurrent, OkWhereOrderly, InStepWhereOrderly}
+use Rattle.rtc_history.specs.Orderly.{Phase, Idle, AwaitsAnswer, AwaitsEnd, Course, course_of, after_step, has_failed, can_connect, IsIdle, AreCurrent, OkWhereOrderly, InStepWhereOrderly, negotiates}
 use Rattle.rtc_history_laws.proofs.StanceSteps.{PairStance, StancePerforms, StanceEnters, made_by}
 use Rattle.rtc_history_laws.proofs.StanceRuns.{IsFreshStance, StanceReached, StanceRan, ran_reached, ran_sound}
 use Rattle.rtc_history_laws.proofs.SoundPasts.{Sound}
@@ -40,19 +40,19 @@ fresh_current : (start : PairStance) → IsFreshStance start → (side : Side) �
 fresh_current start fresh side = rw (fresh.built side).remote tt
 
 -- a past that is in its course, and its pair in its round
-pub record IsOrderly (past : List Entry) (pair : PairStance) (course : Course) : Type 0 where
+pub record IsOrderly {E : Type 0} (past : List (Entry E)) (pair : PairStance) (course : Course) : Type 0 where
   pub course_is : InCourse course past
   pub round : InRound course.phase pair
 
 -- what a step that is performed is known to be, where its entry is sound
-pub record IsStep (start : PairStance) (past : List Entry) (old new : PairStance) (step : Step) (outcome : Outcome) (table : Option Table) (made : List MadeSdp) : Type 0 where
+pub record IsStep {E : Type 0} (start : PairStance) (past : List (Entry E)) (old new : PairStance) (step : Step) (outcome : Outcome E) (table : Option Table) (made : List MadeSdp) : Type 0 where
   pub performs : StancePerforms old step outcome table new
   pub made_is : made ≡ made_by old new
   pub small : new.size < 2 ^ 32
   pub replied : IsSound start.sides past old.sides step outcome table made
   pub says : MakesSdp step outcome table made
 
-on_course : (start old : PairStance) (past : List Entry) (course : Course) → IsFreshStance start → StanceReached start past old → old.size < 2 ^ 32 → IsOrderly past old course → IsOnCourse start.sides past old course
+on_course : {E : Type 0} → (start old : PairStance) (past : List (Entry E)) (course : Course) → IsFreshStance start → StanceReached start past old → old.size < 2 ^ 32 → IsOrderly past old course → IsOnCourse start.sides past old course
 on_course start old past course fresh reached small is = record {
   tells = reached_tells start old past fresh reached small;
   sees = reached_sees start old past fresh reached small;
@@ -61,8 +61,8 @@ on_course start old past course fresh reached small is = record {
 }
 
 -- a step that is in order goes on in the course
-step_goes : (start old new : PairStance) (past : List Entry) (step : Step) (outcome : Outcome) (table : Option Table) (made : List MadeSdp) (course course' : Course) → IsFreshStance start → can_connect start.sides ≡ true → StanceRan start past old
-    → IsStep start past old new step outcome table made → IsOrderly past old course → after_step course step ≡ Some course' → GoesOn outcome course' (entry step outcome table made ∷ past)
+step_goes : {E : Type 0} → (start old new : PairStance) (past : List (Entry E)) (step : Step) (outcome : Outcome E) (table : Option Table) (made : List MadeSdp) (course course' : Course) → IsFreshStance start → can_connect start.sides ≡ true → StanceRan start past old
+    → IsStep start past old new step outcome table made → IsOrderly past old course → after_step course step ≡ Some course' → GoesOn (negotiates step) outcome course' (entry step outcome table made ∷ past)
 step_goes start old new past step outcome table made course course' fresh connect ran is orderly after =
     let reached : StanceReached start past old = ran_reached start past old ran in
     let around : Around step made old new = around_of old new step outcome table made is.performs is.made_is is.small in
@@ -73,7 +73,7 @@ step_goes start old new past step outcome table made course course' fresh connec
     (step_side start.sides past old step course course' connect on after) few is.replied is.says after
 
 -- and its pair in the round
-step_orderly : (start old new : PairStance) (past : List Entry) (step : Step) (outcome : Outcome) (table : Option Table) (made : List MadeSdp) (course course' : Course) → IsFreshStance start → can_connect start.sides ≡ true → StanceRan start past old
+step_orderly : {E : Type 0} → (start old new : PairStance) (past : List (Entry E)) (step : Step) (outcome : Outcome E) (table : Option Table) (made : List MadeSdp) (course course' : Course) → IsFreshStance start → can_connect start.sides ≡ true → StanceRan start past old
     → IsStep start past old new step outcome table made → IsOrderly past old course → after_step course step ≡ Some course' → fails outcome ≡ false → IsOrderly (entry step outcome table made ∷ past) new course'
 step_orderly start old new past step outcome table made course course' fresh connect ran is orderly after enough =
     let reached : StanceReached start past old = ran_reached start past old ran in
@@ -88,7 +88,7 @@ step_orderly start old new past step outcome table made course course' fresh con
     }
 
 -- the same of a past with one more entry
-last_orderly : (start old new : PairStance) (past : List Entry) (last : Entry) (course : Course) → IsFreshStance start → can_connect start.sides ≡ true → StanceRan start past old
+last_orderly : {E : Type 0} → (start old new : PairStance) (past : List (Entry E)) (last : Entry E) (course : Course) → IsFreshStance start → can_connect start.sides ≡ true → StanceRan start past old
     → IsStep start past old new last.step last.outcome last.table last.made → ((c : Course) → course_of (steps_of past) ≡ Some c → IsOrderly past old c) → fails last.outcome ≡ false
     → course_of (steps_of (last ∷ past)) ≡ Some course → IsOrderly (last ∷ past) new course
 last_orderly start old new past last course fresh connect ran is earlier enough orderly =
@@ -99,16 +99,16 @@ last_orderly start old new past last course fresh connect ran is earlier enough 
     by (Some c) before_it after = step_orderly start old new past last.step last.outcome last.table last.made c course fresh connect ran is (earlier c before_it) after enough
 
 -- Every past of orderly steps, where nothing failed, is in its course, and its pair in its round.
-pub ran_orderly : (start pair : PairStance) (past : List Entry) (course : Course) → IsFreshStance start → can_connect start.sides ≡ true → StanceRan start past pair → pair.size < 2 ^ 32 → has_failed past ≡ false
+pub ran_orderly : {E : Type 0} → (start pair : PairStance) (past : List (Entry E)) (course : Course) → IsFreshStance start → can_connect start.sides ≡ true → StanceRan start past pair → pair.size < 2 ^ 32 → has_failed past ≡ false
     → course_of (steps_of past) ≡ Some course → IsOrderly past pair course
-ran_orderly start pair [] course fresh connect ran small enough is =
-    let none = none_in_course course is in
+ran_orderly {E} start pair [] course fresh connect ran small enough is =
+    let none = none_in_course E course is in
     let same : pair ≡ start = ran in
     record {
       course_is = none.0;
       round = subst (λ (phase : Phase). InRound phase pair) (sym none.1) (rw same (fresh_current start fresh));
     }
-ran_orderly start pair (last ∷ past) course fresh connect ran small enough is =
+ran_orderly {E} start pair (last ∷ past) course fresh connect ran small enough is =
     let parts = or_parts (fails last.outcome) (has_failed past) enough in
     let enters : StanceEnters ran.0 last pair = ran.2.0 in
     let sound : IsSoundEntry start.sides past ran.0.sides last pair.sides = ran.2.1 in
@@ -117,18 +117,18 @@ ran_orderly start pair (last ∷ past) course fresh connect ran small enough is 
     (λ c before_it. ran_orderly start ran.0 past c fresh connect ran.1 (small_before ran.0 pair last enters small) parts.1 before_it) parts.0 is
 
 -- Orderly steps give their Ok up to the first failure.
-ok_where_orderly : (start old new : PairStance) (past : List Entry) (step : Step) (outcome : Outcome) (table : Option Table) (made : List MadeSdp) → IsFreshStance start → StanceRan start past old → old.size < 2 ^ 32
+ok_where_orderly : {E : Type 0} → (start old new : PairStance) (past : List (Entry E)) (step : Step) (outcome : Outcome E) (table : Option Table) (made : List MadeSdp) → IsFreshStance start → StanceRan start past old → old.size < 2 ^ 32
     → IsStep start past old new step outcome table made → OkWhereOrderly start.sides past step outcome
 ok_where_orderly start old new past step outcome table made fresh ran small is =
-    λ connect orderly enough. by connect enough (course_of (steps_of past)) refl (ap is_some (sym (follow_last (Some start_course) (steps_of past) step)) ∙ orderly)
+    λ negotiating connect orderly enough. by negotiating connect enough (course_of (steps_of past)) refl (ap is_some (sym (follow_last (Some start_course) (steps_of past) step)) ∙ orderly)
   where
-    of_step : can_connect start.sides ≡ true → (c : Course) → IsOrderly past old c → (found : Option Course) → after_step c step ≡ found → is_some found ≡ true → IsOkOrFails outcome
-    of_step connect c on None after some = absurd (cc)
-    of_step connect c on (Some course) after some = (step_goes start old new past step outcome table made c course fresh connect ran is on after).ok
+    of_step : negotiates step ≡ true → can_connect start.sides ≡ true → (c : Course) → IsOrderly past old c → (found : Option Course) → after_step c step ≡ found → is_some found ≡ true → IsOkOrFails outcome
+    of_step negotiating connect c on None after some = absurd (cc)
+    of_step negotiating connect c on (Some course) after some = (step_goes start old new past step outcome table made c course fresh connect ran is on after).ok negotiating
 
-    by : can_connect start.sides ≡ true → has_failed past ≡ false → (found : Option Course) → course_of (steps_of past) ≡ found → is_some (next_of found step) ≡ true → IsOkOrFails outcome
-    by connect enough None before_it some = absurd (cc)
-    by connect enough (Some c) before_it some = of_step connect c (ran_orderly start old past c fresh connect ran small enough before_it) (after_step c step) refl some
+    by : negotiates step ≡ true → can_connect start.sides ≡ true → has_failed past ≡ false → (found : Option Course) → course_of (steps_of past) ≡ found → is_some (next_of found step) ≡ true → IsOkOrFails outcome
+    by negotiating connect enough None before_it some = absurd (cc)
+    by negotiating connect enough (Some c) before_it some = of_step negotiating connect c (ran_orderly start old past c fresh connect ran small enough before_it) (after_step c step) refl some
 
 idle_current : (phase : Phase) (pair : PairStance) → IsIdle phase → InRound phase pair → (at : Side) → AreCurrent pair.sides at
 idle_current Idle pair idle out = out
@@ -136,7 +136,7 @@ idle_current (AwaitsAnswer side n said) pair idle out = absurd idle
 idle_current (AwaitsEnd side n m said) pair idle out = absurd idle
 
 -- Where nothing is outstanding after orderly steps, the sides are in step.
-in_step_where_orderly : (start old new : PairStance) (past : List Entry) (last : Entry) → IsFreshStance start → StanceRan start past old → old.size < 2 ^ 32
+in_step_where_orderly : {E : Type 0} → (start old new : PairStance) (past : List (Entry E)) (last : Entry E) → IsFreshStance start → StanceRan start past old → old.size < 2 ^ 32
     → IsStep start past old new last.step last.outcome last.table last.made → InStepWhereOrderly start.sides (last ∷ past) new.sides
 in_step_where_orderly start old new past last fresh ran small is =
     λ course connect orderly idle enough.
@@ -145,7 +145,7 @@ in_step_where_orderly start old new past last fresh ran small is =
     in_step (before Left (last ∷ past)) (before Right (last ∷ past)) new.sides (idle_aligned course.phase (last ∷ past) idle on.course_is.phase) (idle_current course.phase new idle on.round)
 
 -- The entry of a step of a pair that soundly ran is sound.
-pub sound_next : (start old new : PairStance) (past : List Entry) (step : Step) (outcome : Outcome) (table : Option Table)
+pub sound_next : {E : Type 0} → (start old new : PairStance) (past : List (Entry E)) (step : Step) (outcome : Outcome E) (table : Option Table)
     → IsFreshStance start → StanceRan start past old → StancePerforms old step outcome table new → new.size < 2 ^ 32 → IsSoundEntry start.sides past old.sides (entry step outcome table (made_by old new)) new.sides
 sound_next start old new past step outcome table fresh ran performs small =
     let reached : StanceReached start past old = ran_reached start past old ran in

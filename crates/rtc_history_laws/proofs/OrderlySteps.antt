@@ -8,7 +8,7 @@ use Rattle.rtc_change.specs.Plans.{verdict, side_verdict}
 use Rattle.rtc_peer_state.specs.declared.rtc_error.RtcError.TheVariants.{RemoteSdp, Sdp as SdpRefused, Alloc as PeerAlloc, Dtls, Sctp}
 use Rattle.rtc_history.specs.declared.side.Side.{Side}
 use Rattle.rtc_history.specs.declared.op.Op.{Op}
-use Rattle.rtc_history.specs.declared.step.Step.TheVariants.{Negotiate, AcceptOffer, AcceptAnswer}
+use Rattle.rtc_history.specs.declared.step.Step.TheVariants.{Negotiate, AcceptOffer, AcceptAnswer, Time, Datagram, Poll, Drain, Close}
 use Rattle.rtc_history.specs.declared.outcome.Outcome.{Outcome}
 use Rattle.rtc_history.specs.declared.outcome.Outcome.TheVariants.{Negotiated, Answered, Finished, Refused, Alloc}
 use Rattle.rtc_history.specs.declared.table.Table.{Table}
@@ -33,10 +33,10 @@ use Rattle.rtc_peer_state.specs.Stance.{held_by}
 
 -- ---- each outcome that may come is an Ok or tells a want of memory or a fault
 
-abbrev pub IsOkOrFails : Outcome → Type 0
+abbrev pub IsOkOrFails : {E : Type 0} → Outcome E → Type 0
 IsOkOrFails outcome = (is_ok outcome || fails outcome) ≡ true
 
-pub negotiated_ok : (fresh between : Stances) (past : List Entry) (at : Side) (ops : List Op) (apply : Bool) (outcome : Outcome) (table : Option Table) (made : List MadeSdp) (course course' : Course) (rows : List LineRow)
+pub negotiated_ok : {E : Type 0} → (fresh between : Stances) (past : List (Entry E)) (at : Side) (ops : List Op) (apply : Bool) (outcome : Outcome E) (table : Option Table) (made : List MadeSdp) (course course' : Course) (rows : List LineRow)
     → steps_size (steps_of past) + length ops < 2 ^ 64 - 1 → after_ops apply at ops course rows ≡ Some course' → IsSound fresh past between (Negotiate at ops apply) outcome table made → IsOkOrFails outcome
 negotiated_ok fresh between past at ops apply Alloc None made course course' rows few after replied = refl
 negotiated_ok fresh between past at ops apply (Negotiated answers what) (Some table) made course course' rows few after replied =
@@ -46,7 +46,7 @@ negotiated_ok fresh between past at ops apply (Negotiated answers what) (Some ta
 negotiated_ok fresh between past at ops apply outcome table made course course' rows few after replied = absurd replied
 
 -- an offer that is not refused is answered, where nothing fails
-offer_answers : (sdp : Option Sdp) (said : Sdp) (view : Held) (next : ℕ) (outcome : Outcome) (after : List LineRow) → sdp ≡ Some said → verdict view None said ≡ None → RepliesToOffer sdp view next outcome after
+offer_answers : {E : Type 0} → (sdp : Option Sdp) (said : Sdp) (view : Held) (next : ℕ) (outcome : Outcome E) (after : List LineRow) → sdp ≡ Some said → verdict view None said ≡ None → RepliesToOffer sdp view next outcome after
     → fails outcome ≡ false → (j : ℕ) × (outcome ≡ Answered j)
 offer_answers None said view next outcome after is passes takes enough = absurd (cc)
 offer_answers (Some sdp) said view next (Answered k) after is passes takes enough = (k, refl)
@@ -58,7 +58,7 @@ offer_answers (Some sdp) said view next (Refused PeerAlloc) after is passes take
 offer_answers (Some sdp) said view next outcome after is passes takes enough = absurd takes
 
 -- an answer that is not refused finishes, where nothing fails
-answer_finishes : (held right : Bool) (asked : Asked) (sdp : Option Sdp) (said : Sdp) (view : Held) (outcome : Outcome) (after : List LineRow) → held ≡ true → right ≡ true → sdp ≡ Some said
+answer_finishes : {E : Type 0} → (held right : Bool) (asked : Asked) (sdp : Option Sdp) (said : Sdp) (view : Held) (outcome : Outcome E) (after : List LineRow) → held ≡ true → right ≡ true → sdp ≡ Some said
     → verdict view (Some asked) said ≡ None → RepliesToAnswer held right asked sdp view outcome after → fails outcome ≡ false → outcome ≡ Finished
 answer_finishes false right asked sdp said view outcome after held_is right_is is passes takes enough = absurd (cc)
 answer_finishes true false asked sdp said view outcome after held_is right_is is passes takes enough = absurd (cc)
@@ -72,7 +72,7 @@ answer_finishes true true asked (Some sdp) said view (Refused PeerAlloc) after h
 answer_finishes true true asked (Some sdp) said view outcome after held_is right_is is passes takes enough = absurd takes
 
 -- a step that gives its Ok where nothing fails gives it or tells what failed
-ok_or_fails : (outcome : Outcome) → (fails outcome ≡ false → is_ok outcome ≡ true) → IsOkOrFails outcome
+ok_or_fails : {E : Type 0} → (outcome : Outcome E) → (fails outcome ≡ false → is_ok outcome ≡ true) → IsOkOrFails outcome
 ok_or_fails outcome enough = by (fails outcome) refl
   where
     or_true : (b : Bool) → (b || true) ≡ true
@@ -85,42 +85,47 @@ ok_or_fails outcome enough = by (fails outcome) refl
 
 -- ---- each acceptance in its phase
 
--- What a step in order comes to: its Ok or a failure, and where nothing fails, the course goes on.
-pub record GoesOn (outcome : Outcome) (course : Course) (past : List Entry) : Type 0 where
-  pub ok : IsOkOrFails outcome
+-- What a step in order comes to: its Ok or a failure, where it negotiates; and where nothing fails, the course goes on.
+pub record GoesOn {E : Type 0} (negotiating : Bool) (outcome : Outcome E) (course : Course) (past : List (Entry E)) : Type 0 where
+  pub ok : negotiating ≡ true → IsOkOrFails outcome
   pub next : fails outcome ≡ false → InCourse course past
 
 -- The offer or answer that a step delivers tells of its side what it has to.
-abbrev pub SidePasses : Stances → Stances → List Entry → Step → Type 0
+abbrev pub SidePasses : {E : Type 0} → Stances → Stances → List (Entry E) → Step → Type 0
 SidePasses fresh between past (Negotiate at ops apply) = Unit {0}
 SidePasses fresh between past (AcceptOffer at k) =
     (sdp : Sdp) → remote_sdp true at k past ≡ Some sdp → side_verdict (view_in fresh at past (held_by (between at))) true sdp ≡ None
 SidePasses fresh between past (AcceptAnswer at t a) =
     (sdp : Sdp) → remote_sdp false at a past ≡ Some sdp → side_verdict (view_in fresh at past (held_by (between at))) (restarts_by t past) sdp ≡ None
+SidePasses fresh between past (Time at now) = Unit {0}
+SidePasses fresh between past (Datagram at packet now) = Unit {0}
+SidePasses fresh between past (Poll at) = Unit {0}
+SidePasses fresh between past (Drain at) = Unit {0}
+SidePasses fresh between past (Close at) = Unit {0}
 
 -- the course after the other side accepts an offer
 abbrev pub accepted_course : Side → ℕ → List LineRow → Course → Course
 accepted_course at n rows course = moved_on (other_side at) course rows (course.sdps + 1) (AwaitsEnd at n course.sdps rows)
 
-pub accept_goes_on : (fresh between : Stances) (past : List Entry) (at : Side) (n : ℕ) (said : List LineRow) (course : Course) (outcome : Outcome) (table : Option Table) (made : List MadeSdp) → Sound fresh past → InCourse course past → IsOffered at n said past → SidePasses fresh between past (AcceptOffer (other_side at) n)
+pub accept_goes_on : {E : Type 0} → (fresh between : Stances) (past : List (Entry E)) (at : Side) (n : ℕ) (said : List LineRow) (course : Course) (outcome : Outcome E) (table : Option Table) (made : List MadeSdp) → Sound fresh past → InCourse course past → IsOffered at n said past → SidePasses fresh between past (AcceptOffer (other_side at) n)
     → IsSound fresh past between (AcceptOffer (other_side at) n) outcome table made → MakesSdp (AcceptOffer (other_side at) n) outcome table made
-    → GoesOn outcome (accepted_course at n (course_rows_after true 0 (course_rows (other_side at) course) said) course) (entry (AcceptOffer (other_side at) n) outcome table made ∷ past)
-accept_goes_on fresh between past at n said course Alloc None made sound is out side replied says = record { ok = refl; next = λ enough. absurd (cc) }
-accept_goes_on fresh between past at n said course outcome (Some table) made sound is out side replied says =
+    → GoesOn true outcome (accepted_course at n (course_rows_after true 0 (course_rows (other_side at) course) said) course) (entry (AcceptOffer (other_side at) n) outcome table made ∷ past)
+accept_goes_on fresh between past at n said course Alloc None made sound is out side replied says = record { ok = λ negotiating. refl; next = λ enough. absurd (cc) }
+accept_goes_on {E} fresh between past at n said course outcome (Some table) made sound is out side replied says =
     let may : MayAccept out.offer at n past = may_accept fresh at n said past sound out in
     let passes = accept_passes fresh at n said past (view_in fresh (other_side at) past (held_by (between (other_side at)))) sound out refl (side out.offer.sdp may.remote_is) in
     let takes = offer_taking fresh between past (other_side at) n outcome table made replied in
     let comes : fails outcome ≡ false → (j : ℕ) × (outcome ≡ Answered j) =
     offer_answers (remote_sdp true (other_side at) n past) out.offer.sdp (view_in fresh (other_side at) past (held_by (between (other_side at)))) (length (sdps past)) outcome table.lines may.remote_is passes takes in
-    record { ok = ok_or_fails outcome (λ enough. ap is_ok (comes enough).1); next = λ enough. by (comes enough).0 outcome (comes enough).1 replied says }
+    record { ok = λ negotiating. ok_or_fails outcome (λ enough. ap is_ok (comes enough).1); next = λ enough. by (comes enough).0 outcome (comes enough).1 replied says }
   where
     rows : List LineRow
     rows = course_rows_after true 0 (course_rows (other_side at) course) said
 
-    by : (j : ℕ) (outcome : Outcome) → outcome ≡ Answered j → IsSound fresh past between (AcceptOffer (other_side at) n) outcome (Some table) made → MakesSdp (AcceptOffer (other_side at) n) outcome (Some table) made
+    by : (j : ℕ) (outcome : Outcome E) → outcome ≡ Answered j → IsSound fresh past between (AcceptOffer (other_side at) n) outcome (Some table) made → MakesSdp (AcceptOffer (other_side at) n) outcome (Some table) made
         → InCourse (accepted_course at n rows course) (entry (AcceptOffer (other_side at) n) outcome (Some table) made ∷ past)
     by j outcome same =
-        subst (λ (o : Outcome). IsSound fresh past between (AcceptOffer (other_side at) n) o (Some table) made → MakesSdp (AcceptOffer (other_side at) n) o (Some table) made
+        subst (λ (o : Outcome E). IsSound fresh past between (AcceptOffer (other_side at) n) o (Some table) made → MakesSdp (AcceptOffer (other_side at) n) o (Some table) made
         → InCourse (accepted_course at n rows course) (entry (AcceptOffer (other_side at) n) o (Some table) made ∷ past)) (sym same)
         (λ replied says.
         let next = accepted_next fresh between at n course.sdps said (course_rows (other_side at) course) past j table made sound out (is.sides (other_side at)) (sym is.count) replied says in
@@ -128,25 +133,25 @@ accept_goes_on fresh between past at n said course outcome (Some table) made sou
         (length-append (sdps past) made ∙ ap (λ (k : ℕ). length (sdps past) + k) (ap length says.one) ∙ ap (λ (k : ℕ). k + 1) is.count) next.phase)
 accept_goes_on fresh between past at n said course outcome table made sound is out side replied says = absurd replied
 
-pub end_goes_on : (fresh between : Stances) (past : List Entry) (at : Side) (n m : ℕ) (said : List LineRow) (course : Course) (outcome : Outcome) (table : Option Table) (made : List MadeSdp) → Sound fresh past → InCourse course past → IsAnswered at n m said past → SidePasses fresh between past (AcceptAnswer at n m)
+pub end_goes_on : {E : Type 0} → (fresh between : Stances) (past : List (Entry E)) (at : Side) (n m : ℕ) (said : List LineRow) (course : Course) (outcome : Outcome E) (table : Option Table) (made : List MadeSdp) → Sound fresh past → InCourse course past → IsAnswered at n m said past → SidePasses fresh between past (AcceptAnswer at n m)
     → IsSound fresh past between (AcceptAnswer at n m) outcome table made → MakesSdp (AcceptAnswer at n m) outcome table made
-    → GoesOn outcome (moved_on at course (course_rows_after false 0 (course_rows at course) said) course.sdps Idle) (entry (AcceptAnswer at n m) outcome table made ∷ past)
-end_goes_on fresh between past at n m said course Alloc None made sound is out side replied says = record { ok = refl; next = λ enough. absurd (cc) }
-end_goes_on fresh between past at n m said course outcome (Some table) made sound is out side replied says =
+    → GoesOn true outcome (moved_on at course (course_rows_after false 0 (course_rows at course) said) course.sdps Idle) (entry (AcceptAnswer at n m) outcome table made ∷ past)
+end_goes_on fresh between past at n m said course Alloc None made sound is out side replied says = record { ok = λ negotiating. refl; next = λ enough. absurd (cc) }
+end_goes_on {E} fresh between past at n m said course outcome (Some table) made sound is out side replied says =
     let may : MayEnd out.answer at n m past = may_end fresh at n m said past sound out in
     let passes = end_passes fresh at n m said past (view_in fresh at past (held_by (between at))) sound out refl (side out.answer.sdp may.remote_is) in
     let takes = answer_taking fresh between past at n m outcome table made replied in
     let comes : fails outcome ≡ false → outcome ≡ Finished =
     answer_finishes _ _ (asked_in at n past) _ out.answer.sdp (view_in fresh at past (held_by (between at))) outcome table.lines may.held may.right may.remote_is passes takes in
-    record { ok = ok_or_fails outcome (λ enough. ap is_ok (comes enough)); next = λ enough. by outcome (comes enough) replied says }
+    record { ok = λ negotiating. ok_or_fails outcome (λ enough. ap is_ok (comes enough)); next = λ enough. by outcome (comes enough) replied says }
   where
     rows : List LineRow
     rows = course_rows_after false 0 (course_rows at course) said
 
-    by : (outcome : Outcome) → outcome ≡ Finished → IsSound fresh past between (AcceptAnswer at n m) outcome (Some table) made → MakesSdp (AcceptAnswer at n m) outcome (Some table) made
+    by : (outcome : Outcome E) → outcome ≡ Finished → IsSound fresh past between (AcceptAnswer at n m) outcome (Some table) made → MakesSdp (AcceptAnswer at n m) outcome (Some table) made
         → InCourse (moved_on at course rows course.sdps Idle) (entry (AcceptAnswer at n m) outcome (Some table) made ∷ past)
     by outcome same =
-        subst (λ (o : Outcome). IsSound fresh past between (AcceptAnswer at n m) o (Some table) made → MakesSdp (AcceptAnswer at n m) o (Some table) made
+        subst (λ (o : Outcome E). IsSound fresh past between (AcceptAnswer at n m) o (Some table) made → MakesSdp (AcceptAnswer at n m) o (Some table) made
         → InCourse (moved_on at course rows course.sdps Idle) (entry (AcceptAnswer at n m) o (Some table) made ∷ past)) (sym same)
         (λ replied says.
         let next = ended_next fresh between at n m said (course_rows at course) past table made sound out (is.sides at) replied in

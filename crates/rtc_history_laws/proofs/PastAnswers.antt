@@ -32,7 +32,7 @@ pub record TookOffer (rows after : List LineRow) (offer sdp : Sdp) : Type 0 wher
   pub says : parsed_lines sdp ≡ map row_said after
 
 -- What a past says of the answer of a number to the offer of a number, by the other side than this one.
-pub record PastAnswer (at : Side) (t a : ℕ) (past : List Entry) : Type 0 where
+pub record PastAnswer {E : Type 0} (at : Side) (t a : ℕ) (past : List (Entry E)) : Type 0 where
   pub offer : Sdp
   pub sdp : Sdp
   pub offered : sdp_for true (other_side at) (slice_get (sdps past) t) ≡ Some offer
@@ -46,7 +46,7 @@ another Right Left other = refl
 another Right Right other = absurd (cc)
 
 -- What a step that made the answer of a number is.
-record AnswerEntry (past : List Entry) (entry : Entry) (side : Side) (t a : ℕ) : Type 0 where
+record AnswerEntry {E : Type 0} (past : List (Entry E)) (entry : Entry E) (side : Side) (t a : ℕ) : Type 0 where
   offer : Sdp
   sdp : Sdp
   offered : remote_sdp true side t past ≡ Some offer
@@ -62,17 +62,17 @@ pub record Answers (sdp : Option Sdp) (view : Held) (next k : ℕ) (after : List
   pub leaves : after ≡ table_after view.lines (parsed_lines offer) true
   pub count : k ≡ next
 
-pub answered : (sdp : Option Sdp) (view : Held) (next k : ℕ) (after : List LineRow) → RepliesToOffer sdp view next (Answered k) after → Answers sdp view next k after
-answered None view next k after takes = absurd takes
-answered (Some sdp) view next k after takes = record { offer = sdp; is = refl; passes = takes.0; leaves = takes.1; count = takes.2 }
+pub answered : (E : Type 0) (sdp : Option Sdp) (view : Held) (next k : ℕ) (after : List LineRow) → RepliesToOffer {E = E} sdp view next (Answered k) after → Answers sdp view next k after
+answered E None view next k after takes = absurd takes
+answered E (Some sdp) view next k after takes = record { offer = sdp; is = refl; passes = takes.0; leaves = takes.1; count = takes.2 }
 
-answer_entry : (fresh : Stances) (past : List Entry) (entry : Entry) (at : Side) (t a : ℕ) → IsSoundIn fresh past entry → makes_answer at t a entry ≡ true → AnswerEntry past entry (other_side at) t a
-answer_entry fresh past entry at t a sound makes_it = by sound.between entry.step entry.outcome entry.table entry.made sound.sound.replied sound.sound.made makes_it
+answer_entry : {E : Type 0} → (fresh : Stances) (past : List (Entry E)) (entry : Entry E) (at : Side) (t a : ℕ) → IsSoundIn fresh past entry → makes_answer at t a entry ≡ true → AnswerEntry past entry (other_side at) t a
+answer_entry {E} fresh past entry at t a sound makes_it = by sound.between entry.step entry.outcome entry.table entry.made sound.sound.replied sound.sound.made makes_it
   where
-    here : (between : Stances) (side : Side) (offer k : ℕ) (table : Table) (made : List MadeSdp) → IsSound fresh past between (AcceptOffer side offer) (Answered k) (Some table) made → MakesSdp (AcceptOffer side offer) (Answered k) (Some table) made
+    here : (between : Stances) (side : Side) (offer k : ℕ) (table : Table) (made : List MadeSdp) → IsSound fresh past between (AcceptOffer side offer) (Answered k) (Some table) made → MakesSdp {E = E} (AcceptOffer side offer) (Answered k) (Some table) made
         → AnswerEntry past (record { step = AcceptOffer side offer; outcome = Answered k; table = Some table; made = made }) side offer k
     here between side offer k table made replied sdp =
-        let it = answered (remote_sdp true side offer past) (view_in fresh side past (held_by (between side))) (length (sdps past)) k table.lines replied.0 in
+        let it = answered E (remote_sdp true side offer past) (view_in fresh side past (held_by (between side))) (length (sdps past)) k table.lines replied.0 in
         record {
           offer = it.offer;
           sdp = sdp.sdp;
@@ -82,7 +82,7 @@ answer_entry fresh past entry at t a sound makes_it = by sound.between entry.ste
           took = rw (same_side-self side) (record { leaves = it.leaves; says = sdp.says });
         }
 
-    by : (between : Stances) (step : Step) (outcome : Outcome) (table : Option Table) (made : List MadeSdp) → IsSound fresh past between step outcome table made → MakesSdp step outcome table made → is_answer_to at t a step outcome ≡ true
+    by : (between : Stances) (step : Step) (outcome : Outcome E) (table : Option Table) (made : List MadeSdp) → IsSound fresh past between step outcome table made → MakesSdp step outcome table made → is_answer_to at t a step outcome ≡ true
         → AnswerEntry past (record { step = step; outcome = outcome; table = table; made = made }) (other_side at) t a
     by between (AcceptOffer side offer) (Answered k) None made replied sdp makes_it = absurd replied
     by between (AcceptOffer side offer) (Answered k) (Some table) made replied sdp makes_it =
@@ -102,7 +102,7 @@ remote_stays at found more t offer there = by (slice_get found t) refl there
     by (Some said) is there = rw (stays_there found more t said is) there
 
 -- The answer of a number that is an offer's own.
-pub past_answer : (fresh : Stances) (at : Side) (t a : ℕ) (past : List Entry) → Sound fresh past → is_own at t a past ≡ true → PastAnswer at t a past
+pub past_answer : {E : Type 0} → (fresh : Stances) (at : Side) (t a : ℕ) (past : List (Entry E)) → Sound fresh past → is_own at t a past ≡ true → PastAnswer at t a past
 past_answer fresh at t a [] sound own = absurd (cc)
 past_answer fresh at t a (entry ∷ past) sound own = by (λ own. past_answer fresh at t a past sound.1 own) (makes_answer at t a entry) refl
   where

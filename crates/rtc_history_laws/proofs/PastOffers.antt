@@ -12,9 +12,9 @@ use Rattle.rtc_history.specs.declared.op_answer.OpAnswer.{OpAnswer}
 use Rattle.rtc_history.specs.declared.made.Made.{Made}
 use Rattle.rtc_history.specs.declared.made.Made.TheVariants.{NotAsked, Nothing, Offer, Alloc as MadeAlloc}
 use Rattle.rtc_history.specs.declared.step.Step.{Step}
-use Rattle.rtc_history.specs.declared.step.Step.TheVariants.{Negotiate, AcceptOffer, AcceptAnswer}
+use Rattle.rtc_history.specs.declared.step.Step.TheVariants.{Negotiate, AcceptOffer, AcceptAnswer, Time, Datagram, Poll, Drain, Close}
 use Rattle.rtc_history.specs.declared.outcome.Outcome.{Outcome}
-use Rattle.rtc_history.specs.declared.outcome.Outcome.TheVariants.{Negotiated, Answered, Finished, Refused, NoSuch, Alloc}
+use Rattle.rtc_history.specs.declared.outcome.Outcome.TheVariants.{Negotiated, Answered, Finished, Done, Polled, Refused, NoSuch, Alloc}
 use Rattle.rtc_history.specs.declared.table.Table.{Table}
 use Rattle.rtc_history.specs.Sides.{side_of}
 use Rattle.rtc_history.specs.Past.{Entry, MadeSdp, before, sdps, remote_sdp, is_offer_of, holds_token, is_right, moves, makes, new_app, added_in, added_by}
@@ -23,6 +23,7 @@ use Rattle.rtc_history.specs.Memory.{answers_lack}
 use Rattle.rtc_history.specs.Sound.{MadeOf, RepliesToOffer, RepliesToAnswer, IsSound, asked_in}
 use Rattle.rtc_history.specs.SaidRows.{row_said, MakesSdp}
 use Rattle.rtc_history.specs.Rounds.{makes_offer, rows_at_offer}
+use Rattle.rtc_history_laws.proofs.Rests.{no_rest}
 use Rattle.rtc_history_laws.proofs.SoundPasts.{IsSoundIn, Sound}
 use Rattle.rtc_history_laws.proofs.Tells.{same_side-self, same_side-true}
 use Rattle.rtc_history_laws.proofs.AddedRows.{AreAdded}
@@ -54,7 +55,7 @@ next_there (y ∷ xs) x (suc t) at = next_there xs x t (omega arith)
 -- ---- the step that made an offer
 
 -- What a step that made the offer of a number is.
-pub record OfferEntry (past : List Entry) (entry : Entry) (t : ℕ) : Type 0 where
+pub record OfferEntry {E : Type 0} (past : List (Entry E)) (entry : Entry E) (t : ℕ) : Type 0 where
   pub sdp : Sdp
   pub more : List LineRow
   pub count : t ≡ length (sdps past)
@@ -70,23 +71,23 @@ offer_count true true k next made = made
 offer_count true false k next made = absurd made
 offer_count false offers k next made = absurd made
 
-no_offer : (fresh between : Stances) (sdp : Option Sdp) (past : List Entry) (at : Side) (next : ℕ) (answers : List OpAnswer) (made : Made) (after : List LineRow) → RepliesToOffer sdp (view_in fresh at past (held_by (between at))) next (Negotiated answers made) after → ⊥
+no_offer : {E : Type 0} → (fresh between : Stances) (sdp : Option Sdp) (past : List (Entry E)) (at : Side) (next : ℕ) (answers : List OpAnswer) (made : Made) (after : List LineRow) → RepliesToOffer {E = E} sdp (view_in fresh at past (held_by (between at))) next (Negotiated answers made) after → ⊥
 no_offer fresh between None past at next answers made after takes = takes
 no_offer fresh between (Some sdp) past at next answers made after takes = takes
 
-no_answer : (fresh between : Stances) (held right : Bool) (asked : Asked) (sdp : Option Sdp) (past : List Entry) (at : Side) (answers : List OpAnswer) (made : Made) (after : List LineRow) → RepliesToAnswer held right asked sdp (view_in fresh at past (held_by (between at))) (Negotiated answers made) after → ⊥
+no_answer : {E : Type 0} → (fresh between : Stances) (held right : Bool) (asked : Asked) (sdp : Option Sdp) (past : List (Entry E)) (at : Side) (answers : List OpAnswer) (made : Made) (after : List LineRow) → RepliesToAnswer {E = E} held right asked sdp (view_in fresh at past (held_by (between at))) (Negotiated answers made) after → ⊥
 no_answer fresh between false right asked sdp past at answers made after takes = takes
 no_answer fresh between true right asked None past at answers made after takes = takes
 no_answer fresh between true false asked (Some sdp) past at answers made after takes = takes
 no_answer fresh between true true asked (Some sdp) past at answers made after takes = takes
 
-pub offer_entry : (fresh : Stances) (past : List Entry) (entry : Entry) (t : ℕ) → IsSoundIn fresh past entry → makes_offer t entry ≡ true → OfferEntry past entry t
-offer_entry fresh past entry t sound makes_it = by sound.between entry.step entry.outcome entry.table entry.made sound.sound.replied sound.sound.made makes_it
+pub offer_entry : {E : Type 0} → (fresh : Stances) (past : List (Entry E)) (entry : Entry E) (t : ℕ) → IsSoundIn fresh past entry → makes_offer t entry ≡ true → OfferEntry past entry t
+offer_entry {E} fresh past entry t sound makes_it = by sound.between entry.step entry.outcome entry.table entry.made sound.sound.replied sound.sound.made makes_it
   where
-    rows_of : (at : Side) (table : Table) (step : Step) (outcome : Outcome) (made : List MadeSdp) → side_of step ≡ at → before (side_of step) (record { step = step; outcome = outcome; table = Some table; made = made } ∷ past) ≡ table.lines
+    rows_of : (at : Side) (table : Table) (step : Step) (outcome : Outcome E) (made : List MadeSdp) → side_of step ≡ at → before (side_of step) (record { step = step; outcome = outcome; table = Some table; made = made } ∷ past) ≡ table.lines
     rows_of at table step outcome made is = rw (same_side-self (side_of step)) refl
 
-    by : (between : Stances) (step : Step) (outcome : Outcome) (table : Option Table) (made : List MadeSdp) → IsSound fresh past between step outcome table made → MakesSdp step outcome table made → makes t outcome ≡ true
+    by : (between : Stances) (step : Step) (outcome : Outcome E) (table : Option Table) (made : List MadeSdp) → IsSound fresh past between step outcome table made → MakesSdp step outcome table made → makes t outcome ≡ true
         → OfferEntry past (record { step = step; outcome = outcome; table = table; made = made }) t
     by between (Negotiate at ops apply) (Negotiated answers (Offer k)) (Some table) made replied sdp makes_it =
         let rows = rows_of at table (Negotiate at ops apply) (Negotiated answers (Offer k)) made refl in
@@ -111,8 +112,15 @@ offer_entry fresh past entry t sound makes_it = by sound.between entry.step entr
     by between (AcceptAnswer at token answer) (Negotiated answers what) None made replied sdp makes_it = absurd replied
     by between (AcceptAnswer at token answer) (Negotiated answers what) (Some table) made replied sdp makes_it =
         absurd (no_answer fresh between (holds_token at token past) (is_right at token past) (asked_in at token past) (remote_sdp false at answer past) past at answers what table.lines replied.0)
+    by between (Time at now) (Negotiated answers what) table made replied sdp makes_it = absurd (no_rest fresh between (Time at now) answers what table made past tt replied)
+    by between (Datagram at packet now) (Negotiated answers what) table made replied sdp makes_it = absurd (no_rest fresh between (Datagram at packet now) answers what table made past tt replied)
+    by between (Poll at) (Negotiated answers what) table made replied sdp makes_it = absurd (no_rest fresh between (Poll at) answers what table made past tt replied)
+    by between (Drain at) (Negotiated answers what) table made replied sdp makes_it = absurd (no_rest fresh between (Drain at) answers what table made past tt replied)
+    by between (Close at) (Negotiated answers what) table made replied sdp makes_it = absurd (no_rest fresh between (Close at) answers what table made past tt replied)
     by between step (Answered k) table made replied sdp makes_it = absurd (cc)
     by between step Finished table made replied sdp makes_it = absurd (cc)
+    by between step Done table made replied sdp makes_it = absurd (cc)
+    by between step (Polled outputs end) table made replied sdp makes_it = absurd (cc)
     by between step (Refused error) table made replied sdp makes_it = absurd (cc)
     by between step NoSuch table made replied sdp makes_it = absurd (cc)
     by between step Alloc table made replied sdp makes_it = absurd (cc)
@@ -120,7 +128,7 @@ offer_entry fresh past entry t sound makes_it = by sound.between entry.step entr
 -- ---- the offer of a number
 
 -- What a past says of the offer of a number, which a side made.
-pub record PastOffer (at : Side) (t : ℕ) (past : List Entry) : Type 0 where
+pub record PastOffer {E : Type 0} (at : Side) (t : ℕ) (past : List (Entry E)) : Type 0 where
   pub sdp : Sdp
   pub more : List LineRow
   pub there : slice_get (sdps past) t ≡ Some (record { at = at; offer = true; sdp = sdp })
@@ -130,14 +138,14 @@ pub record PastOffer (at : Side) (t : ℕ) (past : List Entry) : Type 0 where
   pub says : parsed_lines sdp ≡ map row_said (rows_at_offer at t past ++ more)
 
 -- the SDP of an entry is behind those before it
-pub text_next : (past : List Entry) (entry : Entry) (said : MadeSdp) (t : ℕ) → entry.made ≡ said ∷ [] → t ≡ length (sdps past) → slice_get (sdps (entry ∷ past)) t ≡ Some said
+pub text_next : {E : Type 0} → (past : List (Entry E)) (entry : Entry E) (said : MadeSdp) (t : ℕ) → entry.made ≡ said ∷ [] → t ≡ length (sdps past) → slice_get (sdps (entry ∷ past)) t ≡ Some said
 text_next past entry said t one at = rw one (next_there (sdps past) said t at)
 
 pub maker_side : (at : Side) (sdp : Sdp) (found : Option MadeSdp) (side : Side) → found ≡ Some (record { at = side; offer = true; sdp = sdp }) → is_offer_of at found ≡ true → side ≡ at
 maker_side at sdp found side there mine = same_side-true side at (let e : is_offer_of at (Some (record { at = side; offer = true; sdp = sdp })) ≡ true = ap (is_offer_of at) (sym there) ∙ mine in e)
 
 -- what a side has to do with the newest entry that made an offer, and with the ones before it
-pub right_parts : (at : Side) (t : ℕ) (past : List Entry) (entry : Entry) → makes_offer t entry ≡ false → is_right at t (entry ∷ past) ≡ true
+pub right_parts : {E : Type 0} → (at : Side) (t : ℕ) (past : List (Entry E)) (entry : Entry E) → makes_offer t entry ≡ false → is_right at t (entry ∷ past) ≡ true
     → (moves at entry.step entry.outcome ≡ false) × (is_right at t past ≡ true)
 right_parts at t past entry other right = by (moves at entry.step entry.outcome) refl
   where
@@ -149,7 +157,7 @@ right_parts at t past entry other right = by (moves at entry.step entry.outcome)
     by false is = (is, rw is at stands)
 
 -- the number of an offer that is right is that of an SDP
-pub right_within : (fresh : Stances) (at : Side) (t : ℕ) (past : List Entry) → Sound fresh past → is_right at t past ≡ true → t < length (sdps past)
+pub right_within : {E : Type 0} → (fresh : Stances) (at : Side) (t : ℕ) (past : List (Entry E)) → Sound fresh past → is_right at t past ≡ true → t < length (sdps past)
 right_within fresh at t [] sound right = absurd (cc)
 right_within fresh at t (entry ∷ past) sound right = by (λ right. right_within fresh at t past sound.1 right) (makes_offer t entry) refl
   where
@@ -161,7 +169,7 @@ right_within fresh at t (entry ∷ past) sound right = by (λ right. right_withi
     by earlier false is = omega (arith, earlier (right_parts at t past entry is right).1, length-append (sdps past) entry.made)
 
 -- The offer of a number that is right.
-pub past_offer : (fresh : Stances) (at : Side) (t : ℕ) (past : List Entry) → Sound fresh past → is_right at t past ≡ true → is_offer_of at (slice_get (sdps past) t) ≡ true → PastOffer at t past
+pub past_offer : {E : Type 0} → (fresh : Stances) (at : Side) (t : ℕ) (past : List (Entry E)) → Sound fresh past → is_right at t past ≡ true → is_offer_of at (slice_get (sdps past) t) ≡ true → PastOffer at t past
 past_offer fresh at t [] sound right mine = absurd (cc)
 past_offer fresh at t (entry ∷ past) sound right mine = by (λ right mine. past_offer fresh at t past sound.1 right mine) (makes_offer t entry) refl
   where

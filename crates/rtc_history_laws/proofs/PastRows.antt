@@ -9,7 +9,7 @@ use Rattle.rtc_change.specs.Held.{Asked}
 use Rattle.rtc_peer_state.specs.declared.rtc_error.RtcError.TheVariants.{RemoteSdp, Sdp as SdpRefused, ChangesOutOfOrder, Alloc as PeerAlloc, Dtls, Sctp}
 use Rattle.rtc_history.specs.declared.side.Side.{Side}
 use Rattle.rtc_history.specs.declared.step.Step.{Step}
-use Rattle.rtc_history.specs.declared.step.Step.TheVariants.{Negotiate, AcceptOffer, AcceptAnswer}
+use Rattle.rtc_history.specs.declared.step.Step.TheVariants.{Negotiate, AcceptOffer, AcceptAnswer, Time, Datagram, Poll, Drain, Close}
 use Rattle.rtc_history.specs.declared.outcome.Outcome.{Outcome}
 use Rattle.rtc_history.specs.declared.outcome.Outcome.TheVariants.{Negotiated, Answered, Finished, Refused, NoSuch, Alloc}
 use Rattle.rtc_history.specs.declared.table.Table.{Table}
@@ -26,7 +26,7 @@ use Rattle.rtc_history.specs.Views.{Stances, view_in}
 use Rattle.rtc_peer_state.specs.Stance.{held_by}
 
 -- a step of a side that made an offer moved the side
-made_here : (fresh : Stances) (past : List Entry) (entry : Entry) (at : Side) (t : ℕ) → IsSoundIn fresh past entry → makes_offer t entry ≡ true → is_offer_of at (slice_get (sdps (entry ∷ past)) t) ≡ true
+made_here : {E : Type 0} → (fresh : Stances) (past : List (Entry E)) (entry : Entry E) (at : Side) (t : ℕ) → IsSoundIn fresh past entry → makes_offer t entry ≡ true → is_offer_of at (slice_get (sdps (entry ∷ past)) t) ≡ true
     → moves at entry.step entry.outcome ≡ true
 made_here fresh past entry at t sound makes_it mine =
     let it = offer_entry fresh past entry t sound makes_it in
@@ -34,7 +34,7 @@ made_here fresh past entry at t sound makes_it mine =
     subst (λ (side : Side). moves side entry.step entry.outcome ≡ true) here it.moved
 
 -- Two tokens of a side that are right are one.
-one_right : (fresh : Stances) (past : List Entry) (at : Side) (t u : ℕ) → Sound fresh past → is_right at t past ≡ true → is_right at u past ≡ true
+one_right : {E : Type 0} → (fresh : Stances) (past : List (Entry E)) (at : Side) (t u : ℕ) → Sound fresh past → is_right at t past ≡ true → is_right at u past ≡ true
     → is_offer_of at (slice_get (sdps past) t) ≡ true → is_offer_of at (slice_get (sdps past) u) ≡ true → t ≡ u
 one_right fresh [] at t u sound right right' mine mine' = absurd (cc)
 one_right fresh (entry ∷ past) at t u sound right right' mine mine' =
@@ -58,7 +58,7 @@ one_right fresh (entry ∷ past) at t u sound right right' mine mine' =
 -- ---- rows
 
 -- an offer that was not delivered to a peer left its rows
-uncalled_rows : (fresh between : Stances) (past : List Entry) (at : Side) (sdp : Option Sdp) (next : ℕ) (outcome : Outcome) (after : List LineRow)
+uncalled_rows : {E : Type 0} → (fresh between : Stances) (past : List (Entry E)) (at : Side) (sdp : Option Sdp) (next : ℕ) (outcome : Outcome E) (after : List LineRow)
     → RepliesToOffer sdp (view_in fresh at past (held_by (between at))) next outcome after → was_called outcome ≡ false → after ≡ before at past
 uncalled_rows fresh between past at None next NoSuch after takes uncalled = takes
 uncalled_rows fresh between past at (Some sdp) next (Answered k) after takes uncalled = absurd (cc)
@@ -66,7 +66,7 @@ uncalled_rows fresh between past at (Some sdp) next (Refused error) after takes 
 uncalled_rows fresh between past at sdp next outcome after takes uncalled = absurd takes
 
 -- an answer left the rows of a peer, or it was delivered with a token that was held and right
-answer_rows : (fresh between : Stances) (past : List Entry) (at : Side) (held right : Bool) (asked : Asked) (sdp : Option Sdp) (outcome : Outcome) (after : List LineRow)
+answer_rows : {E : Type 0} → (fresh between : Stances) (past : List (Entry E)) (at : Side) (held right : Bool) (asked : Asked) (sdp : Option Sdp) (outcome : Outcome E) (after : List LineRow)
     → RepliesToAnswer held right asked sdp (view_in fresh at past (held_by (between at))) outcome after → (after ≡ before at past) ⊎ ((was_called outcome ≡ true) × (held ≡ true) × (right ≡ true))
 answer_rows fresh between past at false right asked sdp NoSuch after takes = inl takes
 answer_rows fresh between past at true right asked None NoSuch after takes = inl takes
@@ -80,7 +80,7 @@ answer_rows fresh between past at true true asked (Some sdp) (Refused PeerAlloc)
 answer_rows fresh between past at held right asked sdp outcome after takes = absurd takes
 
 -- a step of a side whose token is right, that moves nothing and does not spend it, leaves the rows
-stayed : (fresh between : Stances) (past : List Entry) (step : Step) (outcome : Outcome) (table : Option Table) (made : List MadeSdp) (t : ℕ) → Sound fresh past → IsSound fresh past between step outcome table made
+stayed : {E : Type 0} → (fresh between : Stances) (past : List (Entry E)) (step : Step) (outcome : Outcome E) (table : Option Table) (made : List MadeSdp) (t : ℕ) → Sound fresh past → IsSound fresh past between step outcome table made
     → is_right (side_of step) t past ≡ true → is_offer_of (side_of step) (slice_get (sdps past) t) ≡ true → moves (side_of step) step outcome ≡ false → spends t step outcome ≡ false
     → sets_lines (side_of step) step ≡ false → rows_or true table (before (side_of step) past) ≡ before (side_of step) past
 stayed fresh between past step Alloc None made t sound replied right mine still unspent unset = refl
@@ -96,10 +96,15 @@ stayed fresh between past (AcceptAnswer at u answer) outcome (Some table) made t
           let one : u ≡ t = one_right fresh past at u t sound taken.2 right held.0 mine in
           both_ways (spends t (AcceptAnswer at u answer) outcome) unspent (rw (taken.0, eq-eqb u t one) refl))
     ]
+stayed fresh between past (Time at now) outcome (Some table) made t sound replied right mine still unspent unset = replied.1.0
+stayed fresh between past (Datagram at packet now) outcome (Some table) made t sound replied right mine still unspent unset = replied.1.0
+stayed fresh between past (Poll at) outcome (Some table) made t sound replied right mine still unspent unset = replied.1.0
+stayed fresh between past (Drain at) outcome (Some table) made t sound replied right mine still unspent unset = replied.1.0
+stayed fresh between past (Close at) outcome (Some table) made t sound replied right mine still unspent unset = replied.1.0
 stayed fresh between past step outcome table made t sound replied right mine still unspent unset = absurd replied
 
 -- the same of a step of either side
-rows_stay : (fresh : Stances) (past : List Entry) (entry : Entry) (at : Side) (t : ℕ) → Sound fresh (entry ∷ past) → is_right at t past ≡ true → is_offer_of at (slice_get (sdps past) t) ≡ true
+rows_stay : {E : Type 0} → (fresh : Stances) (past : List (Entry E)) (entry : Entry E) (at : Side) (t : ℕ) → Sound fresh (entry ∷ past) → is_right at t past ≡ true → is_offer_of at (slice_get (sdps past) t) ≡ true
     → moves at entry.step entry.outcome ≡ false → spends t entry.step entry.outcome ≡ false → sets_lines at entry.step ≡ false → before at (entry ∷ past) ≡ before at past
 rows_stay fresh past entry at t sound right mine still unspent unset = by (same_side (side_of entry.step) at) refl
   where
@@ -113,11 +118,11 @@ rows_stay fresh past entry at t sound right mine still unspent unset = by (same_
     by false is = refl
 
 -- a side that has set no line since an offer, which an entry did not make, set none before this entry, nor did the entry
-unset_parts : (past : List Entry) (entry : Entry) (at : Side) (t : ℕ) → makes_offer t entry ≡ false → has_set at t (entry ∷ past) ≡ false → (sets_lines at entry.step ≡ false) × (has_set at t past ≡ false)
+unset_parts : {E : Type 0} → (past : List (Entry E)) (entry : Entry E) (at : Side) (t : ℕ) → makes_offer t entry ≡ false → has_set at t (entry ∷ past) ≡ false → (sets_lines at entry.step ≡ false) × (has_set at t past ≡ false)
 unset_parts past entry at t other unset = or_parts (sets_lines at entry.step) (has_set at t past) (rw other at unset)
 
 -- The rows of a side whose token is right and not spent, and that has set no line since, are those that it offered.
-pub rows_since : (fresh : Stances) (past : List Entry) (at : Side) (t : ℕ) → Sound fresh past → is_right at t past ≡ true → is_offer_of at (slice_get (sdps past) t) ≡ true → is_spent t past ≡ false
+pub rows_since : {E : Type 0} → (fresh : Stances) (past : List (Entry E)) (at : Side) (t : ℕ) → Sound fresh past → is_right at t past ≡ true → is_offer_of at (slice_get (sdps past) t) ≡ true → is_spent t past ≡ false
     → has_set at t past ≡ false → before at past ≡ rows_at_offer at t past
 rows_since fresh [] at t sound right mine unspent unset = refl
 rows_since fresh (entry ∷ past) at t sound right mine unspent unset =

@@ -9,7 +9,7 @@ use Rattle.rtc_change.proofs.VerdictLemmas.{unrefused_table}
 use Rattle.rtc_peer_state.specs.declared.rtc_error.RtcError.TheVariants.{RemoteSdp, Sdp as SdpRefused, ChangesOutOfOrder, Alloc as PeerAlloc, Dtls, Sctp}
 use Rattle.rtc_history.specs.declared.side.Side.{Side}
 use Rattle.rtc_history.specs.declared.step.Step.{Step}
-use Rattle.rtc_history.specs.declared.step.Step.TheVariants.{Negotiate, AcceptOffer, AcceptAnswer}
+use Rattle.rtc_history.specs.declared.step.Step.TheVariants.{Negotiate, AcceptOffer, AcceptAnswer, Time, Datagram, Poll, Drain, Close}
 use Rattle.rtc_history.specs.declared.outcome.Outcome.{Outcome}
 use Rattle.rtc_history.specs.declared.outcome.Outcome.TheVariants.{Negotiated, Answered, Finished, Refused, NoSuch, Alloc}
 use Rattle.rtc_history.specs.declared.table.Table.{Table}
@@ -26,7 +26,7 @@ use Rattle.rtc_peer_state.specs.Stance.{held_by}
 same_table : (rows after : List LineRow) → after ≡ rows → IsTable rows → IsTable after
 same_table rows after same table = subst IsTable (sym same) table
 
-taken_table : (sdp : Option Sdp) (view : Held) (next : ℕ) (outcome : Outcome) (after : List LineRow) → RepliesToOffer sdp view next outcome after → IsTable view.lines → IsTable after
+taken_table : {E : Type 0} → (sdp : Option Sdp) (view : Held) (next : ℕ) (outcome : Outcome E) (after : List LineRow) → RepliesToOffer sdp view next outcome after → IsTable view.lines → IsTable after
 taken_table None view next NoSuch after takes table = same_table view.lines after takes table
 taken_table (Some sdp) view next (Answered k) after takes table = same_table _ after takes.1 (unrefused_table view None sdp table takes.0)
 taken_table (Some sdp) view next (Refused (RemoteSdp why)) after takes table = same_table view.lines after takes.1 table
@@ -36,7 +36,7 @@ taken_table (Some sdp) view next (Refused (Sctp error)) after takes table = same
 taken_table (Some sdp) view next (Refused PeerAlloc) after takes table = same_table view.lines after takes table
 taken_table sdp view next outcome after takes table = absurd takes
 
-answer_table : (held right : Bool) (asked : Asked) (sdp : Option Sdp) (view : Held) (outcome : Outcome) (after : List LineRow)
+answer_table : {E : Type 0} → (held right : Bool) (asked : Asked) (sdp : Option Sdp) (view : Held) (outcome : Outcome E) (after : List LineRow)
     → RepliesToAnswer held right asked sdp view outcome after → IsTable view.lines → IsTable after
 answer_table false right asked sdp view NoSuch after takes table = same_table view.lines after takes table
 answer_table true right asked None view NoSuch after takes table = same_table view.lines after takes table
@@ -50,7 +50,7 @@ answer_table true true asked (Some sdp) view (Refused PeerAlloc) after takes tab
 answer_table held right asked sdp view outcome after takes table = absurd takes
 
 -- a reply that is sound leaves a table of a table
-pub reply_table : (fresh between : Stances) (past : List Entry) (step : Step) (outcome : Outcome) (table : Option Table) (made : List MadeSdp) → IsSound fresh past between step outcome table made
+pub reply_table : {E : Type 0} → (fresh between : Stances) (past : List (Entry E)) (step : Step) (outcome : Outcome E) (table : Option Table) (made : List MadeSdp) → IsSound fresh past between step outcome table made
     → IsTable (before (side_of step) past) → IsTable (rows_or true table (before (side_of step) past))
 reply_table fresh between past step Alloc None made sound table = table
 reply_table fresh between past (Negotiate at ops apply) (Negotiated answers what) (Some after) made sound table = ops_table (at_first at past (new_app after.lines made)) ops answers after.lines sound.0 table
@@ -58,10 +58,15 @@ reply_table fresh between past (AcceptOffer at offer) outcome (Some after) made 
     taken_table (remote_sdp true at offer past) (view_in fresh at past (held_by (between at))) _ outcome after.lines (offer_taking fresh between past at offer outcome after made sound) table
 reply_table fresh between past (AcceptAnswer at token answer) outcome (Some after) made sound table =
     answer_table (holds_token at token past) (is_right at token past) (asked_in at token past) (remote_sdp false at answer past) (view_in fresh at past (held_by (between at))) outcome after.lines (answer_taking fresh between past at token answer outcome after made sound) table
+reply_table fresh between past (Time at now) outcome (Some after) made sound table = same_table (before at past) after.lines sound.1.0 table
+reply_table fresh between past (Datagram at packet now) outcome (Some after) made sound table = same_table (before at past) after.lines sound.1.0 table
+reply_table fresh between past (Poll at) outcome (Some after) made sound table = same_table (before at past) after.lines sound.1.0 table
+reply_table fresh between past (Drain at) outcome (Some after) made sound table = same_table (before at past) after.lines sound.1.0 table
+reply_table fresh between past (Close at) outcome (Some after) made sound table = same_table (before at past) after.lines sound.1.0 table
 reply_table fresh between past step outcome after made sound table = absurd sound
 
 -- The rows of a side are a table.
-pub past_table : (fresh : Stances) (past : List Entry) (at : Side) → Sound fresh past → IsTable (before at past)
+pub past_table : {E : Type 0} → (fresh : Stances) (past : List (Entry E)) (at : Side) → Sound fresh past → IsTable (before at past)
 past_table fresh [] at sound = record { rising = tt; distinct = tt; one_app = tt }
 past_table fresh (entry ∷ past) at sound = by (λ side. past_table fresh past side sound.1) (same_side (side_of entry.step) at) refl
   where

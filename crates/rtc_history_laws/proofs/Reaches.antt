@@ -5,7 +5,7 @@ use Rattle.rtc_tables.specs.Table.{IsTable}
 use Rattle.rtc_peer_state.specs.Stance.{Stance}
 use Rattle.rtc_history.specs.declared.side.Side.{Side}
 use Rattle.rtc_history.specs.declared.step.Step.{Step}
-use Rattle.rtc_history.specs.declared.step.Step.TheVariants.{Negotiate, AcceptOffer, AcceptAnswer}
+use Rattle.rtc_history.specs.declared.step.Step.TheVariants.{Negotiate, AcceptOffer, AcceptAnswer, Time, Datagram, Poll, Drain, Close}
 use Rattle.rtc_history.specs.declared.outcome.Outcome.{Outcome}
 use Rattle.rtc_history.specs.declared.table.Table.{Table}
 use Rattle.rtc_history.specs.declared.kept.Kept.{Kept}
@@ -27,14 +27,15 @@ use Rattle.rtc_history_laws.proofs.SeenSteps.{step_sees}
 use Rattle.rtc_history_laws.proofs.NegotiateSteps.{negotiate_reply, negotiate_tells}
 use Rattle.rtc_history_laws.proofs.OfferSteps.{offer_reply, offer_tells}
 use Rattle.rtc_history_laws.proofs.AnswerSteps.{answer_reply, answer_tells}
+use Rattle.rtc_history_laws.proofs.Rests.{handled_rests, heard_rests, polled_rests, told_rests, rest_tells, time_reply, datagram_reply, poll_reply, drain_reply, close_reply}
 
 -- ---- one step
 
-pub around_of : (old new : PairStance) (step : Step) (outcome : Outcome) (table : Option Table) (made : List MadeSdp)
+pub around_of : {E : Type 0} → (old new : PairStance) (step : Step) (outcome : Outcome E) (table : Option Table) (made : List MadeSdp)
     → StancePerforms old step outcome table new → made ≡ made_by old new → new.size < 2 ^ 32 → Around step made old new
 around_of old new step outcome table made performs made_is small = record { other = performs.other; size = performs.size; small = small; made_is = made_is }
 
-pub step_sound : (fresh : Stances) (past : List Entry) (old new : PairStance) (step : Step) (outcome : Outcome) (table : Option Table)
+pub step_sound : {E : Type 0} → (fresh : Stances) (past : List (Entry E)) (old new : PairStance) (step : Step) (outcome : Outcome E) (table : Option Table)
     → Tells past old → ((at : Side) → SideSees fresh past at (old.sides at)) → IsTable (before (side_of step) past) → StancePerforms old step outcome table new → new.size < 2 ^ 32
     → IsSound fresh past old.sides step outcome table (made_by old new)
 step_sound fresh past old new (Negotiate at ops apply) outcome table tells sees rows performs small =
@@ -46,8 +47,18 @@ step_sound fresh past old new (AcceptAnswer at t a) outcome table tells sees row
     answer_reply fresh old.sides past at t a old.size (slice_get old.sdps t) (held_token old.sdps at t) (kept_remote_sdp false old.sdps at a) (old.sides at) (new.sides at) old.sdps new.sdps outcome table (made_by old new)
     refl ((tells.sides at).tokens t) (tells.sides at).counts (omega (arith, performs.size)) (remote_sdp-told past old false at a tells) (view_is fresh past at (old.sides at) (tells.sides at).rows (sees at)) (sym (tells.sides at).rows)
     (sym (tells.sides at).channels.shown) performs.acts
+step_sound fresh past old new (Time at now) outcome table tells sees rows performs small =
+    time_reply fresh old.sides past at now (old.sides at) outcome table (made_by old new) (sym (tells.sides at).rows) (sym (tells.sides at).channels.shown) performs.acts.told
+step_sound fresh past old new (Datagram at packet now) outcome table tells sees rows performs small =
+    datagram_reply fresh old.sides past at packet now (old.sides at) outcome table (made_by old new) (sym (tells.sides at).rows) (sym (tells.sides at).channels.shown) performs.acts.told
+step_sound fresh past old new (Poll at) outcome table tells sees rows performs small =
+    poll_reply fresh old.sides past at (old.sides at) outcome table (made_by old new) (sym (tells.sides at).rows) (sym (tells.sides at).channels.shown) performs.acts.told
+step_sound fresh past old new (Drain at) outcome table tells sees rows performs small =
+    drain_reply fresh old.sides past at (old.sides at) outcome table (made_by old new) (sym (tells.sides at).rows) (sym (tells.sides at).channels.shown) performs.acts.told
+step_sound fresh past old new (Close at) outcome table tells sees rows performs small =
+    close_reply fresh old.sides past at (old.sides at) outcome table (made_by old new) (sym (tells.sides at).rows) (sym (tells.sides at).channels.shown) performs.acts.told
 
-pub step_tells : (past : List Entry) (old new : PairStance) (step : Step) (outcome : Outcome) (table : Option Table) (made : List MadeSdp)
+pub step_tells : {E : Type 0} → (past : List (Entry E)) (old new : PairStance) (step : Step) (outcome : Outcome E) (table : Option Table) (made : List MadeSdp)
     → Tells past old → StancePerforms old step outcome table new → Around step made old new → Tells (entry step outcome table made ∷ past) new
 step_tells past old new (Negotiate at ops apply) outcome table made tells performs around =
     negotiate_tells past at ops apply old new outcome table made performs.acts around tells
@@ -55,11 +66,16 @@ step_tells past old new (AcceptOffer at k) outcome table made tells performs aro
     offer_tells past at k (kept_remote_sdp true old.sdps at k) old new outcome table made (λ sdp. sdp_within past old true at k sdp tells) performs.acts around tells
 step_tells past old new (AcceptAnswer at t a) outcome table made tells performs around =
     answer_tells past at t a (held_token old.sdps at t) (kept_remote_sdp false old.sdps at a) old new outcome table made (λ sdp. sdp_within past old false at a sdp tells) refl performs.acts around tells
+step_tells past old new (Time at now) outcome table made tells performs around = rest_tells past (Time at now) outcome table made old new _ tt (told_rests _ outcome table (old.sides at) handled_rests performs.acts.told) performs.acts around tells
+step_tells past old new (Datagram at packet now) outcome table made tells performs around = rest_tells past (Datagram at packet now) outcome table made old new _ tt (told_rests _ outcome table (old.sides at) heard_rests performs.acts.told) performs.acts around tells
+step_tells past old new (Poll at) outcome table made tells performs around = rest_tells past (Poll at) outcome table made old new _ tt (told_rests _ outcome table (old.sides at) polled_rests performs.acts.told) performs.acts around tells
+step_tells past old new (Drain at) outcome table made tells performs around = rest_tells past (Drain at) outcome table made old new _ tt (told_rests _ outcome table (old.sides at) polled_rests performs.acts.told) performs.acts around tells
+step_tells past old new (Close at) outcome table made tells performs around = rest_tells past (Close at) outcome table made old new _ tt (told_rests _ outcome table (old.sides at) handled_rests performs.acts.told) performs.acts around tells
 
 -- ---- all steps
 
-fresh_side : (at : Side) (s : Stance) (kept : List Kept) (size : ℕ) → IsJustBuilt s → kept ≡ [] → SideTells [] at s kept size
-fresh_side at s kept size built none =
+fresh_side : (E : Type 0) (at : Side) (s : Stance) (kept : List Kept) (size : ℕ) → IsJustBuilt s → kept ≡ [] → SideTells {E = E} [] at s kept size
+fresh_side E at s kept size built none =
     let counter : s.counter ≡ 0 = built.counter in
     let rows : length s.lines ≡ 0 = ap length built.lines in
     rw none (record {
@@ -78,49 +94,49 @@ fresh_side at s kept size built none =
       channels = rw built.channels (record { given = refl; shown = refl; below = tt });
     })
 
-fresh_tells : (start : PairStance) → IsFreshStance start → Tells [] start
-fresh_tells start fresh =
+fresh_tells : (E : Type 0) (start : PairStance) → IsFreshStance start → Tells {E = E} [] start
+fresh_tells E start fresh =
     let none : start.sdps ≡ [] = fresh.sdps in
     record {
-      sides = λ at. fresh_side at (start.sides at) start.sdps start.size (fresh.built at) fresh.sdps;
+      sides = λ at. fresh_side E at (start.sides at) start.sdps start.size (fresh.built at) fresh.sdps;
       says = rw none refl;
       later = λ t most. refl;
       count = rw none (omega arith);
       each = rw none (λ k d below. absurd (omega arith));
     }
 
-fresh_sees : (start : PairStance) → IsFreshStance start → (at : Side) → SideSees start.sides [] at (start.sides at)
-fresh_sees start fresh at = record { lite = refl; remote = λ firm. (fresh.built at).remote; known = λ firm. ap is_some (fresh.built at).fingerprint }
+fresh_sees : (E : Type 0) (start : PairStance) → IsFreshStance start → (at : Side) → SideSees {E = E} start.sides [] at (start.sides at)
+fresh_sees E start fresh at = record { lite = refl; remote = λ firm. (fresh.built at).remote; known = λ firm. ap is_some (fresh.built at).fingerprint }
 
 -- what the past of a pair that is reached says of it
-pub reached_tells : (start pair : PairStance) (past : List Entry) → IsFreshStance start → StanceReached start past pair → pair.size < 2 ^ 32 → Tells past pair
-reached_tells start pair [] fresh reached small = let same : pair ≡ start = reached in rw same (fresh_tells start fresh)
-reached_tells start pair (last ∷ past) fresh reached small =
+pub reached_tells : {E : Type 0} → (start pair : PairStance) (past : List (Entry E)) → IsFreshStance start → StanceReached start past pair → pair.size < 2 ^ 32 → Tells past pair
+reached_tells {E} start pair [] fresh reached small = let same : pair ≡ start = reached in rw same (fresh_tells E start fresh)
+reached_tells {E} start pair (last ∷ past) fresh reached small =
     let enters : StanceEnters reached.0 last pair = reached.2 in
     let around : Around last.step last.made reached.0 pair = around_of reached.0 pair last.step last.outcome last.table last.made enters.performs enters.made small in
     step_tells past reached.0 pair last.step last.outcome last.table last.made
     (reached_tells start reached.0 past fresh reached.1 (omega (arith, size_grows last.step last.made reached.0 pair around))) enters.performs around
 
 -- the size before a step that leaves a small pair is small
-pub small_before : (old new : PairStance) (last : Entry) → StanceEnters old last new → new.size < 2 ^ 32 → old.size < 2 ^ 32
+pub small_before : {E : Type 0} → (old new : PairStance) (last : Entry E) → StanceEnters old last new → new.size < 2 ^ 32 → old.size < 2 ^ 32
 small_before old new last enters small =
     let around : Around last.step last.made old new = around_of old new last.step last.outcome last.table last.made enters.performs enters.made small in
     omega (arith, size_grows last.step last.made old new around)
 
 -- each side sees what the past tells
-pub reached_sees : (start pair : PairStance) (past : List Entry) → IsFreshStance start → StanceReached start past pair → pair.size < 2 ^ 32 → (at : Side) → SideSees start.sides past at (pair.sides at)
-reached_sees start pair [] fresh reached small at = let same : pair ≡ start = reached in rw same (fresh_sees start fresh at)
-reached_sees start pair (last ∷ past) fresh reached small at =
+pub reached_sees : {E : Type 0} → (start pair : PairStance) (past : List (Entry E)) → IsFreshStance start → StanceReached start past pair → pair.size < 2 ^ 32 → (at : Side) → SideSees start.sides past at (pair.sides at)
+reached_sees {E} start pair [] fresh reached small at = let same : pair ≡ start = reached in rw same (fresh_sees E start fresh at)
+reached_sees {E} start pair (last ∷ past) fresh reached small at =
     let enters : StanceEnters reached.0 last pair = reached.2 in
     let fewer : reached.0.size < 2 ^ 32 = small_before reached.0 pair last enters small in
     step_sees start.sides past reached.0 pair last.step last.outcome last.table last.made (reached_tells start reached.0 past fresh reached.1 fewer) enters.performs (λ side. reached_sees start reached.0 past fresh reached.1 fewer side) at
 
 -- A pair that is reached is within the sizes of its steps.
-pub reached_within : (start pair : PairStance) (past : List Entry) → IsFreshStance start → StanceReached start past pair → pair.size < 2 ^ 32 → IsWithin pair
+pub reached_within : {E : Type 0} → (start pair : PairStance) (past : List (Entry E)) → IsFreshStance start → StanceReached start past pair → pair.size < 2 ^ 32 → IsWithin pair
 reached_within start pair past fresh reached small = within past pair (reached_tells start pair past fresh reached small)
 
 -- the size of a pair that is reached is that of its steps
-pub reached_size : (start pair : PairStance) (past : List Entry) → StanceReached start past pair → pair.size ≡ start.size + steps_size (steps_of past)
+pub reached_size : {E : Type 0} → (start pair : PairStance) (past : List (Entry E)) → StanceReached start past pair → pair.size ≡ start.size + steps_size (steps_of past)
 reached_size start pair [] reached = let same : pair.size ≡ start.size = ap (λ p. p.size) reached in omega arith
 reached_size start pair (last ∷ past) reached =
     let enters : StanceEnters reached.0 last pair = reached.2 in

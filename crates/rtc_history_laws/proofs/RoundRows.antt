@@ -51,7 +51,7 @@ pub record AnswerSaid : Type 0 where
   pub table : IsTable rows
 
 -- A side made the offer of a number, has its token, which is right, and its rows still have the names that it offered.
-pub record HasOffered (offer : OfferSaid) (at : Side) (n : ℕ) (past : List Entry) : Type 0 where
+pub record HasOffered {E : Type 0} (offer : OfferSaid) (at : Side) (n : ℕ) (past : List (Entry E)) : Type 0 where
   pub right : is_right at n past ≡ true
   pub unspent : is_spent n past ≡ false
   pub there : slice_get (sdps past) n ≡ Some (record { at = at; offer = true; sdp = offer.sdp })
@@ -59,21 +59,21 @@ pub record HasOffered (offer : OfferSaid) (at : Side) (n : ℕ) (past : List Ent
   pub kept : Aligned offer.front (before at past)
 
 -- The other side made the answer of a number to an offer, and the rows of both sides have the names that it says.
-pub record HasAnswered (offer : OfferSaid) (answer : AnswerSaid) (at : Side) (m : ℕ) (past : List Entry) : Type 0 where
+pub record HasAnswered {E : Type 0} (offer : OfferSaid) (answer : AnswerSaid) (at : Side) (m : ℕ) (past : List (Entry E)) : Type 0 where
   pub there : slice_get (sdps past) m ≡ Some (record { at = other_side at; offer = false; sdp = answer.sdp })
   pub offered : Aligned (offer.front ++ offer.more) answer.rows
   pub mine : Follows (before at past) (before at past) answer.rows
   pub theirs : Aligned answer.rows (before (other_side at) past)
 
 -- The offer of a number is outstanding, and says these rows.
-pub record IsOffered (at : Side) (n : ℕ) (said : List LineRow) (past : List Entry) : Type 0 where
+pub record IsOffered {E : Type 0} (at : Side) (n : ℕ) (said : List LineRow) (past : List (Entry E)) : Type 0 where
   pub offer : OfferSaid
   pub are : map unnamed (offer.front ++ offer.more) ≡ said
   pub has : HasOffered offer at n past
   pub same : Aligned (before at past) (before (other_side at) past)
 
 -- The answer of a number to the offer of a number is outstanding, and says these rows.
-pub record IsAnswered (at : Side) (n m : ℕ) (said : List LineRow) (past : List Entry) : Type 0 where
+pub record IsAnswered {E : Type 0} (at : Side) (n m : ℕ) (said : List LineRow) (past : List (Entry E)) : Type 0 where
   pub offer : OfferSaid
   pub answer : AnswerSaid
   pub are : map unnamed answer.rows ≡ said

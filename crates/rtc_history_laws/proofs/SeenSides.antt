@@ -12,21 +12,21 @@ use Rattle.rtc_change.specs.Plans.{no_fingerprint}
 use Rattle.rtc_peer_state.specs.Stance.{Stance, held_by}
 use Rattle.rtc_history.specs.declared.side.Side.{Side}
 use Rattle.rtc_history.specs.declared.step.Step.{Step}
-use Rattle.rtc_history.specs.declared.step.Step.TheVariants.{Negotiate, AcceptOffer, AcceptAnswer}
+use Rattle.rtc_history.specs.declared.step.Step.TheVariants.{Negotiate, AcceptOffer, AcceptAnswer, Time, Datagram, Poll, Drain, Close}
 use Rattle.rtc_history.specs.declared.outcome.Outcome.{Outcome}
-use Rattle.rtc_history.specs.declared.outcome.Outcome.TheVariants.{Negotiated, Answered, Finished, Refused, NoSuch, Alloc}
+use Rattle.rtc_history.specs.declared.outcome.Outcome.TheVariants.{Negotiated, Answered, Finished, Done, Polled, Refused, NoSuch, Alloc}
 use Rattle.rtc_history.specs.Sides.{same_side, side_of}
 use Rattle.rtc_history.specs.Past.{Entry, before, remote_sdp}
 use Rattle.rtc_history.specs.Views.{Stances, accepted_by, last_accepted, breaks_off, is_firm, creds_told, view_in}
 
 -- What a side knows of the other one, and whether it is lite, by what a past tells.
-pub record SideSees (fresh : Stances) (past : List Entry) (at : Side) (s : Stance) : Type 0 where
+pub record SideSees {E : Type 0} (fresh : Stances) (past : List (Entry E)) (at : Side) (s : Stance) : Type 0 where
   pub lite : s.ice.lite ≡ (fresh at).ice.lite
   pub remote : is_firm at past ≡ true → s.ice.remote ≡ creds_told (last_accepted at past)
   pub known : is_firm at past ≡ true → is_some s.fingerprint ≡ is_some (last_accepted at past)
 
 -- what a side judges by is what it holds
-pub view_is : (fresh : Stances) (past : List Entry) (at : Side) (s : Stance) → s.lines ≡ before at past → SideSees fresh past at s → view_in fresh at past (held_by s) ≡ held_by s
+pub view_is : {E : Type 0} → (fresh : Stances) (past : List (Entry E)) (at : Side) (s : Stance) → s.lines ≡ before at past → SideSees fresh past at s → view_in fresh at past (held_by s) ≡ held_by s
 view_is fresh past at s lines sees = by (is_firm at past) refl
   where
     same : (rows : List LineRow) (lite lite' : Bool) (creds : Option IceCreds) (has : Bool) → s.lines ≡ rows → s.ice.lite ≡ lite → s.ice.remote ≡ creds → is_some s.fingerprint ≡ has
@@ -39,10 +39,10 @@ view_is fresh past at s lines sees = by (is_firm at past) refl
 
 -- ---- an entry that has a side accept nothing
 
-firm_before : (past : List Entry) (e : Entry) (at : Side) → is_firm at (e ∷ past) ≡ true → is_firm at past ≡ true
+firm_before : {E : Type 0} → (past : List (Entry E)) (e : Entry E) (at : Side) → is_firm at (e ∷ past) ≡ true → is_firm at past ≡ true
 firm_before past e at firm = (and_parts (not (breaks_off at e.step e.outcome)) (is_firm at past) firm).1
 
-pub sees_still : (fresh : Stances) (past : List Entry) (e : Entry) (at : Side) (s t : Stance) → t.ice ≡ s.ice → t.fingerprint ≡ s.fingerprint → accepted_by at e.step e.outcome past ≡ None
+pub sees_still : {E : Type 0} → (fresh : Stances) (past : List (Entry E)) (e : Entry E) (at : Side) (s t : Stance) → t.ice ≡ s.ice → t.fingerprint ≡ s.fingerprint → accepted_by at e.step e.outcome past ≡ None
     → SideSees fresh past at s → SideSees fresh (e ∷ past) at t
 sees_still fresh past e at s t ice fingerprint none sees = record {
   lite = ap (λ i. i.lite) ice ∙ sees.lite;
@@ -51,7 +51,7 @@ sees_still fresh past e at s t ice fingerprint none sees = record {
 }
 
 -- an acceptance that was broken off tells no more
-pub sees_broken : (fresh : Stances) (past : List Entry) (e : Entry) (at : Side) (s t : Stance) → t.ice.lite ≡ s.ice.lite → breaks_off at e.step e.outcome ≡ true → SideSees fresh past at s → SideSees fresh (e ∷ past) at t
+pub sees_broken : {E : Type 0} → (fresh : Stances) (past : List (Entry E)) (e : Entry E) (at : Side) (s t : Stance) → t.ice.lite ≡ s.ice.lite → breaks_off at e.step e.outcome ≡ true → SideSees fresh past at s → SideSees fresh (e ∷ past) at t
 sees_broken fresh past e at s t lite breaks sees = record {
   lite = lite ∙ sees.lite;
   remote = λ firm. absurd (let none : false ≡ true = rw breaks at firm in cc);
@@ -59,7 +59,7 @@ sees_broken fresh past e at s t lite breaks sees = record {
 }
 
 -- a session description that is accepted tells credentials, and a fingerprint is known from then on
-pub sees_accepted : (fresh : Stances) (past : List Entry) (e : Entry) (at : Side) (s t : Stance) (sdp : Sdp) → t.ice.lite ≡ s.ice.lite → t.ice.remote ≡ creds_of sdp → is_some t.fingerprint ≡ true
+pub sees_accepted : {E : Type 0} → (fresh : Stances) (past : List (Entry E)) (e : Entry E) (at : Side) (s t : Stance) (sdp : Sdp) → t.ice.lite ≡ s.ice.lite → t.ice.remote ≡ creds_of sdp → is_some t.fingerprint ≡ true
     → accepted_by at e.step e.outcome past ≡ Some sdp → SideSees fresh past at s → SideSees fresh (e ∷ past) at t
 sees_accepted fresh past e at s t sdp lite remote known is sees = record {
   lite = lite ∙ sees.lite;
@@ -76,23 +76,32 @@ known_after None None none = absurd (cc)
 -- ---- each kind of step
 
 -- the side that does not act
-pub other_sees : (fresh : Stances) (past : List Entry) (e : Entry) (at : Side) (s t : Stance) → same_side (side_of e.step) at ≡ false → t ≡ s → SideSees fresh past at s → SideSees fresh (e ∷ past) at t
-other_sees fresh past e at s t another same sees = sees_still fresh past e at s t (ap (λ p. p.ice) same) (ap (λ p. p.fingerprint) same) (by e.step e.outcome another) sees
+pub other_sees : {E : Type 0} → (fresh : Stances) (past : List (Entry E)) (e : Entry E) (at : Side) (s t : Stance) → same_side (side_of e.step) at ≡ false → t ≡ s → SideSees fresh past at s → SideSees fresh (e ∷ past) at t
+other_sees {E} fresh past e at s t another same sees = sees_still fresh past e at s t (ap (λ p. p.ice) same) (ap (λ p. p.fingerprint) same) (by e.step e.outcome another) sees
   where
     none_there : (sdp : Option Sdp) (b : Bool) → b ≡ false → cond b sdp None ≡ None
     none_there sdp b is = rw is refl
 
-    by : (step : Step) (outcome : Outcome) → same_side (side_of step) at ≡ false → accepted_by at step outcome past ≡ None
+    by : (step : Step) (outcome : Outcome E) → same_side (side_of step) at ≡ false → accepted_by at step outcome past ≡ None
     by (AcceptOffer side k) (Answered n) another = none_there (remote_sdp true at k past) (same_side side at) another
     by (AcceptAnswer side t a) Finished another = none_there (remote_sdp false at a past) (same_side side at) another
     by (Negotiate side ops apply) outcome another = refl
     by (AcceptOffer side k) (Negotiated answers what) another = refl
     by (AcceptOffer side k) Finished another = refl
+    by (AcceptOffer side k) Done another = refl
+    by (AcceptOffer side k) (Polled outputs end) another = refl
     by (AcceptOffer side k) (Refused error) another = refl
     by (AcceptOffer side k) NoSuch another = refl
     by (AcceptOffer side k) Alloc another = refl
     by (AcceptAnswer side t a) (Negotiated answers what) another = refl
     by (AcceptAnswer side t a) (Answered n) another = refl
+    by (AcceptAnswer side t a) Done another = refl
+    by (AcceptAnswer side t a) (Polled outputs end) another = refl
     by (AcceptAnswer side t a) (Refused error) another = refl
     by (AcceptAnswer side t a) NoSuch another = refl
     by (AcceptAnswer side t a) Alloc another = refl
+    by (Time side now) outcome another = refl
+    by (Datagram side packet now) outcome another = refl
+    by (Poll side) outcome another = refl
+    by (Drain side) outcome another = refl
+    by (Close side) outcome another = refl

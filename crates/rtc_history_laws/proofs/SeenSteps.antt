@@ -22,7 +22,7 @@ use Rattle.rtc_history.specs.declared.op_answer.OpAnswer.TheVariants.{Mid, Chang
 use Rattle.rtc_history.specs.declared.made.Made.{Made}
 use Rattle.rtc_history.specs.declared.made.Made.TheVariants.{NotAsked, Nothing, Offer, Alloc as MadeAlloc}
 use Rattle.rtc_history.specs.declared.step.Step.{Step}
-use Rattle.rtc_history.specs.declared.step.Step.TheVariants.{Negotiate, AcceptOffer, AcceptAnswer}
+use Rattle.rtc_history.specs.declared.step.Step.TheVariants.{Negotiate, AcceptOffer, AcceptAnswer, Time, Datagram, Poll, Drain, Close}
 use Rattle.rtc_history.specs.declared.outcome.Outcome.{Outcome}
 use Rattle.rtc_history.specs.declared.outcome.Outcome.TheVariants.{Negotiated, Answered, Finished, Refused, NoSuch, Alloc}
 use Rattle.rtc_history.specs.declared.table.Table.{Table}
@@ -85,7 +85,7 @@ makes_keep_side true at p q kept kept' (Offer k) h = record { ice = ap (λ s. s.
 makes_keep_side true at p q kept kept' MadeAlloc h = keeps_same p q h.0
 makes_keep_side asked at p q kept kept' made h = absurd h
 
-pub negotiates_keep_side : (at : Side) (ops : List Op) (apply : Bool) (old new : Stance) (kept kept' : List Kept) (outcome : Outcome) (table : Option Table) → StanceNegotiates at ops apply old kept outcome table new kept' → KeepsSide old new
+pub negotiates_keep_side : {E : Type 0} → (at : Side) (ops : List Op) (apply : Bool) (old new : Stance) (kept kept' : List Kept) (outcome : Outcome E) (table : Option Table) → StanceNegotiates at ops apply old kept outcome table new kept' → KeepsSide old new
 negotiates_keep_side at ops apply old new kept kept' Alloc None h = keeps_same old new h.peer
 negotiates_keep_side at ops apply old new kept kept' (Negotiated answers made) (Some table) h =
     keeps_trans old h.0 new (let ops_kept = ops_keep_side (lent old) h.0 ops answers h.1 in record { ice = ops_kept.ice; fingerprint = ops_kept.fingerprint }) (makes_keep_side (apply && not (answers_lack answers)) at h.0 new kept kept' made h.2)
@@ -99,7 +99,7 @@ here_is at found = rw (same_side-self at) refl
 here_breaks : (at : Side) (b : Bool) → b ≡ true → (same_side at at && b) ≡ true
 here_breaks at b is = rw (same_side-self at, is) refl
 
-offer_sees : (fresh : Stances) (past : List Entry) (at : Side) (k : ℕ) (offer : Option Sdp) (old new : Stance) (kept kept' : List Kept) (outcome : Outcome) (table : Option Table) (made : List MadeSdp) → remote_sdp true at k past ≡ offer
+offer_sees : {E : Type 0} → (fresh : Stances) (past : List (Entry E)) (at : Side) (k : ℕ) (offer : Option Sdp) (old new : Stance) (kept kept' : List Kept) (outcome : Outcome E) (table : Option Table) (made : List MadeSdp) → remote_sdp true at k past ≡ offer
     → StanceStepAcceptsOffer at offer old kept outcome table new kept' → SideSees fresh past at old → SideSees fresh (entry (AcceptOffer at k) outcome table made ∷ past) at new
 offer_sees fresh past at k None old new kept kept' Alloc None made said h sees = sees_still fresh past _ at old new (ap (λ s. s.ice) h.peer) (ap (λ s. s.fingerprint) h.peer) refl sees
 offer_sees fresh past at k (Some sdp) old new kept kept' Alloc None made said h sees = sees_still fresh past _ at old new (ap (λ s. s.ice) h.peer) (ap (λ s. s.fingerprint) h.peer) refl sees
@@ -121,7 +121,7 @@ offer_sees fresh past at k (Some sdp) old new kept kept' (Refused (MediaFailed c
 offer_sees fresh past at k (Some sdp) old new kept kept' (Refused BadChannel) (Some table) made said h sees = absurd h.0
 offer_sees fresh past at k offer old new kept kept' outcome table made said h sees = absurd h
 
-answer_sees : (fresh : Stances) (past : List Entry) (at : Side) (t a : ℕ) (token : Option PendingOffer) (sdp : Option Sdp) (old new : Stance) (kept kept' : List Kept) (outcome : Outcome) (table : Option Table) (made : List MadeSdp)
+answer_sees : {E : Type 0} → (fresh : Stances) (past : List (Entry E)) (at : Side) (t a : ℕ) (token : Option PendingOffer) (sdp : Option Sdp) (old new : Stance) (kept kept' : List Kept) (outcome : Outcome E) (table : Option Table) (made : List MadeSdp)
     → remote_sdp false at a past ≡ sdp → StanceStepAcceptsAnswer t token sdp old kept outcome table new kept' → SideSees fresh past at old → SideSees fresh (entry (AcceptAnswer at t a) outcome table made ∷ past) at new
 answer_sees fresh past at t a None None old new kept kept' Alloc None made said h sees = sees_still fresh past _ at old new (ap (λ s. s.ice) h.peer) (ap (λ s. s.fingerprint) h.peer) refl sees
 answer_sees fresh past at t a None (Some sdp) old new kept kept' Alloc None made said h sees = sees_still fresh past _ at old new (ap (λ s. s.ice) h.peer) (ap (λ s. s.fingerprint) h.peer) refl sees
@@ -147,7 +147,7 @@ answer_sees fresh past at t a (Some token) (Some sdp) old new kept kept' (Refuse
 answer_sees fresh past at t a (Some token) (Some sdp) old new kept kept' (Refused BadChannel) (Some table) made said h sees = absurd h.0
 answer_sees fresh past at t a token sdp old new kept kept' outcome table made said h sees = absurd h
 
-acts_see : (fresh : Stances) (past : List Entry) (old new : PairStance) (step : Step) (outcome : Outcome) (table : Option Table) (made : List MadeSdp) → Tells past old
+acts_see : {E : Type 0} → (fresh : Stances) (past : List (Entry E)) (old new : PairStance) (step : Step) (outcome : Outcome E) (table : Option Table) (made : List MadeSdp) → Tells past old
     → StanceActs step (old.sides (side_of step)) old.sdps outcome table (new.sides (side_of step)) new.sdps → SideSees fresh past (side_of step) (old.sides (side_of step))
     → SideSees fresh (entry step outcome table made ∷ past) (side_of step) (new.sides (side_of step))
 acts_see fresh past old new (Negotiate at ops apply) outcome table made tells acts sees =
@@ -157,9 +157,19 @@ acts_see fresh past old new (AcceptOffer at k) outcome table made tells acts see
     offer_sees fresh past at k (kept_remote_sdp true old.sdps at k) (old.sides at) (new.sides at) old.sdps new.sdps outcome table made (remote_sdp-told past old true at k tells) acts sees
 acts_see fresh past old new (AcceptAnswer at t a) outcome table made tells acts sees =
     answer_sees fresh past at t a (held_token old.sdps at t) (kept_remote_sdp false old.sdps at a) (old.sides at) (new.sides at) old.sdps new.sdps outcome table made (remote_sdp-told past old false at a tells) acts sees
+acts_see fresh past old new (Time at now) outcome table made tells acts sees =
+    sees_still fresh past (entry (Time at now) outcome table made) at (old.sides at) (new.sides at) (ap (λ s. s.ice) acts.stays.peer) (ap (λ s. s.fingerprint) acts.stays.peer) refl sees
+acts_see fresh past old new (Datagram at packet now) outcome table made tells acts sees =
+    sees_still fresh past (entry (Datagram at packet now) outcome table made) at (old.sides at) (new.sides at) (ap (λ s. s.ice) acts.stays.peer) (ap (λ s. s.fingerprint) acts.stays.peer) refl sees
+acts_see fresh past old new (Poll at) outcome table made tells acts sees =
+    sees_still fresh past (entry (Poll at) outcome table made) at (old.sides at) (new.sides at) (ap (λ s. s.ice) acts.stays.peer) (ap (λ s. s.fingerprint) acts.stays.peer) refl sees
+acts_see fresh past old new (Drain at) outcome table made tells acts sees =
+    sees_still fresh past (entry (Drain at) outcome table made) at (old.sides at) (new.sides at) (ap (λ s. s.ice) acts.stays.peer) (ap (λ s. s.fingerprint) acts.stays.peer) refl sees
+acts_see fresh past old new (Close at) outcome table made tells acts sees =
+    sees_still fresh past (entry (Close at) outcome table made) at (old.sides at) (new.sides at) (ap (λ s. s.ice) acts.stays.peer) (ap (λ s. s.fingerprint) acts.stays.peer) refl sees
 
 -- Both sides see after a step what its past and entry tell.
-pub step_sees : (fresh : Stances) (past : List Entry) (old new : PairStance) (step : Step) (outcome : Outcome) (table : Option Table) (made : List MadeSdp) → Tells past old → StancePerforms old step outcome table new
+pub step_sees : {E : Type 0} → (fresh : Stances) (past : List (Entry E)) (old new : PairStance) (step : Step) (outcome : Outcome E) (table : Option Table) (made : List MadeSdp) → Tells past old → StancePerforms old step outcome table new
     → ((at : Side) → SideSees fresh past at (old.sides at)) → (at : Side) → SideSees fresh (entry step outcome table made ∷ past) at (new.sides at)
 step_sees fresh past old new step outcome table made tells performs sees =
     both_sides (λ at. SideSees fresh (entry step outcome table made ∷ past) at (new.sides at)) (side_of step)

@@ -5,11 +5,11 @@ use Rattle.rtc_history.specs.SoundEntry.{IsSoundEntry}
 use Rattle.rtc_history.specs.Views.{Stances}
 
 -- an entry is sound after a past, for what the sides are before and after it
-pub record IsSoundIn (fresh : Stances) (past : List Entry) (entry : Entry) : Type 0 where
+pub record IsSoundIn {E : Type 0} (fresh : Stances) (past : List (Entry E)) (entry : Entry E) : Type 0 where
   pub between : Stances
   pub after : Stances
   pub sound : IsSoundEntry fresh past between entry after
 
-abbrev pub Sound : Stances → List Entry → Type 0
+abbrev pub Sound : {E : Type 0} → Stances → List (Entry E) → Type 0
 Sound fresh [] = Unit {0}
 Sound fresh (entry ∷ past) = IsSoundIn fresh past entry × Sound fresh past

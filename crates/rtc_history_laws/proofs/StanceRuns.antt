@@ -1,5 +1,5 @@
 -- Pairs that steps lead to, as negotiation sees both sides.
-use Rattle.std.proofs.Common.{◌≡◌, List, [], ◌∷◌, ap}
+use Rattle.std.proofs.Common.{◌≡◌, ℕ, Bool, List, [], ◌∷◌, ap}
 use Rattle.rtc_peer_state.specs.Meanings.{Meanings, PartsLaws}
 use Rattle.rtc_history.specs.declared.side.Side.{Side}
 use Rattle.rtc_history.specs.Past.{Entry}
@@ -17,19 +17,19 @@ pub record IsFreshStance (pair : PairStance) : Type 0 where
   pub sdps : pair.sdps ≡ []
   pub size : pair.size ≡ 0
 
-abbrev pub StanceReached : PairStance → List Entry → PairStance → Type 0
+abbrev pub StanceReached : {E : Type 0} → PairStance → List (Entry E) → PairStance → Type 0
 StanceReached start past pair = Went (λ earlier between entry after. StanceEnters between entry after) (λ first. first ≡ start) past pair
 
 -- each step leads from one pair to another, and its entry is sound after the entries before it
-abbrev pub StanceRan : PairStance → List Entry → PairStance → Type 0
+abbrev pub StanceRan : {E : Type 0} → PairStance → List (Entry E) → PairStance → Type 0
 StanceRan start past pair =
     Went (λ earlier between entry after. StanceEnters between entry after × IsSoundEntry start.sides earlier between.sides entry after.sides) (λ first. first ≡ start) past pair
 
-pub ran_reached : (start : PairStance) (past : List Entry) (pair : PairStance) → StanceRan start past pair → StanceReached start past pair
+pub ran_reached : {E : Type 0} → (start : PairStance) (past : List (Entry E)) (pair : PairStance) → StanceRan start past pair → StanceReached start past pair
 ran_reached start [] pair ran = ran
 ran_reached start (last ∷ past) pair ran = (ran.0, ran_reached start past ran.0 ran.1, ran.2.0)
 
-pub ran_sound : (start : PairStance) (past : List Entry) (pair : PairStance) → StanceRan start past pair → Sound start.sides past
+pub ran_sound : {E : Type 0} → (start : PairStance) (past : List (Entry E)) (pair : PairStance) → StanceRan start past pair → Sound start.sides past
 ran_sound start [] pair ran = tt
 ran_sound start (last ∷ past) pair ran = (record { between = ran.0.sides; after = pair.sides; sound = ran.2.1 }, ran_sound start past ran.0 ran.1)
 
@@ -37,11 +37,11 @@ module _ {I D S M E X T W N : Type 0} (m : Meanings I D S M E X T W N) where
   pub fresh_stands : (pair : PairState I D S M N) → IsFresh m pair → IsFreshStance (pair_stance m pair)
   fresh_stands pair fresh = record { built = fresh.built; sdps = fresh.sdps; size = fresh.size }
 
-  pub reached_stands : PartsLaws m → (start : PairState I D S M N) (past : List Entry) (pair : PairState I D S M N) → Reached m start past pair → StanceReached (pair_stance m start) past (pair_stance m pair)
-  reached_stands laws start [] pair reached = ap (pair_stance m) reached
-  reached_stands laws start (last ∷ past) pair reached = (pair_stance m reached.0, reached_stands laws start past reached.0 reached.1, enters_stands m laws reached.0 last pair reached.2)
+  pub reached_stands : (stun : List ℕ → Bool) → PartsLaws m → (start : PairState I D S M N) (past : List (Entry E)) (pair : PairState I D S M N) → Reached m stun start past pair → StanceReached (pair_stance m start) past (pair_stance m pair)
+  reached_stands stun laws start [] pair reached = ap (pair_stance m) reached
+  reached_stands stun laws start (last ∷ past) pair reached = (pair_stance m reached.0, reached_stands stun laws start past reached.0 reached.1, enters_stands m laws reached.0 last pair reached.2)
 
-  pub ran_stands : PartsLaws m → (start : PairState I D S M N) (past : List Entry) (pair : PairState I D S M N) → Went (EntersSoundly m start) (λ fresh. fresh ≡ start) past pair
+  pub ran_stands : (stun : List ℕ → Bool) → PartsLaws m → (start : PairState I D S M N) (past : List (Entry E)) (pair : PairState I D S M N) → Went (EntersSoundly m stun start) (λ fresh. fresh ≡ start) past pair
       → StanceRan (pair_stance m start) past (pair_stance m pair)
-  ran_stands laws start [] pair ran = ap (pair_stance m) ran
-  ran_stands laws start (last ∷ past) pair ran = (pair_stance m ran.0, ran_stands laws start past ran.0 ran.1, (enters_stands m laws ran.0 last pair ran.2.0, ran.2.1))
+  ran_stands stun laws start [] pair ran = ap (pair_stance m) ran
+  ran_stands stun laws start (last ∷ past) pair ran = (pair_stance m ran.0, ran_stands stun laws start past ran.0 ran.1, (enters_stands m laws ran.0 last pair ran.2.0, ran.2.1))

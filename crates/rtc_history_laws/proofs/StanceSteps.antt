@@ -23,20 +23,21 @@ use Rattle.rtc_history.specs.declared.side.Side.{Side}
 use Rattle.rtc_history.specs.declared.op.Op.{Op}
 use Rattle.rtc_history.specs.declared.op.Op.TheVariants.{AddMedia, SetDirection, StopMedia, AddChannel, IceRestart}
 use Rattle.rtc_history.specs.declared.step.Step.{Step}
-use Rattle.rtc_history.specs.declared.step.Step.TheVariants.{Negotiate, AcceptOffer, AcceptAnswer}
+use Rattle.rtc_history.specs.declared.step.Step.TheVariants.{Negotiate, AcceptOffer, AcceptAnswer, Time, Datagram, Poll, Drain, Close}
 use Rattle.rtc_history.specs.declared.op_answer.OpAnswer.{OpAnswer}
 use Rattle.rtc_history.specs.declared.op_answer.OpAnswer.TheVariants.{Mid, Changed, NoLine, Channel, Creds}
 use Rattle.rtc_history.specs.declared.op_answer.OpAnswer.TheVariants.{BadChannel as NoChannel, Alloc as OpAlloc}
 use Rattle.rtc_history.specs.declared.made.Made.{Made}
 use Rattle.rtc_history.specs.declared.made.Made.TheVariants.{NotAsked, Nothing, Offer, Alloc as MadeAlloc}
 use Rattle.rtc_history.specs.declared.outcome.Outcome.{Outcome}
-use Rattle.rtc_history.specs.declared.outcome.Outcome.TheVariants.{Negotiated, Answered, Finished, Refused, NoSuch, Alloc}
+use Rattle.rtc_history.specs.declared.outcome.Outcome.TheVariants.{Negotiated, Answered, Finished, Done, Polled, Refused, NoSuch, Alloc}
 use Rattle.rtc_history.specs.declared.table.Table.{Table}
 use Rattle.rtc_history.specs.declared.kept.Kept.{Kept}
 use Rattle.rtc_history.specs.Memory.{answers_lack}
 use Rattle.rtc_history.specs.Sides.{side_of, other_side}
 use Rattle.rtc_history.specs.Sizes.{step_size}
 use Rattle.rtc_history.specs.Past.{Entry, MadeSdp}
+use Rattle.rtc_history.specs.Sound.{is_handled, is_heard, is_polled}
 use Rattle.rtc_history.specs.Views.{Stances}
 use Rattle.rtc_history.specs.PairState.{PairState, stances_of, kept_remote_sdp, held_token, spent}
 use Rattle.rtc_history.specs.Performs.{CallsLine, kept_offer, kept_answer, wanted, sdps_behind}
@@ -103,7 +104,7 @@ StanceMakesOf true at p sdps (Offer k) q sdps' =
 StanceMakesOf true at p sdps MadeAlloc q sdps' = StanceApplies p (Err alloc_error) q × (sdps' ≡ sdps)
 StanceMakesOf asked at p sdps made q sdps' = ⊥
 
-abbrev pub StanceNegotiates : Side → List Op → Bool → Stance → List Kept → Outcome → Option Table → Stance → List Kept → Type 0
+abbrev pub StanceNegotiates : {E : Type 0} → Side → List Op → Bool → Stance → List Kept → Outcome E → Option Table → Stance → List Kept → Type 0
 StanceNegotiates at ops apply old sdps Alloc None new sdps' = StanceStays old sdps new sdps'
 StanceNegotiates at ops apply old sdps (Negotiated answers made) (Some table) new sdps' =
     (p : Stance)
@@ -112,7 +113,7 @@ StanceNegotiates at ops apply old sdps (Negotiated answers made) (Some table) ne
     × StanceShows table new
 StanceNegotiates at ops apply old sdps outcome table new sdps' = ⊥
 
-abbrev pub StanceStepAcceptsOffer : Side → Option Sdp → Stance → List Kept → Outcome → Option Table → Stance → List Kept → Type 0
+abbrev pub StanceStepAcceptsOffer : {E : Type 0} → Side → Option Sdp → Stance → List Kept → Outcome E → Option Table → Stance → List Kept → Type 0
 StanceStepAcceptsOffer at offer old sdps Alloc None new sdps' = StanceStays old sdps new sdps'
 StanceStepAcceptsOffer at None old sdps NoSuch (Some table) new sdps' = StanceStays old sdps new sdps' × StanceShows table old
 StanceStepAcceptsOffer at (Some sdp) old sdps (Answered k) (Some table) new sdps' =
@@ -127,7 +128,7 @@ StanceStepAcceptsOffer at (Some sdp) old sdps (Refused error) (Some table) new s
     × StanceShows table new
 StanceStepAcceptsOffer at offer old sdps outcome table new sdps' = ⊥
 
-abbrev pub StanceStepAcceptsAnswer : ℕ → Option PendingOffer → Option Sdp → Stance → List Kept → Outcome → Option Table → Stance
+abbrev pub StanceStepAcceptsAnswer : {E : Type 0} → ℕ → Option PendingOffer → Option Sdp → Stance → List Kept → Outcome E → Option Table → Stance
     → List Kept → Type 0
 StanceStepAcceptsAnswer t token answer old sdps Alloc None new sdps' = StanceStays old sdps new sdps'
 StanceStepAcceptsAnswer t None answer old sdps NoSuch (Some table) new sdps' = StanceStays old sdps new sdps' × StanceShows table old
@@ -142,18 +143,34 @@ StanceStepAcceptsAnswer t (Some token) (Some sdp) old sdps (Refused error) (Some
     × StanceShows table new
 StanceStepAcceptsAnswer t token answer old sdps outcome table new sdps' = ⊥
 
-abbrev pub StanceActs : Step → Stance → List Kept → Outcome → Option Table → Stance → List Kept → Type 0
+-- what is shown of a step that negotiates nothing: that memory ran out, or an outcome that it may have, and the table
+abbrev pub RestTold : {E : Type 0} → (Outcome E → Bool) → Outcome E → Option Table → Stance → Type 0
+RestTold may outcome None s = outcome ≡ Alloc
+RestTold may outcome (Some table) s = (may outcome ≡ true) × StanceShows table s
+
+-- a step that negotiates nothing: an input, polls or a close
+pub record StanceRests {E : Type 0} (may : Outcome E → Bool) (old : Stance) (sdps : List Kept) (outcome : Outcome E) (table : Option Table)
+    (new : Stance) (sdps' : List Kept) : Type 0 where
+  pub stays : StanceStays old sdps new sdps'
+  pub told : RestTold may outcome table old
+
+abbrev pub StanceActs : {E : Type 0} → Step → Stance → List Kept → Outcome E → Option Table → Stance → List Kept → Type 0
 StanceActs (Negotiate at ops apply) old sdps outcome table new sdps' = StanceNegotiates at ops apply old sdps outcome table new sdps'
 StanceActs (AcceptOffer at offer) old sdps outcome table new sdps' =
     StanceStepAcceptsOffer at (kept_remote_sdp true sdps at offer) old sdps outcome table new sdps'
 StanceActs (AcceptAnswer at token answer) old sdps outcome table new sdps' =
     StanceStepAcceptsAnswer token (held_token sdps at token) (kept_remote_sdp false sdps at answer) old sdps outcome table new sdps'
+StanceActs (Time at now) old sdps outcome table new sdps' = StanceRests is_handled old sdps outcome table new sdps'
+StanceActs (Datagram at packet now) old sdps outcome table new sdps' = StanceRests is_heard old sdps outcome table new sdps'
+StanceActs (Poll at) old sdps outcome table new sdps' = StanceRests is_polled old sdps outcome table new sdps'
+StanceActs (Drain at) old sdps outcome table new sdps' = StanceRests is_polled old sdps outcome table new sdps'
+StanceActs (Close at) old sdps outcome table new sdps' = StanceRests is_handled old sdps outcome table new sdps'
 
-pub record StancePerforms (old : PairStance) (step : Step) (outcome : Outcome) (table : Option Table) (new : PairStance) : Type 0 where
+pub record StancePerforms {E : Type 0} (old : PairStance) (step : Step) (outcome : Outcome E) (table : Option Table) (new : PairStance) : Type 0 where
   pub acts : StanceActs step (old.sides (side_of step)) old.sdps outcome table (new.sides (side_of step)) new.sdps
   pub other : new.sides (other_side (side_of step)) ≡ old.sides (other_side (side_of step))
   pub size : new.size ≡ old.size + step_size step
 
-pub record StanceEnters (old : PairStance) (entry : Entry) (new : PairStance) : Type 0 where
+pub record StanceEnters {E : Type 0} (old : PairStance) (entry : Entry E) (new : PairStance) : Type 0 where
   pub performs : StancePerforms old entry.step entry.outcome entry.table new
   pub made : entry.made ≡ made_by old new

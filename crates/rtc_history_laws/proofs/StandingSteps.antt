@@ -17,33 +17,36 @@ use Rattle.rtc_peer_state.proofs.StanceLemmas.{
   applies_stands,
 }
 use Rattle.rtc_peer_state.proofs.StanceAcceptances.{accepts_offer_stands, accepts_answer_stands}
+use Rattle.rtc_polling.specs.declared.input.Input.TheVariants as given
+use Rattle.rtc_polling.specs.declared.polled_peer.PolledPeer.{PolledPeer}
+use Rattle.rtc_polling.specs.Closing.{ClosesPeer}
+use Rattle.rtc_polling.specs.Inputs.{HandlesInput}
+use Rattle.rtc_history_laws.proofs.StandingPolls.{shows_stands, calls_rest, hears_rest, polls_rest, input_stays, close_stays, once_stays, drains_stays}
 use Rattle.rtc_history.specs.declared.side.Side.{Side}
 use Rattle.rtc_history.specs.declared.op.Op.{Op}
 use Rattle.rtc_history.specs.declared.op.Op.TheVariants.{AddMedia, SetDirection, StopMedia, AddChannel, IceRestart}
 use Rattle.rtc_history.specs.declared.step.Step.{Step}
-use Rattle.rtc_history.specs.declared.step.Step.TheVariants.{Negotiate, AcceptOffer, AcceptAnswer}
+use Rattle.rtc_history.specs.declared.step.Step.TheVariants.{Negotiate, AcceptOffer, AcceptAnswer, Time, Datagram, Poll, Drain, Close}
 use Rattle.rtc_history.specs.declared.op_answer.OpAnswer.{OpAnswer}
 use Rattle.rtc_history.specs.declared.op_answer.OpAnswer.TheVariants.{Mid, Changed, NoLine, Channel, Creds}
 use Rattle.rtc_history.specs.declared.op_answer.OpAnswer.TheVariants.{BadChannel as NoChannel, Alloc as OpAlloc}
 use Rattle.rtc_history.specs.declared.made.Made.{Made}
 use Rattle.rtc_history.specs.declared.made.Made.TheVariants.{NotAsked, Nothing, Offer, Alloc as MadeAlloc}
 use Rattle.rtc_history.specs.declared.outcome.Outcome.{Outcome}
-use Rattle.rtc_history.specs.declared.outcome.Outcome.TheVariants.{Negotiated, Answered, Finished, Refused, NoSuch, Alloc}
+use Rattle.rtc_history.specs.declared.outcome.Outcome.TheVariants.{Negotiated, Answered, Finished, Done, Polled, Refused, NoSuch, Alloc}
 use Rattle.rtc_history.specs.declared.table.Table.{Table}
 use Rattle.rtc_history.specs.declared.kept.Kept.{Kept}
+use Rattle.rtc_history.specs.declared.sent_packet.SentPacket.{SentPacket}
 use Rattle.rtc_history.specs.Memory.{answers_lack}
 use Rattle.rtc_history.specs.Sides.{side_of}
 use Rattle.rtc_history.specs.Past.{Entry}
-use Rattle.rtc_history.specs.PairState.{PairState, peer_at, kept_remote_sdp, held_token}
-use Rattle.rtc_history.specs.Performs.{Stays, Shows, wanted, PerformsOps, MakesOf, Negotiates, StepAcceptsOffer, StepAcceptsAnswer, Acts, Performs, Enters}
+use Rattle.rtc_history.specs.PairState.{PairState, rtc_at, kept_remote_sdp, remote_packet, held_token}
+use Rattle.rtc_history.specs.Performs.{Stays, Shows, wanted, PerformsOps, MakesOf, Negotiates, StepAcceptsOffer, StepAcceptsAnswer, PollsOnce, Drains, Acts, Performs, Enters}
 use Rattle.rtc_history_laws.proofs.StanceSteps.{StanceStays, StanceShows, StancePerformsOps, StanceMakesOf, StanceNegotiates, StanceStepAcceptsOffer, StanceStepAcceptsAnswer, StanceActs, StancePerforms, StanceEnters, pair_stance}
 
 module _ {I D S M E X T W N : Type 0} (m : Meanings I D S M E X T W N) (laws : PartsLaws m) where
   stays_stands : (old new : Peer I D S M N) (sdps sdps' : List Kept) → Stays old sdps new sdps' → StanceStays (stance_of m old) sdps (stance_of m new) sdps'
   stays_stands old new sdps sdps' stays = record { peer = ap (stance_of m) stays.peer; sdps_kept = stays.sdps_kept }
-
-  shows_stands : (table : Table) (p : Peer I D S M N) → Shows table p → StanceShows table (stance_of m p)
-  shows_stands table p shows = record { lines = shows.lines; channels = shows.channels }
 
   ops_stand : (p : Peer I D S M N) (ops : List Op) (answers : List OpAnswer) (q : Peer I D S M N) → PerformsOps m p ops answers q
       → StancePerformsOps (stance_of m p) ops answers (stance_of m q)
@@ -85,53 +88,66 @@ module _ {I D S M E X T W N : Type 0} (m : Meanings I D S M E X T W N) (laws : P
   makes_stand true at p sdps MadeAlloc q sdps' h = (applies_stands m laws p (Err alloc_error) q h.0, h.1)
   makes_stand asked at p sdps made q sdps' h = absurd h
 
-  negotiates_stands : (at : Side) (ops : List Op) (apply : Bool) (old : Peer I D S M N) (sdps : List Kept) (outcome : Outcome) (table : Option Table) (new : Peer I D S M N) (sdps' : List Kept)
+  negotiates_stands : (at : Side) (ops : List Op) (apply : Bool) (old : Peer I D S M N) (sdps : List Kept) (outcome : Outcome E) (table : Option Table) (new : Peer I D S M N) (sdps' : List Kept)
       → Negotiates m at ops apply old sdps outcome table new sdps' → StanceNegotiates at ops apply (stance_of m old) sdps outcome table (stance_of m new) sdps'
   negotiates_stands at ops apply old sdps Alloc None new sdps' h = stays_stands old new sdps sdps' h
   negotiates_stands at ops apply old sdps (Negotiated answers made) (Some table) new sdps' h =
-      (stance_of m h.0, ops_stand _ ops answers h.0 h.1, makes_stand (apply && not (answers_lack answers)) at h.0 sdps made new sdps' h.2, shows_stands table new h.3)
+      (stance_of m h.0, ops_stand _ ops answers h.0 h.1, makes_stand (apply && not (answers_lack answers)) at h.0 sdps made new sdps' h.2, shows_stands m laws table new h.3)
   negotiates_stands at ops apply old sdps outcome table new sdps' h = absurd h
 
-  step_offer_stands : (at : Side) (offer : Option Sdp) (old : Peer I D S M N) (sdps : List Kept) (outcome : Outcome) (table : Option Table) (new : Peer I D S M N) (sdps' : List Kept)
+  step_offer_stands : (at : Side) (offer : Option Sdp) (old : Peer I D S M N) (sdps : List Kept) (outcome : Outcome E) (table : Option Table) (new : Peer I D S M N) (sdps' : List Kept)
       → StepAcceptsOffer m at offer old sdps outcome table new sdps' → StanceStepAcceptsOffer at offer (stance_of m old) sdps outcome table (stance_of m new) sdps'
   step_offer_stands at None old sdps Alloc None new sdps' h = stays_stands old new sdps sdps' h
   step_offer_stands at (Some sdp) old sdps Alloc None new sdps' h = stays_stands old new sdps sdps' h
-  step_offer_stands at None old sdps NoSuch (Some table) new sdps' h = (stays_stands old new sdps sdps' h.0, shows_stands table old h.1)
+  step_offer_stands at None old sdps NoSuch (Some table) new sdps' h = (stays_stands old new sdps sdps' h.0, shows_stands m laws table old h.1)
   step_offer_stands at (Some sdp) old sdps (Answered k) (Some table) new sdps' h =
-      (h.0, accepts_offer_stands m laws _ sdp (Ok h.0) new h.1, h.2, h.3, shows_stands table new h.4)
+      (h.0, accepts_offer_stands m laws _ sdp (Ok h.0) new h.1, h.2, h.3, shows_stands m laws table new h.4)
   step_offer_stands at (Some sdp) old sdps (Refused error) (Some table) new sdps' h =
-      (accepts_offer_stands m laws _ sdp (Err error) new h.0, h.1, shows_stands table new h.2)
+      (accepts_offer_stands m laws _ sdp (Err error) new h.0, h.1, shows_stands m laws table new h.2)
   step_offer_stands at offer old sdps outcome table new sdps' h = absurd h
 
-  step_answer_stands : (t : ℕ) (token : Option PendingOffer) (answer : Option Sdp) (old : Peer I D S M N) (sdps : List Kept) (outcome : Outcome) (table : Option Table) (new : Peer I D S M N) (sdps' : List Kept)
+  step_answer_stands : (t : ℕ) (token : Option PendingOffer) (answer : Option Sdp) (old : Peer I D S M N) (sdps : List Kept) (outcome : Outcome E) (table : Option Table) (new : Peer I D S M N) (sdps' : List Kept)
       → StepAcceptsAnswer m t token answer old sdps outcome table new sdps' → StanceStepAcceptsAnswer t token answer (stance_of m old) sdps outcome table (stance_of m new) sdps'
   step_answer_stands t None None old sdps Alloc None new sdps' h = stays_stands old new sdps sdps' h
   step_answer_stands t None (Some sdp) old sdps Alloc None new sdps' h = stays_stands old new sdps sdps' h
   step_answer_stands t (Some token) None old sdps Alloc None new sdps' h = stays_stands old new sdps sdps' h
   step_answer_stands t (Some token) (Some sdp) old sdps Alloc None new sdps' h = stays_stands old new sdps sdps' h
-  step_answer_stands t None None old sdps NoSuch (Some table) new sdps' h = (stays_stands old new sdps sdps' h.0, shows_stands table old h.1)
-  step_answer_stands t None (Some sdp) old sdps NoSuch (Some table) new sdps' h = (stays_stands old new sdps sdps' h.0, shows_stands table old h.1)
-  step_answer_stands t (Some token) None old sdps NoSuch (Some table) new sdps' h = (stays_stands old new sdps sdps' h.0, shows_stands table old h.1)
+  step_answer_stands t None None old sdps NoSuch (Some table) new sdps' h = (stays_stands old new sdps sdps' h.0, shows_stands m laws table old h.1)
+  step_answer_stands t None (Some sdp) old sdps NoSuch (Some table) new sdps' h = (stays_stands old new sdps sdps' h.0, shows_stands m laws table old h.1)
+  step_answer_stands t (Some token) None old sdps NoSuch (Some table) new sdps' h = (stays_stands old new sdps sdps' h.0, shows_stands m laws table old h.1)
   step_answer_stands t (Some token) (Some sdp) old sdps Finished (Some table) new sdps' h =
-      (accepts_answer_stands m laws _ token sdp (Ok tt) new h.0, h.1, shows_stands table new h.2)
+      (accepts_answer_stands m laws _ token sdp (Ok tt) new h.0, h.1, shows_stands m laws table new h.2)
   step_answer_stands t (Some token) (Some sdp) old sdps (Refused error) (Some table) new sdps' h =
-      (accepts_answer_stands m laws _ token sdp (Err error) new h.0, h.1, shows_stands table new h.2)
+      (accepts_answer_stands m laws _ token sdp (Err error) new h.0, h.1, shows_stands m laws table new h.2)
   step_answer_stands t token answer old sdps outcome table new sdps' h = absurd h
 
-  acts_stand : (step : Step) (old : Peer I D S M N) (sdps : List Kept) (outcome : Outcome) (table : Option Table) (new : Peer I D S M N) (sdps' : List Kept)
-      → Acts m step old sdps outcome table new sdps' → StanceActs step (stance_of m old) sdps outcome table (stance_of m new) sdps'
-  acts_stand (Negotiate at ops apply) old sdps outcome table new sdps' h = negotiates_stands at ops apply old sdps outcome table new sdps' h
-  acts_stand (AcceptOffer at k) old sdps outcome table new sdps' h = step_offer_stands at (kept_remote_sdp true sdps at k) old sdps outcome table new sdps' h
-  acts_stand (AcceptAnswer at t a) old sdps outcome table new sdps' h = step_answer_stands t (held_token sdps at t) (kept_remote_sdp false sdps at a) old sdps outcome table new sdps' h
+  acts_stand : (stun : List ℕ → Bool) (step : Step) (old : PolledPeer I D S M N) (sdps : List Kept) (packets : List SentPacket) (outcome : Outcome E) (table : Option Table) (new : PolledPeer I D S M N)
+      (sdps' : List Kept) (packets' : List SentPacket) → Acts m stun step old sdps packets outcome table new sdps' packets'
+      → StanceActs step (stance_of m old.core) sdps outcome table (stance_of m new.core) sdps'
+  acts_stand stun (Negotiate at ops apply) old sdps packets outcome table new sdps' packets' h = negotiates_stands at ops apply old.core sdps outcome table new.core sdps' h.0
+  acts_stand stun (AcceptOffer at k) old sdps packets outcome table new sdps' packets' h = step_offer_stands at (kept_remote_sdp true sdps at k) old.core sdps outcome table new.core sdps' h.0
+  acts_stand stun (AcceptAnswer at t a) old sdps packets outcome table new sdps' packets' h =
+      step_answer_stands t (held_token sdps at t) (kept_remote_sdp false sdps at a) old.core sdps outcome table new.core sdps' h.0
+  acts_stand stun (Time at now) old sdps packets outcome table new sdps' packets' h =
+      calls_rest m laws (HandlesInput m (given.Timeout now)) (input_stays m laws (given.Timeout now)) old outcome table new sdps sdps' h.0 h.1
+  acts_stand stun (Datagram at packet now) old sdps packets outcome table new sdps' packets' h =
+      hears_rest m laws stun (remote_packet packets at packet) now old outcome table new sdps sdps' h.0 h.1
+  acts_stand stun (Poll at) old sdps packets outcome table new sdps' packets' h =
+      polls_rest m laws (PollsOnce m at old) old (λ before_it outputs end q after. once_stays m laws at old before_it outputs end q after) packets outcome table new packets' sdps sdps' h.0 h.1
+  acts_stand stun (Drain at) old sdps packets outcome table new sdps' packets' h =
+      polls_rest m laws (Drains m at old) old (λ before_it outputs end q after. drains_stays m laws at old before_it outputs end q after) packets outcome table new packets' sdps sdps' h.0 h.1
+  acts_stand stun (Close at) old sdps packets outcome table new sdps' packets' h =
+      calls_rest m laws (ClosesPeer m) (close_stays m laws) old outcome table new sdps sdps' h.0 h.1
 
   -- A step of a pair, as negotiation sees it.
-  pub performs_stands : (old : PairState I D S M N) (step : Step) (outcome : Outcome) (table : Option Table) (new : PairState I D S M N) → Performs m old step outcome table new
-      → StancePerforms (pair_stance m old) step outcome table (pair_stance m new)
-  performs_stands old step outcome table new performs = record {
-    acts = acts_stand step (peer_at (side_of step) old) old.sdps outcome table (peer_at (side_of step) new) new.sdps performs.acts;
+  pub performs_stands : {stun : List ℕ → Bool} → (old : PairState I D S M N) (step : Step) (outcome : Outcome E) (table : Option Table) (new : PairState I D S M N)
+      → Performs m stun old step outcome table new → StancePerforms (pair_stance m old) step outcome table (pair_stance m new)
+  performs_stands {stun} old step outcome table new performs = record {
+    acts = acts_stand stun step (rtc_at (side_of step) old) old.sdps old.packets outcome table (rtc_at (side_of step) new) new.sdps new.packets performs.acts;
     other = ap (λ rtc. stance_of m rtc.core) performs.other;
     size = performs.size;
   }
 
-  pub enters_stands : (old : PairState I D S M N) (entry : Entry) (new : PairState I D S M N) → Enters m old entry new → StanceEnters (pair_stance m old) entry (pair_stance m new)
+  pub enters_stands : {stun : List ℕ → Bool} → (old : PairState I D S M N) (entry : Entry E) (new : PairState I D S M N) → Enters m stun old entry new
+      → StanceEnters (pair_stance m old) entry (pair_stance m new)
   enters_stands old entry new enters = record { performs = performs_stands old entry.step entry.outcome entry.table new enters.performs; made = enters.made }

@@ -17,7 +17,7 @@ use Rattle.rtc_history_laws.proofs.ToldChannels.{told}
 use Rattle.rtc_history_laws.proofs.StanceSteps.{PairStance}
 
 -- What a past says of the token of a number, at a side whose counter is this.
-pub record TokenTells (past : List Entry) (at : Side) (counter t : ℕ) (kept : Option Kept) : Type 0 where
+pub record TokenTells {E : Type 0} (past : List (Entry E)) (at : Side) (counter t : ℕ) (kept : Option Kept) : Type 0 where
   pub held : is_some (token_for at kept) ≡ holds_token at t past
   pub right : (token : PendingOffer) → token_for at kept ≡ Some token → (counter == token.id + 1) ≡ is_right at t past
   pub older : (token : PendingOffer) → token_for at kept ≡ Some token → token.id + 1 ≤ counter
@@ -29,13 +29,13 @@ abbrev pub Fits : Side → Stance → List Kept → ℕ → Type 0
 Fits at peer kept size = (t : ℕ) (token : PendingOffer) → held_token kept at t ≡ Some token → peer.counter ≡ raised token.id → length peer.lines + length (added_mids token.changes) ≤ size
 
 -- What a past says of the channels of a side.
-pub record ChannelsTell (past : List Entry) (at : Side) (held : Channels) : Type 0 where
+pub record ChannelsTell {E : Type 0} (past : List (Entry E)) (at : Side) (held : Channels) : Type 0 where
   pub given : told held ≡ channels_given at past
   pub shown : channel_rows held ≡ channels_shown at past
   pub below : AreBelow held.given held.rows
 
 -- What a past says of a side.
-pub record SideTells (past : List Entry) (at : Side) (peer : Stance) (kept : List Kept) (size : ℕ) : Type 0 where
+pub record SideTells {E : Type 0} (past : List (Entry E)) (at : Side) (peer : Stance) (kept : List Kept) (size : ℕ) : Type 0 where
   pub rows : peer.lines ≡ before at past
   pub tokens : (t : ℕ) → TokenTells past at peer.counter t (slice_get kept t)
   pub counts : peer.counter ≤ size
@@ -45,7 +45,7 @@ pub record SideTells (past : List Entry) (at : Side) (peer : Stance) (kept : Lis
   pub fits : Fits at peer kept size
   pub channels : ChannelsTell past at peer.channels
 
-pub record Tells (past : List Entry) (pair : PairStance) : Type 0 where
+pub record Tells {E : Type 0} (past : List (Entry E)) (pair : PairStance) : Type 0 where
   pub sides : (at : Side) → SideTells past at (pair.sides at) pair.sdps pair.size
   pub says : map made_sdp pair.sdps ≡ sdps past
   -- no token past the SDPs is spent
@@ -53,7 +53,7 @@ pub record Tells (past : List Entry) (pair : PairStance) : Type 0 where
   pub count : length pair.sdps ≤ pair.size
   pub each : All (λ kept. length kept.sdp.lines ≤ pair.size) pair.sdps
 
-pub within : (past : List Entry) (pair : PairStance) → Tells past pair → IsWithin pair
+pub within : {E : Type 0} → (past : List (Entry E)) (pair : PairStance) → Tells past pair → IsWithin pair
 within past pair tells = record {
   rows = λ at. (tells.sides at).few;
   sdps = tells.count;
@@ -83,12 +83,12 @@ pub raised-small : (counter size : ℕ) → counter ≤ size → size < 2 ^ 32 �
 raised-small counter size low few = omega arith
 
 -- a new entry made no offer of this number, and spent no token of it
-pub record IsUntold (past : List Entry) (e : Entry) (at : Side) (t : ℕ) : Type 0 where
+pub record IsUntold {E : Type 0} (past : List (Entry E)) (e : Entry E) (at : Side) (t : ℕ) : Type 0 where
   pub same : is_offer_of at (slice_get (sdps (e ∷ past)) t) ≡ is_offer_of at (slice_get (sdps past) t)
   pub unspent : spends t e.step e.outcome ≡ false
   pub unmade : makes t e.outcome ≡ false
 
-token_kept : (past : List Entry) (e : Entry) (at : Side) (counter t : ℕ) (kept : Option Kept) → IsUntold past e at t
+token_kept : {E : Type 0} → (past : List (Entry E)) (e : Entry E) (at : Side) (counter t : ℕ) (kept : Option Kept) → IsUntold past e at t
     → moves at e.step e.outcome ≡ false → TokenTells past at counter t kept → TokenTells (e ∷ past) at counter t kept
 token_kept past e at counter t kept untold still told =
     let same = untold.same in
@@ -105,7 +105,7 @@ token_kept past e at counter t kept untold still told =
 not_next : (counter id : ℕ) → id + 1 ≤ counter → (counter + 1 == id + 1) ≡ false
 not_next counter id older = ne_eqb (counter + 1) (id + 1) (λ e. omega arith)
 
-token_moved : (past : List Entry) (e : Entry) (at : Side) (counter t : ℕ) (kept : Option Kept) → IsUntold past e at t
+token_moved : {E : Type 0} → (past : List (Entry E)) (e : Entry E) (at : Side) (counter t : ℕ) (kept : Option Kept) → IsUntold past e at t
     → moves at e.step e.outcome ≡ true → TokenTells past at counter t kept → TokenTells (e ∷ past) at (counter + 1) t kept
 token_moved past e at counter t kept untold moved told =
     let same = untold.same in
@@ -119,13 +119,13 @@ token_moved past e at counter t kept untold moved told =
       restarts = λ token is. told.restarts token is ∙ (rw unmade refl);
     }
 
-pub token_next : (moved : Bool) (past : List Entry) (e : Entry) (at : Side) (counter t : ℕ) (kept : Option Kept) → IsUntold past e at t
+pub token_next : {E : Type 0} → (moved : Bool) (past : List (Entry E)) (e : Entry E) (at : Side) (counter t : ℕ) (kept : Option Kept) → IsUntold past e at t
     → moves at e.step e.outcome ≡ moved → TokenTells past at counter t kept → TokenTells (e ∷ past) at (cond moved (counter + 1) counter) t kept
 token_next true past e at counter t kept untold moved told = token_moved past e at counter t kept untold moved told
 token_next false past e at counter t kept untold moved told = token_kept past e at counter t kept untold moved told
 
 -- an SDP whose token this side has not
-pub no_token : (past : List Entry) (at : Side) (counter t : ℕ) (kept : Option Kept) → token_for at kept ≡ None → holds_token at t past ≡ false → TokenTells past at counter t kept
+pub no_token : {E : Type 0} → (past : List (Entry E)) (at : Side) (counter t : ℕ) (kept : Option Kept) → token_for at kept ≡ None → holds_token at t past ≡ false → TokenTells past at counter t kept
 no_token past at counter t kept none unheld = record {
   held = rw (none, unheld) refl;
   right = λ token is. absurd (let e : None ≡ Some token = sym none ∙ is in cc);
@@ -147,7 +147,7 @@ held_before at kept kept' place t token is = elim (place t) [
 ]
 
 -- a token from before an entry that moves its side is not right
-pub fits_moved : (past : List Entry) (at : Side) (old new : Stance) (kept kept' : List Kept) (size size' : ℕ)
+pub fits_moved : {E : Type 0} → (past : List (Entry E)) (at : Side) (old new : Stance) (kept kept' : List Kept) (size size' : ℕ)
     → new.counter ≡ old.counter + 1 → size < 2 ^ 32 → HeldBefore at kept kept' → SideTells past at old kept size → Fits at new kept' size'
 fits_moved past at old new kept kept' size size' counter small was told t token is right =
     let older : token.id + 1 ≤ old.counter = (told.tokens t).older token (was t token is) in
@@ -155,7 +155,7 @@ fits_moved past at old new kept kept' size size' counter small was told t token 
     let next : raised token.id ≡ token.id + 1 = raised-small token.id size (omega arith) small in
     absurd (omega (arith, counter, right, next))
 
-pub fits_same : (past : List Entry) (at : Side) (old new : Stance) (kept kept' : List Kept) (size size' : ℕ)
+pub fits_same : {E : Type 0} → (past : List (Entry E)) (at : Side) (old new : Stance) (kept kept' : List Kept) (size size' : ℕ)
     → new.counter ≡ old.counter → length new.lines ≡ length old.lines → size ≤ size' → HeldBefore at kept kept' → SideTells past at old kept size → Fits at new kept' size'
 fits_same past at old new kept kept' size size' counter lines grows was told t token is right =
     let fit : length old.lines + length (added_mids token.changes) ≤ size = told.fits t token (was t token is) (sym counter ∙ right) in
@@ -166,7 +166,7 @@ at_most_one true counter size size' low grows = omega arith
 at_most_one false counter size size' low grows = omega arith
 
 -- a side with no token that it had not
-pub side_next : (moved : Bool) (past : List Entry) (e : Entry) (at : Side) (old new : Stance) (kept kept' : List Kept) (size size' : ℕ)
+pub side_next : {E : Type 0} → (moved : Bool) (past : List (Entry E)) (e : Entry E) (at : Side) (old new : Stance) (kept kept' : List Kept) (size size' : ℕ)
     → new.lines ≡ before at (e ∷ past) → new.counter ≡ cond moved (old.counter + 1) old.counter → size + 1 ≤ size' → length new.lines ≤ size'
     → HeldBefore at kept kept' → ((t : ℕ) → TokenTells (e ∷ past) at (cond moved (old.counter + 1) old.counter) t (slice_get kept' t))
     → Fits at new kept' size' → ChannelsTell (e ∷ past) at new.channels → SideTells past at old kept size → SideTells (e ∷ past) at new kept' size'
@@ -181,7 +181,7 @@ side_next moved past e at old new kept kept' size size' rows counter grows few w
 }
 
 -- the channels of the side that does not act
-channels_stay : (past : List Entry) (e : Entry) (at : Side) (held : Channels) → same_side (side_of e.step) at ≡ false → ChannelsTell past at held → ChannelsTell (e ∷ past) at held
+channels_stay : {E : Type 0} → (past : List (Entry E)) (e : Entry E) (at : Side) (held : Channels) → same_side (side_of e.step) at ≡ false → ChannelsTell past at held → ChannelsTell (e ∷ past) at held
 channels_stay past e at held another tell = record {
   given = tell.given ∙ sym (ap (λ b. channels_after b e.step e.outcome (channels_given at past)) another);
   shown = tell.shown ∙ sym (ap (λ b. channel_rows_or b e.table (channels_shown at past)) another);
@@ -189,7 +189,7 @@ channels_stay past e at held another tell = record {
 }
 
 -- the side that does not act
-pub side_stays : (past : List Entry) (e : Entry) (at : Side) (peer : Stance) (kept kept' : List Kept) (size size' : ℕ)
+pub side_stays : {E : Type 0} → (past : List (Entry E)) (e : Entry E) (at : Side) (peer : Stance) (kept kept' : List Kept) (size size' : ℕ)
     → same_side (side_of e.step) at ≡ false → size + 1 ≤ size' → HeldBefore at kept kept'
     → ((t : ℕ) → TokenTells (e ∷ past) at peer.counter t (slice_get kept' t)) → SideTells past at peer kept size → SideTells (e ∷ past) at peer kept' size'
 side_stays past e at peer kept kept' size size' another grows was tokens told_it =

@@ -29,7 +29,7 @@ pub All-slice_get : {A : Type 0} (P : A → Type 0) (xs : List A) (k : ℕ) (x :
 All-slice_get P xs k x there each = let e = get_or_from_slice_get xs k x x there in rw (← e) (All-get_or P xs k x (slice_get_within xs k x there) each)
 
 -- only the token that is spent was right
-fits_spent : (past : List Entry) (at : Side) (old new : Stance) (kept kept' : List Kept) (size size' k : ℕ) (token : PendingOffer)
+fits_spent : {E : Type 0} → (past : List (Entry E)) (at : Side) (old new : Stance) (kept kept' : List Kept) (size size' k : ℕ) (token : PendingOffer)
     → new.counter ≡ old.counter → size < 2 ^ 32 → held_token kept at k ≡ Some token → held_token kept' at k ≡ None → old.counter ≡ raised token.id
     → HeldBefore at kept kept' → SideTells past at old kept size → Fits at new kept' size'
 fits_spent past at old new kept kept' size size' k token counter small held spent right was told t other is right' =
@@ -46,13 +46,13 @@ fits_spent past at old new kept kept' size size' k token counter small held spen
 abbrev pub StaysOrRight : Side → Stance → List Kept → ℕ → Stance → Type 0
 StaysOrRight at old kept k new = (length new.lines ≡ length old.lines) ⊎ ((token : PendingOffer) × (held_token kept at k ≡ Some token) × (old.counter ≡ raised token.id))
 
-fits_either : (past : List Entry) (at : Side) (old new : Stance) (kept kept' : List Kept) (size size' k : ℕ) → StaysOrRight at old kept k new
+fits_either : {E : Type 0} → (past : List (Entry E)) (at : Side) (old new : Stance) (kept kept' : List Kept) (size size' k : ℕ) → StaysOrRight at old kept k new
     → new.counter ≡ old.counter → size < 2 ^ 32 → size ≤ size' → held_token kept' at k ≡ None → HeldBefore at kept kept' → SideTells past at old kept size → Fits at new kept' size'
 fits_either past at old new kept kept' size size' k (inl lines) counter small grows spent was told = fits_same past at old new kept kept' size size' counter lines grows was told
 fits_either past at old new kept kept' size size' k (inr right) counter small grows spent was told =
     fits_spent past at old new kept kept' size size' k right.0 counter small right.1 spent right.2 was told
 
-pub spent_tells : (past : List Entry) (e : Entry) (old new : PairStance) (k : ℕ) (kept : Kept) → Goes false past e old new
+pub spent_tells : {E : Type 0} → (past : List (Entry E)) (e : Entry E) (old new : PairStance) (k : ℕ) (kept : Kept) → Goes false past e old new
     → StaysOrRight (side_of e.step) (old.sides (side_of e.step)) old.sdps k (new.sides (side_of e.step))
     → slice_get old.sdps k ≡ Some kept → new.sdps ≡ slice_set old.sdps k (bare kept)
     → ((t : ℕ) → spends t e.step e.outcome ≡ (k == t)) → ((t : ℕ) → makes t e.outcome ≡ false) → Tells past old → Tells (e ∷ past) new
@@ -110,7 +110,7 @@ spent_tells past e old new k kept goes right there changed spends_k unmade tells
 -- ---- an entry that makes an offer
 
 -- The token of a new offer, at the side that made it.
-offer_token : (past : List Entry) (e : Entry) (at : Side) (counter t : ℕ) (kept : Kept) (token : PendingOffer) → same_side kept.at at ≡ true → kept.offer ≡ true
+offer_token : {E : Type 0} → (past : List (Entry E)) (e : Entry E) (at : Side) (counter t : ℕ) (kept : Kept) (token : PendingOffer) → same_side kept.at at ≡ true → kept.offer ≡ true
     → token_for at (Some kept) ≡ Some token → token.id ≡ counter → ((place : ℕ) → added_in place e.step e.outcome e.table e.made ≡ added_rows place token.changes)
     → restarts_in e.outcome ≡ is_some (staged_restart token.changes) → slice_get (sdps (e ∷ past)) t ≡ Some (made_sdp kept) → spends t e.step e.outcome ≡ false → is_spent t past ≡ false → makes t e.outcome ≡ true
     → TokenTells (e ∷ past) at (counter + 1) t (Some kept)
@@ -128,7 +128,7 @@ offer_token past e at counter t kept token mine offer found id adds restarts sai
 abbrev Origin : Side → List Kept → PendingOffer → ℕ → PendingOffer → Type 0
 Origin at kept token t other = (held_token kept at t ≡ Some other) ⊎ ((t ≡ length kept) × (token ≡ other))
 
-one_each_offered : (past : List Entry) (at : Side) (old : Stance) (kept : List Kept) (size : ℕ) (token : PendingOffer) → token.id ≡ old.counter → SideTells past at old kept size
+one_each_offered : {E : Type 0} → (past : List (Entry E)) (at : Side) (old : Stance) (kept : List Kept) (size : ℕ) (token : PendingOffer) → token.id ≡ old.counter → SideTells past at old kept size
     → (t u : ℕ) (one other : PendingOffer) → Origin at kept token t one → Origin at kept token u other → one.id ≡ other.id → t ≡ u
 one_each_offered past at old kept size token id told t u one other (inl is) (inl is') same = told.one_each t u one other is is' same
 one_each_offered past at old kept size token id told t u one other (inl is) (inr new) same =
@@ -139,7 +139,7 @@ one_each_offered past at old kept size token id told t u one other (inr new) (in
     absurd (omega (arith, same, id, ap (λ k. k.id) new.1))
 one_each_offered past at old kept size token id told t u one other (inr new) (inr new') same = new.0 ∙ sym new'.0
 
-fits_offered : (past : List Entry) (at : Side) (old new : Stance) (kept : List Kept) (size size' : ℕ) (token : PendingOffer) → new.counter ≡ old.counter + 1 → size < 2 ^ 32
+fits_offered : {E : Type 0} → (past : List (Entry E)) (at : Side) (old new : Stance) (kept : List Kept) (size size' : ℕ) (token : PendingOffer) → new.counter ≡ old.counter + 1 → size < 2 ^ 32
     → length new.lines + length (added_mids token.changes) ≤ size' → SideTells past at old kept size
     → (t : ℕ) (other : PendingOffer) → Origin at kept token t other → new.counter ≡ raised other.id → length new.lines + length (added_mids other.changes) ≤ size'
 fits_offered past at old new kept size size' token counter small fit told t other (inl is) right =
@@ -147,7 +147,7 @@ fits_offered past at old new kept size size' token counter small fit told t othe
 fits_offered past at old new kept size size' token counter small fit told t other (inr made) right =
     let n : length (added_mids token.changes) ≡ length (added_mids other.changes) = ap (λ k. length (added_mids k.changes)) made.1 in omega arith
 
-pub offered_tells : (past : List Entry) (e : Entry) (old new : PairStance) (kept : Kept) (token : PendingOffer) → Goes true past e old new
+pub offered_tells : {E : Type 0} → (past : List (Entry E)) (e : Entry E) (old new : PairStance) (kept : Kept) (token : PendingOffer) → Goes true past e old new
     → kept.at ≡ side_of e.step → kept.offer ≡ true → kept.token ≡ Some token → token.id ≡ (old.sides (side_of e.step)).counter
     → ((place : ℕ) → added_in place e.step e.outcome e.table e.made ≡ added_rows place token.changes)
     → restarts_in e.outcome ≡ is_some (staged_restart token.changes)

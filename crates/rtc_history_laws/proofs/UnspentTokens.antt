@@ -7,7 +7,7 @@ use Rattle.rtc_sdp_values.specs.declared.line_row.LineRow.{LineRow}
 use Rattle.rtc_sdp_values.specs.declared.sdp.Sdp.{Sdp}
 use Rattle.rtc_change.specs.Held.{Held, Asked}
 use Rattle.rtc_history.specs.declared.step.Step.{Step}
-use Rattle.rtc_history.specs.declared.step.Step.TheVariants.{Negotiate, AcceptOffer, AcceptAnswer}
+use Rattle.rtc_history.specs.declared.step.Step.TheVariants.{Negotiate, AcceptOffer, AcceptAnswer, Time, Datagram, Poll, Drain, Close}
 use Rattle.rtc_history.specs.declared.outcome.Outcome.{Outcome}
 use Rattle.rtc_history.specs.declared.outcome.Outcome.TheVariants.{NoSuch, Alloc}
 use Rattle.rtc_history.specs.declared.table.Table.{Table}
@@ -18,14 +18,19 @@ use Rattle.rtc_history_laws.proofs.Takings.{answer_taking}
 use Rattle.rtc_history.specs.Views.{Stances, view_in}
 use Rattle.rtc_peer_state.specs.Stance.{held_by}
 
-called_held : (held right : Bool) (asked : Asked) (sdp : Option Sdp) (view : Held) (outcome : Outcome) (after : List LineRow) → RepliesToAnswer held right asked sdp view outcome after → was_called outcome ≡ true → held ≡ true
+called_held : {E : Type 0} → (held right : Bool) (asked : Asked) (sdp : Option Sdp) (view : Held) (outcome : Outcome E) (after : List LineRow) → RepliesToAnswer held right asked sdp view outcome after → was_called outcome ≡ true → held ≡ true
 called_held true right asked sdp view outcome after takes was = refl
 called_held false right asked sdp view NoSuch after takes was = absurd (cc)
 called_held false right asked sdp view outcome after takes was = absurd takes
 
-unspent_step : (fresh between : Stances) (past : List Entry) (step : Step) (outcome : Outcome) (table : Option Table) (made : List MadeSdp) (n : ℕ) → IsSound fresh past between step outcome table made → length (sdps past) ≤ n → spends n step outcome ≡ false
+unspent_step : {E : Type 0} → (fresh between : Stances) (past : List (Entry E)) (step : Step) (outcome : Outcome E) (table : Option Table) (made : List MadeSdp) (n : ℕ) → IsSound fresh past between step outcome table made → length (sdps past) ≤ n → spends n step outcome ≡ false
 unspent_step fresh between past (Negotiate at ops apply) outcome table made n sound most = refl
 unspent_step fresh between past (AcceptOffer at k) outcome table made n sound most = refl
+unspent_step fresh between past (Time at now) outcome table made n sound most = refl
+unspent_step fresh between past (Datagram at packet now) outcome table made n sound most = refl
+unspent_step fresh between past (Poll at) outcome table made n sound most = refl
+unspent_step fresh between past (Drain at) outcome table made n sound most = refl
+unspent_step fresh between past (Close at) outcome table made n sound most = refl
 unspent_step fresh between past (AcceptAnswer at t a) Alloc None made n sound most = and_false (t == n)
   where
     and_false : (b : Bool) → (b && false) ≡ false
@@ -51,7 +56,7 @@ unspent_step fresh between past (AcceptAnswer at t a) outcome (Some table) made 
 unspent_step fresh between past (AcceptAnswer at t a) outcome None made n sound most = absurd sound
 
 -- no token past the SDPs is spent
-pub unspent_later : (fresh : Stances) (past : List Entry) (n : ℕ) → Sound fresh past → length (sdps past) ≤ n → is_spent n past ≡ false
+pub unspent_later : {E : Type 0} → (fresh : Stances) (past : List (Entry E)) (n : ℕ) → Sound fresh past → length (sdps past) ≤ n → is_spent n past ≡ false
 unspent_later fresh [] n sound most = refl
 unspent_later fresh (last ∷ past) n sound most =
     let fewer : length (sdps past) ≤ n = omega (arith, length-append (sdps past) last.made) in

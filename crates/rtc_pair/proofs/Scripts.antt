@@ -11,6 +11,8 @@ use Rattle.rtc_script.specs.declared.script.Script.{Script}
 use Rattle.rtc_script.specs.declared.script_error.ScriptError.{ScriptError}
 use Rattle.rtc_script.specs.declared.script_error.ScriptError.TheVariants.{Line}
 use Rattle.rtc_history.specs.declared.reply.Reply.{Reply}
+use Rattle.rtc_plain_ice.specs.Messages.{is_ice_message}
+use Rattle.rtc_plain_media.specs.declared.plain_media_event.PlainMediaEvent.{PlainMediaEvent}
 use Rattle.rtc_io.proofs.Told.{breaks_off_as}
 use Rattle.rtc_io.specs.Saying.{BreaksOff}
 use Rattle.rtc_script.specs.Report.{report}
@@ -39,14 +41,14 @@ runs_or alloc a b written written' last script R read (inl performs) = inl (reco
 runs_or alloc a b written written' last script R read (inr rest) = inr rest
 
 -- replies that are joined with the pair are those of the run
-pub ran_joined : {E : Type 0} (alloc : Global) (script : Script) (start pair : PlainPairState) (replies : Result (List Reply) E)
-    (result : Result (PlainPairState × List Reply) E) → IfOk result (λ joined. (joined.0 ≡ pair) × (replies ≡ Ok joined.1))
-    → IsPairOf alloc script start → IfOk replies (λ told. Runs plain_parts start script.steps told pair)
+pub ran_joined : {E : Type 0} (alloc : Global) (script : Script) (start pair : PlainPairState) (replies : Result (List (Reply PlainMediaEvent)) E)
+    (result : Result (PlainPairState × List (Reply PlainMediaEvent)) E) → IfOk result (λ joined. (joined.0 ≡ pair) × (replies ≡ Ok joined.1))
+    → IsPairOf alloc script start → IfOk replies (λ told. Runs plain_parts is_ice_message start script.steps told pair)
     → IfOk replies (λ told. AllReadBack pair.sdps) → IfOk result (λ ran. RanScript alloc script ran.1 ran.0)
 ran_joined {E = E} alloc script start pair replies (Ok (kept, told)) (kept_is, told_is) program runs read_back =
-    let Q : Result (List Reply) E → Type 0 = λ (r : Result (List Reply) E). IfOk r (λ told. Runs plain_parts start script.steps told pair) in
-    let U : Result (List Reply) E → Type 0 = λ (r : Result (List Reply) E). IfOk r (λ told. AllReadBack pair.sdps) in
-    let ran : Runs plain_parts start script.steps told pair = subst Q told_is runs in
+    let Q : Result (List (Reply PlainMediaEvent)) E → Type 0 = λ (r : Result (List (Reply PlainMediaEvent)) E). IfOk r (λ told. Runs plain_parts is_ice_message start script.steps told pair) in
+    let U : Result (List (Reply PlainMediaEvent)) E → Type 0 = λ (r : Result (List (Reply PlainMediaEvent)) E). IfOk r (λ told. AllReadBack pair.sdps) in
+    let ran : Runs plain_parts is_ice_message start script.steps told pair = subst Q told_is runs in
     let read : AllReadBack pair.sdps = subst U told_is read_back in
     record {
       start = start;
@@ -58,12 +60,12 @@ ran_joined {E = E} alloc script start pair replies (Ok (kept, told)) (kept_is, t
 ran_joined alloc script start pair replies (Err error) joined program runs read_back = tt
 
 -- a script was run, and its report was written
-pub performs : (alloc : Global) (lacking : Bool) (script : Script) (replies : List Reply) (pair : PlainPairState) (written written' : Option (List ℕ))
+pub performs : (alloc : Global) (lacking : Bool) (script : Script) (replies : List (Reply PlainMediaEvent)) (pair : PlainPairState) (written written' : Option (List ℕ))
     (last : Option PlainPairState) → RanScript alloc script replies pair → KeepsReport lacking script.steps replies pair written written' last
     → PerformsScript alloc lacking script written written' last
 performs alloc lacking script replies pair written written' last ran keeps = record { replies = replies; pair = pair; ran = ran; keeps = keeps }
 
-pub performs_or : (alloc : Global) (lacking : Bool) (script : Script) (replies : List Reply) (pair : PlainPairState) (written written' : Option (List ℕ))
+pub performs_or : (alloc : Global) (lacking : Bool) (script : Script) (replies : List (Reply PlainMediaEvent)) (pair : PlainPairState) (written written' : Option (List ℕ))
     (last : Option PlainPairState) (R : Type 0) → RanScript alloc script replies pair → KeepsReport lacking script.steps replies pair written written' last ⊎ R
     → PerformsScript alloc lacking script written written' last ⊎ R
 performs_or alloc lacking script replies pair written written' last R ran (inl keeps) =
@@ -71,7 +73,7 @@ performs_or alloc lacking script replies pair written written' last R ran (inl k
 performs_or alloc lacking script replies pair written written' last R ran (inr rest) = inr rest
 
 -- a report that is broken off is that of the run
-pub report_off : (alloc : Global) (script : Script) (replies : List Reply) (pair : PlainPairState) (written written' : Option (List ℕ)) (faults faults' : ℕ)
+pub report_off : (alloc : Global) (script : Script) (replies : List (Reply PlainMediaEvent)) (pair : PlainPairState) (written written' : Option (List ℕ)) (faults faults' : ℕ)
     → RanScript alloc script replies pair → BreaksOff (λ text. text ≡ report script.steps replies) written written' faults faults'
     → BreaksOff (IsReport alloc script) written written' faults faults'
 report_off alloc script replies pair written written' faults faults' ran off =

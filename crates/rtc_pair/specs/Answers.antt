@@ -11,6 +11,8 @@ use Rattle.rtc_history.specs.declared.step.Step.{Step}
 use Rattle.rtc_history.specs.Memory.{lacks_memory, tell_fault}
 use Rattle.rtc_history.specs.Runs.{Runs}
 use Rattle.rtc_delivery.specs.Delivered.{AllReadBack}
+use Rattle.rtc_plain_ice.specs.Messages.{is_ice_message}
+use Rattle.rtc_plain_media.specs.declared.plain_media_event.PlainMediaEvent.{PlainMediaEvent}
 use Rattle.rtc_run.specs.ProgramPair.{plain_parts, PlainPairState, IsProgramPair}
 use Rattle.rtc_script.specs.Script.{IsScript, IsRefused}
 use Rattle.rtc_script.specs.declared.script_error.ScriptError.TheVariants.{Line}
@@ -23,7 +25,7 @@ abbrev pub run_words : List (List ℕ)
 run_words = codes "run" ∷ []
 
 -- whether a reply tells that memory ran out
-abbrev pub lack_memory : List Reply → Bool
+abbrev pub lack_memory : {E : Type 0} → List (Reply E) → Bool
 lack_memory replies = list_any lacks_memory replies
 
 -- The pair of the program, as the settings of a script make it.
@@ -32,16 +34,16 @@ IsPairOf alloc script pair = IsProgramPair alloc (sets_lite Left script.settings
 
 -- A script was run on the program's pair with these replies, which left this pair, and each description that was made is read as it was
 -- written. No reply tells that a part failed: those in memory never do.
-pub record RanScript (alloc : Global) (script : Script) (replies : List Reply) (pair : PlainPairState) : Type 0 where
+pub record RanScript (alloc : Global) (script : Script) (replies : List (Reply PlainMediaEvent)) (pair : PlainPairState) : Type 0 where
   pub start : PlainPairState
   pub program : IsPairOf alloc script start
-  pub runs : Runs plain_parts start script.steps replies pair
+  pub runs : Runs plain_parts is_ice_message start script.steps replies pair
   pub read_back : AllReadBack pair.sdps
   pub no_fault : tell_fault replies ≡ false
 
 -- This text is the report of a run of a script.
 pub record IsReport (alloc : Global) (script : Script) (text : List ℕ) : Type 0 where
-  pub replies : List Reply
+  pub replies : List (Reply PlainMediaEvent)
   pub pair : PlainPairState
   pub ran : RanScript alloc script replies pair
   pub is : text ≡ report script.steps replies
@@ -65,7 +67,7 @@ abbrev pub TellsLength : Global → Option (List ℕ) → Option (List ℕ) → 
 TellsLength alloc left written written' = IsTooLong left × Appends written written' (long_line (script_program alloc).subject)
 
 -- The report of steps and their replies was written, and what they were performed on is kept.
-pub record KeepsReport {P : Type 0} (lacking : Bool) (steps : List Step) (replies : List Reply) (performed : P)
+pub record KeepsReport {P : Type 0} (lacking : Bool) (steps : List Step) (replies : List (Reply PlainMediaEvent)) (performed : P)
     (written written' : Option (List ℕ)) (last : Option P) : Type 0 where
   pub reported : Appends written written' (report steps replies)
   pub kept : last ≡ Some performed
@@ -74,7 +76,7 @@ pub record KeepsReport {P : Type 0} (lacking : Bool) (steps : List Step) (replie
 -- A script was run, its report was written, and the pair is left.
 pub record PerformsScript (alloc : Global) (lacking : Bool) (script : Script) (written written' : Option (List ℕ))
     (last : Option PlainPairState) : Type 0 where
-  pub replies : List Reply
+  pub replies : List (Reply PlainMediaEvent)
   pub pair : PlainPairState
   pub ran : RanScript alloc script replies pair
   pub keeps : KeepsReport lacking script.steps replies pair written written' last

@@ -4,7 +4,7 @@
 mod asking;
 mod top;
 
-pub use rtc_history::{Made, Op, OpAnswer, Outcome, Reply, Side, Step, Table};
+pub use rtc_history::{Made, Op, OpAnswer, Outcome, PollEnd, Reply, Shown, Side, Step, Table};
 use rtc_io::{OUT_OF_MEMORY, collect_words};
 pub use rtc_io::{MemSink, MemSource, Sink, Source, StdSink, StdSource};
 pub use rtc_run::{Pair, PlainPair, run_pair};

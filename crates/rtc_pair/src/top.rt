@@ -28,12 +28,13 @@ use rtc_history::{Reply, Side, Step};
 use rtc_io::{
     OUT_OF_MEMORY, SINK_FAILED, Sink, Source, USAGE, read_input, refuse_input, say, write_all,
 };
+use rtc_plain::PlainMediaEvent;
 use rtc_run::{PlainPair, make_pair, run_pair};
 use rtc_script::{Script, ScriptError, read_script, write_report};
 use rtc_wire::Seq;
 use std::alloc::{AllocError, Global};
 
-fn lack_memory(replies: &[Reply]) -> bool
+fn lack_memory(replies: &[Reply<PlainMediaEvent>]) -> bool
     ensures { result ≡ lack_memory replies.now }
 {
     for reply in replies {
@@ -60,8 +61,8 @@ fn make_program_pair(alloc: Global, script: &Script) -> Result<PlainPair, AllocE
 // Replies, with what the steps were performed on.
 fn join_replies<P: Drop>(
     performed: P,
-    replies: Result<Seq<Reply>, AllocError>,
-) -> Result<(P, Seq<Reply>), AllocError>
+    replies: Result<Seq<Reply<PlainMediaEvent>>, AllocError>,
+) -> Result<(P, Seq<Reply<PlainMediaEvent>>), AllocError>
     ensures { IfOk result (λ joined. (joined.0 ≡ performed) × (replies ≡ Ok joined.1)) }
 {
     match replies {
@@ -71,7 +72,10 @@ fn join_replies<P: Drop>(
 }
 
 // The pair of the program after the steps of a script, and their replies.
-fn run_script(alloc: Global, script: &Script) -> Result<(PlainPair, Seq<Reply>), AllocError>
+fn run_script(
+    alloc: Global,
+    script: &Script,
+) -> Result<(PlainPair, Seq<Reply<PlainMediaEvent>>), AllocError>
     requires { steps_size script.now.steps < 2 ^ 32 }
     ensures { IfOk result (λ ran. RanScript alloc script.now ran.1 ran.0) }
 {
@@ -84,7 +88,7 @@ fn run_script(alloc: Global, script: &Script) -> Result<(PlainPair, Seq<Reply>),
 fn report_steps<W: Sink, P: Drop>(
     alloc: Global,
     steps: &[Step],
-    replies: &[Reply],
+    replies: &[Reply<PlainMediaEvent>],
     output: &mut W,
     performed: P,
     last: &mut Option<P>,

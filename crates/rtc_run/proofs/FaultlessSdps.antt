@@ -24,7 +24,7 @@ use Rattle.rtc_run.specs.Completeness.{SucceedsOrFails, IsFaultlessOffer, IsFaul
 no_cause : {R : Type 0} (found : Option Refusal) (why : Refusal) → found ≡ Some why → found ≡ None → R
 no_cause {R} found why is none = absurd (let bad : Some why ≡ None = sym is ∙ none in cc)
 
-offer_passes : (sdp : Sdp) (view : Held) (next : ℕ) (outcome : Outcome) (after : List LineRow) → RepliesToOffer (Some sdp) view next outcome after
+offer_passes : {E : Type 0} → (sdp : Sdp) (view : Held) (next : ℕ) (outcome : Outcome E) (after : List LineRow) → RepliesToOffer (Some sdp) view next outcome after
     → verdict view None sdp ≡ None → SucceedsOrFails outcome
 offer_passes sdp view next (Answered k) after replies passes = refl
 offer_passes sdp view next (Refused (RemoteSdp why)) after replies passes = no_cause (verdict view None sdp) (RefusedSdp why) replies.0 passes
@@ -43,7 +43,7 @@ offer_passes sdp view next Finished after replies passes = absurd replies
 offer_passes sdp view next NoSuch after replies passes = absurd replies
 offer_passes sdp view next Alloc after replies passes = absurd replies
 
-offer_taken : (fresh : Stances) (past : List Entry) (between : Stances) (at : Side) (k : ℕ) (outcome : Outcome) (table : Table) → IsFaultlessOffer fresh past between at k
+offer_taken : {E : Type 0} → (fresh : Stances) (past : List (Entry E)) (between : Stances) (at : Side) (k : ℕ) (outcome : Outcome E) (table : Table) → IsFaultlessOffer fresh past between at k
     → RepliesToOffer (remote_sdp true at k past) (view_in fresh at past (held_by (between at))) (length (sdps past)) outcome table.lines → SucceedsOrFails outcome
 offer_taken fresh past between at k outcome table faultless replies =
     let P : Option Sdp → Type 0 = λ (found : Option Sdp). RepliesToOffer found (view_in fresh at past (held_by (between at))) (length (sdps past)) outcome table.lines in
@@ -58,7 +58,7 @@ faultless_offers fresh past between at k NoSuch (Some table) made sound faultles
 faultless_offers fresh past between at k Alloc table made sound faultless = refl
 faultless_offers fresh past between at k outcome None made sound faultless = absurd sound
 
-answer_passes : (asked : Asked) (sdp : Sdp) (view : Held) (outcome : Outcome) (after : List LineRow) → RepliesToAnswer true true asked (Some sdp) view outcome after
+answer_passes : {E : Type 0} → (asked : Asked) (sdp : Sdp) (view : Held) (outcome : Outcome E) (after : List LineRow) → RepliesToAnswer true true asked (Some sdp) view outcome after
     → verdict view (Some asked) sdp ≡ None → SucceedsOrFails outcome
 answer_passes asked sdp view Finished after replies passes = refl
 answer_passes asked sdp view (Refused (RemoteSdp why)) after replies passes = no_cause (verdict view (Some asked) sdp) (RefusedSdp why) replies.0 passes
@@ -77,7 +77,7 @@ answer_passes asked sdp view (Answered k) after replies passes = absurd replies
 answer_passes asked sdp view NoSuch after replies passes = absurd replies
 answer_passes asked sdp view Alloc after replies passes = absurd replies
 
-answer_taken : (fresh : Stances) (past : List Entry) (between : Stances) (at : Side) (t a : ℕ) (outcome : Outcome) (table : Table) → IsFaultlessAnswer fresh past between at t a
+answer_taken : {E : Type 0} → (fresh : Stances) (past : List (Entry E)) (between : Stances) (at : Side) (t a : ℕ) (outcome : Outcome E) (table : Table) → IsFaultlessAnswer fresh past between at t a
     → RepliesToAnswer (holds_token at t past) (is_right at t past) (asked_in at t past) (remote_sdp false at a past) (view_in fresh at past (held_by (between at))) outcome table.lines → SucceedsOrFails outcome
 answer_taken fresh past between at t a outcome table faultless replies =
     let P : Bool → Type 0 = λ (held : Bool). RepliesToAnswer held (is_right at t past) (asked_in at t past) (remote_sdp false at a past) (view_in fresh at past (held_by (between at))) outcome table.lines in

@@ -9,3 +9,4 @@ pub mod Paired
 pub mod FaultlessSdps
 pub mod PlainPeers
 pub mod PlainFaults
+pub mod Drained

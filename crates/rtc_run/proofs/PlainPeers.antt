@@ -130,8 +130,8 @@ fresh_at pair Left left right = left
 fresh_at pair Right left right = right
 
 pub pair_fresh : (pair : PlainPairState) → IsJustBuilt (stance_of plain_parts pair.left.core) → IsJustBuilt (stance_of plain_parts pair.right.core)
-    → pair.sdps ≡ [] → pair.size ≡ 0 → IsFresh plain_parts pair
-pair_fresh pair left right sdps size = record { built = λ at. fresh_at pair at left right; sdps = sdps; size = size }
+    → pair.sdps ≡ [] → pair.packets ≡ [] → pair.size ≡ 0 → IsFresh plain_parts pair
+pair_fresh pair left right sdps packets size = record { built = λ at. fresh_at pair at left right; sdps = sdps; packets = packets; size = size }
 
 pub pair_formed : (pair : PlainPairState) → IsFormed (stance_of plain_parts pair.left.core) → IsFormed (stance_of plain_parts pair.right.core)
     → (at : Side) → IsFormed (stances_of plain_parts pair at)

@@ -1,6 +1,6 @@
 -- Session descriptions (SDPs) that no cause refuses are accepted, unless memory runs out or a part fails; and no reply tells that a part
 -- failed where none did.
-use Rattle.std.specs.Prelude.{◌≡◌, ◌||◌, ℕ, true, false, List, Option, Some, None}
+use Rattle.std.specs.Prelude.{◌≡◌, ◌||◌, ℕ, Bool, true, false, List, Option, Some, None}
 use Rattle.rtc_sdp_values.specs.declared.sdp.Sdp.{Sdp}
 use Rattle.rtc_change.specs.Plans.{verdict}
 use Rattle.rtc_peer_state.specs.Meanings.{Meanings}
@@ -21,40 +21,40 @@ use Rattle.rtc_history.specs.SoundParts.{CountsFault}
 use Rattle.rtc_history.specs.Views.{Stances, view_in}
 
 -- a step succeeded, or tells that memory ran out or that a part failed
-abbrev pub SucceedsOrFails : Outcome → Type 0
+abbrev pub SucceedsOrFails : {E : Type 0} → Outcome E → Type 0
 SucceedsOrFails outcome = (is_ok outcome || fails outcome) ≡ true
 
 -- an offer of the other side for which no cause holds
-pub record IsFaultlessOffer (fresh : Stances) (past : List Entry) (between : Stances) (at : Side) (k : ℕ) : Type 0 where
+pub record IsFaultlessOffer {E : Type 0} (fresh : Stances) (past : List (Entry E)) (between : Stances) (at : Side) (k : ℕ) : Type 0 where
   pub offer : Sdp
   pub there : remote_sdp true at k past ≡ Some offer
   pub passes : verdict (view_in fresh at past (held_by (between at))) None offer ≡ None
 
 -- an answer of the other side for which no cause holds, with a token of this side that is held and right
-pub record IsFaultlessAnswer (fresh : Stances) (past : List Entry) (between : Stances) (at : Side) (t a : ℕ) : Type 0 where
+pub record IsFaultlessAnswer {E : Type 0} (fresh : Stances) (past : List (Entry E)) (between : Stances) (at : Side) (t a : ℕ) : Type 0 where
   pub answer : Sdp
   pub there : remote_sdp false at a past ≡ Some answer
   pub held : holds_token at t past ≡ true
   pub right : is_right at t past ≡ true
   pub passes : verdict (view_in fresh at past (held_by (between at))) (Some (asked_in at t past)) answer ≡ None
 
-abbrev pub FaultlessOffersPass : Type 0
-FaultlessOffersPass =
-    (fresh : Stances) (past : List Entry) (between : Stances) (at : Side) (k : ℕ) (outcome : Outcome) (table : Option Table)
+abbrev pub FaultlessOffersPass : Type 0 → Type 0
+FaultlessOffersPass E =
+    (fresh : Stances) (past : List (Entry E)) (between : Stances) (at : Side) (k : ℕ) (outcome : Outcome E) (table : Option Table)
     (made : List MadeSdp)
     → IsSound fresh past between (AcceptOffer at k) outcome table made → IsFaultlessOffer fresh past between at k → SucceedsOrFails outcome
 
-abbrev pub FaultlessAnswersPass : Type 0
-FaultlessAnswersPass =
-    (fresh : Stances) (past : List Entry) (between : Stances) (at : Side) (t a : ℕ) (outcome : Outcome) (table : Option Table)
+abbrev pub FaultlessAnswersPass : Type 0 → Type 0
+FaultlessAnswersPass E =
+    (fresh : Stances) (past : List (Entry E)) (between : Stances) (at : Side) (t a : ℕ) (outcome : Outcome E) (table : Option Table)
     (made : List MadeSdp)
     → IsSound fresh past between (AcceptAnswer at t a) outcome table made → IsFaultlessAnswer fresh past between at t a
     → SucceedsOrFails outcome
 
-module _ {I D S M E X T W N : Type 0} (m : Meanings I D S M E X T W N) where
-  -- where neither DTLS part of a pair failed in a run, no reply of it tells a fault
+module _ {I D S M E X T W N : Type 0} (m : Meanings I D S M E X T W N) (stun : List ℕ → Bool) where
+  -- where no part of a pair that counts its faults failed in a run, no reply of it tells a fault
   abbrev pub FaultsAreCounted : Type 0
   FaultsAreCounted =
-      (start : PairState I D S M N) (steps : List Step) (replies : List Reply) (pair : PairState I D S M N)
-      → Runs m start steps replies pair → ((part : CountedPart) (at : Side) → ¬ CountsFault m part at start pair)
+      (start : PairState I D S M N) (steps : List Step) (replies : List (Reply E)) (pair : PairState I D S M N)
+      → Runs m stun start steps replies pair → ((part : CountedPart) (at : Side) → ¬ CountsFault m part at start pair)
       → tell_fault replies ≡ false

@@ -6,7 +6,7 @@ use Rattle.rtc_history.specs.declared.outcome.Outcome.TheVariants.{NoSuch, Alloc
 use Rattle.rtc_history.specs.declared.table.Table.{Table}
 use Rattle.rtc_history.specs.Performs.{Shows}
 
-abbrev pub IsNoSuch : {I D S M N : Type 0} → Peer I D S M N → Outcome → Option Table → Type 0
+abbrev pub IsNoSuch : {E : Type 0} → {I D S M N : Type 0} → Peer I D S M N → Outcome E → Option Table → Type 0
 IsNoSuch p NoSuch (Some table) = Shows table p
 IsNoSuch p Alloc None = Unit {0}
 IsNoSuch p outcome table = ⊥

@@ -69,4 +69,5 @@ pub record IsProgramPair (alloc : Global) (left_lite right_lite : Bool) (pair : 
   pub left_addr : pair.left_addr ≡ left_address
   pub right_addr : pair.right_addr ≡ right_address
   pub sdps : pair.sdps ≡ []
+  pub packets : pair.packets ≡ []
   pub size : pair.size ≡ 0

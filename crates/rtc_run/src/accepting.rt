@@ -20,7 +20,8 @@ use rtc_peer::{Association, DtlsInstance, IceAgent, Ids, MediaSession, Rtc, RtcE
 use rtc_sdp_values::Sdp;
 use std::alloc::Global;
 
-fn is_same_side(a: Side, b: Side) -> bool
+/// Whether two sides are the same.
+pub fn is_same_side(a: Side, b: Side) -> bool
     ensures { result ≡ same_side a b }
 {
     a == b
@@ -62,6 +63,7 @@ fn accept_offer<I: IceAgent, D: DtlsInstance, S: Association, M: MediaSession, N
         (lent rtc.old.core) offer.0 (sdp_of_answer result) rtc.new.core }
     ensures rows { length rtc.new.core.lines ≤ length rtc.old.core.lines + length offer.0.lines }
     ensures channels { channel_rows rtc.new.core.channels ≡ channel_rows rtc.old.core.channels }
+    ensures connection { rtc.new.transport ≡ rtc.old.transport }
 {
     rtc.sdp_api().accept_offer(offer)
 }
@@ -73,10 +75,17 @@ pub fn deliver_and_accept_offer<
     S: Association,
     M: MediaSession,
     N: Ids,
->(alloc: Global, rtc: &mut Rtc<I, D, S, M, N>, sdps: &mut Vec<Kept>, at: Side, offer: u32) -> Reply
+>(
+    alloc: Global,
+    rtc: &mut Rtc<I, D, S, M, N>,
+    sdps: &mut Vec<Kept>,
+    at: Side,
+    offer: u32,
+) -> Reply<M::E>
     requires count { length sdps.old.items < 2 ^ 32 }
     requires read_back { AllReadBack sdps.old.items }
-    ensures { StepAcceptsOffer (meanings I.ice D.dtls S.association M.media N.ids)
+    ensures connection { rtc.new.transport ≡ rtc.old.transport }
+    ensures accepts { StepAcceptsOffer (meanings I.ice D.dtls S.association M.media N.ids)
         at (kept_remote_sdp true sdps.old.items at offer) rtc.old.core sdps.old.items
         result.outcome result.table rtc.new.core sdps.new.items }
 {
@@ -134,6 +143,7 @@ fn accept_answer<I: IceAgent, D: DtlsInstance, S: Association, M: MediaSession, 
         (lent rtc.old.core) pending answer.0 result rtc.new.core }
     ensures rows { length rtc.new.core.lines ≤ length rtc.old.core.lines + length answer.0.lines }
     ensures channels { channel_rows rtc.new.core.channels ≡ channel_rows rtc.old.core.channels }
+    ensures connection { rtc.new.transport ≡ rtc.old.transport }
 {
     rtc.sdp_api().accept_answer(pending, answer)
 }
@@ -152,9 +162,10 @@ pub fn deliver_and_accept_answer<
     at: Side,
     token: u32,
     answer: u32,
-) -> Reply
+) -> Reply<M::E>
     requires read_back { AllReadBack sdps.old.items }
-    ensures { StepAcceptsAnswer (meanings I.ice D.dtls S.association M.media N.ids)
+    ensures connection { rtc.new.transport ≡ rtc.old.transport }
+    ensures accepts { StepAcceptsAnswer (meanings I.ice D.dtls S.association M.media N.ids)
         token (held_token sdps.old.items at token) (kept_remote_sdp false sdps.old.items at answer)
         rtc.old.core sdps.old.items result.outcome result.table rtc.new.core sdps.new.items }
 {

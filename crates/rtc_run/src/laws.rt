@@ -5,12 +5,12 @@ ghost use Rattle.rtc_run.specs.Completeness.{FaultlessAnswersPass, FaultlessOffe
 use rtc_peer::{Association, DtlsInstance, IceAgent, Ids, MediaSession};
 
 /// An offer or answer for which no cause of refusal holds is accepted, unless memory runs out, or the DTLS part or the association fails.
-pub fn faultless_descriptions_pass()
-    ensures offers { FaultlessOffersPass }
-    ensures answers { FaultlessAnswersPass }
+pub fn faultless_descriptions_pass<E>()
+    ensures offers { FaultlessOffersPass E }
+    ensures answers { FaultlessAnswersPass E }
 {}
 
-/// No reply of a run tells a fault where no DTLS part and no association of its pair counted one.
+/// No reply of a run tells a fault where no DTLS part, no association and no media part of its pair counted one.
 pub fn faults_are_counted<I: IceAgent, D: DtlsInstance, S: Association, M: MediaSession, N: Ids>()
-    ensures { FaultsAreCounted (meanings I.ice D.dtls S.association M.media N.ids) }
+    ensures { FaultsAreCounted (meanings I.ice D.dtls S.association M.media N.ids) I.stun }
 {}

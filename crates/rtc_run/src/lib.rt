@@ -3,13 +3,16 @@
 
 mod accepting;
 mod applied;
+mod hearing;
 mod laws;
 mod negotiating;
 mod pair;
 mod performing;
 mod plain_pair;
+mod polling;
 mod replying;
 mod running;
+mod turn;
 
 pub use laws::{faultless_descriptions_pass, faults_are_counted};
 pub use pair::Pair;

@@ -29,6 +29,7 @@ fn add_line<I: IceAgent, D: DtlsInstance, S: Association, M: MediaSession, N: Id
     dir: Direction,
 ) -> OpAnswer
     ensures same_reference { api.new.rtc.ghost_name ≡ api.old.rtc.ghost_name }
+    ensures connection { api.new.rtc.now.transport ≡ api.old.rtc.now.transport }
     ensures performs { PerformsOps (meanings I.ice D.dtls S.association M.media N.ids)
         api.old.rtc.now.core (AddMedia kind dir ∷ []) (result ∷ []) api.new.rtc.now.core }
 {
@@ -58,6 +59,7 @@ fn set_line<I: IceAgent, D: DtlsInstance, S: Association, M: MediaSession, N: Id
     dir: Direction,
 ) -> OpAnswer
     ensures same_reference { api.new.rtc.ghost_name ≡ api.old.rtc.ghost_name }
+    ensures connection { api.new.rtc.now.transport ≡ api.old.rtc.now.transport }
     ensures performs { PerformsOps (meanings I.ice D.dtls S.association M.media N.ids)
         api.old.rtc.now.core (SetDirection place dir ∷ []) (result ∷ []) api.new.rtc.now.core }
 {
@@ -76,6 +78,7 @@ fn stop_line<I: IceAgent, D: DtlsInstance, S: Association, M: MediaSession, N: I
     place: u32,
 ) -> OpAnswer
     ensures same_reference { api.new.rtc.ghost_name ≡ api.old.rtc.ghost_name }
+    ensures connection { api.new.rtc.now.transport ≡ api.old.rtc.now.transport }
     ensures performs { PerformsOps (meanings I.ice D.dtls S.association M.media N.ids)
         api.old.rtc.now.core (StopMedia place ∷ []) (result ∷ []) api.new.rtc.now.core }
 {
@@ -104,6 +107,7 @@ fn add_channel<I: IceAgent, D: DtlsInstance, S: Association, M: MediaSession, N:
     config: &ChannelConfig,
 ) -> OpAnswer
     ensures same_reference { api.new.rtc.ghost_name ≡ api.old.rtc.ghost_name }
+    ensures connection { api.new.rtc.now.transport ≡ api.old.rtc.now.transport }
     ensures performs { PerformsOps (meanings I.ice D.dtls S.association M.media N.ids)
         api.old.rtc.now.core (AddChannel config.now ∷ []) (result ∷ []) api.new.rtc.now.core }
 {
@@ -122,6 +126,7 @@ fn stage_restart<I: IceAgent, D: DtlsInstance, S: Association, M: MediaSession, 
     keep: bool,
 ) -> OpAnswer
     ensures same_reference { api.new.rtc.ghost_name ≡ api.old.rtc.ghost_name }
+    ensures connection { api.new.rtc.now.transport ≡ api.old.rtc.now.transport }
     ensures performs { PerformsOps (meanings I.ice D.dtls S.association M.media N.ids)
         api.old.rtc.now.core (IceRestart keep ∷ []) (result ∷ []) api.new.rtc.now.core }
 {
@@ -136,6 +141,7 @@ fn perform_op<I: IceAgent, D: DtlsInstance, S: Association, M: MediaSession, N: 
     op: &Op,
 ) -> OpAnswer
     ensures same_reference { api.new.rtc.ghost_name ≡ api.old.rtc.ghost_name }
+    ensures connection { api.new.rtc.now.transport ≡ api.old.rtc.now.transport }
     ensures performs { PerformsOps (meanings I.ice D.dtls S.association M.media N.ids)
         api.old.rtc.now.core (op.now ∷ []) (result ∷ []) api.new.rtc.now.core }
 {
@@ -157,6 +163,7 @@ fn perform_ops<I: IceAgent, D: DtlsInstance, S: Association, M: MediaSession, N:
     requires empty { room.items ≡ [] }
     requires room { length ops.now ≤ vec_capacity room }
     ensures same_reference { api.new.rtc.ghost_name ≡ api.old.rtc.ghost_name }
+    ensures connection { api.new.rtc.now.transport ≡ api.old.rtc.now.transport }
     ensures performs { PerformsOps (meanings I.ice D.dtls S.association M.media N.ids)
         api.old.rtc.now.core ops.now result api.new.rtc.now.core }
 {
@@ -188,7 +195,8 @@ fn perform_and_apply<I: IceAgent, D: DtlsInstance, S: Association, M: MediaSessi
 ) -> (Seq<OpAnswer>, Applied)
     requires empty { room.items ≡ [] }
     requires room { length ops.now ≤ vec_capacity room }
-    ensures { Stages (meanings I.ice D.dtls S.association M.media N.ids) rtc.old.core ops.now apply result.0 result.1 rtc.new.core }
+    ensures stages { Stages (meanings I.ice D.dtls S.association M.media N.ids) rtc.old.core ops.now apply result.0 result.1 rtc.new.core }
+    ensures connection { rtc.new.transport ≡ rtc.old.transport }
 {
     let mut api = rtc.sdp_api();
     let answers = perform_ops(&mut api, ops, room);
@@ -228,7 +236,7 @@ fn reply_made<I: IceAgent, D: DtlsInstance, S: Association, M: MediaSession, N: 
     made: Made,
     room: Room,
     rtc: &Rtc<I, D, S, M, N>,
-) -> Reply
+) -> Reply<M::E>
     requires no_lines { room.lines.items ≡ [] }
     requires no_channels { room.channels.items ≡ [] }
     requires lines { length rtc.now.core.lines ≤ vec_capacity room.lines }
@@ -247,9 +255,10 @@ pub fn negotiate<I: IceAgent, D: DtlsInstance, S: Association, M: MediaSession, 
     at: Side,
     ops: &[Op],
     apply: bool,
-) -> Reply
+) -> Reply<M::E>
     requires count { length sdps.old.items < 2 ^ 32 }
-    ensures { Negotiates (meanings I.ice D.dtls S.association M.media N.ids)
+    ensures connection { rtc.new.transport ≡ rtc.old.transport }
+    ensures negotiates { Negotiates (meanings I.ice D.dtls S.association M.media N.ids)
         at ops.now apply rtc.old.core sdps.old.items result.outcome result.table rtc.new.core sdps.new.items }
 {
     let Ok(answers) = Vec::with_capacity(alloc, ops.len()) else {

@@ -3,13 +3,13 @@ ghost use Rattle.std.specs.Prelude.{◌≡◌, ◌+◌, ◌<◌, ◌≤◌, ◌^
 ghost use Rattle.rtc_peer_state.specs.Meanings.{meanings};
 
 use crate::performing::perform_step;
-use rtc_history::{Kept, Reply, Side, Step};
+use rtc_history::{Kept, Reply, SentPacket, Side, Step};
 use rtc_peer::{Association, DtlsInstance, IceAgent, Ids, MediaSession, Rtc};
 use rtc_wire::Addr;
 use std::alloc::Global;
 use std::marker::Model;
 
-/// Two peers, an address of each, the session descriptions that they made, and the tokens of their offers.
+/// Two peers, an address of each, the session descriptions that they made, the tokens of their offers, and the datagrams that they sent.
 #[derive(Drop)]
 pub struct Pair<I: IceAgent, D: DtlsInstance, S: Association, M: MediaSession, N: Ids> {
     alloc: Global,
@@ -18,6 +18,7 @@ pub struct Pair<I: IceAgent, D: DtlsInstance, S: Association, M: MediaSession, N
     left_addr: Addr,
     right_addr: Addr,
     sdps: Vec<Kept>,
+    packets: Vec<SentPacket>,
     size: u64,
 }
 
@@ -33,6 +34,7 @@ impl<I: IceAgent, D: DtlsInstance, S: Association, M: MediaSession, N: Ids> Mode
       left_addr = pair.left_addr;
       right_addr = pair.right_addr;
       sdps = pair.sdps.items;
+      packets = pair.packets.items;
       size = pair.size;
     } };
 }
@@ -43,7 +45,7 @@ impl<I: IceAgent, D: DtlsInstance, S: Association, M: MediaSession, N: Ids> Pair
     ghost use Rattle.rtc_delivery.specs.Delivered.{AllReadBack};
     ghost use Rattle.rtc_history.specs.Sizes.{step_size};
 
-    /// A pair of peers that made no session description yet.
+    /// A pair of peers that made no session description and sent no datagram yet.
     pub fn new(
         alloc: Global,
         left: Rtc<I, D, S, M, N>,
@@ -51,7 +53,15 @@ impl<I: IceAgent, D: DtlsInstance, S: Association, M: MediaSession, N: Ids> Pair
         left_addr: Addr,
         right_addr: Addr,
     ) -> Pair<I, D, S, M, N>
-        ensures { result ≡ record { left = left; right = right; left_addr = left_addr; right_addr = right_addr; sdps = []; size = 0 } }
+        ensures { result ≡ record {
+          left = left;
+          right = right;
+          left_addr = left_addr;
+          right_addr = right_addr;
+          sdps = [];
+          packets = [];
+          size = 0;
+        } }
     {
         Pair {
             alloc,
@@ -60,6 +70,7 @@ impl<I: IceAgent, D: DtlsInstance, S: Association, M: MediaSession, N: Ids> Pair
             left_addr,
             right_addr,
             sdps: Vec::new(alloc),
+            packets: Vec::new(alloc),
             size: 0,
         }
     }
@@ -86,16 +97,29 @@ impl<I: IceAgent, D: DtlsInstance, S: Association, M: MediaSession, N: Ids> Pair
     }
 
     /// Performs one step.
-    pub(crate) fn perform(&mut self, step: &Step) -> Reply
+    pub(crate) fn perform(&mut self, step: &Step) -> Reply<M::E>
         requires count { length self.old.sdps < 2 ^ 32 }
         requires read_back { AllReadBack self.old.sdps }
         requires size { self.old.size + step_size step.now < 2 ^ 32 }
-        ensures { Performs (meanings I.ice D.dtls S.association M.media N.ids) self.old step.now result.outcome result.table self.new }
+        ensures { Performs (meanings I.ice D.dtls S.association M.media N.ids) I.stun
+            self.old step.now result.outcome result.table self.new }
     {
         self.size += step.size();
         match step.side() {
-            Side::Left => perform_step(self.alloc, &mut self.left, &mut self.sdps, step),
-            Side::Right => perform_step(self.alloc, &mut self.right, &mut self.sdps, step),
+            Side::Left => perform_step(
+                self.alloc,
+                &mut self.left,
+                &mut self.sdps,
+                &mut self.packets,
+                step,
+            ),
+            Side::Right => perform_step(
+                self.alloc,
+                &mut self.right,
+                &mut self.sdps,
+                &mut self.packets,
+                step,
+            ),
         }
     }
 }

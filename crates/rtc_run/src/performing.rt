@@ -5,22 +5,25 @@ ghost use Rattle.rtc_history.specs.Performs.{Acts};
 ghost use Rattle.rtc_peer_state.specs.Meanings.{meanings};
 
 use crate::accepting::{deliver_and_accept_answer, deliver_and_accept_offer};
+use crate::hearing::{close, take_datagram, take_moment};
 use crate::negotiating::negotiate;
-use rtc_history::{Kept, Reply, Step};
+use crate::polling::{drain, poll};
+use rtc_history::{Kept, Reply, SentPacket, Step};
 use rtc_peer::{Association, DtlsInstance, IceAgent, Ids, MediaSession, Rtc};
 use std::alloc::Global;
 
-/// Performs a step at the peer that acts, with the session descriptions of both peers.
+/// Performs a step at the peer that acts, with the session descriptions and the datagrams of both peers.
 pub fn perform_step<I: IceAgent, D: DtlsInstance, S: Association, M: MediaSession, N: Ids>(
     alloc: Global,
     rtc: &mut Rtc<I, D, S, M, N>,
     sdps: &mut Vec<Kept>,
+    packets: &mut Vec<SentPacket>,
     step: &Step,
-) -> Reply
+) -> Reply<M::E>
     requires count { length sdps.old.items < 2 ^ 32 }
     requires read_back { AllReadBack sdps.old.items }
-    ensures { Acts (meanings I.ice D.dtls S.association M.media N.ids)
-        step.now rtc.old.core sdps.old.items result.outcome result.table rtc.new.core sdps.new.items }
+    ensures { Acts (meanings I.ice D.dtls S.association M.media N.ids) I.stun step.now rtc.old sdps.old.items packets.old.items
+        result.outcome result.table rtc.new sdps.new.items packets.new.items }
 {
     match step {
         Step::Negotiate { at, ops, apply } => {
@@ -30,5 +33,12 @@ pub fn perform_step<I: IceAgent, D: DtlsInstance, S: Association, M: MediaSessio
         Step::AcceptAnswer { at, token, answer } => {
             deliver_and_accept_answer(alloc, rtc, sdps, *at, *token, *answer)
         }
+        Step::Time { now, .. } => take_moment(alloc, rtc, *now),
+        Step::Datagram { at, packet, now } => {
+            take_datagram(alloc, rtc, packets.as_slice(), *at, *packet, *now)
+        }
+        Step::Poll { at } => poll(alloc, rtc, packets, *at),
+        Step::Drain { at } => drain(alloc, rtc, packets, *at),
+        Step::Close { .. } => close(alloc, rtc),
     }
 }

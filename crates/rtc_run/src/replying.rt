@@ -97,10 +97,10 @@ fn fill_channels<I: IceAgent, D: DtlsInstance, S: Association, M: MediaSession, 
 
 /// The reply with an outcome and the table of a peer.
 pub fn reply_with<I: IceAgent, D: DtlsInstance, S: Association, M: MediaSession, N: Ids>(
-    outcome: Outcome,
+    outcome: Outcome<M::E>,
     room: Room,
     rtc: &Rtc<I, D, S, M, N>,
-) -> Reply
+) -> Reply<M::E>
     requires no_lines { room.lines.items ≡ [] }
     requires no_channels { room.channels.items ≡ [] }
     requires lines { length rtc.now.core.lines ≤ vec_capacity room.lines }
@@ -117,7 +117,7 @@ pub fn reply_with<I: IceAgent, D: DtlsInstance, S: Association, M: MediaSession,
 }
 
 /// The reply to a step that did nothing, since memory ran out.
-pub fn reply_no_memory() -> Reply
+pub fn reply_no_memory<E>() -> Reply<E>
     ensures outcome { result.outcome ≡ Alloc }
     ensures table { result.table ≡ None }
 {
@@ -131,7 +131,7 @@ pub fn reply_no_memory() -> Reply
 pub fn reply_no_such<I: IceAgent, D: DtlsInstance, S: Association, M: MediaSession, N: Ids>(
     alloc: Global,
     rtc: &Rtc<I, D, S, M, N>,
-) -> Reply
+) -> Reply<M::E>
     ensures { IsNoSuch rtc.now.core result.outcome result.table }
 {
     match room_for(alloc, rtc, 0, 0) {

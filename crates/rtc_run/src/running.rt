@@ -20,11 +20,12 @@ pub fn run_pair<I: IceAgent, D: DtlsInstance, S: Association, M: MediaSession, N
     alloc: Global,
     pair: &mut Pair<I, D, S, M, N>,
     steps: &[Step],
-) -> Result<Seq<Reply>, AllocError>
+) -> Result<Seq<Reply<M::E>>, AllocError>
     requires fresh { IsFresh (meanings I.ice D.dtls S.association M.media N.ids) pair.old }
     requires formed { ArePeersFormed (meanings I.ice D.dtls S.association M.media N.ids) pair.old }
     requires sizes { steps_size steps.now < 2 ^ 32 }
-    ensures runs { IfOk result (λ replies. Runs (meanings I.ice D.dtls S.association M.media N.ids) pair.old steps.now replies pair.new) }
+    ensures runs { IfOk result (λ replies. Runs (meanings I.ice D.dtls S.association M.media N.ids) I.stun
+        pair.old steps.now replies pair.new) }
     ensures read_back { IfOk result (λ replies. AllReadBack pair.new.sdps) }
     ensures untouched { OnErr result (pair.new ≡ pair.old) }
 {

@@ -16,7 +16,7 @@ use Rattle.rtc_history.specs.declared.op.Op.TheVariants.{AddMedia, SetDirection,
 use Rattle.rtc_history.specs.declared.side.Side.{Side}
 use Rattle.rtc_history.specs.declared.side.Side.TheVariants.{Left, Right}
 use Rattle.rtc_history.specs.declared.step.Step.{Step}
-use Rattle.rtc_history.specs.declared.step.Step.TheVariants.{Negotiate, AcceptOffer, AcceptAnswer}
+use Rattle.rtc_history.specs.declared.step.Step.TheVariants.{Negotiate, AcceptOffer, AcceptAnswer, Time, Datagram, Poll, Drain, Close}
 use Rattle.rtc_script.specs.Words.{side_text, kind_text, direction_text, keep_text}
 
 side_from : List ℕ → Side
@@ -61,6 +61,9 @@ one_kind a b same = sym (kind_again a) ∙ ap kind_from same ∙ kind_again b
 
 one_number : (m n : ℕ) → m < 2 ^ 32 → n < 2 ^ 32 → decimal m ≡ decimal n → m ≡ n
 one_number m n small small' same = decimal_injective m n (omega arith) (omega arith) same
+
+one_long : (m n : ℕ) → m < 2 ^ 64 → n < 2 ^ 64 → decimal m ≡ decimal n → m ≡ n
+one_long m n small small' same = decimal_injective m n (omega arith) (omega arith) same
 
 first_same : (a b : List ℕ) (rest others : List (List ℕ)) → a ∷ rest ≡ b ∷ others → a ≡ b
 first_same a b rest others same = cc
@@ -189,6 +192,80 @@ one_act verb rest (AcceptAnswer at token answer) (AcceptAnswer at' token' answer
     let m = one_number token token' (is.1.1 0 0 (lit< tt)) (is'.1.1 0 0 (lit< tt)) first in
     let n = one_number answer answer' (is.1.1 1 0 (lit< tt)) (is'.1.1 1 0 (lit< tt)) second in
     cc
+one_act verb rest (Time at now) (Time at' now') same is is' =
+    let e : decimal now ≡ decimal now' = let e = sym is.1.0 ∙ is'.1.0 in cc in
+    let n = one_long now now' (is.1.1 0 0 (lit< tt)) (is'.1.1 0 0 (lit< tt)) e in
+    cc
+one_act verb rest (Datagram at packet now) (Datagram at' packet' now') same is is' =
+    let e = sym is.1.0 ∙ is'.1.0 in
+    let first : decimal packet ≡ decimal packet' = cc in
+    let second : decimal now ≡ decimal now' = cc in
+    let m = one_long packet packet' (is.1.1 0 0 (lit< tt)) (is'.1.1 0 0 (lit< tt)) first in
+    let n = one_long now now' (is.1.1 1 0 (lit< tt)) (is'.1.1 1 0 (lit< tt)) second in
+    cc
+one_act verb rest (Poll at) (Poll at') same is is' = ap Poll same
+one_act verb rest (Drain at) (Drain at') same is is' = ap Drain same
+one_act verb rest (Close at) (Close at') same is is' = ap Close same
+one_act verb rest (Negotiate at ops true) (Time at' now') same is is' = absurd (omega (arith, same_letter 0 verb (codes "offer") (codes "time") is.0 is'.0))
+one_act verb rest (Time at now) (Negotiate at' ops true) same is is' = absurd (omega (arith, same_letter 0 verb (codes "time") (codes "offer") is.0 is'.0))
+one_act verb rest (Negotiate at ops false) (Time at' now') same is is' = absurd (omega (arith, same_letter 0 verb (codes "stage") (codes "time") is.0 is'.0))
+one_act verb rest (Time at now) (Negotiate at' ops false) same is is' = absurd (omega (arith, same_letter 0 verb (codes "time") (codes "stage") is.0 is'.0))
+one_act verb rest (AcceptOffer at offer) (Time at' now') same is is' = absurd (omega (arith, same_letter 0 verb (codes "accept") (codes "time") is.0 is'.0))
+one_act verb rest (Time at now) (AcceptOffer at' offer') same is is' = absurd (omega (arith, same_letter 0 verb (codes "time") (codes "accept") is.0 is'.0))
+one_act verb rest (AcceptAnswer at token answer) (Time at' now') same is is' = absurd (omega (arith, same_letter 0 verb (codes "answer") (codes "time") is.0 is'.0))
+one_act verb rest (Time at now) (AcceptAnswer at' token' answer') same is is' = absurd (omega (arith, same_letter 0 verb (codes "time") (codes "answer") is.0 is'.0))
+one_act verb rest (Time at now) (Datagram at' packet' now') same is is' = absurd (omega (arith, same_letter 0 verb (codes "time") (codes "datagram") is.0 is'.0))
+one_act verb rest (Time at now) (Poll at') same is is' = absurd (omega (arith, same_letter 0 verb (codes "time") (codes "poll") is.0 is'.0))
+one_act verb rest (Time at now) (Drain at') same is is' = absurd (omega (arith, same_letter 0 verb (codes "time") (codes "drain") is.0 is'.0))
+one_act verb rest (Time at now) (Close at') same is is' = absurd (omega (arith, same_letter 0 verb (codes "time") (codes "close") is.0 is'.0))
+one_act verb rest (Negotiate at ops true) (Datagram at' packet' now') same is is' = absurd (omega (arith, same_letter 0 verb (codes "offer") (codes "datagram") is.0 is'.0))
+one_act verb rest (Datagram at packet now) (Negotiate at' ops true) same is is' = absurd (omega (arith, same_letter 0 verb (codes "datagram") (codes "offer") is.0 is'.0))
+one_act verb rest (Negotiate at ops false) (Datagram at' packet' now') same is is' = absurd (omega (arith, same_letter 0 verb (codes "stage") (codes "datagram") is.0 is'.0))
+one_act verb rest (Datagram at packet now) (Negotiate at' ops false) same is is' = absurd (omega (arith, same_letter 0 verb (codes "datagram") (codes "stage") is.0 is'.0))
+one_act verb rest (AcceptOffer at offer) (Datagram at' packet' now') same is is' = absurd (omega (arith, same_letter 0 verb (codes "accept") (codes "datagram") is.0 is'.0))
+one_act verb rest (Datagram at packet now) (AcceptOffer at' offer') same is is' = absurd (omega (arith, same_letter 0 verb (codes "datagram") (codes "accept") is.0 is'.0))
+one_act verb rest (AcceptAnswer at token answer) (Datagram at' packet' now') same is is' = absurd (omega (arith, same_letter 0 verb (codes "answer") (codes "datagram") is.0 is'.0))
+one_act verb rest (Datagram at packet now) (AcceptAnswer at' token' answer') same is is' = absurd (omega (arith, same_letter 0 verb (codes "datagram") (codes "answer") is.0 is'.0))
+one_act verb rest (Datagram at packet now) (Time at' now') same is is' = absurd (omega (arith, same_letter 0 verb (codes "datagram") (codes "time") is.0 is'.0))
+one_act verb rest (Datagram at packet now) (Poll at') same is is' = absurd (omega (arith, same_letter 0 verb (codes "datagram") (codes "poll") is.0 is'.0))
+one_act verb rest (Datagram at packet now) (Drain at') same is is' = absurd (omega (arith, same_letter 1 verb (codes "datagram") (codes "drain") is.0 is'.0))
+one_act verb rest (Datagram at packet now) (Close at') same is is' = absurd (omega (arith, same_letter 0 verb (codes "datagram") (codes "close") is.0 is'.0))
+one_act verb rest (Negotiate at ops true) (Poll at') same is is' = absurd (omega (arith, same_letter 0 verb (codes "offer") (codes "poll") is.0 is'.0))
+one_act verb rest (Poll at) (Negotiate at' ops true) same is is' = absurd (omega (arith, same_letter 0 verb (codes "poll") (codes "offer") is.0 is'.0))
+one_act verb rest (Negotiate at ops false) (Poll at') same is is' = absurd (omega (arith, same_letter 0 verb (codes "stage") (codes "poll") is.0 is'.0))
+one_act verb rest (Poll at) (Negotiate at' ops false) same is is' = absurd (omega (arith, same_letter 0 verb (codes "poll") (codes "stage") is.0 is'.0))
+one_act verb rest (AcceptOffer at offer) (Poll at') same is is' = absurd (omega (arith, same_letter 0 verb (codes "accept") (codes "poll") is.0 is'.0))
+one_act verb rest (Poll at) (AcceptOffer at' offer') same is is' = absurd (omega (arith, same_letter 0 verb (codes "poll") (codes "accept") is.0 is'.0))
+one_act verb rest (AcceptAnswer at token answer) (Poll at') same is is' = absurd (omega (arith, same_letter 0 verb (codes "answer") (codes "poll") is.0 is'.0))
+one_act verb rest (Poll at) (AcceptAnswer at' token' answer') same is is' = absurd (omega (arith, same_letter 0 verb (codes "poll") (codes "answer") is.0 is'.0))
+one_act verb rest (Poll at) (Time at' now') same is is' = absurd (omega (arith, same_letter 0 verb (codes "poll") (codes "time") is.0 is'.0))
+one_act verb rest (Poll at) (Datagram at' packet' now') same is is' = absurd (omega (arith, same_letter 0 verb (codes "poll") (codes "datagram") is.0 is'.0))
+one_act verb rest (Poll at) (Drain at') same is is' = absurd (omega (arith, same_letter 0 verb (codes "poll") (codes "drain") is.0 is'.0))
+one_act verb rest (Poll at) (Close at') same is is' = absurd (omega (arith, same_letter 0 verb (codes "poll") (codes "close") is.0 is'.0))
+one_act verb rest (Negotiate at ops true) (Drain at') same is is' = absurd (omega (arith, same_letter 0 verb (codes "offer") (codes "drain") is.0 is'.0))
+one_act verb rest (Drain at) (Negotiate at' ops true) same is is' = absurd (omega (arith, same_letter 0 verb (codes "drain") (codes "offer") is.0 is'.0))
+one_act verb rest (Negotiate at ops false) (Drain at') same is is' = absurd (omega (arith, same_letter 0 verb (codes "stage") (codes "drain") is.0 is'.0))
+one_act verb rest (Drain at) (Negotiate at' ops false) same is is' = absurd (omega (arith, same_letter 0 verb (codes "drain") (codes "stage") is.0 is'.0))
+one_act verb rest (AcceptOffer at offer) (Drain at') same is is' = absurd (omega (arith, same_letter 0 verb (codes "accept") (codes "drain") is.0 is'.0))
+one_act verb rest (Drain at) (AcceptOffer at' offer') same is is' = absurd (omega (arith, same_letter 0 verb (codes "drain") (codes "accept") is.0 is'.0))
+one_act verb rest (AcceptAnswer at token answer) (Drain at') same is is' = absurd (omega (arith, same_letter 0 verb (codes "answer") (codes "drain") is.0 is'.0))
+one_act verb rest (Drain at) (AcceptAnswer at' token' answer') same is is' = absurd (omega (arith, same_letter 0 verb (codes "drain") (codes "answer") is.0 is'.0))
+one_act verb rest (Drain at) (Time at' now') same is is' = absurd (omega (arith, same_letter 0 verb (codes "drain") (codes "time") is.0 is'.0))
+one_act verb rest (Drain at) (Datagram at' packet' now') same is is' = absurd (omega (arith, same_letter 1 verb (codes "drain") (codes "datagram") is.0 is'.0))
+one_act verb rest (Drain at) (Poll at') same is is' = absurd (omega (arith, same_letter 0 verb (codes "drain") (codes "poll") is.0 is'.0))
+one_act verb rest (Drain at) (Close at') same is is' = absurd (omega (arith, same_letter 0 verb (codes "drain") (codes "close") is.0 is'.0))
+one_act verb rest (Negotiate at ops true) (Close at') same is is' = absurd (omega (arith, same_letter 0 verb (codes "offer") (codes "close") is.0 is'.0))
+one_act verb rest (Close at) (Negotiate at' ops true) same is is' = absurd (omega (arith, same_letter 0 verb (codes "close") (codes "offer") is.0 is'.0))
+one_act verb rest (Negotiate at ops false) (Close at') same is is' = absurd (omega (arith, same_letter 0 verb (codes "stage") (codes "close") is.0 is'.0))
+one_act verb rest (Close at) (Negotiate at' ops false) same is is' = absurd (omega (arith, same_letter 0 verb (codes "close") (codes "stage") is.0 is'.0))
+one_act verb rest (AcceptOffer at offer) (Close at') same is is' = absurd (omega (arith, same_letter 0 verb (codes "accept") (codes "close") is.0 is'.0))
+one_act verb rest (Close at) (AcceptOffer at' offer') same is is' = absurd (omega (arith, same_letter 0 verb (codes "close") (codes "accept") is.0 is'.0))
+one_act verb rest (AcceptAnswer at token answer) (Close at') same is is' = absurd (omega (arith, same_letter 0 verb (codes "answer") (codes "close") is.0 is'.0))
+one_act verb rest (Close at) (AcceptAnswer at' token' answer') same is is' = absurd (omega (arith, same_letter 0 verb (codes "close") (codes "answer") is.0 is'.0))
+one_act verb rest (Close at) (Time at' now') same is is' = absurd (omega (arith, same_letter 0 verb (codes "close") (codes "time") is.0 is'.0))
+one_act verb rest (Close at) (Datagram at' packet' now') same is is' = absurd (omega (arith, same_letter 0 verb (codes "close") (codes "datagram") is.0 is'.0))
+one_act verb rest (Close at) (Poll at') same is is' = absurd (omega (arith, same_letter 0 verb (codes "close") (codes "poll") is.0 is'.0))
+one_act verb rest (Close at) (Drain at') same is is' = absurd (omega (arith, same_letter 0 verb (codes "close") (codes "drain") is.0 is'.0))
 
 one_step : (found : List (List ℕ)) (a b : Step) → AreStepWords found a → AreStepWords found b → a ≡ b
 one_step [] a b are are' = absurd are

@@ -14,7 +14,7 @@ use Rattle.rtc_history.specs.declared.side.Side.{Side}
 use Rattle.rtc_script.specs.declared.script_error.ScriptError.{ScriptError}
 use Rattle.rtc_history.specs.Sizes.{step_size, steps_size}
 use Rattle.rtc_history.specs.declared.step.Step.{Step}
-use Rattle.rtc_history.specs.declared.step.Step.TheVariants.{Negotiate, AcceptOffer, AcceptAnswer}
+use Rattle.rtc_history.specs.declared.step.Step.TheVariants.{Negotiate, AcceptOffer, AcceptAnswer, Time, Datagram, Poll, Drain, Close}
 
 -- a line has a word for its side, one for its verb, and one for each op
 words_small : (found : List (List ℕ)) (step : Step) → AreStepWords found step → step_size step + 1 ≤ length found
@@ -26,6 +26,11 @@ words_small (side ∷ verb ∷ rest) (Negotiate at ops apply) h =
     omega arith
 words_small (side ∷ verb ∷ rest) (AcceptOffer at offer) h = omega arith
 words_small (side ∷ verb ∷ rest) (AcceptAnswer at token answer) h = omega arith
+words_small (side ∷ verb ∷ rest) (Time at now) h = omega arith
+words_small (side ∷ verb ∷ rest) (Datagram at packet now) h = omega arith
+words_small (side ∷ verb ∷ rest) (Poll at) h = omega arith
+words_small (side ∷ verb ∷ rest) (Drain at) h = omega arith
+words_small (side ∷ verb ∷ rest) (Close at) h = omega arith
 
 -- so a step is no greater than its line
 line_small : (line : List ℕ) (step : Step) → IsLine line step → step_size step ≤ length line

@@ -3,6 +3,8 @@ pub mod Lines
 pub mod Script
 pub mod Steps
 pub mod Outcomes
+pub mod Events
+pub mod Outputs
 pub mod Report
 pub mod Rows
 pub mod Settings

@@ -1,5 +1,5 @@
 -- The lines of settings and of steps: words parted by single spaces.
-use Rattle.std.specs.Prelude.{◌≡◌, ◌<◌, ◌^◌, ℕ, Bool, true, false, List, [], ◌∷◌, map, All, codes}
+use Rattle.std.specs.Prelude.{◌≡◌, ◌≢◌, ◌<◌, ◌^◌, ℕ, Bool, true, false, List, [], ◌∷◌, map, All, codes}
 use Rattle.std.specs.Fmt.{decimal}
 use Rattle.std.specs.List.{AllZip}
 use Rattle.std.specs.Str.{IsUtf8}
@@ -11,7 +11,7 @@ use Rattle.rtc_history.specs.declared.op.Op.{Op}
 use Rattle.rtc_history.specs.declared.op.Op.TheVariants.{AddMedia, SetDirection, StopMedia, AddChannel, IceRestart}
 use Rattle.rtc_history.specs.declared.side.Side.{Side}
 use Rattle.rtc_history.specs.declared.step.Step.{Step}
-use Rattle.rtc_history.specs.declared.step.Step.TheVariants.{Negotiate, AcceptOffer, AcceptAnswer}
+use Rattle.rtc_history.specs.declared.step.Step.TheVariants.{Negotiate, AcceptOffer, AcceptAnswer, Time, Datagram, Poll, Drain, Close}
 use Rattle.rtc_script.specs.Words.{side_text, kind_text, direction_text, hex_word, keep_text, setting_text}
 use Rattle.rtc_script.specs.declared.setting.Setting.{Setting}
 
@@ -40,6 +40,10 @@ AreOps found ops = AllZip IsOp found ops
 abbrev pub AreNumbers : List (List ℕ) → List ℕ → Type 0
 AreNumbers found numbers = (found ≡ map decimal numbers) × All (λ n. n < 2 ^ 32) numbers
 
+-- such a number for each, all below 2 ^ 64
+abbrev pub AreLongNumbers : List (List ℕ) → List ℕ → Type 0
+AreLongNumbers found numbers = (found ≡ map decimal numbers) × All (λ n. n < 2 ^ 64) numbers
+
 -- the verb of ops that are applied, and of those that are not
 abbrev pub ops_verb : Bool → List ℕ
 ops_verb true = codes "offer"
@@ -50,6 +54,27 @@ abbrev pub IsAct : List ℕ → List (List ℕ) → Step → Type 0
 IsAct verb rest (Negotiate at ops apply) = (verb ≡ ops_verb apply) × AreOps rest ops
 IsAct verb rest (AcceptOffer at offer) = (verb ≡ codes "accept") × AreNumbers rest (offer ∷ [])
 IsAct verb rest (AcceptAnswer at token answer) = (verb ≡ codes "answer") × AreNumbers rest (token ∷ answer ∷ [])
+IsAct verb rest (Time at now) = (verb ≡ codes "time") × AreLongNumbers rest (now ∷ [])
+IsAct verb rest (Datagram at packet now) = (verb ≡ codes "datagram") × AreLongNumbers rest (packet ∷ now ∷ [])
+IsAct verb rest (Poll at) = (verb ≡ codes "poll") × (rest ≡ [])
+IsAct verb rest (Drain at) = (verb ≡ codes "drain") × (rest ≡ [])
+IsAct verb rest (Close at) = (verb ≡ codes "close") × (rest ≡ [])
+
+-- a verb of no negotiation
+abbrev pub IsNoVerbOfNegotiation : List ℕ → Type 0
+IsNoVerbOfNegotiation verb =
+    (verb ≢ codes "offer") × (verb ≢ codes "stage") × (verb ≢ codes "accept") × (verb ≢ codes "answer")
+
+-- a step that takes no words
+abbrev pub IsSingle : Step → Type 0
+IsSingle (Negotiate at ops apply) = ⊥
+IsSingle (AcceptOffer at offer) = ⊥
+IsSingle (AcceptAnswer at token answer) = ⊥
+IsSingle (Time at now) = ⊥
+IsSingle (Datagram at packet now) = ⊥
+IsSingle (Poll at) = Unit {0}
+IsSingle (Drain at) = Unit {0}
+IsSingle (Close at) = Unit {0}
 
 -- the letter of the side that acts, and then its act
 abbrev pub AreStepWords : List (List ℕ) → Step → Type 0

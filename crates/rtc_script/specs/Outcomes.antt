@@ -1,5 +1,5 @@
 -- The words of outcomes.
-use Rattle.std.specs.Prelude.{ℕ, Bool, true, false, List, [], ◌∷◌, ◌++◌, flat_map, codes}
+use Rattle.std.specs.Prelude.{ℕ, Bool, true, false, List, [], ◌∷◌, ◌++◌, flat_map, length, codes}
 use Rattle.std.specs.Fmt.{decimal}
 use Rattle.rtc_peer_state.specs.RtcErrorText.{rtc_error_text}
 use Rattle.rtc_peer_state.specs.declared.rtc_error.RtcError.{RtcError}
@@ -11,7 +11,7 @@ use Rattle.rtc_history.specs.declared.op_answer.OpAnswer.{OpAnswer}
 use Rattle.rtc_history.specs.declared.op_answer.OpAnswer.TheVariants.{Mid, Changed, NoLine, Channel, Creds}
 use Rattle.rtc_history.specs.declared.op_answer.OpAnswer.TheVariants.{BadChannel as NoChannel, Alloc as OpAlloc}
 use Rattle.rtc_history.specs.declared.outcome.Outcome.{Outcome}
-use Rattle.rtc_history.specs.declared.outcome.Outcome.TheVariants.{Negotiated, Answered, Finished, Refused, NoSuch, Alloc}
+use Rattle.rtc_history.specs.declared.outcome.Outcome.TheVariants.{Negotiated, Answered, Finished, Done, Polled, Refused, NoSuch, Alloc}
 
 -- the word where memory ran out
 abbrev pub no_memory : List ℕ
@@ -61,10 +61,12 @@ refusal_text BadChannel = codes "refused 8 " ++ rtc_error_text BadChannel
 refusal_text PeerAlloc = no_memory
 
 -- the words of an outcome
-abbrev pub outcome_text : Outcome → List ℕ
+abbrev pub outcome_text : {E : Type 0} → Outcome E → List ℕ
 outcome_text (Negotiated answers made) = codes "ops " ++ answers_text answers ++ codes " text " ++ made_text made
 outcome_text (Answered text) = codes "answered " ++ decimal text
 outcome_text Finished = codes "finished"
+outcome_text Done = codes "done"
+outcome_text (Polled outputs end) = codes "polled " ++ decimal (length outputs)
 outcome_text (Refused error) = refusal_text error
 outcome_text NoSuch = codes "nosuch"
 outcome_text Alloc = no_memory

@@ -1,13 +1,14 @@
 //! The act of a line: its verb, and the words behind it.
-ghost use Rattle.std.specs.Prelude.{◌≡◌, List, IfOk, IfSome, IfNone, map};
-ghost use Rattle.rtc_script.specs.Lines.{IsAct, AreOps, ops_verb};
+ghost use Rattle.std.specs.Prelude.{◌≡◌, [], List, IfOk, IfSome, IfNone, map};
+ghost use Rattle.rtc_script.specs.Lines.{AreOps, IsAct, IsNoVerbOfNegotiation, IsSingle, ops_verb};
 ghost use Rattle.rtc_history.specs.Sides.{side_of};
 ghost use Rattle.rtc_history.specs.declared.op.Op.{Op};
 ghost use Rattle.rtc_history.specs.declared.step.Step.{Step};
 
-use crate::numbers::{read_one, read_two};
+use crate::numbers::{read_long, read_one, read_two, read_two_long};
 use crate::ops::read_ops;
 use rtc_history::{Side, Step};
+use rtc_wire::Moment;
 use std::alloc::{AllocError, Global};
 
 // The step whose ops the words name.
@@ -24,6 +25,46 @@ fn read_negotiation(
     match read_ops(alloc, words)? {
         Some(ops) => Ok(Some(Step::Negotiate { at, ops, apply })),
         None => Ok(None),
+    }
+}
+
+// The step of a verb that takes no words: it polls or closes.
+fn read_single(at: Side, verb: &[u8]) -> Option<Step>
+    ensures some { IfSome result (λ step. (side_of step ≡ at) × IsAct verb.now [] step) }
+    ensures none { IfNone result ((step : Step) → IsSingle step → IsAct verb.now [] step → ⊥) }
+{
+    if verb == b"poll".as_slice() {
+        return Some(Step::Poll { at });
+    }
+    if verb == b"drain".as_slice() {
+        return Some(Step::Drain { at });
+    }
+    if verb == b"close".as_slice() {
+        return Some(Step::Close { at });
+    }
+    None
+}
+
+// The step of a verb that is none of negotiation, and the words behind it.
+fn read_polling(at: Side, verb: &[u8], rest: &[&[u8]]) -> Option<Step>
+    requires negotiates { IsNoVerbOfNegotiation verb.now }
+    ensures some { IfSome result (λ step. (side_of step ≡ at) × IsAct verb.now (map (λ word. word.now) rest.now) step) }
+    ensures none { IfNone result ((step : Step) → IsAct verb.now (map (λ word. word.now) rest.now) step → ⊥) }
+{
+    if verb == b"time".as_slice() {
+        let nanos = read_long(rest)?;
+        let now = Moment::from_nanos(nanos);
+        return Some(Step::Time { at, now });
+    }
+    if verb == b"datagram".as_slice() {
+        let (packet, nanos) = read_two_long(rest)?;
+        let now = Moment::from_nanos(nanos);
+        return Some(Step::Datagram { at, packet, now });
+    }
+    if rest.is_empty() {
+        read_single(at, verb)
+    } else {
+        None
     }
 }
 
@@ -55,5 +96,5 @@ pub fn read_act(
             None => Ok(None),
         };
     }
-    Ok(None)
+    Ok(read_polling(at, verb, rest))
 }

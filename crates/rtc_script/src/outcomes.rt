@@ -2,7 +2,7 @@
 ghost use Rattle.std.specs.Prelude.{◌≡◌, ◌++◌, OnOk, string_bytes};
 ghost use Rattle.rtc_script.specs.Outcomes.{op_answer_text, more_answers, answers_text, made_text, outcome_text};
 
-use crate::pushing::{push_long, push_number};
+use crate::pushing::{push_count, push_long, push_number};
 use crate::refusals::push_refusal;
 use rtc_history::{Made, OpAnswer, Outcome};
 use std::alloc::AllocError;
@@ -59,7 +59,7 @@ fn push_made(out: &mut String, made: Made) -> Result<(), AllocError>
 }
 
 /// Puts the words of an outcome behind a text.
-pub fn push_outcome(out: &mut String, outcome: &Outcome) -> Result<(), AllocError>
+pub fn push_outcome<E>(out: &mut String, outcome: &Outcome<E>) -> Result<(), AllocError>
     ensures { OnOk result (string_bytes out.new ≡ string_bytes out.old ++ outcome_text outcome.now) }
 {
     match outcome {
@@ -74,6 +74,11 @@ pub fn push_outcome(out: &mut String, outcome: &Outcome) -> Result<(), AllocErro
             push_number(out, *text)
         }
         Outcome::Finished => out.push_str("finished"),
+        Outcome::Done => out.push_str("done"),
+        Outcome::Polled { outputs, .. } => {
+            out.push_str("polled ")?;
+            push_count(out, outputs.as_slice().len())
+        }
         Outcome::Refused(error) => push_refusal(out, error),
         Outcome::NoSuch => out.push_str("nosuch"),
         Outcome::Alloc => out.push_str("nomemory"),

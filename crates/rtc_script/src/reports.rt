@@ -4,10 +4,12 @@ ghost use Rattle.rtc_script.specs.Report.{table_lines, step_lines, report};
 
 use crate::channels::push_channels;
 use crate::outcomes::push_outcome;
+use crate::outputs::push_polled;
 use crate::pushing::push_count;
 use crate::rows::push_rows;
 use crate::sides::side_word;
 use rtc_history::{Reply, Step, Table};
+use rtc_plain_media::PlainMediaEvent;
 use std::alloc::{AllocError, Global};
 
 fn push_table(out: &mut String, table: &Option<Table>) -> Result<(), AllocError>
@@ -22,7 +24,13 @@ fn push_table(out: &mut String, table: &Option<Table>) -> Result<(), AllocError>
     }
 }
 
-fn push_step(out: &mut String, number: usize, step: &Step, reply: &Reply) -> Result<(), AllocError>
+fn push_step(
+    alloc: Global,
+    out: &mut String,
+    number: usize,
+    step: &Step,
+    reply: &Reply<PlainMediaEvent>,
+) -> Result<(), AllocError>
     ensures { OnOk result (string_bytes out.new ≡ string_bytes out.old ++ step_lines number step.now reply.now) }
 {
     out.push_str("step ")?;
@@ -32,11 +40,17 @@ fn push_step(out: &mut String, number: usize, step: &Step, reply: &Reply) -> Res
     out.push_str(" ")?;
     push_outcome(out, &reply.outcome)?;
     out.push_str("\n")?;
+    push_polled(alloc, out, &reply.outcome)?;
     push_table(out, &reply.table)
 }
 
-/// The report of steps and their replies: a line for each reply, followed by the lines and channels of the peer that acted.
-pub fn write_report(alloc: Global, steps: &[Step], replies: &[Reply]) -> Result<Vec<u8>, AllocError>
+/// The report of steps and their replies: a line for each reply, followed by what its polls gave, and by the lines and channels of the
+/// peer that acted.
+pub fn write_report(
+    alloc: Global,
+    steps: &[Step],
+    replies: &[Reply<PlainMediaEvent>],
+) -> Result<Vec<u8>, AllocError>
     ensures { IfOk result (λ bytes. bytes.items ≡ report steps.now replies.now) }
 {
     let mut out = String::new(alloc);
@@ -44,7 +58,7 @@ pub fn write_report(alloc: Global, steps: &[Step], replies: &[Reply]) -> Result<
         if number >= replies.len() {
             return Ok(out.into_bytes());
         }
-        push_step(&mut out, number, step, &replies[number])?;
+        push_step(alloc, &mut out, number, step, &replies[number])?;
     }
     Ok(out.into_bytes())
 }

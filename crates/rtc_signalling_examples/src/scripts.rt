@@ -5,6 +5,7 @@ ghost use Rattle.rtc_history.specs.Sizes.{steps_size};
 use crate::releasing::release;
 use rtc_history::{Outcome, Reply, Side, Step};
 use rtc_io::INPUT_LIMIT;
+use rtc_plain::PlainMediaEvent;
 use rtc_run::{make_pair, run_pair};
 use rtc_script::{Script, ScriptError, read_script, write_report};
 use rtc_wire::Seq;
@@ -29,7 +30,7 @@ fn count_rounds(steps: &[Step]) -> usize {
 }
 
 // How many answers were accepted.
-fn count_finished(replies: &[Reply]) -> usize {
+fn count_finished(replies: &[Reply<PlainMediaEvent>]) -> usize {
     let mut count = 0usize;
     for reply in replies {
         if let Outcome::Finished = &reply.outcome {
@@ -39,7 +40,11 @@ fn count_finished(replies: &[Reply]) -> usize {
     count
 }
 
-fn tell_rounds(alloc: Global, steps: &[Step], replies: &[Reply]) -> Result<Vec<u8>, AllocError> {
+fn tell_rounds(
+    alloc: Global,
+    steps: &[Step],
+    replies: &[Reply<PlainMediaEvent>],
+) -> Result<Vec<u8>, AllocError> {
     let rounds = count_rounds(steps);
     let finished = count_finished(replies);
     let told = format!(in alloc; "rounds {rounds} finished {finished}")?;
@@ -47,7 +52,7 @@ fn tell_rounds(alloc: Global, steps: &[Step], replies: &[Reply]) -> Result<Vec<u
 }
 
 // The replies of a script's steps.
-fn replies_to(alloc: Global, script: &Script) -> Result<Seq<Reply>, AllocError>
+fn replies_to(alloc: Global, script: &Script) -> Result<Seq<Reply<PlainMediaEvent>>, AllocError>
     requires { steps_size script.now.steps < 2 ^ 32 }
 {
     let left_lite = script.sets_lite(Side::Left);

@@ -7,7 +7,7 @@ use Rattle.rtc_run.proofs.running.run_pair.Given as goal
 abbrev pub invariant-loop-step : goal.invariant-loop-step
 invariant-loop-step g l =
     record {
-      runs : Runs (meanings g.I.IceAgent.ice g.D.DtlsInstance.dtls g.S.Association.association g.M.MediaSession.media g.N.Ids.ids) l.fn.pair (take l.step-index l.steps) l.replies.items l.pair;
+      runs : Runs (meanings g.I.IceAgent.ice g.D.DtlsInstance.dtls g.S.Association.association g.M.MediaSession.media g.N.Ids.ids) g.I.StunReader.stun l.fn.pair (take l.step-index l.steps) l.replies.items l.pair;
       count : length l.replies.items ≡ l.step-index;
       room : length l.steps ≤ vec_capacity l.replies;
     }

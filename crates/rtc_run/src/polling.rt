@@ -1,0 +1,218 @@
+//! Polls of a step.
+ghost use Rattle.std.specs.Prelude.{◌≡◌, ◌+◌, ◌<◌, ◌≤◌, ◌^◌, ◌++◌, [], ◌∷◌, length, IfOk, OnOk, vec_capacity, vec_len, Some, if◌then◌else◌};
+ghost use Rattle.rtc_channels.specs.Channels.{channel_rows};
+ghost use Rattle.rtc_history.specs.Performs.{Drains, PollsOnce, StepPolls, sent_packet};
+ghost use Rattle.rtc_history.specs.declared.outcome.Outcome.TheVariants.{Polled};
+ghost use Rattle.rtc_history.specs.declared.shown.Shown.TheVariants.{Packet};
+ghost use Rattle.rtc_peer_state.specs.Meanings.{meanings};
+ghost use Rattle.rtc_run.specs.ShownTable.{shown_table};
+ghost use Rattle.rtc_run.specs.Turns.{Turns, TakesTurn, is_timeout};
+ghost use Rattle.rtc_run.specs.declared.turn.Turn.TheVariants.{More, Over};
+
+use crate::replying::{Room, reply_no_memory, reply_with, room_for};
+use crate::turn::Turn;
+use rtc_history::{Outcome, PollEnd, Reply, SentPacket, Shown, Side};
+use rtc_peer::{Association, DtlsInstance, IceAgent, Ids, MediaSession, Output, Rtc, RtcError};
+use rtc_wire::{Seq, Transmit};
+use std::alloc::{AllocError, Global};
+
+// Keeps a datagram under the next number, and shows it.
+fn keep_packet<E>(packets: &mut Vec<SentPacket>, at: Side, transmit: Transmit) -> Shown<E>
+    requires { vec_len packets.old < vec_capacity packets.old }
+    ensures kept { packets.new.items ≡ packets.old.items ++ sent_packet at transmit ∷ [] }
+    ensures shown { result ≡ Packet (length packets.old.items) (length transmit.contents) }
+{
+    let number = packets.len() as u64;
+    let len = transmit.contents.as_slice().len();
+    packets.push_reserved(SentPacket { at, transmit });
+    Shown::Packet { number, len }
+}
+
+// Polls a peer, and keeps the datagram that it sends.
+fn poll_shown<I: IceAgent, D: DtlsInstance, S: Association, M: MediaSession, N: Ids>(
+    rtc: &mut Rtc<I, D, S, M, N>,
+    at: Side,
+    packets: &mut Vec<SentPacket>,
+) -> Result<Shown<M::E>, RtcError>
+    requires { vec_len packets.old < vec_capacity packets.old }
+    ensures turns { Turns (meanings I.ice D.dtls S.association M.media N.ids)
+        at rtc.old packets.old.items result rtc.new packets.new.items }
+    ensures lines { rtc.new.core.lines ≡ rtc.old.core.lines }
+    ensures channels { rtc.new.core.channels ≡ rtc.old.core.channels }
+{
+    match rtc.poll_output() {
+        Ok(Output::Timeout(moment)) => Ok(Shown::Timeout(moment, rtc.last_timeout_reason())),
+        Ok(Output::Transmit(transmit)) => Ok(keep_packet(packets, at, transmit)),
+        Ok(Output::Event(event)) => Ok(Shown::Event(event)),
+        Err(error) => Err(error),
+    }
+}
+
+fn is_timeout<E>(shown: &Shown<E>) -> bool
+    ensures { result ≡ is_timeout shown.now }
+{
+    match shown {
+        Shown::Timeout(_, _) => true,
+        Shown::Packet { .. } => false,
+        Shown::Event(_) => false,
+    }
+}
+
+// Puts an output behind those that are shown, and says whether it is a timeout.
+fn put_output<E>(outputs: &mut Vec<Shown<E>>, shown: Shown<E>) -> Turn
+    requires { vec_len outputs.old < vec_capacity outputs.old }
+    ensures put { outputs.new.items ≡ outputs.old.items ++ shown ∷ [] }
+    ensures turn { result ≡ (if is_timeout shown then Over else More) }
+{
+    let over = is_timeout(&shown);
+    outputs.push_reserved(shown);
+    if over { Turn::Over } else { Turn::More }
+}
+
+// Polls a peer once, and puts its output behind those that are shown.
+fn take_turn<I: IceAgent, D: DtlsInstance, S: Association, M: MediaSession, N: Ids>(
+    rtc: &mut Rtc<I, D, S, M, N>,
+    at: Side,
+    packets: &mut Vec<SentPacket>,
+    outputs: &mut Vec<Shown<M::E>>,
+) -> Turn
+    requires packet { vec_len packets.old < vec_capacity packets.old }
+    requires output { vec_len outputs.old < vec_capacity outputs.old }
+    ensures takes { TakesTurn (meanings I.ice D.dtls S.association M.media N.ids)
+        at rtc.old packets.old.items outputs.old.items result rtc.new packets.new.items outputs.new.items }
+    ensures lines { rtc.new.core.lines ≡ rtc.old.core.lines }
+    ensures channels { rtc.new.core.channels ≡ rtc.old.core.channels }
+{
+    match poll_shown(rtc, at, packets) {
+        Ok(shown) => put_output(outputs, shown),
+        Err(error) => Turn::Refused(error),
+    }
+}
+
+// Room for one more output, and for one more datagram.
+fn make_room<E>(
+    outputs: &mut Vec<Shown<E>>,
+    packets: &mut Vec<SentPacket>,
+) -> Result<(), AllocError>
+    ensures output { OnOk result (vec_len outputs.new < vec_capacity outputs.new) }
+    ensures packet { OnOk result (vec_len packets.new < vec_capacity packets.new) }
+    ensures outputs { outputs.new.items ≡ outputs.old.items }
+    ensures packets { packets.new.items ≡ packets.old.items }
+{
+    outputs.reserve(1)?;
+    packets.reserve(1)?;
+    Ok(())
+}
+
+// Polls a peer up to a timeout or an error, or until there is no room for one more output. There is room for one.
+fn drain_outputs<I: IceAgent, D: DtlsInstance, S: Association, M: MediaSession, N: Ids>(
+    rtc: &mut Rtc<I, D, S, M, N>,
+    at: Side,
+    packets: &mut Vec<SentPacket>,
+    outputs: &mut Vec<Shown<M::E>>,
+) -> PollEnd
+    requires packet { vec_len packets.old < vec_capacity packets.old }
+    requires output { vec_len outputs.old < vec_capacity outputs.old }
+    requires empty { outputs.old.items ≡ [] }
+    ensures drains { Drains (meanings I.ice D.dtls S.association M.media N.ids)
+        at rtc.old packets.old.items outputs.new.items result rtc.new packets.new.items }
+    ensures lines { rtc.new.core.lines ≡ rtc.old.core.lines }
+    ensures channels { rtc.new.core.channels ≡ rtc.old.core.channels }
+{
+    for _ in 0..u64::MAX {
+        match take_turn(rtc, at, packets, outputs) {
+            Turn::More => {}
+            Turn::Over => return PollEnd::Ended,
+            Turn::Refused(error) => return PollEnd::Refused(error),
+        }
+        if make_room(outputs, packets).is_err() {
+            return PollEnd::NoRoom;
+        }
+    }
+    PollEnd::NoRoom
+}
+
+// Room for the table of a peer whose polls may add a channel, and for a datagram.
+fn make_first_room<I: IceAgent, D: DtlsInstance, S: Association, M: MediaSession, N: Ids>(
+    alloc: Global,
+    rtc: &Rtc<I, D, S, M, N>,
+    packets: &mut Vec<SentPacket>,
+) -> Result<Room, AllocError>
+    ensures no_lines { IfOk result (λ room. room.lines.items ≡ []) }
+    ensures no_channels { IfOk result (λ room. room.channels.items ≡ []) }
+    ensures lines { IfOk result (λ room. length rtc.now.core.lines ≤ vec_capacity room.lines) }
+    ensures channels { IfOk result (λ room. length (channel_rows rtc.now.core.channels) + 1 ≤ vec_capacity room.channels) }
+    ensures packet { OnOk result (vec_len packets.new < vec_capacity packets.new) }
+    ensures packets { packets.new.items ≡ packets.old.items }
+{
+    let room = room_for(alloc, rtc, 0, 1)?;
+    packets.reserve(1)?;
+    Ok(room)
+}
+
+// The reply to polls.
+fn reply_polled<I: IceAgent, D: DtlsInstance, S: Association, M: MediaSession, N: Ids>(
+    outputs: Vec<Shown<M::E>>,
+    end: PollEnd,
+    room: Room,
+    rtc: &Rtc<I, D, S, M, N>,
+) -> Reply<M::E>
+    requires no_lines { room.lines.items ≡ [] }
+    requires no_channels { room.channels.items ≡ [] }
+    requires lines { length rtc.now.core.lines ≤ vec_capacity room.lines }
+    requires channels { length (channel_rows rtc.now.core.channels) ≤ vec_capacity room.channels }
+    ensures outcome { result.outcome ≡ Polled outputs.items end }
+    ensures table { result.table ≡ Some (shown_table rtc.now.core) }
+{
+    let outputs = Seq::new(outputs);
+    reply_with(Outcome::Polled { outputs, end }, room, rtc)
+}
+
+/// Polls a peer once.
+pub fn poll<I: IceAgent, D: DtlsInstance, S: Association, M: MediaSession, N: Ids>(
+    alloc: Global,
+    rtc: &mut Rtc<I, D, S, M, N>,
+    packets: &mut Vec<SentPacket>,
+    at: Side,
+) -> Reply<M::E>
+    ensures { StepPolls (meanings I.ice D.dtls S.association M.media N.ids)
+        (PollsOnce (meanings I.ice D.dtls S.association M.media N.ids) at rtc.old)
+        rtc.old packets.old.items result.outcome result.table rtc.new packets.new.items }
+{
+    let Ok(room) = make_first_room(alloc, rtc, packets) else {
+        return reply_no_memory();
+    };
+    let Ok(outputs) = Vec::with_capacity(alloc, 1) else {
+        return reply_no_memory();
+    };
+    let mut outputs = outputs;
+    match poll_shown(rtc, at, packets) {
+        Ok(shown) => {
+            outputs.push_reserved(shown);
+            reply_polled(outputs, PollEnd::Ended, room, rtc)
+        }
+        Err(error) => reply_polled(outputs, PollEnd::Refused(error), room, rtc),
+    }
+}
+
+/// Polls a peer up to a timeout or an error, or until there is no room for one more output.
+pub fn drain<I: IceAgent, D: DtlsInstance, S: Association, M: MediaSession, N: Ids>(
+    alloc: Global,
+    rtc: &mut Rtc<I, D, S, M, N>,
+    packets: &mut Vec<SentPacket>,
+    at: Side,
+) -> Reply<M::E>
+    ensures { StepPolls (meanings I.ice D.dtls S.association M.media N.ids)
+        (Drains (meanings I.ice D.dtls S.association M.media N.ids) at rtc.old)
+        rtc.old packets.old.items result.outcome result.table rtc.new packets.new.items }
+{
+    let Ok(room) = make_first_room(alloc, rtc, packets) else {
+        return reply_no_memory();
+    };
+    let Ok(outputs) = Vec::with_capacity(alloc, 1) else {
+        return reply_no_memory();
+    };
+    let mut outputs = outputs;
+    let end = drain_outputs(rtc, at, packets, &mut outputs);
+    reply_polled(outputs, end, room, rtc)
+}
