@@ -103,7 +103,11 @@ def is_right(status, written, whole):
         return True
     lines = written.split(b"\n")
     lacking = next((n for n, line in enumerate(lines) if b"nomemory" in line), None)
-    return lacking is not None and lines[:lacking] == whole.split(b"\n")[:lacking]
+    if lacking is None:
+        return False
+    # The lines of a step that polls stand between it and the line that tells the want of memory.
+    step = next((n for n in range(lacking, -1, -1) if lines[n].startswith(b"step ")), lacking)
+    return lines[:step] == whole.split(b"\n")[:step]
 
 
 def check(words, given):

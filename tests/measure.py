@@ -2,7 +2,7 @@
 """Counts instructions of the proved programs by valgrind --tool=callgrind, so that growth is seen. It is no part of the gate.
 
 usage: tests/measure.py [PART..]     PART is descriptions, rounds, orderly, messages, associations, streams, forged, lookups,
-frames or polls; without one all are counted
+frames, polls or connecting; without one all are counted
 
 The programs are those that the gate left in crates/*/out/. Each figure is a difference of two runs, so that the start of the
 program is not in it. docs/PERFORMANCE.md has the tables.
@@ -230,10 +230,30 @@ def polls():
         print(f"| {lines:,} | {drained - start:,} | {(drained - start) // lines:,} | {(polled - drained) // 10:,} |")
 
 
+# The steps by which two peers connect: a check each way and its response, the hello of DTLS, the certificate and the finish.
+CONNECTING = "L time 0|L drain|R datagram 0 0|R drain|L datagram 1 0|L drain|L datagram 2 0|L drain|R datagram 4 0|R drain".split("|")
+CONNECTING += "R datagram 3 0|R drain|L datagram 5 0|L drain|R datagram 6 0|R drain".split("|")
+
+
+# Two peers that negotiated n lines and told of them, until both are connected. Each step reports all lines of its peer, so that as many
+# steps that find no datagram are counted beside them.
+def connecting():
+    print("| Lines | Until both are connected | Of as many steps that find no datagram |\n|---|---|---|")
+    for lines in (1, 10, 100, 1_000):
+        head = script(lines, False) + b"R drain\nL drain\n"
+        start, _ = count([program("rtc_pair"), "run"], head)
+        still, _ = count([program("rtc_pair"), "run"], head + b"".join(b"%c datagram 9 0\n" % step[0].encode() for step in CONNECTING))
+        cost, report = count([program("rtc_pair"), "run"], head + "".join(f"{step}\n" for step in CONNECTING).encode())
+        if report.count(b"out event connected\n") != 2:
+            sys.exit("measure: the peers are not connected")
+        print(f"| {lines:,} | {cost - still:,} | {still - start:,} |")
+
+
 def main():
     parts = {
         "descriptions": descriptions, "rounds": rounds, "orderly": orderly, "messages": messages, "associations": associations,
         "streams": streams, "forged": forged, "lookups": lookups, "frames": frames, "polls": polls,
+        "connecting": connecting,
     }
     wanted = sys.argv[1:] or list(parts)
     if any(name not in parts for name in wanted):

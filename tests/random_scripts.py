@@ -4,12 +4,15 @@
 usage: tests/random_scripts.py crates/rtc_pair/out/rtc_pair [SEED [COUNT]]
 
 It is no part of the gate. The model below is written from the rules of docs/FORMATS.md and not from the program: lists of
-rows, what an offer and an answer say, by which cause a text is refused, which numbers are drawn, and which channels wait. A
-random script goes round by round for the most part, with steps in between that cross, repeat or lose texts.
+rows, what an offer and an answer say, by which cause a text is refused, which numbers are drawn, and which channels wait;
+tests/connections.py has what moments, datagrams and polls do. A random script goes round by round for the most part, with steps in
+between that cross, repeat or lose texts and datagrams.
 """
 import random
 import subprocess
 import sys
+
+from connections import FAR_FUTURE, SECOND, Connection
 
 INVERSE = {"sendrecv": "sendrecv", "sendonly": "recvonly", "recvonly": "sendonly", "inactive": "inactive"}
 DIRECTIONS = list(INVERSE)
@@ -38,7 +41,9 @@ class Peer:
     def __init__(self, first):
         self.next, self.rows, self.staged, self.counter, self.sources = first, [], [], 0, {}
         self.channels = 0
-        self.draw(), self.draw()  # the number of the session, the credentials
+        self.draw()  # the number of the session
+        self.ufrag = f"u{self.draw():016x}"
+        self.connection = Connection(self.ufrag)
 
     def draw(self):
         self.next += 1
@@ -172,27 +177,33 @@ class Peer:
             self.sources.pop(mid, None)
         self.sources.update({row.mid: sources for row, sources in added})
         self.sources.update(drawn)
+        before = self.rows + [None] * len(text)
+        self.connection.media.update(list(zip([row.copy() for row in after], before)), offer)
         self.rows = after + self.rows[len(text):]
 
-    def accept_offer(self, text):
+    # An offer leaves the choice of the role, and this side then waits for the handshake.
+    def accept_offer(self, text, ufrag):
         self.staged, self.counter = [], self.counter + 1
         new = self.judge(text, True)
         self.take(text, True, new, [])
+        self.connection.follow(ufrag, False)
         return [row.copy() for row in self.rows]
 
-    def accept_answer(self, token, text):
+    def accept_answer(self, token, text, ufrag, active):
         self.staged = []
         if self.counter != token[0] + 1:
             raise Refused("7 Changes made out of order")
         new = self.judge(text, False)
         self.judge_new(text, new, token[1])
         self.take(text, False, new, token[1])
+        self.connection.follow(ufrag, active)
 
 
 class Pair:
     def __init__(self):
         self.peers = {"L": Peer(1), "R": Peer(1000001)}
         self.texts, self.tokens, self.lines, self.report = [], {}, [], ""
+        self.datagrams = []
 
     def perform_ops(self, at, verb, words):
         peer = self.peers[at]
@@ -212,37 +223,74 @@ class Pair:
         if made:
             number = len(self.texts)
             self.tokens[number] = (at, made[1])
-            self.texts.append((at, True, made[0]))
+            self.texts.append((at, True, made[0], None))
         return f"ops {','.join(answers) or '-'} text {number}"
 
     def text_for(self, at, offer, number):
         if number < len(self.texts) and self.texts[number][:2] == (OTHER[at], offer):
-            return self.texts[number][2]
+            return self.texts[number][2:]
         return None
 
     def hand_offer(self, at, number):
         text = self.text_for(at, True, number)
         if text is None:
             return "nosuch"
-        self.texts.append((at, False, self.peers[at].accept_offer(text)))
+        peer = self.peers[at]
+        answer = peer.accept_offer(text[0], self.peers[OTHER[at]].ufrag)
+        self.texts.append((at, False, answer, peer.connection.dtls.active))
         return f"answered {len(self.texts) - 1}"
 
     def hand_answer(self, at, token, number):
         text = self.text_for(at, False, number)
         if text is None or self.tokens.get(token, (None,))[0] != at:
             return "nosuch"
-        self.peers[at].accept_answer(self.tokens.pop(token)[1], text)
+        rows, active = text
+        self.peers[at].accept_answer(self.tokens.pop(token)[1], rows, self.peers[OTHER[at]].ufrag, not active)
         return "finished"
+
+    def hand_datagram(self, at, number, now):
+        if number >= len(self.datagrams) or self.datagrams[number][0] == at:
+            return "nosuch"
+        self.peers[at].connection.take(self.datagrams[number][1], now)
+        return "done"
+
+    # A drain ends with the first timeout.
+    def poll(self, at, once):
+        told, ended = [], False
+        while not ended:
+            met, moment, reason = self.peers[at].connection.poll()
+            if met is None:
+                told.append(f"timeout {'never' if moment == FAR_FUTURE else moment} {reason}")
+            elif isinstance(met, str):
+                told.append(f"event {met}")
+            else:
+                told.append(f"packet {len(self.datagrams)} {met.length}")
+                self.datagrams.append((at, met))
+            ended = once or met is None
+        return "\n".join([f"polled {len(told)}", *(f"out {line}" for line in told)])
+
+    def perform_act(self, at, verb, words):
+        connection = self.peers[at].connection
+        if verb == "accept":
+            return self.hand_offer(at, int(words[0]))
+        if verb == "answer":
+            return self.hand_answer(at, int(words[0]), int(words[1]))
+        if verb == "datagram":
+            return self.hand_datagram(at, int(words[0]), int(words[1]))
+        if verb in ("poll", "drain"):
+            return self.poll(at, verb == "poll")
+        if verb == "time":
+            connection.take_moment(int(words[0]))
+            return "done"
+        if verb == "close":
+            connection.close()
+            return "done"
+        return self.perform_ops(at, verb, words)
 
     def perform(self, line):
         at, verb, *words = line.split(" ")
         try:
-            if verb == "accept":
-                outcome = self.hand_offer(at, int(words[0]))
-            elif verb == "answer":
-                outcome = self.hand_answer(at, int(words[0]), int(words[1]))
-            else:
-                outcome = self.perform_ops(at, verb, words)
+            outcome = self.perform_act(at, verb, words)
         except Refused as refusal:
             outcome = f"refused {refusal}"
         self.report += f"step {len(self.lines)} {at} {outcome}\n"
@@ -293,17 +341,49 @@ def random_round(chance, pair, at):
         pair.perform(f"{at} answer {offer} {answer}")
 
 
+# A moment that a side may be given: that which was given before, a little later, or any.
+def random_moment(chance, pair):
+    latest = max(peer.connection.greatest for peer in pair.peers.values())
+    step = chance.choices([0, 1000, SECOND // 4, SECOND, 3 * SECOND], [6, 1, 2, 2, 1])[0]
+    return chance.choices([min(latest + step, FAR_FUTURE), chance.randint(0, latest), FAR_FUTURE - chance.randint(0, 2)], [400, 20, 1])[0]
+
+
+# Both sides are given a moment and drained, and what they sent arrives, but for what is lost, comes twice or comes late.
+def random_exchange(chance, pair):
+    for _ in range(chance.randint(1, 8)):
+        first, now = len(pair.datagrams), random_moment(chance, pair)
+        for at in chance.sample("LR", 2):
+            pair.perform(f"{at} time {now}")
+            pair.perform(f"{at} {chance.choices(['drain', 'poll'], [9, 1])[0]}")
+        arriving = [number for number in range(first, len(pair.datagrams)) for _ in range(chance.choices([1, 0, 2], [8, 1, 1])[0])]
+        if chance.random() < 0.2:
+            chance.shuffle(arriving)
+        for number in arriving:
+            pair.perform(f"{OTHER[pair.datagrams[number][0]]} datagram {number} {now}")
+
+
+# A step that hands one side a moment or a datagram, polls it, or, now and then, closes it.
+def connect(chance, pair, at):
+    moment, number = random_moment(chance, pair), chance.randint(0, len(pair.datagrams))
+    steps = [f"time {moment}", f"datagram {number} {moment}", "poll", "drain", "close"]
+    pair.perform(f"{at} {chance.choices(steps, [3, 3, 4, 3, 2])[0]}")
+
+
 def random_pair(chance):
     pair = Pair()
-    length = chance.randint(6, 40)
+    length = chance.randint(6, 100)
     while len(pair.lines) < length:
         at, texts = chance.choice("LR"), len(pair.texts)
         kind = chance.random()
-        if kind < 0.6:
+        if kind < 0.35:
             random_round(chance, pair, at)
-        elif kind < 0.75:
+        elif kind < 0.6:
+            random_exchange(chance, pair)
+        elif kind < 0.7:
+            connect(chance, pair, at)
+        elif kind < 0.8:
             negotiate(chance, pair, at, chance.choice(["offer", "stage"]))
-        elif kind < 0.88:
+        elif kind < 0.9:
             pair.perform(f"{at} accept {chance.randint(0, texts)}")
         else:
             pair.perform(f"{at} answer {chance.randint(0, texts)} {chance.randint(0, texts)}")

@@ -1,13 +1,15 @@
 -- What the line of a step determines.
 use Rattle.std.proofs.Common.{◌≡◌, ◌<◌, ◌^◌, ◌∙◌, ℕ, Bool, true, false, List, [], ◌∷◌, refl, ap, sym, cond, eqb, get_or, codes, lit<, arith}
 use Rattle.std.specs.Fmt.{decimal}
-use Rattle.std.proofs.lemmas.Fmt.{decimal_injective}
+use Rattle.std.specs.List.{AllZip}
+use Rattle.std.specs.Str.Parse.{digits_value}
+use Rattle.std.proofs.lemmas.Fmt.{decimal_injective, decimal_is_IsNumeral}
 use Rattle.rtc_fields.specs.Words.{words}
 use Rattle.rtc_sdp_values.specs.declared.direction.Direction.{Direction}
 use Rattle.rtc_sdp_values.specs.declared.direction.Direction.TheVariants.{SendRecv, SendOnly, RecvOnly, Inactive}
 use Rattle.rtc_sdp_values.specs.declared.media_kind.MediaKind.{MediaKind}
 use Rattle.rtc_sdp_values.specs.declared.media_kind.MediaKind.TheVariants.{Audio, Video}
-use Rattle.rtc_script.specs.Lines.{IsOp, with_label, IsAct, AreStepWords, IsLine, ops_verb}
+use Rattle.rtc_script.specs.Lines.{IsOp, with_label, IsAct, AreStepWords, IsLine}
 use Rattle.rtc_script.proofs.LabelLemmas.{one_label}
 use Rattle.rtc_script.proofs.ZipLemmas.{one_zip}
 use Rattle.rtc_history.specs.Sides.{side_of}
@@ -61,9 +63,6 @@ one_kind a b same = sym (kind_again a) ∙ ap kind_from same ∙ kind_again b
 
 one_number : (m n : ℕ) → m < 2 ^ 32 → n < 2 ^ 32 → decimal m ≡ decimal n → m ≡ n
 one_number m n small small' same = decimal_injective m n (omega arith) (omega arith) same
-
-one_long : (m n : ℕ) → m < 2 ^ 64 → n < 2 ^ 64 → decimal m ≡ decimal n → m ≡ n
-one_long m n small small' same = decimal_injective m n (omega arith) (omega arith) same
 
 first_same : (a b : List ℕ) (rest others : List (List ℕ)) → a ∷ rest ≡ b ∷ others → a ≡ b
 first_same a b rest others same = cc
@@ -153,119 +152,100 @@ one_op word (AddChannel config) (IceRestart keep) is is' = absurd (channel_no_re
 one_op word (IceRestart keep) (AddChannel config) is is' = absurd (channel_no_restart (first_same _ _ _ _ (sym is'.0 ∙ is)))
 one_op word (IceRestart keep) (IceRestart keep') is is' = ap IceRestart (one_keep keep keep' (first_same _ _ _ _ (rest_same _ _ _ _ (sym is ∙ is'))))
 
-applied_from : List ℕ → Bool
-applied_from text = eqb (get_or text 0 0) 111
+-- the number that a word writes
+unfoldable number_at : ℕ → List (List ℕ) → ℕ
+number_at place found = digits_value 10 (get_or found place [])
 
-applied_again : (apply : Bool) → applied_from (ops_verb apply) ≡ apply
-unfolding applied_from
-applied_again true = refl
-applied_again false = refl
+number_again : (place : ℕ) (found : List (List ℕ)) (n : ℕ) → n < 2 ^ 64 → get_or found place [] ≡ decimal n → number_at place found ≡ n
+unfolding number_at
+number_again place found n small is = ap (digits_value 10) is ∙ (decimal_is_IsNumeral n small).1
 
-one_verb : (a b : Bool) → ops_verb a ≡ ops_verb b → a ≡ b
-one_verb a b same = sym (applied_again a) ∙ ap applied_from same ∙ applied_again b
+-- whether a verb begins as those of ops do
+negotiates : List ℕ → Bool
+negotiates verb = cond (eqb (get_or verb 0 0) 111) true (eqb (get_or verb 0 0) 115)
 
--- no ops stand behind a verb that begins with a
-other_verb : (apply : Bool) (verb other : List ℕ) → verb ≡ ops_verb apply → verb ≡ other → get_or other 0 0 ≡ 97 → ⊥
-other_verb true verb other is is' letter = absurd (omega (arith, same_letter 0 verb (codes "offer") other is is', letter))
-other_verb false verb other is is' letter = absurd (omega (arith, same_letter 0 verb (codes "stage") other is is', letter))
+-- the ops of a step
+ops_of : Step → List Op
+ops_of (Negotiate at ops apply) = ops
+ops_of (AcceptOffer at offer) = []
+ops_of (AcceptAnswer at token answer) = []
+ops_of (Time at now) = []
+ops_of (Datagram at packet now) = []
+ops_of (Poll at) = []
+ops_of (Drain at) = []
+ops_of (Close at) = []
+
+-- the step of a verb, the words behind it, and the ops among them
+step_from : Side → List ℕ → List (List ℕ) → List Op → Step
+step_from at verb rest ops =
+    cond (eqb (get_or verb 0 0) 111) (Negotiate at ops true)
+    (cond (eqb (get_or verb 0 0) 115) (Negotiate at ops false)
+    (cond (eqb (get_or verb 0 0) 116) (Time at (number_at 0 rest))
+    (cond (eqb (get_or verb 0 0) 112) (Poll at)
+    (cond (eqb (get_or verb 1 0) 97) (Datagram at (number_at 0 rest) (number_at 1 rest))
+    (cond (eqb (get_or verb 1 0) 114) (Drain at)
+    (cond (eqb (get_or verb 1 0) 108) (Close at)
+    (cond (eqb (get_or verb 1 0) 99) (AcceptOffer at (number_at 0 rest)) (AcceptAnswer at (number_at 0 rest) (number_at 1 rest)))))))))
+
+step_again : (verb : List ℕ) (rest : List (List ℕ)) (s : Step) → IsAct verb rest s → step_from (side_of s) verb rest (ops_of s) ≡ s
+unfolding step_from ops_of
+step_again verb rest (Negotiate at ops true) is = rw is.0 refl
+step_again verb rest (Negotiate at ops false) is = rw is.0 refl
+step_again verb rest (AcceptOffer at offer) is =
+    let n = number_again 0 rest offer (let small : offer < 2 ^ 32 = is.1.1 0 0 (lit< tt) in omega arith) (ap (λ found. get_or found 0 []) is.1.0) in
+    rw (is.0, n) refl
+step_again verb rest (AcceptAnswer at token answer) is =
+    let m = number_again 0 rest token (let small : token < 2 ^ 32 = is.1.1 0 0 (lit< tt) in omega arith) (ap (λ found. get_or found 0 []) is.1.0) in
+    let n = number_again 1 rest answer (let small : answer < 2 ^ 32 = is.1.1 1 0 (lit< tt) in omega arith) (ap (λ found. get_or found 1 []) is.1.0) in
+    rw (is.0, m, n) refl
+step_again verb rest (Time at now) is =
+    let n = number_again 0 rest now (is.1.1 0 0 (lit< tt)) (ap (λ found. get_or found 0 []) is.1.0) in
+    rw (is.0, n) refl
+step_again verb rest (Datagram at packet now) is =
+    let m = number_again 0 rest packet (is.1.1 0 0 (lit< tt)) (ap (λ found. get_or found 0 []) is.1.0) in
+    let n = number_again 1 rest now (is.1.1 1 0 (lit< tt)) (ap (λ found. get_or found 1 []) is.1.0) in
+    rw (is.0, m, n) refl
+step_again verb rest (Poll at) is = rw is.0 refl
+step_again verb rest (Drain at) is = rw is.0 refl
+step_again verb rest (Close at) is = rw is.0 refl
+
+-- the words behind a verb of ops are those of the ops
+ops_zip : (verb : List ℕ) (rest : List (List ℕ)) (s : Step) → IsAct verb rest s → negotiates verb ≡ true → AllZip IsOp rest (ops_of s)
+unfolding negotiates ops_of
+ops_zip verb rest (Negotiate at ops apply) is yes_ops = is.1
+ops_zip verb rest (AcceptOffer at offer) is yes_ops = absurd (let bad : false ≡ true = rw is.0 at yes_ops in cc)
+ops_zip verb rest (AcceptAnswer at token answer) is yes_ops = absurd (let bad : false ≡ true = rw is.0 at yes_ops in cc)
+ops_zip verb rest (Time at now) is yes_ops = absurd (let bad : false ≡ true = rw is.0 at yes_ops in cc)
+ops_zip verb rest (Datagram at packet now) is yes_ops = absurd (let bad : false ≡ true = rw is.0 at yes_ops in cc)
+ops_zip verb rest (Poll at) is yes_ops = absurd (let bad : false ≡ true = rw is.0 at yes_ops in cc)
+ops_zip verb rest (Drain at) is yes_ops = absurd (let bad : false ≡ true = rw is.0 at yes_ops in cc)
+ops_zip verb rest (Close at) is yes_ops = absurd (let bad : false ≡ true = rw is.0 at yes_ops in cc)
+
+-- behind another verb there are none
+no_ops : (verb : List ℕ) (rest : List (List ℕ)) (s : Step) → IsAct verb rest s → negotiates verb ≡ false → ops_of s ≡ []
+unfolding negotiates ops_of
+no_ops verb rest (Negotiate at ops true) is other = absurd (let bad : true ≡ false = rw is.0 at other in cc)
+no_ops verb rest (Negotiate at ops false) is other = absurd (let bad : true ≡ false = rw is.0 at other in cc)
+no_ops verb rest (AcceptOffer at offer) is other = refl
+no_ops verb rest (AcceptAnswer at token answer) is other = refl
+no_ops verb rest (Time at now) is other = refl
+no_ops verb rest (Datagram at packet now) is other = refl
+no_ops verb rest (Poll at) is other = refl
+no_ops verb rest (Drain at) is other = refl
+no_ops verb rest (Close at) is other = refl
+
+same_ops : (negotiating : Bool) (verb : List ℕ) (rest : List (List ℕ)) (a b : Step) → negotiates verb ≡ negotiating → IsAct verb rest a → IsAct verb rest b → ops_of a ≡ ops_of b
+same_ops true verb rest a b e is is' = one_zip IsOp one_op rest (ops_of a) (ops_of b) (ops_zip verb rest a is e) (ops_zip verb rest b is' e)
+same_ops false verb rest a b e is is' = no_ops verb rest a is e ∙ sym (no_ops verb rest b is' e)
 
 -- a verb and the words behind it are those of one step of a side
 one_act : (verb : List ℕ) (rest : List (List ℕ)) (a b : Step) → side_of a ≡ side_of b → IsAct verb rest a → IsAct verb rest b → a ≡ b
-one_act verb rest (Negotiate at ops apply) (Negotiate at' ops' apply') same is is' =
-    let all = one_zip IsOp one_op rest ops ops' is.1 is'.1 in
-    let applied = one_verb apply apply' (sym is.0 ∙ is'.0) in
-    cc
-one_act verb rest (Negotiate at ops apply) (AcceptOffer at' offer) same is is' = absurd (other_verb apply verb (codes "accept") is.0 is'.0 refl)
-one_act verb rest (Negotiate at ops apply) (AcceptAnswer at' token answer) same is is' = absurd (other_verb apply verb (codes "answer") is.0 is'.0 refl)
-one_act verb rest (AcceptOffer at offer) (Negotiate at' ops apply) same is is' = absurd (other_verb apply verb (codes "accept") is'.0 is.0 refl)
-one_act verb rest (AcceptOffer at offer) (AcceptOffer at' offer') same is is' =
-    let e : decimal offer ≡ decimal offer' = let e = sym is.1.0 ∙ is'.1.0 in cc in
-    let n = one_number offer offer' (is.1.1 0 0 (lit< tt)) (is'.1.1 0 0 (lit< tt)) e in
-    cc
-one_act verb rest (AcceptOffer at offer) (AcceptAnswer at' token answer) same is is' = absurd (omega (arith, same_letter 1 verb (codes "accept") (codes "answer") is.0 is'.0))
-one_act verb rest (AcceptAnswer at token answer) (Negotiate at' ops apply) same is is' = absurd (other_verb apply verb (codes "answer") is'.0 is.0 refl)
-one_act verb rest (AcceptAnswer at token answer) (AcceptOffer at' offer) same is is' = absurd (omega (arith, same_letter 1 verb (codes "answer") (codes "accept") is.0 is'.0))
-one_act verb rest (AcceptAnswer at token answer) (AcceptAnswer at' token' answer') same is is' =
-    let e = sym is.1.0 ∙ is'.1.0 in
-    let first : decimal token ≡ decimal token' = cc in
-    let second : decimal answer ≡ decimal answer' = cc in
-    let m = one_number token token' (is.1.1 0 0 (lit< tt)) (is'.1.1 0 0 (lit< tt)) first in
-    let n = one_number answer answer' (is.1.1 1 0 (lit< tt)) (is'.1.1 1 0 (lit< tt)) second in
-    cc
-one_act verb rest (Time at now) (Time at' now') same is is' =
-    let e : decimal now ≡ decimal now' = let e = sym is.1.0 ∙ is'.1.0 in cc in
-    let n = one_long now now' (is.1.1 0 0 (lit< tt)) (is'.1.1 0 0 (lit< tt)) e in
-    cc
-one_act verb rest (Datagram at packet now) (Datagram at' packet' now') same is is' =
-    let e = sym is.1.0 ∙ is'.1.0 in
-    let first : decimal packet ≡ decimal packet' = cc in
-    let second : decimal now ≡ decimal now' = cc in
-    let m = one_long packet packet' (is.1.1 0 0 (lit< tt)) (is'.1.1 0 0 (lit< tt)) first in
-    let n = one_long now now' (is.1.1 1 0 (lit< tt)) (is'.1.1 1 0 (lit< tt)) second in
-    cc
-one_act verb rest (Poll at) (Poll at') same is is' = ap Poll same
-one_act verb rest (Drain at) (Drain at') same is is' = ap Drain same
-one_act verb rest (Close at) (Close at') same is is' = ap Close same
-one_act verb rest (Negotiate at ops true) (Time at' now') same is is' = absurd (omega (arith, same_letter 0 verb (codes "offer") (codes "time") is.0 is'.0))
-one_act verb rest (Time at now) (Negotiate at' ops true) same is is' = absurd (omega (arith, same_letter 0 verb (codes "time") (codes "offer") is.0 is'.0))
-one_act verb rest (Negotiate at ops false) (Time at' now') same is is' = absurd (omega (arith, same_letter 0 verb (codes "stage") (codes "time") is.0 is'.0))
-one_act verb rest (Time at now) (Negotiate at' ops false) same is is' = absurd (omega (arith, same_letter 0 verb (codes "time") (codes "stage") is.0 is'.0))
-one_act verb rest (AcceptOffer at offer) (Time at' now') same is is' = absurd (omega (arith, same_letter 0 verb (codes "accept") (codes "time") is.0 is'.0))
-one_act verb rest (Time at now) (AcceptOffer at' offer') same is is' = absurd (omega (arith, same_letter 0 verb (codes "time") (codes "accept") is.0 is'.0))
-one_act verb rest (AcceptAnswer at token answer) (Time at' now') same is is' = absurd (omega (arith, same_letter 0 verb (codes "answer") (codes "time") is.0 is'.0))
-one_act verb rest (Time at now) (AcceptAnswer at' token' answer') same is is' = absurd (omega (arith, same_letter 0 verb (codes "time") (codes "answer") is.0 is'.0))
-one_act verb rest (Time at now) (Datagram at' packet' now') same is is' = absurd (omega (arith, same_letter 0 verb (codes "time") (codes "datagram") is.0 is'.0))
-one_act verb rest (Time at now) (Poll at') same is is' = absurd (omega (arith, same_letter 0 verb (codes "time") (codes "poll") is.0 is'.0))
-one_act verb rest (Time at now) (Drain at') same is is' = absurd (omega (arith, same_letter 0 verb (codes "time") (codes "drain") is.0 is'.0))
-one_act verb rest (Time at now) (Close at') same is is' = absurd (omega (arith, same_letter 0 verb (codes "time") (codes "close") is.0 is'.0))
-one_act verb rest (Negotiate at ops true) (Datagram at' packet' now') same is is' = absurd (omega (arith, same_letter 0 verb (codes "offer") (codes "datagram") is.0 is'.0))
-one_act verb rest (Datagram at packet now) (Negotiate at' ops true) same is is' = absurd (omega (arith, same_letter 0 verb (codes "datagram") (codes "offer") is.0 is'.0))
-one_act verb rest (Negotiate at ops false) (Datagram at' packet' now') same is is' = absurd (omega (arith, same_letter 0 verb (codes "stage") (codes "datagram") is.0 is'.0))
-one_act verb rest (Datagram at packet now) (Negotiate at' ops false) same is is' = absurd (omega (arith, same_letter 0 verb (codes "datagram") (codes "stage") is.0 is'.0))
-one_act verb rest (AcceptOffer at offer) (Datagram at' packet' now') same is is' = absurd (omega (arith, same_letter 0 verb (codes "accept") (codes "datagram") is.0 is'.0))
-one_act verb rest (Datagram at packet now) (AcceptOffer at' offer') same is is' = absurd (omega (arith, same_letter 0 verb (codes "datagram") (codes "accept") is.0 is'.0))
-one_act verb rest (AcceptAnswer at token answer) (Datagram at' packet' now') same is is' = absurd (omega (arith, same_letter 0 verb (codes "answer") (codes "datagram") is.0 is'.0))
-one_act verb rest (Datagram at packet now) (AcceptAnswer at' token' answer') same is is' = absurd (omega (arith, same_letter 0 verb (codes "datagram") (codes "answer") is.0 is'.0))
-one_act verb rest (Datagram at packet now) (Time at' now') same is is' = absurd (omega (arith, same_letter 0 verb (codes "datagram") (codes "time") is.0 is'.0))
-one_act verb rest (Datagram at packet now) (Poll at') same is is' = absurd (omega (arith, same_letter 0 verb (codes "datagram") (codes "poll") is.0 is'.0))
-one_act verb rest (Datagram at packet now) (Drain at') same is is' = absurd (omega (arith, same_letter 1 verb (codes "datagram") (codes "drain") is.0 is'.0))
-one_act verb rest (Datagram at packet now) (Close at') same is is' = absurd (omega (arith, same_letter 0 verb (codes "datagram") (codes "close") is.0 is'.0))
-one_act verb rest (Negotiate at ops true) (Poll at') same is is' = absurd (omega (arith, same_letter 0 verb (codes "offer") (codes "poll") is.0 is'.0))
-one_act verb rest (Poll at) (Negotiate at' ops true) same is is' = absurd (omega (arith, same_letter 0 verb (codes "poll") (codes "offer") is.0 is'.0))
-one_act verb rest (Negotiate at ops false) (Poll at') same is is' = absurd (omega (arith, same_letter 0 verb (codes "stage") (codes "poll") is.0 is'.0))
-one_act verb rest (Poll at) (Negotiate at' ops false) same is is' = absurd (omega (arith, same_letter 0 verb (codes "poll") (codes "stage") is.0 is'.0))
-one_act verb rest (AcceptOffer at offer) (Poll at') same is is' = absurd (omega (arith, same_letter 0 verb (codes "accept") (codes "poll") is.0 is'.0))
-one_act verb rest (Poll at) (AcceptOffer at' offer') same is is' = absurd (omega (arith, same_letter 0 verb (codes "poll") (codes "accept") is.0 is'.0))
-one_act verb rest (AcceptAnswer at token answer) (Poll at') same is is' = absurd (omega (arith, same_letter 0 verb (codes "answer") (codes "poll") is.0 is'.0))
-one_act verb rest (Poll at) (AcceptAnswer at' token' answer') same is is' = absurd (omega (arith, same_letter 0 verb (codes "poll") (codes "answer") is.0 is'.0))
-one_act verb rest (Poll at) (Time at' now') same is is' = absurd (omega (arith, same_letter 0 verb (codes "poll") (codes "time") is.0 is'.0))
-one_act verb rest (Poll at) (Datagram at' packet' now') same is is' = absurd (omega (arith, same_letter 0 verb (codes "poll") (codes "datagram") is.0 is'.0))
-one_act verb rest (Poll at) (Drain at') same is is' = absurd (omega (arith, same_letter 0 verb (codes "poll") (codes "drain") is.0 is'.0))
-one_act verb rest (Poll at) (Close at') same is is' = absurd (omega (arith, same_letter 0 verb (codes "poll") (codes "close") is.0 is'.0))
-one_act verb rest (Negotiate at ops true) (Drain at') same is is' = absurd (omega (arith, same_letter 0 verb (codes "offer") (codes "drain") is.0 is'.0))
-one_act verb rest (Drain at) (Negotiate at' ops true) same is is' = absurd (omega (arith, same_letter 0 verb (codes "drain") (codes "offer") is.0 is'.0))
-one_act verb rest (Negotiate at ops false) (Drain at') same is is' = absurd (omega (arith, same_letter 0 verb (codes "stage") (codes "drain") is.0 is'.0))
-one_act verb rest (Drain at) (Negotiate at' ops false) same is is' = absurd (omega (arith, same_letter 0 verb (codes "drain") (codes "stage") is.0 is'.0))
-one_act verb rest (AcceptOffer at offer) (Drain at') same is is' = absurd (omega (arith, same_letter 0 verb (codes "accept") (codes "drain") is.0 is'.0))
-one_act verb rest (Drain at) (AcceptOffer at' offer') same is is' = absurd (omega (arith, same_letter 0 verb (codes "drain") (codes "accept") is.0 is'.0))
-one_act verb rest (AcceptAnswer at token answer) (Drain at') same is is' = absurd (omega (arith, same_letter 0 verb (codes "answer") (codes "drain") is.0 is'.0))
-one_act verb rest (Drain at) (AcceptAnswer at' token' answer') same is is' = absurd (omega (arith, same_letter 0 verb (codes "drain") (codes "answer") is.0 is'.0))
-one_act verb rest (Drain at) (Time at' now') same is is' = absurd (omega (arith, same_letter 0 verb (codes "drain") (codes "time") is.0 is'.0))
-one_act verb rest (Drain at) (Datagram at' packet' now') same is is' = absurd (omega (arith, same_letter 1 verb (codes "drain") (codes "datagram") is.0 is'.0))
-one_act verb rest (Drain at) (Poll at') same is is' = absurd (omega (arith, same_letter 0 verb (codes "drain") (codes "poll") is.0 is'.0))
-one_act verb rest (Drain at) (Close at') same is is' = absurd (omega (arith, same_letter 0 verb (codes "drain") (codes "close") is.0 is'.0))
-one_act verb rest (Negotiate at ops true) (Close at') same is is' = absurd (omega (arith, same_letter 0 verb (codes "offer") (codes "close") is.0 is'.0))
-one_act verb rest (Close at) (Negotiate at' ops true) same is is' = absurd (omega (arith, same_letter 0 verb (codes "close") (codes "offer") is.0 is'.0))
-one_act verb rest (Negotiate at ops false) (Close at') same is is' = absurd (omega (arith, same_letter 0 verb (codes "stage") (codes "close") is.0 is'.0))
-one_act verb rest (Close at) (Negotiate at' ops false) same is is' = absurd (omega (arith, same_letter 0 verb (codes "close") (codes "stage") is.0 is'.0))
-one_act verb rest (AcceptOffer at offer) (Close at') same is is' = absurd (omega (arith, same_letter 0 verb (codes "accept") (codes "close") is.0 is'.0))
-one_act verb rest (Close at) (AcceptOffer at' offer') same is is' = absurd (omega (arith, same_letter 0 verb (codes "close") (codes "accept") is.0 is'.0))
-one_act verb rest (AcceptAnswer at token answer) (Close at') same is is' = absurd (omega (arith, same_letter 0 verb (codes "answer") (codes "close") is.0 is'.0))
-one_act verb rest (Close at) (AcceptAnswer at' token' answer') same is is' = absurd (omega (arith, same_letter 0 verb (codes "close") (codes "answer") is.0 is'.0))
-one_act verb rest (Close at) (Time at' now') same is is' = absurd (omega (arith, same_letter 0 verb (codes "close") (codes "time") is.0 is'.0))
-one_act verb rest (Close at) (Datagram at' packet' now') same is is' = absurd (omega (arith, same_letter 0 verb (codes "close") (codes "datagram") is.0 is'.0))
-one_act verb rest (Close at) (Poll at') same is is' = absurd (omega (arith, same_letter 0 verb (codes "close") (codes "poll") is.0 is'.0))
-one_act verb rest (Close at) (Drain at') same is is' = absurd (omega (arith, same_letter 0 verb (codes "close") (codes "drain") is.0 is'.0))
+one_act verb rest a b same is is' =
+    let ops = same_ops (negotiates verb) verb rest a b refl is is' in
+    sym (step_again verb rest a is)
+    ∙ ap (λ at. step_from at verb rest (ops_of a)) same
+    ∙ ap (λ ops. step_from (side_of b) verb rest ops) ops
+    ∙ step_again verb rest b is'
 
 one_step : (found : List (List ℕ)) (a b : Step) → AreStepWords found a → AreStepWords found b → a ≡ b
 one_step [] a b are are' = absurd are

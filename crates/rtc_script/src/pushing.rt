@@ -11,7 +11,7 @@ pub fn push_number(out: &mut String, n: u32) -> Result<(), AllocError>
     write!(out, "{n}")
 }
 
-/// Puts the number of a step behind a text.
+/// Puts how many there are behind a text.
 pub fn push_count(out: &mut String, n: usize) -> Result<(), AllocError>
     ensures { OnOk result (string_bytes out.new ≡ string_bytes out.old ++ decimal n) }
 {
