@@ -52,9 +52,21 @@ fn media_row(lines: &Lines, mid: Mid) -> Option<&LineRow>
 /// A WebRTC peer over its five parts: an ICE agent, a DTLS part, an SCTP association, a media part and a source of numbers.
 ///
 /// It reads no clock and no socket: moments, offers and answers are arguments of its calls.
-#[derive(Drop)]
 pub struct Rtc<I: IceAgent, D: DtlsInstance, S: Association, M: MediaSession, N: Ids> {
     pub(crate) polled: PolledPeer<I, D, S, M, N>,
+}
+
+// Written out, so that the proof of what owns a peer sees one call and not the drop of each part.
+impl<
+    I: IceAgent + Drop,
+    D: DtlsInstance + Drop,
+    S: Association + Drop,
+    M: MediaSession + Drop,
+    N: Ids + Drop,
+> Drop for Rtc<I, D, S, M, N> {
+    fn drop(self) {
+        let Rtc { polled: _polled } = self;
+    }
 }
 
 impl<I: IceAgent, D: DtlsInstance, S: Association, M: MediaSession, N: Ids> Model

@@ -10,7 +10,6 @@ use std::alloc::Global;
 use std::marker::Model;
 
 /// Two peers, an address of each, the session descriptions that they made, the tokens of their offers, and the datagrams that they sent.
-#[derive(Drop)]
 pub struct Pair<I: IceAgent, D: DtlsInstance, S: Association, M: MediaSession, N: Ids> {
     alloc: Global,
     left: Rtc<I, D, S, M, N>,
@@ -20,6 +19,28 @@ pub struct Pair<I: IceAgent, D: DtlsInstance, S: Association, M: MediaSession, N
     sdps: Vec<Kept>,
     packets: Vec<SentPacket>,
     size: u64,
+}
+
+// Written out, so that the proof of what owns a pair sees one call and not the drop of each part of both peers.
+impl<
+    I: IceAgent + Drop,
+    D: DtlsInstance + Drop,
+    S: Association + Drop,
+    M: MediaSession + Drop,
+    N: Ids + Drop,
+> Drop for Pair<I, D, S, M, N> {
+    fn drop(self) {
+        let Pair {
+            alloc: _alloc,
+            left: _left,
+            right: _right,
+            left_addr: _left_addr,
+            right_addr: _right_addr,
+            sdps: _sdps,
+            packets: _packets,
+            size: _size,
+        } = self;
+    }
 }
 
 impl<I: IceAgent, D: DtlsInstance, S: Association, M: MediaSession, N: Ids> Model
