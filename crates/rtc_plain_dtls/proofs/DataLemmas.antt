@@ -1,5 +1,5 @@
 -- Application data that a plain part gives came in a packet before, and what it sends was handed to it before.
-use Rattle.std.proofs.Common.{ℕ, ◌≡◌, ◌⊎◌, ◌==◌, inl, inr, Bool, true, false, cond, List, [], ◌∷◌, ◌++◌, length, Result, Ok, Err, refl, sym, ap, subst, ◌∙◌, arith}
+use Rattle.std.proofs.Common.{ℕ, ◌≡◌, ◌⊎◌, ◌==◌, inl, inr, Bool, true, false, cond, List, [], ◌∷◌, ◌++◌, length, Ok, Err, refl, sym, ap, subst, ◌∙◌, arith}
 use Rattle.std.specs.Prelude.{nat_le}
 use Rattle.std.proofs.lemmas.Bool.Decides.{eqb_tells}
 use Rattle.rtc_parts_values.specs.Among.{Member}
@@ -7,7 +7,7 @@ use Rattle.rtc_dtls.specs.declared.dtls_error.DtlsError.{DtlsError}
 use Rattle.rtc_dtls.specs.declared.dtls_error.DtlsError.TheVariants.{WouldBlock, Fault, Alloc}
 use Rattle.rtc_dtls.specs.DtlsDrawn.{DtlsDrawn, DrewPacket, DrewData}
 use Rattle.rtc_dtls.specs.DtlsActs.{DtlsAct, DtlsCall, Given, Taken, Sent, Got, Stirred, CertificateSet, Activated, VersionSet, SendRefused, TimedAt, Closed, Showed, DtlsActed, DtlsMoved}
-use Rattle.rtc_dtls.specs.DtlsWords.{dtls_given, dtls_taken, dtls_sent, dtls_got}
+use Rattle.rtc_dtls.specs.DtlsWords.{dtls_given, dtls_sent}
 use Rattle.rtc_dtls.proofs.DtlsLemmas.{dtls_moved-split}
 use Rattle.rtc_plain_dtls.specs.declared.output.Output.{Output}
 use Rattle.rtc_plain_dtls.specs.declared.output.Output.TheVariants.{PeerCert, Keying, Connected, Data, Close}
@@ -18,8 +18,8 @@ use Rattle.rtc_plain_dtls.specs.Frames as said
 use Rattle.rtc_plain_dtls.specs.Frames.{DtlsFrame, dtls_frame_in, handshake_in, alert_in, alone, close_packet}
 use Rattle.rtc_plain_dtls.specs.Contents.{DtlsContents, fresh_dtls, phase_is_finished, asks_of}
 use Rattle.rtc_plain_dtls.specs.Calls.{went_on, certificate_kept, role_set, packet_came, data_queued, moment_taken, sent_again, dtls_time_passed, close_packets, dtls_shut_down}
-use Rattle.rtc_plain_dtls.specs.TakesLemmas.{Takes, frame_takes, Repeats, again_repeats}
-use Rattle.rtc_plain_dtls.specs.PlainMeaning.{plain_dtls, LeavesDtls, SendsDtls, PollsDtls}
+use Rattle.rtc_plain_dtls.specs.TakesLemmas.{Takes, frame_takes, again_repeats}
+use Rattle.rtc_plain_dtls.specs.PlainMeaning.{plain_dtls, SendsDtls, PollsDtls}
 use Rattle.rtc_plain_dtls.specs.PlainLaws.{leaves, sends, keeps_cert, adds_data, adds_close, timed_passes}
 
 -- lists

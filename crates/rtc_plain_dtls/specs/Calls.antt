@@ -1,5 +1,5 @@
 -- What each call leaves of what a plain part held.
-use Rattle.std.specs.Prelude.{ℕ, ◌+◌, ◌&&◌, nat_le, max, if◌then◌else◌, Bool, true, false, List, [], ◌∷◌, ◌++◌}
+use Rattle.std.specs.Prelude.{ℕ, nat_le, max, if◌then◌else◌, Bool, true, false, List, [], ◌∷◌, ◌++◌}
 use Rattle.rtc_plain_dtls.specs.declared.output.Output.{Output}
 use Rattle.rtc_plain_dtls.specs.declared.output.Output.TheVariants.{PeerCert, Keying, Connected, Data, Close}
 use Rattle.rtc_plain_dtls.specs.declared.phase.Phase.{Phase}
@@ -22,7 +22,7 @@ use Rattle.rtc_plain_dtls.specs.Frames.{
   close_packet,
   dtls_frame_in,
 }
-use Rattle.rtc_plain_dtls.specs.Contents.{DtlsContents, resends, asks_of}
+use Rattle.rtc_plain_dtls.specs.Contents.{DtlsContents, asks_of}
 
 -- outputs and packets go to the ends of their queues, and the handshake goes on
 unfoldable pub went_on : Phase → List Output → List (List ℕ) → DtlsContents → DtlsContents

@@ -1,32 +1,6 @@
 -- What packets and time add to the queues of a plain part: what is told of application data came in a packet, and no
 -- application data is sent.
-use Rattle.std.proofs.Common.{
-  ℕ,
-  ◌≡◌,
-  ◌≤◌,
-  ◌+◌,
-  ◌⊎◌,
-  Bool,
-  true,
-  false,
-  cond,
-  inl,
-  inr,
-  List,
-  [],
-  ◌∷◌,
-  ◌++◌,
-  length,
-  max,
-  refl,
-  sym,
-  ap,
-  subst,
-  ◌∙◌,
-  arith,
-  append-nil,
-  length-append,
-}
+use Rattle.std.proofs.Common.{ℕ, ◌≡◌, ◌≤◌, ◌+◌, Bool, true, false, inl, inr, List, [], ◌∷◌, ◌++◌, length, refl, sym, ap, arith, append-nil, length-append}
 use Rattle.rtc_parts_values.specs.Among.{Member}
 use Rattle.rtc_plain_dtls.specs.declared.output.Output.{Output}
 use Rattle.rtc_plain_dtls.specs.declared.output.Output.TheVariants.{PeerCert, Keying, Connected, Data, Close}
