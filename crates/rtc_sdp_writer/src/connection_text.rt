@@ -4,11 +4,10 @@ ghost use Rattle.rtc_fields.specs.Lines.{crlf, text_of};
 ghost use Rattle.rtc_sdp_grammar.specs.ConnectionTexts as spec;
 ghost use Rattle.rtc_sdp_writer.specs.Rows.{optional};
 
-use rtc_sdp_attributes::{put_candidate, put_fingerprint};
+use rtc_sdp_attributes::{put_candidate, put_decimal, put_fingerprint};
 use rtc_sdp_values::{Candidate, Fingerprint, IceCreds};
 use rtc_wire::Text;
 use std::alloc::AllocError;
-use std::fmt::Write;
 
 #[tactic(auto, unfolding(rtc_sdp_grammar::specs::ConnectionTexts::ufrag_line))]
 fn put_ufrag(out: &mut String, ufrag: &str) -> Result<(), AllocError>
@@ -86,7 +85,9 @@ pub(crate) fn put_candidates(out: &mut String, candidates: &[Candidate]) -> Resu
 fn put_message_size(out: &mut String, size: u64) -> Result<(), AllocError>
     ensures { OnOk result (string_bytes out.new ≡ string_bytes out.old ++ crlf (spec.message_size_line size)) }
 {
-    write!(out, "a=max-message-size:{size}\r\n")
+    out.push_str("a=max-message-size:")?;
+    put_decimal(out, size)?;
+    out.push_str("\r\n")
 }
 
 pub(crate) fn put_message_size_if_any(out: &mut String, size: Option<u64>) -> Result<(), AllocError>

@@ -7,6 +7,7 @@ ghost use Rattle.rtc_sdp_grammar.specs.LineTexts as spec;
 ghost use Rattle.rtc_sdp_values.specs.declared.line_kind.LineKind.TheVariants.{Audio, Video, Application, Unknown};
 ghost use Rattle.rtc_sdp_reader.specs.PlainPayloads.{formats_of, row_formats, optional_number, itself};
 
+use rtc_sdp_attributes::put_decimal;
 use rtc_sdp_values::{LineKind, PayloadRow, Pt};
 use std::alloc::AllocError;
 use std::fmt::Write;
@@ -20,9 +21,8 @@ fn port_word(disabled: bool) -> &'static str
 fn put_number(out: &mut String, pt: Pt) -> Result<(), AllocError>
     ensures { OnOk result (string_bytes out.new ≡ string_bytes out.old ++ (32 ∷ decimal pt.0)) }
 {
-    let number = pt.0;
-    write!(out, " {number}")?;
-    Ok(())
+    out.push_str(" ")?;
+    put_decimal(out, pt.0 as u64)
 }
 
 fn put_optional_number(out: &mut String, pt: Option<Pt>) -> Result<(), AllocError>

@@ -4,15 +4,17 @@ ghost use Rattle.rtc_fields.specs.Lines.{crlf};
 ghost use Rattle.rtc_sdp_grammar.specs.LineTexts as spec;
 ghost use Rattle.rtc_sdp_writer.specs.SessionRows.{enabled_mids};
 
+use rtc_sdp_attributes::put_decimal;
 use rtc_sdp_values::{Direction, MediaLine, Mid, Setup};
 use std::alloc::AllocError;
-use std::fmt::Write;
 
 #[tactic(auto, unfolding(rtc_sdp_grammar::specs::LineTexts::origin_line))]
 pub(crate) fn put_origin(out: &mut String, id: u64) -> Result<(), AllocError>
     ensures { OnOk result (string_bytes out.new ≡ string_bytes out.old ++ crlf (spec.origin_line id)) }
 {
-    write!(out, "o=str0m {id} 2 IN IP4 0.0.0.0\r\n")
+    out.push_str("o=str0m ")?;
+    put_decimal(out, id)?;
+    out.push_str(" 2 IN IP4 0.0.0.0\r\n")
 }
 
 /// The BUNDLE group of the lines that are not disabled.
@@ -25,8 +27,8 @@ pub(crate) fn put_group(out: &mut String, lines: &[MediaLine]) -> Result<(), All
         if line.disabled {
             continue;
         }
-        let mid = line.mid.as_str();
-        write!(out, " {mid}")?;
+        out.push_str(" ")?;
+        out.push_str(line.mid.as_str())?;
     }
     out.push_str("\r\n")
 }

@@ -7,10 +7,9 @@ ghost use Rattle.rtc_sdp_reader.specs.PlainPayloads.{fmtp_row, own_fmtp};
 ghost use Rattle.rtc_sdp_values.specs.declared.line_kind.LineKind.TheVariants.{Video};
 ghost use Rattle.rtc_sdp_writer.specs.MediaRows as rows;
 
-use rtc_sdp_attributes::{put_apt, put_fmtp, put_red, put_rtpmap};
+use rtc_sdp_attributes::{put_apt, put_decimal, put_fmtp, put_red, put_rtpmap};
 use rtc_sdp_values::{LineKind, PayloadRow, Pt};
 use std::alloc::AllocError;
-use std::fmt::Write;
 
 /// The codec of a payload type.
 #[tactic(auto, unfolding(rtc_sdp_grammar::specs::MediaTexts::codec_line))]
@@ -46,9 +45,11 @@ fn put_parameters(out: &mut String, pt: Pt, text: &str) -> Result<(), AllocError
 fn put_feedback_kind(out: &mut String, pt: Pt, kind: &str) -> Result<(), AllocError>
     ensures { OnOk result (string_bytes out.new ≡ string_bytes out.old ++ crlf (spec.feedback_line pt.0 kind.now)) }
 {
-    let number = pt.0;
-    write!(out, "a=rtcp-fb:{number} {kind}\r\n")?;
-    Ok(())
+    out.push_str("a=rtcp-fb:")?;
+    put_decimal(out, pt.0 as u64)?;
+    out.push_str(" ")?;
+    out.push_str(kind)?;
+    out.push_str("\r\n")
 }
 
 #[tactic(auto, using(rtc_fields::proofs::LineLemmas::appends))]
@@ -74,8 +75,9 @@ fn put_red_parameters(out: &mut String, red: Pt, primary: Pt) -> Result<(), Allo
     ensures { OnOk result (string_bytes out.new ≡ string_bytes out.old
         ++ crlf (spec.parameters_line (fmtp_row (red_text primary.0) red.0))) }
 {
-    let number = red.0;
-    write!(out, "a=fmtp:{number} ")?;
+    out.push_str("a=fmtp:")?;
+    put_decimal(out, red.0 as u64)?;
+    out.push_str(" ")?;
     put_red(out, primary)?;
     out.push_str("\r\n")
 }
@@ -85,8 +87,9 @@ fn put_rtx_parameters(out: &mut String, rtx: Pt, primary: Pt) -> Result<(), Allo
     ensures { OnOk result (string_bytes out.new ≡ string_bytes out.old
         ++ crlf (spec.parameters_line (fmtp_row (apt_text primary.0) rtx.0))) }
 {
-    let number = rtx.0;
-    write!(out, "a=fmtp:{number} ")?;
+    out.push_str("a=fmtp:")?;
+    put_decimal(out, rtx.0 as u64)?;
+    out.push_str(" ")?;
     put_apt(out, primary)?;
     out.push_str("\r\n")
 }
