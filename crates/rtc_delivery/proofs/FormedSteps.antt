@@ -210,8 +210,8 @@ reached_formed start pair (last ∷ past) none formed reached =
 
 module _ {I D S M E X T W N : Type 0} (m : Meanings I D S M E X T W N) where
   -- the session descriptions of a run read back as they are
-  pub runs_read_back : {stun : List ℕ → Bool} → PartsLaws m → (start pair : PairState I D S M N) (steps : List Step) (replies : List (Reply E))
+  pub runs_read_back : (stun : List ℕ → Bool) → PartsLaws m → (start pair : PairState I D S M N) (steps : List Step) (replies : List (Reply E))
       → IsFresh m start → ArePeersFormed m start → Runs m stun start steps replies pair → AllReadBack pair.sdps
-  runs_read_back laws start pair steps replies fresh formed run =
-      let ran : StanceRan (pair_stance m start) run.past (pair_stance m pair) = ran_stands m laws start run.past pair run.went in
+  runs_read_back stun laws start pair steps replies fresh formed run =
+      let ran : StanceRan (pair_stance m start) run.past (pair_stance m pair) = ran_stands m stun laws start run.past pair run.went in
       plain_read_back pair.sdps (reached_formed (pair_stance m start) (pair_stance m pair) run.past fresh.sdps formed (ran_reached (pair_stance m start) run.past (pair_stance m pair) ran)).plain

@@ -42,9 +42,9 @@ answer_by : {E : Type 0} → (held held' right right' : Bool) (asked asked' : As
 answer_by held held' right right' asked asked' sdp sdp' view view' outcome after same_held same_right same_asked same_sdp same_view takes =
     rw (same_held, same_right, same_asked, same_sdp, same_view) takes
 
-no_text : (right : Bool) (asked : Asked) (view : Held) (after : List LineRow) → after ≡ view.lines → RepliesToAnswer true right asked None view NoSuch after
-no_text true asked view after e = e
-no_text false asked view after e = e
+no_text : (E : Type 0) (right : Bool) (asked : Asked) (view : Held) (after : List LineRow) → after ≡ view.lines → RepliesToAnswer {E = E} true right asked None view NoSuch after
+no_text E true asked view after e = e
+no_text E false asked view after e = e
 
 now_right : (counter size id : ℕ) (right : Bool) → counter ≡ raised id → (counter == id + 1) ≡ right → id + 1 ≤ counter → counter ≤ size → size < 2 ^ 32 → right ≡ true
 now_right counter size id right e is older low small =
@@ -65,71 +65,71 @@ asked_told past at counter t found token rows told is same =
 pub answer_reply : {E : Type 0} → (fresh between : Stances) (past : List (Entry E)) (at : Side) (t a size : ℕ) (found : Option Kept) (token : Option PendingOffer) (sdp : Option Sdp) (old new : Stance) (kept kept' : List Kept) (outcome : Outcome E) (table : Option Table) (made : List MadeSdp)
     → token_for at found ≡ token → TokenTells past at old.counter t found → old.counter ≤ size → size < 2 ^ 32 → remote_sdp false at a past ≡ sdp → view_in fresh at past (held_by (between at)) ≡ held_by old → before at past ≡ old.lines
     → channels_shown at past ≡ channel_rows old.channels → StanceStepAcceptsAnswer t token sdp old kept outcome table new kept' → IsSound fresh past between (AcceptAnswer at t a) outcome table made
-answer_reply fresh between past at t a size found None None old new kept kept' Alloc None made is told_it low small said view rows shown h = tt
-answer_reply fresh between past at t a size found None (Some sdp) old new kept kept' Alloc None made is told_it low small said view rows shown h = tt
-answer_reply fresh between past at t a size found (Some token) None old new kept kept' Alloc None made is told_it low small said view rows shown h = tt
-answer_reply fresh between past at t a size found (Some token) (Some sdp) old new kept kept' Alloc None made is told_it low small said view rows shown h = tt
-answer_reply fresh between past at t a size found None None old new kept kept' NoSuch (Some table) made is told_it low small said view rows shown h = (
+answer_reply {E} fresh between past at t a size found None None old new kept kept' Alloc None made is told_it low small said view rows shown h = tt
+answer_reply {E} fresh between past at t a size found None (Some sdp) old new kept kept' Alloc None made is told_it low small said view rows shown h = tt
+answer_reply {E} fresh between past at t a size found (Some token) None old new kept kept' Alloc None made is told_it low small said view rows shown h = tt
+answer_reply {E} fresh between past at t a size found (Some token) (Some sdp) old new kept kept' Alloc None made is told_it low small said view rows shown h = tt
+answer_reply {E} fresh between past at t a size found None None old new kept kept' NoSuch (Some table) made is told_it low small said view rows shown h = (
   answer_by false _ (is_right at t past) _ (asked_in at t past) _ None _ (held_by old) _ NoSuch table.lines (sym told_it.held ∙ ap is_some is) refl refl said view h.1.lines,
   shown_by past at old old table shown refl h.1,
 )
-answer_reply fresh between past at t a size found None (Some sdp) old new kept kept' NoSuch (Some table) made is told_it low small said view rows shown h = (
+answer_reply {E} fresh between past at t a size found None (Some sdp) old new kept kept' NoSuch (Some table) made is told_it low small said view rows shown h = (
   answer_by false _ (is_right at t past) _ (asked_in at t past) _ (Some sdp) _ (held_by old) _ NoSuch table.lines (sym told_it.held ∙ ap is_some is) refl refl said view h.1.lines,
   shown_by past at old old table shown refl h.1,
 )
-answer_reply fresh between past at t a size found (Some token) None old new kept kept' NoSuch (Some table) made is told_it low small said view rows shown h = (
+answer_reply {E} fresh between past at t a size found (Some token) None old new kept kept' NoSuch (Some table) made is told_it low small said view rows shown h = (
   answer_by true _ (is_right at t past) _ (asked_in at t past) _ None _ (held_by old) _ NoSuch table.lines (sym told_it.held ∙ ap is_some is) refl refl said view
-      (no_text (is_right at t past) (asked_in at t past) (held_by old) table.lines h.1.lines),
+      (no_text E (is_right at t past) (asked_in at t past) (held_by old) table.lines h.1.lines),
   shown_by past at old old table shown refl h.1,
 )
-answer_reply fresh between past at t a size found (Some token) (Some sdp) old new kept kept' Finished (Some table) made is told_it low small said view rows shown h = (
+answer_reply {E} fresh between past at t a size found (Some token) (Some sdp) old new kept kept' Finished (Some table) made is told_it low small said view rows shown h = (
   answer_by true _ true _ (asked_by old.lines token) _ (Some sdp) _ (held_by old) _ Finished table.lines (sym told_it.held ∙ ap is_some is)
       (now_right old.counter size token.id (is_right at t past) h.0.right (told_it.right token is) (told_it.older token is) low small)
       (asked_told past at old.counter t found token old.lines told_it is rows) said view (h.0.passes, h.2.lines ∙ ap (λ p. p.lines) h.0.rest),
   shown_by past at old new table shown (ap (λ p. channel_rows p.channels) h.0.rest ∙ (all_confirmed_told (fitting_channels token.changes) old.channels).shown) h.2,
 )
-answer_reply fresh between past at t a size found (Some token) (Some sdp) old new kept kept' (Refused (RemoteSdp why)) (Some table) made is told_it low small said view rows shown h = (
+answer_reply {E} fresh between past at t a size found (Some token) (Some sdp) old new kept kept' (Refused (RemoteSdp why)) (Some table) made is told_it low small said view rows shown h = (
   answer_by true _ true _ (asked_by old.lines token) _ (Some sdp) _ (held_by old) _ (Refused (RemoteSdp why)) table.lines (sym told_it.held ∙ ap is_some is)
       (now_right old.counter size token.id (is_right at t past) h.0.0 (told_it.right token is) (told_it.older token is) low small)
       (asked_told past at old.counter t found token old.lines told_it is rows) said view (h.0.1.0, h.2.lines ∙ ap (λ p. p.lines) h.0.1.1),
   shown_by past at old new table shown (ap (λ p. channel_rows p.channels) h.0.1.1) h.2,
 )
-answer_reply fresh between past at t a size found (Some token) (Some sdp) old new kept kept' (Refused (SdpRefused error)) (Some table) made is told_it low small said view rows shown h = (
+answer_reply {E} fresh between past at t a size found (Some token) (Some sdp) old new kept kept' (Refused (SdpRefused error)) (Some table) made is told_it low small said view rows shown h = (
   answer_by true _ true _ (asked_by old.lines token) _ (Some sdp) _ (held_by old) _ (Refused (SdpRefused error)) table.lines (sym told_it.held ∙ ap is_some is)
       (now_right old.counter size token.id (is_right at t past) h.0.0 (told_it.right token is) (told_it.older token is) low small)
       (asked_told past at old.counter t found token old.lines told_it is rows) said view (h.0.1.0, h.2.lines ∙ ap (λ p. p.lines) h.0.1.1),
   shown_by past at old new table shown (ap (λ p. channel_rows p.channels) h.0.1.1) h.2,
 )
-answer_reply fresh between past at t a size found (Some token) (Some sdp) old new kept kept' (Refused (Dtls Fault)) (Some table) made is told_it low small said view rows shown h = (
+answer_reply {E} fresh between past at t a size found (Some token) (Some sdp) old new kept kept' (Refused (Dtls Fault)) (Some table) made is told_it low small said view rows shown h = (
   answer_by true _ true _ (asked_by old.lines token) _ (Some sdp) _ (held_by old) _ (Refused (Dtls Fault)) table.lines (sym told_it.held ∙ ap is_some is)
       (now_right old.counter size token.id (is_right at t past) h.0.0 (told_it.right token is) (told_it.older token is) low small)
       (asked_told past at old.counter t found token old.lines told_it is rows) said view (h.0.1, h.2.lines ∙ ap (λ p. p.lines) h.0.2.rest),
   shown_by past at old new table shown (ap (λ p. channel_rows p.channels) h.0.2.rest) h.2,
 )
-answer_reply fresh between past at t a size found (Some token) (Some sdp) old new kept kept' (Refused (Dtls WouldBlock)) (Some table) made is told_it low small said view rows shown h = absurd h.0
-answer_reply fresh between past at t a size found (Some token) (Some sdp) old new kept kept' (Refused (Dtls DtlsAlloc)) (Some table) made is told_it low small said view rows shown h = absurd h.0
-answer_reply fresh between past at t a size found (Some token) (Some sdp) old new kept kept' (Refused (Sctp error)) (Some table) made is told_it low small said view rows shown h = (
+answer_reply {E} fresh between past at t a size found (Some token) (Some sdp) old new kept kept' (Refused (Dtls WouldBlock)) (Some table) made is told_it low small said view rows shown h = absurd h.0
+answer_reply {E} fresh between past at t a size found (Some token) (Some sdp) old new kept kept' (Refused (Dtls DtlsAlloc)) (Some table) made is told_it low small said view rows shown h = absurd h.0
+answer_reply {E} fresh between past at t a size found (Some token) (Some sdp) old new kept kept' (Refused (Sctp error)) (Some table) made is told_it low small said view rows shown h = (
   answer_by true _ true _ (asked_by old.lines token) _ (Some sdp) _ (held_by old) _ (Refused (Sctp error)) table.lines (sym told_it.held ∙ ap is_some is)
       (now_right old.counter size token.id (is_right at t past) h.0.0 (told_it.right token is) (told_it.older token is) low small)
       (asked_told past at old.counter t found token old.lines told_it is rows) said view (h.0.1, h.0.2, h.2.lines ∙ ap (λ p. p.lines) h.0.3.rest),
   shown_by past at old new table shown (ap (λ p. channel_rows p.channels) h.0.3.rest) h.2,
 )
-answer_reply fresh between past at t a size found (Some token) (Some sdp) old new kept kept' (Refused PeerAlloc) (Some table) made is told_it low small said view rows shown h = (
+answer_reply {E} fresh between past at t a size found (Some token) (Some sdp) old new kept kept' (Refused PeerAlloc) (Some table) made is told_it low small said view rows shown h = (
   answer_by true _ true _ (asked_in at t past) _ (Some sdp) _ (held_by old) _ (Refused PeerAlloc) table.lines (sym told_it.held ∙ ap is_some is)
       (now_right old.counter size token.id (is_right at t past) h.0.0 (told_it.right token is) (told_it.older token is) low small)
       refl said view (h.2.lines ∙ ap (λ p. p.lines) h.0.1.rest),
   shown_by past at old new table shown (ap (λ p. channel_rows p.channels) h.0.1.rest) h.2,
 )
-answer_reply fresh between past at t a size found (Some token) (Some sdp) old new kept kept' (Refused ChangesOutOfOrder) (Some table) made is told_it low small said view rows shown h = (
+answer_reply {E} fresh between past at t a size found (Some token) (Some sdp) old new kept kept' (Refused ChangesOutOfOrder) (Some table) made is told_it low small said view rows shown h = (
   answer_by true _ false _ (asked_in at t past) _ (Some sdp) _ (held_by old) _ (Refused ChangesOutOfOrder) table.lines (sym told_it.held ∙ ap is_some is)
       (not_right old.counter size token.id (is_right at t past) h.0.0 (told_it.right token is) (told_it.older token is) low small)
       refl said view (h.2.lines ∙ ap (λ p. p.lines) h.0.1),
   shown_by past at old new table shown (ap (λ p. channel_rows p.channels) h.0.1) h.2,
 )
-answer_reply fresh between past at t a size found (Some token) (Some sdp) old new kept kept' (Refused (Net cause)) (Some table) made is told_it low small said view rows shown h = absurd h.0
-answer_reply fresh between past at t a size found (Some token) (Some sdp) old new kept kept' (Refused (MediaFailed cause)) (Some table) made is told_it low small said view rows shown h = absurd h.0
-answer_reply fresh between past at t a size found (Some token) (Some sdp) old new kept kept' (Refused BadChannel) (Some table) made is told_it low small said view rows shown h = absurd h.0
-answer_reply fresh between past at t a size found token sdp old new kept kept' outcome table made is told_it low small said view rows shown h = absurd h
+answer_reply {E} fresh between past at t a size found (Some token) (Some sdp) old new kept kept' (Refused (Net cause)) (Some table) made is told_it low small said view rows shown h = absurd h.0
+answer_reply {E} fresh between past at t a size found (Some token) (Some sdp) old new kept kept' (Refused (MediaFailed cause)) (Some table) made is told_it low small said view rows shown h = absurd h.0
+answer_reply {E} fresh between past at t a size found (Some token) (Some sdp) old new kept kept' (Refused BadChannel) (Some table) made is told_it low small said view rows shown h = absurd h.0
+answer_reply {E} fresh between past at t a size found token sdp old new kept kept' outcome table made is told_it low small said view rows shown h = absurd h
 
 -- ---- what the entry leaves
 

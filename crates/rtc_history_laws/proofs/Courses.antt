@@ -154,11 +154,11 @@ pub record Accepted {E : Type 0} (at : Side) (n m : ℕ) (said : List LineRow) (
 -- The other side has accepted the offer.
 pub accepted_next : {E : Type 0} → (fresh between : Stances) (at : Side) (n m : ℕ) (said seen : List LineRow) (past : List (Entry E)) (j : ℕ) (table : Table) (made : List MadeSdp) → Sound fresh past → IsOffered at n said past
     → IsSideOf seen (before (other_side at) past) → m ≡ length (sdps past)
-    → IsSound fresh past between (AcceptOffer (other_side at) n) (Answered j) (Some table) made → MakesSdp (AcceptOffer (other_side at) n) (Answered j) (Some table) made
+    → IsSound fresh past between (AcceptOffer (other_side at) n) (Answered j) (Some table) made → MakesSdp {E = E} (AcceptOffer (other_side at) n) (Answered j) (Some table) made
     → Accepted at n m (course_rows_after true 0 seen said) (entry (AcceptOffer (other_side at) n) (Answered j) (Some table) made ∷ past) table
-accepted_next fresh between at n m said seen past j table made sound out side count replied says =
+accepted_next {E} fresh between at n m said seen past j table made sound out side count replied says =
     let may : MayAccept out.offer at n past = may_accept fresh at n said past sound out in
-    let it = answered (remote_sdp true (other_side at) n past) (view_in fresh (other_side at) past (held_by (between (other_side at)))) (length (sdps past)) j table.lines replied.0 in
+    let it = answered E (remote_sdp true (other_side at) n past) (view_in fresh (other_side at) past (held_by (between (other_side at)))) (length (sdps past)) j table.lines replied.0 in
     let text_is : it.offer ≡ out.offer.sdp = some_same _ _ (sym it.is ∙ may.remote_is) in
     let after : table.lines ≡ rows_after theirs true 0 (map row_said offered) = it.leaves ∙ ap (λ sdp. table_after theirs (parsed_lines sdp) true) text_is ∙ may.leaves in
     let table_of : IsTable theirs = past_table fresh past (other_side at) sound in
@@ -239,9 +239,9 @@ pub record Ended {E : Type 0} (said : List LineRow) (past : List (Entry E)) (tab
 pub ended_next : {E : Type 0} → (fresh between : Stances) (at : Side) (n m : ℕ) (said seen : List LineRow) (past : List (Entry E)) (table : Table) (made : List MadeSdp) → Sound fresh past → IsAnswered at n m said past
     → IsSideOf seen (before at past) → IsSound fresh past between (AcceptAnswer at n m) Finished (Some table) made
     → Ended (course_rows_after false 0 seen said) (entry (AcceptAnswer at n m) Finished (Some table) made ∷ past) table
-ended_next fresh between at n m said seen past table made sound out side replied =
+ended_next {E} fresh between at n m said seen past table made sound out side replied =
     let may : MayEnd out.answer at n m past = may_end fresh at n m said past sound out in
-    let it = answer_taken (holds_token at n past) (is_right at n past) (asked_in at n past) (remote_sdp false at m past) (view_in fresh at past (held_by (between at))) table.lines replied.0 in
+    let it = answer_taken E (holds_token at n past) (is_right at n past) (asked_in at n past) (remote_sdp false at m past) (view_in fresh at past (held_by (between at))) table.lines replied.0 in
     let text_is : it.answer ≡ out.answer.sdp = some_same _ _ (sym it.is ∙ may.remote_is) in
     let after : table.lines ≡ rows_after mine false 0 (map row_said rows) = it.leaves ∙ ap (λ sdp. table_after mine (parsed_lines sdp) false) text_is ∙ may.leaves in
     let apps : SayApps mine rows = follows_say mine 0 mine rows (past_table fresh past at sound) (all_left mine) out.answered.mine in

@@ -146,12 +146,12 @@ pub record AnswerAccepted (held right : Bool) (asked : Asked) (sdp : Option Sdp)
   pub passes : verdict view (Some asked) answer ≡ None
   pub leaves : after ≡ table_after view.lines (parsed_lines answer) false
 
-pub answer_taken : (held right : Bool) (asked : Asked) (sdp : Option Sdp) (view : Held) (after : List LineRow) → RepliesToAnswer held right asked sdp view Finished after → AnswerAccepted held right asked sdp view after
-answer_taken true true asked (Some sdp) view after takes = record { answer = sdp; held_is = refl; right_is = refl; is = refl; passes = takes.0; leaves = takes.1 }
-answer_taken true true asked None view after takes = absurd takes
-answer_taken true false asked None view after takes = absurd takes
-answer_taken true false asked (Some sdp) view after takes = absurd takes
-answer_taken false right asked sdp view after takes = absurd takes
+pub answer_taken : (E : Type 0) (held right : Bool) (asked : Asked) (sdp : Option Sdp) (view : Held) (after : List LineRow) → RepliesToAnswer {E = E} held right asked sdp view Finished after → AnswerAccepted held right asked sdp view after
+answer_taken E true true asked (Some sdp) view after takes = record { answer = sdp; held_is = refl; right_is = refl; is = refl; passes = takes.0; leaves = takes.1 }
+answer_taken E true true asked None view after takes = absurd takes
+answer_taken E true false asked None view after takes = absurd takes
+answer_taken E true false asked (Some sdp) view after takes = absurd takes
+answer_taken E false right asked sdp view after takes = absurd takes
 
 -- the same of equal rows and SDPs
 ends_alike : (view : Held) (asked : Asked) (offerer added before answerer after : List LineRow) (offer answer : Sdp) → view.lines ≡ offerer → asked.added ≡ added → OfferedRows offerer added
@@ -182,7 +182,7 @@ ends_round fresh past at t a view after sound accepts seen own unset =
 
 -- Each accepted answer that is its token's own ends the round.
 pub finishes_round : {E : Type 0} → (fresh between : Stances) (past : List (Entry E)) (step : Step) (outcome : Outcome E) (table : Option Table) (made : List MadeSdp) → Sound fresh past → IsSound fresh past between step outcome table made → FinishesRound past step outcome table
-finishes_round fresh between past (AcceptAnswer at t a) Finished (Some table) made sound replied =
+finishes_round {E} fresh between past (AcceptAnswer at t a) Finished (Some table) made sound replied =
     λ own unset. ends_round fresh past at t a (view_in fresh at past (held_by (between at))) table.lines sound
-    (answer_taken (holds_token at t past) (is_right at t past) (asked_in at t past) (remote_sdp false at a past) (view_in fresh at past (held_by (between at))) table.lines replied.0) refl own unset
-finishes_round fresh between past step outcome table made sound replied = tt
+    (answer_taken E (holds_token at t past) (is_right at t past) (asked_in at t past) (remote_sdp false at a past) (view_in fresh at past (held_by (between at))) table.lines replied.0) refl own unset
+finishes_round {E} fresh between past step outcome table made sound replied = tt

@@ -59,6 +59,14 @@ pub mod OrderlySounds
 pub mod StanceRuns
 pub mod Reaches
 pub mod CountedFaults
+pub mod MediaFaults
+pub mod GrowingCounts
+pub mod StageCounts
+pub mod ConnectionCounts
+pub mod PollCounts
+pub mod InputCounts
+pub mod OpParts
+pub mod RestSides
 pub mod SoundSides
 pub mod PartsSound
 pub mod SentPackets

@@ -64,15 +64,15 @@ answer_says p restart sdp rows is table = rw is (sdp_says (answer_head p restart
 
 -- ---- each kind of step
 
-makes_of : (at : Side) (asked : Bool) (p q : Stance) (ops : List Op) (answers : List OpAnswer) (apply : Bool) (kept kept' : List Kept) (made : Made) (table : Table)
+makes_of : (E : Type 0) (at : Side) (asked : Bool) (p q : Stance) (ops : List Op) (answers : List OpAnswer) (apply : Bool) (kept kept' : List Kept) (made : Made) (table : Table)
     → StanceMakesOf asked at p kept made q kept' → table.lines ≡ p.lines
     → ((k : ℕ) → made ≡ Offer k → added_rows (length table.lines) p.staged ≡ added (new_app table.lines (behind kept kept')) (length table.lines) ops answers)
     → Distinct (table.lines ++ added (new_app table.lines (behind kept kept')) (length table.lines) ops answers)
-    → MakesSdp (Negotiate at ops apply) (Negotiated answers made) (Some table) (behind kept kept')
-makes_of at false p q ops answers apply kept kept' NotAsked table h rows adds distinct = none_behind kept kept' h.1
-makes_of at true p q ops answers apply kept kept' Nothing table h rows adds distinct = none_behind kept kept' h.1
-makes_of at true p q ops answers apply kept kept' MadeAlloc table h rows adds distinct = none_behind kept kept' h.1
-makes_of at true p q ops answers apply kept kept' (Offer k) table h rows adds distinct =
+    → MakesSdp {E = E} (Negotiate at ops apply) (Negotiated answers made) (Some table) (behind kept kept')
+makes_of E at false p q ops answers apply kept kept' NotAsked table h rows adds distinct = none_behind kept kept' h.1
+makes_of E at true p q ops answers apply kept kept' Nothing table h rows adds distinct = none_behind kept kept' h.1
+makes_of E at true p q ops answers apply kept kept' MadeAlloc table h rows adds distinct = none_behind kept kept' h.1
+makes_of E at true p q ops answers apply kept kept' (Offer k) table h rows adds distinct =
     let more : List LineRow = added (new_app table.lines (behind kept kept')) (length table.lines) ops answers in
     let apart : Distinct (p.lines ++ more) = subst (λ (list : List LineRow). Distinct (list ++ more)) rows distinct in
     let adds_more : added_rows (length p.lines) p.staged ≡ more = ap (λ (list : List LineRow). added_rows (length list) p.staged) (sym rows) ∙ adds k refl in
@@ -82,22 +82,22 @@ makes_of at true p q ops answers apply kept kept' (Offer k) table h rows adds di
       says = ap (λ (o : Sdp). parsed_lines o) h.1.1 ∙ offer_says p more apart adds_more ∙ ap (λ (list : List LineRow). map row_said (list ++ more)) (sym rows);
       fits = λ live. ap (λ (o : Sdp). inconsistency o) h.1.1 ∙ offer_fits p more apart adds_more (subst (λ (list : List LineRow). are_live (list ++ more) ≡ true) rows live);
     }
-makes_of at asked p q ops answers apply kept kept' made table h rows adds distinct = absurd h
+makes_of E at asked p q ops answers apply kept kept' made table h rows adds distinct = absurd h
 
 negotiate_makes : {E : Type 0} → (fresh between : Stances) (at : Side) (ops : List Op) (apply : Bool) (old new : Stance) (kept kept' : List Kept) (outcome : Outcome E) (table : Option Table) (past : List (Entry E))
     → StanceNegotiates at ops apply old kept outcome table new kept' → IsTable (before at past) → IsSound fresh past between (Negotiate at ops apply) outcome table (behind kept kept')
     → MakesSdp (Negotiate at ops apply) outcome table (behind kept kept')
-negotiate_makes fresh between at ops apply old new kept kept' Alloc None past h is sound = none_behind kept kept' h.sdps_kept
-negotiate_makes fresh between at ops apply old new kept kept' (Negotiated answers made) (Some table) past h is sound =
+negotiate_makes {E} fresh between at ops apply old new kept kept' Alloc None past h is sound = none_behind kept kept' h.sdps_kept
+negotiate_makes {E} fresh between at ops apply old new kept kept' (Negotiated answers made) (Some table) past h is sound =
     let asked : Bool = apply && not (answers_lack answers) in
     let staged : Stages (lent old) ops answers h.0 = ops_stage (lent old) h.0 ops answers h.1 in
     let left : table.lines ≡ h.0.lines = h.3.lines ∙ made_lines asked at h.0 new kept kept' made h.2 in
     let app : Option (List ℕ) = new_app table.lines (behind kept kept') in
     let app_told = app_is_told asked at (lent old) h.0 new kept kept' made table.lines h.2 left staged.app refl in
-    makes_of at asked h.0 new ops answers apply kept kept' made table h.2 left
+    makes_of E at asked h.0 new ops answers apply kept kept' made table h.2 left
     (λ k is. staged.adds app app_told.told_app (app_told.offered k is) (length table.lines) ∙ ap (λ n. added app n ops answers) (let e : length table.lines + 0 ≡ length table.lines = omega arith in e))
     (offer_table past at ops answers table (behind kept kept') is sound.0).distinct
-negotiate_makes fresh between at ops apply old new kept kept' outcome table past h is sound = absurd h
+negotiate_makes {E} fresh between at ops apply old new kept kept' outcome table past h is sound = absurd h
 
 offer_makes : {E : Type 0} → (at : Side) (k : ℕ) (offer : Option Sdp) (old new : Stance) (kept kept' : List Kept) (outcome : Outcome E) (table : Option Table)
     → StanceStepAcceptsOffer at offer old kept outcome table new kept' → IsTable (rows_or true table (old.lines)) → MakesSdp (AcceptOffer at k) outcome table (behind kept kept')

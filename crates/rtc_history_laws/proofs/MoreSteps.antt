@@ -41,7 +41,7 @@ module _ {I D S M E X T W N : Type 0} (m : Meanings I D S M E X T W N) (stun : L
       → Runs m stun start (steps ++ step ∷ []) (replies ++ reply ∷ []) new
   runs_more laws start old new steps replies step reply fresh run performs small =
       let last : Entry E = entry step reply.outcome reply.table (sdps_behind old.sdps new.sdps) in
-      let ran : StanceRan (pair_stance m start) run.past (pair_stance m old) = ran_stands m laws start run.past old run.went in
+      let ran : StanceRan (pair_stance m start) run.past (pair_stance m old) = ran_stands m stun laws start run.past old run.went in
       let enters : Enters m stun old last new = record { performs = performs; made = refl } in
       let went : Went (EntersSoundly m stun start) (λ fresh. fresh ≡ start) (last ∷ run.past) new = (
         old,
@@ -52,7 +52,7 @@ module _ {I D S M E X T W N : Type 0} (m : Meanings I D S M E X T W N) (stun : L
           parts_sound m stun laws old last new enters,
         ),
       ) in
-      let tells : Tells (last ∷ run.past) (pair_stance m new) = reached_tells (pair_stance m start) (pair_stance m new) (last ∷ run.past) (fresh_stands m start fresh) (ran_reached (pair_stance m start) (last ∷ run.past) (pair_stance m new) (ran_stands m laws start (last ∷ run.past) new went)) small in
+      let tells : Tells (last ∷ run.past) (pair_stance m new) = reached_tells (pair_stance m start) (pair_stance m new) (last ∷ run.past) (fresh_stands m start fresh) (ran_reached (pair_stance m start) (last ∷ run.past) (pair_stance m new) (ran_stands m stun laws start (last ∷ run.past) new went)) small in
       record {
         past = last ∷ run.past;
         steps_are = ap (λ before. before ++ step ∷ []) run.steps_are;
@@ -67,7 +67,7 @@ module _ {I D S M E X T W N : Type 0} (m : Meanings I D S M E X T W N) (stun : L
   -- ---- sizes
 
   run_reached : PartsLaws m → (start pair : PairState I D S M N) (steps : List Step) (replies : List (Reply E)) → (run : Runs m stun start steps replies pair) → StanceReached (pair_stance m start) run.past (pair_stance m pair)
-  run_reached laws start pair steps replies run = ran_reached (pair_stance m start) run.past (pair_stance m pair) (ran_stands m laws start run.past pair run.went)
+  run_reached laws start pair steps replies run = ran_reached (pair_stance m start) run.past (pair_stance m pair) (ran_stands m stun laws start run.past pair run.went)
 
   -- the size of a pair is that of the steps of its run
   pub runs_size : PartsLaws m → (start pair : PairState I D S M N) (steps : List Step) (replies : List (Reply E)) → IsFresh m start → Runs m stun start steps replies pair → pair.size ≡ steps_size steps

@@ -127,9 +127,9 @@ length-offer p =
 -- what a past says of channels after ops
 channels_next : {E : Type 0} → (past : List (Entry E)) (at : Side) (ops : List Op) (apply : Bool) (answers : List OpAnswer) (what : Made) (table : Table) (made : List MadeSdp) (old p q : Stance)
     → Stages (lent old) ops answers p → AreToldAlike p.channels q.channels → StanceShows table q → ChannelsTell past at old.channels → ChannelsTell (entry (Negotiate at ops apply) (Negotiated answers what) (Some table) made ∷ past) at q.channels
-channels_next past at ops apply answers what table made old p q staged alike shows tell = record {
+channels_next {E} past at ops apply answers what table made old p q staged alike shows tell = record {
   given = alike.same ∙ staged.channels.same ∙ ap (channels_answered ops answers) tell.given
-      ∙ sym (ap (λ b. channels_after b (Negotiate at ops apply) (Negotiated answers what) (channels_given at past)) (same_side-self at));
+      ∙ sym (ap (λ b. channels_after {E = E} b (Negotiate at ops apply) (Negotiated answers what) (channels_given at past)) (same_side-self at));
   shown = sym shows.channels ∙ sym (ap (λ b. channel_rows_or b (Some table) (channels_shown at past)) (same_side-self at));
   below = alike.below (staged.channels.below tell.below);
 }

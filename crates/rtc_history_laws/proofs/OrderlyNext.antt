@@ -112,15 +112,15 @@ offer_next past e old new at course rows said p offer tells tells' on idle out s
 pub ops_next : {E : Type 0} → (past : List (Entry E)) (e : Entry E) (old new : PairStance) (at : Side) (ops : List Op) (apply : Bool) (outcome : Outcome E) (table : Option Table) (course course' : Course) → Tells past old → Tells (e ∷ past) new → InCourse course past
     → InRound course.phase old → StanceNegotiates at ops apply (old.sides at) old.sdps outcome table (new.sides at) new.sdps → new.sides (other_side at) ≡ old.sides (other_side at) → fails outcome ≡ false
     → after_ops apply at ops course (rows_after_ops ops (course_rows at course)) ≡ Some course' → InCourse course' (e ∷ past) → InRound course'.phase new
-ops_next past e old new at ops apply Alloc None course course' tells tells' on out h other enough after next = absurd (cc)
-ops_next past e old new at ops apply (Negotiated answers made) (Some table) course course' tells tells' on out h other enough after next =
+ops_next {E} past e old new at ops apply Alloc None course course' tells tells' on out h other enough after next = absurd (cc)
+ops_next {E} past e old new at ops apply (Negotiated answers made) (Some table) course course' tells tells' on out h other enough after next =
     by (apply && must_offer ops (course_rows at course)) refl (makes_either (apply && not (answers_lack answers)) at h.0 (new.sides at) old.sdps new.sdps made h.2)
   where
     rows : List LineRow
     rows = rows_after_ops ops (course_rows at course)
 
     same : SameIce old new
-    same = same_ice at old new (negotiates_keep_side at ops apply (old.sides at) (new.sides at) old.sdps new.sdps (Negotiated answers made) (Some table) h).ice other
+    same = same_ice at old new (negotiates_keep_side {E = E} at ops apply (old.sides at) (new.sides at) old.sdps new.sdps (Negotiated answers made) (Some table) h).ice other
 
     counts : (length old.sdps ≡ course.sdps) × (length new.sdps ≡ course'.sdps)
     counts = (count_is past old course tells on, count_is (e ∷ past) new course' tells' next)
@@ -144,7 +144,7 @@ ops_next past e old new at ops apply (Negotiated answers made) (Some table) cour
         let leads = offer_course apply at ops course course' rows after offers in
         subst (λ (c : Course). InCourse c (e ∷ past) → InRound c.phase new) leads.course_is
         (λ next. offer_next past e old new at course rows (rows ++ rows_added rows ops) h.0 offered.0 tells tells' on leads.idle out same offered.1 offered.2 next) next
-ops_next past e old new at ops apply outcome table course course' tells tells' on out h other enough after next = absurd h
+ops_next {E} past e old new at ops apply outcome table course course' tells tells' on out h other enough after next = absurd h
 
 -- ---- an offer is accepted
 

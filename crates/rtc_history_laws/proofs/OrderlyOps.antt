@@ -168,7 +168,7 @@ none_where lines made tells = by (has_app_row lines) refl
     by true is = absurd (let e : false ≡ true = rw is at tells in cc)
 
 offer_goes_on : {E : Type 0} → (fresh : Stances) (past : List (Entry E)) (at : Side) (ops : List Op) (apply : Bool) (answers : List OpAnswer) (k : ℕ) (table : Table) (made : List MadeSdp) (course : Course) → Sound fresh past → OpsDone past at ops apply answers table made course
-    → length (rows_after_ops ops (course_rows at course) ++ rows_added (rows_after_ops ops (course_rows at course)) ops) ≢ 0 → course.phase ≡ Idle → k ≡ length (sdps past) → MakesSdp (Negotiate at ops apply) (Negotiated answers (Offer k)) (Some table) made
+    → length (rows_after_ops ops (course_rows at course) ++ rows_added (rows_after_ops ops (course_rows at course)) ops) ≢ 0 → course.phase ≡ Idle → k ≡ length (sdps past) → MakesSdp {E = E} (Negotiate at ops apply) (Negotiated answers (Offer k)) (Some table) made
     → let rows : List LineRow = rows_after_ops ops (course_rows at course) in
     InCourse (moved_on at course rows (course.sdps + 1) (AwaitsAnswer at course.sdps (rows ++ rows_added rows ops))) (ops_entry at ops apply answers (Offer k) table made ∷ past)
 offer_goes_on fresh past at ops apply answers k table made course sound ops_are some idle count says =
@@ -229,7 +229,7 @@ nothing_still at ops phase applied right alone side offers = by (same_side at si
 
 ops_go_on : {E : Type 0} → (fresh : Stances) (past : List (Entry E)) (at : Side) (ops : List Op) (apply : Bool) (answers : List OpAnswer) (what : Made) (table : Table) (made : List MadeSdp) (course course' : Course) (lacked staged : Bool)
     → Sound fresh past → OpsDone past at ops apply answers table made course → MadeOf (apply && not lacked) staged what (length (sdps past)) → lacked ≡ false → do_need_offer (has_app_row (before at past)) answers ≡ staged
-    → staged ≡ must_offer ops (course_rows at course) → fails (Negotiated answers what) ≡ false → MakesSdp (Negotiate at ops apply) (Negotiated answers what) (Some table) made
+    → staged ≡ must_offer ops (course_rows at course) → fails {E = E} (Negotiated answers what) ≡ false → MakesSdp {E = E} (Negotiate at ops apply) (Negotiated answers what) (Some table) made
     → after_ops apply at ops course (rows_after_ops ops (course_rows at course)) ≡ Some course' → InCourse course' (ops_entry at ops apply answers what table made ∷ past)
 ops_go_on fresh past at ops apply answers what table made course course' true staged sound ops_are makes unlacked stage_is staged_is enough says after = absurd (cc)
 ops_go_on fresh past at ops false answers NotAsked table made course course' false staged sound ops_are makes unlacked stage_is staged_is enough says after =
@@ -255,9 +255,9 @@ pub negotiated_goes_on : {E : Type 0} → (fresh between : Stances) (past : List
     → steps_size (steps_of past) + length ops < 2 ^ 64 - 1 → IsSound fresh past between (Negotiate at ops apply) outcome table made → MakesSdp (Negotiate at ops apply) outcome table made
     → after_ops apply at ops course (rows_after_ops ops (course_rows at course)) ≡ Some course' → fails outcome ≡ false
     → InCourse course' (entry (Negotiate at ops apply) outcome table made ∷ past)
-negotiated_goes_on fresh between past at ops apply Alloc None made course course' sound is few replied says after enough = absurd (cc)
-negotiated_goes_on fresh between past at ops apply (Negotiated answers what) (Some table) made course course' sound is few replied says after enough =
-    let unlacked : answers_lack answers ≡ false = (or_parts _ (answers_lack answers) (or_parts (outcome_lacks (Negotiated answers what)) false enough).0).1 in
+negotiated_goes_on {E} fresh between past at ops apply Alloc None made course course' sound is few replied says after enough = absurd (cc)
+negotiated_goes_on {E} fresh between past at ops apply (Negotiated answers what) (Some table) made course course' sound is few replied says after enough =
+    let unlacked : answers_lack answers ≡ false = (or_parts _ (answers_lack answers) (or_parts (outcome_lacks {E = E} (Negotiated answers what)) false enough).0).1 in
     let order = in_order apply at ops course course' _ after in
     let app : Option (List ℕ) = new_app table.lines made in
     let given : (channels_given at past).given ≤ steps_size (steps_of past) = given_within at past in
@@ -266,4 +266,4 @@ negotiated_goes_on fresh between past at ops apply (Negotiated answers what) (So
     ops_seen (before at past) (map row_mid (before at past)) app (channels_given at past) ops answers table.lines replied.0 unlacked fine in
     ops_go_on fresh past at ops apply answers what table made course course' (answers_lack answers) (do_need_offer (has_app_row (before at past)) answers) sound
     (record { answered = replied.0; seen = seen; order = order; is = is }) replied.1 unlacked refl (seen.staged ∙ ap (must_offer ops) (is.sides at).are) enough says after
-negotiated_goes_on fresh between past at ops apply outcome table made course course' sound is few replied says after enough = absurd replied
+negotiated_goes_on {E} fresh between past at ops apply outcome table made course course' sound is few replied says after enough = absurd replied

@@ -70,10 +70,10 @@ follow_last None (first ∷ steps) step = refl
 follow_last (Some course) (first ∷ steps) step = follow_last (after_step course first) steps step
 
 -- no steps are in their course
-pub none_in_course : (course : Course) → course_of [] ≡ Some course → (InCourse course []) × (course.phase ≡ Idle)
-none_in_course course is =
+pub none_in_course : (E : Type 0) (course : Course) → course_of [] ≡ Some course → (InCourse {E = E} course []) × (course.phase ≡ Idle)
+none_in_course E course is =
     let same : record { left = []; right = []; sdps = 0; phase = Idle } ≡ course = cc in
-    subst (λ (c : Course). (InCourse c []) × (c.phase ≡ Idle)) same (record { count = refl; sides = bare; phase = tt }, refl)
+    subst (λ (c : Course). (InCourse {E = E} c []) × (c.phase ≡ Idle)) same (record { count = refl; sides = bare; phase = tt }, refl)
   where
     bare : (side : Side) → IsSideOf (course_rows side (record { left = []; right = []; sdps = 0; phase = Idle })) []
     bare Left = record { are = refl; live = tt }

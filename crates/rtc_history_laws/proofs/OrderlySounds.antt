@@ -101,14 +101,14 @@ last_orderly start old new past last course fresh connect ran is earlier enough 
 -- Every past of orderly steps, where nothing failed, is in its course, and its pair in its round.
 pub ran_orderly : {E : Type 0} → (start pair : PairStance) (past : List (Entry E)) (course : Course) → IsFreshStance start → can_connect start.sides ≡ true → StanceRan start past pair → pair.size < 2 ^ 32 → has_failed past ≡ false
     → course_of (steps_of past) ≡ Some course → IsOrderly past pair course
-ran_orderly start pair [] course fresh connect ran small enough is =
-    let none = none_in_course course is in
+ran_orderly {E} start pair [] course fresh connect ran small enough is =
+    let none = none_in_course E course is in
     let same : pair ≡ start = ran in
     record {
       course_is = none.0;
       round = subst (λ (phase : Phase). InRound phase pair) (sym none.1) (rw same (fresh_current start fresh));
     }
-ran_orderly start pair (last ∷ past) course fresh connect ran small enough is =
+ran_orderly {E} start pair (last ∷ past) course fresh connect ran small enough is =
     let parts = or_parts (fails last.outcome) (has_failed past) enough in
     let enters : StanceEnters ran.0 last pair = ran.2.0 in
     let sound : IsSoundEntry start.sides past ran.0.sides last pair.sides = ran.2.1 in

@@ -62,17 +62,17 @@ pub record Answers (sdp : Option Sdp) (view : Held) (next k : ℕ) (after : List
   pub leaves : after ≡ table_after view.lines (parsed_lines offer) true
   pub count : k ≡ next
 
-pub answered : (sdp : Option Sdp) (view : Held) (next k : ℕ) (after : List LineRow) → RepliesToOffer sdp view next (Answered k) after → Answers sdp view next k after
-answered None view next k after takes = absurd takes
-answered (Some sdp) view next k after takes = record { offer = sdp; is = refl; passes = takes.0; leaves = takes.1; count = takes.2 }
+pub answered : (E : Type 0) (sdp : Option Sdp) (view : Held) (next k : ℕ) (after : List LineRow) → RepliesToOffer {E = E} sdp view next (Answered k) after → Answers sdp view next k after
+answered E None view next k after takes = absurd takes
+answered E (Some sdp) view next k after takes = record { offer = sdp; is = refl; passes = takes.0; leaves = takes.1; count = takes.2 }
 
 answer_entry : {E : Type 0} → (fresh : Stances) (past : List (Entry E)) (entry : Entry E) (at : Side) (t a : ℕ) → IsSoundIn fresh past entry → makes_answer at t a entry ≡ true → AnswerEntry past entry (other_side at) t a
 answer_entry {E} fresh past entry at t a sound makes_it = by sound.between entry.step entry.outcome entry.table entry.made sound.sound.replied sound.sound.made makes_it
   where
-    here : (between : Stances) (side : Side) (offer k : ℕ) (table : Table) (made : List MadeSdp) → IsSound fresh past between (AcceptOffer side offer) (Answered k) (Some table) made → MakesSdp (AcceptOffer side offer) (Answered k) (Some table) made
+    here : (between : Stances) (side : Side) (offer k : ℕ) (table : Table) (made : List MadeSdp) → IsSound fresh past between (AcceptOffer side offer) (Answered k) (Some table) made → MakesSdp {E = E} (AcceptOffer side offer) (Answered k) (Some table) made
         → AnswerEntry past (record { step = AcceptOffer side offer; outcome = Answered k; table = Some table; made = made }) side offer k
     here between side offer k table made replied sdp =
-        let it = answered (remote_sdp true side offer past) (view_in fresh side past (held_by (between side))) (length (sdps past)) k table.lines replied.0 in
+        let it = answered E (remote_sdp true side offer past) (view_in fresh side past (held_by (between side))) (length (sdps past)) k table.lines replied.0 in
         record {
           offer = it.offer;
           sdp = sdp.sdp;

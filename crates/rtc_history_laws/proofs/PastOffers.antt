@@ -23,6 +23,7 @@ use Rattle.rtc_history.specs.Memory.{answers_lack}
 use Rattle.rtc_history.specs.Sound.{MadeOf, RepliesToOffer, RepliesToAnswer, IsSound, asked_in}
 use Rattle.rtc_history.specs.SaidRows.{row_said, MakesSdp}
 use Rattle.rtc_history.specs.Rounds.{makes_offer, rows_at_offer}
+use Rattle.rtc_history_laws.proofs.Rests.{no_rest}
 use Rattle.rtc_history_laws.proofs.SoundPasts.{IsSoundIn, Sound}
 use Rattle.rtc_history_laws.proofs.Tells.{same_side-self, same_side-true}
 use Rattle.rtc_history_laws.proofs.AddedRows.{AreAdded}
@@ -70,11 +71,11 @@ offer_count true true k next made = made
 offer_count true false k next made = absurd made
 offer_count false offers k next made = absurd made
 
-no_offer : {E : Type 0} → (fresh between : Stances) (sdp : Option Sdp) (past : List (Entry E)) (at : Side) (next : ℕ) (answers : List OpAnswer) (made : Made) (after : List LineRow) → RepliesToOffer sdp (view_in fresh at past (held_by (between at))) next (Negotiated answers made) after → ⊥
+no_offer : {E : Type 0} → (fresh between : Stances) (sdp : Option Sdp) (past : List (Entry E)) (at : Side) (next : ℕ) (answers : List OpAnswer) (made : Made) (after : List LineRow) → RepliesToOffer {E = E} sdp (view_in fresh at past (held_by (between at))) next (Negotiated answers made) after → ⊥
 no_offer fresh between None past at next answers made after takes = takes
 no_offer fresh between (Some sdp) past at next answers made after takes = takes
 
-no_answer : {E : Type 0} → (fresh between : Stances) (held right : Bool) (asked : Asked) (sdp : Option Sdp) (past : List (Entry E)) (at : Side) (answers : List OpAnswer) (made : Made) (after : List LineRow) → RepliesToAnswer held right asked sdp (view_in fresh at past (held_by (between at))) (Negotiated answers made) after → ⊥
+no_answer : {E : Type 0} → (fresh between : Stances) (held right : Bool) (asked : Asked) (sdp : Option Sdp) (past : List (Entry E)) (at : Side) (answers : List OpAnswer) (made : Made) (after : List LineRow) → RepliesToAnswer {E = E} held right asked sdp (view_in fresh at past (held_by (between at))) (Negotiated answers made) after → ⊥
 no_answer fresh between false right asked sdp past at answers made after takes = takes
 no_answer fresh between true right asked None past at answers made after takes = takes
 no_answer fresh between true false asked (Some sdp) past at answers made after takes = takes

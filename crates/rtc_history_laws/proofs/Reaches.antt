@@ -74,8 +74,8 @@ step_tells past old new (Close at) outcome table made tells performs around = re
 
 -- ---- all steps
 
-fresh_side : (at : Side) (s : Stance) (kept : List Kept) (size : ℕ) → IsJustBuilt s → kept ≡ [] → SideTells [] at s kept size
-fresh_side at s kept size built none =
+fresh_side : (E : Type 0) (at : Side) (s : Stance) (kept : List Kept) (size : ℕ) → IsJustBuilt s → kept ≡ [] → SideTells {E = E} [] at s kept size
+fresh_side E at s kept size built none =
     let counter : s.counter ≡ 0 = built.counter in
     let rows : length s.lines ≡ 0 = ap length built.lines in
     rw none (record {
@@ -94,24 +94,24 @@ fresh_side at s kept size built none =
       channels = rw built.channels (record { given = refl; shown = refl; below = tt });
     })
 
-fresh_tells : (start : PairStance) → IsFreshStance start → Tells [] start
-fresh_tells start fresh =
+fresh_tells : (E : Type 0) (start : PairStance) → IsFreshStance start → Tells {E = E} [] start
+fresh_tells E start fresh =
     let none : start.sdps ≡ [] = fresh.sdps in
     record {
-      sides = λ at. fresh_side at (start.sides at) start.sdps start.size (fresh.built at) fresh.sdps;
+      sides = λ at. fresh_side E at (start.sides at) start.sdps start.size (fresh.built at) fresh.sdps;
       says = rw none refl;
       later = λ t most. refl;
       count = rw none (omega arith);
       each = rw none (λ k d below. absurd (omega arith));
     }
 
-fresh_sees : (start : PairStance) → IsFreshStance start → (at : Side) → SideSees start.sides [] at (start.sides at)
-fresh_sees start fresh at = record { lite = refl; remote = λ firm. (fresh.built at).remote; known = λ firm. ap is_some (fresh.built at).fingerprint }
+fresh_sees : (E : Type 0) (start : PairStance) → IsFreshStance start → (at : Side) → SideSees {E = E} start.sides [] at (start.sides at)
+fresh_sees E start fresh at = record { lite = refl; remote = λ firm. (fresh.built at).remote; known = λ firm. ap is_some (fresh.built at).fingerprint }
 
 -- what the past of a pair that is reached says of it
 pub reached_tells : {E : Type 0} → (start pair : PairStance) (past : List (Entry E)) → IsFreshStance start → StanceReached start past pair → pair.size < 2 ^ 32 → Tells past pair
-reached_tells start pair [] fresh reached small = let same : pair ≡ start = reached in rw same (fresh_tells start fresh)
-reached_tells start pair (last ∷ past) fresh reached small =
+reached_tells {E} start pair [] fresh reached small = let same : pair ≡ start = reached in rw same (fresh_tells E start fresh)
+reached_tells {E} start pair (last ∷ past) fresh reached small =
     let enters : StanceEnters reached.0 last pair = reached.2 in
     let around : Around last.step last.made reached.0 pair = around_of reached.0 pair last.step last.outcome last.table last.made enters.performs enters.made small in
     step_tells past reached.0 pair last.step last.outcome last.table last.made
@@ -125,8 +125,8 @@ small_before old new last enters small =
 
 -- each side sees what the past tells
 pub reached_sees : {E : Type 0} → (start pair : PairStance) (past : List (Entry E)) → IsFreshStance start → StanceReached start past pair → pair.size < 2 ^ 32 → (at : Side) → SideSees start.sides past at (pair.sides at)
-reached_sees start pair [] fresh reached small at = let same : pair ≡ start = reached in rw same (fresh_sees start fresh at)
-reached_sees start pair (last ∷ past) fresh reached small at =
+reached_sees {E} start pair [] fresh reached small at = let same : pair ≡ start = reached in rw same (fresh_sees E start fresh at)
+reached_sees {E} start pair (last ∷ past) fresh reached small at =
     let enters : StanceEnters reached.0 last pair = reached.2 in
     let fewer : reached.0.size < 2 ^ 32 = small_before reached.0 pair last enters small in
     step_sees start.sides past reached.0 pair last.step last.outcome last.table last.made (reached_tells start reached.0 past fresh reached.1 fewer) enters.performs (λ side. reached_sees start reached.0 past fresh reached.1 fewer side) at

@@ -1,13 +1,16 @@
 -- The datagrams that a pair keeps are those that the replies show, in order.
-use Rattle.std.proofs.Common.{◌≡◌, ◌∙◌, ℕ, Bool, true, false, List, [], ◌∷◌, ◌++◌, map, length, Option, Some, None, refl, sym, ap, append-nil, append_assoc}
+use Rattle.std.proofs.Common.{◌≡◌, ◌∙◌, ℕ, Bool, true, false, List, [], ◌∷◌, ◌++◌, map, Option, Some, None, refl, sym, ap, append-nil, append_assoc}
 use Rattle.std.proofs.lemmas.List.{map-append}
 use Rattle.rtc_sdp_values.specs.declared.sdp.Sdp.{Sdp}
+use Rattle.rtc_wire.specs.DatagramRecv.{kind_by}
 use Rattle.rtc_wire.specs.declared.transmit.Transmit.{Transmit}
 use Rattle.rtc_change.specs.PendingOffer.{PendingOffer}
 use Rattle.rtc_peer_state.specs.declared.peer.Peer.{Peer}
-use Rattle.rtc_peer_state.specs.declared.rtc_error.RtcError.{RtcError}
 use Rattle.rtc_peer_state.specs.Meanings.{Meanings}
+use Rattle.rtc_polling.specs.declared.input.Input.TheVariants as given
 use Rattle.rtc_polling.specs.declared.polled_peer.PolledPeer.{PolledPeer}
+use Rattle.rtc_polling.specs.Closing.{ClosesPeer}
+use Rattle.rtc_polling.specs.Inputs.{HandlesInput}
 use Rattle.rtc_history.specs.declared.side.Side.{Side}
 use Rattle.rtc_history.specs.declared.op.Op.{Op}
 use Rattle.rtc_history.specs.declared.step.Step.{Step}
@@ -22,8 +25,8 @@ use Rattle.rtc_history.specs.declared.outcome.Outcome.TheVariants.{Negotiated, A
 use Rattle.rtc_history.specs.declared.table.Table.{Table}
 use Rattle.rtc_history.specs.declared.kept.Kept.{Kept}
 use Rattle.rtc_history.specs.Past.{packets_in, packets_told}
-use Rattle.rtc_history.specs.PairState.{PairState, size_sent, kept_remote_sdp, held_token, remote_packet}
-use Rattle.rtc_history.specs.Performs.{Negotiates, StepAcceptsOffer, StepAcceptsAnswer, StepCalls, StepTakesDatagram, PollsShown, PollsOnce, DrainsOn, Drains, StepPolls, Performs, sent_packet}
+use Rattle.rtc_history.specs.PairState.{PairState, rtc_at, size_sent, kept_remote_sdp, held_token, remote_packet}
+use Rattle.rtc_history.specs.Performs.{HandlesRead, Negotiates, StepAcceptsOffer, StepAcceptsAnswer, StepCalls, StepTakesDatagram, PollsShown, PollsOnce, DrainsOn, Drains, StepPolls, Performs, sent_packet}
 use Rattle.rtc_history.specs.Sides.{side_of}
 
 module _ {I D S M E X T W N : Type 0} (m : Meanings I D S M E X T W N) where
@@ -69,7 +72,7 @@ module _ {I D S M E X T W N : Type 0} (m : Meanings I D S M E X T W N) where
   hears_quiet at stun None now old Alloc None new h = refl
   hears_quiet at stun None now old NoSuch (Some table) new h = refl
   hears_quiet at stun None now old outcome table new h = absurd h
-  hears_quiet at stun (Some transmit) now old outcome table new h = calls_quiet at _ old outcome table new h
+  hears_quiet at stun (Some transmit) now old outcome table new h = calls_quiet at (HandlesRead m (kind_by stun transmit.contents) transmit now) old outcome table new h
 
   -- ---- polls
 
@@ -140,14 +143,16 @@ module _ {I D S M E X T W N : Type 0} (m : Meanings I D S M E X T W N) where
   step_packets stun old (AcceptAnswer at t a) outcome table new performs =
       same_packets old.packets new.packets _ (answer_quiet at t (held_token old.sdps at t) (kept_remote_sdp false old.sdps at a) _ old.sdps outcome table _ new.sdps performs.acts.0)
       performs.acts.1.packets_kept
-  step_packets stun old (Time at now) outcome table new performs = same_packets old.packets new.packets _ (calls_quiet at _ _ outcome table _ performs.acts.0) performs.acts.2
+  step_packets stun old (Time at now) outcome table new performs = same_packets old.packets new.packets _ (calls_quiet at (HandlesInput m (given.Timeout now)) (rtc_at at old) outcome table (rtc_at at new) performs.acts.0) performs.acts.2
   step_packets stun old (Datagram at packet now) outcome table new performs =
-      same_packets old.packets new.packets _ (hears_quiet at stun (remote_packet old.packets at packet) now _ outcome table _ performs.acts.0) performs.acts.2
+      same_packets old.packets new.packets _ (hears_quiet at stun (remote_packet old.packets at packet) now (rtc_at at old) outcome table (rtc_at at new) performs.acts.0) performs.acts.2
   step_packets stun old (Poll at) outcome table new performs =
-      polls_packets at (PollsOnce m at _) (λ packets outputs end q packets'. once_packets at _ packets outputs end q packets') _ old.packets outcome table _ new.packets performs.acts.0
+      polls_packets at (PollsOnce m at (rtc_at at old)) (λ packets outputs end q packets'. once_packets at (rtc_at at old) packets outputs end q packets') (rtc_at at old) old.packets outcome table (rtc_at at new)
+      new.packets performs.acts.0
   step_packets stun old (Drain at) outcome table new performs =
-      polls_packets at (Drains m at _) (λ packets outputs end q packets'. drains_packets at _ packets outputs end q packets') _ old.packets outcome table _ new.packets performs.acts.0
-  step_packets stun old (Close at) outcome table new performs = same_packets old.packets new.packets _ (calls_quiet at _ _ outcome table _ performs.acts.0) performs.acts.2
+      polls_packets at (Drains m at (rtc_at at old)) (λ packets outputs end q packets'. drains_packets at (rtc_at at old) packets outputs end q packets') (rtc_at at old) old.packets outcome table (rtc_at at new)
+      new.packets performs.acts.0
+  step_packets stun old (Close at) outcome table new performs = same_packets old.packets new.packets _ (calls_quiet at (ClosesPeer m) (rtc_at at old) outcome table (rtc_at at new) performs.acts.0) performs.acts.2
 
   -- What a pair keeps after a step is what was shown before it, and what the step shows.
   pub packets_performed : (stun : List ℕ → Bool) (old new : PairState I D S M N) (step : Step) (outcome : Outcome E) (table : Option Table) (shown : List (Side × ℕ)) → map size_sent old.packets ≡ shown

@@ -1,5 +1,5 @@
 -- Pairs that steps lead to, as negotiation sees both sides.
-use Rattle.std.proofs.Common.{◌≡◌, List, [], ◌∷◌, ap}
+use Rattle.std.proofs.Common.{◌≡◌, ℕ, Bool, List, [], ◌∷◌, ap}
 use Rattle.rtc_peer_state.specs.Meanings.{Meanings, PartsLaws}
 use Rattle.rtc_history.specs.declared.side.Side.{Side}
 use Rattle.rtc_history.specs.Past.{Entry}
@@ -37,11 +37,11 @@ module _ {I D S M E X T W N : Type 0} (m : Meanings I D S M E X T W N) where
   pub fresh_stands : (pair : PairState I D S M N) → IsFresh m pair → IsFreshStance (pair_stance m pair)
   fresh_stands pair fresh = record { built = fresh.built; sdps = fresh.sdps; size = fresh.size }
 
-  pub reached_stands : {stun : List ℕ → Bool} → PartsLaws m → (start : PairState I D S M N) (past : List (Entry E)) (pair : PairState I D S M N) → Reached m stun start past pair → StanceReached (pair_stance m start) past (pair_stance m pair)
-  reached_stands laws start [] pair reached = ap (pair_stance m) reached
-  reached_stands laws start (last ∷ past) pair reached = (pair_stance m reached.0, reached_stands laws start past reached.0 reached.1, enters_stands m laws reached.0 last pair reached.2)
+  pub reached_stands : (stun : List ℕ → Bool) → PartsLaws m → (start : PairState I D S M N) (past : List (Entry E)) (pair : PairState I D S M N) → Reached m stun start past pair → StanceReached (pair_stance m start) past (pair_stance m pair)
+  reached_stands stun laws start [] pair reached = ap (pair_stance m) reached
+  reached_stands stun laws start (last ∷ past) pair reached = (pair_stance m reached.0, reached_stands stun laws start past reached.0 reached.1, enters_stands m laws reached.0 last pair reached.2)
 
-  pub ran_stands : {stun : List ℕ → Bool} → PartsLaws m → (start : PairState I D S M N) (past : List (Entry E)) (pair : PairState I D S M N) → Went (EntersSoundly m stun start) (λ fresh. fresh ≡ start) past pair
+  pub ran_stands : (stun : List ℕ → Bool) → PartsLaws m → (start : PairState I D S M N) (past : List (Entry E)) (pair : PairState I D S M N) → Went (EntersSoundly m stun start) (λ fresh. fresh ≡ start) past pair
       → StanceRan (pair_stance m start) past (pair_stance m pair)
-  ran_stands laws start [] pair ran = ap (pair_stance m) ran
-  ran_stands laws start (last ∷ past) pair ran = (pair_stance m ran.0, ran_stands laws start past ran.0 ran.1, (enters_stands m laws ran.0 last pair ran.2.0, ran.2.1))
+  ran_stands stun laws start [] pair ran = ap (pair_stance m) ran
+  ran_stands stun laws start (last ∷ past) pair ran = (pair_stance m ran.0, ran_stands stun laws start past ran.0 ran.1, (enters_stands m laws ran.0 last pair ran.2.0, ran.2.1))

@@ -1,0 +1,202 @@
+-- The counts of faults of a peer's DTLS part and media part between two moments.
+use Rattle.std.proofs.Common.{◌≡◌, ◌≤◌, ◌∙◌, ℕ, Bool, true, false, List, [], ◌∷◌, ◌++◌, Option, Some, None, Result, Ok, Err, refl, sym, ap, subst, arith}
+use Rattle.std.specs.declared.alloc.AllocError.{AllocError}
+use Rattle.rtc_io.specs.Faults.{Rose}
+use Rattle.rtc_dtls.specs.declared.dtls_error.DtlsError.{DtlsError}
+use Rattle.rtc_dtls.specs.declared.dtls_error.DtlsError.TheVariants.{WouldBlock, Fault, Alloc as DtlsAlloc}
+use Rattle.rtc_dtls.specs.declared.dtls_output.DtlsOutput.{DtlsOutput}
+use Rattle.rtc_dtls.specs.DtlsActs.{DtlsAct, DtlsMoved, Given, Taken, Got, Stirred, Showed, TimedAt, Closed as DtlsClosed}
+use Rattle.rtc_dtls.specs.DtlsDrawn.{DtlsDrawn, DrewPacket, DrewConnected, DrewKeying, DrewCert, DrewData, DrewTimeout, DrewClose}
+use Rattle.rtc_dtls.specs.DtlsLaws.{DtlsLaws, DtlsAnswered}
+use Rattle.rtc_dtls.specs.DtlsMeaning.{DtlsMeaning}
+use Rattle.rtc_dtls.specs.DtlsState.{DtlsState, HandsOn, PollsOutput, GivesPacket, drawn_by}
+use Rattle.rtc_dtls.specs.DtlsWords.{takes}
+use Rattle.rtc_peer_state.specs.declared.rtc_error.RtcError.{RtcError}
+use Rattle.rtc_peer_state.specs.Meanings.{Meanings}
+use Rattle.rtc_polling.specs.declared.polled_peer.PolledPeer.{PolledPeer}
+use Rattle.rtc_history.specs.Memory.{CountedPart, DtlsPart, AssociationPart, MediaPart, is_fault_of}
+use Rattle.rtc_history_laws.proofs.CountedFaults.{equal_below, rose_along}
+
+-- a count did not fall, and rose where a fault is told
+abbrev pub Grows : ℕ → Bool → ℕ → Type 0
+Grows before told after = (before ≤ after) × (told ≡ true → Rose before after)
+
+untold : (told : Bool) → told ≡ false → told ≡ true → ⊥
+untold told not_told is = absurd (cc)
+
+pub grows_quiet : (before after : ℕ) (told : Bool) → told ≡ false → before ≤ after → Grows before told after
+grows_quiet before after told quiet later = (later, λ is. absurd (untold told quiet is))
+
+pub grows_on : (a b c : ℕ) (told : Bool) → a ≤ b → Grows b told c → Grows a told c
+grows_on a b c told first rest =
+    let last : b ≤ c = rest.0 in
+    (omega arith, λ is. rose_along a b c c first (rest.1 is) (omega arith))
+
+pub grows_as : (a b : ℕ) (told same : Bool) → same ≡ told → Grows a told b → Grows a same b
+grows_as a b told same is grows = subst (λ (x : Bool). Grows a x b) (sym is) grows
+
+-- whether the answer of a call tells that this part failed
+abbrev pub answer_tells : {A : Type 0} → Result A RtcError → CountedPart → Bool
+answer_tells (Ok value) part = false
+answer_tells (Err error) part = is_fault_of error part
+
+-- ---- the DTLS part
+
+-- whether the answer of its call tells a fault
+abbrev pub dtls_tells : Result (Unit {0}) DtlsError → Bool
+dtls_tells (Ok done) = false
+dtls_tells (Err WouldBlock) = false
+dtls_tells (Err Fault) = true
+dtls_tells (Err DtlsAlloc) = false
+
+answered_rose : (before after : ℕ) (r : Result (Unit {0}) DtlsError) → DtlsAnswered before after r → dtls_tells r ≡ true → Rose before after
+answered_rose before after (Ok done) h told = absurd (cc)
+answered_rose before after (Err WouldBlock) h told = absurd h
+answered_rose before after (Err Fault) h told = h
+answered_rose before after (Err DtlsAlloc) h told = absurd (cc)
+
+module _ {D : Type 0} (dtls : DtlsMeaning D) (laws : DtlsLaws dtls) where
+  pub timed_grows : (now : ℕ) (i : D) (r : Result (Unit {0}) DtlsError) (j : D) → dtls.timed i now r j → Grows (dtls.faults i) (dtls_tells r) (dtls.faults j)
+  timed_grows now i r j h =
+      (laws.faults_rise i j (Stirred (TimedAt now r)) h, λ told. answered_rose (dtls.faults i) (dtls.faults j) r (laws.timed_answer i j now r h) told)
+
+  pub given_grows : (packet : List ℕ) (i : D) (r : Result (Unit {0}) DtlsError) (j : D) → dtls.given i packet r j
+      → Grows (dtls.faults i) (dtls_tells r) (dtls.faults j)
+  given_grows packet i r j h =
+      (laws.faults_rise i j (Given packet) (r, h), λ told. answered_rose (dtls.faults i) (dtls.faults j) r (laws.given_answer i j packet r h) told)
+
+  pub shut_grows : (i : D) (r : Result (Unit {0}) DtlsError) (j : D) → dtls.shut i r j → Grows (dtls.faults i) (dtls_tells r) (dtls.faults j)
+  shut_grows i r j h =
+      (laws.faults_rise i j (Stirred (DtlsClosed r)) h, λ told. answered_rose (dtls.faults i) (dtls.faults j) r (laws.shut_answer i j r h) told)
+
+  same_instance : (d e : DtlsState D) → e.instance ≡ d.instance → dtls.faults d.instance ≤ dtls.faults e.instance
+  same_instance d e same = equal_below (dtls.faults d.instance) (dtls.faults e.instance) (ap (λ (i : D). dtls.faults i) same)
+
+  -- a call that is handed on once there is a role
+  pub hands_grow : (d : DtlsState D) (active : Option Bool) (done : D → Result (Unit {0}) DtlsError → D → Type 0) (r : Result (Unit {0}) DtlsError) (e : DtlsState D)
+      → ((i : D) (s : Result (Unit {0}) DtlsError) (j : D) → done i s j → Grows (dtls.faults i) (dtls_tells s) (dtls.faults j))
+      → HandsOn dtls d active done r e → Grows (dtls.faults d.instance) (dtls_tells r) (dtls.faults e.instance)
+  hands_grow d None done r e grows h =
+      grows_quiet (dtls.faults d.instance) (dtls.faults e.instance) (dtls_tells r) (ap dtls_tells h.0)
+      (same_instance d e (ap (λ (x : DtlsState D). x.instance) h.1))
+  hands_grow d (Some active) done r e grows h = grows d.instance r e.instance h.0
+
+  moved_later : (i : D) (acts : List DtlsAct) (j : D) → DtlsMoved dtls i acts j → dtls.faults i ≤ dtls.faults j
+  moved_later i [] j h = equal_below (dtls.faults i) (dtls.faults j) (ap (λ (x : D). dtls.faults x) h)
+  moved_later i (act ∷ acts) j h =
+      let first : dtls.faults i ≤ dtls.faults h.0 = laws.faults_rise i h.0 act h.1.0 in
+      let rest : dtls.faults h.0 ≤ dtls.faults j = moved_later h.0 acts j h.1.1 in
+      omega arith
+
+  drawn_later : (drawn : DtlsDrawn) (i j : D) → dtls.polled i drawn j → dtls.faults i ≤ dtls.faults j
+  drawn_later (DrewPacket packet) i j h = laws.faults_rise i j (Taken packet) h
+  drawn_later DrewConnected i j h = laws.faults_rise i j (Stirred (Showed DrewConnected)) (refl, h)
+  drawn_later (DrewKeying key profile) i j h = laws.faults_rise i j (Stirred (Showed (DrewKeying key profile))) (refl, h)
+  drawn_later (DrewCert cert) i j h = laws.faults_rise i j (Stirred (Showed (DrewCert cert))) (refl, h)
+  drawn_later (DrewData bytes) i j h = laws.faults_rise i j (Got bytes) h
+  drawn_later (DrewTimeout moment) i j h = equal_below (dtls.faults i) (dtls.faults j) (ap (λ (x : D). dtls.faults x) (laws.timeout_none i j moment h))
+  drawn_later DrewClose i j h = laws.faults_rise i j (Stirred (Showed DrewClose)) (refl, h)
+
+  -- outputs are polled, up to one that is answered
+  pub polls_later : (d : DtlsState D) (active : Option Bool) (answer : Result DtlsOutput AllocError) (e : DtlsState D) → PollsOutput dtls d active answer e
+      → dtls.faults d.instance ≤ dtls.faults e.instance
+  polls_later d None answer e h = same_instance d e (ap (λ (x : DtlsState D). x.instance) h.1)
+  polls_later d (Some active) (Ok output) e h =
+      let drains = h.0 in
+      let first : dtls.faults d.instance ≤ dtls.faults drains.1.0 = moved_later d.instance (takes drains.0) drains.1.0 drains.1.1.0 in
+      let last : dtls.faults drains.1.0 ≤ dtls.faults e.instance = drawn_later (drawn_by output) drains.1.0 e.instance drains.1.1.1 in
+      omega arith
+  polls_later d (Some active) (Err error) e h =
+      let drains = h.0 in moved_later d.instance (takes (drains.0 ++ drains.1.0 ∷ [])) e.instance drains.1.1.0
+
+  -- a packet that was queued is given out
+  pub gives_later : (d : DtlsState D) (packets : List (List ℕ)) (packet : Option (List ℕ)) (e : DtlsState D) → GivesPacket dtls d packets packet e
+      → dtls.faults d.instance ≤ dtls.faults e.instance
+  gives_later d [] None e h = same_instance d e (ap (λ (x : DtlsState D). x.instance) h)
+  gives_later d [] (Some packet) e h = absurd h
+  gives_later d (b ∷ packets) None e h = absurd h
+  gives_later d (b ∷ packets) (Some packet) e h = same_instance d e (ap (λ (x : DtlsState D). x.instance) h.1)
+
+-- ---- both parts
+
+module _ {I D S M E X T W N : Type 0} (m : Meanings I D S M E X T W N) where
+  -- no count fell
+  abbrev pub Later : PolledPeer I D S M N → PolledPeer I D S M N → Type 0
+  Later p q = (m.dtls.faults p.core.dtls.instance ≤ m.dtls.faults q.core.dtls.instance) × (m.media.faults p.core.media ≤ m.media.faults q.core.media)
+
+  -- No count fell, and it rose of a part whose fault is told. No fault of the association is.
+  pub record Counts (p : PolledPeer I D S M N) (told : CountedPart → Bool) (q : PolledPeer I D S M N) : Type 0 where
+    pub dtls : Grows (m.dtls.faults p.core.dtls.instance) (told DtlsPart) (m.dtls.faults q.core.dtls.instance)
+    pub media : Grows (m.media.faults p.core.media) (told MediaPart) (m.media.faults q.core.media)
+    pub association : told AssociationPart ≡ false
+
+  pub later_self : (p : PolledPeer I D S M N) → Later p p
+  later_self p = (omega arith, omega arith)
+
+  pub later_on : (p q r : PolledPeer I D S M N) → Later p q → Later q r → Later p r
+  later_on p q r a b =
+      let dtls : m.dtls.faults p.core.dtls.instance ≤ m.dtls.faults q.core.dtls.instance = a.0 in
+      let more_dtls : m.dtls.faults q.core.dtls.instance ≤ m.dtls.faults r.core.dtls.instance = b.0 in
+      let media : m.media.faults p.core.media ≤ m.media.faults q.core.media = a.1 in
+      let more_media : m.media.faults q.core.media ≤ m.media.faults r.core.media = b.1 in
+      (omega arith, omega arith)
+
+  pub later_of : (p : PolledPeer I D S M N) (told : CountedPart → Bool) (q : PolledPeer I D S M N) → Counts p told q → Later p q
+  later_of p told q counts = (counts.dtls.0, counts.media.0)
+
+  pub counts_on : (p q r : PolledPeer I D S M N) (told : CountedPart → Bool) → Later p q → Counts q told r → Counts p told r
+  counts_on p q r told first rest = record {
+    dtls = grows_on (m.dtls.faults p.core.dtls.instance) (m.dtls.faults q.core.dtls.instance) (m.dtls.faults r.core.dtls.instance) (told DtlsPart) first.0 rest.dtls;
+    media = grows_on (m.media.faults p.core.media) (m.media.faults q.core.media) (m.media.faults r.core.media) (told MediaPart) first.1 rest.media;
+    association = rest.association;
+  }
+
+  -- the same where another tells as much
+  pub counts_as : (p q : PolledPeer I D S M N) (told same : CountedPart → Bool) → ((part : CountedPart) → same part ≡ told part) → Counts p told q → Counts p same q
+  counts_as p q told same is counts = record {
+    dtls = grows_as (m.dtls.faults p.core.dtls.instance) (m.dtls.faults q.core.dtls.instance) (told DtlsPart) (same DtlsPart) (is DtlsPart) counts.dtls;
+    media = grows_as (m.media.faults p.core.media) (m.media.faults q.core.media) (told MediaPart) (same MediaPart) (is MediaPart) counts.media;
+    association = is AssociationPart ∙ counts.association;
+  }
+
+  pub same_dtls : (p q : PolledPeer I D S M N) → q.core.dtls.instance ≡ p.core.dtls.instance → m.dtls.faults p.core.dtls.instance ≤ m.dtls.faults q.core.dtls.instance
+  same_dtls p q same = equal_below (m.dtls.faults p.core.dtls.instance) (m.dtls.faults q.core.dtls.instance) (ap (λ (i : D). m.dtls.faults i) same)
+
+  pub same_media : (p q : PolledPeer I D S M N) → q.core.media ≡ p.core.media → m.media.faults p.core.media ≤ m.media.faults q.core.media
+  same_media p q same = equal_below (m.media.faults p.core.media) (m.media.faults q.core.media) (ap (λ (i : M). m.media.faults i) same)
+
+  -- nothing is told
+  pub quiet_counts : (p q : PolledPeer I D S M N) (told : CountedPart → Bool) → ((part : CountedPart) → told part ≡ false) → Later p q → Counts p told q
+  quiet_counts p q told quiet later = record {
+    dtls = grows_quiet (m.dtls.faults p.core.dtls.instance) (m.dtls.faults q.core.dtls.instance) (told DtlsPart) (quiet DtlsPart) later.0;
+    media = grows_quiet (m.media.faults p.core.media) (m.media.faults q.core.media) (told MediaPart) (quiet MediaPart) later.1;
+    association = quiet AssociationPart;
+  }
+
+  -- and both parts stay
+  pub still_counts : (p n q : PolledPeer I D S M N) (told : CountedPart → Bool) → ((part : CountedPart) → told part ≡ false) → q ≡ n
+      → n.core.dtls.instance ≡ p.core.dtls.instance → n.core.media ≡ p.core.media → Counts p told q
+  still_counts p n q told quiet is dtls media =
+      quiet_counts p q told quiet
+      (
+        same_dtls p q (ap (λ (x : PolledPeer I D S M N). x.core.dtls.instance) is ∙ dtls),
+        same_media p q (ap (λ (x : PolledPeer I D S M N). x.core.media) is ∙ media),
+      )
+
+  -- the DTLS part alone changed
+  pub dtls_counts : (p q : PolledPeer I D S M N) (told : CountedPart → Bool) → told AssociationPart ≡ false → told MediaPart ≡ false → q.core.media ≡ p.core.media
+      → Grows (m.dtls.faults p.core.dtls.instance) (told DtlsPart) (m.dtls.faults q.core.dtls.instance) → Counts p told q
+  dtls_counts p q told association quiet same grows = record {
+    dtls = grows;
+    media = grows_quiet (m.media.faults p.core.media) (m.media.faults q.core.media) (told MediaPart) quiet (same_media p q same);
+    association = association;
+  }
+
+  -- the media part alone changed
+  pub media_counts : (p q : PolledPeer I D S M N) (told : CountedPart → Bool) → told AssociationPart ≡ false → told DtlsPart ≡ false
+      → q.core.dtls.instance ≡ p.core.dtls.instance → Grows (m.media.faults p.core.media) (told MediaPart) (m.media.faults q.core.media) → Counts p told q
+  media_counts p q told association quiet same grows = record {
+    dtls = grows_quiet (m.dtls.faults p.core.dtls.instance) (m.dtls.faults q.core.dtls.instance) (told DtlsPart) quiet (same_dtls p q same);
+    media = grows;
+    association = association;
+  }
