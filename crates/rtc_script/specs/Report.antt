@@ -6,6 +6,7 @@ use Rattle.rtc_script.specs.Outcomes.{outcome_text}
 use Rattle.rtc_script.specs.Outputs.{polled_lines}
 use Rattle.rtc_script.specs.Rows.{row_lines, channel_lines}
 use Rattle.rtc_history.specs.Sides.{side_of}
+use Rattle.rtc_history.specs.declared.outcome.Outcome.{Outcome}
 use Rattle.rtc_history.specs.declared.reply.Reply.{Reply}
 use Rattle.rtc_history.specs.declared.step.Step.{Step}
 use Rattle.rtc_history.specs.declared.table.Table.{Table}
@@ -16,11 +17,14 @@ abbrev pub table_lines : Option Table → List ℕ
 table_lines None = []
 table_lines (Some table) = row_lines table.lines ++ channel_lines table.channels
 
--- a step by its number and side, its outcome, what its polls gave, and the rows after it
+-- the line of a step: its number, its side and its outcome
+unfoldable pub step_line : {E : Type 0} → ℕ → Step → Outcome E → List ℕ
+step_line number step outcome =
+    codes "step " ++ decimal number ++ codes " " ++ side_text (side_of step) ++ codes " " ++ outcome_text outcome ++ codes "\n"
+
+-- the line of a step, what its polls gave, and the rows after it
 abbrev pub step_lines : ℕ → Step → Reply PlainMediaEvent → List ℕ
-step_lines number step reply =
-    codes "step " ++ decimal number ++ codes " " ++ side_text (side_of step) ++ codes " " ++ outcome_text reply.outcome ++ codes "\n"
-    ++ polled_lines reply.outcome ++ table_lines reply.table
+step_lines number step reply = step_line number step reply.outcome ++ polled_lines reply.outcome ++ table_lines reply.table
 
 -- the lines of steps from a number on
 abbrev pub report_from : ℕ → List Step → List (Reply PlainMediaEvent) → List ℕ

@@ -1,6 +1,6 @@
 //! Whole reports.
 ghost use Rattle.std.specs.Prelude.{◌≡◌, ◌++◌, OnOk, IfOk, string_bytes};
-ghost use Rattle.rtc_script.specs.Report.{table_lines, step_lines, report};
+ghost use Rattle.rtc_script.specs.Report.{table_lines, step_line, step_lines, report};
 
 use crate::channels::push_channels;
 use crate::outcomes::push_outcome;
@@ -8,7 +8,7 @@ use crate::outputs::push_polled;
 use crate::pushing::push_count;
 use crate::rows::push_rows;
 use crate::sides::side_word;
-use rtc_history::{Reply, Step, Table};
+use rtc_history::{Outcome, Reply, Step, Table};
 use rtc_plain_media::PlainMediaEvent;
 use std::alloc::{AllocError, Global};
 
@@ -24,6 +24,25 @@ fn push_table(out: &mut String, table: &Option<Table>) -> Result<(), AllocError>
     }
 }
 
+// Puts the line of a step behind a text.
+#[tactic(auto, unfolding(crate::specs::Report::step_line))]
+fn push_step_line<E>(
+    out: &mut String,
+    number: usize,
+    step: &Step,
+    outcome: &Outcome<E>,
+) -> Result<(), AllocError>
+    ensures { OnOk result (string_bytes out.new ≡ string_bytes out.old ++ step_line number step.now outcome.now) }
+{
+    out.push_str("step ")?;
+    push_count(out, number)?;
+    out.push_str(" ")?;
+    out.push_str(side_word(step.side()))?;
+    out.push_str(" ")?;
+    push_outcome(out, outcome)?;
+    out.push_str("\n")
+}
+
 fn push_step(
     alloc: Global,
     out: &mut String,
@@ -33,13 +52,7 @@ fn push_step(
 ) -> Result<(), AllocError>
     ensures { OnOk result (string_bytes out.new ≡ string_bytes out.old ++ step_lines number step.now reply.now) }
 {
-    out.push_str("step ")?;
-    push_count(out, number)?;
-    out.push_str(" ")?;
-    out.push_str(side_word(step.side()))?;
-    out.push_str(" ")?;
-    push_outcome(out, &reply.outcome)?;
-    out.push_str("\n")?;
+    push_step_line(out, number, step, &reply.outcome)?;
     push_polled(alloc, out, &reply.outcome)?;
     push_table(out, &reply.table)
 }
