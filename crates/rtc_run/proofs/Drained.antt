@@ -38,10 +38,12 @@ module _ {I D S M E X T W N : Type 0} (m : Meanings I D S M E X T W N) (at : Sid
   -- a turn that is followed by another
   pub left_more : (first : PolledPeer I D S M N) (packets : List SentPacket) (outputs outputs' : List (Shown E)) (p q : PolledPeer I D S M N) (kept kept' : List SentPacket)
       → DrainsLeft first packets outputs p kept → TakesTurn m at p kept outputs More q kept' outputs' → DrainsLeft first packets outputs' q kept'
-  left_more first packets outputs outputs' p q kept kept' left turn = record { makes = λ rest end o last h.
-      let whole : DrainsOn m at first packets (outputs ++ turn.0 ∷ rest) end o last = left.makes (turn.0 ∷ rest) end o last (in_front p kept turn.0 q kept' rest end o last turn.1 turn.2 h) in
-      let same : outputs' ++ rest ≡ outputs ++ turn.0 ∷ rest = ap (λ (front : List (Shown E)). front ++ rest) turn.3 ∙ append_assoc outputs (turn.0 ∷ []) rest in
-      subst (λ (all : List (Shown E)). DrainsOn m at first packets all end o last) (sym same) whole }
+  left_more first packets outputs outputs' p q kept kept' left turn = record {
+    makes = λ rest end o last h.
+        let whole : DrainsOn m at first packets (outputs ++ turn.0 ∷ rest) end o last = left.makes (turn.0 ∷ rest) end o last (in_front p kept turn.0 q kept' rest end o last turn.1 turn.2 h) in
+        let same : outputs' ++ rest ≡ outputs ++ turn.0 ∷ rest = ap (λ (front : List (Shown E)). front ++ rest) turn.3 ∙ append_assoc outputs (turn.0 ∷ []) rest in
+        subst (λ (all : List (Shown E)). DrainsOn m at first packets all end o last) (sym same) whole;
+  }
 
   -- a timeout ends a drain
   last_shown : (p : PolledPeer I D S M N) (packets : List SentPacket) (shown : Shown E) (q : PolledPeer I D S M N) (kept : List SentPacket) → PollsShown m at p packets shown q kept
