@@ -177,8 +177,7 @@ module _ {I D S M E X T W N : Type 0} (m : Meanings I D S M E X T W N) where
   pub still_counts : (p n q : PolledPeer I D S M N) (told : CountedPart → Bool) → ((part : CountedPart) → told part ≡ false) → q ≡ n
       → n.core.dtls.instance ≡ p.core.dtls.instance → n.core.media ≡ p.core.media → Counts p told q
   still_counts p n q told quiet is dtls media =
-      quiet_counts p q told quiet
-      (
+      quiet_counts p q told quiet (
         same_dtls p q (ap (λ (x : PolledPeer I D S M N). x.core.dtls.instance) is ∙ dtls),
         same_media p q (ap (λ (x : PolledPeer I D S M N). x.core.media) is ∙ media),
       )

@@ -54,8 +54,7 @@ module _ {I D S M E X T W N : Type 0} (m : Meanings I D S M E X T W N) (laws : D
       media_counts m p q (met_tells (MetEvent (told.Media event))) refl refl (ap (λ (x : PolledPeer I D S M N). x.core.dtls.instance) h.1)
       (grows_quiet (m.media.faults p.core.media) (m.media.faults q.core.media) false refl (fallible_later p.core.media q.core.media p.core.greatest (Ok (Some event)) h.0))
   fallible_told_counts p (Error (MediaFailed cause)) q h =
-      media_counts m p q (met_tells {E = E} (Error (MediaFailed cause))) refl refl (ap (λ (x : PolledPeer I D S M N). x.core.dtls.instance) h.2)
-      (
+      media_counts m p q (met_tells {E = E} (Error (MediaFailed cause))) refl refl (ap (λ (x : PolledPeer I D S M N). x.core.dtls.instance) h.2) (
         fallible_later p.core.media q.core.media p.core.greatest (Err cause) h.1,
         λ is. media_laws.event_fault p.core.media q.core.media p.core.greatest cause h.0 h.1,
       )
@@ -101,8 +100,7 @@ module _ {I D S M E X T W N : Type 0} (m : Meanings I D S M E X T W N) (laws : D
   sends_count : (addr : Option SendAddr) (p : PolledPeer I D S M N) (r : Met E) (q : PolledPeer I D S M N) → SendsBy m addr p r q → Counts m p (met_tells r) q
   sends_count (Some addr) p r q h = else_counts m (SendsDtlsPacket m addr) (SendsMediaDatagram m addr) (packets_count addr) (media_sent_counts addr) p r q h
   sends_count None p r q h =
-      quiet_counts m p q (met_tells r) (λ part. ap (λ (x : Met E). met_tells x part) h.0)
-      (
+      quiet_counts m p q (met_tells r) (λ part. ap (λ (x : Met E). met_tells x part) h.0) (
         same_dtls m p q (ap (λ (x : PolledPeer I D S M N). x.core.dtls.instance) h.2),
         media_laws.faults_rise p.core.media q.core.media (MediaStirred Other) (inr (inr (FeedbackCleared h.1))),
       )

@@ -1,8 +1,11 @@
 -- A drain, turn by turn: what is left from a turn on makes, behind what was shown, the whole.
-use Rattle.std.proofs.Common.{◌≡◌, ◌∙◌, Bool, true, false, List, [], ◌∷◌, ◌++◌, Ok, Err, refl, sym, ap, subst, append-nil, append_assoc}
+use Rattle.std.proofs.Common.{◌≡◌, ◌≤◌, ◌+◌, ◌∙◌, ℕ, Bool, true, false, List, [], ◌∷◌, ◌++◌, length, Ok, Err, refl, sym, ap, subst, arith, append-nil, append_assoc, length-append}
+use Rattle.rtc_parts_values.specs.declared.reason.Reason.{Reason}
 use Rattle.rtc_peer_state.specs.declared.rtc_error.RtcError.{RtcError}
 use Rattle.rtc_peer_state.specs.Meanings.{Meanings}
 use Rattle.rtc_polling.specs.declared.polled_peer.PolledPeer.{PolledPeer}
+use Rattle.rtc_polling.specs.declared.output.Output.{Output}
+use Rattle.rtc_polling.specs.declared.output.Output.TheVariants as polled
 use Rattle.rtc_polling.specs.Walk.{PollsPeer}
 use Rattle.rtc_history.specs.declared.side.Side.{Side}
 use Rattle.rtc_history.specs.declared.poll_end.PollEnd.{PollEnd}
@@ -11,19 +14,18 @@ use Rattle.rtc_history.specs.declared.sent_packet.SentPacket.{SentPacket}
 use Rattle.rtc_history.specs.declared.shown.Shown.{Shown}
 use Rattle.rtc_history.specs.declared.shown.Shown.TheVariants.{Timeout, Packet, Event}
 use Rattle.rtc_history.specs.Performs.{PollsShown, DrainsOn, Drains}
-use Rattle.rtc_run.specs.Turns.{TakesTurn, is_timeout}
+use Rattle.rtc_run.specs.Turns.{Turns, TakesTurn, ShowsOutput, is_timeout}
 use Rattle.rtc_run.specs.declared.turn.Turn.TheVariants.{More, Over, Refused}
 
 module _ {I D S M E X T W N : Type 0} (m : Meanings I D S M E X T W N) (at : Side) where
   -- what is left from a peer on makes, behind what was shown, a whole from the first one on
-  abbrev pub DrainsLeft : PolledPeer I D S M N → List SentPacket → List (Shown E) → PolledPeer I D S M N → List SentPacket → Type 0
-  DrainsLeft first packets outputs p kept =
-      (rest : List (Shown E)) (end : PollEnd) (q : PolledPeer I D S M N) (kept' : List SentPacket) → DrainsOn m at p kept rest end q kept'
-      → DrainsOn m at first packets (outputs ++ rest) end q kept'
+  pub record DrainsLeft (first : PolledPeer I D S M N) (packets : List SentPacket) (outputs : List (Shown E)) (p : PolledPeer I D S M N) (kept : List SentPacket) : Type 0 where
+    pub makes : (rest : List (Shown E)) (end : PollEnd) (q : PolledPeer I D S M N) (kept' : List SentPacket) → DrainsOn m at p kept rest end q kept'
+        → DrainsOn m at first packets (outputs ++ rest) end q kept'
 
   -- nothing was shown yet
-  pub left_first : (p : PolledPeer I D S M N) (packets : List SentPacket) → DrainsLeft p packets [] p packets
-  left_first p packets rest end q kept' h = h
+  pub left_first : (p : PolledPeer I D S M N) (packets : List SentPacket) (outputs : List (Shown E)) → outputs ≡ [] → DrainsLeft p packets outputs p packets
+  left_first p packets outputs none = rw none (record { makes = λ rest end q kept' h. h })
 
   -- an output in front of a drain
   in_front : (p : PolledPeer I D S M N) (packets : List SentPacket) (shown : Shown E) (between : PolledPeer I D S M N) (kept : List SentPacket) (rest : List (Shown E)) (end : PollEnd)
@@ -36,10 +38,12 @@ module _ {I D S M E X T W N : Type 0} (m : Meanings I D S M E X T W N) (at : Sid
   -- a turn that is followed by another
   pub left_more : (first : PolledPeer I D S M N) (packets : List SentPacket) (outputs outputs' : List (Shown E)) (p q : PolledPeer I D S M N) (kept kept' : List SentPacket)
       → DrainsLeft first packets outputs p kept → TakesTurn m at p kept outputs More q kept' outputs' → DrainsLeft first packets outputs' q kept'
-  left_more first packets outputs outputs' p q kept kept' left turn rest end o last h =
-      let whole : DrainsOn m at first packets (outputs ++ turn.0 ∷ rest) end o last = left (turn.0 ∷ rest) end o last (in_front p kept turn.0 q kept' rest end o last turn.1 turn.2 h) in
-      let same : outputs' ++ rest ≡ outputs ++ turn.0 ∷ rest = ap (λ (front : List (Shown E)). front ++ rest) turn.3 ∙ append_assoc outputs (turn.0 ∷ []) rest in
-      subst (λ (all : List (Shown E)). DrainsOn m at first packets all end o last) (sym same) whole
+  left_more first packets outputs outputs' p q kept kept' left turn = record {
+    makes = λ rest end o last h.
+        let whole : DrainsOn m at first packets (outputs ++ turn.0 ∷ rest) end o last = left.makes (turn.0 ∷ rest) end o last (in_front p kept turn.0 q kept' rest end o last turn.1 turn.2 h) in
+        let same : outputs' ++ rest ≡ outputs ++ turn.0 ∷ rest = ap (λ (front : List (Shown E)). front ++ rest) turn.3 ∙ append_assoc outputs (turn.0 ∷ []) rest in
+        subst (λ (all : List (Shown E)). DrainsOn m at first packets all end o last) (sym same) whole;
+  }
 
   -- a timeout ends a drain
   last_shown : (p : PolledPeer I D S M N) (packets : List SentPacket) (shown : Shown E) (q : PolledPeer I D S M N) (kept : List SentPacket) → PollsShown m at p packets shown q kept
@@ -52,27 +56,82 @@ module _ {I D S M E X T W N : Type 0} (m : Meanings I D S M E X T W N) (at : Sid
       → DrainsLeft first packets outputs p kept → TakesTurn m at p kept outputs Over q kept' outputs' → DrainsOn m at first packets outputs' Ended q kept'
   left_over first packets outputs outputs' p q kept kept' left turn =
       subst (λ (all : List (Shown E)). DrainsOn m at first packets all Ended q kept') (sym turn.3)
-      (left (turn.0 ∷ []) Ended q kept' (last_shown p kept turn.0 q kept' turn.1 turn.2))
+      (left.makes (turn.0 ∷ []) Ended q kept' (last_shown p kept turn.0 q kept' turn.1 turn.2))
 
   -- so does an error
   pub left_refused : (first : PolledPeer I D S M N) (packets : List SentPacket) (outputs outputs' : List (Shown E)) (p q : PolledPeer I D S M N) (kept kept' : List SentPacket) (error : RtcError)
       → DrainsLeft first packets outputs p kept → TakesTurn m at p kept outputs (Refused error) q kept' outputs' → DrainsOn m at first packets outputs' (EndRefused error) q kept'
   left_refused first packets outputs outputs' p q kept kept' error left turn =
       subst (λ (all : List (Shown E)). DrainsOn m at first packets all (EndRefused error) q kept') (append-nil outputs ∙ sym turn.2)
-      (left [] (EndRefused error) q kept' (turn.0, turn.1))
+      (left.makes [] (EndRefused error) q kept' (turn.0, turn.1))
 
   -- and want of room
   pub left_lacking : (first : PolledPeer I D S M N) (packets : List SentPacket) (outputs : List (Shown E)) (p : PolledPeer I D S M N) (kept : List SentPacket)
       → DrainsLeft first packets outputs p kept → DrainsOn m at first packets outputs NoRoom p kept
   left_lacking first packets outputs p kept left =
-      subst (λ (all : List (Shown E)). DrainsOn m at first packets all NoRoom p kept) (append-nil outputs) (left [] NoRoom p kept (refl, refl))
+      subst (λ (all : List (Shown E)). DrainsOn m at first packets all NoRoom p kept) (append-nil outputs) (left.makes [] NoRoom p kept (refl, refl))
 
-  -- a drain with an output, or with another end than want of room, polled once at least
-  pub drains_some : (p : PolledPeer I D S M N) (packets : List SentPacket) (shown : Shown E) (outputs : List (Shown E)) (end : PollEnd) (q : PolledPeer I D S M N) (kept : List SentPacket)
-      → DrainsOn m at p packets (shown ∷ outputs) end q kept → Drains m at p packets (shown ∷ outputs) end q kept
-  drains_some p packets shown outputs end q kept h = h
+  -- ---- the ends of a drain, which polled once at least
 
-  pub drains_refused : (p : PolledPeer I D S M N) (packets : List SentPacket) (outputs : List (Shown E)) (error : RtcError) (q : PolledPeer I D S M N) (kept : List SentPacket)
+  ended : (p : PolledPeer I D S M N) (packets : List SentPacket) (outputs : List (Shown E)) (q : PolledPeer I D S M N) (kept : List SentPacket)
+      → DrainsOn m at p packets outputs Ended q kept → Drains m at p packets outputs Ended q kept
+  ended p packets [] q kept h = h
+  ended p packets (shown ∷ outputs) q kept h = h
+
+  refused : (p : PolledPeer I D S M N) (packets : List SentPacket) (outputs : List (Shown E)) (error : RtcError) (q : PolledPeer I D S M N) (kept : List SentPacket)
       → DrainsOn m at p packets outputs (EndRefused error) q kept → Drains m at p packets outputs (EndRefused error) q kept
-  drains_refused p packets [] error q kept h = h
-  drains_refused p packets (shown ∷ outputs) error q kept h = h
+  refused p packets [] error q kept h = h
+  refused p packets (shown ∷ outputs) error q kept h = h
+
+  lacking : (p : PolledPeer I D S M N) (packets : List SentPacket) (outputs : List (Shown E)) (q : PolledPeer I D S M N) (kept : List SentPacket)
+      → 1 ≤ length outputs → DrainsOn m at p packets outputs NoRoom q kept → Drains m at p packets outputs NoRoom q kept
+  lacking p packets [] q kept some h = absurd (omega arith)
+  lacking p packets (shown ∷ outputs) q kept some h = h
+
+  pub drains_ended : (first : PolledPeer I D S M N) (packets : List SentPacket) (outputs outputs' : List (Shown E)) (p q : PolledPeer I D S M N) (kept kept' : List SentPacket)
+      → DrainsLeft first packets outputs p kept → TakesTurn m at p kept outputs Over q kept' outputs' → Drains m at first packets outputs' Ended q kept'
+  drains_ended first packets outputs outputs' p q kept kept' left turn =
+      ended first packets outputs' q kept' (left_over first packets outputs outputs' p q kept kept' left turn)
+
+  pub drains_refused : (first : PolledPeer I D S M N) (packets : List SentPacket) (outputs outputs' : List (Shown E)) (p q : PolledPeer I D S M N) (kept kept' : List SentPacket) (error : RtcError)
+      → DrainsLeft first packets outputs p kept → TakesTurn m at p kept outputs (Refused error) q kept' outputs' → Drains m at first packets outputs' (EndRefused error) q kept'
+  drains_refused first packets outputs outputs' p q kept kept' error left turn =
+      refused first packets outputs' error q kept' (left_refused first packets outputs outputs' p q kept kept' error left turn)
+
+  -- with room made behind a turn, or not
+  pub left_same : (first : PolledPeer I D S M N) (packets : List SentPacket) (outputs outputs' same : List (Shown E)) (p q : PolledPeer I D S M N) (kept kept' sames : List SentPacket)
+      → DrainsLeft first packets outputs p kept → TakesTurn m at p kept outputs More q kept' outputs' → same ≡ outputs' → sames ≡ kept'
+      → DrainsLeft first packets same q sames
+  left_same first packets outputs outputs' same p q kept kept' sames left turn is are =
+      rw (is, are) (left_more first packets outputs outputs' p q kept kept' left turn)
+
+  pub turn_counts : (p : PolledPeer I D S M N) (kept : List SentPacket) (outputs : List (Shown E)) (q : PolledPeer I D S M N) (kept' : List SentPacket) (outputs' : List (Shown E))
+      → TakesTurn m at p kept outputs More q kept' outputs' → length outputs' ≡ length outputs + 1
+  turn_counts p kept outputs q kept' outputs' turn = ap length turn.3 ∙ length-append outputs (turn.0 ∷ [])
+
+  pub count_more : (p : PolledPeer I D S M N) (kept : List SentPacket) (outputs : List (Shown E)) (q : PolledPeer I D S M N) (kept' : List SentPacket) (outputs' same : List (Shown E)) (turns : ℕ)
+      → TakesTurn m at p kept outputs More q kept' outputs' → same ≡ outputs' → length outputs ≡ turns → length same ≡ turns + 1
+  count_more p kept outputs q kept' outputs' same turns turn is count =
+      ap length is ∙ turn_counts p kept outputs q kept' outputs' turn ∙ ap (λ (n : ℕ). n + 1) count
+
+  pub some_more : (p : PolledPeer I D S M N) (kept : List SentPacket) (outputs : List (Shown E)) (q : PolledPeer I D S M N) (kept' : List SentPacket) (outputs' same : List (Shown E))
+      → TakesTurn m at p kept outputs More q kept' outputs' → same ≡ outputs' → 1 ≤ length same
+  some_more p kept outputs q kept' outputs' same turn is =
+      let counts : length same ≡ length outputs + 1 = ap length is ∙ turn_counts p kept outputs q kept' outputs' turn in
+      omega arith
+
+  pub drains_lacking : (first : PolledPeer I D S M N) (packets : List SentPacket) (outputs : List (Shown E)) (p : PolledPeer I D S M N) (kept : List SentPacket)
+      → DrainsLeft first packets outputs p kept → 1 ≤ length outputs → Drains m at first packets outputs NoRoom p kept
+  drains_lacking first packets outputs p kept left some = lacking first packets outputs p kept some (left_lacking first packets outputs p kept left)
+
+-- ---- one poll, by what is shown of its output
+
+module _ {I D S M E X T W N : Type 0} (m : Meanings I D S M E X T W N) where
+  pub turns_shown : (at : Side) (p : PolledPeer I D S M N) (packets : List SentPacket) (output : Output E) (reason : Reason) (shown : Shown E) (q : PolledPeer I D S M N) (packets' : List SentPacket)
+      → PollsPeer m p (Ok output) q → reason ≡ q.transport.last_reason → ShowsOutput at packets reason output shown packets' → Turns m at p packets (Ok shown) q packets'
+  turns_shown at p packets (polled.Timeout moment) reason shown q packets' polls is shows =
+      subst (λ (s : Shown E). PollsShown m at p packets s q packets') (sym shows.0) (polls, is, shows.1)
+  turns_shown at p packets (polled.Transmit transmit) reason shown q packets' polls is shows =
+      subst (λ (s : Shown E). PollsShown m at p packets s q packets') (sym shows.0) (transmit, polls, refl, refl, shows.1)
+  turns_shown at p packets (polled.Event event) reason shown q packets' polls is shows =
+      subst (λ (s : Shown E). PollsShown m at p packets s q packets') (sym shows.0) (polls, shows.1)

@@ -6,14 +6,15 @@ ghost use Rattle.rtc_history.specs.declared.outcome.Outcome.TheVariants.{Polled}
 ghost use Rattle.rtc_history.specs.declared.shown.Shown.TheVariants.{Packet};
 ghost use Rattle.rtc_peer_state.specs.Meanings.{meanings};
 ghost use Rattle.rtc_run.specs.ShownTable.{shown_table};
-ghost use Rattle.rtc_run.specs.Turns.{Turns, TakesTurn, is_timeout};
+ghost use Rattle.rtc_run.specs.Turns.{Turns, TakesTurn, ShowsOutput, is_timeout, moment_of};
 ghost use Rattle.rtc_run.specs.declared.turn.Turn.TheVariants.{More, Over};
 
 use crate::replying::{Room, reply_no_memory, reply_with, room_for};
 use crate::turn::Turn;
 use rtc_history::{Outcome, PollEnd, Reply, SentPacket, Shown, Side};
+use rtc_parts_values::Reason;
 use rtc_peer::{Association, DtlsInstance, IceAgent, Ids, MediaSession, Output, Rtc, RtcError};
-use rtc_wire::{Seq, Transmit};
+use rtc_wire::{Moment, Seq, Transmit};
 use std::alloc::{AllocError, Global};
 
 // Keeps a datagram under the next number, and shows it.
@@ -26,6 +27,34 @@ fn keep_packet<E>(packets: &mut Vec<SentPacket>, at: Side, transmit: Transmit) -
     let len = transmit.contents.as_slice().len();
     packets.push_reserved(SentPacket { at, transmit });
     Shown::Packet { number, len }
+}
+
+// The moment that a timeout has. It means nothing of another output.
+fn moment_of<E>(output: &Output<E>) -> Moment
+    ensures { result ≡ moment_of output.now }
+{
+    match output {
+        Output::Timeout(moment) => *moment,
+        _ => Moment::FAR_FUTURE,
+    }
+}
+
+// Shows an output: a timeout with its reason, and a datagram by the number under which it is kept.
+fn show_output<E>(
+    output: Output<E>,
+    reason: Reason,
+    at: Side,
+    packets: &mut Vec<SentPacket>,
+) -> Shown<E>
+    requires { vec_len packets.old < vec_capacity packets.old }
+    ensures shows { ShowsOutput at packets.old.items reason output result packets.new.items }
+{
+    let moment = moment_of(&output);
+    match output {
+        Output::Timeout(_) => Shown::Timeout(moment, reason),
+        Output::Transmit(transmit) => keep_packet(packets, at, transmit),
+        Output::Event(event) => Shown::Event(event),
+    }
 }
 
 // Polls a peer, and keeps the datagram that it sends.
@@ -41,9 +70,10 @@ fn poll_shown<I: IceAgent, D: DtlsInstance, S: Association, M: MediaSession, N: 
     ensures channels { rtc.new.core.channels ≡ rtc.old.core.channels }
 {
     match rtc.poll_output() {
-        Ok(Output::Timeout(moment)) => Ok(Shown::Timeout(moment, rtc.last_timeout_reason())),
-        Ok(Output::Transmit(transmit)) => Ok(keep_packet(packets, at, transmit)),
-        Ok(Output::Event(event)) => Ok(Shown::Event(event)),
+        Ok(output) => {
+            let reason = rtc.last_timeout_reason();
+            Ok(show_output(output, reason, at, packets))
+        }
         Err(error) => Err(error),
     }
 }
@@ -119,7 +149,7 @@ fn drain_outputs<I: IceAgent, D: DtlsInstance, S: Association, M: MediaSession, 
     ensures lines { rtc.new.core.lines ≡ rtc.old.core.lines }
     ensures channels { rtc.new.core.channels ≡ rtc.old.core.channels }
 {
-    for _ in 0..u64::MAX {
+    for turn in 0..u64::MAX {
         match take_turn(rtc, at, packets, outputs) {
             Turn::More => {}
             Turn::Over => return PollEnd::Ended,

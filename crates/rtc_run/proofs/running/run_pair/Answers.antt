@@ -27,7 +27,7 @@ loop-step-preserved g c =
     }
 
 pub perform-reply-requires-clause-read_back : goal.perform-reply-requires-clause-read_back
-perform-reply-requires-clause-read_back g c = runs_read_back (meanings g.I.IceAgent.ice g.D.DtlsInstance.dtls g.S.Association.association g.M.MediaSession.media g.N.Ids.ids) (record { ice = g.met.I.IceAgent.laws; dtls = g.met.D.DtlsInstance.laws; association = g.met.S.Association.laws; media = g.met.M.MediaSession.laws }) _ _ _ _ c.requires.fresh c.requires.formed c.loop-step.invariant.runs
+perform-reply-requires-clause-read_back g c = runs_read_back (meanings g.I.IceAgent.ice g.D.DtlsInstance.dtls g.S.Association.association g.M.MediaSession.media g.N.Ids.ids) g.I.StunReader.stun (record { ice = g.met.I.IceAgent.laws; dtls = g.met.D.DtlsInstance.laws; association = g.met.S.Association.laws; media = g.met.M.MediaSession.laws }) _ _ _ _ c.requires.fresh c.requires.formed c.loop-step.invariant.runs
 
 pub returns-clause-read_back : goal.returns-clause-read_back
-returns-clause-read_back g c = runs_read_back (meanings g.I.IceAgent.ice g.D.DtlsInstance.dtls g.S.Association.association g.M.MediaSession.media g.N.Ids.ids) (record { ice = g.met.I.IceAgent.laws; dtls = g.met.D.DtlsInstance.laws; association = g.met.S.Association.laws; media = g.met.M.MediaSession.laws }) _ _ _ _ c.requires.fresh c.requires.formed c.loop-step.invariant.runs
+returns-clause-read_back g c = runs_read_back (meanings g.I.IceAgent.ice g.D.DtlsInstance.dtls g.S.Association.association g.M.MediaSession.media g.N.Ids.ids) g.I.StunReader.stun (record { ice = g.met.I.IceAgent.laws; dtls = g.met.D.DtlsInstance.laws; association = g.met.S.Association.laws; media = g.met.M.MediaSession.laws }) _ _ _ _ c.requires.fresh c.requires.formed c.loop-step.invariant.runs

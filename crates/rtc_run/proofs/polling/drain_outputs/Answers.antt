@@ -1,0 +1,41 @@
+use Rattle.std.proofs.Common.{rules, arith}
+use Rattle.rtc_peer_state.specs.Meanings.{meanings}
+use Rattle.rtc_run.proofs.Drained.{left_first, left_same, count_more, some_more, drains_ended, drains_refused, drains_lacking}
+use Rattle.rtc_run.proofs.polling.drain_outputs.Goals as goal
+
+pub loop-turn-init : goal.loop-turn-init
+loop-turn-init g c =
+    record {
+      left = left_first (meanings g.I.IceAgent.ice g.D.DtlsInstance.dtls g.S.Association.association g.M.MediaSession.media g.N.Ids.ids) _ _ _ _ c.requires.empty;
+      count = search rules;
+      output = search rules;
+      packet = search rules;
+      lines = search rules;
+      channels = search rules;
+    }
+
+pub loop-turn-preserved : goal.loop-turn-preserved
+loop-turn-preserved g c =
+    record {
+      left = left_same (meanings g.I.IceAgent.ice g.D.DtlsInstance.dtls g.S.Association.association g.M.MediaSession.media g.N.Ids.ids) _ _ _ _ _ _ _ _ _ _ _ c.loop-turn.invariant.left c.in-More.ensures.takes c.make_room.ensures.outputs c.make_room.ensures.packets;
+      count = count_more (meanings g.I.IceAgent.ice g.D.DtlsInstance.dtls g.S.Association.association g.M.MediaSession.media g.N.Ids.ids) _ _ _ _ _ _ _ _ _ c.in-More.ensures.takes c.make_room.ensures.outputs c.loop-turn.invariant.count;
+      output = search rules;
+      packet = search rules;
+      lines = search rules;
+      channels = search rules;
+    }
+
+pub returns-in-Over-clause-drains : goal.returns-in-Over-clause-drains
+returns-in-Over-clause-drains g c = drains_ended (meanings g.I.IceAgent.ice g.D.DtlsInstance.dtls g.S.Association.association g.M.MediaSession.media g.N.Ids.ids) _ _ _ _ _ _ _ _ _ c.loop-turn.invariant.left c.in-Over.ensures.takes
+
+pub returns-in-Refused-clause-drains : goal.returns-in-Refused-clause-drains
+returns-in-Refused-clause-drains g c = drains_refused (meanings g.I.IceAgent.ice g.D.DtlsInstance.dtls g.S.Association.association g.M.MediaSession.media g.N.Ids.ids) _ _ _ _ _ _ _ _ _ _ c.loop-turn.invariant.left c.in-Refused.ensures.takes
+
+pub returns-then-is_err-clause-drains : goal.returns-then-is_err-clause-drains
+returns-then-is_err-clause-drains g c =
+    drains_lacking (meanings g.I.IceAgent.ice g.D.DtlsInstance.dtls g.S.Association.association g.M.MediaSession.media g.N.Ids.ids) _ _ _ _ _ _
+    (left_same (meanings g.I.IceAgent.ice g.D.DtlsInstance.dtls g.S.Association.association g.M.MediaSession.media g.N.Ids.ids) _ _ _ _ _ _ _ _ _ _ _ c.loop-turn.invariant.left c.in-More.ensures.takes c.make_room.ensures.outputs c.make_room.ensures.packets)
+    (some_more (meanings g.I.IceAgent.ice g.D.DtlsInstance.dtls g.S.Association.association g.M.MediaSession.media g.N.Ids.ids) _ _ _ _ _ _ _ _ c.in-More.ensures.takes c.make_room.ensures.outputs)
+
+pub returns-clause-drains : goal.returns-clause-drains
+returns-clause-drains g c = drains_lacking (meanings g.I.IceAgent.ice g.D.DtlsInstance.dtls g.S.Association.association g.M.MediaSession.media g.N.Ids.ids) _ _ _ _ _ _ c.loop-turn.invariant.left (omega (arith, c.loop-turn.invariant.count, c.loop-turn-test.false))
