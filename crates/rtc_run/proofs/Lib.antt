@@ -10,3 +10,4 @@ pub mod FaultlessSdps
 pub mod PlainPeers
 pub mod PlainFaults
 pub mod Drained
+pub mod PollsKeep
