@@ -12,7 +12,7 @@ use Rattle.rtc_dtls.specs.declared.dtls_error.DtlsError.TheVariants.{WouldBlock,
 use Rattle.rtc_history.specs.declared.side.Side.{Side}
 use Rattle.rtc_history.specs.declared.step.Step.TheVariants.{AcceptOffer, AcceptAnswer}
 use Rattle.rtc_history.specs.declared.outcome.Outcome.{Outcome}
-use Rattle.rtc_history.specs.declared.outcome.Outcome.TheVariants.{Negotiated, Answered, Finished, Refused, NoSuch, Alloc}
+use Rattle.rtc_history.specs.declared.outcome.Outcome.TheVariants.{Negotiated, Answered, Finished, Done, Polled, Refused, NoSuch, Alloc}
 use Rattle.rtc_history.specs.declared.table.Table.{Table}
 use Rattle.rtc_history.specs.Past.{Entry, MadeSdp, sdps, remote_sdp, holds_token, is_right}
 use Rattle.rtc_history.specs.Sound.{IsSound, RepliesToOffer, RepliesToAnswer, asked_in}
@@ -40,6 +40,8 @@ offer_passes sdp view next (Refused BadChannel) after replies passes = absurd re
 offer_passes sdp view next (Refused PeerAlloc) after replies passes = refl
 offer_passes sdp view next (Negotiated answers made) after replies passes = absurd replies
 offer_passes sdp view next Finished after replies passes = absurd replies
+offer_passes sdp view next Done after replies passes = absurd replies
+offer_passes sdp view next (Polled outputs end) after replies passes = absurd replies
 offer_passes sdp view next NoSuch after replies passes = absurd replies
 offer_passes sdp view next Alloc after replies passes = absurd replies
 
@@ -49,11 +51,13 @@ offer_taken fresh past between at k outcome table faultless replies =
     let P : Option Sdp → Type 0 = λ (found : Option Sdp). RepliesToOffer found (view_in fresh at past (held_by (between at))) (length (sdps past)) outcome table.lines in
     offer_passes faultless.offer (view_in fresh at past (held_by (between at))) (length (sdps past)) outcome table.lines (subst P faultless.there replies) faultless.passes
 
-pub faultless_offers : FaultlessOffersPass
+pub faultless_offers : {E : Type 0} → FaultlessOffersPass E
 faultless_offers fresh past between at k (Answered n) (Some table) made sound faultless = refl
 faultless_offers fresh past between at k (Refused error) (Some table) made sound faultless = offer_taken fresh past between at k (Refused error) table faultless sound.0
 faultless_offers fresh past between at k (Negotiated answers what) (Some table) made sound faultless = offer_taken fresh past between at k (Negotiated answers what) table faultless sound.0
 faultless_offers fresh past between at k Finished (Some table) made sound faultless = refl
+faultless_offers fresh past between at k Done (Some table) made sound faultless = refl
+faultless_offers fresh past between at k (Polled outputs end) (Some table) made sound faultless = refl
 faultless_offers fresh past between at k NoSuch (Some table) made sound faultless = offer_taken fresh past between at k NoSuch table faultless sound.0
 faultless_offers fresh past between at k Alloc table made sound faultless = refl
 faultless_offers fresh past between at k outcome None made sound faultless = absurd sound
@@ -74,6 +78,8 @@ answer_passes asked sdp view (Refused BadChannel) after replies passes = absurd 
 answer_passes asked sdp view (Refused PeerAlloc) after replies passes = refl
 answer_passes asked sdp view (Negotiated answers made) after replies passes = absurd replies
 answer_passes asked sdp view (Answered k) after replies passes = absurd replies
+answer_passes asked sdp view Done after replies passes = absurd replies
+answer_passes asked sdp view (Polled outputs end) after replies passes = absurd replies
 answer_passes asked sdp view NoSuch after replies passes = absurd replies
 answer_passes asked sdp view Alloc after replies passes = absurd replies
 
@@ -86,11 +92,13 @@ answer_taken fresh past between at t a outcome table faultless replies =
     answer_passes (asked_in at t past) faultless.answer (view_in fresh at past (held_by (between at))) outcome table.lines
     (subst F faultless.there (subst Q faultless.right (subst P faultless.held replies))) faultless.passes
 
-pub faultless_answers : FaultlessAnswersPass
+pub faultless_answers : {E : Type 0} → FaultlessAnswersPass E
 faultless_answers fresh past between at t a Finished (Some table) made sound faultless = refl
 faultless_answers fresh past between at t a (Refused error) (Some table) made sound faultless = answer_taken fresh past between at t a (Refused error) table faultless sound.0
 faultless_answers fresh past between at t a (Negotiated answers what) (Some table) made sound faultless = answer_taken fresh past between at t a (Negotiated answers what) table faultless sound.0
 faultless_answers fresh past between at t a (Answered n) (Some table) made sound faultless = refl
+faultless_answers fresh past between at t a Done (Some table) made sound faultless = refl
+faultless_answers fresh past between at t a (Polled outputs end) (Some table) made sound faultless = refl
 faultless_answers fresh past between at t a NoSuch (Some table) made sound faultless = answer_taken fresh past between at t a NoSuch table faultless sound.0
 faultless_answers fresh past between at t a Alloc table made sound faultless = refl
 faultless_answers fresh past between at t a outcome None made sound faultless = absurd sound

@@ -11,3 +11,4 @@ pub mod PlainPeers
 pub mod PlainFaults
 pub mod Drained
 pub mod PollsKeep
+pub mod Answered

@@ -1,5 +1,6 @@
 -- The peers of the program were just built, and make session descriptions that are read back.
-use Rattle.std.proofs.Common.{◌≡◌, ◌∙◌, ◌≤◌, ℕ, Bool, true, false, List, [], ◌∷◌, ◌++◌, length, Option, Some, None, Ok, refl, sym, ap, subst, arith}
+use Rattle.std.proofs.Common.{◌≡◌, ◌∙◌, ◌≤◌, ℕ, Bool, true, false, List, [], ◌∷◌, ◌++◌, length, Option, Some, None, Result, Ok, Err, refl, sym, ap, subst, arith}
+use Rattle.std.specs.Prelude.{IfOk, IfSome}
 use Rattle.std.specs.List.{AllByRecursion}
 use Rattle.std.specs.declared.alloc.Global.{Global}
 use Rattle.rtc_wire.specs.declared.addr.Addr.{Addr}
@@ -13,7 +14,7 @@ use Rattle.rtc_assoc_state.specs.Contents.{fresh_contents}
 use Rattle.rtc_plain_media.specs.MediaContents.{fresh_media}
 use Rattle.rtc_peer_state.specs.Built.{Builds}
 use Rattle.rtc_peer_state.specs.Config.{Config}
-use Rattle.rtc_peer_state.specs.Formed.{IsFormed, IsHostCandidate}
+use Rattle.rtc_peer_state.specs.Formed.{AreSdpCreds, IsFormed, IsHostCandidate}
 use Rattle.rtc_peer_state.specs.Stance.{stance_of}
 use Rattle.rtc_history.specs.declared.side.Side.{Side}
 use Rattle.rtc_history.specs.declared.side.Side.TheVariants.{Left, Right}
@@ -137,3 +138,9 @@ pub pair_formed : (pair : PlainPairState) → IsFormed (stance_of plain_parts pa
     → (at : Side) → IsFormed (stances_of plain_parts pair at)
 pair_formed pair left right Left = left
 pair_formed pair left right Right = right
+
+-- credentials that are drawn are those of session descriptions
+pub formed_without_creds : {R F : Type 0} (creds : Option IceCreds) (built : Result R F) (P : R → Type 0)
+    → IfOk built (λ rtc. IfSome creds AreSdpCreds → P rtc) → IfOk built (λ rtc. creds ≡ None → P rtc)
+formed_without_creds creds (Ok rtc) P formed = λ none. formed (subst (λ (c : Option IceCreds). IfSome c AreSdpCreds) (sym none) tt)
+formed_without_creds creds (Err error) P formed = tt

@@ -2,4 +2,4 @@ use Rattle.rtc_run.proofs.FaultlessSdps.{faultless_offers, faultless_answers}
 use Rattle.rtc_run.proofs.laws.faultless_descriptions_pass.Goals as goal
 
 pub returns : goal.returns
-returns c = record { offers = faultless_offers; answers = faultless_answers }
+returns g c = record { offers = faultless_offers; answers = faultless_answers }

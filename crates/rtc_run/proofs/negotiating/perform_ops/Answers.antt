@@ -8,6 +8,7 @@ pub loop-op-preserved : goal.loop-op-preserved
 loop-op-preserved g c =
     record {
       same = search rules;
+      connection = c.perform_op-answer.ensures.connection ∙ c.loop-op.invariant.connection;
       done = ops_go_on (meanings g.I.IceAgent.ice g.D.DtlsInstance.dtls g.S.Association.association g.M.MediaSession.media g.N.Ids.ids) _ _ _ c.args.ops.now c.loop-op.op-index c.op-item.result c.perform_op-answer.result _ _ c.loop-op-test.true c.op-item.is (sym c.is_out_of_memory.ensures ∙ c.if-is_out_of_memory.false) c.push_reserved-in-loop-op.ensures.items c.perform_op-answer.ensures.performs c.loop-op.invariant.done;
       count = search rules;
       room = search rules;

@@ -7,3 +7,15 @@ returns-clause-fresh c = rw c.new.ensures (pair_fresh _ c.in_ok-left.ensures.fre
 
 pub returns-clause-formed : goal.returns-clause-formed
 returns-clause-formed c = rw c.new.ensures (pair_formed _ (c.in_ok-left.ensures.formed left_host) (c.in_ok-right.ensures.formed right_host))
+
+pub returns-clause-state : goal.returns-clause-state
+returns-clause-state c =
+    rw c.new.ensures (record {
+      left = c.in_ok-left.ensures.peer;
+      right = c.in_ok-right.ensures.peer;
+      left_addr = refl;
+      right_addr = refl;
+      sdps = refl;
+      packets = refl;
+      size = refl;
+    })

@@ -1,0 +1,17 @@
+-- A call that answers nothing but whether it is refused, as a step replies to it.
+use Rattle.std.proofs.Common.{◌≡◌, Option, Some, Result, Ok, Err, refl}
+use Rattle.rtc_history.specs.Performs.{StepCalls}
+use Rattle.rtc_history.specs.declared.outcome.Outcome.{Outcome}
+use Rattle.rtc_history.specs.declared.table.Table.{Table}
+use Rattle.rtc_peer_state.specs.declared.rtc_error.RtcError.{RtcError}
+use Rattle.rtc_peer_state.specs.Meanings.{Meanings}
+use Rattle.rtc_polling.specs.declared.polled_peer.PolledPeer.{PolledPeer}
+use Rattle.rtc_run.specs.OutcomeOf.{outcome_of}
+use Rattle.rtc_run.specs.ShownTable.{shown_table}
+
+pub answered_call : {I D S M E X T W N : Type 0} (m : Meanings I D S M E X T W N)
+    (call : PolledPeer I D S M N → Result (Unit {0}) RtcError → PolledPeer I D S M N → Type 0) (old : PolledPeer I D S M N)
+    (answer : Result (Unit {0}) RtcError) (outcome : Outcome E) (table : Option Table) (new : PolledPeer I D S M N) → call old answer new
+    → outcome ≡ outcome_of answer → table ≡ Some (shown_table new.core) → StepCalls m call old outcome table new
+answered_call m call old (Ok done) outcome table new called told shown = rw (told, shown) (called, record { lines = refl; channels = refl })
+answered_call m call old (Err error) outcome table new called told shown = rw (told, shown) (called, record { lines = refl; channels = refl })
