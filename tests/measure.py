@@ -238,7 +238,7 @@ CONNECTING += "R datagram 3 0|R drain|L datagram 5 0|L drain|R datagram 6 0|R dr
 # Two peers that negotiated n lines and told of them, until both are connected. Each step reports all lines of its peer, so that as many
 # steps that find no datagram are counted beside them.
 def connecting():
-    print("| Lines | Until both are connected | Of as many steps that find no datagram |\n|---|---|---|")
+    print("| Lines | Until both are connected | The reports of as many steps |\n|---|---|---|")
     for lines in (1, 10, 100, 1_000):
         head = script(lines, False) + b"R drain\nL drain\n"
         start, _ = count([program("rtc_pair"), "run"], head)
