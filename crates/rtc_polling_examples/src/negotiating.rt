@@ -4,7 +4,8 @@ use crate::log::Log;
 use crate::peers::Peer;
 use rtc_assoc_end::PlainAssociation;
 use rtc_peer::{
-    Direction, Fingerprint, Ids, LineRow, MediaKind, Mid, RtcError, Sdp, SdpAnswer, SdpApi, SdpOffer,
+    Direction, Fingerprint, Ids, LineRow, MediaKind, Mid, RtcError, Sdp, SdpAnswer, SdpApi,
+    SdpOffer,
 };
 use rtc_plain::{PlainDtls, PlainIce, PlainMedia};
 use rtc_wire::Text;
