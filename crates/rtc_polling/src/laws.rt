@@ -17,8 +17,8 @@ use rtc_ice::IceAgent;
 use rtc_ids::Ids;
 use rtc_media::MediaSession;
 
-/// Polls, inputs and closing change nothing of what negotiation keeps: rows, what is staged, channels, the counter of
-/// offers, the announced fingerprint, the association and the source of numbers.
+/// Polls, inputs and closing change nothing of what negotiation keeps beside the channels and their streams: rows, what is
+/// staged, the counter of offers, the announced fingerprint and the source of numbers.
 pub fn negotiation_is_kept<I: IceAgent, D: DtlsInstance, S: Association, M: MediaSession, N: Ids>()
     ensures polls { (p q : Polled I D S M N) (answer : _)
         → PollsPeer (meanings I.ice D.dtls S.association M.media N.ids) p answer q → KeepsNegotiation p q }
@@ -28,21 +28,21 @@ pub fn negotiation_is_kept<I: IceAgent, D: DtlsInstance, S: Association, M: Medi
         → ClosesPeer (meanings I.ice D.dtls S.association M.media N.ids) p answer q → KeepsNegotiation p q }
 {}
 
-/// Polls, inputs and closing leave all that negotiation reads of a peer: beside what it keeps, the settings of the ICE agent,
-/// the DTLS role and the fingerprint of this side.
+/// Polls, inputs and closing leave all that negotiation reads of a peer but for the channels: beside what it keeps, the settings
+/// of the ICE agent, the DTLS role and the fingerprint of this side.
 pub fn stance_is_kept<I: IceAgent, D: DtlsInstance, S: Association, M: MediaSession, N: Ids>()
     ensures polls { (p q : Polled I D S M N) (answer : _)
         → PollsPeer (meanings I.ice D.dtls S.association M.media N.ids) p answer q
         → stance_of (meanings I.ice D.dtls S.association M.media N.ids) q.core
-        ≡ stance_of (meanings I.ice D.dtls S.association M.media N.ids) p.core }
+        ≡ record (stance_of (meanings I.ice D.dtls S.association M.media N.ids) p.core) { channels = q.core.channels } }
     ensures inputs { (p q : Polled I D S M N) (input : Given) (answer : _)
         → HandlesInput (meanings I.ice D.dtls S.association M.media N.ids) input p answer q
         → stance_of (meanings I.ice D.dtls S.association M.media N.ids) q.core
-        ≡ stance_of (meanings I.ice D.dtls S.association M.media N.ids) p.core }
+        ≡ record (stance_of (meanings I.ice D.dtls S.association M.media N.ids) p.core) { channels = q.core.channels } }
     ensures closes { (p q : Polled I D S M N) (answer : _)
         → ClosesPeer (meanings I.ice D.dtls S.association M.media N.ids) p answer q
         → stance_of (meanings I.ice D.dtls S.association M.media N.ids) q.core
-        ≡ stance_of (meanings I.ice D.dtls S.association M.media N.ids) p.core }
+        ≡ record (stance_of (meanings I.ice D.dtls S.association M.media N.ids) p.core) { channels = q.core.channels } }
 {}
 
 /// Running out of memory in a poll, an input or a close leaves the peer closed.

@@ -1,6 +1,7 @@
 //! The polled peer: what its parts give, in one order, and what it hands to them.
 #![tactic(auto)]
 
+mod channel_calls;
 mod channel_data;
 mod checking;
 mod closing;
@@ -16,9 +17,12 @@ mod polled_peer;
 mod polling_dtls;
 mod polling_ice;
 mod polling_media;
+mod polling_streams;
 mod recent_addrs;
 mod send_addr;
 mod sending;
+mod sending_packets;
+mod timing;
 mod transport;
 mod walking;
 
