@@ -16,9 +16,9 @@ use Rattle.rtc_peer_state.specs.declared.peer.Peer.{Peer}
 use Rattle.rtc_peer_state.specs.declared.rtc_error.RtcError.{RtcError}
 use Rattle.rtc_peer_state.specs.declared.rtc_error.RtcError.TheVariants.{BadChannel, Net, Alloc as PeerAlloc}
 use Rattle.rtc_peer_state.specs.Acceptances.{AcceptsOffer, AcceptsAnswer}
+use Rattle.rtc_peer_state.specs.ChannelRows.{channel_rows}
 use Rattle.rtc_peer_state.specs.Calls.{AddsMedia, SetsDirection, StopsMedia, AddsChannel, StagesRestart, Applies, Wanted}
 use Rattle.rtc_peer_state.specs.Meanings.{Meanings}
-use Rattle.rtc_channels.specs.Channels.{channel_rows}
 use Rattle.rtc_polling.specs.declared.input.Input.TheVariants as given
 use Rattle.rtc_polling.specs.declared.output.Output.TheVariants as polled
 use Rattle.rtc_polling.specs.declared.polled_peer.PolledPeer.{PolledPeer}
@@ -87,11 +87,6 @@ pub record ComesIn (transmit : Transmit) (kind : MultiplexKind) (datagram : Rece
   pub source : datagram.source ≡ transmit.source
   pub destination : datagram.destination ≡ transmit.destination
 
--- a table shows the lines and the channels of a peer
-pub record Shows {I D S M N : Type 0} (table : Table) (peer : Peer I D S M N) : Type 0 where
-  pub lines : table.lines ≡ peer.lines
-  pub channels : table.channels ≡ channel_rows peer.channels
-
 -- a call on the line at a place, which it names by its mid
 pub record CallsLine (rows : List LineRow) (place : ℕ) (call : List ℕ → Type 0) : Type 0 where
   pub mid : List ℕ
@@ -99,6 +94,11 @@ pub record CallsLine (rows : List LineRow) (place : ℕ) (call : List ℕ → Ty
   pub called : call mid
 
 module _ {I D S M E X T W N : Type 0} (m : Meanings I D S M E X T W N) where
+  -- a table shows the lines and the channels of a peer
+  pub record Shows (table : Table) (peer : Peer I D S M N) : Type 0 where
+    pub lines : table.lines ≡ peer.lines
+    pub channels : table.channels ≡ channel_rows m.association peer.sctp peer.channels
+
   -- Ops are performed in order, up to the first that answers `Alloc`.
   abbrev pub PerformsOps : Peer I D S M N → List Op → List OpAnswer → Peer I D S M N → Type 0
   PerformsOps p [] [] q = q ≡ p

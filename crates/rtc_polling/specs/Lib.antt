@@ -15,3 +15,4 @@ pub mod Inputs
 pub mod ChannelCalls
 pub mod Readings
 pub mod Kept
+pub mod Numbers
