@@ -280,7 +280,8 @@ module _ {I D S M E X T W N : Type 0} (m : Meanings I D S M E X T W N) where
   -- A step: what the acting peer does. The other peer and both addresses stay as they were.
   pub record Performs (stun : List ℕ → Bool) (old : PairState I D S M N) (step : Step) (outcome : Outcome E) (table : Option Table)
       (new : PairState I D S M N) : Type 0 where
-    pub acts : Acts stun step (rtc_at (side_of step) old) old.sdps old.packets outcome table (rtc_at (side_of step) new) new.sdps new.packets
+    pub acts : Acts stun step
+        (rtc_at (side_of step) old) old.sdps old.packets outcome table (rtc_at (side_of step) new) new.sdps new.packets
     pub other : rtc_at (other_side (side_of step)) new ≡ rtc_at (other_side (side_of step)) old
     pub left_addr : new.left_addr ≡ old.left_addr
     pub right_addr : new.right_addr ≡ old.right_addr

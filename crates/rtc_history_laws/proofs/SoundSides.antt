@@ -41,7 +41,8 @@ use Rattle.rtc_peer_state.proofs.StoppedPeers.{stopped_dtls, stopped_sctp, stopp
 use Rattle.rtc_history_laws.proofs.CountedFaults.{by_part, equal_below, start_later, start_fault, stop_later, sctp_later, sctp_fault, sctp_stop_later}
 use Rattle.rtc_history_laws.proofs.MediaFaults.{prepared_later, updated_later, stopped_later}
 use Rattle.rtc_history_laws.proofs.OpParts.{counting_parts, ops_counting, makes_counting}
-use Rattle.rtc_history_laws.proofs.RestSides.{GoesOn, time_goes, shut_goes, datagram_goes, once_goes, drains_go, polls_go}
+use Rattle.rtc_history_laws.proofs.GrowingCounts.{Counts}
+use Rattle.rtc_history_laws.proofs.RestSides.{time_goes, shut_goes, datagram_goes, once_goes, drains_go, polls_go}
 
 module _ {I D S M E X T W N : Type 0} (m : Meanings I D S M E X T W N) (laws : PartsLaws m) where
   -- what an outcome tells of the parts of the peer that acted, and whether an offer, an answer or a token was refused
@@ -228,11 +229,10 @@ module _ {I D S M E X T W N : Type 0} (m : Meanings I D S M E X T W N) (laws : P
   answer_side t token answer old sdps outcome table new sdps' h = absurd h
 
   -- a step that negotiates nothing
-  rest_side : (old new : PolledPeer I D S M N) (outcome : Outcome E) → GoesOn m laws old (tells_fault_of outcome) new → IsSoundOfSide old.core false outcome new.core
+  rest_side : (old new : PolledPeer I D S M N) (outcome : Outcome E) → Counts m old (tells_fault_of outcome) new → IsSoundOfSide old.core false outcome new.core
   rest_side old new outcome goes = record {
-    later = by_part (λ part. faults_of m part old.core ≤ faults_of m part new.core) goes.counts.dtls.0 (same_sctp old.core new.core goes.sctp) goes.counts.media.0;
-    fault = by_part (λ part. tells_fault_of outcome part ≡ true → Rose (faults_of m part old.core) (faults_of m part new.core)) goes.counts.dtls.1
-        (λ told. absurd (untold (tells_fault_of outcome) AssociationPart goes.counts.association told)) goes.counts.media.1;
+    later = by_part (λ part. faults_of m part old.core ≤ faults_of m part new.core) goes.dtls.0 goes.association.0 goes.media.0;
+    fault = by_part (λ part. tells_fault_of outcome part ≡ true → Rose (faults_of m part old.core) (faults_of m part new.core)) goes.dtls.1 goes.association.1 goes.media.1;
     media = λ told. absurd (cc);
   }
 
