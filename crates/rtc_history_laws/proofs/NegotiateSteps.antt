@@ -120,7 +120,7 @@ negotiate_reply fresh between past at ops apply old new kept kept' (Negotiated a
       app_is = app_told.told_app;
     }) tell.told h.1 in (
       subst (λ (after : List LineRow). OpsAnswered (at_first (between at) at past app) ops answers after) (sym left)
-      (answered_from past at (between at) old.lines old.channels app ops answers h.0.lines rows (ap (λ s. s.channels) is) answered),
+          (answered_from past at (between at) old.lines old.channels app ops answers h.0.lines rows (ap (λ s. s.channels) is) answered),
       rw rows (made_of asked at h.0 new kept kept' made (do_need_offer (has_app_row old.lines) answers) (length (sdps past)) staged.offers next h.2),
       h.3.channels ∙ (made_channels asked at h.0 new kept kept' made h.2).rows ∙ staged.channels.shown ∙ ap (λ shown. shown ++ rows_waiting answers) tell.shown,
     )

@@ -101,11 +101,11 @@ module _ {I D S M E X T W N : Type 0} (m : Meanings I D S M E X T W N) (laws : P
   sends_count (Some addr) p r q h = else_counts m (SendsDtlsPacket m addr) (SendsMediaDatagram m addr) (packets_count addr) (media_sent_counts addr) p r q h
   sends_count None p r q h =
       quiet_counts m p q (met_tells r) (λ part. ap (λ (x : Met E). met_tells x part) h.0) (
-        record {
-          dtls = same_dtls m p q (ap (λ (x : PolledPeer I D S M N). x.core.dtls.instance) h.2);
-          media = laws.media.faults_rise p.core.media q.core.media (MediaStirred Other) (inr (inr (FeedbackCleared h.1)));
-          association = same_association m p q (ap (λ (x : PolledPeer I D S M N). x.core.sctp.association) h.2);
-        }
+      record {
+        dtls = same_dtls m p q (ap (λ (x : PolledPeer I D S M N). x.core.dtls.instance) h.2);
+        media = laws.media.faults_rise p.core.media q.core.media (MediaStirred Other) (inr (inr (FeedbackCleared h.1)));
+        association = same_association m p q (ap (λ (x : PolledPeer I D S M N). x.core.sctp.association) h.2);
+      }
       )
 
   datagrams_count : CountsStage m (SendsDatagrams m)

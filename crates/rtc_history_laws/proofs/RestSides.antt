@@ -22,7 +22,7 @@ use Rattle.rtc_history.specs.declared.shown.Shown.TheVariants.{Timeout, Packet, 
 use Rattle.rtc_history.specs.declared.side.Side.{Side}
 use Rattle.rtc_history.specs.declared.table.Table.{Table}
 use Rattle.rtc_history.specs.Memory.{CountedPart, tells_fault_of, is_end_fault_of}
-use Rattle.rtc_history.specs.Performs.{StepCalls, HandlesRead, StepTakesDatagram, PollsShown, PollsOnce, DrainsOn, Drains, StepPolls}
+use Rattle.rtc_history.specs.Performs.{StepCalls, HandlesRead, StepTakesDatagram, PollsShown, PollsOnce, DrainsOn, DrainsPeer, StepPollsPeer}
 use Rattle.rtc_history_laws.proofs.GrowingCounts.{answer_tells, Counts, later_of, counts_on, counts_as, still_counts}
 use Rattle.rtc_history_laws.proofs.ClosingCounts.{close_counts}
 use Rattle.rtc_history_laws.proofs.InputCounts.{input_counts}
@@ -115,7 +115,7 @@ module _ {I D S M E X T W N : Type 0} (m : Meanings I D S M E X T W N) (laws : P
       counts_on m p h.0 q (is_end_fault_of end) (later_of m p (is_end_fault_of Ended) h.0 (shown_goes at p packets (Event event) h.0 h.1 h.2)) (drains_on at h.0 h.1 outputs end q packets' h.3)
 
   pub drains_go : (at : Side) (p : PolledPeer I D S M N) (packets : List SentPacket) (outputs : List (Shown E)) (end : PollEnd) (q : PolledPeer I D S M N) (packets' : List SentPacket)
-      → Drains m at p packets outputs end q packets' → Counts m p (is_end_fault_of end) q
+      → DrainsPeer m at p packets outputs end q packets' → Counts m p (is_end_fault_of end) q
   drains_go at p packets [] NoRoom q packets' h = absurd h
   drains_go at p packets [] Ended q packets' h = drains_on at p packets [] Ended q packets' h
   drains_go at p packets [] (EndRefused error) q packets' h = drains_on at p packets [] (EndRefused error) q packets' h
@@ -126,7 +126,7 @@ module _ {I D S M E X T W N : Type 0} (m : Meanings I D S M E X T W N) (laws : P
       → ((packets : List SentPacket) (outputs : List (Shown E)) (end : PollEnd) (q : PolledPeer I D S M N) (packets' : List SentPacket) → polls packets outputs end q packets'
       → Counts m old (is_end_fault_of end) q)
       → (packets : List SentPacket) (outcome : Outcome E) (table : Option Table) (new : PolledPeer I D S M N) (packets' : List SentPacket)
-      → StepPolls m polls old packets outcome table new packets' → Counts m old (tells_fault_of outcome) new
+      → StepPollsPeer m polls old packets outcome table new packets' → Counts m old (tells_fault_of outcome) new
   polls_go polls old goes packets Alloc None new packets' h = stays old new (tells_fault_of {E = E} Alloc) (λ part. refl) h.0
   polls_go polls old goes packets (Polled outputs end) (Some table) new packets' h =
       counts_as m old new (is_end_fault_of end) (tells_fault_of (Polled outputs end)) (λ part. refl) (goes packets outputs end new packets' h.0)

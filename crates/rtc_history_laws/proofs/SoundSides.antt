@@ -35,7 +35,7 @@ use Rattle.rtc_history.specs.declared.kept.Kept.{Kept}
 use Rattle.rtc_history.specs.declared.sent_packet.SentPacket.{SentPacket}
 use Rattle.rtc_history.specs.Memory.{CountedPart, DtlsPart, AssociationPart, MediaPart, answers_lack, tells_fault_of, is_fault_of}
 use Rattle.rtc_history.specs.PairState.{kept_remote_sdp, held_token, remote_packet}
-use Rattle.rtc_history.specs.Performs.{Negotiates, StepAcceptsOffer, StepAcceptsAnswer, PollsOnce, Drains, Acts, lent}
+use Rattle.rtc_history.specs.Performs.{Negotiates, StepAcceptsOffer, StepAcceptsAnswer, PollsOnce, DrainsPeer, Acts, lent}
 use Rattle.rtc_history.specs.SoundParts.{refuses_sdp, tells_refusal, faults_of}
 use Rattle.rtc_peer_state.proofs.StoppedPeers.{stopped_dtls, stopped_sctp, stopped_media}
 use Rattle.rtc_history_laws.proofs.CountedFaults.{by_part, equal_below, start_later, start_fault, stop_later, sctp_later, sctp_fault, sctp_stop_later}
@@ -251,5 +251,5 @@ module _ {I D S M E X T W N : Type 0} (m : Meanings I D S M E X T W N) (laws : P
   acts_side stun (Poll at) old sdps packets outcome table new sdps' packets' h =
       rest_side old new outcome (polls_go m laws (PollsOnce m at old) old (λ kept outputs end q kept'. once_goes m laws at old kept outputs end q kept') packets outcome table new packets' h.0)
   acts_side stun (Drain at) old sdps packets outcome table new sdps' packets' h =
-      rest_side old new outcome (polls_go m laws (Drains m at old) old (λ kept outputs end q kept'. drains_go m laws at old kept outputs end q kept') packets outcome table new packets' h.0)
+      rest_side old new outcome (polls_go m laws (DrainsPeer m at old) old (λ kept outputs end q kept'. drains_go m laws at old kept outputs end q kept') packets outcome table new packets' h.0)
   acts_side stun (Close at) old sdps packets outcome table new sdps' packets' h = rest_side old new outcome (shut_goes m laws old outcome table new h.0)

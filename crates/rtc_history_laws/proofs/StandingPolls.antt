@@ -39,7 +39,7 @@ use Rattle.rtc_history.specs.declared.outcome.Outcome.{Outcome}
 use Rattle.rtc_history.specs.declared.outcome.Outcome.TheVariants.{Negotiated, Answered, Finished, Done, Polled, Refused, NoSuch, Alloc}
 use Rattle.rtc_history.specs.declared.table.Table.{Table}
 use Rattle.rtc_history.specs.declared.kept.Kept.{Kept}
-use Rattle.rtc_history.specs.Performs.{Shows, StepCalls, HandlesRead, StepTakesDatagram, PollsShown, PollsOnce, DrainsOn, Drains, StepPolls}
+use Rattle.rtc_history.specs.Performs.{Shows, StepCalls, HandlesRead, StepTakesDatagram, PollsShown, PollsOnce, DrainsOn, DrainsPeer, StepPollsPeer}
 use Rattle.rtc_history.specs.Past.{number_opened, numbers_opened, numbers_in}
 use Rattle.rtc_history.specs.Sound.{is_handled, is_heard, is_polled}
 use Rattle.rtc_history_laws.proofs.NumberedChannels.{AreNumbered, same_numbers, numbered_on}
@@ -195,7 +195,7 @@ module _ {I D S M E X T W N : Type 0} (m : Meanings I D S M E X T W N) (laws : P
       moves_on (number_opened (Event event)) (numbers_opened outputs) p h.0 q (shown_moves at p packets (Event event) h.0 h.1 h.2) (drains_on_moves at h.0 h.1 outputs end q packets' h.3)
 
   pub drains_moves : (at : Side) (p : PolledPeer I D S M N) (packets : List SentPacket) (outputs : List (Shown E)) (end : PollEnd) (q : PolledPeer I D S M N) (packets' : List SentPacket)
-      → Drains m at p packets outputs end q packets' → Moves (numbers_opened outputs) p q
+      → DrainsPeer m at p packets outputs end q packets' → Moves (numbers_opened outputs) p q
   drains_moves at p packets [] NoRoom q packets' h = absurd h
   drains_moves at p packets [] Ended q packets' h = drains_on_moves at p packets [] Ended q packets' h
   drains_moves at p packets [] (EndRefused error) q packets' h = drains_on_moves at p packets [] (EndRefused error) q packets' h
@@ -205,7 +205,7 @@ module _ {I D S M E X T W N : Type 0} (m : Meanings I D S M E X T W N) (laws : P
   pub polls_rest : (polls : List SentPacket → List (Shown E) → PollEnd → PolledPeer I D S M N → List SentPacket → Type 0) (old : PolledPeer I D S M N)
       → ((packets : List SentPacket) (outputs : List (Shown E)) (end : PollEnd) (q : PolledPeer I D S M N) (packets' : List SentPacket) → polls packets outputs end q packets' → Moves (numbers_opened outputs) old q)
       → (packets : List SentPacket) (outcome : Outcome E) (table : Option Table) (new : PolledPeer I D S M N) (packets' : List SentPacket) (sdps sdps' : List Kept)
-      → StepPolls m polls old packets outcome table new packets' → sdps' ≡ sdps → StanceRests is_polled (stance_of m old.core) sdps outcome table (stance_of m new.core) sdps'
+      → StepPollsPeer m polls old packets outcome table new packets' → sdps' ≡ sdps → StanceRests is_polled (stance_of m old.core) sdps outcome table (stance_of m new.core) sdps'
   polls_rest polls old moves packets Alloc None new packets' sdps sdps' h kept = rests_by is_polled Alloc None old new sdps sdps' (moves_none old new h.0) kept (refl, same_stance old new h.0)
   polls_rest polls old moves packets (Polled outputs end) (Some table) new packets' sdps sdps' h kept =
       rests_by is_polled (Polled outputs end) (Some table) old new sdps sdps' (moves packets outputs end new packets' h.0) kept (refl, shows_stands table new.core h.1)

@@ -41,7 +41,7 @@ use Rattle.rtc_history.specs.Memory.{answers_lack}
 use Rattle.rtc_history.specs.Sides.{side_of}
 use Rattle.rtc_history.specs.Past.{Entry}
 use Rattle.rtc_history.specs.PairState.{PairState, rtc_at, kept_remote_sdp, remote_packet, held_token}
-use Rattle.rtc_history.specs.Performs.{Stays, Shows, wanted, PerformsOps, MakesOf, Negotiates, StepAcceptsOffer, StepAcceptsAnswer, PollsOnce, Drains, Acts, Performs, Enters}
+use Rattle.rtc_history.specs.Performs.{Stays, Shows, wanted, PerformsOps, MakesOf, Negotiates, StepAcceptsOffer, StepAcceptsAnswer, PollsOnce, DrainsPeer, Acts, Performs, Enters}
 use Rattle.rtc_history_laws.proofs.StanceSteps.{StanceStays, StanceShows, StancePerformsOps, StanceMakesOf, StanceNegotiates, StanceStepAcceptsOffer, StanceStepAcceptsAnswer, StanceActs, StancePerforms, StanceEnters, pair_stance}
 
 module _ {I D S M E X T W N : Type 0} (m : Meanings I D S M E X T W N) (laws : PartsLaws m) where
@@ -135,7 +135,7 @@ module _ {I D S M E X T W N : Type 0} (m : Meanings I D S M E X T W N) (laws : P
   acts_stand stun (Poll at) old sdps packets outcome table new sdps' packets' h =
       polls_rest m laws (PollsOnce m at old) old (λ before_it outputs end q after. once_moves m laws at old before_it outputs end q after) packets outcome table new packets' sdps sdps' h.0 h.1
   acts_stand stun (Drain at) old sdps packets outcome table new sdps' packets' h =
-      polls_rest m laws (Drains m at old) old (λ before_it outputs end q after. drains_moves m laws at old before_it outputs end q after) packets outcome table new packets' sdps sdps' h.0 h.1
+      polls_rest m laws (DrainsPeer m at old) old (λ before_it outputs end q after. drains_moves m laws at old before_it outputs end q after) packets outcome table new packets' sdps sdps' h.0 h.1
   acts_stand stun (Close at) old sdps packets outcome table new sdps' packets' h =
       calls_rest m laws (ClosesPeer m) (close_moves m laws) old outcome table new sdps sdps' h.0 h.1
 
