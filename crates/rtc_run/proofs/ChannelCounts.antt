@@ -1,6 +1,6 @@
 -- How many channels a peer has after a call.
-use Rattle.std.proofs.Common.{◌≡◌, ◌+◌, ◌≤◌, ℕ, zero, suc, Bool, true, false, List, [], ◌∷◌, ◌++◌, length, map, take, get_or, Option, Some, None, Result, Ok, Err, refl, sym, ap, ◌∙◌, arith, length-append}
-use Rattle.std.specs.Prelude.{◌-◌, ◌<◌, is_none, nat_lt, slice_get}
+use Rattle.std.proofs.Common.{◌≡◌, ◌+◌, ◌≤◌, ℕ, zero, suc, Bool, true, false, List, [], ◌∷◌, ◌++◌, length, map, take, get_or, Option, Some, None, Result, Ok, Err, refl, sym, subst, ap, ◌∙◌, arith, length-append}
+use Rattle.std.specs.Prelude.{◌-◌, not, is_some, nat_lt, slice_get}
 use Rattle.std.proofs.lemmas.List.{length-map, take_more}
 use Rattle.std.proofs.lemmas.Option.{slice_get_within, get_or_from_slice_get}
 use Rattle.rtc_wire.specs.declared.channel_config.ChannelConfig.{ChannelConfig}
@@ -68,17 +68,19 @@ row_pushed rows k room room' found row at is filled pushed =
     pushed ∙ (ap (λ (shown : List ChannelRow). shown ++ row ∷ []) filled ∙ sym (more ∙ ap (λ (one : ChannelRow). take k rows ++ one ∷ []) same))
 
 -- no row stands at a place exactly where there are no more rows than that
-fewer_rows : (rows : List ChannelRow) (k : ℕ) → is_none (slice_get rows k) ≡ nat_lt (length rows) (k + 1)
-fewer_rows [] k = grind arith
-fewer_rows (row ∷ rows) zero = grind arith
-fewer_rows (row ∷ rows) (suc k) = grind (arith, fewer_rows rows k)
+fewer_rows : (rows : List ChannelRow) (k : ℕ) (none : Bool) → is_some (slice_get rows k) ≡ not none → none ≡ nat_lt (length rows) (k + 1)
+fewer_rows [] k none is = grind (arith, is)
+fewer_rows (row ∷ rows) zero none is = grind (arith, is)
+fewer_rows (row ∷ rows) (suc k) none is = grind (arith, fewer_rows rows k none is)
 
-pub fewer_channels : {S : Type 0} (association : AssociationMeaning S) (p : SctpStreams S) (held : Channels) (most : ℕ) (found : Option ChannelRow)
-    → 0 < most → found ≡ slice_get (channel_rows association p held) (most - 1) → is_none found ≡ nat_lt (length held.rows) most
-fewer_channels association p held most found some is =
+pub fewer_channels : {S : Type 0} (association : AssociationMeaning S) (p : SctpStreams S) (held : Channels) (most : ℕ) (found : Option ChannelRow) (none : Bool)
+    → (most ≡ 0 → ⊥) → found ≡ slice_get (channel_rows association p held) (most - 1) → is_some found ≡ not none → none ≡ nat_lt (length held.rows) most
+fewer_channels association p held most found none some at is =
+    let shown : List ChannelRow = channel_rows association p held in
     let last : (most - 1) + 1 ≡ most = omega (arith, some) in
-    let rows : length (channel_rows association p held) ≡ length held.rows = length-map held.rows (channel_row association p) in
-    ap is_none is ∙ (fewer_rows (channel_rows association p held) (most - 1) ∙ (ap (λ (n : ℕ). nat_lt (length (channel_rows association p held)) n) last ∙ ap (λ (n : ℕ). nat_lt n most) rows))
+    let rows : length shown ≡ length held.rows = length-map held.rows (channel_row association p) in
+    let F : ℕ → ℕ → Type 0 = λ (count bound : ℕ). none ≡ nat_lt count bound in
+    subst (F (length held.rows)) last (subst (λ (count : ℕ). F count ((most - 1) + 1)) rows (fewer_rows shown (most - 1) none (ap is_some (sym at) ∙ is)))
 
 -- a list of the rows is as long as there are channels
 pub rows_are_channels : {S : Type 0} (association : AssociationMeaning S) (p : SctpStreams S) (held : Channels) (rows : List ChannelRow)
