@@ -1,5 +1,5 @@
 -- The rows that tell of the channels of a peer.
-use Rattle.std.specs.Prelude.{ℕ, Bool, false, List, map, Option, Some, None}
+use Rattle.std.specs.Prelude.{ℕ, ◌&&◌, Bool, false, List, map, Option, Some, None}
 use Rattle.rtc_association.specs.AssociationMeaning.{AssociationMeaning}
 use Rattle.rtc_sctp.specs.Streams.{SctpStreams}
 use Rattle.rtc_sctp.specs.Calls.{is_open_stream}
@@ -12,10 +12,10 @@ module _ {S : Type 0} (m : AssociationMeaning S) where
   generation_over None p = 0
   generation_over (Some stream) p = m.generation p.association stream
 
-  -- whether a stream is open
+  -- whether a stream is open, over an association that is started
   abbrev pub is_open_over : Option ℕ → SctpStreams S → Bool
   is_open_over None p = false
-  is_open_over (Some stream) p = is_open_stream stream p
+  is_open_over (Some stream) p = m.started p.association && is_open_stream stream p
 
   -- the row of a channel, over the streams of its peer
   abbrev pub channel_row : SctpStreams S → Channel → ChannelRow

@@ -20,4 +20,8 @@ pub mod StandingStreams
 pub mod Standing
 pub mod StandingInputs
 pub mod Lacking
+pub mod NumberedChannels
+pub mod NumberedCalls
+pub mod NumberedStages
+pub mod Numbering
 pub mod StandardFacts

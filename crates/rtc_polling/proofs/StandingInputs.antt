@@ -14,7 +14,8 @@ use Rattle.rtc_media.specs.declared.media_error.MediaError.TheVariants.{Alloc as
 use Rattle.rtc_peer_state.specs.declared.phase.Phase.{Phase}
 use Rattle.rtc_peer_state.specs.declared.phase.Phase.TheVariants.{Alive, Closing, Closed}
 use Rattle.rtc_peer_state.specs.Meanings.{Meanings}
-use Rattle.rtc_peer_state.specs.Stance.{stance_of}
+use Rattle.rtc_peer_state.specs.ChannelRows.{channel_rows}
+use Rattle.rtc_peer_state.specs.Stance.{Stance, stance_of}
 use Rattle.rtc_polling.specs.declared.input.Input.{Input}
 use Rattle.rtc_polling.specs.declared.input.Input.TheVariants.{Timeout as TimeCame, Receive as Datagram}
 use Rattle.rtc_polling.specs.declared.polled_peer.PolledPeer.{PolledPeer}
@@ -116,11 +117,16 @@ module _ {I D S M E X T W N : Type 0} (m : Meanings I D S M E X T W N) (laws : I
       → KeepsParts m p q
   input_stands input p r q h = input_in_stands p.core.phase input p r q h
 
--- what negotiation reads of a peer stays but for the channels, where its parts stand
+-- what negotiation reads of a peer stays but for the channels and their rows, where its parts stand
 pub stance_by : {I D S M E X T W N : Type 0} (m : Meanings I D S M E X T W N) (p q : PolledPeer I D S M N) → KeepsNegotiation p q → KeepsParts m p q
-    → stance_of m q.core ≡ record (stance_of m p.core) { channels = q.core.channels }
+    → stance_of m q.core
+    ≡ record (stance_of m p.core) { channels = q.core.channels; rows = channel_rows m.association q.core.sctp q.core.channels }
 stance_by m p q kept parts =
+    let after : Stance = record (stance_of m p.core) {
+      channels = q.core.channels;
+      rows = channel_rows m.association q.core.sctp q.core.channels;
+    } in
     ap (stance_of m) kept
-    ∙ ap (λ (s : IceSettings). record (stance_of m p.core) { channels = q.core.channels; ice = s; own_fingerprint = q.core.dtls.local; role = q.core.dtls.active }) parts.0
-    ∙ ap (λ (f : Fingerprint). record (stance_of m p.core) { channels = q.core.channels; own_fingerprint = f; role = q.core.dtls.active }) parts.2
-    ∙ ap (λ (o : Option Bool). record (stance_of m p.core) { channels = q.core.channels; role = o }) parts.1
+    ∙ ap (λ (s : IceSettings). record after { ice = s; own_fingerprint = q.core.dtls.local; role = q.core.dtls.active }) parts.0
+    ∙ ap (λ (f : Fingerprint). record after { own_fingerprint = f; role = q.core.dtls.active }) parts.2
+    ∙ ap (λ (o : Option Bool). record after { role = o }) parts.1

@@ -1,7 +1,8 @@
 //! Inputs.
 ghost use Rattle.std.specs.Prelude.{◌≡◌};
 ghost use Rattle.rtc_peer_state.specs.Meanings.{meanings};
-ghost use Rattle.rtc_polling.specs.Inputs.{TimesIce, TimesMedia, GivesTime, TakesTime, HearsStun, HearsDtls, HearsMedia, HearsKind, Hears, HandlesInput};
+ghost use Rattle.rtc_polling.specs.Inputs.{TimesIce, TimesMedia, GivesTime, TakesTime};
+ghost use Rattle.rtc_polling.specs.Inputs.{HearsStun, HearsDtls, HearsMedia, HearsKind, Hears, HandlesInput};
 
 use crate::sending::count_bytes;
 use crate::{Input, PolledPeer};

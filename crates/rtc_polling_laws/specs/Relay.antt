@@ -18,4 +18,5 @@ pub record Relays {I D S M E X T W N : Type 0} (m : Meanings I D S M E X T W N) 
   pub dtls_went : DtlsMoved m.dtls p.core.dtls.instance dtls_acts q.core.dtls.instance
   pub association_went : Moved m.association p.core.sctp.association association_acts q.core.sctp.association
   pub handed : Among (given association_acts) (dtls_got dtls_acts)
-  pub relayed : Among (dtls_sent dtls_acts ++ pushed_packets q.core.sctp.pushed) (taken association_acts ++ pushed_packets p.core.sctp.pushed)
+  pub relayed : Among (dtls_sent dtls_acts ++ pushed_packets q.core.sctp.pushed)
+      (taken association_acts ++ pushed_packets p.core.sctp.pushed)
