@@ -1,5 +1,5 @@
 -- The stages of a poll give a channel a number where it is met as open, and nowhere else.
-use Rattle.std.proofs.Common.{◌≡◌, ◌∙◌, if◌then◌else◌, ℕ, Bool, true, false, List, [], ◌∷◌, Option, Some, None, Result, Ok, Err, refl, sym, ap, subst}
+use Rattle.std.proofs.Common.{◌≡◌, ◌∙◌, if◌then◌else◌, ℕ, Bool, true, false, List, [], ◌∷◌, Option, Some, None, Result, Ok, Err, refl, sym, ap, subst, arith}
 use Rattle.std.specs.declared.alloc.AllocError.{AllocError}
 use Rattle.rtc_ice.specs.declared.ice_event.IceEvent.{IceEvent}
 use Rattle.rtc_ice.specs.declared.ice_event.IceEvent.TheVariants.{IceRestart, StateChange, DiscoveredRecv, NominatedSend}
@@ -41,15 +41,15 @@ use Rattle.rtc_polling.proofs.NumberedCalls.{number_met, PeerStays, PeerNumbers,
 use Rattle.rtc_polling.proofs.NumberedCalls.{repeats_numbered, close_stays}
 
 -- an event of the ICE agent tells no channel
-ice_quiet : {E : Type 0} (event : IceEvent) → number_met {E = E} (met_of_ice_event event) ≡ None
-ice_quiet IceRestart = refl
-ice_quiet (StateChange state) = refl
-ice_quiet (DiscoveredRecv proto source) = refl
-ice_quiet (NominatedSend proto source destination) = refl
+ice_quiet : (E : Type 0) (event : IceEvent) → number_met {E = E} (met_of_ice_event event) ≡ None
+ice_quiet E IceRestart = refl
+ice_quiet E (StateChange state) = refl
+ice_quiet E (DiscoveredRecv proto source) = refl
+ice_quiet E (NominatedSend proto source destination) = refl
 
-over_quiet : {E : Type 0} (due : Bool) → number_met {E = E} (if due then Again else Nothing) ≡ None
-over_quiet true = refl
-over_quiet false = refl
+over_quiet : (E : Type 0) (due : Bool) → number_met {E = E} (if due then Again else Nothing) ≡ None
+over_quiet E true = refl
+over_quiet E false = refl
 
 module _ {I D S M E X T W N : Type 0} (m : Meanings I D S M E X T W N) where
   -- what is met is this, and the channels are those of another peer
@@ -60,7 +60,7 @@ module _ {I D S M E X T W N : Type 0} (m : Meanings I D S M E X T W N) where
   taken_event_numbered : (event : Option IceEvent) (ice : I) (p : PolledPeer I D S M N) (r : Met E) (q : PolledPeer I D S M N)
       → TakesIceEvent event (with_ice ice p) r q → PeerNumbers r p q
   taken_event_numbered None ice p r q taken = quiet_by r Nothing p _ q taken.0 refl taken.1 refl
-  taken_event_numbered (Some event) ice p r q taken = quiet_by r (met_of_ice_event event) p _ q taken.0 (ice_quiet {E = E} event) taken.1 refl
+  taken_event_numbered (Some event) ice p r q taken = quiet_by r (met_of_ice_event event) p _ q taken.0 (ice_quiet E event) taken.1 refl
 
   ice_events_numbered : Numbered (PollsIceEvents m)
   ice_events_numbered = repeats_numbered (PollsIceEvent m) (λ p r q turn. taken_event_numbered turn.event turn.ice p r q turn.by_event)
@@ -260,4 +260,4 @@ module _ {I D S M E X T W N : Type 0} (m : Meanings I D S M E X T W N) where
       (else_numbered (TellsStreams m) _ streams_numbered
       (else_numbered (TellsArrivals m) _ arrivals_numbered
       (else_numbered (SendsDatagrams m) StartsOverWhenDue datagrams_numbered
-      (λ p r q h. quiet_by r _ p p q h.0 (over_quiet {E = E} (is_dtls_due p)) h.1 refl))))
+      (λ p r q h. quiet_by r _ p p q h.0 (over_quiet E (is_dtls_due p)) h.1 refl))))

@@ -36,24 +36,18 @@ pub fn stance_is_kept<I: IceAgent, D: DtlsInstance, S: Association, M: MediaSess
     ensures polls { (p q : Polled I D S M N) (answer : _)
         → PollsPeer (meanings I.ice D.dtls S.association M.media N.ids) p answer q
         → stance_of (meanings I.ice D.dtls S.association M.media N.ids) q.core
-        ≡ record (stance_of (meanings I.ice D.dtls S.association M.media N.ids) p.core) {
-            channels = q.core.channels;
-            rows = channel_rows S.association q.core.sctp q.core.channels;
-        } }
+        ≡ record (stance_of (meanings I.ice D.dtls S.association M.media N.ids) p.core)
+        { channels = q.core.channels; rows = channel_rows S.association q.core.sctp q.core.channels } }
     ensures inputs { (p q : Polled I D S M N) (input : Given) (answer : _)
         → HandlesInput (meanings I.ice D.dtls S.association M.media N.ids) input p answer q
         → stance_of (meanings I.ice D.dtls S.association M.media N.ids) q.core
-        ≡ record (stance_of (meanings I.ice D.dtls S.association M.media N.ids) p.core) {
-            channels = q.core.channels;
-            rows = channel_rows S.association q.core.sctp q.core.channels;
-        } }
+        ≡ record (stance_of (meanings I.ice D.dtls S.association M.media N.ids) p.core)
+        { channels = q.core.channels; rows = channel_rows S.association q.core.sctp q.core.channels } }
     ensures closes { (p q : Polled I D S M N) (answer : _)
         → ClosesPeer (meanings I.ice D.dtls S.association M.media N.ids) p answer q
         → stance_of (meanings I.ice D.dtls S.association M.media N.ids) q.core
-        ≡ record (stance_of (meanings I.ice D.dtls S.association M.media N.ids) p.core) {
-            channels = q.core.channels;
-            rows = channel_rows S.association q.core.sctp q.core.channels;
-        } }
+        ≡ record (stance_of (meanings I.ice D.dtls S.association M.media N.ids) p.core)
+        { channels = q.core.channels; rows = channel_rows S.association q.core.sctp q.core.channels } }
 {}
 
 /// Running out of memory in a poll, an input or a close leaves the peer closed.
@@ -73,7 +67,13 @@ pub fn want_of_memory_closes<
 {}
 
 /// Channel numbers rise over polls, inputs and closing: a poll gives one at most, and tells it.
-pub fn channels_are_numbered<I: IceAgent, D: DtlsInstance, S: Association, M: MediaSession, N: Ids>()
+pub fn channels_are_numbered<
+    I: IceAgent,
+    D: DtlsInstance,
+    S: Association,
+    M: MediaSession,
+    N: Ids,
+>()
     ensures polls { (p q : Polled I D S M N) (answer : _)
         → PollsPeer (meanings I.ice D.dtls S.association M.media N.ids) p answer q
         → Numbers (number_told answer) p.core.channels q.core.channels }

@@ -30,7 +30,7 @@ pub use channel_data::ChannelData;
 pub use event::Event;
 pub use handshake::Handshake;
 pub use input::Input;
-pub use laws::{negotiation_is_kept, stance_is_kept, want_of_memory_closes};
+pub use laws::{channels_are_numbered, negotiation_is_kept, stance_is_kept, want_of_memory_closes};
 pub use output::Output;
 pub use polled_peer::PolledPeer;
 pub use recent_addrs::RecentAddrs;
