@@ -13,7 +13,7 @@ use Rattle.rtc_history.specs.declared.step.Step.{Step}
 use Rattle.rtc_history.specs.declared.step.Step.TheVariants.{Negotiate, AcceptOffer, AcceptAnswer, Time, Datagram, Poll, Drain, Close}
 use Rattle.rtc_history.specs.declared.outcome.Outcome.{Outcome}
 use Rattle.rtc_history.specs.declared.outcome.Outcome.TheVariants.{Negotiated, Answered, Finished, Done, Polled, Refused, NoSuch, Alloc}
-use Rattle.rtc_history.specs.Sides.{same_side, other_side, side_of}
+use Rattle.rtc_history.specs.Sides.{same_side, other_side}
 use Rattle.rtc_history.specs.Sizes.{step_size}
 use Rattle.rtc_history.specs.Memory.{fails}
 use Rattle.rtc_history.specs.Answers.{is_bad}
@@ -159,12 +159,16 @@ negotiates (Poll at) = false
 negotiates (Drain at) = false
 negotiates (Close at) = false
 
+-- so many more channels can be numbered at each side: a peer gives 2^64 - 1 numbers
+abbrev pub AreNumbersLeft : {E : Type 0} → ℕ → List (Entry E) → Type 0
+AreNumbersLeft more past = (at : Side) → length (numbers_told at past) + more < 2 ^ 64
+
 -- Orderly steps of a pair that can connect succeed in what they negotiate, until memory runs out or a part fails, and while channel
--- numbers are left: there are 2^64 - 1.
+-- numbers are left at both sides.
 abbrev pub OkWhereOrderly : {E : Type 0} → Stances → List (Entry E) → Step → Outcome E → Type 0
 OkWhereOrderly fresh past step outcome =
     negotiates step ≡ true → can_connect fresh ≡ true → are_orderly (steps_of past ++ step ∷ []) ≡ true → has_failed past ≡ false
-    → length (numbers_told (side_of step) past) + step_size step < 2 ^ 64 → (is_ok outcome || fails outcome) ≡ true
+    → AreNumbersLeft (step_size step) past → (is_ok outcome || fails outcome) ≡ true
 
 -- nothing is outstanding
 abbrev pub IsIdle : Phase → Type 0
@@ -186,8 +190,9 @@ pub record AreInStep (rows others : List LineRow) (sides : Stances) : Type 0 whe
   pub app : mid_of_app others ≡ mid_of_app rows
   pub current : (at : Side) → AreCurrent sides at
 
--- After orderly steps that leave no round open, both sides are in step, unless memory ran out or a part failed.
+-- After orderly steps that leave no round open, both sides are in step, unless memory ran out or a part failed, and while channel numbers
+-- are left at both sides.
 abbrev pub InStepWhereOrderly : {E : Type 0} → Stances → List (Entry E) → Stances → Type 0
 InStepWhereOrderly fresh past sides =
     (course : Course) → can_connect fresh ≡ true → course_of (steps_of past) ≡ Some course → IsIdle course.phase → has_failed past ≡ false
-    → AreInStep (before Left past) (before Right past) sides
+    → AreNumbersLeft 1 past → AreInStep (before Left past) (before Right past) sides

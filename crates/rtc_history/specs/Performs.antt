@@ -242,17 +242,18 @@ module _ {I D S M E X T W N : Type 0} (m : Meanings I D S M E X T W N) where
       × DrainsOn at between kept outputs end q packets'
 
   -- The same, with one poll at least.
-  abbrev pub Drains : Side → PolledPeer I D S M N → List SentPacket → List (Shown E) → PollEnd → PolledPeer I D S M N → List SentPacket
+  abbrev pub DrainsPeer : Side → PolledPeer I D S M N → List SentPacket → List (Shown E) → PollEnd → PolledPeer I D S M N → List SentPacket
       → Type 0
-  Drains at p packets [] NoRoom q packets' = ⊥
-  Drains at p packets outputs end q packets' = DrainsOn at p packets outputs end q packets'
+  DrainsPeer at p packets [] NoRoom q packets' = ⊥
+  DrainsPeer at p packets outputs end q packets' = DrainsOn at p packets outputs end q packets'
 
   -- Polls are answered by what they gave. Without memory for the table and for one output there is no poll.
-  abbrev pub StepPolls : (List SentPacket → List (Shown E) → PollEnd → PolledPeer I D S M N → List SentPacket → Type 0)
+  abbrev pub StepPollsPeer : (List SentPacket → List (Shown E) → PollEnd → PolledPeer I D S M N → List SentPacket → Type 0)
       → PolledPeer I D S M N → List SentPacket → Outcome E → Option Table → PolledPeer I D S M N → List SentPacket → Type 0
-  StepPolls polls old packets Alloc None new packets' = (new ≡ old) × (packets' ≡ packets)
-  StepPolls polls old packets (Polled outputs end) (Some table) new packets' = polls packets outputs end new packets' × Shows table new.core
-  StepPolls polls old packets outcome table new packets' = ⊥
+  StepPollsPeer polls old packets Alloc None new packets' = (new ≡ old) × (packets' ≡ packets)
+  StepPollsPeer polls old packets (Polled outputs end) (Some table) new packets' =
+      polls packets outputs end new packets' × Shows table new.core
+  StepPollsPeer polls old packets outcome table new packets' = ⊥
 
   -- What the acting peer does, with the SDPs and the datagrams before and after: negotiation leaves its connection and the datagrams, and
   -- all else the SDPs.
@@ -271,16 +272,17 @@ module _ {I D S M E X T W N : Type 0} (m : Meanings I D S M E X T W N) where
   Acts stun (Datagram at packet now) old sdps packets outcome table new sdps' packets' =
       StepTakesDatagram stun (remote_packet packets at packet) now old outcome table new × (sdps' ≡ sdps) × (packets' ≡ packets)
   Acts stun (Poll at) old sdps packets outcome table new sdps' packets' =
-      StepPolls (PollsOnce at old) old packets outcome table new packets' × (sdps' ≡ sdps)
+      StepPollsPeer (PollsOnce at old) old packets outcome table new packets' × (sdps' ≡ sdps)
   Acts stun (Drain at) old sdps packets outcome table new sdps' packets' =
-      StepPolls (Drains at old) old packets outcome table new packets' × (sdps' ≡ sdps)
+      StepPollsPeer (DrainsPeer at old) old packets outcome table new packets' × (sdps' ≡ sdps)
   Acts stun (Close at) old sdps packets outcome table new sdps' packets' =
       StepCalls (ClosesPeer m) old outcome table new × (sdps' ≡ sdps) × (packets' ≡ packets)
 
   -- A step: what the acting peer does. The other peer and both addresses stay as they were.
   pub record Performs (stun : List ℕ → Bool) (old : PairState I D S M N) (step : Step) (outcome : Outcome E) (table : Option Table)
       (new : PairState I D S M N) : Type 0 where
-    pub acts : Acts stun step (rtc_at (side_of step) old) old.sdps old.packets outcome table (rtc_at (side_of step) new) new.sdps new.packets
+    pub acts : Acts stun step
+        (rtc_at (side_of step) old) old.sdps old.packets outcome table (rtc_at (side_of step) new) new.sdps new.packets
     pub other : rtc_at (other_side (side_of step)) new ≡ rtc_at (other_side (side_of step)) old
     pub left_addr : new.left_addr ≡ old.left_addr
     pub right_addr : new.right_addr ≡ old.right_addr

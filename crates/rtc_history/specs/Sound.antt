@@ -91,7 +91,7 @@ abbrev pub IsUnheld : Option (List ℕ) → List (List ℕ) → Type 0
 IsUnheld None held = Unit {0}
 IsUnheld (Some mid) held = is_among held mid ≡ false
 
--- a channel may be made of a config, and has a number above all that the side was given
+-- a channel may be made of a config, and has a number above all that the side told
 abbrev pub GivesNumber : Midway → ChannelConfig → ℕ → Type 0
 GivesNumber m config id = (is_bad_channel m.channels config ≡ false) × All (λ number. number < id) m.numbers
 

@@ -15,7 +15,7 @@ use Rattle.rtc_history.specs.declared.table.Table.{Table}
 use Rattle.rtc_history.specs.Memory.{fails}
 use Rattle.rtc_history.specs.Sides.{other_side}
 use Rattle.rtc_history.specs.Sizes.{steps_size}
-use Rattle.rtc_history.specs.Past.{Entry, MadeSdp, steps_of, sdps, remote_sdp, new_app, channels_given, restarts_by}
+use Rattle.rtc_history.specs.Past.{Entry, MadeSdp, steps_of, sdps, remote_sdp, new_app, numbers_in, restarts_by}
 use Rattle.rtc_history.specs.Sound.{RepliesToOffer, RepliesToAnswer, IsSound, asked_in, at_first}
 use Rattle.rtc_history.specs.SaidRows.{MakesSdp}
 use Rattle.rtc_history.specs.CourseRows.{course_rows_after}
@@ -23,7 +23,7 @@ use Rattle.rtc_history.specs.Orderly.{Idle, AwaitsEnd, Course, course_rows, move
 use Rattle.rtc_history_laws.proofs.SoundPasts.{Sound}
 use Rattle.rtc_history_laws.proofs.Around.{entry}
 use Rattle.rtc_history_laws.proofs.Takings.{offer_taking, answer_taking}
-use Rattle.rtc_history_laws.proofs.ChannelCounts.{given_within, ops_fine}
+use Rattle.rtc_history_laws.proofs.ChannelCounts.{ops_fine}
 use Rattle.rtc_history_laws.proofs.CourseOps.{AreFine}
 use Rattle.rtc_history_laws.proofs.CourseSteps.{in_order}
 use Rattle.rtc_history_laws.proofs.RoundRows.{IsOffered, IsAnswered}
@@ -37,11 +37,10 @@ abbrev pub IsOkOrFails : {E : Type 0} → Outcome E → Type 0
 IsOkOrFails outcome = (is_ok outcome || fails outcome) ≡ true
 
 pub negotiated_ok : {E : Type 0} → (fresh between : Stances) (past : List (Entry E)) (at : Side) (ops : List Op) (apply : Bool) (outcome : Outcome E) (table : Option Table) (made : List MadeSdp) (course course' : Course) (rows : List LineRow)
-    → steps_size (steps_of past) + length ops < 2 ^ 64 - 1 → after_ops apply at ops course rows ≡ Some course' → IsSound fresh past between (Negotiate at ops apply) outcome table made → IsOkOrFails outcome
+    → (between at).channels.given + length (numbers_in outcome) < 2 ^ 64 - 1 → after_ops apply at ops course rows ≡ Some course' → IsSound fresh past between (Negotiate at ops apply) outcome table made → IsOkOrFails outcome
 negotiated_ok fresh between past at ops apply Alloc None made course course' rows few after replied = refl
 negotiated_ok fresh between past at ops apply (Negotiated answers what) (Some table) made course course' rows few after replied =
-    let given : (channels_given at past).given ≤ steps_size (steps_of past) = given_within at past in
-    let fine : AreFine answers = ops_fine (at_first at past (new_app table.lines made)) ops answers table.lines replied.0 (in_order apply at ops course course' rows after).plain (omega arith) in
+    let fine : AreFine answers = ops_fine (at_first (between at) at past (new_app table.lines made)) ops answers table.lines replied.0 (in_order apply at ops course course' rows after).plain few in
     rw fine refl
 negotiated_ok fresh between past at ops apply outcome table made course course' rows few after replied = absurd replied
 

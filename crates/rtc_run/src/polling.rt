@@ -1,6 +1,6 @@
 //! Polls of a step.
 ghost use Rattle.std.specs.Prelude.{◌≡◌, ◌+◌, ◌<◌, ◌≤◌, ◌^◌, ◌++◌, [], ◌∷◌, length, IfOk, OnOk, vec_capacity, vec_len, Some, if◌then◌else◌};
-ghost use Rattle.rtc_history.specs.Performs.{Drains, PollsOnce, StepPolls, sent_packet};
+ghost use Rattle.rtc_history.specs.Performs.{DrainsPeer, PollsOnce, StepPollsPeer, sent_packet};
 ghost use Rattle.rtc_history.specs.declared.outcome.Outcome.TheVariants.{Polled};
 ghost use Rattle.rtc_history.specs.declared.shown.Shown.TheVariants.{Packet};
 ghost use Rattle.rtc_peer_state.specs.Meanings.{meanings};
@@ -154,7 +154,7 @@ fn drain_outputs<I: IceAgent, D: DtlsInstance, S: Association, M: MediaSession, 
     requires output { vec_len outputs.old < vec_capacity outputs.old }
     requires channel { length rtc.old.core.channels.rows + 1 ≤ vec_capacity channels.old }
     requires empty { outputs.old.items ≡ [] }
-    ensures drains { Drains (meanings I.ice D.dtls S.association M.media N.ids)
+    ensures drains { DrainsPeer (meanings I.ice D.dtls S.association M.media N.ids)
         at rtc.old packets.old.items outputs.new.items result rtc.new packets.new.items }
     ensures lines { rtc.new.core.lines ≡ rtc.old.core.lines }
     ensures channels { length rtc.new.core.channels.rows ≤ vec_capacity channels.new }
@@ -216,7 +216,7 @@ pub fn poll<I: IceAgent, D: DtlsInstance, S: Association, M: MediaSession, N: Id
     packets: &mut Vec<SentPacket>,
     at: Side,
 ) -> Reply<M::E>
-    ensures { StepPolls (meanings I.ice D.dtls S.association M.media N.ids)
+    ensures { StepPollsPeer (meanings I.ice D.dtls S.association M.media N.ids)
         (PollsOnce (meanings I.ice D.dtls S.association M.media N.ids) at rtc.old)
         rtc.old packets.old.items result.outcome result.table rtc.new packets.new.items }
 {
@@ -243,8 +243,8 @@ pub fn drain<I: IceAgent, D: DtlsInstance, S: Association, M: MediaSession, N: I
     packets: &mut Vec<SentPacket>,
     at: Side,
 ) -> Reply<M::E>
-    ensures { StepPolls (meanings I.ice D.dtls S.association M.media N.ids)
-        (Drains (meanings I.ice D.dtls S.association M.media N.ids) at rtc.old)
+    ensures { StepPollsPeer (meanings I.ice D.dtls S.association M.media N.ids)
+        (DrainsPeer (meanings I.ice D.dtls S.association M.media N.ids) at rtc.old)
         rtc.old packets.old.items result.outcome result.table rtc.new packets.new.items }
 {
     let Ok(room) = make_first_room(alloc, rtc, packets) else {
