@@ -28,7 +28,7 @@ fn outcome_of<E>(answer: Result<(), RtcError>) -> Outcome<E>
 }
 
 // Gives a peer a moment.
-#[tactic(auto, using(crate::proofs::PollsKeep::lines_after_input, crate::proofs::PollsKeep::channels_after_input))]
+#[tactic(auto, using(crate::proofs::PollsKeep::lines_after_input))]
 fn give_moment<I: IceAgent, D: DtlsInstance, S: Association, M: MediaSession, N: Ids>(
     rtc: &mut Rtc<I, D, S, M, N>,
     now: Moment,
@@ -74,7 +74,7 @@ fn find_packet(packets: &[SentPacket], at: Side, number: u64) -> Option<&Transmi
 }
 
 // Gives a peer a datagram where it was sent to, if it has the form of its kind.
-#[tactic(auto, using(crate::proofs::PollsKeep::lines_after_input, crate::proofs::PollsKeep::channels_after_input))]
+#[tactic(auto, using(crate::proofs::PollsKeep::lines_after_input))]
 fn give_datagram<I: IceAgent, D: DtlsInstance, S: Association, M: MediaSession, N: Ids>(
     rtc: &mut Rtc<I, D, S, M, N>,
     transmit: &Transmit,
@@ -129,7 +129,7 @@ pub fn take_datagram<I: IceAgent, D: DtlsInstance, S: Association, M: MediaSessi
 }
 
 // Begins to close a peer.
-#[tactic(auto, using(crate::proofs::PollsKeep::lines_after_close, crate::proofs::PollsKeep::channels_after_close))]
+#[tactic(auto, using(crate::proofs::PollsKeep::lines_after_close))]
 fn shut<I: IceAgent, D: DtlsInstance, S: Association, M: MediaSession, N: Ids>(
     rtc: &mut Rtc<I, D, S, M, N>,
 ) -> Result<(), RtcError>

@@ -58,7 +58,7 @@ fn show_output<E>(
 }
 
 // Polls a peer, and keeps the datagram that it sends.
-#[tactic(auto, using(crate::proofs::PollsKeep::lines_after_poll, crate::proofs::PollsKeep::channels_after_poll))]
+#[tactic(auto, using(crate::proofs::PollsKeep::lines_after_poll))]
 fn poll_shown<I: IceAgent, D: DtlsInstance, S: Association, M: MediaSession, N: Ids>(
     rtc: &mut Rtc<I, D, S, M, N>,
     at: Side,

@@ -21,6 +21,7 @@ pub struct Room {
 }
 
 /// Room for the table of a peer that gets so many lines and channels more.
+#[tactic(auto, using(crate::proofs::ChannelCounts::rows_are_channels))]
 pub fn room_for<I: IceAgent, D: DtlsInstance, S: Association, M: MediaSession, N: Ids>(
     alloc: Global,
     rtc: &Rtc<I, D, S, M, N>,
@@ -63,7 +64,7 @@ pub fn make_room<I: IceAgent, D: DtlsInstance, S: Association, M: MediaSession, 
     Ok(room)
 }
 
-// Whether a peer has fewer channels than so many.
+// Whether a peer has fewer than `most` channels.
 fn has_fewer_channels<I: IceAgent, D: DtlsInstance, S: Association, M: MediaSession, N: Ids>(
     rtc: &Rtc<I, D, S, M, N>,
     most: usize,
