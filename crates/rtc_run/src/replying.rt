@@ -78,13 +78,7 @@ fn has_fewer_channels<I: IceAgent, D: DtlsInstance, S: Association, M: MediaSess
 }
 
 /// Room for the row of one more channel, where there is room for those of all channels.
-pub fn make_channel_room<
-    I: IceAgent,
-    D: DtlsInstance,
-    S: Association,
-    M: MediaSession,
-    N: Ids,
->(
+pub fn make_channel_room<I: IceAgent, D: DtlsInstance, S: Association, M: MediaSession, N: Ids>(
     rtc: &Rtc<I, D, S, M, N>,
     channels: &mut Vec<ChannelRow>,
 ) -> Result<(), AllocError>
