@@ -73,8 +73,7 @@ lent_formed s formed = record {
 }
 
 -- with another counter, and other channels with their rows
-counted_formed : (s : Stance) (counter : ℕ) (channels : Channels) (rows : List ChannelRow) → IsFormed s
-    → IsFormed (record s { counter = counter; channels = channels; rows = rows })
+counted_formed : (s : Stance) (counter : ℕ) (channels : Channels) (rows : List ChannelRow) → IsFormed s → IsFormed (record s { counter = counter; channels = channels; rows = rows })
 counted_formed s counter channels rows formed = record {
   session = formed.session;
   creds = formed.creds;
@@ -127,8 +126,7 @@ adds_channel_formed s config (Ok id) t adds formed =
     let tokens : AddTokens more = channel_tokens s needed adds.app id config adds.app_for in
     let restarts : RestartWords more = channel_restarts s needed adds.app id config adds.app_for in
     rw adds.rest (counted_formed (record s { staged = s.staged ++ more }) s.counter (with_channel s.channels config)
-    (s.rows ++ record { id = id; stream = None; generation = 0; is_open = false } ∷ [])
-    (staged_formed s more tokens restarts formed))
+    (s.rows ++ record { id = id; stream = None; generation = 0; is_open = false } ∷ []) (staged_formed s more tokens restarts formed))
 adds_channel_formed s config (Err BadChannel) t adds formed = rw adds.1 formed
 adds_channel_formed s config (Err Alloc) t adds formed = rw adds formed
 adds_channel_formed s config (Err (RemoteSdp why)) t adds formed = absurd adds

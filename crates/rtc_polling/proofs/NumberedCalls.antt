@@ -1,11 +1,10 @@
 -- Closing and inputs give no channel a number, and how numbers are followed through calls and stages.
-use Rattle.std.proofs.Common.{◌≡◌, ℕ, Bool, true, false, List, Option, Some, None, Result, Ok, Err, refl, sym, ap, subst}
+use Rattle.std.proofs.Common.{◌≡◌, ℕ, Bool, true, false, List, Option, Some, None, Result, Ok, Err, refl, sym, subst}
 use Rattle.std.specs.declared.alloc.AllocError.{AllocError}
 use Rattle.rtc_wire.specs.declared.datagram_recv.DatagramRecv.{DatagramRecv}
 use Rattle.rtc_wire.specs.declared.datagram_recv.DatagramRecv.TheVariants as datagrams
 use Rattle.rtc_wire.specs.declared.receive.Receive.{Receive}
 use Rattle.rtc_ready.specs.Signals.{both}
-use Rattle.rtc_channels.specs.Channels.{Channels}
 use Rattle.rtc_channels.specs.Openings.{is_progress_due}
 use Rattle.rtc_peer_state.specs.declared.phase.Phase.{Phase}
 use Rattle.rtc_peer_state.specs.declared.phase.Phase.TheVariants.{Alive, Closing, Closed}

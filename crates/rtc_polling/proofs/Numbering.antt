@@ -1,5 +1,5 @@
 -- A poll gives a channel a number where it tells that it is open, and nowhere else; an input and closing give none.
-use Rattle.std.proofs.Common.{◌≡◌, ◌∙◌, ℕ, Bool, true, false, Option, Some, None, Result, Ok, Err, refl, sym, ap, subst}
+use Rattle.std.proofs.Common.{◌≡◌, ◌∙◌, ℕ, Bool, true, false, Option, Result, Ok, refl, sym, ap, subst}
 use Rattle.rtc_channels.specs.Channels.{Channels}
 use Rattle.rtc_peer_state.specs.declared.phase.Phase.{Phase}
 use Rattle.rtc_peer_state.specs.declared.phase.Phase.TheVariants.{Alive, Closing, Closed}
@@ -16,7 +16,7 @@ use Rattle.rtc_polling.specs.Closing.{is_closing_complete}
 use Rattle.rtc_polling.specs.Numbers.{Numbers, number_told}
 use Rattle.rtc_polling.specs.Walk.{VisitsParts, WaitsIf, AnswersMet, Walks, PollsPeerFrom, PollsPeer}
 use Rattle.rtc_polling.proofs.NumberedChannels.{NumbersWhen, numbers_of}
-use Rattle.rtc_polling.proofs.NumberedCalls.{number_met, PeerStays, PeerNumbers, stays_by, peer_stays_on, repeats_numbered}
+use Rattle.rtc_polling.proofs.NumberedCalls.{number_met, PeerNumbers, stays_by, repeats_numbered}
 use Rattle.rtc_polling.proofs.NumberedStages.{visits_numbered}
 pub use Rattle.rtc_polling.proofs.NumberedCalls.{close_numbers, input_numbers}
 
