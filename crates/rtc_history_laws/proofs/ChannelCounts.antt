@@ -5,7 +5,6 @@ use Rattle.std.proofs.lemmas.Bool.{or_parts, or_from, and_parts, not-true, ne_eq
 use Rattle.rtc_wire.specs.declared.channel_config.ChannelConfig.{ChannelConfig}
 use Rattle.rtc_sdp_values.specs.declared.line_row.LineRow.{LineRow}
 use Rattle.rtc_channels.specs.Channels.{Channel, Channels, claims_again, is_overlong, is_bad_channel}
-use Rattle.rtc_history.specs.declared.side.Side.{Side}
 use Rattle.rtc_history.specs.declared.op.Op.{Op}
 use Rattle.rtc_history.specs.declared.op.Op.TheVariants.{AddMedia, SetDirection, StopMedia, AddChannel, IceRestart}
 use Rattle.rtc_history.specs.declared.op_answer.OpAnswer.{OpAnswer}

@@ -1,14 +1,13 @@
 -- What the stages of a poll that serve the connection do to the counts of faults.
-use Rattle.std.proofs.Common.{◌≡◌, ◌⊎◌, inl, inr, ℕ, Bool, true, false, List, Option, Some, None, Result, Ok, Err, alloc_error, refl, ap}
+use Rattle.std.proofs.Common.{inr, ℕ, Bool, true, false, List, Option, Some, None, Result, Ok, Err, alloc_error, refl, ap}
 use Rattle.std.specs.declared.alloc.AllocError.{AllocError}
-use Rattle.rtc_parts_values.specs.Why.{Shut, Other}
+use Rattle.rtc_parts_values.specs.Why.{Other}
 use Rattle.rtc_parts_values.specs.declared.srtp_profile.SrtpProfile.{SrtpProfile}
 use Rattle.rtc_ice.specs.declared.ice_event.IceEvent.{IceEvent}
 use Rattle.rtc_dtls.specs.declared.dtls_error.DtlsError.TheVariants.{Fault, Alloc as DtlsAlloc}
 use Rattle.rtc_dtls.specs.declared.dtls_output.DtlsOutput.{DtlsOutput}
 use Rattle.rtc_dtls.specs.declared.dtls_output.DtlsOutput.TheVariants as outputs
 use Rattle.rtc_media.specs.MediaActs.{MediaStirred, Keyed}
-use Rattle.rtc_peer_state.specs.declared.rtc_error.RtcError.{RtcError}
 use Rattle.rtc_peer_state.specs.declared.rtc_error.RtcError.TheVariants.{RemoteSdp, Dtls, Alloc}
 use Rattle.rtc_peer_state.specs.Meanings.{Meanings, PartsLaws}
 use Rattle.rtc_polling.specs.declared.event.Event.TheVariants as told

@@ -1,5 +1,5 @@
 -- What inputs do to the counts of faults: none falls, and an error that tells a fault of a part comes only where that part's count rose.
-use Rattle.std.proofs.Common.{◌≡◌, ◌≤◌, ◌⊎◌, inl, inr, ℕ, Bool, true, false, List, Result, Ok, Err, alloc_error, refl, ap}
+use Rattle.std.proofs.Common.{◌≤◌, inl, inr, ℕ, Bool, true, false, List, Result, Ok, Err, alloc_error, refl, ap}
 use Rattle.std.specs.declared.alloc.AllocError.{AllocError}
 use Rattle.rtc_wire.specs.declared.datagram_recv.DatagramRecv.{DatagramRecv}
 use Rattle.rtc_wire.specs.declared.datagram_recv.DatagramRecv.TheVariants as datagrams

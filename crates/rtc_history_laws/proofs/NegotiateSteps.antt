@@ -25,7 +25,7 @@ use Rattle.rtc_history.specs.declared.table.Table.{Table}
 use Rattle.rtc_history.specs.Memory.{answers_lack}
 use Rattle.rtc_history.specs.Sides.{same_side, other_side}
 use Rattle.rtc_history.specs.Answers.{has_app_row, do_stage, do_need_offer, added, numbers_answered, rows_waiting}
-use Rattle.rtc_history.specs.Past.{Entry, MadeSdp, before, sdps, is_applied, is_offer_numbered, new_app, numbers_told, channels_shown, channel_rows_or}
+use Rattle.rtc_history.specs.Past.{Entry, MadeSdp, before, sdps, is_applied, is_offer_numbered, new_app, numbers_told}
 use Rattle.rtc_history.specs.Sound.{OpsAnswered, MadeOf, IsSound, at_first}
 use Rattle.rtc_history.specs.declared.kept.Kept.{Kept}
 use Rattle.rtc_history.specs.Performs.{kept_offer}

@@ -1,5 +1,5 @@
 -- Ops in order, in their phase: rows change where they stand, and what is outstanding stays so; or an offer is made where nothing is.
-use Rattle.std.proofs.Common.{◌≡◌, ◌≤◌, ◌<◌, ◌+◌, ◌-◌, ◌^◌, ◌==◌, cond, ℕ, Bool, true, false, not, ◌&&◌, List, [], ◌∷◌, ◌++◌, map, length, Option, Some, None, refl, sym, ◌∙◌, ap, subst, arith, length-append, append-nil, ◌≢◌}
+use Rattle.std.proofs.Common.{◌≡◌, ◌<◌, ◌+◌, ◌-◌, ◌^◌, ◌==◌, cond, ℕ, Bool, true, false, not, ◌&&◌, List, [], ◌∷◌, ◌++◌, map, length, Option, Some, None, refl, sym, ◌∙◌, ap, subst, arith, length-append, append-nil, ◌≢◌}
 use Rattle.std.proofs.lemmas.Bool.{eq-eqb, or_parts, and_right}
 use Rattle.std.specs.Prelude.{is_some}
 use Rattle.std.proofs.lemmas.List.{length-map}
@@ -18,9 +18,8 @@ use Rattle.rtc_history.specs.declared.outcome.Outcome.TheVariants.{Negotiated, A
 use Rattle.rtc_history.specs.declared.table.Table.{Table}
 use Rattle.rtc_history.specs.Memory.{answers_lack, outcome_lacks, fails}
 use Rattle.rtc_history.specs.Sides.{same_side, other_side}
-use Rattle.rtc_history.specs.Sizes.{steps_size}
 use Rattle.rtc_history.specs.Answers.{has_app_row, do_stage, do_need_offer, added}
-use Rattle.rtc_history.specs.Past.{Entry, MadeSdp, steps_of, before, rows_or, sdps, is_applied, is_offer_numbered, app_line_mid, app_mid_said, new_app, numbers_in, numbers_told}
+use Rattle.rtc_history.specs.Past.{Entry, MadeSdp, before, rows_or, sdps, is_applied, is_offer_numbered, app_line_mid, app_mid_said, new_app, numbers_in, numbers_told}
 use Rattle.rtc_history.specs.Sound.{OpsAnswered, MadeOf, IsSound, at_first}
 use Rattle.rtc_history.specs.SaidRows.{MakesSdp}
 use Rattle.rtc_history.specs.CourseRows.{unnamed, rows_after_ops, must_offer, adding_answer, rows_added, do_add_channel}

@@ -1,5 +1,5 @@
 -- Where a step in order leads, and where no steps do.
-use Rattle.std.proofs.Common.{◌≡◌, ◌<◌, ◌+◌, ◌-◌, ◌^◌, arith, true, List, [], ◌∷◌, ◌++◌, length, Option, Some, None, refl, subst}
+use Rattle.std.proofs.Common.{◌≡◌, ◌<◌, ◌+◌, ◌-◌, ◌^◌, true, List, [], ◌∷◌, ◌++◌, length, Option, Some, None, refl, subst}
 use Rattle.rtc_sdp_values.specs.declared.line_row.LineRow.{LineRow}
 use Rattle.rtc_sdp_values.specs.declared.line_row.LineRow.TheVariants.{Media, App}
 use Rattle.rtc_history.specs.declared.side.Side.{Side}
@@ -9,7 +9,7 @@ use Rattle.rtc_history.specs.declared.step.Step.TheVariants.{Negotiate, AcceptOf
 use Rattle.rtc_history.specs.declared.outcome.Outcome.{Outcome}
 use Rattle.rtc_history.specs.declared.table.Table.{Table}
 use Rattle.rtc_history.specs.Sides.{side_of}
-use Rattle.rtc_history.specs.Past.{Entry, MadeSdp, before, numbers_in, steps_of}
+use Rattle.rtc_history.specs.Past.{Entry, MadeSdp, before, numbers_in}
 use Rattle.rtc_history.specs.Sound.{IsSound}
 use Rattle.rtc_history.specs.Finished.{AreSameLine, Equal}
 use Rattle.rtc_history.specs.SaidRows.{MakesSdp}

@@ -17,7 +17,7 @@ use Rattle.rtc_history.specs.Sides.{side_of, other_side, same_side}
 use Rattle.rtc_history.specs.Past.{Entry, MadeSdp, before, rows_or, channel_rows_or, channels_shown, makes, moves, spends}
 use Rattle.rtc_history.specs.Sound.{IsSound, is_handled, is_heard, is_polled}
 use Rattle.rtc_history.specs.Views.{Stances}
-use Rattle.rtc_history_laws.proofs.StanceSteps.{PairStance, RestTold, StanceRests, StanceShows}
+use Rattle.rtc_history_laws.proofs.StanceSteps.{PairStance, RestTold, StanceRests}
 use Rattle.rtc_history_laws.proofs.Tells.{Tells}
 use Rattle.rtc_history_laws.proofs.Around.{entry, Around, channels_next, quiet_tells}
 

@@ -1,5 +1,5 @@
 -- What the ops of a step stage.
-use Rattle.std.proofs.Common.{◌≡◌, ◌≤◌, ◌+◌, ℕ, List, [], ◌∷◌, ◌++◌, length, Bool, true, false, not, ◌||◌, Option, Some, None, refl, sym, ◌∙◌, ap, subst, arith, append-nil, append_assoc}
+use Rattle.std.proofs.Common.{◌≡◌, ◌≤◌, ◌+◌, ℕ, List, [], ◌∷◌, ◌++◌, length, Bool, false, ◌||◌, Option, Some, None, refl, sym, ◌∙◌, ap, subst, arith, append-nil}
 use Rattle.std.specs.Prelude.{is_some, filter}
 use Rattle.rtc_sdp_values.specs.declared.direction.Direction.{Direction}
 use Rattle.rtc_sdp_values.specs.declared.direction.Direction.TheVariants.{Inactive}
@@ -8,11 +8,10 @@ use Rattle.rtc_sdp_values.specs.declared.ice_creds.IceCreds.{IceCreds}
 use Rattle.rtc_change.specs.declared.add_media.AddMedia.{AddMedia as Media}
 use Rattle.rtc_peer_state.specs.Staging.{is_kept_by_restart, with_restart}
 use Rattle.rtc_sdp_values.specs.declared.line_row.LineRow.{LineRow}
-use Rattle.rtc_sdp_values.specs.declared.line_row.LineRow.TheVariants.{Media as MediaRow, App}
+use Rattle.rtc_sdp_values.specs.declared.line_row.LineRow.TheVariants.{Media as MediaRow}
 use Rattle.rtc_change.specs.declared.change.Change.{Change}
-use Rattle.rtc_change.specs.declared.change.Change.TheVariants.{AddMedia as Adding, AddApp, AddChannel as AddingChannel, IceRestart as Restarting}
+use Rattle.rtc_change.specs.declared.change.Change.TheVariants.{AddMedia as Adding, IceRestart as Restarting}
 use Rattle.rtc_change.specs.PendingOffer.{added_mids, added_rows, do_offer, contains_add_app, staged_restart}
-use Rattle.rtc_wire.specs.declared.channel_config.ChannelConfig.{ChannelConfig}
 use Rattle.rtc_tables.specs.RowChanges.{directed_row, stopped_row}
 use Rattle.rtc_tables.proofs.RowChangeLemmas.{directed_row_keeps, stopped_row_keeps}
 use Rattle.rtc_peer_state.specs.Stance.{Stance}
@@ -24,8 +23,8 @@ use Rattle.rtc_history.specs.Answers.{has_app_row, added, do_stage, do_restart, 
 use Rattle.rtc_history_laws.proofs.RestartChanges.{mids-restart, rows-restart, lined-restart, offers-restart, restart-staged, restart-still}
 use Rattle.rtc_history_laws.proofs.AddedRows.{added_none}
 use Rattle.rtc_history_laws.proofs.NumberedChannels.{same_numbers, numbered_on}
-use Rattle.rtc_history_laws.proofs.StagedApps.{AppTold, contains-append, needs_same, told_same, ChannelStaged, channel_staged, none_there, app_mid_is}
-use Rattle.rtc_history_laws.proofs.StagedChanges.{are_some, some-push, some_two, or_nothing, or_something, or_three, added_rows-append, adds_next, count_next, offer-append, StagesLine, line_staged, or_early, lined_offers}
+use Rattle.rtc_history_laws.proofs.StagedApps.{contains-append, needs_same, told_same, channel_staged}
+use Rattle.rtc_history_laws.proofs.StagedChanges.{are_some, some-push, or_nothing, or_something, or_three, adds_next, count_next, offer-append, StagesLine, line_staged, or_early}
 use Rattle.rtc_history_laws.proofs.StanceSteps.{StancePerformsOps, needs_app}
 use Rattle.rtc_history_laws.proofs.StagedOps.{ChannelsStaged, AddsRows, Stages}
 use Rattle.rtc_history_laws.proofs.StagedChannelOps.{stages_channel}

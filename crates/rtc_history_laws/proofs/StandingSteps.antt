@@ -33,7 +33,7 @@ use Rattle.rtc_history.specs.declared.op_answer.OpAnswer.TheVariants.{BadChannel
 use Rattle.rtc_history.specs.declared.made.Made.{Made}
 use Rattle.rtc_history.specs.declared.made.Made.TheVariants.{NotAsked, Nothing, Offer, Alloc as MadeAlloc}
 use Rattle.rtc_history.specs.declared.outcome.Outcome.{Outcome}
-use Rattle.rtc_history.specs.declared.outcome.Outcome.TheVariants.{Negotiated, Answered, Finished, Done, Polled, Refused, NoSuch, Alloc}
+use Rattle.rtc_history.specs.declared.outcome.Outcome.TheVariants.{Negotiated, Answered, Finished, Refused, NoSuch, Alloc}
 use Rattle.rtc_history.specs.declared.table.Table.{Table}
 use Rattle.rtc_history.specs.declared.kept.Kept.{Kept}
 use Rattle.rtc_history.specs.declared.sent_packet.SentPacket.{SentPacket}
@@ -41,8 +41,8 @@ use Rattle.rtc_history.specs.Memory.{answers_lack}
 use Rattle.rtc_history.specs.Sides.{side_of}
 use Rattle.rtc_history.specs.Past.{Entry}
 use Rattle.rtc_history.specs.PairState.{PairState, rtc_at, kept_remote_sdp, remote_packet, held_token}
-use Rattle.rtc_history.specs.Performs.{Stays, Shows, wanted, PerformsOps, MakesOf, Negotiates, StepAcceptsOffer, StepAcceptsAnswer, PollsOnce, DrainsPeer, Acts, Performs, Enters}
-use Rattle.rtc_history_laws.proofs.StanceSteps.{StanceStays, StanceShows, StancePerformsOps, StanceMakesOf, StanceNegotiates, StanceStepAcceptsOffer, StanceStepAcceptsAnswer, StanceActs, StancePerforms, StanceEnters, pair_stance}
+use Rattle.rtc_history.specs.Performs.{Stays, wanted, PerformsOps, MakesOf, Negotiates, StepAcceptsOffer, StepAcceptsAnswer, PollsOnce, DrainsPeer, Acts, Performs, Enters}
+use Rattle.rtc_history_laws.proofs.StanceSteps.{StanceStays, StancePerformsOps, StanceMakesOf, StanceNegotiates, StanceStepAcceptsOffer, StanceStepAcceptsAnswer, StanceActs, StancePerforms, StanceEnters, pair_stance}
 
 module _ {I D S M E X T W N : Type 0} (m : Meanings I D S M E X T W N) (laws : PartsLaws m) where
   stays_stands : (old new : Peer I D S M N) (sdps sdps' : List Kept) → Stays old sdps new sdps' → StanceStays (stance_of m old) sdps (stance_of m new) sdps'
