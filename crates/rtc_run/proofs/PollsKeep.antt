@@ -8,7 +8,9 @@ use Rattle.rtc_polling.specs.declared.polled_peer.PolledPeer.{PolledPeer}
 use Rattle.rtc_polling.specs.Closing.{ClosesPeer}
 use Rattle.rtc_polling.specs.Inputs.{HandlesInput}
 use Rattle.rtc_polling.specs.Walk.{PollsPeer}
-use Rattle.rtc_polling.proofs.Keeping.{close_keeps, input_keeps, poll_keeps}
+use Rattle.rtc_polling.proofs.Keeping.{poll_keeps}
+use Rattle.rtc_polling.proofs.KeptCalls.{close_keeps}
+use Rattle.rtc_polling.proofs.KeptInputs.{input_keeps}
 use Rattle.rtc_polling.proofs.Numbering.{close_numbers, input_numbers, poll_numbers}
 
 module _ {I D S M E X T W N : Type 0} (m : Meanings I D S M E X T W N) where
