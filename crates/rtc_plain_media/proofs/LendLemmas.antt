@@ -1,6 +1,6 @@
 -- What the part is once a mark that it lent is written.
-use Rattle.std.proofs.Common.{◌≡◌, ℕ, Bool, true, false, cond, Option, Some, None, List, [], ◌∷◌, refl, sym, ap, ◌∙◌}
-use Rattle.std.specs.Option.{OnSome}
+use Rattle.std.proofs.Common.{◌≡◌, ℕ, Bool, true, false, cond, Option, Some, None, List, [], ◌∷◌, refl, sym, ap, subst, ◌∙◌}
+use Rattle.std.specs.Option.{IfSome}
 use Rattle.std.specs.Map.{lookup, set_value}
 use Rattle.rtc_plain_media.specs.declared.plain_mark.PlainMark.{PlainMark}
 use Rattle.rtc_plain_media.specs.declared.held_line.HeldLine.{HeldLine}
@@ -9,14 +9,18 @@ use Rattle.rtc_plain_media.specs.Lines.{Lines, same_key, key_of}
 use Rattle.rtc_plain_media.specs.MediaContents.{MediaContents}
 use Rattle.rtc_plain_media.specs.MediaCalls.{writer_marked}
 
--- a table of the part was lent, and left changed
-pub rx_left : {X : Type 0} (r : Option X) (change : Streams → Streams) (l : Streams) (v p : MediaContents) → v ≡ p → OnSome r (l ≡ change v.rx) → OnSome r (record v { rx = l } ≡ record p { rx = change p.rx })
-rx_left None change l v p e h = tt
-rx_left (Some x) change l v p e h = ap (λ (m : Streams). record v { rx = m }) h ∙ ap (λ (c : MediaContents). record c { rx = change c.rx }) e
+-- a table of the part was lent, and left changed; what stood there as it was lent is read from the table
+pub rx_left : {X : Type 0} (r : Option X) (Shown : X → Streams → Type 0) (change : Streams → Streams) (l : Streams) (v p : MediaContents) → v ≡ p
+    → IfSome r (λ lent. Shown lent v.rx × (l ≡ change v.rx)) → IfSome r (λ lent. Shown lent p.rx × (record v { rx = l } ≡ record p { rx = change p.rx }))
+rx_left None Shown change l v p e h = tt
+rx_left (Some x) Shown change l v p e h =
+    (subst (λ (c : MediaContents). Shown x c.rx) e h.0, ap (λ (m : Streams). record v { rx = m }) h.1 ∙ ap (λ (c : MediaContents). record c { rx = change c.rx }) e)
 
-pub tx_left : {X : Type 0} (r : Option X) (change : Streams → Streams) (l : Streams) (v p : MediaContents) → v ≡ p → OnSome r (l ≡ change v.tx) → OnSome r (record v { tx = l } ≡ record p { tx = change p.tx })
-tx_left None change l v p e h = tt
-tx_left (Some x) change l v p e h = ap (λ (m : Streams). record v { tx = m }) h ∙ ap (λ (c : MediaContents). record c { tx = change c.tx }) e
+pub tx_left : {X : Type 0} (r : Option X) (Shown : X → Streams → Type 0) (change : Streams → Streams) (l : Streams) (v p : MediaContents) → v ≡ p
+    → IfSome r (λ lent. Shown lent v.tx × (l ≡ change v.tx)) → IfSome r (λ lent. Shown lent p.tx × (record v { tx = l } ≡ record p { tx = change p.tx }))
+tx_left None Shown change l v p e h = tt
+tx_left (Some x) Shown change l v p e h =
+    (subst (λ (c : MediaContents). Shown x c.tx) e h.0, ap (λ (m : Streams). record v { tx = m }) h.1 ∙ ap (λ (c : MediaContents). record c { tx = change c.tx }) e)
 
 -- or nothing was lent
 pub rx_stayed : (l : Streams) (v p : MediaContents) → l ≡ v.rx → v ≡ p → record v { rx = l } ≡ p
