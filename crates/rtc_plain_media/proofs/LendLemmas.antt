@@ -1,10 +1,12 @@
 -- What the part is once a mark that it lent is written.
-use Rattle.std.proofs.Common.{◌≡◌, ℕ, Bool, true, false, cond, Option, Some, None, List, [], ◌∷◌, refl, sym, ap, subst, ◌∙◌}
+use Rattle.std.proofs.Common.{◌≡◌, ℕ, Bool, true, false, cond, Option, Some, None, Result, Ok, Err, List, [], ◌∷◌, refl, sym, ap, subst, ◌∙◌}
+use Rattle.std.specs.Borrow.{MutBor}
 use Rattle.std.specs.Option.{IfSome}
+use Rattle.std.specs.Result.{IsOk, IfOk, OnErr}
 use Rattle.std.specs.Map.{lookup, set_value}
 use Rattle.rtc_plain_media.specs.declared.plain_mark.PlainMark.{PlainMark}
 use Rattle.rtc_plain_media.specs.declared.held_line.HeldLine.{HeldLine}
-use Rattle.rtc_plain_media.specs.Streams.{Streams}
+use Rattle.rtc_plain_media.specs.Streams.{Streams, new_mark}
 use Rattle.rtc_plain_media.specs.Lines.{Lines, same_key, key_of}
 use Rattle.rtc_plain_media.specs.MediaContents.{MediaContents}
 use Rattle.rtc_plain_media.specs.MediaCalls.{writer_marked}
@@ -28,6 +30,25 @@ rx_stayed l v p h e = ap (λ (m : Streams). record v { rx = m }) h ∙ e
 
 pub tx_stayed : (l : Streams) (v p : MediaContents) → l ≡ v.tx → v ≡ p → record v { tx = l } ≡ p
 tx_stayed l v p h e = ap (λ (m : Streams). record v { tx = m }) h ∙ e
+
+-- a new stream was lent, or none was made
+pub rx_made_left : {E : Type 0} (r : Result (MutBor PlainMark) E) (change : Streams → Streams) (l : Streams) (v p : MediaContents) → v ≡ p
+    → (IsOk r → IfOk r (λ lent. (lent.now ≡ new_mark) × (l ≡ change v.rx))) → IsOk r → IfOk r (λ lent. (lent.now ≡ new_mark) × (record v { rx = l } ≡ record p { rx = change p.rx }))
+rx_made_left (Ok x) change l v p e h ok = ((h ok).0, ap (λ (m : Streams). record v { rx = m }) (h ok).1 ∙ ap (λ (c : MediaContents). record c { rx = change c.rx }) e)
+rx_made_left (Err x) change l v p e h ok = tt
+
+pub tx_made_left : {E : Type 0} (r : Result (MutBor PlainMark) E) (change : Streams → Streams) (l : Streams) (v p : MediaContents) → v ≡ p
+    → (IsOk r → IfOk r (λ lent. (lent.now ≡ new_mark) × (l ≡ change v.tx))) → IsOk r → IfOk r (λ lent. (lent.now ≡ new_mark) × (record v { tx = l } ≡ record p { tx = change p.tx }))
+tx_made_left (Ok x) change l v p e h ok = ((h ok).0, ap (λ (m : Streams). record v { tx = m }) (h ok).1 ∙ ap (λ (c : MediaContents). record c { tx = change c.tx }) e)
+tx_made_left (Err x) change l v p e h ok = tt
+
+pub rx_made_none : {E : Type 0} (r : Result (MutBor PlainMark) E) (l : Streams) (v p : MediaContents) → v ≡ p → OnErr r (l ≡ v.rx) → OnErr r (record v { rx = l } ≡ p)
+rx_made_none (Ok x) l v p e h = tt
+rx_made_none (Err x) l v p e h = rx_stayed l v p h e
+
+pub tx_made_none : {E : Type 0} (r : Result (MutBor PlainMark) E) (l : Streams) (v p : MediaContents) → v ≡ p → OnErr r (l ≡ v.tx) → OnErr r (record v { tx = l } ≡ p)
+tx_made_none (Ok x) l v p e h = tt
+tx_made_none (Err x) l v p e h = tx_stayed l v p h e
 
 abbrev value_of : HeldLine → Option HeldLine → HeldLine
 value_of d None = d

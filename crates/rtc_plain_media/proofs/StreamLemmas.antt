@@ -86,7 +86,9 @@ put_row-marked r e w rows made i is_i is_made is_e =
 -- the mark of the row that was put
 pub put_row-mark : (r e : StreamRow) (rows made : Streams) (i : ℕ) → i ≡ position_or_len (has_ssrc r.ssrc) rows → made ≡ put_row r rows → e ≡ slice_index_or made i e
     → e.mark ≡ r.mark
-put_row-mark r e rows made i is_i is_made is_e = ap (λ (x : StreamRow). x.mark) (is_e ∙ rw (is_made, is_i) (put_there r e rows))
+put_row-mark r e rows made i is_i is_made is_e =
+    let is_row : e ≡ r = is_e ∙ rw (is_made, is_i) (put_there r e rows) in
+    ap (λ (x : StreamRow). x.mark) is_row
 
 set_twice : (rows : Streams) (i : ℕ) (a b : StreamRow) → slice_set (slice_set rows i a) i b ≡ slice_set rows i b
 set_twice [] i a b = refl
@@ -107,6 +109,8 @@ renumbered-at mid rid ssrc rtx w rows i row made e h is_row is_made is_e =
     set_twice rows i made (record e { mark = w }) ∙ rw (same, is_made) (change_first-at (has_name mid rid) (numbered ssrc rtx w) rows i row h is_row)
 
 -- its mark is that of a new one
-pub renumbered-mark : (fits : StreamRow → Bool) (ssrc : Ssrc) (rtx : Option Ssrc) (rows : Streams) (i : ℕ) (row made e : StreamRow) → Some i ≡ position fits rows
+pub renumbered-mark : (fits : StreamRow → Bool) (ssrc : Ssrc) (rtx : Option Ssrc) (rows : Streams) (i : ℕ) (row made e : StreamRow) → Some i ≡ position fits rows → row ≡ slice_index_or rows i row
     → made ≡ numbered ssrc rtx (record { count = 0 }) row → e ≡ slice_index_or (slice_set rows i made) i e → e.mark ≡ new_mark
-renumbered-mark fits ssrc rtx rows i row made e h is_made is_e = ap (λ (x : StreamRow). x.mark) (is_e ∙ set_there rows i made e (place_within fits rows i h) ∙ is_made)
+renumbered-mark fits ssrc rtx rows i row made e h is_row is_made is_e =
+    let same : e ≡ numbered ssrc rtx (record { count = 0 }) row = is_e ∙ set_there rows i made e (place_within fits rows i h) ∙ is_made in
+    ap (λ (x : StreamRow). x.mark) same

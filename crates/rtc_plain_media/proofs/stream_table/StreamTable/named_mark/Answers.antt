@@ -1,7 +1,7 @@
 use Rattle.std.proofs.Common.{◌≡◌, true, false, refl, ap, ◌∙◌, is_some, rules}
 use Rattle.std.specs.List.{list_any}
 use Rattle.rtc_plain_media.specs.Streams.{has_name, marked, held_mark}
-use Rattle.rtc_plain_media.proofs.PlaceLemmas.{indexes_marked, held_mark}
+use Rattle.rtc_plain_media.proofs.PlaceLemmas.{indexes_marked}
 use Rattle.rtc_plain_media.proofs.StreamLemmas.{change_first-at, held_mark-at, any-position}
 use Rattle.rtc_plain_media.proofs.stream_table.StreamTable.named_mark.Goals as goal
 

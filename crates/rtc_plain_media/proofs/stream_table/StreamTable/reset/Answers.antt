@@ -12,7 +12,7 @@ returns-then-can_renumber c =
     let fits = has_name a.mid a.rid in
     let found : true ≡ can_renumber a.mid a.rid a.ssrc a.rtx a.self.now =
     c.if-can_renumber.ensures ∙ first_passes-at fits (row_can_renumber a.ssrc a.rtx) _ _ _ c.in-Some.ensures c.index-row.ensures ∙ ap (can_renumber a.mid a.rid a.ssrc a.rtx) c.self.view_is in
-    let new = renumbered-mark fits a.ssrc a.rtx _ _ _ _ _ c.in-Some.ensures c.numbered-row.ensures c.index_mut-then-can_renumber.ensures.value in
+    let new = renumbered-mark fits a.ssrc a.rtx _ _ _ _ _ c.in-Some.ensures c.index-row.ensures c.numbered-row.ensures c.index_mut-then-can_renumber.ensures.value in
     ((refl, (λ w. (new, renumbered-at a.mid a.rid a.ssrc a.rtx w _ _ _ _ _ c.in-Some.ensures c.index-row.ensures c.numbered-row.ensures c.index_mut-then-can_renumber.ensures.value ∙ ap (renumbered a.mid a.rid a.ssrc a.rtx w) c.self.view_is)), refl), search (rules, found))
 
 pub returns-else-can_renumber : goal.returns-else-can_renumber
