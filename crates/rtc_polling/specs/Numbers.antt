@@ -13,12 +13,13 @@ number_told (Ok (outputs.Event (ChannelOpen id label))) = Some id
 number_told (Ok output) = None
 number_told (Err error) = None
 
--- The numbers of channels before and after a call that told this one. A number is given where it is told, if at all, and each number
--- that is told was given.
+-- The numbers of channels before and after a call that told this one. A number is given, and a row is new, where it is told, if at
+-- all, and each number that is told was given.
 pub record Numbers (told : Option ℕ) (held held' : Channels) : Type 0 where
   pub rises : held.given ≤ held'.given
   pub unless_told : told ≡ None → held'.given ≡ held.given
   pub one_more : held'.given ≤ held.given + 1
   pub few_rows : length held'.rows ≤ length held.rows + 1
+  pub no_new_row : told ≡ None → length held'.rows ≤ length held.rows
   pub below : AreBelow held.given held.rows → AreBelow held'.given held'.rows
   pub told_below : AreBelow held.given held.rows → (id : ℕ) → told ≡ Some id → id < held'.given

@@ -1,4 +1,4 @@
--- Polls, inputs and closes leave the lines of a peer, and add one channel at most.
+-- Polls, inputs and closes leave the lines of a peer. A poll adds one channel at most, the others none.
 use Rattle.std.proofs.Common.{◌≡◌, ◌≤◌, ◌+◌, length, Result, ap}
 use Rattle.rtc_peer_state.specs.declared.rtc_error.RtcError.{RtcError}
 use Rattle.rtc_peer_state.specs.Meanings.{Meanings}
@@ -27,13 +27,13 @@ module _ {I D S M E X T W N : Type 0} (m : Meanings I D S M E X T W N) where
   lines_after_input input p r q h = ap (λ core. core.lines) (input_keeps m input p r q h)
 
   pub channels_after_input : (input : Input) (p : PolledPeer I D S M N) (r : Result (Unit {0}) RtcError) (q : PolledPeer I D S M N)
-      → HandlesInput m input p r q → length q.core.channels.rows ≤ length p.core.channels.rows + 1
-  channels_after_input input p r q h = (input_numbers m input p r q h).few_rows
+      → HandlesInput m input p r q → length q.core.channels.rows ≤ length p.core.channels.rows
+  channels_after_input input p r q h = (input_numbers m input p r q h).no_new_row refl
 
   pub lines_after_close : (p : PolledPeer I D S M N) (r : Result (Unit {0}) RtcError) (q : PolledPeer I D S M N) → ClosesPeer m p r q
       → q.core.lines ≡ p.core.lines
   lines_after_close p r q h = ap (λ core. core.lines) (close_keeps m p r q h)
 
   pub channels_after_close : (p : PolledPeer I D S M N) (r : Result (Unit {0}) RtcError) (q : PolledPeer I D S M N) → ClosesPeer m p r q
-      → length q.core.channels.rows ≤ length p.core.channels.rows + 1
-  channels_after_close p r q h = (close_numbers m p r q h).few_rows
+      → length q.core.channels.rows ≤ length p.core.channels.rows
+  channels_after_close p r q h = (close_numbers m p r q h).no_new_row refl

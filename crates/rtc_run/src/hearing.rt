@@ -1,5 +1,5 @@
 //! Inputs and closes of a step.
-ghost use Rattle.std.specs.Prelude.{◌≡◌, ◌+◌, ◌<◌, ◌^◌, ◌≤◌, length};
+ghost use Rattle.std.specs.Prelude.{◌≡◌, ◌<◌, ◌^◌, ◌≤◌, length};
 ghost use Rattle.std.specs.Option.{option_copied};
 ghost use Rattle.rtc_wire.specs.DatagramRecv.{kind_by};
 ghost use Rattle.rtc_history.specs.PairState.{remote_packet};
@@ -35,7 +35,7 @@ fn give_moment<I: IceAgent, D: DtlsInstance, S: Association, M: MediaSession, N:
 ) -> Result<(), RtcError>
     ensures handles { HandlesInput (meanings I.ice D.dtls S.association M.media N.ids) (given.Timeout now) rtc.old result rtc.new }
     ensures lines { rtc.new.core.lines ≡ rtc.old.core.lines }
-    ensures channels { length rtc.new.core.channels.rows ≤ length rtc.old.core.channels.rows + 1 }
+    ensures channels { length rtc.new.core.channels.rows ≤ length rtc.old.core.channels.rows }
 {
     rtc.handle_input(&Input::Timeout(now))
 }
@@ -50,7 +50,7 @@ pub fn take_moment<I: IceAgent, D: DtlsInstance, S: Association, M: MediaSession
         (HandlesInput (meanings I.ice D.dtls S.association M.media N.ids) (given.Timeout now))
         rtc.old result.outcome result.table rtc.new }
 {
-    let Ok(room) = room_for(alloc, rtc, 0, 1) else {
+    let Ok(room) = room_for(alloc, rtc, 0, 0) else {
         return reply_no_memory();
     };
     let answer = give_moment(rtc, now);
@@ -83,7 +83,7 @@ fn give_datagram<I: IceAgent, D: DtlsInstance, S: Association, M: MediaSession, 
     ensures handles { HandlesRead (meanings I.ice D.dtls S.association M.media N.ids)
         (kind_by I.stun transmit.now.contents) transmit.now now rtc.old result rtc.new }
     ensures lines { rtc.new.core.lines ≡ rtc.old.core.lines }
-    ensures channels { length rtc.new.core.channels.rows ≤ length rtc.old.core.channels.rows + 1 }
+    ensures channels { length rtc.new.core.channels.rows ≤ length rtc.old.core.channels.rows }
 {
     match Receive::from_transmit::<I>(transmit) {
         Ok(datagram) => rtc.handle_input(&Input::Receive(now, datagram)),
@@ -103,7 +103,7 @@ fn hear<I: IceAgent, D: DtlsInstance, S: Association, M: MediaSession, N: Ids>(
         (kind_by I.stun transmit.now.contents) transmit.now now)
         rtc.old result.outcome result.table rtc.new }
 {
-    let Ok(room) = room_for(alloc, rtc, 0, 1) else {
+    let Ok(room) = room_for(alloc, rtc, 0, 0) else {
         return reply_no_memory();
     };
     let answer = give_datagram(rtc, transmit, now);
@@ -135,7 +135,7 @@ fn shut<I: IceAgent, D: DtlsInstance, S: Association, M: MediaSession, N: Ids>(
 ) -> Result<(), RtcError>
     ensures closes { ClosesPeer (meanings I.ice D.dtls S.association M.media N.ids) rtc.old result rtc.new }
     ensures lines { rtc.new.core.lines ≡ rtc.old.core.lines }
-    ensures channels { length rtc.new.core.channels.rows ≤ length rtc.old.core.channels.rows + 1 }
+    ensures channels { length rtc.new.core.channels.rows ≤ length rtc.old.core.channels.rows }
 {
     rtc.close()
 }
@@ -149,7 +149,7 @@ pub fn close<I: IceAgent, D: DtlsInstance, S: Association, M: MediaSession, N: I
         (ClosesPeer (meanings I.ice D.dtls S.association M.media N.ids))
         rtc.old result.outcome result.table rtc.new }
 {
-    let Ok(room) = room_for(alloc, rtc, 0, 1) else {
+    let Ok(room) = room_for(alloc, rtc, 0, 0) else {
         return reply_no_memory();
     };
     let answer = shut(rtc);
