@@ -5,6 +5,7 @@
 
 mod exchanges;
 mod lookups;
+mod marks;
 mod media;
 mod reports;
 mod sessions;

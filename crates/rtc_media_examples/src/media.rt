@@ -3,7 +3,7 @@ use crate::sessions::{
     commit, counts, is_silent, sends, settings, shows, tells_added, tells_changed, tells_rtcp,
     tells_rtp, update,
 };
-use crate::{exchanges, lookups, reports};
+use crate::{exchanges, lookups, marks, reports};
 use rtc_media::{MediaError, MediaSession, RawPacket, SrtpProfile, StatsSnapshot};
 use rtc_plain_media::{PlainMark, PlainMedia, PlainMediaEvent};
 use rtc_sdp_values::{Direction, Mid, Ssrc};
@@ -228,7 +228,9 @@ pub fn does_agree(alloc: Global, example: &str) -> Result<bool, AllocError> {
         "raw packets are told before their lengths" => raw(alloc),
         "reports are put together" => Ok(reports::merged()),
         "ssrcs in use are found" => lookups::sources(alloc),
+        "streams are made anew" => marks::renewed(alloc),
         "streams go with their line" => streams(alloc),
+        "writers keep their marks" => marks::written(alloc),
         _ => Ok(false),
     }
 }

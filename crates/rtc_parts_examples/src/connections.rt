@@ -1,5 +1,5 @@
 //! What examples ask of a DTLS connection.
-use rtc_dtls::{Dtls, DtlsInstance, DtlsOutput, SrtpProfile};
+use rtc_dtls::{Dtls, DtlsError, DtlsInstance, DtlsOutput, SrtpProfile};
 use rtc_plain_dtls::PlainDtls;
 use std::alloc::{AllocError, Global};
 
@@ -92,4 +92,12 @@ pub fn sends<D: DtlsInstance>(end: &mut Dtls<D>, packet: &[u8]) -> bool {
 /// Whether no packet is queued.
 pub fn is_empty<D: DtlsInstance>(end: &mut Dtls<D>) -> bool {
     end.poll_packet().is_none()
+}
+
+/// Whether calls of a connection were not refused, and what they gave is expected.
+pub fn succeeds(answer: Result<bool, DtlsError>) -> bool {
+    match answer {
+        Ok(holds) => holds,
+        Err(_) => false,
+    }
 }

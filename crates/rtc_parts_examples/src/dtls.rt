@@ -1,7 +1,9 @@
 //! Two DTLS connections over plain parts, with packets that are lost, repeated and forged.
 use crate::connections::{
-    SECOND, Seen, buffer, connect, is_empty, sends, shown, shows_cert, shows_finished, waits,
+    SECOND, Seen, buffer, connect, is_empty, sends, shown, shows_cert, shows_finished, succeeds,
+    waits,
 };
+use crate::limits;
 use rtc_dtls::{Dtls, DtlsError, DtlsInstance};
 use rtc_wire::Moment;
 use std::alloc::{AllocError, Global};
@@ -71,13 +73,6 @@ fn shake_hands<D: DtlsInstance>(
     let ended_too = is_finished(right, buf)?;
     let begun = greeted && answered;
     Ok(begun && ended && ended_too)
-}
-
-fn succeeds(answer: Result<bool, DtlsError>) -> bool {
-    match answer {
-        Ok(holds) => holds,
-        Err(_) => false,
-    }
 }
 
 // Whether a handshake ends on both sides.
@@ -257,7 +252,10 @@ pub fn does_agree(alloc: Global, example: &str) -> Result<bool, AllocError> {
         "data waits for the handshake" => blocked(alloc),
         "handshake ends on both sides" => handshakes(alloc),
         "hello is sent again" => repeated(alloc),
+        "longest packets are taken" => limits::longest(alloc),
         "lost packets are made good" => losses(alloc),
+        "other packets are ignored" => limits::ignored(alloc),
+        "timers end with moments" => limits::ended(alloc),
         _ => Ok(false),
     }
 }

@@ -2,20 +2,21 @@
 use crate::agents::{
     LEFT, RIGHT, creds, discovers, give, is_quiet, makes_check, nominates, prepare, sends, wakes_at,
 };
-use crate::candidates;
 use crate::releasing::{keep, release};
+use crate::{candidates, repeats};
 use rtc_ice::{IceAgent, IceEvent};
 use rtc_plain_ice::PlainIce;
 use rtc_sdp_values::IceCreds;
 use rtc_wire::Moment;
 use std::alloc::{AllocError, Global};
 
-// The first check of the left agent, and the right one's response to it.
-fn left_check() -> &'static [u8] {
+/// The first check of the left agent.
+pub fn left_check() -> &'static [u8] {
     b"\x00\x01\x00\x06\x21\x12\xa4\x42\0\0\0\0\0\0\0\0\0\0\0\x01\x02rr\x02ll"
 }
 
-fn right_response() -> &'static [u8] {
+/// The right agent's response to it.
+pub fn right_response() -> &'static [u8] {
     b"\x01\x01\x00\x06\x21\x12\xa4\x42\0\0\0\0\0\0\0\0\0\0\0\x01\x02ll\x02rr"
 }
 
@@ -28,8 +29,8 @@ fn left_response() -> &'static [u8] {
     b"\x01\x01\x00\x06\x21\x12\xa4\x42\0\0\0\0\0\0\0\0\0\0\0\x01\x02rr\x02ll"
 }
 
-// A response with another number.
-fn other_response() -> &'static [u8] {
+/// A response with the number of the second check.
+pub fn other_response() -> &'static [u8] {
     b"\x01\x01\x00\x06\x21\x12\xa4\x42\0\0\0\0\0\0\0\0\0\0\0\x02\x02ll\x02rr"
 }
 
@@ -50,7 +51,8 @@ fn length() -> &'static [u8] {
     b"\x00\x01\x00\x07\x21\x12\xa4\x42\0\0\0\0\0\0\0\0\0\0\0\x01\x02rr\x02ll"
 }
 
-fn left_agent(alloc: Global) -> Result<PlainIce, AllocError> {
+/// The left agent, with its credentials and candidate and those of the right one.
+pub fn left_agent(alloc: Global) -> Result<PlainIce, AllocError> {
     let mut agent = PlainIce::new(alloc);
     let prepared = prepare(&mut agent, alloc, "ll", "rr", LEFT, RIGHT);
     keep(agent, prepared)
@@ -259,6 +261,7 @@ fn restarts(alloc: Global) -> Result<bool, AllocError> {
 pub fn does_agree(alloc: Global, example: &str) -> Result<bool, AllocError> {
     match example {
         "candidates are found by address and protocol" => candidates::found(alloc),
+        "checks are repeated until one is answered" => repeats::repeated(alloc),
         "checks nominate a pair at both agents" => nomination(alloc),
         "lite agent takes the pair of a check" => lite(alloc),
         "other messages are ignored" => other_messages(alloc),

@@ -8,7 +8,9 @@ mod candidates;
 mod connections;
 mod dtls;
 mod ice;
+mod limits;
 mod releasing;
+mod repeats;
 
 use std::alloc::{AllocError, Global};
 use std::io;

@@ -57,6 +57,14 @@ impl Log {
         Ok(Some(sdp))
     }
 
+    /// The session description of a number, to be changed on its way.
+    pub fn described(&mut self, number: usize) -> Option<&mut Sdp> {
+        if number >= self.descriptions.len() {
+            return None;
+        }
+        Some(&mut self.descriptions[number].sdp)
+    }
+
     /// The token of a number, if this side holds it. It is spent then.
     pub fn take_token(&mut self, at: Side, number: usize) -> Option<SdpPendingOffer> {
         if number >= self.descriptions.len() {

@@ -3,9 +3,13 @@ use crate::descriptions::Side;
 use crate::log::Log;
 use crate::peers::Peer;
 use rtc_assoc_end::PlainAssociation;
-use rtc_peer::{Direction, Ids, LineRow, MediaKind, Mid, RtcError, SdpAnswer, SdpApi, SdpOffer};
+use rtc_peer::{
+    Direction, Fingerprint, Ids, LineRow, MediaKind, Mid, RtcError, Sdp, SdpAnswer, SdpApi,
+    SdpOffer,
+};
 use rtc_plain::{PlainDtls, PlainIce, PlainMedia};
-use std::alloc::Global;
+use rtc_wire::Text;
+use std::alloc::{AllocError, Global};
 
 type Api<'a, N> = SdpApi<'a, PlainIce, PlainDtls, PlainAssociation, PlainMedia, N>;
 
@@ -127,4 +131,38 @@ pub fn answer<N: Ids + Drop>(
     };
     let _accepted = peer.sdp_api().accept_answer(token, SdpAnswer(answer));
     Ok(())
+}
+
+// The session description with the fingerprint of a certificate, or with its own one by a function of another name where that is none
+// that peers know.
+fn replace_fingerprint(
+    alloc: Global,
+    sdp: &mut Sdp,
+    function: &str,
+    certificate: &str,
+) -> Result<(), AllocError> {
+    let made = Fingerprint::of_certificate(alloc, certificate.as_bytes(), function)?;
+    if made.is_some() {
+        sdp.fingerprint = made;
+        return Ok(());
+    }
+    if let Some(fingerprint) = &mut sdp.fingerprint {
+        fingerprint.hash_func = Text::from_str(alloc, function)?;
+    }
+    Ok(())
+}
+
+/// Changes the fingerprint that the session description of a number announces, as signalling that is not to be trusted could
+/// (RFC 8122, section 6.2).
+pub fn announce(
+    alloc: Global,
+    log: &mut Log,
+    number: usize,
+    function: &str,
+    certificate: &str,
+) -> Result<(), AllocError> {
+    match log.described(number) {
+        Some(sdp) => replace_fingerprint(alloc, sdp, function, certificate),
+        None => Ok(()),
+    }
 }

@@ -1,7 +1,7 @@
 //! Performs scripts.
 use crate::descriptions::Side;
 use crate::log::Log;
-use crate::negotiating::{accept, answer, offer};
+use crate::negotiating::{accept, announce, answer, offer};
 use crate::peers::{Peer, address, build};
 use crate::polling::{accepts_from, close, datagram, drain, poll, time};
 use rtc_peer::{Ids, RtcError};
@@ -20,6 +20,20 @@ fn numbers(words: &str) -> (u64, u64) {
     }
 }
 
+fn cut(line: &str) -> (&str, &str) {
+    match line.split_once(' ') {
+        Some((word, rest)) => (word, rest),
+        None => (line, ""),
+    }
+}
+
+// The number of a session description, and the hash function and the certificate whose fingerprint it is to announce.
+fn forge(alloc: Global, log: &mut Log, words: &str) -> Result<(), AllocError> {
+    let (kept, rest) = cut(words);
+    let (function, certificate) = cut(rest);
+    announce(alloc, log, number(kept) as usize, function, certificate)
+}
+
 // Performs what a peer does without a word in the report.
 fn negotiate<N: Ids + Drop>(
     alloc: Global,
@@ -33,6 +47,10 @@ fn negotiate<N: Ids + Drop>(
         "offer" => offer(alloc, peer, at, log, words, true),
         "stage" => offer(alloc, peer, at, log, words, false),
         "accept" => accept(peer, at, log, number(words) as usize),
+        "announce" => {
+            forge(alloc, log, words)?;
+            Ok(())
+        }
         "answer" => {
             let (token, kept) = numbers(words);
             answer(peer, at, log, token as usize, kept as usize)
@@ -70,13 +88,6 @@ fn act<N: Ids + Drop>(
             Ok(()) => Ok(()),
             Err(_) => Err(AllocError),
         },
-    }
-}
-
-fn cut(line: &str) -> (&str, &str) {
-    match line.split_once(' ') {
-        Some((word, rest)) => (word, rest),
-        None => (line, ""),
     }
 }
 
