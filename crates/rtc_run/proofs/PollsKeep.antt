@@ -1,5 +1,5 @@
 -- Polls, inputs and closes leave the lines of a peer. A poll adds one channel at most, the others none.
-use Rattle.std.proofs.Common.{◌≡◌, ◌≤◌, ◌+◌, length, Result, ap}
+use Rattle.std.proofs.Common.{◌≡◌, ◌≤◌, ◌+◌, length, Result, refl, ap}
 use Rattle.rtc_peer_state.specs.declared.rtc_error.RtcError.{RtcError}
 use Rattle.rtc_peer_state.specs.Meanings.{Meanings}
 use Rattle.rtc_polling.specs.declared.input.Input.{Input}
