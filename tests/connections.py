@@ -1,10 +1,12 @@
 """A model of how two peers connect over the parts in memory, for tests/random_scripts.py.
 
 It is written from the rules of docs/FORMATS.md and of the READMEs of rtc_plain_ice, rtc_plain_dtls, rtc_plain_media and rtc_polling, and
-not from the program. A side has one candidate, is not lite, restarts no ICE and knows the right fingerprint.
+not from the program. A side has one candidate, is not lite, restarts no ICE and knows the right fingerprint. tests/associations.py has
+what data channels do.
 """
-FAR_FUTURE = 2**64 - 1
-SECOND = 1_000_000_000
+from associations import FAR_FUTURE, SECOND, Channels, Packet, Streams
+
+AGAIN = "again"
 
 
 # What one side sends the other: the part that reads it, what it says, and how many bytes it has.
@@ -59,6 +61,13 @@ class Dtls:
     def send(self, said):
         self.packets.append(Datagram("dtls", said, 5 if said in ("hello", "certificate") else 2))
 
+    # Application data goes once this side has finished the handshake.
+    def can_send(self):
+        return self.active is not None and self.phase == "finished"
+
+    def send_data(self, packet):
+        self.packets.append(Datagram("dtls", packet, 1 + packet.length))
+
     # An active side begins at once.
     def begin(self, active, now):
         if self.active is None:
@@ -96,6 +105,10 @@ class Dtls:
         elif said == "close" and not self.notified:
             self.notified = True
             self.outputs.append("close")
+        elif isinstance(said, Packet) and self.phase in ("certificate sent", "finished"):
+            if self.phase != "finished":
+                self.finish()
+            self.outputs.append(said)
 
     def close(self):
         self.closed = True
@@ -131,17 +144,23 @@ class Media:
 class Connection:
     def __init__(self, ufrag):
         self.ice, self.dtls, self.media = Ice(ufrag), Dtls(), Media()
+        self.streams, self.channels = Streams(), Channels()
         self.phase, self.handshake, self.greatest, self.dtls_wake, self.paired = "alive", "pending", 0, FAR_FUTURE, False
 
-    # Follows a description that is accepted: the fragment of its side, and whether this side begins the handshake.
-    def follow(self, ufrag, active):
+    # Follows a description that is accepted: the fragment of its side, whether this side begins the handshake, and whether there is a line
+    # of data channels, with which the association starts.
+    def follow(self, ufrag, active, has_channels):
         self.ice.remote = ufrag
         self.dtls.begin(active, self.greatest)
+        if has_channels:
+            self.streams.start(self.dtls.active, self.greatest)
 
     def take_moment(self, now):
         if self.phase != "closed" and now >= self.greatest:
             self.greatest = now
             self.ice.take_moment(now)
+            self.streams.take_moment(now)
+            self.channels.take_moment(self.streams)
 
     def take(self, datagram, now):
         if self.phase == "closed":
@@ -156,6 +175,7 @@ class Connection:
         if self.phase == "alive":
             self.phase = "closing"
             self.media.close()
+            self.streams.close()
             self.dtls.close()
 
     def is_dtls_due(self):
@@ -167,11 +187,50 @@ class Connection:
             output = self.dtls.outputs.pop(0)
             if output == "connected" and self.handshake == "pending":
                 self.handshake = "finished"
+            if isinstance(output, Packet):
+                self.streams.take(output, self.greatest)
             if output == "close":
                 self.close()
                 self.handshake = "told" if self.handshake == "finished" else self.handshake
                 return True
         return False
+
+    # The first event of the streams that is told, or else one of their packets goes over DTLS, and the walk starts over.
+    def tell_streams(self):
+        event = self.streams.poll()
+        while event and event[0] != "packets":
+            told = self.take_stream_event(*event)
+            if told:
+                return told
+            event = self.streams.poll()
+        if not event:
+            return None
+        first, *rest = event[1]
+        if not self.dtls.can_send():
+            self.streams.returned = event[1]
+            return None
+        self.dtls.send_data(first)
+        self.streams.returned = rest
+        return AGAIN
+
+    def take_stream_event(self, event, about):
+        if event == "lost":
+            self.channels.holds = []
+            self.close()
+            return "closed"
+        if event == "completed":
+            self.channels.complete(about)
+            return None
+        if event == "opened":
+            stream, label = about
+            channel = self.channels.of_stream(stream)
+            number = channel.number if channel else self.channels.add(stream)
+            return f"open {number} {label.hex() or '-'}"
+        stream, pending = about
+        channel = self.channels.of_stream(stream)
+        if channel:
+            self.channels.remove(channel, pending)
+        return f"close {channel.number}" if channel else None
 
     # One walk over the parts: what it met, if anything.
     def walk(self):
@@ -188,6 +247,9 @@ class Connection:
         if self.handshake == "finished":
             self.handshake = "told"
             return "connected"
+        told = self.tell_streams()
+        if told:
+            return told
         if self.media.events:
             return self.media.events.pop(0)
         if self.ice.queue:
@@ -206,7 +268,7 @@ class Connection:
     def poll(self):
         if self.phase != "closed":
             met = self.walk()
-            while met is None and self.is_dtls_due():
+            while met == AGAIN or (met is None and self.is_dtls_due()):
                 met = self.walk()
             if met is not None:
                 return met, None, None
@@ -214,7 +276,9 @@ class Connection:
                 self.phase = "closed"
         if self.phase == "closed":
             return None, FAR_FUTURE, "NotHappening"
-        wake = self.ice.wake()
-        if wake is not None and wake < self.dtls_wake:
-            return None, max(self.greatest, wake), "Ice"
-        return None, max(self.greatest, self.dtls_wake), "DTLS"
+        moment, reason = self.dtls_wake, "DTLS"
+        channels_wake = 0 if self.channels.is_due(self.streams) else None
+        for wake, other in [(self.ice.wake(), "Ice"), (self.streams.wake(), "Sctp"), (channels_wake, "Channel")]:
+            if wake is not None and wake < moment:
+                moment, reason = wake, other
+        return None, max(self.greatest, moment), reason

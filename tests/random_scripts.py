@@ -4,8 +4,8 @@
 usage: tests/random_scripts.py crates/rtc_pair/out/rtc_pair [SEED [COUNT]]
 
 It is no part of the gate. The model below is written from the rules of docs/FORMATS.md and not from the program: lists of
-rows, what an offer and an answer say, by which cause a text is refused, which numbers are drawn, and which channels wait;
-tests/connections.py has what moments, datagrams and polls do. A random script goes round by round for the most part, with steps in
+rows, what an offer and an answer say, by which cause a text is refused, and which numbers are drawn; tests/connections.py has what
+moments, datagrams and polls do. A random script goes round by round for the most part, with steps in
 between that cross, repeat or lose texts and datagrams.
 """
 import random
@@ -40,7 +40,6 @@ class Row:
 class Peer:
     def __init__(self, first):
         self.next, self.rows, self.staged, self.counter, self.sources = first, [], [], 0, {}
-        self.channels = 0
         self.draw()  # the number of the session
         self.ufrag = f"u{self.draw():016x}"
         self.connection = Connection(self.ufrag)
@@ -65,10 +64,13 @@ class Peer:
 
     def draw_mid(self):
         number = self.draw() % 2**32
-        held = {row.mid for row in self.rows} | {row.mid for _, row, _ in self.staged if row}
+        held = {row.mid for row in self.rows} | {row.mid for row in self.staged_rows()}
         while f"m{number}" in held:
             number = (number + 1) % 2**32
         return f"m{number}"
+
+    def staged_rows(self):
+        return [row for what, row, _ in self.staged if what == "line"]
 
     def add(self, kind, direction):
         mid = self.draw_mid()
@@ -79,10 +81,10 @@ class Peer:
     def add_channel(self, label):
         if len(label) > 65535:
             return "bad"
-        number, self.channels = self.channels, self.channels + 1
-        if not any(row.kind == "app" for row in self.rows + [row for _, row, _ in self.staged if row]):
+        number = self.connection.channels.add()
+        if not any(row.kind == "app" for row in self.rows + self.staged_rows()):
             self.staged.append(("line", Row(self.draw_mid(), "app", None), []))
-        self.staged.append(("channel", None, None))
+        self.staged.append(("channel", number, label))
         return f"c{number}"
 
     def change(self, place, direction, stop):
@@ -101,11 +103,20 @@ class Peer:
             return None
         staged, counter = self.staged, self.counter
         self.counter, self.staged = counter + 1, []
-        if all(what == "channel" for what, _, _ in staged):
+        channels = [(number, label) for what, number, label in staged if what == "channel"]
+        if len(channels) == len(staged):
+            self.confirm(channels)
             return None
         added = [(row, sources) for what, row, sources in staged if what == "line"]
         text = [row.copy() for row in self.rows] + [row.copy() for row, _ in added]
-        return text, (counter, added)
+        return text, (counter, added, channels)
+
+    def confirm(self, channels):
+        for number, label in channels:
+            self.connection.channels.confirm(number, label)
+
+    def has_channels(self):
+        return any(row.kind == "app" for row in self.rows)
 
     # The places of the new lines, where no cause refuses the text.
     def judge(self, text, offer):
@@ -186,7 +197,7 @@ class Peer:
         self.staged, self.counter = [], self.counter + 1
         new = self.judge(text, True)
         self.take(text, True, new, [])
-        self.connection.follow(ufrag, False)
+        self.connection.follow(ufrag, False, self.has_channels())
         return [row.copy() for row in self.rows]
 
     def accept_answer(self, token, text, ufrag, active):
@@ -196,7 +207,8 @@ class Peer:
         new = self.judge(text, False)
         self.judge_new(text, new, token[1])
         self.take(text, False, new, token[1])
-        self.connection.follow(ufrag, active)
+        self.connection.follow(ufrag, active, self.has_channels())
+        self.confirm(token[2])
 
 
 class Pair:
@@ -301,7 +313,8 @@ class Pair:
             state = "stopped" if row.stopped else "live"
             side = "remote" if row.remote else "local"
             self.report += f"line {place} {row.mid} {row.kind} {row.direction} {state} {side}\n"
-        self.report += "".join(f"channel {number} - 0 waiting\n" for number in range(self.peers[at].channels))
+        connection = self.peers[at].connection
+        self.report += connection.channels.report(connection.streams)
         self.lines.append(line)
 
 
@@ -348,18 +361,32 @@ def random_moment(chance, pair):
     return chance.choices([min(latest + step, FAR_FUTURE), chance.randint(0, latest), FAR_FUTURE - chance.randint(0, 2)], [400, 20, 1])[0]
 
 
-# Both sides are given a moment and drained, and what they sent arrives, but for what is lost, comes twice or comes late.
+# Both sides are given a moment and drained, and what they sent arrives.
+def exchange(chance, pair, now, verbs, copies, late):
+    first = len(pair.datagrams)
+    for at in chance.sample("LR", 2):
+        pair.perform(f"{at} time {now}")
+        pair.perform(f"{at} {chance.choices(['drain', 'poll'], verbs)[0]}")
+    arriving = [number for number in range(first, len(pair.datagrams)) for _ in range(chance.choices([1, 0, 2], copies)[0])]
+    if chance.random() < late:
+        chance.shuffle(arriving)
+    for number in arriving:
+        pair.perform(f"{OTHER[pair.datagrams[number][0]]} datagram {number} {now}")
+
+
+# Some datagrams are lost, come twice or come late.
 def random_exchange(chance, pair):
     for _ in range(chance.randint(1, 8)):
-        first, now = len(pair.datagrams), random_moment(chance, pair)
-        for at in chance.sample("LR", 2):
-            pair.perform(f"{at} time {now}")
-            pair.perform(f"{at} {chance.choices(['drain', 'poll'], [9, 1])[0]}")
-        arriving = [number for number in range(first, len(pair.datagrams)) for _ in range(chance.choices([1, 0, 2], [8, 1, 1])[0])]
-        if chance.random() < 0.2:
-            chance.shuffle(arriving)
-        for number in arriving:
-            pair.perform(f"{OTHER[pair.datagrams[number][0]]} datagram {number} {now}")
+        exchange(chance, pair, random_moment(chance, pair), [9, 1], [8, 1, 1], 0.2)
+
+
+# The sides agree on a data channel and connect, up to the exchange at which random steps begin.
+def join(chance, pair, at):
+    pair.perform(f"{at} offer channel:{random_label(chance)}{random_ops(chance, 0)}")
+    pair.perform(f"{OTHER[at]} accept 0")
+    pair.perform(f"{at} answer 0 1")
+    for number in range(chance.randint(4, 14)):
+        exchange(chance, pair, number * chance.choice([0, 1000]), [1, 0], [1, 0, 0], 0)
 
 
 # A step that hands one side a moment or a datagram, polls it, or, now and then, closes it.
@@ -372,6 +399,9 @@ def connect(chance, pair, at):
 def random_pair(chance):
     pair = Pair()
     length = chance.randint(6, 100)
+    if chance.random() < 0.3:
+        join(chance, pair, chance.choice("LR"))
+        length += len(pair.lines)
     while len(pair.lines) < length:
         at, texts = chance.choice("LR"), len(pair.texts)
         kind = chance.random()

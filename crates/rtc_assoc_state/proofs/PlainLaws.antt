@@ -26,6 +26,7 @@ use Rattle.rtc_assoc_state.specs.declared.stream_row.StreamRow.{StreamRow}
 use Rattle.rtc_assoc_state.proofs.KeepLemmas.{KeepsContents, keeps_none, keeps_limited, keeps_opened, keeps_sent, keeps_taken_out, keeps_ended, keeps_shut_down, keeps_half, keeps_input, keeps_timed}
 use Rattle.rtc_assoc_state.proofs.WorkLemmas.{work-opened, work-thresholded, work-written, work-ended, work-shut_down, work-taken_out, work-half, work-input}
 use Rattle.rtc_assoc_state.proofs.StartLemmas.{started-connected, started-accepted, started-snapped, leaves_started, raised_starts, inbox_starts}
+use Rattle.rtc_assoc_state.proofs.StartLemmas.{streams-connected, streams-accepted, streams-snapped, same_generation}
 use Rattle.rtc_assoc_state.proofs.BufferedLemmas.{buffered-append, buffered-pieces}
 use Rattle.rtc_assoc_state.proofs.DoesLemmas.{does_answered, refused_changes_nothing, refused_again, unrefused, does_leaves, does_sends, does_writes, gives, times, Popped, polls_some, polls_none, transmits_some, transmits_none, reads_some, reads_none}
 
@@ -243,6 +244,9 @@ plain_laws = record {
   accept_starts = λ p q now m r f h. leaves_started m p (accepted now m p) q r f (started-accepted now m p) h;
   snap_starts = λ p q now m l o r f h. leaves_started m p (snapped now m p) q r f (started-snapped now m p) h;
   same_start = λ p q act s h. same_start p q act s (keeps_act p q act h);
+  connect_generation = λ p q now m id r h. same_generation p (connected now m p) q r id (streams-connected now m p) h;
+  accept_generation = λ p q now m id r h. same_generation p (accepted now m p) q r id (streams-accepted now m p) h;
+  snap_generation = λ p q now m id l o r h. same_generation p (snapped now m p) q r id (streams-snapped now m p) h;
   write_count = λ p q id i b n h. h.1.0;
   write_buffers = λ p q id i b n h. subst (Buffers plain_meaning p id (length b)) (sym h.1.1.0) (buffers p id (ppi_number i) b);
   read_none = λ p q id h. (reads_none (next_message id p) id p q h.1).1;

@@ -1,13 +1,15 @@
 -- What the starting calls leave and keep.
-use Rattle.std.proofs.Common.{ℕ, ◌≡◌, true, false, None, Result, Ok, Err, refl, sym, ap, subst, ◌∙◌}
+use Rattle.std.proofs.Common.{ℕ, ◌≡◌, List, true, false, None, Result, Ok, Err, refl, sym, ap, subst, ◌∙◌}
 use Rattle.rtc_association.specs.declared.assoc_error.AssocError.{AssocError}
 use Rattle.rtc_association.specs.AssociationActs.{Starts, ByConnect, ByAccept, BySnap}
 use Rattle.rtc_association.specs.AssociationLaws.{LeavesStarted}
-use Rattle.rtc_assoc_state.specs.Contents.{Contents, is_started}
+use Rattle.rtc_assoc_state.specs.declared.stream_row.StreamRow.{StreamRow}
+use Rattle.rtc_assoc_state.specs.Contents.{Contents, is_started, generation_of}
 use Rattle.rtc_assoc_state.specs.Calls.{connected, accepted, snapped, started_as, said_hello}
 use Rattle.rtc_assoc_state.specs.PlainMeaning.{plain_meaning, Does, Leaves}
 use Rattle.rtc_assoc_state.proofs.RaiseLemmas.{Raises, raises_none}
-use Rattle.rtc_assoc_state.proofs.DoesLemmas.{refused_changes_nothing}
+use Rattle.rtc_assoc_state.specs.Streams.{stream_of}
+use Rattle.rtc_assoc_state.proofs.DoesLemmas.{refused_changes_nothing, does_leaves}
 
 -- starting
 pub started-connected : (now max_send : ℕ) (p : Contents) → (is_started (connected now max_send p) ≡ true) × ((connected now max_send p).limits.max_send ≡ max_send)
@@ -61,3 +63,20 @@ pub inbox_starts : (p q : Contents) → Starts plain_meaning p q → q.inbox ≡
 inbox_starts p q (ByConnect now m h) = ap (λ (c : Contents). c.inbox) h.1 ∙ inbox-connected now m p
 inbox_starts p q (ByAccept now m h) = ap (λ (c : Contents). c.inbox) h.1 ∙ inbox-accepted now m p
 inbox_starts p q (BySnap now m l o h) = ap (λ (c : Contents). c.inbox) h.1 ∙ inbox-snapped now m p
+
+-- and the streams
+pub streams-connected : (now max_send : ℕ) (p : Contents) → (connected now max_send p).streams ≡ p.streams
+unfolding started_as said_hello
+streams-connected now max_send p = refl
+
+pub streams-accepted : (now max_send : ℕ) (p : Contents) → (accepted now max_send p).streams ≡ p.streams
+unfolding started_as
+streams-accepted now max_send p = refl
+
+pub streams-snapped : (now max_send : ℕ) (p : Contents) → (snapped now max_send p).streams ≡ p.streams
+unfolding snapped started_as
+streams-snapped now max_send p = refl
+
+-- a call that leaves the streams, or is refused, leaves each generation
+pub same_generation : (p t q : Contents) (r : Result (Unit {0}) AssocError) (id : ℕ) → t.streams ≡ p.streams → Does None p (Leaves t) r q → generation_of q id ≡ generation_of p id
+same_generation p t q r id same h = does_leaves (λ (c : Contents). generation_of c id ≡ generation_of p id) None p t q r refl (ap (λ (l : List StreamRow). (stream_of id l).generation) same) h

@@ -55,6 +55,11 @@ pub record AssociationLaws {S : Type 0} (m : AssociationMeaning S) : Type 0 wher
       → m.connected_snap p now max_send local remote r q → LeavesStarted m max_send r q
   pub same_start : (p q : S) (act : AssociationAct) → starts act ≡ false → Acted m p act q
       → (m.started q ≡ m.started p) × (m.max_send q ≡ m.max_send p)
+  -- a starting call, Ok or refused, leaves the generation of every stream
+  pub connect_generation : (p q : S) (now max_send id : ℕ) (r : _) → m.connected p now max_send r q → m.generation q id ≡ m.generation p id
+  pub accept_generation : (p q : S) (now max_send id : ℕ) (r : _) → m.accepted p now max_send r q → m.generation q id ≡ m.generation p id
+  pub snap_generation : (p q : S) (now max_send id : ℕ) (local remote : List ℕ) (r : _) → m.connected_snap p now max_send local remote r q
+      → m.generation q id ≡ m.generation p id
   -- a message is written whole
   pub write_count : (p q : S) (id : ℕ) (ppi : Ppi) (bytes : List ℕ) (n : ℕ) → m.wrote p id ppi bytes (Ok n) q → n ≡ length bytes
   pub write_buffers : (p q : S) (id : ℕ) (ppi : Ppi) (bytes : List ℕ) (n : ℕ) → m.wrote p id ppi bytes (Ok n) q

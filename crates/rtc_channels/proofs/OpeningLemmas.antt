@@ -99,7 +99,7 @@ rising_opened : (least id : ℕ) (channels : List Channel) → AreRising least c
 rising_opened least id [] rising = tt
 rising_opened least id (channel ∷ channels) rising = grind (arith, rising_opened (channel.id + 1) id channels rising.1)
 
-below_opened : (bound id : ℕ) (channels : List Channel) → AreBelow bound channels → AreBelow bound (rows_opened id channels)
+pub below_opened : (bound id : ℕ) (channels : List Channel) → AreBelow bound channels → AreBelow bound (rows_opened id channels)
 below_opened bound id [] below = tt
 below_opened bound id (channel ∷ channels) below = grind (arith, below_opened bound id channels below.1)
 

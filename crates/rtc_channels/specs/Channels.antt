@@ -31,7 +31,6 @@ use Rattle.std.specs.List.{list_any}
 use Rattle.rtc_wire.specs.declared.channel_config.ChannelConfig.{ChannelConfig}
 use Rattle.rtc_channels.specs.declared.channel_error.ChannelError.{ChannelError}
 use Rattle.rtc_channels.specs.declared.channel_error.ChannelError.TheVariants.{BadChannel, Alloc}
-use Rattle.rtc_channels.specs.declared.channel_row.ChannelRow.{ChannelRow}
 
 pub record Channel : Type 0 where
   pub id : ℕ
@@ -124,13 +123,6 @@ channel_of_stream stream (row ∷ rows) = if is_of_stream stream row.1 then Some
 abbrev pub stream_of_channel : ℕ → List (ℕ × Option ℕ) → Option ℕ
 stream_of_channel id [] = None
 stream_of_channel id (row ∷ rows) = if row.0 == id then row.1 else stream_of_channel id rows
-
--- the row that tells of a channel; it is not open
-abbrev pub channel_row : Channel → ChannelRow
-channel_row channel = record { id = channel.id; stream = channel.stream; generation = 0; is_open = false }
-
-abbrev pub channel_rows : Channels → List ChannelRow
-channel_rows held = map channel_row held.rows
 
 -- numbers rise, from this one on
 abbrev pub AreRising : ℕ → List Channel → Type 0

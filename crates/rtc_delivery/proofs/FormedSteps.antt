@@ -171,6 +171,19 @@ answer_formed t (Some token) (Some sdp) old new kept kept' (Refused error) (Some
     (answered_formed (lent old) token sdp (Err error) new h.0 restarts (plain_names_tokens sdp (whole sdp refl)) (lent_formed old formed), rw h.1 (spent_plain t kept plain))
 answer_formed t token answer old new kept kept' outcome table h whole restarts formed plain = absurd h
 
+-- a side that changes nothing but channels
+rest_formed : (old new : Stance) → new ≡ record old { channels = new.channels; rows = new.rows } → IsFormed old → IsFormed new
+rest_formed old new rest formed =
+    subst IsFormed (sym rest) (record {
+      session = formed.session;
+      creds = formed.creds;
+      candidates = formed.candidates;
+      fingerprint = formed.fingerprint;
+      rows = formed.rows;
+      staged = formed.staged;
+      restarts = formed.restarts;
+    })
+
 acts_formed : {E : Type 0} → (step : Step) (old new : Stance) (kept kept' : List Kept) (outcome : Outcome E) (table : Option Table)
     → StanceActs step old kept outcome table new kept' → IsFormed old → ArePlain kept → IsFormed new × ArePlain kept'
 acts_formed (Negotiate at ops apply) old new kept kept' outcome table acts formed plain =
@@ -179,11 +192,11 @@ acts_formed (AcceptOffer at k) old new kept kept' outcome table acts formed plai
     offer_formed at (kept_remote_sdp true kept at k) old new kept kept' outcome table acts (λ sdp is. remote_plain true kept at k sdp is plain) formed plain
 acts_formed (AcceptAnswer at t a) old new kept kept' outcome table acts formed plain =
     answer_formed t (held_token kept at t) (kept_remote_sdp false kept at a) old new kept kept' outcome table acts (λ sdp is. remote_plain false kept at a sdp is plain) (token_restarts kept at t plain) formed plain
-acts_formed (Time at now) old new kept kept' outcome table acts formed plain = (rw acts.stays.peer formed, rw acts.stays.sdps_kept plain)
-acts_formed (Datagram at packet now) old new kept kept' outcome table acts formed plain = (rw acts.stays.peer formed, rw acts.stays.sdps_kept plain)
-acts_formed (Poll at) old new kept kept' outcome table acts formed plain = (rw acts.stays.peer formed, rw acts.stays.sdps_kept plain)
-acts_formed (Drain at) old new kept kept' outcome table acts formed plain = (rw acts.stays.peer formed, rw acts.stays.sdps_kept plain)
-acts_formed (Close at) old new kept kept' outcome table acts formed plain = (rw acts.stays.peer formed, rw acts.stays.sdps_kept plain)
+acts_formed (Time at now) old new kept kept' outcome table acts formed plain = (rest_formed old new acts.peer formed, rw acts.sdps_kept plain)
+acts_formed (Datagram at packet now) old new kept kept' outcome table acts formed plain = (rest_formed old new acts.peer formed, rw acts.sdps_kept plain)
+acts_formed (Poll at) old new kept kept' outcome table acts formed plain = (rest_formed old new acts.peer formed, rw acts.sdps_kept plain)
+acts_formed (Drain at) old new kept kept' outcome table acts formed plain = (rest_formed old new acts.peer formed, rw acts.sdps_kept plain)
+acts_formed (Close at) old new kept kept' outcome table acts formed plain = (rest_formed old new acts.peer formed, rw acts.sdps_kept plain)
 
 -- ---- all steps
 

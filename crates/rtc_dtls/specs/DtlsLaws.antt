@@ -47,6 +47,8 @@ pub record DtlsLaws {D : Type 0} (m : DtlsMeaning D) : Type 0 where
   pub timeout_asks : (p q : D) (moment : ℕ) → m.polled p (DrewTimeout moment) q → moment ≡ m.asks p
   pub silent : (p q : D) (moment : ℕ) → m.polled p (DrewTimeout moment) q → m.held p ≡ 0
   pub quiet : (p : D) → m.held p ≡ 0 → m.polled p (DrewTimeout (m.asks p)) p
+  -- the units of input are of outputs that are held
+  pub quiet_input : (p : D) → m.held p ≡ 0 → m.units p ≡ 0
   pub drawn_falls : (p q : D) (drawn : DtlsDrawn) → draws_output drawn ≡ true → m.polled p drawn q → m.held q < m.held p
   -- what is drawn has at most 2000 bytes
   pub drawn_short : (p q : D) (drawn : DtlsDrawn) → m.polled p drawn q → length (drawn_bytes drawn) ≤ 2000

@@ -1,6 +1,7 @@
 -- Steps with data channels, computed: what their answers tell, and which replies they may have.
 use Rattle.std.proofs.Common.{◌≡◌, ◌<◌, ℕ, true, false, List, [], ◌∷◌, map, Some, refl, sym, ap, arith}
 use Rattle.std.specs.Prelude.{codes}
+use Rattle.std.proofs.lemmas.List.Elements.{All-nil, All-cons, All-head}
 use Rattle.rtc_wire.specs.declared.channel_config.ChannelConfig.{ChannelConfig}
 use Rattle.rtc_wire.specs.ChannelConfig.{fresh}
 use Rattle.rtc_sdp_values.specs.declared.direction.Direction.TheVariants.{SendRecv}
@@ -10,6 +11,7 @@ use Rattle.rtc_sdp_values.specs.declared.sdp.Sdp.{Sdp}
 use Rattle.rtc_tables.specs.declared.parsed_line.ParsedLine.{ParsedLine}
 use Rattle.rtc_tables.specs.ParsedLines.{parsed_lines}
 use Rattle.rtc_channels.specs.Channels.{is_overlong}
+use Rattle.rtc_polling.specs.declared.event.Event.TheVariants.{ChannelOpen}
 use Rattle.rtc_peer_state.specs.declared.rtc_error.RtcError.TheVariants.{ChangesOutOfOrder}
 use Rattle.rtc_peer_state.specs.MadeSdp.{sdp_of_rows}
 use Rattle.rtc_history.specs.declared.side.Side.{Side}
@@ -19,11 +21,13 @@ use Rattle.rtc_history.specs.declared.op_answer.OpAnswer.TheVariants.{Mid, Chann
 use Rattle.rtc_history.specs.declared.made.Made.{Made}
 use Rattle.rtc_history.specs.declared.made.Made.TheVariants.{Nothing, Offer}
 use Rattle.rtc_history.specs.declared.step.Step.{Step}
-use Rattle.rtc_history.specs.declared.step.Step.TheVariants.{Negotiate, AcceptOffer, AcceptAnswer}
-use Rattle.rtc_history.specs.declared.outcome.Outcome.TheVariants.{Negotiated, Answered, Finished, Refused}
+use Rattle.rtc_history.specs.declared.step.Step.TheVariants.{Negotiate, AcceptOffer, AcceptAnswer, Poll}
+use Rattle.rtc_history.specs.declared.outcome.Outcome.TheVariants.{Negotiated, Answered, Finished, Polled, Refused}
+use Rattle.rtc_history.specs.declared.poll_end.PollEnd.TheVariants.{Ended}
+use Rattle.rtc_history.specs.declared.shown.Shown.TheVariants.{Event}
 use Rattle.rtc_history.specs.declared.table.Table.{Table}
 use Rattle.rtc_history.specs.Answers.{waiting_row}
-use Rattle.rtc_history.specs.Past.{Entry, MadeSdp, is_right, added_by}
+use Rattle.rtc_history.specs.Past.{Entry, MadeSdp, is_right, added_by, numbers_told}
 use Rattle.rtc_history.specs.SaidRows.{MakesSdp}
 use Rattle.rtc_history.proofs.WorkedEntries.{says, entry, plain, worked_head}
 use Rattle.rtc_history.specs.Sound.{IsSound}
@@ -82,7 +86,7 @@ more_channels = entry (offers_channel Left) (Negotiated (Channel 1 ∷ []) Nothi
 
 -- it makes no offer
 channel_alone : IsSound {E = Unit {0}} plain more_audio plain (offers_channel Left) (Negotiated (Channel 1 ∷ []) Nothing) (Some (record { lines = App 0 left_mid ∷ []; channels = waiting_row 0 ∷ waiting_row 1 ∷ [] })) []
-channel_alone = (((refl, (omega arith, tt)), tt, refl), tt, refl)
+channel_alone = (((refl, All-cons (λ number. number < 1) 0 [] (omega arith) (All-nil (λ number. number < 1))), tt, refl), tt, refl)
 
 channel_alone_offered : (made : List MadeSdp) (table : Table) → IsSound {E = Unit {0}} plain more_audio plain (offers_channel Left) (Negotiated (Channel 1 ∷ []) (Offer 3)) (Some table) made → ⊥
 channel_alone_offered made table sound = sound.1
@@ -100,7 +104,25 @@ token_kept = refl
 
 -- a number is not given twice
 number_again : (what : Made) (table : Table) (made : List MadeSdp) → IsSound {E = Unit {0}} plain more_audio plain (offers_channel Left) (Negotiated (Channel 0 ∷ []) what) (Some table) made → ⊥
-number_again what table made sound = let same : 0 < 0 = sound.0.0.1.0 in absurd (omega arith)
+number_again what table made sound = let same : 0 < 0 = All-head (λ number. number < 0) 0 [] sound.0.0.1 in absurd (omega arith)
+
+-- ---- a channel that a poll tells to be open
+
+abbrev opened : List (Entry (Unit {0}))
+opened = entry (Poll Left) (Polled (Event (ChannelOpen 3 (codes "chat")) ∷ []) Ended) (App 0 left_mid ∷ []) (0 ∷ 3 ∷ []) [] ∷ with_line
+
+-- its number is told like one that an op is answered
+opened_told : numbers_told Left opened ≡ 3 ∷ 0 ∷ []
+opened_told = refl
+
+-- and the next channel has a number above it
+opened_next : IsSound {E = Unit {0}} plain opened plain (offers_channel Left) (Negotiated (Channel 4 ∷ []) Nothing)
+    (Some (record { lines = App 0 left_mid ∷ []; channels = waiting_row 0 ∷ waiting_row 3 ∷ waiting_row 4 ∷ [] })) []
+opened_next =
+    (((refl, All-cons (λ number. number < 4) 3 (0 ∷ []) (omega arith) (All-cons (λ number. number < 4) 0 [] (omega arith) (All-nil (λ number. number < 4)))), tt, refl), tt, refl)
+
+opened_again : (what : Made) (table : Table) (made : List MadeSdp) → IsSound {E = Unit {0}} plain opened plain (offers_channel Left) (Negotiated (Channel 3 ∷ []) what) (Some table) made → ⊥
+opened_again what table made sound = let same : 3 < 3 = All-head (λ number. number < 3) 3 (0 ∷ []) sound.0.0.1 in absurd (omega arith)
 
 -- ---- a channel that is refused
 

@@ -43,6 +43,7 @@ plain at = record {
   lines = [];
   staged = [];
   channels = no_channels;
+  rows = [];
   counter = 0;
   ice = record { lite = false; local = worked_creds; remote = None; candidates = [] };
   own_fingerprint = worked_fingerprint;

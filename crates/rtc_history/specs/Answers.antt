@@ -57,12 +57,16 @@ added app place (op ∷ ops) (answer ∷ answers) = added app place ops answers
 abbrev pub with_numbered : ℕ → ChannelConfig → Channels → Channels
 with_numbered id config held = record held { given = held.given + 1; rows = held.rows ++ unconfirmed id config ∷ [] }
 
--- the channels after ops: one more for each that is answered by a number
-abbrev pub channels_answered : List Op → List OpAnswer → Channels → Channels
-channels_answered [] answers held = held
-channels_answered (op ∷ ops) [] held = held
-channels_answered (AddChannel config ∷ ops) (Channel id ∷ answers) held = channels_answered ops answers (with_numbered id config held)
-channels_answered (op ∷ ops) (answer ∷ answers) held = channels_answered ops answers held
+-- the channel numbers that answers tell
+abbrev pub numbers_answered : List OpAnswer → List ℕ
+numbers_answered [] = []
+numbers_answered (Mid mid ∷ answers) = numbers_answered answers
+numbers_answered (Changed changed ∷ answers) = numbers_answered answers
+numbers_answered (NoLine ∷ answers) = numbers_answered answers
+numbers_answered (Channel id ∷ answers) = id ∷ numbers_answered answers
+numbers_answered (BadChannel ∷ answers) = numbers_answered answers
+numbers_answered (Creds creds ∷ answers) = numbers_answered answers
+numbers_answered (Alloc ∷ answers) = numbers_answered answers
 
 -- the row of a channel that waits for a stream
 abbrev pub waiting_row : ℕ → ChannelRow

@@ -1,5 +1,5 @@
 -- Which replies tell that memory ran out, and which that a part failed.
-use Rattle.std.specs.Prelude.{Bool, true, false, not, ◌||◌, List}
+use Rattle.std.specs.Prelude.{Bool, true, false, ◌||◌, List}
 use Rattle.std.specs.List.{list_any}
 use Rattle.rtc_peer_state.specs.declared.rtc_error.RtcError.{RtcError}
 use Rattle.rtc_peer_state.specs.declared.rtc_error.RtcError.TheVariants.{Net, Media as MediaFailed}

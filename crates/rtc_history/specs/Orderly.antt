@@ -1,7 +1,7 @@
 -- Lists of steps that negotiate round by round (RFC 3264, section 4): an offer, its acceptance by the other side, and the acceptance of
 -- that answer.
-use Rattle.std.specs.Prelude.{◌≡◌, ◌+◌, ◌==◌, ℕ, Bool, true, false, not, ◌&&◌, ◌||◌, List, [], ◌∷◌, ◌++◌}
-use Rattle.std.specs.Prelude.{if◌then◌else◌, Option, Some, None, is_some, option_map, IfSome}
+use Rattle.std.specs.Prelude.{◌≡◌, ◌+◌, ◌^◌, ◌<◌, ◌==◌, ℕ, Bool, true, false, not, ◌&&◌, ◌||◌, List, [], ◌∷◌, ◌++◌}
+use Rattle.std.specs.Prelude.{if◌then◌else◌, Option, Some, None, is_some, option_map, IfSome, length}
 use Rattle.std.specs.List.{list_any}
 use Rattle.rtc_sdp_values.specs.declared.line_row.LineRow.{LineRow}
 use Rattle.rtc_sdp_values.specs.LineRow.{row_mid}
@@ -14,9 +14,10 @@ use Rattle.rtc_history.specs.declared.step.Step.TheVariants.{Negotiate, AcceptOf
 use Rattle.rtc_history.specs.declared.outcome.Outcome.{Outcome}
 use Rattle.rtc_history.specs.declared.outcome.Outcome.TheVariants.{Negotiated, Answered, Finished, Done, Polled, Refused, NoSuch, Alloc}
 use Rattle.rtc_history.specs.Sides.{same_side, other_side}
+use Rattle.rtc_history.specs.Sizes.{step_size}
 use Rattle.rtc_history.specs.Memory.{fails}
 use Rattle.rtc_history.specs.Answers.{is_bad}
-use Rattle.rtc_history.specs.Past.{Entry, steps_of, before}
+use Rattle.rtc_history.specs.Past.{Entry, steps_of, before, numbers_told}
 use Rattle.rtc_history.specs.Finished.{Equal}
 use Rattle.rtc_history.specs.Views.{Stances}
 use Rattle.rtc_history.specs.CourseRows.{
@@ -158,11 +159,16 @@ negotiates (Poll at) = false
 negotiates (Drain at) = false
 negotiates (Close at) = false
 
--- Orderly steps of a pair that can connect succeed in what they negotiate, until memory runs out or a part fails.
+-- so many more channels can be numbered at each side: a peer gives 2^64 - 1 numbers
+abbrev pub AreNumbersLeft : {E : Type 0} → ℕ → List (Entry E) → Type 0
+AreNumbersLeft more past = (at : Side) → length (numbers_told at past) + more < 2 ^ 64
+
+-- Orderly steps of a pair that can connect succeed in what they negotiate, until memory runs out or a part fails, and while channel
+-- numbers are left at both sides.
 abbrev pub OkWhereOrderly : {E : Type 0} → Stances → List (Entry E) → Step → Outcome E → Type 0
 OkWhereOrderly fresh past step outcome =
     negotiates step ≡ true → can_connect fresh ≡ true → are_orderly (steps_of past ++ step ∷ []) ≡ true → has_failed past ≡ false
-    → (is_ok outcome || fails outcome) ≡ true
+    → AreNumbersLeft (step_size step) past → (is_ok outcome || fails outcome) ≡ true
 
 -- nothing is outstanding
 abbrev pub IsIdle : Phase → Type 0
@@ -184,8 +190,9 @@ pub record AreInStep (rows others : List LineRow) (sides : Stances) : Type 0 whe
   pub app : mid_of_app others ≡ mid_of_app rows
   pub current : (at : Side) → AreCurrent sides at
 
--- After orderly steps that leave no round open, both sides are in step, unless memory ran out or a part failed.
+-- After orderly steps that leave no round open, both sides are in step, unless memory ran out or a part failed, and while channel numbers
+-- are left at both sides.
 abbrev pub InStepWhereOrderly : {E : Type 0} → Stances → List (Entry E) → Stances → Type 0
 InStepWhereOrderly fresh past sides =
     (course : Course) → can_connect fresh ≡ true → course_of (steps_of past) ≡ Some course → IsIdle course.phase → has_failed past ≡ false
-    → AreInStep (before Left past) (before Right past) sides
+    → AreNumbersLeft 1 past → AreInStep (before Left past) (before Right past) sides

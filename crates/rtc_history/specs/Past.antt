@@ -6,8 +6,8 @@ use Rattle.rtc_sdp_values.specs.declared.line_row.LineRow.{LineRow}
 use Rattle.rtc_sdp_values.specs.declared.sdp.Sdp.{Sdp}
 use Rattle.rtc_tables.specs.declared.parsed_line.ParsedLine.{ParsedLine}
 use Rattle.rtc_tables.specs.ParsedLines.{parsed_lines}
-use Rattle.rtc_channels.specs.Channels.{Channels, no_channels}
 use Rattle.rtc_channels.specs.declared.channel_row.ChannelRow.{ChannelRow}
+use Rattle.rtc_polling.specs.declared.event.Event.TheVariants.{ChannelOpen}
 use Rattle.rtc_history.specs.declared.side.Side.{Side}
 use Rattle.rtc_history.specs.declared.step.Step.{Step}
 use Rattle.rtc_history.specs.declared.step.Step.TheVariants.{Negotiate, AcceptOffer, AcceptAnswer, Time, Datagram, Poll, Drain, Close}
@@ -21,7 +21,7 @@ use Rattle.rtc_history.specs.declared.outcome.Outcome.TheVariants.{Negotiated, A
 use Rattle.rtc_history.specs.declared.table.Table.{Table}
 use Rattle.rtc_history.specs.declared.reply.Reply.{Reply}
 use Rattle.rtc_history.specs.Sides.{same_side, side_of}
-use Rattle.rtc_history.specs.Answers.{do_stage, do_restart, has_app_row, added, channels_answered}
+use Rattle.rtc_history.specs.Answers.{do_stage, do_restart, has_app_row, added, numbers_answered}
 
 -- an SDP, with the side that made it and whether it is an offer
 pub record MadeSdp : Type 0 where
@@ -227,13 +227,33 @@ abbrev pub channels_shown : {E : Type 0} → Side → List (Entry E) → List Ch
 channels_shown at [] = []
 channels_shown at (entry ∷ past) = channel_rows_or (same_side (side_of entry.step) at) entry.table (channels_shown at past)
 
--- the channels of a side after a step
-abbrev pub channels_after : {E : Type 0} → Bool → Step → Outcome E → Channels → Channels
-channels_after true (Negotiate at ops apply) (Negotiated answers made) held = channels_answered ops answers held
-channels_after true step outcome held = held
-channels_after false step outcome held = held
+-- the channel number that an event tells to be open, if any
+abbrev pub number_opened : {E : Type 0} → Shown E → List ℕ
+number_opened (Timeout moment reason) = []
+number_opened (Packet number len) = []
+number_opened (Event (ChannelOpen id label)) = id ∷ []
+number_opened (Event event) = []
 
--- The channels that a side was given, applied or not: none of them goes.
-abbrev pub channels_given : {E : Type 0} → Side → List (Entry E) → Channels
-channels_given at [] = no_channels
-channels_given at (entry ∷ past) = channels_after (same_side (side_of entry.step) at) entry.step entry.outcome (channels_given at past)
+abbrev pub numbers_opened : {E : Type 0} → List (Shown E) → List ℕ
+numbers_opened [] = []
+numbers_opened (shown ∷ outputs) = number_opened shown ++ numbers_opened outputs
+
+-- the channel numbers that an outcome tells: of channels that were added, and of channels that polls told to be open
+abbrev pub numbers_in : {E : Type 0} → Outcome E → List ℕ
+numbers_in (Negotiated answers made) = numbers_answered answers
+numbers_in (Answered k) = []
+numbers_in Finished = []
+numbers_in Done = []
+numbers_in (Polled outputs end) = numbers_opened outputs
+numbers_in (Refused error) = []
+numbers_in NoSuch = []
+numbers_in Alloc = []
+
+abbrev pub numbers_or : {E : Type 0} → Bool → Outcome E → List ℕ → List ℕ
+numbers_or true outcome earlier = numbers_in outcome ++ earlier
+numbers_or false outcome earlier = earlier
+
+-- The channel numbers that the replies of a side tell, whether or not there still is such a channel.
+abbrev pub numbers_told : {E : Type 0} → Side → List (Entry E) → List ℕ
+numbers_told at [] = []
+numbers_told at (entry ∷ past) = numbers_or (same_side (side_of entry.step) at) entry.outcome (numbers_told at past)

@@ -16,9 +16,9 @@ use Rattle.rtc_peer_state.specs.declared.peer.Peer.{Peer}
 use Rattle.rtc_peer_state.specs.declared.rtc_error.RtcError.{RtcError}
 use Rattle.rtc_peer_state.specs.declared.rtc_error.RtcError.TheVariants.{BadChannel, Net, Alloc as PeerAlloc}
 use Rattle.rtc_peer_state.specs.Acceptances.{AcceptsOffer, AcceptsAnswer}
+use Rattle.rtc_peer_state.specs.ChannelRows.{channel_rows}
 use Rattle.rtc_peer_state.specs.Calls.{AddsMedia, SetsDirection, StopsMedia, AddsChannel, StagesRestart, Applies, Wanted}
 use Rattle.rtc_peer_state.specs.Meanings.{Meanings}
-use Rattle.rtc_channels.specs.Channels.{channel_rows}
 use Rattle.rtc_polling.specs.declared.input.Input.TheVariants as given
 use Rattle.rtc_polling.specs.declared.output.Output.TheVariants as polled
 use Rattle.rtc_polling.specs.declared.polled_peer.PolledPeer.{PolledPeer}
@@ -87,11 +87,6 @@ pub record ComesIn (transmit : Transmit) (kind : MultiplexKind) (datagram : Rece
   pub source : datagram.source ≡ transmit.source
   pub destination : datagram.destination ≡ transmit.destination
 
--- a table shows the lines and the channels of a peer
-pub record Shows {I D S M N : Type 0} (table : Table) (peer : Peer I D S M N) : Type 0 where
-  pub lines : table.lines ≡ peer.lines
-  pub channels : table.channels ≡ channel_rows peer.channels
-
 -- a call on the line at a place, which it names by its mid
 pub record CallsLine (rows : List LineRow) (place : ℕ) (call : List ℕ → Type 0) : Type 0 where
   pub mid : List ℕ
@@ -99,6 +94,11 @@ pub record CallsLine (rows : List LineRow) (place : ℕ) (call : List ℕ → Ty
   pub called : call mid
 
 module _ {I D S M E X T W N : Type 0} (m : Meanings I D S M E X T W N) where
+  -- a table shows the lines and the channels of a peer
+  pub record Shows (table : Table) (peer : Peer I D S M N) : Type 0 where
+    pub lines : table.lines ≡ peer.lines
+    pub channels : table.channels ≡ channel_rows m.association peer.sctp peer.channels
+
   -- Ops are performed in order, up to the first that answers `Alloc`.
   abbrev pub PerformsOps : Peer I D S M N → List Op → List OpAnswer → Peer I D S M N → Type 0
   PerformsOps p [] [] q = q ≡ p
@@ -242,17 +242,18 @@ module _ {I D S M E X T W N : Type 0} (m : Meanings I D S M E X T W N) where
       × DrainsOn at between kept outputs end q packets'
 
   -- The same, with one poll at least.
-  abbrev pub Drains : Side → PolledPeer I D S M N → List SentPacket → List (Shown E) → PollEnd → PolledPeer I D S M N → List SentPacket
+  abbrev pub DrainsPeer : Side → PolledPeer I D S M N → List SentPacket → List (Shown E) → PollEnd → PolledPeer I D S M N → List SentPacket
       → Type 0
-  Drains at p packets [] NoRoom q packets' = ⊥
-  Drains at p packets outputs end q packets' = DrainsOn at p packets outputs end q packets'
+  DrainsPeer at p packets [] NoRoom q packets' = ⊥
+  DrainsPeer at p packets outputs end q packets' = DrainsOn at p packets outputs end q packets'
 
   -- Polls are answered by what they gave. Without memory for the table and for one output there is no poll.
-  abbrev pub StepPolls : (List SentPacket → List (Shown E) → PollEnd → PolledPeer I D S M N → List SentPacket → Type 0)
+  abbrev pub StepPollsPeer : (List SentPacket → List (Shown E) → PollEnd → PolledPeer I D S M N → List SentPacket → Type 0)
       → PolledPeer I D S M N → List SentPacket → Outcome E → Option Table → PolledPeer I D S M N → List SentPacket → Type 0
-  StepPolls polls old packets Alloc None new packets' = (new ≡ old) × (packets' ≡ packets)
-  StepPolls polls old packets (Polled outputs end) (Some table) new packets' = polls packets outputs end new packets' × Shows table new.core
-  StepPolls polls old packets outcome table new packets' = ⊥
+  StepPollsPeer polls old packets Alloc None new packets' = (new ≡ old) × (packets' ≡ packets)
+  StepPollsPeer polls old packets (Polled outputs end) (Some table) new packets' =
+      polls packets outputs end new packets' × Shows table new.core
+  StepPollsPeer polls old packets outcome table new packets' = ⊥
 
   -- What the acting peer does, with the SDPs and the datagrams before and after: negotiation leaves its connection and the datagrams, and
   -- all else the SDPs.
@@ -271,16 +272,17 @@ module _ {I D S M E X T W N : Type 0} (m : Meanings I D S M E X T W N) where
   Acts stun (Datagram at packet now) old sdps packets outcome table new sdps' packets' =
       StepTakesDatagram stun (remote_packet packets at packet) now old outcome table new × (sdps' ≡ sdps) × (packets' ≡ packets)
   Acts stun (Poll at) old sdps packets outcome table new sdps' packets' =
-      StepPolls (PollsOnce at old) old packets outcome table new packets' × (sdps' ≡ sdps)
+      StepPollsPeer (PollsOnce at old) old packets outcome table new packets' × (sdps' ≡ sdps)
   Acts stun (Drain at) old sdps packets outcome table new sdps' packets' =
-      StepPolls (Drains at old) old packets outcome table new packets' × (sdps' ≡ sdps)
+      StepPollsPeer (DrainsPeer at old) old packets outcome table new packets' × (sdps' ≡ sdps)
   Acts stun (Close at) old sdps packets outcome table new sdps' packets' =
       StepCalls (ClosesPeer m) old outcome table new × (sdps' ≡ sdps) × (packets' ≡ packets)
 
   -- A step: what the acting peer does. The other peer and both addresses stay as they were.
   pub record Performs (stun : List ℕ → Bool) (old : PairState I D S M N) (step : Step) (outcome : Outcome E) (table : Option Table)
       (new : PairState I D S M N) : Type 0 where
-    pub acts : Acts stun step (rtc_at (side_of step) old) old.sdps old.packets outcome table (rtc_at (side_of step) new) new.sdps new.packets
+    pub acts : Acts stun step
+        (rtc_at (side_of step) old) old.sdps old.packets outcome table (rtc_at (side_of step) new) new.sdps new.packets
     pub other : rtc_at (other_side (side_of step)) new ≡ rtc_at (other_side (side_of step)) old
     pub left_addr : new.left_addr ≡ old.left_addr
     pub right_addr : new.right_addr ≡ old.right_addr

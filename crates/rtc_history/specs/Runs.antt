@@ -1,6 +1,6 @@
 -- Runs of a pair: from the pair at its start, step by step, each of them sound.
 use Rattle.std.specs.Prelude.{◌≡◌, ℕ, Bool, List, [], ◌∷◌, map}
-use Rattle.rtc_channels.specs.Channels.{channel_rows}
+use Rattle.rtc_peer_state.specs.ChannelRows.{channel_rows}
 use Rattle.rtc_peer_state.specs.Meanings.{Meanings}
 use Rattle.rtc_history.specs.declared.side.Side.{Side}
 use Rattle.rtc_history.specs.declared.step.Step.{Step}
@@ -41,4 +41,4 @@ module _ {I D S M E X T W N : Type 0} (m : Meanings I D S M E X T W N) (stun : L
     pub packets : map size_sent pair.packets ≡ packets_shown past
     -- the peers hold the rows and the channels that the last replies show
     pub rows : (at : Side) → (peer_at at pair).lines ≡ before at past
-    pub channels : (at : Side) → channel_rows (peer_at at pair).channels ≡ channels_shown at past
+    pub channels : (at : Side) → channel_rows m.association (peer_at at pair).sctp (peer_at at pair).channels ≡ channels_shown at past

@@ -1,8 +1,8 @@
 -- Which replies a step may have, given the steps and replies before it.
-use Rattle.std.specs.Prelude.{◌≡◌, ℕ, Bool, true, false, not, ◌&&◌, List, [], ◌∷◌, ◌++◌, map, length}
+use Rattle.std.specs.Prelude.{◌≡◌, ℕ, Bool, true, false, not, ◌&&◌, List, [], ◌∷◌, ◌++◌, map, length, All, ◌<◌}
 use Rattle.std.specs.Prelude.{Option, Some, None, is_some, slice_get}
 use Rattle.rtc_wire.specs.declared.channel_config.ChannelConfig.{ChannelConfig}
-use Rattle.rtc_channels.specs.Channels.{Channels, is_bad_channel, AreBelow}
+use Rattle.rtc_channels.specs.Channels.{Channels, is_bad_channel}
 use Rattle.rtc_sdp_values.specs.LineRow.{row_mid}
 use Rattle.rtc_sdp_values.specs.declared.line_row.LineRow.{LineRow}
 use Rattle.rtc_sdp_values.specs.declared.sdp.Sdp.{Sdp}
@@ -16,7 +16,7 @@ use Rattle.rtc_change.specs.declared.refusal.Refusal.TheVariants.{RemoteSdp as R
 use Rattle.rtc_dtls.specs.declared.dtls_error.DtlsError.TheVariants.{Fault}
 use Rattle.rtc_sctp.specs.declared.proto_error.ProtoError.TheVariants.{Fault as AssociationFault}
 use Rattle.rtc_sctp.specs.declared.sctp_error.SctpError.TheVariants.{Proto}
-use Rattle.rtc_peer_state.specs.Stance.{held_by}
+use Rattle.rtc_peer_state.specs.Stance.{Stance, held_by}
 use Rattle.rtc_peer_state.specs.declared.rtc_error.RtcError.TheVariants.{RemoteSdp, Sdp as SdpRefused, Dtls, Sctp}
 use Rattle.rtc_peer_state.specs.declared.rtc_error.RtcError.TheVariants.{ChangesOutOfOrder, Alloc as PeerAlloc}
 use Rattle.rtc_history.specs.declared.side.Side.{Side}
@@ -38,7 +38,7 @@ use Rattle.rtc_history.specs.Past.{
   MadeSdp,
   before,
   channels_shown,
-  channels_given,
+  numbers_told,
   sdps,
   remote_sdp,
   holds_token,
@@ -66,6 +66,8 @@ pub record Midway : Type 0 where
   -- the mid of the line of data channels that is still to be staged, where one is needed and its mid is told
   pub app : Option (List ℕ)
   pub channels : Channels
+  -- the channel numbers that its replies tell
+  pub numbers : List ℕ
 
 -- with one more mid held
 abbrev pub holding_mid : List ℕ → Midway → Midway
@@ -77,16 +79,21 @@ having_rows rows m = record m { rows = rows }
 
 -- with one more channel, and the line that it brings
 abbrev pub having_channel : ℕ → ChannelConfig → Midway → Midway
-having_channel id config m = record m { held = with_front m.app m.held; app = None; channels = with_numbered id config m.channels }
+having_channel id config m = record m {
+  held = with_front m.app m.held;
+  app = None;
+  channels = with_numbered id config m.channels;
+  numbers = id ∷ m.numbers;
+}
 
 -- a mid that may be there is in no row and no staged line
 abbrev pub IsUnheld : Option (List ℕ) → List (List ℕ) → Type 0
 IsUnheld None held = Unit {0}
 IsUnheld (Some mid) held = is_among held mid ≡ false
 
--- a channel may be made of a config, and has a number above all that the side was given
-abbrev pub GivesNumber : Channels → ChannelConfig → ℕ → Type 0
-GivesNumber held config id = (is_bad_channel held config ≡ false) × AreBelow id held.rows
+-- a channel may be made of a config, and has a number above all that the side told
+abbrev pub GivesNumber : Midway → ChannelConfig → ℕ → Type 0
+GivesNumber m config id = (is_bad_channel m.channels config ≡ false) × All (λ number. number < id) m.numbers
 
 -- Ops act in order, each on what the one before left, and leave these rows. The mid of a staged line is in no row and no earlier staged
 -- line of the step; a channel that brings a line stages it first; the first `Alloc` ends the answers.
@@ -102,7 +109,7 @@ OpsAnswered m (StopMedia place ∷ ops) (NoLine ∷ answers) after = HasNoLine p
 OpsAnswered m (StopMedia place ∷ ops) (Changed changed ∷ answers) after =
     TellsChange stopped_row place m.rows changed × OpsAnswered (having_rows (changed_at stopped_row place m.rows) m) ops answers after
 OpsAnswered m (AddChannel config ∷ ops) (Channel id ∷ answers) after =
-    GivesNumber m.channels config id
+    GivesNumber m config id
     × IsUnheld m.app m.held
     × OpsAnswered (having_channel id config m) ops answers after
 OpsAnswered m (AddChannel config ∷ ops) (BadChannel ∷ answers) after =
@@ -111,13 +118,14 @@ OpsAnswered m (IceRestart keep ∷ ops) (Creds creds ∷ answers) after = OpsAns
 OpsAnswered m (op ∷ ops) (OpAlloc ∷ []) after = after ≡ m.rows
 OpsAnswered m ops answers after = ⊥
 
--- what a side has before the ops of a step, given the mid of the line that its channels bring
-abbrev pub at_first : {E : Type 0} → Side → List (Entry E) → Option (List ℕ) → Midway
-at_first at past app = record {
+-- what a side has before the ops of a step, given what it holds and the mid of the line that its channels bring
+abbrev pub at_first : {E : Type 0} → Stance → Side → List (Entry E) → Option (List ℕ) → Midway
+at_first stance at past app = record {
   rows = before at past;
   held = map row_mid (before at past);
   app = app;
-  channels = channels_given at past;
+  channels = stance.channels;
+  numbers = numbers_told at past;
 }
 
 -- An offer is made exactly where the step applies staged changes and some have to be offered, unless memory runs out.
@@ -196,22 +204,22 @@ is_polled (Refused error) = false
 is_polled NoSuch = false
 is_polled Alloc = false
 
--- the table that is shown has the rows and the channels from before
-abbrev pub ShowsOld : {E : Type 0} → Side → List (Entry E) → Table → Type 0
-ShowsOld at past table = (table.lines ≡ before at past) × (table.channels ≡ channels_shown at past)
+-- the table that is shown has the lines from before
+abbrev pub ShowsOldLines : {E : Type 0} → Side → List (Entry E) → Table → Type 0
+ShowsOldLines at past table = table.lines ≡ before at past
 
 -- The outcome and table of a step after this past, given the SDP that it made, the sides of the fresh pair, and the sides between the
--- past and the step. The channels that are shown are those before, and one more that waits for each that was added. Inputs, polls and
--- closes change no row.
+-- past and the step. Negotiation shows the channels from before, and one more that waits for each that was added. Inputs, polls and
+-- closes change no line.
 abbrev pub IsSound : {E : Type 0} → Stances → List (Entry E) → Stances → Step → Outcome E → Option Table → List MadeSdp → Type 0
-IsSound fresh past between (Time at now) outcome (Some table) said = (is_handled outcome ≡ true) × ShowsOld at past table
-IsSound fresh past between (Datagram at packet now) outcome (Some table) said = (is_heard outcome ≡ true) × ShowsOld at past table
-IsSound fresh past between (Poll at) outcome (Some table) said = (is_polled outcome ≡ true) × ShowsOld at past table
-IsSound fresh past between (Drain at) outcome (Some table) said = (is_polled outcome ≡ true) × ShowsOld at past table
-IsSound fresh past between (Close at) outcome (Some table) said = (is_handled outcome ≡ true) × ShowsOld at past table
+IsSound fresh past between (Time at now) outcome (Some table) said = (is_handled outcome ≡ true) × ShowsOldLines at past table
+IsSound fresh past between (Datagram at packet now) outcome (Some table) said = (is_heard outcome ≡ true) × ShowsOldLines at past table
+IsSound fresh past between (Poll at) outcome (Some table) said = (is_polled outcome ≡ true) × ShowsOldLines at past table
+IsSound fresh past between (Drain at) outcome (Some table) said = (is_polled outcome ≡ true) × ShowsOldLines at past table
+IsSound fresh past between (Close at) outcome (Some table) said = (is_handled outcome ≡ true) × ShowsOldLines at past table
 IsSound fresh past between step Alloc None said = Unit {0}
 IsSound fresh past between (Negotiate at ops apply) (Negotiated answers made) (Some table) said =
-    OpsAnswered (at_first at past (new_app table.lines said)) ops answers table.lines
+    OpsAnswered (at_first (between at) at past (new_app table.lines said)) ops answers table.lines
     × MadeOf (apply && not (answers_lack answers)) (do_need_offer (has_app_row (before at past)) answers) made (length (sdps past))
     × (table.channels ≡ channels_shown at past ++ rows_waiting answers)
 IsSound fresh past between (AcceptOffer at offer) outcome (Some table) said =

@@ -53,26 +53,26 @@ none_added : (app : Option (List ℕ)) (may : Bool) (held : List (List ℕ)) (pl
 none_added app may held place at ops = rw (added_none app at ops) tt
 
 -- what ops stage is added
-pub ops_add : (rows : List LineRow) (held : List (List ℕ)) (app : Option (List ℕ)) (channels : Channels) (ops : List Op) (answers : List OpAnswer) (after : List LineRow) (place : ℕ)
-    → OpsAnswered (record { rows = rows; held = held; app = app; channels = channels }) ops answers after → AreAdded (is_some app) held place (added app place ops answers)
-ops_add rows held app channels [] [] after place answered = tt
-ops_add rows held app channels (AddMedia kind dir ∷ ops) (Mid mid ∷ answers) after place answered =
-    (record { here = refl; live = refl; own = refl; free = answered.0 }, ops_add rows (mid ∷ held) app channels ops answers after (place + 1) answered.1)
-ops_add rows held app channels (AddMedia kind dir ∷ ops) (OpAlloc ∷ []) after place answered = none_added app (is_some app) held place place ops
-ops_add rows held app channels (SetDirection at dir ∷ ops) (NoLine ∷ answers) after place answered = ops_add rows held app channels ops answers after place answered.1
-ops_add rows held app channels (SetDirection at dir ∷ ops) (Changed changed ∷ answers) after place answered = ops_add (changed_at (directed_row dir) at rows) held app channels ops answers after place answered.1
-ops_add rows held app channels (SetDirection at dir ∷ ops) (OpAlloc ∷ []) after place answered = none_added app (is_some app) held place place ops
-ops_add rows held app channels (StopMedia at ∷ ops) (NoLine ∷ answers) after place answered = ops_add rows held app channels ops answers after place answered.1
-ops_add rows held app channels (StopMedia at ∷ ops) (Changed changed ∷ answers) after place answered = ops_add (changed_at stopped_row at rows) held app channels ops answers after place answered.1
-ops_add rows held app channels (StopMedia at ∷ ops) (OpAlloc ∷ []) after place answered = none_added app (is_some app) held place place ops
-ops_add rows held None channels (AddChannel config ∷ ops) (Channel id ∷ answers) after place answered = ops_add rows held None (with_numbered id config channels) ops answers after place answered.2
-ops_add rows held (Some mid) channels (AddChannel config ∷ ops) (Channel id ∷ answers) after place answered =
-    (record { here = refl; first = refl; free = answered.1 }, ops_add rows (mid ∷ held) None (with_numbered id config channels) ops answers after (place + 1) answered.2)
-ops_add rows held app channels (AddChannel config ∷ ops) (BadChannel ∷ answers) after place answered = ops_add rows held app channels ops answers after place answered.1
-ops_add rows held app channels (AddChannel config ∷ ops) (OpAlloc ∷ []) after place answered = none_added app (is_some app) held place place ops
-ops_add rows held app channels (IceRestart keep ∷ ops) (Creds creds ∷ answers) after place answered = ops_add rows held app channels ops answers after place answered
-ops_add rows held app channels (IceRestart keep ∷ ops) (OpAlloc ∷ []) after place answered = none_added app (is_some app) held place place ops
-ops_add rows held app channels ops answers after place answered = absurd answered
+pub ops_add : (rows : List LineRow) (held : List (List ℕ)) (app : Option (List ℕ)) (channels : Channels) (numbers : List ℕ) (ops : List Op) (answers : List OpAnswer) (after : List LineRow) (place : ℕ)
+    → OpsAnswered (record { rows = rows; held = held; app = app; channels = channels; numbers = numbers }) ops answers after → AreAdded (is_some app) held place (added app place ops answers)
+ops_add rows held app channels numbers [] [] after place answered = tt
+ops_add rows held app channels numbers (AddMedia kind dir ∷ ops) (Mid mid ∷ answers) after place answered =
+    (record { here = refl; live = refl; own = refl; free = answered.0 }, ops_add rows (mid ∷ held) app channels numbers ops answers after (place + 1) answered.1)
+ops_add rows held app channels numbers (AddMedia kind dir ∷ ops) (OpAlloc ∷ []) after place answered = none_added app (is_some app) held place place ops
+ops_add rows held app channels numbers (SetDirection at dir ∷ ops) (NoLine ∷ answers) after place answered = ops_add rows held app channels numbers ops answers after place answered.1
+ops_add rows held app channels numbers (SetDirection at dir ∷ ops) (Changed changed ∷ answers) after place answered = ops_add (changed_at (directed_row dir) at rows) held app channels numbers ops answers after place answered.1
+ops_add rows held app channels numbers (SetDirection at dir ∷ ops) (OpAlloc ∷ []) after place answered = none_added app (is_some app) held place place ops
+ops_add rows held app channels numbers (StopMedia at ∷ ops) (NoLine ∷ answers) after place answered = ops_add rows held app channels numbers ops answers after place answered.1
+ops_add rows held app channels numbers (StopMedia at ∷ ops) (Changed changed ∷ answers) after place answered = ops_add (changed_at stopped_row at rows) held app channels numbers ops answers after place answered.1
+ops_add rows held app channels numbers (StopMedia at ∷ ops) (OpAlloc ∷ []) after place answered = none_added app (is_some app) held place place ops
+ops_add rows held None channels numbers (AddChannel config ∷ ops) (Channel id ∷ answers) after place answered = ops_add rows held None (with_numbered id config channels) (id ∷ numbers) ops answers after place answered.2
+ops_add rows held (Some mid) channels numbers (AddChannel config ∷ ops) (Channel id ∷ answers) after place answered =
+    (record { here = refl; first = refl; free = answered.1 }, ops_add rows (mid ∷ held) None (with_numbered id config channels) (id ∷ numbers) ops answers after (place + 1) answered.2)
+ops_add rows held app channels numbers (AddChannel config ∷ ops) (BadChannel ∷ answers) after place answered = ops_add rows held app channels numbers ops answers after place answered.1
+ops_add rows held app channels numbers (AddChannel config ∷ ops) (OpAlloc ∷ []) after place answered = none_added app (is_some app) held place place ops
+ops_add rows held app channels numbers (IceRestart keep ∷ ops) (Creds creds ∷ answers) after place answered = ops_add rows held app channels numbers ops answers after place answered
+ops_add rows held app channels numbers (IceRestart keep ∷ ops) (OpAlloc ∷ []) after place answered = none_added app (is_some app) held place place ops
+ops_add rows held app channels numbers ops answers after place answered = absurd answered
 
 pub added_rising : (may : Bool) (held : List (List ℕ)) (place : ℕ) (rows : List LineRow) → AreAdded may held place rows → Rising place rows
 added_rising may held place [] new = tt

@@ -2,7 +2,7 @@
 use Rattle.rtc_dtls.specs.declared.dtls_error.DtlsError.TheVariants.{Fault, WouldBlock, Alloc as DtlsAlloc}
 use Rattle.rtc_peer_state.specs.Stance.{held_by}
 use Rattle.rtc_history.specs.Views.{Stances, view_in}
-use Rattle.std.proofs.Common.{◌≡◌, ◌≢◌, ◌≤◌, ◌<◌, ◌+◌, ◌^◌, ◌==◌, ℕ, List, ◌∷◌, length, Bool, true, false, ◌&&◌, Option, Some, None, refl, sym, ◌∙◌, ap, arith, inl, inr}
+use Rattle.std.proofs.Common.{◌≡◌, ◌≢◌, ◌≤◌, ◌<◌, ◌+◌, ◌^◌, ◌==◌, ℕ, List, [], ◌∷◌, length, Bool, true, false, ◌&&◌, Option, Some, None, refl, sym, ◌∙◌, ap, arith, inl, inr}
 use Rattle.std.specs.Prelude.{slice_get, slice_set, is_some}
 use Rattle.std.proofs.lemmas.Bool.{and_right, eq-eqb, ne_eqb}
 use Rattle.rtc_sdp_values.specs.declared.line_row.LineRow.{LineRow}
@@ -22,16 +22,16 @@ use Rattle.rtc_history.specs.declared.step.Step.TheVariants.{AcceptAnswer}
 use Rattle.rtc_history.specs.declared.outcome.Outcome.{Outcome}
 use Rattle.rtc_history.specs.declared.outcome.Outcome.TheVariants.{Finished, Refused, NoSuch, Alloc}
 use Rattle.rtc_history.specs.declared.table.Table.{Table}
-use Rattle.rtc_history.specs.Past.{Entry, MadeSdp, before, channels_shown, channel_rows_or, rows_or, remote_sdp, is_right, was_called, makes, restarts_by}
+use Rattle.rtc_history.specs.Past.{Entry, MadeSdp, before, channels_shown, channel_rows_or, numbers_in, rows_or, remote_sdp, is_right, was_called, makes, restarts_by}
 use Rattle.rtc_history.specs.Sound.{RepliesToAnswer, IsSound, asked_in}
 use Rattle.rtc_history.specs.declared.kept.Kept.{Kept}
 use Rattle.rtc_history.specs.PairState.{token_for, held_token, spent}
 use Rattle.rtc_wire.specs.declared.channel_config.ChannelConfig.{ChannelConfig}
-use Rattle.rtc_channels.specs.Channels.{Channels, channel_rows, all_confirmed}
-use Rattle.rtc_history_laws.proofs.ToldChannels.{AreToldAlike, alike_told, all_confirmed_told}
+use Rattle.rtc_channels.specs.Channels.{Channels, all_confirmed}
+use Rattle.rtc_history_laws.proofs.NumberedChannels.{AreNumbered, same_numbers, all_confirmed_numbered}
 use Rattle.rtc_history_laws.proofs.Tells.{Tells, ChannelsTell, TokenTells, raised-small}
 use Rattle.rtc_history_laws.proofs.TokenEntries.{StaysOrRight, bare, spent_tells}
-use Rattle.rtc_history_laws.proofs.Around.{Around, entry, goes_on, channels_kept, quiet_tells}
+use Rattle.rtc_history_laws.proofs.Around.{Around, entry, goes_on, channels_next, quiet_tells}
 use Rattle.rtc_history_laws.proofs.OfferSteps.{shown_by, taken_within}
 use Rattle.rtc_history_laws.proofs.StanceSteps.{PairStance, StanceShows, StanceStepAcceptsAnswer}
 
@@ -64,7 +64,7 @@ asked_told past at counter t found token rows told is same =
 -- the reply to an answer that is delivered
 pub answer_reply : {E : Type 0} → (fresh between : Stances) (past : List (Entry E)) (at : Side) (t a size : ℕ) (found : Option Kept) (token : Option PendingOffer) (sdp : Option Sdp) (old new : Stance) (kept kept' : List Kept) (outcome : Outcome E) (table : Option Table) (made : List MadeSdp)
     → token_for at found ≡ token → TokenTells past at old.counter t found → old.counter ≤ size → size < 2 ^ 32 → remote_sdp false at a past ≡ sdp → view_in fresh at past (held_by (between at)) ≡ held_by old → before at past ≡ old.lines
-    → channels_shown at past ≡ channel_rows old.channels → StanceStepAcceptsAnswer t token sdp old kept outcome table new kept' → IsSound fresh past between (AcceptAnswer at t a) outcome table made
+    → channels_shown at past ≡ old.rows → StanceStepAcceptsAnswer t token sdp old kept outcome table new kept' → IsSound fresh past between (AcceptAnswer at t a) outcome table made
 answer_reply {E} fresh between past at t a size found None None old new kept kept' Alloc None made is told_it low small said view rows shown h = tt
 answer_reply {E} fresh between past at t a size found None (Some sdp) old new kept kept' Alloc None made is told_it low small said view rows shown h = tt
 answer_reply {E} fresh between past at t a size found (Some token) None old new kept kept' Alloc None made is told_it low small said view rows shown h = tt
@@ -86,25 +86,25 @@ answer_reply {E} fresh between past at t a size found (Some token) (Some sdp) ol
   answer_by true _ true _ (asked_by old.lines token) _ (Some sdp) _ (held_by old) _ Finished table.lines (sym told_it.held ∙ ap is_some is)
       (now_right old.counter size token.id (is_right at t past) h.0.right (told_it.right token is) (told_it.older token is) low small)
       (asked_told past at old.counter t found token old.lines told_it is rows) said view (h.0.passes, h.2.lines ∙ ap (λ p. p.lines) h.0.rest),
-  shown_by past at old new table shown (ap (λ p. channel_rows p.channels) h.0.rest ∙ (all_confirmed_told (fitting_channels token.changes) old.channels).shown) h.2,
+  shown_by past at old new table shown (ap (λ p. p.rows) h.0.rest) h.2,
 )
 answer_reply {E} fresh between past at t a size found (Some token) (Some sdp) old new kept kept' (Refused (RemoteSdp why)) (Some table) made is told_it low small said view rows shown h = (
   answer_by true _ true _ (asked_by old.lines token) _ (Some sdp) _ (held_by old) _ (Refused (RemoteSdp why)) table.lines (sym told_it.held ∙ ap is_some is)
       (now_right old.counter size token.id (is_right at t past) h.0.0 (told_it.right token is) (told_it.older token is) low small)
       (asked_told past at old.counter t found token old.lines told_it is rows) said view (h.0.1.0, h.2.lines ∙ ap (λ p. p.lines) h.0.1.1),
-  shown_by past at old new table shown (ap (λ p. channel_rows p.channels) h.0.1.1) h.2,
+  shown_by past at old new table shown (ap (λ p. p.rows) h.0.1.1) h.2,
 )
 answer_reply {E} fresh between past at t a size found (Some token) (Some sdp) old new kept kept' (Refused (SdpRefused error)) (Some table) made is told_it low small said view rows shown h = (
   answer_by true _ true _ (asked_by old.lines token) _ (Some sdp) _ (held_by old) _ (Refused (SdpRefused error)) table.lines (sym told_it.held ∙ ap is_some is)
       (now_right old.counter size token.id (is_right at t past) h.0.0 (told_it.right token is) (told_it.older token is) low small)
       (asked_told past at old.counter t found token old.lines told_it is rows) said view (h.0.1.0, h.2.lines ∙ ap (λ p. p.lines) h.0.1.1),
-  shown_by past at old new table shown (ap (λ p. channel_rows p.channels) h.0.1.1) h.2,
+  shown_by past at old new table shown (ap (λ p. p.rows) h.0.1.1) h.2,
 )
 answer_reply {E} fresh between past at t a size found (Some token) (Some sdp) old new kept kept' (Refused (Dtls Fault)) (Some table) made is told_it low small said view rows shown h = (
   answer_by true _ true _ (asked_by old.lines token) _ (Some sdp) _ (held_by old) _ (Refused (Dtls Fault)) table.lines (sym told_it.held ∙ ap is_some is)
       (now_right old.counter size token.id (is_right at t past) h.0.0 (told_it.right token is) (told_it.older token is) low small)
       (asked_told past at old.counter t found token old.lines told_it is rows) said view (h.0.1, h.2.lines ∙ ap (λ p. p.lines) h.0.2.rest),
-  shown_by past at old new table shown (ap (λ p. channel_rows p.channels) h.0.2.rest) h.2,
+  shown_by past at old new table shown (ap (λ p. p.rows) h.0.2.rest) h.2,
 )
 answer_reply {E} fresh between past at t a size found (Some token) (Some sdp) old new kept kept' (Refused (Dtls WouldBlock)) (Some table) made is told_it low small said view rows shown h = absurd h.0
 answer_reply {E} fresh between past at t a size found (Some token) (Some sdp) old new kept kept' (Refused (Dtls DtlsAlloc)) (Some table) made is told_it low small said view rows shown h = absurd h.0
@@ -112,19 +112,19 @@ answer_reply {E} fresh between past at t a size found (Some token) (Some sdp) ol
   answer_by true _ true _ (asked_by old.lines token) _ (Some sdp) _ (held_by old) _ (Refused (Sctp error)) table.lines (sym told_it.held ∙ ap is_some is)
       (now_right old.counter size token.id (is_right at t past) h.0.0 (told_it.right token is) (told_it.older token is) low small)
       (asked_told past at old.counter t found token old.lines told_it is rows) said view (h.0.1, h.0.2, h.2.lines ∙ ap (λ p. p.lines) h.0.3.rest),
-  shown_by past at old new table shown (ap (λ p. channel_rows p.channels) h.0.3.rest) h.2,
+  shown_by past at old new table shown (ap (λ p. p.rows) h.0.3.rest) h.2,
 )
 answer_reply {E} fresh between past at t a size found (Some token) (Some sdp) old new kept kept' (Refused PeerAlloc) (Some table) made is told_it low small said view rows shown h = (
   answer_by true _ true _ (asked_in at t past) _ (Some sdp) _ (held_by old) _ (Refused PeerAlloc) table.lines (sym told_it.held ∙ ap is_some is)
       (now_right old.counter size token.id (is_right at t past) h.0.0 (told_it.right token is) (told_it.older token is) low small)
       refl said view (h.2.lines ∙ ap (λ p. p.lines) h.0.1.rest),
-  shown_by past at old new table shown (ap (λ p. channel_rows p.channels) h.0.1.rest) h.2,
+  shown_by past at old new table shown (ap (λ p. p.rows) h.0.1.rest) h.2,
 )
 answer_reply {E} fresh between past at t a size found (Some token) (Some sdp) old new kept kept' (Refused ChangesOutOfOrder) (Some table) made is told_it low small said view rows shown h = (
   answer_by true _ false _ (asked_in at t past) _ (Some sdp) _ (held_by old) _ (Refused ChangesOutOfOrder) table.lines (sym told_it.held ∙ ap is_some is)
       (not_right old.counter size token.id (is_right at t past) h.0.0 (told_it.right token is) (told_it.older token is) low small)
       refl said view (h.2.lines ∙ ap (λ p. p.lines) h.0.1),
-  shown_by past at old new table shown (ap (λ p. channel_rows p.channels) h.0.1) h.2,
+  shown_by past at old new table shown (ap (λ p. p.rows) h.0.1) h.2,
 )
 answer_reply {E} fresh between past at t a size found (Some token) (Some sdp) old new kept kept' (Refused (Net cause)) (Some table) made is told_it low small said view rows shown h = absurd h.0
 answer_reply {E} fresh between past at t a size found (Some token) (Some sdp) old new kept kept' (Refused (MediaFailed cause)) (Some table) made is told_it low small said view rows shown h = absurd h.0
@@ -133,20 +133,21 @@ answer_reply {E} fresh between past at t a size found token sdp old new kept kep
 
 -- ---- what the entry leaves
 
--- the channels that steps tell are those of before
-channels_go : {E : Type 0} → (past : List (Entry E)) (at : Side) (t a : ℕ) (outcome : Outcome E) (table : Option Table) (made : List MadeSdp) (old new : PairStance) → AreToldAlike (old.sides at).channels (new.sides at).channels
-    → channel_rows_or true table (channels_shown at past) ≡ channel_rows (new.sides at).channels → Tells past old → ChannelsTell (entry (AcceptAnswer at t a) outcome table made ∷ past) at (new.sides at).channels
-channels_go past at t a outcome table made old new alike shown tells =
-    channels_kept past (AcceptAnswer at t a) outcome table made (old.sides at).channels (new.sides at).channels (λ held. refl) alike shown (tells.sides at).channels
+-- the channels of a side that tells no number
+channels_go : {E : Type 0} → (past : List (Entry E)) (at : Side) (t a : ℕ) (outcome : Outcome E) (table : Option Table) (made : List MadeSdp) (old new : PairStance) → numbers_in outcome ≡ []
+    → AreNumbered [] (old.sides at).channels (new.sides at).channels → channel_rows_or true table (channels_shown at past) ≡ (new.sides at).rows → Tells past old
+    → ChannelsTell (entry (AcceptAnswer at t a) outcome table made ∷ past) at (new.sides at)
+channels_go past at t a outcome table made old new none numbered shown tells =
+    channels_next past (AcceptAnswer at t a) outcome table made (old.sides at) (new.sides at) (rw none numbered) shown (tells.sides at).channels
 
 -- the peer was delivered nothing
 untouched_tells : {E : Type 0} → (past : List (Entry E)) (at : Side) (t a : ℕ) (outcome : Outcome E) (table : Option Table) (made : List MadeSdp) (old new : PairStance)
-    → was_called outcome ≡ false → ((u : ℕ) → makes u outcome ≡ false) → new.sides at ≡ old.sides at → new.sdps ≡ old.sdps → rows_or true table (before at past) ≡ (old.sides at).lines
-    → channel_rows_or true table (channels_shown at past) ≡ channel_rows (old.sides at).channels
+    → was_called outcome ≡ false → ((u : ℕ) → makes u outcome ≡ false) → numbers_in outcome ≡ [] → new.sides at ≡ old.sides at → new.sdps ≡ old.sdps → rows_or true table (before at past) ≡ (old.sides at).lines
+    → channel_rows_or true table (channels_shown at past) ≡ (old.sides at).rows
     → Around (AcceptAnswer at t a) made old new → Tells past old → Tells (entry (AcceptAnswer at t a) outcome table made ∷ past) new
-untouched_tells past at t a outcome table made old new uncalled unmade peer kept rows shown around tells =
+untouched_tells past at t a outcome table made old new uncalled unmade none peer kept rows shown around tells =
     quiet_tells false past (AcceptAnswer at t a) outcome table made old new (ap (λ p. length p.lines) peer) kept (ap (λ p. p.lines) peer ∙ sym rows)
-    (channels_go past at t a outcome table made old new (alike_told (old.sides at).channels (new.sides at).channels (ap (λ p. p.channels) peer)) (shown ∙ ap (λ p. channel_rows p.channels) (sym peer)) tells) (ap (λ p. p.counter) peer)
+    (channels_go past at t a outcome table made old new none (same_numbers (old.sides at).channels (new.sides at).channels (ap (λ p. p.channels) peer)) (shown ∙ ap (λ p. p.rows) (sym peer)) tells) (ap (λ p. p.counter) peer)
     refl refl (λ u. and_right (t == u) (was_called outcome) uncalled) unmade around tells
 
 -- the SDP of a token that is held
@@ -163,14 +164,14 @@ and_true false = refl
 
 -- the token is spent
 spends_tells : {E : Type 0} → (past : List (Entry E)) (at : Side) (t a : ℕ) (token : PendingOffer) (outcome : Outcome E) (table : Table) (made : List MadeSdp) (old new : PairStance)
-    → held_token old.sdps at t ≡ Some token → was_called outcome ≡ true → ((u : ℕ) → makes u outcome ≡ false) → new.sdps ≡ spent t old.sdps
-    → (new.sides at).counter ≡ (old.sides at).counter → StanceShows table (new.sides at) → AreToldAlike (old.sides at).channels (new.sides at).channels → length (new.sides at).lines ≤ old.size
+    → held_token old.sdps at t ≡ Some token → was_called outcome ≡ true → ((u : ℕ) → makes u outcome ≡ false) → numbers_in outcome ≡ [] → new.sdps ≡ spent t old.sdps
+    → (new.sides at).counter ≡ (old.sides at).counter → StanceShows table (new.sides at) → AreNumbered [] (old.sides at).channels (new.sides at).channels → length (new.sides at).lines ≤ old.size
     → StaysOrRight at (old.sides at) old.sdps t (new.sides at)
     → Around (AcceptAnswer at t a) made old new → Tells past old → Tells (entry (AcceptAnswer at t a) outcome (Some table) made ∷ past) new
-spends_tells past at t a token outcome table made old new is was unmade kept counter shows alike few right around tells =
+spends_tells past at t a token outcome table made old new is was unmade none kept counter shows numbered few right around tells =
     let found : (kept : Kept) × (slice_get old.sdps t ≡ Some kept) = text_found at (slice_get old.sdps t) token is in
     spent_tells past (entry (AcceptAnswer at t a) outcome (Some table) made) old new t found.0
-    (goes_on false past (AcceptAnswer at t a) outcome (Some table) made old new (sym shows.lines) (channels_go past at t a outcome (Some table) made old new alike shows.channels tells) counter refl refl (omega (arith, few, around.size)) around)
+    (goes_on false past (AcceptAnswer at t a) outcome (Some table) made old new (sym shows.lines) (channels_go past at t a outcome (Some table) made old new none numbered shows.channels tells) counter refl refl (omega (arith, few, around.size)) around)
     right found.1 (kept ∙ spent-is t old.sdps found.0 found.1) (λ u. ap (λ b. (t == u) && b) was ∙ and_true (t == u)) unmade tells
 
 -- the peer refused the answer
@@ -181,11 +182,11 @@ refused_tells : {E : Type 0} → (past : List (Entry E)) (at : Side) (t a : ℕ)
 refused_tells past at t a token error table made old new is kept lines counter channels shows around tells =
     let few : length (old.sides at).lines ≤ old.size = (tells.sides at).few in
     let same : length (new.sides at).lines ≡ length (old.sides at).lines = ap length lines in
-    spends_tells past at t a token (Refused error) table made old new is refl (λ u. refl) kept counter shows (alike_told (old.sides at).channels (new.sides at).channels channels) (omega arith) (inl same) around tells
+    spends_tells past at t a token (Refused error) table made old new is refl (λ u. refl) refl kept counter shows (same_numbers (old.sides at).channels (new.sides at).channels channels) (omega arith) (inl same) around tells
 
--- the channels that an answer confirms are told as before
-told_after : (held held' : Channels) (channels : List (ℕ × ChannelConfig)) → held' ≡ all_confirmed channels held → AreToldAlike held held'
-told_after held held' channels is = rw is (all_confirmed_told channels held)
+-- the channels that an answer confirms keep their numbers
+confirmed_by : (held held' : Channels) (channels : List (ℕ × ChannelConfig)) → held' ≡ all_confirmed channels held → AreNumbered [] held held'
+confirmed_by held held' channels is = rw is (all_confirmed_numbered channels held)
 
 -- A step that hands over an answer.
 pub answer_tells : {E : Type 0} → (past : List (Entry E)) (at : Side) (t a : ℕ) (token : Option PendingOffer) (sdp : Option Sdp) (old new : PairStance) (outcome : Outcome E) (table : Option Table) (made : List MadeSdp)
@@ -193,23 +194,23 @@ pub answer_tells : {E : Type 0} → (past : List (Entry E)) (at : Side) (t a : �
     → StanceStepAcceptsAnswer t token sdp (old.sides at) old.sdps outcome table (new.sides at) new.sdps
     → Around (AcceptAnswer at t a) made old new → Tells past old → Tells (entry (AcceptAnswer at t a) outcome table made ∷ past) new
 answer_tells past at t a None None old new Alloc None made few is h around tells =
-    untouched_tells past at t a Alloc None made old new refl (λ u. refl) h.peer h.sdps_kept (sym (tells.sides at).rows) (sym (tells.sides at).channels.shown) around tells
+    untouched_tells past at t a Alloc None made old new refl (λ u. refl) refl h.peer h.sdps_kept (sym (tells.sides at).rows) (sym (tells.sides at).channels.shown) around tells
 answer_tells past at t a None (Some sdp) old new Alloc None made few is h around tells =
-    untouched_tells past at t a Alloc None made old new refl (λ u. refl) h.peer h.sdps_kept (sym (tells.sides at).rows) (sym (tells.sides at).channels.shown) around tells
+    untouched_tells past at t a Alloc None made old new refl (λ u. refl) refl h.peer h.sdps_kept (sym (tells.sides at).rows) (sym (tells.sides at).channels.shown) around tells
 answer_tells past at t a (Some token) None old new Alloc None made few is h around tells =
-    untouched_tells past at t a Alloc None made old new refl (λ u. refl) h.peer h.sdps_kept (sym (tells.sides at).rows) (sym (tells.sides at).channels.shown) around tells
+    untouched_tells past at t a Alloc None made old new refl (λ u. refl) refl h.peer h.sdps_kept (sym (tells.sides at).rows) (sym (tells.sides at).channels.shown) around tells
 answer_tells past at t a (Some token) (Some sdp) old new Alloc None made few is h around tells =
-    untouched_tells past at t a Alloc None made old new refl (λ u. refl) h.peer h.sdps_kept (sym (tells.sides at).rows) (sym (tells.sides at).channels.shown) around tells
+    untouched_tells past at t a Alloc None made old new refl (λ u. refl) refl h.peer h.sdps_kept (sym (tells.sides at).rows) (sym (tells.sides at).channels.shown) around tells
 answer_tells past at t a None None old new NoSuch (Some table) made few is h around tells =
-    untouched_tells past at t a NoSuch (Some table) made old new refl (λ u. refl) h.0.peer h.0.sdps_kept h.1.lines h.1.channels around tells
+    untouched_tells past at t a NoSuch (Some table) made old new refl (λ u. refl) refl h.0.peer h.0.sdps_kept h.1.lines h.1.channels around tells
 answer_tells past at t a None (Some sdp) old new NoSuch (Some table) made few is h around tells =
-    untouched_tells past at t a NoSuch (Some table) made old new refl (λ u. refl) h.0.peer h.0.sdps_kept h.1.lines h.1.channels around tells
+    untouched_tells past at t a NoSuch (Some table) made old new refl (λ u. refl) refl h.0.peer h.0.sdps_kept h.1.lines h.1.channels around tells
 answer_tells past at t a (Some token) None old new NoSuch (Some table) made few is h around tells =
-    untouched_tells past at t a NoSuch (Some table) made old new refl (λ u. refl) h.0.peer h.0.sdps_kept h.1.lines h.1.channels around tells
+    untouched_tells past at t a NoSuch (Some table) made old new refl (λ u. refl) refl h.0.peer h.0.sdps_kept h.1.lines h.1.channels around tells
 answer_tells past at t a (Some token) (Some sdp) old new Finished (Some table) made few is h around tells =
     let most : length (table_after (old.sides at).lines (parsed_lines sdp) false) ≤ old.size = taken_within (old.sides at).lines sdp false old.size (tells.sides at).few (few sdp refl) in
     let rows : length (new.sides at).lines ≡ length (table_after (old.sides at).lines (parsed_lines sdp) false) = ap (λ p. length p.lines) h.0.rest in
-    spends_tells past at t a token Finished table made old new is refl (λ u. refl) h.1 (ap (λ p. p.counter) h.0.rest) h.2 (told_after (old.sides at).channels (new.sides at).channels (fitting_channels token.changes) (ap (λ p. p.channels) h.0.rest)) (omega (arith, most, rows)) (inr (token, is, h.0.right)) around tells
+    spends_tells past at t a token Finished table made old new is refl (λ u. refl) refl h.1 (ap (λ p. p.counter) h.0.rest) h.2 (confirmed_by (old.sides at).channels (new.sides at).channels (fitting_channels token.changes) (ap (λ p. p.channels) h.0.rest)) (omega (arith, most, rows)) (inr (token, is, h.0.right)) around tells
 answer_tells past at t a (Some token) (Some sdp) old new (Refused (RemoteSdp why)) (Some table) made few is h around tells =
     refused_tells past at t a token (RemoteSdp why) table made old new is h.1 (ap (λ p. p.lines) h.0.1.1) (ap (λ p. p.counter) h.0.1.1) (ap (λ p. p.channels) h.0.1.1) h.2 around tells
 answer_tells past at t a (Some token) (Some sdp) old new (Refused (SdpRefused error)) (Some table) made few is h around tells =

@@ -1,11 +1,12 @@
 -- Ops that are performed are answered by what they find, each on the rows that the one before left.
-use Rattle.std.proofs.Common.{◌≡◌, ℕ, List, [], ◌∷◌, ◌++◌, Bool, true, false, ◌||◌, Option, Some, None, Ok, refl, sym, ◌∙◌, ap, subst, append-nil}
+use Rattle.std.proofs.Common.{◌≡◌, ◌+◌, ◌<◌, ℕ, List, [], ◌∷◌, ◌++◌, Bool, true, false, ◌||◌, Option, Some, None, Ok, refl, sym, ◌∙◌, ap, subst, arith, append-nil}
 use Rattle.std.specs.Prelude.{slice_get, is_some}
 use Rattle.std.specs.Str.{bytes_eq}
+use Rattle.std.proofs.lemmas.List.Elements.{All-cons}
 use Rattle.std.proofs.lemmas.List.Folds.{list_any-append}
 use Rattle.std.proofs.lemmas.Bool.{or_parts, or_from}
 use Rattle.rtc_wire.specs.declared.channel_config.ChannelConfig.{ChannelConfig}
-use Rattle.rtc_channels.specs.Channels.{Channels, is_bad_channel, with_channel, AreBelow}
+use Rattle.rtc_channels.specs.Channels.{Channels, is_bad_channel, with_channel}
 use Rattle.rtc_sdp_values.specs.declared.direction.Direction.{Direction}
 use Rattle.rtc_sdp_values.specs.declared.direction.Direction.TheVariants.{Inactive}
 use Rattle.rtc_sdp_values.specs.declared.line_row.LineRow.{LineRow}
@@ -30,7 +31,7 @@ use Rattle.rtc_change.specs.TableAfter.{with_front}
 use Rattle.rtc_history.specs.Answers.{has_app_row, with_numbered}
 use Rattle.rtc_history.specs.Performs.{CallsLine}
 use Rattle.rtc_history_laws.proofs.OpRows.{has_app-alike}
-use Rattle.rtc_history_laws.proofs.ToldChannels.{told, told_more, bad_told, below_told}
+use Rattle.rtc_history_laws.proofs.NumberedChannels.{AreLess, less_weaker}
 use Rattle.rtc_history_laws.proofs.StagedApps.{AppTold, contains-append, needs_same, told_same, ChannelStaged, channel_staged, app_mid_is}
 use Rattle.rtc_history_laws.proofs.RestartChanges.{mids-restart, lined-restart}
 use Rattle.rtc_history_laws.proofs.PlacedRows.{IsPlaced, placed, unchanged_at}
@@ -111,31 +112,34 @@ line_answered change to place p false held r keeps table holds call =
 -- ---- each op
 
 -- what a peer has midway through ops
-abbrev pub midway : Stance → List (List ℕ) → Option (List ℕ) → Midway
-midway p held app = record { rows = p.lines; held = held; app = app; channels = told p.channels }
+abbrev pub midway : Stance → List (List ℕ) → Option (List ℕ) → List ℕ → Midway
+midway p held app numbers = record { rows = p.lines; held = held; app = app; channels = p.channels; numbers = numbers }
 
 -- the same with other rows and channels
-midway_from : (rows rows' : List LineRow) (channels channels' : Channels) (held : List (List ℕ)) (app : Option (List ℕ)) (ops : List Op) (answers : List OpAnswer) (after : List LineRow) → rows' ≡ rows → channels' ≡ channels
-    → OpsAnswered (record { rows = rows'; held = held; app = app; channels = channels' }) ops answers after → OpsAnswered (record { rows = rows; held = held; app = app; channels = channels }) ops answers after
-midway_from rows rows' channels channels' held app ops answers after same_rows same_channels answered = rw (← same_rows) (rw (← same_channels) answered)
+midway_from : (rows rows' : List LineRow) (channels channels' : Channels) (held : List (List ℕ)) (app : Option (List ℕ)) (numbers : List ℕ) (ops : List Op) (answers : List OpAnswer) (after : List LineRow) → rows' ≡ rows → channels' ≡ channels
+    → OpsAnswered (record { rows = rows'; held = held; app = app; channels = channels'; numbers = numbers }) ops answers after → OpsAnswered (record { rows = rows; held = held; app = app; channels = channels; numbers = numbers }) ops answers after
+midway_from rows rows' channels channels' held app numbers ops answers after same_rows same_channels answered = rw (← same_rows) (rw (← same_channels) answered)
 
 -- What is known of a peer that performs ops.
 pub record MayAct (p : Stance) (held : List (List ℕ)) (app : Option (List ℕ)) (q : Stance) : Type 0 where
   pub table : IsTable p.lines
   pub holds : Holds p held
   pub app_is : AppTold p app q
-  pub below : AreBelow p.channels.given p.channels.rows
 
--- a channel has a number above all before
-gives_number : (p : Stance) (config : ChannelConfig) (id : ℕ) → is_bad_channel p.channels config ≡ false → id ≡ p.channels.given → AreBelow p.channels.given p.channels.rows → GivesNumber (told p.channels) config id
-gives_number p config id fine numbered below = (bad_told p.channels config ∙ fine, rw numbered (below_told p.channels.given p.channels.rows below))
+-- a channel has a number above all that were told
+gives_number : (p : Stance) (held : List (List ℕ)) (app : Option (List ℕ)) (numbers : List ℕ) (config : ChannelConfig) (id : ℕ) → is_bad_channel p.channels config ≡ false → id ≡ p.channels.given → AreLess p.channels.given numbers
+    → GivesNumber (midway p held app numbers) config id
+gives_number p held app numbers config id fine numbered less = (fine, rw numbered less)
 
--- what is told of channels with one more
-channels_more : (p r : Stance) (config : ChannelConfig) (id : ℕ) → r.channels ≡ with_channel p.channels config → id ≡ p.channels.given → told r.channels ≡ with_numbered id config (told p.channels)
-channels_more p r config id is numbered = ap told is ∙ (told_more p.channels config).same ∙ ap (λ (n : ℕ). with_numbered n config (told p.channels)) (sym numbered)
+-- with one more channel
+channels_more : (p r : Stance) (config : ChannelConfig) (id : ℕ) → r.channels ≡ with_channel p.channels config → id ≡ p.channels.given → r.channels ≡ with_numbered id config p.channels
+channels_more p r config id is numbered = is ∙ ap (λ (n : ℕ). with_numbered n config p.channels) (sym numbered)
 
-below_more : (p r : Stance) (config : ChannelConfig) → r.channels ≡ with_channel p.channels config → AreBelow p.channels.given p.channels.rows → AreBelow r.channels.given r.channels.rows
-below_more p r config is below = rw is ((told_more p.channels config).below below)
+-- its number is among those that were told
+told_more : (p r : Stance) (config : ChannelConfig) (id : ℕ) (numbers : List ℕ) → r.channels ≡ with_channel p.channels config → id ≡ p.channels.given → AreLess p.channels.given numbers → AreLess r.channels.given (id ∷ numbers)
+told_more p r config id numbers is numbered less =
+    let given : r.channels.given ≡ p.channels.given + 1 = ap (λ (held : Channels). held.given) is in
+    All-cons (λ number. number < r.channels.given) id numbers (omega (arith, given, numbered)) (less_weaker p.channels.given r.channels.given numbers (omega (arith, given)) less)
 
 -- a channel is staged, alone or with its line
 channel_acts : (p r q : Stance) (config : ChannelConfig) (id : ℕ) (ops : List Op) (answers : List OpAnswer) (held : List (List ℕ)) (app : Option (List ℕ))
@@ -151,10 +155,10 @@ channel_acts p r q config id ops answers held app h rest may = by (needs_app p) 
 
     by : (needs : Bool) (app : Option (List ℕ)) → needs_app p ≡ needs → AppTold p app q → (IsUnheld app held) × MayAct r (with_front app held) None q
     by false None is told_app =
-        (tt, record { table = table; holds = holds_still p r (AddingChannel id config ∷ []) held staged.lines (staged.alone is) may.holds; app_is = tt; below = below_more p r config staged.channels may.below })
+        (tt, record { table = table; holds = holds_still p r (AddingChannel id config ∷ []) held staged.lines (staged.alone is) may.holds; app_is = tt })
     by false (Some mid) is told_app = absurd (let e : true ≡ false = sym told_app.0 ∙ is in cc)
     by true None is told_app =
-        (tt, record { table = table; holds = holds_still p r (AddApp staged.app_mid ∷ AddingChannel id config ∷ []) held staged.lines (staged.lined is) may.holds; app_is = tt; below = below_more p r config staged.channels may.below })
+        (tt, record { table = table; holds = holds_still p r (AddApp staged.app_mid ∷ AddingChannel id config ∷ []) held staged.lines (staged.lined is) may.holds; app_is = tt })
     by true (Some mid) is told_app =
         let same : staged.app_mid ≡ mid = told_app.1 staged.app_mid (app_mid_is p r q config id ops answers is staged rest) in (
           may.holds mid (subst (λ (own : List ℕ). is_held p.lines p.staged own ≡ false) same (staged.free is)),
@@ -162,14 +166,13 @@ channel_acts p r q config id ops answers held app h rest may = by (needs_app p) 
             table = table;
             holds = holds_more p r (AddApp staged.app_mid ∷ AddingChannel id config ∷ []) mid held staged.lines (staged.lined is) (ap (λ (own : List ℕ). own ∷ []) same) may.holds;
             app_is = tt;
-            below = below_more p r config staged.channels may.below;
           },
         )
 
 -- a line is changed
 line_acts : (change : RowChange) (place : ℕ) (p r q : Stance) (changed : Bool) (held : List (List ℕ)) (app : Option (List ℕ)) → AnswersLine change place p changed held r → MayAct p held app q → MayAct r held app q
 line_acts change place p r q changed held app line may =
-    record { table = line.table; holds = line.holds; app_is = told_same p r app q line.needs may.app_is; below = rw line.channels may.below }
+    record { table = line.table; holds = line.holds; app_is = told_same p r app q line.needs may.app_is }
 
 -- a restart is staged
 restart_acts : (p r q : Stance) (keep : Bool) (creds : IceCreds) (held : List (List ℕ)) (app : Option (List ℕ)) → r ≡ record p { staged = with_restart creds keep p.staged } → MayAct p held app q → MayAct r held app q
@@ -181,61 +184,59 @@ restart_acts p r q keep creds held app is may =
       table = subst IsTable (sym lines) may.table;
       holds = λ mid none. may.holds mid (sym (ap (λ (rows : List LineRow). has_mid mid rows || is_among (added_mids r.staged) mid) lines ∙ ap (λ mids. has_mid mid p.lines || is_among mids mid) mids) ∙ none);
       app_is = told_same p r app q (needs_same p r (ap has_app_row lines) (ap contains_add_app staged ∙ lined-restart creds keep p.staged)) may.app_is;
-      below = let channels : r.channels ≡ p.channels = ap (λ s. s.channels) is in rw channels may.below;
     }
 
 -- Each op is answered by what it finds, up to the first that lacks memory.
-pub ops_answered : (p q : Stance) (ops : List Op) (answers : List OpAnswer) (held : List (List ℕ)) (app : Option (List ℕ)) → MayAct p held app q
-    → StancePerformsOps p ops answers q → OpsAnswered (midway p held app) ops answers q.lines
-ops_answered p q [] [] held app may h = ap (λ r. r.lines) h
-ops_answered p q (AddMedia kind dir ∷ ops) (Mid mid ∷ answers) held app may h =
+pub ops_answered : (p q : Stance) (ops : List Op) (answers : List OpAnswer) (held : List (List ℕ)) (app : Option (List ℕ)) (numbers : List ℕ) → MayAct p held app q → AreLess p.channels.given numbers
+    → StancePerformsOps p ops answers q → OpsAnswered (midway p held app numbers) ops answers q.lines
+ops_answered p q [] [] held app numbers may less h = ap (λ r. r.lines) h
+ops_answered p q (AddMedia kind dir ∷ ops) (Mid mid ∷ answers) held app numbers may less h =
     let change : Change = Adding h.1.media in
     let staged : h.0.staged ≡ p.staged ++ change ∷ [] = ap (λ r. r.staged) h.1.rest in
     let lines : h.0.lines ≡ p.lines = ap (λ r. r.lines) h.1.rest in
     let channels : h.0.channels ≡ p.channels = ap (λ r. r.channels) h.1.rest in
     let lined : contains_add_app h.0.staged ≡ contains_add_app p.staged = ap contains_add_app staged ∙ contains-append p.staged (change ∷ []) ∙ or_nothing (contains_add_app p.staged) in (
       may.holds mid h.1.free.0,
-      midway_from p.lines h.0.lines (told p.channels) (told h.0.channels) (mid ∷ held) app ops answers q.lines lines (ap told channels)
-          (ops_answered h.0 q ops answers (mid ∷ held) app
+      midway_from p.lines h.0.lines p.channels h.0.channels (mid ∷ held) app numbers ops answers q.lines lines channels
+          (ops_answered h.0 q ops answers (mid ∷ held) app numbers
           (record {
             table = subst IsTable (sym lines) may.table;
             holds = holds_more p h.0 (change ∷ []) mid held lines staged (ap (λ (own : List ℕ). own ∷ []) h.1.its_mid) may.holds;
             app_is = told_same p h.0 app q (needs_same p h.0 (ap has_app_row lines) lined) may.app_is;
-            below = rw channels may.below;
-          }) h.2),
+          }) (rw channels less) h.2),
     )
-ops_answered p q (AddMedia kind dir ∷ ops) (OpAlloc ∷ []) held app may h = ap (λ r. r.lines) h
-ops_answered p q (SetDirection place dir ∷ ops) (NoLine ∷ answers) held app may h = (h.0, ops_answered p q ops answers held app may h.1)
-ops_answered p q (SetDirection place dir ∷ ops) (Changed changed ∷ answers) held app may h =
+ops_answered p q (AddMedia kind dir ∷ ops) (OpAlloc ∷ []) held app numbers may less h = ap (λ r. r.lines) h
+ops_answered p q (SetDirection place dir ∷ ops) (NoLine ∷ answers) held app numbers may less h = (h.0, ops_answered p q ops answers held app numbers may less h.1)
+ops_answered p q (SetDirection place dir ∷ ops) (Changed changed ∷ answers) held app numbers may less h =
     let line = line_answered (directed_row dir) dir place p changed held h.0 (directed_row_keeps dir) may.table may.holds h.1 in (
       line.tells,
-      midway_from _ h.0.lines (told p.channels) (told h.0.channels) held app ops answers q.lines line.lines (ap told line.channels)
-          (ops_answered h.0 q ops answers held app (line_acts (directed_row dir) place p h.0 q changed held app line may) h.2),
+      midway_from _ h.0.lines p.channels h.0.channels held app numbers ops answers q.lines line.lines line.channels
+          (ops_answered h.0 q ops answers held app numbers (line_acts (directed_row dir) place p h.0 q changed held app line may) (rw line.channels less) h.2),
     )
-ops_answered p q (SetDirection place dir ∷ ops) (OpAlloc ∷ []) held app may h = ap (λ r. r.lines) h.called
-ops_answered p q (StopMedia place ∷ ops) (NoLine ∷ answers) held app may h = (h.0, ops_answered p q ops answers held app may h.1)
-ops_answered p q (StopMedia place ∷ ops) (Changed changed ∷ answers) held app may h =
+ops_answered p q (SetDirection place dir ∷ ops) (OpAlloc ∷ []) held app numbers may less h = ap (λ r. r.lines) h.called
+ops_answered p q (StopMedia place ∷ ops) (NoLine ∷ answers) held app numbers may less h = (h.0, ops_answered p q ops answers held app numbers may less h.1)
+ops_answered p q (StopMedia place ∷ ops) (Changed changed ∷ answers) held app numbers may less h =
     let line = line_answered stopped_row Inactive place p changed held h.0 stopped_row_keeps may.table may.holds h.1 in (
       line.tells,
-      midway_from _ h.0.lines (told p.channels) (told h.0.channels) held app ops answers q.lines line.lines (ap told line.channels)
-          (ops_answered h.0 q ops answers held app (line_acts stopped_row place p h.0 q changed held app line may) h.2),
+      midway_from _ h.0.lines p.channels h.0.channels held app numbers ops answers q.lines line.lines line.channels
+          (ops_answered h.0 q ops answers held app numbers (line_acts stopped_row place p h.0 q changed held app line may) (rw line.channels less) h.2),
     )
-ops_answered p q (StopMedia place ∷ ops) (OpAlloc ∷ []) held app may h = ap (λ r. r.lines) h.called
-ops_answered p q (AddChannel config ∷ ops) (Channel id ∷ answers) held app may h =
+ops_answered p q (StopMedia place ∷ ops) (OpAlloc ∷ []) held app numbers may less h = ap (λ r. r.lines) h.called
+ops_answered p q (AddChannel config ∷ ops) (Channel id ∷ answers) held app numbers may less h =
     let acts = channel_acts p h.0 q config id ops answers held app h.1 h.2 may in
     let staged : ChannelStaged p config id h.0 = channel_staged p config id h.0 h.1 in (
-      gives_number p config id h.1.good h.1.number may.below,
+      gives_number p held app numbers config id h.1.good h.1.number less,
       acts.0,
-      midway_from p.lines h.0.lines (with_numbered id config (told p.channels)) (told h.0.channels) (with_front app held) None ops answers q.lines staged.lines (channels_more p h.0 config id staged.channels staged.numbered)
-          (ops_answered h.0 q ops answers (with_front app held) None acts.1 h.2),
+      midway_from p.lines h.0.lines (with_numbered id config p.channels) h.0.channels (with_front app held) None (id ∷ numbers) ops answers q.lines staged.lines (channels_more p h.0 config id staged.channels staged.numbered)
+          (ops_answered h.0 q ops answers (with_front app held) None (id ∷ numbers) acts.1 (told_more p h.0 config id numbers staged.channels staged.numbered less) h.2),
     )
-ops_answered p q (AddChannel config ∷ ops) (BadChannel ∷ answers) held app may h = (
-  bad_told p.channels config ∙ h.1.0,
-  subst (λ (r : Stance). StancePerformsOps r ops answers q → OpsAnswered (midway p held app) ops answers q.lines) (sym h.1.1) (λ rest. ops_answered p q ops answers held app may rest) h.2,
+ops_answered p q (AddChannel config ∷ ops) (BadChannel ∷ answers) held app numbers may less h = (
+  h.1.0,
+  subst (λ (r : Stance). StancePerformsOps r ops answers q → OpsAnswered (midway p held app numbers) ops answers q.lines) (sym h.1.1) (λ rest. ops_answered p q ops answers held app numbers may less rest) h.2,
 )
-ops_answered p q (AddChannel config ∷ ops) (OpAlloc ∷ []) held app may h = ap (λ r. r.lines) h
-ops_answered p q (IceRestart keep ∷ ops) (Creds creds ∷ answers) held app may h =
-    midway_from p.lines h.0.lines (told p.channels) (told h.0.channels) held app ops answers q.lines (ap (λ r. r.lines) h.1.1) (ap (λ r. told r.channels) h.1.1)
-    (ops_answered h.0 q ops answers held app (restart_acts p h.0 q keep creds held app h.1.1 may) h.2)
-ops_answered p q (IceRestart keep ∷ ops) (OpAlloc ∷ []) held app may h = ap (λ r. r.lines) h
-ops_answered p q ops answers held app may h = absurd h
+ops_answered p q (AddChannel config ∷ ops) (OpAlloc ∷ []) held app numbers may less h = ap (λ r. r.lines) h
+ops_answered p q (IceRestart keep ∷ ops) (Creds creds ∷ answers) held app numbers may less h =
+    midway_from p.lines h.0.lines p.channels h.0.channels held app numbers ops answers q.lines (ap (λ r. r.lines) h.1.1) (ap (λ r. r.channels) h.1.1)
+    (ops_answered h.0 q ops answers held app numbers (restart_acts p h.0 q keep creds held app h.1.1 may) (let same : h.0.channels ≡ p.channels = ap (λ r. r.channels) h.1.1 in rw same less) h.2)
+ops_answered p q (IceRestart keep ∷ ops) (OpAlloc ∷ []) held app numbers may less h = ap (λ r. r.lines) h
+ops_answered p q ops answers held app numbers may less h = absurd h

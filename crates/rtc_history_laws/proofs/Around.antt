@@ -1,5 +1,5 @@
 -- What surrounds what the acting peer of a step does, and steps that add no row and no SDP.
-use Rattle.std.proofs.Common.{◌≡◌, ◌≤◌, ◌<◌, ◌+◌, ◌^◌, ℕ, List, ◌∷◌, length, Bool, true, false, not, ◌&&◌, cond, Option, Some, None, refl, sym, ◌∙◌, ap, arith}
+use Rattle.std.proofs.Common.{◌≡◌, ◌≤◌, ◌<◌, ◌+◌, ◌^◌, ℕ, List, ◌∷◌, ◌++◌, length, length-append, Bool, true, false, not, ◌&&◌, cond, Option, Some, None, refl, sym, ◌∙◌, ap, arith}
 use Rattle.std.specs.Prelude.{slice_get, option_map}
 use Rattle.std.proofs.lemmas.List.{length-map}
 use Rattle.std.proofs.lemmas.Option.{slice_get-map}
@@ -11,11 +11,11 @@ use Rattle.rtc_history.specs.declared.outcome.Outcome.{Outcome}
 use Rattle.rtc_history.specs.declared.table.Table.{Table}
 use Rattle.rtc_history.specs.Sides.{same_side, other_side, side_of}
 use Rattle.rtc_history.specs.Sizes.{step_size}
-use Rattle.rtc_history.specs.Past.{Entry, MadeSdp, before, channels_shown, channel_rows_or, channels_given, channels_after, rows_or, sdps, sdp_for, remote_sdp, spends, moves, makes}
+use Rattle.rtc_history.specs.Past.{Entry, MadeSdp, before, channels_shown, channel_rows_or, numbers_in, numbers_told, numbers_or, rows_or, sdps, sdp_for, remote_sdp, spends, moves, makes}
 use Rattle.rtc_history.specs.declared.kept.Kept.{Kept}
 use Rattle.rtc_history.specs.PairState.{made_sdp, kept_remote_sdp}
-use Rattle.rtc_channels.specs.Channels.{Channels, channel_rows}
-use Rattle.rtc_history_laws.proofs.ToldChannels.{AreToldAlike}
+use Rattle.rtc_peer_state.specs.Stance.{Stance}
+use Rattle.rtc_history_laws.proofs.NumberedChannels.{AreNumbered, less_weaker, less_append}
 use Rattle.rtc_history_laws.proofs.Tells.{ChannelsTell, Tells, same_side-self}
 use Rattle.rtc_history_laws.proofs.Entries.{Goes, unmade_tells}
 use Rattle.rtc_history_laws.proofs.TokenEntries.{All-slice_get}
@@ -31,7 +31,7 @@ pub record Around (step : Step) (made : List MadeSdp) (old new : PairStance) : T
   pub small : new.size < 2 ^ 32
   pub made_is : made ≡ made_by old new
 
-one_at_least : (step : Step) → 1 ≤ step_size step
+pub one_at_least : (step : Step) → 1 ≤ step_size step
 one_at_least (Negotiate at ops apply) = omega arith
 one_at_least (AcceptOffer at offer) = omega arith
 one_at_least (AcceptAnswer at token answer) = omega arith
@@ -46,7 +46,7 @@ size_grows step made old new around = omega (arith, one_at_least step, around.si
 
 pub goes_on : {E : Type 0} → (moved : Bool) (past : List (Entry E)) (step : Step) (outcome : Outcome E) (table : Option Table) (made : List MadeSdp) (old new : PairStance)
     → (new.sides (side_of step)).lines ≡ rows_or true table (before (side_of step) past)
-    → ChannelsTell (entry step outcome table made ∷ past) (side_of step) (new.sides (side_of step)).channels
+    → ChannelsTell (entry step outcome table made ∷ past) (side_of step) (new.sides (side_of step))
     → (new.sides (side_of step)).counter ≡ cond moved ((old.sides (side_of step)).counter + 1) (old.sides (side_of step)).counter
     → moves (side_of step) step outcome ≡ moved → moves (other_side (side_of step)) step outcome ≡ false
     → length (new.sides (side_of step)).lines ≤ new.size → Around step made old new → Goes moved past (entry step outcome table made) old new
@@ -63,21 +63,25 @@ goes_on moved past step outcome table made old new rows channels counter mine th
   made = around.made_is;
 }
 
--- a step that gives no number leaves the channels that steps tell
-pub channels_kept : {E : Type 0} → (past : List (Entry E)) (step : Step) (outcome : Outcome E) (table : Option Table) (made : List MadeSdp) (held held' : Channels)
-    → ((before_it : Channels) → channels_after true step outcome before_it ≡ before_it) → AreToldAlike held held' → channel_rows_or true table (channels_shown (side_of step) past) ≡ channel_rows held'
-    → ChannelsTell past (side_of step) held → ChannelsTell (entry step outcome table made ∷ past) (side_of step) held'
-channels_kept past step outcome table made held held' gives_none alike shown tell = record {
-  given = alike.same ∙ tell.given ∙ sym (gives_none (channels_given (side_of step) past)) ∙ sym (ap (λ b. channels_after b step outcome (channels_given (side_of step) past)) (same_side-self (side_of step)));
-  shown = sym shown ∙ sym (ap (λ b. channel_rows_or b table (channels_shown (side_of step) past)) (same_side-self (side_of step)));
-  below = alike.below tell.below;
-}
+-- the channels of a side after a step that tells the numbers that it gives
+pub channels_next : {E : Type 0} → (past : List (Entry E)) (step : Step) (outcome : Outcome E) (table : Option Table) (made : List MadeSdp) (s t : Stance)
+    → AreNumbered (numbers_in outcome) s.channels t.channels → channel_rows_or true table (channels_shown (side_of step) past) ≡ t.rows
+    → ChannelsTell past (side_of step) s → ChannelsTell (entry step outcome table made ∷ past) (side_of step) t
+channels_next past step outcome table made s t numbered shown tell =
+    let earlier : List ℕ = numbers_told (side_of step) past in
+    let all : numbers_told (side_of step) (entry step outcome table made ∷ past) ≡ numbers_in outcome ++ earlier = ap (λ b. numbers_or b outcome earlier) (same_side-self (side_of step)) in
+    record {
+      shown = sym shown ∙ sym (ap (λ b. channel_rows_or b table (channels_shown (side_of step) past)) (same_side-self (side_of step)));
+      few = rw all (omega (arith, numbered.few, tell.few, length-append (numbers_in outcome) earlier));
+      below = numbered.below tell.below;
+      told = rw all (less_append t.channels.given (numbers_in outcome) earlier (numbered.told tell.below) (less_weaker s.channels.given t.channels.given earlier numbered.rises tell.told));
+    }
 
 -- A step that leaves as many rows, and SDPs as they were.
 pub quiet_tells : {E : Type 0} → (moved : Bool) (past : List (Entry E)) (step : Step) (outcome : Outcome E) (table : Option Table) (made : List MadeSdp) (old new : PairStance)
     → length (new.sides (side_of step)).lines ≡ length (old.sides (side_of step)).lines → new.sdps ≡ old.sdps
     → (new.sides (side_of step)).lines ≡ rows_or true table (before (side_of step) past)
-    → ChannelsTell (entry step outcome table made ∷ past) (side_of step) (new.sides (side_of step)).channels
+    → ChannelsTell (entry step outcome table made ∷ past) (side_of step) (new.sides (side_of step))
     → (new.sides (side_of step)).counter ≡ cond moved ((old.sides (side_of step)).counter + 1) (old.sides (side_of step)).counter
     → moves (side_of step) step outcome ≡ moved → moves (other_side (side_of step)) step outcome ≡ false
     → ((t : ℕ) → spends t step outcome ≡ false) → ((t : ℕ) → makes t outcome ≡ false)

@@ -1,11 +1,10 @@
--- How many channels a side was given: no more than the sizes of its steps, so that none that every peer makes is refused.
-use Rattle.std.proofs.Common.{◌≡◌, ◌≤◌, ◌<◌, ◌+◌, ◌-◌, ◌^◌, ◌==◌, ℕ, Bool, true, false, not, ◌&&◌, List, [], ◌∷◌, ◌++◌, length, Option, Some, None, refl, arith}
+-- How many channel numbers steps tell: while numbers are left, no channel that every peer makes is refused.
+use Rattle.std.proofs.Common.{◌≡◌, ◌≤◌, ◌<◌, ◌+◌, ◌-◌, ◌^◌, ◌==◌, ℕ, Bool, true, false, not, ◌&&◌, List, [], ◌∷◌, ◌++◌, length, Option, Some, None, refl, ap, arith, length-append}
 use Rattle.std.specs.Prelude.{is_some}
 use Rattle.std.proofs.lemmas.Bool.{or_parts, or_from, and_parts, not-true, ne_eqb, both_ways}
 use Rattle.rtc_wire.specs.declared.channel_config.ChannelConfig.{ChannelConfig}
 use Rattle.rtc_sdp_values.specs.declared.line_row.LineRow.{LineRow}
 use Rattle.rtc_channels.specs.Channels.{Channel, Channels, claims_again, is_overlong, is_bad_channel}
-use Rattle.rtc_history.specs.declared.side.Side.{Side}
 use Rattle.rtc_history.specs.declared.op.Op.{Op}
 use Rattle.rtc_history.specs.declared.op.Op.TheVariants.{AddMedia, SetDirection, StopMedia, AddChannel, IceRestart}
 use Rattle.rtc_history.specs.declared.op_answer.OpAnswer.{OpAnswer}
@@ -16,9 +15,16 @@ use Rattle.rtc_history.specs.declared.outcome.Outcome.{Outcome}
 use Rattle.rtc_history.specs.declared.outcome.Outcome.TheVariants.{Negotiated, Answered, Finished, Done, Polled, Refused, NoSuch, Alloc}
 use Rattle.rtc_history.specs.Sides.{same_side, side_of}
 use Rattle.rtc_history.specs.Sizes.{step_size, steps_size}
-use Rattle.rtc_history.specs.Answers.{channels_answered, with_numbered}
-use Rattle.rtc_history.specs.Past.{Entry, steps_of, channels_given, channels_after}
-use Rattle.rtc_history.specs.Sound.{Midway, holding_mid, having_rows, having_channel, OpsAnswered}
+use Rattle.rtc_history.specs.Answers.{numbers_answered}
+use Rattle.rtc_history.specs.declared.table.Table.{Table}
+use Rattle.rtc_history.specs.Past.{Entry, MadeSdp, remote_sdp, holds_token, is_right, new_app, numbers_in, numbers_told, numbers_or}
+use Rattle.rtc_history.specs.Sound.{Midway, holding_mid, having_rows, having_channel, OpsAnswered, RepliesToOffer, RepliesToAnswer, IsSound, asked_in, at_first}
+use Rattle.rtc_history.specs.Orderly.{AreNumbersLeft, negotiates}
+use Rattle.rtc_history.specs.Views.{Stances}
+use Rattle.rtc_change.specs.Held.{Held, Asked}
+use Rattle.rtc_sdp_values.specs.declared.sdp.Sdp.{Sdp}
+use Rattle.rtc_history_laws.proofs.Takings.{offer_taking, answer_taking}
+use Rattle.rtc_history_laws.proofs.Tells.{same_side-self}
 use Rattle.rtc_tables.specs.RowChanges.{directed_row, stopped_row, changed_at}
 use Rattle.rtc_history.specs.CourseRows.{is_in_band, do_add_odd_channel}
 use Rattle.rtc_history_laws.proofs.CourseOps.{AreFine}
@@ -29,46 +35,102 @@ pub steps_size-append : (steps : List Step) (step : Step) → steps_size (steps 
 steps_size-append [] step = omega arith
 steps_size-append (first ∷ steps) step = omega (arith, steps_size-append steps step)
 
-answered_within : (ops : List Op) (answers : List OpAnswer) (held : Channels) → (channels_answered ops answers held).given ≤ held.given + length ops
-answered_within [] answers held = omega arith
-answered_within (op ∷ ops) [] held = omega arith
-answered_within (AddChannel config ∷ ops) (Numbered id ∷ answers) held = let rest = answered_within ops answers (with_numbered id config held) in omega (arith, rest)
-answered_within (AddChannel config ∷ ops) (Mid mid ∷ answers) held = let rest = answered_within ops answers held in omega (arith, rest)
-answered_within (AddChannel config ∷ ops) (Changed changed ∷ answers) held = let rest = answered_within ops answers held in omega (arith, rest)
-answered_within (AddChannel config ∷ ops) (NoLine ∷ answers) held = let rest = answered_within ops answers held in omega (arith, rest)
-answered_within (AddChannel config ∷ ops) (BadChannel ∷ answers) held = let rest = answered_within ops answers held in omega (arith, rest)
-answered_within (AddChannel config ∷ ops) (Creds creds ∷ answers) held = let rest = answered_within ops answers held in omega (arith, rest)
-answered_within (IceRestart keep ∷ ops) (answer ∷ answers) held = let rest = answered_within ops answers held in omega (arith, rest)
-answered_within (AddChannel config ∷ ops) (OpAlloc ∷ answers) held = let rest = answered_within ops answers held in omega (arith, rest)
-answered_within (AddMedia kind dir ∷ ops) (answer ∷ answers) held = let rest = answered_within ops answers held in omega (arith, rest)
-answered_within (SetDirection place dir ∷ ops) (answer ∷ answers) held = let rest = answered_within ops answers held in omega (arith, rest)
-answered_within (StopMedia place ∷ ops) (answer ∷ answers) held = let rest = answered_within ops answers held in omega (arith, rest)
+-- ---- numbers that are left
 
-step_within : {E : Type 0} → (here : Bool) (step : Step) (outcome : Outcome E) (held : Channels) → (channels_after here step outcome held).given ≤ held.given + step_size step
-step_within false step outcome held = omega arith
-step_within true (AcceptOffer at k) outcome held = omega arith
-step_within true (AcceptAnswer at t a) outcome held = omega arith
-step_within true (Time at now) outcome held = omega arith
-step_within true (Datagram at packet now) outcome held = omega arith
-step_within true (Poll at) outcome held = omega arith
-step_within true (Drain at) outcome held = omega arith
-step_within true (Close at) outcome held = omega arith
-step_within true (Negotiate at ops apply) (Negotiated answers made) held = let some = answered_within ops answers held in omega (arith, some)
-step_within true (Negotiate at ops apply) (Answered k) held = omega arith
-step_within true (Negotiate at ops apply) Finished held = omega arith
-step_within true (Negotiate at ops apply) Done held = omega arith
-step_within true (Negotiate at ops apply) (Polled outputs end) held = omega arith
-step_within true (Negotiate at ops apply) (Refused error) held = omega arith
-step_within true (Negotiate at ops apply) NoSuch held = omega arith
-step_within true (Negotiate at ops apply) Alloc held = omega arith
+-- a side told no fewer numbers after a step
+told_grow : {E : Type 0} → (here : Bool) (outcome : Outcome E) (earlier : List ℕ) → length earlier ≤ length (numbers_or here outcome earlier)
+told_grow true outcome earlier = omega (arith, length-append (numbers_in outcome) earlier)
+told_grow false outcome earlier = omega arith
 
--- a side was given no more channels than the sizes of the steps
-pub given_within : {E : Type 0} → (at : Side) (past : List (Entry E)) → (channels_given at past).given ≤ steps_size (steps_of past)
-given_within at [] = omega arith
-given_within at (entry ∷ past) =
-    let rest : (channels_given at past).given ≤ steps_size (steps_of past) = given_within at past in
-    let one : (channels_given at (entry ∷ past)).given ≤ (channels_given at past).given + step_size entry.step = step_within (same_side (side_of entry.step) at) entry.step entry.outcome (channels_given at past) in
-    omega (arith, steps_size-append (steps_of past) entry.step)
+-- numbers that are left after a step were left before
+pub left_before : {E : Type 0} → (last : Entry E) (past : List (Entry E)) (more : ℕ) → AreNumbersLeft more (last ∷ past) → AreNumbersLeft more past
+left_before last past more left at =
+    let now : length (numbers_or (same_side (side_of last.step) at) last.outcome (numbers_told at past)) + more < 2 ^ 64 = left at in
+    omega (arith, now, told_grow (same_side (side_of last.step) at) last.outcome (numbers_told at past))
+
+pub left_fewer : {E : Type 0} → (past : List (Entry E)) (more : ℕ) → 1 ≤ more → AreNumbersLeft more past → AreNumbersLeft 1 past
+left_fewer past more some left at = omega (arith, some, left at)
+
+-- where numbers are left after a step, its side gave not all before it, and told not all in it
+pub few_left : {E : Type 0} → (last : Entry E) (past : List (Entry E)) (given : ℕ) → given ≤ length (numbers_told (side_of last.step) past) → AreNumbersLeft 1 (last ∷ past)
+    → given + length (numbers_in last.outcome) < 2 ^ 64 - 1
+few_left last past given least left =
+    let at = side_of last.step in
+    let earlier : List ℕ = numbers_told at past in
+    let all : numbers_told at (last ∷ past) ≡ numbers_in last.outcome ++ earlier = ap (λ b. numbers_or b last.outcome earlier) (same_side-self at) in
+    omega (arith, least, left at, ap length all, length-append (numbers_in last.outcome) earlier)
+
+-- ---- the numbers that a step tells
+
+ops_within : (m : Midway) (ops : List Op) (answers : List OpAnswer) (after : List LineRow) → OpsAnswered m ops answers after → length (numbers_answered answers) ≤ length ops
+ops_within m [] [] after answered = omega arith
+ops_within m (AddMedia kind dir ∷ ops) (Mid mid ∷ answers) after answered = let rest = ops_within (holding_mid mid m) ops answers after answered.1 in omega (arith, rest)
+ops_within m (AddMedia kind dir ∷ ops) (OpAlloc ∷ []) after answered = omega arith
+ops_within m (SetDirection place dir ∷ ops) (NoLine ∷ answers) after answered = let rest = ops_within m ops answers after answered.1 in omega (arith, rest)
+ops_within m (SetDirection place dir ∷ ops) (Changed changed ∷ answers) after answered =
+    let rest = ops_within (having_rows (changed_at (directed_row dir) place m.rows) m) ops answers after answered.1 in omega (arith, rest)
+ops_within m (SetDirection place dir ∷ ops) (OpAlloc ∷ []) after answered = omega arith
+ops_within m (StopMedia place ∷ ops) (NoLine ∷ answers) after answered = let rest = ops_within m ops answers after answered.1 in omega (arith, rest)
+ops_within m (StopMedia place ∷ ops) (Changed changed ∷ answers) after answered =
+    let rest = ops_within (having_rows (changed_at stopped_row place m.rows) m) ops answers after answered.1 in omega (arith, rest)
+ops_within m (StopMedia place ∷ ops) (OpAlloc ∷ []) after answered = omega arith
+ops_within m (AddChannel config ∷ ops) (Numbered id ∷ answers) after answered = let rest = ops_within (having_channel id config m) ops answers after answered.2 in omega (arith, rest)
+ops_within m (AddChannel config ∷ ops) (BadChannel ∷ answers) after answered = let rest = ops_within m ops answers after answered.1 in omega (arith, rest)
+ops_within m (AddChannel config ∷ ops) (OpAlloc ∷ []) after answered = omega arith
+ops_within m (IceRestart keep ∷ ops) (Creds creds ∷ answers) after answered = let rest = ops_within m ops answers after answered in omega (arith, rest)
+ops_within m (IceRestart keep ∷ ops) (OpAlloc ∷ []) after answered = omega arith
+ops_within m ops answers after answered = absurd answered
+
+-- acceptances tell none
+offer_untold : {E : Type 0} → (sdp : Option Sdp) (view : Held) (next : ℕ) (outcome : Outcome E) (after : List LineRow) → RepliesToOffer sdp view next outcome after → numbers_in outcome ≡ []
+offer_untold None view next (Negotiated answers made) after takes = absurd takes
+offer_untold (Some sdp) view next (Negotiated answers made) after takes = absurd takes
+offer_untold None view next (Polled outputs end) after takes = absurd takes
+offer_untold (Some sdp) view next (Polled outputs end) after takes = absurd takes
+offer_untold sdp view next (Answered k) after takes = refl
+offer_untold sdp view next Finished after takes = refl
+offer_untold sdp view next Done after takes = refl
+offer_untold sdp view next (Refused error) after takes = refl
+offer_untold sdp view next NoSuch after takes = refl
+offer_untold sdp view next Alloc after takes = refl
+
+answer_untold : {E : Type 0} → (held right : Bool) (asked : Asked) (sdp : Option Sdp) (view : Held) (outcome : Outcome E) (after : List LineRow) → RepliesToAnswer held right asked sdp view outcome after → numbers_in outcome ≡ []
+answer_untold false right asked sdp view (Negotiated answers made) after takes = absurd takes
+answer_untold true right asked None view (Negotiated answers made) after takes = absurd takes
+answer_untold true false asked (Some sdp) view (Negotiated answers made) after takes = absurd takes
+answer_untold true true asked (Some sdp) view (Negotiated answers made) after takes = absurd takes
+answer_untold false right asked sdp view (Polled outputs end) after takes = absurd takes
+answer_untold true right asked None view (Polled outputs end) after takes = absurd takes
+answer_untold true false asked (Some sdp) view (Polled outputs end) after takes = absurd takes
+answer_untold true true asked (Some sdp) view (Polled outputs end) after takes = absurd takes
+answer_untold held right asked sdp view (Answered k) after takes = refl
+answer_untold held right asked sdp view Finished after takes = refl
+answer_untold held right asked sdp view Done after takes = refl
+answer_untold held right asked sdp view (Refused error) after takes = refl
+answer_untold held right asked sdp view NoSuch after takes = refl
+answer_untold held right asked sdp view Alloc after takes = refl
+
+none_told : {E : Type 0} → (outcome : Outcome E) (n : ℕ) → numbers_in outcome ≡ [] → length (numbers_in outcome) + 1 ≤ 1 + n
+none_told outcome n none = omega (arith, ap length none)
+
+-- a step that negotiates tells fewer numbers than its size
+pub told_within : {E : Type 0} → (fresh between : Stances) (past : List (Entry E)) (step : Step) (outcome : Outcome E) (table : Option Table) (made : List MadeSdp) → negotiates step ≡ true
+    → IsSound fresh past between step outcome table made → length (numbers_in outcome) + 1 ≤ step_size step
+told_within fresh between past (Negotiate at ops apply) Alloc None made negotiating sound = omega arith
+told_within fresh between past (Negotiate at ops apply) (Negotiated answers what) (Some table) made negotiating sound =
+    let some = ops_within (at_first (between at) at past (new_app table.lines made)) ops answers table.lines sound.0 in omega (arith, some)
+told_within fresh between past (AcceptOffer at k) Alloc None made negotiating sound = omega arith
+told_within fresh between past (AcceptOffer at k) outcome (Some table) made negotiating sound =
+    none_told outcome 0 (offer_untold (remote_sdp true at k past) _ _ outcome table.lines (offer_taking fresh between past at k outcome table made sound))
+told_within fresh between past (AcceptAnswer at t a) Alloc None made negotiating sound = omega arith
+told_within fresh between past (AcceptAnswer at t a) outcome (Some table) made negotiating sound =
+    none_told outcome 0 (answer_untold (holds_token at t past) (is_right at t past) (asked_in at t past) (remote_sdp false at a past) _ outcome table.lines (answer_taking fresh between past at t a outcome table made sound))
+told_within fresh between past (Time at now) outcome table made negotiating sound = absurd (cc)
+told_within fresh between past (Datagram at packet now) outcome table made negotiating sound = absurd (cc)
+told_within fresh between past (Poll at) outcome table made negotiating sound = absurd (cc)
+told_within fresh between past (Drain at) outcome table made negotiating sound = absurd (cc)
+told_within fresh between past (Close at) outcome table made negotiating sound = absurd (cc)
+told_within fresh between past step outcome table made negotiating sound = absurd sound
 
 -- ---- channels that every peer makes
 
@@ -90,22 +152,22 @@ band_is true plain = refl
 band_is false plain = absurd (cc)
 
 -- no channel of ops in order is refused
-pub ops_fine : (m : Midway) (ops : List Op) (answers : List OpAnswer) (after : List LineRow) → OpsAnswered m ops answers after → do_add_odd_channel ops ≡ false → m.channels.given + length ops < 2 ^ 64 - 1 → AreFine answers
+pub ops_fine : (m : Midway) (ops : List Op) (answers : List OpAnswer) (after : List LineRow) → OpsAnswered m ops answers after → do_add_odd_channel ops ≡ false → m.channels.given + length (numbers_answered answers) < 2 ^ 64 - 1 → AreFine answers
 ops_fine m [] [] after answered plain few = refl
-ops_fine m (AddMedia kind dir ∷ ops) (Mid mid ∷ answers) after answered plain few = ops_fine (holding_mid mid m) ops answers after answered.1 plain (omega arith)
+ops_fine m (AddMedia kind dir ∷ ops) (Mid mid ∷ answers) after answered plain few = ops_fine (holding_mid mid m) ops answers after answered.1 plain few
 ops_fine m (AddMedia kind dir ∷ ops) (OpAlloc ∷ []) after answered plain few = refl
-ops_fine m (SetDirection place dir ∷ ops) (NoLine ∷ answers) after answered plain few = ops_fine m ops answers after answered.1 plain (omega arith)
-ops_fine m (SetDirection place dir ∷ ops) (Changed changed ∷ answers) after answered plain few = ops_fine (having_rows (changed_at (directed_row dir) place m.rows) m) ops answers after answered.1 plain (omega arith)
+ops_fine m (SetDirection place dir ∷ ops) (NoLine ∷ answers) after answered plain few = ops_fine m ops answers after answered.1 plain few
+ops_fine m (SetDirection place dir ∷ ops) (Changed changed ∷ answers) after answered plain few = ops_fine (having_rows (changed_at (directed_row dir) place m.rows) m) ops answers after answered.1 plain few
 ops_fine m (SetDirection place dir ∷ ops) (OpAlloc ∷ []) after answered plain few = refl
-ops_fine m (StopMedia place ∷ ops) (NoLine ∷ answers) after answered plain few = ops_fine m ops answers after answered.1 plain (omega arith)
-ops_fine m (StopMedia place ∷ ops) (Changed changed ∷ answers) after answered plain few = ops_fine (having_rows (changed_at stopped_row place m.rows) m) ops answers after answered.1 plain (omega arith)
+ops_fine m (StopMedia place ∷ ops) (NoLine ∷ answers) after answered plain few = ops_fine m ops answers after answered.1 plain few
+ops_fine m (StopMedia place ∷ ops) (Changed changed ∷ answers) after answered plain few = ops_fine (having_rows (changed_at stopped_row place m.rows) m) ops answers after answered.1 plain few
 ops_fine m (StopMedia place ∷ ops) (OpAlloc ∷ []) after answered plain few = refl
 ops_fine m (AddChannel config ∷ ops) (Numbered id ∷ answers) after answered plain few =
     ops_fine (having_channel id config m) ops answers after answered.2 (or_parts (not (is_in_band config)) (do_add_odd_channel ops) plain).1 (omega arith)
 ops_fine m (AddChannel config ∷ ops) (BadChannel ∷ answers) after answered plain few =
     let parts = or_parts (not (is_in_band config)) (do_add_odd_channel ops) plain in
-    absurd (both_ways (is_bad_channel m.channels config) (fine_channel m.channels config (band_is (is_in_band config) parts.0) (omega arith)) answered.0)
+    absurd (both_ways (is_bad_channel m.channels config) (fine_channel m.channels config (band_is (is_in_band config) parts.0) (omega (arith, few))) answered.0)
 ops_fine m (AddChannel config ∷ ops) (OpAlloc ∷ []) after answered plain few = refl
-ops_fine m (IceRestart keep ∷ ops) (Creds creds ∷ answers) after answered plain few = ops_fine m ops answers after answered plain (omega arith)
+ops_fine m (IceRestart keep ∷ ops) (Creds creds ∷ answers) after answered plain few = ops_fine m ops answers after answered plain few
 ops_fine m (IceRestart keep ∷ ops) (OpAlloc ∷ []) after answered plain few = refl
 ops_fine m ops answers after answered plain few = absurd answered

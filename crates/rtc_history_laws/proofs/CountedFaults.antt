@@ -106,7 +106,7 @@ module _ {D : Type 0} (dtls : DtlsMeaning D) (laws : DtlsLaws dtls) where
 -- ---- the association
 
 -- a start that is refused tells a fault, since nothing else refuses it
-answered_fault : (before after : ℕ) (r : Result (Unit {0}) AssocError) → asked_of r ≡ did.Refused → Answered None before after r → Rose before after
+pub answered_fault : (before after : ℕ) (r : Result (Unit {0}) AssocError) → asked_of r ≡ did.Refused → Answered None before after r → Rose before after
 answered_fault before after (Ok done) is h = absurd (cc)
 answered_fault before after (Err assoc.StreamExists) is h = absurd (let e = h.0 in cc)
 answered_fault before after (Err assoc.ResetPending) is h = absurd (let e = h.0 in cc)

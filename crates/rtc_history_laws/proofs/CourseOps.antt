@@ -138,49 +138,49 @@ channel_seen : (rows : List LineRow) (ops : List Op) (answers : List OpAnswer) �
     → (not (has_app_row rows) || do_need_offer (has_app_row rows) answers) ≡ (not (has_app_row (map unnamed rows)) || must_offer ops (map unnamed rows))
 channel_seen rows ops answers rest = rw (app_seen rows) (ap (λ b. not (has_app_row rows) || b) rest)
 
-pub ops_seen : (rows : List LineRow) (held : List (List ℕ)) (app : Option (List ℕ)) (channels : Channels) (ops : List Op) (answers : List OpAnswer) (after : List LineRow)
-    → OpsAnswered (record { rows = rows; held = held; app = app; channels = channels }) ops answers after → answers_lack answers ≡ false → AreFine answers → AreSeen rows app ops answers after
-ops_seen rows held app channels [] [] after answered enough fine = record { left = ap (map unnamed) answered; staged = refl; adds = λ place. refl; alone = λ none. refl }
-ops_seen rows held app channels (AddMedia kind dir ∷ ops) (Mid mid ∷ answers) after answered enough fine =
-    let rest = ops_seen rows (mid ∷ held) app channels ops answers after answered.1 enough fine in
+pub ops_seen : (rows : List LineRow) (held : List (List ℕ)) (app : Option (List ℕ)) (channels : Channels) (numbers : List ℕ) (ops : List Op) (answers : List OpAnswer) (after : List LineRow)
+    → OpsAnswered (record { rows = rows; held = held; app = app; channels = channels; numbers = numbers }) ops answers after → answers_lack answers ≡ false → AreFine answers → AreSeen rows app ops answers after
+ops_seen rows held app channels numbers [] [] after answered enough fine = record { left = ap (map unnamed) answered; staged = refl; adds = λ place. refl; alone = λ none. refl }
+ops_seen rows held app channels numbers (AddMedia kind dir ∷ ops) (Mid mid ∷ answers) after answered enough fine =
+    let rest = ops_seen rows (mid ∷ held) app channels numbers ops answers after answered.1 enough fine in
     record { left = rest.left; staged = refl; adds = λ place. ap (λ more. Media place [] kind dir false false ∷ more) (rest.adds (place + 1)); alone = λ none. refl }
-ops_seen rows held app channels (SetDirection at dir ∷ ops) (NoLine ∷ answers) after answered enough fine =
-    let rest = ops_seen rows held app channels ops answers after answered.1 enough fine in
+ops_seen rows held app channels numbers (SetDirection at dir ∷ ops) (NoLine ∷ answers) after answered enough fine =
+    let rest = ops_seen rows held app channels numbers ops answers after answered.1 enough fine in
     let here = unset_seen (directed_row dir) (directed_row_keeps dir) (turned_seen dir) at rows app ops answers after answered.0 rest in
     record { left = here.left; staged = here.staged; adds = rest.adds; alone = here.alone }
-ops_seen rows held app channels (SetDirection at dir ∷ ops) (Changed changed ∷ answers) after answered enough fine =
-    let rest = ops_seen (changed_at (directed_row dir) at rows) held app channels ops answers after answered.1 enough fine in
+ops_seen rows held app channels numbers (SetDirection at dir ∷ ops) (Changed changed ∷ answers) after answered enough fine =
+    let rest = ops_seen (changed_at (directed_row dir) at rows) held app channels numbers ops answers after answered.1 enough fine in
     let here = set_seen (directed_row dir) (directed_row_keeps dir) (turned_seen dir) at rows app ops answers after changed answered.0.1 rest in
     record { left = here.left; staged = here.staged; adds = rest.adds; alone = here.alone }
-ops_seen rows held app channels (StopMedia at ∷ ops) (NoLine ∷ answers) after answered enough fine =
-    let rest = ops_seen rows held app channels ops answers after answered.1 enough fine in
+ops_seen rows held app channels numbers (StopMedia at ∷ ops) (NoLine ∷ answers) after answered enough fine =
+    let rest = ops_seen rows held app channels numbers ops answers after answered.1 enough fine in
     let here = unset_seen stopped_row stopped_row_keeps halted_seen at rows app ops answers after answered.0 rest in
     record { left = here.left; staged = here.staged; adds = rest.adds; alone = here.alone }
-ops_seen rows held app channels (StopMedia at ∷ ops) (Changed changed ∷ answers) after answered enough fine =
-    let rest = ops_seen (changed_at stopped_row at rows) held app channels ops answers after answered.1 enough fine in
+ops_seen rows held app channels numbers (StopMedia at ∷ ops) (Changed changed ∷ answers) after answered enough fine =
+    let rest = ops_seen (changed_at stopped_row at rows) held app channels numbers ops answers after answered.1 enough fine in
     let here = set_seen stopped_row stopped_row_keeps halted_seen at rows app ops answers after changed answered.0.1 rest in
     record { left = here.left; staged = here.staged; adds = rest.adds; alone = here.alone }
-ops_seen rows held None channels (AddChannel config ∷ ops) (Channel id ∷ answers) after answered enough fine =
-    let rest = ops_seen rows held None (with_numbered id config channels) ops answers after answered.2 enough fine in
+ops_seen rows held None channels numbers (AddChannel config ∷ ops) (Channel id ∷ answers) after answered enough fine =
+    let rest = ops_seen rows held None (with_numbered id config channels) (id ∷ numbers) ops answers after answered.2 enough fine in
     record { left = rest.left; staged = channel_seen rows ops answers rest.staged; adds = rest.adds; alone = λ none. absurd (cc) }
-ops_seen rows held (Some mid) channels (AddChannel config ∷ ops) (Channel id ∷ answers) after answered enough fine =
-    let rest = ops_seen rows (mid ∷ held) None (with_numbered id config channels) ops answers after answered.2 enough fine in
+ops_seen rows held (Some mid) channels numbers (AddChannel config ∷ ops) (Channel id ∷ answers) after answered enough fine =
+    let rest = ops_seen rows (mid ∷ held) None (with_numbered id config channels) (id ∷ numbers) ops answers after answered.2 enough fine in
     record {
       left = rest.left;
       staged = channel_seen rows ops answers rest.staged;
       adds = λ place. ap (λ more. App place [] ∷ more) (rest.adds (place + 1));
       alone = λ none. absurd (cc);
     }
-ops_seen rows held app channels (AddChannel config ∷ ops) (BadChannel ∷ answers) after answered enough fine = absurd (cc)
-ops_seen rows held app channels (AddMedia kind dir ∷ ops) (OpAlloc ∷ []) after answered enough fine = absurd (cc)
-ops_seen rows held app channels (SetDirection at dir ∷ ops) (OpAlloc ∷ []) after answered enough fine = absurd (cc)
-ops_seen rows held app channels (StopMedia at ∷ ops) (OpAlloc ∷ []) after answered enough fine = absurd (cc)
-ops_seen rows held app channels (AddChannel config ∷ ops) (OpAlloc ∷ []) after answered enough fine = absurd (cc)
-ops_seen rows held app channels (IceRestart keep ∷ ops) (Creds creds ∷ answers) after answered enough fine =
-    let rest = ops_seen rows held app channels ops answers after answered enough fine in
+ops_seen rows held app channels numbers (AddChannel config ∷ ops) (BadChannel ∷ answers) after answered enough fine = absurd (cc)
+ops_seen rows held app channels numbers (AddMedia kind dir ∷ ops) (OpAlloc ∷ []) after answered enough fine = absurd (cc)
+ops_seen rows held app channels numbers (SetDirection at dir ∷ ops) (OpAlloc ∷ []) after answered enough fine = absurd (cc)
+ops_seen rows held app channels numbers (StopMedia at ∷ ops) (OpAlloc ∷ []) after answered enough fine = absurd (cc)
+ops_seen rows held app channels numbers (AddChannel config ∷ ops) (OpAlloc ∷ []) after answered enough fine = absurd (cc)
+ops_seen rows held app channels numbers (IceRestart keep ∷ ops) (Creds creds ∷ answers) after answered enough fine =
+    let rest = ops_seen rows held app channels numbers ops answers after answered enough fine in
     record { left = rest.left; staged = refl; adds = rest.adds; alone = λ none. refl }
-ops_seen rows held app channels (IceRestart keep ∷ ops) (OpAlloc ∷ []) after answered enough fine = absurd (cc)
-ops_seen rows held app channels ops answers after answered enough fine = absurd answered
+ops_seen rows held app channels numbers (IceRestart keep ∷ ops) (OpAlloc ∷ []) after answered enough fine = absurd (cc)
+ops_seen rows held app channels numbers ops answers after answered enough fine = absurd answered
 
 -- ---- names
 

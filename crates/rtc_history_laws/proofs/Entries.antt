@@ -21,7 +21,7 @@ use Rattle.rtc_history_laws.proofs.StanceSteps.{PairStance, made_by}
 -- What a new entry leaves, whatever it makes: rows and counter of its side, and the other side as it was.
 pub record Goes {E : Type 0} (moved : Bool) (past : List (Entry E)) (e : Entry E) (old new : PairStance) : Type 0 where
   pub rows : (new.sides (side_of e.step)).lines ≡ rows_or true e.table (before (side_of e.step) past)
-  pub channels : ChannelsTell (e ∷ past) (side_of e.step) (new.sides (side_of e.step)).channels
+  pub channels : ChannelsTell (e ∷ past) (side_of e.step) (new.sides (side_of e.step))
   pub counter : (new.sides (side_of e.step)).counter ≡ cond moved ((old.sides (side_of e.step)).counter + 1) (old.sides (side_of e.step)).counter
   pub other : new.sides (other_side (side_of e.step)) ≡ old.sides (other_side (side_of e.step))
   pub mine : moves (side_of e.step) e.step e.outcome ≡ moved

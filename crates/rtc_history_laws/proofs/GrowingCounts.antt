@@ -1,15 +1,15 @@
--- The counts of faults of a peer's DTLS part and media part between two moments.
+-- The counts of faults of a peer's DTLS part, media part and association between two moments.
 use Rattle.std.proofs.Common.{◌≡◌, ◌≤◌, ◌∙◌, ℕ, Bool, true, false, List, [], ◌∷◌, ◌++◌, Option, Some, None, Result, Ok, Err, refl, sym, ap, subst, arith}
 use Rattle.std.specs.declared.alloc.AllocError.{AllocError}
 use Rattle.rtc_io.specs.Faults.{Rose}
 use Rattle.rtc_dtls.specs.declared.dtls_error.DtlsError.{DtlsError}
 use Rattle.rtc_dtls.specs.declared.dtls_error.DtlsError.TheVariants.{WouldBlock, Fault, Alloc as DtlsAlloc}
 use Rattle.rtc_dtls.specs.declared.dtls_output.DtlsOutput.{DtlsOutput}
-use Rattle.rtc_dtls.specs.DtlsActs.{DtlsAct, DtlsMoved, Given, Taken, Got, Stirred, Showed, TimedAt, Closed as DtlsClosed}
+use Rattle.rtc_dtls.specs.DtlsActs.{DtlsAct, DtlsMoved, Given, Taken, Sent, Got, Stirred, SendRefused, Showed, TimedAt, Closed as DtlsClosed}
 use Rattle.rtc_dtls.specs.DtlsDrawn.{DtlsDrawn, DrewPacket, DrewConnected, DrewKeying, DrewCert, DrewData, DrewTimeout, DrewClose}
-use Rattle.rtc_dtls.specs.DtlsLaws.{DtlsLaws, DtlsAnswered}
+use Rattle.rtc_dtls.specs.DtlsLaws.{DtlsLaws, DtlsAnswered, SendAnswered}
 use Rattle.rtc_dtls.specs.DtlsMeaning.{DtlsMeaning}
-use Rattle.rtc_dtls.specs.DtlsState.{DtlsState, HandsOn, PollsOutput, GivesPacket, drawn_by}
+use Rattle.rtc_dtls.specs.DtlsState.{DtlsState, HandsOn, SendsData, PollsOutput, GivesPacket, drawn_by}
 use Rattle.rtc_dtls.specs.DtlsWords.{takes}
 use Rattle.rtc_peer_state.specs.declared.rtc_error.RtcError.{RtcError}
 use Rattle.rtc_peer_state.specs.Meanings.{Meanings}
@@ -81,6 +81,24 @@ module _ {D : Type 0} (dtls : DtlsMeaning D) (laws : DtlsLaws dtls) where
       (same_instance d e (ap (λ (x : DtlsState D). x.instance) h.1))
   hands_grow d (Some active) done r e grows h = grows d.instance r e.instance h.0
 
+  sent_rose : (finished : Bool) (before after : ℕ) (r : Result (Unit {0}) DtlsError) → SendAnswered finished before after r → dtls_tells r ≡ true → Rose before after
+  sent_rose finished before after (Ok done) h told = absurd (cc)
+  sent_rose finished before after (Err WouldBlock) h told = absurd (cc)
+  sent_rose finished before after (Err Fault) h told = h
+  sent_rose finished before after (Err DtlsAlloc) h told = absurd (cc)
+
+  sent_later : (bytes : List ℕ) (i : D) (r : Result (Unit {0}) DtlsError) (j : D) → dtls.sent i bytes r j → dtls.faults i ≤ dtls.faults j
+  sent_later bytes i (Ok done) j h = laws.faults_rise i j (Sent bytes) h
+  sent_later bytes i (Err cause) j h = laws.faults_rise i j (Stirred (SendRefused bytes cause)) h
+
+  -- application data that is handed on where it can go
+  pub sends_grow : (can : Bool) (d : DtlsState D) (bytes : List ℕ) (r : Result (Unit {0}) DtlsError) (e : DtlsState D) → SendsData dtls d can bytes r e
+      → Grows (dtls.faults d.instance) (dtls_tells r) (dtls.faults e.instance)
+  sends_grow true d bytes r e h =
+      (sent_later bytes d.instance r e.instance h.0, λ told. sent_rose (dtls.finished d.instance) (dtls.faults d.instance) (dtls.faults e.instance) r (laws.sent_answer d.instance e.instance bytes r h.0) told)
+  sends_grow false d bytes r e h =
+      grows_quiet (dtls.faults d.instance) (dtls.faults e.instance) (dtls_tells r) (ap dtls_tells h.0) (same_instance d e (ap (λ (x : DtlsState D). x.instance) h.1))
+
   moved_later : (i : D) (acts : List DtlsAct) (j : D) → DtlsMoved dtls i acts j → dtls.faults i ≤ dtls.faults j
   moved_later i [] j h = equal_below (dtls.faults i) (dtls.faults j) (ap (λ (x : D). dtls.faults x) h)
   moved_later i (act ∷ acts) j h =
@@ -117,85 +135,113 @@ module _ {D : Type 0} (dtls : DtlsMeaning D) (laws : DtlsLaws dtls) where
   gives_later d (b ∷ packets) None e h = absurd h
   gives_later d (b ∷ packets) (Some packet) e h = same_instance d e (ap (λ (x : DtlsState D). x.instance) h.1)
 
--- ---- both parts
+-- ---- all parts
 
 module _ {I D S M E X T W N : Type 0} (m : Meanings I D S M E X T W N) where
-  -- no count fell
-  abbrev pub Later : PolledPeer I D S M N → PolledPeer I D S M N → Type 0
-  Later p q = (m.dtls.faults p.core.dtls.instance ≤ m.dtls.faults q.core.dtls.instance) × (m.media.faults p.core.media ≤ m.media.faults q.core.media)
+  abbrev pub dtls_faults : PolledPeer I D S M N → ℕ
+  dtls_faults p = m.dtls.faults p.core.dtls.instance
 
-  -- No count fell, and it rose of a part whose fault is told. No fault of the association is.
+  abbrev pub media_faults : PolledPeer I D S M N → ℕ
+  media_faults p = m.media.faults p.core.media
+
+  abbrev pub association_faults : PolledPeer I D S M N → ℕ
+  association_faults p = m.association.faults p.core.sctp.association
+
+  -- no count fell
+  pub record Later (p q : PolledPeer I D S M N) : Type 0 where
+    pub dtls : dtls_faults p ≤ dtls_faults q
+    pub media : media_faults p ≤ media_faults q
+    pub association : association_faults p ≤ association_faults q
+
+  -- No count fell, and it rose of a part whose fault is told.
   pub record Counts (p : PolledPeer I D S M N) (told : CountedPart → Bool) (q : PolledPeer I D S M N) : Type 0 where
-    pub dtls : Grows (m.dtls.faults p.core.dtls.instance) (told DtlsPart) (m.dtls.faults q.core.dtls.instance)
-    pub media : Grows (m.media.faults p.core.media) (told MediaPart) (m.media.faults q.core.media)
-    pub association : told AssociationPart ≡ false
+    pub dtls : Grows (dtls_faults p) (told DtlsPart) (dtls_faults q)
+    pub media : Grows (media_faults p) (told MediaPart) (media_faults q)
+    pub association : Grows (association_faults p) (told AssociationPart) (association_faults q)
 
   pub later_self : (p : PolledPeer I D S M N) → Later p p
-  later_self p = (omega arith, omega arith)
+  later_self p = record { dtls = omega arith; media = omega arith; association = omega arith }
 
   pub later_on : (p q r : PolledPeer I D S M N) → Later p q → Later q r → Later p r
-  later_on p q r a b =
-      let dtls : m.dtls.faults p.core.dtls.instance ≤ m.dtls.faults q.core.dtls.instance = a.0 in
-      let more_dtls : m.dtls.faults q.core.dtls.instance ≤ m.dtls.faults r.core.dtls.instance = b.0 in
-      let media : m.media.faults p.core.media ≤ m.media.faults q.core.media = a.1 in
-      let more_media : m.media.faults q.core.media ≤ m.media.faults r.core.media = b.1 in
-      (omega arith, omega arith)
+  later_on p q r a b = record { dtls = omega (arith, a.dtls, b.dtls); media = omega (arith, a.media, b.media); association = omega (arith, a.association, b.association) }
 
   pub later_of : (p : PolledPeer I D S M N) (told : CountedPart → Bool) (q : PolledPeer I D S M N) → Counts p told q → Later p q
-  later_of p told q counts = (counts.dtls.0, counts.media.0)
+  later_of p told q counts = record { dtls = counts.dtls.0; media = counts.media.0; association = counts.association.0 }
 
   pub counts_on : (p q r : PolledPeer I D S M N) (told : CountedPart → Bool) → Later p q → Counts q told r → Counts p told r
   counts_on p q r told first rest = record {
-    dtls = grows_on (m.dtls.faults p.core.dtls.instance) (m.dtls.faults q.core.dtls.instance) (m.dtls.faults r.core.dtls.instance) (told DtlsPart) first.0 rest.dtls;
-    media = grows_on (m.media.faults p.core.media) (m.media.faults q.core.media) (m.media.faults r.core.media) (told MediaPart) first.1 rest.media;
-    association = rest.association;
+    dtls = grows_on (dtls_faults p) (dtls_faults q) (dtls_faults r) (told DtlsPart) first.dtls rest.dtls;
+    media = grows_on (media_faults p) (media_faults q) (media_faults r) (told MediaPart) first.media rest.media;
+    association = grows_on (association_faults p) (association_faults q) (association_faults r) (told AssociationPart) first.association rest.association;
   }
 
   -- the same where another tells as much
   pub counts_as : (p q : PolledPeer I D S M N) (told same : CountedPart → Bool) → ((part : CountedPart) → same part ≡ told part) → Counts p told q → Counts p same q
   counts_as p q told same is counts = record {
-    dtls = grows_as (m.dtls.faults p.core.dtls.instance) (m.dtls.faults q.core.dtls.instance) (told DtlsPart) (same DtlsPart) (is DtlsPart) counts.dtls;
-    media = grows_as (m.media.faults p.core.media) (m.media.faults q.core.media) (told MediaPart) (same MediaPart) (is MediaPart) counts.media;
-    association = is AssociationPart ∙ counts.association;
+    dtls = grows_as (dtls_faults p) (dtls_faults q) (told DtlsPart) (same DtlsPart) (is DtlsPart) counts.dtls;
+    media = grows_as (media_faults p) (media_faults q) (told MediaPart) (same MediaPart) (is MediaPart) counts.media;
+    association = grows_as (association_faults p) (association_faults q) (told AssociationPart) (same AssociationPart) (is AssociationPart) counts.association;
   }
-
-  pub same_dtls : (p q : PolledPeer I D S M N) → q.core.dtls.instance ≡ p.core.dtls.instance → m.dtls.faults p.core.dtls.instance ≤ m.dtls.faults q.core.dtls.instance
-  same_dtls p q same = equal_below (m.dtls.faults p.core.dtls.instance) (m.dtls.faults q.core.dtls.instance) (ap (λ (i : D). m.dtls.faults i) same)
-
-  pub same_media : (p q : PolledPeer I D S M N) → q.core.media ≡ p.core.media → m.media.faults p.core.media ≤ m.media.faults q.core.media
-  same_media p q same = equal_below (m.media.faults p.core.media) (m.media.faults q.core.media) (ap (λ (i : M). m.media.faults i) same)
 
   -- nothing is told
   pub quiet_counts : (p q : PolledPeer I D S M N) (told : CountedPart → Bool) → ((part : CountedPart) → told part ≡ false) → Later p q → Counts p told q
   quiet_counts p q told quiet later = record {
-    dtls = grows_quiet (m.dtls.faults p.core.dtls.instance) (m.dtls.faults q.core.dtls.instance) (told DtlsPart) (quiet DtlsPart) later.0;
-    media = grows_quiet (m.media.faults p.core.media) (m.media.faults q.core.media) (told MediaPart) (quiet MediaPart) later.1;
-    association = quiet AssociationPart;
+    dtls = grows_quiet (dtls_faults p) (dtls_faults q) (told DtlsPart) (quiet DtlsPart) later.dtls;
+    media = grows_quiet (media_faults p) (media_faults q) (told MediaPart) (quiet MediaPart) later.media;
+    association = grows_quiet (association_faults p) (association_faults q) (told AssociationPart) (quiet AssociationPart) later.association;
   }
 
-  -- and both parts stay
-  pub still_counts : (p n q : PolledPeer I D S M N) (told : CountedPart → Bool) → ((part : CountedPart) → told part ≡ false) → q ≡ n
-      → n.core.dtls.instance ≡ p.core.dtls.instance → n.core.media ≡ p.core.media → Counts p told q
-  still_counts p n q told quiet is dtls media =
-      quiet_counts p q told quiet (
-        same_dtls p q (ap (λ (x : PolledPeer I D S M N). x.core.dtls.instance) is ∙ dtls),
-        same_media p q (ap (λ (x : PolledPeer I D S M N). x.core.media) is ∙ media),
-      )
+  -- ---- parts that stay
+
+  -- the peer has the parts that count their faults from another
+  pub record SameParts (n p : PolledPeer I D S M N) : Type 0 where
+    pub dtls : n.core.dtls.instance ≡ p.core.dtls.instance
+    pub media : n.core.media ≡ p.core.media
+    pub association : n.core.sctp.association ≡ p.core.sctp.association
+
+  pub same_dtls : (p q : PolledPeer I D S M N) → q.core.dtls.instance ≡ p.core.dtls.instance → dtls_faults p ≤ dtls_faults q
+  same_dtls p q same = equal_below (dtls_faults p) (dtls_faults q) (ap (λ (i : D). m.dtls.faults i) same)
+
+  pub same_media : (p q : PolledPeer I D S M N) → q.core.media ≡ p.core.media → media_faults p ≤ media_faults q
+  same_media p q same = equal_below (media_faults p) (media_faults q) (ap (λ (i : M). m.media.faults i) same)
+
+  pub same_association : (p q : PolledPeer I D S M N) → q.core.sctp.association ≡ p.core.sctp.association → association_faults p ≤ association_faults q
+  same_association p q same = equal_below (association_faults p) (association_faults q) (ap (λ (i : S). m.association.faults i) same)
+
+  pub same_later : (p n q : PolledPeer I D S M N) → q ≡ n → SameParts n p → Later p q
+  same_later p n q is same = record {
+    dtls = same_dtls p q (ap (λ (x : PolledPeer I D S M N). x.core.dtls.instance) is ∙ same.dtls);
+    media = same_media p q (ap (λ (x : PolledPeer I D S M N). x.core.media) is ∙ same.media);
+    association = same_association p q (ap (λ (x : PolledPeer I D S M N). x.core.sctp.association) is ∙ same.association);
+  }
+
+  -- nothing is told, and all parts stay
+  pub still_counts : (p n q : PolledPeer I D S M N) (told : CountedPart → Bool) → ((part : CountedPart) → told part ≡ false) → q ≡ n → SameParts n p → Counts p told q
+  still_counts p n q told quiet is same = quiet_counts p q told quiet (same_later p n q is same)
 
   -- the DTLS part alone changed
-  pub dtls_counts : (p q : PolledPeer I D S M N) (told : CountedPart → Bool) → told AssociationPart ≡ false → told MediaPart ≡ false → q.core.media ≡ p.core.media
-      → Grows (m.dtls.faults p.core.dtls.instance) (told DtlsPart) (m.dtls.faults q.core.dtls.instance) → Counts p told q
-  dtls_counts p q told association quiet same grows = record {
+  pub dtls_counts : (p q : PolledPeer I D S M N) (told : CountedPart → Bool) → told AssociationPart ≡ false → told MediaPart ≡ false
+      → q.core.sctp.association ≡ p.core.sctp.association → q.core.media ≡ p.core.media → Grows (dtls_faults p) (told DtlsPart) (dtls_faults q) → Counts p told q
+  dtls_counts p q told untold_association untold_media association media grows = record {
     dtls = grows;
-    media = grows_quiet (m.media.faults p.core.media) (m.media.faults q.core.media) (told MediaPart) quiet (same_media p q same);
-    association = association;
+    media = grows_quiet (media_faults p) (media_faults q) (told MediaPart) untold_media (same_media p q media);
+    association = grows_quiet (association_faults p) (association_faults q) (told AssociationPart) untold_association (same_association p q association);
   }
 
   -- the media part alone changed
   pub media_counts : (p q : PolledPeer I D S M N) (told : CountedPart → Bool) → told AssociationPart ≡ false → told DtlsPart ≡ false
-      → q.core.dtls.instance ≡ p.core.dtls.instance → Grows (m.media.faults p.core.media) (told MediaPart) (m.media.faults q.core.media) → Counts p told q
-  media_counts p q told association quiet same grows = record {
-    dtls = grows_quiet (m.dtls.faults p.core.dtls.instance) (m.dtls.faults q.core.dtls.instance) (told DtlsPart) quiet (same_dtls p q same);
+      → q.core.sctp.association ≡ p.core.sctp.association → q.core.dtls.instance ≡ p.core.dtls.instance → Grows (media_faults p) (told MediaPart) (media_faults q) → Counts p told q
+  media_counts p q told untold_association untold_dtls association dtls grows = record {
+    dtls = grows_quiet (dtls_faults p) (dtls_faults q) (told DtlsPart) untold_dtls (same_dtls p q dtls);
     media = grows;
-    association = association;
+    association = grows_quiet (association_faults p) (association_faults q) (told AssociationPart) untold_association (same_association p q association);
+  }
+
+  -- the association alone changed
+  pub association_counts : (p q : PolledPeer I D S M N) (told : CountedPart → Bool) → told DtlsPart ≡ false → told MediaPart ≡ false
+      → q.core.dtls.instance ≡ p.core.dtls.instance → q.core.media ≡ p.core.media → Grows (association_faults p) (told AssociationPart) (association_faults q) → Counts p told q
+  association_counts p q told untold_dtls untold_media dtls media grows = record {
+    dtls = grows_quiet (dtls_faults p) (dtls_faults q) (told DtlsPart) untold_dtls (same_dtls p q dtls);
+    media = grows_quiet (media_faults p) (media_faults q) (told MediaPart) untold_media (same_media p q media);
+    association = grows;
   }

@@ -1,3 +1,4 @@
+pub mod NumberedChannels
 pub mod StanceSteps
 pub mod StandingPolls
 pub mod StandingSteps
@@ -6,7 +7,6 @@ pub mod Bounds
 pub mod OpRows
 pub mod AddedRows
 pub mod PlacedRows
-pub mod ToldChannels
 pub mod StagedApps
 pub mod StagedChanges
 pub mod StagedOps
@@ -59,10 +59,13 @@ pub mod OrderlySounds
 pub mod StanceRuns
 pub mod Reaches
 pub mod CountedFaults
+pub mod StreamFaults
 pub mod MediaFaults
 pub mod GrowingCounts
 pub mod StageCounts
+pub mod ClosingCounts
 pub mod ConnectionCounts
+pub mod StreamCounts
 pub mod PollCounts
 pub mod InputCounts
 pub mod OpParts

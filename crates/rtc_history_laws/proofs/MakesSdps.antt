@@ -96,7 +96,7 @@ negotiate_makes {E} fresh between at ops apply old new kept kept' (Negotiated an
     let app_told = app_is_told asked at (lent old) h.0 new kept kept' made table.lines h.2 left staged.app refl in
     makes_of E at asked h.0 new ops answers apply kept kept' made table h.2 left
     (λ k is. staged.adds app app_told.told_app (app_told.offered k is) (length table.lines) ∙ ap (λ n. added app n ops answers) (let e : length table.lines + 0 ≡ length table.lines = omega arith in e))
-    (offer_table past at ops answers table (behind kept kept') is sound.0).distinct
+    (offer_table (between at) past at ops answers table (behind kept kept') is sound.0).distinct
 negotiate_makes {E} fresh between at ops apply old new kept kept' outcome table past h is sound = absurd h
 
 offer_makes : {E : Type 0} → (at : Side) (k : ℕ) (offer : Option Sdp) (old new : Stance) (kept kept' : List Kept) (outcome : Outcome E) (table : Option Table)
@@ -149,8 +149,8 @@ makes_sdp fresh between past old new (AcceptOffer at k) outcome table performs i
     (subst (λ (list : List LineRow). IsTable (rows_or true table list)) rows (reply_table fresh between past (AcceptOffer at k) outcome table (made_by old new) sound is))
 makes_sdp fresh between past old new (AcceptAnswer at t a) outcome table performs is sound rows =
     answer_makes at t a (held_token old.sdps at t) (kept_remote_sdp false old.sdps at a) (old.sides at) (new.sides at) old.sdps new.sdps outcome table performs.acts
-makes_sdp fresh between past old new (Time at now) outcome table performs is sound rows = none_behind old.sdps new.sdps performs.acts.stays.sdps_kept
-makes_sdp fresh between past old new (Datagram at packet now) outcome table performs is sound rows = none_behind old.sdps new.sdps performs.acts.stays.sdps_kept
-makes_sdp fresh between past old new (Poll at) outcome table performs is sound rows = none_behind old.sdps new.sdps performs.acts.stays.sdps_kept
-makes_sdp fresh between past old new (Drain at) outcome table performs is sound rows = none_behind old.sdps new.sdps performs.acts.stays.sdps_kept
-makes_sdp fresh between past old new (Close at) outcome table performs is sound rows = none_behind old.sdps new.sdps performs.acts.stays.sdps_kept
+makes_sdp fresh between past old new (Time at now) outcome table performs is sound rows = none_behind old.sdps new.sdps performs.acts.sdps_kept
+makes_sdp fresh between past old new (Datagram at packet now) outcome table performs is sound rows = none_behind old.sdps new.sdps performs.acts.sdps_kept
+makes_sdp fresh between past old new (Poll at) outcome table performs is sound rows = none_behind old.sdps new.sdps performs.acts.sdps_kept
+makes_sdp fresh between past old new (Drain at) outcome table performs is sound rows = none_behind old.sdps new.sdps performs.acts.sdps_kept
+makes_sdp fresh between past old new (Close at) outcome table performs is sound rows = none_behind old.sdps new.sdps performs.acts.sdps_kept

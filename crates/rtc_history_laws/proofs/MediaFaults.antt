@@ -1,5 +1,5 @@
 -- The count of faults of a media part never falls as its peer accepts or refuses an offer or an answer.
-use Rattle.std.proofs.Common.{◌≡◌, ◌≤◌, inl, inr, ℕ, Bool, List, Option, Result, Ok, Err, ap, arith}
+use Rattle.std.proofs.Common.{◌≡◌, ◌≤◌, inl, inr, Bool, List, Option, Result, Ok, Err, ap, arith}
 use Rattle.std.specs.declared.alloc.AllocError.{AllocError}
 use Rattle.rtc_parts_values.specs.Why.{Other}
 use Rattle.rtc_media.specs.MediaActs.{MediaStirred, Committed, Prepared}

@@ -1,18 +1,17 @@
 -- A run goes on by a step that is performed.
 use Rattle.std.proofs.Common.{◌≡◌, ◌<◌, ◌^◌, ℕ, Bool, List, [], ◌∷◌, ◌++◌, map, refl, ap, arith}
-use Rattle.rtc_channels.specs.Channels.{channel_rows}
 use Rattle.rtc_peer_state.specs.Meanings.{Meanings, PartsLaws}
 use Rattle.rtc_history.specs.declared.step.Step.{Step}
 use Rattle.rtc_history.specs.declared.reply.Reply.{Reply}
 use Rattle.rtc_history.specs.Sizes.{steps_size}
 use Rattle.rtc_history.specs.Past.{Entry, packets_shown}
-use Rattle.rtc_history.specs.PairState.{PairState, made_sdp, size_sent}
+use Rattle.rtc_history.specs.PairState.{PairState, made_sdp, peer_at, size_sent}
 use Rattle.rtc_history.specs.Performs.{Performs, Enters, sdps_behind}
 use Rattle.rtc_history.specs.Runs.{Went, EntersSoundly, Runs}
 use Rattle.rtc_history.specs.Fresh.{IsFresh}
 use Rattle.rtc_history_laws.proofs.StanceSteps.{pair_stance}
 use Rattle.rtc_history_laws.proofs.StandingSteps.{performs_stands}
-use Rattle.rtc_history_laws.proofs.StanceRuns.{StanceReached, StanceRan, fresh_stands, ran_stands, ran_reached}
+use Rattle.rtc_history_laws.proofs.StanceRuns.{StanceReached, StanceRan, no_rows, fresh_stands, ran_stands, ran_reached}
 use Rattle.rtc_history_laws.proofs.Bounds.{IsWithin}
 use Rattle.rtc_history_laws.proofs.Tells.{Tells}
 use Rattle.rtc_history_laws.proofs.Around.{entry}
@@ -32,7 +31,7 @@ module _ {I D S M E X T W N : Type 0} (m : Meanings I D S M E X T W N) (stun : L
     kept = ap (map made_sdp) fresh.sdps;
     packets = ap (map size_sent) fresh.packets;
     rows = λ at. (fresh.built at).lines;
-    channels = λ at. ap channel_rows (fresh.built at).channels;
+    channels = λ at. no_rows m (peer_at at start) (fresh.built at).channels;
   }
 
   -- a run of one more step

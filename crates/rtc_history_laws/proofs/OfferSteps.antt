@@ -3,7 +3,7 @@ use Rattle.rtc_dtls.specs.declared.dtls_error.DtlsError.TheVariants.{Fault, Woul
 use Rattle.rtc_change.specs.Held.{Held}
 use Rattle.rtc_peer_state.specs.Stance.{held_by}
 use Rattle.rtc_history.specs.Views.{Stances, view_in}
-use Rattle.std.proofs.Common.{◌≡◌, ◌≤◌, ◌+◌, ℕ, List, ◌∷◌, length, Bool, true, false, ◌&&◌, Option, Some, None, refl, sym, ◌∙◌, ap, arith, map}
+use Rattle.std.proofs.Common.{◌≡◌, ◌≤◌, ◌+◌, ℕ, List, [], ◌∷◌, length, Bool, true, false, ◌&&◌, Option, Some, None, refl, sym, ◌∙◌, ap, arith, map}
 use Rattle.std.proofs.lemmas.Bool.{and_left, and_right}
 use Rattle.std.proofs.lemmas.List.{length-map}
 use Rattle.rtc_sdp_values.specs.declared.line_row.LineRow.{LineRow}
@@ -24,16 +24,15 @@ use Rattle.rtc_history.specs.declared.outcome.Outcome.{Outcome}
 use Rattle.rtc_history.specs.declared.outcome.Outcome.TheVariants.{Answered, Refused, NoSuch, Alloc}
 use Rattle.rtc_history.specs.declared.table.Table.{Table}
 use Rattle.rtc_history.specs.Sides.{same_side, other_side}
-use Rattle.rtc_history.specs.Past.{Entry, MadeSdp, before, channels_shown, channel_rows_or, rows_or, sdps, remote_sdp, was_called, makes}
+use Rattle.rtc_history.specs.Past.{Entry, MadeSdp, before, channels_shown, channel_rows_or, numbers_in, rows_or, sdps, remote_sdp, was_called, makes}
 use Rattle.rtc_history.specs.Sound.{RepliesToOffer, IsSound}
 use Rattle.rtc_history.specs.declared.kept.Kept.{Kept}
 use Rattle.rtc_history.specs.Performs.{kept_answer}
-use Rattle.rtc_channels.specs.Channels.{channel_rows}
 use Rattle.rtc_history_laws.proofs.SaidSdps.{length-with}
-use Rattle.rtc_history_laws.proofs.ToldChannels.{alike_told}
+use Rattle.rtc_history_laws.proofs.NumberedChannels.{same_numbers}
 use Rattle.rtc_history_laws.proofs.Tells.{ChannelsTell, Tells, same_side-self, same_side-other, raised-small}
 use Rattle.rtc_history_laws.proofs.Entries.{answered_tells}
-use Rattle.rtc_history_laws.proofs.Around.{Around, entry, goes_on, channels_kept, quiet_tells}
+use Rattle.rtc_history_laws.proofs.Around.{Around, entry, goes_on, channels_next, quiet_tells}
 use Rattle.rtc_history_laws.proofs.StanceSteps.{PairStance, StanceShows, StanceStepAcceptsOffer, lent}
 
 -- the same of equal SDPs, views and counts
@@ -42,31 +41,31 @@ offer_by : {E : Type 0} → (sdp sdp' : Option Sdp) (view view' : Held) (next ne
 offer_by sdp sdp' view view' next next' outcome after same_sdp same_view same_next takes = rw (same_sdp, same_view, same_next) takes
 
 -- the channels that are shown are those of the past
-pub shown_by : {E : Type 0} → (past : List (Entry E)) (at : Side) (old new : Stance) (table : Table) → channels_shown at past ≡ channel_rows old.channels → channel_rows new.channels ≡ channel_rows old.channels → StanceShows table new → table.channels ≡ channels_shown at past
+pub shown_by : {E : Type 0} → (past : List (Entry E)) (at : Side) (old new : Stance) (table : Table) → channels_shown at past ≡ old.rows → new.rows ≡ old.rows → StanceShows table new → table.channels ≡ channels_shown at past
 shown_by past at old new table before_it same shows = shows.channels ∙ same ∙ sym before_it
 
 -- the reply to an offer that is delivered
 pub offer_reply : {E : Type 0} → (fresh between : Stances) (past : List (Entry E)) (at : Side) (k : ℕ) (offer : Option Sdp) (old new : Stance) (kept kept' : List Kept) (outcome : Outcome E) (table : Option Table) (made : List MadeSdp)
-    → remote_sdp true at k past ≡ offer → view_in fresh at past (held_by (between at)) ≡ held_by old → channels_shown at past ≡ channel_rows old.channels → length (sdps past) ≡ length kept → StanceStepAcceptsOffer at offer old kept outcome table new kept'
+    → remote_sdp true at k past ≡ offer → view_in fresh at past (held_by (between at)) ≡ held_by old → channels_shown at past ≡ old.rows → length (sdps past) ≡ length kept → StanceStepAcceptsOffer at offer old kept outcome table new kept'
     → IsSound fresh past between (AcceptOffer at k) outcome table made
 offer_reply fresh between past at k None old new kept kept' Alloc None made said view shown next h = tt
 offer_reply fresh between past at k (Some sdp) old new kept kept' Alloc None made said view shown next h = tt
 offer_reply fresh between past at k None old new kept kept' NoSuch (Some table) made said view shown next h =
     (offer_by None _ (held_by old) _ (length kept) _ NoSuch table.lines said view next h.1.lines, shown_by past at old old table shown refl h.1)
 offer_reply fresh between past at k (Some sdp) old new kept kept' (Answered n) (Some table) made said view shown next h =
-    (offer_by (Some sdp) _ (held_by old) _ (length kept) _ (Answered n) table.lines said view next (h.1.passes, h.4.lines ∙ ap (λ p. p.lines) h.1.rest, h.3), shown_by past at old new table shown (ap (λ p. channel_rows p.channels) h.1.rest) h.4)
+    (offer_by (Some sdp) _ (held_by old) _ (length kept) _ (Answered n) table.lines said view next (h.1.passes, h.4.lines ∙ ap (λ p. p.lines) h.1.rest, h.3), shown_by past at old new table shown (ap (λ p. p.rows) h.1.rest) h.4)
 offer_reply fresh between past at k (Some sdp) old new kept kept' (Refused (RemoteSdp why)) (Some table) made said view shown next h =
-    (offer_by (Some sdp) _ (held_by old) _ (length kept) _ (Refused (RemoteSdp why)) table.lines said view next (h.0.0, h.2.lines ∙ ap (λ p. p.lines) h.0.1), shown_by past at old new table shown (ap (λ p. channel_rows p.channels) h.0.1) h.2)
+    (offer_by (Some sdp) _ (held_by old) _ (length kept) _ (Refused (RemoteSdp why)) table.lines said view next (h.0.0, h.2.lines ∙ ap (λ p. p.lines) h.0.1), shown_by past at old new table shown (ap (λ p. p.rows) h.0.1) h.2)
 offer_reply fresh between past at k (Some sdp) old new kept kept' (Refused (SdpRefused error)) (Some table) made said view shown next h =
-    (offer_by (Some sdp) _ (held_by old) _ (length kept) _ (Refused (SdpRefused error)) table.lines said view next (h.0.0, h.2.lines ∙ ap (λ p. p.lines) h.0.1), shown_by past at old new table shown (ap (λ p. channel_rows p.channels) h.0.1) h.2)
+    (offer_by (Some sdp) _ (held_by old) _ (length kept) _ (Refused (SdpRefused error)) table.lines said view next (h.0.0, h.2.lines ∙ ap (λ p. p.lines) h.0.1), shown_by past at old new table shown (ap (λ p. p.rows) h.0.1) h.2)
 offer_reply fresh between past at k (Some sdp) old new kept kept' (Refused (Dtls Fault)) (Some table) made said view shown next h =
-    (offer_by (Some sdp) _ (held_by old) _ (length kept) _ (Refused (Dtls Fault)) table.lines said view next (h.0.0, h.2.lines ∙ ap (λ p. p.lines) h.0.1.breaks.rest), shown_by past at old new table shown (ap (λ p. channel_rows p.channels) h.0.1.breaks.rest) h.2)
+    (offer_by (Some sdp) _ (held_by old) _ (length kept) _ (Refused (Dtls Fault)) table.lines said view next (h.0.0, h.2.lines ∙ ap (λ p. p.lines) h.0.1.breaks.rest), shown_by past at old new table shown (ap (λ p. p.rows) h.0.1.breaks.rest) h.2)
 offer_reply fresh between past at k (Some sdp) old new kept kept' (Refused (Dtls WouldBlock)) (Some table) made said view shown next h = absurd h.0
 offer_reply fresh between past at k (Some sdp) old new kept kept' (Refused (Dtls DtlsAlloc)) (Some table) made said view shown next h = absurd h.0
 offer_reply fresh between past at k (Some sdp) old new kept kept' (Refused (Sctp error)) (Some table) made said view shown next h =
-    (offer_by (Some sdp) _ (held_by old) _ (length kept) _ (Refused (Sctp error)) table.lines said view next (h.0.0, h.0.1, h.2.lines ∙ ap (λ p. p.lines) h.0.2.breaks.rest), shown_by past at old new table shown (ap (λ p. channel_rows p.channels) h.0.2.breaks.rest) h.2)
+    (offer_by (Some sdp) _ (held_by old) _ (length kept) _ (Refused (Sctp error)) table.lines said view next (h.0.0, h.0.1, h.2.lines ∙ ap (λ p. p.lines) h.0.2.breaks.rest), shown_by past at old new table shown (ap (λ p. p.rows) h.0.2.breaks.rest) h.2)
 offer_reply fresh between past at k (Some sdp) old new kept kept' (Refused PeerAlloc) (Some table) made said view shown next h =
-    (offer_by (Some sdp) _ (held_by old) _ (length kept) _ (Refused PeerAlloc) table.lines said view next (h.2.lines ∙ ap (λ p. p.lines) h.0.breaks.rest), shown_by past at old new table shown (ap (λ p. channel_rows p.channels) h.0.breaks.rest) h.2)
+    (offer_by (Some sdp) _ (held_by old) _ (length kept) _ (Refused PeerAlloc) table.lines said view next (h.2.lines ∙ ap (λ p. p.lines) h.0.breaks.rest), shown_by past at old new table shown (ap (λ p. p.rows) h.0.breaks.rest) h.2)
 offer_reply fresh between past at k (Some sdp) old new kept kept' (Refused ChangesOutOfOrder) (Some table) made said view shown next h = absurd h.0
 offer_reply fresh between past at k (Some sdp) old new kept kept' (Refused (Net cause)) (Some table) made said view shown next h = absurd h.0
 offer_reply fresh between past at k (Some sdp) old new kept kept' (Refused (MediaFailed cause)) (Some table) made said view shown next h = absurd h.0
@@ -89,20 +88,20 @@ here at b is = rw (same_side-self at, is) refl
 nowhere : (at : Side) (b : Bool) → (same_side at (other_side at) && b) ≡ false
 nowhere at b = and_left (same_side at (other_side at)) b (same_side-other at)
 
--- the channels that steps tell are those of before
-channels_go : {E : Type 0} → (past : List (Entry E)) (at : Side) (k : ℕ) (outcome : Outcome E) (table : Option Table) (made : List MadeSdp) (old new : PairStance) → (new.sides at).channels ≡ (old.sides at).channels
-    → channel_rows_or true table (channels_shown at past) ≡ channel_rows (new.sides at).channels → Tells past old → ChannelsTell (entry (AcceptOffer at k) outcome table made ∷ past) at (new.sides at).channels
-channels_go past at k outcome table made old new same shown tells =
-    channels_kept past (AcceptOffer at k) outcome table made (old.sides at).channels (new.sides at).channels (λ held. refl) (alike_told (old.sides at).channels (new.sides at).channels same) shown (tells.sides at).channels
+-- the channels of a side that tells no number
+channels_go : {E : Type 0} → (past : List (Entry E)) (at : Side) (k : ℕ) (outcome : Outcome E) (table : Option Table) (made : List MadeSdp) (old new : PairStance) → numbers_in outcome ≡ []
+    → (new.sides at).channels ≡ (old.sides at).channels → channel_rows_or true table (channels_shown at past) ≡ (new.sides at).rows → Tells past old → ChannelsTell (entry (AcceptOffer at k) outcome table made ∷ past) at (new.sides at)
+channels_go past at k outcome table made old new none same shown tells =
+    channels_next past (AcceptOffer at k) outcome table made (old.sides at) (new.sides at) (rw none (same_numbers (old.sides at).channels (new.sides at).channels same)) shown (tells.sides at).channels
 
 -- the peer was delivered nothing
 untouched_tells : {E : Type 0} → (past : List (Entry E)) (at : Side) (k : ℕ) (outcome : Outcome E) (table : Option Table) (made : List MadeSdp) (old new : PairStance)
-    → was_called outcome ≡ false → ((t : ℕ) → makes t outcome ≡ false) → new.sides at ≡ old.sides at → new.sdps ≡ old.sdps → rows_or true table (before at past) ≡ (old.sides at).lines
-    → channel_rows_or true table (channels_shown at past) ≡ channel_rows (old.sides at).channels
+    → was_called outcome ≡ false → ((t : ℕ) → makes t outcome ≡ false) → numbers_in outcome ≡ [] → new.sides at ≡ old.sides at → new.sdps ≡ old.sdps → rows_or true table (before at past) ≡ (old.sides at).lines
+    → channel_rows_or true table (channels_shown at past) ≡ (old.sides at).rows
     → Around (AcceptOffer at k) made old new → Tells past old → Tells (entry (AcceptOffer at k) outcome table made ∷ past) new
-untouched_tells past at k outcome table made old new uncalled unmade peer kept rows shown around tells =
+untouched_tells past at k outcome table made old new uncalled unmade none peer kept rows shown around tells =
     quiet_tells false past (AcceptOffer at k) outcome table made old new (ap (λ p. length p.lines) peer) kept (ap (λ p. p.lines) peer ∙ sym rows)
-    (channels_go past at k outcome table made old new (ap (λ p. p.channels) peer) (shown ∙ ap (λ p. channel_rows p.channels) (sym peer)) tells) (ap (λ p. p.counter) peer)
+    (channels_go past at k outcome table made old new none (ap (λ p. p.channels) peer) (shown ∙ ap (λ p. p.rows) (sym peer)) tells) (ap (λ p. p.counter) peer)
     (and_right (same_side at at) (was_called outcome) uncalled) (and_right (same_side at (other_side at)) (was_called outcome) uncalled) (λ t. refl) unmade around tells
 
 -- the counter of a pair that is small rises by one
@@ -116,7 +115,7 @@ refused_tells : {E : Type 0} → (past : List (Entry E)) (at : Side) (k : ℕ) (
     → Around (AcceptOffer at k) made old new → Tells past old → Tells (entry (AcceptOffer at k) (Refused error) (Some table) made ∷ past) new
 refused_tells past at k error table made old new lines counter channels kept shows around tells =
     quiet_tells true past (AcceptOffer at k) (Refused error) (Some table) made old new (ap length lines) kept (sym shows.lines)
-    (channels_go past at k (Refused error) (Some table) made old new channels shows.channels tells) (rises past at k made old new counter around tells)
+    (channels_go past at k (Refused error) (Some table) made old new refl channels shows.channels tells) (rises past at k made old new counter around tells)
     (here at true refl) (nowhere at true) (λ t. refl) (λ t. refl) around tells
 
 -- A step that hands over an offer.
@@ -124,11 +123,11 @@ pub offer_tells : {E : Type 0} → (past : List (Entry E)) (at : Side) (k : ℕ)
     → ((sdp : Sdp) → offer ≡ Some sdp → length sdp.lines ≤ old.size) → StanceStepAcceptsOffer at offer (old.sides at) old.sdps outcome table (new.sides at) new.sdps
     → Around (AcceptOffer at k) made old new → Tells past old → Tells (entry (AcceptOffer at k) outcome table made ∷ past) new
 offer_tells past at k None old new Alloc None made few h around tells =
-    untouched_tells past at k Alloc None made old new refl (λ t. refl) h.peer h.sdps_kept (sym (tells.sides at).rows) (sym (tells.sides at).channels.shown) around tells
+    untouched_tells past at k Alloc None made old new refl (λ t. refl) refl h.peer h.sdps_kept (sym (tells.sides at).rows) (sym (tells.sides at).channels.shown) around tells
 offer_tells past at k (Some sdp) old new Alloc None made few h around tells =
-    untouched_tells past at k Alloc None made old new refl (λ t. refl) h.peer h.sdps_kept (sym (tells.sides at).rows) (sym (tells.sides at).channels.shown) around tells
+    untouched_tells past at k Alloc None made old new refl (λ t. refl) refl h.peer h.sdps_kept (sym (tells.sides at).rows) (sym (tells.sides at).channels.shown) around tells
 offer_tells past at k None old new NoSuch (Some table) made few h around tells =
-    untouched_tells past at k NoSuch (Some table) made old new refl (λ t. refl) h.0.peer h.0.sdps_kept h.1.lines h.1.channels around tells
+    untouched_tells past at k NoSuch (Some table) made old new refl (λ t. refl) refl h.0.peer h.0.sdps_kept h.1.lines h.1.channels around tells
 offer_tells past at k (Some sdp) old new (Refused (RemoteSdp why)) (Some table) made few h around tells =
     refused_tells past at k (RemoteSdp why) table made old new (ap (λ p. p.lines) h.0.1) (ap (λ p. p.counter) h.0.1) (ap (λ p. p.channels) h.0.1) h.1 h.2 around tells
 offer_tells past at k (Some sdp) old new (Refused (SdpRefused error)) (Some table) made few h around tells =
@@ -151,7 +150,7 @@ offer_tells past at k (Some sdp) old new (Answered n) (Some table) made few h ar
     let lines : length h.0.lines ≡ length (table_after (old.sides at).lines (parsed_lines sdp) true) = ap (λ a. length a.lines) h.1.answered ∙ length-answer (lent (old.sides at)) h.1.restart sdp in
     answered_tells past (entry (AcceptOffer at k) (Answered n) (Some table) made) old new (kept_answer at h.0)
     (goes_on true past (AcceptOffer at k) (Answered n) (Some table) made old new (sym h.4.lines)
-    (channels_go past at k (Answered n) (Some table) made old new (ap (λ p. p.channels) h.1.rest) h.4.channels tells)
+    (channels_go past at k (Answered n) (Some table) made old new refl (ap (λ p. p.channels) h.1.rest) h.4.channels tells)
     (rises past at k made old new (ap (λ p. p.counter) h.1.rest) around tells) (here at true refl) (nowhere at true)
     (omega (arith, most, rows, around.size)) around)
     refl refl (omega (arith, most, lines, around.size)) h.2 (λ t. refl) (λ t. refl) tells

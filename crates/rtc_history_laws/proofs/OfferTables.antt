@@ -9,8 +9,9 @@ use Rattle.rtc_history.specs.declared.op.Op.{Op}
 use Rattle.rtc_history.specs.declared.op_answer.OpAnswer.{OpAnswer}
 use Rattle.rtc_history.specs.declared.table.Table.{Table}
 use Rattle.rtc_history.specs.Answers.{has_app_row, added}
-use Rattle.rtc_history.specs.Past.{Entry, MadeSdp, before, new_app, channels_given}
+use Rattle.rtc_history.specs.Past.{Entry, MadeSdp, before, new_app, numbers_told}
 use Rattle.rtc_history.specs.Sound.{OpsAnswered, at_first}
+use Rattle.rtc_peer_state.specs.Stance.{Stance}
 use Rattle.rtc_history_laws.proofs.OpRows.{ops_table, ops_mids}
 use Rattle.rtc_history_laws.proofs.AddedRows.{AreAdded, ops_add, offered_table}
 
@@ -19,16 +20,16 @@ pub app_unneeded : (rows : List LineRow) (said : List MadeSdp) → has_app_row r
 app_unneeded rows said there = rw there refl
 
 -- what ops stage is new beside the rows that they leave
-pub ops_new : {E : Type 0} → (past : List (Entry E)) (at : Side) (app : Option (List ℕ)) (ops : List Op) (answers : List OpAnswer) (after : List LineRow) (place : ℕ) → OpsAnswered (at_first at past app) ops answers after
+pub ops_new : {E : Type 0} → (s : Stance) (past : List (Entry E)) (at : Side) (app : Option (List ℕ)) (ops : List Op) (answers : List OpAnswer) (after : List LineRow) (place : ℕ) → OpsAnswered (at_first s at past app) ops answers after
     → AreAdded (is_some app) (map row_mid after) place (added app place ops answers)
-ops_new past at app ops answers after place answered =
-    subst (λ (held : List (List ℕ)). AreAdded (is_some app) held place (added app place ops answers)) (sym (ops_mids (at_first at past app) ops answers after answered))
-    (ops_add (before at past) (map row_mid (before at past)) app (channels_given at past) ops answers after place answered)
+ops_new s past at app ops answers after place answered =
+    subst (λ (held : List (List ℕ)). AreAdded (is_some app) held place (added app place ops answers)) (sym (ops_mids (at_first s at past app) ops answers after answered))
+    (ops_add (before at past) (map row_mid (before at past)) app s.channels (numbers_told at past) ops answers after place answered)
 
 -- The rows of an offer are a table.
-pub offer_table : {E : Type 0} → (past : List (Entry E)) (at : Side) (ops : List Op) (answers : List OpAnswer) (table : Table) (said : List MadeSdp) → IsTable (before at past)
-    → OpsAnswered (at_first at past (new_app table.lines said)) ops answers table.lines → IsTable (table.lines ++ added (new_app table.lines said) (length table.lines) ops answers)
-offer_table past at ops answers table said is answered =
+pub offer_table : {E : Type 0} → (s : Stance) (past : List (Entry E)) (at : Side) (ops : List Op) (answers : List OpAnswer) (table : Table) (said : List MadeSdp) → IsTable (before at past)
+    → OpsAnswered (at_first s at past (new_app table.lines said)) ops answers table.lines → IsTable (table.lines ++ added (new_app table.lines said) (length table.lines) ops answers)
+offer_table s past at ops answers table said is answered =
     offered_table table.lines (added (new_app table.lines said) (length table.lines) ops answers) (is_some (new_app table.lines said))
-    (ops_table (at_first at past (new_app table.lines said)) ops answers table.lines answered is) (app_unneeded table.lines said)
-    (ops_new past at (new_app table.lines said) ops answers table.lines (length table.lines) answered)
+    (ops_table (at_first s at past (new_app table.lines said)) ops answers table.lines answered is) (app_unneeded table.lines said)
+    (ops_new s past at (new_app table.lines said) ops answers table.lines (length table.lines) answered)

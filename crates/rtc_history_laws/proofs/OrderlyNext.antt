@@ -229,11 +229,11 @@ enough_ok outcome either enough = by (is_ok outcome) refl
     by false is = absurd (let e : false ≡ true = rw (is, enough) at either in cc)
 
 -- a step that negotiates nothing leaves what is outstanding
-rest_round : (old new : PairStance) (at : Side) (course course' : Course) → Some course ≡ Some course' → new.sides at ≡ old.sides at → new.sides (other_side at) ≡ old.sides (other_side at)
+rest_round : (old new : PairStance) (at : Side) (course course' : Course) → Some course ≡ Some course' → (new.sides at).ice ≡ (old.sides at).ice → new.sides (other_side at) ≡ old.sides (other_side at)
     → new.sdps ≡ old.sdps → InRound course.phase old → InRound course'.phase new
 rest_round old new at course course' after mine other kept round =
     let same : course ≡ course' = cc in
-    let ice : SameIce old new = both_sides (λ side. (new.sides side).ice ≡ (old.sides side).ice) at (ap (λ (s : Stance). s.ice) mine) (ap (λ (s : Stance). s.ice) other) in
+    let ice : SameIce old new = both_sides (λ side. (new.sides side).ice ≡ (old.sides side).ice) at mine (ap (λ (s : Stance). s.ice) other) in
     subst (λ (c : Course). InRound c.phase new) same (round_stays course.phase old new ice kept round)
 
 pub round_next : {E : Type 0} → (fresh : Stances) (past : List (Entry E)) (old new : PairStance) (step : Step) (outcome : Outcome E) (table : Option Table) (made : List MadeSdp) (course course' : Course) → IsOnCourse fresh past old course
@@ -259,12 +259,12 @@ round_next fresh past old new (AcceptAnswer at t a) outcome table made course co
     (subst (λ (phase : Phase). InRound phase new) (sym (moved_phase at course (course_rows_after false 0 (course_rows at course) it.said) course.sdps Idle))
     (end_next old new at t a outcome table out performs.acts performs.other (enough_ok outcome (either refl) enough)))
 round_next fresh past old new (Time at now) outcome table made course course' on tells' performs after either enough next =
-    rest_round old new at course course' after performs.acts.stays.peer performs.other performs.acts.stays.sdps_kept on.round
+    rest_round old new at course course' after (ap (λ (s : Stance). s.ice) performs.acts.peer) performs.other performs.acts.sdps_kept on.round
 round_next fresh past old new (Datagram at packet now) outcome table made course course' on tells' performs after either enough next =
-    rest_round old new at course course' after performs.acts.stays.peer performs.other performs.acts.stays.sdps_kept on.round
+    rest_round old new at course course' after (ap (λ (s : Stance). s.ice) performs.acts.peer) performs.other performs.acts.sdps_kept on.round
 round_next fresh past old new (Poll at) outcome table made course course' on tells' performs after either enough next =
-    rest_round old new at course course' after performs.acts.stays.peer performs.other performs.acts.stays.sdps_kept on.round
+    rest_round old new at course course' after (ap (λ (s : Stance). s.ice) performs.acts.peer) performs.other performs.acts.sdps_kept on.round
 round_next fresh past old new (Drain at) outcome table made course course' on tells' performs after either enough next =
-    rest_round old new at course course' after performs.acts.stays.peer performs.other performs.acts.stays.sdps_kept on.round
+    rest_round old new at course course' after (ap (λ (s : Stance). s.ice) performs.acts.peer) performs.other performs.acts.sdps_kept on.round
 round_next fresh past old new (Close at) outcome table made course course' on tells' performs after either enough next =
-    rest_round old new at course course' after performs.acts.stays.peer performs.other performs.acts.stays.sdps_kept on.round
+    rest_round old new at course course' after (ap (λ (s : Stance). s.ice) performs.acts.peer) performs.other performs.acts.sdps_kept on.round

@@ -1,5 +1,5 @@
 -- Ops in order, in their phase: rows change where they stand, and what is outstanding stays so; or an offer is made where nothing is.
-use Rattle.std.proofs.Common.{◌≡◌, ◌≤◌, ◌<◌, ◌+◌, ◌-◌, ◌^◌, ◌==◌, cond, ℕ, Bool, true, false, not, ◌&&◌, List, [], ◌∷◌, ◌++◌, map, length, Option, Some, None, refl, sym, ◌∙◌, ap, subst, arith, length-append, append-nil, ◌≢◌}
+use Rattle.std.proofs.Common.{◌≡◌, ◌<◌, ◌+◌, ◌-◌, ◌^◌, ◌==◌, cond, ℕ, Bool, true, false, not, ◌&&◌, List, [], ◌∷◌, ◌++◌, map, length, Option, Some, None, refl, sym, ◌∙◌, ap, subst, arith, length-append, append-nil, ◌≢◌}
 use Rattle.std.proofs.lemmas.Bool.{eq-eqb, or_parts, and_right}
 use Rattle.std.specs.Prelude.{is_some}
 use Rattle.std.proofs.lemmas.List.{length-map}
@@ -18,9 +18,8 @@ use Rattle.rtc_history.specs.declared.outcome.Outcome.TheVariants.{Negotiated, A
 use Rattle.rtc_history.specs.declared.table.Table.{Table}
 use Rattle.rtc_history.specs.Memory.{answers_lack, outcome_lacks, fails}
 use Rattle.rtc_history.specs.Sides.{same_side, other_side}
-use Rattle.rtc_history.specs.Sizes.{steps_size}
 use Rattle.rtc_history.specs.Answers.{has_app_row, do_stage, do_need_offer, added}
-use Rattle.rtc_history.specs.Past.{Entry, MadeSdp, steps_of, before, rows_or, sdps, is_applied, is_offer_numbered, app_line_mid, app_mid_said, new_app, channels_given}
+use Rattle.rtc_history.specs.Past.{Entry, MadeSdp, before, rows_or, sdps, is_applied, is_offer_numbered, app_line_mid, app_mid_said, new_app, numbers_in, numbers_told}
 use Rattle.rtc_history.specs.Sound.{OpsAnswered, MadeOf, IsSound, at_first}
 use Rattle.rtc_history.specs.SaidRows.{MakesSdp}
 use Rattle.rtc_history.specs.CourseRows.{unnamed, rows_after_ops, must_offer, adding_answer, rows_added, do_add_channel}
@@ -32,7 +31,7 @@ use Rattle.rtc_history_laws.proofs.OpRows.{ops_table}
 use Rattle.rtc_history_laws.proofs.PastTables.{past_table}
 use Rattle.rtc_history_laws.proofs.OfferTables.{ops_new, offer_table}
 use Rattle.rtc_history_laws.proofs.PastOffers.{stays_there, text_next}
-use Rattle.rtc_history_laws.proofs.ChannelCounts.{given_within, ops_fine}
+use Rattle.rtc_history_laws.proofs.ChannelCounts.{ops_fine}
 use Rattle.rtc_history_laws.proofs.UnspentTokens.{unspent_later}
 use Rattle.rtc_history_laws.proofs.RowNames.{Aligned, aligned_sym, aligned_trans, aligned_self}
 use Rattle.rtc_history_laws.proofs.RowsFollow.{follows_alike}
@@ -42,13 +41,15 @@ use Rattle.rtc_history_laws.proofs.RoundRows.{OfferSaid, AnswerSaid, HasOffered,
 use Rattle.rtc_history_laws.proofs.Courses.{IsSideOf, InPhase, InCourse, aligned_at, moved_in}
 use Rattle.rtc_history_laws.proofs.CourseSteps.{AreInOrder, in_order, quiet_course, offer_course}
 use Rattle.rtc_history.specs.Views.{Stances}
+use Rattle.rtc_peer_state.specs.Stance.{Stance}
 
 abbrev ops_entry : {E : Type 0} → Side → List Op → Bool → List OpAnswer → Made → Table → List MadeSdp → Entry E
 ops_entry at ops apply answers what table made = entry (Negotiate at ops apply) (Negotiated answers what) (Some table) made
 
 -- Ops in order that are all answered, each channel by a number, after a past in its course.
 record OpsDone {E : Type 0} (past : List (Entry E)) (at : Side) (ops : List Op) (apply : Bool) (answers : List OpAnswer) (table : Table) (made : List MadeSdp) (course : Course) : Type 0 where
-  answered : OpsAnswered (at_first at past (new_app table.lines made)) ops answers table.lines
+  stance : Stance
+  answered : OpsAnswered (at_first stance at past (new_app table.lines made)) ops answers table.lines
   seen : AreSeen (before at past) (new_app table.lines made) ops answers table.lines
   order : AreInOrder apply at ops course.phase
   is : InCourse course past
@@ -63,7 +64,7 @@ names_go past at ops apply answers what table made course ops_are side = by (sam
     by : (here : Bool) → same_side at side ≡ here → Aligned (before side past) (rows_or here (Some table) (before side past))
     by true same =
         subst (λ (one : Side). Aligned (before one past) table.lines) (same_side-true at side same)
-        (ops_aligned (at_first at past (new_app table.lines made)) ops answers table.lines ops_are.answered)
+        (ops_aligned (at_first ops_are.stance at past (new_app table.lines made)) ops answers table.lines ops_are.answered)
     by false same = aligned_self (before side past)
 
 -- the rows that the acting side has then
@@ -73,7 +74,7 @@ side_goes past at ops apply answers table made course ops_are =
     let mine = ops_are.is.sides at in
     record {
       are = ops_are.seen.left ∙ ap (rows_after_ops ops) mine.are;
-      live = ops_live (at_first at past (new_app table.lines made)) ops answers table.lines ops_are.answered ops_are.order.stays mine.live;
+      live = ops_live (at_first ops_are.stance at past (new_app table.lines made)) ops answers table.lines ops_are.answered ops_are.order.stays mine.live;
     }
 
 -- ---- ops that offer nothing
@@ -183,7 +184,7 @@ offer_goes_on fresh past at ops apply answers k table made course sound ops_are 
     let are : map unnamed (table.lines ++ more) ≡ rows ++ rows_added rows ops =
     offer_seen rows table.lines ops app (λ place. added app place ops answers) mine.are (app_added table.lines made _ says_mid) ops_are.seen.adds in
     let live : StartsLive (table.lines ++ more) =
-    offer_live table.lines (is_some app) (map row_mid table.lines) (length table.lines) more mine.live (ops_new past at app ops answers table.lines (length table.lines) ops_are.answered)
+    offer_live table.lines (is_some app) (map row_mid table.lines) (length table.lines) more mine.live (ops_new ops_are.stance past at app ops answers table.lines (length table.lines) ops_are.answered)
     (λ none. some (ap length (sym are) ∙ length-map (table.lines ++ more) unnamed ∙ none)) in
     moved_in at course rows (course.sdps + 1) (AwaitsAnswer at course.sdps (rows ++ rows_added rows ops)) (Negotiate at ops apply) (Negotiated answers (Offer k)) table made past refl mine ops_are.is
     (length-append (sdps past) made ∙ ap (λ (n : ℕ). length (sdps past) + n) (ap length says.one) ∙ ap (λ (n : ℕ). n + 1) ops_are.is.count)
@@ -195,10 +196,10 @@ offer_goes_on fresh past at ops apply answers k table made course sound ops_are 
         says = says.says;
         fits = says.fits (starts_are_live (table.lines ++ more) live);
         live = live;
-        table = ops_table (at_first at past app) ops answers table.lines ops_are.answered (past_table fresh past at sound);
-        whole = offer_table past at ops answers table made (past_table fresh past at sound) ops_are.answered;
+        table = ops_table (at_first ops_are.stance at past app) ops answers table.lines ops_are.answered (past_table fresh past at sound);
+        whole = offer_table ops_are.stance past at ops answers table made (past_table fresh past at sound) ops_are.answered;
         may = is_some app;
-        new = ops_new past at app ops answers table.lines (length table.lines) ops_are.answered;
+        new = ops_new ops_are.stance past at app ops answers table.lines (length table.lines) ops_are.answered;
         first = none_where table.lines made;
       };
       are = are;
@@ -252,7 +253,7 @@ ops_go_on fresh past at ops true answers Nothing table made course course' false
 ops_go_on fresh past at ops true answers (Offer k) table made course course' false false sound ops_are makes unlacked stage_is staged_is enough says after = absurd makes
 
 pub negotiated_goes_on : {E : Type 0} → (fresh between : Stances) (past : List (Entry E)) (at : Side) (ops : List Op) (apply : Bool) (outcome : Outcome E) (table : Option Table) (made : List MadeSdp) (course course' : Course) → Sound fresh past → InCourse course past
-    → steps_size (steps_of past) + length ops < 2 ^ 64 - 1 → IsSound fresh past between (Negotiate at ops apply) outcome table made → MakesSdp (Negotiate at ops apply) outcome table made
+    → (between at).channels.given + length (numbers_in outcome) < 2 ^ 64 - 1 → IsSound fresh past between (Negotiate at ops apply) outcome table made → MakesSdp (Negotiate at ops apply) outcome table made
     → after_ops apply at ops course (rows_after_ops ops (course_rows at course)) ≡ Some course' → fails outcome ≡ false
     → InCourse course' (entry (Negotiate at ops apply) outcome table made ∷ past)
 negotiated_goes_on {E} fresh between past at ops apply Alloc None made course course' sound is few replied says after enough = absurd (cc)
@@ -260,10 +261,9 @@ negotiated_goes_on {E} fresh between past at ops apply (Negotiated answers what)
     let unlacked : answers_lack answers ≡ false = (or_parts _ (answers_lack answers) (or_parts (outcome_lacks {E = E} (Negotiated answers what)) false enough).0).1 in
     let order = in_order apply at ops course course' _ after in
     let app : Option (List ℕ) = new_app table.lines made in
-    let given : (channels_given at past).given ≤ steps_size (steps_of past) = given_within at past in
-    let fine : AreFine answers = ops_fine (at_first at past app) ops answers table.lines replied.0 order.plain (omega arith) in
+    let fine : AreFine answers = ops_fine (at_first (between at) at past app) ops answers table.lines replied.0 order.plain few in
     let seen : AreSeen (before at past) app ops answers table.lines =
-    ops_seen (before at past) (map row_mid (before at past)) app (channels_given at past) ops answers table.lines replied.0 unlacked fine in
+    ops_seen (before at past) (map row_mid (before at past)) app (between at).channels (numbers_told at past) ops answers table.lines replied.0 unlacked fine in
     ops_go_on fresh past at ops apply answers what table made course course' (answers_lack answers) (do_need_offer (has_app_row (before at past)) answers) sound
-    (record { answered = replied.0; seen = seen; order = order; is = is }) replied.1 unlacked refl (seen.staged ∙ ap (must_offer ops) (is.sides at).are) enough says after
+    (record { stance = between at; answered = replied.0; seen = seen; order = order; is = is }) replied.1 unlacked refl (seen.staged ∙ ap (must_offer ops) (is.sides at).are) enough says after
 negotiated_goes_on {E} fresh between past at ops apply outcome table made course course' sound is few replied says after enough = absurd replied

@@ -1,5 +1,5 @@
 -- Where a step in order leads, and where no steps do.
-use Rattle.std.proofs.Common.{◌≡◌, ◌<◌, ◌+◌, ◌-◌, ◌^◌, arith, true, List, [], ◌∷◌, ◌++◌, Option, Some, None, refl, subst}
+use Rattle.std.proofs.Common.{◌≡◌, ◌<◌, ◌+◌, ◌-◌, ◌^◌, true, List, [], ◌∷◌, ◌++◌, length, Option, Some, None, refl, subst}
 use Rattle.rtc_sdp_values.specs.declared.line_row.LineRow.{LineRow}
 use Rattle.rtc_sdp_values.specs.declared.line_row.LineRow.TheVariants.{Media, App}
 use Rattle.rtc_history.specs.declared.side.Side.{Side}
@@ -8,8 +8,8 @@ use Rattle.rtc_history.specs.declared.step.Step.{Step}
 use Rattle.rtc_history.specs.declared.step.Step.TheVariants.{Negotiate, AcceptOffer, AcceptAnswer, Time, Datagram, Poll, Drain, Close}
 use Rattle.rtc_history.specs.declared.outcome.Outcome.{Outcome}
 use Rattle.rtc_history.specs.declared.table.Table.{Table}
-use Rattle.rtc_history.specs.Sizes.{step_size, steps_size}
-use Rattle.rtc_history.specs.Past.{Entry, MadeSdp, before, steps_of}
+use Rattle.rtc_history.specs.Sides.{side_of}
+use Rattle.rtc_history.specs.Past.{Entry, MadeSdp, before, numbers_in}
 use Rattle.rtc_history.specs.Sound.{IsSound}
 use Rattle.rtc_history.specs.Finished.{AreSameLine, Equal}
 use Rattle.rtc_history.specs.SaidRows.{MakesSdp}
@@ -28,10 +28,10 @@ use Rattle.rtc_history.specs.Views.{Stances}
 
 -- A step in order gives its Ok or tells a want of memory, and where none is told, the course goes on.
 pub step_goes_on : {E : Type 0} → (fresh between : Stances) (past : List (Entry E)) (step : Step) (outcome : Outcome E) (table : Option Table) (made : List MadeSdp) (course course' : Course) → Sound fresh past → InCourse course past → SidePasses fresh between past step
-    → steps_size (steps_of past) + step_size step < 2 ^ 64 - 1 → IsSound fresh past between step outcome table made → MakesSdp step outcome table made → after_step course step ≡ Some course' → GoesOn (negotiates step) outcome course' (entry step outcome table made ∷ past)
+    → (between (side_of step)).channels.given + length (numbers_in outcome) < 2 ^ 64 - 1 → IsSound fresh past between step outcome table made → MakesSdp step outcome table made → after_step course step ≡ Some course' → GoesOn (negotiates step) outcome course' (entry step outcome table made ∷ past)
 step_goes_on fresh between past (Negotiate at ops apply) outcome table made course course' sound is side few replied says after = record {
-  ok = λ negotiating. negotiated_ok fresh between past at ops apply outcome table made course course' _ (omega arith) after replied;
-  next = λ enough. negotiated_goes_on fresh between past at ops apply outcome table made course course' sound is (omega arith) replied says after enough;
+  ok = λ negotiating. negotiated_ok fresh between past at ops apply outcome table made course course' _ few after replied;
+  next = λ enough. negotiated_goes_on fresh between past at ops apply outcome table made course course' sound is few replied says after enough;
 }
 step_goes_on fresh between past (AcceptOffer at k) outcome table made course course' sound is side few replied says after =
     let it = accept_course at k course course.phase course' after in

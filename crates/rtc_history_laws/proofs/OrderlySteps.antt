@@ -1,6 +1,6 @@
 -- Orderly steps give their Ok, up to the first want of memory or fault.
 use Rattle.rtc_history.specs.declared.step.Step.{Step}
-use Rattle.std.proofs.Common.{◌≡◌, ◌≤◌, ◌<◌, ◌+◌, ◌-◌, ◌^◌, arith, ℕ, Bool, true, false, ◌||◌, List, ◌∷◌, ◌++◌, length, Option, Some, None, refl, sym, ◌∙◌, ap, subst, length-append, append-nil}
+use Rattle.std.proofs.Common.{◌≡◌, ◌<◌, ◌+◌, ◌-◌, ◌^◌, ℕ, Bool, true, false, ◌||◌, List, ◌∷◌, ◌++◌, length, Option, Some, None, refl, sym, ◌∙◌, ap, subst, length-append, append-nil}
 use Rattle.rtc_sdp_values.specs.declared.line_row.LineRow.{LineRow}
 use Rattle.rtc_sdp_values.specs.declared.sdp.Sdp.{Sdp}
 use Rattle.rtc_change.specs.Held.{Held, Asked}
@@ -14,8 +14,7 @@ use Rattle.rtc_history.specs.declared.outcome.Outcome.TheVariants.{Negotiated, A
 use Rattle.rtc_history.specs.declared.table.Table.{Table}
 use Rattle.rtc_history.specs.Memory.{fails}
 use Rattle.rtc_history.specs.Sides.{other_side}
-use Rattle.rtc_history.specs.Sizes.{steps_size}
-use Rattle.rtc_history.specs.Past.{Entry, MadeSdp, steps_of, sdps, remote_sdp, new_app, channels_given, restarts_by}
+use Rattle.rtc_history.specs.Past.{Entry, MadeSdp, sdps, remote_sdp, new_app, numbers_in, restarts_by}
 use Rattle.rtc_history.specs.Sound.{RepliesToOffer, RepliesToAnswer, IsSound, asked_in, at_first}
 use Rattle.rtc_history.specs.SaidRows.{MakesSdp}
 use Rattle.rtc_history.specs.CourseRows.{course_rows_after}
@@ -23,7 +22,7 @@ use Rattle.rtc_history.specs.Orderly.{Idle, AwaitsEnd, Course, course_rows, move
 use Rattle.rtc_history_laws.proofs.SoundPasts.{Sound}
 use Rattle.rtc_history_laws.proofs.Around.{entry}
 use Rattle.rtc_history_laws.proofs.Takings.{offer_taking, answer_taking}
-use Rattle.rtc_history_laws.proofs.ChannelCounts.{given_within, ops_fine}
+use Rattle.rtc_history_laws.proofs.ChannelCounts.{ops_fine}
 use Rattle.rtc_history_laws.proofs.CourseOps.{AreFine}
 use Rattle.rtc_history_laws.proofs.CourseSteps.{in_order}
 use Rattle.rtc_history_laws.proofs.RoundRows.{IsOffered, IsAnswered}
@@ -37,11 +36,10 @@ abbrev pub IsOkOrFails : {E : Type 0} → Outcome E → Type 0
 IsOkOrFails outcome = (is_ok outcome || fails outcome) ≡ true
 
 pub negotiated_ok : {E : Type 0} → (fresh between : Stances) (past : List (Entry E)) (at : Side) (ops : List Op) (apply : Bool) (outcome : Outcome E) (table : Option Table) (made : List MadeSdp) (course course' : Course) (rows : List LineRow)
-    → steps_size (steps_of past) + length ops < 2 ^ 64 - 1 → after_ops apply at ops course rows ≡ Some course' → IsSound fresh past between (Negotiate at ops apply) outcome table made → IsOkOrFails outcome
+    → (between at).channels.given + length (numbers_in outcome) < 2 ^ 64 - 1 → after_ops apply at ops course rows ≡ Some course' → IsSound fresh past between (Negotiate at ops apply) outcome table made → IsOkOrFails outcome
 negotiated_ok fresh between past at ops apply Alloc None made course course' rows few after replied = refl
 negotiated_ok fresh between past at ops apply (Negotiated answers what) (Some table) made course course' rows few after replied =
-    let given : (channels_given at past).given ≤ steps_size (steps_of past) = given_within at past in
-    let fine : AreFine answers = ops_fine (at_first at past (new_app table.lines made)) ops answers table.lines replied.0 (in_order apply at ops course course' rows after).plain (omega arith) in
+    let fine : AreFine answers = ops_fine (at_first (between at) at past (new_app table.lines made)) ops answers table.lines replied.0 (in_order apply at ops course course' rows after).plain few in
     rw fine refl
 negotiated_ok fresh between past at ops apply outcome table made course course' rows few after replied = absurd replied
 

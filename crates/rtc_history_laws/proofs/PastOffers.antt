@@ -98,7 +98,7 @@ offer_entry {E} fresh past entry t sound makes_it = by sound.between entry.step 
           one = sdp.one;
           adds = rw rows refl;
           may = is_some (new_app table.lines made);
-          new = rw rows (ops_new past at (new_app table.lines made) ops answers table.lines (length table.lines) replied.0);
+          new = rw rows (ops_new (between at) past at (new_app table.lines made) ops answers table.lines (length table.lines) replied.0);
           says = rw rows sdp.says;
           moved = rw (same_side-self at) refl;
         }

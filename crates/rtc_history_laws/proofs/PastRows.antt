@@ -85,7 +85,7 @@ stayed : {E : Type 0} → (fresh between : Stances) (past : List (Entry E)) (ste
     → sets_lines (side_of step) step ≡ false → rows_or true table (before (side_of step) past) ≡ before (side_of step) past
 stayed fresh between past step Alloc None made t sound replied right mine still unspent unset = refl
 stayed fresh between past (Negotiate at ops apply) (Negotiated answers what) (Some table) made t sound replied right mine still unspent unset =
-    unset_rows (at_first at past (new_app table.lines made)) ops answers table.lines replied.0 (rw (← unset) (rw (same_side-self at) refl))
+    unset_rows (at_first (between at) at past (new_app table.lines made)) ops answers table.lines replied.0 (rw (← unset) (rw (same_side-self at) refl))
 stayed fresh between past (AcceptOffer at offer) outcome (Some table) made t sound replied right mine still unspent unset =
     uncalled_rows fresh between past at (remote_sdp true at offer past) (length (sdps past)) outcome table.lines (offer_taking fresh between past at offer outcome table made replied) (rw (← still) (rw (same_side-self at) refl))
 stayed fresh between past (AcceptAnswer at u answer) outcome (Some table) made t sound replied right mine still unspent unset =
@@ -96,11 +96,11 @@ stayed fresh between past (AcceptAnswer at u answer) outcome (Some table) made t
           let one : u ≡ t = one_right fresh past at u t sound taken.2 right held.0 mine in
           both_ways (spends t (AcceptAnswer at u answer) outcome) unspent (rw (taken.0, eq-eqb u t one) refl))
     ]
-stayed fresh between past (Time at now) outcome (Some table) made t sound replied right mine still unspent unset = replied.1.0
-stayed fresh between past (Datagram at packet now) outcome (Some table) made t sound replied right mine still unspent unset = replied.1.0
-stayed fresh between past (Poll at) outcome (Some table) made t sound replied right mine still unspent unset = replied.1.0
-stayed fresh between past (Drain at) outcome (Some table) made t sound replied right mine still unspent unset = replied.1.0
-stayed fresh between past (Close at) outcome (Some table) made t sound replied right mine still unspent unset = replied.1.0
+stayed fresh between past (Time at now) outcome (Some table) made t sound replied right mine still unspent unset = replied.1
+stayed fresh between past (Datagram at packet now) outcome (Some table) made t sound replied right mine still unspent unset = replied.1
+stayed fresh between past (Poll at) outcome (Some table) made t sound replied right mine still unspent unset = replied.1
+stayed fresh between past (Drain at) outcome (Some table) made t sound replied right mine still unspent unset = replied.1
+stayed fresh between past (Close at) outcome (Some table) made t sound replied right mine still unspent unset = replied.1
 stayed fresh between past step outcome table made t sound replied right mine still unspent unset = absurd replied
 
 -- the same of a step of either side

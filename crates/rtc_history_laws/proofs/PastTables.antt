@@ -53,16 +53,16 @@ answer_table held right asked sdp view outcome after takes table = absurd takes
 pub reply_table : {E : Type 0} → (fresh between : Stances) (past : List (Entry E)) (step : Step) (outcome : Outcome E) (table : Option Table) (made : List MadeSdp) → IsSound fresh past between step outcome table made
     → IsTable (before (side_of step) past) → IsTable (rows_or true table (before (side_of step) past))
 reply_table fresh between past step Alloc None made sound table = table
-reply_table fresh between past (Negotiate at ops apply) (Negotiated answers what) (Some after) made sound table = ops_table (at_first at past (new_app after.lines made)) ops answers after.lines sound.0 table
+reply_table fresh between past (Negotiate at ops apply) (Negotiated answers what) (Some after) made sound table = ops_table (at_first (between at) at past (new_app after.lines made)) ops answers after.lines sound.0 table
 reply_table fresh between past (AcceptOffer at offer) outcome (Some after) made sound table =
     taken_table (remote_sdp true at offer past) (view_in fresh at past (held_by (between at))) _ outcome after.lines (offer_taking fresh between past at offer outcome after made sound) table
 reply_table fresh between past (AcceptAnswer at token answer) outcome (Some after) made sound table =
     answer_table (holds_token at token past) (is_right at token past) (asked_in at token past) (remote_sdp false at answer past) (view_in fresh at past (held_by (between at))) outcome after.lines (answer_taking fresh between past at token answer outcome after made sound) table
-reply_table fresh between past (Time at now) outcome (Some after) made sound table = same_table (before at past) after.lines sound.1.0 table
-reply_table fresh between past (Datagram at packet now) outcome (Some after) made sound table = same_table (before at past) after.lines sound.1.0 table
-reply_table fresh between past (Poll at) outcome (Some after) made sound table = same_table (before at past) after.lines sound.1.0 table
-reply_table fresh between past (Drain at) outcome (Some after) made sound table = same_table (before at past) after.lines sound.1.0 table
-reply_table fresh between past (Close at) outcome (Some after) made sound table = same_table (before at past) after.lines sound.1.0 table
+reply_table fresh between past (Time at now) outcome (Some after) made sound table = same_table (before at past) after.lines sound.1 table
+reply_table fresh between past (Datagram at packet now) outcome (Some after) made sound table = same_table (before at past) after.lines sound.1 table
+reply_table fresh between past (Poll at) outcome (Some after) made sound table = same_table (before at past) after.lines sound.1 table
+reply_table fresh between past (Drain at) outcome (Some after) made sound table = same_table (before at past) after.lines sound.1 table
+reply_table fresh between past (Close at) outcome (Some after) made sound table = same_table (before at past) after.lines sound.1 table
 reply_table fresh between past step outcome after made sound table = absurd sound
 
 -- The rows of a side are a table.

@@ -1,6 +1,8 @@
 -- What the past of a pair says of it that is reached by its steps.
 use Rattle.std.proofs.Common.{◌≡◌, ◌<◌, ◌+◌, ◌^◌, ℕ, List, [], ◌∷◌, length, true, false, Option, Some, None, refl, sym, ap, arith}
 use Rattle.std.specs.Prelude.{slice_get, is_some}
+use Rattle.std.proofs.lemmas.List.Elements.{All-nil}
+use Rattle.rtc_channels.specs.Channels.{no_channels}
 use Rattle.rtc_tables.specs.Table.{IsTable}
 use Rattle.rtc_peer_state.specs.Stance.{Stance}
 use Rattle.rtc_history.specs.declared.side.Side.{Side}
@@ -20,14 +22,14 @@ use Rattle.rtc_history_laws.proofs.StanceSteps.{PairStance, StancePerforms, Stan
 use Rattle.rtc_history_laws.proofs.StanceRuns.{IsFreshStance, StanceReached}
 use Rattle.rtc_history_laws.proofs.Bounds.{IsWithin}
 use Rattle.rtc_history_laws.proofs.ChannelCounts.{steps_size-append}
-use Rattle.rtc_history_laws.proofs.Tells.{Tells, SideTells, within}
+use Rattle.rtc_history_laws.proofs.Tells.{Tells, SideTells, ChannelsTell, within}
 use Rattle.rtc_history_laws.proofs.Around.{Around, entry, size_grows, remote_sdp-told, length-told, sdp_within}
 use Rattle.rtc_history_laws.proofs.SeenSides.{SideSees, view_is}
 use Rattle.rtc_history_laws.proofs.SeenSteps.{step_sees}
 use Rattle.rtc_history_laws.proofs.NegotiateSteps.{negotiate_reply, negotiate_tells}
 use Rattle.rtc_history_laws.proofs.OfferSteps.{offer_reply, offer_tells}
 use Rattle.rtc_history_laws.proofs.AnswerSteps.{answer_reply, answer_tells}
-use Rattle.rtc_history_laws.proofs.Rests.{handled_rests, heard_rests, polled_rests, told_rests, rest_tells, time_reply, datagram_reply, poll_reply, drain_reply, close_reply}
+use Rattle.rtc_history_laws.proofs.Rests.{handled_rests, heard_rests, polled_rests, told_rests, rest_tells, lines_stay, time_reply, datagram_reply, poll_reply, drain_reply, close_reply}
 
 -- ---- one step
 
@@ -39,7 +41,7 @@ pub step_sound : {E : Type 0} → (fresh : Stances) (past : List (Entry E)) (old
     → Tells past old → ((at : Side) → SideSees fresh past at (old.sides at)) → IsTable (before (side_of step) past) → StancePerforms old step outcome table new → new.size < 2 ^ 32
     → IsSound fresh past old.sides step outcome table (made_by old new)
 step_sound fresh past old new (Negotiate at ops apply) outcome table tells sees rows performs small =
-    negotiate_reply fresh old.sides past at ops apply (old.sides at) (new.sides at) old.sdps new.sdps outcome table (sym (tells.sides at).rows) (tells.sides at).channels rows (length-told past old tells) performs.acts
+    negotiate_reply fresh old.sides past at ops apply (old.sides at) (new.sides at) old.sdps new.sdps outcome table refl (sym (tells.sides at).rows) (tells.sides at).channels rows (length-told past old tells) performs.acts
 step_sound fresh past old new (AcceptOffer at k) outcome table tells sees rows performs small =
     offer_reply fresh old.sides past at k (kept_remote_sdp true old.sdps at k) (old.sides at) (new.sides at) old.sdps new.sdps outcome table (made_by old new)
     (remote_sdp-told past old true at k tells) (view_is fresh past at (old.sides at) (tells.sides at).rows (sees at)) (sym (tells.sides at).channels.shown) (length-told past old tells) performs.acts
@@ -48,15 +50,15 @@ step_sound fresh past old new (AcceptAnswer at t a) outcome table tells sees row
     refl ((tells.sides at).tokens t) (tells.sides at).counts (omega (arith, performs.size)) (remote_sdp-told past old false at a tells) (view_is fresh past at (old.sides at) (tells.sides at).rows (sees at)) (sym (tells.sides at).rows)
     (sym (tells.sides at).channels.shown) performs.acts
 step_sound fresh past old new (Time at now) outcome table tells sees rows performs small =
-    time_reply fresh old.sides past at now (old.sides at) outcome table (made_by old new) (sym (tells.sides at).rows) (sym (tells.sides at).channels.shown) performs.acts.told
+    time_reply fresh old.sides past at now (old.sides at) (new.sides at) outcome table (made_by old new) (sym (tells.sides at).rows) (lines_stay (old.sides at) (new.sides at) performs.acts.peer) performs.acts.told
 step_sound fresh past old new (Datagram at packet now) outcome table tells sees rows performs small =
-    datagram_reply fresh old.sides past at packet now (old.sides at) outcome table (made_by old new) (sym (tells.sides at).rows) (sym (tells.sides at).channels.shown) performs.acts.told
+    datagram_reply fresh old.sides past at packet now (old.sides at) (new.sides at) outcome table (made_by old new) (sym (tells.sides at).rows) (lines_stay (old.sides at) (new.sides at) performs.acts.peer) performs.acts.told
 step_sound fresh past old new (Poll at) outcome table tells sees rows performs small =
-    poll_reply fresh old.sides past at (old.sides at) outcome table (made_by old new) (sym (tells.sides at).rows) (sym (tells.sides at).channels.shown) performs.acts.told
+    poll_reply fresh old.sides past at (old.sides at) (new.sides at) outcome table (made_by old new) (sym (tells.sides at).rows) (lines_stay (old.sides at) (new.sides at) performs.acts.peer) performs.acts.told
 step_sound fresh past old new (Drain at) outcome table tells sees rows performs small =
-    drain_reply fresh old.sides past at (old.sides at) outcome table (made_by old new) (sym (tells.sides at).rows) (sym (tells.sides at).channels.shown) performs.acts.told
+    drain_reply fresh old.sides past at (old.sides at) (new.sides at) outcome table (made_by old new) (sym (tells.sides at).rows) (lines_stay (old.sides at) (new.sides at) performs.acts.peer) performs.acts.told
 step_sound fresh past old new (Close at) outcome table tells sees rows performs small =
-    close_reply fresh old.sides past at (old.sides at) outcome table (made_by old new) (sym (tells.sides at).rows) (sym (tells.sides at).channels.shown) performs.acts.told
+    close_reply fresh old.sides past at (old.sides at) (new.sides at) outcome table (made_by old new) (sym (tells.sides at).rows) (lines_stay (old.sides at) (new.sides at) performs.acts.peer) performs.acts.told
 
 pub step_tells : {E : Type 0} → (past : List (Entry E)) (old new : PairStance) (step : Step) (outcome : Outcome E) (table : Option Table) (made : List MadeSdp)
     → Tells past old → StancePerforms old step outcome table new → Around step made old new → Tells (entry step outcome table made ∷ past) new
@@ -66,16 +68,24 @@ step_tells past old new (AcceptOffer at k) outcome table made tells performs aro
     offer_tells past at k (kept_remote_sdp true old.sdps at k) old new outcome table made (λ sdp. sdp_within past old true at k sdp tells) performs.acts around tells
 step_tells past old new (AcceptAnswer at t a) outcome table made tells performs around =
     answer_tells past at t a (held_token old.sdps at t) (kept_remote_sdp false old.sdps at a) old new outcome table made (λ sdp. sdp_within past old false at a sdp tells) refl performs.acts around tells
-step_tells past old new (Time at now) outcome table made tells performs around = rest_tells past (Time at now) outcome table made old new _ tt (told_rests _ outcome table (old.sides at) handled_rests performs.acts.told) performs.acts around tells
-step_tells past old new (Datagram at packet now) outcome table made tells performs around = rest_tells past (Datagram at packet now) outcome table made old new _ tt (told_rests _ outcome table (old.sides at) heard_rests performs.acts.told) performs.acts around tells
-step_tells past old new (Poll at) outcome table made tells performs around = rest_tells past (Poll at) outcome table made old new _ tt (told_rests _ outcome table (old.sides at) polled_rests performs.acts.told) performs.acts around tells
-step_tells past old new (Drain at) outcome table made tells performs around = rest_tells past (Drain at) outcome table made old new _ tt (told_rests _ outcome table (old.sides at) polled_rests performs.acts.told) performs.acts around tells
-step_tells past old new (Close at) outcome table made tells performs around = rest_tells past (Close at) outcome table made old new _ tt (told_rests _ outcome table (old.sides at) handled_rests performs.acts.told) performs.acts around tells
+step_tells past old new (Time at now) outcome table made tells performs around = rest_tells past (Time at now) outcome table made old new _ tt (told_rests _ (old.sides at) outcome table (new.sides at) handled_rests performs.acts.told) performs.acts around tells
+step_tells past old new (Datagram at packet now) outcome table made tells performs around = rest_tells past (Datagram at packet now) outcome table made old new _ tt (told_rests _ (old.sides at) outcome table (new.sides at) heard_rests performs.acts.told) performs.acts around tells
+step_tells past old new (Poll at) outcome table made tells performs around = rest_tells past (Poll at) outcome table made old new _ tt (told_rests _ (old.sides at) outcome table (new.sides at) polled_rests performs.acts.told) performs.acts around tells
+step_tells past old new (Drain at) outcome table made tells performs around = rest_tells past (Drain at) outcome table made old new _ tt (told_rests _ (old.sides at) outcome table (new.sides at) polled_rests performs.acts.told) performs.acts around tells
+step_tells past old new (Close at) outcome table made tells performs around = rest_tells past (Close at) outcome table made old new _ tt (told_rests _ (old.sides at) outcome table (new.sides at) handled_rests performs.acts.told) performs.acts around tells
 
 -- ---- all steps
 
-fresh_side : (E : Type 0) (at : Side) (s : Stance) (kept : List Kept) (size : ℕ) → IsJustBuilt s → kept ≡ [] → SideTells {E = E} [] at s kept size
-fresh_side E at s kept size built none =
+fresh_channels : (E : Type 0) (at : Side) (s : Stance) → s.channels ≡ no_channels → s.rows ≡ [] → ChannelsTell {E = E} [] at s
+fresh_channels E at s none no_rows = record {
+  shown = no_rows;
+  few = rw none (omega arith);
+  below = rw none tt;
+  told = All-nil (λ number. number < s.channels.given);
+}
+
+fresh_side : (E : Type 0) (at : Side) (s : Stance) (kept : List Kept) (size : ℕ) → IsJustBuilt s → s.rows ≡ [] → kept ≡ [] → SideTells {E = E} [] at s kept size
+fresh_side E at s kept size built no_rows none =
     let counter : s.counter ≡ 0 = built.counter in
     let rows : length s.lines ≡ 0 = ap length built.lines in
     rw none (record {
@@ -91,14 +101,14 @@ fresh_side E at s kept size built none =
       few = omega arith;
       one_each = λ t u token other is. absurd (let e : None ≡ Some token = is in cc);
       fits = λ t token is. absurd (let e : None ≡ Some token = is in cc);
-      channels = rw built.channels (record { given = refl; shown = refl; below = tt });
+      channels = fresh_channels E at s built.channels no_rows;
     })
 
 fresh_tells : (E : Type 0) (start : PairStance) → IsFreshStance start → Tells {E = E} [] start
 fresh_tells E start fresh =
     let none : start.sdps ≡ [] = fresh.sdps in
     record {
-      sides = λ at. fresh_side E at (start.sides at) start.sdps start.size (fresh.built at) fresh.sdps;
+      sides = λ at. fresh_side E at (start.sides at) start.sdps start.size (fresh.built at) (fresh.rows at) fresh.sdps;
       says = rw none refl;
       later = λ t most. refl;
       count = rw none (omega arith);

@@ -1,7 +1,6 @@
 -- Steps that negotiate nothing: inputs, polls and closes. They leave what negotiation reads of both sides.
 use Rattle.std.proofs.Common.{◌≡◌, ◌∙◌, ℕ, Bool, true, false, List, [], ◌∷◌, length, Option, Some, None, refl, sym, ap}
 use Rattle.rtc_sdp_values.specs.declared.line_row.LineRow.{LineRow}
-use Rattle.rtc_channels.specs.Channels.{Channels, channel_rows}
 use Rattle.rtc_channels.specs.declared.channel_row.ChannelRow.{ChannelRow}
 use Rattle.rtc_peer_state.specs.Stance.{Stance}
 use Rattle.rtc_history.specs.declared.side.Side.{Side}
@@ -15,13 +14,12 @@ use Rattle.rtc_history.specs.declared.outcome.Outcome.TheVariants.{Negotiated, A
 use Rattle.rtc_history.specs.declared.table.Table.{Table}
 use Rattle.rtc_history.specs.SaidRows.{MakesSdp}
 use Rattle.rtc_history.specs.Sides.{side_of, other_side, same_side}
-use Rattle.rtc_history.specs.Past.{Entry, MadeSdp, before, rows_or, channel_rows_or, channels_shown, channels_after, makes, moves, spends}
-use Rattle.rtc_history.specs.Sound.{IsSound, ShowsOld, is_handled, is_heard, is_polled}
+use Rattle.rtc_history.specs.Past.{Entry, MadeSdp, before, rows_or, channel_rows_or, channels_shown, makes, moves, spends}
+use Rattle.rtc_history.specs.Sound.{IsSound, is_handled, is_heard, is_polled}
 use Rattle.rtc_history.specs.Views.{Stances}
-use Rattle.rtc_history_laws.proofs.StanceSteps.{PairStance, RestTold, StanceRests, StanceShows}
+use Rattle.rtc_history_laws.proofs.StanceSteps.{PairStance, RestTold, StanceRests}
 use Rattle.rtc_history_laws.proofs.Tells.{Tells}
-use Rattle.rtc_history_laws.proofs.ToldChannels.{alike_told}
-use Rattle.rtc_history_laws.proofs.Around.{entry, Around, channels_kept, quiet_tells}
+use Rattle.rtc_history_laws.proofs.Around.{entry, Around, channels_next, quiet_tells}
 
 -- a step that negotiates nothing
 abbrev pub IsRest : Step → Type 0
@@ -75,10 +73,10 @@ polled_rests (Refused error) is = refl
 polled_rests NoSuch is = refl
 polled_rests Alloc is = refl
 
-pub told_rests : {E : Type 0} → (may : Outcome E → Bool) (outcome : Outcome E) (table : Option Table) (s : Stance)
-    → ((one : Outcome E) → may one ≡ true → rests one ≡ true) → RestTold may outcome table s → rests outcome ≡ true
-told_rests may outcome None s rest told = rw told refl
-told_rests may outcome (Some table) s rest told = rest outcome told.0
+pub told_rests : {E : Type 0} → (may : Outcome E → Bool) (old : Stance) (outcome : Outcome E) (table : Option Table) (new : Stance)
+    → ((one : Outcome E) → may one ≡ true → rests one ≡ true) → RestTold may old outcome table new → rests outcome ≡ true
+told_rests may old outcome None new rest told = rw told.0 refl
+told_rests may old outcome (Some table) new rest told = rest outcome told.0
 
 -- ---- what such a step does not do
 
@@ -112,71 +110,60 @@ makes_none t (Refused error) is = refl
 makes_none t NoSuch is = refl
 makes_none t Alloc is = refl
 
-gives_none : {E : Type 0} → (step : Step) (outcome : Outcome E) (held : Channels) → IsRest step → channels_after true step outcome held ≡ held
-gives_none (Negotiate at ops apply) outcome held rest = absurd rest
-gives_none (AcceptOffer at offer) outcome held rest = refl
-gives_none (AcceptAnswer at token answer) outcome held rest = refl
-gives_none (Time at now) outcome held rest = refl
-gives_none (Datagram at packet now) outcome held rest = refl
-gives_none (Poll at) outcome held rest = refl
-gives_none (Drain at) outcome held rest = refl
-gives_none (Close at) outcome held rest = refl
-
 -- ---- what a past tells after it
 
-rest_rows : {E : Type 0} → (may : Outcome E → Bool) (outcome : Outcome E) (table : Option Table) (s t : Stance) (earlier : List LineRow) → t ≡ s → s.lines ≡ earlier
-    → RestTold may outcome table s → t.lines ≡ rows_or true table earlier
-rest_rows may outcome None s t earlier same rows told = ap (λ (p : Stance). p.lines) same ∙ rows
-rest_rows may outcome (Some table) s t earlier same rows told = ap (λ (p : Stance). p.lines) same ∙ sym told.1.lines
+rest_rows : {E : Type 0} → (may : Outcome E → Bool) (outcome : Outcome E) (table : Option Table) (s t : Stance) (earlier : List LineRow) → s.lines ≡ earlier
+    → RestTold may s outcome table t → t.lines ≡ rows_or true table earlier
+rest_rows may outcome None s t earlier rows told = ap (λ (p : Stance). p.lines) told.1 ∙ rows
+rest_rows may outcome (Some table) s t earlier rows told = sym told.1.lines
 
-rest_channels : {E : Type 0} → (may : Outcome E → Bool) (outcome : Outcome E) (table : Option Table) (s t : Stance) (earlier : List ChannelRow) → t ≡ s
-    → earlier ≡ channel_rows s.channels → RestTold may outcome table s → channel_rows_or true table earlier ≡ channel_rows t.channels
-rest_channels may outcome None s t earlier same shown told = shown ∙ sym (ap (λ (p : Stance). channel_rows p.channels) same)
-rest_channels may outcome (Some table) s t earlier same shown told = told.1.channels ∙ sym (ap (λ (p : Stance). channel_rows p.channels) same)
+rest_channels : {E : Type 0} → (may : Outcome E → Bool) (outcome : Outcome E) (table : Option Table) (s t : Stance) (earlier : List ChannelRow)
+    → earlier ≡ s.rows → RestTold may s outcome table t → channel_rows_or true table earlier ≡ t.rows
+rest_channels may outcome None s t earlier shown told = shown ∙ sym (ap (λ (p : Stance). p.rows) told.1)
+rest_channels may outcome (Some table) s t earlier shown told = told.1.channels
 
 pub rest_tells : {E : Type 0} → (past : List (Entry E)) (step : Step) (outcome : Outcome E) (table : Option Table) (made : List MadeSdp) (old new : PairStance) (may : Outcome E → Bool) → IsRest step
     → rests outcome ≡ true → StanceRests may (old.sides (side_of step)) old.sdps outcome table (new.sides (side_of step)) new.sdps → Around step made old new → Tells past old
     → Tells (entry step outcome table made ∷ past) new
 rest_tells past step outcome table made old new may rest quiet does around tells =
     let at = side_of step in
-    let peer : new.sides at ≡ old.sides at = does.stays.peer in
-    quiet_tells false past step outcome table made old new (ap (λ (p : Stance). length p.lines) peer) does.stays.sdps_kept
-    (rest_rows may outcome table (old.sides at) (new.sides at) (before at past) peer (tells.sides at).rows does.told)
-    (channels_kept past step outcome table made (old.sides at).channels (new.sides at).channels (λ held. gives_none step outcome held rest)
-    (alike_told (old.sides at).channels (new.sides at).channels (ap (λ (p : Stance). p.channels) peer))
-    (rest_channels may outcome table (old.sides at) (new.sides at) (channels_shown at past) peer (sym (tells.sides at).channels.shown) does.told) (tells.sides at).channels)
-    (ap (λ (p : Stance). p.counter) peer) (moves_none at step outcome rest) (moves_none (other_side at) step outcome rest) (λ t. spends_none t step outcome rest)
+    quiet_tells false past step outcome table made old new (ap (λ (p : Stance). length p.lines) does.peer) does.sdps_kept
+    (rest_rows may outcome table (old.sides at) (new.sides at) (before at past) (tells.sides at).rows does.told)
+    (channels_next past step outcome table made (old.sides at) (new.sides at) does.numbered
+    (rest_channels may outcome table (old.sides at) (new.sides at) (channels_shown at past) (sym (tells.sides at).channels.shown) does.told) (tells.sides at).channels)
+    (ap (λ (p : Stance). p.counter) does.peer) (moves_none at step outcome rest) (moves_none (other_side at) step outcome rest) (λ t. spends_none t step outcome rest)
     (λ t. makes_none t outcome quiet) around tells
 
 -- ---- replies
 
-shows_old : {E : Type 0} → (past : List (Entry E)) (at : Side) (table : Table) (s : Stance) → before at past ≡ s.lines → channels_shown at past ≡ channel_rows s.channels → StanceShows table s → ShowsOld at past table
-shows_old past at table s rows channels shows = (shows.lines ∙ sym rows, shows.channels ∙ sym channels)
+-- the lines of such a step are those from before
+pub lines_stay : (old new : Stance) → new ≡ record old { channels = new.channels; rows = new.rows } → new.lines ≡ old.lines
+lines_stay old new peer = ap (λ (p : Stance). p.lines) peer
 
-pub time_reply : {E : Type 0} → (fresh between : Stances) (past : List (Entry E)) (at : Side) (now : ℕ) (s : Stance) (outcome : Outcome E) (table : Option Table) (made : List MadeSdp)
-    → before at past ≡ s.lines → channels_shown at past ≡ channel_rows s.channels → RestTold is_handled outcome table s → IsSound fresh past between (Time at now) outcome table made
-time_reply fresh between past at now s outcome None made rows channels told = rw told tt
-time_reply fresh between past at now s outcome (Some table) made rows channels told = (told.0, shows_old past at table s rows channels told.1)
+pub time_reply : {E : Type 0} → (fresh between : Stances) (past : List (Entry E)) (at : Side) (now : ℕ) (old new : Stance) (outcome : Outcome E) (table : Option Table) (made : List MadeSdp)
+    → before at past ≡ old.lines → new.lines ≡ old.lines → RestTold is_handled old outcome table new → IsSound fresh past between (Time at now) outcome table made
+time_reply fresh between past at now old new outcome None made rows stay told = rw told.0 tt
+time_reply fresh between past at now old new outcome (Some table) made rows stay told = (told.0, told.1.lines ∙ stay ∙ sym rows)
 
-pub datagram_reply : {E : Type 0} → (fresh between : Stances) (past : List (Entry E)) (at : Side) (packet now : ℕ) (s : Stance) (outcome : Outcome E) (table : Option Table) (made : List MadeSdp)
-    → before at past ≡ s.lines → channels_shown at past ≡ channel_rows s.channels → RestTold is_heard outcome table s → IsSound fresh past between (Datagram at packet now) outcome table made
-datagram_reply fresh between past at packet now s outcome None made rows channels told = rw told tt
-datagram_reply fresh between past at packet now s outcome (Some table) made rows channels told = (told.0, shows_old past at table s rows channels told.1)
+pub datagram_reply : {E : Type 0} → (fresh between : Stances) (past : List (Entry E)) (at : Side) (packet now : ℕ) (old new : Stance) (outcome : Outcome E) (table : Option Table) (made : List MadeSdp)
+    → before at past ≡ old.lines → new.lines ≡ old.lines → RestTold is_heard old outcome table new → IsSound fresh past between (Datagram at packet now) outcome table made
+datagram_reply fresh between past at packet now old new outcome None made rows stay told = rw told.0 tt
+datagram_reply fresh between past at packet now old new outcome (Some table) made rows stay told = (told.0, told.1.lines ∙ stay ∙ sym rows)
 
-pub poll_reply : {E : Type 0} → (fresh between : Stances) (past : List (Entry E)) (at : Side) (s : Stance) (outcome : Outcome E) (table : Option Table) (made : List MadeSdp)
-    → before at past ≡ s.lines → channels_shown at past ≡ channel_rows s.channels → RestTold is_polled outcome table s → IsSound fresh past between (Poll at) outcome table made
-poll_reply fresh between past at s outcome None made rows channels told = rw told tt
-poll_reply fresh between past at s outcome (Some table) made rows channels told = (told.0, shows_old past at table s rows channels told.1)
+pub poll_reply : {E : Type 0} → (fresh between : Stances) (past : List (Entry E)) (at : Side) (old new : Stance) (outcome : Outcome E) (table : Option Table) (made : List MadeSdp)
+    → before at past ≡ old.lines → new.lines ≡ old.lines → RestTold is_polled old outcome table new → IsSound fresh past between (Poll at) outcome table made
+poll_reply fresh between past at old new outcome None made rows stay told = rw told.0 tt
+poll_reply fresh between past at old new outcome (Some table) made rows stay told = (told.0, told.1.lines ∙ stay ∙ sym rows)
 
-pub drain_reply : {E : Type 0} → (fresh between : Stances) (past : List (Entry E)) (at : Side) (s : Stance) (outcome : Outcome E) (table : Option Table) (made : List MadeSdp)
-    → before at past ≡ s.lines → channels_shown at past ≡ channel_rows s.channels → RestTold is_polled outcome table s → IsSound fresh past between (Drain at) outcome table made
-drain_reply fresh between past at s outcome None made rows channels told = rw told tt
-drain_reply fresh between past at s outcome (Some table) made rows channels told = (told.0, shows_old past at table s rows channels told.1)
+pub drain_reply : {E : Type 0} → (fresh between : Stances) (past : List (Entry E)) (at : Side) (old new : Stance) (outcome : Outcome E) (table : Option Table) (made : List MadeSdp)
+    → before at past ≡ old.lines → new.lines ≡ old.lines → RestTold is_polled old outcome table new → IsSound fresh past between (Drain at) outcome table made
+drain_reply fresh between past at old new outcome None made rows stay told = rw told.0 tt
+drain_reply fresh between past at old new outcome (Some table) made rows stay told = (told.0, told.1.lines ∙ stay ∙ sym rows)
 
-pub close_reply : {E : Type 0} → (fresh between : Stances) (past : List (Entry E)) (at : Side) (s : Stance) (outcome : Outcome E) (table : Option Table) (made : List MadeSdp)
-    → before at past ≡ s.lines → channels_shown at past ≡ channel_rows s.channels → RestTold is_handled outcome table s → IsSound fresh past between (Close at) outcome table made
-close_reply fresh between past at s outcome None made rows channels told = rw told tt
-close_reply fresh between past at s outcome (Some table) made rows channels told = (told.0, shows_old past at table s rows channels told.1)
+pub close_reply : {E : Type 0} → (fresh between : Stances) (past : List (Entry E)) (at : Side) (old new : Stance) (outcome : Outcome E) (table : Option Table) (made : List MadeSdp)
+    → before at past ≡ old.lines → new.lines ≡ old.lines → RestTold is_handled old outcome table new → IsSound fresh past between (Close at) outcome table made
+close_reply fresh between past at old new outcome None made rows stay told = rw told.0 tt
+close_reply fresh between past at old new outcome (Some table) made rows stay told = (told.0, told.1.lines ∙ stay ∙ sym rows)
 
 -- ---- what a sound reply to it tells
 
@@ -216,15 +203,15 @@ rest_shows fresh between past (Negotiate at ops apply) outcome table made rest s
 rest_shows fresh between past (AcceptOffer at offer) outcome table made rest sound = absurd rest
 rest_shows fresh between past (AcceptAnswer at token answer) outcome table made rest sound = absurd rest
 rest_shows fresh between past (Time at now) outcome None made rest sound = refl
-rest_shows fresh between past (Time at now) outcome (Some table) made rest sound = sound.1.0
+rest_shows fresh between past (Time at now) outcome (Some table) made rest sound = sound.1
 rest_shows fresh between past (Datagram at packet now) outcome None made rest sound = refl
-rest_shows fresh between past (Datagram at packet now) outcome (Some table) made rest sound = sound.1.0
+rest_shows fresh between past (Datagram at packet now) outcome (Some table) made rest sound = sound.1
 rest_shows fresh between past (Poll at) outcome None made rest sound = refl
-rest_shows fresh between past (Poll at) outcome (Some table) made rest sound = sound.1.0
+rest_shows fresh between past (Poll at) outcome (Some table) made rest sound = sound.1
 rest_shows fresh between past (Drain at) outcome None made rest sound = refl
-rest_shows fresh between past (Drain at) outcome (Some table) made rest sound = sound.1.0
+rest_shows fresh between past (Drain at) outcome (Some table) made rest sound = sound.1
 rest_shows fresh between past (Close at) outcome None made rest sound = refl
-rest_shows fresh between past (Close at) outcome (Some table) made rest sound = sound.1.0
+rest_shows fresh between past (Close at) outcome (Some table) made rest sound = sound.1
 
 shown_at : {E : Type 0} → (at side : Side) (table : Option Table) (past : List (Entry E)) → rows_or true table (before at past) ≡ before at past
     → rows_or (same_side at side) table (before side past) ≡ before side past

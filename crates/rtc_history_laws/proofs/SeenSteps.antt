@@ -158,15 +158,15 @@ acts_see fresh past old new (AcceptOffer at k) outcome table made tells acts see
 acts_see fresh past old new (AcceptAnswer at t a) outcome table made tells acts sees =
     answer_sees fresh past at t a (held_token old.sdps at t) (kept_remote_sdp false old.sdps at a) (old.sides at) (new.sides at) old.sdps new.sdps outcome table made (remote_sdp-told past old false at a tells) acts sees
 acts_see fresh past old new (Time at now) outcome table made tells acts sees =
-    sees_still fresh past (entry (Time at now) outcome table made) at (old.sides at) (new.sides at) (ap (λ s. s.ice) acts.stays.peer) (ap (λ s. s.fingerprint) acts.stays.peer) refl sees
+    sees_still fresh past (entry (Time at now) outcome table made) at (old.sides at) (new.sides at) (ap (λ s. s.ice) acts.peer) (ap (λ s. s.fingerprint) acts.peer) refl sees
 acts_see fresh past old new (Datagram at packet now) outcome table made tells acts sees =
-    sees_still fresh past (entry (Datagram at packet now) outcome table made) at (old.sides at) (new.sides at) (ap (λ s. s.ice) acts.stays.peer) (ap (λ s. s.fingerprint) acts.stays.peer) refl sees
+    sees_still fresh past (entry (Datagram at packet now) outcome table made) at (old.sides at) (new.sides at) (ap (λ s. s.ice) acts.peer) (ap (λ s. s.fingerprint) acts.peer) refl sees
 acts_see fresh past old new (Poll at) outcome table made tells acts sees =
-    sees_still fresh past (entry (Poll at) outcome table made) at (old.sides at) (new.sides at) (ap (λ s. s.ice) acts.stays.peer) (ap (λ s. s.fingerprint) acts.stays.peer) refl sees
+    sees_still fresh past (entry (Poll at) outcome table made) at (old.sides at) (new.sides at) (ap (λ s. s.ice) acts.peer) (ap (λ s. s.fingerprint) acts.peer) refl sees
 acts_see fresh past old new (Drain at) outcome table made tells acts sees =
-    sees_still fresh past (entry (Drain at) outcome table made) at (old.sides at) (new.sides at) (ap (λ s. s.ice) acts.stays.peer) (ap (λ s. s.fingerprint) acts.stays.peer) refl sees
+    sees_still fresh past (entry (Drain at) outcome table made) at (old.sides at) (new.sides at) (ap (λ s. s.ice) acts.peer) (ap (λ s. s.fingerprint) acts.peer) refl sees
 acts_see fresh past old new (Close at) outcome table made tells acts sees =
-    sees_still fresh past (entry (Close at) outcome table made) at (old.sides at) (new.sides at) (ap (λ s. s.ice) acts.stays.peer) (ap (λ s. s.fingerprint) acts.stays.peer) refl sees
+    sees_still fresh past (entry (Close at) outcome table made) at (old.sides at) (new.sides at) (ap (λ s. s.ice) acts.peer) (ap (λ s. s.fingerprint) acts.peer) refl sees
 
 -- Both sides see after a step what its past and entry tell.
 pub step_sees : {E : Type 0} → (fresh : Stances) (past : List (Entry E)) (old new : PairStance) (step : Step) (outcome : Outcome E) (table : Option Table) (made : List MadeSdp) → Tells past old → StancePerforms old step outcome table new

@@ -26,7 +26,7 @@ use Rattle.rtc_history.specs.declared.table.Table.{Table}
 use Rattle.rtc_history.specs.declared.kept.Kept.{Kept}
 use Rattle.rtc_history.specs.Past.{packets_in, packets_told}
 use Rattle.rtc_history.specs.PairState.{PairState, rtc_at, size_sent, kept_remote_sdp, held_token, remote_packet}
-use Rattle.rtc_history.specs.Performs.{HandlesRead, Negotiates, StepAcceptsOffer, StepAcceptsAnswer, StepCalls, StepTakesDatagram, PollsShown, PollsOnce, DrainsOn, Drains, StepPolls, Performs, sent_packet}
+use Rattle.rtc_history.specs.Performs.{HandlesRead, Negotiates, StepAcceptsOffer, StepAcceptsAnswer, StepCalls, StepTakesDatagram, PollsShown, PollsOnce, DrainsOn, DrainsPeer, StepPollsPeer, Performs, sent_packet}
 use Rattle.rtc_history.specs.Sides.{side_of}
 
 module _ {I D S M E X T W N : Type 0} (m : Meanings I D S M E X T W N) where
@@ -113,7 +113,7 @@ module _ {I D S M E X T W N : Type 0} (m : Meanings I D S M E X T W N) where
       (drains_on_packets at h.0 h.1 outputs end q packets' h.3)
 
   drains_packets : (at : Side) (p : PolledPeer I D S M N) (packets : List SentPacket) (outputs : List (Shown E)) (end : PollEnd) (q : PolledPeer I D S M N) (packets' : List SentPacket)
-      → Drains m at p packets outputs end q packets' → map size_sent packets' ≡ map size_sent packets ++ packets_in at outputs
+      → DrainsPeer m at p packets outputs end q packets' → map size_sent packets' ≡ map size_sent packets ++ packets_in at outputs
   drains_packets at p packets [] NoRoom q packets' h = absurd h
   drains_packets at p packets [] Ended q packets' h = drains_on_packets at p packets [] Ended q packets' h
   drains_packets at p packets [] (EndRefused error) q packets' h = drains_on_packets at p packets [] (EndRefused error) q packets' h
@@ -123,7 +123,7 @@ module _ {I D S M E X T W N : Type 0} (m : Meanings I D S M E X T W N) where
       → ((packets : List SentPacket) (outputs : List (Shown E)) (end : PollEnd) (q : PolledPeer I D S M N) (packets' : List SentPacket) → polls packets outputs end q packets'
       → map size_sent packets' ≡ map size_sent packets ++ packets_in at outputs)
       → (old : PolledPeer I D S M N) (packets : List SentPacket) (outcome : Outcome E) (table : Option Table) (new : PolledPeer I D S M N) (packets' : List SentPacket)
-      → StepPolls m polls old packets outcome table new packets' → map size_sent packets' ≡ map size_sent packets ++ packets_told at outcome
+      → StepPollsPeer m polls old packets outcome table new packets' → map size_sent packets' ≡ map size_sent packets ++ packets_told at outcome
   polls_packets at polls sends old packets Alloc None new packets' h = ap (map size_sent) h.1 ∙ sym (append-nil (map size_sent packets))
   polls_packets at polls sends old packets (Polled outputs end) (Some table) new packets' h = sends packets outputs end new packets' h.0
   polls_packets at polls sends old packets outcome table new packets' h = absurd h
@@ -150,7 +150,7 @@ module _ {I D S M E X T W N : Type 0} (m : Meanings I D S M E X T W N) where
       polls_packets at (PollsOnce m at (rtc_at at old)) (λ packets outputs end q packets'. once_packets at (rtc_at at old) packets outputs end q packets') (rtc_at at old) old.packets outcome table (rtc_at at new)
       new.packets performs.acts.0
   step_packets stun old (Drain at) outcome table new performs =
-      polls_packets at (Drains m at (rtc_at at old)) (λ packets outputs end q packets'. drains_packets at (rtc_at at old) packets outputs end q packets') (rtc_at at old) old.packets outcome table (rtc_at at new)
+      polls_packets at (DrainsPeer m at (rtc_at at old)) (λ packets outputs end q packets'. drains_packets at (rtc_at at old) packets outputs end q packets') (rtc_at at old) old.packets outcome table (rtc_at at new)
       new.packets performs.acts.0
   step_packets stun old (Close at) outcome table new performs = same_packets old.packets new.packets _ (calls_quiet at (ClosesPeer m) (rtc_at at old) outcome table (rtc_at at new) performs.acts.0) performs.acts.2
 

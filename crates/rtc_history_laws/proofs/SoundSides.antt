@@ -35,13 +35,14 @@ use Rattle.rtc_history.specs.declared.kept.Kept.{Kept}
 use Rattle.rtc_history.specs.declared.sent_packet.SentPacket.{SentPacket}
 use Rattle.rtc_history.specs.Memory.{CountedPart, DtlsPart, AssociationPart, MediaPart, answers_lack, tells_fault_of, is_fault_of}
 use Rattle.rtc_history.specs.PairState.{kept_remote_sdp, held_token, remote_packet}
-use Rattle.rtc_history.specs.Performs.{Negotiates, StepAcceptsOffer, StepAcceptsAnswer, PollsOnce, Drains, Acts, lent}
+use Rattle.rtc_history.specs.Performs.{Negotiates, StepAcceptsOffer, StepAcceptsAnswer, PollsOnce, DrainsPeer, Acts, lent}
 use Rattle.rtc_history.specs.SoundParts.{refuses_sdp, tells_refusal, faults_of}
 use Rattle.rtc_peer_state.proofs.StoppedPeers.{stopped_dtls, stopped_sctp, stopped_media}
 use Rattle.rtc_history_laws.proofs.CountedFaults.{by_part, equal_below, start_later, start_fault, stop_later, sctp_later, sctp_fault, sctp_stop_later}
 use Rattle.rtc_history_laws.proofs.MediaFaults.{prepared_later, updated_later, stopped_later}
 use Rattle.rtc_history_laws.proofs.OpParts.{counting_parts, ops_counting, makes_counting}
-use Rattle.rtc_history_laws.proofs.RestSides.{GoesOn, time_goes, shut_goes, datagram_goes, once_goes, drains_go, polls_go}
+use Rattle.rtc_history_laws.proofs.GrowingCounts.{Counts}
+use Rattle.rtc_history_laws.proofs.RestSides.{time_goes, shut_goes, datagram_goes, once_goes, drains_go, polls_go}
 
 module _ {I D S M E X T W N : Type 0} (m : Meanings I D S M E X T W N) (laws : PartsLaws m) where
   -- what an outcome tells of the parts of the peer that acted, and whether an offer, an answer or a token was refused
@@ -228,11 +229,10 @@ module _ {I D S M E X T W N : Type 0} (m : Meanings I D S M E X T W N) (laws : P
   answer_side t token answer old sdps outcome table new sdps' h = absurd h
 
   -- a step that negotiates nothing
-  rest_side : (old new : PolledPeer I D S M N) (outcome : Outcome E) → GoesOn m laws old (tells_fault_of outcome) new → IsSoundOfSide old.core false outcome new.core
+  rest_side : (old new : PolledPeer I D S M N) (outcome : Outcome E) → Counts m old (tells_fault_of outcome) new → IsSoundOfSide old.core false outcome new.core
   rest_side old new outcome goes = record {
-    later = by_part (λ part. faults_of m part old.core ≤ faults_of m part new.core) goes.counts.dtls.0 (same_sctp old.core new.core goes.sctp) goes.counts.media.0;
-    fault = by_part (λ part. tells_fault_of outcome part ≡ true → Rose (faults_of m part old.core) (faults_of m part new.core)) goes.counts.dtls.1
-        (λ told. absurd (untold (tells_fault_of outcome) AssociationPart goes.counts.association told)) goes.counts.media.1;
+    later = by_part (λ part. faults_of m part old.core ≤ faults_of m part new.core) goes.dtls.0 goes.association.0 goes.media.0;
+    fault = by_part (λ part. tells_fault_of outcome part ≡ true → Rose (faults_of m part old.core) (faults_of m part new.core)) goes.dtls.1 goes.association.1 goes.media.1;
     media = λ told. absurd (cc);
   }
 
@@ -251,5 +251,5 @@ module _ {I D S M E X T W N : Type 0} (m : Meanings I D S M E X T W N) (laws : P
   acts_side stun (Poll at) old sdps packets outcome table new sdps' packets' h =
       rest_side old new outcome (polls_go m laws (PollsOnce m at old) old (λ kept outputs end q kept'. once_goes m laws at old kept outputs end q kept') packets outcome table new packets' h.0)
   acts_side stun (Drain at) old sdps packets outcome table new sdps' packets' h =
-      rest_side old new outcome (polls_go m laws (Drains m at old) old (λ kept outputs end q kept'. drains_go m laws at old kept outputs end q kept') packets outcome table new packets' h.0)
+      rest_side old new outcome (polls_go m laws (DrainsPeer m at old) old (λ kept outputs end q kept'. drains_go m laws at old kept outputs end q kept') packets outcome table new packets' h.0)
   acts_side stun (Close at) old sdps packets outcome table new sdps' packets' h = rest_side old new outcome (shut_goes m laws old outcome table new h.0)

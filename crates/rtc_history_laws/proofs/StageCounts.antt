@@ -10,7 +10,7 @@ use Rattle.rtc_polling.specs.IceStages.{met_of_ice_event}
 use Rattle.rtc_polling.specs.Stages.{Stage, FollowedBy, Stopped, WentOn, RepeatsStage}
 use Rattle.rtc_polling.proofs.StageLemmas.{over_carries}
 use Rattle.rtc_history.specs.Memory.{CountedPart, is_fault_of}
-use Rattle.rtc_history_laws.proofs.GrowingCounts.{Later, Counts, later_self, later_on, later_of, counts_on, still_counts}
+use Rattle.rtc_history_laws.proofs.GrowingCounts.{Later, Counts, SameParts, later_self, later_on, later_of, counts_on, still_counts}
 
 -- whether what a stage met tells that this part failed
 abbrev pub met_tells : {E : Type 0} → Met E → CountedPart → Bool
@@ -46,8 +46,8 @@ module _ {I D S M E X T W N : Type 0} (m : Meanings I D S M E X T W N) where
       (over_carries stage (Later m) (later_self m) (later_on m) (λ a b turn. later_of m a (met_tells {E = E} Again) b (one a Again b turn)) h.turns p h.last h.over)
       (one h.last r q h.ends)
 
-  -- nothing was met, and both parts stay
+  -- what was met tells no fault, and all parts stay
   pub still : (p n : PolledPeer I D S M N) (s r : Met E) (q : PolledPeer I D S M N) → ((part : CountedPart) → met_tells s part ≡ false) → r ≡ s → q ≡ n
-      → n.core.dtls.instance ≡ p.core.dtls.instance → n.core.media ≡ p.core.media → Counts m p (met_tells r) q
-  still p n s r q quiet met is dtls media =
-      still_counts m p n q (met_tells r) (λ part. ap (λ (x : Met E). met_tells x part) met ∙ quiet part) is dtls media
+      → SameParts m n p → Counts m p (met_tells r) q
+  still p n s r q quiet met is same =
+      still_counts m p n q (met_tells r) (λ part. ap (λ (x : Met E). met_tells x part) met ∙ quiet part) is same

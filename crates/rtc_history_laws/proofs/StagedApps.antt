@@ -17,7 +17,7 @@ use Rattle.rtc_history.specs.declared.op.Op.{Op}
 use Rattle.rtc_history.specs.declared.op.Op.TheVariants.{AddMedia, SetDirection, StopMedia, AddChannel, IceRestart}
 use Rattle.rtc_history.specs.declared.op_answer.OpAnswer.{OpAnswer}
 use Rattle.rtc_history.specs.declared.op_answer.OpAnswer.TheVariants.{Mid, Changed, NoLine, Channel, BadChannel, Creds, Alloc as OpAlloc}
-use Rattle.rtc_history.specs.Answers.{has_app_row}
+use Rattle.rtc_history.specs.Answers.{has_app_row, waiting_row}
 use Rattle.rtc_peer_state.proofs.StanceCalls.{StanceAddsChannel, StanceChangesLine, IsAppFor}
 use Rattle.rtc_history_laws.proofs.StanceSteps.{StancePerformsOps, needs_app}
 
@@ -117,6 +117,7 @@ pub record ChannelStaged (p : Stance) (config : ChannelConfig) (id : ℕ) (r : S
   pub lines : r.lines ≡ p.lines
   pub counter : r.counter ≡ p.counter
   pub channels : r.channels ≡ with_channel p.channels config
+  pub rows : r.rows ≡ p.rows ++ waiting_row id ∷ []
   pub numbered : id ≡ p.channels.given
   -- with a line, where one is needed
   pub app_mid : List ℕ
@@ -132,6 +133,7 @@ channel_staged p config id r h = by (needs_app p) refl h.app_for
       lines = ap (λ q. q.lines) h.rest;
       counter = ap (λ q. q.counter) h.rest;
       channels = ap (λ q. q.channels) h.rest;
+      rows = ap (λ q. q.rows) h.rest;
       numbered = h.number;
       app_mid = there.0;
       free = λ needed. there.2.0;
@@ -142,6 +144,7 @@ channel_staged p config id r h = by (needs_app p) refl h.app_for
       lines = ap (λ q. q.lines) h.rest;
       counter = ap (λ q. q.counter) h.rest;
       channels = ap (λ q. q.channels) h.rest;
+      rows = ap (λ q. q.rows) h.rest;
       numbered = h.number;
       app_mid = [];
       free = λ needed. absurd (let e : false ≡ true = sym is ∙ needed in cc);

@@ -7,15 +7,11 @@ use Rattle.rtc_change.specs.declared.change.Change.{Change}
 use Rattle.rtc_change.specs.declared.change.Change.TheVariants.{AddMedia as Adding, AddApp, AddChannel as AddingChannel, Direction as Setting, IceRestart as Restarting}
 use Rattle.rtc_change.specs.PendingOffer.{added_mids, added_rows, is_offered, do_offer, contains_add_app, staged_restart}
 use Rattle.std.proofs.lemmas.List.Folds.{list_any-append}
-use Rattle.rtc_channels.specs.Channels.{Channels}
 use Rattle.rtc_tables.specs.RowChanges.{RowChange, changed_of}
 use Rattle.rtc_change.proofs.AddedLemmas.{added_mids-append}
 use Rattle.rtc_tables.proofs.RowChangeLemmas.{KeepsRow, changed_of_alike, length-alike}
 use Rattle.rtc_peer_state.specs.Stance.{Stance}
-use Rattle.rtc_history.specs.declared.op.Op.{Op}
-use Rattle.rtc_history.specs.declared.op.Op.TheVariants.{AddMedia, SetDirection, StopMedia, AddChannel, IceRestart}
-use Rattle.rtc_history.specs.declared.op_answer.OpAnswer.TheVariants.{Alloc as OpAlloc}
-use Rattle.rtc_history.specs.Answers.{has_app_row, channels_answered}
+use Rattle.rtc_history.specs.Answers.{has_app_row}
 use Rattle.rtc_history_laws.proofs.OpRows.{has_app-alike}
 use Rattle.rtc_history_laws.proofs.StagedApps.{contains-append}
 use Rattle.rtc_history_laws.proofs.RestartChanges.{restart-still}
@@ -85,6 +81,7 @@ pub record StagesLine (p : Stance) (changed : Bool) (r : Stance) : Type 0 where
   pub counter : r.counter ≡ p.counter
   pub restart : staged_restart r.staged ≡ staged_restart p.staged
   pub channels : r.channels ≡ p.channels
+  pub channel_rows : r.rows ≡ p.rows
   pub adds : (place : ℕ) → added_rows place r.staged ≡ added_rows place p.staged
   pub count : length (added_mids r.staged) ≡ length (added_mids p.staged)
   pub some : are_some r.staged ≡ (are_some p.staged || changed)
@@ -101,6 +98,7 @@ line_staged change to p mid true r keeps h =
       counter = ap (λ q. q.counter) h.1;
       restart = restart-still p.staged r.staged (Setting mid to ∷ []) staged refl;
       channels = ap (λ q. q.channels) h.1;
+      channel_rows = ap (λ q. q.rows) h.1;
       adds = λ place. ap (added_rows place) staged ∙ added_rows-append place p.staged (Setting mid to ∷ []) ∙ append-nil (added_rows place p.staged);
       count = ap (λ changes. length (added_mids changes)) staged ∙ ap length (added_mids-append p.staged (Setting mid to ∷ []) ∙ append-nil (added_mids p.staged));
       some = ap are_some staged ∙ some-push p.staged (Setting mid to) ∙ or_something (are_some p.staged);
@@ -113,23 +111,13 @@ line_staged change to p mid false r keeps h = record {
   counter = ap (λ q. q.counter) h.1;
   restart = ap (λ q. staged_restart q.staged) h.1;
   channels = ap (λ q. q.channels) h.1;
+  channel_rows = ap (λ q. q.rows) h.1;
   adds = λ place. ap (λ q. added_rows place q.staged) h.1;
   count = ap (λ q. length (added_mids q.staged)) h.1;
   some = ap (λ q. are_some q.staged) h.1 ∙ or_nothing (are_some p.staged);
   offers = ap (λ q. do_offer q.staged) h.1 ∙ or_nothing (do_offer p.staged);
   lined = ap (λ q. contains_add_app q.staged) h.1;
 }
-
-channels_end : (ops : List Op) (held : Channels) → channels_answered ops [] held ≡ held
-channels_end [] held = refl
-channels_end (op ∷ ops) held = refl
-
-pub channels_none : (op : Op) (ops : List Op) (held : Channels) → channels_answered (op ∷ ops) (OpAlloc ∷ []) held ≡ held
-channels_none (AddMedia kind dir) ops held = channels_end ops held
-channels_none (SetDirection at dir) ops held = channels_end ops held
-channels_none (StopMedia at) ops held = channels_end ops held
-channels_none (AddChannel config) ops held = channels_end ops held
-channels_none (IceRestart keep) ops held = channels_end ops held
 
 pub or_early : (a b : Bool) → true ≡ (a || (true || b))
 or_early true b = refl

@@ -1,45 +1,30 @@
 -- What an op that stages a channel leaves.
-use Rattle.std.proofs.Common.{◌≡◌, ◌≤◌, ◌+◌, ℕ, List, [], ◌∷◌, ◌++◌, length, Bool, true, false, not, ◌||◌, Option, Some, None, refl, sym, ◌∙◌, ap, subst, arith, append-nil, append_assoc}
-use Rattle.std.specs.Prelude.{is_some, filter}
-use Rattle.rtc_sdp_values.specs.declared.direction.Direction.{Direction}
-use Rattle.rtc_sdp_values.specs.declared.direction.Direction.TheVariants.{Inactive}
-use Rattle.rtc_sdp_values.specs.declared.media_kind.MediaKind.{MediaKind}
-use Rattle.rtc_sdp_values.specs.declared.ice_creds.IceCreds.{IceCreds}
-use Rattle.rtc_change.specs.declared.add_media.AddMedia.{AddMedia as Media}
-use Rattle.rtc_peer_state.specs.Staging.{is_kept_by_restart, with_restart}
+use Rattle.std.proofs.Common.{◌≡◌, ◌≤◌, ◌+◌, ℕ, List, [], ◌∷◌, ◌++◌, length, Bool, true, false, not, ◌||◌, Option, Some, None, refl, sym, ◌∙◌, ap, arith, append-nil, append_assoc}
+use Rattle.std.specs.Prelude.{is_some}
 use Rattle.rtc_sdp_values.specs.declared.line_row.LineRow.{LineRow}
-use Rattle.rtc_sdp_values.specs.declared.line_row.LineRow.TheVariants.{Media as MediaRow, App}
+use Rattle.rtc_sdp_values.specs.declared.line_row.LineRow.TheVariants.{App}
 use Rattle.rtc_change.specs.declared.change.Change.{Change}
-use Rattle.rtc_change.specs.declared.change.Change.TheVariants.{AddMedia as Adding, AddApp, AddChannel as AddingChannel, IceRestart as Restarting}
-use Rattle.rtc_change.specs.PendingOffer.{added_mids, added_rows, do_offer, contains_add_app, staged_restart}
+use Rattle.rtc_change.specs.declared.change.Change.TheVariants.{AddApp, AddChannel as AddingChannel}
+use Rattle.rtc_change.specs.PendingOffer.{added_mids, added_rows, do_offer, contains_add_app}
 use Rattle.rtc_wire.specs.declared.channel_config.ChannelConfig.{ChannelConfig}
-use Rattle.rtc_channels.specs.Channels.{with_channel, channel_rows, AreBelow}
-use Rattle.rtc_tables.specs.RowChanges.{directed_row, stopped_row}
-use Rattle.rtc_tables.proofs.RowChangeLemmas.{directed_row_keeps, stopped_row_keeps}
 use Rattle.rtc_peer_state.specs.Stance.{Stance}
 use Rattle.rtc_history.specs.declared.op.Op.{Op}
-use Rattle.rtc_history.specs.declared.op.Op.TheVariants.{AddMedia, SetDirection, StopMedia, AddChannel, IceRestart}
+use Rattle.rtc_history.specs.declared.op.Op.TheVariants.{AddChannel}
 use Rattle.rtc_history.specs.declared.op_answer.OpAnswer.{OpAnswer}
-use Rattle.rtc_history.specs.declared.op_answer.OpAnswer.TheVariants.{Mid, Changed, NoLine, Channel, BadChannel, Creds, Alloc as OpAlloc}
-use Rattle.rtc_history.specs.Answers.{has_app_row, added, do_stage, do_restart, do_need_offer, channels_answered, waiting_row, rows_waiting}
-use Rattle.rtc_history_laws.proofs.RestartChanges.{mids-restart, rows-restart, lined-restart, offers-restart, restart-staged, restart-still}
-use Rattle.rtc_history_laws.proofs.AddedRows.{added_none}
-use Rattle.rtc_history_laws.proofs.ToldChannels.{told, told_more}
-use Rattle.rtc_history_laws.proofs.StagedApps.{AppTold, contains-append, needs_same, told_same, ChannelStaged, channel_staged, none_there, app_mid_is}
-use Rattle.rtc_history_laws.proofs.StagedChanges.{are_some, some-push, some_two, or_nothing, or_something, or_three, added_rows-append, adds_next, count_next, offer-append, StagesLine, line_staged, channels_none, or_early, lined_offers}
+use Rattle.rtc_history.specs.declared.op_answer.OpAnswer.TheVariants.{Channel}
+use Rattle.rtc_history.specs.Answers.{has_app_row, added, do_stage, do_restart, do_need_offer, numbers_answered, waiting_row, rows_waiting}
+use Rattle.rtc_history_laws.proofs.RestartChanges.{restart-still}
+use Rattle.rtc_history_laws.proofs.NumberedChannels.{numbered_on, channel_numbered}
+use Rattle.rtc_history_laws.proofs.StagedApps.{AppTold, contains-append, needs_same, ChannelStaged, none_there, app_mid_is}
+use Rattle.rtc_history_laws.proofs.StagedChanges.{are_some, some-push, some_two, or_nothing, or_something, added_rows-append, adds_next, count_next, offer-append, or_early, lined_offers}
 use Rattle.rtc_history_laws.proofs.StanceSteps.{StancePerformsOps, needs_app}
 use Rattle.rtc_history_laws.proofs.StagedOps.{ChannelsStaged, AddsRows, Stages}
 
-with_channel_staged : (p r q : Stance) (config : ChannelConfig) (id : ℕ) (ops : List Op) (answers : List OpAnswer) → r.channels ≡ with_channel p.channels config → id ≡ p.channels.given
-    → ChannelsStaged r ops answers q → ChannelsStaged p (AddChannel config ∷ ops) (Channel id ∷ answers) q
-with_channel_staged p r q config id ops answers is numbered rest =
-    let one = told_more p.channels config in
-    record {
-      same = rest.same ∙ ap (λ held. channels_answered ops answers (told held)) is ∙ ap (channels_answered ops answers) one.same ∙ (rw numbered refl);
-      shown = rest.shown ∙ ap (λ held. channel_rows held ++ rows_waiting answers) is ∙ ap (λ rows. rows ++ rows_waiting answers) one.shown
-          ∙ append_assoc (channel_rows p.channels) (waiting_row p.channels.given ∷ []) (rows_waiting answers) ∙ (rw numbered refl);
-      below = λ below. rest.below (rw is (one.below below));
-    }
+with_channel_staged : (p r q : Stance) (config : ChannelConfig) (id : ℕ) (answers : List OpAnswer) → ChannelStaged p config id r → ChannelsStaged r answers q → ChannelsStaged p (Channel id ∷ answers) q
+with_channel_staged p r q config id answers staged rest = record {
+  numbered = numbered_on (id ∷ []) (numbers_answered answers) p.channels r.channels q.channels (channel_numbered config id p.channels r.channels staged.channels staged.numbered) rest.numbered;
+  shown = rest.shown ∙ ap (λ rows. rows ++ rows_waiting answers) staged.rows ∙ append_assoc p.rows (waiting_row id ∷ []) (rows_waiting answers);
+}
 
 -- a channel that is staged alone
 stages_alone : (p r q : Stance) (config : ChannelConfig) (id : ℕ) (ops : List Op) (answers : List OpAnswer) → ChannelStaged p config id r → needs_app p ≡ false
@@ -60,7 +45,7 @@ stages_alone p r q config id ops answers staged unneeded rest =
       some = rest.some ∙ ap (λ b. b || do_stage answers) (ap are_some pushed ∙ some-push p.staged (AddingChannel id config)) ∙ or_early (are_some p.staged) (do_stage answers);
       restarts = rest.restarts ∙ ap (λ found. is_some found || do_restart answers) (restart-still p.staged r.staged (AddingChannel id config ∷ []) pushed refl);
       offers = rest.offers ∙ ap (λ b. do_offer r.staged || do_need_offer b answers) app ∙ ap (λ b. b || do_need_offer (has_app_row p.lines) answers) offers ∙ kept_or (has_app_row p.lines) refl;
-      channels = with_channel_staged p r q config id ops answers staged.channels staged.numbered rest.channels;
+      channels = with_channel_staged p r q config id answers staged rest.channels;
     }
   where
     by : (app : Option (List ℕ)) → AppTold p app q → needs_app r ≡ needs_app p → AddsRows r ops answers q → r.staged ≡ p.staged ++ AddingChannel id config ∷ [] → length (added_mids r.staged) ≡ length (added_mids p.staged) + 0
@@ -97,7 +82,7 @@ stages_lined p r q config id ops answers staged needed h rest =
       some = rest.some ∙ ap (λ b. b || do_stage answers) (ap are_some pushed ∙ some_two p.staged (AddApp staged.app_mid) (AddingChannel id config)) ∙ or_early (are_some p.staged) (do_stage answers);
       restarts = rest.restarts ∙ ap (λ found. is_some found || do_restart answers) (restart-still p.staged r.staged more pushed refl);
       offers = rest.offers ∙ ap (λ b. b || do_need_offer (has_app_row r.lines) answers) offers ∙ (rw none.0 (or_early (do_offer p.staged) (do_need_offer false answers)));
-      channels = with_channel_staged p r q config id ops answers staged.channels staged.numbered rest.channels;
+      channels = with_channel_staged p r q config id answers staged rest.channels;
     }
   where
     by : (app : Option (List ℕ)) → AppTold p app q → (app ≡ None → needs_app p ≡ false) → needs_app r ≡ false → AddsRows r ops answers q

@@ -1,5 +1,5 @@
 -- What the ops of a step stage.
-use Rattle.std.proofs.Common.{◌≡◌, ◌≤◌, ◌+◌, ℕ, List, [], ◌∷◌, ◌++◌, length, Bool, true, false, not, ◌||◌, Option, Some, None, refl, sym, ◌∙◌, ap, subst, arith, append-nil, append_assoc}
+use Rattle.std.proofs.Common.{◌≡◌, ◌≤◌, ◌+◌, ℕ, List, [], ◌∷◌, ◌++◌, length, Bool, false, ◌||◌, Option, Some, None, refl, sym, ◌∙◌, ap, subst, arith, append-nil}
 use Rattle.std.specs.Prelude.{is_some, filter}
 use Rattle.rtc_sdp_values.specs.declared.direction.Direction.{Direction}
 use Rattle.rtc_sdp_values.specs.declared.direction.Direction.TheVariants.{Inactive}
@@ -8,12 +8,10 @@ use Rattle.rtc_sdp_values.specs.declared.ice_creds.IceCreds.{IceCreds}
 use Rattle.rtc_change.specs.declared.add_media.AddMedia.{AddMedia as Media}
 use Rattle.rtc_peer_state.specs.Staging.{is_kept_by_restart, with_restart}
 use Rattle.rtc_sdp_values.specs.declared.line_row.LineRow.{LineRow}
-use Rattle.rtc_sdp_values.specs.declared.line_row.LineRow.TheVariants.{Media as MediaRow, App}
+use Rattle.rtc_sdp_values.specs.declared.line_row.LineRow.TheVariants.{Media as MediaRow}
 use Rattle.rtc_change.specs.declared.change.Change.{Change}
-use Rattle.rtc_change.specs.declared.change.Change.TheVariants.{AddMedia as Adding, AddApp, AddChannel as AddingChannel, IceRestart as Restarting}
+use Rattle.rtc_change.specs.declared.change.Change.TheVariants.{AddMedia as Adding, IceRestart as Restarting}
 use Rattle.rtc_change.specs.PendingOffer.{added_mids, added_rows, do_offer, contains_add_app, staged_restart}
-use Rattle.rtc_wire.specs.declared.channel_config.ChannelConfig.{ChannelConfig}
-use Rattle.rtc_channels.specs.Channels.{with_channel, channel_rows, AreBelow}
 use Rattle.rtc_tables.specs.RowChanges.{directed_row, stopped_row}
 use Rattle.rtc_tables.proofs.RowChangeLemmas.{directed_row_keeps, stopped_row_keeps}
 use Rattle.rtc_peer_state.specs.Stance.{Stance}
@@ -21,23 +19,26 @@ use Rattle.rtc_history.specs.declared.op.Op.{Op}
 use Rattle.rtc_history.specs.declared.op.Op.TheVariants.{AddMedia, SetDirection, StopMedia, AddChannel, IceRestart}
 use Rattle.rtc_history.specs.declared.op_answer.OpAnswer.{OpAnswer}
 use Rattle.rtc_history.specs.declared.op_answer.OpAnswer.TheVariants.{Mid, Changed, NoLine, Channel, BadChannel, Creds, Alloc as OpAlloc}
-use Rattle.rtc_history.specs.Answers.{has_app_row, added, do_stage, do_restart, do_need_offer, channels_answered, waiting_row, rows_waiting}
+use Rattle.rtc_history.specs.Answers.{has_app_row, added, do_stage, do_restart, do_need_offer, numbers_answered, rows_waiting}
 use Rattle.rtc_history_laws.proofs.RestartChanges.{mids-restart, rows-restart, lined-restart, offers-restart, restart-staged, restart-still}
 use Rattle.rtc_history_laws.proofs.AddedRows.{added_none}
-use Rattle.rtc_history_laws.proofs.ToldChannels.{told, told_more}
-use Rattle.rtc_history_laws.proofs.StagedApps.{AppTold, contains-append, needs_same, told_same, ChannelStaged, channel_staged, none_there, app_mid_is}
-use Rattle.rtc_history_laws.proofs.StagedChanges.{are_some, some-push, some_two, or_nothing, or_something, or_three, added_rows-append, adds_next, count_next, offer-append, StagesLine, line_staged, channels_none, or_early, lined_offers}
+use Rattle.rtc_history_laws.proofs.NumberedChannels.{same_numbers, numbered_on}
+use Rattle.rtc_history_laws.proofs.StagedApps.{contains-append, needs_same, told_same, channel_staged}
+use Rattle.rtc_history_laws.proofs.StagedChanges.{are_some, some-push, or_nothing, or_something, or_three, adds_next, count_next, offer-append, StagesLine, line_staged, or_early}
 use Rattle.rtc_history_laws.proofs.StanceSteps.{StancePerformsOps, needs_app}
 use Rattle.rtc_history_laws.proofs.StagedOps.{ChannelsStaged, AddsRows, Stages}
 use Rattle.rtc_history_laws.proofs.StagedChannelOps.{stages_channel}
 
-same_channels : (p r q : Stance) (op : Op) (ops : List Op) (answer : OpAnswer) (answers : List OpAnswer) → r.channels ≡ p.channels
-    → channels_answered (op ∷ ops) (answer ∷ answers) (told p.channels) ≡ channels_answered ops answers (told p.channels) → rows_waiting (answer ∷ answers) ≡ rows_waiting answers
-    → ChannelsStaged r ops answers q → ChannelsStaged p (op ∷ ops) (answer ∷ answers) q
-same_channels p r q op ops answer answers same none no_row rest = record {
-  same = rest.same ∙ ap (λ held. channels_answered ops answers (told held)) same ∙ sym none;
-  shown = rest.shown ∙ ap (λ held. channel_rows held ++ rows_waiting answers) same ∙ ap (λ rows. channel_rows p.channels ++ rows) (sym no_row);
-  below = λ below. rest.below (rw same below);
+-- an answer that tells no channel
+record TellsNone (answer : OpAnswer) (answers : List OpAnswer) : Type 0 where
+  numbers : numbers_answered (answer ∷ answers) ≡ numbers_answered answers
+  rows : rows_waiting (answer ∷ answers) ≡ rows_waiting answers
+
+same_channels : (p r q : Stance) (answer : OpAnswer) (answers : List OpAnswer) → r.channels ≡ p.channels → r.rows ≡ p.rows → TellsNone answer answers
+    → ChannelsStaged r answers q → ChannelsStaged p (answer ∷ answers) q
+same_channels p r q answer answers channels rows none rest = record {
+  numbered = rw none.numbers (numbered_on [] (numbers_answered answers) p.channels r.channels q.channels (same_numbers p.channels r.channels channels) rest.numbered);
+  shown = rest.shown ∙ ap (λ shown. shown ++ rows_waiting answers) rows ∙ ap (λ more. p.rows ++ more) (sym none.rows);
 }
 
 -- ---- a line that is changed
@@ -45,9 +46,8 @@ same_channels p r q op ops answer answers same none no_row rest = record {
 -- the ops after a change of a line
 stages_line : (p r q : Stance) (op : Op) (ops : List Op) (changed : Bool) (answers : List OpAnswer)
     → ((app : Option (List ℕ)) (place : ℕ) → added app place (op ∷ ops) (Changed changed ∷ answers) ≡ added app place ops answers)
-    → channels_answered (op ∷ ops) (Changed changed ∷ answers) (told p.channels) ≡ channels_answered ops answers (told p.channels)
     → StagesLine p changed r → Stages r ops answers q → Stages p (op ∷ ops) (Changed changed ∷ answers) q
-stages_line p r q op ops changed answers none no_channel line rest =
+stages_line p r q op ops changed answers none line rest =
     let needs : needs_app r ≡ needs_app p = needs_same p r line.app line.lined in
     record {
       rows = rest.rows ∙ line.rows;
@@ -63,7 +63,7 @@ stages_line p r q op ops changed answers none no_channel line rest =
       restarts = rest.restarts ∙ ap (λ found. is_some found || do_restart answers) line.restart;
       offers = rest.offers ∙ ap (λ b. do_offer r.staged || do_need_offer b answers) line.app
           ∙ ap (λ b. b || do_need_offer (has_app_row p.lines) answers) line.offers ∙ or_three (do_offer p.staged) changed (do_need_offer (has_app_row p.lines) answers);
-      channels = same_channels p r q op ops (Changed changed) answers line.channels no_channel refl rest.channels;
+      channels = same_channels p r q (Changed changed) answers line.channels line.channel_rows (record { numbers = refl; rows = refl }) rest.channels;
     }
 
 -- ---- ops that leave a peer as it was
@@ -72,9 +72,8 @@ stages_line p r q op ops changed answers none no_channel line rest =
 stages_none : (p r q : Stance) (op : Op) (ops : List Op) (answer : OpAnswer) (answers : List OpAnswer) → r ≡ p
     → ((app : Option (List ℕ)) (place : ℕ) → added app place (op ∷ ops) (answer ∷ answers) ≡ added app place ops answers)
     → do_stage (answer ∷ answers) ≡ do_stage answers → do_restart (answer ∷ answers) ≡ do_restart answers → ((has : Bool) → do_need_offer has (answer ∷ answers) ≡ do_need_offer has answers)
-    → channels_answered (op ∷ ops) (answer ∷ answers) (told p.channels) ≡ channels_answered ops answers (told p.channels) → rows_waiting (answer ∷ answers) ≡ rows_waiting answers
-    → Stages r ops answers q → Stages p (op ∷ ops) (answer ∷ answers) q
-stages_none p r q op ops answer answers same none unstaged unrestarted unoffered no_channel no_row rest = record {
+    → TellsNone answer answers → Stages r ops answers q → Stages p (op ∷ ops) (answer ∷ answers) q
+stages_none p r q op ops answer answers same none unstaged unrestarted unoffered no_channel rest = record {
   rows = rest.rows ∙ ap (λ s. length s.lines) same;
   app = rest.app ∙ ap (λ s. has_app_row s.lines) same;
   counter = rest.counter ∙ ap (λ s. s.counter) same;
@@ -84,14 +83,13 @@ stages_none p r q op ops answer answers same none unstaged unrestarted unoffered
   some = rest.some ∙ ap (λ s. are_some s.staged || do_stage answers) same ∙ ap (λ b. are_some p.staged || b) (sym unstaged);
   restarts = rest.restarts ∙ ap (λ s. is_some (staged_restart s.staged) || do_restart answers) same ∙ ap (λ b. is_some (staged_restart p.staged) || b) (sym unrestarted);
   offers = rest.offers ∙ ap (λ s. do_offer s.staged || do_need_offer (has_app_row s.lines) answers) same ∙ ap (λ b. do_offer p.staged || b) (sym (unoffered (has_app_row p.lines)));
-  channels = same_channels p r q op ops answer answers (ap (λ s. s.channels) same) no_channel no_row rest.channels;
+  channels = same_channels p r q answer answers (ap (λ s. s.channels) same) (ap (λ s. s.rows) same) no_channel rest.channels;
 }
 
 -- an op that lacked memory
 stages_lacking : (p q : Stance) (op : Op) (ops : List Op) → ((app : Option (List ℕ)) (place : ℕ) → added app place (op ∷ ops) (OpAlloc ∷ []) ≡ [])
-    → channels_answered (op ∷ ops) (OpAlloc ∷ []) (told p.channels) ≡ told p.channels
     → q ≡ p → Stages p (op ∷ ops) (OpAlloc ∷ []) q
-stages_lacking p q op ops none no_channel same = record {
+stages_lacking p q op ops none same = record {
   rows = ap (λ r. length r.lines) same;
   app = ap (λ r. has_app_row r.lines) same;
   counter = ap (λ r. r.counter) same;
@@ -100,11 +98,7 @@ stages_lacking p q op ops none no_channel same = record {
   some = ap (λ r. are_some r.staged) same ∙ or_nothing (are_some p.staged);
   restarts = ap (λ r. is_some (staged_restart r.staged)) same ∙ or_nothing (is_some (staged_restart p.staged));
   offers = ap (λ r. do_offer r.staged) same ∙ or_nothing (do_offer p.staged);
-  channels = record {
-    same = ap (λ r. told r.channels) same ∙ sym no_channel;
-    shown = ap (λ r. channel_rows r.channels) same ∙ sym (append-nil (channel_rows p.channels));
-    below = λ below. rw same below;
-  };
+  channels = record { numbered = same_numbers p.channels q.channels (ap (λ r. r.channels) same); shown = ap (λ r. r.rows) same ∙ sym (append-nil p.rows) };
 }
 
 -- ---- a restart that is staged
@@ -135,7 +129,7 @@ stages_restart p r q keep creds ops answers is rest =
       restarts = rest.restarts ∙ ap (λ found. is_some found || do_restart answers) (ap staged_restart staged ∙ restart-staged creds keep p.staged) ∙ or_early (is_some (staged_restart p.staged)) (do_restart answers);
       offers = rest.offers ∙ ap (λ b. b || do_need_offer (has_app_row r.lines) answers) (ap do_offer staged ∙ offers-restart creds keep p.staged)
           ∙ or_early (do_offer p.staged) (do_need_offer (has_app_row p.lines) answers);
-      channels = same_channels p r q (IceRestart keep) ops (Creds creds) answers (ap (λ s. s.channels) is) refl refl rest.channels;
+      channels = same_channels p r q (Creds creds) answers (ap (λ s. s.channels) is) (ap (λ s. s.rows) is) (record { numbers = refl; rows = refl }) rest.channels;
     }
 
 -- ---- all ops
@@ -150,11 +144,7 @@ ops_stage p q [] [] h = record {
   some = ap (λ r. are_some r.staged) h ∙ or_nothing (are_some p.staged);
   restarts = ap (λ r. is_some (staged_restart r.staged)) h ∙ or_nothing (is_some (staged_restart p.staged));
   offers = ap (λ r. do_offer r.staged) h ∙ or_nothing (do_offer p.staged);
-  channels = record {
-    same = ap (λ r. told r.channels) h;
-    shown = ap (λ r. channel_rows r.channels) h ∙ sym (append-nil (channel_rows p.channels));
-    below = λ below. rw h below;
-  };
+  channels = record { numbered = same_numbers p.channels q.channels (ap (λ r. r.channels) h); shown = ap (λ r. r.rows) h ∙ sym (append-nil p.rows) };
 }
 ops_stage p q (AddMedia kind dir ∷ ops) (Mid mid ∷ answers) h =
     let change : Change = Adding h.1.media in
@@ -179,39 +169,39 @@ ops_stage p q (AddMedia kind dir ∷ ops) (Mid mid ∷ answers) h =
       restarts = rest.restarts ∙ ap (λ found. is_some found || do_restart answers) (restart-still p.staged h.0.staged (change ∷ []) staged refl);
       offers = rest.offers ∙ ap (λ b. b || do_need_offer (has_app_row h.0.lines) answers) (ap do_offer staged ∙ offer-append p.staged (change ∷ []) ∙ sym (or_something (do_offer p.staged)))
           ∙ or_early (do_offer p.staged) (do_need_offer (has_app_row p.lines) answers);
-      channels = same_channels p h.0 q (AddMedia kind dir) ops (Mid mid) answers (ap (λ r. r.channels) h.1.rest) refl refl rest.channels;
+      channels = same_channels p h.0 q (Mid mid) answers (ap (λ r. r.channels) h.1.rest) (ap (λ r. r.rows) h.1.rest) (record { numbers = refl; rows = refl }) rest.channels;
     }
 ops_stage p q (AddMedia kind dir ∷ ops) (OpAlloc ∷ []) h =
-    stages_lacking p q (AddMedia kind dir) ops (λ app place. added_none app place ops) (channels_none (AddMedia kind dir) ops (told p.channels)) h
+    stages_lacking p q (AddMedia kind dir) ops (λ app place. added_none app place ops) h
 ops_stage p q (SetDirection at dir ∷ ops) (NoLine ∷ answers) h =
-    stages_none p p q (SetDirection at dir) ops NoLine answers refl (λ app place. refl) refl refl (λ has. refl) refl refl (ops_stage p q ops answers h.1)
+    stages_none p p q (SetDirection at dir) ops NoLine answers refl (λ app place. refl) refl refl (λ has. refl) (record { numbers = refl; rows = refl }) (ops_stage p q ops answers h.1)
 ops_stage p q (SetDirection at dir ∷ ops) (Changed changed ∷ answers) h =
-    stages_line p h.0 q (SetDirection at dir) ops changed answers (λ app place. refl) refl (line_staged (directed_row dir) dir p h.1.mid changed h.0 (directed_row_keeps dir) h.1.called) (ops_stage h.0 q ops answers h.2)
+    stages_line p h.0 q (SetDirection at dir) ops changed answers (λ app place. refl) (line_staged (directed_row dir) dir p h.1.mid changed h.0 (directed_row_keeps dir) h.1.called) (ops_stage h.0 q ops answers h.2)
 ops_stage p q (SetDirection at dir ∷ ops) (OpAlloc ∷ []) h =
-    stages_lacking p q (SetDirection at dir) ops (λ app place. added_none app place ops) (channels_none (SetDirection at dir) ops (told p.channels)) h.called
+    stages_lacking p q (SetDirection at dir) ops (λ app place. added_none app place ops) h.called
 ops_stage p q (StopMedia at ∷ ops) (NoLine ∷ answers) h =
-    stages_none p p q (StopMedia at) ops NoLine answers refl (λ app place. refl) refl refl (λ has. refl) refl refl (ops_stage p q ops answers h.1)
+    stages_none p p q (StopMedia at) ops NoLine answers refl (λ app place. refl) refl refl (λ has. refl) (record { numbers = refl; rows = refl }) (ops_stage p q ops answers h.1)
 ops_stage p q (StopMedia at ∷ ops) (Changed changed ∷ answers) h =
-    stages_line p h.0 q (StopMedia at) ops changed answers (λ app place. refl) refl (line_staged stopped_row Inactive p h.1.mid changed h.0 stopped_row_keeps h.1.called) (ops_stage h.0 q ops answers h.2)
+    stages_line p h.0 q (StopMedia at) ops changed answers (λ app place. refl) (line_staged stopped_row Inactive p h.1.mid changed h.0 stopped_row_keeps h.1.called) (ops_stage h.0 q ops answers h.2)
 ops_stage p q (StopMedia at ∷ ops) (OpAlloc ∷ []) h =
-    stages_lacking p q (StopMedia at) ops (λ app place. added_none app place ops) (channels_none (StopMedia at) ops (told p.channels)) h.called
+    stages_lacking p q (StopMedia at) ops (λ app place. added_none app place ops) h.called
 ops_stage p q (AddChannel config ∷ ops) (Channel id ∷ answers) h =
     stages_channel p h.0 q config id ops answers (channel_staged p config id h.0 h.1) h.2 (ops_stage h.0 q ops answers h.2)
 ops_stage p q (AddChannel config ∷ ops) (BadChannel ∷ answers) h =
-    stages_none p h.0 q (AddChannel config) ops BadChannel answers h.1.1 (λ app place. bad_adds app place) refl refl (λ has. refl) refl refl (ops_stage h.0 q ops answers h.2)
+    stages_none p h.0 q (AddChannel config) ops BadChannel answers h.1.1 (λ app place. bad_adds app place) refl refl (λ has. refl) (record { numbers = refl; rows = refl }) (ops_stage h.0 q ops answers h.2)
   where
     bad_adds : (app : Option (List ℕ)) (place : ℕ) → added app place (AddChannel config ∷ ops) (BadChannel ∷ answers) ≡ added app place ops answers
     bad_adds None place = refl
     bad_adds (Some mid) place = refl
 ops_stage p q (AddChannel config ∷ ops) (OpAlloc ∷ []) h =
-    stages_lacking p q (AddChannel config) ops lacking_adds (channels_none (AddChannel config) ops (told p.channels)) h
+    stages_lacking p q (AddChannel config) ops lacking_adds h
   where
     lacking_adds : (app : Option (List ℕ)) (place : ℕ) → added app place (AddChannel config ∷ ops) (OpAlloc ∷ []) ≡ []
     lacking_adds None place = added_none None place ops
     lacking_adds (Some mid) place = added_none (Some mid) place ops
 ops_stage p q (IceRestart keep ∷ ops) (Creds creds ∷ answers) h = stages_restart p h.0 q keep creds ops answers h.1.1 (ops_stage h.0 q ops answers h.2)
 ops_stage p q (IceRestart keep ∷ ops) (OpAlloc ∷ []) h =
-    stages_lacking p q (IceRestart keep) ops (λ app place. restart_adds app place ops) (channels_none (IceRestart keep) ops (told p.channels)) h
+    stages_lacking p q (IceRestart keep) ops (λ app place. restart_adds app place ops) h
   where
     restart_adds : (app : Option (List ℕ)) (place : ℕ) (ops : List Op) → added app place (IceRestart keep ∷ ops) (OpAlloc ∷ []) ≡ []
     restart_adds app place ops = added_none app place ops

@@ -5,7 +5,10 @@ use Rattle.rtc_history.specs.declared.side.Side.{Side}
 use Rattle.rtc_history.specs.Past.{Entry}
 use Rattle.rtc_history.specs.SoundEntry.{IsSoundEntry}
 use Rattle.rtc_history.specs.Fresh.{IsJustBuilt, IsFresh}
-use Rattle.rtc_history.specs.PairState.{PairState}
+use Rattle.rtc_history.specs.PairState.{PairState, peer_at}
+use Rattle.rtc_channels.specs.Channels.{no_channels}
+use Rattle.rtc_peer_state.specs.declared.peer.Peer.{Peer}
+use Rattle.rtc_peer_state.specs.ChannelRows.{channel_rows}
 use Rattle.rtc_history.specs.Runs.{Went, Reached, EntersSoundly}
 use Rattle.rtc_history_laws.proofs.StanceSteps.{PairStance, StanceEnters, pair_stance}
 use Rattle.rtc_history_laws.proofs.StandingSteps.{enters_stands}
@@ -14,6 +17,7 @@ use Rattle.rtc_history_laws.proofs.SoundPasts.{Sound}
 -- both sides were just built; no session description was made and no step performed
 pub record IsFreshStance (pair : PairStance) : Type 0 where
   pub built : (at : Side) → IsJustBuilt (pair.sides at)
+  pub rows : (at : Side) → (pair.sides at).rows ≡ []
   pub sdps : pair.sdps ≡ []
   pub size : pair.size ≡ 0
 
@@ -34,8 +38,12 @@ ran_sound start [] pair ran = tt
 ran_sound start (last ∷ past) pair ran = (record { between = ran.0.sides; after = pair.sides; sound = ran.2.1 }, ran_sound start past ran.0 ran.1)
 
 module _ {I D S M E X T W N : Type 0} (m : Meanings I D S M E X T W N) where
+  -- there are no rows of no channels
+  pub no_rows : (p : Peer I D S M N) → p.channels ≡ no_channels → channel_rows m.association p.sctp p.channels ≡ []
+  no_rows p none = ap (channel_rows m.association p.sctp) none
+
   pub fresh_stands : (pair : PairState I D S M N) → IsFresh m pair → IsFreshStance (pair_stance m pair)
-  fresh_stands pair fresh = record { built = fresh.built; sdps = fresh.sdps; size = fresh.size }
+  fresh_stands pair fresh = record { built = fresh.built; rows = λ at. no_rows (peer_at at pair) (fresh.built at).channels; sdps = fresh.sdps; size = fresh.size }
 
   pub reached_stands : (stun : List ℕ → Bool) → PartsLaws m → (start : PairState I D S M N) (past : List (Entry E)) (pair : PairState I D S M N) → Reached m stun start past pair → StanceReached (pair_stance m start) past (pair_stance m pair)
   reached_stands stun laws start [] pair reached = ap (pair_stance m) reached

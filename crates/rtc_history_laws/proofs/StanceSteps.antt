@@ -18,7 +18,6 @@ use Rattle.rtc_peer_state.proofs.StanceCalls.{
   StanceStagesRestart,
   StanceApplies,
 }
-use Rattle.rtc_channels.specs.Channels.{channel_rows}
 use Rattle.rtc_history.specs.declared.side.Side.{Side}
 use Rattle.rtc_history.specs.declared.op.Op.{Op}
 use Rattle.rtc_history.specs.declared.op.Op.TheVariants.{AddMedia, SetDirection, StopMedia, AddChannel, IceRestart}
@@ -30,17 +29,18 @@ use Rattle.rtc_history.specs.declared.op_answer.OpAnswer.TheVariants.{BadChannel
 use Rattle.rtc_history.specs.declared.made.Made.{Made}
 use Rattle.rtc_history.specs.declared.made.Made.TheVariants.{NotAsked, Nothing, Offer, Alloc as MadeAlloc}
 use Rattle.rtc_history.specs.declared.outcome.Outcome.{Outcome}
-use Rattle.rtc_history.specs.declared.outcome.Outcome.TheVariants.{Negotiated, Answered, Finished, Done, Polled, Refused, NoSuch, Alloc}
+use Rattle.rtc_history.specs.declared.outcome.Outcome.TheVariants.{Negotiated, Answered, Finished, Refused, NoSuch, Alloc}
 use Rattle.rtc_history.specs.declared.table.Table.{Table}
 use Rattle.rtc_history.specs.declared.kept.Kept.{Kept}
 use Rattle.rtc_history.specs.Memory.{answers_lack}
 use Rattle.rtc_history.specs.Sides.{side_of, other_side}
 use Rattle.rtc_history.specs.Sizes.{step_size}
-use Rattle.rtc_history.specs.Past.{Entry, MadeSdp}
+use Rattle.rtc_history.specs.Past.{Entry, MadeSdp, numbers_in}
 use Rattle.rtc_history.specs.Sound.{is_handled, is_heard, is_polled}
 use Rattle.rtc_history.specs.Views.{Stances}
 use Rattle.rtc_history.specs.PairState.{PairState, stances_of, kept_remote_sdp, held_token, spent}
 use Rattle.rtc_history.specs.Performs.{CallsLine, kept_offer, kept_answer, wanted, sdps_behind}
+use Rattle.rtc_history_laws.proofs.NumberedChannels.{AreNumbered}
 
 -- what negotiation reads of both sides, the SDPs of the pair, and its size
 pub record PairStance : Type 0 where
@@ -68,7 +68,7 @@ pub record StanceStays (old : Stance) (sdps : List Kept) (new : Stance) (sdps' :
 
 pub record StanceShows (table : Table) (s : Stance) : Type 0 where
   pub lines : table.lines ≡ s.lines
-  pub channels : table.channels ≡ channel_rows s.channels
+  pub channels : table.channels ≡ s.rows
 
 abbrev pub StancePerformsOps : Stance → List Op → List OpAnswer → Stance → Type 0
 StancePerformsOps p [] [] q = q ≡ p
@@ -143,16 +143,18 @@ StanceStepAcceptsAnswer t (Some token) (Some sdp) old sdps (Refused error) (Some
     × StanceShows table new
 StanceStepAcceptsAnswer t token answer old sdps outcome table new sdps' = ⊥
 
--- what is shown of a step that negotiates nothing: that memory ran out, or an outcome that it may have, and the table
-abbrev pub RestTold : {E : Type 0} → (Outcome E → Bool) → Outcome E → Option Table → Stance → Type 0
-RestTold may outcome None s = outcome ≡ Alloc
-RestTold may outcome (Some table) s = (may outcome ≡ true) × StanceShows table s
+-- what is shown of a step that negotiates nothing: that memory ran out and nothing changed, or an outcome that it may have, and the table
+abbrev pub RestTold : {E : Type 0} → (Outcome E → Bool) → Stance → Outcome E → Option Table → Stance → Type 0
+RestTold may old outcome None new = (outcome ≡ Alloc) × (new ≡ old)
+RestTold may old outcome (Some table) new = (may outcome ≡ true) × StanceShows table new
 
--- a step that negotiates nothing: an input, polls or a close
+-- a step that negotiates nothing, an input, polls or a close: it changes nothing but channels, and tells the numbers that it gives
 pub record StanceRests {E : Type 0} (may : Outcome E → Bool) (old : Stance) (sdps : List Kept) (outcome : Outcome E) (table : Option Table)
     (new : Stance) (sdps' : List Kept) : Type 0 where
-  pub stays : StanceStays old sdps new sdps'
-  pub told : RestTold may outcome table old
+  pub peer : new ≡ record old { channels = new.channels; rows = new.rows }
+  pub sdps_kept : sdps' ≡ sdps
+  pub numbered : AreNumbered (numbers_in outcome) old.channels new.channels
+  pub told : RestTold may old outcome table new
 
 abbrev pub StanceActs : {E : Type 0} → Step → Stance → List Kept → Outcome E → Option Table → Stance → List Kept → Type 0
 StanceActs (Negotiate at ops apply) old sdps outcome table new sdps' = StanceNegotiates at ops apply old sdps outcome table new sdps'

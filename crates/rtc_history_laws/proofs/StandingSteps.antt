@@ -21,7 +21,7 @@ use Rattle.rtc_polling.specs.declared.input.Input.TheVariants as given
 use Rattle.rtc_polling.specs.declared.polled_peer.PolledPeer.{PolledPeer}
 use Rattle.rtc_polling.specs.Closing.{ClosesPeer}
 use Rattle.rtc_polling.specs.Inputs.{HandlesInput}
-use Rattle.rtc_history_laws.proofs.StandingPolls.{shows_stands, calls_rest, hears_rest, polls_rest, input_stays, close_stays, once_stays, drains_stays}
+use Rattle.rtc_history_laws.proofs.StandingPolls.{shows_stands, calls_rest, hears_rest, polls_rest, input_moves, close_moves, once_moves, drains_moves}
 use Rattle.rtc_history.specs.declared.side.Side.{Side}
 use Rattle.rtc_history.specs.declared.op.Op.{Op}
 use Rattle.rtc_history.specs.declared.op.Op.TheVariants.{AddMedia, SetDirection, StopMedia, AddChannel, IceRestart}
@@ -33,7 +33,7 @@ use Rattle.rtc_history.specs.declared.op_answer.OpAnswer.TheVariants.{BadChannel
 use Rattle.rtc_history.specs.declared.made.Made.{Made}
 use Rattle.rtc_history.specs.declared.made.Made.TheVariants.{NotAsked, Nothing, Offer, Alloc as MadeAlloc}
 use Rattle.rtc_history.specs.declared.outcome.Outcome.{Outcome}
-use Rattle.rtc_history.specs.declared.outcome.Outcome.TheVariants.{Negotiated, Answered, Finished, Done, Polled, Refused, NoSuch, Alloc}
+use Rattle.rtc_history.specs.declared.outcome.Outcome.TheVariants.{Negotiated, Answered, Finished, Refused, NoSuch, Alloc}
 use Rattle.rtc_history.specs.declared.table.Table.{Table}
 use Rattle.rtc_history.specs.declared.kept.Kept.{Kept}
 use Rattle.rtc_history.specs.declared.sent_packet.SentPacket.{SentPacket}
@@ -41,8 +41,8 @@ use Rattle.rtc_history.specs.Memory.{answers_lack}
 use Rattle.rtc_history.specs.Sides.{side_of}
 use Rattle.rtc_history.specs.Past.{Entry}
 use Rattle.rtc_history.specs.PairState.{PairState, rtc_at, kept_remote_sdp, remote_packet, held_token}
-use Rattle.rtc_history.specs.Performs.{Stays, Shows, wanted, PerformsOps, MakesOf, Negotiates, StepAcceptsOffer, StepAcceptsAnswer, PollsOnce, Drains, Acts, Performs, Enters}
-use Rattle.rtc_history_laws.proofs.StanceSteps.{StanceStays, StanceShows, StancePerformsOps, StanceMakesOf, StanceNegotiates, StanceStepAcceptsOffer, StanceStepAcceptsAnswer, StanceActs, StancePerforms, StanceEnters, pair_stance}
+use Rattle.rtc_history.specs.Performs.{Stays, wanted, PerformsOps, MakesOf, Negotiates, StepAcceptsOffer, StepAcceptsAnswer, PollsOnce, DrainsPeer, Acts, Performs, Enters}
+use Rattle.rtc_history_laws.proofs.StanceSteps.{StanceStays, StancePerformsOps, StanceMakesOf, StanceNegotiates, StanceStepAcceptsOffer, StanceStepAcceptsAnswer, StanceActs, StancePerforms, StanceEnters, pair_stance}
 
 module _ {I D S M E X T W N : Type 0} (m : Meanings I D S M E X T W N) (laws : PartsLaws m) where
   stays_stands : (old new : Peer I D S M N) (sdps sdps' : List Kept) → Stays old sdps new sdps' → StanceStays (stance_of m old) sdps (stance_of m new) sdps'
@@ -129,15 +129,15 @@ module _ {I D S M E X T W N : Type 0} (m : Meanings I D S M E X T W N) (laws : P
   acts_stand stun (AcceptAnswer at t a) old sdps packets outcome table new sdps' packets' h =
       step_answer_stands t (held_token sdps at t) (kept_remote_sdp false sdps at a) old.core sdps outcome table new.core sdps' h.0
   acts_stand stun (Time at now) old sdps packets outcome table new sdps' packets' h =
-      calls_rest m laws (HandlesInput m (given.Timeout now)) (input_stays m laws (given.Timeout now)) old outcome table new sdps sdps' h.0 h.1
+      calls_rest m laws (HandlesInput m (given.Timeout now)) (input_moves m laws (given.Timeout now)) old outcome table new sdps sdps' h.0 h.1
   acts_stand stun (Datagram at packet now) old sdps packets outcome table new sdps' packets' h =
       hears_rest m laws stun (remote_packet packets at packet) now old outcome table new sdps sdps' h.0 h.1
   acts_stand stun (Poll at) old sdps packets outcome table new sdps' packets' h =
-      polls_rest m laws (PollsOnce m at old) old (λ before_it outputs end q after. once_stays m laws at old before_it outputs end q after) packets outcome table new packets' sdps sdps' h.0 h.1
+      polls_rest m laws (PollsOnce m at old) old (λ before_it outputs end q after. once_moves m laws at old before_it outputs end q after) packets outcome table new packets' sdps sdps' h.0 h.1
   acts_stand stun (Drain at) old sdps packets outcome table new sdps' packets' h =
-      polls_rest m laws (Drains m at old) old (λ before_it outputs end q after. drains_stays m laws at old before_it outputs end q after) packets outcome table new packets' sdps sdps' h.0 h.1
+      polls_rest m laws (DrainsPeer m at old) old (λ before_it outputs end q after. drains_moves m laws at old before_it outputs end q after) packets outcome table new packets' sdps sdps' h.0 h.1
   acts_stand stun (Close at) old sdps packets outcome table new sdps' packets' h =
-      calls_rest m laws (ClosesPeer m) (close_stays m laws) old outcome table new sdps sdps' h.0 h.1
+      calls_rest m laws (ClosesPeer m) (close_moves m laws) old outcome table new sdps sdps' h.0 h.1
 
   -- A step of a pair, as negotiation sees it.
   pub performs_stands : {stun : List ℕ → Bool} → (old : PairState I D S M N) (step : Step) (outcome : Outcome E) (table : Option Table) (new : PairState I D S M N)

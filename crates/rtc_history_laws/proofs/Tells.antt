@@ -3,17 +3,17 @@ use Rattle.std.proofs.Common.{◌≡◌, ◌≤◌, ◌<◌, ◌+◌, ◌^◌, �
 use Rattle.std.specs.Prelude.{slice_get, is_some}
 use Rattle.std.proofs.lemmas.Bool.{ne_eqb}
 use Rattle.rtc_change.specs.PendingOffer.{PendingOffer, added_mids, added_rows, staged_restart}
-use Rattle.rtc_channels.specs.Channels.{Channels, channel_rows, AreBelow}
+use Rattle.rtc_channels.specs.Channels.{AreBelow}
 use Rattle.rtc_peer_state.specs.Stance.{Stance}
 use Rattle.rtc_peer_state.specs.Calls.{raised}
 use Rattle.rtc_history.specs.declared.side.Side.{Side}
 use Rattle.rtc_history.specs.declared.side.Side.TheVariants.{Left, Right}
 use Rattle.rtc_history.specs.Sides.{same_side, other_side, side_of}
-use Rattle.rtc_history.specs.Past.{Entry, before, rows_or, sdps, spends, is_spent, is_offer_of, holds_token, moves, makes, is_right, added_by, channels_given, channels_shown, channel_rows_or, channels_after, restarts_by}
+use Rattle.rtc_history.specs.Past.{Entry, before, rows_or, sdps, spends, is_spent, is_offer_of, holds_token, moves, makes, is_right, added_by, channels_shown, channel_rows_or, numbers_told, numbers_or, restarts_by}
 use Rattle.rtc_history.specs.declared.kept.Kept.{Kept}
 use Rattle.rtc_history.specs.PairState.{made_sdp, token_for, held_token}
 use Rattle.rtc_history_laws.proofs.Bounds.{IsWithin}
-use Rattle.rtc_history_laws.proofs.ToldChannels.{told}
+use Rattle.rtc_history_laws.proofs.NumberedChannels.{AreLess}
 use Rattle.rtc_history_laws.proofs.StanceSteps.{PairStance}
 
 -- What a past says of the token of a number, at a side whose counter is this.
@@ -28,11 +28,12 @@ pub record TokenTells {E : Type 0} (past : List (Entry E)) (at : Side) (counter 
 abbrev pub Fits : Side → Stance → List Kept → ℕ → Type 0
 Fits at peer kept size = (t : ℕ) (token : PendingOffer) → held_token kept at t ≡ Some token → peer.counter ≡ raised token.id → length peer.lines + length (added_mids token.changes) ≤ size
 
--- What a past says of the channels of a side.
-pub record ChannelsTell {E : Type 0} (past : List (Entry E)) (at : Side) (held : Channels) : Type 0 where
-  pub given : told held ≡ channels_given at past
-  pub shown : channel_rows held ≡ channels_shown at past
-  pub below : AreBelow held.given held.rows
+-- What a past says of the channels of a side: their rows, and that its numbers were given and tell how many were given at most.
+pub record ChannelsTell {E : Type 0} (past : List (Entry E)) (at : Side) (s : Stance) : Type 0 where
+  pub shown : s.rows ≡ channels_shown at past
+  pub few : s.channels.given ≤ length (numbers_told at past)
+  pub below : AreBelow s.channels.given s.channels.rows
+  pub told : AreLess s.channels.given (numbers_told at past)
 
 -- What a past says of a side.
 pub record SideTells {E : Type 0} (past : List (Entry E)) (at : Side) (peer : Stance) (kept : List Kept) (size : ℕ) : Type 0 where
@@ -43,7 +44,7 @@ pub record SideTells {E : Type 0} (past : List (Entry E)) (at : Side) (peer : St
   -- no two tokens have one id
   pub one_each : (t u : ℕ) (token other : PendingOffer) → held_token kept at t ≡ Some token → held_token kept at u ≡ Some other → token.id ≡ other.id → t ≡ u
   pub fits : Fits at peer kept size
-  pub channels : ChannelsTell past at peer.channels
+  pub channels : ChannelsTell past at peer
 
 pub record Tells {E : Type 0} (past : List (Entry E)) (pair : PairStance) : Type 0 where
   pub sides : (at : Side) → SideTells past at (pair.sides at) pair.sdps pair.size
@@ -169,7 +170,7 @@ at_most_one false counter size size' low grows = omega arith
 pub side_next : {E : Type 0} → (moved : Bool) (past : List (Entry E)) (e : Entry E) (at : Side) (old new : Stance) (kept kept' : List Kept) (size size' : ℕ)
     → new.lines ≡ before at (e ∷ past) → new.counter ≡ cond moved (old.counter + 1) old.counter → size + 1 ≤ size' → length new.lines ≤ size'
     → HeldBefore at kept kept' → ((t : ℕ) → TokenTells (e ∷ past) at (cond moved (old.counter + 1) old.counter) t (slice_get kept' t))
-    → Fits at new kept' size' → ChannelsTell (e ∷ past) at new.channels → SideTells past at old kept size → SideTells (e ∷ past) at new kept' size'
+    → Fits at new kept' size' → ChannelsTell (e ∷ past) at new → SideTells past at old kept size → SideTells (e ∷ past) at new kept' size'
 side_next moved past e at old new kept kept' size size' rows counter grows few was tokens fits channels told_it = record {
   rows = rows;
   tokens = λ t. rw counter (tokens t);
@@ -181,12 +182,15 @@ side_next moved past e at old new kept kept' size size' rows counter grows few w
 }
 
 -- the channels of the side that does not act
-channels_stay : {E : Type 0} → (past : List (Entry E)) (e : Entry E) (at : Side) (held : Channels) → same_side (side_of e.step) at ≡ false → ChannelsTell past at held → ChannelsTell (e ∷ past) at held
-channels_stay past e at held another tell = record {
-  given = tell.given ∙ sym (ap (λ b. channels_after b e.step e.outcome (channels_given at past)) another);
-  shown = tell.shown ∙ sym (ap (λ b. channel_rows_or b e.table (channels_shown at past)) another);
-  below = tell.below;
-}
+channels_stay : {E : Type 0} → (past : List (Entry E)) (e : Entry E) (at : Side) (s : Stance) → same_side (side_of e.step) at ≡ false → ChannelsTell past at s → ChannelsTell (e ∷ past) at s
+channels_stay past e at s another tell =
+    let same : numbers_told at (e ∷ past) ≡ numbers_told at past = ap (λ b. numbers_or b e.outcome (numbers_told at past)) another in
+    record {
+      shown = tell.shown ∙ sym (ap (λ b. channel_rows_or b e.table (channels_shown at past)) another);
+      few = rw same tell.few;
+      below = tell.below;
+      told = rw same tell.told;
+    }
 
 -- the side that does not act
 pub side_stays : {E : Type 0} → (past : List (Entry E)) (e : Entry E) (at : Side) (peer : Stance) (kept kept' : List Kept) (size size' : ℕ)
@@ -195,4 +199,4 @@ pub side_stays : {E : Type 0} → (past : List (Entry E)) (e : Entry E) (at : Si
 side_stays past e at peer kept kept' size size' another grows was tokens told_it =
     let few : length peer.lines ≤ size = told_it.few in
     side_next false past e at peer peer kept kept' size size' (told_it.rows ∙ sym (ap (λ b. rows_or b e.table (before at past)) another)) refl grows (omega arith) was tokens
-    (fits_same past at peer peer kept kept' size size' refl refl (omega arith) was told_it) (channels_stay past e at peer.channels another told_it.channels) told_it
+    (fits_same past at peer peer kept kept' size size' refl refl (omega arith) was told_it) (channels_stay past e at peer another told_it.channels) told_it

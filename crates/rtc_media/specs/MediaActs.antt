@@ -23,19 +23,19 @@ module _ {M E X T W : Type 0} (m : MediaMeaning M E X T W) where
     Committed : m.committed p q → ChangesLines p q
     LineRemoved : (mid : List ℕ) → m.line_removed p mid q → ChangesLines p q
 
-  -- the calls that lend for writing, with what was left behind the reference
+  -- the calls that lend for writing, with what stood behind the reference as it was lent and what was left there
   pub data LendsMedia (p q : M) : Type 0 where
-    WriterLent : (mid : List ℕ) (w : W) → m.writer_lent p mid w q → LendsMedia p q
-    RxExpected : (ssrc : Ssrc) (rtx : Option Ssrc) (mid : List ℕ) (rid : Option (List ℕ)) (x : X)
-        → m.rx_expected p ssrc rtx mid rid x q → LendsMedia p q
-    TxDeclared : (ssrc : Ssrc) (rtx : Option Ssrc) (mid : List ℕ) (rid : Option (List ℕ)) (x : T)
-        → m.tx_declared p ssrc rtx mid rid x q → LendsMedia p q
-    RxLent : (ssrc : Ssrc) (x : X) → m.rx_lent p ssrc x q → LendsMedia p q
-    TxLent : (ssrc : Ssrc) (x : T) → m.tx_lent p ssrc x q → LendsMedia p q
-    RxNamedLent : (mid : List ℕ) (rid : Option (List ℕ)) (x : X) → m.rx_named_lent p mid rid x q → LendsMedia p q
-    TxNamedLent : (mid : List ℕ) (rid : Option (List ℕ)) (x : T) → m.tx_named_lent p mid rid x q → LendsMedia p q
-    TxReset : (mid : List ℕ) (rid : Option (List ℕ)) (ssrc : Ssrc) (rtx : Option Ssrc) (x : T)
-        → m.tx_reset p mid rid ssrc rtx x q → LendsMedia p q
+    WriterLent : (mid : List ℕ) (lent left : W) → m.writer_lent p mid lent left q → LendsMedia p q
+    RxExpected : (ssrc : Ssrc) (rtx : Option Ssrc) (mid : List ℕ) (rid : Option (List ℕ)) (lent left : X)
+        → m.rx_expected p ssrc rtx mid rid lent left q → LendsMedia p q
+    TxDeclared : (ssrc : Ssrc) (rtx : Option Ssrc) (mid : List ℕ) (rid : Option (List ℕ)) (lent left : T)
+        → m.tx_declared p ssrc rtx mid rid lent left q → LendsMedia p q
+    RxLent : (ssrc : Ssrc) (lent left : X) → m.rx_lent p ssrc lent left q → LendsMedia p q
+    TxLent : (ssrc : Ssrc) (lent left : T) → m.tx_lent p ssrc lent left q → LendsMedia p q
+    RxNamedLent : (mid : List ℕ) (rid : Option (List ℕ)) (lent left : X) → m.rx_named_lent p mid rid lent left q → LendsMedia p q
+    TxNamedLent : (mid : List ℕ) (rid : Option (List ℕ)) (lent left : T) → m.tx_named_lent p mid rid lent left q → LendsMedia p q
+    TxReset : (mid : List ℕ) (rid : Option (List ℕ)) (ssrc : Ssrc) (rtx : Option Ssrc) (lent left : T)
+        → m.tx_reset p mid rid ssrc rtx lent left q → LendsMedia p q
 
   -- the other calls with which nothing was given or taken, and that neither pass time nor shut down
   pub data StirsMedia (p q : M) : Type 0 where

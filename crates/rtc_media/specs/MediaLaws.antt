@@ -44,17 +44,33 @@ pub record MediaLaws {M E X T W : Type 0} (m : MediaMeaning M E X T W) : Type 0 
   -- a line changes by nothing else
   pub lines_stay : (p q : M) (act : MediaAct) (mid : List ℕ) → MediaActed m p act q → (m.line q mid ≡ m.line p mid) ⊎ ChangesLines m p q
   -- whatever is written through a reference, the lines stay; an ssrc is newly in use only by a stream that is made
-  pub writer_same : (p q : M) (mid : List ℕ) (w : W) → m.writer_lent p mid w q → SameLines m p q
-  pub rx_same : (p q : M) (ssrc : Ssrc) (x : X) → m.rx_lent p ssrc x q → SameLines m p q
-  pub tx_same : (p q : M) (ssrc : Ssrc) (x : T) → m.tx_lent p ssrc x q → SameLines m p q
-  pub rx_named_same : (p q : M) (mid : List ℕ) (rid : Option (List ℕ)) (x : X) → m.rx_named_lent p mid rid x q → SameLines m p q
-  pub tx_named_same : (p q : M) (mid : List ℕ) (rid : Option (List ℕ)) (x : T) → m.tx_named_lent p mid rid x q → SameLines m p q
-  pub rx_uses : (p q : M) (ssrc : Ssrc) (rtx : Option Ssrc) (mid : List ℕ) (rid : Option (List ℕ)) (x : X)
-      → m.rx_expected p ssrc rtx mid rid x q → UsesStream m p ssrc rtx q
-  pub tx_uses : (p q : M) (ssrc : Ssrc) (rtx : Option Ssrc) (mid : List ℕ) (rid : Option (List ℕ)) (x : T)
-      → m.tx_declared p ssrc rtx mid rid x q → UsesStream m p ssrc rtx q
-  pub reset_uses : (p q : M) (mid : List ℕ) (rid : Option (List ℕ)) (ssrc : Ssrc) (rtx : Option Ssrc) (x : T)
-      → m.resets_tx p mid rid ssrc rtx ≡ true → m.tx_reset p mid rid ssrc rtx x q → UsesStream m p ssrc rtx q
+  pub writer_same : (p q : M) (mid : List ℕ) (lent left : W) → m.writer_lent p mid lent left q → SameLines m p q
+  pub rx_same : (p q : M) (ssrc : Ssrc) (lent left : X) → m.rx_lent p ssrc lent left q → SameLines m p q
+  pub tx_same : (p q : M) (ssrc : Ssrc) (lent left : T) → m.tx_lent p ssrc lent left q → SameLines m p q
+  pub rx_named_same : (p q : M) (mid : List ℕ) (rid : Option (List ℕ)) (lent left : X) → m.rx_named_lent p mid rid lent left q
+      → SameLines m p q
+  pub tx_named_same : (p q : M) (mid : List ℕ) (rid : Option (List ℕ)) (lent left : T) → m.tx_named_lent p mid rid lent left q
+      → SameLines m p q
+  pub rx_uses : (p q : M) (ssrc : Ssrc) (rtx : Option Ssrc) (mid : List ℕ) (rid : Option (List ℕ)) (lent left : X)
+      → m.rx_expected p ssrc rtx mid rid lent left q → UsesStream m p ssrc rtx q
+  pub tx_uses : (p q : M) (ssrc : Ssrc) (rtx : Option Ssrc) (mid : List ℕ) (rid : Option (List ℕ)) (lent left : T)
+      → m.tx_declared p ssrc rtx mid rid lent left q → UsesStream m p ssrc rtx q
+  pub reset_uses : (p q : M) (mid : List ℕ) (rid : Option (List ℕ)) (ssrc : Ssrc) (rtx : Option Ssrc) (lent left : T)
+      → m.resets_tx p mid rid ssrc rtx ≡ true → m.tx_reset p mid rid ssrc rtx lent left q → UsesStream m p ssrc rtx q
+  -- a line has streams exactly where one of a layer of it is found
+  pub rx_of_line : (p : M) (mid : List ℕ) (rid : Option (List ℕ)) → m.has_rx_named p mid rid ≡ true → m.has_streams p mid ≡ true
+  pub tx_of_line : (p : M) (mid : List ℕ) (rid : Option (List ℕ)) → m.has_tx_named p mid rid ≡ true → m.has_streams p mid ≡ true
+  pub streams_found : (p : M) (mid : List ℕ) → m.has_streams p mid ≡ true
+      → (rid : Option (List ℕ)) × ((m.has_rx_named p mid rid ≡ true) ⊎ (m.has_tx_named p mid rid ≡ true))
+  -- where a stream is found by an ssrc, one is found by some line and layer; what is made is found by its ssrc and by its own
+  pub rx_named : (p : M) (ssrc : Ssrc) → m.has_rx p ssrc ≡ true
+      → (mid : List ℕ) × ((rid : Option (List ℕ)) × (m.has_rx_named p mid rid ≡ true))
+  pub tx_named : (p : M) (ssrc : Ssrc) → m.has_tx p ssrc ≡ true
+      → (mid : List ℕ) × ((rid : Option (List ℕ)) × (m.has_tx_named p mid rid ≡ true))
+  pub rx_made : (p q : M) (ssrc : Ssrc) (rtx : Option Ssrc) (mid : List ℕ) (rid : Option (List ℕ)) (lent left : X)
+      → m.rx_expected p ssrc rtx mid rid lent left q → (m.has_rx q ssrc ≡ true) × (m.has_rx_named q mid rid ≡ true)
+  pub tx_made : (p q : M) (ssrc : Ssrc) (rtx : Option Ssrc) (mid : List ℕ) (rid : Option (List ℕ)) (lent left : T)
+      → m.tx_declared p ssrc rtx mid rid lent left q → (m.has_tx q ssrc ≡ true) × (m.has_tx_named q mid rid ≡ true)
   -- a stream that is dropped is gone, and the answer says whether it was there
   pub rx_removal : (p q : M) (ssrc : Ssrc) (b : Bool) → m.rx_removed p ssrc b q → (b ≡ m.has_rx p ssrc) × (m.has_rx q ssrc ≡ false)
   pub tx_removal : (p q : M) (ssrc : Ssrc) (b : Bool) → m.tx_removed p ssrc b q → (b ≡ m.has_tx p ssrc) × (m.has_tx q ssrc ≡ false)

@@ -35,15 +35,15 @@ pub record MediaMeaning (M E X T W : Type 0) : Type 1 where
   pub pli_fed : M → (sender media : Ssrc) → Result (Unit {0}) AllocError → M → Type 0
   pub rx_removed : M → Ssrc → Bool → M → Type 0
   pub tx_removed : M → Ssrc → Bool → M → Type 0
-  -- what each call that lends leaves, with what was left behind the reference before the part after
-  pub writer_lent : M → (mid : List ℕ) → W → M → Type 0
-  pub rx_expected : M → Ssrc → (rtx : Option Ssrc) → (mid : List ℕ) → (rid : Option (List ℕ)) → X → M → Type 0
-  pub tx_declared : M → Ssrc → (rtx : Option Ssrc) → (mid : List ℕ) → (rid : Option (List ℕ)) → T → M → Type 0
-  pub rx_lent : M → Ssrc → X → M → Type 0
-  pub tx_lent : M → Ssrc → T → M → Type 0
-  pub rx_named_lent : M → (mid : List ℕ) → (rid : Option (List ℕ)) → X → M → Type 0
-  pub tx_named_lent : M → (mid : List ℕ) → (rid : Option (List ℕ)) → T → M → Type 0
-  pub tx_reset : M → (mid : List ℕ) → (rid : Option (List ℕ)) → Ssrc → (rtx : Option Ssrc) → T → M → Type 0
+  -- what each call that lends leaves: what stood behind the reference as it was lent, what was left there, and the part after
+  pub writer_lent : M → (mid : List ℕ) → (lent left : W) → M → Type 0
+  pub rx_expected : M → Ssrc → (rtx : Option Ssrc) → (mid : List ℕ) → (rid : Option (List ℕ)) → (lent left : X) → M → Type 0
+  pub tx_declared : M → Ssrc → (rtx : Option Ssrc) → (mid : List ℕ) → (rid : Option (List ℕ)) → (lent left : T) → M → Type 0
+  pub rx_lent : M → Ssrc → (lent left : X) → M → Type 0
+  pub tx_lent : M → Ssrc → (lent left : T) → M → Type 0
+  pub rx_named_lent : M → (mid : List ℕ) → (rid : Option (List ℕ)) → (lent left : X) → M → Type 0
+  pub tx_named_lent : M → (mid : List ℕ) → (rid : Option (List ℕ)) → (lent left : T) → M → Type 0
+  pub tx_reset : M → (mid : List ℕ) → (rid : Option (List ℕ)) → Ssrc → (rtx : Option Ssrc) → (lent left : T) → M → Type 0
   -- what the readings answer
   pub line : M → (mid : List ℕ) → Option MediaUpdate
   pub used : M → Ssrc → Bool

@@ -19,12 +19,13 @@ pub trait MediaSession {
     /// What sends on a line.
     type Writer;
 
-    ghost use Rattle.std.specs.Prelude.{◌≡◌, ◌↔◌, IfOk, IsNone, IsTrue, OnSome, is_some};
+    ghost use Rattle.std.specs.Prelude.{◌≡◌, ◌↔◌, IfOk, IfSome, IsNone, IsTrue, is_some};
     ghost use Rattle.std.specs.Option.{option_copied};
     ghost use Rattle.std.specs.Borrow.{LendsSo, LendsSoOk, sem};
     ghost use Rattle.rtc_media.specs.MediaMeaning.{MediaMeaning};
     ghost use Rattle.rtc_media.specs.MediaLaws.{MediaLaws};
     ghost use Rattle.rtc_media.specs.NoStream.{StreamAnswers};
+    ghost use Rattle.rtc_media.specs.StreamLends.{IfLent, LendsStream};
 
     ghost media: { MediaMeaning Self Self.E Self.Rx Self.Tx Self.Writer };
 
@@ -111,7 +112,7 @@ pub trait MediaSession {
     /// What sends on a line.
     fn writer(&mut self, mid: Mid) -> Option<&mut Self::Writer>
         ensures* leaves { sem 𝓛 (LendsSo Self.row Self.Writer.row self.entry result
-            (λ n w. OnSome result (media.writer_lent self.old mid w n)) (λ n. n ≡ self.old)) }
+            (λ n w. IfSome result (λ lent. media.writer_lent self.old mid lent.now w n)) (λ n. n ≡ self.old)) }
         ensures found { is_some result ≡ media.has_writer self.old mid };
 
     /// Switches redundancy (RFC 2198) of what a line sends on or off. False where the line has none.
@@ -144,7 +145,7 @@ pub trait MediaSession {
         rid: Option<Rid>,
     ) -> Result<&mut Self::Rx, NoStream>
         ensures* leaves { sem 𝓛 (LendsSoOk Self.row Self.Rx.row self.entry result
-            (λ n x. media.rx_expected self.old ssrc rtx mid rid x n) (λ n. n ≡ self.old)) }
+            (λ n x. IfOk result (λ lent. media.rx_expected self.old ssrc rtx mid rid lent.now x n)) (λ n. n ≡ self.old)) }
         ensures answer { StreamAnswers (media.declines_rx self.old ssrc rtx mid rid) result };
 
     /// Makes the stream of an ssrc to be sent, or replaces it, and lends it. The error says why there is none.
@@ -156,7 +157,7 @@ pub trait MediaSession {
         rid: Option<Rid>,
     ) -> Result<&mut Self::Tx, NoStream>
         ensures* leaves { sem 𝓛 (LendsSoOk Self.row Self.Tx.row self.entry result
-            (λ n x. media.tx_declared self.old ssrc rtx mid rid x n) (λ n. n ≡ self.old)) }
+            (λ n x. IfOk result (λ lent. media.tx_declared self.old ssrc rtx mid rid lent.now x n)) (λ n. n ≡ self.old)) }
         ensures answer { StreamAnswers (media.declines_tx self.old ssrc rtx mid rid) result };
 
     /// Drops the stream of an ssrc that is received. False where there is none.
@@ -170,25 +171,25 @@ pub trait MediaSession {
     /// The stream of an ssrc that is received.
     fn stream_rx(&mut self, ssrc: Ssrc) -> Option<&mut Self::Rx>
         ensures* leaves { sem 𝓛 (LendsSo Self.row Self.Rx.row self.entry result
-            (λ n x. OnSome result (media.rx_lent self.old ssrc x n)) (λ n. n ≡ self.old)) }
+            (λ n x. IfSome result (λ lent. media.rx_lent self.old ssrc lent.now x n)) (λ n. n ≡ self.old)) }
         ensures found { is_some result ≡ media.has_rx self.old ssrc };
 
     /// The stream of an ssrc that is sent.
     fn stream_tx(&mut self, ssrc: Ssrc) -> Option<&mut Self::Tx>
         ensures* leaves { sem 𝓛 (LendsSo Self.row Self.Tx.row self.entry result
-            (λ n x. OnSome result (media.tx_lent self.old ssrc x n)) (λ n. n ≡ self.old)) }
+            (λ n x. IfSome result (λ lent. media.tx_lent self.old ssrc lent.now x n)) (λ n. n ≡ self.old)) }
         ensures found { is_some result ≡ media.has_tx self.old ssrc };
 
     /// The stream of a line and a layer that is received.
     fn stream_rx_by_mid(&mut self, mid: Mid, rid: Option<Rid>) -> Option<&mut Self::Rx>
         ensures* leaves { sem 𝓛 (LendsSo Self.row Self.Rx.row self.entry result
-            (λ n x. OnSome result (media.rx_named_lent self.old mid rid x n)) (λ n. n ≡ self.old)) }
+            (λ n x. IfSome result (λ lent. media.rx_named_lent self.old mid rid lent.now x n)) (λ n. n ≡ self.old)) }
         ensures found { is_some result ≡ media.has_rx_named self.old mid rid };
 
     /// The stream of a line and a layer that is sent.
     fn stream_tx_by_mid(&mut self, mid: Mid, rid: Option<Rid>) -> Option<&mut Self::Tx>
         ensures* leaves { sem 𝓛 (LendsSo Self.row Self.Tx.row self.entry result
-            (λ n x. OnSome result (media.tx_named_lent self.old mid rid x n)) (λ n. n ≡ self.old)) }
+            (λ n x. IfSome result (λ lent. media.tx_named_lent self.old mid rid lent.now x n)) (λ n. n ≡ self.old)) }
         ensures found { is_some result ≡ media.has_tx_named self.old mid rid };
 
     /// Gives the stream of a line and a layer that is sent a new ssrc. None where there is no such stream, or where it
@@ -201,7 +202,7 @@ pub trait MediaSession {
         new_rtx: Option<Ssrc>,
     ) -> Option<&mut Self::Tx>
         ensures* leaves { sem 𝓛 (LendsSo Self.row Self.Tx.row self.entry result
-            (λ n x. OnSome result (media.tx_reset self.old mid rid new_ssrc new_rtx x n)) (λ n. n ≡ self.old)) }
+            (λ n x. IfSome result (λ lent. media.tx_reset self.old mid rid new_ssrc new_rtx lent.now x n)) (λ n. n ≡ self.old)) }
         ensures found { is_some result ≡ media.resets_tx self.old mid rid new_ssrc new_rtx };
 
     /// `make_stream_rx` with None where the part has no such stream.
@@ -212,7 +213,9 @@ pub trait MediaSession {
         mid: Mid,
         rid: Option<Rid>,
     ) -> Result<Option<&mut Self::Rx>, AllocError>
-        ensures { IfOk result (λ rx. IsNone rx ↔ IsTrue (media.declines_rx self.old ssrc rtx mid rid)) }
+        ensures* leaves { sem 𝓛 (LendsStream Self.row Self.Rx.row self.entry result
+            (λ n x. IfLent result (λ lent. media.rx_expected self.old ssrc rtx mid rid lent.now x n)) (λ n. n ≡ self.old)) }
+        ensures answer { IfOk result (λ rx. IsNone rx ↔ IsTrue (media.declines_rx self.old ssrc rtx mid rid)) }
     {
         answer_of(self.make_stream_rx(ssrc, rtx, mid, rid))
     }
@@ -225,7 +228,9 @@ pub trait MediaSession {
         mid: Mid,
         rid: Option<Rid>,
     ) -> Result<Option<&mut Self::Tx>, AllocError>
-        ensures { IfOk result (λ tx. IsNone tx ↔ IsTrue (media.declines_tx self.old ssrc rtx mid rid)) }
+        ensures* leaves { sem 𝓛 (LendsStream Self.row Self.Tx.row self.entry result
+            (λ n x. IfLent result (λ lent. media.tx_declared self.old ssrc rtx mid rid lent.now x n)) (λ n. n ≡ self.old)) }
+        ensures answer { IfOk result (λ tx. IsNone tx ↔ IsTrue (media.declines_tx self.old ssrc rtx mid rid)) }
     {
         answer_of(self.make_stream_tx(ssrc, rtx, mid, rid))
     }

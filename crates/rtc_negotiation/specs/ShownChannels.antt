@@ -1,7 +1,10 @@
--- The rows that tell of channels.
-use Rattle.std.specs.Prelude.{ℕ, false, Option}
+-- The rows that tell of channels, from their numbers with their streams.
+use Rattle.std.specs.Prelude.{ℕ, Option, None}
+use Rattle.rtc_association.specs.AssociationMeaning.{AssociationMeaning}
+use Rattle.rtc_sctp.specs.Streams.{SctpStreams}
 use Rattle.rtc_channels.specs.declared.channel_row.ChannelRow.{ChannelRow}
+use Rattle.rtc_peer_state.specs.ChannelRows.{channel_row}
 
--- the row of a channel's number with its stream; it is not open
-abbrev pub shown_row : ℕ × Option ℕ → ChannelRow
-shown_row row = record { id = row.0; stream = row.1; generation = 0; is_open = false }
+-- the row of a channel's number with its stream; the row of a channel tells nothing else of it
+abbrev pub numbered_row : {S : Type 0} → AssociationMeaning S → SctpStreams S → ℕ × Option ℕ → ChannelRow
+numbered_row m p row = channel_row m p (record { id = row.0; stream = row.1; negotiated = None; config = None })

@@ -3,10 +3,13 @@
 //! The crate passes on all that its callers name, so that a program lists `rtc_peer`, `rtc_wire` and a crate with a source of numbers.
 #![tactic(auto)]
 
+mod channel;
+mod open_channels;
 mod polls;
 mod rtc;
 mod sdp_api;
 
+pub use channel::Channel;
 pub use rtc::Rtc;
 pub use rtc_association::Association;
 pub use rtc_change::{AddMedia, Change, Changes, Lines, NewLine, SdpPendingOffer, Why};

@@ -59,8 +59,9 @@ impl<I: IceAgent, D: DtlsInstance, S: Association, M: MediaSession, N: Ids> Rtc<
         self.polled.handle_input(input)
     }
 
-    /// Begins to close the peer, which polls then bring to its end: media says goodbye (RFC 3550, section 6.6), and the DTLS
-    /// connection is closed (RFC 5246, section 7.2.1). Nothing happens where this has begun. An error leaves the peer closed.
+    /// Begins to close the peer, which polls then bring to its end: media says goodbye (RFC 3550, section 6.6), the association
+    /// is shut down (RFC 9260, section 9.2), and the DTLS connection is closed (RFC 5246, section 7.2.1). Nothing happens where
+    /// this has begun. An error leaves the peer closed.
     pub fn close(&mut self) -> Result<(), RtcError>
         ensures { ClosesPeer (meanings I.ice D.dtls S.association M.media N.ids) self.old result self.new }
     {

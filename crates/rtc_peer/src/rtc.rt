@@ -1,9 +1,9 @@
 //! The peer that callers hold.
 ghost use Rattle.std.specs.Prelude.{◌≡◌, ◌≢◌, IsTrue, ◌↔◌, [], IfOk, IfSome, slice_get, true};
 ghost use Rattle.std.specs.Option.{option_copied};
-ghost use Rattle.rtc_channels.specs.Channels.{channel_rows};
 ghost use Rattle.rtc_peer_state.specs.declared.phase.Phase.TheVariants.{Closed};
 ghost use Rattle.rtc_peer_state.specs.Acceptances.{AcceptsOffer, AcceptsAnswer};
+ghost use Rattle.rtc_peer_state.specs.ChannelRows.{channel_rows};
 ghost use Rattle.rtc_peer_state.specs.Calls.{AddsMedia, AddsChannel, StagesRestart, SetsDirection, StopsMedia, Applies};
 ghost use Rattle.rtc_peer_state.specs.Built.{AreFresh, Builds};
 ghost use Rattle.rtc_peer_state.specs.Formed.{AreSdpCreds, IsFormed};
@@ -133,14 +133,14 @@ impl<I: IceAgent, D: DtlsInstance, S: Association, M: MediaSession, N: Ids> Rtc<
 
     /// The rows of the data channels, in order of their numbers.
     pub fn channels(&self) -> Result<Seq<ChannelRow>, AllocError>
-        ensures { IfOk result (λ rows. rows ≡ channel_rows self.now.core.channels) }
+        ensures { IfOk result (λ rows. rows ≡ channel_rows S.association self.now.core.sctp self.now.core.channels) }
     {
         list_channels(&self.polled.core)
     }
 
     /// The row of the data channel at a place of `channels`, from 0.
     pub fn channel_row(&self, k: usize) -> Option<ChannelRow>
-        ensures { result ≡ slice_get (channel_rows self.now.core.channels) k }
+        ensures { result ≡ slice_get (channel_rows S.association self.now.core.sctp self.now.core.channels) k }
     {
         show_channel(&self.polled.core, k)
     }

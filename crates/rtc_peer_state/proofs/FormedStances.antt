@@ -15,6 +15,7 @@ use Rattle.rtc_change.specs.declared.refusal.Refusal.{Refusal}
 use Rattle.rtc_change.specs.declared.refusal.Refusal.TheVariants.{RemoteSdp as RefusedSdp, Sdp as RefusedText}
 use Rattle.rtc_change.specs.Held.{Asked}
 use Rattle.rtc_channels.specs.Channels.{Channels, with_channel, all_confirmed}
+use Rattle.rtc_channels.specs.declared.channel_row.ChannelRow.{ChannelRow}
 use Rattle.rtc_change.specs.declared.change.Change.TheVariants.{AddMedia, AddApp, AddChannel, Direction as SetDirection, IceRestart}
 use Rattle.rtc_change.specs.PendingOffer.{PendingOffer, added_mids, restart_of, staged_restart}
 use Rattle.rtc_change.proofs.AddedLemmas.{added_mids-append}
@@ -71,10 +72,9 @@ lent_formed s formed = record {
   restarts = tt;
 }
 
--- with another counter, and other channels
-counted_formed : (s : Stance) (counter : ℕ) (channels : Channels) → IsFormed s
-    → IsFormed (record s { counter = counter; channels = channels })
-counted_formed s counter channels formed = record {
+-- with another counter, and other channels with their rows
+counted_formed : (s : Stance) (counter : ℕ) (channels : Channels) (rows : List ChannelRow) → IsFormed s → IsFormed (record s { counter = counter; channels = channels; rows = rows })
+counted_formed s counter channels rows formed = record {
   session = formed.session;
   creds = formed.creds;
   candidates = formed.candidates;
@@ -126,7 +126,7 @@ adds_channel_formed s config (Ok id) t adds formed =
     let tokens : AddTokens more = channel_tokens s needed adds.app id config adds.app_for in
     let restarts : RestartWords more = channel_restarts s needed adds.app id config adds.app_for in
     rw adds.rest (counted_formed (record s { staged = s.staged ++ more }) s.counter (with_channel s.channels config)
-    (staged_formed s more tokens restarts formed))
+    (s.rows ++ record { id = id; stream = None; generation = 0; is_open = false } ∷ []) (staged_formed s more tokens restarts formed))
 adds_channel_formed s config (Err BadChannel) t adds formed = rw adds.1 formed
 adds_channel_formed s config (Err Alloc) t adds formed = rw adds formed
 adds_channel_formed s config (Err (RemoteSdp why)) t adds formed = absurd adds
@@ -202,13 +202,13 @@ alone_formed : (s : Stance) (changes : List Change) → IsFormed s → IsFormed 
 alone_formed s [] formed = formed
 alone_formed s (change ∷ changes) formed =
     counted_formed (record s { staged = [] }) (raised s.counter) (all_confirmed (fitting_channels (change ∷ changes)) s.channels)
-    (lent_formed s formed)
+    s.rows (lent_formed s formed)
 
 pub applies_formed : (s : Stance) (result : Result (Option (Sdp × PendingOffer)) AllocError) (t : Stance) → StanceApplies s result t
     → IsFormed s → IsFormed t
 applies_formed s (Ok None) t applies formed = rw applies.1 (alone_formed s s.staged formed)
 applies_formed s (Ok (Some made)) t applies formed =
-    rw applies.3 (counted_formed (record s { staged = [] }) (raised s.counter) s.channels (lent_formed s formed))
+    rw applies.3 (counted_formed (record s { staged = [] }) (raised s.counter) s.channels s.rows (lent_formed s formed))
 applies_formed s (Err error) t applies formed = rw applies formed
 
 -- the restart of an offer has credentials that are tokens
@@ -252,13 +252,13 @@ broken_formed s restart counter t breaks tokens formed = record {
 
 refused_formed : (s : Stance) (asked : Option Asked) (sdp : Sdp) (why : Refusal) (t : Stance) → StanceRefuses s asked sdp why t
     → IsFormed s → IsFormed t
-refused_formed s asked sdp why t refuses formed = rw refuses.1 (counted_formed s (counter_after asked s.counter) s.channels formed)
+refused_formed s asked sdp why t refuses formed = rw refuses.1 (counted_formed s (counter_after asked s.counter) s.channels s.rows formed)
 
 -- An offer whose mids are short tokens is accepted or refused.
 pub offered_formed : (s : Stance) (offer : Sdp) (result : Result Sdp RtcError) (t : Stance) → StanceAcceptsOffer s offer result t
     → NameTokens (parsed_lines offer) → IsFormed s → IsFormed t
 offered_formed s offer (Ok answer) t accepts names formed =
-    rw accepts.rest (counted_formed (followed_by s accepts.restart offer true) (raised s.counter) s.channels
+    rw accepts.rest (counted_formed (followed_by s accepts.restart offer true) (raised s.counter) s.channels s.rows
     (followed_formed s accepts.restart offer true accepts.followed.tokens names formed))
 offered_formed s offer (Err (RemoteSdp why)) t accepts names formed = refused_formed s None offer (RefusedSdp why) t accepts formed
 offered_formed s offer (Err (SdpRefused error)) t accepts names formed = refused_formed s None offer (RefusedText error) t accepts formed
@@ -280,7 +280,7 @@ pub answered_formed : (s : Stance) (token : PendingOffer) (answer : Sdp) (result
     → StanceAcceptsAnswer s token answer result t → RestartWords token.changes → NameTokens (parsed_lines answer) → IsFormed s → IsFormed t
 answered_formed s token answer (Ok done) t accepts restarts names formed =
     rw accepts.rest (counted_formed (followed_by s (staged_restart token.changes) answer false) s.counter
-    (all_confirmed (fitting_channels token.changes) s.channels)
+    (all_confirmed (fitting_channels token.changes) s.channels) s.rows
     (followed_formed s (staged_restart token.changes) answer false (restart_words token.changes restarts) names formed))
 answered_formed s token answer (Err (Net cause)) t accepts restarts names formed = absurd accepts
 answered_formed s token answer (Err (MediaFailed cause)) t accepts restarts names formed = absurd accepts

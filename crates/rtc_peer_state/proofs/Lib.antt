@@ -5,6 +5,7 @@ pub mod BuiltPeers
 pub mod TokenTables
 pub mod StagedLemmas
 pub mod StanceCalls
+pub mod ChannelRowLemmas
 pub mod PartMovesLemmas
 pub mod StanceLemmas
 pub mod StoppedPeers

@@ -1,19 +1,26 @@
 -- Each acceptance by a peer is one by its stance, whatever its parts are.
-use Rattle.std.proofs.Common.{◌≡◌, ◌∙◌, ℕ, Bool, true, false, Option, Some, None, Result, Ok, Err, refl, ap}
+use Rattle.std.proofs.Common.{◌≡◌, ◌∙◌, ◌⊎◌, inl, inr, ℕ, Bool, List, true, false, Option, Some, None, Result, Ok, Err, refl, ap}
 use Rattle.std.specs.Prelude.{is_some, IfSome}
-use Rattle.rtc_sdp_values.specs.Sdp.{creds_of, sdp_setup}
+use Rattle.rtc_sdp_values.specs.Sdp.{creds_of, sdp_setup, max_message_size_of}
 use Rattle.rtc_sdp_values.specs.declared.fingerprint.Fingerprint.{Fingerprint}
 use Rattle.rtc_sdp_values.specs.declared.ice_creds.IceCreds.{IceCreds}
 use Rattle.rtc_sdp_values.specs.declared.sdp.Sdp.{Sdp}
 use Rattle.rtc_ids.specs.Draws.{Draws}
 use Rattle.rtc_ice.specs.IceMeaning.{IceSettings}
+use Rattle.rtc_sctp.specs.Streams.{SctpStreams}
+use Rattle.rtc_sctp.specs.declared.proto_error.ProtoError.TheVariants.{Fault as AssociationFault}
+use Rattle.rtc_sctp.specs.declared.sctp_error.SctpError.{SctpError}
+use Rattle.rtc_sctp.specs.declared.sctp_error.SctpError.TheVariants.{Proto}
 use Rattle.rtc_channels.specs.Channels.{Channels, all_confirmed}
+use Rattle.rtc_channels.specs.declared.channel_row.ChannelRow.{ChannelRow}
 use Rattle.rtc_dtls.specs.declared.dtls_error.DtlsError.TheVariants.{WouldBlock, Fault, Alloc as DtlsAlloc}
 use Rattle.rtc_change.specs.declared.refusal.Refusal.{Refusal}
 use Rattle.rtc_change.specs.declared.refusal.Refusal.TheVariants.{RemoteSdp as RefusedSdp, Sdp as RefusedText}
 use Rattle.rtc_change.specs.Held.{Asked}
+use Rattle.rtc_tables.specs.ParsedLines.{parsed_lines}
 use Rattle.rtc_change.specs.PendingOffer.{PendingOffer, staged_restart}
-use Rattle.rtc_change.specs.Plans.{no_credentials, asked_by, is_restart}
+use Rattle.rtc_change.specs.Plans.{no_credentials, asked_by, is_restart, is_offer}
+use Rattle.rtc_change.specs.TableAfter.{table_after}
 use Rattle.rtc_change.proofs.VerdictLemmas.{unrefused}
 use Rattle.rtc_peer_state.specs.declared.peer.Peer.{Peer}
 use Rattle.rtc_peer_state.specs.declared.rtc_error.RtcError.{RtcError}
@@ -43,15 +50,20 @@ use Rattle.rtc_peer_state.specs.Acceptances.{
   followed_restart,
 }
 use Rattle.rtc_peer_state.specs.Calls.{raised, fitting_channels}
+use Rattle.rtc_peer_state.specs.ChannelRows.{channel_rows}
 use Rattle.rtc_peer_state.specs.Creds.{new_creds}
 use Rattle.rtc_peer_state.specs.Formed.{AreSdpCreds}
+use Rattle.rtc_peer_state.specs.MadeSdp.{role_after}
 use Rattle.rtc_peer_state.specs.Meanings.{Meanings, PartsLaws}
+use Rattle.rtc_peer_state.specs.PartMoves.{remote_limit}
+use Rattle.rtc_peer_state.specs.SdpMoves.{StartsBySdp}
 use Rattle.rtc_peer_state.specs.Stance.{Stance, stance_of, held_by}
 use Rattle.rtc_peer_state.proofs.BuiltPeers.{drawn_creds_words}
 use Rattle.rtc_peer_state.proofs.StanceLemmas.{parts_stand}
 use Rattle.rtc_peer_state.proofs.PartMovesLemmas.{AreLeft, restarted_by, followed_settings, told_creds, left_after}
 use Rattle.rtc_peer_state.proofs.PartMovesLemmas.{role_taken, start_keeps_local}
-use Rattle.rtc_peer_state.proofs.StoppedPeers.{stopped_ice, stopped_local}
+use Rattle.rtc_peer_state.proofs.StoppedPeers.{stopped_ice, stopped_local, stopped_sctp}
+use Rattle.rtc_peer_state.proofs.ChannelRowLemmas.{confirmed_rows, started_rows}
 use Rattle.rtc_peer_state.proofs.StanceCalls.{StanceRefuses, StanceAcceptsOffer, StanceAcceptsAnswer, StandsOffer, StandsAnswer}
 use Rattle.rtc_peer_state.proofs.StanceCalls.{BreaksOffer, Breaks, IsFollowed, followed_by}
 
@@ -88,16 +100,31 @@ followed_stands m p offer =
 
 -- what is left where a part failed or memory lacked
 breaks_by : (s : Stance) (restart : Option (IceCreds × Bool)) (counter : ℕ) (ice : IceSettings) (own : Fingerprint) (role : Option Bool)
-    (t : Stance)
-    → t ≡ record s { counter = counter; ice = ice; own_fingerprint = own; role = role } → own ≡ s.own_fingerprint
-    → AreLeft s.ice restart ice
+    (rows : List ChannelRow) (t : Stance)
+    → t ≡ record s { counter = counter; ice = ice; own_fingerprint = own; role = role; rows = rows } → own ≡ s.own_fingerprint
+    → rows ≡ s.rows → AreLeft s.ice restart ice
     → Breaks s restart counter t
-breaks_by s restart counter ice own role t is same left = rw (is, same) (record {
+breaks_by s restart counter ice own role rows t is same shown left = rw (is, same, shown) (record {
   lite = left.lite;
   local = left.local;
   candidates = left.candidates;
   rest = refl;
 })
+
+-- a start by a session description, Ok or refused, leaves the rows of the channels
+by_sdp_rows : {I D S M E X T W N : Type 0} (m : Meanings I D S M E X T W N) → PartsLaws m → (p : Peer I D S M N) (offers : Bool) (sdp : Sdp)
+    (r : Result (Unit {0}) SctpError) (s : SctpStreams S) (held : Channels) → StartsBySdp m p offers sdp r s
+    → channel_rows m.association s held ≡ channel_rows m.association p.sctp held
+by_sdp_rows m laws p offers sdp r s held h =
+    started_rows m.association laws.association p.sctp s (table_after p.lines (parsed_lines sdp) offers)
+    (role_after p.dtls.active (sdp_setup sdp)) p.greatest (remote_limit (max_message_size_of sdp)) r held h
+
+-- and so does an acceptance that stopped
+stopped_rows : {I D S M E X T W N : Type 0} (m : Meanings I D S M E X T W N) → PartsLaws m → (p : Peer I D S M N) (offers : Bool) (sdp : Sdp)
+    (s : SctpStreams S) (held : Channels) → (s ≡ p.sctp) ⊎ ((r : Result (Unit {0}) SctpError) × StartsBySdp m p offers sdp r s)
+    → channel_rows m.association s held ≡ channel_rows m.association p.sctp held
+stopped_rows {I} {D} {S} m laws p offers sdp s held (inl same) = ap (λ (x : SctpStreams S). channel_rows m.association x held) same
+stopped_rows m laws p offers sdp s held (inr starts) = by_sdp_rows m laws p offers sdp starts.0 s held starts.1
 
 accepted_offer_stands : {I D S M E X T W N : Type 0} (m : Meanings I D S M E X T W N) → PartsLaws m
     → (p : Peer I D S M N) (offer answer : Sdp)
@@ -111,11 +138,12 @@ accepted_offer_stands m laws p offer answer q h =
       followed = followed_stands m p offer;
       answered = h.answered;
       rest = ap (stance_of m) h.rest
-          ∙ parts_stand (record (followed_by s (followed_restart m p offer) offer true) { counter = raised p.counter }) _ _ _ _ _ _
+          ∙ parts_stand (record (followed_by s (followed_restart m p offer) offer true) { counter = raised p.counter }) _ _ _ _ _ _ _ _
           (followed_settings m.ice laws.ice p.ice q.ice _ _ _ _ h.ice_follows
           ∙ told_creds (creds_of offer) (restarted_by (followed_restart m p offer) s.ice) there)
           (start_keeps_local m.dtls p.dtls q.dtls _ _ _ _ h.dtls_starts)
-          (role_taken m.dtls p.dtls q.dtls p.dtls.active (sdp_setup offer) p.greatest (Ok tt) refl h.dtls_starts);
+          (role_taken m.dtls p.dtls q.dtls p.dtls.active (sdp_setup offer) p.greatest (Ok tt) refl h.dtls_starts)
+          (by_sdp_rows m laws p true offer (Ok tt) q.sctp p.channels h.sctp_starts);
     }
 
 faulted_offer_stands : {I D S M E X T W N : Type 0} (m : Meanings I D S M E X T W N) → PartsLaws m → (p : Peer I D S M N) (offer : Sdp)
@@ -124,8 +152,8 @@ faulted_offer_stands m laws p offer q h = record {
   restart = followed_restart m p offer;
   followed = followed_stands m p offer;
   breaks = breaks_by (stance_of m p) (followed_restart m p offer) (raised p.counter) (m.ice.settings q.ice) q.dtls.local q.dtls.active
-      (stance_of m q)
-      (ap (stance_of m) h.rest) (start_keeps_local m.dtls p.dtls q.dtls _ _ _ _ h.dtls_fails)
+      (channel_rows m.association p.sctp p.channels) (stance_of m q)
+      (ap (stance_of m) h.rest) (start_keeps_local m.dtls p.dtls q.dtls _ _ _ _ h.dtls_fails) refl
       (left_after m.ice laws.ice p.ice q.ice _ _ _ _ h.ice_follows);
 }
 
@@ -135,8 +163,9 @@ unstarted_offer_stands m laws p offer q h = record {
   restart = followed_restart m p offer;
   followed = followed_stands m p offer;
   breaks = breaks_by (stance_of m p) (followed_restart m p offer) (raised p.counter) (m.ice.settings q.ice) q.dtls.local q.dtls.active
-      (stance_of m q)
+      (channel_rows m.association q.sctp p.channels) (stance_of m q)
       (ap (stance_of m) h.rest) (start_keeps_local m.dtls p.dtls q.dtls _ _ _ _ h.dtls_starts)
+      (by_sdp_rows m laws p true offer (Err (Proto AssociationFault)) q.sctp p.channels h.sctp_fails)
       (left_after m.ice laws.ice p.ice q.ice _ _ _ _ h.ice_follows);
 }
 
@@ -146,8 +175,10 @@ stopped_offer_stands m laws p offer q h = record {
   restart = followed_restart m p offer;
   followed = followed_stands m p offer;
   breaks = breaks_by (stance_of m p) (followed_restart m p offer) (raised p.counter) (m.ice.settings q.ice) q.dtls.local q.dtls.active
-      (stance_of m q)
+      (channel_rows m.association q.sctp p.channels) (stance_of m q)
       (ap (stance_of m) h.rest) (stopped_local m (record p { counter = raised p.counter }) _ _ _ _ _ _ q h.stops)
+      (stopped_rows m laws (record p { counter = raised p.counter }) (is_offer None) offer q.sctp p.channels
+      (stopped_sctp m (record p { counter = raised p.counter }) _ _ _ _ _ _ q h.stops))
       (stopped_ice m laws.ice (record p { counter = raised p.counter }) _ _ _ _ _ _ q h.stops);
 }
 
@@ -178,11 +209,13 @@ accepted_answer_stands m laws p token answer q h =
       right = h.right;
       passes = h.passes;
       rest = ap (stance_of m) h.rest
-          ∙ parts_stand (record (followed_by s (staged_restart token.changes) answer false) { channels = confirmed }) _ _ _ _ _ _
+          ∙ parts_stand (record (followed_by s (staged_restart token.changes) answer false) { channels = confirmed }) _ _ _ _ _ _ _ _
           (followed_settings m.ice laws.ice p.ice q.ice _ _ _ _ h.ice_follows
           ∙ told_creds (creds_of answer) (restarted_by (staged_restart token.changes) s.ice) there)
           (start_keeps_local m.dtls p.dtls q.dtls _ _ _ _ h.dtls_starts)
-          (role_taken m.dtls p.dtls q.dtls p.dtls.active (sdp_setup answer) p.greatest (Ok tt) refl h.dtls_starts);
+          (role_taken m.dtls p.dtls q.dtls p.dtls.active (sdp_setup answer) p.greatest (Ok tt) refl h.dtls_starts)
+          (by_sdp_rows m laws p false answer (Ok tt) q.sctp confirmed h.sctp_starts
+          ∙ confirmed_rows m.association p.sctp (fitting_channels token.changes) p.channels);
     }
 
 faulted_answer_stands : {I D S M E X T W N : Type 0} (m : Meanings I D S M E X T W N) → PartsLaws m
@@ -190,8 +223,9 @@ faulted_answer_stands : {I D S M E X T W N : Type 0} (m : Meanings I D S M E X T
     (answer : Sdp) (q : Peer I D S M N) → AnswerFaulted m p token answer q
     → Breaks (stance_of m p) (staged_restart token.changes) p.counter (stance_of m q)
 faulted_answer_stands m laws p token answer q h =
-    breaks_by (stance_of m p) (staged_restart token.changes) p.counter (m.ice.settings q.ice) q.dtls.local q.dtls.active (stance_of m q)
-    (ap (stance_of m) h.rest) (start_keeps_local m.dtls p.dtls q.dtls _ _ _ _ h.dtls_fails)
+    breaks_by (stance_of m p) (staged_restart token.changes) p.counter (m.ice.settings q.ice) q.dtls.local q.dtls.active
+    (channel_rows m.association p.sctp p.channels) (stance_of m q)
+    (ap (stance_of m) h.rest) (start_keeps_local m.dtls p.dtls q.dtls _ _ _ _ h.dtls_fails) refl
     (left_after m.ice laws.ice p.ice q.ice _ _ _ _ h.ice_follows)
 
 unstarted_answer_stands : {I D S M E X T W N : Type 0} (m : Meanings I D S M E X T W N) → PartsLaws m
@@ -199,8 +233,10 @@ unstarted_answer_stands : {I D S M E X T W N : Type 0} (m : Meanings I D S M E X
     (answer : Sdp) (q : Peer I D S M N) → AnswerUnstarted m p token answer q
     → Breaks (stance_of m p) (staged_restart token.changes) p.counter (stance_of m q)
 unstarted_answer_stands m laws p token answer q h =
-    breaks_by (stance_of m p) (staged_restart token.changes) p.counter (m.ice.settings q.ice) q.dtls.local q.dtls.active (stance_of m q)
+    breaks_by (stance_of m p) (staged_restart token.changes) p.counter (m.ice.settings q.ice) q.dtls.local q.dtls.active
+    (channel_rows m.association q.sctp p.channels) (stance_of m q)
     (ap (stance_of m) h.rest) (start_keeps_local m.dtls p.dtls q.dtls _ _ _ _ h.dtls_starts)
+    (by_sdp_rows m laws p false answer (Err (Proto AssociationFault)) q.sctp p.channels h.sctp_fails)
     (left_after m.ice laws.ice p.ice q.ice _ _ _ _ h.ice_follows)
 
 stopped_answer_stands : {I D S M E X T W N : Type 0} (m : Meanings I D S M E X T W N) → PartsLaws m
@@ -208,8 +244,10 @@ stopped_answer_stands : {I D S M E X T W N : Type 0} (m : Meanings I D S M E X T
     (answer : Sdp) (q : Peer I D S M N) → AnswerStopped m p token answer q
     → Breaks (stance_of m p) (staged_restart token.changes) p.counter (stance_of m q)
 stopped_answer_stands m laws p token answer q h =
-    breaks_by (stance_of m p) (staged_restart token.changes) p.counter (m.ice.settings q.ice) q.dtls.local q.dtls.active (stance_of m q)
+    breaks_by (stance_of m p) (staged_restart token.changes) p.counter (m.ice.settings q.ice) q.dtls.local q.dtls.active
+    (channel_rows m.association q.sctp p.channels) (stance_of m q)
     (ap (stance_of m) h.rest) (stopped_local m p _ _ _ _ _ _ q h.stops)
+    (stopped_rows m laws p (is_offer (Some (asked_by p.lines token))) answer q.sctp p.channels (stopped_sctp m p _ _ _ _ _ _ q h.stops))
     (stopped_ice m laws.ice p _ _ _ _ _ _ q h.stops)
 
 pub accepts_answer_stands : {I D S M E X T W N : Type 0} (m : Meanings I D S M E X T W N) → PartsLaws m

@@ -100,7 +100,7 @@ abbrev pub IsAppFor : Stance → Bool → List Change → Type 0
 IsAppFor s true app = (mid : List ℕ) × (app ≡ AddApp mid ∷ []) × IsFreeMid s mid
 IsAppFor s false app = app ≡ []
 
--- a channel of this number is staged
+-- a channel of this number is staged, and waits for a stream
 pub record StandsChannel (s : Stance) (config : ChannelConfig) (id : ℕ) (t : Stance) : Type 0 where
   pub good : is_bad_channel s.channels config ≡ false
   pub number : id ≡ s.channels.given
@@ -108,6 +108,7 @@ pub record StandsChannel (s : Stance) (config : ChannelConfig) (id : ℕ) (t : S
   pub app_for : IsAppFor s (lacks_app s.lines s.staged) app
   pub rest : t ≡ record s {
     channels = with_channel s.channels config;
+    rows = s.rows ++ record { id = id; stream = None; generation = 0; is_open = false } ∷ [];
     staged = s.staged ++ (app ++ AddChannel id config ∷ []);
   }
 

@@ -1,5 +1,5 @@
 -- Each call of a peer is one of its stance, whatever its parts are.
-use Rattle.std.proofs.Common.{◌≡◌, ◌∙◌, ◌+◌, ◌%◌, ◌^◌, ℕ, Bool, true, false, List, [], ◌∷◌, length, Option, Some, None, Result, Ok, Err}
+use Rattle.std.proofs.Common.{◌≡◌, ◌∙◌, ◌+◌, ◌%◌, ◌^◌, ◌++◌, ℕ, Bool, true, false, List, [], ◌∷◌, length, Option, Some, None, Result, Ok, Err}
 use Rattle.std.proofs.Common.{refl, sym, ap, arith}
 use Rattle.std.specs.declared.alloc.AllocError.{AllocError}
 use Rattle.rtc_wire.specs.declared.channel_config.ChannelConfig.{ChannelConfig}
@@ -9,7 +9,10 @@ use Rattle.rtc_sdp_values.specs.declared.fingerprint.Fingerprint.{Fingerprint}
 use Rattle.rtc_sdp_values.specs.declared.ice_creds.IceCreds.{IceCreds}
 use Rattle.rtc_sdp_values.specs.declared.sdp.Sdp.{Sdp}
 use Rattle.rtc_ice.specs.IceMeaning.{IceSettings}
+use Rattle.rtc_channels.specs.Channels.{with_channel, all_confirmed}
+use Rattle.rtc_channels.specs.declared.channel_row.ChannelRow.{ChannelRow}
 use Rattle.rtc_change.specs.declared.change.Change.{Change}
+use Rattle.rtc_change.specs.declared.change.Change.TheVariants.{AddChannel}
 use Rattle.rtc_change.specs.PendingOffer.{PendingOffer, added_mids}
 use Rattle.rtc_tables.specs.RowChanges.{RowChange}
 use Rattle.rtc_peer_state.specs.declared.peer.Peer.{Peer}
@@ -26,11 +29,13 @@ use Rattle.rtc_peer_state.specs.declared.rtc_error.RtcError.TheVariants.{
   Alloc,
 }
 use Rattle.rtc_peer_state.specs.Calls.{Wanted, raised, needs_app, after_channels_alone, staged_mid, staged_media, app_changes, AddsMedia}
-use Rattle.rtc_peer_state.specs.Calls.{ChangesLine, AddsChannel, StagesRestart, Applies}
+use Rattle.rtc_peer_state.specs.Calls.{ChangesLine, AddsChannel, StagesRestart, Applies, fitting_channels}
+use Rattle.rtc_peer_state.specs.ChannelRows.{channel_rows}
 use Rattle.rtc_peer_state.specs.Meanings.{Meanings, PartsLaws}
 use Rattle.rtc_peer_state.specs.Names.{is_held}
 use Rattle.rtc_peer_state.specs.Stance.{Stance, stance_of}
 use Rattle.rtc_peer_state.proofs.BuiltPeers.{drawn_creds_words}
+use Rattle.rtc_peer_state.proofs.ChannelRowLemmas.{added_rows, confirmed_rows}
 use Rattle.rtc_peer_state.proofs.DrawnMids.{free_mid_token}
 use Rattle.rtc_peer_state.proofs.PartMovesLemmas.{control_settings}
 use Rattle.rtc_peer_state.proofs.StanceCalls.{StanceAddsMedia, StanceChangesLine, StanceAddsChannel, StanceStagesRestart, StanceApplies}
@@ -70,6 +75,25 @@ app_stands : {I D S M E X T W N : Type 0} (m : Meanings I D S M E X T W N) (p : 
 app_stands m p true free = (staged_mid m p, refl, (free refl, staged_mid_token m p))
 app_stands m p false free = refl
 
+-- the stance with one channel more
+added_stands : {I D S M E X T W N : Type 0} (m : Meanings I D S M E X T W N) (p : Peer I D S M N) (config : ChannelConfig) (id : ℕ)
+    (app : List Change) → id ≡ p.channels.given
+    → record (stance_of m p) {
+      channels = with_channel p.channels config;
+      rows = channel_rows m.association p.sctp (with_channel p.channels config);
+      staged = p.staged ++ (app ++ AddChannel id config ∷ []);
+    }
+    ≡ record (stance_of m p) {
+      channels = with_channel p.channels config;
+      rows = channel_rows m.association p.sctp p.channels ++ record { id = id; stream = None; generation = 0; is_open = false } ∷ [];
+      staged = p.staged ++ (app ++ AddChannel id config ∷ []);
+    }
+added_stands m p config id app number = rw number (ap (λ (rows : List ChannelRow). record (stance_of m p) {
+  channels = with_channel p.channels config;
+  rows = rows;
+  staged = p.staged ++ (app ++ AddChannel p.channels.given config ∷ []);
+}) (added_rows m.association p.sctp p.channels config))
+
 pub adds_channel_stands : {I D S M E X T W N : Type 0} (m : Meanings I D S M E X T W N) → PartsLaws m
     → (p : Peer I D S M N) (config : ChannelConfig)
     (result : Result ℕ RtcError) (q : Peer I D S M N) → AddsChannel m p config result q
@@ -79,7 +103,7 @@ adds_channel_stands m laws p config (Ok id) q h = record {
   number = h.1;
   app = app_changes m p (needs_app p);
   app_for = app_stands m p (needs_app p) h.3;
-  rest = ap (stance_of m) h.2;
+  rest = ap (stance_of m) h.2 ∙ added_stands m p config id (app_changes m p (needs_app p)) h.1;
 }
 adds_channel_stands m laws p config (Err BadChannel) q h = (h.0, ap (stance_of m) h.1)
 adds_channel_stands m laws p config (Err Alloc) q h = ap (stance_of m) h.1
@@ -101,13 +125,19 @@ stages_restart_stands m laws p keeps (Err error) q h = ap (stance_of m) h.1
 alone_stands : {I D S M E X T W N : Type 0} (m : Meanings I D S M E X T W N) (p : Peer I D S M N) (changes : List Change)
     → stance_of m (after_channels_alone changes p) ≡ stance_alone changes (stance_of m p)
 alone_stands m p [] = refl
-alone_stands m p (change ∷ changes) = refl
+alone_stands m p (change ∷ changes) = ap (λ (rows : List ChannelRow). record (stance_of m p) {
+  staged = [];
+  counter = raised p.counter;
+  channels = all_confirmed (fitting_channels (change ∷ changes)) p.channels;
+  rows = rows;
+}) (confirmed_rows m.association p.sctp (fitting_channels (change ∷ changes)) p.channels)
 
--- the parts that an acceptance moves are read by their settings, their fingerprint and their role
-pub parts_stand : (s : Stance) (ice ice' : IceSettings) (own own' : Fingerprint) (role role' : Option Bool) → ice ≡ ice' → own ≡ own'
-    → role ≡ role'
-    → record s { ice = ice; own_fingerprint = own; role = role } ≡ record s { ice = ice'; own_fingerprint = own'; role = role' }
-parts_stand s ice ice' own own' role role' a b c = rw (a, b, c) refl
+-- the parts that an acceptance moves are read by their settings, their fingerprint, their role and the rows over them
+pub parts_stand : (s : Stance) (ice ice' : IceSettings) (own own' : Fingerprint) (role role' : Option Bool) (rows rows' : List ChannelRow)
+    → ice ≡ ice' → own ≡ own' → role ≡ role' → rows ≡ rows'
+    → record s { ice = ice; own_fingerprint = own; role = role; rows = rows }
+    ≡ record s { ice = ice'; own_fingerprint = own'; role = role'; rows = rows' }
+parts_stand s ice ice' own own' role role' rows rows' a b c d = rw (a, b, c, d) refl
 
 pub applies_stands : {I D S M E X T W N : Type 0} (m : Meanings I D S M E X T W N) → PartsLaws m → (p : Peer I D S M N)
     (result : Result (Option (Sdp × PendingOffer)) AllocError) (q : Peer I D S M N) → Applies m p result q
@@ -118,7 +148,7 @@ applies_stands m laws p (Ok (Some made)) q h = (
   h.1,
   h.2,
   ap (stance_of m) h.4
-      ∙ parts_stand (record (stance_of m p) { staged = []; counter = raised p.counter }) _ _ _ _ _ _
-      (control_settings m.ice laws.ice p.ice q.ice _ h.3) refl refl,
+      ∙ parts_stand (record (stance_of m p) { staged = []; counter = raised p.counter }) _ _ _ _ _ _ _ _
+      (control_settings m.ice laws.ice p.ice q.ice _ h.3) refl refl refl,
 )
 applies_stands m laws p (Err error) q h = ap (stance_of m) h

@@ -1,6 +1,7 @@
 pub mod Config
 pub mod Creds
 pub mod Meanings
+pub mod ChannelRows
 pub mod Stance
 pub mod Names
 pub mod StagedIndex

@@ -4,9 +4,11 @@ use Rattle.rtc_sdp_values.specs.declared.fingerprint.Fingerprint.{Fingerprint}
 use Rattle.rtc_sdp_values.specs.declared.line_row.LineRow.{LineRow}
 use Rattle.rtc_ice.specs.IceMeaning.{IceSettings}
 use Rattle.rtc_channels.specs.Channels.{Channels}
+use Rattle.rtc_channels.specs.declared.channel_row.ChannelRow.{ChannelRow}
 use Rattle.rtc_change.specs.declared.change.Change.{Change}
 use Rattle.rtc_change.specs.Held.{Held}
 use Rattle.rtc_peer_state.specs.declared.peer.Peer.{Peer}
+use Rattle.rtc_peer_state.specs.ChannelRows.{channel_rows}
 use Rattle.rtc_peer_state.specs.Meanings.{Meanings}
 
 pub record Stance : Type 0 where
@@ -14,6 +16,8 @@ pub record Stance : Type 0 where
   pub lines : List LineRow
   pub staged : List Change
   pub channels : Channels
+  -- the rows that tell of them
+  pub rows : List ChannelRow
   pub counter : ℕ
   -- whether the ICE agent is lite, the credentials of both sides, and the local candidates
   pub ice : IceSettings
@@ -29,6 +33,7 @@ stance_of m p = record {
   lines = p.lines;
   staged = p.staged;
   channels = p.channels;
+  rows = channel_rows m.association p.sctp p.channels;
   counter = p.counter;
   ice = m.ice.settings p.ice;
   own_fingerprint = p.dtls.local;

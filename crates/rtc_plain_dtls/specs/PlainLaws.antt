@@ -80,6 +80,7 @@ use Rattle.rtc_plain_dtls.specs.TakesLemmas.{frame_takes, Repeats, again_repeats
 use Rattle.rtc_plain_dtls.specs.PollLemmas.{
   timeout_only,
   empties,
+  no_units,
   polled_falls,
   polled_short,
   polled_input,
@@ -258,6 +259,7 @@ plain_dtls_laws = record {
   timeout_asks = λ p q moment h. (timeout_only p.packets p.outputs p q moment h).2;
   silent = λ p q moment h. (timeout_only p.packets p.outputs p q moment h).0;
   quiet = λ p e. empties p.packets p.outputs p e;
+  quiet_input = λ p e. no_units p.packets p.outputs e;
   drawn_falls = λ p q drawn g h. polled_falls p.packets p.outputs p q drawn refl refl g h;
   drawn_short = λ p q drawn h. polled_short p.packets p.outputs p q drawn h;
   drawn_input = λ p q drawn h. polled_input p.packets p.outputs p q drawn refl h;

@@ -39,6 +39,11 @@ empties (x ∷ packets) outputs p e = absurd (omega (arith, e))
 empties [] (x ∷ outputs) p e = absurd (omega (arith, e))
 empties [] [] p e = (refl, refl)
 
+-- where both queues are empty, no unit of input is held
+pub no_units : (packets : List (List ℕ)) (outputs : List Output) → length packets + length outputs ≡ 0 → outputs_units outputs ≡ 0
+no_units packets [] e = refl
+no_units packets (x ∷ outputs) e = absurd (omega (arith, e))
+
 abbrev pub count_queued : DtlsContents → ℕ
 count_queued p = length p.packets + length p.outputs
 

@@ -1,22 +1,28 @@
 -- What the part is once a mark that it lent is written.
-use Rattle.std.proofs.Common.{◌≡◌, ℕ, Bool, true, false, cond, Option, Some, None, List, [], ◌∷◌, refl, sym, ap, ◌∙◌}
-use Rattle.std.specs.Option.{OnSome}
+use Rattle.std.proofs.Common.{◌≡◌, ℕ, Bool, true, false, cond, Option, Some, None, Result, Ok, Err, List, [], ◌∷◌, refl, sym, ap, subst, ◌∙◌}
+use Rattle.std.specs.Borrow.{MutBor}
+use Rattle.std.specs.Option.{IfSome}
+use Rattle.std.specs.Result.{IsOk, IfOk, OnErr}
 use Rattle.std.specs.Map.{lookup, set_value}
 use Rattle.rtc_plain_media.specs.declared.plain_mark.PlainMark.{PlainMark}
 use Rattle.rtc_plain_media.specs.declared.held_line.HeldLine.{HeldLine}
-use Rattle.rtc_plain_media.specs.Streams.{Streams}
+use Rattle.rtc_plain_media.specs.Streams.{Streams, new_mark}
 use Rattle.rtc_plain_media.specs.Lines.{Lines, same_key, key_of}
 use Rattle.rtc_plain_media.specs.MediaContents.{MediaContents}
 use Rattle.rtc_plain_media.specs.MediaCalls.{writer_marked}
 
--- a table of the part was lent, and left changed
-pub rx_left : {X : Type 0} (r : Option X) (change : Streams → Streams) (l : Streams) (v p : MediaContents) → v ≡ p → OnSome r (l ≡ change v.rx) → OnSome r (record v { rx = l } ≡ record p { rx = change p.rx })
-rx_left None change l v p e h = tt
-rx_left (Some x) change l v p e h = ap (λ (m : Streams). record v { rx = m }) h ∙ ap (λ (c : MediaContents). record c { rx = change c.rx }) e
+-- a table of the part was lent, and left changed; what stood there as it was lent is read from the table
+pub rx_left : {X : Type 0} (r : Option X) (Shown : X → Streams → Type 0) (change : Streams → Streams) (l : Streams) (v p : MediaContents) → v ≡ p
+    → IfSome r (λ lent. Shown lent v.rx × (l ≡ change v.rx)) → IfSome r (λ lent. Shown lent p.rx × (record v { rx = l } ≡ record p { rx = change p.rx }))
+rx_left None Shown change l v p e h = tt
+rx_left (Some x) Shown change l v p e h =
+    (subst (λ (c : MediaContents). Shown x c.rx) e h.0, ap (λ (m : Streams). record v { rx = m }) h.1 ∙ ap (λ (c : MediaContents). record c { rx = change c.rx }) e)
 
-pub tx_left : {X : Type 0} (r : Option X) (change : Streams → Streams) (l : Streams) (v p : MediaContents) → v ≡ p → OnSome r (l ≡ change v.tx) → OnSome r (record v { tx = l } ≡ record p { tx = change p.tx })
-tx_left None change l v p e h = tt
-tx_left (Some x) change l v p e h = ap (λ (m : Streams). record v { tx = m }) h ∙ ap (λ (c : MediaContents). record c { tx = change c.tx }) e
+pub tx_left : {X : Type 0} (r : Option X) (Shown : X → Streams → Type 0) (change : Streams → Streams) (l : Streams) (v p : MediaContents) → v ≡ p
+    → IfSome r (λ lent. Shown lent v.tx × (l ≡ change v.tx)) → IfSome r (λ lent. Shown lent p.tx × (record v { tx = l } ≡ record p { tx = change p.tx }))
+tx_left None Shown change l v p e h = tt
+tx_left (Some x) Shown change l v p e h =
+    (subst (λ (c : MediaContents). Shown x c.tx) e h.0, ap (λ (m : Streams). record v { tx = m }) h.1 ∙ ap (λ (c : MediaContents). record c { tx = change c.tx }) e)
 
 -- or nothing was lent
 pub rx_stayed : (l : Streams) (v p : MediaContents) → l ≡ v.rx → v ≡ p → record v { rx = l } ≡ p
@@ -24,6 +30,25 @@ rx_stayed l v p h e = ap (λ (m : Streams). record v { rx = m }) h ∙ e
 
 pub tx_stayed : (l : Streams) (v p : MediaContents) → l ≡ v.tx → v ≡ p → record v { tx = l } ≡ p
 tx_stayed l v p h e = ap (λ (m : Streams). record v { tx = m }) h ∙ e
+
+-- a new stream was lent, or none was made
+pub rx_made_left : {E : Type 0} (r : Result (MutBor PlainMark) E) (change : Streams → Streams) (l : Streams) (v p : MediaContents) → v ≡ p
+    → (IsOk r → IfOk r (λ lent. (lent.now ≡ new_mark) × (l ≡ change v.rx))) → IsOk r → IfOk r (λ lent. (lent.now ≡ new_mark) × (record v { rx = l } ≡ record p { rx = change p.rx }))
+rx_made_left (Ok x) change l v p e h ok = ((h ok).0, ap (λ (m : Streams). record v { rx = m }) (h ok).1 ∙ ap (λ (c : MediaContents). record c { rx = change c.rx }) e)
+rx_made_left (Err x) change l v p e h ok = tt
+
+pub tx_made_left : {E : Type 0} (r : Result (MutBor PlainMark) E) (change : Streams → Streams) (l : Streams) (v p : MediaContents) → v ≡ p
+    → (IsOk r → IfOk r (λ lent. (lent.now ≡ new_mark) × (l ≡ change v.tx))) → IsOk r → IfOk r (λ lent. (lent.now ≡ new_mark) × (record v { tx = l } ≡ record p { tx = change p.tx }))
+tx_made_left (Ok x) change l v p e h ok = ((h ok).0, ap (λ (m : Streams). record v { tx = m }) (h ok).1 ∙ ap (λ (c : MediaContents). record c { tx = change c.tx }) e)
+tx_made_left (Err x) change l v p e h ok = tt
+
+pub rx_made_none : {E : Type 0} (r : Result (MutBor PlainMark) E) (l : Streams) (v p : MediaContents) → v ≡ p → OnErr r (l ≡ v.rx) → OnErr r (record v { rx = l } ≡ p)
+rx_made_none (Ok x) l v p e h = tt
+rx_made_none (Err x) l v p e h = rx_stayed l v p h e
+
+pub tx_made_none : {E : Type 0} (r : Result (MutBor PlainMark) E) (l : Streams) (v p : MediaContents) → v ≡ p → OnErr r (l ≡ v.tx) → OnErr r (record v { tx = l } ≡ p)
+tx_made_none (Ok x) l v p e h = tt
+tx_made_none (Err x) l v p e h = tx_stayed l v p h e
 
 abbrev value_of : HeldLine → Option HeldLine → HeldLine
 value_of d None = d

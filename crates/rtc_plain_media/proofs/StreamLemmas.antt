@@ -5,7 +5,7 @@ use Rattle.std.specs.List.{list_any, position_or_len}
 use Rattle.rtc_sdp_values.specs.declared.ssrc.Ssrc.{Ssrc}
 use Rattle.rtc_plain_media.specs.declared.plain_mark.PlainMark.{PlainMark}
 use Rattle.rtc_plain_media.specs.declared.stream_row.StreamRow.{StreamRow}
-use Rattle.rtc_plain_media.specs.Streams.{Streams, has_ssrc, put_row, change_first, first_passes, numbered, renumbered, has_name}
+use Rattle.rtc_plain_media.specs.Streams.{Streams, has_ssrc, put_row, change_first, first_passes, held_mark, new_mark, numbered, renumbered, has_name}
 
 -- a row is there exactly where one fits
 pub any-position : (fits : StreamRow → Bool) (rows : Streams) → is_some (position fits rows) ≡ list_any fits rows
@@ -34,6 +34,16 @@ first_passes-at fits test rows i e h is = grind (arith, common_steps, passes_her
 pub first_passes-none : (fits test : StreamRow → Bool) (rows : Streams) → list_any fits rows ≡ false → false ≡ first_passes fits test rows
 first_passes-none fits test [] h = refl
 first_passes-none fits test (x ∷ xs) h = grind (arith, common_steps, first_passes-none fits test xs)
+
+held_here : (fits : StreamRow → Bool) (rows : Streams) (d : StreamRow) → position_or_len fits rows < length rows
+    → Some (slice_index_or rows (position_or_len fits rows) d).mark ≡ held_mark fits rows
+held_here fits [] d h = grind (arith, common_steps)
+held_here fits (x ∷ xs) d h = grind (arith, common_steps, held_here fits xs d)
+
+-- its mark is the one at its place
+pub held_mark-at : (fits : StreamRow → Bool) (rows : Streams) (i : ℕ) (e : StreamRow) → Some i ≡ position fits rows → e ≡ slice_index_or rows i e
+    → Some e.mark ≡ held_mark fits rows
+held_mark-at fits rows i e h is = grind (arith, common_steps, held_here fits rows e)
 
 put_here : (r : StreamRow) (rows : Streams) → position_or_len (has_ssrc r.ssrc) rows < length rows → slice_set rows (position_or_len (has_ssrc r.ssrc) rows) r ≡ put_row r rows
 put_here r [] h = grind (arith, common_steps)
@@ -73,6 +83,13 @@ put_row-marked r e w rows made i is_i is_made is_e =
     let is_row : e ≡ r = is_e ∙ rw (is_made, is_i) (put_there r e rows) in
     rw (is_made, is_i, is_row) (put_again r w rows)
 
+-- the mark of the row that was put
+pub put_row-mark : (r e : StreamRow) (rows made : Streams) (i : ℕ) → i ≡ position_or_len (has_ssrc r.ssrc) rows → made ≡ put_row r rows → e ≡ slice_index_or made i e
+    → e.mark ≡ r.mark
+put_row-mark r e rows made i is_i is_made is_e =
+    let is_row : e ≡ r = is_e ∙ rw (is_made, is_i) (put_there r e rows) in
+    ap (λ (x : StreamRow). x.mark) is_row
+
 set_twice : (rows : Streams) (i : ℕ) (a b : StreamRow) → slice_set (slice_set rows i a) i b ≡ slice_set rows i b
 set_twice [] i a b = refl
 set_twice (x ∷ xs) zero a b = refl
@@ -90,3 +107,10 @@ pub renumbered-at : (mid : List ℕ) (rid : Option (List ℕ)) (ssrc : Ssrc) (rt
 renumbered-at mid rid ssrc rtx w rows i row made e h is_row is_made is_e =
     let same : e ≡ made = is_e ∙ set_there rows i made e (place_within (has_name mid rid) rows i h) in
     set_twice rows i made (record e { mark = w }) ∙ rw (same, is_made) (change_first-at (has_name mid rid) (numbered ssrc rtx w) rows i row h is_row)
+
+-- its mark is that of a new one
+pub renumbered-mark : (fits : StreamRow → Bool) (ssrc : Ssrc) (rtx : Option Ssrc) (rows : Streams) (i : ℕ) (row made e : StreamRow) → Some i ≡ position fits rows → row ≡ slice_index_or rows i row
+    → made ≡ numbered ssrc rtx (record { count = 0 }) row → e ≡ slice_index_or (slice_set rows i made) i e → e.mark ≡ new_mark
+renumbered-mark fits ssrc rtx rows i row made e h is_row is_made is_e =
+    let same : e ≡ numbered ssrc rtx (record { count = 0 }) row = is_e ∙ set_there rows i made e (place_within fits rows i h) ∙ is_made in
+    ap (λ (x : StreamRow). x.mark) same

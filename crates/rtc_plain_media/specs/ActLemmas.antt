@@ -114,15 +114,15 @@ pub data MediaEffect (p q : MediaContents) : Type 0 where
       → MediaLeaves p (record p { pending = updates }) r q → MediaEffect p q
 
 lent_effect : (p q : MediaContents) → LendsMedia plain_media_meaning p q → KeepsMedia p q
-lent_effect p q (WriterLent mid w h) =
-    keeps_by p _ q (record { lines = λ m. update-writer_marked m mid w p.lines; pending = refl; begins = λ b. b }) h
-lent_effect p q (RxExpected ssrc rtx mid rid x h) = keeps_by p _ q (record { lines = λ m. refl; pending = refl; begins = λ b. b }) h
-lent_effect p q (TxDeclared ssrc rtx mid rid x h) = keeps_by p _ q (record { lines = λ m. refl; pending = refl; begins = λ b. b }) h
-lent_effect p q (RxLent ssrc x h) = keeps_by p _ q (record { lines = λ m. refl; pending = refl; begins = λ b. b }) h
-lent_effect p q (TxLent ssrc x h) = keeps_by p _ q (record { lines = λ m. refl; pending = refl; begins = λ b. b }) h
-lent_effect p q (RxNamedLent mid rid x h) = keeps_by p _ q (record { lines = λ m. refl; pending = refl; begins = λ b. b }) h
-lent_effect p q (TxNamedLent mid rid x h) = keeps_by p _ q (record { lines = λ m. refl; pending = refl; begins = λ b. b }) h
-lent_effect p q (TxReset mid rid ssrc rtx x h) = keeps_by p _ q (record { lines = λ m. refl; pending = refl; begins = λ b. b }) h
+lent_effect p q (WriterLent mid lent left h) =
+    keeps_by p _ q (record { lines = λ m. update-writer_marked m mid left p.lines; pending = refl; begins = λ b. b }) h.1
+lent_effect p q (RxExpected ssrc rtx mid rid lent left h) = keeps_by p _ q (record { lines = λ m. refl; pending = refl; begins = λ b. b }) h.1
+lent_effect p q (TxDeclared ssrc rtx mid rid lent left h) = keeps_by p _ q (record { lines = λ m. refl; pending = refl; begins = λ b. b }) h.1
+lent_effect p q (RxLent ssrc lent left h) = keeps_by p _ q (record { lines = λ m. refl; pending = refl; begins = λ b. b }) h.1
+lent_effect p q (TxLent ssrc lent left h) = keeps_by p _ q (record { lines = λ m. refl; pending = refl; begins = λ b. b }) h.1
+lent_effect p q (RxNamedLent mid rid lent left h) = keeps_by p _ q (record { lines = λ m. refl; pending = refl; begins = λ b. b }) h.1
+lent_effect p q (TxNamedLent mid rid lent left h) = keeps_by p _ q (record { lines = λ m. refl; pending = refl; begins = λ b. b }) h.1
+lent_effect p q (TxReset mid rid ssrc rtx lent left h) = keeps_by p _ q (record { lines = λ m. refl; pending = refl; begins = λ b. b }) h.1
 
 stirred_effect : (p q : MediaContents) → StirsMedia plain_media_meaning p q → MediaEffect p q
 stirred_effect p q (Configured settings h) = Keeping (keeps_by p _ q (record { lines = λ m. refl; pending = refl; begins = λ b. b }) h)

@@ -9,6 +9,7 @@ pub mod MediaCalls
 pub mod PlainMediaMeaning
 pub mod UpdateLemmas
 pub mod UsedLemmas
+pub mod NameLemmas
 pub mod ActLemmas
 pub mod PlainMediaLaws
 pub mod Sendings

@@ -69,6 +69,7 @@ use Rattle.rtc_plain_media.specs.UsedLemmas.{
   first_other,
   second_other,
 }
+use Rattle.rtc_plain_media.specs.NameLemmas.{Finds, layer_of_line, some_streams, found_layer, named_stream, finds_made}
 use Rattle.rtc_plain_media.specs.QueueLemmas.{
   event_fell,
   datagram_fell,
@@ -146,15 +147,16 @@ tx_marked p q fits w h =
           || (t || list_any (line_uses ssrc) p.lines)) (mark_uses ssrc fits w p.tx);
     }) h
 
-writer_kept : (p q : MediaContents) (mid : List ℕ) (w : PlainMark) → plain_media_meaning.writer_lent p mid w q → Plain p q
-writer_kept p q mid w h =
+writer_kept : (p q : MediaContents) (mid : List ℕ) (lent left : PlainMark) → plain_media_meaning.writer_lent p mid lent left q
+    → Plain p q
+writer_kept p q mid lent left h =
     same_as p _ q
     (record {
-      lines = λ m. update-writer_marked m mid w p.lines;
+      lines = λ m. update-writer_marked m mid left p.lines;
       used = λ ssrc. ap (λ (t : Bool). list_any (row_uses ssrc) p.rx
-          || (list_any (row_uses ssrc) p.tx || t)) (any-writer_marked ssrc mid w p.lines);
+          || (list_any (row_uses ssrc) p.tx || t)) (any-writer_marked ssrc mid left p.lines);
     })
-    h
+    h.1
 
 -- streams that are made
 uses_as : (p t q : MediaContents) (ssrc : Ssrc) (rtx : Option Ssrc) → UsesStream plain_media_meaning p ssrc rtx t → q ≡ t
@@ -174,8 +176,8 @@ module _ (p : MediaContents) (ssrc : Ssrc) (rtx : Option Ssrc) (mid : List ℕ) 
   abbrev in_lines : Ssrc → Bool
   in_lines s = list_any (line_uses s) p.lines
 
-  rx_made : UsesStream plain_media_meaning p ssrc rtx (record p { rx = put_row row p.rx })
-  rx_made = record {
+  rx_put : UsesStream plain_media_meaning p ssrc rtx (record p { rx = put_row row p.rx })
+  rx_put = record {
     lines = λ m. refl;
     own = first_uses _ (in_tx ssrc) (in_lines ssrc) (any-put_own (row_uses ssrc) row p.rx (own_ssrc ssrc rtx));
     retransmissions = λ other e.
@@ -185,8 +187,8 @@ module _ (p : MediaContents) (ssrc : Ssrc) (rtx : Option Ssrc) (mid : List ℕ) 
         || in_lines other) (any-put_other (row_uses other) row p.rx) h) [ inl a ↦ inr (uses_is ssrc rtx other a) | inr a ↦ inl a ];
   }
 
-  tx_made : UsesStream plain_media_meaning p ssrc rtx (record p { tx = put_row row p.tx })
-  tx_made = record {
+  tx_put : UsesStream plain_media_meaning p ssrc rtx (record p { tx = put_row row p.tx })
+  tx_put = record {
     lines = λ m. refl;
     own = second_uses (in_rx ssrc) _ (in_lines ssrc) (any-put_own (row_uses ssrc) row p.tx (own_ssrc ssrc rtx));
     retransmissions = λ other e.
@@ -237,13 +239,22 @@ plain_media_laws = record {
       ap (λ (c : MediaContents). update_of c other) h ∙ line-dropped_other p mid other (other_mid other mid n);
   lines_stay = λ p q act mid h. lines_after_act p q mid (effect p q act h);
   writer_same = writer_kept;
-  rx_same = λ p q ssrc x h. rx_marked p q (has_ssrc ssrc) x h;
-  tx_same = λ p q ssrc x h. tx_marked p q (has_ssrc ssrc) x h;
-  rx_named_same = λ p q mid rid x h. rx_marked p q (has_name mid rid) x h;
-  tx_named_same = λ p q mid rid x h. tx_marked p q (has_name mid rid) x h;
-  rx_uses = λ p q ssrc rtx mid rid x h. uses_as p _ q ssrc rtx (rx_made p ssrc rtx mid rid x) h;
-  tx_uses = λ p q ssrc rtx mid rid x h. uses_as p _ q ssrc rtx (tx_made p ssrc rtx mid rid x) h;
-  reset_uses = λ p q mid rid ssrc rtx x can h. uses_as p _ q ssrc rtx (tx_renumbered p ssrc rtx mid rid x can) h;
+  rx_same = λ p q ssrc lent left h. rx_marked p q (has_ssrc ssrc) left h.1;
+  tx_same = λ p q ssrc lent left h. tx_marked p q (has_ssrc ssrc) left h.1;
+  rx_named_same = λ p q mid rid lent left h. rx_marked p q (has_name mid rid) left h.1;
+  tx_named_same = λ p q mid rid lent left h. tx_marked p q (has_name mid rid) left h.1;
+  rx_uses = λ p q ssrc rtx mid rid lent left h. uses_as p _ q ssrc rtx (rx_put p ssrc rtx mid rid left) h.1;
+  tx_uses = λ p q ssrc rtx mid rid lent left h. uses_as p _ q ssrc rtx (tx_put p ssrc rtx mid rid left) h.1;
+  reset_uses = λ p q mid rid ssrc rtx lent left can h. uses_as p _ q ssrc rtx (tx_renumbered p ssrc rtx mid rid left can) h.1;
+  rx_of_line = λ p mid rid h. some_streams p mid (inl (layer_of_line mid rid p.rx h));
+  tx_of_line = λ p mid rid h. some_streams p mid (inr (layer_of_line mid rid p.tx h));
+  streams_found = λ p mid h. found_layer p.rx p.tx mid h;
+  rx_named = λ p ssrc h. named_stream ssrc p.rx h;
+  tx_named = λ p ssrc h. named_stream ssrc p.tx h;
+  rx_made = λ p q ssrc rtx mid rid lent left h.
+      subst (λ (c : MediaContents). Finds c.rx ssrc mid rid) (sym h.1) (finds_made ssrc rtx mid rid left p.rx);
+  tx_made = λ p q ssrc rtx mid rid lent left h.
+      subst (λ (c : MediaContents). Finds c.tx ssrc mid rid) (sym h.1) (finds_made ssrc rtx mid rid left p.tx);
   rx_removal = λ p q ssrc b h.
       (h.0, ap (λ (c : MediaContents). list_any (has_ssrc ssrc) c.rx) h.1 ∙ any-dropped (has_ssrc ssrc) p.rx);
   tx_removal = λ p q ssrc b h.

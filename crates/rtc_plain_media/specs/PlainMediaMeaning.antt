@@ -6,8 +6,18 @@ use Rattle.rtc_media.specs.MediaMeaning.{MediaMeaning}
 use Rattle.rtc_plain_media.specs.declared.plain_mark.PlainMark.{PlainMark}
 use Rattle.rtc_plain_media.specs.declared.plain_media_event.PlainMediaEvent.{PlainMediaEvent}
 use Rattle.rtc_plain_media.specs.Feedback.{app_feedback, picture_asked}
-use Rattle.rtc_plain_media.specs.Lines.{held_line}
-use Rattle.rtc_plain_media.specs.Streams.{has_ssrc, has_name, made_stream_row, put_row, marked, can_renumber, renumbered}
+use Rattle.rtc_plain_media.specs.Lines.{held_line, writer_mark}
+use Rattle.rtc_plain_media.specs.Streams.{
+  has_ssrc,
+  has_name,
+  new_mark,
+  made_stream_row,
+  put_row,
+  marked,
+  held_mark,
+  can_renumber,
+  renumbered,
+}
 use Rattle.rtc_plain_media.specs.MediaContents.{
   MediaContents,
   fresh_media,
@@ -75,14 +85,22 @@ plain_media_meaning = record {
   pli_fed = λ p sender media r q. MediaLeaves p (sent_more picture_asked p) r q;
   rx_removed = λ p ssrc b q. (b ≡ list_any (has_ssrc ssrc) p.rx) × (q ≡ record p { rx = without_ssrc ssrc p.rx });
   tx_removed = λ p ssrc b q. (b ≡ list_any (has_ssrc ssrc) p.tx) × (q ≡ record p { tx = without_ssrc ssrc p.tx });
-  writer_lent = λ p mid mark q. q ≡ record p { lines = writer_marked mid mark p.lines };
-  rx_expected = λ p ssrc rtx mid rid mark q. q ≡ record p { rx = put_row (record (made_stream_row ssrc rtx mid rid) { mark = mark }) p.rx };
-  tx_declared = λ p ssrc rtx mid rid mark q. q ≡ record p { tx = put_row (record (made_stream_row ssrc rtx mid rid) { mark = mark }) p.tx };
-  rx_lent = λ p ssrc mark q. q ≡ record p { rx = marked (has_ssrc ssrc) mark p.rx };
-  tx_lent = λ p ssrc mark q. q ≡ record p { tx = marked (has_ssrc ssrc) mark p.tx };
-  rx_named_lent = λ p mid rid mark q. q ≡ record p { rx = marked (has_name mid rid) mark p.rx };
-  tx_named_lent = λ p mid rid mark q. q ≡ record p { tx = marked (has_name mid rid) mark p.tx };
-  tx_reset = λ p mid rid ssrc rtx mark q. q ≡ record p { tx = renumbered mid rid ssrc rtx mark p.tx };
+  writer_lent = λ p mid lent left q.
+      (lent ≡ writer_mark (held_line mid p.lines)) × (q ≡ record p { lines = writer_marked mid left p.lines });
+  rx_expected = λ p ssrc rtx mid rid lent left q.
+      (lent ≡ new_mark) × (q ≡ record p { rx = put_row (record (made_stream_row ssrc rtx mid rid) { mark = left }) p.rx });
+  tx_declared = λ p ssrc rtx mid rid lent left q.
+      (lent ≡ new_mark) × (q ≡ record p { tx = put_row (record (made_stream_row ssrc rtx mid rid) { mark = left }) p.tx });
+  rx_lent = λ p ssrc lent left q.
+      (Some lent ≡ held_mark (has_ssrc ssrc) p.rx) × (q ≡ record p { rx = marked (has_ssrc ssrc) left p.rx });
+  tx_lent = λ p ssrc lent left q.
+      (Some lent ≡ held_mark (has_ssrc ssrc) p.tx) × (q ≡ record p { tx = marked (has_ssrc ssrc) left p.tx });
+  rx_named_lent = λ p mid rid lent left q.
+      (Some lent ≡ held_mark (has_name mid rid) p.rx) × (q ≡ record p { rx = marked (has_name mid rid) left p.rx });
+  tx_named_lent = λ p mid rid lent left q.
+      (Some lent ≡ held_mark (has_name mid rid) p.tx) × (q ≡ record p { tx = marked (has_name mid rid) left p.tx });
+  tx_reset = λ p mid rid ssrc rtx lent left q.
+      (lent ≡ new_mark) × (q ≡ record p { tx = renumbered mid rid ssrc rtx left p.tx });
   line = update_of;
   used = media_uses;
   connected = λ p. p.is_keyed;

@@ -34,9 +34,13 @@ is_ssrc (Some other) ssrc = other.0 == ssrc.0
 abbrev pub row_uses : Ssrc → StreamRow → Bool
 row_uses ssrc row = has_ssrc ssrc row || is_ssrc row.rtx ssrc
 
+-- the mark of a stream that is new, or that got other numbers
+abbrev pub new_mark : PlainMark
+new_mark = record { count = 0 }
+
 -- a stream as it is made
 abbrev pub made_stream_row : Ssrc → Option Ssrc → List ℕ → Option (List ℕ) → StreamRow
-made_stream_row ssrc rtx mid rid = record { ssrc = ssrc; rtx = rtx; mid = mid; rid = rid; mark = record { count = 0 } }
+made_stream_row ssrc rtx mid rid = record { ssrc = ssrc; rtx = rtx; mid = mid; rid = rid; mark = new_mark }
 
 -- a row in the place of the first of its ssrc, or else as a last one
 abbrev pub put_row : StreamRow → Streams → Streams
@@ -51,6 +55,11 @@ change_first fits change (row ∷ rows) = if fits row then change row ∷ rows e
 -- the first row that fits has this mark
 abbrev pub marked : (StreamRow → Bool) → PlainMark → Streams → Streams
 marked fits mark = change_first fits (λ row. record row { mark = mark })
+
+-- the mark of the first row that fits
+abbrev pub held_mark : (StreamRow → Bool) → Streams → Option PlainMark
+held_mark fits [] = None
+held_mark fits (row ∷ rows) = if fits row then Some row.mark else held_mark fits rows
 
 -- the first row that fits is there and passes a test
 abbrev pub first_passes : (StreamRow → Bool) → (StreamRow → Bool) → Streams → Bool

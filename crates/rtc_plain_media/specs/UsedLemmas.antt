@@ -37,17 +37,17 @@ use Rattle.rtc_plain_media.specs.MediaCalls.{writer_marked}
 use Rattle.rtc_plain_media.specs.UpdateLemmas.{same_is}
 
 -- either of two tests
-or_left : (a b : Bool) → a ≡ true → a || b ≡ true
+pub or_left : (a b : Bool) → a ≡ true → a || b ≡ true
 or_left a b h = ap (λ (t : Bool). t || b) h
 
-or_right : (a b : Bool) → b ≡ true → a || b ≡ true
+pub or_right : (a b : Bool) → b ≡ true → a || b ≡ true
 or_right true b h = refl
 or_right false b h = h
 
 pub or_none : (a b : Bool) → a ≡ false → b ≡ false → a || b ≡ false
 or_none a b h k = ap (λ (t : Bool). t || b) h ∙ k
 
-or_case : (a b : Bool) → a || b ≡ true → (a ≡ true) ⊎ (b ≡ true)
+pub or_case : (a b : Bool) → a || b ≡ true → (a ≡ true) ⊎ (b ≡ true)
 or_case true b h = inl refl
 or_case false b h = inr h
 

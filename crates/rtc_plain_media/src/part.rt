@@ -196,17 +196,18 @@ impl MediaSession for PlainMedia {
 }
 
 impl PlainMedia {
-    ghost use Rattle.std.specs.Prelude.{◌≡◌, OnSome, is_some};
+    ghost use Rattle.std.specs.Prelude.{◌≡◌, IfSome, is_some};
     ghost use Rattle.std.specs.Borrow.{LendsSo, sem};
-    ghost use Rattle.rtc_plain_media.specs.Lines.{held_line};
+    ghost use Rattle.rtc_plain_media.specs.Lines.{held_line, writer_mark};
     ghost use Rattle.rtc_plain_media.specs.MediaCalls.{writer_marked};
     ghost use Rattle.rtc_plain_media.specs.contracts.plain_mark.PlainMark.{the_row as mark_row};
     ghost use Rattle.rtc_plain_media.specs.contracts.plain_media.PlainMedia.{the_row};
 
     /// The mark of the writer of a line.
     fn writer_of(&mut self, mid: Mid) -> Option<&mut PlainMark>
-        ensures* leaves { sem 𝓛 (LendsSo the_row mark_row self.entry result (λ n x. OnSome result (n
-            ≡ record self.old { lines = writer_marked mid x self.old.lines })) (λ n. n ≡ self.old)) }
+        ensures* leaves { sem 𝓛 (LendsSo the_row mark_row self.entry result (λ n x. IfSome result (λ lent.
+            (lent.now ≡ writer_mark (held_line mid self.old.lines))
+            × (n ≡ record self.old { lines = writer_marked mid x self.old.lines }))) (λ n. n ≡ self.old)) }
         ensures found { is_some result ≡ is_some (held_line mid self.old.lines) }
     {
         let key = LineKey { mid };

@@ -11,7 +11,8 @@ ghost use Rattle.std.specs.Prelude.{
   IfErr,
   OnOk,
   OnErr,
-  OnSome,
+  IfSome,
+  Some,
   is_some,
   position,
   filter,
@@ -30,8 +31,10 @@ ghost use Rattle.rtc_plain_media.specs.Streams.{
   is_of_line,
   row_uses,
   made_stream_row,
+  new_mark,
   put_row,
   marked,
+  held_mark,
   renumbered,
   can_renumber,
 };
@@ -172,8 +175,8 @@ impl StreamTable {
         mid: Mid,
         rid: Option<Rid>,
     ) -> Result<&mut PlainMark, NoStream>
-        ensures* leaves { sem 𝓛 (LendsSoOk the_row mark_row self.entry result (λ n x. n
-            ≡ put_row (record (made_stream_row ssrc rtx mid rid) { mark = x }) self.old) (λ n. n ≡ self.old)) }
+        ensures* leaves { sem 𝓛 (LendsSoOk the_row mark_row self.entry result (λ n x. IfOk result (λ lent. (lent.now ≡ new_mark)
+            × (n ≡ put_row (record (made_stream_row ssrc rtx mid rid) { mark = x }) self.old))) (λ n. n ≡ self.old)) }
         ensures answer { StreamAnswers false result }
     {
         let at = self.put(ssrc, rtx, mid, rid)?;
@@ -215,8 +218,8 @@ impl StreamTable {
 
     /// The mark of the stream of an ssrc.
     pub fn mark(&mut self, ssrc: Ssrc) -> Option<&mut PlainMark>
-        ensures* leaves { sem 𝓛 (LendsSo the_row mark_row self.entry result (λ n x. OnSome result (n
-            ≡ marked (has_ssrc ssrc) x self.old)) (λ n. n ≡ self.old)) }
+        ensures* leaves { sem 𝓛 (LendsSo the_row mark_row self.entry result (λ n x. IfSome result (λ lent.
+            (Some lent.now ≡ held_mark (has_ssrc ssrc) self.old) × (n ≡ marked (has_ssrc ssrc) x self.old))) (λ n. n ≡ self.old)) }
         ensures found { is_some result ≡ list_any (has_ssrc ssrc) self.old }
     {
         match self.place_of(ssrc) {
@@ -227,8 +230,8 @@ impl StreamTable {
 
     /// The mark of the stream of a line and a layer.
     pub fn named_mark(&mut self, mid: Mid, rid: Option<Rid>) -> Option<&mut PlainMark>
-        ensures* leaves { sem 𝓛 (LendsSo the_row mark_row self.entry result (λ n x. OnSome result (n
-            ≡ marked (has_name mid rid) x self.old)) (λ n. n ≡ self.old)) }
+        ensures* leaves { sem 𝓛 (LendsSo the_row mark_row self.entry result (λ n x. IfSome result (λ lent.
+            (Some lent.now ≡ held_mark (has_name mid rid) self.old) × (n ≡ marked (has_name mid rid) x self.old))) (λ n. n ≡ self.old)) }
         ensures found { is_some result ≡ list_any (has_name mid rid) self.old }
     {
         match self.place_of_name(mid, rid) {
@@ -245,8 +248,8 @@ impl StreamTable {
         ssrc: Ssrc,
         rtx: Option<Ssrc>,
     ) -> Option<&mut PlainMark>
-        ensures* leaves { sem 𝓛 (LendsSo the_row mark_row self.entry result (λ n x. OnSome result (n
-            ≡ renumbered mid rid ssrc rtx x self.old)) (λ n. n ≡ self.old)) }
+        ensures* leaves { sem 𝓛 (LendsSo the_row mark_row self.entry result (λ n x. IfSome result (λ lent.
+            (lent.now ≡ new_mark) × (n ≡ renumbered mid rid ssrc rtx x self.old))) (λ n. n ≡ self.old)) }
         ensures found { is_some result ≡ can_renumber mid rid ssrc rtx self.old }
     {
         match self.place_of_name(mid, rid) {

@@ -1,10 +1,10 @@
 -- Calls on the DTLS connection that leave its role and the fingerprint of this side.
-use Rattle.std.proofs.Common.{◌≡◌, Bool, ℕ, List, [], ◌∷◌, Option, Some, None, Result, refl, sym, subst}
+use Rattle.std.proofs.Common.{◌≡◌, Bool, true, false, ℕ, List, [], ◌∷◌, Option, Some, None, Result, refl, sym, subst}
 use Rattle.std.specs.declared.alloc.AllocError.{AllocError}
 use Rattle.rtc_dtls.specs.declared.dtls_error.DtlsError.{DtlsError}
 use Rattle.rtc_dtls.specs.declared.dtls_output.DtlsOutput.{DtlsOutput}
 use Rattle.rtc_dtls.specs.DtlsMeaning.{DtlsMeaning}
-use Rattle.rtc_dtls.specs.DtlsState.{DtlsState, HandsOn, PollsOutput, GivesPacket}
+use Rattle.rtc_dtls.specs.DtlsState.{DtlsState, HandsOn, PollsOutput, GivesPacket, SendsData}
 
 -- a connection with the same role and fingerprint of this side
 abbrev pub KeepsRole : {D : Type 0} → DtlsState D → DtlsState D → Type 0
@@ -28,3 +28,7 @@ module _ {D : Type 0} (m : DtlsMeaning D) where
   gives_role d [] (Some packet) e h = absurd h
   gives_role d (b ∷ packets) None e h = absurd h
   gives_role d (b ∷ packets) (Some packet) e h = role_by d _ e h.1 (refl, refl)
+
+  pub sends_role : (d : DtlsState D) (can : Bool) (bytes : List ℕ) (r : Result (Unit {0}) DtlsError) (e : DtlsState D) → SendsData m d can bytes r e → KeepsRole d e
+  sends_role d true bytes r e h = role_by d _ e h.1 (refl, refl)
+  sends_role d false bytes r e h = role_by d d e h.1 (refl, refl)

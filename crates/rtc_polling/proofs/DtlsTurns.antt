@@ -14,7 +14,7 @@ use Rattle.rtc_peer_state.specs.Meanings.{Meanings}
 use Rattle.rtc_polling.specs.declared.met.Met.TheVariants.{Again}
 use Rattle.rtc_polling.specs.declared.polled_peer.PolledPeer.{PolledPeer}
 use Rattle.rtc_polling.specs.Connection.{with_dtls}
-use Rattle.rtc_polling.specs.DtlsStages.{ChecksCert, TakesKeys, TakesCloseNotify, TakesDtlsOutput, TakesDtlsAnswer, PollsDtlsOutput}
+use Rattle.rtc_polling.specs.DtlsStages.{ChecksCert, TakesKeys, TakesCloseNotify, HandsPacket, TakesDtlsOutput, TakesDtlsAnswer, PollsDtlsOutput}
 
 module _ {D : Type 0} (m : DtlsMeaning D) (laws : DtlsLaws m) where
   -- packets that are taken lower what the part holds
@@ -30,7 +30,7 @@ module _ {I D S M E X T W N : Type 0} (m : Meanings I D S M E X T W N) where
   pub taken_output : (output : DtlsOutput) (p q : PolledPeer I D S M N) → TakesDtlsOutput m output p Again q
       → (draws_output (drawn_by output) ≡ true)
       × ((q.core.dtls.instance ≡ p.core.dtls.instance) × (q.core.dtls.active ≡ p.core.dtls.active))
-  unfolding ChecksCert TakesKeys TakesCloseNotify
+  unfolding ChecksCert TakesKeys TakesCloseNotify HandsPacket
   taken_output outputs.Connected p q taken =
       (refl, (ap (λ (x : PolledPeer I D S M N). x.core.dtls.instance) taken.1, ap (λ (x : PolledPeer I D S M N). x.core.dtls.active) taken.1))
   taken_output (outputs.KeyingMaterial key profile) p q taken =

@@ -1,5 +1,5 @@
--- Polls, inputs and closing change nothing of what negotiation keeps.
-use Rattle.std.proofs.Common.{◌≡◌, ℕ, Bool, true, false, List, Option, Some, None, Result, Ok, Err, refl, sym, ap, subst, ◌∙◌}
+-- A poll changes nothing of what negotiation keeps beside the channels and their streams.
+use Rattle.std.proofs.Common.{◌≡◌, ℕ, Bool, true, false, List, [], ◌∷◌, Option, Some, None, Result, Ok, Err, refl, sym, ap, subst, ◌∙◌}
 use Rattle.std.specs.declared.alloc.AllocError.{AllocError}
 use Rattle.rtc_wire.specs.declared.datagram_recv.DatagramRecv.{DatagramRecv}
 use Rattle.rtc_wire.specs.declared.datagram_recv.DatagramRecv.TheVariants as datagrams
@@ -11,6 +11,8 @@ use Rattle.rtc_peer_state.specs.declared.peer.Peer.{Peer}
 use Rattle.rtc_peer_state.specs.declared.phase.Phase.{Phase}
 use Rattle.rtc_peer_state.specs.declared.phase.Phase.TheVariants.{Alive, Closing, Closed}
 use Rattle.rtc_peer_state.specs.Meanings.{Meanings}
+use Rattle.rtc_sctp_entries.specs.declared.sctp_event.SctpEvent.{SctpEvent}
+use Rattle.rtc_sctp_entries.specs.declared.sctp_event.SctpEvent.TheVariants as event
 use Rattle.rtc_polling.specs.declared.event.Event.TheVariants as told
 use Rattle.rtc_polling.specs.declared.handshake.Handshake.{Handshake}
 use Rattle.rtc_polling.specs.declared.handshake.Handshake.TheVariants.{Pending, Finished, Told}
@@ -22,70 +24,24 @@ use Rattle.rtc_polling.specs.declared.output.Output.{Output}
 use Rattle.rtc_polling.specs.declared.polled_peer.PolledPeer.{PolledPeer}
 use Rattle.rtc_polling.specs.declared.send_addr.SendAddr.{SendAddr}
 use Rattle.rtc_peer_state.specs.declared.rtc_error.RtcError.{RtcError}
-use Rattle.rtc_peer_state.specs.declared.rtc_error.RtcError.TheVariants.{RemoteSdp, Dtls, Media, Alloc}
-use Rattle.rtc_polling.specs.Closing.{BeginsClosing, ClosesPeer, ClosesPeerFrom, is_closing_complete}
-use Rattle.rtc_polling.specs.Connection.{with_dtls, with_ice}
+use Rattle.rtc_peer_state.specs.declared.rtc_error.RtcError.TheVariants.{RemoteSdp, Dtls, Sctp, Media, Alloc}
+use Rattle.rtc_polling.specs.Closing.{ShutsMedia, ShutsStreams, ShutsDtls, BecomesClosing, BeginsClosing, ClosesPeer, ClosesPeerFrom, is_closing_complete}
+use Rattle.rtc_polling.specs.Connection.{with_dtls, with_ice, with_sctp, with_channels, with_pushed}
 use Rattle.rtc_polling.specs.DtlsStages.{GivesDtlsTime, TimesDtls, TimesDtlsIf, TakesDtlsOutput, TakesDtlsAnswer, PollsDtlsOutput}
-use Rattle.rtc_polling.specs.DtlsStages.{PollsDtlsOutputs, TakesKeys, TakesCloseNotify, ChecksCert, TellsConnectedFrom, is_dtls_due}
+use Rattle.rtc_polling.specs.DtlsStages.{PollsDtlsOutputs, TakesKeys, TakesCloseNotify, HandsPacket, ChecksCert, TellsConnectedFrom, is_dtls_due}
 use Rattle.rtc_polling.specs.IceStages.{PollsIceEvent, PollsIceEvents, TakesIceEvent}
-use Rattle.rtc_polling.specs.Inputs.{GivesTime, TakesTimeIf, HearsStun, HearsDtls, HearsMedia, HearsKind, Hears, Heard, PartFailed, HandlesInputBy, HandlesInputIn, HandlesInput}
+use Rattle.rtc_polling.specs.Inputs.{TimesIce, TimesStreams, TimesChannels, TimesMedia, GivesTime, TakesTimeIf, with_moment, HearsStun, HearsDtls, HearsMedia, HearsKind, Hears, Heard, PartFailed, HandlesInputBy, HandlesInputIn, HandlesInput}
 use Rattle.rtc_polling.specs.Kept.{KeepsNegotiation}
 use Rattle.rtc_polling.specs.MediaStages.{TellsMedia, TellsFallibleMedia}
 use Rattle.rtc_polling.specs.SendStages.{SendsChecks, SendsDtlsPacket, SendsMediaDatagram, SendsBy, SendsByPair}
-use Rattle.rtc_polling.specs.Stages.{Stage, FollowedBy, Stopped, WentOn, RepeatsStage}
+use Rattle.rtc_polling.specs.Stages.{Call, InTurn, Failed, Passed, Stage, FollowedBy, Stopped, WentOn, RepeatsStage}
+use Rattle.rtc_polling.specs.StreamStages.{OpensChannelOver, ClosesChannelOver, HearsChannelOver, FallsChannelOver, LosesAssociation, TakesStreamEvent, TakesStreamAnswer, PollsStreamEvent, PollsStreamEvents, SendsPacket, SendsFirst, SendsKeptPackets, TellsStreams, channel_over}
 use Rattle.rtc_polling.specs.Walk.{StartsOverWhenDue, TellsConnection, TellsArrivals, SendsDatagrams, VisitsParts, WaitsIf, AnswersMet, Walks, PollsPeerFrom, PollsPeer}
 use Rattle.rtc_polling.proofs.StageLemmas.{over_carries}
-
-keeps_self : {I D S M N : Type 0} (p : PolledPeer I D S M N) → KeepsNegotiation p p
-keeps_self p = refl
-
-keeps_on : {I D S M N : Type 0} (p q r : PolledPeer I D S M N) → KeepsNegotiation p q → KeepsNegotiation q r → KeepsNegotiation p r
-keeps_on {I} {D} {S} {M} {N} p q r a b =
-    b ∙ ap (λ (x : Peer I D S M N). record x {
-      phase = r.core.phase;
-      greatest = r.core.greatest;
-      ice = r.core.ice;
-      dtls = r.core.dtls;
-      media = r.core.media;
-    }) a
-
--- where the peer afterwards is another that keeps it
-keeps_by : {I D S M N : Type 0} (p n q : PolledPeer I D S M N) → q ≡ n → KeepsNegotiation p n → KeepsNegotiation p q
-keeps_by {I} {D} {S} {M} {N} p n q is kept = subst (λ (x : PolledPeer I D S M N). KeepsNegotiation p x) (sym is) kept
-
--- a stage keeps it, whatever is met
-abbrev pub Keeps : {I D S M E N : Type 0} → Stage (PolledPeer I D S M N) E → Type 0
-Keeps {I} {D} {S} {M} {E} {N} stage = (p : PolledPeer I D S M N) (r : Met E) (q : PolledPeer I D S M N) → stage p r q → KeepsNegotiation p q
-
-else_keeps : {I D S M E N : Type 0} (first rest : Stage (PolledPeer I D S M N) E) → Keeps first → Keeps rest → Keeps (FollowedBy first rest)
-else_keeps first rest one other p r q (Stopped met stage) = one p r q stage
-else_keeps first rest one other p r q (WentOn between stage after) =
-    keeps_on p between q (one p Nothing between stage) (other between r q after)
-
-repeats_keeps : {I D S M E N : Type 0} (stage : Stage (PolledPeer I D S M N) E) → Keeps stage → Keeps (RepeatsStage stage)
-repeats_keeps stage one p r q h =
-    keeps_on p h.last q
-    (over_carries stage KeepsNegotiation keeps_self keeps_on (λ a b turn. one a Again b turn) h.turns p h.last h.over)
-    (one h.last r q h.ends)
+use Rattle.rtc_polling.proofs.KeptCalls.{CallKeeps, Keeps, keeps_self, keeps_on, keeps_by, turn_keeps, else_keeps, repeats_keeps, close_keeps}
+use Rattle.rtc_polling.proofs.KeptStreams.{streams_keep}
 
 module _ {I D S M E X T W N : Type 0} (m : Meanings I D S M E X T W N) where
-  begins_keeps : (p : PolledPeer I D S M N) (r : Result (Unit {0}) RtcError) (q : PolledPeer I D S M N) → BeginsClosing m p r q → KeepsNegotiation p q
-  unfolding BeginsClosing
-  begins_keeps p (Ok done) q h = keeps_by p _ q h.2 refl
-  begins_keeps p (Err (Dtls cause)) q h = keeps_by p _ q h.3 refl
-  begins_keeps p (Err Alloc) q h = keeps_by p _ q h.0 refl
-  begins_keeps p (Err error) q h = absurd h
-
-  closes_from_keeps : (phase : Phase) (p : PolledPeer I D S M N) (r : Result (Unit {0}) RtcError) (q : PolledPeer I D S M N)
-      → ClosesPeerFrom m phase p r q → KeepsNegotiation p q
-  closes_from_keeps Alive p r q h = begins_keeps p r q h
-  closes_from_keeps Closing p r q h = keeps_by p p q h.1 refl
-  closes_from_keeps Closed p r q h = keeps_by p p q h.1 refl
-
-  -- closing keeps it
-  pub close_keeps : (p : PolledPeer I D S M N) (r : Result (Unit {0}) RtcError) (q : PolledPeer I D S M N) → ClosesPeer m p r q → KeepsNegotiation p q
-  close_keeps p r q h = closes_from_keeps p.core.phase p r q h
-
   taken_event_keeps : (event : Option IceEvent) (ice : I) (p : PolledPeer I D S M N) (r : Met E) (q : PolledPeer I D S M N)
       → TakesIceEvent event (with_ice ice p) r q → KeepsNegotiation p q
   taken_event_keeps None ice p r q taken = keeps_by p _ q taken.1 refl
@@ -120,15 +76,21 @@ module _ {I D S M E X T W N : Type 0} (m : Meanings I D S M E X T W N) where
 
   close_notify_keeps : Keeps (TakesCloseNotify m)
   unfolding TakesCloseNotify
-  close_notify_keeps p (MetEvent told.Closed) q h = keeps_on p h.0 q (close_keeps p (Ok tt) h.0 h.1) (keeps_by h.0 _ q h.2 refl)
-  close_notify_keeps p (Error error) q h = close_keeps p (Err error) q h
+  close_notify_keeps p (MetEvent told.Closed) q h = keeps_on p h.0 q (close_keeps m p (Ok tt) h.0 h.1) (keeps_by h.0 _ q h.2 refl)
+  close_notify_keeps p (Error error) q h = close_keeps m p (Err error) q h
   close_notify_keeps p _ q h = absurd h
+
+  packet_keeps : (bytes : List ℕ) → Keeps (HandsPacket m bytes)
+  unfolding HandsPacket
+  packet_keeps bytes p Again q h = keeps_by p _ q h.1 refl
+  packet_keeps bytes p (Error Alloc) q h = keeps_by p _ q h.1 refl
+  packet_keeps bytes p _ q h = absurd h
 
   output_keeps : (output : DtlsOutput) → Keeps (TakesDtlsOutput m output)
   output_keeps outputs.Connected p r q h = keeps_by p _ q h.1 refl
   output_keeps (outputs.KeyingMaterial key profile) p r q h = keys_keep key.now profile _ p r q h
   output_keeps (outputs.PeerCert cert) p r q h = cert_keeps cert.now p r q h
-  output_keeps (outputs.ApplicationData bytes) p r q h = keeps_by p p q h.1 refl
+  output_keeps (outputs.ApplicationData bytes) p r q h = packet_keeps bytes.now p r q h
   output_keeps (outputs.Timeout moment) p r q h = keeps_by p _ q h.1 refl
   output_keeps outputs.CloseNotify p r q h = close_notify_keeps p r q h
 
@@ -202,8 +164,9 @@ module _ {I D S M E X T W N : Type 0} (m : Meanings I D S M E X T W N) where
   unfolding VisitsParts
   visits_keep =
       else_keeps (TellsConnection m) _ connection_keeps
+      (else_keeps (TellsStreams m) _ (streams_keep m)
       (else_keeps (TellsArrivals m) _ arrivals_keep_it
-      (else_keeps (SendsDatagrams m) StartsOverWhenDue datagrams_keep_it (λ p r q h. keeps_by p p q h.1 refl)))
+      (else_keeps (SendsDatagrams m) StartsOverWhenDue datagrams_keep_it (λ p r q h. keeps_by p p q h.1 refl))))
 
   waits_keep : (complete : Bool) (p : PolledPeer I D S M N) (answer : Result (Output E) RtcError) (q : PolledPeer I D S M N)
       → WaitsIf m complete p answer q → KeepsNegotiation p q
@@ -232,67 +195,3 @@ module _ {I D S M E X T W N : Type 0} (m : Meanings I D S M E X T W N) where
   pub poll_keeps : (p : PolledPeer I D S M N) (answer : Result (Output E) RtcError) (q : PolledPeer I D S M N) → PollsPeer m p answer q
       → KeepsNegotiation p q
   poll_keeps p answer q h = polls_from_keep p.core.phase p answer q h
-
-  time_given_keeps : (now : ℕ) (p : PolledPeer I D S M N) (r : Result (Unit {0}) RtcError) (q : PolledPeer I D S M N) → GivesTime m now p r q
-      → KeepsNegotiation p q
-  unfolding GivesTime
-  time_given_keeps now p (Ok done) q h = keeps_by p _ q h.2 refl
-  time_given_keeps now p (Err (Media cause)) q h = keeps_by p _ q h.3 refl
-  time_given_keeps now p (Err Alloc) q h = keeps_by p _ q h.0 refl
-  time_given_keeps now p (Err error) q h = absurd h
-
-  time_keeps : (earlier : Bool) (now : ℕ) (p : PolledPeer I D S M N) (r : Result (Unit {0}) RtcError) (q : PolledPeer I D S M N)
-      → TakesTimeIf m earlier now p r q → KeepsNegotiation p q
-  time_keeps true now p r q h = keeps_by p p q h.1 refl
-  time_keeps false now p r q h = time_given_keeps now p r q h
-
-  stun_keeps : (now : ℕ) (datagram : Receive) (bytes : List ℕ) (p : PolledPeer I D S M N) (r : Result (Unit {0}) RtcError)
-      (q : PolledPeer I D S M N) → HearsStun m now datagram bytes p r q → KeepsNegotiation p q
-  unfolding HearsStun
-  stun_keeps now datagram bytes p (Ok done) q h = keeps_by p _ q h.1 refl
-  stun_keeps now datagram bytes p (Err Alloc) q h = keeps_by p _ q h.1 refl
-  stun_keeps now datagram bytes p (Err _) q h = absurd h
-
-  dtls_keeps : (bytes : List ℕ) (p : PolledPeer I D S M N) (r : Result (Unit {0}) RtcError) (q : PolledPeer I D S M N) → HearsDtls m bytes p r q
-      → KeepsNegotiation p q
-  unfolding HearsDtls
-  dtls_keeps bytes p (Ok done) q h = keeps_by p _ q h.1 refl
-  dtls_keeps bytes p (Err (Dtls cause)) q h = keeps_by p _ q h.2 refl
-  dtls_keeps bytes p (Err Alloc) q h = keeps_by p _ q h.1 refl
-  dtls_keeps bytes p (Err _) q h = absurd h
-
-  media_keeps : (given : M → Result (Unit {0}) AllocError → M → Type 0) (bytes : List ℕ) (p : PolledPeer I D S M N)
-      (r : Result (Unit {0}) RtcError) (q : PolledPeer I D S M N) → HearsMedia m given bytes p r q → KeepsNegotiation p q
-  unfolding HearsMedia
-  media_keeps given bytes p (Ok done) q h = keeps_by p _ q h.1 refl
-  media_keeps given bytes p (Err Alloc) q h = keeps_by p _ q h.1 refl
-  media_keeps given bytes p (Err _) q h = absurd h
-
-  kind_keeps : (now : ℕ) (datagram : Receive) (contents : DatagramRecv) (p : PolledPeer I D S M N) (r : Result (Unit {0}) RtcError)
-      (q : PolledPeer I D S M N) → HearsKind m now datagram contents p r q → KeepsNegotiation p q
-  kind_keeps now datagram (datagrams.Stun view) p r q h = stun_keeps now datagram view.bytes.now p r q h
-  kind_keeps now datagram (datagrams.Dtls bytes) p r q h = dtls_keeps bytes.now p r q h
-  kind_keeps now datagram (datagrams.Rtp bytes) p r q h = media_keeps _ bytes.now p r q h
-  kind_keeps now datagram (datagrams.Rtcp bytes) p r q h = media_keeps _ bytes.now p r q h
-
-  hears_keep : (now : ℕ) (datagram : Receive) (p : PolledPeer I D S M N) (r : Result (Unit {0}) RtcError) (q : PolledPeer I D S M N)
-      → Hears m now datagram p r q → KeepsNegotiation p q
-  hears_keep now datagram p r q (Heard between heard time) =
-      keeps_on p between q (kind_keeps now datagram datagram.contents p (Ok tt) between heard) (time_keeps _ now between r q time)
-  hears_keep now datagram p r q (PartFailed error is heard) = kind_keeps now datagram datagram.contents p (Err error) q heard
-
-  input_by_keeps : (input : Input) (p : PolledPeer I D S M N) (r : Result (Unit {0}) RtcError) (q : PolledPeer I D S M N)
-      → HandlesInputBy m input p r q → KeepsNegotiation p q
-  input_by_keeps (TimeCame now) p r q h = time_keeps _ now p r q h
-  input_by_keeps (Datagram now datagram) p r q h = hears_keep now datagram p r q h
-
-  input_in_keeps : (phase : Phase) (input : Input) (p : PolledPeer I D S M N) (r : Result (Unit {0}) RtcError) (q : PolledPeer I D S M N)
-      → HandlesInputIn m phase input p r q → KeepsNegotiation p q
-  input_in_keeps Alive input p r q h = input_by_keeps input p r q h
-  input_in_keeps Closing input p r q h = input_by_keeps input p r q h
-  input_in_keeps Closed input p r q h = keeps_by p p q h.1 refl
-
-  -- an input keeps it
-  pub input_keeps : (input : Input) (p : PolledPeer I D S M N) (r : Result (Unit {0}) RtcError) (q : PolledPeer I D S M N) → HandlesInput m input p r q
-      → KeepsNegotiation p q
-  input_keeps input p r q h = input_in_keeps p.core.phase input p r q h

@@ -1,5 +1,5 @@
 -- Want of memory in a poll, an input or a close leaves the peer closed.
-use Rattle.std.proofs.Common.{if◌then◌else◌, ◌≡◌, ℕ, Bool, true, false, Option, Some, None, Result, Ok, Err, sym, ap, subst}
+use Rattle.std.proofs.Common.{if◌then◌else◌, ◌≡◌, ℕ, Bool, true, false, List, [], ◌∷◌, Option, Some, None, Result, Ok, Err, sym, ap, subst}
 use Rattle.std.specs.declared.alloc.AllocError.{AllocError}
 use Rattle.rtc_wire.specs.declared.datagram_recv.DatagramRecv.{DatagramRecv}
 use Rattle.rtc_wire.specs.declared.datagram_recv.DatagramRecv.TheVariants as datagrams
@@ -21,15 +21,31 @@ use Rattle.rtc_polling.specs.declared.polled_peer.PolledPeer.{PolledPeer}
 use Rattle.rtc_polling.specs.declared.send_addr.SendAddr.{SendAddr}
 use Rattle.rtc_peer_state.specs.declared.rtc_error.RtcError.{RtcError}
 use Rattle.rtc_peer_state.specs.declared.rtc_error.RtcError.TheVariants.{Alloc}
-use Rattle.rtc_polling.specs.Closing.{BeginsClosing, ClosesPeer, ClosesPeerFrom, is_closing_complete}
+use Rattle.rtc_polling.specs.Closing.{ShutsMedia, ShutsStreams, ShutsDtls, BecomesClosing, BeginsClosing, ClosesPeer, ClosesPeerFrom, is_closing_complete}
 use Rattle.rtc_polling.specs.DtlsStages.{GivesDtlsTime, TimesDtls, TimesDtlsIf, TakesDtlsOutput, TakesDtlsAnswer}
-use Rattle.rtc_polling.specs.DtlsStages.{PollsDtlsOutputs, TakesKeys, TakesCloseNotify, ChecksCert, TellsConnectedFrom, is_dtls_due}
+use Rattle.rtc_polling.specs.DtlsStages.{PollsDtlsOutputs, TakesKeys, TakesCloseNotify, HandsPacket, ChecksCert, TellsConnectedFrom, is_dtls_due}
 use Rattle.rtc_polling.specs.IceStages.{PollsIceEvents, TakesIceEvent, met_of_ice_event}
-use Rattle.rtc_polling.specs.Inputs.{GivesTime, TakesTimeIf, HearsStun, HearsDtls, HearsMedia, HearsKind, Hears, Heard, PartFailed, HandlesInputBy, HandlesInputIn, HandlesInput}
+use Rattle.rtc_polling.specs.Inputs.{TimesIce, TimesStreams, TimesChannels, TimesMedia, with_moment, GivesTime, TakesTimeIf, HearsStun, HearsDtls, HearsMedia, HearsKind, Hears, Heard, PartFailed, HandlesInputBy, HandlesInputIn, HandlesInput}
 use Rattle.rtc_polling.specs.MediaStages.{TellsMedia, TellsFallibleMedia}
 use Rattle.rtc_polling.specs.SendStages.{SendsChecks, SendsDtlsPacket, SendsMediaDatagram, SendsBy, SendsByPair}
-use Rattle.rtc_polling.specs.Stages.{Stage, FollowedBy, Stopped, WentOn}
+use Rattle.rtc_polling.specs.Stages.{Call, InTurn, Failed, Passed, Stage, FollowedBy, Stopped, WentOn}
+use Rattle.rtc_polling.specs.StreamStages.{OpensChannelOver, ClosesChannelOver, HearsChannelOver, FallsChannelOver, LosesAssociation, TakesStreamEvent, TakesStreamAnswer, PollsStreamEvents, SendsPacket, SendsFirst, SendsKeptPackets, TellsStreams, channel_over}
+use Rattle.rtc_sctp_entries.specs.declared.sctp_event.SctpEvent.{SctpEvent}
+use Rattle.rtc_sctp_entries.specs.declared.sctp_event.SctpEvent.TheVariants as event
+use Rattle.rtc_polling.specs.Connection.{with_pushed, with_channels}
+use Rattle.rtc_channels.specs.Holds.{holds_lost}
 use Rattle.rtc_polling.specs.Walk.{StartsOverWhenDue, TellsConnection, TellsArrivals, SendsDatagrams, VisitsParts, WaitsIf, AnswersMet, PollsPeerFrom, PollsPeer}
+
+-- a call that lacks memory leaves the peer closed
+abbrev CallClosesWhenLacking : {I D S M N : Type 0} → Call (PolledPeer I D S M N) → Type 0
+CallClosesWhenLacking {I} {D} {S} {M} {N} call = (p q : PolledPeer I D S M N) → call p (Err Alloc) q → q.core.phase ≡ Closed
+
+turn_lacks : {I D S M N : Type 0} (first rest : Call (PolledPeer I D S M N)) → CallClosesWhenLacking first → CallClosesWhenLacking rest
+    → CallClosesWhenLacking (InTurn first rest)
+turn_lacks first rest one other p q (Failed error is h) =
+    let lacking : error ≡ Alloc = cc (is) in
+    one p q (subst (λ (e : RtcError). first p (Err e) q) lacking h)
+turn_lacks first rest one other p q (Passed between h k) = other between q k
 
 -- a stage that lacks memory leaves the peer closed
 abbrev ClosesWhenLacking : {I D S M E N : Type 0} → Stage (PolledPeer I D S M N) E → Type 0
@@ -54,9 +70,12 @@ not_over true e = cc (e)
 not_over false e = cc (e)
 
 module _ {I D S M E X T W N : Type 0} (m : Meanings I D S M E X T W N) where
-  begins_lacks : (p q : PolledPeer I D S M N) → BeginsClosing m p (Err Alloc) q → q.core.phase ≡ Closed
-  unfolding BeginsClosing
-  begins_lacks p q h = ap (λ (x : PolledPeer I D S M N). x.core.phase) h.0
+  begins_lacks : CallClosesWhenLacking (BeginsClosing m)
+  unfolding ShutsMedia ShutsStreams ShutsDtls
+  begins_lacks =
+      turn_lacks (ShutsMedia m) _ (λ p q h. ap (λ (x : PolledPeer I D S M N). x.core.phase) h.1)
+      (turn_lacks (ShutsStreams m) _ (λ p q h. ap (λ (x : PolledPeer I D S M N). x.core.phase) h.1)
+      (turn_lacks (ShutsDtls m) BecomesClosing (λ p q h. ap (λ (x : PolledPeer I D S M N). x.core.phase) h.1) (λ p q h. cc (h.0))))
 
   closes_lacks : (phase : Phase) (p q : PolledPeer I D S M N) → ClosesPeerFrom m phase p (Err Alloc) q → q.core.phase ≡ Closed
   closes_lacks Alive p q h = begins_lacks p q h
@@ -80,11 +99,11 @@ module _ {I D S M E X T W N : Type 0} (m : Meanings I D S M E X T W N) where
   time_lacks false p q h = cc (h.0)
 
   output_lacks : (output : DtlsOutput) (p q : PolledPeer I D S M N) → TakesDtlsOutput m output p (Error Alloc) q → q.core.phase ≡ Closed
-  unfolding TakesKeys ChecksCert TakesCloseNotify
+  unfolding TakesKeys ChecksCert TakesCloseNotify HandsPacket
   output_lacks outputs.Connected p q h = cc (h.0)
   output_lacks (outputs.KeyingMaterial key profile) p q h = ap (λ (x : PolledPeer I D S M N). x.core.phase) h.1
   output_lacks (outputs.PeerCert cert) p q h = ap (λ (x : PolledPeer I D S M N). x.core.phase) h
-  output_lacks (outputs.ApplicationData bytes) p q h = cc (h.0)
+  output_lacks (outputs.ApplicationData bytes) p q h = ap (λ (x : PolledPeer I D S M N). x.core.phase) h.1
   output_lacks (outputs.Timeout moment) p q h = cc (h.0)
   output_lacks outputs.CloseNotify p q h = close_lacks p q h
 
@@ -106,6 +125,46 @@ module _ {I D S M E X T W N : Type 0} (m : Meanings I D S M E X T W N) where
       (else_lacks (PollsDtlsOutputs m) _ (λ p q h. answer_lacks_memory h.ends.answer _ q h.ends.by_answer)
       (λ p q h. connected_lacks p.transport.handshake p q h)))
 
+  stream_event_lacks : (e : SctpEvent) (p q : PolledPeer I D S M N) → TakesStreamEvent m e p (Error Alloc) q → q.core.phase ≡ Closed
+  unfolding OpensChannelOver LosesAssociation
+  stream_event_lacks (event.Transmit packets) p q h = cc (h.0)
+  stream_event_lacks (event.Open stream label) p q h = ap (λ (x : PolledPeer I D S M N). x.core.phase) h
+  stream_event_lacks (event.Close stream pending) p q h = over_lacks (channel_over stream p.core.channels) h
+    where
+      over_lacks : (id : Option ℕ) → ClosesChannelOver {I = I} {D = D} {S = S} {M = M} {E = E} {N = N} id pending p (Error Alloc) q → q.core.phase ≡ Closed
+      over_lacks (Some id) k = cc (k.0)
+      over_lacks None k = cc (k.0)
+  stream_event_lacks (event.StreamResetComplete stream) p q h = cc (h.0)
+  stream_event_lacks (event.Data stream binary bytes) p q h = over_lacks (channel_over stream p.core.channels) h
+    where
+      over_lacks : (id : Option ℕ) → HearsChannelOver {I = I} {D = D} {S = S} {M = M} {E = E} {N = N} id binary bytes p (Error Alloc) q → q.core.phase ≡ Closed
+      over_lacks (Some id) k = cc (k.0)
+      over_lacks None k = cc (k.0)
+  stream_event_lacks (event.BufferedAmountLow stream) p q h = over_lacks (channel_over stream p.core.channels) h
+    where
+      over_lacks : (id : Option ℕ) → FallsChannelOver {I = I} {D = D} {S = S} {M = M} {E = E} {N = N} id p (Error Alloc) q → q.core.phase ≡ Closed
+      over_lacks (Some id) k = cc (k.0)
+      over_lacks None k = cc (k.0)
+  stream_event_lacks event.AssociationLost p q h = close_lacks (with_channels (holds_lost p.core.channels) p) q h
+
+  stream_answer_lacks : (answer : Result (Option SctpEvent) AllocError) (p q : PolledPeer I D S M N) → TakesStreamAnswer m answer p (Error Alloc) q
+      → q.core.phase ≡ Closed
+  stream_answer_lacks (Ok None) p q h = cc (h.0)
+  stream_answer_lacks (Ok (Some e)) p q h = stream_event_lacks e p q h
+  stream_answer_lacks (Err error) p q h = ap (λ (x : PolledPeer I D S M N). x.core.phase) h.1
+
+  sent_first_lacks : (packets : Option (List (List ℕ))) (p q : PolledPeer I D S M N) → SendsFirst m packets p (Error Alloc) q → q.core.phase ≡ Closed
+  unfolding SendsPacket
+  sent_first_lacks None p q h = cc (h.0)
+  sent_first_lacks (Some []) p q h = cc (h.0)
+  sent_first_lacks (Some (packet ∷ rest)) p q h = ap (λ (x : PolledPeer I D S M N). x.core.phase) h.1
+
+  streams_lack : ClosesWhenLacking (TellsStreams m)
+  unfolding TellsStreams
+  streams_lack =
+      else_lacks (PollsStreamEvents m) (SendsKeptPackets m) (λ p q h. stream_answer_lacks h.ends.answer _ q h.ends.by_answer)
+      (λ p q h. sent_first_lacks p.core.sctp.pushed (with_pushed None p) q h)
+
   arrivals_lack : ClosesWhenLacking (TellsArrivals m)
   unfolding TellsArrivals TellsMedia TellsFallibleMedia
   arrivals_lack =
@@ -124,8 +183,9 @@ module _ {I D S M E X T W N : Type 0} (m : Meanings I D S M E X T W N) where
   unfolding VisitsParts
   visits_lack =
       else_lacks (TellsConnection m) _ connection_lacks
+      (else_lacks (TellsStreams m) _ streams_lack
       (else_lacks (TellsArrivals m) _ arrivals_lack
-      (else_lacks (SendsDatagrams m) StartsOverWhenDue datagrams_lack (λ p q h. absurd (not_over (is_dtls_due p) h.0))))
+      (else_lacks (SendsDatagrams m) StartsOverWhenDue datagrams_lack (λ p q h. absurd (not_over (is_dtls_due p) h.0)))))
 
   waits_lack : (complete : Bool) (p q : PolledPeer I D S M N) → WaitsIf m complete p (Err Alloc) q → q.core.phase ≡ Closed
   waits_lack true p q h = cc (h.0)
@@ -149,10 +209,18 @@ module _ {I D S M E X T W N : Type 0} (m : Meanings I D S M E X T W N) where
   pub poll_lacks : (p q : PolledPeer I D S M N) → PollsPeer m p (Err Alloc) q → q.core.phase ≡ Closed
   poll_lacks p q h = polls_lack p.core.phase p q h
 
+  time_given_lacks : (now : ℕ) → CallClosesWhenLacking (GivesTime m now)
+  unfolding TimesIce TimesStreams TimesChannels TimesMedia
+  time_given_lacks now p q h =
+      turn_lacks (TimesIce m now) _ (λ p q h. ap (λ (x : PolledPeer I D S M N). x.core.phase) h.1)
+      (turn_lacks (TimesStreams m now) _ (λ p q h. ap (λ (x : PolledPeer I D S M N). x.core.phase) h.1)
+      (turn_lacks (TimesChannels m) (TimesMedia m now) (λ p q h. ap (λ (x : PolledPeer I D S M N). x.core.phase) h.1)
+      (λ p q h. ap (λ (x : PolledPeer I D S M N). x.core.phase) h.1)))
+      (with_moment now p) q h
+
   input_time_lacks : (earlier : Bool) (now : ℕ) (p q : PolledPeer I D S M N) → TakesTimeIf m earlier now p (Err Alloc) q → q.core.phase ≡ Closed
-  unfolding GivesTime
   input_time_lacks true now p q h = cc (h.0)
-  input_time_lacks false now p q h = ap (λ (x : PolledPeer I D S M N). x.core.phase) h.0
+  input_time_lacks false now p q h = time_given_lacks now p q h
 
   kind_lacks : (now : ℕ) (datagram : Receive) (contents : DatagramRecv) (p q : PolledPeer I D S M N) → HearsKind m now datagram contents p (Err Alloc) q
       → q.core.phase ≡ Closed

@@ -1,4 +1,4 @@
--- Polls, inputs and closing leave the settings of the ICE agent, the DTLS role and the fingerprint of this side.
+-- A poll leaves the settings of the ICE agent, the DTLS role and the fingerprint of this side.
 use Rattle.std.proofs.Common.{◌≡◌, ◌⊎◌, inl, inr, ℕ, Bool, true, false, List, [], ◌∷◌, Option, Some, None, Result, Ok, Err, alloc_error, refl, sym, ap, subst, ◌∙◌}
 use Rattle.std.specs.declared.alloc.AllocError.{AllocError}
 use Rattle.rtc_sdp_values.specs.declared.fingerprint.Fingerprint.{Fingerprint}
@@ -7,7 +7,7 @@ use Rattle.rtc_ice.specs.IceLaws.{IceLaws}
 use Rattle.rtc_ice.specs.IceMeaning.{IceSettings}
 use Rattle.rtc_dtls.specs.declared.dtls_error.DtlsError.{DtlsError}
 use Rattle.rtc_dtls.specs.declared.dtls_error.DtlsError.TheVariants.{Fault, Alloc as DtlsAlloc}
-use Rattle.rtc_dtls.specs.DtlsState.{DtlsState}
+use Rattle.rtc_dtls.specs.DtlsState.{DtlsState, SendsData, can_send}
 use Rattle.rtc_media.specs.declared.media_error.MediaError.TheVariants.{Alloc as MediaAlloc}
 use Rattle.rtc_dtls.specs.declared.dtls_output.DtlsOutput.{DtlsOutput}
 use Rattle.rtc_dtls.specs.declared.dtls_output.DtlsOutput.TheVariants as outputs
@@ -15,6 +15,8 @@ use Rattle.rtc_peer_state.specs.declared.phase.Phase.{Phase}
 use Rattle.rtc_peer_state.specs.declared.phase.Phase.TheVariants.{Alive, Closing, Closed}
 use Rattle.rtc_peer_state.specs.Meanings.{Meanings}
 use Rattle.rtc_peer_state.specs.Stance.{stance_of}
+use Rattle.rtc_sctp_entries.specs.declared.sctp_event.SctpEvent.{SctpEvent}
+use Rattle.rtc_sctp_entries.specs.declared.sctp_event.SctpEvent.TheVariants as event
 use Rattle.rtc_polling.specs.declared.event.Event.TheVariants as told
 use Rattle.rtc_polling.specs.declared.handshake.Handshake.{Handshake}
 use Rattle.rtc_polling.specs.declared.handshake.Handshake.TheVariants.{Pending, Finished, Told}
@@ -24,213 +26,177 @@ use Rattle.rtc_polling.specs.declared.output.Output.{Output}
 use Rattle.rtc_polling.specs.declared.polled_peer.PolledPeer.{PolledPeer}
 use Rattle.rtc_polling.specs.declared.send_addr.SendAddr.{SendAddr}
 use Rattle.rtc_peer_state.specs.declared.rtc_error.RtcError.{RtcError}
-use Rattle.rtc_peer_state.specs.declared.rtc_error.RtcError.TheVariants.{RemoteSdp, Dtls, Media, Alloc}
-use Rattle.rtc_polling.specs.Closing.{BeginsClosing, ClosesPeer, ClosesPeerFrom, is_closing_complete}
-use Rattle.rtc_polling.specs.Connection.{with_dtls, with_ice}
+use Rattle.rtc_peer_state.specs.declared.rtc_error.RtcError.TheVariants.{RemoteSdp, Dtls, Sctp, Media, Alloc}
+use Rattle.rtc_polling.specs.Closing.{ShutsMedia, ShutsStreams, ShutsDtls, BecomesClosing, BeginsClosing, ClosesPeer, ClosesPeerFrom, is_closing_complete, is_phase_closing}
+use Rattle.rtc_polling.specs.Connection.{with_dtls, with_ice, with_sctp, with_channels, with_pushed}
 use Rattle.rtc_polling.specs.DtlsStages.{GivesDtlsTime, TimesDtls, TimesDtlsIf, TakesDtlsOutput, TakesDtlsAnswer, PollsDtlsOutput}
-use Rattle.rtc_polling.specs.DtlsStages.{PollsDtlsOutputs, TakesKeys, TakesCloseNotify, ChecksCert, TellsConnectedFrom, is_dtls_due}
+use Rattle.rtc_polling.specs.DtlsStages.{PollsDtlsOutputs, TakesKeys, TakesCloseNotify, HandsPacket, ChecksCert, TellsConnectedFrom, is_dtls_due}
 use Rattle.rtc_polling.specs.IceStages.{PollsIceEvent, PollsIceEvents, TakesIceEvent, after_ice_event}
 use Rattle.rtc_polling.specs.Kept.{KeepsNegotiation, KeepsParts}
 use Rattle.rtc_polling.specs.MediaStages.{TellsMedia, TellsFallibleMedia}
 use Rattle.rtc_polling.specs.SendStages.{SendsChecks, SendsDtlsPacket, SendsMediaDatagram, SendsBy, SendsByPair}
-use Rattle.rtc_polling.specs.Stages.{Stage, FollowedBy, Stopped, WentOn, RepeatsStage}
+use Rattle.rtc_polling.specs.Stages.{Call, InTurn, Failed, Passed, Stage, FollowedBy, Stopped, WentOn, RepeatsStage}
+use Rattle.rtc_polling.specs.StreamStages.{OpensChannelOver, ClosesChannelOver, HearsChannelOver, FallsChannelOver, LosesAssociation, TakesStreamEvent, TakesStreamAnswer, PollsStreamEvent, PollsStreamEvents, SendsPacket, SendsFirst, SendsKeptPackets, TellsStreams, channel_over, left_over}
 use Rattle.rtc_polling.specs.Walk.{StartsOverWhenDue, TellsConnection, TellsArrivals, SendsDatagrams, VisitsParts, WaitsIf, AnswersMet, Walks, PollsPeerFrom, PollsPeer}
 use Rattle.rtc_polling.proofs.StageLemmas.{over_carries}
-use Rattle.rtc_polling.proofs.DtlsRoles.{KeepsRole, hands_on_role, polls_role, gives_role}
+use Rattle.rtc_polling.proofs.DtlsRoles.{KeepsRole, hands_on_role, polls_role, gives_role, sends_role}
+use Rattle.rtc_polling.proofs.StandingCalls.{CallStands, Stands, stands_self, stands_on, stands_by, dtls_stand, turn_stands, else_stands, repeats_stands, close_stands}
+use Rattle.rtc_polling.proofs.StandingStreams.{streams_stand}
 
 module _ {I D S M E X T W N : Type 0} (m : Meanings I D S M E X T W N) (laws : IceLaws m.ice) where
-  stands_self : (p : PolledPeer I D S M N) → KeepsParts m p p
-  stands_self p = (refl, refl, refl)
-
-  pub stands_on : (p q r : PolledPeer I D S M N) → KeepsParts m p q → KeepsParts m q r → KeepsParts m p r
-  stands_on p q r a b = (b.0 ∙ a.0, b.1 ∙ a.1, b.2 ∙ a.2)
-
-  -- where the peer afterwards is another whose parts stand
-  pub stands_by : (p n q : PolledPeer I D S M N) → q ≡ n → KeepsParts m p n → KeepsParts m p q
-  stands_by p n q is kept = subst (λ (x : PolledPeer I D S M N). KeepsParts m p x) (sym is) kept
-
-  -- a stage leaves the parts standing, whatever is met
-  abbrev Stands : Stage (PolledPeer I D S M N) E → Type 0
-  Stands stage = (p : PolledPeer I D S M N) (r : Met E) (q : PolledPeer I D S M N) → stage p r q → KeepsParts m p q
-
-  else_stands : (first rest : Stage (PolledPeer I D S M N) E) → Stands first → Stands rest → Stands (FollowedBy first rest)
-  else_stands first rest one other p r q (Stopped met stage) = one p r q stage
-  else_stands first rest one other p r q (WentOn between stage after) =
-      stands_on p between q (one p Nothing between stage) (other between r q after)
-
-  repeats_stands : (stage : Stage (PolledPeer I D S M N) E) → Stands stage → Stands (RepeatsStage stage)
-  repeats_stands stage one p r q h =
-      stands_on p h.last q
-      (over_carries stage (KeepsParts m) stands_self stands_on (λ a b turn. one a Again b turn) h.turns p h.last h.over)
-      (one h.last r q h.ends)
-
-  -- only the connection changed
-  pub dtls_stand : (p q : PolledPeer I D S M N) → KeepsRole p.core.dtls q.core.dtls → KeepsParts m p (with_dtls q.core.dtls p)
-  dtls_stand p q role = (refl, role.0, role.1)
-
-  begins_stands : (p : PolledPeer I D S M N) (r : Result (Unit {0}) RtcError) (q : PolledPeer I D S M N) → BeginsClosing m p r q → KeepsParts m p q
-  unfolding BeginsClosing
-  begins_stands p (Ok done) q h = stands_by p _ q h.2 (refl, refl, refl)
-  begins_stands p (Err (Dtls cause)) q h = stands_by p _ q h.3 (refl, refl, refl)
-  begins_stands p (Err Alloc) q h = stands_by p _ q h.0 (refl, refl, refl)
-  begins_stands p (Err error) q h = absurd h
-
-  closes_from_stands : (phase : Phase) (p : PolledPeer I D S M N) (r : Result (Unit {0}) RtcError) (q : PolledPeer I D S M N)
-      → ClosesPeerFrom m phase p r q → KeepsParts m p q
-  closes_from_stands Alive p r q h = begins_stands p r q h
-  closes_from_stands Closing p r q h = stands_by p p q h.1 (refl, refl, refl)
-  closes_from_stands Closed p r q h = stands_by p p q h.1 (refl, refl, refl)
-
-  -- closing leaves them
-  pub close_stands : (p : PolledPeer I D S M N) (r : Result (Unit {0}) RtcError) (q : PolledPeer I D S M N) → ClosesPeer m p r q → KeepsParts m p q
-  close_stands p r q h = closes_from_stands p.core.phase p r q h
-
   taken_event_stands : (event : Option IceEvent) (ice : I) (p : PolledPeer I D S M N) (r : Met E) (q : PolledPeer I D S M N)
       → m.ice.polled p.core.ice event ice → TakesIceEvent event (with_ice ice p) r q → KeepsParts m p q
   taken_event_stands None ice p r q polled taken =
-      stands_by p (with_ice ice p) q taken.1 (ap (λ (i : I). m.ice.settings i) (laws.event_none p.core.ice ice polled), refl, refl)
+      stands_by m p (with_ice ice p) q taken.1 (ap (λ (i : I). m.ice.settings i) (laws.event_none p.core.ice ice polled), refl, refl)
   taken_event_stands (Some event) ice p r q polled taken =
-      stands_by p (record (with_ice ice p) { transport = after_ice_event event p.transport }) q taken.1
+      stands_by m p (record (with_ice ice p) { transport = after_ice_event event p.transport }) q taken.1
       (laws.polled_settings p.core.ice ice event polled, refl, refl)
 
-  ice_events_stand : Stands (PollsIceEvents m)
-  ice_events_stand = repeats_stands (PollsIceEvent m) (λ p r q turn. taken_event_stands turn.event turn.ice p r q turn.by_poll turn.by_event)
+  ice_events_stand : Stands m (PollsIceEvents m)
+  ice_events_stand = repeats_stands m (PollsIceEvent m) (λ p r q turn. taken_event_stands turn.event turn.ice p r q turn.by_poll turn.by_event)
 
-  given_time_stands : Stands (GivesDtlsTime m)
+  given_time_stands : Stands m (GivesDtlsTime m)
   unfolding GivesDtlsTime
-  given_time_stands p Nothing q h = stands_by p _ q h.1 (dtls_stand p q (hands_on_role m.dtls p.core.dtls p.core.dtls.active (λ i r j. m.dtls.timed i p.core.greatest r j) (Ok tt) q.core.dtls h.0))
-  given_time_stands p (Error (Dtls cause)) q h = stands_by p _ q h.2 (dtls_stand p q (hands_on_role m.dtls p.core.dtls p.core.dtls.active (λ i r j. m.dtls.timed i p.core.greatest r j) (Err Fault) q.core.dtls h.1))
-  given_time_stands p (Error Alloc) q h = stands_by p _ q h.1 (dtls_stand p q (hands_on_role m.dtls p.core.dtls p.core.dtls.active (λ i r j. m.dtls.timed i p.core.greatest r j) (Err DtlsAlloc) q.core.dtls h.0))
+  given_time_stands p Nothing q h = stands_by m p _ q h.1 (dtls_stand m p q (hands_on_role m.dtls p.core.dtls p.core.dtls.active (λ i r j. m.dtls.timed i p.core.greatest r j) (Ok tt) q.core.dtls h.0))
+  given_time_stands p (Error (Dtls cause)) q h = stands_by m p _ q h.2 (dtls_stand m p q (hands_on_role m.dtls p.core.dtls p.core.dtls.active (λ i r j. m.dtls.timed i p.core.greatest r j) (Err Fault) q.core.dtls h.1))
+  given_time_stands p (Error Alloc) q h = stands_by m p _ q h.1 (dtls_stand m p q (hands_on_role m.dtls p.core.dtls p.core.dtls.active (λ i r j. m.dtls.timed i p.core.greatest r j) (Err DtlsAlloc) q.core.dtls h.0))
   given_time_stands p _ q h = absurd h
 
   times_stand : (due : Bool) (p : PolledPeer I D S M N) (r : Met E) (q : PolledPeer I D S M N) → TimesDtlsIf m due p r q → KeepsParts m p q
   times_stand true p r q h = given_time_stands p r q h
-  times_stand false p r q h = stands_by p p q h.1 (refl, refl, refl)
+  times_stand false p r q h = stands_by m p p q h.1 (refl, refl, refl)
 
-  keys_stand : (key : List ℕ) (profile : _) (active : Bool) → Stands (TakesKeys m key profile active)
+  keys_stand : (key : List ℕ) (profile : _) (active : Bool) → Stands m (TakesKeys m key profile active)
   unfolding TakesKeys
-  keys_stand key profile active p Again q h = stands_by p _ q h.1 (refl, refl, refl)
-  keys_stand key profile active p (Error Alloc) q h = stands_by p _ q h.1 (refl, refl, refl)
+  keys_stand key profile active p Again q h = stands_by m p _ q h.1 (refl, refl, refl)
+  keys_stand key profile active p (Error Alloc) q h = stands_by m p _ q h.1 (refl, refl, refl)
   keys_stand key profile active p _ q h = absurd h
 
-  cert_stands : (cert : List ℕ) → Stands (ChecksCert {I = I} {D = D} {S = S} {M = M} {E = E} {N = N} cert)
+  cert_stands : (cert : List ℕ) → Stands m (ChecksCert {I = I} {D = D} {S = S} {M = M} {E = E} {N = N} cert)
   unfolding ChecksCert
-  cert_stands cert p Again q h = stands_by p _ q h.3 (refl, refl, refl)
-  cert_stands cert p (Error (RemoteSdp why)) q h = stands_by p _ q h.3 (refl, refl, refl)
-  cert_stands cert p (Error Alloc) q h = stands_by p _ q h (refl, refl, refl)
+  cert_stands cert p Again q h = stands_by m p _ q h.3 (refl, refl, refl)
+  cert_stands cert p (Error (RemoteSdp why)) q h = stands_by m p _ q h.3 (refl, refl, refl)
+  cert_stands cert p (Error Alloc) q h = stands_by m p _ q h (refl, refl, refl)
   cert_stands cert p _ q h = absurd h
 
-  close_notify_stands : Stands (TakesCloseNotify m)
+  close_notify_stands : Stands m (TakesCloseNotify m)
   unfolding TakesCloseNotify
-  close_notify_stands p (MetEvent told.Closed) q h = stands_on p h.0 q (close_stands p (Ok tt) h.0 h.1) (stands_by h.0 _ q h.2 (refl, refl, refl))
-  close_notify_stands p (Error error) q h = close_stands p (Err error) q h
+  close_notify_stands p (MetEvent told.Closed) q h = stands_on m p h.0 q (close_stands m p (Ok tt) h.0 h.1) (stands_by m h.0 _ q h.2 (refl, refl, refl))
+  close_notify_stands p (Error error) q h = close_stands m p (Err error) q h
   close_notify_stands p _ q h = absurd h
 
-  output_stands : (output : DtlsOutput) → Stands (TakesDtlsOutput m output)
-  output_stands outputs.Connected p r q h = stands_by p _ q h.1 (refl, refl, refl)
+  packet_stands : (bytes : List ℕ) → Stands m (HandsPacket m bytes)
+  unfolding HandsPacket
+  packet_stands bytes p Again q h = stands_by m p _ q h.1 (refl, refl, refl)
+  packet_stands bytes p (Error Alloc) q h = stands_by m p _ q h.1 (refl, refl, refl)
+  packet_stands bytes p _ q h = absurd h
+
+  output_stands : (output : DtlsOutput) → Stands m (TakesDtlsOutput m output)
+  output_stands outputs.Connected p r q h = stands_by m p _ q h.1 (refl, refl, refl)
   output_stands (outputs.KeyingMaterial key profile) p r q h = keys_stand key.now profile _ p r q h
   output_stands (outputs.PeerCert cert) p r q h = cert_stands cert.now p r q h
-  output_stands (outputs.ApplicationData bytes) p r q h = stands_by p p q h.1 (refl, refl, refl)
-  output_stands (outputs.Timeout moment) p r q h = stands_by p _ q h.1 (refl, refl, refl)
+  output_stands (outputs.ApplicationData bytes) p r q h = packet_stands bytes.now p r q h
+  output_stands (outputs.Timeout moment) p r q h = stands_by m p _ q h.1 (refl, refl, refl)
   output_stands outputs.CloseNotify p r q h = close_notify_stands p r q h
 
-  answer_stands : (answer : Result DtlsOutput AllocError) → Stands (TakesDtlsAnswer m answer)
+  answer_stands : (answer : Result DtlsOutput AllocError) → Stands m (TakesDtlsAnswer m answer)
   answer_stands (Ok output) p r q h = output_stands output p r q h
-  answer_stands (Err error) p r q h = stands_by p _ q h.1 (refl, refl, refl)
+  answer_stands (Err error) p r q h = stands_by m p _ q h.1 (refl, refl, refl)
 
-  dtls_outputs_stand : Stands (PollsDtlsOutputs m)
+  dtls_outputs_stand : Stands m (PollsDtlsOutputs m)
   dtls_outputs_stand =
-      repeats_stands (PollsDtlsOutput m)
-      (λ p r q turn. stands_on p (with_dtls turn.dtls p) q
+      repeats_stands m (PollsDtlsOutput m)
+      (λ p r q turn. stands_on m p (with_dtls turn.dtls p) q
       (let role = polls_role m.dtls p.core.dtls p.core.dtls.active turn.answer turn.dtls turn.by_poll in (refl, role.0, role.1))
       (answer_stands turn.answer (with_dtls turn.dtls p) r q turn.by_answer))
 
   connected_stands_it : (handshake : Handshake) (p : PolledPeer I D S M N) (r : Met E) (q : PolledPeer I D S M N) → TellsConnectedFrom handshake p r q
       → KeepsParts m p q
-  connected_stands_it Pending p r q h = stands_by p p q h.1 (refl, refl, refl)
-  connected_stands_it Finished p r q h = stands_by p _ q h.1 (refl, refl, refl)
-  connected_stands_it Told p r q h = stands_by p p q h.1 (refl, refl, refl)
+  connected_stands_it Pending p r q h = stands_by m p p q h.1 (refl, refl, refl)
+  connected_stands_it Finished p r q h = stands_by m p _ q h.1 (refl, refl, refl)
+  connected_stands_it Told p r q h = stands_by m p p q h.1 (refl, refl, refl)
 
-  connection_stands : Stands (TellsConnection m)
+  connection_stands : Stands m (TellsConnection m)
   unfolding TellsConnection
   connection_stands =
-      else_stands (PollsIceEvents m) _ ice_events_stand
-      (else_stands (TimesDtls m) _ (λ p r q h. times_stand (is_dtls_due p) p r q h)
-      (else_stands (PollsDtlsOutputs m) _ dtls_outputs_stand (λ p r q h. connected_stands_it p.transport.handshake p r q h)))
+      else_stands m (PollsIceEvents m) _ ice_events_stand
+      (else_stands m (TimesDtls m) _ (λ p r q h. times_stand (is_dtls_due p) p r q h)
+      (else_stands m (PollsDtlsOutputs m) _ dtls_outputs_stand (λ p r q h. connected_stands_it p.transport.handshake p r q h)))
 
-  media_told_stands : Stands (TellsMedia m)
+  media_told_stands : Stands m (TellsMedia m)
   unfolding TellsMedia
-  media_told_stands p Nothing q h = stands_by p _ q h.1 (refl, refl, refl)
-  media_told_stands p (MetEvent (told.Media event)) q h = stands_by p _ q h.1 (refl, refl, refl)
+  media_told_stands p Nothing q h = stands_by m p _ q h.1 (refl, refl, refl)
+  media_told_stands p (MetEvent (told.Media event)) q h = stands_by m p _ q h.1 (refl, refl, refl)
   media_told_stands p _ q h = absurd h
 
-  fallible_told_stands : Stands (TellsFallibleMedia m)
+  fallible_told_stands : Stands m (TellsFallibleMedia m)
   unfolding TellsFallibleMedia
-  fallible_told_stands p Nothing q h = stands_by p _ q h.1 (refl, refl, refl)
-  fallible_told_stands p (MetEvent (told.Media event)) q h = stands_by p _ q h.1 (refl, refl, refl)
-  fallible_told_stands p (Error (Media cause)) q h = stands_by p _ q h.2 (refl, refl, refl)
-  fallible_told_stands p (Error Alloc) q h = stands_by p _ q h.1 (refl, refl, refl)
+  fallible_told_stands p Nothing q h = stands_by m p _ q h.1 (refl, refl, refl)
+  fallible_told_stands p (MetEvent (told.Media event)) q h = stands_by m p _ q h.1 (refl, refl, refl)
+  fallible_told_stands p (Error (Media cause)) q h = stands_by m p _ q h.2 (refl, refl, refl)
+  fallible_told_stands p (Error Alloc) q h = stands_by m p _ q h.1 (refl, refl, refl)
   fallible_told_stands p _ q h = absurd h
 
-  arrivals_stand_it : Stands (TellsArrivals m)
+  arrivals_stand_it : Stands m (TellsArrivals m)
   unfolding TellsArrivals
-  arrivals_stand_it = else_stands (TellsMedia m) (TellsFallibleMedia m) media_told_stands fallible_told_stands
+  arrivals_stand_it = else_stands m (TellsMedia m) (TellsFallibleMedia m) media_told_stands fallible_told_stands
 
-  checks_stand : Stands (SendsChecks m)
+  checks_stand : Stands m (SendsChecks m)
   unfolding SendsChecks
-  checks_stand p Nothing q h = stands_by p _ q h.1 (ap (λ (i : I). m.ice.settings i) (laws.transmit_none p.core.ice q.core.ice h.0), refl, refl)
-  checks_stand p (Transmit transmit) q h = stands_by p _ q h.1 (laws.gave_settings p.core.ice q.core.ice transmit h.0, refl, refl)
+  checks_stand p Nothing q h = stands_by m p _ q h.1 (ap (λ (i : I). m.ice.settings i) (laws.transmit_none p.core.ice q.core.ice h.0), refl, refl)
+  checks_stand p (Transmit transmit) q h = stands_by m p _ q h.1 (laws.gave_settings p.core.ice q.core.ice transmit h.0, refl, refl)
   checks_stand p _ q h = absurd h
 
-  packets_stand : (addr : SendAddr) → Stands (SendsDtlsPacket m addr)
+  packets_stand : (addr : SendAddr) → Stands m (SendsDtlsPacket m addr)
   unfolding SendsDtlsPacket
-  packets_stand addr p Nothing q h = stands_by p _ q h.1 (dtls_stand p q (gives_role m.dtls p.core.dtls p.core.dtls.packets None q.core.dtls h.0))
-  packets_stand addr p (Transmit transmit) q h = stands_by p _ q h.2 (dtls_stand p q (gives_role m.dtls p.core.dtls p.core.dtls.packets (Some transmit.contents) q.core.dtls h.1))
+  packets_stand addr p Nothing q h = stands_by m p _ q h.1 (dtls_stand m p q (gives_role m.dtls p.core.dtls p.core.dtls.packets None q.core.dtls h.0))
+  packets_stand addr p (Transmit transmit) q h = stands_by m p _ q h.2 (dtls_stand m p q (gives_role m.dtls p.core.dtls p.core.dtls.packets (Some transmit.contents) q.core.dtls h.1))
   packets_stand addr p _ q h = absurd h
 
-  media_sent_stands : (addr : SendAddr) → Stands (SendsMediaDatagram m addr)
+  media_sent_stands : (addr : SendAddr) → Stands m (SendsMediaDatagram m addr)
   unfolding SendsMediaDatagram
-  media_sent_stands addr p Nothing q h = stands_by p _ q h.1 (refl, refl, refl)
-  media_sent_stands addr p (Transmit transmit) q h = stands_by p _ q h.2 (refl, refl, refl)
+  media_sent_stands addr p Nothing q h = stands_by m p _ q h.1 (refl, refl, refl)
+  media_sent_stands addr p (Transmit transmit) q h = stands_by m p _ q h.2 (refl, refl, refl)
   media_sent_stands addr p _ q h = absurd h
 
   sends_stand : (addr : Option SendAddr) (p : PolledPeer I D S M N) (r : Met E) (q : PolledPeer I D S M N) → SendsBy m addr p r q → KeepsParts m p q
-  sends_stand (Some addr) p r q h = else_stands (SendsDtlsPacket m addr) (SendsMediaDatagram m addr) (packets_stand addr) (media_sent_stands addr) p r q h
-  sends_stand None p r q h = stands_by p _ q h.2 (refl, refl, refl)
+  sends_stand (Some addr) p r q h = else_stands m (SendsDtlsPacket m addr) (SendsMediaDatagram m addr) (packets_stand addr) (media_sent_stands addr) p r q h
+  sends_stand None p r q h = stands_by m p _ q h.2 (refl, refl, refl)
 
-  datagrams_stand_it : Stands (SendsDatagrams m)
+  datagrams_stand_it : Stands m (SendsDatagrams m)
   unfolding SendsDatagrams
-  datagrams_stand_it = else_stands (SendsChecks m) (SendsByPair m) checks_stand (λ p r q h. sends_stand p.transport.send_addr p r q h)
+  datagrams_stand_it = else_stands m (SendsChecks m) (SendsByPair m) checks_stand (λ p r q h. sends_stand p.transport.send_addr p r q h)
 
-  visits_stand : Stands (VisitsParts m)
+  visits_stand : Stands m (VisitsParts m)
   unfolding VisitsParts
   visits_stand =
-      else_stands (TellsConnection m) _ connection_stands
-      (else_stands (TellsArrivals m) _ arrivals_stand_it
-      (else_stands (SendsDatagrams m) StartsOverWhenDue datagrams_stand_it (λ p r q h. stands_by p p q h.1 (refl, refl, refl))))
+      else_stands m (TellsConnection m) _ connection_stands
+      (else_stands m (TellsStreams m) _ (streams_stand m)
+      (else_stands m (TellsArrivals m) _ arrivals_stand_it
+      (else_stands m (SendsDatagrams m) StartsOverWhenDue datagrams_stand_it (λ p r q h. stands_by m p p q h.1 (refl, refl, refl)))))
 
   waits_stand : (complete : Bool) (p : PolledPeer I D S M N) (answer : Result (Output E) RtcError) (q : PolledPeer I D S M N)
       → WaitsIf m complete p answer q → KeepsParts m p q
-  waits_stand true p answer q h = stands_by p _ q h.1 (refl, refl, refl)
-  waits_stand false p answer q h = stands_by p _ q h.1 (refl, refl, refl)
+  waits_stand true p answer q h = stands_by m p _ q h.1 (refl, refl, refl)
+  waits_stand false p answer q h = stands_by m p _ q h.1 (refl, refl, refl)
 
   met_stands : (met : Met E) (p : PolledPeer I D S M N) (answer : Result (Output E) RtcError) (q : PolledPeer I D S M N)
       → AnswersMet m met p answer q → KeepsParts m p q
   met_stands Nothing p answer q h = waits_stand (is_closing_complete m p) p answer q h
   met_stands Again p answer q h = absurd h
-  met_stands (Transmit transmit) p answer q h = stands_by p p q h.1 (refl, refl, refl)
-  met_stands (MetEvent event) p answer q h = stands_by p p q h.1 (refl, refl, refl)
-  met_stands (Error error) p answer q h = stands_by p p q h.1 (refl, refl, refl)
+  met_stands (Transmit transmit) p answer q h = stands_by m p p q h.1 (refl, refl, refl)
+  met_stands (MetEvent event) p answer q h = stands_by m p p q h.1 (refl, refl, refl)
+  met_stands (Error error) p answer q h = stands_by m p p q h.1 (refl, refl, refl)
 
   walks_stand : (p : PolledPeer I D S M N) (answer : Result (Output E) RtcError) (q : PolledPeer I D S M N) → Walks m p answer q → KeepsParts m p q
   walks_stand p answer q h =
-      stands_on p h.visited q (repeats_stands (VisitsParts m) visits_stand p h.met h.visited h.by_visits) (met_stands h.met h.visited answer q h.by_answer)
+      stands_on m p h.visited q (repeats_stands m (VisitsParts m) visits_stand p h.met h.visited h.by_visits) (met_stands h.met h.visited answer q h.by_answer)
 
   polls_from_stand : (phase : Phase) (p : PolledPeer I D S M N) (answer : Result (Output E) RtcError) (q : PolledPeer I D S M N)
       → PollsPeerFrom m phase p answer q → KeepsParts m p q
   polls_from_stand Alive p answer q h = walks_stand p answer q h
   polls_from_stand Closing p answer q h = walks_stand p answer q h
-  polls_from_stand Closed p answer q h = stands_by p _ q h.1 (refl, refl, refl)
+  polls_from_stand Closed p answer q h = stands_by m p _ q h.1 (refl, refl, refl)
 
   -- a poll leaves them
   pub poll_stands : (p : PolledPeer I D S M N) (answer : Result (Output E) RtcError) (q : PolledPeer I D S M N) → PollsPeer m p answer q

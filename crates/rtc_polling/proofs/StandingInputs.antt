@@ -14,68 +14,78 @@ use Rattle.rtc_media.specs.declared.media_error.MediaError.TheVariants.{Alloc as
 use Rattle.rtc_peer_state.specs.declared.phase.Phase.{Phase}
 use Rattle.rtc_peer_state.specs.declared.phase.Phase.TheVariants.{Alive, Closing, Closed}
 use Rattle.rtc_peer_state.specs.Meanings.{Meanings}
-use Rattle.rtc_peer_state.specs.Stance.{stance_of}
+use Rattle.rtc_peer_state.specs.ChannelRows.{channel_rows}
+use Rattle.rtc_peer_state.specs.Stance.{Stance, stance_of}
 use Rattle.rtc_polling.specs.declared.input.Input.{Input}
 use Rattle.rtc_polling.specs.declared.input.Input.TheVariants.{Timeout as TimeCame, Receive as Datagram}
 use Rattle.rtc_polling.specs.declared.polled_peer.PolledPeer.{PolledPeer}
 use Rattle.rtc_peer_state.specs.declared.rtc_error.RtcError.{RtcError}
 use Rattle.rtc_peer_state.specs.declared.rtc_error.RtcError.TheVariants.{RemoteSdp, Dtls, Media, Alloc}
-use Rattle.rtc_polling.specs.Inputs.{GivesTime, TakesTimeIf, HearsStun, HearsDtls, HearsMedia, HearsKind, Hears, Heard, PartFailed, HandlesInputBy, HandlesInputIn, HandlesInput}
+use Rattle.rtc_polling.specs.Inputs.{TimesIce, TimesStreams, TimesChannels, TimesMedia, with_moment, GivesTime, TakesTimeIf, HearsStun, HearsDtls, HearsMedia, HearsKind, Hears, Heard, PartFailed, HandlesInputBy, HandlesInputIn, HandlesInput}
 use Rattle.rtc_polling.specs.Connection.{with_dtls}
 use Rattle.rtc_polling.specs.Kept.{KeepsNegotiation, KeepsParts}
 use Rattle.rtc_polling.proofs.DtlsRoles.{KeepsRole, hands_on_role}
-use Rattle.rtc_polling.proofs.Standing as standing
+use Rattle.rtc_polling.proofs.StandingCalls.{CallStands, Stands, stands_self, stands_on, stands_by, dtls_stand, turn_stands, else_stands, repeats_stands, close_stands}
 
 module _ {I D S M E X T W N : Type 0} (m : Meanings I D S M E X T W N) (laws : IceLaws m.ice) where
-  stands_by : (p n q : PolledPeer I D S M N) → q ≡ n → KeepsParts m p n → KeepsParts m p q
-  stands_by p n q is kept = standing.stands_by m laws p n q is kept
+  ice_timed_stands : (now : ℕ) → CallStands m (TimesIce m now)
+  unfolding TimesIce
+  ice_timed_stands now p (Ok done) q h = stands_by m p _ q h.1 (laws.timed_settings p.core.ice q.core.ice now (Ok tt) h.0, refl, refl)
+  ice_timed_stands now p (Err Alloc) q h = stands_by m p _ q h.1 (laws.timed_settings p.core.ice q.core.ice now (Err alloc_error) h.0, refl, refl)
+  ice_timed_stands now p (Err _) q h = absurd h
 
-  stands_on : (p q r : PolledPeer I D S M N) → KeepsParts m p q → KeepsParts m q r → KeepsParts m p r
-  stands_on p q r a b = standing.stands_on m laws p q r a b
+  streams_timed_stand : (now : ℕ) → CallStands m (TimesStreams m now)
+  unfolding TimesStreams
+  streams_timed_stand now p (Ok done) q h = stands_by m p _ q h.1 (refl, refl, refl)
+  streams_timed_stand now p (Err Alloc) q h = stands_by m p _ q h.1 (refl, refl, refl)
+  streams_timed_stand now p (Err _) q h = absurd h
 
-  dtls_stand : (p q : PolledPeer I D S M N) → KeepsRole p.core.dtls q.core.dtls → KeepsParts m p (with_dtls q.core.dtls p)
-  dtls_stand p q role = standing.dtls_stand m laws p q role
+  channels_timed_stand : CallStands m (TimesChannels m)
+  unfolding TimesChannels
+  channels_timed_stand p (Ok done) q h = stands_by m p _ q h.1 (refl, refl, refl)
+  channels_timed_stand p (Err Alloc) q h = stands_by m p _ q h.1 (refl, refl, refl)
+  channels_timed_stand p (Err _) q h = absurd h
 
-  timed_or : (p q : PolledPeer I D S M N) (now : ℕ)
-      → (m.ice.timed p.core.ice now (Err alloc_error) q.core.ice × (q.core.media ≡ p.core.media))
-      ⊎ (m.ice.timed p.core.ice now (Ok tt) q.core.ice × m.media.timed p.core.media now (Err MediaAlloc) q.core.media)
-      → m.ice.settings q.core.ice ≡ m.ice.settings p.core.ice
-  timed_or p q now (inl lacks) = laws.timed_settings p.core.ice q.core.ice now (Err alloc_error) lacks.0
-  timed_or p q now (inr failed) = laws.timed_settings p.core.ice q.core.ice now (Ok tt) failed.0
+  media_timed_stands : (now : ℕ) → CallStands m (TimesMedia m now)
+  unfolding TimesMedia
+  media_timed_stands now p (Ok done) q h = stands_by m p _ q h.1 (refl, refl, refl)
+  media_timed_stands now p (Err (Media cause)) q h = stands_by m p _ q h.2 (refl, refl, refl)
+  media_timed_stands now p (Err Alloc) q h = stands_by m p _ q h.1 (refl, refl, refl)
+  media_timed_stands now p (Err _) q h = absurd h
 
-  time_given_stands : (now : ℕ) (p : PolledPeer I D S M N) (r : Result (Unit {0}) RtcError) (q : PolledPeer I D S M N) → GivesTime m now p r q
-      → KeepsParts m p q
-  unfolding GivesTime
-  time_given_stands now p (Ok done) q h = stands_by p _ q h.2 (laws.timed_settings p.core.ice q.core.ice now (Ok tt) h.0, refl, refl)
-  time_given_stands now p (Err (Media cause)) q h = stands_by p _ q h.3 (laws.timed_settings p.core.ice q.core.ice now (Ok tt) h.1, refl, refl)
-  time_given_stands now p (Err Alloc) q h = stands_by p _ q h.0 (timed_or p q now h.1, refl, refl)
-  time_given_stands now p (Err error) q h = absurd h
+  time_given_stands : (now : ℕ) → CallStands m (GivesTime m now)
+  time_given_stands now p r q h =
+      stands_on m p (with_moment now p) q (refl, refl, refl)
+      (turn_stands m (TimesIce m now) _ (ice_timed_stands now)
+      (turn_stands m (TimesStreams m now) _ (streams_timed_stand now)
+      (turn_stands m (TimesChannels m) (TimesMedia m now) channels_timed_stand (media_timed_stands now)))
+      (with_moment now p) r q h)
 
   time_stands : (earlier : Bool) (now : ℕ) (p : PolledPeer I D S M N) (r : Result (Unit {0}) RtcError) (q : PolledPeer I D S M N)
       → TakesTimeIf m earlier now p r q → KeepsParts m p q
-  time_stands true now p r q h = stands_by p p q h.1 (refl, refl, refl)
+  time_stands true now p r q h = stands_by m p p q h.1 (refl, refl, refl)
   time_stands false now p r q h = time_given_stands now p r q h
 
   stun_stands : (now : ℕ) (datagram : Receive) (bytes : List ℕ) (p : PolledPeer I D S M N) (r : Result (Unit {0}) RtcError)
       (q : PolledPeer I D S M N) → HearsStun m now datagram bytes p r q → KeepsParts m p q
   unfolding HearsStun
-  stun_stands now datagram bytes p (Ok done) q h = stands_by p _ q h.1 (laws.given_settings p.core.ice q.core.ice now datagram.proto datagram.source datagram.destination bytes (Ok tt) h.0, refl, refl)
-  stun_stands now datagram bytes p (Err Alloc) q h = stands_by p _ q h.1 (laws.given_settings p.core.ice q.core.ice now datagram.proto datagram.source datagram.destination bytes (Err alloc_error) h.0, refl, refl)
+  stun_stands now datagram bytes p (Ok done) q h = stands_by m p _ q h.1 (laws.given_settings p.core.ice q.core.ice now datagram.proto datagram.source datagram.destination bytes (Ok tt) h.0, refl, refl)
+  stun_stands now datagram bytes p (Err Alloc) q h = stands_by m p _ q h.1 (laws.given_settings p.core.ice q.core.ice now datagram.proto datagram.source datagram.destination bytes (Err alloc_error) h.0, refl, refl)
   stun_stands now datagram bytes p (Err _) q h = absurd h
 
   dtls_stands : (bytes : List ℕ) (p : PolledPeer I D S M N) (r : Result (Unit {0}) RtcError) (q : PolledPeer I D S M N) → HearsDtls m bytes p r q
       → KeepsParts m p q
   unfolding HearsDtls
-  dtls_stands bytes p (Ok done) q h = stands_by p _ q h.1 (dtls_stand p q (hands_on_role m.dtls p.core.dtls p.core.dtls.active (λ i r j. m.dtls.given i bytes r j) (Ok tt) q.core.dtls h.0))
-  dtls_stands bytes p (Err (Dtls cause)) q h = stands_by p _ q h.2 (dtls_stand p q (hands_on_role m.dtls p.core.dtls p.core.dtls.active (λ i r j. m.dtls.given i bytes r j) (Err Fault) q.core.dtls h.1))
-  dtls_stands bytes p (Err Alloc) q h = stands_by p _ q h.1 (dtls_stand p q (hands_on_role m.dtls p.core.dtls p.core.dtls.active (λ i r j. m.dtls.given i bytes r j) (Err DtlsAlloc) q.core.dtls h.0))
+  dtls_stands bytes p (Ok done) q h = stands_by m p _ q h.1 (dtls_stand m p q (hands_on_role m.dtls p.core.dtls p.core.dtls.active (λ i r j. m.dtls.given i bytes r j) (Ok tt) q.core.dtls h.0))
+  dtls_stands bytes p (Err (Dtls cause)) q h = stands_by m p _ q h.2 (dtls_stand m p q (hands_on_role m.dtls p.core.dtls p.core.dtls.active (λ i r j. m.dtls.given i bytes r j) (Err Fault) q.core.dtls h.1))
+  dtls_stands bytes p (Err Alloc) q h = stands_by m p _ q h.1 (dtls_stand m p q (hands_on_role m.dtls p.core.dtls p.core.dtls.active (λ i r j. m.dtls.given i bytes r j) (Err DtlsAlloc) q.core.dtls h.0))
   dtls_stands bytes p (Err _) q h = absurd h
 
   media_stands : (given : M → Result (Unit {0}) AllocError → M → Type 0) (bytes : List ℕ) (p : PolledPeer I D S M N)
       (r : Result (Unit {0}) RtcError) (q : PolledPeer I D S M N) → HearsMedia m given bytes p r q → KeepsParts m p q
   unfolding HearsMedia
-  media_stands given bytes p (Ok done) q h = stands_by p _ q h.1 (refl, refl, refl)
-  media_stands given bytes p (Err Alloc) q h = stands_by p _ q h.1 (refl, refl, refl)
+  media_stands given bytes p (Ok done) q h = stands_by m p _ q h.1 (refl, refl, refl)
+  media_stands given bytes p (Err Alloc) q h = stands_by m p _ q h.1 (refl, refl, refl)
   media_stands given bytes p (Err _) q h = absurd h
 
   kind_stands : (now : ℕ) (datagram : Receive) (contents : DatagramRecv) (p : PolledPeer I D S M N) (r : Result (Unit {0}) RtcError)
@@ -88,7 +98,7 @@ module _ {I D S M E X T W N : Type 0} (m : Meanings I D S M E X T W N) (laws : I
   hears_stand : (now : ℕ) (datagram : Receive) (p : PolledPeer I D S M N) (r : Result (Unit {0}) RtcError) (q : PolledPeer I D S M N)
       → Hears m now datagram p r q → KeepsParts m p q
   hears_stand now datagram p r q (Heard between heard time) =
-      stands_on p between q (kind_stands now datagram datagram.contents p (Ok tt) between heard) (time_stands _ now between r q time)
+      stands_on m p between q (kind_stands now datagram datagram.contents p (Ok tt) between heard) (time_stands _ now between r q time)
   hears_stand now datagram p r q (PartFailed error is heard) = kind_stands now datagram datagram.contents p (Err error) q heard
 
   input_by_stands : (input : Input) (p : PolledPeer I D S M N) (r : Result (Unit {0}) RtcError) (q : PolledPeer I D S M N)
@@ -100,18 +110,23 @@ module _ {I D S M E X T W N : Type 0} (m : Meanings I D S M E X T W N) (laws : I
       → HandlesInputIn m phase input p r q → KeepsParts m p q
   input_in_stands Alive input p r q h = input_by_stands input p r q h
   input_in_stands Closing input p r q h = input_by_stands input p r q h
-  input_in_stands Closed input p r q h = stands_by p p q h.1 (refl, refl, refl)
+  input_in_stands Closed input p r q h = stands_by m p p q h.1 (refl, refl, refl)
 
   -- an input leaves them
   pub input_stands : (input : Input) (p : PolledPeer I D S M N) (r : Result (Unit {0}) RtcError) (q : PolledPeer I D S M N) → HandlesInput m input p r q
       → KeepsParts m p q
   input_stands input p r q h = input_in_stands p.core.phase input p r q h
 
--- what negotiation reads of a peer stays, where its parts stand
+-- what negotiation reads of a peer stays but for the channels and their rows, where its parts stand
 pub stance_by : {I D S M E X T W N : Type 0} (m : Meanings I D S M E X T W N) (p q : PolledPeer I D S M N) → KeepsNegotiation p q → KeepsParts m p q
-    → stance_of m q.core ≡ stance_of m p.core
+    → stance_of m q.core
+    ≡ record (stance_of m p.core) { channels = q.core.channels; rows = channel_rows m.association q.core.sctp q.core.channels }
 stance_by m p q kept parts =
+    let after : Stance = record (stance_of m p.core) {
+      channels = q.core.channels;
+      rows = channel_rows m.association q.core.sctp q.core.channels;
+    } in
     ap (stance_of m) kept
-    ∙ ap (λ (s : IceSettings). record (stance_of m p.core) { ice = s; own_fingerprint = q.core.dtls.local; role = q.core.dtls.active }) parts.0
-    ∙ ap (λ (f : Fingerprint). record (stance_of m p.core) { own_fingerprint = f; role = q.core.dtls.active }) parts.2
-    ∙ ap (λ (o : Option Bool). record (stance_of m p.core) { role = o }) parts.1
+    ∙ ap (λ (s : IceSettings). record after { ice = s; own_fingerprint = q.core.dtls.local; role = q.core.dtls.active }) parts.0
+    ∙ ap (λ (f : Fingerprint). record after { own_fingerprint = f; role = q.core.dtls.active }) parts.2
+    ∙ ap (λ (o : Option Bool). record after { role = o }) parts.1

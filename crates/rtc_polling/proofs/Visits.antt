@@ -1,5 +1,6 @@
--- A walk starts over at most once: a moment of DTLS that has come is handed to the part, which then asks for none that has.
-use Rattle.std.proofs.Common.{if◌then◌else◌, ◌≡◌, ◌<◌, ◌-◌, ◌^◌, ◌++◌, ℕ, Bool, true, false, List, []}
+-- A walk that starts over has drained the input of DTLS, and from then on each visit that starts over leaves less to do: a packet of the
+-- association was sent, or a moment of DTLS has come that is handed over next.
+use Rattle.std.proofs.Common.{if◌then◌else◌, ◌≡◌, ◌<◌, ◌≤◌, ◌+◌, ◌*◌, ◌-◌, ◌^◌, ◌++◌, ◌⊎◌, inl, inr, ℕ, Bool, true, false, List, []}
 use Rattle.std.proofs.Common.{◌∷◌, Option, Some, None, Result, Ok, Err, refl, sym, ap, subst, ◌∙◌, arith}
 use Rattle.std.specs.declared.alloc.AllocError.{AllocError}
 use Rattle.rtc_dtls.specs.declared.dtls_output.DtlsOutput.{DtlsOutput}
@@ -8,7 +9,9 @@ use Rattle.rtc_dtls.specs.DtlsActs.{DtlsAct, DtlsActed, DtlsMoved, Taken, Got, S
 use Rattle.rtc_dtls.specs.DtlsDrawn.{DtlsDrawn, DrewPacket, DrewConnected, DrewKeying, DrewCert, DrewData, DrewTimeout, DrewClose, draws_output}
 use Rattle.rtc_dtls.specs.DtlsLaws.{DtlsLaws, IsLater}
 use Rattle.rtc_dtls.specs.DtlsMeaning.{DtlsMeaning}
-use Rattle.rtc_dtls.specs.DtlsState.{DtlsState, PollsOutput, HandsOn, drawn_by}
+use Rattle.rtc_dtls.specs.DtlsState.{DtlsState, GivesPacket}
+use Rattle.rtc_dtls.specs.declared.dtls_error.DtlsError.{DtlsError}
+use Rattle.rtc_polling.specs.declared.transport.Transport.{Transport}
 use Rattle.rtc_dtls.specs.DtlsWords.{takes}
 use Rattle.rtc_peer_state.specs.Meanings.{Meanings}
 use Rattle.rtc_polling.specs.declared.handshake.Handshake.{Handshake}
@@ -19,212 +22,64 @@ use Rattle.rtc_polling.specs.declared.polled_peer.PolledPeer.{PolledPeer}
 use Rattle.rtc_polling.specs.declared.send_addr.SendAddr.{SendAddr}
 use Rattle.rtc_polling.specs.Connection.{with_dtls}
 use Rattle.rtc_polling.specs.DtlsStages.{GivesDtlsTime, TimesDtls, TimesDtlsIf, TakesDtlsOutput, TakesDtlsAnswer, PollsDtlsOutput}
-use Rattle.rtc_polling.specs.DtlsStages.{PollsDtlsOutputs, TakesKeys, TakesCloseNotify, ChecksCert, TellsConnected, TellsConnectedFrom, has_come, is_dtls_due}
+use Rattle.rtc_polling.specs.DtlsStages.{PollsDtlsOutputs, TakesKeys, TakesCloseNotify, HandsPacket, ChecksCert, TellsConnected, TellsConnectedFrom, has_come, is_dtls_due}
 use Rattle.rtc_polling.specs.IceStages.{PollsIceEvent, PollsIceEvents}
 use Rattle.rtc_polling.specs.MediaStages.{TellsMedia, TellsFallibleMedia}
 use Rattle.rtc_polling.specs.SendStages.{SendsChecks, SendsDtlsPacket, SendsMediaDatagram, SendsBy, SendsByPair}
-use Rattle.rtc_polling.specs.Stages.{FollowedBy}
+use Rattle.rtc_polling.specs.Stages.{FollowedBy, Stopped, WentOn}
 use Rattle.rtc_polling.specs.Walk.{StartsOverWhenDue, TellsConnection, TellsArrivals, SendsDatagrams, VisitsParts}
 use Rattle.rtc_polling.proofs.DtlsTurns.{taken_output}
-use Rattle.rtc_polling.proofs.StageLemmas.{NeverAgain, repeats_never, over_carries, went_through, else_again, else_never}
+use Rattle.rtc_polling.proofs.StageLemmas.{NeverAgain, repeats_never, went_through, else_again, else_never}
 use Rattle.rtc_polling.proofs.DueMoments.{KeepsMoments, later_is_to_come, due_kept, keeps_as, keeps_join, ice_keeps, connected_keeps, arrivals_keep, datagrams_keep}
+use Rattle.rtc_association.specs.AssociationLaws.{AssociationLaws}
+use Rattle.rtc_sctp.specs.Streams.{SctpStreams}
+use Rattle.rtc_polling.specs.StreamStages.{PollsStreamEvent, PollsStreamEvents, SendsKeptPackets, TellsStreams}
+use Rattle.rtc_polling.proofs.SettledMoments.{connection_settles, connection_never}
+use Rattle.rtc_polling.proofs.DrainedInput.{input_of, input_left, SameParts, parts_by, parts_on, input_same, connection_drains, connection_quiet}
+use Rattle.rtc_polling.proofs.StreamWork.{sctp_work}
+use Rattle.rtc_polling.proofs.StreamTurns.{SameStreams, peer_work, Polled, SentData, Relayed, streams_polled, kept_stay, kept_relayed}
 
--- how many visits a walk still makes at most, but for the one at hand
 abbrev pub left_if : Bool → ℕ
 left_if true = 0
 left_if false = 1
-
-abbrev pub visits_left : {I D S M N : Type 0} → PolledPeer I D S M N → ℕ
-visits_left p = left_if (is_dtls_due p)
-
-falls_if : (before after : Bool) → before ≡ false → after ≡ true → left_if after < left_if before
-falls_if false true b a = omega arith
-falls_if false false b a = cc (a)
-falls_if true after b a = cc (b)
 
 is_again : {E : Type 0} (b : Bool) → ◌≡◌ {A = Met E} Again (if b then Again else Nothing) → b ≡ true
 is_again true e = refl
 is_again false e = cc (e)
 
--- what was drawn is an act
-drawn_act : {D : Type 0} (m : DtlsMeaning D) (drawn : DtlsDrawn) (i j : D) → draws_output drawn ≡ true → m.polled i drawn j
-    → (act : DtlsAct) × DtlsActed m i act j
-drawn_act m (DrewPacket packet) i j draws polled = (Taken packet, polled)
-drawn_act m DrewConnected i j draws polled = (Stirred (Showed DrewConnected), (refl, polled))
-drawn_act m (DrewKeying key profile) i j draws polled = (Stirred (Showed (DrewKeying key profile)), (refl, polled))
-drawn_act m (DrewCert cert) i j draws polled = (Stirred (Showed (DrewCert cert)), (refl, polled))
-drawn_act m (DrewData bytes) i j draws polled = (Got bytes, polled)
-drawn_act m (DrewTimeout moment) i j draws polled = cc (draws)
-drawn_act m DrewClose i j draws polled = (Stirred (Showed DrewClose), (refl, polled))
+left_at_most : (b : Bool) → left_if b ≤ 1
+left_at_most true = omega arith
+left_at_most false = omega arith
 
 module _ {I D S M E X T W N : Type 0} (m : Meanings I D S M E X T W N) where
-  -- turns of outputs keep the greatest moment and the role, and move the instance
-  abbrev MovesDtls : PolledPeer I D S M N → PolledPeer I D S M N → Type 0
-  MovesDtls p q =
-      (q.core.greatest ≡ p.core.greatest)
-      × ((q.core.dtls.active ≡ p.core.dtls.active)
-      × ((acts : List DtlsAct) × DtlsMoved m.dtls p.core.dtls.instance acts q.core.dtls.instance))
+  -- what a walk that started over still has to do
+  abbrev pub visits_left : PolledPeer I D S M N → ℕ
+  visits_left p = 2 * peer_work m p + left_if (is_dtls_due p)
 
-  moves_none : (p : PolledPeer I D S M N) → MovesDtls p p
-  moves_none p = (refl, (refl, ([], refl)))
+  arrivals_same : (p q : PolledPeer I D S M N) → TellsArrivals m p Nothing q → SameParts m p q
+  unfolding TellsArrivals TellsMedia TellsFallibleMedia
+  arrivals_same p q h =
+      let met = went_through (TellsMedia m) (TellsFallibleMedia m) p q h in
+      parts_on m p met.0 q (parts_by m p _ met.0 met.1.0.1 (refl, refl)) (parts_by m met.0 _ q met.1.1.1 (refl, refl))
 
-  moves_join : (p q r : PolledPeer I D S M N) → MovesDtls p q → MovesDtls q r → MovesDtls p r
-  moves_join p q r a b = (
-    b.0 ∙ a.0,
-    (
-      b.1.0 ∙ a.1.0,
-      (
-        a.1.1.0 ++ b.1.1.0,
-        dtls_moved-append m.dtls p.core.dtls.instance q.core.dtls.instance r.core.dtls.instance a.1.1.0 b.1.1.0 a.1.1.1 b.1.1.1,
-      ),
-    ),
-  )
+  no_packet : (packets : List (List ℕ)) (d e : DtlsState D) → GivesPacket m.dtls d packets None e → e ≡ d
+  no_packet [] d e h = h
+  no_packet (packet ∷ packets) d e h = absurd h
 
-  -- an output that is followed by the next keeps the greatest moment
-  output_greatest : (output : DtlsOutput) (p q : PolledPeer I D S M N) → TakesDtlsOutput m output p Again q → q.core.greatest ≡ p.core.greatest
-  unfolding ChecksCert TakesKeys TakesCloseNotify
-  output_greatest outputs.Connected p q taken = ap (λ (x : PolledPeer I D S M N). x.core.greatest) taken.1
-  output_greatest (outputs.KeyingMaterial key profile) p q taken = ap (λ (x : PolledPeer I D S M N). x.core.greatest) taken.1
-  output_greatest (outputs.PeerCert cert) p q taken = ap (λ (x : PolledPeer I D S M N). x.core.greatest) taken.3
-  output_greatest (outputs.ApplicationData bytes) p q taken = ap (λ (x : PolledPeer I D S M N). x.core.greatest) taken.1
-  output_greatest (outputs.Timeout moment) p q taken = ap (λ (x : PolledPeer I D S M N). x.core.greatest) taken.1
-  output_greatest outputs.CloseNotify p q taken = absurd taken
+  pair_same : (send_addr : Option SendAddr) (p q : PolledPeer I D S M N) → SendsBy m send_addr p Nothing q → SameParts m p q
+  unfolding SendsDtlsPacket SendsMediaDatagram
+  pair_same None p q sends = parts_by m p _ q sends.2 (refl, refl)
+  pair_same (Some addr) p q sends =
+      let met = went_through (SendsDtlsPacket m addr) (SendsMediaDatagram m addr) p q sends in
+      parts_on m p met.0 q
+      (no_packet p.core.dtls.packets p.core.dtls met.0.core.dtls met.1.0.0, ap (λ (x : PolledPeer I D S M N). x.core.sctp) met.1.0.1)
+      (parts_by m met.0 _ q met.1.1.1 (refl, refl))
 
-  polled_moves : (active : Option Bool) (output : DtlsOutput) (state : DtlsState D) (p : PolledPeer I D S M N) → draws_output (drawn_by output) ≡ true
-      → PollsOutput m.dtls p.core.dtls active (Ok output) state → (acts : List DtlsAct) × DtlsMoved m.dtls p.core.dtls.instance acts state.instance
-  polled_moves None output state p draws polled = ([], ap (λ (x : DtlsState D). x.instance) polled.1)
-  polled_moves (Some active) output state p draws polled =
-      let drains = polled.0 in
-      let act = drawn_act m.dtls (drawn_by output) drains.1.0 state.instance draws drains.1.1.1 in (
-        takes drains.0 ++ act.0 ∷ [],
-        dtls_moved-append m.dtls p.core.dtls.instance drains.1.0 state.instance (takes drains.0) (act.0 ∷ []) drains.1.1.0
-            (dtls_moved-one m.dtls drains.1.0 state.instance act.0 act.1),
-      )
-
-  polled_role : (active : Option Bool) (answer : Result DtlsOutput AllocError) (p state : DtlsState D) → PollsOutput m.dtls p active answer state
-      → state.active ≡ p.active
-  polled_role None answer p state polled = ap (λ (x : DtlsState D). x.active) polled.1
-  polled_role (Some active) answer p state polled = ap (λ (x : DtlsState D). x.active) polled.1
-
-  turn_moves_by : (answer : Result DtlsOutput AllocError) (state : DtlsState D) (p q : PolledPeer I D S M N)
-      → PollsOutput m.dtls p.core.dtls p.core.dtls.active answer state → TakesDtlsAnswer m answer (with_dtls state p) Again q → MovesDtls p q
-  turn_moves_by (Ok output) state p q polled taken =
-      let kept = taken_output m output (with_dtls state p) q taken in
-      let moved = polled_moves p.core.dtls.active output state p kept.0 polled in (
-        output_greatest output (with_dtls state p) q taken,
-        (
-          kept.1.1 ∙ polled_role p.core.dtls.active (Ok output) p.core.dtls state polled,
-          (moved.0, subst (λ (x : D). DtlsMoved m.dtls p.core.dtls.instance moved.0 x) (sym kept.1.0) moved.1),
-        ),
-      )
-  turn_moves_by (Err error) state p q polled taken = cc (taken.0)
-
-  turn_moves : (p q : PolledPeer I D S M N) → PollsDtlsOutput m p Again q → MovesDtls p q
-  turn_moves p q turn = turn_moves_by turn.answer turn.dtls p q turn.by_poll turn.by_answer
-
-  -- the moment that outputs end with is asked for by the part: that of what is not to happen where it has no role
-  abbrev AskedFor : Option Bool → D → ℕ → Type 0
-  AskedFor None i moment = moment ≡ 2 ^ 64 - 1
-  AskedFor (Some active) i moment = (k : D) × (((acts : List DtlsAct) × DtlsMoved m.dtls i acts k) × (moment ≡ m.dtls.asks k))
-
-  module _ (laws : DtlsLaws m.dtls) where
-    asked_for : (active : Option Bool) (moment : ℕ) (p state : DtlsState D) → PollsOutput m.dtls p active (Ok (outputs.Timeout moment)) state
-        → AskedFor active p.instance moment
-    asked_for None moment p state polled = cc (polled.0)
-    asked_for (Some active) moment p state polled =
-        let drains = polled.0 in
-        (drains.1.0, ((takes drains.0, drains.1.1.0), laws.timeout_asks drains.1.0 state.instance moment drains.1.1.1))
-
-    -- the moment that is kept
-    abbrev KeepsMoment : PolledPeer I D S M N → PolledPeer I D S M N → Type 0
-    KeepsMoment p q = (q.core.greatest ≡ p.core.greatest) × AskedFor p.core.dtls.active p.core.dtls.instance q.transport.dtls_wake
-
-    ends_with : (output : DtlsOutput) (state : DtlsState D) (p q : PolledPeer I D S M N) → PollsOutput m.dtls p.core.dtls p.core.dtls.active (Ok output) state
-        → TakesDtlsOutput m output (with_dtls state p) Nothing q → KeepsMoment p q
-    unfolding ChecksCert TakesKeys TakesCloseNotify
-    ends_with outputs.Connected state p q polled taken = cc (taken.0)
-    ends_with (outputs.KeyingMaterial key profile) state p q polled taken = absurd taken
-    ends_with (outputs.PeerCert cert) state p q polled taken = absurd taken
-    ends_with (outputs.ApplicationData bytes) state p q polled taken = cc (taken.0)
-    ends_with (outputs.Timeout moment) state p q polled taken = (
-      ap (λ (x : PolledPeer I D S M N). x.core.greatest) taken.1,
-      subst (λ (w : ℕ). AskedFor p.core.dtls.active p.core.dtls.instance w)
-          (sym (ap (λ (x : PolledPeer I D S M N). x.transport.dtls_wake) taken.1))
-          (asked_for p.core.dtls.active moment p.core.dtls state polled),
-    )
-    ends_with outputs.CloseNotify state p q polled taken = absurd taken
-
-    ends_by : (answer : Result DtlsOutput AllocError) (state : DtlsState D) (p q : PolledPeer I D S M N)
-        → PollsOutput m.dtls p.core.dtls p.core.dtls.active answer state → TakesDtlsAnswer m answer (with_dtls state p) Nothing q → KeepsMoment p q
-    ends_by (Ok output) state p q polled taken = ends_with output state p q polled taken
-    ends_by (Err error) state p q polled taken = cc (taken.0)
-
-    -- the part was just given the greatest moment, or has no role
-    abbrev Timed : Option Bool → (greatest : ℕ) → D → Type 0
-    Timed None greatest i = Unit {0}
-    Timed (Some active) greatest i = (before : D) × m.dtls.timed before greatest (Ok tt) i
-
-    asked_later : (active : Option Bool) (greatest moment : ℕ) (i j : D) → Timed active greatest i
-        → (acts : List DtlsAct) × DtlsMoved m.dtls i acts j → AskedFor active j moment → has_come moment greatest ≡ false
-    asked_later None greatest moment i j timed moved asked = rw asked refl
-    asked_later (Some active) greatest moment i j timed moved asked =
-        let all = dtls_moved-append m.dtls i j asked.0 moved.0 asked.1.0.0 moved.1 asked.1.0.1 in
-        let later = laws.asks_later timed.0 i asked.0 greatest (moved.0 ++ asked.1.0.0) timed.1 all in
-        later_is_to_come moment greatest (subst (λ (w : ℕ). IsLater greatest w) (sym asked.1.1) later)
-
-    outputs_end : (p q : PolledPeer I D S M N) → Timed p.core.dtls.active p.core.greatest p.core.dtls.instance → PollsDtlsOutputs m p Nothing q
-        → is_dtls_due q ≡ false
-    outputs_end p q timed h =
-        let moved = over_carries (PollsDtlsOutput m) MovesDtls moves_none moves_join turn_moves h.turns p h.last h.over in
-        let ended = ends_by h.ends.answer h.ends.dtls h.last q h.ends.by_poll h.ends.by_answer in
-        let asked = subst (λ (a : Option Bool). AskedFor a h.last.core.dtls.instance q.transport.dtls_wake) moved.1.0 ended.1 in
-        ap (λ (g : ℕ). has_come q.transport.dtls_wake g) (ended.0 ∙ moved.0)
-        ∙ asked_later p.core.dtls.active p.core.greatest q.transport.dtls_wake p.core.dtls.instance h.last.core.dtls.instance timed moved.1.1 asked
-
-    timed_by : (active : Option Bool) (p q : PolledPeer I D S M N) → p.core.dtls.active ≡ active
-        → HandsOn m.dtls p.core.dtls active (λ i r j. m.dtls.timed i p.core.greatest r j) (Ok tt) q.core.dtls → q.core.greatest ≡ p.core.greatest
-        → Timed q.core.dtls.active q.core.greatest q.core.dtls.instance
-    timed_by None p q role handed kept =
-        let still : q.core.dtls.active ≡ None = ap (λ (x : DtlsState D). x.active) handed.1 ∙ role in
-        subst (λ (a : Option Bool). Timed a q.core.greatest q.core.dtls.instance) (sym still) tt
-    timed_by (Some active) p q role handed kept =
-        let still : q.core.dtls.active ≡ Some active = ap (λ (x : DtlsState D). x.active) handed.1 ∙ role in
-        let given = subst (λ (g : ℕ). m.dtls.timed p.core.dtls.instance g (Ok tt) q.core.dtls.instance) (sym kept) handed.0 in
-        subst (λ (a : Option Bool). Timed a q.core.greatest q.core.dtls.instance) (sym still) (p.core.dtls.instance, given)
-
-    given_time : (p q : PolledPeer I D S M N) → GivesDtlsTime m p Nothing q → Timed q.core.dtls.active q.core.greatest q.core.dtls.instance
-    unfolding GivesDtlsTime
-    given_time p q given = timed_by p.core.dtls.active p q refl given.0 (ap (λ (x : PolledPeer I D S M N). x.core.greatest) given.1)
-
-    -- a walk that began with a moment that had come does not end with one
-    connection_settles : (p q : PolledPeer I D S M N) → is_dtls_due p ≡ true → TellsConnection m p Nothing q → is_dtls_due q ≡ false
-    unfolding TellsConnection
-    connection_settles p q due h =
-        let first = went_through (PollsIceEvents m) (FollowedBy (TimesDtls m) (FollowedBy (PollsDtlsOutputs m) TellsConnected)) p q h in
-        let second = went_through (TimesDtls m) (FollowedBy (PollsDtlsOutputs m) TellsConnected) first.0 q first.1.1 in
-        let third = went_through (PollsDtlsOutputs m) TellsConnected second.0 q second.1.1 in
-        let still = ◌∙◌ {b = is_dtls_due p} (due_kept p first.0 (ice_keeps m p first.0 first.1.0)) due in
-        let given = subst (λ (b : Bool). TimesDtlsIf m b first.0 Nothing second.0) still second.1.0 in
-        let timed = given_time first.0 second.0 given in
-        ◌∙◌ {b = is_dtls_due third.0} (due_kept third.0 q (connected_keeps m third.0.transport.handshake third.0 q third.1.1))
-        (outputs_end second.0 third.0 timed third.1.0)
-
-  times_never : (b : Bool) (p q : PolledPeer I D S M N) → TimesDtlsIf m b p Again q → ⊥
-  unfolding GivesDtlsTime
-  times_never true p q given = given
-  times_never false p q given = cc (given.0)
-
-  connected_never : (handshake : Handshake) (p q : PolledPeer I D S M N) → TellsConnectedFrom {E = E} handshake p Again q → ⊥
-  connected_never Pending p q told = cc (told.0)
-  connected_never Finished p q told = cc (told.0)
-  connected_never Told p q told = cc (told.0)
-
-  connection_never : NeverAgain (TellsConnection m)
-  unfolding TellsConnection
-  connection_never =
-      else_never (PollsIceEvents m) _ (repeats_never (PollsIceEvent m))
-      (else_never (TimesDtls m) _ (λ p q h. times_never (is_dtls_due p) p q h)
-      (else_never (PollsDtlsOutputs m) _ (repeats_never (PollsDtlsOutput m)) (λ p q h. connected_never p.transport.handshake p q h)))
+  datagrams_same : (p q : PolledPeer I D S M N) → SendsDatagrams m p Nothing q → SameParts m p q
+  unfolding SendsDatagrams SendsChecks
+  datagrams_same p q h =
+      let met = went_through (SendsChecks m) (SendsByPair m) p q h in
+      parts_on m p met.0 q (parts_by m p _ met.0 met.1.0.1 (refl, refl)) (pair_same met.0.transport.send_addr met.0 q met.1.1)
 
   arrivals_never : NeverAgain (TellsArrivals m)
   unfolding TellsArrivals TellsMedia TellsFallibleMedia
@@ -239,35 +94,111 @@ module _ {I D S M E X T W N : Type 0} (m : Meanings I D S M E X T W N) where
   unfolding SendsDatagrams SendsChecks
   datagrams_never = else_never (SendsChecks m) (SendsByPair m) (λ p q h. h) (λ p q h. pair_never p.transport.send_addr p q h)
 
-  -- what a visit that starts over is: every stage met nothing, and a moment has come
-  pub starts_over : (p q : PolledPeer I D S M N) → VisitsParts m p Again q
-      → (between : PolledPeer I D S M N) × (TellsConnection m p Nothing between × (KeepsMoments between q × (is_dtls_due q ≡ true)))
-  unfolding VisitsParts
-  starts_over p q h =
-      let first = else_again (TellsConnection m) (FollowedBy (TellsArrivals m) (FollowedBy (SendsDatagrams m) StartsOverWhenDue)) connection_never p q h in
-      let second = else_again (TellsArrivals m) (FollowedBy (SendsDatagrams m) StartsOverWhenDue) arrivals_never first.0 q first.1.1 in
+  -- why a visit starts over, once the connection met nothing: a packet was sent, or a moment has come
+  pub data StartsAgain (p q : PolledPeer I D S M N) : Type 0 where
+    ByPacket : (between : PolledPeer I D S M N) → PollsStreamEvents m p Nothing between → SendsKeptPackets m between Again q → StartsAgain p q
+    ByMoment : (polled : PolledPeer I D S M N) → (sent : PolledPeer I D S M N) → PollsStreamEvents m p Nothing polled
+        → SendsKeptPackets m polled Nothing sent → KeepsMoments sent q → SameParts m sent q → is_dtls_due q ≡ true → StartsAgain p q
+
+  later_moment : (p q : PolledPeer I D S M N) → TellsStreams m p Nothing q → (last : PolledPeer I D S M N) → KeepsMoments q last → SameParts m q last
+      → is_dtls_due last ≡ true → StartsAgain p last
+  unfolding TellsStreams
+  later_moment p q h last moments parts due =
+      let met = went_through (PollsStreamEvents m) (SendsKeptPackets m) p q h in
+      ByMoment met.0 q met.1.0 met.1.1 moments parts due
+
+  streams_again : (p q : PolledPeer I D S M N) → TellsStreams m p Again q → StartsAgain p q
+  unfolding TellsStreams
+  streams_again p q h =
+      let met = else_again (PollsStreamEvents m) (SendsKeptPackets m) (repeats_never (PollsStreamEvent m)) p q h in
+      ByPacket met.0 met.1.0 met.1.1
+
+  rest_again : (p q : PolledPeer I D S M N) → FollowedBy (TellsArrivals m) (FollowedBy (SendsDatagrams m) StartsOverWhenDue) p Again q
+      → KeepsMoments p q × (SameParts m p q × (is_dtls_due q ≡ true))
+  rest_again p q h =
+      let second = else_again (TellsArrivals m) (FollowedBy (SendsDatagrams m) StartsOverWhenDue) arrivals_never p q h in
       let third = else_again (SendsDatagrams m) StartsOverWhenDue datagrams_never second.0 q second.1.1 in
       let due = is_again {E = E} (is_dtls_due third.0) third.1.1.0 in (
-        first.0,
+        keeps_as p third.0 q third.1.1.1
+            (keeps_join p second.0 third.0 (arrivals_keep m p second.0 second.1.0) (datagrams_keep m second.0 third.0 third.1.0)),
         (
-          first.1.0,
-          (
-            keeps_as first.0 third.0 q third.1.1.1
-                (keeps_join first.0 second.0 third.0 (arrivals_keep m first.0 second.0 second.1.0) (datagrams_keep m second.0 third.0 third.1.0)),
-            subst (λ (x : PolledPeer I D S M N). is_dtls_due x ≡ true) {x = third.0} (sym {b = third.0} third.1.1.1) due,
-          ),
+          parts_by m p third.0 q third.1.1.1
+              (parts_on m p second.0 third.0 (arrivals_same p second.0 second.1.0) (datagrams_same second.0 third.0 third.1.0)),
+          subst (λ (x : PolledPeer I D S M N). is_dtls_due x ≡ true) {x = third.0} (sym {b = third.0} third.1.1.1) due,
         ),
       )
 
-  module _ (laws : DtlsLaws m.dtls) where
-    begins_early : (b : Bool) (p q : PolledPeer I D S M N) → is_dtls_due p ≡ b → VisitsParts m p Again q → is_dtls_due p ≡ false
-    begins_early false p q is h = is
-    begins_early true p q is h =
-        let over = starts_over p q h in
-        let settled = connection_settles laws p over.0 is over.1.0 in
-        let due = sym over.1.1.1 ∙ due_kept over.0 q over.1.1.0 ∙ settled in
-        cc (due)
+  after_connection : (p q : PolledPeer I D S M N)
+      → FollowedBy (TellsStreams m) (FollowedBy (TellsArrivals m) (FollowedBy (SendsDatagrams m) StartsOverWhenDue)) p Again q → StartsAgain p q
+  after_connection p q (Stopped met stage) = streams_again p q stage
+  after_connection p q (WentOn between stage after) =
+      let rest = rest_again between q after in
+      later_moment p between stage q rest.0 rest.1.0 rest.1.1
 
-    -- each visit that starts over leaves fewer
-    pub visits_fall : (p q : PolledPeer I D S M N) → VisitsParts m p Again q → visits_left q < visits_left p
-    visits_fall p q h = falls_if (is_dtls_due p) (is_dtls_due q) (begins_early (is_dtls_due p) p q refl h) (starts_over p q h).1.1.1
+  -- what a visit that starts over is
+  starts_over : (p q : PolledPeer I D S M N) → VisitsParts m p Again q
+      → (between : PolledPeer I D S M N) × (TellsConnection m p Nothing between × StartsAgain between q)
+  unfolding VisitsParts
+  starts_over p q h =
+      let first = else_again (TellsConnection m) _ (connection_never m) p q h in
+      (first.0, (first.1.0, after_connection first.0 q first.1.1))
+
+  module _ (dtls : DtlsLaws m.dtls) (association : AssociationLaws m.association) where
+    sent_input_by : (active : Option Bool) (d e : DtlsState D)
+        → (e ≡ d) ⊎ ((bytes : List ℕ) × (r : Result (Unit {0}) DtlsError) × m.dtls.sent d.instance bytes r e.instance)
+        → input_of m.dtls active e.instance ≤ input_of m.dtls active d.instance
+    sent_input_by None d e how = omega arith
+    sent_input_by (Some active) d e (inl same) = omega (arith, ap (λ (x : DtlsState D). m.dtls.units x.instance) same)
+    sent_input_by (Some active) d e (inr how) = dtls.sent_input d.instance e.instance how.0 how.1 how.2
+
+    sent_input : (d e : DtlsState D) → SentData m d e → input_of m.dtls e.active e.instance ≤ input_of m.dtls d.active d.instance
+    sent_input d e sent = omega (arith, ap (λ (a : Option Bool). input_of m.dtls a e.instance) sent.0, sent_input_by d.active d e sent.1)
+
+    still_drained : (p q : PolledPeer I D S M N) → input_left m p ≡ 0 → StartsAgain p q → input_left m q ≡ 0
+    still_drained p q none (ByPacket between polled sent) =
+        let before = ap (λ (d : DtlsState D). input_of m.dtls d.active d.instance) (streams_polled m association p between polled).dtls in
+        let after = sent_input between.core.dtls q.core.dtls (kept_relayed m between q sent).sent in
+        omega (arith, none, before, after)
+    still_drained p q none (ByMoment polled sent events packets moments parts due) =
+        let before = ap (λ (d : DtlsState D). input_of m.dtls d.active d.instance) (streams_polled m association p polled events).dtls in
+        let between = ap (λ (d : DtlsState D). input_of m.dtls d.active d.instance) (kept_stay m polled sent packets).2 in
+        omega (arith, none, before, between, input_same m sent q parts)
+
+    -- a visit that starts over has drained the input of DTLS
+    pub again_drains : (p q : PolledPeer I D S M N) → VisitsParts m p Again q → input_left m q ≡ 0
+    again_drains p q h =
+        let over = starts_over p q h in
+        still_drained over.0 q (connection_drains m dtls p over.0 over.1.0) over.1.1
+
+    -- the moments stayed from the connection on
+    due_as_before : (p polled sent q : PolledPeer I D S M N) → PollsStreamEvents m p Nothing polled → SendsKeptPackets m polled Nothing sent
+        → KeepsMoments sent q → is_dtls_due q ≡ is_dtls_due p
+    due_as_before p polled sent q events packets moments =
+        let turns = streams_polled m association p polled events in
+        let stay = kept_stay m polled sent packets in
+        due_kept p q
+        (keeps_join p polled q (ap (λ (t : Transport). t.dtls_wake) turns.transport, turns.greatest)
+        (keeps_join polled sent q (ap (λ (t : Transport). t.dtls_wake) stay.0, stay.1) moments))
+
+    falls_by : (due : Bool) (p between q : PolledPeer I D S M N) → is_dtls_due p ≡ due → TellsConnection m p Nothing between
+        → between.core.sctp ≡ p.core.sctp → StartsAgain between q → visits_left q < visits_left p
+    falls_by due p between q is met same (ByPacket polled events sent) =
+        let work = ap (λ (x : SctpStreams S). sctp_work m.association x) same in
+        let turns = streams_polled m association between polled events in
+        let relayed = kept_relayed m polled q sent in
+        omega (arith, work, turns.work, relayed.work, left_at_most (is_dtls_due q))
+    falls_by true p between q is met same (ByMoment polled sent events packets moments parts due) =
+        let settled = connection_settles m dtls p between is met in
+        absurd (let no : true ≡ false = sym due ∙ due_as_before between polled sent q events packets moments ∙ settled in cc)
+    falls_by false p between q is met same (ByMoment polled sent events packets moments parts due) =
+        let work = ap (λ (x : SctpStreams S). sctp_work m.association x) same in
+        let turns = streams_polled m association between polled events in
+        let stay = ap (λ (x : SctpStreams S). sctp_work m.association x) (kept_stay m polled sent packets).3 in
+        let rests = ap (λ (x : SctpStreams S). sctp_work m.association x) parts.1 in
+        omega (arith, work, turns.work, stay, rests, ap left_if due, ap left_if is)
+
+    -- each further visit that starts over leaves less to do
+    pub visits_fall : (p q : PolledPeer I D S M N) → input_left m p ≡ 0 → VisitsParts m p Again q → visits_left q < visits_left p
+    visits_fall p q none h =
+        let over = starts_over p q h in
+        falls_by (is_dtls_due p) p over.0 q refl over.1.0 (connection_quiet m dtls p over.0 none over.1.0) over.1.1

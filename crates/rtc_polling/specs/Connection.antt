@@ -1,7 +1,9 @@
 -- A peer with its connection, and what changes of it.
-use Rattle.std.specs.Prelude.{◌-◌, ◌^◌, Bool, [], None}
+use Rattle.std.specs.Prelude.{ℕ, ◌-◌, ◌^◌, Bool, List, [], Option, None}
 use Rattle.rtc_parts_values.specs.declared.reason.Reason.TheVariants.{NotHappening}
 use Rattle.rtc_dtls.specs.DtlsState.{DtlsState}
+use Rattle.rtc_sctp.specs.Streams.{SctpStreams}
+use Rattle.rtc_channels.specs.Channels.{Channels}
 use Rattle.rtc_peer_state.specs.declared.phase.Phase.TheVariants.{Closed}
 use Rattle.rtc_polling.specs.declared.handshake.Handshake.TheVariants.{Pending}
 use Rattle.rtc_polling.specs.declared.transport.Transport.{Transport}
@@ -29,6 +31,16 @@ with_dtls dtls p = record p { core = record p.core { dtls = dtls } }
 
 abbrev pub with_media : {I D S M N : Type 0} → M → PolledPeer I D S M N → PolledPeer I D S M N
 with_media media p = record p { core = record p.core { media = media } }
+
+-- the peer with other streams or channels, or with other packets that came back
+abbrev pub with_sctp : {I D S M N : Type 0} → SctpStreams S → PolledPeer I D S M N → PolledPeer I D S M N
+with_sctp sctp p = record p { core = record p.core { sctp = sctp } }
+
+abbrev pub with_channels : {I D S M N : Type 0} → Channels → PolledPeer I D S M N → PolledPeer I D S M N
+with_channels channels p = record p { core = record p.core { channels = channels } }
+
+abbrev pub with_pushed : {I D S M N : Type 0} → Option (List (List ℕ)) → PolledPeer I D S M N → PolledPeer I D S M N
+with_pushed pushed p = record p { core = record p.core { sctp = record p.core.sctp { pushed = pushed } } }
 
 -- the peer, closed
 abbrev pub closed_peer : {I D S M N : Type 0} → PolledPeer I D S M N → PolledPeer I D S M N

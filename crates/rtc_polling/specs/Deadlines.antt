@@ -1,7 +1,9 @@
 -- When a peer wants a timeout, and what for.
 use Rattle.std.specs.Prelude.{if◌then◌else◌, ℕ, nat_lt, max, Option, Some, None}
 use Rattle.rtc_parts_values.specs.declared.reason.Reason.{Reason}
-use Rattle.rtc_parts_values.specs.declared.reason.Reason.TheVariants.{DTLS, Ice}
+use Rattle.rtc_parts_values.specs.declared.reason.Reason.TheVariants.{DTLS, Ice, Sctp, Channel}
+use Rattle.rtc_sctp.specs.Calls.{streams_wake}
+use Rattle.rtc_channels.specs.Openings.{channels_wake}
 use Rattle.rtc_peer_state.specs.Meanings.{Meanings}
 use Rattle.rtc_polling.specs.declared.polled_peer.PolledPeer.{PolledPeer}
 
@@ -16,10 +18,18 @@ wanted_for reason None = None
 wanted_for reason (Some moment) = Some (moment, reason)
 
 module _ {I D S M E X T W N : Type 0} (m : Meanings I D S M E X T W N) where
-  -- The least deadline, with its reason. Of equal ones that of DTLS comes first, then that of ICE, then that of media. DTLS has one
-  -- always: it asks for the moment of what is not to happen where it wants none.
+  -- the least deadline of DTLS, ICE and media. DTLS has one always: it asks for the moment of what is not to happen where it wants none
+  abbrev pub transport_deadline : PolledPeer I D S M N → ℕ × Reason
+  transport_deadline p =
+      sooner (sooner (p.transport.dtls_wake, DTLS) (wanted_for Ice (m.ice.wake p.core.ice))) (m.media.wake p.core.media)
+
+  -- The least deadline, with its reason. Of equal ones that of DTLS comes first, then that of ICE, of media, of the association with
+  -- its streams, and of the channels.
   abbrev pub least_deadline : PolledPeer I D S M N → ℕ × Reason
-  least_deadline p = sooner (sooner (p.transport.dtls_wake, DTLS) (wanted_for Ice (m.ice.wake p.core.ice))) (m.media.wake p.core.media)
+  least_deadline p =
+      sooner
+      (sooner (transport_deadline p) (wanted_for Sctp (streams_wake m.association p.core.sctp)))
+      (wanted_for Channel (channels_wake m.association p.core.channels p.core.sctp))
 
   -- when a timeout is wanted: not before the greatest moment that was taken
   abbrev pub wake_moment : PolledPeer I D S M N → ℕ

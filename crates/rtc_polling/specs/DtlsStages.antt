@@ -8,6 +8,7 @@ use Rattle.rtc_dtls.specs.declared.dtls_error.DtlsError.TheVariants.{Fault, Allo
 use Rattle.rtc_dtls.specs.declared.dtls_output.DtlsOutput.{DtlsOutput}
 use Rattle.rtc_dtls.specs.declared.dtls_output.DtlsOutput.TheVariants as outputs
 use Rattle.rtc_dtls.specs.DtlsState.{DtlsState, HandsOn, PollsOutput}
+use Rattle.rtc_sctp.specs.Calls.{TakesInput}
 use Rattle.rtc_peer_state.specs.Meanings.{Meanings}
 use Rattle.rtc_polling.specs.declared.event.Event.TheVariants.{Connected, Closed as ClosedEvent}
 use Rattle.rtc_polling.specs.declared.handshake.Handshake.{Handshake}
@@ -18,7 +19,7 @@ use Rattle.rtc_peer_state.specs.declared.rtc_error.RtcError.TheVariants.{RemoteS
 use Rattle.rtc_polling.specs.declared.polled_peer.PolledPeer.{PolledPeer}
 use Rattle.rtc_polling.specs.Certificates.{Hashes, cert_refusal}
 use Rattle.rtc_polling.specs.Closing.{ClosesPeer}
-use Rattle.rtc_polling.specs.Connection.{with_dtls, with_media, closed_peer}
+use Rattle.rtc_polling.specs.Connection.{with_dtls, with_media, with_sctp, closed_peer}
 use Rattle.rtc_polling.specs.Stages.{Stage, RepeatsStage}
 
 -- a moment has come: it is one that is to happen, and not later than the greatest that was taken
@@ -119,12 +120,21 @@ module _ {I D S M E X T W N : Type 0} (m : Meanings I D S M E X T W N) where
   TakesCloseNotify p (Error error) q = ClosesPeer m p (Err error) q
   TakesCloseNotify p r q = ⊥
 
-  -- what becomes of an output of the connection. Application data is dropped: no poll hands it to the association yet
+  -- application data is a packet for the association, which is handed it at the greatest moment that was taken (RFC 8261, section 5)
+  unfoldable pub HandsPacket : List ℕ → Stage (PolledPeer I D S M N) E
+  HandsPacket bytes p Again q =
+      TakesInput m.association p.core.greatest bytes p.core.sctp (Ok tt) q.core.sctp × (q ≡ with_sctp q.core.sctp p)
+  HandsPacket bytes p (Error Alloc) q =
+      TakesInput m.association p.core.greatest bytes p.core.sctp (Err alloc_error) q.core.sctp
+      × (q ≡ closed_peer (with_sctp q.core.sctp p))
+  HandsPacket bytes p r q = ⊥
+
+  -- what becomes of an output of the connection
   abbrev pub TakesDtlsOutput : DtlsOutput → Stage (PolledPeer I D S M N) E
   TakesDtlsOutput outputs.Connected p r q = (r ≡ Again) × (q ≡ with_handshake (finished_handshake p.transport.handshake) p)
   TakesDtlsOutput (outputs.KeyingMaterial key profile) p r q = TakesKeys key.now profile (is_dtls_client p.core.dtls.active) p r q
   TakesDtlsOutput (outputs.PeerCert cert) p r q = ChecksCert cert.now p r q
-  TakesDtlsOutput (outputs.ApplicationData bytes) p r q = (r ≡ Again) × (q ≡ p)
+  TakesDtlsOutput (outputs.ApplicationData bytes) p r q = HandsPacket bytes.now p r q
   TakesDtlsOutput (outputs.Timeout moment) p r q =
       (r ≡ Nothing) × (q ≡ record p { transport = record p.transport { dtls_wake = moment } })
   TakesDtlsOutput outputs.CloseNotify p r q = TakesCloseNotify p r q

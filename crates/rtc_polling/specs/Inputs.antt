@@ -1,11 +1,17 @@
 -- What becomes of an input.
-use Rattle.std.specs.Prelude.{ℕ, ◌≡◌, ◌≢◌, ◌⊎◌, nat_lt, Bool, true, false, List, Result, Ok, Err, alloc_error}
+use Rattle.std.specs.Prelude.{ℕ, ◌≡◌, ◌≢◌, nat_lt, Bool, true, false, List, Result, Ok, Err, alloc_error}
 use Rattle.std.specs.declared.alloc.AllocError.{AllocError}
 use Rattle.rtc_wire.specs.declared.datagram_recv.DatagramRecv.{DatagramRecv}
 use Rattle.rtc_wire.specs.declared.datagram_recv.DatagramRecv.TheVariants as datagrams
 use Rattle.rtc_wire.specs.declared.receive.Receive.{Receive}
 use Rattle.rtc_dtls.specs.declared.dtls_error.DtlsError.TheVariants.{Fault, Alloc as DtlsAlloc}
 use Rattle.rtc_dtls.specs.DtlsState.{HandsOn}
+use Rattle.rtc_ready.specs.Signals.{Signals, both}
+use Rattle.rtc_association.specs.AssociationMeaning.{AssociationMeaning}
+use Rattle.rtc_sctp.specs.Streams.{SctpStreams}
+use Rattle.rtc_sctp.specs.Calls.{TakesTimeout}
+use Rattle.rtc_channels.specs.Channels.{Channels}
+use Rattle.rtc_channels.specs.Openings.{MeetsMoment, is_progress_due}
 use Rattle.rtc_media.specs.declared.media_error.MediaError.TheVariants.{Alloc as MediaAlloc}
 use Rattle.rtc_peer_state.specs.declared.phase.Phase.{Phase}
 use Rattle.rtc_peer_state.specs.declared.phase.Phase.TheVariants.{Alive, Closing, Closed}
@@ -15,8 +21,9 @@ use Rattle.rtc_polling.specs.declared.input.Input.TheVariants.{Timeout, Receive 
 use Rattle.rtc_peer_state.specs.declared.rtc_error.RtcError.{RtcError}
 use Rattle.rtc_peer_state.specs.declared.rtc_error.RtcError.TheVariants.{Dtls, Media, Alloc}
 use Rattle.rtc_polling.specs.declared.polled_peer.PolledPeer.{PolledPeer}
-use Rattle.rtc_polling.specs.Connection.{with_ice, with_dtls, with_media, closed_peer}
+use Rattle.rtc_polling.specs.Connection.{with_ice, with_dtls, with_media, with_sctp, with_channels, closed_peer}
 use Rattle.rtc_polling.specs.SendStages.{bytes_counted}
+use Rattle.rtc_polling.specs.Stages.{Call, InTurn}
 
 -- the peer that took a moment
 abbrev pub with_moment : {I D S M N : Type 0} → ℕ → PolledPeer I D S M N → PolledPeer I D S M N
@@ -26,28 +33,52 @@ with_moment now p = record p { core = record p.core { greatest = now } }
 abbrev pub with_received : {I D S M N : Type 0} → List ℕ → PolledPeer I D S M N → PolledPeer I D S M N
 with_received bytes p = record p { transport = record p.transport { received = bytes_counted p.transport.received bytes } }
 
--- the peer that took a moment, with what that did to the ICE agent and to the media part
-abbrev pub timed_peer : {I D S M N : Type 0} → ℕ → I → M → PolledPeer I D S M N → PolledPeer I D S M N
-timed_peer now ice media p = with_media media (with_ice ice (with_moment now p))
+-- the streams of an association are handed a moment
+abbrev pub StreamsTimed : {S : Type 0} → AssociationMeaning S → ℕ → SctpStreams S → Result (Unit {0}) AllocError → SctpStreams S → Type 0
+StreamsTimed m now p r q = (wake : Signals) × TakesTimeout m now p both r q wake
+
+-- channels over streams are handed a moment
+abbrev pub ChannelsTimed : {S : Type 0} → AssociationMeaning S → Channels → SctpStreams S → Result (Unit {0}) AllocError → Channels
+    → SctpStreams S → Type 0
+ChannelsTimed m held p r held' q = (wake : Signals) × MeetsMoment m (is_progress_due m held p) held p both r held' q wake
 
 module _ {I D S M E X T W N : Type 0} (m : Meanings I D S M E X T W N) where
-  -- A moment is handed to the ICE agent and to the media part. It stays taken where the media part fails; running out of memory closes
-  -- the peer.
-  unfoldable pub GivesTime : ℕ → PolledPeer I D S M N → Result (Unit {0}) RtcError → PolledPeer I D S M N → Type 0
-  GivesTime now p (Ok done) q =
-      m.ice.timed p.core.ice now (Ok tt) q.core.ice
-      × m.media.timed p.core.media now (Ok tt) q.core.media
-      × (q ≡ timed_peer now q.core.ice q.core.media p)
-  GivesTime now p (Err (Media cause)) q =
-      (cause ≢ MediaAlloc)
-      × m.ice.timed p.core.ice now (Ok tt) q.core.ice
-      × m.media.timed p.core.media now (Err cause) q.core.media
-      × (q ≡ timed_peer now q.core.ice q.core.media p)
-  GivesTime now p (Err Alloc) q =
-      (q ≡ closed_peer (timed_peer now q.core.ice q.core.media p))
-      × ((m.ice.timed p.core.ice now (Err alloc_error) q.core.ice × (q.core.media ≡ p.core.media))
-      ⊎ (m.ice.timed p.core.ice now (Ok tt) q.core.ice × m.media.timed p.core.media now (Err MediaAlloc) q.core.media))
-  GivesTime now p (Err error) q = ⊥
+  unfoldable pub TimesIce : ℕ → Call (PolledPeer I D S M N)
+  TimesIce now p (Ok done) q = m.ice.timed p.core.ice now (Ok tt) q.core.ice × (q ≡ with_ice q.core.ice p)
+  TimesIce now p (Err Alloc) q =
+      m.ice.timed p.core.ice now (Err alloc_error) q.core.ice × (q ≡ closed_peer (with_ice q.core.ice p))
+  TimesIce now p (Err error) q = ⊥
+
+  unfoldable pub TimesStreams : ℕ → Call (PolledPeer I D S M N)
+  TimesStreams now p (Ok done) q =
+      StreamsTimed m.association now p.core.sctp (Ok tt) q.core.sctp × (q ≡ with_sctp q.core.sctp p)
+  TimesStreams now p (Err Alloc) q =
+      StreamsTimed m.association now p.core.sctp (Err alloc_error) q.core.sctp × (q ≡ closed_peer (with_sctp q.core.sctp p))
+  TimesStreams now p (Err error) q = ⊥
+
+  -- channels are given streams, and those that are confirmed are opened
+  unfoldable pub TimesChannels : Call (PolledPeer I D S M N)
+  TimesChannels p (Ok done) q =
+      ChannelsTimed m.association p.core.channels p.core.sctp (Ok tt) q.core.channels q.core.sctp
+      × (q ≡ with_channels q.core.channels (with_sctp q.core.sctp p))
+  TimesChannels p (Err Alloc) q =
+      ChannelsTimed m.association p.core.channels p.core.sctp (Err alloc_error) q.core.channels q.core.sctp
+      × (q ≡ closed_peer (with_channels q.core.channels (with_sctp q.core.sctp p)))
+  TimesChannels p (Err error) q = ⊥
+
+  -- a failure of the media part leaves the peer open
+  unfoldable pub TimesMedia : ℕ → Call (PolledPeer I D S M N)
+  TimesMedia now p (Ok done) q = m.media.timed p.core.media now (Ok tt) q.core.media × (q ≡ with_media q.core.media p)
+  TimesMedia now p (Err (Media cause)) q =
+      (cause ≢ MediaAlloc) × m.media.timed p.core.media now (Err cause) q.core.media × (q ≡ with_media q.core.media p)
+  TimesMedia now p (Err Alloc) q =
+      m.media.timed p.core.media now (Err MediaAlloc) q.core.media × (q ≡ closed_peer (with_media q.core.media p))
+  TimesMedia now p (Err error) q = ⊥
+
+  -- A moment is handed to the ICE agent, the streams, the channels and the media part. It stays taken where one of them fails.
+  abbrev pub GivesTime : ℕ → Call (PolledPeer I D S M N)
+  GivesTime now p r q =
+      InTurn (TimesIce now) (InTurn (TimesStreams now) (InTurn TimesChannels (TimesMedia now))) (with_moment now p) r q
 
   abbrev pub TakesTimeIf : (earlier : Bool) → ℕ → PolledPeer I D S M N → Result (Unit {0}) RtcError → PolledPeer I D S M N → Type 0
   TakesTimeIf true now p r q = (r ≡ Ok tt) × (q ≡ p)

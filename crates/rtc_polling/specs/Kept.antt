@@ -3,7 +3,8 @@ use Rattle.std.specs.Prelude.{◌≡◌}
 use Rattle.rtc_peer_state.specs.Meanings.{Meanings}
 use Rattle.rtc_polling.specs.declared.polled_peer.PolledPeer.{PolledPeer}
 
--- nothing changed of what negotiation keeps: rows, what is staged, channels, counter, fingerprint, association and source of numbers
+-- nothing changed of what negotiation keeps beside the channels and their streams: rows, what is staged, counter, fingerprint and source
+-- of numbers
 abbrev pub KeepsNegotiation : {I D S M N : Type 0} → PolledPeer I D S M N → PolledPeer I D S M N → Type 0
 KeepsNegotiation p q =
     q.core ≡ record p.core {
@@ -12,6 +13,8 @@ KeepsNegotiation p q =
       ice = q.core.ice;
       dtls = q.core.dtls;
       media = q.core.media;
+      channels = q.core.channels;
+      sctp = q.core.sctp;
     }
 
 -- the settings of the ICE agent stay, and so do the DTLS role and the fingerprint of this side

@@ -6,10 +6,13 @@ pub mod Certificates
 pub mod Closing
 pub mod IceStages
 pub mod DtlsStages
+pub mod StreamStages
 pub mod MediaStages
 pub mod SendStages
 pub mod Deadlines
 pub mod Walk
 pub mod Inputs
+pub mod ChannelCalls
 pub mod Readings
 pub mod Kept
+pub mod Numbers

@@ -18,6 +18,7 @@ use Rattle.rtc_polling.specs.DtlsStages.{TimesDtls, PollsDtlsOutputs, TellsConne
 use Rattle.rtc_polling.specs.IceStages.{PollsIceEvents}
 use Rattle.rtc_polling.specs.MediaStages.{TellsMedia, TellsFallibleMedia}
 use Rattle.rtc_polling.specs.SendStages.{SendsChecks, SendsByPair}
+use Rattle.rtc_polling.specs.StreamStages.{TellsStreams}
 use Rattle.rtc_polling.specs.Stages.{Stage, FollowedBy, RepeatsStage}
 
 -- the peer that answered a timeout for a reason
@@ -37,7 +38,7 @@ module _ {I D S M E X T W N : Type 0} (m : Meanings I D S M E X T W N) where
   unfoldable pub TellsConnection : Stage (PolledPeer I D S M N) E
   TellsConnection = FollowedBy (PollsIceEvents m) (FollowedBy (TimesDtls m) (FollowedBy (PollsDtlsOutputs m) TellsConnected))
 
-  -- what came over it: events of media, those first that cannot fail
+  -- what else came over it: events of media, those first that cannot fail
   unfoldable pub TellsArrivals : Stage (PolledPeer I D S M N) E
   TellsArrivals = FollowedBy (TellsMedia m) (TellsFallibleMedia m)
 
@@ -47,7 +48,8 @@ module _ {I D S M E X T W N : Type 0} (m : Meanings I D S M E X T W N) where
 
   -- one walk over the parts
   unfoldable pub VisitsParts : Stage (PolledPeer I D S M N) E
-  VisitsParts = FollowedBy TellsConnection (FollowedBy TellsArrivals (FollowedBy SendsDatagrams StartsOverWhenDue))
+  VisitsParts =
+      FollowedBy TellsConnection (FollowedBy (TellsStreams m) (FollowedBy TellsArrivals (FollowedBy SendsDatagrams StartsOverWhenDue)))
 
   abbrev pub WaitsIf : (complete : Bool) → PolledPeer I D S M N → Result (Output E) RtcError → PolledPeer I D S M N → Type 0
   WaitsIf true p answer q = Rests (closed_peer p) answer q

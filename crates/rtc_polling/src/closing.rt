@@ -1,7 +1,8 @@
 //! How a peer is closed.
 ghost use Rattle.std.specs.Prelude.{◌≡◌};
 ghost use Rattle.rtc_peer_state.specs.Meanings.{meanings};
-ghost use Rattle.rtc_polling.specs.Closing.{BeginsClosing, ClosesPeer, is_phase_closing, is_closing_complete};
+ghost use Rattle.rtc_polling.specs.Closing.{ShutsMedia, ShutsStreams, ShutsDtls, BeginsClosing};
+ghost use Rattle.rtc_polling.specs.Closing.{ClosesPeer, is_phase_closing, is_closing_complete};
 
 use crate::PolledPeer;
 use rtc_association::Association;
@@ -10,8 +11,9 @@ use rtc_ice::IceAgent;
 use rtc_ids::Ids;
 use rtc_media::MediaSession;
 use rtc_peer_state::{Phase, RtcError};
+use rtc_sctp::{ProtoError, SctpError};
 
-fn is_closing(phase: Phase) -> bool
+pub(crate) fn is_closing(phase: Phase) -> bool
     ensures { result ≡ is_phase_closing phase }
 {
     match phase {
@@ -27,27 +29,78 @@ impl<I: IceAgent, D: DtlsInstance, S: Association, M: MediaSession, N: Ids> Poll
     M,
     N,
 > {
-    #[tactic(auto, unfolding(crate::specs::Closing::BeginsClosing))]
+    #[tactic(auto, unfolding(crate::specs::Closing::ShutsMedia))]
+    fn shut_media(&mut self) -> Result<(), RtcError>
+        ensures { ShutsMedia (meanings I.ice D.dtls S.association M.media N.ids) self.old result self.new }
+    {
+        match self.core.media.close_rtp() {
+            Ok(()) => Ok(()),
+            Err(_) => {
+                self.core.phase = Phase::Closed;
+                Err(RtcError::Alloc)
+            }
+        }
+    }
+
+    #[tactic(auto, unfolding(crate::specs::Closing::ShutsStreams))]
+    fn shut_streams(&mut self) -> Result<(), RtcError>
+        ensures { ShutsStreams (meanings I.ice D.dtls S.association M.media N.ids) self.old result self.new }
+    {
+        match self.core.sctp.close() {
+            Ok(()) => Ok(()),
+            Err(error) => {
+                self.core.phase = Phase::Closed;
+                match error {
+                    SctpError::Proto(ProtoError::Fault) => {
+                        Err(RtcError::Sctp(SctpError::Proto(ProtoError::Fault)))
+                    }
+                    SctpError::Alloc => Err(RtcError::Alloc),
+                    _ => unreachable!(),
+                }
+            }
+        }
+    }
+
+    #[tactic(auto, unfolding(crate::specs::Closing::ShutsDtls))]
+    fn shut_dtls(&mut self) -> Result<(), RtcError>
+        ensures { ShutsDtls (meanings I.ice D.dtls S.association M.media N.ids) self.old result self.new }
+    {
+        match self.core.dtls.close() {
+            Ok(()) => Ok(()),
+            Err(DtlsError::WouldBlock) => unreachable!(),
+            Err(DtlsError::Fault) => {
+                self.core.phase = Phase::Closed;
+                Err(RtcError::Dtls(DtlsError::Fault))
+            }
+            Err(DtlsError::Alloc) => {
+                self.core.phase = Phase::Closed;
+                Err(RtcError::Alloc)
+            }
+        }
+    }
+
     fn begin_closing(&mut self) -> Result<(), RtcError>
         ensures { BeginsClosing (meanings I.ice D.dtls S.association M.media N.ids) self.old result self.new }
     {
-        self.core.phase = Phase::Closed;
-        match self.core.media.close_rtp() {
+        match self.shut_media() {
             Ok(()) => {}
-            Err(_) => return Err(RtcError::Alloc),
+            Err(error) => return Err(error),
         }
-        match self.core.dtls.close() {
+        match self.shut_streams() {
             Ok(()) => {}
-            Err(DtlsError::WouldBlock) => unreachable!(),
-            Err(DtlsError::Fault) => return Err(RtcError::Dtls(DtlsError::Fault)),
-            Err(DtlsError::Alloc) => return Err(RtcError::Alloc),
+            Err(error) => return Err(error),
+        }
+        match self.shut_dtls() {
+            Ok(()) => {}
+            Err(error) => return Err(error),
         }
         self.core.phase = Phase::Closing;
         Ok(())
     }
 
-    /// Begins to close the peer, which polls then bring to its end: media says goodbye (RFC 3550, section 6.6), and the DTLS
-    /// connection is closed (RFC 5246, section 7.2.1). Nothing happens where this has begun. An error leaves the peer closed.
+    /// Begins to close the peer, which polls then bring to its end: media says goodbye (RFC 3550, section 6.6), the association
+    /// is shut down (RFC 9260, section 9.2), and the DTLS connection is closed (RFC 5246, section 7.2.1). Nothing happens where
+    /// this has begun. An error leaves the peer closed.
     pub fn close(&mut self) -> Result<(), RtcError>
         ensures { ClosesPeer (meanings I.ice D.dtls S.association M.media N.ids) self.old result self.new }
     {

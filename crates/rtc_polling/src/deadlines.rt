@@ -1,7 +1,7 @@
 //! When a peer wants a timeout.
 ghost use Rattle.std.specs.Prelude.{◌≡◌};
 ghost use Rattle.rtc_peer_state.specs.Meanings.{meanings};
-ghost use Rattle.rtc_polling.specs.Deadlines.{sooner as sooner_of, wanted_for, least_deadline};
+ghost use Rattle.rtc_polling.specs.Deadlines.{sooner as sooner_of, wanted_for, least_deadline, transport_deadline};
 
 use crate::PolledPeer;
 use rtc_association::Association;
@@ -43,12 +43,24 @@ impl<I: IceAgent, D: DtlsInstance, S: Association, M: MediaSession, N: Ids> Poll
     M,
     N,
 > {
-    /// The least deadline, with its reason.
-    pub(crate) fn least_deadline(&self) -> (Moment, Reason)
-        ensures { result ≡ least_deadline (meanings I.ice D.dtls S.association M.media N.ids) self.now }
+    fn transport_deadline(&self) -> (Moment, Reason)
+        ensures { result ≡ transport_deadline (meanings I.ice D.dtls S.association M.media N.ids) self.now }
     {
         let dtls = (self.transport.dtls_wake, Reason::DTLS);
         let ice = wanted(Reason::Ice, self.core.ice.poll_timeout());
         sooner(sooner(dtls, ice), self.core.media.poll_timeout())
+    }
+
+    /// The least deadline, with its reason.
+    pub(crate) fn least_deadline(&self) -> (Moment, Reason)
+        ensures { result ≡ least_deadline (meanings I.ice D.dtls S.association M.media N.ids) self.now }
+    {
+        let transport = self.transport_deadline();
+        let streams = wanted(Reason::Sctp, self.core.sctp.poll_timeout());
+        let channels = wanted(
+            Reason::Channel,
+            self.core.channels.poll_timeout(&self.core.sctp),
+        );
+        sooner(sooner(transport, streams), channels)
     }
 }

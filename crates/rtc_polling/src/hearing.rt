@@ -1,7 +1,8 @@
 //! Inputs.
 ghost use Rattle.std.specs.Prelude.{◌≡◌};
 ghost use Rattle.rtc_peer_state.specs.Meanings.{meanings};
-ghost use Rattle.rtc_polling.specs.Inputs.{GivesTime, TakesTime, HearsStun, HearsDtls, HearsMedia, HearsKind, Hears, HandlesInput};
+ghost use Rattle.rtc_polling.specs.Inputs.{TimesIce, TimesMedia, GivesTime, TakesTime};
+ghost use Rattle.rtc_polling.specs.Inputs.{HearsStun, HearsDtls, HearsMedia, HearsKind, Hears, HandlesInput};
 
 use crate::sending::count_bytes;
 use crate::{Input, PolledPeer};
@@ -20,18 +21,23 @@ impl<I: IceAgent, D: DtlsInstance, S: Association, M: MediaSession, N: Ids> Poll
     M,
     N,
 > {
-    #[tactic(auto, unfolding(crate::specs::Inputs::GivesTime))]
-    fn give_time(&mut self, now: Moment) -> Result<(), RtcError>
-        ensures { GivesTime (meanings I.ice D.dtls S.association M.media N.ids) now self.old result self.new }
+    #[tactic(auto, unfolding(crate::specs::Inputs::TimesIce))]
+    fn time_ice(&mut self, now: Moment) -> Result<(), RtcError>
+        ensures { TimesIce (meanings I.ice D.dtls S.association M.media N.ids) now self.old result self.new }
     {
-        self.core.greatest = now;
         match self.core.ice.handle_timeout(now) {
-            Ok(()) => {}
+            Ok(()) => Ok(()),
             Err(_) => {
                 self.core.phase = Phase::Closed;
-                return Err(RtcError::Alloc);
+                Err(RtcError::Alloc)
             }
         }
+    }
+
+    #[tactic(auto, unfolding(crate::specs::Inputs::TimesMedia))]
+    fn time_media(&mut self, now: Moment) -> Result<(), RtcError>
+        ensures { TimesMedia (meanings I.ice D.dtls S.association M.media N.ids) now self.old result self.new }
+    {
         match self.core.media.handle_timeout(now) {
             Ok(()) => Ok(()),
             Err(error) => match error {
@@ -42,6 +48,25 @@ impl<I: IceAgent, D: DtlsInstance, S: Association, M: MediaSession, N: Ids> Poll
                 cause => Err(RtcError::Media(cause)),
             },
         }
+    }
+
+    fn give_time(&mut self, now: Moment) -> Result<(), RtcError>
+        ensures { GivesTime (meanings I.ice D.dtls S.association M.media N.ids) now self.old result self.new }
+    {
+        self.core.greatest = now;
+        match self.time_ice(now) {
+            Ok(()) => {}
+            Err(error) => return Err(error),
+        }
+        match self.time_streams(now) {
+            Ok(()) => {}
+            Err(error) => return Err(error),
+        }
+        match self.time_channels(now) {
+            Ok(()) => {}
+            Err(error) => return Err(error),
+        }
+        self.time_media(now)
     }
 
     fn take_time(&mut self, now: Moment) -> Result<(), RtcError>

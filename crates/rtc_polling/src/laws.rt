@@ -1,7 +1,8 @@
 //! What holds of every poll, input and close, whatever the parts are.
-ghost use Rattle.std.specs.Prelude.{◌≡◌, Result, Err};
+ghost use Rattle.std.specs.Prelude.{◌≡◌, Result, Err, None};
 ghost use Rattle.rtc_peer_state.specs.declared.phase.Phase.TheVariants.{Closed};
 ghost use Rattle.rtc_peer_state.specs.Meanings.{meanings};
+ghost use Rattle.rtc_peer_state.specs.ChannelRows.{channel_rows};
 ghost use Rattle.rtc_peer_state.specs.Stance.{stance_of};
 ghost use Rattle.rtc_polling.specs.declared.input.Input.{Input as Given};
 ghost use Rattle.rtc_polling.specs.declared.polled_peer.PolledPeer.{PolledPeer as Polled};
@@ -9,6 +10,7 @@ ghost use Rattle.rtc_peer_state.specs.declared.rtc_error.RtcError.TheVariants.{A
 ghost use Rattle.rtc_polling.specs.Closing.{ClosesPeer};
 ghost use Rattle.rtc_polling.specs.Inputs.{HandlesInput};
 ghost use Rattle.rtc_polling.specs.Kept.{KeepsNegotiation};
+ghost use Rattle.rtc_polling.specs.Numbers.{Numbers, number_told};
 ghost use Rattle.rtc_polling.specs.Walk.{PollsPeer};
 
 use rtc_association::Association;
@@ -17,8 +19,8 @@ use rtc_ice::IceAgent;
 use rtc_ids::Ids;
 use rtc_media::MediaSession;
 
-/// Polls, inputs and closing change nothing of what negotiation keeps: rows, what is staged, channels, the counter of
-/// offers, the announced fingerprint, the association and the source of numbers.
+/// Polls, inputs and closing change nothing of what negotiation keeps beside the channels and their streams: rows, what is
+/// staged, the counter of offers, the announced fingerprint and the source of numbers.
 pub fn negotiation_is_kept<I: IceAgent, D: DtlsInstance, S: Association, M: MediaSession, N: Ids>()
     ensures polls { (p q : Polled I D S M N) (answer : _)
         → PollsPeer (meanings I.ice D.dtls S.association M.media N.ids) p answer q → KeepsNegotiation p q }
@@ -28,21 +30,24 @@ pub fn negotiation_is_kept<I: IceAgent, D: DtlsInstance, S: Association, M: Medi
         → ClosesPeer (meanings I.ice D.dtls S.association M.media N.ids) p answer q → KeepsNegotiation p q }
 {}
 
-/// Polls, inputs and closing leave all that negotiation reads of a peer: beside what it keeps, the settings of the ICE agent,
-/// the DTLS role and the fingerprint of this side.
+/// Polls, inputs and closing leave all that negotiation reads of a peer but for the channels: beside what it keeps, the settings
+/// of the ICE agent, the DTLS role and the fingerprint of this side.
 pub fn stance_is_kept<I: IceAgent, D: DtlsInstance, S: Association, M: MediaSession, N: Ids>()
     ensures polls { (p q : Polled I D S M N) (answer : _)
         → PollsPeer (meanings I.ice D.dtls S.association M.media N.ids) p answer q
         → stance_of (meanings I.ice D.dtls S.association M.media N.ids) q.core
-        ≡ stance_of (meanings I.ice D.dtls S.association M.media N.ids) p.core }
+        ≡ record (stance_of (meanings I.ice D.dtls S.association M.media N.ids) p.core)
+        { channels = q.core.channels; rows = channel_rows S.association q.core.sctp q.core.channels } }
     ensures inputs { (p q : Polled I D S M N) (input : Given) (answer : _)
         → HandlesInput (meanings I.ice D.dtls S.association M.media N.ids) input p answer q
         → stance_of (meanings I.ice D.dtls S.association M.media N.ids) q.core
-        ≡ stance_of (meanings I.ice D.dtls S.association M.media N.ids) p.core }
+        ≡ record (stance_of (meanings I.ice D.dtls S.association M.media N.ids) p.core)
+        { channels = q.core.channels; rows = channel_rows S.association q.core.sctp q.core.channels } }
     ensures closes { (p q : Polled I D S M N) (answer : _)
         → ClosesPeer (meanings I.ice D.dtls S.association M.media N.ids) p answer q
         → stance_of (meanings I.ice D.dtls S.association M.media N.ids) q.core
-        ≡ stance_of (meanings I.ice D.dtls S.association M.media N.ids) p.core }
+        ≡ record (stance_of (meanings I.ice D.dtls S.association M.media N.ids) p.core)
+        { channels = q.core.channels; rows = channel_rows S.association q.core.sctp q.core.channels } }
 {}
 
 /// Running out of memory in a poll, an input or a close leaves the peer closed.
@@ -59,4 +64,23 @@ pub fn want_of_memory_closes<
         → HandlesInput (meanings I.ice D.dtls S.association M.media N.ids) input p (Err Alloc) q → q.core.phase ≡ Closed }
     ensures closes { (p q : Polled I D S M N)
         → ClosesPeer (meanings I.ice D.dtls S.association M.media N.ids) p (Err Alloc) q → q.core.phase ≡ Closed }
+{}
+
+/// Channel numbers rise over polls, inputs and closing: a poll gives one at most, and tells it.
+pub fn channels_are_numbered<
+    I: IceAgent,
+    D: DtlsInstance,
+    S: Association,
+    M: MediaSession,
+    N: Ids,
+>()
+    ensures polls { (p q : Polled I D S M N) (answer : _)
+        → PollsPeer (meanings I.ice D.dtls S.association M.media N.ids) p answer q
+        → Numbers (number_told answer) p.core.channels q.core.channels }
+    ensures inputs { (p q : Polled I D S M N) (input : Given) (answer : _)
+        → HandlesInput (meanings I.ice D.dtls S.association M.media N.ids) input p answer q
+        → Numbers None p.core.channels q.core.channels }
+    ensures closes { (p q : Polled I D S M N) (answer : _)
+        → ClosesPeer (meanings I.ice D.dtls S.association M.media N.ids) p answer q
+        → Numbers None p.core.channels q.core.channels }
 {}

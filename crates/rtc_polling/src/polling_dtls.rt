@@ -1,7 +1,7 @@
 //! What a poll takes from the DTLS connection.
 ghost use Rattle.std.specs.Prelude.{◌≡◌, ◌≤◌, length};
 ghost use Rattle.rtc_peer_state.specs.Meanings.{meanings};
-ghost use Rattle.rtc_polling.specs.DtlsStages.{GivesDtlsTime, TimesDtls, TakesKeys, TakesCloseNotify, TakesDtlsOutput};
+ghost use Rattle.rtc_polling.specs.DtlsStages.{GivesDtlsTime, TimesDtls, TakesKeys, TakesCloseNotify, HandsPacket, TakesDtlsOutput};
 ghost use Rattle.rtc_polling.specs.DtlsStages.{PollsDtlsOutput, PollsDtlsOutputs, TellsConnected, has_come as is_past, is_dtls_due};
 ghost use Rattle.rtc_polling.specs.DtlsStages.{finished_handshake, silenced_handshake};
 
@@ -107,6 +107,20 @@ impl<I: IceAgent, D: DtlsInstance, S: Association, M: MediaSession, N: Ids> Poll
         }
     }
 
+    // Application data is a packet for the association.
+    #[tactic(auto, unfolding(crate::specs::DtlsStages::HandsPacket))]
+    fn hand_packet(&mut self, bytes: &[u8]) -> Met<M::E>
+        ensures { HandsPacket (meanings I.ice D.dtls S.association M.media N.ids) bytes.now self.old result self.new }
+    {
+        match self.core.sctp.handle_input(self.core.greatest, bytes) {
+            Ok(()) => Met::Again,
+            Err(_) => {
+                self.core.phase = Phase::Closed;
+                Met::Error(RtcError::Alloc)
+            }
+        }
+    }
+
     fn take_dtls_output(&mut self, output: &DtlsOutput<'_>) -> Met<M::E>
         ensures { TakesDtlsOutput (meanings I.ice D.dtls S.association M.media N.ids) output.now self.old result self.new }
     {
@@ -120,7 +134,7 @@ impl<I: IceAgent, D: DtlsInstance, S: Association, M: MediaSession, N: Ids> Poll
                 self.take_keys(key, *profile, active)
             }
             DtlsOutput::PeerCert(cert) => self.check_cert(cert),
-            DtlsOutput::ApplicationData(_) => Met::Again,
+            DtlsOutput::ApplicationData(bytes) => self.hand_packet(bytes),
             DtlsOutput::Timeout(moment) => {
                 self.transport.dtls_wake = *moment;
                 Met::Nothing

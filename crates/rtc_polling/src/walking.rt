@@ -84,6 +84,10 @@ impl<I: IceAgent, D: DtlsInstance, S: Association, M: MediaSession, N: Ids> Poll
             Met::Nothing => {}
             met => return met,
         }
+        match self.tell_streams() {
+            Met::Nothing => {}
+            met => return met,
+        }
         match self.tell_arrivals() {
             Met::Nothing => {}
             met => return met,
@@ -99,6 +103,10 @@ impl<I: IceAgent, D: DtlsInstance, S: Association, M: MediaSession, N: Ids> Poll
         requires { 2000 ≤ length buf.old }
         ensures { RepeatsStage (VisitsParts (meanings I.ice D.dtls S.association M.media N.ids)) self.old result self.new }
     {
+        match self.visit_parts(buf) {
+            Met::Again => {}
+            met => return met,
+        }
         'visits: loop {
             match self.visit_parts(buf) {
                 Met::Again => {}

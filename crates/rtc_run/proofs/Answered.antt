@@ -12,6 +12,6 @@ use Rattle.rtc_run.specs.ShownTable.{shown_table}
 pub answered_call : {I D S M E X T W N : Type 0} (m : Meanings I D S M E X T W N)
     (call : PolledPeer I D S M N → Result (Unit {0}) RtcError → PolledPeer I D S M N → Type 0) (old : PolledPeer I D S M N)
     (answer : Result (Unit {0}) RtcError) (outcome : Outcome E) (table : Option Table) (new : PolledPeer I D S M N) → call old answer new
-    → outcome ≡ outcome_of answer → table ≡ Some (shown_table new.core) → StepCalls m call old outcome table new
+    → outcome ≡ outcome_of answer → table ≡ Some (shown_table m.association new.core) → StepCalls m call old outcome table new
 answered_call m call old (Ok done) outcome table new called told shown = rw (told, shown) (called, record { lines = refl; channels = refl })
 answered_call m call old (Err error) outcome table new called told shown = rw (told, shown) (called, record { lines = refl; channels = refl })

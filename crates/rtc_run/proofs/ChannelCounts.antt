@@ -1,6 +1,6 @@
 -- How many channels a peer has after a call.
-use Rattle.std.proofs.Common.{◌≡◌, ◌+◌, ◌≤◌, ℕ, zero, suc, Bool, true, false, List, [], ◌∷◌, ◌++◌, length, map, take, get_or, Option, Some, None, Result, Ok, Err, refl, sym, ap, ◌∙◌, arith, length-append}
-use Rattle.std.specs.Prelude.{slice_get}
+use Rattle.std.proofs.Common.{◌≡◌, ◌+◌, ◌≤◌, ℕ, zero, suc, Bool, true, false, List, [], ◌∷◌, ◌++◌, length, map, take, get_or, Option, Some, None, Result, Ok, Err, refl, sym, subst, ap, ◌∙◌, arith, length-append}
+use Rattle.std.specs.Prelude.{◌-◌, not, is_some, nat_lt, slice_get}
 use Rattle.std.proofs.lemmas.List.{length-map, take_more}
 use Rattle.std.proofs.lemmas.Option.{slice_get_within, get_or_from_slice_get}
 use Rattle.rtc_wire.specs.declared.channel_config.ChannelConfig.{ChannelConfig}
@@ -8,12 +8,15 @@ use Rattle.rtc_sdp_values.specs.declared.direction.Direction.{Direction}
 use Rattle.rtc_sdp_values.specs.declared.direction.Direction.TheVariants.{Inactive}
 use Rattle.rtc_sdp_values.specs.declared.sdp.Sdp.{Sdp}
 use Rattle.std.specs.declared.alloc.AllocError.{AllocError}
+use Rattle.rtc_association.specs.AssociationMeaning.{AssociationMeaning}
+use Rattle.rtc_sctp.specs.Streams.{SctpStreams}
 use Rattle.rtc_channels.specs.declared.channel_row.ChannelRow.{ChannelRow}
-use Rattle.rtc_channels.specs.Channels.{Channel, Channels, channel_row, channel_rows, has_id, rows_confirmed, all_confirmed, confirmed, with_channel, unconfirmed}
+use Rattle.rtc_channels.specs.Channels.{Channel, Channels, has_id, rows_confirmed, all_confirmed, confirmed, with_channel, unconfirmed}
 use Rattle.rtc_change.specs.PendingOffer.{PendingOffer}
 use Rattle.rtc_change.specs.declared.change.Change.{Change}
 use Rattle.rtc_tables.specs.RowChanges.{RowChange, directed_row, stopped_row, changed_of}
 use Rattle.rtc_tables.proofs.RowChangeLemmas.{KeepsRow, changed_of_alike, length-alike, directed_row_keeps, stopped_row_keeps}
+use Rattle.rtc_peer_state.specs.ChannelRows.{channel_row, channel_rows}
 use Rattle.rtc_peer_state.specs.declared.peer.Peer.{Peer}
 use Rattle.rtc_peer_state.specs.declared.rtc_error.RtcError.{RtcError}
 use Rattle.rtc_peer_state.specs.declared.rtc_error.RtcError.TheVariants.{Net, Media as MediaFailed}
@@ -28,23 +31,22 @@ use Rattle.rtc_history.specs.declared.op_answer.OpAnswer.TheVariants.{Mid, Chang
 use Rattle.rtc_history.specs.Performs.{PerformsOps}
 use Rattle.rtc_peer_state.specs.Meanings.{Meanings}
 
--- a channel that is confirmed shows as before
-rows_shown : (id : ℕ) (config : ChannelConfig) (channels : List Channel) → map channel_row (rows_confirmed id config channels) ≡ map channel_row channels
-rows_shown id config [] = refl
-rows_shown id config (channel ∷ channels) = by (rows_shown id config channels) (has_id id channel) refl
+-- a channel that is confirmed stays one
+rows_counted : (id : ℕ) (config : ChannelConfig) (channels : List Channel) → length (rows_confirmed id config channels) ≡ length channels
+rows_counted id config [] = refl
+rows_counted id config (channel ∷ channels) = by (rows_counted id config channels) (has_id id channel) refl
   where
-    by : map channel_row (rows_confirmed id config channels) ≡ map channel_row channels → (test : Bool) → has_id id channel ≡ test
-        → map channel_row (rows_confirmed id config (channel ∷ channels)) ≡ map channel_row (channel ∷ channels)
+    by : length (rows_confirmed id config channels) ≡ length channels → (test : Bool) → has_id id channel ≡ test
+        → length (rows_confirmed id config (channel ∷ channels)) ≡ length (channel ∷ channels)
     by rest true is = rw is refl
     by rest false is = rw (is, rest) refl
 
-all_shown : (channels : List (ℕ × ChannelConfig)) (held : Channels) → channel_rows (all_confirmed channels held) ≡ channel_rows held
-all_shown [] held = refl
-all_shown (channel ∷ channels) held = all_shown channels (confirmed channel.0 channel.1 held) ∙ rows_shown channel.0 channel.1 held.rows
+all_counted : (channels : List (ℕ × ChannelConfig)) (held : Channels) → length (all_confirmed channels held).rows ≡ length held.rows
+all_counted [] held = refl
+all_counted (channel ∷ channels) held = all_counted channels (confirmed channel.0 channel.1 held) ∙ rows_counted channel.0 channel.1 held.rows
 
-one_more : (held : Channels) (config : ChannelConfig) → length (channel_rows (with_channel held config)) ≡ length (channel_rows held) + 1
-one_more held config =
-    omega (arith, length-map (held.rows ++ unconfirmed held.given config ∷ []) channel_row, length-map held.rows channel_row, length-append held.rows (unconfirmed held.given config ∷ []))
+one_more : (held : Channels) (config : ChannelConfig) → length (with_channel held config).rows ≡ length held.rows + 1
+one_more held config = length-append held.rows (unconfirmed held.given config ∷ [])
 
 -- rows up to a place behind them are all rows
 all_taken : (rows : List ChannelRow) (k : ℕ) → slice_get rows k ≡ None → take k rows ≡ rows
@@ -65,61 +67,81 @@ row_pushed rows k room room' found row at is filled pushed =
     let same : get_or rows k row ≡ row = get_or_from_slice_get rows k row row there in
     pushed ∙ (ap (λ (shown : List ChannelRow). shown ++ row ∷ []) filled ∙ sym (more ∙ ap (λ (one : ChannelRow). take k rows ++ one ∷ []) same))
 
--- channels that are applied alone show as before, and no line changes
-pub alone_channels : {I D S M N : Type 0} (changes : List Change) (p : Peer I D S M N) → channel_rows (after_channels_alone changes p).channels ≡ channel_rows p.channels
+-- no row stands at a place exactly where there are no more rows than that
+fewer_rows : (rows : List ChannelRow) (k : ℕ) (none : Bool) → is_some (slice_get rows k) ≡ not none → none ≡ nat_lt (length rows) (k + 1)
+fewer_rows [] k none is = grind (arith, is)
+fewer_rows (row ∷ rows) zero none is = grind (arith, is)
+fewer_rows (row ∷ rows) (suc k) none is = grind (arith, fewer_rows rows k none is)
+
+pub fewer_channels : {S : Type 0} (association : AssociationMeaning S) (p : SctpStreams S) (held : Channels) (most : ℕ) (found : Option ChannelRow) (none : Bool)
+    → (most ≡ 0 → ⊥) → found ≡ slice_get (channel_rows association p held) (most - 1) → is_some found ≡ not none → none ≡ nat_lt (length held.rows) most
+fewer_channels association p held most found none some at is =
+    let shown : List ChannelRow = channel_rows association p held in
+    let last : (most - 1) + 1 ≡ most = omega (arith, some) in
+    let rows : length shown ≡ length held.rows = length-map held.rows (channel_row association p) in
+    let F : ℕ → ℕ → Type 0 = λ (count bound : ℕ). none ≡ nat_lt count bound in
+    subst (F (length held.rows)) last (subst (λ (count : ℕ). F count ((most - 1) + 1)) rows (fewer_rows shown (most - 1) none (ap is_some (sym at) ∙ is)))
+
+-- a list of the rows is as long as there are channels
+pub rows_are_channels : {S : Type 0} (association : AssociationMeaning S) (p : SctpStreams S) (held : Channels) (rows : List ChannelRow)
+    → rows ≡ channel_rows association p held → length rows ≡ length held.rows
+rows_are_channels association p held rows is = ap length is ∙ length-map held.rows (channel_row association p)
+
+-- applying channels alone leaves their number, and the lines
+pub alone_channels : {I D S M N : Type 0} (changes : List Change) (p : Peer I D S M N) → length (after_channels_alone changes p).channels.rows ≡ length p.channels.rows
 alone_channels [] p = refl
-alone_channels (change ∷ changes) p = all_shown (fitting_channels (change ∷ changes)) p.channels
+alone_channels (change ∷ changes) p = all_counted (fitting_channels (change ∷ changes)) p.channels
 
 pub alone_lines : {I D S M N : Type 0} (changes : List Change) (p : Peer I D S M N) → (after_channels_alone changes p).lines ≡ p.lines
 alone_lines [] p = refl
 alone_lines (change ∷ changes) p = refl
 
 module _ {I D S M E X T W N : Type 0} (m : Meanings I D S M E X T W N) where
-  -- the channels that a peer shows
-  abbrev shown_channels : Peer I D S M N → ℕ
-  shown_channels p = length (channel_rows p.channels)
+  -- how many channels a peer has
+  abbrev channel_count : Peer I D S M N → ℕ
+  channel_count p = length p.channels.rows
 
   -- ---- ops
 
   changed : (change : RowChange) (to : Direction) (p : Peer I D S M N) (mid : List ℕ) (result : Result Bool AllocError) (q : Peer I D S M N)
-      → ChangesLine change to p mid result q → shown_channels q ≡ shown_channels p
-  changed change to p mid (Ok true) q h = ap shown_channels h.1
-  changed change to p mid (Ok false) q h = ap shown_channels h.1
-  changed change to p mid (Err error) q h = ap shown_channels h
+      → ChangesLine change to p mid result q → channel_count q ≡ channel_count p
+  changed change to p mid (Ok true) q h = ap channel_count h.1
+  changed change to p mid (Ok false) q h = ap channel_count h.1
+  changed change to p mid (Err error) q h = ap channel_count h
 
   -- each op adds one channel at most
   pub ops_channels : (p q : Peer I D S M N) (ops : List Op) (answers : List OpAnswer) → PerformsOps m p ops answers q
-      → length (channel_rows q.channels) ≤ length (channel_rows p.channels) + length ops
-  ops_channels p q [] [] h = let same : shown_channels q ≡ shown_channels p = ap shown_channels h in omega arith
+      → length q.channels.rows ≤ length p.channels.rows + length ops
+  ops_channels p q [] [] h = let same : channel_count q ≡ channel_count p = ap channel_count h in omega arith
   ops_channels p q (AddMedia kind dir ∷ ops) (Mid mid ∷ answers) h =
-      let same : shown_channels h.0 ≡ shown_channels p = ap shown_channels h.1.1 in
+      let same : channel_count h.0 ≡ channel_count p = ap channel_count h.1.1 in
       omega (arith, same, ops_channels h.0 q ops answers h.2)
-  ops_channels p q (AddMedia kind dir ∷ ops) (Alloc ∷ []) h = let same : shown_channels q ≡ shown_channels p = ap shown_channels h.1 in omega arith
+  ops_channels p q (AddMedia kind dir ∷ ops) (Alloc ∷ []) h = let same : channel_count q ≡ channel_count p = ap channel_count h.1 in omega arith
   ops_channels p q (SetDirection place dir ∷ ops) (NoLine ∷ answers) h = omega (arith, ops_channels p q ops answers h.1)
   ops_channels p q (SetDirection place dir ∷ ops) (Changed is ∷ answers) h =
-      let same : shown_channels h.0 ≡ shown_channels p = changed (directed_row dir) dir p h.1.mid (Ok is) h.0 h.1.called in
+      let same : channel_count h.0 ≡ channel_count p = changed (directed_row dir) dir p h.1.mid (Ok is) h.0 h.1.called in
       omega (arith, same, ops_channels h.0 q ops answers h.2)
   ops_channels p q (SetDirection place dir ∷ ops) (Alloc ∷ []) h =
-      let same : shown_channels q ≡ shown_channels p = ap shown_channels h.called in
+      let same : channel_count q ≡ channel_count p = ap channel_count h.called in
       omega arith
   ops_channels p q (StopMedia place ∷ ops) (NoLine ∷ answers) h = omega (arith, ops_channels p q ops answers h.1)
   ops_channels p q (StopMedia place ∷ ops) (Changed is ∷ answers) h =
-      let same : shown_channels h.0 ≡ shown_channels p = changed stopped_row Inactive p h.1.mid (Ok is) h.0 h.1.called in
+      let same : channel_count h.0 ≡ channel_count p = changed stopped_row Inactive p h.1.mid (Ok is) h.0 h.1.called in
       omega (arith, same, ops_channels h.0 q ops answers h.2)
   ops_channels p q (StopMedia place ∷ ops) (Alloc ∷ []) h =
-      let same : shown_channels q ≡ shown_channels p = ap shown_channels h.called in
+      let same : channel_count q ≡ channel_count p = ap channel_count h.called in
       omega arith
   ops_channels p q (AddChannel config ∷ ops) (NewChannel id ∷ answers) h =
-      let same : shown_channels h.0 ≡ length (channel_rows (with_channel p.channels config)) = ap shown_channels h.1.2 in
+      let same : channel_count h.0 ≡ length (with_channel p.channels config).rows = ap channel_count h.1.2 in
       omega (arith, same, one_more p.channels config, ops_channels h.0 q ops answers h.2)
   ops_channels p q (AddChannel config ∷ ops) (NoChannel ∷ answers) h =
-      let same : shown_channels h.0 ≡ shown_channels p = ap shown_channels h.1.1 in
+      let same : channel_count h.0 ≡ channel_count p = ap channel_count h.1.1 in
       omega (arith, same, ops_channels h.0 q ops answers h.2)
-  ops_channels p q (AddChannel config ∷ ops) (Alloc ∷ []) h = let same : shown_channels q ≡ shown_channels p = ap shown_channels h.1 in omega arith
+  ops_channels p q (AddChannel config ∷ ops) (Alloc ∷ []) h = let same : channel_count q ≡ channel_count p = ap channel_count h.1 in omega arith
   ops_channels p q (IceRestart keep ∷ ops) (Creds creds ∷ answers) h =
-      let same : shown_channels h.0 ≡ shown_channels p = ap shown_channels h.1.1 in
+      let same : channel_count h.0 ≡ channel_count p = ap channel_count h.1.1 in
       omega (arith, same, ops_channels h.0 q ops answers h.2)
-  ops_channels p q (IceRestart keep ∷ ops) (Alloc ∷ []) h = let same : shown_channels q ≡ shown_channels p = ap shown_channels h.1 in omega arith
+  ops_channels p q (IceRestart keep ∷ ops) (Alloc ∷ []) h = let same : channel_count q ≡ channel_count p = ap channel_count h.1 in omega arith
   ops_channels p q ops answers h = absurd h
 
   kept_rows : (change : RowChange) (to : Direction) (p : Peer I D S M N) (mid : List ℕ) (result : Result Bool AllocError) (q : Peer I D S M N)
@@ -151,31 +173,31 @@ module _ {I D S M E X T W N : Type 0} (m : Meanings I D S M E X T W N) where
   -- ---- offers and answers
 
   pub offer_channels : (p q : Peer I D S M N) (offer : Sdp) (result : Result Sdp RtcError) → AcceptsOffer m p offer result q
-      → channel_rows q.channels ≡ channel_rows p.channels
-  offer_channels p q offer (Ok answer) h = ap (λ p. channel_rows p.channels) h.rest
-  offer_channels p q offer (Err (RemoteSdp why)) h = ap (λ p. channel_rows p.channels) h.1
-  offer_channels p q offer (Err (SdpRefused error)) h = ap (λ p. channel_rows p.channels) h.1
-  offer_channels p q offer (Err (Dtls Fault)) h = ap (λ p. channel_rows p.channels) h.rest
+      → length q.channels.rows ≡ length p.channels.rows
+  offer_channels p q offer (Ok answer) h = ap (λ p. length p.channels.rows) h.rest
+  offer_channels p q offer (Err (RemoteSdp why)) h = ap (λ p. length p.channels.rows) h.1
+  offer_channels p q offer (Err (SdpRefused error)) h = ap (λ p. length p.channels.rows) h.1
+  offer_channels p q offer (Err (Dtls Fault)) h = ap (λ p. length p.channels.rows) h.rest
   offer_channels p q offer (Err (Dtls WouldBlock)) h = absurd h
   offer_channels p q offer (Err (Dtls DtlsAlloc)) h = absurd h
-  offer_channels p q offer (Err (Sctp error)) h = ap (λ p. channel_rows p.channels) h.1.rest
+  offer_channels p q offer (Err (Sctp error)) h = ap (λ p. length p.channels.rows) h.1.rest
   offer_channels p q offer (Err ChangesOutOfOrder) h = absurd h
   offer_channels p q offer (Err (Net cause)) h = absurd h
   offer_channels p q offer (Err (MediaFailed cause)) h = absurd h
   offer_channels p q offer (Err BadChannel) h = absurd h
-  offer_channels p q offer (Err PeerAlloc) h = ap (λ p. channel_rows p.channels) h.rest
+  offer_channels p q offer (Err PeerAlloc) h = ap (λ p. length p.channels.rows) h.rest
 
   pub answer_channels : (p q : Peer I D S M N) (token : PendingOffer) (answer : Sdp) (result : Result (Unit {0}) RtcError)
-      → AcceptsAnswer m p token answer result q → channel_rows q.channels ≡ channel_rows p.channels
-  answer_channels p q token answer (Ok done) h = ap (λ p. channel_rows p.channels) h.rest ∙ all_shown (fitting_channels token.changes) p.channels
-  answer_channels p q token answer (Err (RemoteSdp why)) h = ap (λ p. channel_rows p.channels) h.1.1
-  answer_channels p q token answer (Err (SdpRefused error)) h = ap (λ p. channel_rows p.channels) h.1.1
-  answer_channels p q token answer (Err (Dtls Fault)) h = ap (λ p. channel_rows p.channels) h.rest
+      → AcceptsAnswer m p token answer result q → length q.channels.rows ≡ length p.channels.rows
+  answer_channels p q token answer (Ok done) h = ap (λ p. length p.channels.rows) h.rest ∙ all_counted (fitting_channels token.changes) p.channels
+  answer_channels p q token answer (Err (RemoteSdp why)) h = ap (λ p. length p.channels.rows) h.1.1
+  answer_channels p q token answer (Err (SdpRefused error)) h = ap (λ p. length p.channels.rows) h.1.1
+  answer_channels p q token answer (Err (Dtls Fault)) h = ap (λ p. length p.channels.rows) h.rest
   answer_channels p q token answer (Err (Dtls WouldBlock)) h = absurd h
   answer_channels p q token answer (Err (Dtls DtlsAlloc)) h = absurd h
-  answer_channels p q token answer (Err (Sctp error)) h = ap (λ p. channel_rows p.channels) h.1.rest
-  answer_channels p q token answer (Err ChangesOutOfOrder) h = ap (λ p. channel_rows p.channels) h.1
+  answer_channels p q token answer (Err (Sctp error)) h = ap (λ p. length p.channels.rows) h.1.rest
+  answer_channels p q token answer (Err ChangesOutOfOrder) h = ap (λ p. length p.channels.rows) h.1
   answer_channels p q token answer (Err (Net cause)) h = absurd h
   answer_channels p q token answer (Err (MediaFailed cause)) h = absurd h
   answer_channels p q token answer (Err BadChannel) h = absurd h
-  answer_channels p q token answer (Err PeerAlloc) h = ap (λ p. channel_rows p.channels) h.rest
+  answer_channels p q token answer (Err PeerAlloc) h = ap (λ p. length p.channels.rows) h.rest

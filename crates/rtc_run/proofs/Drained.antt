@@ -13,7 +13,7 @@ use Rattle.rtc_history.specs.declared.poll_end.PollEnd.TheVariants.{Ended, Refus
 use Rattle.rtc_history.specs.declared.sent_packet.SentPacket.{SentPacket}
 use Rattle.rtc_history.specs.declared.shown.Shown.{Shown}
 use Rattle.rtc_history.specs.declared.shown.Shown.TheVariants.{Timeout, Packet, Event}
-use Rattle.rtc_history.specs.Performs.{PollsShown, DrainsOn, Drains}
+use Rattle.rtc_history.specs.Performs.{PollsShown, DrainsOn, DrainsPeer}
 use Rattle.rtc_run.specs.Turns.{Turns, TakesTurn, ShowsOutput, is_timeout}
 use Rattle.rtc_run.specs.declared.turn.Turn.TheVariants.{More, Over, Refused}
 
@@ -74,27 +74,27 @@ module _ {I D S M E X T W N : Type 0} (m : Meanings I D S M E X T W N) (at : Sid
   -- ---- the ends of a drain, which polled once at least
 
   ended : (p : PolledPeer I D S M N) (packets : List SentPacket) (outputs : List (Shown E)) (q : PolledPeer I D S M N) (kept : List SentPacket)
-      → DrainsOn m at p packets outputs Ended q kept → Drains m at p packets outputs Ended q kept
+      → DrainsOn m at p packets outputs Ended q kept → DrainsPeer m at p packets outputs Ended q kept
   ended p packets [] q kept h = h
   ended p packets (shown ∷ outputs) q kept h = h
 
   refused : (p : PolledPeer I D S M N) (packets : List SentPacket) (outputs : List (Shown E)) (error : RtcError) (q : PolledPeer I D S M N) (kept : List SentPacket)
-      → DrainsOn m at p packets outputs (EndRefused error) q kept → Drains m at p packets outputs (EndRefused error) q kept
+      → DrainsOn m at p packets outputs (EndRefused error) q kept → DrainsPeer m at p packets outputs (EndRefused error) q kept
   refused p packets [] error q kept h = h
   refused p packets (shown ∷ outputs) error q kept h = h
 
   lacking : (p : PolledPeer I D S M N) (packets : List SentPacket) (outputs : List (Shown E)) (q : PolledPeer I D S M N) (kept : List SentPacket)
-      → 1 ≤ length outputs → DrainsOn m at p packets outputs NoRoom q kept → Drains m at p packets outputs NoRoom q kept
+      → 1 ≤ length outputs → DrainsOn m at p packets outputs NoRoom q kept → DrainsPeer m at p packets outputs NoRoom q kept
   lacking p packets [] q kept some h = absurd (omega arith)
   lacking p packets (shown ∷ outputs) q kept some h = h
 
   pub drains_ended : (first : PolledPeer I D S M N) (packets : List SentPacket) (outputs outputs' : List (Shown E)) (p q : PolledPeer I D S M N) (kept kept' : List SentPacket)
-      → DrainsLeft first packets outputs p kept → TakesTurn m at p kept outputs Over q kept' outputs' → Drains m at first packets outputs' Ended q kept'
+      → DrainsLeft first packets outputs p kept → TakesTurn m at p kept outputs Over q kept' outputs' → DrainsPeer m at first packets outputs' Ended q kept'
   drains_ended first packets outputs outputs' p q kept kept' left turn =
       ended first packets outputs' q kept' (left_over first packets outputs outputs' p q kept kept' left turn)
 
   pub drains_refused : (first : PolledPeer I D S M N) (packets : List SentPacket) (outputs outputs' : List (Shown E)) (p q : PolledPeer I D S M N) (kept kept' : List SentPacket) (error : RtcError)
-      → DrainsLeft first packets outputs p kept → TakesTurn m at p kept outputs (Refused error) q kept' outputs' → Drains m at first packets outputs' (EndRefused error) q kept'
+      → DrainsLeft first packets outputs p kept → TakesTurn m at p kept outputs (Refused error) q kept' outputs' → DrainsPeer m at first packets outputs' (EndRefused error) q kept'
   drains_refused first packets outputs outputs' p q kept kept' error left turn =
       refused first packets outputs' error q kept' (left_refused first packets outputs outputs' p q kept kept' error left turn)
 
@@ -121,7 +121,7 @@ module _ {I D S M E X T W N : Type 0} (m : Meanings I D S M E X T W N) (at : Sid
       omega arith
 
   pub drains_lacking : (first : PolledPeer I D S M N) (packets : List SentPacket) (outputs : List (Shown E)) (p : PolledPeer I D S M N) (kept : List SentPacket)
-      → DrainsLeft first packets outputs p kept → 1 ≤ length outputs → Drains m at first packets outputs NoRoom p kept
+      → DrainsLeft first packets outputs p kept → 1 ≤ length outputs → DrainsPeer m at first packets outputs NoRoom p kept
   drains_lacking first packets outputs p kept left some = lacking first packets outputs p kept some (left_lacking first packets outputs p kept left)
 
 -- ---- one poll, by what is shown of its output

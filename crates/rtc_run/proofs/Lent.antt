@@ -1,8 +1,8 @@
 -- What a call of a lent peer did, said of the peer.
-use Rattle.std.proofs.Common.{◌≡◌, ◌≤◌, ◌+◌, List, length, map, Result, sym, subst, ap, ◌∙◌}
+use Rattle.std.proofs.Common.{◌≡◌, ◌≤◌, ◌+◌, List, length, Result, sym, subst, ap, ◌∙◌}
 use Rattle.rtc_sdp_values.specs.declared.line_row.LineRow.{LineRow}
 use Rattle.rtc_sdp_values.specs.declared.sdp.Sdp.{Sdp}
-use Rattle.rtc_channels.specs.Channels.{Channel, channel_row, channel_rows}
+use Rattle.rtc_channels.specs.Channels.{Channel}
 use Rattle.rtc_change.specs.PendingOffer.{PendingOffer}
 use Rattle.rtc_peer_state.specs.declared.peer.Peer.{Peer}
 use Rattle.rtc_peer_state.specs.declared.rtc_error.RtcError.{RtcError}
@@ -38,11 +38,11 @@ module _ {I D S M E X T W N : Type 0} (m : Meanings I D S M E X T W N) where
       let G : List LineRow → Type 0 = λ (x : List LineRow). length x ≤ length old.lines + length answer.lines in
       subst G (sym same) (answer_rows m (lent old) r token answer result (subst F p_is h))
 
-  -- the channels that an SDP leaves show as before
-  pub channels_of_offer : (old p r : Peer I D S M N) (offer : Sdp) (result : Result Sdp RtcError) (channels : List Channel) → p ≡ lent old → AcceptsOffer m p offer result r → channels ≡ r.channels.rows → map channel_row channels ≡ channel_rows old.channels
+  -- an SDP leaves as many channels as there were
+  pub channels_of_offer : (old p r : Peer I D S M N) (offer : Sdp) (result : Result Sdp RtcError) (channels : List Channel) → p ≡ lent old → AcceptsOffer m p offer result r → channels ≡ r.channels.rows → length channels ≡ length old.channels.rows
   channels_of_offer old p r offer result channels p_is h same =
-      ap (λ (rows : List Channel). map channel_row rows) same ∙ (offer_channels m p r offer result h ∙ ap (λ (x : Peer I D S M N). channel_rows x.channels) p_is)
+      ap length same ∙ (offer_channels m p r offer result h ∙ ap (λ (x : Peer I D S M N). length x.channels.rows) p_is)
 
-  pub channels_of_answer : (old p r : Peer I D S M N) (token : PendingOffer) (answer : Sdp) (result : Result (Unit {0}) RtcError) (channels : List Channel) → p ≡ lent old → AcceptsAnswer m p token answer result r → channels ≡ r.channels.rows → map channel_row channels ≡ channel_rows old.channels
+  pub channels_of_answer : (old p r : Peer I D S M N) (token : PendingOffer) (answer : Sdp) (result : Result (Unit {0}) RtcError) (channels : List Channel) → p ≡ lent old → AcceptsAnswer m p token answer result r → channels ≡ r.channels.rows → length channels ≡ length old.channels.rows
   channels_of_answer old p r token answer result channels p_is h same =
-      ap (λ (rows : List Channel). map channel_row rows) same ∙ (answer_channels m p r token answer result h ∙ ap (λ (x : Peer I D S M N). channel_rows x.channels) p_is)
+      ap length same ∙ (answer_channels m p r token answer result h ∙ ap (λ (x : Peer I D S M N). length x.channels.rows) p_is)

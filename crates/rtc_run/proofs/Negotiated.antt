@@ -32,7 +32,7 @@ module _ {I D S M E X T W N : Type 0} (m : Meanings I D S M E X T W N) where
   offer_makes true at p q sdps offer token h = ((offer.0, token), h, refl, refl)
   offer_makes false at p q sdps offer token h = absurd h
 
-  pub offered : (at : Side) (ops : List Op) (apply : Bool) (old q : Peer I D S M N) (sdps sdps' : List Kept) (answers : List OpAnswer) (applied : Applied) (offer : SdpOffer) (token : PendingOffer) (k : ℕ) (outcome : Outcome E) (table : Option Table) → applied ≡ Offer offer token → Stages m old ops apply answers applied q → k ≡ length sdps → sdps' ≡ sdps ++ kept_offer at (offer.0, token) ∷ [] → outcome ≡ Negotiated answers (MadeOffer k) → table ≡ Some (shown_table q) → Negotiates m at ops apply old sdps outcome table q sdps'
+  pub offered : (at : Side) (ops : List Op) (apply : Bool) (old q : Peer I D S M N) (sdps sdps' : List Kept) (answers : List OpAnswer) (applied : Applied) (offer : SdpOffer) (token : PendingOffer) (k : ℕ) (outcome : Outcome E) (table : Option Table) → applied ≡ Offer offer token → Stages m old ops apply answers applied q → k ≡ length sdps → sdps' ≡ sdps ++ kept_offer at (offer.0, token) ∷ [] → outcome ≡ Negotiated answers (MadeOffer k) → table ≡ Some (shown_table m.association q) → Negotiates m at ops apply old sdps outcome table q sdps'
   offered at ops apply old q sdps sdps' answers applied offer token k outcome table is stages k_is texts_are outcome_is table_is =
       let becomes : Becomes m (apply && not (answers_lack answers)) stages.between (Offer offer token) q = rw is at stages.becomes in
       rw (outcome_is, table_is, k_is, texts_are) (stages.between, stages.performs, offer_makes (apply && not (answers_lack answers)) at stages.between q sdps offer token becomes, record { lines = refl; channels = refl })
@@ -46,7 +46,7 @@ module _ {I D S M E X T W N : Type 0} (m : Meanings I D S M E X T W N) where
   other_makes false at p q sdps Alloc MadeAlloc told h = absurd h
   other_makes asked at p q sdps applied made told h = absurd told
 
-  pub not_offered : (at : Side) (ops : List Op) (apply : Bool) (old q : Peer I D S M N) (sdps sdps' : List Kept) (answers : List OpAnswer) (applied known : Applied) (made : Made) (outcome : Outcome E) (table : Option Table) → IsToldAs known made → applied ≡ known → Stages m old ops apply answers applied q → sdps' ≡ sdps → outcome ≡ Negotiated answers made → table ≡ Some (shown_table q) → Negotiates m at ops apply old sdps outcome table q sdps'
+  pub not_offered : (at : Side) (ops : List Op) (apply : Bool) (old q : Peer I D S M N) (sdps sdps' : List Kept) (answers : List OpAnswer) (applied known : Applied) (made : Made) (outcome : Outcome E) (table : Option Table) → IsToldAs known made → applied ≡ known → Stages m old ops apply answers applied q → sdps' ≡ sdps → outcome ≡ Negotiated answers made → table ≡ Some (shown_table m.association q) → Negotiates m at ops apply old sdps outcome table q sdps'
   not_offered at ops apply old q sdps sdps' answers applied known made outcome table told is stages texts_are outcome_is table_is =
       let becomes : Becomes m (apply && not (answers_lack answers)) stages.between known q = rw is at stages.becomes in
       rw (outcome_is, table_is, texts_are) (stages.between, stages.performs, other_makes (apply && not (answers_lack answers)) at stages.between q sdps known made told becomes, record { lines = refl; channels = refl })

@@ -1,5 +1,5 @@
--- Polls, inputs and closes leave the lines and the channels of a peer.
-use Rattle.std.proofs.Common.{◌≡◌, Result, ap}
+-- Polls, inputs and closes leave the lines of a peer. A poll adds one channel at most, the others none.
+use Rattle.std.proofs.Common.{◌≡◌, ◌≤◌, ◌+◌, length, Result, refl, ap}
 use Rattle.rtc_peer_state.specs.declared.rtc_error.RtcError.{RtcError}
 use Rattle.rtc_peer_state.specs.Meanings.{Meanings}
 use Rattle.rtc_polling.specs.declared.input.Input.{Input}
@@ -8,7 +8,10 @@ use Rattle.rtc_polling.specs.declared.polled_peer.PolledPeer.{PolledPeer}
 use Rattle.rtc_polling.specs.Closing.{ClosesPeer}
 use Rattle.rtc_polling.specs.Inputs.{HandlesInput}
 use Rattle.rtc_polling.specs.Walk.{PollsPeer}
-use Rattle.rtc_polling.proofs.Keeping.{close_keeps, input_keeps, poll_keeps}
+use Rattle.rtc_polling.proofs.Keeping.{poll_keeps}
+use Rattle.rtc_polling.proofs.KeptCalls.{close_keeps}
+use Rattle.rtc_polling.proofs.KeptInputs.{input_keeps}
+use Rattle.rtc_polling.proofs.Numbering.{close_numbers, input_numbers, poll_numbers}
 
 module _ {I D S M E X T W N : Type 0} (m : Meanings I D S M E X T W N) where
   pub lines_after_poll : (p : PolledPeer I D S M N) (answer : Result (Output E) RtcError) (q : PolledPeer I D S M N) → PollsPeer m p answer q
@@ -16,21 +19,21 @@ module _ {I D S M E X T W N : Type 0} (m : Meanings I D S M E X T W N) where
   lines_after_poll p answer q h = ap (λ core. core.lines) (poll_keeps m p answer q h)
 
   pub channels_after_poll : (p : PolledPeer I D S M N) (answer : Result (Output E) RtcError) (q : PolledPeer I D S M N)
-      → PollsPeer m p answer q → q.core.channels ≡ p.core.channels
-  channels_after_poll p answer q h = ap (λ core. core.channels) (poll_keeps m p answer q h)
+      → PollsPeer m p answer q → length q.core.channels.rows ≤ length p.core.channels.rows + 1
+  channels_after_poll p answer q h = (poll_numbers m p answer q h).few_rows
 
   pub lines_after_input : (input : Input) (p : PolledPeer I D S M N) (r : Result (Unit {0}) RtcError) (q : PolledPeer I D S M N)
       → HandlesInput m input p r q → q.core.lines ≡ p.core.lines
   lines_after_input input p r q h = ap (λ core. core.lines) (input_keeps m input p r q h)
 
   pub channels_after_input : (input : Input) (p : PolledPeer I D S M N) (r : Result (Unit {0}) RtcError) (q : PolledPeer I D S M N)
-      → HandlesInput m input p r q → q.core.channels ≡ p.core.channels
-  channels_after_input input p r q h = ap (λ core. core.channels) (input_keeps m input p r q h)
+      → HandlesInput m input p r q → length q.core.channels.rows ≤ length p.core.channels.rows
+  channels_after_input input p r q h = (input_numbers m input p r q h).no_new_row refl
 
   pub lines_after_close : (p : PolledPeer I D S M N) (r : Result (Unit {0}) RtcError) (q : PolledPeer I D S M N) → ClosesPeer m p r q
       → q.core.lines ≡ p.core.lines
   lines_after_close p r q h = ap (λ core. core.lines) (close_keeps m p r q h)
 
   pub channels_after_close : (p : PolledPeer I D S M N) (r : Result (Unit {0}) RtcError) (q : PolledPeer I D S M N) → ClosesPeer m p r q
-      → q.core.channels ≡ p.core.channels
-  channels_after_close p r q h = ap (λ core. core.channels) (close_keeps m p r q h)
+      → length q.core.channels.rows ≤ length p.core.channels.rows
+  channels_after_close p r q h = (close_numbers m p r q h).no_new_row refl

@@ -1,7 +1,6 @@
 -- What is staged is applied where that is asked.
 use Rattle.std.proofs.Common.{◌≡◌, List, length, Bool, true, false, not, ◌&&◌, Option, Some, None, Ok, Err, Result, sym, ◌∙◌, subst, ap, arith}
 use Rattle.std.specs.declared.alloc.AllocError.{AllocError}
-use Rattle.rtc_channels.specs.Channels.{channel_rows}
 use Rattle.rtc_lines.specs.declared.sdp_offer.SdpOffer.{SdpOffer}
 use Rattle.rtc_change.specs.PendingOffer.{PendingOffer}
 use Rattle.rtc_peer_state.specs.declared.peer.Peer.{Peer}
@@ -26,12 +25,12 @@ module _ {I D S M E X T W N : Type 0} (m : Meanings I D S M E X T W N) where
   becomes_rows true p q Alloc h = ap (λ r. length r.lines) h
   becomes_rows asked p q applied h = absurd h
 
-  -- and the channels that are shown
-  becomes_channels : (asked : Bool) (p q : Peer I D S M N) (applied : Applied) → Becomes m asked p applied q → channel_rows q.channels ≡ channel_rows p.channels
-  becomes_channels false p q NotAsked h = ap (λ r. channel_rows r.channels) h
-  becomes_channels true p q Nothing h = ap (λ r. channel_rows r.channels) h.1 ∙ alone_channels p.staged p
-  becomes_channels true p q (Offer offer token) h = ap (λ r. channel_rows r.channels) h.4
-  becomes_channels true p q Alloc h = ap (λ r. channel_rows r.channels) h
+  -- and that of channels
+  becomes_channels : (asked : Bool) (p q : Peer I D S M N) (applied : Applied) → Becomes m asked p applied q → length q.channels.rows ≡ length p.channels.rows
+  becomes_channels false p q NotAsked h = ap (λ r. length r.channels.rows) h
+  becomes_channels true p q Nothing h = ap (λ r. length r.channels.rows) h.1 ∙ alone_channels p.staged p
+  becomes_channels true p q (Offer offer token) h = ap (λ r. length r.channels.rows) h.4
+  becomes_channels true p q Alloc h = ap (λ r. length r.channels.rows) h
   becomes_channels asked p q applied h = absurd h
 
   stages : (old p between q : Peer I D S M N) (ops : List Op) (apply asked : Bool) (answers slice : List OpAnswer) (applied : Applied) → p ≡ lent old → PerformsOps m p ops answers between → slice ≡ answers → asked ≡ (apply && not (answers_lack slice)) → Becomes m asked between applied q → Stages m old ops apply answers applied q
@@ -39,7 +38,7 @@ module _ {I D S M E X T W N : Type 0} (m : Meanings I D S M E X T W N) where
       let F : List OpAnswer → Bool = λ (xs : List OpAnswer). apply && not (answers_lack xs) in
       let here : PerformsOps m (lent old) ops answers between = subst (λ (x : Peer I D S M N). PerformsOps m x ops answers between) p_is performs in
       let then : Becomes m (apply && not (answers_lack answers)) between applied q = subst (λ (b : Bool). Becomes m b between applied q) (asked_is ∙ ap F slice_is) becomes in
-      let told : length (channel_rows q.channels) ≡ length (channel_rows between.channels) = ap length (becomes_channels (apply && not (answers_lack answers)) between q applied then) in
+      let told : length q.channels.rows ≡ length between.channels.rows = becomes_channels (apply && not (answers_lack answers)) between q applied then in
       record {
         between = between;
         performs = here;

@@ -1,6 +1,5 @@
 -- What a step stages at a peer, and what becomes of it.
 use Rattle.std.specs.Prelude.{◌≡◌, ◌≤◌, ◌+◌, List, length, Bool, true, false, not, ◌&&◌, Some, None, Ok, Err, alloc_error}
-use Rattle.rtc_channels.specs.Channels.{channel_rows}
 use Rattle.rtc_peer_state.specs.declared.peer.Peer.{Peer}
 use Rattle.rtc_peer_state.specs.Calls.{Applies}
 use Rattle.rtc_peer_state.specs.Meanings.{Meanings}
@@ -26,4 +25,4 @@ module _ {I D S M E X T W N : Type 0} (m : Meanings I D S M E X T W N) where
     pub performs : PerformsOps m (lent old) ops answers between
     pub becomes : Becomes (apply && not (answers_lack answers)) between applied new
     pub rows : length new.lines ≡ length old.lines
-    pub channels : length (channel_rows new.channels) ≤ length (channel_rows old.channels) + length ops
+    pub channels : length new.channels.rows ≤ length old.channels.rows + length ops

@@ -2,7 +2,6 @@
 ghost use Rattle.std.specs.Prelude.{◌≡◌, ◌+◌, ◌<◌, ◌≤◌, ◌^◌, ◌++◌, [], ◌∷◌, length, Some, None, true, false};
 ghost use Rattle.std.specs.Prelude.{IsTrue, IsSome, IfSome, IfNone, OnSome, is_some, slice_get};
 ghost use Rattle.std.specs.Option.{option_copied};
-ghost use Rattle.rtc_channels.specs.Channels.{channel_rows};
 ghost use Rattle.rtc_peer_state.specs.Acceptances.{AcceptsAnswer, AcceptsOffer};
 ghost use Rattle.rtc_peer.specs.Described.{sdp_of_answer};
 ghost use Rattle.rtc_delivery.specs.Delivered.{AllReadBack};
@@ -62,7 +61,7 @@ fn accept_offer<I: IceAgent, D: DtlsInstance, S: Association, M: MediaSession, N
     ensures accepts { AcceptsOffer (meanings I.ice D.dtls S.association M.media N.ids)
         (lent rtc.old.core) offer.0 (sdp_of_answer result) rtc.new.core }
     ensures rows { length rtc.new.core.lines ≤ length rtc.old.core.lines + length offer.0.lines }
-    ensures channels { channel_rows rtc.new.core.channels ≡ channel_rows rtc.old.core.channels }
+    ensures channels { length rtc.new.core.channels.rows ≡ length rtc.old.core.channels.rows }
     ensures connection { rtc.new.transport ≡ rtc.old.transport }
 {
     rtc.sdp_api().accept_offer(offer)
@@ -142,7 +141,7 @@ fn accept_answer<I: IceAgent, D: DtlsInstance, S: Association, M: MediaSession, 
     ensures accepts { AcceptsAnswer (meanings I.ice D.dtls S.association M.media N.ids)
         (lent rtc.old.core) pending answer.0 result rtc.new.core }
     ensures rows { length rtc.new.core.lines ≤ length rtc.old.core.lines + length answer.0.lines }
-    ensures channels { channel_rows rtc.new.core.channels ≡ channel_rows rtc.old.core.channels }
+    ensures channels { length rtc.new.core.channels.rows ≡ length rtc.old.core.channels.rows }
     ensures connection { rtc.new.transport ≡ rtc.old.transport }
 {
     rtc.sdp_api().accept_answer(pending, answer)

@@ -1,5 +1,5 @@
 //! Inputs and closes of a step.
-ghost use Rattle.std.specs.Prelude.{◌≡◌, ◌<◌, ◌^◌, ◌≤◌};
+ghost use Rattle.std.specs.Prelude.{◌≡◌, ◌<◌, ◌^◌, ◌≤◌, length};
 ghost use Rattle.std.specs.Option.{option_copied};
 ghost use Rattle.rtc_wire.specs.DatagramRecv.{kind_by};
 ghost use Rattle.rtc_history.specs.PairState.{remote_packet};
@@ -28,14 +28,14 @@ fn outcome_of<E>(answer: Result<(), RtcError>) -> Outcome<E>
 }
 
 // Gives a peer a moment.
-#[tactic(auto, using(crate::proofs::PollsKeep::lines_after_input, crate::proofs::PollsKeep::channels_after_input))]
+#[tactic(auto, using(crate::proofs::PollsKeep::lines_after_input))]
 fn give_moment<I: IceAgent, D: DtlsInstance, S: Association, M: MediaSession, N: Ids>(
     rtc: &mut Rtc<I, D, S, M, N>,
     now: Moment,
 ) -> Result<(), RtcError>
     ensures handles { HandlesInput (meanings I.ice D.dtls S.association M.media N.ids) (given.Timeout now) rtc.old result rtc.new }
     ensures lines { rtc.new.core.lines ≡ rtc.old.core.lines }
-    ensures channels { rtc.new.core.channels ≡ rtc.old.core.channels }
+    ensures channels { length rtc.new.core.channels.rows ≤ length rtc.old.core.channels.rows }
 {
     rtc.handle_input(&Input::Timeout(now))
 }
@@ -74,7 +74,7 @@ fn find_packet(packets: &[SentPacket], at: Side, number: u64) -> Option<&Transmi
 }
 
 // Gives a peer a datagram where it was sent to, if it has the form of its kind.
-#[tactic(auto, using(crate::proofs::PollsKeep::lines_after_input, crate::proofs::PollsKeep::channels_after_input))]
+#[tactic(auto, using(crate::proofs::PollsKeep::lines_after_input))]
 fn give_datagram<I: IceAgent, D: DtlsInstance, S: Association, M: MediaSession, N: Ids>(
     rtc: &mut Rtc<I, D, S, M, N>,
     transmit: &Transmit,
@@ -83,7 +83,7 @@ fn give_datagram<I: IceAgent, D: DtlsInstance, S: Association, M: MediaSession, 
     ensures handles { HandlesRead (meanings I.ice D.dtls S.association M.media N.ids)
         (kind_by I.stun transmit.now.contents) transmit.now now rtc.old result rtc.new }
     ensures lines { rtc.new.core.lines ≡ rtc.old.core.lines }
-    ensures channels { rtc.new.core.channels ≡ rtc.old.core.channels }
+    ensures channels { length rtc.new.core.channels.rows ≤ length rtc.old.core.channels.rows }
 {
     match Receive::from_transmit::<I>(transmit) {
         Ok(datagram) => rtc.handle_input(&Input::Receive(now, datagram)),
@@ -129,13 +129,13 @@ pub fn take_datagram<I: IceAgent, D: DtlsInstance, S: Association, M: MediaSessi
 }
 
 // Begins to close a peer.
-#[tactic(auto, using(crate::proofs::PollsKeep::lines_after_close, crate::proofs::PollsKeep::channels_after_close))]
+#[tactic(auto, using(crate::proofs::PollsKeep::lines_after_close))]
 fn shut<I: IceAgent, D: DtlsInstance, S: Association, M: MediaSession, N: Ids>(
     rtc: &mut Rtc<I, D, S, M, N>,
 ) -> Result<(), RtcError>
     ensures closes { ClosesPeer (meanings I.ice D.dtls S.association M.media N.ids) rtc.old result rtc.new }
     ensures lines { rtc.new.core.lines ≡ rtc.old.core.lines }
-    ensures channels { rtc.new.core.channels ≡ rtc.old.core.channels }
+    ensures channels { length rtc.new.core.channels.rows ≤ length rtc.old.core.channels.rows }
 {
     rtc.close()
 }

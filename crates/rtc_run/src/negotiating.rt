@@ -2,7 +2,6 @@
 ghost use Rattle.std.specs.Prelude.{◌≡◌, ◌+◌, ◌<◌, ◌≤◌, ◌^◌, ◌-◌, ◌++◌, [], ◌∷◌, length, slice_get, vec_capacity, vec_len};
 ghost use Rattle.std.specs.Prelude.{Some, IfOk, not, ◌&&◌, true, false};
 ghost use Rattle.rtc_tables.specs.RowChanges.{media_mid};
-ghost use Rattle.rtc_channels.specs.Channels.{channel_rows};
 ghost use Rattle.rtc_history.specs.Memory.{answers_lack};
 ghost use Rattle.rtc_history.specs.declared.op.Op.TheVariants.{AddMedia, SetDirection, StopMedia, AddChannel, IceRestart};
 ghost use Rattle.rtc_history.specs.declared.outcome.Outcome.TheVariants.{Negotiated};
@@ -240,9 +239,9 @@ fn reply_made<I: IceAgent, D: DtlsInstance, S: Association, M: MediaSession, N: 
     requires no_lines { room.lines.items ≡ [] }
     requires no_channels { room.channels.items ≡ [] }
     requires lines { length rtc.now.core.lines ≤ vec_capacity room.lines }
-    requires channels { length (channel_rows rtc.now.core.channels) ≤ vec_capacity room.channels }
+    requires channels { length rtc.now.core.channels.rows ≤ vec_capacity room.channels }
     ensures outcome { result.outcome ≡ Negotiated answers made }
-    ensures table { result.table ≡ Some (shown_table rtc.now.core) }
+    ensures table { result.table ≡ Some (shown_table S.association rtc.now.core) }
 {
     reply_with(Outcome::Negotiated { answers, made }, room, rtc)
 }

@@ -1,7 +1,6 @@
 //! Polls of a step.
 ghost use Rattle.std.specs.Prelude.{◌≡◌, ◌+◌, ◌<◌, ◌≤◌, ◌^◌, ◌++◌, [], ◌∷◌, length, IfOk, OnOk, vec_capacity, vec_len, Some, if◌then◌else◌};
-ghost use Rattle.rtc_channels.specs.Channels.{channel_rows};
-ghost use Rattle.rtc_history.specs.Performs.{Drains, PollsOnce, StepPolls, sent_packet};
+ghost use Rattle.rtc_history.specs.Performs.{DrainsPeer, PollsOnce, StepPollsPeer, sent_packet};
 ghost use Rattle.rtc_history.specs.declared.outcome.Outcome.TheVariants.{Polled};
 ghost use Rattle.rtc_history.specs.declared.shown.Shown.TheVariants.{Packet};
 ghost use Rattle.rtc_peer_state.specs.Meanings.{meanings};
@@ -9,8 +8,9 @@ ghost use Rattle.rtc_run.specs.ShownTable.{shown_table};
 ghost use Rattle.rtc_run.specs.Turns.{Turns, TakesTurn, ShowsOutput, is_timeout, moment_of};
 ghost use Rattle.rtc_run.specs.declared.turn.Turn.TheVariants.{More, Over};
 
-use crate::replying::{Room, reply_no_memory, reply_with, room_for};
+use crate::replying::{Room, make_channel_room, reply_no_memory, reply_with, room_for};
 use crate::turn::Turn;
+use rtc_channels::ChannelRow;
 use rtc_history::{Outcome, PollEnd, Reply, SentPacket, Shown, Side};
 use rtc_parts_values::Reason;
 use rtc_peer::{Association, DtlsInstance, IceAgent, Ids, MediaSession, Output, Rtc, RtcError};
@@ -58,7 +58,7 @@ fn show_output<E>(
 }
 
 // Polls a peer, and keeps the datagram that it sends.
-#[tactic(auto, using(crate::proofs::PollsKeep::lines_after_poll, crate::proofs::PollsKeep::channels_after_poll))]
+#[tactic(auto, using(crate::proofs::PollsKeep::lines_after_poll))]
 fn poll_shown<I: IceAgent, D: DtlsInstance, S: Association, M: MediaSession, N: Ids>(
     rtc: &mut Rtc<I, D, S, M, N>,
     at: Side,
@@ -68,7 +68,7 @@ fn poll_shown<I: IceAgent, D: DtlsInstance, S: Association, M: MediaSession, N: 
     ensures turns { Turns (meanings I.ice D.dtls S.association M.media N.ids)
         at rtc.old packets.old.items result rtc.new packets.new.items }
     ensures lines { rtc.new.core.lines ≡ rtc.old.core.lines }
-    ensures channels { rtc.new.core.channels ≡ rtc.old.core.channels }
+    ensures channels { length rtc.new.core.channels.rows ≤ length rtc.old.core.channels.rows + 1 }
 {
     match rtc.poll_output() {
         Ok(output) => {
@@ -112,7 +112,7 @@ fn take_turn<I: IceAgent, D: DtlsInstance, S: Association, M: MediaSession, N: I
     ensures takes { TakesTurn (meanings I.ice D.dtls S.association M.media N.ids)
         at rtc.old packets.old.items outputs.old.items result rtc.new packets.new.items outputs.new.items }
     ensures lines { rtc.new.core.lines ≡ rtc.old.core.lines }
-    ensures channels { rtc.new.core.channels ≡ rtc.old.core.channels }
+    ensures channels { length rtc.new.core.channels.rows ≤ length rtc.old.core.channels.rows + 1 }
 {
     match poll_shown(rtc, at, packets) {
         Ok(shown) => put_output(outputs, shown),
@@ -120,35 +120,45 @@ fn take_turn<I: IceAgent, D: DtlsInstance, S: Association, M: MediaSession, N: I
     }
 }
 
-// Room for one more output, and for one more datagram.
-fn make_room<E>(
-    outputs: &mut Vec<Shown<E>>,
+// Room for one more output, for one more datagram, and for the row of one more channel.
+fn make_room<I: IceAgent, D: DtlsInstance, S: Association, M: MediaSession, N: Ids>(
+    rtc: &Rtc<I, D, S, M, N>,
+    outputs: &mut Vec<Shown<M::E>>,
     packets: &mut Vec<SentPacket>,
+    channels: &mut Vec<ChannelRow>,
 ) -> Result<(), AllocError>
+    requires { length rtc.now.core.channels.rows ≤ vec_capacity channels.old }
     ensures output { OnOk result (vec_len outputs.new < vec_capacity outputs.new) }
     ensures packet { OnOk result (vec_len packets.new < vec_capacity packets.new) }
+    ensures channel { OnOk result (length rtc.now.core.channels.rows + 1 ≤ vec_capacity channels.new) }
     ensures outputs { outputs.new.items ≡ outputs.old.items }
     ensures packets { packets.new.items ≡ packets.old.items }
+    ensures no_channels { channels.new.items ≡ channels.old.items }
+    ensures kept { vec_capacity channels.old ≤ vec_capacity channels.new }
 {
     outputs.reserve(1)?;
     packets.reserve(1)?;
+    make_channel_room(rtc, channels)?;
     Ok(())
 }
 
-// Polls a peer up to a timeout or an error, or until there is no room for one more output. There is room for one.
+// Polls a peer up to a timeout or an error, or until there is no room for one more poll. There is room for one.
 fn drain_outputs<I: IceAgent, D: DtlsInstance, S: Association, M: MediaSession, N: Ids>(
     rtc: &mut Rtc<I, D, S, M, N>,
     at: Side,
     packets: &mut Vec<SentPacket>,
     outputs: &mut Vec<Shown<M::E>>,
+    channels: &mut Vec<ChannelRow>,
 ) -> PollEnd
     requires packet { vec_len packets.old < vec_capacity packets.old }
     requires output { vec_len outputs.old < vec_capacity outputs.old }
+    requires channel { length rtc.old.core.channels.rows + 1 ≤ vec_capacity channels.old }
     requires empty { outputs.old.items ≡ [] }
-    ensures drains { Drains (meanings I.ice D.dtls S.association M.media N.ids)
+    ensures drains { DrainsPeer (meanings I.ice D.dtls S.association M.media N.ids)
         at rtc.old packets.old.items outputs.new.items result rtc.new packets.new.items }
     ensures lines { rtc.new.core.lines ≡ rtc.old.core.lines }
-    ensures channels { rtc.new.core.channels ≡ rtc.old.core.channels }
+    ensures channels { length rtc.new.core.channels.rows ≤ vec_capacity channels.new }
+    ensures no_channels { channels.new.items ≡ channels.old.items }
 {
     for turn in 0..u64::MAX {
         match take_turn(rtc, at, packets, outputs) {
@@ -156,7 +166,7 @@ fn drain_outputs<I: IceAgent, D: DtlsInstance, S: Association, M: MediaSession, 
             Turn::Over => return PollEnd::Ended,
             Turn::Refused(error) => return PollEnd::Refused(error),
         }
-        if make_room(outputs, packets).is_err() {
+        if make_room(rtc, outputs, packets, channels).is_err() {
             return PollEnd::NoRoom;
         }
     }
@@ -172,7 +182,7 @@ fn make_first_room<I: IceAgent, D: DtlsInstance, S: Association, M: MediaSession
     ensures no_lines { IfOk result (λ room. room.lines.items ≡ []) }
     ensures no_channels { IfOk result (λ room. room.channels.items ≡ []) }
     ensures lines { IfOk result (λ room. length rtc.now.core.lines ≤ vec_capacity room.lines) }
-    ensures channels { IfOk result (λ room. length (channel_rows rtc.now.core.channels) + 1 ≤ vec_capacity room.channels) }
+    ensures channels { IfOk result (λ room. length rtc.now.core.channels.rows + 1 ≤ vec_capacity room.channels) }
     ensures packet { OnOk result (vec_len packets.new < vec_capacity packets.new) }
     ensures packets { packets.new.items ≡ packets.old.items }
 {
@@ -191,9 +201,9 @@ fn reply_polled<I: IceAgent, D: DtlsInstance, S: Association, M: MediaSession, N
     requires no_lines { room.lines.items ≡ [] }
     requires no_channels { room.channels.items ≡ [] }
     requires lines { length rtc.now.core.lines ≤ vec_capacity room.lines }
-    requires channels { length (channel_rows rtc.now.core.channels) ≤ vec_capacity room.channels }
+    requires channels { length rtc.now.core.channels.rows ≤ vec_capacity room.channels }
     ensures outcome { result.outcome ≡ Polled outputs.items end }
-    ensures table { result.table ≡ Some (shown_table rtc.now.core) }
+    ensures table { result.table ≡ Some (shown_table S.association rtc.now.core) }
 {
     let outputs = Seq::new(outputs);
     reply_with(Outcome::Polled { outputs, end }, room, rtc)
@@ -206,7 +216,7 @@ pub fn poll<I: IceAgent, D: DtlsInstance, S: Association, M: MediaSession, N: Id
     packets: &mut Vec<SentPacket>,
     at: Side,
 ) -> Reply<M::E>
-    ensures { StepPolls (meanings I.ice D.dtls S.association M.media N.ids)
+    ensures { StepPollsPeer (meanings I.ice D.dtls S.association M.media N.ids)
         (PollsOnce (meanings I.ice D.dtls S.association M.media N.ids) at rtc.old)
         rtc.old packets.old.items result.outcome result.table rtc.new packets.new.items }
 {
@@ -226,15 +236,15 @@ pub fn poll<I: IceAgent, D: DtlsInstance, S: Association, M: MediaSession, N: Id
     }
 }
 
-/// Polls a peer up to a timeout or an error, or until there is no room for one more output.
+/// Polls a peer up to a timeout or an error, or until there is no room for one more poll.
 pub fn drain<I: IceAgent, D: DtlsInstance, S: Association, M: MediaSession, N: Ids>(
     alloc: Global,
     rtc: &mut Rtc<I, D, S, M, N>,
     packets: &mut Vec<SentPacket>,
     at: Side,
 ) -> Reply<M::E>
-    ensures { StepPolls (meanings I.ice D.dtls S.association M.media N.ids)
-        (Drains (meanings I.ice D.dtls S.association M.media N.ids) at rtc.old)
+    ensures { StepPollsPeer (meanings I.ice D.dtls S.association M.media N.ids)
+        (DrainsPeer (meanings I.ice D.dtls S.association M.media N.ids) at rtc.old)
         rtc.old packets.old.items result.outcome result.table rtc.new packets.new.items }
 {
     let Ok(room) = make_first_room(alloc, rtc, packets) else {
@@ -244,6 +254,7 @@ pub fn drain<I: IceAgent, D: DtlsInstance, S: Association, M: MediaSession, N: I
         return reply_no_memory();
     };
     let mut outputs = outputs;
-    let end = drain_outputs(rtc, at, packets, &mut outputs);
+    let mut room = room;
+    let end = drain_outputs(rtc, at, packets, &mut outputs, &mut room.channels);
     reply_polled(outputs, end, room, rtc)
 }

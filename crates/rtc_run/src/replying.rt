@@ -1,7 +1,8 @@
 //! Replies with the acting peer's lines and channels.
-ghost use Rattle.std.specs.Prelude.{◌≡◌, ◌≤◌, ◌<◌, ◌+◌, ◌^◌, [], IfOk, OnOk, length, Some, None, vec_capacity, vec_len};
-ghost use Rattle.rtc_channels.specs.Channels.{channel_rows};
+ghost use Rattle.std.specs.Prelude.{◌≡◌, ◌≤◌, ◌<◌, ◌+◌, ◌^◌, [], IfOk, OnOk, length, nat_lt, Some, None, vec_capacity, vec_len};
 ghost use Rattle.rtc_history.specs.declared.outcome.Outcome.TheVariants.{Alloc};
+ghost use Rattle.rtc_peer_state.specs.ChannelRows.{channel_rows};
+ghost use Rattle.rtc_peer_state.specs.Meanings.{meanings};
 ghost use Rattle.rtc_run.specs.NoSuch.{IsNoSuch};
 ghost use Rattle.rtc_run.specs.ShownTable.{shown_table};
 
@@ -20,6 +21,7 @@ pub struct Room {
 }
 
 /// Room for the table of a peer that gets so many lines and channels more.
+#[tactic(auto, using(crate::proofs::ChannelCounts::rows_are_channels))]
 pub fn room_for<I: IceAgent, D: DtlsInstance, S: Association, M: MediaSession, N: Ids>(
     alloc: Global,
     rtc: &Rtc<I, D, S, M, N>,
@@ -31,7 +33,7 @@ pub fn room_for<I: IceAgent, D: DtlsInstance, S: Association, M: MediaSession, N
     ensures no_lines { IfOk result (λ room. room.lines.items ≡ []) }
     ensures no_channels { IfOk result (λ room. room.channels.items ≡ []) }
     ensures lines { IfOk result (λ room. length rtc.now.core.lines + lines ≤ vec_capacity room.lines) }
-    ensures channels { IfOk result (λ room. length (channel_rows rtc.now.core.channels) + channels ≤ vec_capacity room.channels) }
+    ensures channels { IfOk result (λ room. length rtc.now.core.channels.rows + channels ≤ vec_capacity room.channels) }
 {
     let shown = rtc.channels()?;
     let lines = Vec::with_capacity(alloc, rtc.lines().rows().len() + lines)?;
@@ -53,13 +55,46 @@ pub fn make_room<I: IceAgent, D: DtlsInstance, S: Association, M: MediaSession, 
     ensures no_lines { IfOk result (λ room. room.lines.items ≡ []) }
     ensures no_channels { IfOk result (λ room. room.channels.items ≡ []) }
     ensures lines { IfOk result (λ room. length rtc.now.core.lines + lines ≤ vec_capacity room.lines) }
-    ensures channels { IfOk result (λ room. length (channel_rows rtc.now.core.channels) + channels ≤ vec_capacity room.channels) }
+    ensures channels { IfOk result (λ room. length rtc.now.core.channels.rows + channels ≤ vec_capacity room.channels) }
     ensures one_more { OnOk result (vec_len sdps.new < vec_capacity sdps.new) }
     ensures kept { sdps.new.items ≡ sdps.old.items }
 {
     let room = room_for(alloc, rtc, lines, channels)?;
     sdps.reserve(1)?;
     Ok(room)
+}
+
+// Whether a peer has fewer than `most` channels.
+fn has_fewer_channels<I: IceAgent, D: DtlsInstance, S: Association, M: MediaSession, N: Ids>(
+    rtc: &Rtc<I, D, S, M, N>,
+    most: usize,
+) -> bool
+    ensures { result ≡ nat_lt (length rtc.now.core.channels.rows) most }
+{
+    if most == 0 {
+        return false;
+    }
+    rtc.channel_row(most - 1).is_none()
+}
+
+/// Room for the row of one more channel, where there is room for those of all channels.
+pub fn make_channel_room<I: IceAgent, D: DtlsInstance, S: Association, M: MediaSession, N: Ids>(
+    rtc: &Rtc<I, D, S, M, N>,
+    channels: &mut Vec<ChannelRow>,
+) -> Result<(), AllocError>
+    requires { length rtc.now.core.channels.rows ≤ vec_capacity channels.old }
+    ensures rows { channels.new.items ≡ channels.old.items }
+    ensures kept { vec_capacity channels.old ≤ vec_capacity channels.new }
+    ensures more { OnOk result (length rtc.now.core.channels.rows + 1 ≤ vec_capacity channels.new) }
+{
+    let most = channels.capacity();
+    if has_fewer_channels(rtc, most) {
+        return Ok(());
+    }
+    let Some(more) = most.checked_add(1) else {
+        return Err(AllocError);
+    };
+    channels.reserve(more)
 }
 
 // Copies the rows into `room`.
@@ -81,8 +116,8 @@ fn fill_channels<I: IceAgent, D: DtlsInstance, S: Association, M: MediaSession, 
     rtc: &Rtc<I, D, S, M, N>,
 ) -> Seq<ChannelRow>
     requires empty { room.items ≡ [] }
-    requires room { length (channel_rows rtc.now.core.channels) ≤ vec_capacity room }
-    ensures { result ≡ channel_rows rtc.now.core.channels }
+    requires room { length rtc.now.core.channels.rows ≤ vec_capacity room }
+    ensures { result ≡ channel_rows S.association rtc.now.core.sctp rtc.now.core.channels }
 {
     let mut room = room;
     let most = room.capacity();
@@ -104,9 +139,9 @@ pub fn reply_with<I: IceAgent, D: DtlsInstance, S: Association, M: MediaSession,
     requires no_lines { room.lines.items ≡ [] }
     requires no_channels { room.channels.items ≡ [] }
     requires lines { length rtc.now.core.lines ≤ vec_capacity room.lines }
-    requires channels { length (channel_rows rtc.now.core.channels) ≤ vec_capacity room.channels }
+    requires channels { length rtc.now.core.channels.rows ≤ vec_capacity room.channels }
     ensures outcome { result.outcome ≡ outcome }
-    ensures table { result.table ≡ Some (shown_table rtc.now.core) }
+    ensures table { result.table ≡ Some (shown_table S.association rtc.now.core) }
 {
     let lines = fill_lines(room.lines, rtc.lines().rows());
     let channels = fill_channels(room.channels, rtc);
@@ -132,7 +167,7 @@ pub fn reply_no_such<I: IceAgent, D: DtlsInstance, S: Association, M: MediaSessi
     alloc: Global,
     rtc: &Rtc<I, D, S, M, N>,
 ) -> Reply<M::E>
-    ensures { IsNoSuch rtc.now.core result.outcome result.table }
+    ensures { IsNoSuch (meanings I.ice D.dtls S.association M.media N.ids) rtc.now.core result.outcome result.table }
 {
     match room_for(alloc, rtc, 0, 0) {
         Ok(room) => reply_with(Outcome::NoSuch, room, rtc),

@@ -4,3 +4,4 @@ pub mod TourLemmas
 pub mod PassLemmas
 pub mod StepLemmas
 pub mod OrderKept
+pub mod StartLemmas

@@ -1,5 +1,5 @@
 -- The streams of an association as contracts see them.
-use Rattle.std.specs.Prelude.{ℕ, ◌-◌, Bool, true, false, List, [], Option, None}
+use Rattle.std.specs.Prelude.{ℕ, ◌-◌, ◌≤◌, Bool, true, false, All, List, [], length, Option, Some, None}
 use Rattle.rtc_sctp.specs.declared.rtc_sctp_state.RtcSctpState.{RtcSctpState}
 use Rattle.rtc_sctp.specs.declared.rtc_sctp_state.RtcSctpState.TheVariants.{Uninited, AwaitRemoteAssociation}
 use Rattle.rtc_sctp.specs.declared.rtc_sctp_state.RtcSctpState.TheVariants.{AwaitAssociationEstablished, Established}
@@ -26,6 +26,11 @@ pub record SctpStreams (S : Type 0) : Type 0 where
   pub resets : List ℕ
   -- the streams whose completed reset is to be told
   pub completed : List ℕ
+
+-- each packet that came back is short enough to be sent as application data of DTLS
+abbrev pub ArePushedShort : Option (List (List ℕ)) → Type 0
+ArePushedShort None = Unit {0}
+ArePushedShort (Some packets) = All (λ packet. length packet ≤ 1900) packets
 
 -- nothing is started or in use yet; 48 bytes of a datagram are for DTLS and 40 for SCTP
 abbrev pub no_streams : {S : Type 0} → (mtu local_max start : ℕ) → S → SctpStreams S

@@ -4,6 +4,7 @@
 mod events;
 mod polls;
 mod proto_error;
+mod pushed_back;
 mod rtc_sctp_state;
 mod sctp_error;
 mod starting;

@@ -1,8 +1,9 @@
 //! The streams over an association.
 ghost use Rattle.std.specs.Prelude.{◌≡◌, ◌≤◌, ◌&&◌, if◌then◌else◌, MatchOption, None, Some, All, length};
 ghost use Rattle.rtc_sctp_entries.specs.Entries.{stream_config};
-ghost use Rattle.rtc_sctp.specs.Streams.{no_streams};
+ghost use Rattle.rtc_sctp.specs.Streams.{no_streams, ArePushedShort};
 
+use crate::pushed_back::PushedBack;
 use crate::{RtcSctpState, StreamEntry};
 use rtc_association::Association;
 use rtc_sctp_entries::entries::config_of;
@@ -27,7 +28,7 @@ pub struct RtcSctp<S> {
     pub(crate) max_payload: usize,
     pub(crate) max_buffered: usize,
     pub(crate) last: Moment,
-    pub(crate) pushed: Option<Seq<Bytes>>,
+    pub(crate) pushed: PushedBack,
     pub(crate) entries: Vec<StreamEntry>,
     pub(crate) resets: Vec<u16>,
     pub(crate) completed: Vec<u16>,
@@ -86,7 +87,7 @@ impl<S: Association> RtcSctp<S> {
             max_payload,
             max_buffered: DEFAULT_MAX_BUFFERED_AMOUNT,
             last: start,
-            pushed: None,
+            pushed: PushedBack::none(),
             entries: Vec::new(alloc),
             resets: Vec::new(alloc),
             completed: Vec::new(alloc),
@@ -171,6 +172,22 @@ impl<S: Association> RtcSctp<S> {
         requires short { All (λ packet. length packet ≤ 1900) packets }
         ensures { self.new ≡ record self.old { pushed = Some packets } }
     {
-        self.pushed = Some(packets);
+        self.pushed = PushedBack::of(packets);
+    }
+
+    /// Hands on packets that came back, before a poll gives them again. Each is short enough to be sent over DTLS.
+    pub fn take_pushed_back(&mut self) -> Option<Seq<Bytes>>
+        ensures given { result ≡ self.old.pushed }
+        ensures taken { self.new ≡ record self.old { pushed = None } }
+        ensures short { ArePushedShort result }
+    {
+        self.pushed.take()
+    }
+
+    /// Each packet that came back is short enough to be sent over DTLS.
+    pub fn pushed_back_is_short(&self)
+        ensures { ArePushedShort self.now.pushed }
+    {
+        self.pushed.are_short();
     }
 }

@@ -1,5 +1,7 @@
 use Rattle.rtc_peer_state.specs.Meanings.{meanings}
-use Rattle.rtc_polling.proofs.Keeping.{close_keeps, input_keeps, poll_keeps}
+use Rattle.rtc_polling.proofs.KeptCalls.{close_keeps}
+use Rattle.rtc_polling.proofs.KeptInputs.{input_keeps}
+use Rattle.rtc_polling.proofs.Keeping.{poll_keeps}
 use Rattle.rtc_polling.proofs.laws.negotiation_is_kept.Goals as goal
 
 pub returns-clause-polls : goal.returns-clause-polls

@@ -1,6 +1,9 @@
 use Rattle.rtc_peer_state.specs.Meanings.{meanings}
-use Rattle.rtc_polling.proofs.Keeping.{close_keeps, input_keeps, poll_keeps}
-use Rattle.rtc_polling.proofs.Standing.{close_stands, poll_stands}
+use Rattle.rtc_polling.proofs.KeptCalls.{close_keeps}
+use Rattle.rtc_polling.proofs.KeptInputs.{input_keeps}
+use Rattle.rtc_polling.proofs.Keeping.{poll_keeps}
+use Rattle.rtc_polling.proofs.StandingCalls.{close_stands}
+use Rattle.rtc_polling.proofs.Standing.{poll_stands}
 use Rattle.rtc_polling.proofs.StandingInputs.{input_stands, stance_by}
 use Rattle.rtc_polling.proofs.laws.stance_is_kept.Goals as goal
 
@@ -11,4 +14,4 @@ pub returns-clause-inputs : goal.returns-clause-inputs
 returns-clause-inputs g c = λ p q input answer h. stance_by (meanings g.I.IceAgent.ice g.D.DtlsInstance.dtls g.S.Association.association g.M.MediaSession.media g.N.Ids.ids) p q (input_keeps (meanings g.I.IceAgent.ice g.D.DtlsInstance.dtls g.S.Association.association g.M.MediaSession.media g.N.Ids.ids) input p answer q h) (input_stands (meanings g.I.IceAgent.ice g.D.DtlsInstance.dtls g.S.Association.association g.M.MediaSession.media g.N.Ids.ids) g.met.I.IceAgent.laws input p answer q h)
 
 pub returns-clause-closes : goal.returns-clause-closes
-returns-clause-closes g c = λ p q answer h. stance_by (meanings g.I.IceAgent.ice g.D.DtlsInstance.dtls g.S.Association.association g.M.MediaSession.media g.N.Ids.ids) p q (close_keeps (meanings g.I.IceAgent.ice g.D.DtlsInstance.dtls g.S.Association.association g.M.MediaSession.media g.N.Ids.ids) p answer q h) (close_stands (meanings g.I.IceAgent.ice g.D.DtlsInstance.dtls g.S.Association.association g.M.MediaSession.media g.N.Ids.ids) g.met.I.IceAgent.laws p answer q h)
+returns-clause-closes g c = λ p q answer h. stance_by (meanings g.I.IceAgent.ice g.D.DtlsInstance.dtls g.S.Association.association g.M.MediaSession.media g.N.Ids.ids) p q (close_keeps (meanings g.I.IceAgent.ice g.D.DtlsInstance.dtls g.S.Association.association g.M.MediaSession.media g.N.Ids.ids) p answer q h) (close_stands (meanings g.I.IceAgent.ice g.D.DtlsInstance.dtls g.S.Association.association g.M.MediaSession.media g.N.Ids.ids) p answer q h)

@@ -11,7 +11,8 @@ loop-turn-init g c =
       output = search rules;
       packet = search rules;
       lines = search rules;
-      channels = search rules;
+      channel = search rules;
+      no_channels = search rules;
     }
 
 pub loop-turn-preserved : goal.loop-turn-preserved
@@ -22,7 +23,8 @@ loop-turn-preserved g c =
       output = search rules;
       packet = search rules;
       lines = search rules;
-      channels = search rules;
+      channel = search rules;
+      no_channels = search rules;
     }
 
 pub returns-in-Over-clause-drains : goal.returns-in-Over-clause-drains

@@ -1,4 +1,4 @@
-use Rattle.std.proofs.Common.{◌≡◌, ◌<◌, length, vec_capacity, vec_len}
+use Rattle.std.proofs.Common.{◌≡◌, ◌<◌, ◌≤◌, ◌+◌, length, vec_capacity, vec_len}
 use Rattle.rtc_peer_state.specs.Meanings.{meanings}
 use Rattle.rtc_run.proofs.Drained.{DrainsLeft}
 use Rattle.rtc_run.proofs.polling.drain_outputs.Given as goal
@@ -12,5 +12,6 @@ invariant-loop-turn g l =
       output : vec_len l.outputs < vec_capacity l.outputs;
       packet : vec_len l.packets < vec_capacity l.packets;
       lines : l.rtc.core.lines ≡ l.fn.rtc.core.lines;
-      channels : l.rtc.core.channels ≡ l.fn.rtc.core.channels;
+      channel : length l.rtc.core.channels.rows + 1 ≤ vec_capacity l.channels;
+      no_channels : l.channels.items ≡ l.fn.channels.items;
     }

@@ -1,5 +1,5 @@
 use Rattle.std.proofs.Common.{is_some, refl, ap, ◌∙◌, rules, arith}
-use Rattle.rtc_plain_media.specs.Lines.{held_line, same_key, key_of}
+use Rattle.rtc_plain_media.specs.Lines.{held_line, writer_mark, same_key, key_of}
 use Rattle.rtc_plain_media.specs.MediaContents.{MediaContents}
 use Rattle.rtc_plain_media.proofs.CountLemmas.{keeps_marked}
 use Rattle.rtc_plain_media.proofs.LendLemmas.{line_left}
@@ -8,7 +8,8 @@ use Rattle.rtc_plain_media.proofs.plain_media.PlainMedia.writer_of.Goals as goal
 pub returns-in-Some : goal.returns-in-Some
 returns-in-Some c =
     let found = ap is_some c.in-Some.ensures.value ∙ ap (λ (p : MediaContents). is_some (held_line c.args.mid p.lines)) c.self.view_is in
-    ((refl, (λ w. line_left c.args.mid w c.in-Some.line.now _ _ _ c.self.view_is c.in-Some.ensures.value (c.get_mut.follows.holds (record c.in-Some.line.now { mark = w })).0), refl), search (rules, found))
+    let held = ap writer_mark c.in-Some.ensures.value ∙ ap (λ (p : MediaContents). writer_mark (held_line c.args.mid p.lines)) c.self.view_is in
+    ((refl, (λ w. (held, line_left c.args.mid w c.in-Some.line.now _ _ _ c.self.view_is c.in-Some.ensures.value (c.get_mut.follows.holds (record c.in-Some.line.now { mark = w })).0)), refl), search (rules, found))
 
 pub invariant_of-self-lent : goal.invariant_of-self-lent
 invariant_of-self-lent c = λ w.

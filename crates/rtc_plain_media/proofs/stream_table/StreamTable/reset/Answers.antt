@@ -3,7 +3,7 @@ use Rattle.std.specs.List.{list_any}
 use Rattle.rtc_plain_media.specs.StreamIndex.{FitsStreams, IndexesStreams}
 use Rattle.rtc_plain_media.specs.Streams.{Streams, has_name, renumbered, row_can_renumber, can_renumber}
 use Rattle.rtc_plain_media.proofs.PlaceLemmas.{indexes_marked, fits_set}
-use Rattle.rtc_plain_media.proofs.StreamLemmas.{renumbered-at, any-position, first_passes-at, first_passes-none}
+use Rattle.rtc_plain_media.proofs.StreamLemmas.{renumbered-at, renumbered-mark, any-position, first_passes-at, first_passes-none}
 use Rattle.rtc_plain_media.proofs.stream_table.StreamTable.reset.Goals as goal
 
 pub returns-then-can_renumber : goal.returns-then-can_renumber
@@ -12,7 +12,8 @@ returns-then-can_renumber c =
     let fits = has_name a.mid a.rid in
     let found : true ≡ can_renumber a.mid a.rid a.ssrc a.rtx a.self.now =
     c.if-can_renumber.ensures ∙ first_passes-at fits (row_can_renumber a.ssrc a.rtx) _ _ _ c.in-Some.ensures c.index-row.ensures ∙ ap (can_renumber a.mid a.rid a.ssrc a.rtx) c.self.view_is in
-    ((refl, (λ w. renumbered-at a.mid a.rid a.ssrc a.rtx w _ _ _ _ _ c.in-Some.ensures c.index-row.ensures c.numbered-row.ensures c.index_mut-then-can_renumber.ensures.value ∙ ap (renumbered a.mid a.rid a.ssrc a.rtx w) c.self.view_is), refl), search (rules, found))
+    let new = renumbered-mark fits a.ssrc a.rtx _ _ _ _ _ c.in-Some.ensures c.index-row.ensures c.numbered-row.ensures c.index_mut-then-can_renumber.ensures.value in
+    ((refl, (λ w. (new, renumbered-at a.mid a.rid a.ssrc a.rtx w _ _ _ _ _ c.in-Some.ensures c.index-row.ensures c.numbered-row.ensures c.index_mut-then-can_renumber.ensures.value ∙ ap (renumbered a.mid a.rid a.ssrc a.rtx w) c.self.view_is)), refl), search (rules, found))
 
 pub returns-else-can_renumber : goal.returns-else-can_renumber
 returns-else-can_renumber c =

@@ -1,0 +1,73 @@
+//! Data channels that are open.
+ghost use Rattle.std.specs.Prelude.{◌≡◌, None, Some, MatchOption, if◌then◌else◌};
+ghost use Rattle.rtc_sctp_entries.specs.Entries.{stream_config};
+ghost use Rattle.rtc_peer_state.specs.Meanings.{meanings};
+ghost use Rattle.rtc_polling.specs.ChannelCalls.{AsksThreshold, WritesChannel, bytes_buffered};
+
+use crate::Rtc;
+use rtc_association::Association;
+use rtc_dtls::DtlsInstance;
+use rtc_ice::IceAgent;
+use rtc_ids::Ids;
+use rtc_media::MediaSession;
+use rtc_peer_state::RtcError;
+use rtc_wire::ChannelConfig;
+
+/// A data channel that is open (RFC 8831, section 6.4).
+pub struct Channel<'a, I: IceAgent, D: DtlsInstance, S: Association, M: MediaSession, N: Ids> {
+    pub(crate) rtc: &'a mut Rtc<I, D, S, M, N>,
+    pub(crate) stream: u16,
+}
+
+impl<I: IceAgent, D: DtlsInstance, S: Association, M: MediaSession, N: Ids> Drop
+    for Channel<'_, I, D, S, M, N> {
+    fn drop(self)
+        ensures { self.exit.0.now ≡ self.entry.rtc.now }
+    {
+        let Channel { rtc: _, stream: _ } = self;
+    }
+}
+
+impl<I: IceAgent, D: DtlsInstance, S: Association, M: MediaSession, N: Ids> Channel<
+    '_,
+    I,
+    D,
+    S,
+    M,
+    N,
+> {
+    /// Writes a message, text or binary. It answers false, and nothing is written, where the message is longer than what may
+    /// be buffered yet over all channels.
+    pub fn write(&mut self, binary: bool, buf: &[u8]) -> Result<bool, RtcError>
+        ensures writes { WritesChannel (meanings I.ice D.dtls S.association M.media N.ids)
+            self.old.stream binary buf.now self.old.rtc.now result self.new.rtc.now }
+        ensures same_stream { self.new.stream ≡ self.old.stream }
+        ensures same_reference { self.new.rtc.ghost_name ≡ self.old.rtc.ghost_name }
+    {
+        self.rtc.write_channel(self.stream, binary, buf)
+    }
+
+    /// The bytes written to the channel that are not acknowledged.
+    pub fn buffered_amount(&self) -> usize
+        ensures { result ≡ bytes_buffered (meanings I.ice D.dtls S.association M.media N.ids) self.now.stream self.now.rtc.now }
+    {
+        self.rtc.buffered_amount(self.stream)
+    }
+
+    /// Asks to be told where what the channel has buffered falls to `threshold` bytes.
+    pub fn set_buffered_amount_low_threshold(&mut self, threshold: usize)
+        ensures asks { AsksThreshold self.old.stream threshold self.old.rtc.now self.new.rtc.now }
+        ensures same_stream { self.new.stream ≡ self.old.stream }
+        ensures same_reference { self.new.rtc.ghost_name ≡ self.old.rtc.ghost_name }
+    {
+        self.rtc.set_threshold(self.stream, threshold)
+    }
+
+    /// What the channel was opened with.
+    pub fn config(&self) -> Option<&ChannelConfig>
+        ensures { MatchOption result (stream_config self.now.stream self.now.rtc.now.core.sctp.entries ≡ None)
+            (λ config. stream_config self.now.stream self.now.rtc.now.core.sctp.entries ≡ Some config.now) }
+    {
+        self.rtc.config_of_stream(self.stream)
+    }
+}

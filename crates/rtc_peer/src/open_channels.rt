@@ -1,0 +1,76 @@
+//! The channels of a peer that are open.
+ghost use Rattle.std.specs.Prelude.{◌≡◌, None, Some, IfSome, IsSome, MatchOption, ◌↔◌, option_map};
+ghost use Rattle.std.specs.Borrow.{RestsIfNone, sem};
+ghost use Rattle.rtc_peer.specs.contracts.rtc.Rtc.{the_row};
+ghost use Rattle.rtc_sctp_entries.specs.Entries.{stream_config};
+ghost use Rattle.rtc_peer_state.specs.Meanings.{meanings};
+ghost use Rattle.rtc_polling.specs.ChannelCalls.{AsksThreshold, WritesChannel, bytes_buffered, open_stream_under};
+ghost use Rattle.rtc_polling.specs.ChannelCalls.{config_under, stream_under};
+
+use crate::{Channel, Rtc};
+use rtc_association::Association;
+use rtc_dtls::DtlsInstance;
+use rtc_ice::IceAgent;
+use rtc_ids::Ids;
+use rtc_media::MediaSession;
+use rtc_peer_state::RtcError;
+use rtc_wire::{ChannelConfig, ChannelId};
+
+impl<I: IceAgent, D: DtlsInstance, S: Association, M: MediaSession, N: Ids> Rtc<I, D, S, M, N> {
+    /// A data channel that is open. There is none where the peer is closing or closed, where the channel has no stream, and
+    /// where that is not open.
+    pub fn channel(&mut self, id: ChannelId) -> Option<Channel<'_, I, D, S, M, N>>
+        ensures* none { sem 𝓛 (RestsIfNone
+            (the_row I.row D.row S.row M.row N.row M.E.row M.Rx.row M.Tx.row M.Writer.row
+            (record { ice = I.ice }) (record { stun = I.stun }) D.DtlsInstance S.Association M.MediaSession M.E.MediaEvent N.Ids)
+            self.entry (λ c. c.rtc.ghost_name) result (λ n. n ≡ self.old)) }
+        ensures open { IsSome result ↔ IsSome (open_stream_under id self.old) }
+        ensures same_reference { IfSome result (λ c. c.rtc.ghost_name ≡ self.entry.ghost_name) }
+        ensures peer { IfSome result (λ c. c.rtc.now ≡ self.old) }
+        ensures stream { IfSome result (λ c. open_stream_under id self.old ≡ Some c.stream) }
+    {
+        match self.polled.open_stream_of(id) {
+            Some(stream) => Some(Channel { rtc: self, stream }),
+            None => None,
+        }
+    }
+
+    /// What a channel was opened with: the config of its stream. None where there is no such channel, it has no stream, or that
+    /// has no config yet.
+    pub fn channel_config(&self, id: ChannelId) -> Option<&ChannelConfig>
+        ensures { MatchOption result (config_under (stream_under id self.now.core.channels) self.now.core.sctp ≡ None)
+            (λ config. config_under (stream_under id self.now.core.channels) self.now.core.sctp ≡ Some config.now) }
+    {
+        self.polled.channel_config(id)
+    }
+
+    pub(crate) fn write_channel(
+        &mut self,
+        stream: u16,
+        binary: bool,
+        buf: &[u8],
+    ) -> Result<bool, RtcError>
+        ensures { WritesChannel (meanings I.ice D.dtls S.association M.media N.ids) stream binary buf.now self.old result self.new }
+    {
+        self.polled.write_channel(stream, binary, buf)
+    }
+
+    pub(crate) fn buffered_amount(&self, stream: u16) -> usize
+        ensures { result ≡ bytes_buffered (meanings I.ice D.dtls S.association M.media N.ids) stream self.now }
+    {
+        self.polled.core.sctp.buffered_amount(stream)
+    }
+
+    pub(crate) fn set_threshold(&mut self, stream: u16, n: usize)
+        ensures { AsksThreshold stream n self.old self.new }
+    {
+        self.polled.set_threshold(stream, n);
+    }
+
+    pub(crate) fn config_of_stream(&self, stream: u16) -> Option<&ChannelConfig>
+        ensures { MatchOption result (stream_config stream self.now.core.sctp.entries ≡ None)
+            (λ config. stream_config stream self.now.core.sctp.entries ≡ Some config.now) }
+    {
+        self.polled.core.sctp.config(stream)
+    }
+}

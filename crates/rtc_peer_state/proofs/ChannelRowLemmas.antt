@@ -1,0 +1,75 @@
+-- What the rows of channels stay over, and what they become where a channel is added.
+use Rattle.std.proofs.Common.{◌≡◌, ◌∙◌, ◌++◌, ℕ, Bool, true, false, cond, List, [], ◌∷◌, map, Option, Some, None, Result, refl, ap}
+use Rattle.std.proofs.lemmas.List.{map-append}
+use Rattle.rtc_wire.specs.declared.channel_config.ChannelConfig.{ChannelConfig}
+use Rattle.rtc_sdp_values.specs.declared.line_row.LineRow.{LineRow}
+use Rattle.rtc_association.specs.AssociationMeaning.{AssociationMeaning}
+use Rattle.rtc_association.specs.AssociationLaws.{AssociationLaws}
+use Rattle.rtc_sctp.specs.Streams.{SctpStreams}
+use Rattle.rtc_sctp.specs.declared.sctp_error.SctpError.{SctpError}
+use Rattle.rtc_sctp.proofs.StartLemmas.{AlikeStreams, streams_same, inits_same}
+use Rattle.rtc_channels.specs.Channels.{Channel, Channels, has_id, unconfirmed, with_channel, rows_confirmed, confirmed, all_confirmed}
+use Rattle.rtc_channels.specs.declared.channel_row.ChannelRow.{ChannelRow}
+use Rattle.rtc_peer_state.specs.ChannelRows.{generation_over, is_open_over, channel_row, channel_rows}
+use Rattle.rtc_peer_state.specs.PartMoves.{StartsSctp, StartsWhere, needs_start}
+
+module _ {S : Type 0} (m : AssociationMeaning S) where
+  rows_of_confirmed : (p : SctpStreams S) (id : ℕ) (config : ChannelConfig) (rows : List Channel)
+      → map (channel_row m p) (rows_confirmed id config rows) ≡ map (channel_row m p) rows
+  rows_of_confirmed p id config [] = refl
+  rows_of_confirmed p id config (channel ∷ rest) = by (has_id id channel) (rows_of_confirmed p id config rest)
+    where
+      by : (here : Bool) → map (channel_row m p) (rows_confirmed id config rest) ≡ map (channel_row m p) rest
+          → map (channel_row m p) (cond here (record channel { config = Some config } ∷ rest) (channel ∷ rows_confirmed id config rest))
+          ≡ map (channel_row m p) (channel ∷ rest)
+      by true same = refl
+      by false same = ap (λ (more : List ChannelRow). channel_row m p channel ∷ more) same
+
+  -- channels that are confirmed keep their rows
+  pub confirmed_rows : (p : SctpStreams S) (channels : List (ℕ × ChannelConfig)) (held : Channels)
+      → channel_rows m p (all_confirmed channels held) ≡ channel_rows m p held
+  confirmed_rows p [] held = refl
+  confirmed_rows p (channel ∷ rest) held =
+      confirmed_rows p rest (confirmed channel.0 channel.1 held) ∙ rows_of_confirmed p channel.0 channel.1 held.rows
+
+  -- a channel that is added has its row behind, and waits for a stream
+  pub added_rows : (p : SctpStreams S) (held : Channels) (config : ChannelConfig)
+      → channel_rows m p (with_channel held config) ≡ channel_rows m p held ++ channel_row m p (unconfirmed held.given config) ∷ []
+  added_rows p held config = map-append (channel_row m p) held.rows (unconfirmed held.given config ∷ [])
+
+  -- streams that show the same
+  generation_alike : (p q : SctpStreams S) → AlikeStreams m p q → (stream : Option ℕ) → generation_over m stream q ≡ generation_over m stream p
+  generation_alike p q alike None = refl
+  generation_alike p q alike (Some stream) = alike.generation stream
+
+  is_open_alike : (p q : SctpStreams S) → AlikeStreams m p q → (stream : Option ℕ) → is_open_over m stream q ≡ is_open_over m stream p
+  is_open_alike p q alike None = refl
+  is_open_alike p q alike (Some stream) = alike.is_open stream
+
+  row_of_parts : (id : ℕ) (stream : Option ℕ) (a b : ℕ) (c d : Bool) → a ≡ b → c ≡ d
+      → ◌≡◌ {A = ChannelRow} (record { id = id; stream = stream; generation = a; is_open = c }) (record { id = id; stream = stream; generation = b; is_open = d })
+  row_of_parts id stream a b c d first second = rw (first, second) refl
+
+  row_alike : (p q : SctpStreams S) → AlikeStreams m p q → (channel : Channel) → channel_row m q channel ≡ channel_row m p channel
+  row_alike p q alike channel =
+      row_of_parts channel.id channel.stream _ _ _ _ (generation_alike p q alike channel.stream) (is_open_alike p q alike channel.stream)
+
+  rows_of_alike : (p q : SctpStreams S) → AlikeStreams m p q → (rows : List Channel) → map (channel_row m q) rows ≡ map (channel_row m p) rows
+  rows_of_alike p q alike [] = refl
+  rows_of_alike p q alike (channel ∷ rest) =
+      ap (λ (row : ChannelRow). row ∷ map (channel_row m q) rest) (row_alike p q alike channel)
+      ∙ ap (λ (more : List ChannelRow). channel_row m p channel ∷ more) (rows_of_alike p q alike rest)
+
+  pub alike_rows : (p q : SctpStreams S) (held : Channels) → AlikeStreams m p q → channel_rows m q held ≡ channel_rows m p held
+  alike_rows p q held alike = rows_of_alike p q alike held.rows
+
+  started_where : AssociationLaws m → (needed : Bool) (p q : SctpStreams S) (client : Bool) (now max : ℕ) (r : Result (Unit {0}) SctpError)
+      → StartsWhere m needed p client now max r q → AlikeStreams m p q
+  started_where laws false p q client now max r h = streams_same m p q h.1
+  started_where laws true p q client now max r h = inits_same m laws client now max p q r h
+
+  -- a start of the association, Ok or refused, leaves all rows
+  pub started_rows : AssociationLaws m → (p q : SctpStreams S) (rows : List LineRow) (client : Bool) (now max : ℕ)
+      (r : Result (Unit {0}) SctpError) (held : Channels) → StartsSctp m p rows client now max r q
+      → channel_rows m q held ≡ channel_rows m p held
+  started_rows laws p q rows client now max r held h = alike_rows p q held (started_where laws (needs_start m rows p) p q client now max r h)

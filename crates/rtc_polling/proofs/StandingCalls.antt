@@ -1,0 +1,117 @@
+-- Closing leaves the settings of the ICE agent, the DTLS role and the fingerprint of this side, and how this is followed through calls
+-- and stages.
+use Rattle.std.proofs.Common.{◌≡◌, ◌⊎◌, inl, inr, ℕ, Bool, true, false, List, [], ◌∷◌, Option, Some, None, Result, Ok, Err, alloc_error, refl, sym, ap, subst, ◌∙◌}
+use Rattle.std.specs.declared.alloc.AllocError.{AllocError}
+use Rattle.rtc_sdp_values.specs.declared.fingerprint.Fingerprint.{Fingerprint}
+use Rattle.rtc_ice.specs.declared.ice_event.IceEvent.{IceEvent}
+use Rattle.rtc_ice.specs.IceLaws.{IceLaws}
+use Rattle.rtc_ice.specs.IceMeaning.{IceSettings}
+use Rattle.rtc_dtls.specs.declared.dtls_error.DtlsError.{DtlsError}
+use Rattle.rtc_dtls.specs.declared.dtls_error.DtlsError.TheVariants.{Fault, Alloc as DtlsAlloc}
+use Rattle.rtc_dtls.specs.DtlsState.{DtlsState, SendsData, can_send}
+use Rattle.rtc_media.specs.declared.media_error.MediaError.TheVariants.{Alloc as MediaAlloc}
+use Rattle.rtc_dtls.specs.declared.dtls_output.DtlsOutput.{DtlsOutput}
+use Rattle.rtc_dtls.specs.declared.dtls_output.DtlsOutput.TheVariants as outputs
+use Rattle.rtc_peer_state.specs.declared.phase.Phase.{Phase}
+use Rattle.rtc_peer_state.specs.declared.phase.Phase.TheVariants.{Alive, Closing, Closed}
+use Rattle.rtc_peer_state.specs.Meanings.{Meanings}
+use Rattle.rtc_peer_state.specs.Stance.{stance_of}
+use Rattle.rtc_sctp_entries.specs.declared.sctp_event.SctpEvent.{SctpEvent}
+use Rattle.rtc_sctp_entries.specs.declared.sctp_event.SctpEvent.TheVariants as event
+use Rattle.rtc_polling.specs.declared.event.Event.TheVariants as told
+use Rattle.rtc_polling.specs.declared.handshake.Handshake.{Handshake}
+use Rattle.rtc_polling.specs.declared.handshake.Handshake.TheVariants.{Pending, Finished, Told}
+use Rattle.rtc_polling.specs.declared.met.Met.{Met}
+use Rattle.rtc_polling.specs.declared.met.Met.TheVariants.{Nothing, Again, Transmit, Event as MetEvent, Error}
+use Rattle.rtc_polling.specs.declared.output.Output.{Output}
+use Rattle.rtc_polling.specs.declared.polled_peer.PolledPeer.{PolledPeer}
+use Rattle.rtc_polling.specs.declared.send_addr.SendAddr.{SendAddr}
+use Rattle.rtc_peer_state.specs.declared.rtc_error.RtcError.{RtcError}
+use Rattle.rtc_peer_state.specs.declared.rtc_error.RtcError.TheVariants.{RemoteSdp, Dtls, Sctp, Media, Alloc}
+use Rattle.rtc_polling.specs.Closing.{ShutsMedia, ShutsStreams, ShutsDtls, BecomesClosing, BeginsClosing, ClosesPeer, ClosesPeerFrom, is_closing_complete, is_phase_closing}
+use Rattle.rtc_polling.specs.Connection.{with_dtls, with_ice, with_sctp, with_channels, with_pushed}
+use Rattle.rtc_polling.specs.DtlsStages.{GivesDtlsTime, TimesDtls, TimesDtlsIf, TakesDtlsOutput, TakesDtlsAnswer, PollsDtlsOutput}
+use Rattle.rtc_polling.specs.DtlsStages.{PollsDtlsOutputs, TakesKeys, TakesCloseNotify, HandsPacket, ChecksCert, TellsConnectedFrom, is_dtls_due}
+use Rattle.rtc_polling.specs.IceStages.{PollsIceEvent, PollsIceEvents, TakesIceEvent, after_ice_event}
+use Rattle.rtc_polling.specs.Kept.{KeepsNegotiation, KeepsParts}
+use Rattle.rtc_polling.specs.MediaStages.{TellsMedia, TellsFallibleMedia}
+use Rattle.rtc_polling.specs.SendStages.{SendsChecks, SendsDtlsPacket, SendsMediaDatagram, SendsBy, SendsByPair}
+use Rattle.rtc_polling.specs.Stages.{Call, InTurn, Failed, Passed, Stage, FollowedBy, Stopped, WentOn, RepeatsStage}
+use Rattle.rtc_polling.specs.StreamStages.{OpensChannelOver, ClosesChannelOver, HearsChannelOver, FallsChannelOver, LosesAssociation, TakesStreamEvent, TakesStreamAnswer, PollsStreamEvent, PollsStreamEvents, SendsPacket, SendsFirst, SendsKeptPackets, TellsStreams, channel_over, left_over}
+use Rattle.rtc_polling.specs.Walk.{StartsOverWhenDue, TellsConnection, TellsArrivals, SendsDatagrams, VisitsParts, WaitsIf, AnswersMet, Walks, PollsPeerFrom, PollsPeer}
+use Rattle.rtc_polling.proofs.StageLemmas.{over_carries}
+use Rattle.rtc_polling.proofs.DtlsRoles.{KeepsRole, hands_on_role, polls_role, gives_role, sends_role}
+
+module _ {I D S M E X T W N : Type 0} (m : Meanings I D S M E X T W N) where
+  pub stands_self : (p : PolledPeer I D S M N) → KeepsParts m p p
+  stands_self p = (refl, refl, refl)
+
+  pub stands_on : (p q r : PolledPeer I D S M N) → KeepsParts m p q → KeepsParts m q r → KeepsParts m p r
+  stands_on p q r a b = (b.0 ∙ a.0, b.1 ∙ a.1, b.2 ∙ a.2)
+
+  -- where the peer afterwards is another whose parts stand
+  pub stands_by : (p n q : PolledPeer I D S M N) → q ≡ n → KeepsParts m p n → KeepsParts m p q
+  stands_by p n q is kept = subst (λ (x : PolledPeer I D S M N). KeepsParts m p x) (sym is) kept
+
+  -- a call leaves the parts standing, whatever it answers
+  abbrev pub CallStands : Call (PolledPeer I D S M N) → Type 0
+  CallStands call = (p : PolledPeer I D S M N) (r : Result (Unit {0}) RtcError) (q : PolledPeer I D S M N) → call p r q → KeepsParts m p q
+
+  pub turn_stands : (first rest : Call (PolledPeer I D S M N)) → CallStands first → CallStands rest → CallStands (InTurn first rest)
+  turn_stands first rest one other p r q (Failed error is h) = one p (Err error) q h
+  turn_stands first rest one other p r q (Passed between h k) = stands_on p between q (one p (Ok tt) between h) (other between r q k)
+
+  -- a stage leaves the parts standing, whatever is met
+  abbrev pub Stands : Stage (PolledPeer I D S M N) E → Type 0
+  Stands stage = (p : PolledPeer I D S M N) (r : Met E) (q : PolledPeer I D S M N) → stage p r q → KeepsParts m p q
+
+  pub else_stands : (first rest : Stage (PolledPeer I D S M N) E) → Stands first → Stands rest → Stands (FollowedBy first rest)
+  else_stands first rest one other p r q (Stopped met stage) = one p r q stage
+  else_stands first rest one other p r q (WentOn between stage after) =
+      stands_on p between q (one p Nothing between stage) (other between r q after)
+
+  pub repeats_stands : (stage : Stage (PolledPeer I D S M N) E) → Stands stage → Stands (RepeatsStage stage)
+  repeats_stands stage one p r q h =
+      stands_on p h.last q
+      (over_carries stage (KeepsParts m) stands_self stands_on (λ a b turn. one a Again b turn) h.turns p h.last h.over)
+      (one h.last r q h.ends)
+
+  -- only the connection changed
+  pub dtls_stand : (p q : PolledPeer I D S M N) → KeepsRole p.core.dtls q.core.dtls → KeepsParts m p (with_dtls q.core.dtls p)
+  dtls_stand p q role = (refl, role.0, role.1)
+
+  shut_media_stands : CallStands (ShutsMedia m)
+  unfolding ShutsMedia
+  shut_media_stands p (Ok done) q h = stands_by p _ q h.1 (refl, refl, refl)
+  shut_media_stands p (Err Alloc) q h = stands_by p _ q h.1 (refl, refl, refl)
+  shut_media_stands p (Err _) q h = absurd h
+
+  shut_streams_stand : CallStands (ShutsStreams m)
+  unfolding ShutsStreams
+  shut_streams_stand p (Ok done) q h = stands_by p _ q h.1 (refl, refl, refl)
+  shut_streams_stand p (Err (Sctp cause)) q h = stands_by p _ q h.2 (refl, refl, refl)
+  shut_streams_stand p (Err Alloc) q h = stands_by p _ q h.1 (refl, refl, refl)
+  shut_streams_stand p (Err _) q h = absurd h
+
+  shut_dtls_stands : CallStands (ShutsDtls m)
+  unfolding ShutsDtls
+  shut_dtls_stands p (Ok done) q h = stands_by p _ q h.1 (refl, refl, refl)
+  shut_dtls_stands p (Err (Dtls cause)) q h = stands_by p _ q h.2 (refl, refl, refl)
+  shut_dtls_stands p (Err Alloc) q h = stands_by p _ q h.1 (refl, refl, refl)
+  shut_dtls_stands p (Err _) q h = absurd h
+
+  begins_stands : CallStands (BeginsClosing m)
+  begins_stands =
+      turn_stands (ShutsMedia m) _ shut_media_stands
+      (turn_stands (ShutsStreams m) _ shut_streams_stand
+      (turn_stands (ShutsDtls m) BecomesClosing shut_dtls_stands (λ p r q h. stands_by p _ q h.1 (refl, refl, refl))))
+
+  closes_from_stands : (phase : Phase) (p : PolledPeer I D S M N) (r : Result (Unit {0}) RtcError) (q : PolledPeer I D S M N)
+      → ClosesPeerFrom m phase p r q → KeepsParts m p q
+  closes_from_stands Alive p r q h = begins_stands p r q h
+  closes_from_stands Closing p r q h = stands_by p p q h.1 (refl, refl, refl)
+  closes_from_stands Closed p r q h = stands_by p p q h.1 (refl, refl, refl)
+
+  -- closing leaves them
+  pub close_stands : (p : PolledPeer I D S M N) (r : Result (Unit {0}) RtcError) (q : PolledPeer I D S M N) → ClosesPeer m p r q → KeepsParts m p q
+  close_stands p r q h = closes_from_stands p.core.phase p r q h

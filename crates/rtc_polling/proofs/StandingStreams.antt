@@ -1,0 +1,122 @@
+-- What a poll takes from the streams leaves the settings of the ICE agent, the DTLS role and the fingerprint of this side.
+use Rattle.std.proofs.Common.{◌≡◌, ◌⊎◌, inl, inr, ℕ, Bool, true, false, List, [], ◌∷◌, Option, Some, None, Result, Ok, Err, alloc_error, refl, sym, ap, subst, ◌∙◌}
+use Rattle.std.specs.declared.alloc.AllocError.{AllocError}
+use Rattle.rtc_sdp_values.specs.declared.fingerprint.Fingerprint.{Fingerprint}
+use Rattle.rtc_ice.specs.declared.ice_event.IceEvent.{IceEvent}
+use Rattle.rtc_ice.specs.IceLaws.{IceLaws}
+use Rattle.rtc_ice.specs.IceMeaning.{IceSettings}
+use Rattle.rtc_dtls.specs.declared.dtls_error.DtlsError.{DtlsError}
+use Rattle.rtc_dtls.specs.declared.dtls_error.DtlsError.TheVariants.{Fault, Alloc as DtlsAlloc}
+use Rattle.rtc_dtls.specs.DtlsState.{DtlsState, SendsData, can_send}
+use Rattle.rtc_media.specs.declared.media_error.MediaError.TheVariants.{Alloc as MediaAlloc}
+use Rattle.rtc_dtls.specs.declared.dtls_output.DtlsOutput.{DtlsOutput}
+use Rattle.rtc_dtls.specs.declared.dtls_output.DtlsOutput.TheVariants as outputs
+use Rattle.rtc_peer_state.specs.declared.phase.Phase.{Phase}
+use Rattle.rtc_peer_state.specs.declared.phase.Phase.TheVariants.{Alive, Closing, Closed}
+use Rattle.rtc_peer_state.specs.Meanings.{Meanings}
+use Rattle.rtc_peer_state.specs.Stance.{stance_of}
+use Rattle.rtc_sctp_entries.specs.declared.sctp_event.SctpEvent.{SctpEvent}
+use Rattle.rtc_sctp_entries.specs.declared.sctp_event.SctpEvent.TheVariants as event
+use Rattle.rtc_polling.specs.declared.event.Event.TheVariants as told
+use Rattle.rtc_polling.specs.declared.handshake.Handshake.{Handshake}
+use Rattle.rtc_polling.specs.declared.handshake.Handshake.TheVariants.{Pending, Finished, Told}
+use Rattle.rtc_polling.specs.declared.met.Met.{Met}
+use Rattle.rtc_polling.specs.declared.met.Met.TheVariants.{Nothing, Again, Transmit, Event as MetEvent, Error}
+use Rattle.rtc_polling.specs.declared.output.Output.{Output}
+use Rattle.rtc_polling.specs.declared.polled_peer.PolledPeer.{PolledPeer}
+use Rattle.rtc_polling.specs.declared.send_addr.SendAddr.{SendAddr}
+use Rattle.rtc_peer_state.specs.declared.rtc_error.RtcError.{RtcError}
+use Rattle.rtc_peer_state.specs.declared.rtc_error.RtcError.TheVariants.{RemoteSdp, Dtls, Sctp, Media, Alloc}
+use Rattle.rtc_polling.specs.Closing.{ShutsMedia, ShutsStreams, ShutsDtls, BecomesClosing, BeginsClosing, ClosesPeer, ClosesPeerFrom, is_closing_complete, is_phase_closing}
+use Rattle.rtc_polling.specs.Connection.{with_dtls, with_ice, with_sctp, with_channels, with_pushed}
+use Rattle.rtc_polling.specs.DtlsStages.{GivesDtlsTime, TimesDtls, TimesDtlsIf, TakesDtlsOutput, TakesDtlsAnswer, PollsDtlsOutput}
+use Rattle.rtc_polling.specs.DtlsStages.{PollsDtlsOutputs, TakesKeys, TakesCloseNotify, HandsPacket, ChecksCert, TellsConnectedFrom, is_dtls_due}
+use Rattle.rtc_polling.specs.IceStages.{PollsIceEvent, PollsIceEvents, TakesIceEvent, after_ice_event}
+use Rattle.rtc_polling.specs.Kept.{KeepsNegotiation, KeepsParts}
+use Rattle.rtc_polling.specs.MediaStages.{TellsMedia, TellsFallibleMedia}
+use Rattle.rtc_polling.specs.SendStages.{SendsChecks, SendsDtlsPacket, SendsMediaDatagram, SendsBy, SendsByPair}
+use Rattle.rtc_polling.specs.Stages.{Call, InTurn, Failed, Passed, Stage, FollowedBy, Stopped, WentOn, RepeatsStage}
+use Rattle.rtc_polling.specs.StreamStages.{OpensChannelOver, ClosesChannelOver, HearsChannelOver, FallsChannelOver, LosesAssociation, TakesStreamEvent, TakesStreamAnswer, PollsStreamEvent, PollsStreamEvents, SendsPacket, SendsFirst, SendsKeptPackets, TellsStreams, channel_over, left_over}
+use Rattle.rtc_polling.specs.Walk.{StartsOverWhenDue, TellsConnection, TellsArrivals, SendsDatagrams, VisitsParts, WaitsIf, AnswersMet, Walks, PollsPeerFrom, PollsPeer}
+use Rattle.rtc_polling.proofs.StageLemmas.{over_carries}
+use Rattle.rtc_polling.proofs.DtlsRoles.{KeepsRole, hands_on_role, polls_role, gives_role, sends_role}
+use Rattle.rtc_channels.specs.Holds.{holds_lost}
+use Rattle.rtc_polling.proofs.StandingCalls.{CallStands, Stands, stands_self, stands_on, stands_by, dtls_stand, turn_stands, else_stands, repeats_stands, close_stands}
+
+module _ {I D S M E X T W N : Type 0} (m : Meanings I D S M E X T W N) where
+  opens_stand : (stream : ℕ) (label : List ℕ) → Stands m (OpensChannelOver {I = I} {D = D} {S = S} {M = M} {E = E} {N = N} stream label)
+  unfolding OpensChannelOver
+  opens_stand stream label p (MetEvent (told.ChannelOpen id text)) q h = stands_by m p _ q h.2 (refl, refl, refl)
+  opens_stand stream label p Again q h = stands_by m p _ q h.1 (refl, refl, refl)
+  opens_stand stream label p (Error Alloc) q h = stands_by m p _ q h (refl, refl, refl)
+  opens_stand stream label p _ q h = absurd h
+
+  closes_stand : (id : Option ℕ) (pending : Bool) → Stands m (ClosesChannelOver {I = I} {D = D} {S = S} {M = M} {E = E} {N = N} id pending)
+  closes_stand (Some id) pending p r q h = stands_by m p _ q h.1 (refl, refl, refl)
+  closes_stand None pending p r q h = stands_by m p p q h.1 (refl, refl, refl)
+
+  hears_channel_stands : (id : Option ℕ) (binary : Bool) (bytes : List ℕ) → Stands m (HearsChannelOver {I = I} {D = D} {S = S} {M = M} {E = E} {N = N} id binary bytes)
+  hears_channel_stands (Some id) binary bytes p r q h = stands_by m p p q h.1 (refl, refl, refl)
+  hears_channel_stands None binary bytes p r q h = stands_by m p p q h.1 (refl, refl, refl)
+
+  falls_stand : (id : Option ℕ) → Stands m (FallsChannelOver {I = I} {D = D} {S = S} {M = M} {E = E} {N = N} id)
+  falls_stand (Some id) p r q h = stands_by m p p q h.1 (refl, refl, refl)
+  falls_stand None p r q h = stands_by m p p q h.1 (refl, refl, refl)
+
+  lost_stands : Stands m (LosesAssociation m)
+  unfolding LosesAssociation
+  lost_stands p (MetEvent told.Closed) q h = stands_on m p (with_channels (holds_lost p.core.channels) p) q (refl, refl, refl) (close_stands m (with_channels (holds_lost p.core.channels) p) (Ok tt) q h)
+  lost_stands p (Error error) q h = stands_on m p (with_channels (holds_lost p.core.channels) p) q (refl, refl, refl) (close_stands m (with_channels (holds_lost p.core.channels) p) (Err error) q h)
+  lost_stands p _ q h = absurd h
+
+  stream_event_stands : (e : SctpEvent) → Stands m (TakesStreamEvent m e)
+  stream_event_stands (event.Transmit packets) p r q h = stands_by m p _ q h.1 (refl, refl, refl)
+  stream_event_stands (event.Open stream label) p r q h = opens_stand stream label p r q h
+  stream_event_stands (event.Close stream pending) p r q h = closes_stand (channel_over stream p.core.channels) pending p r q h
+  stream_event_stands (event.StreamResetComplete stream) p r q h = stands_by m p _ q h.1 (refl, refl, refl)
+  stream_event_stands (event.Data stream binary bytes) p r q h = hears_channel_stands (channel_over stream p.core.channels) binary bytes p r q h
+  stream_event_stands (event.BufferedAmountLow stream) p r q h = falls_stand (channel_over stream p.core.channels) p r q h
+  stream_event_stands event.AssociationLost p r q h = lost_stands p r q h
+
+  stream_answer_stands : (answer : Result (Option SctpEvent) AllocError) → Stands m (TakesStreamAnswer m answer)
+  stream_answer_stands (Ok None) p r q h = stands_by m p p q h.1 (refl, refl, refl)
+  stream_answer_stands (Ok (Some e)) p r q h = stream_event_stands e p r q h
+  stream_answer_stands (Err error) p r q h = stands_by m p _ q h.1 (refl, refl, refl)
+
+  stream_events_stand : Stands m (PollsStreamEvents m)
+  stream_events_stand =
+      repeats_stands m (PollsStreamEvent m)
+      (λ p r q turn. stands_on m p (with_sctp turn.streams p) q (refl, refl, refl) (stream_answer_stands turn.answer (with_sctp turn.streams p) r q turn.by_answer))
+
+  -- a packet that was sent leaves the role
+  sending_stands : (pushed : Option (List (List ℕ))) (p q : PolledPeer I D S M N) → KeepsRole p.core.dtls q.core.dtls
+      → KeepsParts m p (with_dtls q.core.dtls (with_pushed pushed p))
+  sending_stands pushed p q role = (refl, role.0, role.1)
+
+  sent_or : (p q : PolledPeer I D S M N) (packet : List ℕ)
+      → SendsData m.dtls p.core.dtls (can_send m.dtls p.core.dtls) packet (Ok tt) q.core.dtls
+      ⊎ ((is_phase_closing p.core.phase ≡ true) × SendsData m.dtls p.core.dtls (can_send m.dtls p.core.dtls) packet (Err Fault) q.core.dtls)
+      → KeepsRole p.core.dtls q.core.dtls
+  sent_or p q packet (inl h) = sends_role m.dtls p.core.dtls (can_send m.dtls p.core.dtls) packet (Ok tt) q.core.dtls h
+  sent_or p q packet (inr h) = sends_role m.dtls p.core.dtls (can_send m.dtls p.core.dtls) packet (Err Fault) q.core.dtls h.1
+
+  sent_packet_stands : (packet : List ℕ) (rest : List (List ℕ)) → Stands m (SendsPacket m packet rest)
+  unfolding SendsPacket
+  sent_packet_stands packet rest p Nothing q h = stands_by m p _ q h.1 (refl, refl, refl)
+  sent_packet_stands packet rest p Again q h = stands_by m p _ q h.0 (sending_stands (left_over rest) p q (sent_or p q packet h.1))
+  sent_packet_stands packet rest p (Error (Dtls cause)) q h =
+      stands_by m p _ q h.3 (sending_stands (left_over rest) p q (sends_role m.dtls p.core.dtls (can_send m.dtls p.core.dtls) packet (Err Fault) q.core.dtls h.2))
+  sent_packet_stands packet rest p (Error Alloc) q h =
+      stands_by m p _ q h.1 (sending_stands (left_over rest) p q (sends_role m.dtls p.core.dtls (can_send m.dtls p.core.dtls) packet (Err DtlsAlloc) q.core.dtls h.0))
+  sent_packet_stands packet rest p _ q h = absurd h
+
+  sent_first_stands : (packets : Option (List (List ℕ))) → Stands m (SendsFirst m packets)
+  sent_first_stands None p r q h = stands_by m p p q h.1 (refl, refl, refl)
+  sent_first_stands (Some []) p r q h = stands_by m p p q h.1 (refl, refl, refl)
+  sent_first_stands (Some (packet ∷ rest)) p r q h = sent_packet_stands packet rest p r q h
+
+  pub streams_stand : Stands m (TellsStreams m)
+  unfolding TellsStreams
+  streams_stand =
+      else_stands m (PollsStreamEvents m) (SendsKeptPackets m) stream_events_stand
+      (λ p r q h. stands_on m p (with_pushed None p) q (refl, refl, refl) (sent_first_stands p.core.sctp.pushed (with_pushed None p) r q h))

@@ -1,0 +1,21 @@
+use Rattle.std.proofs.Common.{◌≡◌, Result}
+use Rattle.rtc_peer_state.specs.declared.phase.Phase.{Phase}
+use Rattle.rtc_peer_state.specs.declared.phase.Phase.TheVariants.{Alive, Closing, Closed}
+use Rattle.rtc_peer_state.specs.declared.rtc_error.RtcError.{RtcError}
+use Rattle.rtc_peer_state.specs.Meanings.{Meanings, meanings}
+use Rattle.rtc_polling.specs.declared.polled_peer.PolledPeer.{PolledPeer}
+use Rattle.rtc_polling.specs.Closing.{BeginsClosing, ClosesPeerFrom}
+use Rattle.rtc_polling.proofs.polled_peer.PolledPeer.close.Goals as goal
+
+-- a peer that is alive begins to close
+begins : {I D S M E X T W N : Type 0} (m : Meanings I D S M E X T W N) (phase : Phase) (p : PolledPeer I D S M N) (r : Result (Unit {0}) RtcError)
+    (q : PolledPeer I D S M N) → phase ≡ Alive → BeginsClosing m p r q → ClosesPeerFrom m phase p r q
+begins m Alive p r q is h = h
+begins m Closing p r q is h = cc (is)
+begins m Closed p r q is h = cc (is)
+
+pub returns-in-Ok : goal.returns-in-Ok
+returns-in-Ok g c = begins (meanings g.I.IceAgent.ice g.D.DtlsInstance.dtls g.S.Association.association g.M.MediaSession.media g.N.Ids.ids) _ _ _ _ c.in-Alive.is c.in-Ok.ensures
+
+pub returns-in-Err : goal.returns-in-Err
+returns-in-Err g c = begins (meanings g.I.IceAgent.ice g.D.DtlsInstance.dtls g.S.Association.association g.M.MediaSession.media g.N.Ids.ids) _ _ _ _ c.in-Alive.is c.in-Err.ensures

@@ -1,0 +1,132 @@
+//! What a poll takes from the streams of the data channels.
+ghost use Rattle.std.specs.Prelude.{◌≡◌, None};
+ghost use Rattle.rtc_peer_state.specs.Meanings.{meanings};
+ghost use Rattle.rtc_polling.specs.StreamStages.{OpensChannelOver, ClosesChannelOver, HearsChannelOver, FallsChannelOver, channel_over};
+ghost use Rattle.rtc_polling.specs.StreamStages.{LosesAssociation, TakesStreamEvent, PollsStreamEvent, PollsStreamEvents, IsShortTransmit};
+
+use crate::met::Met;
+use crate::{ChannelData, Event, PolledPeer};
+use rtc_association::Association;
+use rtc_dtls::DtlsInstance;
+use rtc_ice::IceAgent;
+use rtc_ids::Ids;
+use rtc_media::MediaSession;
+use rtc_peer_state::{Phase, RtcError};
+use rtc_sctp::SctpEvent;
+use rtc_wire::{Bytes, Text};
+
+impl<I: IceAgent, D: DtlsInstance, S: Association, M: MediaSession, N: Ids> PolledPeer<
+    I,
+    D,
+    S,
+    M,
+    N,
+> {
+    #[tactic(auto, unfolding(crate::specs::StreamStages::OpensChannelOver))]
+    fn open_channel_over(&mut self, stream: u16, label: Text) -> Met<M::E>
+        ensures { OpensChannelOver stream label self.old result self.new }
+    {
+        match self.core.channels.ensure_channel_id_for(stream) {
+            Ok(()) => {}
+            Err(_) => {
+                self.core.phase = Phase::Closed;
+                return Met::Error(RtcError::Alloc);
+            }
+        }
+        match self.core.channels.channel_id_by_stream_id(stream) {
+            Some(id) => Met::Event(Event::ChannelOpen(id, label)),
+            None => Met::Again,
+        }
+    }
+
+    fn close_channel_over(&mut self, stream: u16, reset_pending: bool) -> Met<M::E>
+        ensures { ClosesChannelOver (channel_over stream self.old.core.channels) reset_pending self.old result self.new }
+    {
+        match self.core.channels.channel_id_by_stream_id(stream) {
+            Some(id) => {
+                self.core.channels.remove_channel(id, reset_pending);
+                Met::Event(Event::ChannelClose(id))
+            }
+            None => Met::Again,
+        }
+    }
+
+    fn hear_channel_over(&self, stream: u16, binary: bool, bytes: Bytes) -> Met<M::E>
+        ensures { HearsChannelOver (channel_over stream self.now.core.channels) binary bytes self.now result self.now }
+    {
+        match self.core.channels.channel_id_by_stream_id(stream) {
+            Some(id) => Met::Event(Event::ChannelData(ChannelData { id, binary, bytes })),
+            None => Met::Again,
+        }
+    }
+
+    fn lower_channel_over(&self, stream: u16) -> Met<M::E>
+        ensures { FallsChannelOver (channel_over stream self.now.core.channels) self.now result self.now }
+    {
+        match self.core.channels.channel_id_by_stream_id(stream) {
+            Some(id) => Met::Event(Event::ChannelBufferedAmountLow(id)),
+            None => Met::Again,
+        }
+    }
+
+    #[tactic(auto, unfolding(crate::specs::StreamStages::LosesAssociation))]
+    fn lose_association(&mut self) -> Met<M::E>
+        ensures { LosesAssociation (meanings I.ice D.dtls S.association M.media N.ids) self.old result self.new }
+    {
+        self.core.channels.association_lost();
+        match self.close() {
+            Ok(()) => Met::Event(Event::Closed),
+            Err(error) => Met::Error(error),
+        }
+    }
+
+    fn take_stream_event(&mut self, event: SctpEvent) -> Met<M::E>
+        requires none { self.old.core.sctp.pushed ≡ None }
+        requires short { IsShortTransmit event }
+        ensures { TakesStreamEvent (meanings I.ice D.dtls S.association M.media N.ids) event self.old result self.new }
+    {
+        match event {
+            SctpEvent::Transmit { packets } => {
+                self.core.sctp.push_back_transmit(packets);
+                Met::Nothing
+            }
+            SctpEvent::Open { id, label } => self.open_channel_over(id, label),
+            SctpEvent::Close { id, reset_pending } => self.close_channel_over(id, reset_pending),
+            SctpEvent::StreamResetComplete { id } => {
+                self.core.channels.stream_reset_complete(id);
+                Met::Again
+            }
+            SctpEvent::Data { id, binary, bytes } => self.hear_channel_over(id, binary, bytes),
+            SctpEvent::BufferedAmountLow { id } => self.lower_channel_over(id),
+            SctpEvent::AssociationLost => self.lose_association(),
+        }
+    }
+
+    fn poll_stream_event(&mut self) -> Met<M::E>
+        ensures { PollsStreamEvent (meanings I.ice D.dtls S.association M.media N.ids) self.old result self.new }
+    {
+        self.core.sctp.pushed_back_is_short();
+        match self.core.sctp.poll() {
+            Ok(told) => match told {
+                Some(event) => self.take_stream_event(event),
+                None => Met::Nothing,
+            },
+            Err(_) => {
+                self.core.phase = Phase::Closed;
+                Met::Error(RtcError::Alloc)
+            }
+        }
+    }
+
+    /// Polls the streams up to an event that is told, or packets, which are kept to be sent.
+    pub(crate) fn poll_stream_events(&mut self) -> Met<M::E>
+        ensures { PollsStreamEvents (meanings I.ice D.dtls S.association M.media N.ids) self.old result self.new }
+    {
+        'events: loop {
+            match self.poll_stream_event() {
+                Met::Again => {}
+                met => return met,
+            }
+        }
+    }
+}

@@ -1,0 +1,5 @@
+pub mod RelayJoins
+pub mod RelayedStages
+pub mod RelayedStreams
+pub mod RelayedPolls
+pub mod RelayedInputs
