@@ -1,17 +1,16 @@
 -- What DTLS holds of input once its outputs were polled: nothing, and until the next input nothing comes.
-use Rattle.std.proofs.Common.{◌≡◌, ◌<◌, ◌≤◌, ◌+◌, ◌-◌, ◌^◌, ℕ, zero, suc, Bool, true, false, List, [], ◌∷◌, Option, Some, None, Result, Ok, Err}
+use Rattle.std.proofs.Common.{◌≡◌, ◌<◌, ◌≤◌, ◌-◌, ◌^◌, ℕ, zero, suc, Bool, true, false, List, [], ◌∷◌, Option, Some, None, Result, Ok, Err}
 use Rattle.std.proofs.Common.{refl, sym, ap, subst, ◌∙◌, arith}
 use Rattle.std.specs.declared.alloc.AllocError.{AllocError}
 use Rattle.rtc_dtls.specs.declared.dtls_output.DtlsOutput.{DtlsOutput}
 use Rattle.rtc_dtls.specs.declared.dtls_output.DtlsOutput.TheVariants as outputs
 use Rattle.rtc_dtls.specs.DtlsActs.{DtlsMoved}
-use Rattle.rtc_dtls.specs.DtlsDrawn.{DrewPacket, DrewTimeout, draws_output, drawn_units}
+use Rattle.rtc_dtls.specs.DtlsDrawn.{DrewPacket, draws_output, drawn_units}
 use Rattle.rtc_dtls.specs.DtlsLaws.{DtlsLaws}
 use Rattle.rtc_dtls.specs.DtlsMeaning.{DtlsMeaning}
 use Rattle.rtc_dtls.specs.DtlsState.{DtlsState, HandsOn, PollsOutput, drawn_by}
 use Rattle.rtc_dtls.specs.DtlsWords.{takes}
 use Rattle.rtc_ice.specs.declared.ice_event.IceEvent.{IceEvent}
-use Rattle.rtc_sctp.specs.Streams.{SctpStreams}
 use Rattle.rtc_peer_state.specs.Meanings.{Meanings}
 use Rattle.rtc_polling.specs.declared.handshake.Handshake.{Handshake}
 use Rattle.rtc_polling.specs.declared.handshake.Handshake.TheVariants.{Pending, Finished, Told}

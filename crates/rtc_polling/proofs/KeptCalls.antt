@@ -1,43 +1,18 @@
 -- Closing changes nothing of what negotiation keeps beside the channels and their streams, and how this is followed through calls and
 -- stages.
-use Rattle.std.proofs.Common.{◌≡◌, ℕ, Bool, true, false, List, [], ◌∷◌, Option, Some, None, Result, Ok, Err, refl, sym, ap, subst, ◌∙◌}
-use Rattle.std.specs.declared.alloc.AllocError.{AllocError}
-use Rattle.rtc_wire.specs.declared.datagram_recv.DatagramRecv.{DatagramRecv}
-use Rattle.rtc_wire.specs.declared.datagram_recv.DatagramRecv.TheVariants as datagrams
-use Rattle.rtc_wire.specs.declared.receive.Receive.{Receive}
-use Rattle.rtc_ice.specs.declared.ice_event.IceEvent.{IceEvent}
-use Rattle.rtc_dtls.specs.declared.dtls_output.DtlsOutput.{DtlsOutput}
-use Rattle.rtc_dtls.specs.declared.dtls_output.DtlsOutput.TheVariants as outputs
+use Rattle.std.proofs.Common.{◌≡◌, Result, Ok, Err, refl, sym, ap, subst, ◌∙◌}
 use Rattle.rtc_peer_state.specs.declared.peer.Peer.{Peer}
 use Rattle.rtc_peer_state.specs.declared.phase.Phase.{Phase}
 use Rattle.rtc_peer_state.specs.declared.phase.Phase.TheVariants.{Alive, Closing, Closed}
 use Rattle.rtc_peer_state.specs.Meanings.{Meanings}
-use Rattle.rtc_sctp_entries.specs.declared.sctp_event.SctpEvent.{SctpEvent}
-use Rattle.rtc_sctp_entries.specs.declared.sctp_event.SctpEvent.TheVariants as event
-use Rattle.rtc_polling.specs.declared.event.Event.TheVariants as told
-use Rattle.rtc_polling.specs.declared.handshake.Handshake.{Handshake}
-use Rattle.rtc_polling.specs.declared.handshake.Handshake.TheVariants.{Pending, Finished, Told}
-use Rattle.rtc_polling.specs.declared.input.Input.{Input}
-use Rattle.rtc_polling.specs.declared.input.Input.TheVariants.{Timeout as TimeCame, Receive as Datagram}
 use Rattle.rtc_polling.specs.declared.met.Met.{Met}
-use Rattle.rtc_polling.specs.declared.met.Met.TheVariants.{Nothing, Again, Transmit, Event as MetEvent, Error}
-use Rattle.rtc_polling.specs.declared.output.Output.{Output}
+use Rattle.rtc_polling.specs.declared.met.Met.TheVariants.{Nothing, Again}
 use Rattle.rtc_polling.specs.declared.polled_peer.PolledPeer.{PolledPeer}
-use Rattle.rtc_polling.specs.declared.send_addr.SendAddr.{SendAddr}
 use Rattle.rtc_peer_state.specs.declared.rtc_error.RtcError.{RtcError}
-use Rattle.rtc_peer_state.specs.declared.rtc_error.RtcError.TheVariants.{RemoteSdp, Dtls, Sctp, Media, Alloc}
-use Rattle.rtc_polling.specs.Closing.{ShutsMedia, ShutsStreams, ShutsDtls, BecomesClosing, BeginsClosing, ClosesPeer, ClosesPeerFrom, is_closing_complete}
-use Rattle.rtc_polling.specs.Connection.{with_dtls, with_ice, with_sctp, with_channels, with_pushed}
-use Rattle.rtc_polling.specs.DtlsStages.{GivesDtlsTime, TimesDtls, TimesDtlsIf, TakesDtlsOutput, TakesDtlsAnswer, PollsDtlsOutput}
-use Rattle.rtc_polling.specs.DtlsStages.{PollsDtlsOutputs, TakesKeys, TakesCloseNotify, HandsPacket, ChecksCert, TellsConnectedFrom, is_dtls_due}
-use Rattle.rtc_polling.specs.IceStages.{PollsIceEvent, PollsIceEvents, TakesIceEvent}
-use Rattle.rtc_polling.specs.Inputs.{TimesIce, TimesStreams, TimesChannels, TimesMedia, GivesTime, TakesTimeIf, with_moment, HearsStun, HearsDtls, HearsMedia, HearsKind, Hears, Heard, PartFailed, HandlesInputBy, HandlesInputIn, HandlesInput}
+use Rattle.rtc_peer_state.specs.declared.rtc_error.RtcError.TheVariants.{Dtls, Sctp, Alloc}
+use Rattle.rtc_polling.specs.Closing.{ShutsMedia, ShutsStreams, ShutsDtls, BecomesClosing, BeginsClosing, ClosesPeer, ClosesPeerFrom}
 use Rattle.rtc_polling.specs.Kept.{KeepsNegotiation}
-use Rattle.rtc_polling.specs.MediaStages.{TellsMedia, TellsFallibleMedia}
-use Rattle.rtc_polling.specs.SendStages.{SendsChecks, SendsDtlsPacket, SendsMediaDatagram, SendsBy, SendsByPair}
 use Rattle.rtc_polling.specs.Stages.{Call, InTurn, Failed, Passed, Stage, FollowedBy, Stopped, WentOn, RepeatsStage}
-use Rattle.rtc_polling.specs.StreamStages.{OpensChannelOver, ClosesChannelOver, HearsChannelOver, FallsChannelOver, LosesAssociation, TakesStreamEvent, TakesStreamAnswer, PollsStreamEvent, PollsStreamEvents, SendsPacket, SendsFirst, SendsKeptPackets, TellsStreams, channel_over}
-use Rattle.rtc_polling.specs.Walk.{StartsOverWhenDue, TellsConnection, TellsArrivals, SendsDatagrams, VisitsParts, WaitsIf, AnswersMet, Walks, PollsPeerFrom, PollsPeer}
 use Rattle.rtc_polling.proofs.StageLemmas.{over_carries}
 
 pub keeps_self : {I D S M N : Type 0} (p : PolledPeer I D S M N) → KeepsNegotiation p p

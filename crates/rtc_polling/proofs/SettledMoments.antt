@@ -1,6 +1,6 @@
 -- A moment of DTLS that has come is handed to the part, which then asks for none that has.
-use Rattle.std.proofs.Common.{if◌then◌else◌, ◌≡◌, ◌<◌, ◌-◌, ◌^◌, ◌++◌, ℕ, Bool, true, false, List, []}
-use Rattle.std.proofs.Common.{◌∷◌, Option, Some, None, Result, Ok, Err, refl, sym, ap, subst, ◌∙◌, arith}
+use Rattle.std.proofs.Common.{if◌then◌else◌, ◌≡◌, ◌-◌, ◌^◌, ◌++◌, ℕ, Bool, true, false, List, []}
+use Rattle.std.proofs.Common.{◌∷◌, Option, Some, None, Result, Ok, Err, refl, sym, ap, subst, ◌∙◌}
 use Rattle.std.specs.declared.alloc.AllocError.{AllocError}
 use Rattle.rtc_dtls.specs.declared.dtls_output.DtlsOutput.{DtlsOutput}
 use Rattle.rtc_dtls.specs.declared.dtls_output.DtlsOutput.TheVariants as outputs
@@ -13,21 +13,17 @@ use Rattle.rtc_dtls.specs.DtlsWords.{takes}
 use Rattle.rtc_peer_state.specs.Meanings.{Meanings}
 use Rattle.rtc_polling.specs.declared.handshake.Handshake.{Handshake}
 use Rattle.rtc_polling.specs.declared.handshake.Handshake.TheVariants.{Pending, Finished, Told}
-use Rattle.rtc_polling.specs.declared.met.Met.{Met}
 use Rattle.rtc_polling.specs.declared.met.Met.TheVariants.{Nothing, Again}
 use Rattle.rtc_polling.specs.declared.polled_peer.PolledPeer.{PolledPeer}
-use Rattle.rtc_polling.specs.declared.send_addr.SendAddr.{SendAddr}
 use Rattle.rtc_polling.specs.Connection.{with_dtls}
 use Rattle.rtc_polling.specs.DtlsStages.{GivesDtlsTime, TimesDtls, TimesDtlsIf, TakesDtlsOutput, TakesDtlsAnswer, PollsDtlsOutput}
 use Rattle.rtc_polling.specs.DtlsStages.{PollsDtlsOutputs, TakesKeys, TakesCloseNotify, HandsPacket, ChecksCert, TellsConnected, TellsConnectedFrom, has_come, is_dtls_due}
 use Rattle.rtc_polling.specs.IceStages.{PollsIceEvent, PollsIceEvents}
-use Rattle.rtc_polling.specs.MediaStages.{TellsMedia, TellsFallibleMedia}
-use Rattle.rtc_polling.specs.SendStages.{SendsChecks, SendsDtlsPacket, SendsMediaDatagram, SendsBy, SendsByPair}
 use Rattle.rtc_polling.specs.Stages.{FollowedBy}
-use Rattle.rtc_polling.specs.Walk.{StartsOverWhenDue, TellsConnection, TellsArrivals, SendsDatagrams, VisitsParts}
+use Rattle.rtc_polling.specs.Walk.{TellsConnection}
 use Rattle.rtc_polling.proofs.DtlsTurns.{taken_output}
-use Rattle.rtc_polling.proofs.StageLemmas.{NeverAgain, repeats_never, over_carries, went_through, else_again, else_never}
-use Rattle.rtc_polling.proofs.DueMoments.{KeepsMoments, later_is_to_come, due_kept, keeps_as, keeps_join, ice_keeps, connected_keeps, arrivals_keep, datagrams_keep}
+use Rattle.rtc_polling.proofs.StageLemmas.{NeverAgain, repeats_never, over_carries, went_through, else_never}
+use Rattle.rtc_polling.proofs.DueMoments.{later_is_to_come, due_kept, ice_keeps, connected_keeps}
 
 -- what was drawn is an act
 drawn_act : {D : Type 0} (m : DtlsMeaning D) (drawn : DtlsDrawn) (i j : D) → draws_output drawn ≡ true → m.polled i drawn j

@@ -1,5 +1,5 @@
 -- The packets of the association that a poll of the streams gives are short enough for a datagram of DTLS.
-use Rattle.std.proofs.Common.{◌≡◌, ◌≤◌, ◌∷◌, [], ◌++◌, ℕ, All, List, length, take, drop, Option, Some, None, Result, Ok, Err, refl, sym, ap, subst, ◌∙◌, slice_get}
+use Rattle.std.proofs.Common.{◌≡◌, ◌≤◌, ◌∷◌, [], ◌++◌, ℕ, All, List, length, drop, Option, Some, None, Ok, sym, ap, subst, slice_get}
 use Rattle.std.proofs.lemmas.List.Elements.{All-nil, All-cons, All-head, All-tail, All-append}
 use Rattle.rtc_association.specs.AssociationMeaning.{AssociationMeaning}
 use Rattle.rtc_association.specs.AssociationLaws.{AssociationLaws}

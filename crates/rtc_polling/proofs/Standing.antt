@@ -1,22 +1,14 @@
 -- A poll leaves the settings of the ICE agent, the DTLS role and the fingerprint of this side.
-use Rattle.std.proofs.Common.{◌≡◌, ◌⊎◌, inl, inr, ℕ, Bool, true, false, List, [], ◌∷◌, Option, Some, None, Result, Ok, Err, alloc_error, refl, sym, ap, subst, ◌∙◌}
+use Rattle.std.proofs.Common.{ℕ, Bool, true, false, List, Option, Some, None, Result, Ok, Err, refl, ap}
 use Rattle.std.specs.declared.alloc.AllocError.{AllocError}
-use Rattle.rtc_sdp_values.specs.declared.fingerprint.Fingerprint.{Fingerprint}
 use Rattle.rtc_ice.specs.declared.ice_event.IceEvent.{IceEvent}
 use Rattle.rtc_ice.specs.IceLaws.{IceLaws}
-use Rattle.rtc_ice.specs.IceMeaning.{IceSettings}
-use Rattle.rtc_dtls.specs.declared.dtls_error.DtlsError.{DtlsError}
 use Rattle.rtc_dtls.specs.declared.dtls_error.DtlsError.TheVariants.{Fault, Alloc as DtlsAlloc}
-use Rattle.rtc_dtls.specs.DtlsState.{DtlsState, SendsData, can_send}
-use Rattle.rtc_media.specs.declared.media_error.MediaError.TheVariants.{Alloc as MediaAlloc}
 use Rattle.rtc_dtls.specs.declared.dtls_output.DtlsOutput.{DtlsOutput}
 use Rattle.rtc_dtls.specs.declared.dtls_output.DtlsOutput.TheVariants as outputs
 use Rattle.rtc_peer_state.specs.declared.phase.Phase.{Phase}
 use Rattle.rtc_peer_state.specs.declared.phase.Phase.TheVariants.{Alive, Closing, Closed}
 use Rattle.rtc_peer_state.specs.Meanings.{Meanings}
-use Rattle.rtc_peer_state.specs.Stance.{stance_of}
-use Rattle.rtc_sctp_entries.specs.declared.sctp_event.SctpEvent.{SctpEvent}
-use Rattle.rtc_sctp_entries.specs.declared.sctp_event.SctpEvent.TheVariants as event
 use Rattle.rtc_polling.specs.declared.event.Event.TheVariants as told
 use Rattle.rtc_polling.specs.declared.handshake.Handshake.{Handshake}
 use Rattle.rtc_polling.specs.declared.handshake.Handshake.TheVariants.{Pending, Finished, Told}
@@ -26,21 +18,19 @@ use Rattle.rtc_polling.specs.declared.output.Output.{Output}
 use Rattle.rtc_polling.specs.declared.polled_peer.PolledPeer.{PolledPeer}
 use Rattle.rtc_polling.specs.declared.send_addr.SendAddr.{SendAddr}
 use Rattle.rtc_peer_state.specs.declared.rtc_error.RtcError.{RtcError}
-use Rattle.rtc_peer_state.specs.declared.rtc_error.RtcError.TheVariants.{RemoteSdp, Dtls, Sctp, Media, Alloc}
-use Rattle.rtc_polling.specs.Closing.{ShutsMedia, ShutsStreams, ShutsDtls, BecomesClosing, BeginsClosing, ClosesPeer, ClosesPeerFrom, is_closing_complete, is_phase_closing}
-use Rattle.rtc_polling.specs.Connection.{with_dtls, with_ice, with_sctp, with_channels, with_pushed}
+use Rattle.rtc_peer_state.specs.declared.rtc_error.RtcError.TheVariants.{RemoteSdp, Dtls, Media, Alloc}
+use Rattle.rtc_polling.specs.Closing.{is_closing_complete}
+use Rattle.rtc_polling.specs.Connection.{with_dtls, with_ice}
 use Rattle.rtc_polling.specs.DtlsStages.{GivesDtlsTime, TimesDtls, TimesDtlsIf, TakesDtlsOutput, TakesDtlsAnswer, PollsDtlsOutput}
 use Rattle.rtc_polling.specs.DtlsStages.{PollsDtlsOutputs, TakesKeys, TakesCloseNotify, HandsPacket, ChecksCert, TellsConnectedFrom, is_dtls_due}
 use Rattle.rtc_polling.specs.IceStages.{PollsIceEvent, PollsIceEvents, TakesIceEvent, after_ice_event}
-use Rattle.rtc_polling.specs.Kept.{KeepsNegotiation, KeepsParts}
+use Rattle.rtc_polling.specs.Kept.{KeepsParts}
 use Rattle.rtc_polling.specs.MediaStages.{TellsMedia, TellsFallibleMedia}
 use Rattle.rtc_polling.specs.SendStages.{SendsChecks, SendsDtlsPacket, SendsMediaDatagram, SendsBy, SendsByPair}
-use Rattle.rtc_polling.specs.Stages.{Call, InTurn, Failed, Passed, Stage, FollowedBy, Stopped, WentOn, RepeatsStage}
-use Rattle.rtc_polling.specs.StreamStages.{OpensChannelOver, ClosesChannelOver, HearsChannelOver, FallsChannelOver, LosesAssociation, TakesStreamEvent, TakesStreamAnswer, PollsStreamEvent, PollsStreamEvents, SendsPacket, SendsFirst, SendsKeptPackets, TellsStreams, channel_over, left_over}
+use Rattle.rtc_polling.specs.StreamStages.{TellsStreams}
 use Rattle.rtc_polling.specs.Walk.{StartsOverWhenDue, TellsConnection, TellsArrivals, SendsDatagrams, VisitsParts, WaitsIf, AnswersMet, Walks, PollsPeerFrom, PollsPeer}
-use Rattle.rtc_polling.proofs.StageLemmas.{over_carries}
-use Rattle.rtc_polling.proofs.DtlsRoles.{KeepsRole, hands_on_role, polls_role, gives_role, sends_role}
-use Rattle.rtc_polling.proofs.StandingCalls.{CallStands, Stands, stands_self, stands_on, stands_by, dtls_stand, turn_stands, else_stands, repeats_stands, close_stands}
+use Rattle.rtc_polling.proofs.DtlsRoles.{hands_on_role, polls_role, gives_role}
+use Rattle.rtc_polling.proofs.StandingCalls.{Stands, stands_on, stands_by, dtls_stand, else_stands, repeats_stands, close_stands}
 use Rattle.rtc_polling.proofs.StandingStreams.{streams_stand}
 
 module _ {I D S M E X T W N : Type 0} (m : Meanings I D S M E X T W N) (laws : IceLaws m.ice) where

@@ -1,5 +1,5 @@
 -- Inputs leave the settings of the ICE agent, the DTLS role and the fingerprint of this side.
-use Rattle.std.proofs.Common.{◌≡◌, ◌⊎◌, inl, inr, ℕ, Bool, true, false, List, [], ◌∷◌, Option, Some, None, Result, Ok, Err, alloc_error, refl, sym, ap, subst, ◌∙◌}
+use Rattle.std.proofs.Common.{◌≡◌, ℕ, Bool, true, false, List, Option, Result, Ok, Err, alloc_error, refl, ap, ◌∙◌}
 use Rattle.std.specs.declared.alloc.AllocError.{AllocError}
 use Rattle.rtc_wire.specs.declared.datagram_recv.DatagramRecv.{DatagramRecv}
 use Rattle.rtc_wire.specs.declared.datagram_recv.DatagramRecv.TheVariants as datagrams
@@ -7,10 +7,7 @@ use Rattle.rtc_wire.specs.declared.receive.Receive.{Receive}
 use Rattle.rtc_sdp_values.specs.declared.fingerprint.Fingerprint.{Fingerprint}
 use Rattle.rtc_ice.specs.IceLaws.{IceLaws}
 use Rattle.rtc_ice.specs.IceMeaning.{IceSettings}
-use Rattle.rtc_dtls.specs.declared.dtls_error.DtlsError.{DtlsError}
 use Rattle.rtc_dtls.specs.declared.dtls_error.DtlsError.TheVariants.{Fault, Alloc as DtlsAlloc}
-use Rattle.rtc_dtls.specs.DtlsState.{DtlsState, HandsOn, PollsOutput, GivesPacket}
-use Rattle.rtc_media.specs.declared.media_error.MediaError.TheVariants.{Alloc as MediaAlloc}
 use Rattle.rtc_peer_state.specs.declared.phase.Phase.{Phase}
 use Rattle.rtc_peer_state.specs.declared.phase.Phase.TheVariants.{Alive, Closing, Closed}
 use Rattle.rtc_peer_state.specs.Meanings.{Meanings}
@@ -20,12 +17,11 @@ use Rattle.rtc_polling.specs.declared.input.Input.{Input}
 use Rattle.rtc_polling.specs.declared.input.Input.TheVariants.{Timeout as TimeCame, Receive as Datagram}
 use Rattle.rtc_polling.specs.declared.polled_peer.PolledPeer.{PolledPeer}
 use Rattle.rtc_peer_state.specs.declared.rtc_error.RtcError.{RtcError}
-use Rattle.rtc_peer_state.specs.declared.rtc_error.RtcError.TheVariants.{RemoteSdp, Dtls, Media, Alloc}
+use Rattle.rtc_peer_state.specs.declared.rtc_error.RtcError.TheVariants.{Dtls, Media, Alloc}
 use Rattle.rtc_polling.specs.Inputs.{TimesIce, TimesStreams, TimesChannels, TimesMedia, with_moment, GivesTime, TakesTimeIf, HearsStun, HearsDtls, HearsMedia, HearsKind, Hears, Heard, PartFailed, HandlesInputBy, HandlesInputIn, HandlesInput}
-use Rattle.rtc_polling.specs.Connection.{with_dtls}
 use Rattle.rtc_polling.specs.Kept.{KeepsNegotiation, KeepsParts}
-use Rattle.rtc_polling.proofs.DtlsRoles.{KeepsRole, hands_on_role}
-use Rattle.rtc_polling.proofs.StandingCalls.{CallStands, Stands, stands_self, stands_on, stands_by, dtls_stand, turn_stands, else_stands, repeats_stands, close_stands}
+use Rattle.rtc_polling.proofs.DtlsRoles.{hands_on_role}
+use Rattle.rtc_polling.proofs.StandingCalls.{CallStands, stands_on, stands_by, dtls_stand, turn_stands}
 
 module _ {I D S M E X T W N : Type 0} (m : Meanings I D S M E X T W N) (laws : IceLaws m.ice) where
   ice_timed_stands : (now : ℕ) → CallStands m (TimesIce m now)

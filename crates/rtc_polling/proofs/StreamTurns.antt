@@ -1,27 +1,24 @@
 -- What a poll takes from the streams, and what it sends of their packets, where nothing is told.
-use Rattle.std.proofs.Common.{◌≡◌, ◌≢◌, ◌≤◌, ◌<◌, ◌+◌, ◌*◌, ◌⊎◌, inl, inr, ℕ, zero, suc, Bool, true, false, List, [], ◌∷◌, All, length, Option, Some, None}
+use Rattle.std.proofs.Common.{◌≡◌, ◌≤◌, ◌<◌, ◌+◌, ◌⊎◌, inl, inr, ℕ, Bool, true, false, List, [], ◌∷◌, length, Option, Some, None}
 use Rattle.std.proofs.Common.{Result, Ok, Err, refl, sym, ap, subst, ◌∙◌, arith}
 use Rattle.std.specs.declared.alloc.AllocError.{AllocError}
 use Rattle.rtc_association.specs.AssociationLaws.{AssociationLaws}
 use Rattle.rtc_dtls.specs.declared.dtls_error.DtlsError.{DtlsError}
 use Rattle.rtc_dtls.specs.declared.dtls_error.DtlsError.TheVariants.{Fault}
-use Rattle.rtc_dtls.specs.DtlsLaws.{DtlsLaws}
 use Rattle.rtc_dtls.specs.DtlsState.{DtlsState, SendsData, can_send}
 use Rattle.rtc_sctp_entries.specs.declared.sctp_event.SctpEvent.{SctpEvent}
 use Rattle.rtc_sctp_entries.specs.declared.sctp_event.SctpEvent.TheVariants as event
 use Rattle.rtc_sctp.specs.Streams.{SctpStreams}
 use Rattle.rtc_sctp.specs.Polls.{PollsStreams, streams_work}
 use Rattle.rtc_peer_state.specs.Meanings.{Meanings}
-use Rattle.rtc_polling.specs.declared.met.Met.{Met}
 use Rattle.rtc_polling.specs.declared.met.Met.TheVariants.{Nothing, Again}
 use Rattle.rtc_polling.specs.declared.polled_peer.PolledPeer.{PolledPeer}
-use Rattle.rtc_polling.specs.declared.transport.Transport.{Transport}
 use Rattle.rtc_polling.specs.Closing.{is_phase_closing}
 use Rattle.rtc_polling.specs.Connection.{with_sctp, with_pushed, with_dtls}
 use Rattle.rtc_polling.specs.StreamStages.{OpensChannelOver, ClosesChannelOver, HearsChannelOver, FallsChannelOver, LosesAssociation, TakesStreamEvent, TakesStreamAnswer}
-use Rattle.rtc_polling.specs.StreamStages.{PollsStreamEvent, PollsStreamEvents, SendsPacket, SendsFirst, SendsKeptPackets, TellsStreams, channel_over, left_over}
-use Rattle.rtc_polling.proofs.StageLemmas.{NeverAgain, over_carries, repeats_never, went_through}
-use Rattle.rtc_polling.proofs.StreamWork.{waiting, told_waiting, event_waiting, base_work, sctp_work, poll_none, poll_works, poll_falls}
+use Rattle.rtc_polling.specs.StreamStages.{PollsStreamEvent, PollsStreamEvents, SendsPacket, SendsFirst, SendsKeptPackets, channel_over, left_over}
+use Rattle.rtc_polling.proofs.StageLemmas.{over_carries}
+use Rattle.rtc_polling.proofs.StreamWork.{waiting, event_waiting, sctp_work, poll_none, poll_works, poll_falls}
 
 -- the connection, the greatest moment and the streams are as they were
 abbrev pub SameStreams : {I D S M N : Type 0} → PolledPeer I D S M N → PolledPeer I D S M N → Type 0

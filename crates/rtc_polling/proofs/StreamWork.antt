@@ -1,5 +1,5 @@
 -- A poll of the streams takes work away, also where its packets come back.
-use Rattle.std.proofs.Common.{◌≡◌, ◌≤◌, ◌<◌, ◌+◌, ◌*◌, ℕ, zero, suc, Bool, true, false, List, [], ◌∷◌, length, Option, Some, None, Result, Ok, Err}
+use Rattle.std.proofs.Common.{◌≡◌, ◌≤◌, ◌<◌, ◌+◌, ◌*◌, ℕ, zero, suc, Bool, true, false, List, [], ◌∷◌, length, Option, Some, None, Result, Ok}
 use Rattle.std.proofs.Common.{refl, sym, ap, subst, ◌∙◌, arith}
 use Rattle.std.specs.Prelude.{◌&&◌}
 use Rattle.std.specs.declared.alloc.AllocError.{AllocError}
@@ -13,8 +13,8 @@ use Rattle.rtc_sctp_entries.specs.declared.met.Met.{Met}
 use Rattle.rtc_sctp_entries.specs.declared.met.Met.TheVariants.{Nothing, Again, Output, OutOfMemory}
 use Rattle.rtc_sctp_entries.proofs.GainLemmas.{Gains}
 use Rattle.rtc_sctp.specs.Streams.{SctpStreams, is_established}
-use Rattle.rtc_sctp.specs.Polls.{Else, ThenBy, unclosed_streams, event_met, book_of, credits, pushed_count, streams_work, Answers, CompletionOf, GivesCompletion}
-use Rattle.rtc_sctp.specs.Polls.{TakesPacket, TransmitIf, TransmitOf, GivesTransmit, TakesEvent, NotStarted, NoRoom, NoEvent, Event, HandlesEvent, VisitsIf, VisitsEntries, MakesPass, Over, PollsStreams}
+use Rattle.rtc_sctp.specs.Polls.{Else, ThenBy, unclosed_streams, event_met, credits, pushed_count, streams_work, CompletionOf, GivesCompletion}
+use Rattle.rtc_sctp.specs.Polls.{TakesPacket, TransmitIf, TransmitOf, NotStarted, NoRoom, NoEvent, Event, HandlesEvent, VisitsIf, VisitsEntries, MakesPass, Over, PollsStreams}
 use Rattle.rtc_sctp.proofs.PassLemmas.{passes_gain}
 use Rattle.rtc_sctp_laws.specs.StreamMessages.{packets_met}
 use Rattle.rtc_sctp_laws.proofs.PollActs.{tour_did}

@@ -1,43 +1,30 @@
 -- A walk that starts over has drained the input of DTLS, and from then on each visit that starts over leaves less to do: a packet of the
 -- association was sent, or a moment of DTLS has come that is handed over next.
-use Rattle.std.proofs.Common.{if◌then◌else◌, ◌≡◌, ◌<◌, ◌≤◌, ◌+◌, ◌*◌, ◌-◌, ◌^◌, ◌++◌, ◌⊎◌, inl, inr, ℕ, Bool, true, false, List, []}
-use Rattle.std.proofs.Common.{◌∷◌, Option, Some, None, Result, Ok, Err, refl, sym, ap, subst, ◌∙◌, arith}
-use Rattle.std.specs.declared.alloc.AllocError.{AllocError}
-use Rattle.rtc_dtls.specs.declared.dtls_output.DtlsOutput.{DtlsOutput}
-use Rattle.rtc_dtls.specs.declared.dtls_output.DtlsOutput.TheVariants as outputs
-use Rattle.rtc_dtls.specs.DtlsActs.{DtlsAct, DtlsActed, DtlsMoved, Taken, Got, Stirred, Showed, dtls_moved-append, dtls_moved-one}
-use Rattle.rtc_dtls.specs.DtlsDrawn.{DtlsDrawn, DrewPacket, DrewConnected, DrewKeying, DrewCert, DrewData, DrewTimeout, DrewClose, draws_output}
-use Rattle.rtc_dtls.specs.DtlsLaws.{DtlsLaws, IsLater}
-use Rattle.rtc_dtls.specs.DtlsMeaning.{DtlsMeaning}
+use Rattle.std.proofs.Common.{if◌then◌else◌, ◌≡◌, ◌<◌, ◌≤◌, ◌+◌, ◌*◌, ◌⊎◌, inl, inr, ℕ, Bool, true, false, List, []}
+use Rattle.std.proofs.Common.{◌∷◌, Option, Some, None, Result, refl, sym, ap, subst, ◌∙◌, arith}
+use Rattle.rtc_dtls.specs.DtlsLaws.{DtlsLaws}
 use Rattle.rtc_dtls.specs.DtlsState.{DtlsState, GivesPacket}
 use Rattle.rtc_dtls.specs.declared.dtls_error.DtlsError.{DtlsError}
 use Rattle.rtc_polling.specs.declared.transport.Transport.{Transport}
-use Rattle.rtc_dtls.specs.DtlsWords.{takes}
 use Rattle.rtc_peer_state.specs.Meanings.{Meanings}
-use Rattle.rtc_polling.specs.declared.handshake.Handshake.{Handshake}
-use Rattle.rtc_polling.specs.declared.handshake.Handshake.TheVariants.{Pending, Finished, Told}
 use Rattle.rtc_polling.specs.declared.met.Met.{Met}
 use Rattle.rtc_polling.specs.declared.met.Met.TheVariants.{Nothing, Again}
 use Rattle.rtc_polling.specs.declared.polled_peer.PolledPeer.{PolledPeer}
 use Rattle.rtc_polling.specs.declared.send_addr.SendAddr.{SendAddr}
-use Rattle.rtc_polling.specs.Connection.{with_dtls}
-use Rattle.rtc_polling.specs.DtlsStages.{GivesDtlsTime, TimesDtls, TimesDtlsIf, TakesDtlsOutput, TakesDtlsAnswer, PollsDtlsOutput}
-use Rattle.rtc_polling.specs.DtlsStages.{PollsDtlsOutputs, TakesKeys, TakesCloseNotify, HandsPacket, ChecksCert, TellsConnected, TellsConnectedFrom, has_come, is_dtls_due}
-use Rattle.rtc_polling.specs.IceStages.{PollsIceEvent, PollsIceEvents}
+use Rattle.rtc_polling.specs.DtlsStages.{is_dtls_due}
 use Rattle.rtc_polling.specs.MediaStages.{TellsMedia, TellsFallibleMedia}
 use Rattle.rtc_polling.specs.SendStages.{SendsChecks, SendsDtlsPacket, SendsMediaDatagram, SendsBy, SendsByPair}
 use Rattle.rtc_polling.specs.Stages.{FollowedBy, Stopped, WentOn}
 use Rattle.rtc_polling.specs.Walk.{StartsOverWhenDue, TellsConnection, TellsArrivals, SendsDatagrams, VisitsParts}
-use Rattle.rtc_polling.proofs.DtlsTurns.{taken_output}
 use Rattle.rtc_polling.proofs.StageLemmas.{NeverAgain, repeats_never, went_through, else_again, else_never}
-use Rattle.rtc_polling.proofs.DueMoments.{KeepsMoments, later_is_to_come, due_kept, keeps_as, keeps_join, ice_keeps, connected_keeps, arrivals_keep, datagrams_keep}
+use Rattle.rtc_polling.proofs.DueMoments.{KeepsMoments, due_kept, keeps_as, keeps_join, arrivals_keep, datagrams_keep}
 use Rattle.rtc_association.specs.AssociationLaws.{AssociationLaws}
 use Rattle.rtc_sctp.specs.Streams.{SctpStreams}
 use Rattle.rtc_polling.specs.StreamStages.{PollsStreamEvent, PollsStreamEvents, SendsKeptPackets, TellsStreams}
 use Rattle.rtc_polling.proofs.SettledMoments.{connection_settles, connection_never}
 use Rattle.rtc_polling.proofs.DrainedInput.{input_of, input_left, SameParts, parts_by, parts_on, input_same, connection_drains, connection_quiet}
 use Rattle.rtc_polling.proofs.StreamWork.{sctp_work}
-use Rattle.rtc_polling.proofs.StreamTurns.{SameStreams, peer_work, Polled, SentData, Relayed, streams_polled, kept_stay, kept_relayed}
+use Rattle.rtc_polling.proofs.StreamTurns.{peer_work, SentData, streams_polled, kept_stay, kept_relayed}
 
 abbrev pub left_if : Bool → ℕ
 left_if true = 0

@@ -1,8 +1,7 @@
 -- What callers read of channels, and what they do with one that is open.
-use Rattle.std.specs.Prelude.{ℕ, ◌≡◌, ◌-◌, ◌&&◌, if◌then◌else◌, nat_lt, Bool, true, false, List, length, map}
+use Rattle.std.specs.Prelude.{ℕ, ◌≡◌, ◌-◌, if◌then◌else◌, nat_lt, Bool, true, false, List, length, map}
 use Rattle.std.specs.Prelude.{Option, Some, None, option_and_then, Result, Ok, Err}
 use Rattle.rtc_wire.specs.declared.channel_config.ChannelConfig.{ChannelConfig}
-use Rattle.rtc_association.specs.AssociationMeaning.{AssociationMeaning}
 use Rattle.rtc_sctp_entries.specs.Entries.{entry_place, stream_config}
 use Rattle.rtc_sctp.specs.declared.sctp_error.SctpError.{SctpError}
 use Rattle.rtc_sctp.specs.Streams.{SctpStreams}

@@ -1,15 +1,14 @@
 -- Calls that relay, one after the other.
-use Rattle.std.proofs.Common.{◌≡◌, ◌++◌, ◌∷◌, ◌⊎◌, inl, inr, ℕ, zero, suc, List, [], Option, Some, None, Result, Ok, Err, refl, sym, ap, subst, ◌∙◌}
-use Rattle.std.specs.Prelude.{◌≢◌}
+use Rattle.std.proofs.Common.{◌≡◌, ◌++◌, inl, inr, List, [], Result, Ok, Err, refl, sym, ap, subst, ◌∙◌}
 use Rattle.rtc_parts_values.specs.Among.{Member, Among}
 use Rattle.rtc_association.proofs.AmongLemmas.{member-append, member-left, member-right, among_none, among_self}
-use Rattle.rtc_association.specs.AssociationActs.{AssociationAct, Moved, moved-append}
+use Rattle.rtc_association.specs.AssociationActs.{moved-append}
 use Rattle.rtc_association.specs.AssociationWords.{given, taken}
 use Rattle.rtc_association.proofs.AssociationLemmas.{given-append, taken-append}
-use Rattle.rtc_dtls.specs.DtlsActs.{DtlsAct, DtlsActed, DtlsMoved, Stirred as DtlsStirred, dtls_moved-append, dtls_moved-one}
+use Rattle.rtc_dtls.specs.DtlsActs.{DtlsAct, DtlsMoved, dtls_moved-append}
 use Rattle.rtc_dtls.specs.DtlsWords.{dtls_sent, dtls_got}
 use Rattle.rtc_dtls.proofs.DtlsLemmas.{dtls_sent-append, dtls_got-append}
-use Rattle.rtc_sctp_laws.specs.StreamActs.{AssociationDid, CallDid}
+use Rattle.rtc_sctp_laws.specs.StreamActs.{CallDid}
 use Rattle.rtc_sctp_laws.specs.StreamMessages.{StreamMessage, pushed_packets}
 use Rattle.rtc_peer_state.specs.Meanings.{Meanings}
 use Rattle.rtc_peer_state.specs.declared.rtc_error.RtcError.{RtcError}

@@ -1,5 +1,5 @@
 -- Inputs, and what is done with an open channel, relay.
-use Rattle.std.proofs.Common.{◌≡◌, ◌++◌, ℕ, Bool, true, false, List, [], ◌∷◌, Option, Some, None, Result, Ok, Err, alloc_error, refl, sym, ap, subst, ◌∙◌}
+use Rattle.std.proofs.Common.{◌≡◌, ℕ, Bool, true, false, List, [], ◌∷◌, Option, Some, None, Result, Ok, Err, alloc_error, refl, sym, ap, subst, ◌∙◌}
 use Rattle.std.specs.declared.alloc.AllocError.{AllocError}
 use Rattle.rtc_wire.specs.declared.channel_config.ChannelConfig.{ChannelConfig}
 use Rattle.rtc_wire.specs.declared.datagram_recv.DatagramRecv.{DatagramRecv}
@@ -11,7 +11,6 @@ use Rattle.rtc_dtls.specs.DtlsActs.{Given, dtls_moved-one}
 use Rattle.rtc_dtls.specs.DtlsState.{DtlsState, HandsOn}
 use Rattle.rtc_ready.specs.Signals.{Signals, both}
 use Rattle.rtc_sctp_entries.specs.Entries.{entry_place}
-use Rattle.rtc_sctp.specs.declared.sctp_error.SctpError.{SctpError}
 use Rattle.rtc_sctp.specs.Streams.{SctpStreams}
 use Rattle.rtc_sctp.specs.Calls.{is_open_stream}
 use Rattle.rtc_sctp.specs.StreamCalls.{SetsThreshold}
@@ -29,11 +28,11 @@ use Rattle.rtc_association.specs.AssociationMeaning.{AssociationMeaning}
 use Rattle.rtc_polling.specs.declared.input.Input.{Input}
 use Rattle.rtc_polling.specs.declared.input.Input.TheVariants.{Timeout as TimeCame, Receive as Datagram}
 use Rattle.rtc_polling.specs.declared.polled_peer.PolledPeer.{PolledPeer}
-use Rattle.rtc_polling.specs.ChannelCalls.{SetsThresholdIf, AsksThreshold, WritesIf, WritesChannel, bytes_available}
+use Rattle.rtc_polling.specs.ChannelCalls.{SetsThresholdIf, AsksThreshold, WritesIf, WritesChannel}
 use Rattle.rtc_polling.specs.Inputs.{ChannelsTimed, TimesIce, TimesStreams, TimesChannels, TimesMedia, GivesTime, TakesTimeIf, with_moment}
 use Rattle.rtc_polling.specs.Inputs.{HearsStun, HearsDtls, HearsMedia, HearsKind, Hears, Heard, PartFailed, HandlesInputBy, HandlesInputIn, HandlesInput}
 use Rattle.rtc_polling_laws.specs.Relay.{Relays}
-use Rattle.rtc_polling_laws.proofs.RelayJoins.{relays_quiet, relays_none, relays_by, relays_on, relays_dtls, relays_call, CallRelays, turn_relays}
+use Rattle.rtc_polling_laws.proofs.RelayJoins.{relays_quiet, relays_on, relays_dtls, relays_call, CallRelays, turn_relays}
 use Rattle.rtc_polling_laws.proofs.RelayedStages.{quiet_by}
 
 module _ {S : Type 0} (m : AssociationMeaning S) where

@@ -1,5 +1,5 @@
 -- A poll relays.
-use Rattle.std.proofs.Common.{◌≡◌, ℕ, Bool, true, false, List, [], ◌∷◌, Option, Some, None, Result, Ok, Err, refl, sym, ap, subst}
+use Rattle.std.proofs.Common.{◌≡◌, ℕ, Bool, true, false, List, [], ◌∷◌, Option, Some, None, Result, refl, ap}
 use Rattle.rtc_association.specs.AssociationLaws.{AssociationLaws}
 use Rattle.rtc_dtls.specs.DtlsLaws.{DtlsLaws}
 use Rattle.rtc_dtls.specs.DtlsState.{DtlsState, GivesPacket}
@@ -20,7 +20,7 @@ use Rattle.rtc_polling.specs.SendStages.{SendsChecks, SendsDtlsPacket, SendsMedi
 use Rattle.rtc_polling.specs.StreamStages.{TellsStreams}
 use Rattle.rtc_polling.specs.Walk.{StartsOverWhenDue, TellsConnection, TellsArrivals, SendsDatagrams, VisitsParts, WaitsIf, AnswersMet, Walks, PollsPeerFrom, PollsPeer}
 use Rattle.rtc_polling_laws.specs.Relay.{Relays}
-use Rattle.rtc_polling_laws.proofs.RelayJoins.{relays_quiet, relays_on, StageRelays, else_relays, repeats_relay}
+use Rattle.rtc_polling_laws.proofs.RelayJoins.{relays_on, StageRelays, else_relays, repeats_relay}
 use Rattle.rtc_polling_laws.proofs.RelayedStages.{quiet_by, connection_relays}
 use Rattle.rtc_polling_laws.proofs.RelayedStreams.{streams_relay}
 

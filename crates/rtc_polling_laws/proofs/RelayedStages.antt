@@ -1,6 +1,5 @@
 -- Closing, and what a poll takes from the connection, relay.
 use Rattle.std.proofs.Common.{◌≡◌, ◌++◌, ◌∷◌, ℕ, Bool, true, false, List, [], Option, Some, None, Result, Ok, Err, alloc_error, refl, sym, ap, subst, ◌∙◌}
-use Rattle.std.proofs.Common.{append-nil}
 use Rattle.std.specs.declared.alloc.AllocError.{AllocError}
 use Rattle.rtc_parts_values.specs.Among.{Among}
 use Rattle.rtc_association.proofs.AmongLemmas.{among_none, among_self}
@@ -9,15 +8,14 @@ use Rattle.rtc_dtls.specs.declared.dtls_error.DtlsError.{DtlsError}
 use Rattle.rtc_dtls.specs.declared.dtls_error.DtlsError.TheVariants.{Fault, Alloc as DtlsAlloc}
 use Rattle.rtc_dtls.specs.declared.dtls_output.DtlsOutput.{DtlsOutput}
 use Rattle.rtc_dtls.specs.declared.dtls_output.DtlsOutput.TheVariants as outputs
-use Rattle.rtc_dtls.specs.DtlsActs.{DtlsAct, DtlsMoved, Taken, Got, Stirred, TimedAt, Closed as DtlsClosed, Showed, dtls_moved-append, dtls_moved-one}
+use Rattle.rtc_dtls.specs.DtlsActs.{DtlsAct, DtlsMoved, Got, Stirred, TimedAt, Closed as DtlsClosed, Showed, dtls_moved-append, dtls_moved-one}
 use Rattle.rtc_dtls.specs.DtlsDrawn.{DrewConnected, DrewKeying, DrewCert, DrewClose}
 use Rattle.rtc_dtls.specs.DtlsLaws.{DtlsLaws}
-use Rattle.rtc_dtls.specs.DtlsState.{DtlsState, HandsOn, PollsOutput, drawn_by}
+use Rattle.rtc_dtls.specs.DtlsState.{DtlsState, HandsOn, PollsOutput}
 use Rattle.rtc_dtls.specs.DtlsWords.{dtls_sent, dtls_got, takes}
 use Rattle.rtc_dtls.proofs.DtlsLemmas.{dtls_sent-append, dtls_got-append}
 use Rattle.rtc_ice.specs.declared.ice_event.IceEvent.{IceEvent}
-use Rattle.rtc_sctp.specs.Streams.{SctpStreams}
-use Rattle.rtc_sctp_laws.specs.StreamActs.{AssociationDid, CallDid, given_packet}
+use Rattle.rtc_sctp_laws.specs.StreamActs.{CallDid, given_packet}
 use Rattle.rtc_sctp_laws.specs.StreamMessages.{pushed_packets}
 use Rattle.rtc_sctp_laws.proofs.CallActs.{shuts_did, input_did}
 use Rattle.rtc_peer_state.specs.declared.phase.Phase.{Phase}
@@ -29,16 +27,16 @@ use Rattle.rtc_polling.specs.declared.event.Event.TheVariants as told
 use Rattle.rtc_polling.specs.declared.handshake.Handshake.{Handshake}
 use Rattle.rtc_polling.specs.declared.handshake.Handshake.TheVariants.{Pending, Finished, Told}
 use Rattle.rtc_polling.specs.declared.met.Met.{Met}
-use Rattle.rtc_polling.specs.declared.met.Met.TheVariants.{Nothing, Again, Transmit, Event as MetEvent, Error}
+use Rattle.rtc_polling.specs.declared.met.Met.TheVariants.{Nothing, Again, Event as MetEvent, Error}
 use Rattle.rtc_polling.specs.declared.polled_peer.PolledPeer.{PolledPeer}
 use Rattle.rtc_polling.specs.Closing.{ShutsMedia, ShutsStreams, ShutsDtls, BecomesClosing, BeginsClosing, ClosesPeer, ClosesPeerFrom}
-use Rattle.rtc_polling.specs.Connection.{with_dtls, with_ice, with_sctp}
+use Rattle.rtc_polling.specs.Connection.{with_dtls, with_ice}
 use Rattle.rtc_polling.specs.DtlsStages.{GivesDtlsTime, TimesDtls, TimesDtlsIf, TakesDtlsOutput, TakesDtlsAnswer, PollsDtlsOutput}
 use Rattle.rtc_polling.specs.DtlsStages.{PollsDtlsOutputs, TakesKeys, TakesCloseNotify, HandsPacket, ChecksCert, TellsConnectedFrom, is_dtls_due}
 use Rattle.rtc_polling.specs.IceStages.{PollsIceEvent, PollsIceEvents, TakesIceEvent}
 use Rattle.rtc_polling.specs.Walk.{TellsConnection}
 use Rattle.rtc_polling_laws.specs.Relay.{Relays}
-use Rattle.rtc_polling_laws.proofs.RelayJoins.{among_same, relays_quiet, relays_none, relays_by, relays_on, relays_dtls, relays_call, CallRelays, turn_relays, StageRelays, else_relays, repeats_relay}
+use Rattle.rtc_polling_laws.proofs.RelayJoins.{among_same, relays_quiet, relays_by, relays_on, relays_dtls, relays_call, CallRelays, turn_relays, StageRelays, else_relays, repeats_relay}
 
 sent_of_takes : (packets : List (List ℕ)) → dtls_sent (takes packets) ≡ []
 sent_of_takes [] = refl

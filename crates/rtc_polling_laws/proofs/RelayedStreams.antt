@@ -25,7 +25,7 @@ use Rattle.rtc_polling.specs.declared.met.Met.{Met}
 use Rattle.rtc_polling.specs.declared.met.Met.TheVariants.{Nothing, Again, Transmit, Event as MetEvent, Error}
 use Rattle.rtc_polling.specs.declared.polled_peer.PolledPeer.{PolledPeer}
 use Rattle.rtc_polling.specs.Closing.{is_phase_closing}
-use Rattle.rtc_polling.specs.Connection.{with_dtls, with_sctp, with_channels, with_pushed}
+use Rattle.rtc_polling.specs.Connection.{with_sctp, with_channels, with_pushed}
 use Rattle.rtc_polling.specs.StreamStages.{OpensChannelOver, ClosesChannelOver, HearsChannelOver, FallsChannelOver, LosesAssociation, TakesStreamEvent, TakesStreamAnswer}
 use Rattle.rtc_polling.specs.StreamStages.{PollsStreamEvent, PollsStreamEvents, SendsPacket, SendsFirst, SendsKeptPackets, TellsStreams, channel_over, left_over}
 use Rattle.rtc_channels.specs.Holds.{holds_lost}

@@ -2,16 +2,17 @@
 ghost use Rattle.std.specs.Prelude.{◌≡◌, ◌++◌, OnOk, string_bytes};
 ghost use Rattle.rtc_script.specs.Events.{event_text, line_bytes_text, media_event_text, message_kind_text, raw_packet_text, state_text};
 ghost use Rattle.rtc_script.specs.Words.{hex_word};
-ghost use Rattle.rtc_polling.specs.declared.event.Event.TheVariants.{ChannelData as DataOf};
+ghost use Rattle.rtc_polling.specs.declared.event.Event.TheVariants.{ChannelData as DataOf, ChannelOpen as OpenOf, PeerStats as TotalsOf};
 
 use crate::directions::direction_word;
 use crate::kinds::kind_word;
 use crate::pushing::{push_count, push_long};
 use rtc_ice::IceConnectionState;
-use rtc_media::RawPacket;
+use rtc_media::{PeerStats, RawPacket};
 use rtc_plain_media::PlainMediaEvent;
 use rtc_polling::{ChannelData, Event};
 use rtc_sdp_values::Mid;
+use rtc_wire::{ChannelId, Text};
 use std::alloc::{AllocError, Global};
 
 fn state_word(state: IceConnectionState) -> &'static str
@@ -110,6 +111,30 @@ fn push_message(alloc: Global, out: &mut String, message: &ChannelData) -> Resul
     push_hex(alloc, out, message.bytes.as_slice())
 }
 
+fn push_opening(
+    alloc: Global,
+    out: &mut String,
+    id: ChannelId,
+    label: &Text,
+) -> Result<(), AllocError>
+    ensures { OnOk result (string_bytes out.new ≡ string_bytes out.old ++ event_text (OpenOf id label.now)) }
+{
+    out.push_str("open ")?;
+    push_long(out, id.number())?;
+    out.push_str(" ")?;
+    push_hex(alloc, out, label.as_str().as_bytes())
+}
+
+// Puts how many bytes were counted of a peer.
+fn push_totals(out: &mut String, stats: &PeerStats) -> Result<(), AllocError>
+    ensures { OnOk result (string_bytes out.new ≡ string_bytes out.old ++ event_text (TotalsOf stats.now)) }
+{
+    out.push_str("stats ")?;
+    push_long(out, stats.peer_bytes_rx)?;
+    out.push_str(" ")?;
+    push_long(out, stats.peer_bytes_tx)
+}
+
 // Puts how many bytes were counted of a line.
 fn push_line_bytes(out: &mut String, mid: Mid, bytes: u64) -> Result<(), AllocError>
     ensures { OnOk result (string_bytes out.new ≡ string_bytes out.old ++ line_bytes_text mid bytes) }
@@ -133,12 +158,7 @@ pub fn push_event(
             out.push_str("ice ")?;
             out.push_str(state_word(*state))
         }
-        Event::ChannelOpen(id, label) => {
-            out.push_str("open ")?;
-            push_long(out, id.number())?;
-            out.push_str(" ")?;
-            push_hex(alloc, out, label.as_str().as_bytes())
-        }
+        Event::ChannelOpen(id, label) => push_opening(alloc, out, *id, label),
         Event::ChannelData(message) => push_message(alloc, out, message),
         Event::ChannelClose(id) => {
             out.push_str("close ")?;
@@ -148,12 +168,7 @@ pub fn push_event(
             out.push_str("low ")?;
             push_long(out, id.number())
         }
-        Event::PeerStats(stats) => {
-            out.push_str("stats ")?;
-            push_long(out, stats.peer_bytes_rx)?;
-            out.push_str(" ")?;
-            push_long(out, stats.peer_bytes_tx)
-        }
+        Event::PeerStats(stats) => push_totals(out, stats),
         Event::MediaIngressStats(stats) => {
             out.push_str("ingress ")?;
             push_line_bytes(out, stats.mid, stats.bytes)

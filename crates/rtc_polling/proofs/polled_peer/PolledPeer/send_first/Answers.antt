@@ -1,4 +1,4 @@
-use Rattle.std.proofs.Common.{◌≡◌, ◌∙◌, ℕ, List, Some, Ok, Err, refl, sym, ap, subst, slice_get}
+use Rattle.std.proofs.Common.{◌∙◌, ℕ, List, Some, Ok, Err, sym, ap, subst, slice_get}
 use Rattle.rtc_dtls.specs.declared.dtls_error.DtlsError.{DtlsError}
 use Rattle.rtc_dtls.specs.declared.dtls_error.DtlsError.TheVariants.{WouldBlock, Fault, Alloc as DtlsAlloc}
 use Rattle.rtc_dtls.specs.DtlsState.{DtlsState, SendsData, can_send}
