@@ -1,0 +1,5 @@
+mod DemoFacts
+pub mod RoundForms
+pub mod IdleRounds
+pub mod OrderlyDemos
+pub mod FinishedDemos

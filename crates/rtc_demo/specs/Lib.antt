@@ -1,0 +1,2 @@
+pub mod DemoSteps
+pub mod DemoCounts
