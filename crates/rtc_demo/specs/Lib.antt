@@ -1,2 +1,3 @@
 pub mod DemoSteps
 pub mod DemoCounts
+pub mod DemoWords

@@ -1,5 +1,6 @@
 //! What the last tables of replies show.
 ghost use Rattle.std.specs.Prelude.{◌≡◌, ◌<◌, ◌^◌, count_by};
+ghost use Rattle.rtc_history.specs.Sides.{same_side};
 ghost use Rattle.rtc_demo.specs.DemoCounts as spec;
 
 use crate::TableCounts;
@@ -7,7 +8,7 @@ use rtc_history::{Reply, Side, Step, Table};
 use rtc_sdp_values::LineRow;
 
 fn is_same_side(a: Side, b: Side) -> bool
-    ensures { result ≡ spec.same_side a b }
+    ensures { result ≡ same_side a b }
 {
     a == b
 }

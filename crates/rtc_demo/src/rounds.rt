@@ -1,6 +1,7 @@
 //! The steps of a demo.
 ghost use Rattle.std.specs.Prelude.{◌≡◌, ◌≤◌, ◌<◌, ◌^◌, ◌++◌, true, IfOk, OnOk};
 ghost use Rattle.rtc_history.specs.Orderly.{are_orderly};
+ghost use Rattle.rtc_history.specs.Sides.{other_side};
 ghost use Rattle.rtc_history.specs.Sizes.{steps_size};
 ghost use Rattle.rtc_demo.specs.DemoSteps as spec;
 
@@ -12,7 +13,7 @@ use std::alloc::{AllocError, Global};
 
 // The other side.
 fn other(at: Side) -> Side
-    ensures { result ≡ spec.other_side at }
+    ensures { result ≡ other_side at }
 {
     match at {
         Side::Left => Side::Right,
@@ -27,7 +28,7 @@ fn push_steps(
     ops: Seq<Op>,
     sdps: u32,
 ) -> Result<(), AllocError>
-    requires { sdps.now < 2 ^ 31 }
+    requires { sdps < 2 ^ 31 }
     ensures { OnOk result (steps.new ≡ steps.old ++ spec.steps_between at ops sdps) }
 {
     steps.push(Step::Negotiate {

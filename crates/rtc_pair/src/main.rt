@@ -2,6 +2,8 @@
 #![tactic(auto)]
 
 mod asking;
+mod demo;
+mod program;
 mod top;
 
 pub use rtc_history::{Made, Op, OpAnswer, Outcome, PollEnd, Reply, Shown, Side, Step, Table};
@@ -9,8 +11,9 @@ use rtc_io::{OUT_OF_MEMORY, collect_words};
 pub use rtc_io::{MemSink, MemSource, Sink, Source, StdSink, StdSource};
 pub use rtc_run::{Pair, PlainPair, run_pair};
 pub use rtc_script::{Script, ScriptError, Setting, read_script, write_report};
+pub use program::pair_main;
 use std::process::ExitCode;
-pub use top::pair_main;
+
 
 // Ends with a status, once what was kept is dropped.
 fn end<P: Drop>(status: u8, _kept: Option<P>) -> ExitCode {
