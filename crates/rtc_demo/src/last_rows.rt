@@ -3,7 +3,7 @@ ghost use Rattle.std.specs.Prelude.{◌≡◌, ◌<◌, ◌^◌, count_by};
 ghost use Rattle.rtc_history.specs.Sides.{same_side};
 ghost use Rattle.rtc_demo.specs.DemoCounts as spec;
 
-use crate::TableCounts;
+use crate::table_counts::TableCounts;
 use rtc_history::{Reply, Side, Step, Table};
 use rtc_sdp_values::LineRow;
 

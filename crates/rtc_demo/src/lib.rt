@@ -15,5 +15,4 @@ pub use asked::read_demo;
 pub use counting::count_demo;
 pub use demo_counts::DemoCounts;
 pub use rounds::demo_steps;
-pub use table_counts::TableCounts;
 pub use telling::write_counts;
