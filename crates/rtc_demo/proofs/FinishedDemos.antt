@@ -30,13 +30,13 @@ use Rattle.rtc_history.specs.declared.table.Table.{Table}
 use Rattle.rtc_history_laws.proofs.ChannelCounts.{steps_size-append, told_within}
 use Rattle.rtc_history_laws.proofs.OrderlyPasts.{next_of, follow_last}
 use Rattle.rtc_history_laws.proofs.Takings.{offer_taking, answer_taking}
-use Rattle.rtc_demo.specs.DemoCounts.{is_finished, count_finished}
+use Rattle.rtc_demo.specs.DemoCounts.{tells_finished, count_finished}
 use Rattle.rtc_demo.specs.DemoSteps.{steps_between, round_steps, demo_steps}
 use Rattle.rtc_demo.proofs.OrderlyDemos.{demo_orderly, demo_size}
 use Rattle.rtc_demo.proofs.RoundForms.{RoundForm, round_form}
 
 -- whether a step accepts an answer
-accepts_answer : Step → Bool
+abbrev accepts_answer : Step → Bool
 accepts_answer (Negotiate at ops apply) = false
 accepts_answer (AcceptOffer at offer) = false
 accepts_answer (AcceptAnswer at token answer) = true
@@ -47,7 +47,7 @@ accepts_answer (Drain at) = false
 accepts_answer (Close at) = false
 
 -- how many steps do
-answers_in : List Step → ℕ
+abbrev answers_in : List Step → ℕ
 answers_in [] = 0
 answers_in (step ∷ steps) = cond (accepts_answer step) 1 0 + answers_in steps
 
@@ -57,7 +57,7 @@ answers_in_both (step ∷ steps) more = omega (arith, answers_in_both steps more
 
 -- ---- a step that negotiates, and succeeded
 
-offer_unfinished : {E : Type 0} → (sdp : Option Sdp) (view : Held) (next : ℕ) (outcome : Outcome E) (after : List LineRow) → RepliesToOffer sdp view next outcome after → is_finished outcome ≡ false
+offer_unfinished : {E : Type 0} → (sdp : Option Sdp) (view : Held) (next : ℕ) (outcome : Outcome E) (after : List LineRow) → RepliesToOffer sdp view next outcome after → tells_finished outcome ≡ false
 offer_unfinished None view next Finished after takes = absurd takes
 offer_unfinished (Some sdp) view next Finished after takes = absurd takes
 offer_unfinished sdp view next (Negotiated answers made) after takes = refl
@@ -69,7 +69,7 @@ offer_unfinished sdp view next NoSuch after takes = refl
 offer_unfinished sdp view next Alloc after takes = refl
 
 -- an acceptance of an answer is answered by no other Ok
-answer_finished : {E : Type 0} → (held right : Bool) (asked : Asked) (sdp : Option Sdp) (view : Held) (outcome : Outcome E) (after : List LineRow) → RepliesToAnswer held right asked sdp view outcome after → is_ok outcome ≡ true → is_finished outcome ≡ true
+answer_finished : {E : Type 0} → (held right : Bool) (asked : Asked) (sdp : Option Sdp) (view : Held) (outcome : Outcome E) (after : List LineRow) → RepliesToAnswer held right asked sdp view outcome after → is_ok outcome ≡ true → tells_finished outcome ≡ true
 answer_finished held right asked sdp view Finished after takes fine = refl
 answer_finished held right asked sdp view (Refused error) after takes fine = absurd (cc)
 answer_finished held right asked sdp view NoSuch after takes fine = absurd (cc)
@@ -93,7 +93,7 @@ answer_finished true true asked (Some sdp) view (Polled outputs end) after takes
 
 -- it tells Finished exactly where it accepts an answer
 ok_finished : {E : Type 0} → (fresh between : Stances) (past : List (Entry E)) (step : Step) (outcome : Outcome E) (table : Option Table) (made : List MadeSdp) → negotiates step ≡ true
-    → IsSound fresh past between step outcome table made → is_ok outcome ≡ true → is_finished outcome ≡ accepts_answer step
+    → IsSound fresh past between step outcome table made → is_ok outcome ≡ true → tells_finished outcome ≡ accepts_answer step
 ok_finished fresh between past (Negotiate at ops apply) Alloc None made negotiating sound fine = absurd (cc)
 ok_finished fresh between past (Negotiate at ops apply) (Negotiated answers what) (Some table) made negotiating sound fine = refl
 ok_finished fresh between past (AcceptOffer at k) Alloc None made negotiating sound fine = absurd (cc)
@@ -152,7 +152,7 @@ module _ {I D S M E X T W N : Type 0} (m : Meanings I D S M E X T W N) (stun : L
   numbers_within start (last ∷ past) pair went all at =
       let parts = and_parts (list_all negotiates (steps_of past)) (negotiates last.step && true) (sym (list_all-append negotiates (steps_of past) (last.step ∷ [])) ∙ all) in
       let here = and_parts (negotiates last.step) true parts.1 in
-      let sound : IsSoundEntry (stances_of m start) past (stances_of m went.0) last (stances_of m pair) = went.2.2.0 in
+      let sound : IsSoundEntry (stances_of m start) past (stances_of m went.0) last (stances_of m pair) = went.2.1 in
       let some = told_within (stances_of m start) (stances_of m went.0) past last.step last.outcome last.table last.made here.0 sound.replied in
       let earlier = numbers_within start past went.0 went.1 parts.0 at in
       omega (arith, some, earlier, numbers_grow (same_side (side_of last.step) at) last.outcome (numbers_told at past), steps_size-append (steps_of past) last.step)
@@ -166,13 +166,13 @@ module _ {I D S M E X T W N : Type 0} (m : Meanings I D S M E X T W N) (stun : L
       let here = and_parts (negotiates last.step) true parts.1 in
       let failing = or_parts (fails last.outcome) (has_failed past) whole in
       let size = steps_size-append (steps_of past) last.step in
-      let sound : IsSoundEntry (stances_of m start) past (stances_of m went.0) last (stances_of m pair) = went.2.2.0 in
+      let sound : IsSoundEntry (stances_of m start) past (stances_of m went.0) last (stances_of m pair) = went.2.1 in
       let left : AreNumbersLeft (step_size last.step) past = λ at. omega (arith, size, small, numbers_within start past went.0 went.1 parts.0 at) in
       let fine : is_ok last.outcome ≡ true = ok_unfailed (is_ok last.outcome) (fails last.outcome) (sound.orderly here.0 connect orderly failing.1 left) failing.0 in
-      let finished : is_finished last.outcome ≡ accepts_answer last.step = ok_finished (stances_of m start) (stances_of m went.0) past last.step last.outcome last.table last.made here.0 sound.replied fine in
+      let finished : tells_finished last.outcome ≡ accepts_answer last.step = ok_finished (stances_of m start) (stances_of m went.0) past last.step last.outcome last.table last.made here.0 sound.replied fine in
       let earlier = run_finishes start past went.0 connect went.1 parts.0 (orderly_before (steps_of past) last.step orderly) failing.1 (omega (arith, size, small)) in
-      let both = sum_by-append (λ reply. cond (is_finished reply.outcome) 1 0) (replies_of past) (reply_of last ∷ []) in
-      let one : cond (is_finished last.outcome) 1 0 ≡ cond (accepts_answer last.step) 1 0 = ap (λ b. cond b 1 0) finished in
+      let both = sum_by-append (λ reply. cond (tells_finished reply.outcome) 1 0) (replies_of past) (reply_of last ∷ []) in
+      let one : cond (tells_finished last.outcome) 1 0 ≡ cond (accepts_answer last.step) 1 0 = ap (λ b. cond b 1 0) finished in
       omega (arith, both, one, earlier, answers_in_both (steps_of past) (last.step ∷ []))
 
 -- ---- demos

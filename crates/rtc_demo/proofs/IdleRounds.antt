@@ -33,7 +33,7 @@ offered at course rows [] line lines = refl
 offered at course rows (first ∷ front) line lines = refl
 
 -- the rows that an op for a line adds, with those of the other ops
-more_added : List LineRow → List Op → List LineRow
+abbrev more_added : List LineRow → List Op → List LineRow
 more_added rows more = added (cond (has_app_row rows) None (Some [])) (length rows + 1) more (map adding_answer more)
 
 abbrev said_by : List LineRow → MediaKind → Direction → List Op → List LineRow
@@ -89,4 +89,4 @@ round_idle at kind dir more left right n fine =
     let third : Course = awaiting_end at second n answered in
     let last : List LineRow = course_rows_after false 0 (course_rows at third) answered in
     idle_again at third last (n + 1 + 1) _
-    (three_steps start second third (moved_on at third last (n + 1 + 1) Idle) _ _ _ (step_offers at kind dir more left right n fine rows refl) (offer_accepted at start rows n said) (answer_accepted at second n answered))
+    (three_steps start second third (moved_on at third last (n + 1 + 1) Idle) (Negotiate at (AddMedia kind dir ∷ more) true) (AcceptOffer (other_side at) n) (AcceptAnswer at n (n + 1)) (step_offers at kind dir more left right n fine rows refl) (offer_accepted at start rows n said) (answer_accepted at second n answered))

@@ -12,7 +12,7 @@ use Rattle.rtc_history.specs.declared.op.Op.{Op}
 use Rattle.rtc_history.specs.declared.op.Op.TheVariants.{AddMedia, SetDirection, StopMedia, AddChannel, IceRestart}
 use Rattle.rtc_history.specs.declared.side.Side.{Side}
 use Rattle.rtc_history.specs.declared.step.Step.{Step}
-use Rattle.rtc_demo.specs.DemoSteps.{scrambled, offerer, direction_numbered, line_added, place_of, round_channel, besides, round_ops, steps_between, round_steps}
+use Rattle.rtc_demo.specs.DemoSteps.{scrambled, offerer, direction_numbered, line_added, round_place, round_channel, besides, round_ops, steps_between, round_steps}
 
 -- ops besides an added line, at most one, that are in order in every round
 pub record AreFew (ops : List Op) : Type 0 where
@@ -39,8 +39,8 @@ no_first : (place : ℕ) → 0 < place → do_stop_first (StopMedia place ∷ []
 no_first zero some = absurd (omega arith)
 no_first (suc place) some = refl
 
-past_first : (z : ℕ) → 0 < place_of z
-unfolding place_of
+past_first : (z : ℕ) → 0 < round_place z
+unfolding round_place
 past_first z = omega arith
 
 besides_few : (n round z : ℕ) → round < 100 → AreFew (besides n round z)
@@ -48,10 +48,10 @@ unfolding besides
 besides_few n round z small = by (n == 0) (n == 1) (n == 2) (n == 3)
   where
     by : (a b c d : Bool)
-        → AreFew (cond a [] (cond b (SetDirection (place_of z) (direction_numbered (z / 16384 % 4)) ∷ []) (cond c (StopMedia (place_of z) ∷ []) (cond d (AddChannel (round_channel round) ∷ []) (IceRestart true ∷ [])))))
+        → AreFew (cond a [] (cond b (SetDirection (round_place z) (direction_numbered ((z / 16384) % 4)) ∷ []) (cond c (StopMedia (round_place z) ∷ []) (cond d (AddChannel (round_channel round) ∷ []) (IceRestart true ∷ [])))))
     by true b c d = record { first = refl; odd = refl; few = omega arith }
     by false true c d = record { first = refl; odd = refl; few = omega arith }
-    by false false true d = record { first = no_first (place_of z) (past_first z); odd = refl; few = omega arith }
+    by false false true d = record { first = no_first (round_place z) (past_first z); odd = refl; few = omega arith }
     by false false false true = record { first = refl; odd = rw (in_band round small) refl; few = omega arith }
     by false false false false = record { first = refl; odd = refl; few = omega arith }
 
@@ -66,10 +66,10 @@ unfolding line_added
 line_adds round z = by (round == 0)
   where
     more : Op
-    more = AddMedia (cond (z / 2 % 2 == 0) Audio Video) (direction_numbered (z / 4 % 4))
+    more = AddMedia (cond ((z / 2) % 2 == 0) Audio Video) (direction_numbered ((z / 4) % 4))
     by : (b : Bool) → AddsLine (cond b (AddMedia Audio SendRecv) more)
     by true = record { kind = Audio; dir = SendRecv; is = refl }
-    by false = record { kind = cond (z / 2 % 2 == 0) Audio Video; dir = direction_numbered (z / 4 % 4); is = refl }
+    by false = record { kind = cond ((z / 2) % 2 == 0) Audio Video; dir = direction_numbered ((z / 4) % 4); is = refl }
 
 pub round_form : (seed round : ℕ) → round < 100 → RoundForm (round_steps seed round) round
 unfolding round_steps round_ops
@@ -80,7 +80,7 @@ round_form seed round small =
       at = offerer z;
       kind = line.kind;
       dir = line.dir;
-      more = besides (z / 16 % 5) round z;
-      are = ap (λ op. steps_between (offerer z) (op ∷ besides (z / 16 % 5) round z) (2 * round)) line.is;
-      fine = besides_few (z / 16 % 5) round z small;
+      more = besides ((z / 16) % 5) round z;
+      are = ap (λ op. steps_between (offerer z) (op ∷ besides ((z / 16) % 5) round z) (2 * round)) line.is;
+      fine = besides_few ((z / 16) % 5) round z small;
     }

@@ -15,19 +15,19 @@ use Rattle.rtc_demo.specs.declared.demo_counts.DemoCounts.{DemoCounts}
 use Rattle.rtc_demo.specs.declared.table_counts.TableCounts.{TableCounts}
 
 -- an answer was accepted
-abbrev pub is_finished : {E : Type 0} → Outcome E → Bool
-is_finished (Negotiated answers made) = false
-is_finished (Answered k) = false
-is_finished Finished = true
-is_finished Done = false
-is_finished (Polled outputs end) = false
-is_finished (Refused error) = false
-is_finished NoSuch = false
-is_finished Alloc = false
+abbrev pub tells_finished : {E : Type 0} → Outcome E → Bool
+tells_finished (Negotiated answers made) = false
+tells_finished (Answered k) = false
+tells_finished Finished = true
+tells_finished Done = false
+tells_finished (Polled outputs end) = false
+tells_finished (Refused error) = false
+tells_finished NoSuch = false
+tells_finished Alloc = false
 
 -- how many replies tell that
 abbrev pub count_finished : {E : Type 0} → List (Reply E) → ℕ
-count_finished replies = count_by (λ reply. is_finished reply.outcome) replies
+count_finished replies = count_by (λ reply. tells_finished reply.outcome) replies
 
 -- a media row that was stopped
 abbrev pub is_stopped_row : LineRow → Bool

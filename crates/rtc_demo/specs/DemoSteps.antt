@@ -17,7 +17,7 @@ use Rattle.rtc_history.specs.declared.step.Step.TheVariants.{Negotiate, AcceptOf
 
 -- the number z that settles a round, from the seed and the number of the round
 unfoldable pub scrambled : ℕ → ℕ → ℕ
-scrambled seed round = (seed + round) % 2 ^ 32 * 2654435761 % 2 ^ 32
+scrambled seed round = (((seed + round) % 2 ^ 32) * 2654435761) % 2 ^ 32
 
 -- which side offers in a round
 unfoldable pub offerer : ℕ → Side
@@ -31,11 +31,11 @@ direction_numbered n = if n == 0 then SendRecv else if n == 1 then SendOnly else
 unfoldable pub line_added : ℕ → ℕ → Op
 line_added round z =
     if round == 0 then AddMedia Audio SendRecv
-    else AddMedia (if z / 2 % 2 == 0 then Audio else Video) (direction_numbered (z / 4 % 4))
+    else AddMedia (if (z / 2) % 2 == 0 then Audio else Video) (direction_numbered ((z / 4) % 4))
 
 -- the place at which a round may change a line, from 1 to 100; where no media line stands there, the change does nothing
-unfoldable pub place_of : ℕ → ℕ
-place_of z = 1 + z / 128 % 100
+unfoldable pub round_place : ℕ → ℕ
+round_place z = 1 + (z / 128) % 100
 
 -- a channel labelled with c and the number of the round
 abbrev pub round_channel : ℕ → ChannelConfig
@@ -46,14 +46,14 @@ round_channel round = record fresh { label = codes "c" ++ decimal round }
 unfoldable pub besides : ℕ → ℕ → ℕ → List Op
 besides n round z =
     if n == 0 then []
-    else if n == 1 then SetDirection (place_of z) (direction_numbered (z / 16384 % 4)) ∷ []
-    else if n == 2 then StopMedia (place_of z) ∷ []
+    else if n == 1 then SetDirection (round_place z) (direction_numbered ((z / 16384) % 4)) ∷ []
+    else if n == 2 then StopMedia (round_place z) ∷ []
     else if n == 3 then AddChannel (round_channel round) ∷ []
     else IceRestart true ∷ []
 
 -- what the offerer asks for in a round
 unfoldable pub round_ops : ℕ → ℕ → List Op
-round_ops round z = line_added round z ∷ besides (z / 16 % 5) round z
+round_ops round z = line_added round z ∷ besides ((z / 16) % 5) round z
 
 -- a round: an offer, its acceptance by the other side, and the acceptance of that answer; each round before it made two descriptions
 abbrev pub steps_between : Side → List Op → ℕ → List Step

@@ -6,8 +6,8 @@ use crate::DemoCounts;
 use crate::last_rows::last_counts;
 use rtc_history::{Outcome, Reply, Side, Step};
 
-fn is_finished<E>(outcome: &Outcome<E>) -> bool
-    ensures { result ≡ spec.is_finished outcome.now }
+fn tells_finished<E>(outcome: &Outcome<E>) -> bool
+    ensures { result ≡ spec.tells_finished outcome.now }
 {
     match outcome {
         Outcome::Negotiated { .. } => false,
@@ -26,7 +26,7 @@ fn count_finished<E>(replies: &[Reply<E>]) -> usize
 {
     replies
         .iter()
-        .filter(|reply| is_finished(&reply.outcome))
+        .filter(|reply| tells_finished(&reply.outcome))
         .count()
 }
 

@@ -62,9 +62,9 @@ pub fn line_added(round: u32, z: u32) -> Op
 }
 
 /// The place at which a round may change a line.
-#[tactic(auto, unfolding(crate::specs::DemoSteps::place_of))]
-pub fn place_of(z: u32) -> u32
-    ensures { result ≡ spec.place_of z }
+#[tactic(auto, unfolding(crate::specs::DemoSteps::round_place))]
+pub fn round_place(z: u32) -> u32
+    ensures { result ≡ spec.round_place z }
 {
     1 + z / 128 % 100
 }

@@ -2,7 +2,7 @@
 ghost use Rattle.std.specs.Prelude.{◌≡◌, ◌++◌, IfOk, OnOk};
 ghost use Rattle.rtc_demo.specs.DemoSteps as spec;
 
-use crate::drawn::{direction_numbered, line_added, place_of};
+use crate::drawn::{direction_numbered, line_added, round_place};
 use rtc_history::Op;
 use rtc_wire::{ChannelConfig, Seq, Text};
 use std::alloc::{AllocError, Global};
@@ -32,12 +32,12 @@ fn push_besides(
         return Ok(());
     }
     if number == 1 {
-        let place = place_of(z);
+        let place = round_place(z);
         let dir = direction_numbered(z / 16384 % 4);
         return ops.push(Op::SetDirection { place, dir });
     }
     if number == 2 {
-        let place = place_of(z);
+        let place = round_place(z);
         return ops.push(Op::StopMedia { place });
     }
     if number == 3 {
