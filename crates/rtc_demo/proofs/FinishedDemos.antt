@@ -172,7 +172,7 @@ module _ {I D S M E X T W N : Type 0} (m : Meanings I D S M E X T W N) (stun : L
       let finished : tells_finished last.outcome ≡ accepts_answer last.step = ok_finished (stances_of m start) (stances_of m went.0) past last.step last.outcome last.table last.made here.0 sound.replied fine in
       let earlier = run_finishes start past went.0 connect went.1 parts.0 (orderly_before (steps_of past) last.step orderly) failing.1 (omega (arith, size, small)) in
       let both = sum_by-append (λ reply. cond (tells_finished reply.outcome) 1 0) (replies_of past) (reply_of last ∷ []) in
-      let one : cond (tells_finished last.outcome) 1 0 ≡ cond (accepts_answer last.step) 1 0 = ap (λ b. cond b 1 0) finished in
+      let one : ◌≡◌ {A = ℕ} (cond (tells_finished last.outcome) 1 0) (cond (accepts_answer last.step) 1 0) = ap (λ (b : Bool). cond {A = ℕ} b 1 0) finished in
       omega (arith, both, one, earlier, answers_in_both (steps_of past) (last.step ∷ []))
 
 -- ---- demos

@@ -3,3 +3,4 @@ pub mod RoundForms
 pub mod IdleRounds
 pub mod OrderlyDemos
 pub mod FinishedDemos
+pub mod AskedWords

@@ -1,5 +1,5 @@
 //! The words of a demo.
-ghost use Rattle.std.specs.Prelude.{◌≡◌, ◌≢◌, ◌≤◌, ◌<◌, ◌^◌, ℕ, IfSome, IfNone, map, string_bytes};
+ghost use Rattle.std.specs.Prelude.{◌≡◌, ◌≢◌, ◌≤◌, ◌<◌, ◌^◌, ◌↔◌, ℕ, IsTrue, IfSome, IfNone, map, codes, string_bytes};
 ghost use Rattle.std.specs.Fmt.{decimal};
 ghost use Rattle.rtc_demo.specs.DemoWords.{AreDemoWords, AskForDemo};
 
@@ -22,7 +22,7 @@ fn read_rounds(word: &str) -> Option<u32>
 
 // The seed that a word is.
 fn read_seed(word: &str) -> Option<u32>
-    ensures some { IfSome result (λ n. word.now ≡ decimal n) }
+    ensures some { IfSome result (λ n. (word.now ≡ decimal n) × (n < 2 ^ 32)) }
     ensures none { IfNone result ((n : ℕ) → n < 2 ^ 32 → word.now ≢ decimal n) }
 {
     let n = read_decimal(word)?;
@@ -32,9 +32,16 @@ fn read_seed(word: &str) -> Option<u32>
     Some(n as u32)
 }
 
+fn is_demo(word: &str) -> bool
+    ensures { IsTrue result ↔ (word.now ≡ codes "demo") }
+{
+    word == "demo"
+}
+
 // The rounds and the seed of the words behind the first.
 fn read_numbers(rounds: &str, seed: &str) -> Option<(u32, u32)>
-    ensures some { IfSome result (λ asked. (rounds.now ≡ decimal asked.0) × (1 ≤ asked.0) × (asked.0 ≤ 100) × (seed.now ≡ decimal asked.1)) }
+    ensures some { IfSome result (λ asked. (rounds.now ≡ decimal asked.0) × (1 ≤ asked.0) × (asked.0 ≤ 100)
+        × (seed.now ≡ decimal asked.1) × (asked.1 < 2 ^ 32)) }
     ensures none { IfNone result ((n s : ℕ) → n ≤ 100 → 1 ≤ n → s < 2 ^ 32 → rounds.now ≡ decimal n → seed.now ≢ decimal s) }
 {
     let rounds = read_rounds(rounds)?;
@@ -49,10 +56,11 @@ pub fn read_demo(words: &[String]) -> Option<(u32, u32)>
 {
     match words {
         [word, rounds, seed] => {
-            if word.as_str() != "demo" {
-                return None;
+            if is_demo(word.as_str()) {
+                read_numbers(rounds.as_str(), seed.as_str())
+            } else {
+                None
             }
-            read_numbers(rounds.as_str(), seed.as_str())
         }
         _ => None,
     }
