@@ -1,6 +1,6 @@
 -- A demo finishes each of its rounds, where no reply tells that memory ran out or that a part failed.
-use Rattle.std.proofs.Common.{◌≡◌, ◌+◌, ◌*◌, ◌<◌, ◌≤◌, ◌^◌, ℕ, zero, suc, Bool, true, false, not, ◌&&◌, ◌||◌, List, [], ◌∷◌, ◌++◌, length, Option, Some, None, cond, refl, sym, ap, subst, ◌∙◌, arith, length-append}
-use Rattle.std.specs.Prelude.{is_some, count_by}
+use Rattle.std.proofs.Common.{◌≡◌, ◌+◌, ◌*◌, ◌<◌, ◌≤◌, ◌^◌, ℕ, zero, suc, Bool, true, false, ◌&&◌, ◌||◌, List, [], ◌∷◌, ◌++◌, length, Option, Some, None, cond, refl, sym, ap, ◌∙◌, arith, length-append}
+use Rattle.std.specs.Prelude.{is_some}
 use Rattle.std.specs.List.{list_any, list_all}
 use Rattle.std.proofs.lemmas.Bool.{or_parts, and_parts}
 use Rattle.std.proofs.lemmas.List.Folds.{list_any-append, list_all-append}
@@ -10,7 +10,7 @@ use Rattle.rtc_peer_state.specs.Meanings.{Meanings}
 use Rattle.rtc_sdp_values.specs.declared.line_row.LineRow.{LineRow}
 use Rattle.rtc_sdp_values.specs.declared.sdp.Sdp.{Sdp}
 use Rattle.rtc_history.specs.Memory.{lacks_memory, outcome_lacks, tells_fault, tell_fault, fails}
-use Rattle.rtc_history.specs.Orderly.{Course, after_step, follow, course_of, are_orderly, has_failed, can_connect, is_ok, negotiates, AreNumbersLeft}
+use Rattle.rtc_history.specs.Orderly.{Course, course_of, are_orderly, has_failed, can_connect, is_ok, negotiates, AreNumbersLeft}
 use Rattle.rtc_history.specs.PairState.{PairState, stances_of}
 use Rattle.rtc_history.specs.Past.{Entry, MadeSdp, steps_of, replies_of, reply_of, remote_sdp, holds_token, is_right, numbers_in, numbers_told, numbers_or}
 use Rattle.rtc_history.specs.Runs.{Went, EntersSoundly, Runs}
@@ -19,7 +19,6 @@ use Rattle.rtc_history.specs.Sizes.{step_size, steps_size}
 use Rattle.rtc_history.specs.Sound.{IsSound, RepliesToOffer, RepliesToAnswer, asked_in}
 use Rattle.rtc_history.specs.SoundEntry.{IsSoundEntry}
 use Rattle.rtc_history.specs.Views.{Stances}
-use Rattle.rtc_history.specs.declared.op.Op.TheVariants.{AddMedia}
 use Rattle.rtc_history.specs.declared.outcome.Outcome.{Outcome}
 use Rattle.rtc_history.specs.declared.outcome.Outcome.TheVariants.{Negotiated, Answered, Finished, Done, Polled, Refused, NoSuch, Alloc}
 use Rattle.rtc_history.specs.declared.reply.Reply.{Reply}
@@ -31,7 +30,7 @@ use Rattle.rtc_history_laws.proofs.ChannelCounts.{steps_size-append, told_within
 use Rattle.rtc_history_laws.proofs.OrderlyPasts.{next_of, follow_last}
 use Rattle.rtc_history_laws.proofs.Takings.{offer_taking, answer_taking}
 use Rattle.rtc_demo.specs.DemoCounts.{tells_finished, count_finished}
-use Rattle.rtc_demo.specs.DemoSteps.{steps_between, round_steps, demo_steps}
+use Rattle.rtc_demo.specs.DemoSteps.{round_steps, demo_steps}
 use Rattle.rtc_demo.proofs.OrderlyDemos.{demo_orderly, demo_size}
 use Rattle.rtc_demo.proofs.RoundForms.{RoundForm, round_form}
 

@@ -1,13 +1,13 @@
 -- A round of an added line and little else leads from where no round is open to there.
-use Rattle.std.proofs.Common.{◌≡◌, ◌+◌, ◌==◌, ℕ, Bool, true, false, not, ◌&&◌, ◌||◌, List, [], ◌∷◌, ◌++◌, length, map, Option, Some, None, cond, refl, ap, ◌∙◌, arith}
+use Rattle.std.proofs.Common.{◌≡◌, ◌+◌, ◌==◌, ℕ, true, false, List, [], ◌∷◌, ◌++◌, length, map, Option, Some, None, cond, refl, ap, ◌∙◌, arith}
 use Rattle.rtc_sdp_values.specs.declared.direction.Direction.{Direction}
 use Rattle.rtc_sdp_values.specs.declared.line_row.LineRow.{LineRow}
 use Rattle.rtc_sdp_values.specs.declared.line_row.LineRow.TheVariants.{Media}
 use Rattle.rtc_sdp_values.specs.declared.media_kind.MediaKind.{MediaKind}
 use Rattle.rtc_history.specs.Answers.{has_app_row, added}
-use Rattle.rtc_history.specs.CourseRows.{rows_after_ops, rows_added, adding_answer, do_stop_first, do_add_odd_channel, course_rows_after}
-use Rattle.rtc_history.specs.Orderly.{Phase, Idle, AwaitsAnswer, AwaitsEnd, Course, course_rows, moved_on, offering, after_ops, after_offer, after_answer, after_step, follow}
-use Rattle.rtc_history.specs.Sides.{same_side, other_side}
+use Rattle.rtc_history.specs.CourseRows.{rows_after_ops, rows_added, adding_answer, course_rows_after}
+use Rattle.rtc_history.specs.Orderly.{Idle, AwaitsAnswer, AwaitsEnd, Course, course_rows, moved_on, offering, after_step, follow}
+use Rattle.rtc_history.specs.Sides.{other_side}
 use Rattle.rtc_history.specs.declared.op.Op.{Op}
 use Rattle.rtc_history.specs.declared.op.Op.TheVariants.{AddMedia}
 use Rattle.rtc_history.specs.declared.side.Side.{Side}

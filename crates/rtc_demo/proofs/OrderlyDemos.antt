@@ -1,8 +1,8 @@
 -- The steps of a demo are orderly, and few.
-use Rattle.std.proofs.Common.{◌≡◌, ◌+◌, ◌*◌, ◌<◌, ◌≤◌, ◌^◌, ℕ, zero, suc, true, List, [], ◌∷◌, ◌++◌, length, Option, Some, None, refl, sym, ap, subst, ◌∙◌, arith}
+use Rattle.std.proofs.Common.{◌≡◌, ◌+◌, ◌*◌, ◌≤◌, ℕ, zero, suc, true, List, [], ◌∷◌, ◌++◌, length, Option, Some, None, refl, sym, ap, ◌∙◌, arith}
 use Rattle.std.specs.Prelude.{is_some}
 use Rattle.rtc_history.specs.Orderly.{Course, after_step, follow, course_of, are_orderly}
-use Rattle.rtc_history.specs.Sizes.{step_size, steps_size}
+use Rattle.rtc_history.specs.Sizes.{steps_size}
 use Rattle.rtc_history.specs.declared.step.Step.{Step}
 use Rattle.rtc_history.specs.declared.op.Op.TheVariants.{AddMedia}
 use Rattle.rtc_demo.specs.DemoSteps.{steps_between, round_steps, demo_steps}

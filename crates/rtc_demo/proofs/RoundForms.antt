@@ -1,5 +1,5 @@
 -- What each round of a demo asks for.
-use Rattle.std.proofs.Common.{◌≡◌, ◌+◌, ◌*◌, ◌/◌, ◌%◌, ◌<◌, ◌≤◌, ◌^◌, ◌==◌, ℕ, zero, suc, Bool, true, false, List, [], ◌∷◌, ◌++◌, length, codes, cond, refl, ap, ◌∙◌, arith, length-append}
+use Rattle.std.proofs.Common.{◌≡◌, ◌+◌, ◌*◌, ◌/◌, ◌%◌, ◌<◌, ◌≤◌, ◌==◌, ℕ, zero, suc, Bool, true, false, List, [], ◌∷◌, ◌++◌, length, codes, cond, refl, ap, arith, length-append}
 use Rattle.std.specs.Prelude.{nat_lt}
 use Rattle.std.specs.Fmt.{decimal}
 use Rattle.std.proofs.lemmas.Fmt.{length-decimal-le_succ}
@@ -67,6 +67,7 @@ line_adds round z = by (round == 0)
   where
     more : Op
     more = AddMedia (cond ((z / 2) % 2 == 0) Audio Video) (direction_numbered ((z / 4) % 4))
+
     by : (b : Bool) → AddsLine (cond b (AddMedia Audio SendRecv) more)
     by true = record { kind = Audio; dir = SendRecv; is = refl }
     by false = record { kind = cond ((z / 2) % 2 == 0) Audio Video; dir = direction_numbered ((z / 4) % 4); is = refl }

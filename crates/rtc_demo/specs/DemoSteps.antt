@@ -5,7 +5,6 @@ use Rattle.rtc_wire.specs.ChannelConfig.{fresh}
 use Rattle.rtc_wire.specs.declared.channel_config.ChannelConfig.{ChannelConfig}
 use Rattle.rtc_sdp_values.specs.declared.direction.Direction.{Direction}
 use Rattle.rtc_sdp_values.specs.declared.direction.Direction.TheVariants.{SendRecv, SendOnly, RecvOnly, Inactive}
-use Rattle.rtc_sdp_values.specs.declared.media_kind.MediaKind.{MediaKind}
 use Rattle.rtc_sdp_values.specs.declared.media_kind.MediaKind.TheVariants.{Audio, Video}
 use Rattle.rtc_history.specs.Sides.{other_side}
 use Rattle.rtc_history.specs.declared.op.Op.{Op}

@@ -67,7 +67,11 @@ pub fn last_counts<E>(at: Side, steps: &[Step], replies: &[Reply<E>]) -> TableCo
         if number >= replies.len() {
             return counts;
         }
-        counts = counts_or(is_same_side(step.side(), at), &replies[number].table, counts);
+        counts = counts_or(
+            is_same_side(step.side(), at),
+            &replies[number].table,
+            counts,
+        );
     }
     counts
 }

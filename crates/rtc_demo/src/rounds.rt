@@ -22,12 +22,7 @@ fn other(at: Side) -> Side
 }
 
 // Puts a round behind the steps, where so many session descriptions were made before it.
-fn push_steps(
-    steps: &mut Seq<Step>,
-    at: Side,
-    ops: Seq<Op>,
-    sdps: u32,
-) -> Result<(), AllocError>
+fn push_steps(steps: &mut Seq<Step>, at: Side, ops: Seq<Op>, sdps: u32) -> Result<(), AllocError>
     requires { sdps < 2 ^ 31 }
     ensures { OnOk result (steps.new ≡ steps.old ++ spec.steps_between at ops sdps) }
 {
@@ -49,12 +44,7 @@ fn push_steps(
 
 // Puts a round behind the steps of those before it.
 #[tactic(auto, unfolding(crate::specs::DemoSteps::round_steps))]
-fn push_round(
-    alloc: Global,
-    steps: &mut Seq<Step>,
-    seed: u32,
-    round: u32,
-) -> Result<(), AllocError>
+fn push_round(alloc: Global, steps: &mut Seq<Step>, seed: u32, round: u32) -> Result<(), AllocError>
     requires { round < 100 }
     ensures { OnOk result (steps.new ≡ steps.old ++ spec.round_steps seed round) }
 {

@@ -1,5 +1,5 @@
 -- Demos on the pair of the program.
-use Rattle.std.proofs.Common.{◌≡◌, ◌≤◌, ◌⊎◌, inl, inr, ℕ, Bool, true, false, not, ◌&&◌, List, [], Option, refl, ap, subst, ◌∙◌}
+use Rattle.std.proofs.Common.{◌≡◌, ◌≤◌, inl, inr, ℕ, Bool, true, false, not, ◌&&◌, List, Option, refl, ap, subst, ◌∙◌}
 use Rattle.std.specs.declared.alloc.Global.{Global}
 use Rattle.rtc_demo.proofs.FinishedDemos.{demo_finishes}
 use Rattle.rtc_demo.proofs.OrderlyDemos.{demo_orderly}
@@ -21,7 +21,7 @@ use Rattle.rtc_script.specs.declared.script.Script.{Script}
 use Rattle.rtc_sdp_values.specs.declared.candidate.Candidate.{Candidate}
 use Rattle.rtc_sdp_values.specs.declared.ice_creds.IceCreds.{IceCreds}
 use Rattle.rtc_wire.specs.declared.addr.Addr.{Addr}
-use Rattle.rtc_pair.specs.Answers.{RanScript, script_program, run_words, lack_memory, IsDueOfRun}
+use Rattle.rtc_pair.specs.Answers.{RanScript, RunsScript, script_program, run_words, lack_memory, IsDueOfRun}
 use Rattle.rtc_pair.specs.Demo.{demo_script, demo_text, TellsCounts, PerformsDemo, IsDemoText, IsTextDue}
 use Rattle.rtc_pair.specs.Words.{AskForNothing}
 
@@ -90,3 +90,10 @@ pub demo_due : (alloc : Global) (words : List (List ℕ)) (rounds seed : ℕ) (l
     → BreaksOff (IsDemoText alloc rounds seed) written written' taken taken' → BreaksOff (IsTextDue alloc words left left' faults faults') written written' taken taken'
 demo_due alloc words rounds seed left left' written written' faults faults' taken taken' asked off =
     breaks_off_as (IsDemoText alloc rounds seed) (IsTextDue alloc words left left' faults faults') written written' taken taken' (λ text due. inl (rounds, (seed, (asked, due)))) off
+
+-- ---- a run that the words ask for
+
+pub runs_asked : (alloc : Global) (lacking : Bool) (words : List (List ℕ)) (left left' written written' : Option (List ℕ)) (last : Option PlainPairState) (R : Type 0) → words ≡ run_words
+    → RunsScript alloc lacking left left' written written' last ⊎ R → ((words ≡ run_words) × RunsScript alloc lacking left left' written written' last) ⊎ R
+runs_asked alloc lacking words left left' written written' last R asked (inl runs) = inl (asked, runs)
+runs_asked alloc lacking words left left' written written' last R asked (inr rest) = inr rest

@@ -1,6 +1,5 @@
-use Rattle.std.proofs.Common.{refl, ◌≡◌, ◌≢◌, ◌<◌, ◌≤◌, ◌^◌, length, List, map, sym, subst, rules}
-use Rattle.std.specs.String.{string_bytes}
-use Rattle.rtc_io.proofs.Told.{answer_due, refusal_due, unread_due}
+use Rattle.std.proofs.Common.{refl, ◌≤◌, ◌^◌, length, rules}
+use Rattle.rtc_io.proofs.Told.{answer_due, refusal_due}
 use Rattle.rtc_pair.specs.Answers.{script_program}
 use Rattle.rtc_pair.proofs.Completes.{completes_unread, completes_read, completes_refused}
 use Rattle.rtc_pair.proofs.Scripts.{reads_script, reads_no_script, runs_or}
