@@ -1,15 +1,13 @@
 -- Demos on the pair of the program.
-use Rattle.std.proofs.Common.{◌≡◌, ◌≤◌, inl, inr, ℕ, Bool, true, false, not, ◌&&◌, List, Option, refl, ap, subst, ◌∙◌}
+use Rattle.std.proofs.Common.{◌≡◌, ◌≤◌, ℕ, Bool, true, false, not, ◌&&◌, List, Option, refl, ap, subst, ◌∙◌}
 use Rattle.std.specs.declared.alloc.Global.{Global}
 use Rattle.rtc_demo.proofs.FinishedDemos.{demo_finishes}
 use Rattle.rtc_demo.proofs.OrderlyDemos.{demo_orderly}
 use Rattle.rtc_demo.specs.DemoCounts.{count_finished}
-use Rattle.rtc_demo.specs.DemoWords.{AreDemoWords}
 use Rattle.rtc_history.specs.Orderly.{can_connect}
 use Rattle.rtc_history.specs.PairState.{stances_of}
 use Rattle.rtc_history.specs.declared.reply.Reply.{Reply}
 use Rattle.rtc_io.proofs.Told.{breaks_off_as}
-use Rattle.rtc_io.specs.Programs.{IsDue}
 use Rattle.rtc_io.specs.Saying.{BreaksOff}
 use Rattle.rtc_peer_state.specs.Stance.{stance_of}
 use Rattle.rtc_plain_ice.specs.Calls.{lite_set, local_set, local_added}
@@ -21,9 +19,8 @@ use Rattle.rtc_script.specs.declared.script.Script.{Script}
 use Rattle.rtc_sdp_values.specs.declared.candidate.Candidate.{Candidate}
 use Rattle.rtc_sdp_values.specs.declared.ice_creds.IceCreds.{IceCreds}
 use Rattle.rtc_wire.specs.declared.addr.Addr.{Addr}
-use Rattle.rtc_pair.specs.Answers.{RanScript, RunsScript, script_program, run_words, lack_memory, IsDueOfRun}
-use Rattle.rtc_pair.specs.Demo.{demo_script, demo_text, TellsCounts, PerformsDemo, IsDemoText, IsTextDue}
-use Rattle.rtc_pair.specs.Words.{AskForNothing}
+use Rattle.rtc_pair.specs.Answers.{RanScript, lack_memory}
+use Rattle.rtc_pair.specs.Demo.{demo_script, demo_text, TellsCounts, PerformsDemo, IsDemoText}
 
 -- ---- agents of the program that are not lite
 
@@ -74,26 +71,3 @@ demo_off alloc rounds seed script replies pair written written' faults faults' i
     let demo : RanScript alloc (demo_script rounds seed) replies pair = subst (λ (s : Script). RanScript alloc s replies pair) is ran in
     breaks_off_as P (IsDemoText alloc rounds seed) written written' faults faults'
     (λ text told. record { replies = replies; pair = pair; ran = demo; is = subst (λ (s : Script). text ≡ demo_text rounds s.steps replies) is told }) off
-
--- ---- texts that are due
-
-pub run_due : (alloc : Global) (words : List (List ℕ)) (left left' written written' : Option (List ℕ)) (faults faults' taken taken' : ℕ) → words ≡ run_words
-    → BreaksOff (IsDueOfRun alloc left left' faults faults') written written' taken taken' → BreaksOff (IsTextDue alloc words left left' faults faults') written written' taken taken'
-run_due alloc words left left' written written' faults faults' taken taken' asked off =
-    breaks_off_as (IsDueOfRun alloc left left' faults faults') (IsTextDue alloc words left left' faults faults') written written' taken taken' (λ text due. inr (by text due)) off
-  where
-    by : (text : List ℕ) → IsDueOfRun alloc left left' faults faults' text → IsDue (script_program alloc) (AskForNothing words) (words ≡ run_words) left left' faults faults' text
-    by text (inl none) = absurd none.0
-    by text (inr due) = inr (asked, due.1)
-
-pub demo_due : (alloc : Global) (words : List (List ℕ)) (rounds seed : ℕ) (left left' written written' : Option (List ℕ)) (faults faults' taken taken' : ℕ) → AreDemoWords words rounds seed
-    → BreaksOff (IsDemoText alloc rounds seed) written written' taken taken' → BreaksOff (IsTextDue alloc words left left' faults faults') written written' taken taken'
-demo_due alloc words rounds seed left left' written written' faults faults' taken taken' asked off =
-    breaks_off_as (IsDemoText alloc rounds seed) (IsTextDue alloc words left left' faults faults') written written' taken taken' (λ text due. inl (rounds, (seed, (asked, due)))) off
-
--- ---- a run that the words ask for
-
-pub runs_asked : (alloc : Global) (lacking : Bool) (words : List (List ℕ)) (left left' written written' : Option (List ℕ)) (last : Option PlainPairState) (R : Type 0) → words ≡ run_words
-    → RunsScript alloc lacking left left' written written' last ⊎ R → ((words ≡ run_words) × RunsScript alloc lacking left left' written written' last) ⊎ R
-runs_asked alloc lacking words left left' written written' last R asked (inl runs) = inl (asked, runs)
-runs_asked alloc lacking words left left' written written' last R asked (inr rest) = inr rest

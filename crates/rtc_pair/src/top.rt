@@ -23,9 +23,7 @@ ghost use Rattle.rtc_pair.specs.Answers.{
 };
 
 use rtc_history::{Reply, Side, Step};
-use rtc_io::{
-    OUT_OF_MEMORY, SINK_FAILED, Sink, Source, read_input, refuse_input, write_all,
-};
+use rtc_io::{OUT_OF_MEMORY, SINK_FAILED, Sink, Source, read_input, refuse_input, write_all};
 use rtc_plain::PlainMediaEvent;
 use rtc_run::{PlainPair, make_pair, run_pair};
 use rtc_script::{Script, ScriptError, read_script, write_report};
