@@ -2,7 +2,7 @@
 """Counts instructions of the proved programs by valgrind --tool=callgrind, so that growth is seen. It is no part of the gate.
 
 usage: tests/measure.py [PART..]     PART is descriptions, rounds, orderly, messages, associations, streams, forged, lookups,
-frames, polls or connecting; without one all are counted
+frames, polls, connecting or demos; without one all are counted
 
 The programs are those that the gate left in crates/*/out/. Each figure is a difference of two runs, so that the start of the
 program is not in it. docs/PERFORMANCE.md has the tables.
@@ -12,6 +12,7 @@ import re
 import subprocess
 import sys
 import tempfile
+import time
 
 TOP = os.path.dirname(os.path.dirname(os.path.abspath(__file__)))
 OFFER_HEAD = b"v=0\r\no=- 4611731400430051336 2 IN IP4 127.0.0.1\r\ns=-\r\nt=0 0\r\na=extmap-allow-mixed\r\na=msid-semantic: WMS\r\n"
@@ -249,11 +250,29 @@ def connecting():
         print(f"| {lines:,} | {cost - still:,} | {still - start:,} |")
 
 
+# A demo adds a line in each round, so that a round costs more as they grow.
+def demos():
+    print("| Rounds | Instructions | A line of its rounds | Wall time | Greatest memory |\n|---|---|---|---|---|")
+    start, _ = count([program("rtc_pair"), "run"], b"str0m-pair 1\n")
+    for rounds in (1, 10, 30, 100):
+        words = [program("rtc_pair"), "demo", str(rounds), "7"]
+        cost, told = count(words, b"")
+        if f"finished {rounds}\n".encode() not in told:
+            sys.exit(f"measure: a round of a demo of {rounds} did not finish")
+        times = []
+        for _ in range(5):
+            begin = time.perf_counter()
+            subprocess.run(words, stdin=subprocess.DEVNULL, capture_output=True, check=True)
+            times.append(time.perf_counter() - begin)
+        lines = rounds * (rounds + 1) // 2
+        print(f"| {rounds} | {cost - start:,} | {(cost - start) // lines:,} | {min(times):.3f} s | {memory(words):,} KiB |")
+
+
 def main():
     parts = {
         "descriptions": descriptions, "rounds": rounds, "orderly": orderly, "messages": messages, "associations": associations,
         "streams": streams, "forged": forged, "lookups": lookups, "frames": frames, "polls": polls,
-        "connecting": connecting,
+        "connecting": connecting, "demos": demos,
     }
     wanted = sys.argv[1:] or list(parts)
     if any(name not in parts for name in wanted):

@@ -1,3 +1,4 @@
 pub mod Scripts
 pub mod Words
 pub mod Completes
+pub mod Demos

@@ -4,7 +4,7 @@ use Rattle.std.specs.List.{list_any}
 use Rattle.std.specs.declared.alloc.Global.{Global}
 use Rattle.std.specs.Io.KnownBytes.{Appends}
 use Rattle.rtc_io.specs.Faults.{Rose}
-use Rattle.rtc_io.specs.Programs.{Program, ReadsInput, IsTooLong, fault_line, long_line}
+use Rattle.rtc_io.specs.Programs.{Program, ReadsInput, IsTooLong, IsDue, fault_line, long_line}
 use Rattle.rtc_history.specs.declared.side.Side.TheVariants.{Left, Right}
 use Rattle.rtc_history.specs.declared.reply.Reply.{Reply}
 use Rattle.rtc_history.specs.declared.step.Step.{Step}
@@ -93,7 +93,11 @@ abbrev pub TellsScript : Option (List ℕ) → Type 0
 TellsScript None = ⊥
 TellsScript (Some bytes) = (length bytes ≤ 2 ^ 20) × ((script : Script) × IsScript bytes script)
 
--- A script is performed, unless memory runs out, where a run is asked for and neither the source nor the sink fails.
-abbrev pub CompletesScript : List (List ℕ) → Option (List ℕ) → (faults faults' taken taken' status : ℕ) → Type 0
-CompletesScript words left faults faults' taken taken' status =
-    words ≡ run_words → TellsScript left → (Rose faults faults' → ⊥) → (Rose taken taken' → ⊥) → (status ≡ 0) ⊎ (status ≡ 6)
+-- A script is performed, unless memory runs out, where neither the source nor the sink fails.
+abbrev pub CompletesRun : Option (List ℕ) → (faults faults' taken taken' status : ℕ) → Type 0
+CompletesRun left faults faults' taken taken' status =
+    TellsScript left → (Rose faults faults' → ⊥) → (Rose taken taken' → ⊥) → (status ≡ 0) ⊎ (status ≡ 6)
+
+-- the text that is due of a run
+abbrev pub IsDueOfRun : Global → Option (List ℕ) → Option (List ℕ) → ℕ → ℕ → List ℕ → Type 0
+IsDueOfRun alloc left left' faults faults' text = IsDue (script_program alloc) ⊥ (Unit {0}) left left' faults faults' text

@@ -1,15 +1,13 @@
-//! The top call.
-ghost use Rattle.std.specs.Prelude.{◌≡◌, ◌≢◌, ◌<◌, ◌≤◌, ◌^◌, ◌⊎◌, true, false, Some, None, map, string_bytes, IfOk, length};
-ghost use Rattle.std.specs.Io.KnownBytes.{Appends};
+//! Scripts that are read and performed.
+ghost use Rattle.std.specs.Prelude.{◌≡◌, ◌≢◌, ◌<◌, ◌≤◌, ◌^◌, ◌⊎◌, true, false, Some, None, IfOk, length};
 ghost use Rattle.rtc_io.specs.Saying.{BreaksOff};
-ghost use Rattle.rtc_io.specs.Programs.{IsDue, RefusesInput};
+ghost use Rattle.rtc_io.specs.Programs.{RefusesInput};
 ghost use Rattle.rtc_history.specs.Fresh.{IsFresh};
 ghost use Rattle.rtc_history.specs.Sizes.{steps_size};
 ghost use Rattle.rtc_delivery.specs.Delivered.{ArePeersFormed};
 ghost use Rattle.rtc_run.specs.ProgramPair.{plain_parts};
 ghost use Rattle.rtc_script.specs.Report.{report};
 ghost use Rattle.rtc_pair.specs.Answers.{
-  run_words,
   script_program,
   IsPairOf,
   IsReport,
@@ -17,24 +15,23 @@ ghost use Rattle.rtc_pair.specs.Answers.{
   KeepsReport,
   PerformsScript,
   RunsScript,
-  CompletesScript,
+  CompletesRun,
+  IsDueOfRun,
   TellsFault,
   TellsLength,
   lack_memory,
 };
 
-use crate::asking::ask_for_run;
 use rtc_history::{Reply, Side, Step};
-use rtc_io::{
-    OUT_OF_MEMORY, SINK_FAILED, Sink, Source, USAGE, read_input, refuse_input, say, write_all,
-};
+use rtc_io::{OUT_OF_MEMORY, SINK_FAILED, Sink, Source, read_input, refuse_input, write_all};
 use rtc_plain::PlainMediaEvent;
 use rtc_run::{PlainPair, make_pair, run_pair};
 use rtc_script::{Script, ScriptError, read_script, write_report};
 use rtc_wire::Seq;
 use std::alloc::{AllocError, Global};
 
-fn lack_memory(replies: &[Reply<PlainMediaEvent>]) -> bool
+/// Whether a reply tells that memory ran out.
+pub fn lack_memory(replies: &[Reply<PlainMediaEvent>]) -> bool
     ensures { result ≡ lack_memory replies.now }
 {
     for reply in replies {
@@ -71,8 +68,8 @@ fn join_replies<P: Drop>(
     }
 }
 
-// The pair of the program after the steps of a script, and their replies.
-fn run_script(
+/// The pair of the program after the steps of a script, and their replies.
+pub fn run_script(
     alloc: Global,
     script: &Script,
 ) -> Result<(PlainPair, Seq<Reply<PlainMediaEvent>>), AllocError>
@@ -143,39 +140,27 @@ fn perform_script<W: Sink>(
 }
 
 /// Reads a script from `input`, performs it, and writes its report to `output`; answers the status to end with.
-///
-/// With status 0, and with 6 where a report was written, `last` has the pair on which the steps were performed; else it stays as it
-/// was. A fault of the sink (5) may come in place of any other status, and `OUT_OF_MEMORY` (6) in place of any but 2.
-pub fn pair_main<R: Source, W: Sink>(
+pub fn run_main<R: Source, W: Sink>(
     alloc: Global,
-    words: &[String],
     input: &mut R,
     output: &mut W,
     last: &mut Option<PlainPair>,
 ) -> u8
     ensures done { result ≡ 0
         → RunsScript alloc false (R.left input.old) (R.left input.new) (W.written output.old) (W.written output.new) last.new }
-    ensures usage { result ≡ 2 → (map (λ word. string_bytes word) words.now ≢ run_words)
-        × Appends (W.written output.old) (W.written output.new) (script_program alloc).usage }
     ensures refused { result ≡ 3
         → RefusesInput (script_program alloc) (R.left input.old) (R.left input.new) (W.written output.old) (W.written output.new) }
     ensures read { result ≡ 4 → TellsFault (R.faults input.old) (R.faults input.new) (W.written output.old) (W.written output.new) }
-    ensures write { let words = map (λ word. string_bytes word) words.now in result ≡ 5 → BreaksOff (IsDue (script_program alloc)
-        (words ≢ run_words) (words ≡ run_words) (R.left input.old) (R.left input.new) (R.faults input.old) (R.faults input.new))
+    ensures write { result ≡ 5 → BreaksOff (IsDueOfRun alloc (R.left input.old) (R.left input.new) (R.faults input.old) (R.faults input.new))
         (W.written output.old) (W.written output.new) (W.faults output.old) (W.faults output.new) }
     ensures memory { result ≡ 6 → RunsScript alloc true (R.left input.old) (R.left input.new) (W.written output.old)
         (W.written output.new) last.new ⊎ ((output.new ≡ output.old) × (last.new ≡ last.old)) }
     ensures long { result ≡ 7 → TellsLength alloc (R.left input.old) (W.written output.old) (W.written output.new) }
-    ensures unread { (map (λ word. string_bytes word) words.now ≢ run_words) → input.new ≡ input.old }
-    ensures asked { (map (λ word. string_bytes word) words.now ≢ run_words) → (result ≡ 2) ⊎ (result ≡ 5) }
     ensures kept { result ≢ 0 → result ≢ 6 → last.new ≡ last.old }
-    ensures statuses { (result ≢ 1) × (result < 8) }
-    ensures complete { CompletesScript (map (λ word. string_bytes word) words.now) (R.left input.old)
+    ensures statuses { (result ≢ 1) × (result ≢ 2) × (result < 8) }
+    ensures complete { CompletesRun (R.left input.old)
         (R.faults input.old) (R.faults input.new) (W.faults output.old) (W.faults output.new) result }
 {
-    if !ask_for_run(words) {
-        return say(output, b"usage: rtc_pair run | rtc_pair demo N S\n", USAGE);
-    }
     let bytes = match read_input(alloc, b"script too long\n", input, output) {
         Ok(bytes) => bytes,
         Err(status) => return status,

@@ -1,0 +1,6 @@
+mod DemoFacts
+pub mod RoundForms
+pub mod IdleRounds
+pub mod OrderlyDemos
+pub mod FinishedDemos
+pub mod AskedWords

@@ -1,0 +1,3 @@
+pub mod DemoSteps
+pub mod DemoCounts
+pub mod DemoWords

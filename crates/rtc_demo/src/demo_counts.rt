@@ -1,0 +1,16 @@
+//! What a demo tells.
+
+/// The numbers that a demo tells.
+#[derive(Clone, Copy, Debug, PartialEq, Eq)]
+pub struct DemoCounts {
+    /// Rounds that were asked for.
+    pub rounds: u32,
+    /// Answers that were accepted.
+    pub finished: usize,
+    /// Rows of the left side.
+    pub lines: usize,
+    /// Rows of the left side that were stopped.
+    pub stopped: usize,
+    /// Channels of both sides.
+    pub channels: usize,
+}
