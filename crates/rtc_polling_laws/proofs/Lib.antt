@@ -3,3 +3,10 @@ pub mod RelayedStages
 pub mod RelayedStreams
 pub mod RelayedPolls
 pub mod RelayedInputs
+pub mod RestingEntries
+pub mod RestingStreams
+pub mod PushedAgain
+pub mod RestingStages
+pub mod KeptTurns
+pub mod Draining
+pub mod DrainedPolls

@@ -1,6 +1,8 @@
-//! How a peer relays packets between its association and its DTLS connection.
+//! Laws of polled peers: how they relay packets between association and DTLS connection, and what they answer once drained.
 #![tactic(auto)]
 
+mod drained;
 mod laws;
 
+pub use drained::{drained_peers_rest, wakes_are_not_past};
 pub use laws::calls_relay;
