@@ -96,18 +96,18 @@ module _ {I D S M E X T W N : Type 0} (m : Meanings I D S M E X T W N) where
     met_again : (met : Met E) (n visited : PolledPeer I D S M N) (answer : Result (Output E) RtcError) (s : PolledPeer I D S M N) (moment : ℕ)
         → is_closing_complete m n ≡ false → wake_moment m n ≡ moment → with_reason (least_deadline m n).1 n ≡ n → Rests n met visited
         → AnswersMet m met visited answer s → AnswersAgain moment n answer s
-    met_again Nothing n visited answer s moment open wake reason (inl rests) h =
+    met_again Nothing n visited answer s moment unclosed wake reason (inl rests) h =
         let waits = subst (λ (x : PolledPeer I D S M N). Waits m x answer s) rests.1 h in
-        let own = subst (λ (b : Bool). WaitsIf m b n answer s) open waits in
+        let own = subst (λ (b : Bool). WaitsIf m b n answer s) unclosed waits in
         inl (own.0 ∙ ap (λ (k : ℕ). Ok (Timeout k)) wake, own.1 ∙ reason)
-    met_again Nothing n visited answer s moment open wake reason (inr lacks) h = cc (lacks)
-    met_again Again n visited answer s moment open wake reason rests h = absurd h
-    met_again (Transmit transmit) n visited answer s moment open wake reason (inl rests) h = cc (rests.0)
-    met_again (Transmit transmit) n visited answer s moment open wake reason (inr lacks) h = cc (lacks)
-    met_again (MetEvent event) n visited answer s moment open wake reason (inl rests) h = cc (rests.0)
-    met_again (MetEvent event) n visited answer s moment open wake reason (inr lacks) h = cc (lacks)
-    met_again (Error error) n visited answer s moment open wake reason (inl rests) h = cc (rests.0)
-    met_again (Error error) n visited answer s moment open wake reason (inr lacks) h =
+    met_again Nothing n visited answer s moment unclosed wake reason (inr lacks) h = cc (lacks)
+    met_again Again n visited answer s moment unclosed wake reason rests h = absurd h
+    met_again (Transmit transmit) n visited answer s moment unclosed wake reason (inl rests) h = cc (rests.0)
+    met_again (Transmit transmit) n visited answer s moment unclosed wake reason (inr lacks) h = cc (lacks)
+    met_again (MetEvent event) n visited answer s moment unclosed wake reason (inl rests) h = cc (rests.0)
+    met_again (MetEvent event) n visited answer s moment unclosed wake reason (inr lacks) h = cc (lacks)
+    met_again (Error error) n visited answer s moment unclosed wake reason (inl rests) h = cc (rests.0)
+    met_again (Error error) n visited answer s moment unclosed wake reason (inr lacks) h =
         let is : error ≡ Alloc = cc (lacks) in
         inr (h.0 ∙ ap (λ (e : RtcError). Err e) is)
 
@@ -120,20 +120,20 @@ module _ {I D S M E X T W N : Type 0} (m : Meanings I D S M E X T W N) where
         → VisitsParts m last Nothing v → v.core.phase ≢ Closed → is_closing_complete m v ≡ false → moment ≡ wake_moment m v
         → reason ≡ (least_deadline m v).1 → CanRest m (with_reason reason v) → PollsPeer m (with_reason reason v) answer s
         → AnswersAgain moment (with_reason reason v) answer s
-    waiting_again last v reason moment answer s visit live open is by can h =
+    waiting_again last v reason moment answer s visit live unclosed is by can h =
         let n : PolledPeer I D S M N = with_reason reason v in
         let drained = drained_with reason v (visit_drains m laws last v can.early can.waits visit) in
         let walk = walks_by v.core.phase n answer s live h in
         let rests = repeats_rest (VisitsParts m) n (drained_rests m laws n drained) walk.met walk.visited walk.by_visits in
-        met_again walk.met n walk.visited answer s moment open (sym is)
+        met_again walk.met n walk.visited answer s moment unclosed (sym is)
         (ap (λ (r : Reason). with_reason r v) (sym by)) rests walk.by_answer
 
     again_by : (moment : ℕ) (q : PolledPeer I D S M N) (answer : Result (Output E) RtcError) (s : PolledPeer I D S M N) → Ends moment q → CanRest m q
         → PollsPeer m q answer s → AnswersAgain moment q answer s
     again_by moment q answer s (AtRest closed is reason) can h = inl (rest_again moment q answer s closed is reason h)
-    again_by moment q answer s (Waiting last v visit live open is at) can h =
+    again_by moment q answer s (Waiting last v visit live unclosed is at) can h =
         subst (λ (x : PolledPeer I D S M N). AnswersAgain moment x answer s) (sym at)
-        (waiting_again last v (least_deadline m v).1 moment answer s visit live open is refl
+        (waiting_again last v (least_deadline m v).1 moment answer s visit live unclosed is refl
         (subst (λ (x : PolledPeer I D S M N). CanRest m x) at can) (subst (λ (x : PolledPeer I D S M N). PollsPeer m x answer s) at h))
 
     -- a peer that answered a timeout, polled again
@@ -144,7 +144,7 @@ module _ {I D S M E X T W N : Type 0} (m : Meanings I D S M E X T W N) where
   closed_by : (moment : ℕ) (q : PolledPeer I D S M N) → Ends moment q → q.core.phase ≡ Closed
       → (moment ≡ 2 ^ 64 - 1) × (q.transport.last_reason ≡ NotHappening)
   closed_by moment q (AtRest closed is reason) at = (is, reason)
-  closed_by moment q (Waiting last v visit live open is as) at = absurd (live (sym (ap (λ (x : PolledPeer I D S M N). x.core.phase) as) ∙ at))
+  closed_by moment q (Waiting last v visit live unclosed is as) at = absurd (live (sym (ap (λ (x : PolledPeer I D S M N). x.core.phase) as) ∙ at))
 
   pub closed_again : (p q s : PolledPeer I D S M N) (moment : ℕ) (answer : Result (Output E) RtcError) → PollsPeer m p (Ok (Timeout moment)) q
       → q.core.phase ≡ Closed → PollsPeer m q answer s → (answer ≡ Ok (Timeout moment)) × (s ≡ q)
@@ -157,7 +157,7 @@ module _ {I D S M E X T W N : Type 0} (m : Meanings I D S M E X T W N) where
 
   wake_by : (moment : ℕ) (q : PolledPeer I D S M N) → Ends moment q → q.core.phase ≢ Closed → q.core.greatest ≤ moment
   wake_by moment q (AtRest closed is reason) live = absurd (live closed)
-  wake_by moment q (Waiting last v visit alive open is as) live =
+  wake_by moment q (Waiting last v visit alive unclosed is as) live =
       let greatest : q.core.greatest ≡ v.core.greatest = ap (λ (x : PolledPeer I D S M N). x.core.greatest) as in
       subst (λ (n : ℕ). q.core.greatest ≤ n) (sym is) (subst (λ (n : ℕ). n ≤ wake_moment m v) (sym greatest) (max_left v.core.greatest (least_deadline m v).0))
     where

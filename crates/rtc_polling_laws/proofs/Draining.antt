@@ -61,7 +61,7 @@ module _ {I D S M E X T W N : Type 0} (m : Meanings I D S M E X T W N) (laws : P
       let same = laws.ice.event_none p.core.ice ice polled in
       let is : q.core.ice ≡ ice = ap (λ (x : PolledPeer I D S M N). x.core.ice) taken.1 in
       subst (λ (i : I). m.ice.polled i None i) (sym is) (subst (λ (i : I). m.ice.polled i None ice) (sym same) polled)
-  ice_none (Some event) ice p q polled taken = absurd (event_meets {E} event taken.0)
+  ice_none (Some event) ice p q polled taken = absurd (event_meets {E = E} event taken.0)
 
   ice_drains : (p q : PolledPeer I D S M N) → PollsIceEvents m p Nothing q → m.ice.polled q.core.ice None q.core.ice
   ice_drains p q h = ice_none h.ends.event h.ends.ice h.last q h.ends.by_poll h.ends.by_event
@@ -340,7 +340,7 @@ module _ {I D S M E X T W N : Type 0} (m : Meanings I D S M E X T W N) (laws : P
       let two = went_through (TellsStreams m) (FollowedBy (TellsArrivals m) (FollowedBy (SendsDatagrams m) StartsOverWhenDue)) one.0 q one.1.1 in
       let three = went_through (TellsArrivals m) (FollowedBy (SendsDatagrams m) StartsOverWhenDue) two.0 q two.1.1 in
       let four = went_through (SendsDatagrams m) StartsOverWhenDue three.0 q three.1.1 in
-      let due = not_due {E} (is_dtls_due four.0) four.1.1.0 in
+      let due = not_due {E = E} (is_dtls_due four.0) four.1.1.0 in
       let connects = connection_drains p one.0 one.1.0 in
       let arrived = arrivals_drain two.0 three.0 three.1.0 in
       let sent = datagrams_drain three.0 four.0 arrived.events four.1.0 in

@@ -80,7 +80,7 @@ kept_by f p = f p.core.phase p.core.ice
 module _ {I D S M E N K : Type 0} (f : Phase → I → K) where
   cert_kept : (cert : List ℕ) → StageKeeps (kept_by f) (ChecksCert {I = I} {D = D} {S = S} {M = M} {E = E} {N = N} cert)
   unfolding ChecksCert
-  cert_kept cert p Again q h = same_of (kept_by f) Again p _ q h.3 refl
+  cert_kept cert p Again q h = same_of {E = E} (kept_by f) Again p _ q h.3 refl
   cert_kept cert p (Error error) q h = tt
   cert_kept cert p _ q h = absurd h
 
@@ -93,7 +93,7 @@ module _ {I D S M E N K : Type 0} (f : Phase → I → K) where
   opens_kept : (stream : ℕ) (label : List ℕ) → StageKeeps (kept_by f) (OpensChannelOver {I = I} {D = D} {S = S} {M = M} {E = E} {N = N} stream label)
   unfolding OpensChannelOver
   opens_kept stream label p (MetEvent event) q h = tt
-  opens_kept stream label p Again q h = same_of (kept_by f) Again p _ q h.1 refl
+  opens_kept stream label p Again q h = same_of {E = E} (kept_by f) Again p _ q h.1 refl
   opens_kept stream label p (Error error) q h = tt
   opens_kept stream label p _ q h = absurd h
 
@@ -112,7 +112,7 @@ module _ {I D S M E N K : Type 0} (f : Phase → I → K) where
 module _ {I D S M E X T W N K : Type 0} (m : Meanings I D S M E X T W N) (f : Phase → I → K) where
   times_kept : (due : Bool) (p : PolledPeer I D S M N) (r : Met E) (q : PolledPeer I D S M N) → TimesDtlsIf m due p r q → Same (kept_by f) p r q
   unfolding GivesDtlsTime
-  times_kept true p Nothing q h = same_of (kept_by f) Nothing p _ q h.1 refl
+  times_kept true p Nothing q h = same_of {E = E} (kept_by f) Nothing p _ q h.1 refl
   times_kept true p (Error error) q h = tt
   times_kept true p _ q h = absurd h
   times_kept false p r q h = same_of (kept_by f) r p p q h.1 refl
@@ -120,11 +120,11 @@ module _ {I D S M E X T W N K : Type 0} (m : Meanings I D S M E X T W N) (f : Ph
   output_kept : (output : DtlsOutput) → StageKeeps (kept_by f) (TakesDtlsOutput m output)
   unfolding TakesKeys TakesCloseNotify HandsPacket
   output_kept outputs.Connected p r q h = same_of (kept_by f) r p _ q h.1 refl
-  output_kept (outputs.KeyingMaterial key profile) p Again q h = same_of (kept_by f) Again p _ q h.1 refl
+  output_kept (outputs.KeyingMaterial key profile) p Again q h = same_of {E = E} (kept_by f) Again p _ q h.1 refl
   output_kept (outputs.KeyingMaterial key profile) p (Error error) q h = tt
   output_kept (outputs.KeyingMaterial key profile) p _ q h = absurd h
   output_kept (outputs.PeerCert cert) p r q h = cert_kept f cert.now p r q h
-  output_kept (outputs.ApplicationData bytes) p Again q h = same_of (kept_by f) Again p _ q h.1 refl
+  output_kept (outputs.ApplicationData bytes) p Again q h = same_of {E = E} (kept_by f) Again p _ q h.1 refl
   output_kept (outputs.ApplicationData bytes) p (Error error) q h = tt
   output_kept (outputs.ApplicationData bytes) p _ q h = absurd h
   output_kept (outputs.Timeout moment) p r q h = same_of (kept_by f) r p _ q h.1 refl
@@ -138,7 +138,7 @@ module _ {I D S M E X T W N K : Type 0} (m : Meanings I D S M E X T W N) (f : Ph
   dtls_answer_kept (Err error) dtls p r q h = same_failed (kept_by f) r Alloc p q h.0
 
   -- what a poll takes from the DTLS connection
-  outputs_kept : StageKeeps (kept_by f) (FollowedBy (TimesDtls m) (FollowedBy (PollsDtlsOutputs m) TellsConnected))
+  pub outputs_kept : StageKeeps (kept_by f) (FollowedBy (TimesDtls m) (FollowedBy (PollsDtlsOutputs m) TellsConnected))
   outputs_kept =
       else_keeps (kept_by f) (TimesDtls m) _ (λ p r q h. times_kept (is_dtls_due p) p r q h)
       (else_keeps (kept_by f) (PollsDtlsOutputs m) TellsConnected
@@ -167,12 +167,12 @@ module _ {I D S M E X T W N K : Type 0} (m : Meanings I D S M E X T W N) (f : Ph
   unfolding SendsPacket
   sends_kept None p r q h = same_of (kept_by f) r p p q h.1 refl
   sends_kept (Some []) p r q h = same_of (kept_by f) r p p q h.1 refl
-  sends_kept (Some (packet ∷ rest)) p Nothing q h = same_of (kept_by f) Nothing p _ q h.1 refl
-  sends_kept (Some (packet ∷ rest)) p Again q h = same_of (kept_by f) Again p _ q h.0 refl
+  sends_kept (Some (packet ∷ rest)) p Nothing q h = same_of {E = E} (kept_by f) Nothing p _ q h.1 refl
+  sends_kept (Some (packet ∷ rest)) p Again q h = same_of {E = E} (kept_by f) Again p _ q h.0 refl
   sends_kept (Some (packet ∷ rest)) p (Error error) q h = tt
   sends_kept (Some (packet ∷ rest)) p _ q h = absurd h
 
-  streams_kept : StageKeeps (kept_by f) (TellsStreams m)
+  pub streams_kept : StageKeeps (kept_by f) (TellsStreams m)
   unfolding TellsStreams
   streams_kept =
       else_keeps (kept_by f) (PollsStreamEvents m) (SendsKeptPackets m)
@@ -181,18 +181,18 @@ module _ {I D S M E X T W N K : Type 0} (m : Meanings I D S M E X T W N) (f : Ph
 
   told_kept : StageKeeps (kept_by f) (TellsMedia m)
   unfolding TellsMedia
-  told_kept p Nothing q h = same_of (kept_by f) Nothing p _ q h.1 refl
+  told_kept p Nothing q h = same_of {E = E} (kept_by f) Nothing p _ q h.1 refl
   told_kept p (MetEvent event) q h = tt
   told_kept p _ q h = absurd h
 
   fallible_kept : StageKeeps (kept_by f) (TellsFallibleMedia m)
   unfolding TellsFallibleMedia
-  fallible_kept p Nothing q h = same_of (kept_by f) Nothing p _ q h.1 refl
+  fallible_kept p Nothing q h = same_of {E = E} (kept_by f) Nothing p _ q h.1 refl
   fallible_kept p (MetEvent event) q h = tt
   fallible_kept p (Error error) q h = tt
   fallible_kept p _ q h = absurd h
 
-  arrivals_kept : StageKeeps (kept_by f) (TellsArrivals m)
+  pub arrivals_kept : StageKeeps (kept_by f) (TellsArrivals m)
   unfolding TellsArrivals
   arrivals_kept = else_keeps (kept_by f) (TellsMedia m) (TellsFallibleMedia m) told_kept fallible_kept
 
@@ -211,19 +211,19 @@ module _ {I D S M E X T W N : Type 0} (m : Meanings I D S M E X T W N) where
 
   checks_kept : StageKeeps phase_of_peer (SendsChecks m)
   unfolding SendsChecks
-  checks_kept p Nothing q h = same_of phase_of_peer Nothing p _ q h.1 refl
+  checks_kept p Nothing q h = same_of {E = E} phase_of_peer Nothing p _ q h.1 refl
   checks_kept p (Transmit transmit) q h = tt
   checks_kept p _ q h = absurd h
 
   packets_kept : (addr : SendAddr) → StageKeeps phase_of_peer (SendsDtlsPacket m addr)
   unfolding SendsDtlsPacket
-  packets_kept addr p Nothing q h = same_of phase_of_peer Nothing p _ q h.1 refl
+  packets_kept addr p Nothing q h = same_of {E = E} phase_of_peer Nothing p _ q h.1 refl
   packets_kept addr p (Transmit transmit) q h = tt
   packets_kept addr p _ q h = absurd h
 
   datagrams_kept : (addr : SendAddr) → StageKeeps phase_of_peer (SendsMediaDatagram m addr)
   unfolding SendsMediaDatagram
-  datagrams_kept addr p Nothing q h = same_of phase_of_peer Nothing p _ q h.1 refl
+  datagrams_kept addr p Nothing q h = same_of {E = E} phase_of_peer Nothing p _ q h.1 refl
   datagrams_kept addr p (Transmit transmit) q h = tt
   datagrams_kept addr p _ q h = absurd h
 

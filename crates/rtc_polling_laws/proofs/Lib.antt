@@ -10,3 +10,8 @@ pub mod RestingStages
 pub mod KeptTurns
 pub mod Draining
 pub mod DrainedPolls
+pub mod StreamCallActs
+pub mod ActWords
+pub mod ActJoins
+pub mod ActedClosing
+pub mod ActedInputs

@@ -31,6 +31,7 @@ use Rattle.rtc_polling.specs.declared.met.Met.{Met}
 use Rattle.rtc_polling.specs.declared.met.Met.TheVariants.{Nothing, Again, Transmit, Event as MetEvent, Error}
 use Rattle.rtc_polling.specs.declared.polled_peer.PolledPeer.{PolledPeer}
 use Rattle.rtc_polling.specs.declared.send_addr.SendAddr.{SendAddr}
+use Rattle.rtc_polling.specs.Closing.{is_phase_closing}
 use Rattle.rtc_polling.specs.Connection.{with_ice, with_dtls, with_media, with_sctp, with_pushed}
 use Rattle.rtc_polling.specs.DtlsStages.{TimesDtls, TimesDtlsIf, TakesDtlsOutput, TakesDtlsAnswer, PollsDtlsOutput, PollsDtlsOutputs, TellsConnected, TellsConnectedFrom, is_dtls_due}
 use Rattle.rtc_polling.specs.IceStages.{PollsIceEvent, PollsIceEvents, TakesIceEvent}
@@ -203,7 +204,7 @@ module _ {I D S M E X T W N : Type 0} (m : Meanings I D S M E X T W N) where
     packet_waits packet rest p Again q blocked h = absurd (by h.1)
       where
         by : SendsData m.dtls p.core.dtls (can_send m.dtls p.core.dtls) packet (Ok tt) q.core.dtls
-            ⊎ (_ × SendsData m.dtls p.core.dtls (can_send m.dtls p.core.dtls) packet (Err Fault) q.core.dtls) → ⊥
+            ⊎ ((is_phase_closing p.core.phase ≡ true) × SendsData m.dtls p.core.dtls (can_send m.dtls p.core.dtls) packet (Err Fault) q.core.dtls) → ⊥
         by (inl k) = cc ((subst (λ (b : Bool). SendsData m.dtls p.core.dtls b packet (Ok tt) q.core.dtls) blocked k).0)
         by (inr k) = cc ((subst (λ (b : Bool). SendsData m.dtls p.core.dtls b packet (Err Fault) q.core.dtls) blocked k.1).0)
     packet_waits packet rest p (Error (Dtls cause)) q blocked h =
