@@ -67,7 +67,7 @@ among_pair {A} l k xs ys us vs e f a b =
 abbrev pub both_acts : PeerActs → PeerActs → PeerActs
 both_acts a b = record { ice = a.ice ++ b.ice; dtls = a.dtls ++ b.dtls; association = a.association ++ b.association; media = a.media ++ b.media }
 
-contents_of : List IceAct → List (List ℕ)
+abbrev contents_of : List IceAct → List (List ℕ)
 contents_of acts = map (λ (transmit : Transmit). transmit.contents) (ice_taken acts)
 
 contents-append : (xs ys : List IceAct) → contents_of (xs ++ ys) ≡ contents_of xs ++ contents_of ys

@@ -144,7 +144,7 @@ module _ {I D S M E X T W N : Type 0} (m : Meanings I D S M E X T W N) where
   closed_by : (moment : ℕ) (q : PolledPeer I D S M N) → Ends moment q → q.core.phase ≡ Closed
       → (moment ≡ 2 ^ 64 - 1) × (q.transport.last_reason ≡ NotHappening)
   closed_by moment q (AtRest closed is reason) at = (is, reason)
-  closed_by moment q (Waiting last v visit live unclosed is as) at = absurd (live (sym (ap (λ (x : PolledPeer I D S M N). x.core.phase) as) ∙ at))
+  closed_by moment q (Waiting last v visit live unclosed is same) at = absurd (live (sym (ap (λ (x : PolledPeer I D S M N). x.core.phase) same) ∙ at))
 
   pub closed_again : (p q s : PolledPeer I D S M N) (moment : ℕ) (answer : Result (Output E) RtcError) → PollsPeer m p (Ok (Timeout moment)) q
       → q.core.phase ≡ Closed → PollsPeer m q answer s → (answer ≡ Ok (Timeout moment)) × (s ≡ q)
@@ -157,8 +157,8 @@ module _ {I D S M E X T W N : Type 0} (m : Meanings I D S M E X T W N) where
 
   wake_by : (moment : ℕ) (q : PolledPeer I D S M N) → Ends moment q → q.core.phase ≢ Closed → q.core.greatest ≤ moment
   wake_by moment q (AtRest closed is reason) live = absurd (live closed)
-  wake_by moment q (Waiting last v visit alive unclosed is as) live =
-      let greatest : q.core.greatest ≡ v.core.greatest = ap (λ (x : PolledPeer I D S M N). x.core.greatest) as in
+  wake_by moment q (Waiting last v visit alive unclosed is same) live =
+      let greatest : q.core.greatest ≡ v.core.greatest = ap (λ (x : PolledPeer I D S M N). x.core.greatest) same in
       subst (λ (n : ℕ). q.core.greatest ≤ n) (sym is) (subst (λ (n : ℕ). n ≤ wake_moment m v) (sym greatest) (max_left v.core.greatest (least_deadline m v).0))
     where
       max_left : (a b : ℕ) → a ≤ max a b

@@ -15,3 +15,6 @@ pub mod ActWords
 pub mod ActJoins
 pub mod ActedClosing
 pub mod ActedInputs
+pub mod VisitActs
+pub mod ClosedRows
+pub mod ActedConnection
