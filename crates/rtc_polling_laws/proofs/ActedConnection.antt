@@ -45,7 +45,7 @@ use Rattle.rtc_polling_laws.proofs.ActJoins.{ice_did, dtls_did, media_did, still
 use Rattle.rtc_polling_laws.proofs.ActedClosing.{beside, BesideIce, BesideDtls, BesideStreams, BesideMedia, close_acts}
 use Rattle.rtc_polling_laws.proofs.ClosedRows.{close_rows}
 use Rattle.rtc_polling_laws.proofs.VisitActs.{contents_met, MeetsData, KeepsRows, VisitDid, QuietDid, StillHere, ShowsNone, quiet_nothing, visit_is, plain_visit, still_visit}
-use Rattle.rtc_polling_laws.proofs.VisitActs.{visit_on, StageActs, else_acts, repeats_acts}
+use Rattle.rtc_polling_laws.proofs.VisitActs.{keeps_by, visit_on, StageActs, else_acts, repeats_acts}
 
 -- acts by which packets were taken give, send and get nothing, and hand no moment
 given_of : (packets : List (List ℕ)) → dtls_given (takes packets) ≡ []
@@ -205,12 +205,7 @@ module _ {I D S M E X T W N : Type 0} (m : Meanings I D S M E X T W N) (laws : P
       plain_visit m r p q
       (subst (λ (l : List (List ℕ)). PeerDid m nothing_came (p.core.greatest ∷ []) l [] [] p q) (sym none)
       (close_acts m nothing_came (p.core.greatest ∷ []) laws.association p answer q h)) shows (close_rows m p answer q h).0
-      (rows_by r p.core.channels q.core.channels (ap (λ held. held.rows) (close_rows m p answer q h).1))
-    where
-      rows_by : (r : Met E) (a b : _) → b.rows ≡ a.rows → KeepsRows r a b
-      rows_by Nothing a b is = is
-      rows_by Again a b is = is
-      rows_by _ a b is = tt
+      (keeps_by m r p.core.channels q.core.channels (ap (λ held. held.rows) (close_rows m p answer q h).1))
 
   close_notify : StageActs m laws.association (TakesCloseNotify m)
   unfolding TakesCloseNotify

@@ -50,7 +50,7 @@ module _ {I D S M E X T W N : Type 0} (m : Meanings I D S M E X T W N) where
   -- a walk that met nothing leaves the phase
   visited_phase : (met : Met E) (last visited : PolledPeer I D S M N) → last.core.phase ≢ Closed → VisitsParts m last met visited → (met ≡ Nothing)
       → visited.core.phase ≢ Closed
-  visited_phase Nothing last visited live visit is closed = live (sym (visits_kept m last Nothing visited visit) ∙ closed)
+  visited_phase Nothing last visited live visit is = λ closed. live (sym (visits_kept m last Nothing visited visit) ∙ closed)
   visited_phase Again last visited live visit is = cc (is)
   visited_phase (Transmit transmit) last visited live visit is = cc (is)
   visited_phase (MetEvent event) last visited live visit is = cc (is)

@@ -18,3 +18,6 @@ pub mod ActedInputs
 pub mod VisitActs
 pub mod ClosedRows
 pub mod ActedConnection
+pub mod ActedStreams
+pub mod ActedPolls
+pub mod RelayedCalls

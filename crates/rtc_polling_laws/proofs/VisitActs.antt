@@ -168,7 +168,7 @@ module _ {I D S M E X T W N : Type 0} (m : Meanings I D S M E X T W N) where
   abbrev pub ShowsNone : Met E → Type 0
   ShowsNone r = (contents_met r ≡ []) × ((held : Channels) → MeetsData r held [])
 
-  keeps_by : (r : Met E) (a b : Channels) → b.rows ≡ a.rows → KeepsRows r a b
+  pub keeps_by : (r : Met E) (a b : Channels) → b.rows ≡ a.rows → KeepsRows r a b
   keeps_by Nothing a b is = is
   keeps_by Again a b is = is
   keeps_by (Transmit transmit) a b is = tt
