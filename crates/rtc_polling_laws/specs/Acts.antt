@@ -7,7 +7,8 @@ use Rattle.rtc_association.specs.AssociationWords.{given, taken}
 use Rattle.rtc_sctp_entries.specs.declared.sctp_event.SctpEvent.{SctpEvent}
 use Rattle.rtc_sctp_entries.specs.declared.sctp_event.SctpEvent.TheVariants as event
 use Rattle.rtc_sctp.specs.Calls.{written_ppi, is_nil}
-use Rattle.rtc_sctp_laws.specs.StreamMessages.{StreamMessage, stream_message, write_act, read_act, writes_of, reads_of, are_dcep, shown_messages, pushed_packets}
+use Rattle.rtc_sctp_laws.specs.StreamMessages.{StreamMessage, stream_message, write_act, read_act, writes_of, reads_of}
+use Rattle.rtc_sctp_laws.specs.StreamMessages.{are_dcep, shown_messages, pushed_packets}
 use Rattle.rtc_channels.specs.Channels.{Channels}
 use Rattle.rtc_peer_state.specs.declared.rtc_error.RtcError.{RtcError}
 use Rattle.rtc_peer_state.specs.Meanings.{Meanings}
@@ -17,15 +18,16 @@ use Rattle.rtc_polling.specs.declared.output.Output.{Output}
 use Rattle.rtc_polling.specs.declared.output.Output.TheVariants as outputs
 use Rattle.rtc_polling.specs.declared.polled_peer.PolledPeer.{PolledPeer}
 use Rattle.rtc_polling.specs.StreamStages.{channel_over}
-use Rattle.rtc_polling_laws.specs.PeerActs.{PeerActs, PeerMoved, Came, nothing_came, media_given, ice_moments, dtls_moments, media_moments, contents_taken, came_by, moment_of}
+use Rattle.rtc_polling_laws.specs.PeerActs.{PeerActs, PeerMoved, Came, nothing_came, came_by, moment_of, contents_taken, media_given}
+use Rattle.rtc_polling_laws.specs.PeerActs.{ice_moments, dtls_moments, media_moments}
 
 -- Acts in order took the parts of one peer to those of another. What they were given is among what came, and the moments that they were
 -- handed are among these. What was shown as contents of datagrams, and the packets that stand to be shown behind it, are among what was
 -- taken from the parts in these acts and what stood before. What the association was given came over the DTLS connection, and all of that
 -- was given to it, in order, once it was started. What was sent over the connection, or stands to be sent behind it, was taken from the
 -- association or stood to be sent before. These messages were written and read.
-pub record PeerDid {I D S M E X T W N : Type 0} (m : Meanings I D S M E X T W N) (came : Came) (moments : List ℕ) (shown : List (List ℕ))
-    (wrote heard : List StreamMessage) (p q : PolledPeer I D S M N) : Type 0 where
+pub record PeerDid {I D S M E X T W N : Type 0} (m : Meanings I D S M E X T W N) (came : Came) (moments : List ℕ)
+    (shown : List (List ℕ)) (wrote heard : List StreamMessage) (p q : PolledPeer I D S M N) : Type 0 where
   pub acts : PeerActs
   pub went : PeerMoved m p acts q
   pub given_ice : Among (ice_given acts.ice) came.ice
@@ -37,7 +39,8 @@ pub record PeerDid {I D S M E X T W N : Type 0} (m : Meanings I D S M E X T W N)
   pub sent : Among (shown ++ q.core.dtls.packets) (contents_taken acts ++ p.core.dtls.packets)
   pub handed : Among (given acts.association) (dtls_got acts.dtls)
   pub all_handed : m.association.started p.core.sctp.association ≡ true → given acts.association ≡ dtls_got acts.dtls
-  pub relayed : Among (dtls_sent acts.dtls ++ pushed_packets q.core.sctp.pushed) (taken acts.association ++ pushed_packets p.core.sctp.pushed)
+  pub relayed : Among (dtls_sent acts.dtls ++ pushed_packets q.core.sctp.pushed)
+      (taken acts.association ++ pushed_packets p.core.sctp.pushed)
   pub wrote_is : writes_of acts.association ≡ map write_act wrote
   pub heard_is : reads_of acts.association ≡ map read_act heard
 
@@ -63,8 +66,8 @@ ShowsData (Err error) held told = told ≡ []
 
 -- What a poll did. Nothing came. It wrote messages that open channels alone. Of the data that it read, in order, all is of streams without
 -- a channel, but for what it shows last, if it shows any.
-pub record PollActs {I D S M E X T W N : Type 0} (m : Meanings I D S M E X T W N) (p : PolledPeer I D S M N) (answer : Result (Output E) RtcError)
-    (q : PolledPeer I D S M N) : Type 0 where
+pub record PollActs {I D S M E X T W N : Type 0} (m : Meanings I D S M E X T W N) (p : PolledPeer I D S M N)
+    (answer : Result (Output E) RtcError) (q : PolledPeer I D S M N) : Type 0 where
   pub wrote : List StreamMessage
   pub heard : List StreamMessage
   pub did : PeerDid m nothing_came (p.core.greatest ∷ []) (contents_shown answer) wrote heard p q

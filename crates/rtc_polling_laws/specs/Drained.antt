@@ -19,5 +19,6 @@ pub record CanRest {I D S M E X T W N : Type 0} (m : Meanings I D S M E X T W N)
   pub waits : WaitsToStart m.association p.core.sctp.association
 
 -- the same timeout is answered, and nothing changes; or memory is wanting
-abbrev pub AnswersAgain : {I D S M E N : Type 0} → (moment : ℕ) → PolledPeer I D S M N → Result (Output E) RtcError → PolledPeer I D S M N → Type 0
+abbrev pub AnswersAgain : {I D S M E N : Type 0} → (moment : ℕ) → PolledPeer I D S M N → Result (Output E) RtcError
+    → PolledPeer I D S M N → Type 0
 AnswersAgain moment p answer q = ((answer ≡ Ok (Timeout moment)) × (q ≡ p)) ⊎ (answer ≡ Err Alloc)

@@ -54,7 +54,8 @@ media_moments (_ ∷ acts) = media_moments acts
 
 -- what was taken to be sent in datagrams: from the agent, from the DTLS part and from the media part
 abbrev pub contents_taken : PeerActs → List (List ℕ)
-contents_taken acts = map (λ (transmit : Transmit). transmit.contents) (ice_taken acts.ice) ++ (dtls_taken acts.dtls ++ media_taken acts.media)
+contents_taken acts =
+    map (λ (transmit : Transmit). transmit.contents) (ice_taken acts.ice) ++ (dtls_taken acts.dtls ++ media_taken acts.media)
 
 -- acts in order took the parts of one peer to those of another
 pub record PeerMoved {I D S M E X T W N : Type 0} (m : Meanings I D S M E X T W N) (p : PolledPeer I D S M N) (acts : PeerActs)
