@@ -1,4 +1,4 @@
--- What a poll does to the ICE agent and to the DTLS part, and what it hands the association.
+-- What a poll does to the DTLS part, and what it hands the association.
 use Rattle.std.proofs.Common.{◌≡◌, ◌++◌, ◌∷◌, ◌⊎◌, inl, inr, ℕ, Bool, true, false, List, [], Option, Some, None, Result, Ok, Err, alloc_error, append-nil, refl, sym, ap, subst, ◌∙◌}
 use Rattle.std.specs.declared.alloc.AllocError.{AllocError}
 use Rattle.rtc_parts_values.specs.Why.{Other}
@@ -46,6 +46,7 @@ use Rattle.rtc_polling_laws.proofs.ActedClosing.{beside, BesideIce, BesideDtls, 
 use Rattle.rtc_polling_laws.proofs.ClosedRows.{close_rows}
 use Rattle.rtc_polling_laws.proofs.VisitActs.{contents_met, MeetsData, KeepsRows, VisitDid, QuietDid, StillHere, ShowsNone, quiet_nothing, visit_is, plain_visit, still_visit}
 use Rattle.rtc_polling_laws.proofs.VisitActs.{keeps_by, visit_on, StageActs, else_acts, repeats_acts}
+use Rattle.rtc_polling_laws.proofs.ActedTransport.{shows_again, shows_nothing, shows_error, ice_event, times_act, keys_act, cert_acts, close_notify}
 
 -- acts by which packets were taken give, send and get nothing, and hand no moment
 given_of : (packets : List (List ℕ)) → dtls_given (takes packets) ≡ []
@@ -101,121 +102,6 @@ queued rest queue packets taken is same = record {
 }
 
 module _ {I D S M E X T W N : Type 0} (m : Meanings I D S M E X T W N) (laws : PartsLaws m) where
-  shows_again : ShowsNone m Again
-  shows_again = (refl, λ held. refl)
-
-  shows_nothing : ShowsNone m Nothing
-  shows_nothing = (refl, λ held. refl)
-
-  shows_error : (error : RtcError) → ShowsNone m (Error error)
-  shows_error error = (refl, λ held. refl)
-
-  -- an event of the agent
-  ice_told : (event : IceEvent) (p q : PolledPeer I D S M N) → m.ice.polled p.core.ice (Some event) q.core.ice → BesideIce p q
-      → PeerDid m nothing_came (p.core.greatest ∷ []) [] [] [] p q
-  ice_told event p q h beside =
-      ice_did m nothing_came (p.core.greatest ∷ []) [] p q (IceStirred (IceTold event) ∷ [])
-      (ice_moved-one m.ice p.core.ice q.core.ice (IceStirred (IceTold event)) h) (among_none []) (among_none (p.core.greatest ∷ [])) (among_none [])
-      (ap (λ d. d.instance) beside.0) (ap (λ d. d.packets) beside.0) beside.1 beside.2
-
-  ice_met : (x r : Met E) (event : IceEvent) (p n q : PolledPeer I D S M N) → r ≡ x → q ≡ n → contents_met x ≡ [] → MeetsData x n.core.channels []
-      → m.ice.polled p.core.ice (Some event) n.core.ice → BesideIce p n → KeepsRows x p.core.channels n.core.channels → VisitDid m p r q
-  ice_met x r event p n q met is none data_none polled beside rows =
-      visit_is m x r p q met
-      (subst (λ (y : PolledPeer I D S M N). VisitDid m p x y) (sym is)
-      (plain_visit m x p n
-      (subst (λ (l : List (List ℕ)). PeerDid m nothing_came (p.core.greatest ∷ []) l [] [] p n) (sym none) (ice_told event p n polled beside))
-      data_none beside.3 rows))
-
-  ice_event : (event : Option IceEvent) (ice : I) (p : PolledPeer I D S M N) (r : Met E) (q : PolledPeer I D S M N) → m.ice.polled p.core.ice event ice
-      → TakesIceEvent event (with_ice ice p) r q → VisitDid m p r q
-  ice_event None ice p r q polled taken =
-      still_visit m Nothing r p (with_ice ice p) q taken.0 taken.1 shows_nothing
-      ((laws.ice.event_none p.core.ice ice polled, refl, refl, refl, refl), refl, refl)
-  ice_event (Some IceRestart) ice p r q polled taken =
-      ice_met Again r IceRestart p _ q taken.0 taken.1 refl refl polled (refl, refl, refl, refl, refl) refl
-  ice_event (Some (StateChange state)) ice p r q polled taken =
-      ice_met (MetEvent (told.IceConnectionStateChange state)) r (StateChange state) p _ q taken.0 taken.1 refl refl polled (refl, refl, refl, refl, refl) tt
-  ice_event (Some (DiscoveredRecv proto source)) ice p r q polled taken =
-      ice_met Again r (DiscoveredRecv proto source) p _ q taken.0 taken.1 refl refl polled (refl, refl, refl, refl, refl) refl
-  ice_event (Some (NominatedSend proto source destination)) ice p r q polled taken =
-      ice_met Again r (NominatedSend proto source destination) p _ q taken.0 taken.1 refl refl polled (refl, refl, refl, refl, refl) refl
-
-  -- the greatest moment is handed to the connection
-  handed_time : (active : Option Bool) (r : Result (Unit {0}) DtlsError) (p q : PolledPeer I D S M N)
-      → HandsOn m.dtls p.core.dtls active (λ i s j. m.dtls.timed i p.core.greatest s j) r q.core.dtls → BesideDtls p q
-      → PeerDid m nothing_came (p.core.greatest ∷ []) [] [] [] p q
-  handed_time None r p q h beside =
-      still_did m nothing_came (p.core.greatest ∷ []) p q
-      (beside.0, ap (λ (d : DtlsState D). d.instance) h.1, ap (λ (d : DtlsState D). d.packets) h.1, beside.1, beside.2)
-  handed_time (Some active) r p q h beside =
-      dtls_did m nothing_came (p.core.greatest ∷ []) p q (Stirred (TimedAt p.core.greatest r) ∷ [])
-      (dtls_moved-one m.dtls p.core.dtls.instance q.core.dtls.instance (Stirred (TimedAt p.core.greatest r)) h.0) (among_none [])
-      (among_self (p.core.greatest ∷ [])) refl refl
-      (subst (λ (l : List (List ℕ)). Among l p.core.dtls.packets) (sym (ap (λ (d : DtlsState D). d.packets) h.1)) (among_self p.core.dtls.packets))
-      beside.0 beside.1 beside.2
-
-  given_time : StageActs m laws.association (GivesDtlsTime m)
-  unfolding GivesDtlsTime
-  given_time p Nothing q h =
-      let kept = beside BesideDtls p _ q h.1 (refl, refl, refl, refl, refl) in
-      plain_visit m Nothing p q (handed_time p.core.dtls.active (Ok tt) p q h.0 kept) refl kept.3 (ap (λ held. held.rows) kept.4)
-  given_time p (Error (Dtls cause)) q h =
-      let kept = beside BesideDtls p _ q h.2 (refl, refl, refl, refl, refl) in
-      plain_visit m (Error (Dtls cause)) p q (handed_time p.core.dtls.active (Err Fault) p q h.1 kept) refl kept.3 tt
-  given_time p (Error Alloc) q h =
-      let kept = beside BesideDtls p _ q h.1 (refl, refl, refl, refl, refl) in
-      plain_visit m (Error Alloc) p q (handed_time p.core.dtls.active (Err DtlsAlloc) p q h.0 kept) refl kept.3 tt
-  given_time p _ q h = absurd h
-
-  times_act : (due : Bool) (p : PolledPeer I D S M N) (r : Met E) (q : PolledPeer I D S M N) → TimesDtlsIf m due p r q → VisitDid m p r q
-  times_act true p r q h = given_time p r q h
-  times_act false p r q h = still_visit m Nothing r p p q h.0 h.1 shows_nothing ((refl, refl, refl, refl, refl), refl, refl)
-
-  -- keys of the media part
-  keyed_did : (key : List ℕ) (profile : SrtpProfile) (active : Bool) (r : Result (Unit {0}) AllocError) (p q : PolledPeer I D S M N)
-      → m.media.keyed p.core.media key profile active r q.core.media → BesideMedia p q → PeerDid m nothing_came (p.core.greatest ∷ []) [] [] [] p q
-  keyed_did key profile active r p q h beside =
-      media_did m nothing_came (p.core.greatest ∷ []) [] p q (MediaStirred Other ∷ [])
-      (media_moved-one m.media p.core.media q.core.media (MediaStirred Other) (inr (inr (Keyed key profile active r h))))
-      (among_none []) (among_none (p.core.greatest ∷ [])) (among_none []) beside.0 (ap (λ d. d.instance) beside.1) (ap (λ d. d.packets) beside.1) beside.2
-
-  keys_act : (key : List ℕ) (profile : SrtpProfile) (active : Bool) → StageActs m laws.association (TakesKeys m key profile active)
-  unfolding TakesKeys
-  keys_act key profile active p Again q h =
-      let kept = beside BesideMedia p _ q h.1 (refl, refl, refl, refl, refl) in
-      plain_visit m Again p q (keyed_did key profile active (Ok tt) p q h.0 kept) refl kept.3 (ap (λ held. held.rows) kept.4)
-  keys_act key profile active p (Error Alloc) q h =
-      let kept = beside BesideMedia p _ q h.1 (refl, refl, refl, refl, refl) in
-      plain_visit m (Error Alloc) p q (keyed_did key profile active (Err alloc_error) p q h.0 kept) refl kept.3 tt
-  keys_act key profile active p _ q h = absurd h
-
-  cert_acts : (cert : List ℕ) → StageActs m laws.association (ChecksCert {I = I} {D = D} {S = S} {M = M} {E = E} {N = N} cert)
-  unfolding ChecksCert
-  cert_acts cert p Again q h = still_visit m Again Again p _ q refl h.3 shows_again ((refl, refl, refl, refl, refl), refl, refl)
-  cert_acts cert p (Error (RemoteSdp why)) q h =
-      still_visit m (Error (RemoteSdp why)) (Error (RemoteSdp why)) p _ q refl h.3 (shows_error (RemoteSdp why)) ((refl, refl, refl, refl, refl), refl, refl)
-  cert_acts cert p (Error Alloc) q h = still_visit m (Error Alloc) (Error Alloc) p _ q refl h (shows_error Alloc) ((refl, refl, refl, refl, refl), refl, refl)
-  cert_acts cert p _ q h = absurd h
-
-  -- closing, met as an event or an error
-  pub closing_visit : (r : Met E) (answer : Result (Unit {0}) RtcError) (p q : PolledPeer I D S M N) → contents_met r ≡ [] → MeetsData r q.core.channels []
-      → ClosesPeer m p answer q → VisitDid m p r q
-  closing_visit r answer p q none shows h =
-      plain_visit m r p q
-      (subst (λ (l : List (List ℕ)). PeerDid m nothing_came (p.core.greatest ∷ []) l [] [] p q) (sym none)
-      (close_acts m nothing_came (p.core.greatest ∷ []) laws.association p answer q h)) shows (close_rows m p answer q h).0
-      (keeps_by m r p.core.channels q.core.channels (ap (λ held. held.rows) (close_rows m p answer q h).1))
-
-  close_notify : StageActs m laws.association (TakesCloseNotify m)
-  unfolding TakesCloseNotify
-  close_notify p (MetEvent told.Closed) q h =
-      visit_on m laws.association (MetEvent told.Closed) p h.0 q
-      (quiet_nothing m p h.0 (closing_visit Nothing (Ok tt) p h.0 refl refl h.1))
-      (still_visit m (MetEvent told.Closed) (MetEvent told.Closed) h.0 _ q refl h.2 (refl, λ held. refl) ((refl, refl, refl, refl, refl), refl, refl))
-  close_notify p (Error error) q h = closing_visit (Error error) (Err error) p q refl refl h
-  close_notify p _ q h = absurd h
-
   -- packets up to an output, and the output
   output_did : (acts : List DtlsAct) (packets : List (List ℕ)) (k : D) (p q : PolledPeer I D S M N) → DtlsMoved m.dtls p.core.dtls.instance (takes packets) k
       → DtlsMoved m.dtls k acts q.core.dtls.instance → dtls_given acts ≡ [] → dtls_taken acts ≡ [] → dtls_sent acts ≡ [] → dtls_got acts ≡ []
@@ -367,42 +253,42 @@ module _ {I D S M E X T W N : Type 0} (m : Meanings I D S M E X T W N) (laws : P
       → PollsOutput m.dtls p.core.dtls p.core.dtls.active (Ok output) d → TakesDtlsOutput m output (with_dtls d p) r q → VisitDid m p r q
   output_acts outputs.Connected d p r q h taken =
       visit_on m laws.association r p (with_dtls d p) q (drained outputs.Connected p.core.dtls.active d p h tt)
-      (still_visit m Again r (with_dtls d p) _ q taken.0 taken.1 shows_again ((refl, refl, refl, refl, refl), refl, refl))
+      (still_visit m Again r (with_dtls d p) _ q taken.0 taken.1 (shows_again m laws) ((refl, refl, refl, refl, refl), refl, refl))
   output_acts (outputs.KeyingMaterial key profile) d p r q h taken =
       visit_on m laws.association r p (with_dtls d p) q (drained (outputs.KeyingMaterial key profile) p.core.dtls.active d p h tt)
-      (keys_act key.now profile _ (with_dtls d p) r q taken)
+      (keys_act m laws key.now profile _ (with_dtls d p) r q taken)
   output_acts (outputs.PeerCert cert) d p r q h taken =
       visit_on m laws.association r p (with_dtls d p) q (drained (outputs.PeerCert cert) p.core.dtls.active d p h tt)
-      (cert_acts cert.now (with_dtls d p) r q taken)
+      (cert_acts m laws cert.now (with_dtls d p) r q taken)
   output_acts (outputs.ApplicationData bytes) d p r q h taken = data_acts bytes p.core.dtls.active d p r q h taken
   output_acts (outputs.Timeout moment) d p r q h taken =
       visit_on m laws.association r p (with_dtls d p) q (drained (outputs.Timeout moment) p.core.dtls.active d p h tt)
-      (still_visit m Nothing r (with_dtls d p) _ q taken.0 taken.1 shows_nothing ((refl, refl, refl, refl, refl), refl, refl))
+      (still_visit m Nothing r (with_dtls d p) _ q taken.0 taken.1 (shows_nothing m laws) ((refl, refl, refl, refl, refl), refl, refl))
   output_acts outputs.CloseNotify d p r q h taken =
       visit_on m laws.association r p (with_dtls d p) q (drained outputs.CloseNotify p.core.dtls.active d p h tt)
-      (close_notify (with_dtls d p) r q taken)
+      (close_notify m laws (with_dtls d p) r q taken)
 
   answer_acts : (answer : Result DtlsOutput AllocError) (d : DtlsState D) (p : PolledPeer I D S M N) (r : Met E) (q : PolledPeer I D S M N)
       → PollsOutput m.dtls p.core.dtls p.core.dtls.active answer d → TakesDtlsAnswer m answer (with_dtls d p) r q → VisitDid m p r q
   answer_acts (Ok output) d p r q h taken = output_acts output d p r q h taken
   answer_acts (Err error) d p r q h taken =
       visit_on m laws.association r p (with_dtls d p) q (lost p.core.dtls.active error d p h)
-      (still_visit m (Error Alloc) r (with_dtls d p) _ q taken.0 taken.1 (shows_error Alloc) ((refl, refl, refl, refl, refl), refl, refl))
+      (still_visit m (Error Alloc) r (with_dtls d p) _ q taken.0 taken.1 (shows_error m laws Alloc) ((refl, refl, refl, refl, refl), refl, refl))
 
   connected_acts : (handshake : Handshake) (p : PolledPeer I D S M N) (r : Met E) (q : PolledPeer I D S M N) → TellsConnectedFrom handshake p r q
       → VisitDid m p r q
-  connected_acts Pending p r q h = still_visit m Nothing r p p q h.0 h.1 shows_nothing ((refl, refl, refl, refl, refl), refl, refl)
+  connected_acts Pending p r q h = still_visit m Nothing r p p q h.0 h.1 (shows_nothing m laws) ((refl, refl, refl, refl, refl), refl, refl)
   connected_acts Finished p r q h =
       still_visit m (MetEvent told.Connected) r p _ q h.0 h.1 (refl, λ held. refl) ((refl, refl, refl, refl, refl), refl, refl)
-  connected_acts Told p r q h = still_visit m Nothing r p p q h.0 h.1 shows_nothing ((refl, refl, refl, refl, refl), refl, refl)
+  connected_acts Told p r q h = still_visit m Nothing r p p q h.0 h.1 (shows_nothing m laws) ((refl, refl, refl, refl, refl), refl, refl)
 
   -- what a poll takes from the connection
   pub connection_acts : StageActs m laws.association (TellsConnection m)
   unfolding TellsConnection
   connection_acts =
       else_acts m laws.association (PollsIceEvents m) _
-      (repeats_acts m laws.association (PollsIceEvent m) (λ p r q turn. ice_event turn.event turn.ice p r q turn.by_poll turn.by_event))
-      (else_acts m laws.association (TimesDtls m) _ (λ p r q h. times_act (is_dtls_due p) p r q h)
+      (repeats_acts m laws.association (PollsIceEvent m) (λ p r q turn. ice_event m laws turn.event turn.ice p r q turn.by_poll turn.by_event))
+      (else_acts m laws.association (TimesDtls m) _ (λ p r q h. times_act m laws (is_dtls_due p) p r q h)
       (else_acts m laws.association (PollsDtlsOutputs m) _
       (repeats_acts m laws.association (PollsDtlsOutput m) (λ p r q turn. answer_acts turn.answer turn.dtls p r q turn.by_poll turn.by_answer))
       (λ p r q h. connected_acts p.transport.handshake p r q h)))

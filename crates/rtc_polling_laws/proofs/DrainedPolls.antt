@@ -18,7 +18,8 @@ use Rattle.rtc_polling.specs.Deadlines.{least_deadline, wake_moment}
 use Rattle.rtc_polling.specs.Stages.{RepeatsStage}
 use Rattle.rtc_polling.specs.Walk.{VisitsParts, Waits, WaitsIf, AnswersMet, Walks, PollsPeerFrom, PollsPeer, with_reason}
 use Rattle.rtc_polling_laws.specs.Drained.{CanRest, AnswersAgain}
-use Rattle.rtc_polling_laws.proofs.RestingStages.{Rests, Drained, repeats_rest, drained_rests}
+use Rattle.rtc_polling_laws.proofs.RestingConnection.{Rests, repeats_rest}
+use Rattle.rtc_polling_laws.proofs.RestingStages.{Drained, drained_rests}
 use Rattle.rtc_polling_laws.proofs.KeptTurns.{phase_of_peer, turns_keep, visits_kept}
 use Rattle.rtc_polling_laws.proofs.Draining.{visit_drains}
 

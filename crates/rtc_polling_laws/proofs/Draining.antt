@@ -36,8 +36,10 @@ use Rattle.rtc_polling.proofs.StreamTurns.{Polled, streams_polled, kept_stay}
 use Rattle.rtc_polling_laws.specs.Drained.{WaitsToStart}
 use Rattle.rtc_polling_laws.proofs.RestingStreams.{StreamsRest, polled_rest}
 use Rattle.rtc_polling_laws.proofs.PushedAgain.{StreamsGive, polled_gives}
-use Rattle.rtc_polling_laws.proofs.RestingStages.{DtlsRests, AreSent, WaitsOver, Drained}
+use Rattle.rtc_polling_laws.proofs.RestingConnection.{DtlsRests}
+use Rattle.rtc_polling_laws.proofs.RestingStages.{AreSent, WaitsOver, Drained}
 use Rattle.rtc_polling_laws.proofs.KeptTurns.{outputs_kept, streams_kept, arrivals_kept}
+use Rattle.rtc_polling_laws.proofs.DrainingStreams.{Stays, streams_drain}
 
 -- the agent alone
 abbrev only_ice : {I : Type 0} → Phase → I → I
@@ -117,89 +119,6 @@ module _ {I D S M E X T W N : Type 0} (m : Meanings I D S M E X T W N) (laws : P
   told_from Pending p q is h = (h.1, λ e. let clash : Pending ≡ Finished = sym is ∙ e in cc)
   told_from Finished p q is h = cc (h.0)
   told_from Told p q is h = (h.1, λ e. let clash : Told ≡ Finished = sym is ∙ e in cc)
-
-  -- packets are kept, and nothing else is met by nothing
-  kept_packets : (e : SctpEvent) (p q : PolledPeer I D S M N) → TakesStreamEvent m e p Nothing q
-      → (packets : List (List ℕ)) × ((e ≡ event.Transmit packets) × (q ≡ with_pushed (Some packets) p))
-  unfolding OpensChannelOver LosesAssociation
-  kept_packets (event.Transmit packets) p q h = (packets, (refl, h.1))
-  kept_packets (event.Open stream label) p q h = absurd h
-  kept_packets (event.Close stream pending) p q h = absurd (over (channel_over stream p.core.channels) h)
-    where
-      over : (id : Option ℕ) → ClosesChannelOver {I = I} {D = D} {S = S} {M = M} {E = E} {N = N} id pending p Nothing q → ⊥
-      over (Some id) k = cc (k.0)
-      over None k = cc (k.0)
-  kept_packets (event.StreamResetComplete stream) p q h = cc (h.0)
-  kept_packets (event.Data stream binary bytes) p q h = absurd (over (channel_over stream p.core.channels) h)
-    where
-      over : (id : Option ℕ) → HearsChannelOver {I = I} {D = D} {S = S} {M = M} {E = E} {N = N} id binary bytes p Nothing q → ⊥
-      over (Some id) k = cc (k.0)
-      over None k = cc (k.0)
-  kept_packets (event.BufferedAmountLow stream) p q h = absurd (over (channel_over stream p.core.channels) h)
-    where
-      over : (id : Option ℕ) → FallsChannelOver {I = I} {D = D} {S = S} {M = M} {E = E} {N = N} id p Nothing q → ⊥
-      over (Some id) k = cc (k.0)
-      over None k = cc (k.0)
-  kept_packets event.AssociationLost p q h = absurd h
-
-  -- where the first of the packets that are kept did not go, no application data can
-  not_sent : (packets : Option (List (List ℕ))) (p q : PolledPeer I D S M N) → SendsFirst m packets p Nothing q
-      → (packets ≡ None) ⊎ ((packet : List ℕ) × (rest : List (List ℕ)) × (packets ≡ Some (packet ∷ rest)) × (can_send m.dtls p.core.dtls ≡ false))
-  unfolding SendsPacket
-  not_sent None p q h = inl refl
-  not_sent (Some []) p q h = cc (h.0)
-  not_sent (Some (packet ∷ rest)) p q h = inr (packet, rest, refl, h.0)
-
-  -- the streams after the last poll of them, by what it answered
-  polled_wait : (answer : Result (Option SctpEvent) AllocError) (streams : SctpStreams S) (p n q : PolledPeer I D S M N)
-      → PollsStreams m.association p.core.sctp answer streams → TakesStreamAnswer m answer (with_sctp streams p) Nothing n
-      → SendsKeptPackets m n Nothing q → q.core.sctp ≡ n.core.sctp → q.core.dtls ≡ n.core.dtls → q.core.sctp.last < 2 ^ 64 - 1
-      → WaitsToStart m.association q.core.sctp.association → WaitsOver m laws q.core.sctp q.core.dtls
-  polled_wait (Ok None) streams p n q polled taken sends same dtls early waits =
-      let is : q.core.sctp ≡ streams = same ∙ ap (λ (x : PolledPeer I D S M N). x.core.sctp) taken.1 in
-      let early_streams = subst (λ (s : SctpStreams S). s.last < 2 ^ 64 - 1) is early in
-      let waits_streams = subst (λ (s : SctpStreams S). WaitsToStart m.association s.association) is waits in
-      inl (subst (λ (s : SctpStreams S). StreamsRest m.association laws.association s × (s.pushed ≡ None)) (sym is)
-      (polled_rest m.association laws.association p.core.sctp streams early_streams waits_streams polled))
-  polled_wait (Ok (Some e)) streams p n q polled taken sends same dtls early waits =
-      let kept = kept_packets e (with_sctp streams p) n taken in
-      let back : n.core.sctp ≡ record streams { pushed = Some kept.0 } = ap (λ (x : PolledPeer I D S M N). x.core.sctp) kept.1.1 in
-      by kept.0 (subst (λ (x : SctpEvent). PollsStreams m.association p.core.sctp (Ok (Some x)) streams) kept.1.0 polled) back
-      (not_sent n.core.sctp.pushed (with_pushed None n) q sends)
-    where
-      by : (packets : List (List ℕ)) → PollsStreams m.association p.core.sctp (Ok (Some (event.Transmit packets))) streams
-          → n.core.sctp ≡ record streams { pushed = Some packets }
-          → (n.core.sctp.pushed ≡ None) ⊎ ((packet : List ℕ) × (rest : List (List ℕ)) × (n.core.sctp.pushed ≡ Some (packet ∷ rest))
-          × (can_send m.dtls n.core.dtls ≡ false)) → WaitsOver m laws q.core.sctp q.core.dtls
-      by packets given back (inl none) =
-          let clash : Some packets ≡ None = sym (ap (λ (s : SctpStreams S). s.pushed) back) ∙ none in
-          cc
-      by packets given back (inr sent) =
-          let both : Some packets ≡ Some (sent.0 ∷ sent.1) = sym (ap (λ (s : SctpStreams S). s.pushed) back) ∙ sent.2 in
-          let are : packets ≡ sent.0 ∷ sent.1 = cc (both) in
-          let poll = subst (λ (l : List (List ℕ)). PollsStreams m.association p.core.sctp (Ok (Some (event.Transmit l))) streams) are given in
-          let gives = polled_gives m.association laws.association sent.0 sent.1 p.core.sctp streams poll in
-          let is : q.core.sctp ≡ record streams { pushed = Some (sent.0 ∷ sent.1) } =
-              same ∙ back ∙ ap (λ (l : List (List ℕ)). record streams { pushed = Some l }) are in
-          inr (sent.0, sent.1, subst (λ (s : SctpStreams S). StreamsGive m.association (sent.0 ∷ sent.1) s) (sym is) gives,
-          ap (λ (s : SctpStreams S). s.pushed) is, ap (λ (d : DtlsState D). can_send m.dtls d) dtls ∙ sent.3)
-  polled_wait (Err error) streams p n q polled taken sends same dtls early waits = cc (taken.0)
-
-  -- what the connection and the streams keep while nothing is met
-  record Stays (p q : PolledPeer I D S M N) : Type 0 where
-    transport : q.transport ≡ p.transport
-    dtls : q.core.dtls ≡ p.core.dtls
-
-  streams_drain : (p q : PolledPeer I D S M N) → TellsStreams m p Nothing q → q.core.sctp.last < 2 ^ 64 - 1
-      → WaitsToStart m.association q.core.sctp.association → Stays p q × WaitsOver m laws q.core.sctp q.core.dtls
-  unfolding TellsStreams
-  streams_drain p q h early waits =
-      let met = went_through (PollsStreamEvents m) (SendsKeptPackets m) p q h in
-      let polled = streams_polled m laws.association p met.0 met.1.0 in
-      let kept = kept_stay m met.0 q met.1.1 in
-      let ends = met.1.0.ends in
-      (record { transport = kept.0 ∙ polled.transport; dtls = kept.2 ∙ polled.dtls },
-      polled_wait ends.answer ends.streams met.1.0.last met.0 q ends.by_poll ends.by_answer met.1.1 kept.3 kept.2 early waits)
 
   -- what the media part is once it told nothing
   record Arrived (p q : PolledPeer I D S M N) : Type 0 where
@@ -310,7 +229,7 @@ module _ {I D S M E X T W N : Type 0} (m : Meanings I D S M E X T W N) (laws : P
         told = subst (λ (x : PolledPeer I D S M N). x.transport.handshake ≢ Finished) (sym told.0) told.1;
       }
 
-  drained_by : (a b c d : PolledPeer I D S M N) → Connects a → Stays a b → WaitsOver m laws b.core.sctp b.core.dtls → b.core.ice ≡ a.core.ice → Arrived b c
+  drained_by : (a b c d : PolledPeer I D S M N) → Connects a → Stays m laws a b → WaitsOver m laws b.core.sctp b.core.dtls → b.core.ice ≡ a.core.ice → Arrived b c
       → c.core.ice ≡ b.core.ice → Sent c d → m.ice.gave d.core.ice None d.core.ice → is_dtls_due d ≡ false → Drained m laws d
   drained_by a b c d connects stays waits agent arrived agent' sent gave due =
       let ice : d.core.ice ≡ a.core.ice = sent.ice ∙ agent' ∙ agent in
@@ -347,7 +266,7 @@ module _ {I D S M E X T W N : Type 0} (m : Meanings I D S M E X T W N) (laws : P
       let back : q.core.sctp ≡ two.0.core.sctp = ap (λ (x : PolledPeer I D S M N). x.core.sctp) four.1.1.1 ∙ sent.0.sctp ∙ arrived.sctp in
       let early_two = subst (λ (s : SctpStreams S). s.last < 2 ^ 64 - 1) back early in
       let waits_two = subst (λ (s : SctpStreams S). WaitsToStart m.association s.association) back waits in
-      let streams = streams_drain one.0 two.0 two.1.0 early_two waits_two in
+      let streams = streams_drain m laws one.0 two.0 two.1.0 early_two waits_two in
       let agent : two.0.core.ice ≡ one.0.core.ice = streams_kept m only_ice one.0 Nothing two.0 two.1.0 in
       let agent' : three.0.core.ice ≡ two.0.core.ice = arrivals_kept m only_ice two.0 Nothing three.0 three.1.0 in
       subst (λ (x : PolledPeer I D S M N). Drained m laws x) (sym four.1.1.1)

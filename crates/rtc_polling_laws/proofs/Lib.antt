@@ -1,13 +1,12 @@
-pub mod RelayJoins
-pub mod RelayedStages
-pub mod RelayedStreams
-pub mod RelayedPolls
-pub mod RelayedInputs
+pub mod MeetingEntries
 pub mod RestingEntries
+pub mod RestingTours
 pub mod RestingStreams
 pub mod PushedAgain
+pub mod RestingConnection
 pub mod RestingStages
 pub mod KeptTurns
+pub mod DrainingStreams
 pub mod Draining
 pub mod DrainedPolls
 pub mod StreamCallActs
@@ -17,7 +16,9 @@ pub mod ActedClosing
 pub mod ActedInputs
 pub mod VisitActs
 pub mod ClosedRows
+pub mod ActedTransport
 pub mod ActedConnection
+pub mod ActedPackets
 pub mod ActedStreams
 pub mod ActedPolls
 pub mod RelayedCalls

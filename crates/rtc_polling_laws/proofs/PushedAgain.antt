@@ -14,7 +14,8 @@ use Rattle.rtc_sctp.specs.Polls.{Else, ThenBy, unclosed_streams, CompletionOf, G
 use Rattle.rtc_sctp.specs.Polls.{TakesEvent, HandlesEvent, NotStarted, NoRoom, NoEvent, Event, VisitsIf, VisitsEntries, MakesPass, PollsStreams, Answers}
 use Rattle.rtc_sctp_laws.specs.StreamMessages.{packets_met}
 use Rattle.rtc_sctp_laws.proofs.PollActs.{tour_did}
-use Rattle.rtc_polling_laws.proofs.RestingStreams.{AllUnclosed, unclosed_left, unclosed_same, not_sent, over_rests}
+use Rattle.rtc_polling_laws.proofs.RestingTours.{AllUnclosed, unclosed_left, unclosed_same}
+use Rattle.rtc_polling_laws.proofs.RestingStreams.{not_sent, over_rests}
 
 module _ {S : Type 0} (m : AssociationMeaning S) where
   transmit_if_keeps : (b : Bool) (p : SctpStreams S) (met : Met) (q : SctpStreams S) → TransmitIf m b p met q → q.entries ≡ p.entries

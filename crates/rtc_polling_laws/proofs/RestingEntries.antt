@@ -27,6 +27,7 @@ use Rattle.rtc_sctp_entries.specs.Entries.{is_closed_state, is_short_entry, is_o
 use Rattle.rtc_sctp_entries.specs.Visits.{Turn, turn, opening_ends, Settles, ForEntry, ClosedBy, Closes, NoRoom, Ended, AnnouncedBy, Announces, NoMessage, Written}
 use Rattle.rtc_sctp_entries.specs.Visits.{AnnouncesIf, BegunAs, BegunBy, Begins, RetriedIf, RetriedAt, Retries, is_adopted, AdoptedIf, OpenedBy, OpensEntry}
 use Rattle.rtc_sctp_entries.specs.Visits.{AcknowledgedBy, TakenUpBy, TakenAs, TakesDcep, TakesStreamMessage, ReadBy, ReadsEntry, HandedBy, AttendsBy, AttendsIf, VisitsIn, Visits}
+use Rattle.rtc_polling_laws.proofs.MeetingEntries.{closes_meet, begins_meet, message_taken, threshold_handed}
 
 -- an opening that was refused for the stream that is there, or for its outstanding reset
 exists_is : (r : Result (Unit {0}) AssocError) → opening_of r ≡ opened.Exists → r ≡ Err StreamExists
@@ -66,73 +67,6 @@ not_over : (now : ℕ) → now < 2 ^ 64 - 1 → nat_le (opening_ends now) now �
 not_over now early = grind (arith, early)
 
 module _ {S : Type 0} (m : AssociationMeaning S) where
-  -- closing, opening and taking a message meet something
-  closed_by : (a : Asked) (t t' : Turn S) → ClosedBy m a t Nothing t' → ⊥
-  closed_by did.Done t t' h = cc (h.0)
-  closed_by did.Refused t t' h = cc (h.0)
-  closed_by did.OutOfMemory t t' h = cc (h.0)
-
-  closes_meet : (t t' : Turn S) → Closes m t Nothing t' → ⊥
-  closes_meet t t' (NoRoom h) = cc (h.0)
-  closes_meet t t' (Ended a q asks h) = closed_by a (record t { association = q }) t' h
-
-  announced : (a : Asked) (t t' : Turn S) → AnnouncedBy m a t Nothing t' → ⊥
-  announced did.Done t t' h = cc (h.0)
-  announced did.Refused t t' h = closes_meet t t' h
-  announced did.OutOfMemory t t' h = cc (h.0)
-
-  announces_if : (b : Bool) (t t' : Turn S) → AnnouncesIf m b t Nothing t' → ⊥
-  announces_if true t t' (NoMessage h) = cc (h.0)
-  announces_if true t t' (Written a q asks h) = announced a (record t { association = q }) t' h
-  announces_if false t t' h = closes_meet t t' h
-
-  begun_as : (b : Bool) (t t' : Turn S) → BegunAs m b t Nothing t' → ⊥
-  begun_as true t t' h = absurd h.0
-  begun_as false t t' h = announces_if (is_short_entry t.entry) t t' h
-
-  begun : (a : Asked) (t t' : Turn S) → BegunBy m a t Nothing t' → ⊥
-  begun did.Done t t' h = begun_as (is_out_of_band t.entry) t t' h
-  begun did.Refused t t' h = closes_meet t t' h
-  begun did.OutOfMemory t t' h = cc (h.0)
-
-  begins_meet : (t t' : Turn S) → Begins m t Nothing t' → ⊥
-  begins_meet t t' h = begun h.answer (record t { association = h.between }) t' h.then
-
-  acknowledged : (a : Asked) (label : List ℕ) (t t' : Turn S) → AcknowledgedBy m a label t Nothing t' → ⊥
-  acknowledged did.Done label t t' h = cc (h.0)
-  acknowledged did.Refused label t t' h = closes_meet t t' h
-  acknowledged did.OutOfMemory label t t' h = cc (h.0)
-
-  taken_up : (a : Asked) (label : List ℕ) (t t' : Turn S) → TakenUpBy m a label t Nothing t' → ⊥
-  taken_up did.Done label t t' h = acknowledged h.answer label (record t { association = h.between }) t' h.then
-  taken_up did.Refused label t t' h = cc (h.0)
-  taken_up did.OutOfMemory label t t' h = cc (h.0)
-
-  taken_as : (read : ReadMessage) (t t' : Turn S) → TakenAs m read t Nothing t' → ⊥
-  taken_as (message.Open label config) t t' h = taken_up h.answer label _ t' h.then
-  taken_as message.Malformed t t' h = cc (h.0)
-  taken_as message.OutOfMemory t t' h = cc (h.0)
-
-  dcep_taken : (st : StreamEntryState) (bytes : List ℕ) (t t' : Turn S) → TakesDcep m st bytes t Nothing t' → ⊥
-  dcep_taken AwaitConfig bytes t t' h = taken_as h.message t t' h.then
-  dcep_taken AwaitDcepAck bytes t t' h = absurd h.0
-  dcep_taken AwaitOpen bytes t t' h = cc (h.0)
-  dcep_taken Open bytes t t' h = cc (h.0)
-  dcep_taken Closed bytes t t' h = cc (h.0)
-
-  message_taken : (identifier : Ppi) (bytes : List ℕ) (t t' : Turn S) → TakesStreamMessage m identifier bytes t Nothing t' → ⊥
-  message_taken ppi.Dcep bytes t t' h = dcep_taken t.entry.state bytes t t' h
-  message_taken ppi.Text bytes t t' h = cc (h.0)
-  message_taken ppi.Binary bytes t t' h = cc (h.0)
-  message_taken ppi.EmptyText bytes t t' h = cc (h.0)
-  message_taken ppi.EmptyBinary bytes t t' h = cc (h.0)
-  message_taken (ppi.Other number) bytes t t' h = cc (h.0)
-
-  threshold_handed : (a : Asked) (n : ℕ) (t t' : Turn S) → HandedBy m a n t Nothing t' → ⊥
-  threshold_handed did.Done n t t' h = cc (h.0)
-  threshold_handed did.Refused n t t' h = cc (h.0)
-  threshold_handed did.OutOfMemory n t t' h = cc (h.0)
-
   -- what is met is nothing, and nothing changes; or memory is wanting
   abbrev TurnRests : Turn S → Met → Turn S → Type 0
   TurnRests t met t' = ((met ≡ Nothing) × (t' ≡ t)) ⊎ (met ≡ OutOfMemory)
@@ -217,7 +151,7 @@ module _ {S : Type 0} (m : AssociationMeaning S) where
     retried why now (Some first) t t' q early state cause was is h = by (nat_le (opening_ends first) now) refl h
       where
         by : (b : Bool) → nat_le (opening_ends first) now ≡ b → RetriedIf m b t Nothing t' → Rested now t t'
-        by true over k = absurd (closes_meet t t' k)
+        by true over k = absurd (closes_meet m t t' k)
         by false over k = record {
           association = ap (λ (x : Turn S). x.association) k.1;
           resets = ap (λ (x : Turn S). x.resets) k.1;
@@ -229,8 +163,8 @@ module _ {S : Type 0} (m : AssociationMeaning S) where
     -- the stream is there, or its reset is outstanding
     opened_first : (o : Opening) (now : ℕ) (t t' : Turn S) (q : S) (r : Result (Unit {0}) AssocError) → now < 2 ^ 64 - 1 → t.entry.state ≡ AwaitOpen
         → m.opened t.association t.entry.id r q → opening_of r ≡ o → OpenedBy m o now (record t { association = q }) Nothing t' → Rested now t t'
-    opened_first opened.Done now t t' q r early state was is h = absurd (begins_meet (record t { association = q }) t' h)
-    opened_first opened.Refused now t t' q r early state was is h = absurd (closes_meet (record t { association = q }) t' h)
+    opened_first opened.Done now t t' q r early state was is h = absurd (begins_meet m (record t { association = q }) t' h)
+    opened_first opened.Refused now t t' q r early state was is h = absurd (closes_meet m (record t { association = q }) t' h)
     opened_first opened.OutOfMemory now t t' q r early state was is h = cc (h.0)
     opened_first opened.Exists now t t' q r early state was is h =
         let called = subst (λ (x : Result (Unit {0}) AssocError). m.opened t.association t.entry.id x q) (exists_is r is) was in
@@ -238,7 +172,7 @@ module _ {S : Type 0} (m : AssociationMeaning S) where
         by called (is_adopted m t) refl (subst (λ (x : S). AdoptedIf m (is_adopted m (record t { association = x })) now (record t { association = x }) Nothing t') same h)
       where
         by : m.opened t.association t.entry.id (Err StreamExists) q → (b : Bool) → is_adopted m t ≡ b → AdoptedIf m b now t Nothing t' → Rested now t t'
-        by called true adopted k = absurd (begins_meet t t' k)
+        by called true adopted k = absurd (begins_meet m t t' k)
         by called false adopted k = retried StreamExists now t.entry.refused t t' q early state (inl (refl, adopted)) called refl k
     opened_first opened.Pending now t t' q r early state was is h =
         let called = subst (λ (x : Result (Unit {0}) AssocError). m.opened t.association t.entry.id x q) (pending_is r is) was in
@@ -264,14 +198,14 @@ module _ {S : Type 0} (m : AssociationMeaning S) where
     read_first heard.Nothing t t' q r was is h =
         let called = subst (λ (x : Result (Option (Ppi × List ℕ)) AssocError). m.read t.association t.entry.id x q) (nothing_is r is) was in
         (called, h.1 ∙ ap (λ (x : S). record t { association = x }) (w.read_none t.association q t.entry.id called))
-    read_first (heard.Message identifier bytes) t t' q r was is h = absurd (message_taken identifier bytes (record t { association = q }) t' h)
+    read_first (heard.Message identifier bytes) t t' q r was is h = absurd (message_taken m identifier bytes (record t { association = q }) t' h)
     read_first heard.Refused t t' q r was is h = cc (h.0)
     read_first heard.OutOfMemory t t' q r was is h = cc (h.0)
 
     -- what such a stream is attended by
     attends_first : (threshold : BufferedThresholdConfig) (t t' : Turn S) → AttendsBy m threshold t Nothing t'
         → (t' ≡ t) × ((met : Met) (s : Turn S) → AttendsBy m threshold t met s → TurnRests t met s)
-    attends_first (Desired n) t t' h = absurd (threshold_handed h.answer n (record t { association = h.between }) t' h.then)
+    attends_first (Desired n) t t' h = absurd (threshold_handed m h.answer n (record t { association = h.between }) t' h.then)
     attends_first Unconfigured t t' h =
         let first = read_first h.answer t t' h.between h.asks.result h.asks.called h.asks.is h.then in
         (first.1, reads_rest t h.between first.0)
@@ -281,7 +215,7 @@ module _ {S : Type 0} (m : AssociationMeaning S) where
 
     attends_if : (marked there : Bool) (t t' : Turn S) → AttendsIf m marked there t Nothing t'
         → (t' ≡ t) × ((met : Met) (s : Turn S) → AttendsIf m marked there t met s → TurnRests t met s)
-    attends_if true there t t' h = absurd (closes_meet t t' h)
+    attends_if true there t t' h = absurd (closes_meet m t t' h)
     attends_if false false t t' h = cc (h.0)
     attends_if false true t t' h = attends_first t.entry.threshold t t' h
 
