@@ -1,8 +1,8 @@
 -- Two peers stay joined: what came over one DTLS part was sent over the other.
-use Rattle.std.proofs.Common.{◌≡◌, ◌++◌, ◌∷◌, ◌==◌, ◌&&◌, ◌⊎◌, inl, inr, ℕ, Bool, true, false, List, [], map, if◌then◌else◌, append-nil, refl, sym, ap, subst, ◌∙◌}
+use Rattle.std.proofs.Common.{◌≡◌, ◌++◌, ◌∷◌, ◌==◌, ◌&&◌, inl, inr, ℕ, Bool, true, false, List, [], map, if◌then◌else◌, append-nil, refl, sym, ap, subst, ◌∙◌}
 use Rattle.rtc_parts_values.specs.Among.{Member, Among}
-use Rattle.rtc_association.proofs.AmongLemmas.{member-append, member-left, member-right, among_none}
-use Rattle.rtc_association.specs.AssociationActs.{AssociationAct, Moved, Started, Opened, Wrote, Ended, Given as Handed, Taken as Gave, Read, Told, Stirred as AssociationStirred}
+use Rattle.rtc_association.proofs.AmongLemmas.{member-left, member-right, among_none}
+use Rattle.rtc_association.specs.AssociationActs.{AssociationAct, Moved, Wrote, Read}
 use Rattle.rtc_association.specs.AssociationWords.{given, taken, written, read}
 use Rattle.rtc_association.proofs.AssociationLemmas.{taken-append, written-append, read-append}
 use Rattle.rtc_dtls.specs.DtlsActs.{DtlsAct, DtlsMoved, Given, Taken, Sent, Got, Stirred, dtls_moved-append}
@@ -11,13 +11,13 @@ use Rattle.rtc_dtls.proofs.DtlsLemmas.{dtls_given-append, dtls_taken-append, dtl
 use Rattle.rtc_plain_dtls.specs.Contents.{DtlsContents, fresh_dtls}
 use Rattle.rtc_plain_dtls.specs.PlainMeaning.{plain_dtls}
 use Rattle.rtc_plain_dtls.proofs.DataLemmas.{got_came, taken_sent}
-use Rattle.rtc_assoc_state.specs.Contents.{Contents, fresh_contents}
+use Rattle.rtc_assoc_state.specs.Contents.{fresh_contents}
 use Rattle.rtc_assoc_state.specs.PlainMeaning.{plain_meaning}
-use Rattle.rtc_assoc.specs.Joined.{Move, LeftMoves, RightMoves, Ends, fresh_ends, Run}
+use Rattle.rtc_assoc.specs.Joined.{LeftMoves, RightMoves, fresh_ends}
 use Rattle.rtc_sctp_laws.specs.StreamMessages.{StreamMessage, write_act, read_act, writes_of, reads_of}
 use Rattle.rtc_polling_laws.specs.PeerActs.{PeerActs}
-use Rattle.rtc_polling_laws.proofs.ActWords.{among_with, through}
-use Rattle.rtc_joined_peers.specs.JoinedPeers.{PlainParts, PartsPast, past_with, AreUnused, ends_of, PeersJoined}
+use Rattle.rtc_polling_laws.proofs.ActWords.{through}
+use Rattle.rtc_joined_peers.specs.JoinedPeers.{PacketParts, PartsPast, past_with, CarriesData, AreUnused, ends_of, PeersJoined}
 
 -- where application data came among acts
 split_got : (bytes : List ℕ) (acts : List DtlsAct) → Member bytes (dtls_got acts)
@@ -46,35 +46,39 @@ member_is {A} x l k is h = subst (λ (i : List A). Member x i) (sym is) h
 
 -- application data that came at one side was taken from the association of the other
 crosses : (p q : DtlsContents) (mine theirs : List DtlsAct) (pushed packets : List (List ℕ)) (bytes : List ℕ) → DtlsMoved plain_dtls fresh_dtls mine p
-    → DtlsMoved plain_dtls fresh_dtls theirs q → Among (dtls_given mine) (dtls_taken theirs) → Among (dtls_sent theirs ++ pushed) packets
+    → DtlsMoved plain_dtls fresh_dtls theirs q → CarriesData (dtls_given mine) (dtls_taken theirs) → Among (dtls_sent theirs ++ pushed) packets
     → Member bytes (dtls_got mine) → Member bytes packets
 crosses p q mine theirs pushed packets bytes here there fed relayed got =
     let s = split_got bytes mine got in
     let came = got_came fresh_dtls p s.0 s.1.0 bytes refl (subst (λ (l : List DtlsAct). DtlsMoved plain_dtls fresh_dtls l p) s.1.1 here) in
     let given_all = member_is (23 ∷ bytes) (dtls_given mine) (dtls_given s.0 ++ dtls_given (Got bytes ∷ s.1.0))
-        (ap dtls_given s.1.1 ∙ dtls_given-append s.0 (Got bytes ∷ s.1.0)) (member-left (23 ∷ bytes) (dtls_given s.0) (dtls_given (Got bytes ∷ s.1.0)) came) in
-    let t = split_taken (23 ∷ bytes) theirs (fed.each (23 ∷ bytes) given_all) in
+    (ap dtls_given s.1.1 ∙ dtls_given-append s.0 (Got bytes ∷ s.1.0)) (member-left (23 ∷ bytes) (dtls_given s.0) (dtls_given (Got bytes ∷ s.1.0)) came) in
+    let t = split_taken (23 ∷ bytes) theirs (fed.each bytes given_all) in
     let sent = taken_sent fresh_dtls q t.0 t.1.0 bytes refl (subst (λ (l : List DtlsAct). DtlsMoved plain_dtls fresh_dtls l q) t.1.1 there) in
     let sent_all = member_is bytes (dtls_sent theirs) (dtls_sent t.0 ++ dtls_sent (Taken (23 ∷ bytes) ∷ t.1.0))
-        (ap dtls_sent t.1.1 ∙ dtls_sent-append t.0 (Taken (23 ∷ bytes) ∷ t.1.0))
-        (member-left bytes (dtls_sent t.0) (dtls_sent (Taken (23 ∷ bytes) ∷ t.1.0)) sent) in
+    (ap dtls_sent t.1.1 ∙ dtls_sent-append t.0 (Taken (23 ∷ bytes) ∷ t.1.0))
+    (member-left bytes (dtls_sent t.0) (dtls_sent (Taken (23 ∷ bytes) ∷ t.1.0)) sent) in
     relayed.each bytes (member-left bytes (dtls_sent theirs) pushed sent_all)
 
 -- one call more of one side
-module _ (past : PartsPast) (parts after : PlainParts) (acts : PeerActs) (dtls : DtlsMoved plain_dtls parts.dtls acts.dtls after.dtls) (handed : Among (given acts.association) (dtls_got acts.dtls)) (relayed : Among (dtls_sent acts.dtls ++ after.pushed) (taken acts.association ++ parts.pushed)) where
+module _ (past : PartsPast) (parts after : PacketParts) (acts : PeerActs) (dtls : DtlsMoved plain_dtls parts.dtls acts.dtls after.dtls) (handed : Among (given acts.association) (dtls_got acts.dtls)) (relayed : Among (dtls_sent acts.dtls ++ after.pushed) (taken acts.association ++ parts.pushed)) where
   moved_on : DtlsMoved plain_dtls fresh_dtls past.dtls parts.dtls → DtlsMoved plain_dtls fresh_dtls (past_with past acts).dtls after.dtls
   moved_on h = dtls_moved-append plain_dtls fresh_dtls parts.dtls after.dtls past.dtls acts.dtls h dtls
 
-  given_on : (came others : List (List ℕ)) → Among (dtls_given acts.dtls) came → Among came others → Among (dtls_given past.dtls) others
-      → Among (dtls_given (past_with past acts).dtls) others
-  given_on came others now more before =
-      among_with (dtls_given (past_with past acts).dtls) (dtls_given past.dtls) (dtls_given acts.dtls) others (dtls_given-append past.dtls acts.dtls) before
-      (record { each = λ x h. more.each x (now.each x h) })
+  given_on : (came others : List (List ℕ)) → Among (dtls_given acts.dtls) came → CarriesData came others → CarriesData (dtls_given past.dtls) others
+      → CarriesData (dtls_given (past_with past acts).dtls) others
+  given_on came others now more before = record {
+    each = λ bytes h. elim (member-append (23 ∷ bytes) (dtls_given past.dtls) (dtls_given acts.dtls)
+        (subst (λ (l : List (List ℕ)). Member (23 ∷ bytes) l) (dtls_given-append past.dtls acts.dtls) h)) [
+          | inl k ↦ before.each bytes k
+          | inr k ↦ more.each bytes (now.each (23 ∷ bytes) k)
+        ];
+  }
 
-  taken_on : (others : List (List ℕ)) → Among others (dtls_taken past.dtls) → Among others (dtls_taken (past_with past acts).dtls)
+  taken_on : (others : List (List ℕ)) → CarriesData others (dtls_taken past.dtls) → CarriesData others (dtls_taken (past_with past acts).dtls)
   taken_on others before = record {
-    each = λ x h. member_is x (dtls_taken (past_with past acts).dtls) (dtls_taken past.dtls ++ dtls_taken acts.dtls) (dtls_taken-append past.dtls acts.dtls)
-        (member-left x (dtls_taken past.dtls) (dtls_taken acts.dtls) (before.each x h));
+    each = λ bytes h. member_is (23 ∷ bytes) (dtls_taken (past_with past acts).dtls) (dtls_taken past.dtls ++ dtls_taken acts.dtls)
+        (dtls_taken-append past.dtls acts.dtls) (member-left (23 ∷ bytes) (dtls_taken past.dtls) (dtls_taken acts.dtls) (before.each bytes h));
   }
 
   relayed_on : Among (dtls_sent past.dtls ++ parts.pushed) (taken past.association)
@@ -85,13 +89,13 @@ module _ (past : PartsPast) (parts after : PlainParts) (acts : PeerActs) (dtls :
       (through (dtls_sent past.dtls) (dtls_sent acts.dtls) parts.pushed after.pushed (taken (past.association ++ acts.association)) (taken past.association)
       (taken acts.association) []
       (λ x h. member_is x (taken (past.association ++ acts.association)) (taken past.association ++ taken acts.association)
-        (taken-append past.association acts.association) (member-left x (taken past.association) (taken acts.association) h))
+      (taken-append past.association acts.association) (member-left x (taken past.association) (taken acts.association) h))
       (λ x h. member_is x (taken (past.association ++ acts.association)) (taken past.association ++ taken acts.association)
-        (taken-append past.association acts.association) (member-right x (taken past.association) (taken acts.association) h))
+      (taken-append past.association acts.association) (member-right x (taken past.association) (taken acts.association) h))
       (subst (λ (l : List (List ℕ)). Among (dtls_sent past.dtls ++ parts.pushed) l) (sym (append-nil (taken past.association))) before) relayed))
 
   handed_on : (q : DtlsContents) (theirs : List DtlsAct) (pushed packets : List (List ℕ)) → DtlsMoved plain_dtls fresh_dtls past.dtls parts.dtls
-      → DtlsMoved plain_dtls fresh_dtls theirs q → Among (dtls_given (past_with past acts).dtls) (dtls_taken theirs)
+      → DtlsMoved plain_dtls fresh_dtls theirs q → CarriesData (dtls_given (past_with past acts).dtls) (dtls_taken theirs)
       → Among (dtls_sent theirs ++ pushed) packets → Among (given acts.association) packets
   handed_on q theirs pushed packets here there fed sent = record {
     each = λ x h. crosses after.dtls q (past_with past acts).dtls theirs pushed packets x (moved_on here) there fed sent
@@ -99,8 +103,8 @@ module _ (past : PartsPast) (parts after : PlainParts) (acts : PeerActs) (dtls :
         (member-right x (dtls_got past.dtls) (dtls_got acts.dtls) (handed.each x h)));
   }
 
-pub left_stays : (a b : PartsPast) (left after right : PlainParts) (acts : PeerActs) (came : List (List ℕ)) → DtlsMoved plain_dtls left.dtls acts.dtls after.dtls
-    → Moved plain_meaning left.association acts.association after.association → Among (dtls_given acts.dtls) came → Among came (dtls_taken b.dtls)
+pub left_stays : (a b : PartsPast) (left after right : PacketParts) (acts : PeerActs) (came : List (List ℕ)) → DtlsMoved plain_dtls left.dtls acts.dtls after.dtls
+    → Moved plain_meaning left.association acts.association after.association → Among (dtls_given acts.dtls) came → CarriesData came (dtls_taken b.dtls)
     → Among (given acts.association) (dtls_got acts.dtls) → Among (dtls_sent acts.dtls ++ after.pushed) (taken acts.association ++ left.pushed)
     → PeersJoined a left b right → PeersJoined (past_with a acts) after b right
 left_stays a b left after right acts came dtls went now more handed relayed j =
@@ -109,16 +113,25 @@ left_stays a b left after right acts came dtls went now more handed relayed j =
       left_dtls = moved_on a left after acts dtls handed relayed j.left_dtls;
       right_dtls = j.right_dtls;
       moves = LeftMoves acts.association ∷ j.moves;
-      run = (ends_of a left b right, (j.run, (went,
-        handed_on a left after acts dtls handed relayed right.dtls b.dtls right.pushed (taken b.association) j.left_dtls j.right_dtls fed j.relayed_right, refl)));
+      run = (
+        ends_of a left b right,
+        (
+          j.run,
+          (
+            went,
+            handed_on a left after acts dtls handed relayed right.dtls b.dtls right.pushed (taken b.association) j.left_dtls j.right_dtls fed j.relayed_right,
+            refl,
+          ),
+        ),
+      );
       given_left = fed;
       given_right = taken_on a left after acts dtls handed relayed (dtls_given b.dtls) j.given_right;
       relayed_left = relayed_on a left after acts dtls handed relayed j.relayed_left;
       relayed_right = j.relayed_right;
     }
 
-pub right_stays : (a b : PartsPast) (left right after : PlainParts) (acts : PeerActs) (came : List (List ℕ)) → DtlsMoved plain_dtls right.dtls acts.dtls after.dtls
-    → Moved plain_meaning right.association acts.association after.association → Among (dtls_given acts.dtls) came → Among came (dtls_taken a.dtls)
+pub right_stays : (a b : PartsPast) (left right after : PacketParts) (acts : PeerActs) (came : List (List ℕ)) → DtlsMoved plain_dtls right.dtls acts.dtls after.dtls
+    → Moved plain_meaning right.association acts.association after.association → Among (dtls_given acts.dtls) came → CarriesData came (dtls_taken a.dtls)
     → Among (given acts.association) (dtls_got acts.dtls) → Among (dtls_sent acts.dtls ++ after.pushed) (taken acts.association ++ right.pushed)
     → PeersJoined a left b right → PeersJoined a left (past_with b acts) after
 right_stays a b left right after acts came dtls went now more handed relayed j =
@@ -127,8 +140,17 @@ right_stays a b left right after acts came dtls went now more handed relayed j =
       left_dtls = j.left_dtls;
       right_dtls = moved_on b right after acts dtls handed relayed j.right_dtls;
       moves = RightMoves acts.association ∷ j.moves;
-      run = (ends_of a left b right, (j.run, (went,
-        handed_on b right after acts dtls handed relayed left.dtls a.dtls left.pushed (taken a.association) j.right_dtls j.left_dtls fed j.relayed_left, refl)));
+      run = (
+        ends_of a left b right,
+        (
+          j.run,
+          (
+            went,
+            handed_on b right after acts dtls handed relayed left.dtls a.dtls left.pushed (taken a.association) j.right_dtls j.left_dtls fed j.relayed_left,
+            refl,
+          ),
+        ),
+      );
       given_left = taken_on b right after acts dtls handed relayed (dtls_given a.dtls) j.given_left;
       given_right = fed;
       relayed_left = j.relayed_left;
@@ -142,16 +164,20 @@ none_among l k is = subst (λ (x : List (List ℕ)). Among x k) (sym is) (among_
 none_stands : (sent pushed k : List (List ℕ)) → sent ≡ [] → pushed ≡ [] → Among (sent ++ pushed) k
 none_stands sent pushed k e f = none_among (sent ++ pushed) k (ap (λ l. l ++ pushed) e ∙ f)
 
-pub unused_joined : (a b : PartsPast) (left right : PlainParts) → AreUnused a left → AreUnused b right → PeersJoined a left b right
+pub unused_joined : (a b : PartsPast) (left right : PacketParts) → AreUnused a left → AreUnused b right → PeersJoined a left b right
 unused_joined a b left right u v = record {
   left_dtls = u.dtls;
   right_dtls = v.dtls;
   moves = RightMoves b.association ∷ LeftMoves a.association ∷ [];
-  run = (record { left = left.association; right = fresh_contents; left_acts = a.association; right_acts = [] },
-    ((fresh_ends, (refl, (u.association, none_among (given a.association) [] u.none_handed, refl))),
-    (v.association, none_among (given b.association) (taken a.association) v.none_handed, refl)));
-  given_left = none_among (dtls_given a.dtls) (dtls_taken b.dtls) u.none_given;
-  given_right = none_among (dtls_given b.dtls) (dtls_taken a.dtls) v.none_given;
+  run = (
+    record { left = left.association; right = fresh_contents; left_acts = a.association; right_acts = [] },
+    (
+      (fresh_ends, (refl, (u.association, none_among (given a.association) [] u.none_handed, refl))),
+      (v.association, none_among (given b.association) (taken a.association) v.none_handed, refl),
+    ),
+  );
+  given_left = record { each = λ bytes h. absurd (u.none_given bytes h) };
+  given_right = record { each = λ bytes h. absurd (v.none_given bytes h) };
   relayed_left = none_stands (dtls_sent a.dtls) left.pushed (taken a.association) u.none_sent u.none_pushed;
   relayed_right = none_stands (dtls_sent b.dtls) right.pushed (taken b.association) v.none_sent v.none_pushed;
 }

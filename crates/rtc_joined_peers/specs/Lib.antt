@@ -1,1 +1,2 @@
 pub mod JoinedPeers
+pub mod ShownData

@@ -1,6 +1,5 @@
 //! How calls of two peers join their associations, and what these then read.
 ghost use Rattle.std.specs.Prelude.{◌≡◌, ◌++◌, ℕ, List, false, map};
-ghost use Rattle.rtc_parts_values.specs.Among.{Among};
 ghost use Rattle.rtc_dtls.specs.DtlsWords.{dtls_taken};
 ghost use Rattle.rtc_association.specs.AssociationWords.{written, read, ended};
 ghost use Rattle.rtc_plain_dtls.specs.Contents.{DtlsContents};
@@ -14,7 +13,7 @@ ghost use Rattle.rtc_peer_state.specs.Meanings.{meanings};
 ghost use Rattle.rtc_polling.specs.declared.polled_peer.PolledPeer.{PolledPeer as Polled};
 ghost use Rattle.rtc_polling_laws.specs.Acts.{PeerDid};
 ghost use Rattle.rtc_polling_laws.specs.PeerActs.{Came};
-ghost use Rattle.rtc_joined_peers.specs.JoinedPeers.{AreUnused, PartsPast, PeersJoined, PlainParts, past_with, plain_parts};
+ghost use Rattle.rtc_joined_peers.specs.JoinedPeers.{AreUnused, CarriesData, PartsPast, PeersJoined, PacketParts, past_with, packet_parts};
 
 use rtc_association::Association;
 use rtc_dtls::DtlsInstance;
@@ -22,36 +21,37 @@ use rtc_ice::IceAgent;
 use rtc_ids::Ids;
 use rtc_media::MediaSession;
 
-/// Two peers whose parts were not used yet are joined, and stay so by every call of one of them to whose DTLS part only packets
-/// come that the DTLS part of the other one had given before, whatever is lost, repeated or reordered.
+/// Two peers whose parts were not used yet are joined, and stay so by every call of one of them to whose DTLS part application data
+/// comes only in packets that the DTLS part of the other one had given before, whatever is lost, repeated or reordered, and whatever
+/// other packets come.
 pub fn calls_keep_peers_joined<I: IceAgent, M: MediaSession, N: Ids>()
-    ensures unused { (a b : PartsPast) (left right : PlainParts) → AreUnused a left → AreUnused b right
+    ensures unused { (a b : PartsPast) (left right : PacketParts) → AreUnused a left → AreUnused b right
         → PeersJoined a left b right }
-    ensures left { (a b : PartsPast) (p q : Polled I DtlsContents Contents M N) (right : PlainParts) (came : Came) (moments : List ℕ)
-        (shown : List (List ℕ)) (wrote heard : List StreamMessage) → PeersJoined a (plain_parts p) b right
-        → Among came.dtls (dtls_taken b.dtls)
+    ensures left { (a b : PartsPast) (p q : Polled I DtlsContents Contents M N) (right : PacketParts) (came : Came) (moments : List ℕ)
+        (shown : List (List ℕ)) (wrote heard : List StreamMessage) → PeersJoined a (packet_parts p) b right
+        → CarriesData came.dtls (dtls_taken b.dtls)
         → (did : PeerDid (meanings I.ice plain_dtls plain_meaning M.media N.ids) came moments shown wrote heard p q)
-        → PeersJoined (past_with a did.acts) (plain_parts q) b right }
-    ensures right { (a b : PartsPast) (p q : Polled I DtlsContents Contents M N) (left : PlainParts) (came : Came) (moments : List ℕ)
-        (shown : List (List ℕ)) (wrote heard : List StreamMessage) → PeersJoined a left b (plain_parts p)
-        → Among came.dtls (dtls_taken a.dtls)
+        → PeersJoined (past_with a did.acts) (packet_parts q) b right }
+    ensures right { (a b : PartsPast) (p q : Polled I DtlsContents Contents M N) (left : PacketParts) (came : Came) (moments : List ℕ)
+        (shown : List (List ℕ)) (wrote heard : List StreamMessage) → PeersJoined a left b (packet_parts p)
+        → CarriesData came.dtls (dtls_taken a.dtls)
         → (did : PeerDid (meanings I.ice plain_dtls plain_meaning M.media N.ids) came moments shown wrote heard p q)
-        → PeersJoined a left (past_with b did.acts) (plain_parts q) }
+        → PeersJoined a left (past_with b did.acts) (packet_parts q) }
 {}
 
 /// Of each generation of each stream, the association of one peer reads a prefix of the messages that the association of the other
 /// one wrote. Where neither closed the generation and the writer holds no unacknowledged item of the stream, the messages read and
 /// those still unread are together all that were written.
 pub fn joined_peers_read_what_was_written()
-    ensures right { (a b : PartsPast) (left right : PlainParts) (s g : ℕ) → PeersJoined a left b right
+    ensures right { (a b : PartsPast) (left right : PacketParts) (s g : ℕ) → PeersJoined a left b right
         → IsPrefix (read s g b.association) (written s g a.association) }
-    ensures left { (a b : PartsPast) (left right : PlainParts) (s g : ℕ) → PeersJoined a left b right
+    ensures left { (a b : PartsPast) (left right : PacketParts) (s g : ℕ) → PeersJoined a left b right
         → IsPrefix (read s g a.association) (written s g b.association) }
-    ensures all_right { (a b : PartsPast) (left right : PlainParts) (s g : ℕ) → PeersJoined a left b right
+    ensures all_right { (a b : PartsPast) (left right : PacketParts) (s g : ℕ) → PeersJoined a left b right
         → ended s g a.association ≡ false → ended s g b.association ≡ false
         → has_unacknowledged s left.association.outbox.items ≡ false
         → read s g b.association ++ unread s g right.association.inbox.unread ≡ written s g a.association }
-    ensures all_left { (a b : PartsPast) (left right : PlainParts) (s g : ℕ) → PeersJoined a left b right
+    ensures all_left { (a b : PartsPast) (left right : PacketParts) (s g : ℕ) → PeersJoined a left b right
         → ended s g a.association ≡ false → ended s g b.association ≡ false
         → has_unacknowledged s right.association.outbox.items ≡ false
         → read s g a.association ++ unread s g left.association.inbox.unread ≡ written s g b.association }

@@ -2,5 +2,9 @@
 #![tactic(auto)]
 
 mod joined;
+mod shown;
 
-pub use joined::{calls_keep_peers_joined, joined_peers_read_what_was_written, messages_are_those_of_calls};
+pub use joined::{
+    calls_keep_peers_joined, joined_peers_read_what_was_written, messages_are_those_of_calls,
+};
+pub use shown::shown_data_is_of_dtls;

@@ -1,10 +1,10 @@
 -- What calls did to the parts of a peer, one after the other, and what single acts did.
-use Rattle.std.proofs.Common.{◌≡◌, ◌++◌, ◌∷◌, ◌⊎◌, inl, inr, ℕ, Bool, true, false, List, [], map, append-nil, refl, sym, ap, subst, ◌∙◌}
+use Rattle.std.proofs.Common.{◌≡◌, ◌++◌, inl, inr, ℕ, List, [], map, append-nil, refl, sym, ap, subst, ◌∙◌}
 use Rattle.std.proofs.lemmas.List.{map-append}
 use Rattle.rtc_wire.specs.declared.transmit.Transmit.{Transmit}
 use Rattle.rtc_parts_values.specs.Among.{Member, Among}
 use Rattle.rtc_association.proofs.AmongLemmas.{member-append, member-left, member-right, among_none, among_self}
-use Rattle.rtc_association.specs.AssociationActs.{AssociationAct, Moved, moved-append}
+use Rattle.rtc_association.specs.AssociationActs.{moved-append}
 use Rattle.rtc_association.specs.AssociationLaws.{AssociationLaws}
 use Rattle.rtc_association.specs.AssociationWords.{given, taken}
 use Rattle.rtc_association.proofs.AssociationLemmas.{given-append, taken-append}
@@ -18,13 +18,12 @@ use Rattle.rtc_media.specs.MediaActs.{MediaAct, MediaMoved, media_moved-append}
 use Rattle.rtc_sctp_laws.specs.StreamActs.{AssociationDid}
 use Rattle.rtc_sctp_laws.specs.StreamMessages.{StreamMessage, write_act, read_act, writes_of, reads_of, pushed_packets}
 use Rattle.rtc_sctp_laws.proofs.ClosingPolls.{started_moved}
-use Rattle.rtc_peer_state.specs.Meanings.{Meanings, PartsLaws}
-use Rattle.rtc_peer_state.specs.declared.rtc_error.RtcError.{RtcError}
+use Rattle.rtc_peer_state.specs.Meanings.{Meanings}
 use Rattle.rtc_polling.specs.declared.polled_peer.PolledPeer.{PolledPeer}
-use Rattle.rtc_polling_laws.specs.PeerActs.{PeerActs, PeerMoved, Came, peer_acts, media_given, media_taken, ice_moments, dtls_moments, media_moments, contents_taken}
+use Rattle.rtc_polling_laws.specs.PeerActs.{acts_with, Came, peer_acts, media_given, media_taken, ice_moments, dtls_moments, media_moments, contents_taken}
 use Rattle.rtc_polling_laws.specs.Acts.{PeerDid}
 use Rattle.rtc_polling_laws.proofs.ActWords.{media_given-append, ice_moments-append, dtls_moments-append, media_moments-append, writes_of-append, reads_of-append}
-use Rattle.rtc_polling_laws.proofs.ActWords.{among_with, among_pair, both_acts, taken_first, taken_second, through}
+use Rattle.rtc_polling_laws.proofs.ActWords.{among_with, among_pair, taken_first, taken_second, through}
 
 module _ {I D S M E X T W N : Type 0} (m : Meanings I D S M E X T W N) where
   -- all parts are as they were, with what stands to be sent and shown
@@ -169,7 +168,7 @@ module _ {I D S M E X T W N : Type 0} (m : Meanings I D S M E X T W N) where
     pub did_on : (came : Came) (moments : List ℕ) (s s' : List (List ℕ)) (w w' h h' : List StreamMessage) (p q r : PolledPeer I D S M N)
         → PeerDid m came moments s w h p q → PeerDid m came moments s' w' h' q r → PeerDid m came moments (s ++ s') (w ++ w') (h ++ h') p r
     did_on came moments s s' w w' h h' p q r a b = record {
-      acts = both_acts a.acts b.acts;
+      acts = acts_with a.acts b.acts;
       went = record {
         ice = ice_moved-append m.ice _ q.core.ice _ a.acts.ice b.acts.ice a.went.ice b.went.ice;
         dtls = dtls_moved-append m.dtls _ q.core.dtls.instance _ a.acts.dtls b.acts.dtls a.went.dtls b.went.dtls;
@@ -183,7 +182,7 @@ module _ {I D S M E X T W N : Type 0} (m : Meanings I D S M E X T W N) where
       timed_dtls = among_with _ _ _ _ (dtls_moments-append a.acts.dtls b.acts.dtls) a.timed_dtls b.timed_dtls;
       timed_media = among_with _ _ _ _ (media_moments-append a.acts.media b.acts.media) a.timed_media b.timed_media;
       sent =
-          through s s' q.core.dtls.packets r.core.dtls.packets (contents_taken (both_acts a.acts b.acts)) (contents_taken a.acts) (contents_taken b.acts)
+          through s s' q.core.dtls.packets r.core.dtls.packets (contents_taken (acts_with a.acts b.acts)) (contents_taken a.acts) (contents_taken b.acts)
           p.core.dtls.packets (λ x n. taken_first x a.acts b.acts n) (λ x n. taken_second x a.acts b.acts n) a.sent b.sent;
       handed =
           among_pair _ _ (given a.acts.association) (given b.acts.association) (dtls_got a.acts.dtls) (dtls_got b.acts.dtls)
@@ -192,7 +191,7 @@ module _ {I D S M E X T W N : Type 0} (m : Meanings I D S M E X T W N) where
           given-append a.acts.association b.acts.association
           ∙ ap (λ l. l ++ given b.acts.association) (a.all_handed started)
           ∙ ap (λ l. dtls_got a.acts.dtls ++ l)
-            (b.all_handed (started_moved m.association laws a.acts.association p.core.sctp.association q.core.sctp.association started a.went.association))
+          (b.all_handed (started_moved m.association laws a.acts.association p.core.sctp.association q.core.sctp.association started a.went.association))
           ∙ sym (dtls_got-append a.acts.dtls b.acts.dtls);
       relayed =
           subst (λ (l : List (List ℕ)). Among (l ++ pushed_packets r.core.sctp.pushed) (taken (a.acts.association ++ b.acts.association) ++ pushed_packets p.core.sctp.pushed))
@@ -200,9 +199,9 @@ module _ {I D S M E X T W N : Type 0} (m : Meanings I D S M E X T W N) where
           (through (dtls_sent a.acts.dtls) (dtls_sent b.acts.dtls) (pushed_packets q.core.sctp.pushed) (pushed_packets r.core.sctp.pushed)
           (taken (a.acts.association ++ b.acts.association)) (taken a.acts.association) (taken b.acts.association) (pushed_packets p.core.sctp.pushed)
           (λ x n. subst (λ (l : List (List ℕ)). Member x l) (sym (taken-append a.acts.association b.acts.association))
-            (member-left x (taken a.acts.association) (taken b.acts.association) n))
+          (member-left x (taken a.acts.association) (taken b.acts.association) n))
           (λ x n. subst (λ (l : List (List ℕ)). Member x l) (sym (taken-append a.acts.association b.acts.association))
-            (member-right x (taken a.acts.association) (taken b.acts.association) n))
+          (member-right x (taken a.acts.association) (taken b.acts.association) n))
           a.relayed b.relayed);
       wrote_is =
           writes_of-append a.acts.association b.acts.association

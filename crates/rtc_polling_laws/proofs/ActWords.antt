@@ -1,12 +1,12 @@
 -- What lists of acts gave, took and were handed, joined.
-use Rattle.std.proofs.Common.{◌≡◌, ◌++◌, ◌∷◌, ◌⊎◌, inl, inr, ℕ, Bool, true, false, List, [], map, refl, sym, ap, subst, ◌∙◌}
+use Rattle.std.proofs.Common.{◌≡◌, ◌++◌, ◌∷◌, inl, inr, ℕ, List, [], map, refl, sym, ap, subst, ◌∙◌}
 use Rattle.std.proofs.lemmas.List.{map-append}
 use Rattle.rtc_wire.specs.declared.transmit.Transmit.{Transmit}
-use Rattle.rtc_parts_values.specs.Why.{Timed, Shut, Other}
+use Rattle.rtc_parts_values.specs.Why.{Timed}
 use Rattle.rtc_parts_values.specs.Among.{Member, Among}
 use Rattle.rtc_association.proofs.AmongLemmas.{member-append, member-left, member-right}
 use Rattle.rtc_association.specs.AssociationActs.{AssociationAct, Wrote, Read}
-use Rattle.rtc_ice.specs.IceActs.{IceAct, Given as IceGave, Taken as IceTook, Stirred as IceStirred, TimedAt as IceTimed}
+use Rattle.rtc_ice.specs.IceActs.{IceAct, Stirred as IceStirred, TimedAt as IceTimed}
 use Rattle.rtc_ice.specs.IceWords.{ice_taken}
 use Rattle.rtc_ice.proofs.IceLemmas.{ice_taken-append}
 use Rattle.rtc_dtls.specs.DtlsActs.{DtlsAct, Stirred as DtlsStirred, TimedAt as DtlsTimed}
@@ -14,7 +14,7 @@ use Rattle.rtc_dtls.specs.DtlsWords.{dtls_taken}
 use Rattle.rtc_dtls.proofs.DtlsLemmas.{dtls_taken-append}
 use Rattle.rtc_media.specs.MediaActs.{MediaAct, MediaGiven, MediaTaken, MediaStirred}
 use Rattle.rtc_sctp_laws.specs.StreamMessages.{writes_of, reads_of}
-use Rattle.rtc_polling_laws.specs.PeerActs.{PeerActs, media_given, media_taken, ice_moments, dtls_moments, media_moments, contents_taken}
+use Rattle.rtc_polling_laws.specs.PeerActs.{acts_with, PeerActs, media_given, media_taken, ice_moments, dtls_moments, media_moments, contents_taken}
 
 pub media_given-append : (xs ys : List MediaAct) → media_given (xs ++ ys) ≡ media_given xs ++ media_given ys
 media_given-append [] ys = refl
@@ -63,10 +63,6 @@ among_pair {A} l k xs ys us vs e f a b =
     subst (λ (i : List A). Among i k) (sym e) (subst (λ (i : List A). Among (xs ++ ys) i) (sym f)
     (record { each = λ x h. elim (member-append x xs ys h) [ inl n ↦ member-left x us vs (a.each x n) | inr n ↦ member-right x us vs (b.each x n) ] }))
 
--- the acts of both, part by part
-abbrev pub both_acts : PeerActs → PeerActs → PeerActs
-both_acts a b = record { ice = a.ice ++ b.ice; dtls = a.dtls ++ b.dtls; association = a.association ++ b.association; media = a.media ++ b.media }
-
 abbrev contents_of : List IceAct → List (List ℕ)
 contents_of acts = map (λ (transmit : Transmit). transmit.contents) (ice_taken acts)
 
@@ -79,7 +75,7 @@ member_is : {A : Type 0} (x : A) (l k : List A) → l ≡ k → Member x k → M
 member_is {A} x l k is h = subst (λ (i : List A). Member x i) (sym is) h
 
 -- what was taken in the first of two lists of acts, or in the second, was taken in both
-pub taken_first : (x : List ℕ) (a b : PeerActs) → Member x (contents_taken a) → Member x (contents_taken (both_acts a b))
+pub taken_first : (x : List ℕ) (a b : PeerActs) → Member x (contents_taken a) → Member x (contents_taken (acts_with a b))
 taken_first x a b h = elim (member-append x (contents_of a.ice) (dtls_taken a.dtls ++ media_taken a.media) h) [
   | inl n ↦
       member-left x (contents_of (a.ice ++ b.ice)) (dtls_taken (a.dtls ++ b.dtls) ++ media_taken (a.media ++ b.media))
@@ -95,7 +91,7 @@ taken_first x a b h = elim (member-append x (contents_of a.ice) (dtls_taken a.dt
       ])
 ]
 
-pub taken_second : (x : List ℕ) (a b : PeerActs) → Member x (contents_taken b) → Member x (contents_taken (both_acts a b))
+pub taken_second : (x : List ℕ) (a b : PeerActs) → Member x (contents_taken b) → Member x (contents_taken (acts_with a b))
 taken_second x a b h = elim (member-append x (contents_of b.ice) (dtls_taken b.dtls ++ media_taken b.media) h) [
   | inl n ↦
       member-left x (contents_of (a.ice ++ b.ice)) (dtls_taken (a.dtls ++ b.dtls) ++ media_taken (a.media ++ b.media))

@@ -1,9 +1,9 @@
 -- What closing does to the parts of a peer.
-use Rattle.std.proofs.Common.{◌≡◌, ◌++◌, ◌∷◌, inl, inr, ℕ, Bool, true, false, List, [], Option, Some, None, Result, Ok, Err, alloc_error, append-nil, refl, sym, ap, subst, ◌∙◌}
+use Rattle.std.proofs.Common.{◌≡◌, ◌∷◌, ℕ, List, [], Result, Ok, Err, alloc_error, append-nil, refl, sym, ap, subst, ◌∙◌}
 use Rattle.std.specs.declared.alloc.AllocError.{AllocError}
 use Rattle.rtc_parts_values.specs.Why.{Shut}
 use Rattle.rtc_parts_values.specs.Among.{Among}
-use Rattle.rtc_association.proofs.AmongLemmas.{among_none, among_self, among_more}
+use Rattle.rtc_association.proofs.AmongLemmas.{among_none, among_self}
 use Rattle.rtc_association.specs.AssociationLaws.{AssociationLaws}
 use Rattle.rtc_dtls.specs.declared.dtls_error.DtlsError.{DtlsError}
 use Rattle.rtc_dtls.specs.declared.dtls_error.DtlsError.TheVariants.{Fault, Alloc as DtlsAlloc}

@@ -1,5 +1,5 @@
 -- What inputs, and what is done with an open channel, do to the parts of a peer.
-use Rattle.std.proofs.Common.{◌≡◌, ◌++◌, ◌∷◌, inl, inr, ℕ, Bool, true, false, List, [], Option, Some, None, Result, Ok, Err, alloc_error, refl, sym, ap, subst, ◌∙◌}
+use Rattle.std.proofs.Common.{◌≡◌, ◌∷◌, inl, inr, ℕ, Bool, true, false, List, [], Option, Some, None, Result, Ok, Err, alloc_error, refl, sym, ap, subst, ◌∙◌}
 use Rattle.std.specs.declared.alloc.AllocError.{AllocError}
 use Rattle.rtc_wire.specs.declared.datagram_recv.DatagramRecv.{DatagramRecv}
 use Rattle.rtc_wire.specs.declared.datagram_recv.DatagramRecv.TheVariants as datagrams
@@ -31,13 +31,12 @@ use Rattle.rtc_peer_state.specs.Meanings.{Meanings}
 use Rattle.rtc_polling.specs.declared.input.Input.{Input}
 use Rattle.rtc_polling.specs.declared.input.Input.TheVariants.{Timeout as TimeCame, Receive as Datagram}
 use Rattle.rtc_polling.specs.declared.polled_peer.PolledPeer.{PolledPeer}
-use Rattle.rtc_polling.specs.ChannelCalls.{AsksThreshold, WritesIf, WritesChannel, bytes_available, write_taken}
-use Rattle.rtc_polling.specs.Inputs.{ChannelsTimed, TimesIce, TimesStreams, TimesChannels, TimesMedia, GivesTime, TakesTimeIf, with_moment}
+use Rattle.rtc_polling.specs.ChannelCalls.{AsksThreshold, WritesIf, WritesChannel, write_taken}
+use Rattle.rtc_polling.specs.Inputs.{TimesIce, TimesStreams, TimesChannels, TimesMedia, GivesTime, TakesTimeIf, with_moment}
 use Rattle.rtc_polling.specs.Inputs.{HearsStun, HearsDtls, HearsMedia, HearsKind, Hears, Heard, PartFailed, HandlesInputBy, HandlesInputIn, HandlesInput}
-use Rattle.rtc_polling.specs.Stages.{InTurn}
-use Rattle.rtc_polling_laws.specs.PeerActs.{Came, nothing_came, came_in, came_by, moment_of}
+use Rattle.rtc_polling_laws.specs.PeerActs.{Came, nothing_came, came_of_datagram, came_by, moment_given}
 use Rattle.rtc_polling_laws.specs.Acts.{PeerDid, CallActs as CallDone, message_of_write}
-use Rattle.rtc_polling_laws.proofs.ActJoins.{SameParts, did_by, ice_did, dtls_did, media_did, still_did}
+use Rattle.rtc_polling_laws.proofs.ActJoins.{ice_did, dtls_did, media_did, still_did}
 use Rattle.rtc_polling_laws.proofs.ActedClosing.{beside, BesideIce, BesideDtls, BesideStreams, BesideMedia, call_did, CallActs, did_after, turn_acts, still_by}
 use Rattle.rtc_polling_laws.proofs.StreamCallActs.{moment_did, threshold_if}
 
@@ -165,33 +164,33 @@ module _ {I D S M E X T W N : Type 0} (m : Meanings I D S M E X T W N) (now : �
       hear_media bytes came p q is (went p.core.media q.core.media (Err alloc_error) h.0) (beside BesideMedia p _ q h.1 (refl, refl, refl, refl, refl))
   media_acts given bytes came is went p (Err _) q h = absurd h
 
-  kind_acts : (datagram : Receive) (contents : DatagramRecv) → CallActs m (came_in contents) (now ∷ []) (HearsKind m now datagram contents)
-  kind_acts datagram (datagrams.Stun view) p r q h = stun_acts datagram view.bytes.now (came_in (datagrams.Stun view)) refl p r q h
-  kind_acts datagram (datagrams.Dtls bytes) p r q h = dtls_acts bytes.now (came_in (datagrams.Dtls bytes)) refl p r q h
+  kind_acts : (datagram : Receive) (contents : DatagramRecv) → CallActs m (came_of_datagram contents) (now ∷ []) (HearsKind m now datagram contents)
+  kind_acts datagram (datagrams.Stun view) p r q h = stun_acts datagram view.bytes.now (came_of_datagram (datagrams.Stun view)) refl p r q h
+  kind_acts datagram (datagrams.Dtls bytes) p r q h = dtls_acts bytes.now (came_of_datagram (datagrams.Dtls bytes)) refl p r q h
   kind_acts datagram (datagrams.Rtp bytes) p r q h =
-      media_acts (λ a s b. m.media.rtp_given a now bytes.now s b) bytes.now (came_in (datagrams.Rtp bytes)) refl
+      media_acts (λ a s b. m.media.rtp_given a now bytes.now s b) bytes.now (came_of_datagram (datagrams.Rtp bytes)) refl
       (λ a b s k. media_moved-one m.media a b (MediaGiven bytes.now) (now, (s, inl k))) p r q h
   kind_acts datagram (datagrams.Rtcp bytes) p r q h =
-      media_acts (λ a s b. m.media.rtcp_given a now bytes.now s b) bytes.now (came_in (datagrams.Rtcp bytes)) refl
+      media_acts (λ a s b. m.media.rtcp_given a now bytes.now s b) bytes.now (came_of_datagram (datagrams.Rtcp bytes)) refl
       (λ a b s k. media_moved-one m.media a b (MediaGiven bytes.now) (now, (s, inr k))) p r q h
 
 module _ {I D S M E X T W N : Type 0} (m : Meanings I D S M E X T W N) (laws : AssociationLaws m.association) where
-  hears_acts : (now : ℕ) (datagram : Receive) → CallActs m (came_in datagram.contents) (now ∷ []) (Hears m now datagram)
+  hears_acts : (now : ℕ) (datagram : Receive) → CallActs m (came_of_datagram datagram.contents) (now ∷ []) (Hears m now datagram)
   hears_acts now datagram p r q (Heard between heard time) =
-      did_after m (came_in datagram.contents) (now ∷ []) laws p between q (kind_acts m now datagram datagram.contents p (Ok tt) between heard)
-      (time_acts m (came_in datagram.contents) now laws _ between r q time)
+      did_after m (came_of_datagram datagram.contents) (now ∷ []) laws p between q (kind_acts m now datagram datagram.contents p (Ok tt) between heard)
+      (time_acts m (came_of_datagram datagram.contents) now laws _ between r q time)
   hears_acts now datagram p r q (PartFailed error is heard) = kind_acts m now datagram datagram.contents p (Err error) q heard
 
-  input_by : (input : Input) → CallActs m (came_by input) (moment_of input ∷ []) (HandlesInputBy m input)
+  input_by : (input : Input) → CallActs m (came_by input) (moment_given input ∷ []) (HandlesInputBy m input)
   input_by (TimeCame now) p r q h = time_acts m nothing_came now laws _ p r q h
   input_by (Datagram now datagram) p r q h = hears_acts now datagram p r q h
 
-  input_in : (phase : Phase) (input : Input) → CallActs m (came_by input) (moment_of input ∷ []) (HandlesInputIn m phase input)
+  input_in : (phase : Phase) (input : Input) → CallActs m (came_by input) (moment_given input ∷ []) (HandlesInputIn m phase input)
   input_in Alive input p r q h = input_by input p r q h
   input_in Closing input p r q h = input_by input p r q h
-  input_in Closed input p r q h = still_by m (came_by input) (moment_of input ∷ []) p p q h.1 (refl, refl, refl, refl, refl)
+  input_in Closed input p r q h = still_by m (came_by input) (moment_given input ∷ []) p p q h.1 (refl, refl, refl, refl, refl)
 
-  pub input_acts : (input : Input) → CallActs m (came_by input) (moment_of input ∷ []) (HandlesInput m input)
+  pub input_acts : (input : Input) → CallActs m (came_by input) (moment_given input ∷ []) (HandlesInput m input)
   input_acts input p r q h = input_in p.core.phase input p r q h
 
 module _ {I D S M E X T W N : Type 0} (m : Meanings I D S M E X T W N) where

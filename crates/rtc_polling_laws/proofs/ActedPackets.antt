@@ -1,43 +1,25 @@
 -- What a poll sends of the packets of the association over the DTLS connection.
-use Rattle.std.proofs.Common.{if◌then◌else◌, ◌≡◌, ◌++◌, ◌∷◌, ◌==◌, ◌+◌, ◌⊎◌, inl, inr, ℕ, Bool, true, false, List, [], map, append-nil, Option, Some, None, Result, Ok, Err, refl, sym, ap, subst, ◌∙◌, arith}
-use Rattle.std.specs.declared.alloc.AllocError.{AllocError}
+use Rattle.std.proofs.Common.{◌≡◌, ◌++◌, ◌∷◌, ◌⊎◌, inl, inr, ℕ, Bool, true, false, List, [], Option, Some, None, Ok, Err, refl, sym, ap, subst, ◌∙◌}
 use Rattle.rtc_parts_values.specs.Among.{Member, Among}
-use Rattle.rtc_association.proofs.AmongLemmas.{member-append, member-left, member-right, among_none, among_self}
-use Rattle.rtc_association.specs.AssociationActs.{Moved}
-use Rattle.rtc_association.specs.AssociationLaws.{AssociationLaws}
+use Rattle.rtc_association.proofs.AmongLemmas.{member-append, member-right, among_none, among_self}
 use Rattle.rtc_dtls.specs.declared.dtls_error.DtlsError.{DtlsError}
 use Rattle.rtc_dtls.specs.declared.dtls_error.DtlsError.TheVariants.{Fault, Alloc as DtlsAlloc}
 use Rattle.rtc_dtls.specs.DtlsActs.{DtlsAct, DtlsMoved, Sent, Stirred, SendRefused, dtls_moved-one}
 use Rattle.rtc_dtls.specs.DtlsState.{DtlsState, SendsData, can_send}
 use Rattle.rtc_dtls.specs.DtlsWords.{dtls_given, dtls_taken, dtls_sent, dtls_got}
-use Rattle.rtc_sctp_entries.specs.declared.sctp_event.SctpEvent.{SctpEvent}
-use Rattle.rtc_sctp_entries.specs.declared.sctp_event.SctpEvent.TheVariants as event
 use Rattle.rtc_sctp.specs.Streams.{SctpStreams}
-use Rattle.rtc_sctp.specs.Polls.{PollsStreams}
-use Rattle.rtc_sctp_laws.specs.StreamActs.{AssociationDid, PollDid}
-use Rattle.rtc_sctp_laws.specs.StreamMessages.{met_of, packets_met, data_met, pushed_packets}
-use Rattle.rtc_sctp_laws.proofs.PollActs.{poll_did}
-use Rattle.rtc_channels.specs.Channels.{Channel, Channels, channel_of_stream, is_of_stream, numbered_stream}
-use Rattle.rtc_channels.specs.Allocation.{channel_ensured, is_ensured, opened_by_other}
-use Rattle.rtc_channels.specs.Holds.{holds_lost}
-use Rattle.rtc_peer_state.specs.declared.rtc_error.RtcError.{RtcError}
+use Rattle.rtc_sctp_laws.specs.StreamMessages.{pushed_packets}
 use Rattle.rtc_peer_state.specs.declared.rtc_error.RtcError.TheVariants.{Dtls, Alloc}
 use Rattle.rtc_peer_state.specs.Meanings.{Meanings, PartsLaws}
-use Rattle.rtc_polling.specs.declared.event.Event.TheVariants as told
 use Rattle.rtc_polling.specs.declared.met.Met.{Met}
-use Rattle.rtc_polling.specs.declared.met.Met.TheVariants.{Nothing, Again, Event as MetEvent, Error}
+use Rattle.rtc_polling.specs.declared.met.Met.TheVariants.{Nothing, Again, Error}
 use Rattle.rtc_polling.specs.declared.polled_peer.PolledPeer.{PolledPeer}
 use Rattle.rtc_polling.specs.Closing.{is_phase_closing}
-use Rattle.rtc_polling.specs.Connection.{with_sctp, with_channels, with_pushed}
-use Rattle.rtc_polling.specs.StreamStages.{OpensChannelOver, ClosesChannelOver, HearsChannelOver, FallsChannelOver, LosesAssociation, TakesStreamEvent, TakesStreamAnswer}
-use Rattle.rtc_polling.specs.StreamStages.{PollsStreamEvent, PollsStreamEvents, SendsPacket, SendsFirst, SendsKeptPackets, TellsStreams, channel_over, left_over}
-use Rattle.rtc_polling.proofs.StreamWork.{poll_none}
+use Rattle.rtc_polling.specs.Connection.{with_pushed}
+use Rattle.rtc_polling.specs.StreamStages.{SendsPacket, SendsFirst, left_over}
 use Rattle.rtc_polling_laws.specs.PeerActs.{peer_acts, nothing_came, dtls_moments}
-use Rattle.rtc_polling_laws.specs.Acts.{PeerDid, ArePassed}
-use Rattle.rtc_polling_laws.proofs.ActJoins.{streams_did, still_did}
-use Rattle.rtc_polling_laws.proofs.ActedClosing.{beside, BesideDtls, BesideStreams}
-use Rattle.rtc_polling_laws.proofs.ActedTransport.{closing_visit}
-use Rattle.rtc_polling_laws.proofs.VisitActs.{contents_met, MeetsData, KeepsRows, VisitDid, QuietDid, quiet_nothing, visit_is, plain_visit, still_visit, visit_on, StageActs, else_acts, repeats_acts}
+use Rattle.rtc_polling_laws.specs.Acts.{PeerDid}
+use Rattle.rtc_polling_laws.proofs.VisitActs.{contents_met, MeetsData, KeepsRows, VisitDid, visit_is, plain_visit, still_visit}
 
 pushed_is_left : (packets : List (List ℕ)) → pushed_packets (left_over packets) ≡ packets
 pushed_is_left [] = refl

@@ -1,5 +1,5 @@
 -- What a poll does to the parts of a peer.
-use Rattle.std.proofs.Common.{if◌then◌else◌, ◌≡◌, ◌++◌, append-nil, ◌∷◌, inl, inr, ℕ, Bool, true, false, List, [], Option, Some, None, Result, Ok, Err, refl, sym, ap, subst, ◌∙◌}
+use Rattle.std.proofs.Common.{if◌then◌else◌, ◌≡◌, ◌++◌, append-nil, ◌∷◌, inr, ℕ, Bool, true, false, List, [], Option, Some, None, Result, Ok, Err, refl, sym, ap, subst, ◌∙◌}
 use Rattle.rtc_parts_values.specs.Why.{Other}
 use Rattle.rtc_parts_values.specs.Among.{Among}
 use Rattle.rtc_association.proofs.AmongLemmas.{among_none, among_self}
@@ -9,7 +9,6 @@ use Rattle.rtc_media.specs.declared.media_error.MediaError.TheVariants.{Alloc as
 use Rattle.rtc_media.specs.MediaActs.{MediaTaken, MediaStirred, EventTold, FallibleTold, FeedbackCleared, StirsMedia, media_moved-one}
 use Rattle.rtc_sctp_entries.specs.declared.sctp_event.SctpEvent.{SctpEvent}
 use Rattle.rtc_sctp_laws.specs.StreamMessages.{StreamMessage, pushed_packets}
-use Rattle.rtc_channels.specs.Channels.{Channels}
 use Rattle.rtc_peer_state.specs.declared.phase.Phase.{Phase}
 use Rattle.rtc_peer_state.specs.declared.phase.Phase.TheVariants.{Alive, Closing, Closed}
 use Rattle.rtc_peer_state.specs.declared.rtc_error.RtcError.{RtcError}
@@ -35,7 +34,7 @@ use Rattle.rtc_polling_laws.proofs.ActJoins.{SameParts, ice_did, media_did, stil
 use Rattle.rtc_polling_laws.proofs.ActedClosing.{beside, BesideIce, BesideMedia}
 use Rattle.rtc_polling_laws.proofs.ActedConnection.{connection_acts}
 use Rattle.rtc_polling_laws.proofs.ActedStreams.{streams_act}
-use Rattle.rtc_polling_laws.proofs.VisitActs.{contents_met, EventShows, MeetsData, VisitDid, QuietDid, StillHere, plain_visit, still_visit, quiet_nothing, visit_is, visit_on, StageActs, else_acts, repeats_acts}
+use Rattle.rtc_polling_laws.proofs.VisitActs.{contents_met, EventShows, MeetsData, VisitDid, plain_visit, still_visit, visit_is, StageActs, else_acts, repeats_acts}
 
 module _ {I D S M E X T W N : Type 0} (m : Meanings I D S M E X T W N) (laws : PartsLaws m) where
   -- events of the media part

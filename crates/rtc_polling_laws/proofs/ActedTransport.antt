@@ -1,51 +1,38 @@
 -- What a poll does to the ICE agent, and what it does with the moment, the keys, the certificate and the end of the connection.
-use Rattle.std.proofs.Common.{◌≡◌, ◌++◌, ◌∷◌, ◌⊎◌, inl, inr, ℕ, Bool, true, false, List, [], Option, Some, None, Result, Ok, Err, alloc_error, append-nil, refl, sym, ap, subst, ◌∙◌}
+use Rattle.std.proofs.Common.{◌≡◌, ◌∷◌, inr, ℕ, Bool, true, false, List, [], Option, Some, None, Result, Ok, Err, alloc_error, refl, sym, ap, subst}
 use Rattle.std.specs.declared.alloc.AllocError.{AllocError}
 use Rattle.rtc_parts_values.specs.Why.{Other}
 use Rattle.rtc_parts_values.specs.declared.srtp_profile.SrtpProfile.{SrtpProfile}
-use Rattle.rtc_parts_values.specs.Among.{Member, Among}
-use Rattle.rtc_association.proofs.AmongLemmas.{member-append, member-left, member-right, among_none, among_self}
-use Rattle.rtc_association.specs.AssociationLaws.{AssociationLaws}
-use Rattle.rtc_association.specs.AssociationWords.{given, taken}
+use Rattle.rtc_parts_values.specs.Among.{Among}
+use Rattle.rtc_association.proofs.AmongLemmas.{among_none, among_self}
+use Rattle.rtc_association.specs.AssociationWords.{taken}
 use Rattle.rtc_dtls.specs.declared.dtls_error.DtlsError.{DtlsError}
 use Rattle.rtc_dtls.specs.declared.dtls_error.DtlsError.TheVariants.{Fault, Alloc as DtlsAlloc}
-use Rattle.rtc_dtls.specs.declared.dtls_output.DtlsOutput.{DtlsOutput}
-use Rattle.rtc_dtls.specs.declared.dtls_output.DtlsOutput.TheVariants as outputs
-use Rattle.rtc_dtls.specs.DtlsActs.{DtlsAct, DtlsCall, DtlsMoved, Taken, Got, Stirred, TimedAt, Showed, dtls_moved-append, dtls_moved-one}
-use Rattle.rtc_dtls.specs.DtlsDrawn.{DrewConnected, DrewKeying, DrewCert, DrewClose}
-use Rattle.rtc_dtls.specs.DtlsState.{DtlsState, HandsOn, PollsOutput}
-use Rattle.rtc_dtls.specs.DtlsWords.{dtls_given, dtls_taken, dtls_sent, dtls_got, takes}
-use Rattle.rtc_dtls.proofs.DtlsLemmas.{dtls_given-append, dtls_taken-append, dtls_sent-append, dtls_got-append}
+use Rattle.rtc_dtls.specs.DtlsActs.{Stirred, TimedAt, dtls_moved-one}
+use Rattle.rtc_dtls.specs.DtlsState.{DtlsState, HandsOn}
 use Rattle.rtc_ice.specs.declared.ice_event.IceEvent.{IceEvent}
 use Rattle.rtc_ice.specs.declared.ice_event.IceEvent.TheVariants.{IceRestart, StateChange, DiscoveredRecv, NominatedSend}
 use Rattle.rtc_ice.specs.IceActs.{Stirred as IceStirred, Told as IceTold, ice_moved-one}
 use Rattle.rtc_media.specs.MediaActs.{MediaStirred, Keyed, media_moved-one}
-use Rattle.rtc_sctp_laws.specs.StreamActs.{CallDid, given_packet}
-use Rattle.rtc_sctp_laws.specs.StreamMessages.{pushed_packets}
-use Rattle.rtc_sctp_laws.proofs.CallActs.{input_did}
 use Rattle.rtc_peer_state.specs.declared.rtc_error.RtcError.{RtcError}
 use Rattle.rtc_peer_state.specs.declared.rtc_error.RtcError.TheVariants.{RemoteSdp, Dtls, Alloc}
 use Rattle.rtc_peer_state.specs.Meanings.{Meanings, PartsLaws}
 use Rattle.rtc_polling.specs.declared.event.Event.TheVariants as told
-use Rattle.rtc_polling.specs.declared.handshake.Handshake.{Handshake}
-use Rattle.rtc_polling.specs.declared.handshake.Handshake.TheVariants.{Pending, Finished, Told}
 use Rattle.rtc_polling.specs.declared.met.Met.{Met}
 use Rattle.rtc_polling.specs.declared.met.Met.TheVariants.{Nothing, Again, Event as MetEvent, Error}
 use Rattle.rtc_polling.specs.declared.polled_peer.PolledPeer.{PolledPeer}
 use Rattle.rtc_polling.specs.Closing.{ClosesPeer}
-use Rattle.rtc_polling.specs.Connection.{with_dtls, with_ice}
-use Rattle.rtc_polling.specs.DtlsStages.{GivesDtlsTime, TimesDtls, TimesDtlsIf, TakesDtlsOutput, TakesDtlsAnswer, PollsDtlsOutput}
-use Rattle.rtc_polling.specs.DtlsStages.{PollsDtlsOutputs, TakesKeys, TakesCloseNotify, HandsPacket, ChecksCert, TellsConnectedFrom, is_dtls_due}
-use Rattle.rtc_polling.specs.IceStages.{PollsIceEvent, PollsIceEvents, TakesIceEvent}
-use Rattle.rtc_polling.specs.Walk.{TellsConnection}
-use Rattle.rtc_polling_laws.specs.PeerActs.{peer_acts, nothing_came, contents_taken, dtls_moments}
+use Rattle.rtc_polling.specs.Connection.{with_ice}
+use Rattle.rtc_polling.specs.DtlsStages.{GivesDtlsTime, TimesDtlsIf}
+use Rattle.rtc_polling.specs.DtlsStages.{TakesKeys, TakesCloseNotify, ChecksCert}
+use Rattle.rtc_polling.specs.IceStages.{TakesIceEvent}
+use Rattle.rtc_polling_laws.specs.PeerActs.{nothing_came}
 use Rattle.rtc_polling_laws.specs.Acts.{PeerDid}
-use Rattle.rtc_polling_laws.proofs.ActWords.{dtls_moments-append}
 use Rattle.rtc_polling_laws.proofs.ActJoins.{ice_did, dtls_did, media_did, still_did}
-use Rattle.rtc_polling_laws.proofs.ActedClosing.{beside, BesideIce, BesideDtls, BesideStreams, BesideMedia, close_acts}
+use Rattle.rtc_polling_laws.proofs.ActedClosing.{beside, BesideIce, BesideDtls, BesideMedia, close_acts}
 use Rattle.rtc_polling_laws.proofs.ClosedRows.{close_rows}
-use Rattle.rtc_polling_laws.proofs.VisitActs.{contents_met, MeetsData, KeepsRows, VisitDid, QuietDid, StillHere, ShowsNone, quiet_nothing, visit_is, plain_visit, still_visit}
-use Rattle.rtc_polling_laws.proofs.VisitActs.{keeps_by, visit_on, StageActs, else_acts, repeats_acts}
+use Rattle.rtc_polling_laws.proofs.VisitActs.{contents_met, MeetsData, KeepsRows, VisitDid, ShowsNone, quiet_nothing, visit_is, plain_visit, still_visit}
+use Rattle.rtc_polling_laws.proofs.VisitActs.{keeps_by, visit_on, StageActs}
 
 module _ {I D S M E X T W N : Type 0} (m : Meanings I D S M E X T W N) (laws : PartsLaws m) where
   pub shows_again : ShowsNone m Again

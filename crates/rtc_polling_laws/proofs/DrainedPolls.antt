@@ -1,5 +1,5 @@
 -- A peer that answered a timeout answers it again.
-use Rattle.std.proofs.Common.{◌≡◌, ◌≢◌, ◌≤◌, ◌<◌, ◌-◌, ◌^◌, ◌⊎◌, inl, inr, ℕ, Bool, true, false, Result, Ok, Err, refl, sym, ap, subst, ◌∙◌, arith}
+use Rattle.std.proofs.Common.{◌≡◌, ◌≢◌, ◌≤◌, ◌-◌, ◌^◌, inl, inr, ℕ, Bool, true, false, Result, Ok, Err, refl, sym, ap, subst, ◌∙◌, arith}
 use Rattle.std.specs.Prelude.{max}
 use Rattle.rtc_parts_values.specs.declared.reason.Reason.{Reason}
 use Rattle.rtc_parts_values.specs.declared.reason.Reason.TheVariants.{NotHappening}
@@ -15,7 +15,6 @@ use Rattle.rtc_polling.specs.declared.output.Output.TheVariants.{Timeout}
 use Rattle.rtc_polling.specs.declared.polled_peer.PolledPeer.{PolledPeer}
 use Rattle.rtc_polling.specs.Closing.{is_closing_complete}
 use Rattle.rtc_polling.specs.Deadlines.{least_deadline, wake_moment}
-use Rattle.rtc_polling.specs.Stages.{RepeatsStage}
 use Rattle.rtc_polling.specs.Walk.{VisitsParts, Waits, WaitsIf, AnswersMet, Walks, PollsPeerFrom, PollsPeer, with_reason}
 use Rattle.rtc_polling_laws.specs.Drained.{CanRest, AnswersAgain}
 use Rattle.rtc_polling_laws.proofs.RestingConnection.{Rests, repeats_rest}

@@ -1,41 +1,34 @@
 -- A visit of the parts of a peer that met nothing leaves it drained.
-use Rattle.std.proofs.Common.{if◌then◌else◌, ◌≡◌, ◌≢◌, ◌<◌, ◌+◌, ◌-◌, ◌^◌, ◌⊎◌, inl, inr, ℕ, Bool, true, false, List, [], ◌∷◌, Option, Some, None, Result, Ok, Err}
+use Rattle.std.proofs.Common.{if◌then◌else◌, ◌≡◌, ◌≢◌, ◌<◌, ◌-◌, ◌^◌, ℕ, Bool, true, false, List, [], ◌∷◌, Option, Some, None, Result, Ok, Err}
 use Rattle.std.proofs.Common.{refl, sym, ap, subst, ◌∙◌, arith}
 use Rattle.std.specs.declared.alloc.AllocError.{AllocError}
 use Rattle.rtc_ice.specs.declared.ice_event.IceEvent.{IceEvent}
 use Rattle.rtc_ice.specs.declared.ice_event.IceEvent.TheVariants.{IceRestart, StateChange, DiscoveredRecv, NominatedSend}
 use Rattle.rtc_dtls.specs.declared.dtls_output.DtlsOutput.{DtlsOutput}
 use Rattle.rtc_dtls.specs.declared.dtls_output.DtlsOutput.TheVariants as outputs
-use Rattle.rtc_dtls.specs.DtlsState.{DtlsState, PollsOutput, GivesPacket, can_send}
+use Rattle.rtc_dtls.specs.DtlsState.{DtlsState, PollsOutput, GivesPacket}
 use Rattle.rtc_media.specs.MediaMeaning.{held_media}
-use Rattle.rtc_sctp_entries.specs.declared.sctp_event.SctpEvent.{SctpEvent}
-use Rattle.rtc_sctp_entries.specs.declared.sctp_event.SctpEvent.TheVariants as event
 use Rattle.rtc_sctp.specs.Streams.{SctpStreams}
-use Rattle.rtc_sctp.specs.Polls.{PollsStreams}
 use Rattle.rtc_peer_state.specs.declared.phase.Phase.{Phase}
 use Rattle.rtc_peer_state.specs.Meanings.{Meanings, PartsLaws}
 use Rattle.rtc_polling.specs.declared.handshake.Handshake.{Handshake}
 use Rattle.rtc_polling.specs.declared.handshake.Handshake.TheVariants.{Pending, Finished, Told}
 use Rattle.rtc_polling.specs.declared.met.Met.{Met}
-use Rattle.rtc_polling.specs.declared.met.Met.TheVariants.{Nothing, Again, Transmit, Event as MetEvent, Error}
+use Rattle.rtc_polling.specs.declared.met.Met.TheVariants.{Nothing, Again}
 use Rattle.rtc_polling.specs.declared.polled_peer.PolledPeer.{PolledPeer}
 use Rattle.rtc_polling.specs.declared.send_addr.SendAddr.{SendAddr}
 use Rattle.rtc_polling.specs.declared.transport.Transport.{Transport}
-use Rattle.rtc_polling.specs.Connection.{with_ice, with_dtls, with_sctp, with_pushed}
-use Rattle.rtc_polling.specs.DtlsStages.{TimesDtls, TakesDtlsOutput, TakesDtlsAnswer, PollsDtlsOutput, PollsDtlsOutputs, TakesKeys, TakesCloseNotify, HandsPacket, ChecksCert}
+use Rattle.rtc_polling.specs.Connection.{with_ice, with_dtls}
+use Rattle.rtc_polling.specs.DtlsStages.{TimesDtls, TakesDtlsOutput, TakesDtlsAnswer, PollsDtlsOutputs, TakesKeys, TakesCloseNotify, HandsPacket, ChecksCert}
 use Rattle.rtc_polling.specs.DtlsStages.{TellsConnected, TellsConnectedFrom, is_dtls_due}
 use Rattle.rtc_polling.specs.IceStages.{PollsIceEvents, TakesIceEvent, met_of_ice_event}
 use Rattle.rtc_polling.specs.MediaStages.{TellsMedia, TellsFallibleMedia}
 use Rattle.rtc_polling.specs.SendStages.{SendsChecks, SendsDtlsPacket, SendsMediaDatagram, SendsBy, SendsByPair}
 use Rattle.rtc_polling.specs.Stages.{FollowedBy}
-use Rattle.rtc_polling.specs.StreamStages.{OpensChannelOver, ClosesChannelOver, HearsChannelOver, FallsChannelOver, LosesAssociation, TakesStreamEvent, TakesStreamAnswer}
-use Rattle.rtc_polling.specs.StreamStages.{PollsStreamEvents, SendsPacket, SendsFirst, SendsKeptPackets, TellsStreams, channel_over}
+use Rattle.rtc_polling.specs.StreamStages.{TellsStreams}
 use Rattle.rtc_polling.specs.Walk.{StartsOverWhenDue, TellsConnection, TellsArrivals, SendsDatagrams, VisitsParts}
 use Rattle.rtc_polling.proofs.StageLemmas.{went_through}
-use Rattle.rtc_polling.proofs.StreamTurns.{Polled, streams_polled, kept_stay}
 use Rattle.rtc_polling_laws.specs.Drained.{WaitsToStart}
-use Rattle.rtc_polling_laws.proofs.RestingStreams.{StreamsRest, polled_rest}
-use Rattle.rtc_polling_laws.proofs.PushedAgain.{StreamsGive, polled_gives}
 use Rattle.rtc_polling_laws.proofs.RestingConnection.{DtlsRests}
 use Rattle.rtc_polling_laws.proofs.RestingStages.{AreSent, WaitsOver, Drained}
 use Rattle.rtc_polling_laws.proofs.KeptTurns.{outputs_kept, streams_kept, arrivals_kept}
@@ -175,7 +168,7 @@ module _ {I D S M E X T W N : Type 0} (m : Meanings I D S M E X T W N) (laws : P
       let datagrams = laws.media.silent_datagrams met.0.core.media q.core.media met.0.core.greatest met.1.1.0 in
       let dtls : q.core.dtls ≡ p.core.dtls = ap (λ (x : PolledPeer I D S M N). x.core.dtls) met.1.1.1 ∙ none.1 in
       let transport : q.transport ≡ p.transport =
-          ap (λ (x : PolledPeer I D S M N). x.transport) met.1.1.1 ∙ ap (λ (x : PolledPeer I D S M N). x.transport) met.1.0.1 in
+      ap (λ (x : PolledPeer I D S M N). x.transport) met.1.1.1 ∙ ap (λ (x : PolledPeer I D S M N). x.transport) met.1.0.1 in
       let sent : q.core.dtls.packets ≡ [] = ap (λ (d : DtlsState D). d.packets) dtls ∙ none.0 in
       let quiet : m.media.held_events q.core.media ≡ 0 = ap m.media.held_events (same ∙ between) ∙ events in
       let empty : m.media.held_datagrams q.core.media ≡ 0 = ap m.media.held_datagrams same ∙ datagrams in
@@ -197,15 +190,17 @@ module _ {I D S M E X T W N : Type 0} (m : Meanings I D S M E X T W N) (laws : P
       let same = laws.ice.transmit_none p.core.ice met.0.core.ice met.1.0.0 in
       let media : met.0.core.media ≡ p.core.media = ap (λ (x : PolledPeer I D S M N). x.core.media) met.1.0.1 in
       let sent = pair_drains met.0.transport.send_addr met.0 q refl (ap m.media.held_events media ∙ events) met.1.1 in
-      let gave = subst (λ (i : I). m.ice.gave i None met.0.core.ice) (sym same) met.1.0.0 in
-      (record {
-        transport = sent.transport ∙ ap (λ (x : PolledPeer I D S M N). x.transport) met.1.0.1;
-        ice = sent.ice ∙ same;
-        dtls = sent.dtls ∙ ap (λ (x : PolledPeer I D S M N). x.core.dtls) met.1.0.1;
-        sctp = sent.sctp ∙ ap (λ (x : PolledPeer I D S M N). x.core.sctp) met.1.0.1;
-        packets = sent.packets;
-        media = sent.media;
-      }, subst (λ (i : I). m.ice.gave i None i) (sym sent.ice) gave)
+      let gave = subst (λ (i : I). m.ice.gave i None met.0.core.ice) (sym same) met.1.0.0 in (
+        record {
+          transport = sent.transport ∙ ap (λ (x : PolledPeer I D S M N). x.transport) met.1.0.1;
+          ice = sent.ice ∙ same;
+          dtls = sent.dtls ∙ ap (λ (x : PolledPeer I D S M N). x.core.dtls) met.1.0.1;
+          sctp = sent.sctp ∙ ap (λ (x : PolledPeer I D S M N). x.core.sctp) met.1.0.1;
+          packets = sent.packets;
+          media = sent.media;
+        },
+        subst (λ (i : I). m.ice.gave i None i) (sym sent.ice) gave,
+      )
 
   -- what the connection is once it gave nothing
   record Connects (q : PolledPeer I D S M N) : Type 0 where

@@ -1,44 +1,24 @@
 -- A visit that met nothing leaves streams that have nothing to give, or whose packets cannot go yet.
-use Rattle.std.proofs.Common.{if◌then◌else◌, ◌≡◌, ◌≢◌, ◌<◌, ◌+◌, ◌-◌, ◌^◌, ◌⊎◌, inl, inr, ℕ, Bool, true, false, List, [], ◌∷◌, Option, Some, None, Result, Ok, Err}
-use Rattle.std.proofs.Common.{refl, sym, ap, subst, ◌∙◌, arith}
+use Rattle.std.proofs.Common.{◌≡◌, ◌<◌, ◌-◌, ◌^◌, ◌⊎◌, inl, inr, ℕ, false, List, [], ◌∷◌, Option, Some, None, Result, Ok, Err}
+use Rattle.std.proofs.Common.{refl, sym, ap, subst, ◌∙◌}
 use Rattle.std.specs.declared.alloc.AllocError.{AllocError}
-use Rattle.rtc_ice.specs.declared.ice_event.IceEvent.{IceEvent}
-use Rattle.rtc_ice.specs.declared.ice_event.IceEvent.TheVariants.{IceRestart, StateChange, DiscoveredRecv, NominatedSend}
-use Rattle.rtc_dtls.specs.declared.dtls_output.DtlsOutput.{DtlsOutput}
-use Rattle.rtc_dtls.specs.declared.dtls_output.DtlsOutput.TheVariants as outputs
-use Rattle.rtc_dtls.specs.DtlsState.{DtlsState, PollsOutput, GivesPacket, can_send}
-use Rattle.rtc_media.specs.MediaMeaning.{held_media}
+use Rattle.rtc_dtls.specs.DtlsState.{DtlsState, can_send}
 use Rattle.rtc_sctp_entries.specs.declared.sctp_event.SctpEvent.{SctpEvent}
 use Rattle.rtc_sctp_entries.specs.declared.sctp_event.SctpEvent.TheVariants as event
 use Rattle.rtc_sctp.specs.Streams.{SctpStreams}
 use Rattle.rtc_sctp.specs.Polls.{PollsStreams}
-use Rattle.rtc_peer_state.specs.declared.phase.Phase.{Phase}
 use Rattle.rtc_peer_state.specs.Meanings.{Meanings, PartsLaws}
-use Rattle.rtc_polling.specs.declared.handshake.Handshake.{Handshake}
-use Rattle.rtc_polling.specs.declared.handshake.Handshake.TheVariants.{Pending, Finished, Told}
-use Rattle.rtc_polling.specs.declared.met.Met.{Met}
-use Rattle.rtc_polling.specs.declared.met.Met.TheVariants.{Nothing, Again, Transmit, Event as MetEvent, Error}
+use Rattle.rtc_polling.specs.declared.met.Met.TheVariants.{Nothing}
 use Rattle.rtc_polling.specs.declared.polled_peer.PolledPeer.{PolledPeer}
-use Rattle.rtc_polling.specs.declared.send_addr.SendAddr.{SendAddr}
-use Rattle.rtc_polling.specs.declared.transport.Transport.{Transport}
-use Rattle.rtc_polling.specs.Connection.{with_ice, with_dtls, with_sctp, with_pushed}
-use Rattle.rtc_polling.specs.DtlsStages.{TimesDtls, TakesDtlsOutput, TakesDtlsAnswer, PollsDtlsOutput, PollsDtlsOutputs, TakesKeys, TakesCloseNotify, HandsPacket, ChecksCert}
-use Rattle.rtc_polling.specs.DtlsStages.{TellsConnected, TellsConnectedFrom, is_dtls_due}
-use Rattle.rtc_polling.specs.IceStages.{PollsIceEvents, TakesIceEvent, met_of_ice_event}
-use Rattle.rtc_polling.specs.MediaStages.{TellsMedia, TellsFallibleMedia}
-use Rattle.rtc_polling.specs.SendStages.{SendsChecks, SendsDtlsPacket, SendsMediaDatagram, SendsBy, SendsByPair}
-use Rattle.rtc_polling.specs.Stages.{FollowedBy}
+use Rattle.rtc_polling.specs.Connection.{with_sctp, with_pushed}
 use Rattle.rtc_polling.specs.StreamStages.{OpensChannelOver, ClosesChannelOver, HearsChannelOver, FallsChannelOver, LosesAssociation, TakesStreamEvent, TakesStreamAnswer}
 use Rattle.rtc_polling.specs.StreamStages.{PollsStreamEvents, SendsPacket, SendsFirst, SendsKeptPackets, TellsStreams, channel_over}
-use Rattle.rtc_polling.specs.Walk.{StartsOverWhenDue, TellsConnection, TellsArrivals, SendsDatagrams, VisitsParts}
 use Rattle.rtc_polling.proofs.StageLemmas.{went_through}
-use Rattle.rtc_polling.proofs.StreamTurns.{Polled, streams_polled, kept_stay}
+use Rattle.rtc_polling.proofs.StreamTurns.{streams_polled, kept_stay}
 use Rattle.rtc_polling_laws.specs.Drained.{WaitsToStart}
 use Rattle.rtc_polling_laws.proofs.RestingStreams.{StreamsRest, polled_rest}
 use Rattle.rtc_polling_laws.proofs.PushedAgain.{StreamsGive, polled_gives}
-use Rattle.rtc_polling_laws.proofs.RestingConnection.{DtlsRests}
-use Rattle.rtc_polling_laws.proofs.RestingStages.{AreSent, WaitsOver, Drained}
-use Rattle.rtc_polling_laws.proofs.KeptTurns.{outputs_kept, streams_kept, arrivals_kept}
+use Rattle.rtc_polling_laws.proofs.RestingStages.{WaitsOver}
 
 module _ {I D S M E X T W N : Type 0} (m : Meanings I D S M E X T W N) (laws : PartsLaws m) where
   -- packets are kept, and nothing else is met by nothing
@@ -103,9 +83,14 @@ module _ {I D S M E X T W N : Type 0} (m : Meanings I D S M E X T W N) (laws : P
           let poll = subst (λ (l : List (List ℕ)). PollsStreams m.association p.core.sctp (Ok (Some (event.Transmit l))) streams) are given in
           let gives = polled_gives m.association laws.association sent.0 sent.1 p.core.sctp streams poll in
           let is : q.core.sctp ≡ record streams { pushed = Some (sent.0 ∷ sent.1) } =
-              same ∙ back ∙ ap (λ (l : List (List ℕ)). record streams { pushed = Some l }) are in
-          inr (sent.0, sent.1, subst (λ (s : SctpStreams S). StreamsGive m.association (sent.0 ∷ sent.1) s) (sym is) gives,
-          ap (λ (s : SctpStreams S). s.pushed) is, ap (λ (d : DtlsState D). can_send m.dtls d) dtls ∙ sent.3)
+          same ∙ back ∙ ap (λ (l : List (List ℕ)). record streams { pushed = Some l }) are in
+          inr (
+            sent.0,
+            sent.1,
+            subst (λ (s : SctpStreams S). StreamsGive m.association (sent.0 ∷ sent.1) s) (sym is) gives,
+            ap (λ (s : SctpStreams S). s.pushed) is,
+            ap (λ (d : DtlsState D). can_send m.dtls d) dtls ∙ sent.3,
+          )
   polled_wait (Err error) streams p n q polled taken sends same dtls early waits = cc (taken.0)
 
   -- what the connection and the streams keep while nothing is met
@@ -120,6 +105,7 @@ module _ {I D S M E X T W N : Type 0} (m : Meanings I D S M E X T W N) (laws : P
       let met = went_through (PollsStreamEvents m) (SendsKeptPackets m) p q h in
       let polled = streams_polled m laws.association p met.0 met.1.0 in
       let kept = kept_stay m met.0 q met.1.1 in
-      let ends = met.1.0.ends in
-      (record { transport = kept.0 ∙ polled.transport; dtls = kept.2 ∙ polled.dtls },
-      polled_wait ends.answer ends.streams met.1.0.last met.0 q ends.by_poll ends.by_answer met.1.1 kept.3 kept.2 early waits)
+      let ends = met.1.0.ends in (
+        record { transport = kept.0 ∙ polled.transport; dtls = kept.2 ∙ polled.dtls },
+        polled_wait ends.answer ends.streams met.1.0.last met.0 q ends.by_poll ends.by_answer met.1.1 kept.3 kept.2 early waits,
+      )

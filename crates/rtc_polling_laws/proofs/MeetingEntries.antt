@@ -1,32 +1,19 @@
 -- What closing, opening and taking a message of a stream meet: something.
-use Rattle.std.proofs.Common.{◌≡◌, ◌<◌, ◌-◌, ◌^◌, ◌⊎◌, inl, inr, ℕ, Bool, true, false, List, Option, Some, None, Result, Ok, Err, refl, sym, ap, subst, ◌∙◌, arith}
-use Rattle.std.specs.Prelude.{nat_le}
-use Rattle.rtc_association.specs.declared.assoc_error.AssocError.{AssocError}
-use Rattle.rtc_association.specs.declared.assoc_error.AssocError.TheVariants.{NoStream, TooLong, Closing, Alloc, Fault, StreamExists, ResetPending}
+use Rattle.std.proofs.Common.{ℕ, Bool, true, false, List}
 use Rattle.rtc_association.specs.declared.ppi.Ppi.{Ppi}
 use Rattle.rtc_association.specs.declared.ppi.Ppi.TheVariants as ppi
 use Rattle.rtc_association.specs.AssociationMeaning.{AssociationMeaning}
-use Rattle.rtc_association.specs.AssociationLaws.{AssociationLaws}
 use Rattle.rtc_sctp_entries.specs.declared.asked.Asked.{Asked}
 use Rattle.rtc_sctp_entries.specs.declared.asked.Asked.TheVariants as did
-use Rattle.rtc_sctp_entries.specs.declared.buffered_threshold_config.BufferedThresholdConfig.{BufferedThresholdConfig}
-use Rattle.rtc_sctp_entries.specs.declared.buffered_threshold_config.BufferedThresholdConfig.TheVariants.{Unconfigured, Desired, Configured}
-use Rattle.rtc_sctp_entries.specs.declared.heard.Heard.{Heard}
-use Rattle.rtc_sctp_entries.specs.declared.heard.Heard.TheVariants as heard
-use Rattle.rtc_sctp_entries.specs.declared.opening.Opening.{Opening}
-use Rattle.rtc_sctp_entries.specs.declared.opening.Opening.TheVariants as opened
 use Rattle.rtc_sctp_entries.specs.declared.read_message.ReadMessage.{ReadMessage}
 use Rattle.rtc_sctp_entries.specs.declared.read_message.ReadMessage.TheVariants as message
-use Rattle.rtc_sctp_entries.specs.declared.stream_entry.StreamEntry.{StreamEntry}
 use Rattle.rtc_sctp_entries.specs.declared.stream_entry_state.StreamEntryState.{StreamEntryState}
 use Rattle.rtc_sctp_entries.specs.declared.stream_entry_state.StreamEntryState.TheVariants.{AwaitOpen, AwaitConfig, AwaitDcepAck, Open, Closed}
-use Rattle.rtc_sctp_entries.specs.declared.met.Met.{Met}
-use Rattle.rtc_sctp_entries.specs.declared.met.Met.TheVariants.{Nothing, Again, Output, OutOfMemory}
-use Rattle.rtc_sctp_entries.specs.Answers.{opening_of, heard_of}
-use Rattle.rtc_sctp_entries.specs.Entries.{is_closed_state, is_short_entry, is_out_of_band}
-use Rattle.rtc_sctp_entries.specs.Visits.{Turn, turn, opening_ends, Settles, ForEntry, ClosedBy, Closes, NoRoom, Ended, AnnouncedBy, Announces, NoMessage, Written}
-use Rattle.rtc_sctp_entries.specs.Visits.{AnnouncesIf, BegunAs, BegunBy, Begins, RetriedIf, RetriedAt, Retries, is_adopted, AdoptedIf, OpenedBy, OpensEntry}
-use Rattle.rtc_sctp_entries.specs.Visits.{AcknowledgedBy, TakenUpBy, TakenAs, TakesDcep, TakesStreamMessage, ReadBy, ReadsEntry, HandedBy, AttendsBy, AttendsIf, VisitsIn, Visits}
+use Rattle.rtc_sctp_entries.specs.declared.met.Met.TheVariants.{Nothing}
+use Rattle.rtc_sctp_entries.specs.Entries.{is_short_entry, is_out_of_band}
+use Rattle.rtc_sctp_entries.specs.Visits.{Turn, ClosedBy, Closes, NoRoom, Ended, AnnouncedBy, NoMessage, Written}
+use Rattle.rtc_sctp_entries.specs.Visits.{AnnouncesIf, BegunAs, BegunBy, Begins}
+use Rattle.rtc_sctp_entries.specs.Visits.{AcknowledgedBy, TakenUpBy, TakenAs, TakesDcep, TakesStreamMessage, HandedBy}
 
 module _ {S : Type 0} (m : AssociationMeaning S) where
   -- closing, opening and taking a message meet something

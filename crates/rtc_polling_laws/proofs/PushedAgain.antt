@@ -1,5 +1,5 @@
 -- A poll of the streams that gave packets, which then came back, is followed by one that gives them again and changes nothing else.
-use Rattle.std.proofs.Common.{◌≡◌, ◌<◌, ◌-◌, ◌^◌, ℕ, Bool, true, false, List, [], ◌∷◌, Option, Some, None, Result, Ok, Err, refl, sym, ap, subst, ◌∙◌}
+use Rattle.std.proofs.Common.{◌≡◌, ℕ, Bool, true, false, List, [], ◌∷◌, Option, Some, None, Result, Ok, Err, refl, sym, ap, subst, ◌∙◌}
 use Rattle.std.specs.Prelude.{◌&&◌}
 use Rattle.std.specs.declared.alloc.AllocError.{AllocError}
 use Rattle.rtc_association.specs.AssociationMeaning.{AssociationMeaning}
@@ -10,9 +10,8 @@ use Rattle.rtc_sctp_entries.specs.declared.sctp_event.SctpEvent.TheVariants as e
 use Rattle.rtc_sctp_entries.specs.declared.met.Met.{Met}
 use Rattle.rtc_sctp_entries.specs.declared.met.Met.TheVariants.{Nothing, Again, Output, OutOfMemory}
 use Rattle.rtc_sctp.specs.Streams.{SctpStreams, is_established}
-use Rattle.rtc_sctp.specs.Polls.{Else, ThenBy, unclosed_streams, CompletionOf, GivesCompletion, TakesPacket, TransmitIf, TransmitOf, GivesTransmit}
-use Rattle.rtc_sctp.specs.Polls.{TakesEvent, HandlesEvent, NotStarted, NoRoom, NoEvent, Event, VisitsIf, VisitsEntries, MakesPass, PollsStreams, Answers}
-use Rattle.rtc_sctp_laws.specs.StreamMessages.{packets_met}
+use Rattle.rtc_sctp.specs.Polls.{Else, ThenBy, unclosed_streams, CompletionOf, GivesCompletion, TransmitIf, TransmitOf}
+use Rattle.rtc_sctp.specs.Polls.{HandlesEvent, NotStarted, NoRoom, NoEvent, Event, VisitsIf, VisitsEntries, MakesPass, PollsStreams, Answers}
 use Rattle.rtc_sctp_laws.proofs.PollActs.{tour_did}
 use Rattle.rtc_polling_laws.proofs.RestingTours.{AllUnclosed, unclosed_left, unclosed_same}
 use Rattle.rtc_polling_laws.proofs.RestingStreams.{not_sent, over_rests}

@@ -1,5 +1,5 @@
 -- Calls that relay, one after the other; what each call does is seen in its acts.
-use Rattle.std.proofs.Common.{◌≡◌, ◌++◌, ℕ, List, [], refl, sym, subst}
+use Rattle.std.proofs.Common.{◌++◌, ℕ, List, [], refl, sym, subst}
 use Rattle.rtc_parts_values.specs.Among.{Member, Among}
 use Rattle.rtc_association.proofs.AmongLemmas.{member-left, member-right, among_none, among_self}
 use Rattle.rtc_association.specs.AssociationActs.{moved-append}
@@ -42,9 +42,9 @@ module _ {I D S M E X T W N : Type 0} (m : Meanings I D S M E X T W N) where
         (through (dtls_sent a.dtls_acts) (dtls_sent b.dtls_acts) (pushed_packets q.core.sctp.pushed) (pushed_packets r.core.sctp.pushed)
         (taken (a.association_acts ++ b.association_acts)) (taken a.association_acts) (taken b.association_acts) (pushed_packets p.core.sctp.pushed)
         (λ x n. subst (λ (l : List (List ℕ)). Member x l) (sym (taken-append a.association_acts b.association_acts))
-          (member-left x (taken a.association_acts) (taken b.association_acts) n))
+        (member-left x (taken a.association_acts) (taken b.association_acts) n))
         (λ x n. subst (λ (l : List (List ℕ)). Member x l) (sym (taken-append a.association_acts b.association_acts))
-          (member-right x (taken a.association_acts) (taken b.association_acts) n))
+        (member-right x (taken a.association_acts) (taken b.association_acts) n))
         a.relayed b.relayed);
   }
 

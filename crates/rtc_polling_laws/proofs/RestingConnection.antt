@@ -1,45 +1,27 @@
 -- What a poll takes from the connection of a drained peer: nothing, and nothing changes.
-use Rattle.std.proofs.Common.{if◌then◌else◌, ◌≡◌, ◌≢◌, ◌≤◌, ◌<◌, ◌+◌, ◌-◌, ◌^◌, ◌++◌, ◌⊎◌, inl, inr, ℕ, zero, suc, Bool, true, false, List, [], ◌∷◌, Option, Some, None}
+use Rattle.std.proofs.Common.{◌≡◌, ◌≢◌, ◌-◌, ◌^◌, ◌++◌, ◌⊎◌, inl, inr, ℕ, zero, suc, Bool, true, false, List, [], ◌∷◌, Option, Some, None}
 use Rattle.std.proofs.Common.{Result, Ok, Err, append-nil, refl, sym, ap, subst, ◌∙◌, arith}
 use Rattle.std.specs.declared.alloc.AllocError.{AllocError}
 use Rattle.rtc_ice.specs.declared.ice_event.IceEvent.{IceEvent}
-use Rattle.rtc_ice.specs.IceLaws.{IceLaws}
-use Rattle.rtc_dtls.specs.declared.dtls_error.DtlsError.TheVariants.{Fault, WouldBlock, Alloc as DtlsAlloc}
 use Rattle.rtc_dtls.specs.declared.dtls_output.DtlsOutput.{DtlsOutput}
 use Rattle.rtc_dtls.specs.declared.dtls_output.DtlsOutput.TheVariants as outputs
 use Rattle.rtc_dtls.specs.DtlsActs.{DtlsMoved}
 use Rattle.rtc_dtls.specs.DtlsDrawn.{DtlsDrawn, DrewPacket, draws_output}
 use Rattle.rtc_dtls.specs.DtlsLaws.{DtlsLaws}
 use Rattle.rtc_dtls.specs.DtlsMeaning.{DtlsMeaning}
-use Rattle.rtc_dtls.specs.DtlsState.{DtlsState, PollsOutput, GivesPacket, SendsData, can_send, drawn_by}
+use Rattle.rtc_dtls.specs.DtlsState.{DtlsState, PollsOutput, drawn_by}
 use Rattle.rtc_dtls.specs.DtlsWords.{takes}
-use Rattle.rtc_association.specs.AssociationLaws.{AssociationLaws}
-use Rattle.rtc_media.specs.declared.media_error.MediaError.{MediaError}
-use Rattle.rtc_media.specs.declared.media_error.MediaError.TheVariants.{Alloc as MediaAlloc}
-use Rattle.rtc_media.specs.MediaLaws.{MediaLaws}
-use Rattle.rtc_media.specs.MediaMeaning.{held_media}
-use Rattle.rtc_sctp_entries.specs.declared.sctp_event.SctpEvent.{SctpEvent}
-use Rattle.rtc_sctp_entries.specs.declared.sctp_event.SctpEvent.TheVariants as event
-use Rattle.rtc_sctp.specs.Streams.{SctpStreams}
-use Rattle.rtc_sctp.specs.Polls.{PollsStreams}
-use Rattle.rtc_peer_state.specs.declared.rtc_error.RtcError.TheVariants.{Dtls, Media, Alloc}
+use Rattle.rtc_peer_state.specs.declared.rtc_error.RtcError.TheVariants.{Alloc}
 use Rattle.rtc_peer_state.specs.Meanings.{Meanings, PartsLaws}
-use Rattle.rtc_polling.specs.declared.event.Event.TheVariants as told
 use Rattle.rtc_polling.specs.declared.handshake.Handshake.{Handshake}
 use Rattle.rtc_polling.specs.declared.handshake.Handshake.TheVariants.{Pending, Finished, Told}
 use Rattle.rtc_polling.specs.declared.met.Met.{Met}
-use Rattle.rtc_polling.specs.declared.met.Met.TheVariants.{Nothing, Again, Transmit, Event as MetEvent, Error}
+use Rattle.rtc_polling.specs.declared.met.Met.TheVariants.{Nothing, Again, Error}
 use Rattle.rtc_polling.specs.declared.polled_peer.PolledPeer.{PolledPeer}
-use Rattle.rtc_polling.specs.declared.send_addr.SendAddr.{SendAddr}
-use Rattle.rtc_polling.specs.Closing.{is_phase_closing}
-use Rattle.rtc_polling.specs.Connection.{with_ice, with_dtls, with_media, with_sctp, with_pushed}
+use Rattle.rtc_polling.specs.Connection.{with_ice, with_dtls}
 use Rattle.rtc_polling.specs.DtlsStages.{TimesDtls, TimesDtlsIf, TakesDtlsOutput, TakesDtlsAnswer, PollsDtlsOutput, PollsDtlsOutputs, TellsConnected, TellsConnectedFrom, is_dtls_due}
 use Rattle.rtc_polling.specs.IceStages.{PollsIceEvent, PollsIceEvents, TakesIceEvent}
-use Rattle.rtc_polling.specs.MediaStages.{TellsMedia, TellsFallibleMedia}
-use Rattle.rtc_polling.specs.SendStages.{SendsChecks, SendsDtlsPacket, SendsMediaDatagram, SendsBy, SendsByPair}
 use Rattle.rtc_polling.specs.Stages.{Stage, FollowedBy, Stopped, WentOn, StartsOver, RepeatsStage}
-use Rattle.rtc_polling.specs.StreamStages.{TakesStreamEvent, TakesStreamAnswer, PollsStreamEvent, PollsStreamEvents, SendsPacket, SendsFirst, SendsKeptPackets, TellsStreams}
-use Rattle.rtc_polling.specs.Walk.{StartsOverWhenDue, TellsConnection, TellsArrivals, SendsDatagrams, VisitsParts}
 
 module _ {P E : Type 0} where
   -- a stage met nothing and changed nothing, or memory is wanting
@@ -119,10 +101,12 @@ module _ {I D S M E X T W N : Type 0} (m : Meanings I D S M E X T W N) where
     moment_rests : (moment : ℕ) (dtls : DtlsState D) (p : PolledPeer I D S M N) (r : Met E) (q : PolledPeer I D S M N) → dtls ≡ p.core.dtls
         → p.transport.dtls_wake ≡ moment → TakesDtlsOutput m (outputs.Timeout moment) (with_dtls dtls p) r q → Rests p r q
     moment_rests moment dtls p r q same wake taken =
-        inl (taken.0,
-        taken.1
-        ∙ ap (λ (d : DtlsState D). record (with_dtls d p) { transport = record p.transport { dtls_wake = moment } }) same
-        ∙ ap (λ (n : ℕ). record p { transport = record p.transport { dtls_wake = n } }) (sym wake))
+        inl (
+          taken.0,
+          taken.1
+              ∙ ap (λ (d : DtlsState D). record (with_dtls d p) { transport = record p.transport { dtls_wake = moment } }) same
+              ∙ ap (λ (n : ℕ). record p { transport = record p.transport { dtls_wake = n } }) (sym wake),
+        )
 
     drained_output : (output : DtlsOutput) (k j : D) (dtls : DtlsState D) (p : PolledPeer I D S M N) (r : Met E) (q : PolledPeer I D S M N)
         → k ≡ p.core.dtls.instance → m.dtls.held k ≡ 0 → p.transport.dtls_wake ≡ m.dtls.asks k → m.dtls.polled k (drawn_by output) j
@@ -151,9 +135,9 @@ module _ {I D S M E X T W N : Type 0} (m : Meanings I D S M E X T W N) where
         let queue : dtls.packets ≡ p.core.dtls.packets = d.1.1.2 ∙ ap (λ l. p.core.dtls.packets ++ l) none.0 ∙ append-nil p.core.dtls.packets in
         drained_output output d.1.0 dtls.instance dtls p r q none.1 (ap m.dtls.held none.1 ∙ rests.0) asked d.1.1.1
         (λ still.
-            polled.1
-            ∙ ap (λ (i : D). record p.core.dtls { instance = i; packets = dtls.packets }) (still ∙ none.1)
-            ∙ ap (λ (l : List (List ℕ)). record p.core.dtls { packets = l }) queue)
+        polled.1
+        ∙ ap (λ (i : D). record p.core.dtls { instance = i; packets = dtls.packets }) (still ∙ none.1)
+        ∙ ap (λ (l : List (List ℕ)). record p.core.dtls { packets = l }) queue)
         taken
     no_output (Some active) (Err e) dtls p r q rests polled taken =
         let d = polled.0 in

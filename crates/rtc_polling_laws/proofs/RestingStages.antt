@@ -1,44 +1,30 @@
 -- The stages of a poll of a drained peer give nothing and change nothing, unless memory is wanting.
-use Rattle.std.proofs.Common.{if◌then◌else◌, ◌≡◌, ◌≢◌, ◌≤◌, ◌<◌, ◌+◌, ◌-◌, ◌^◌, ◌++◌, ◌⊎◌, inl, inr, ℕ, zero, suc, Bool, true, false, List, [], ◌∷◌, Option, Some, None}
-use Rattle.std.proofs.Common.{Result, Ok, Err, append-nil, refl, sym, ap, subst, ◌∙◌, arith}
+use Rattle.std.proofs.Common.{if◌then◌else◌, ◌≡◌, ◌≢◌, ◌⊎◌, inl, inr, ℕ, Bool, true, false, List, [], ◌∷◌, Option, Some, None}
+use Rattle.std.proofs.Common.{Result, Ok, Err, refl, sym, ap, subst, ◌∙◌, arith}
 use Rattle.std.specs.declared.alloc.AllocError.{AllocError}
-use Rattle.rtc_ice.specs.declared.ice_event.IceEvent.{IceEvent}
-use Rattle.rtc_ice.specs.IceLaws.{IceLaws}
-use Rattle.rtc_dtls.specs.declared.dtls_error.DtlsError.TheVariants.{Fault, WouldBlock, Alloc as DtlsAlloc}
-use Rattle.rtc_dtls.specs.declared.dtls_output.DtlsOutput.{DtlsOutput}
-use Rattle.rtc_dtls.specs.declared.dtls_output.DtlsOutput.TheVariants as outputs
-use Rattle.rtc_dtls.specs.DtlsActs.{DtlsMoved}
-use Rattle.rtc_dtls.specs.DtlsDrawn.{DtlsDrawn, DrewPacket, draws_output}
-use Rattle.rtc_dtls.specs.DtlsLaws.{DtlsLaws}
-use Rattle.rtc_dtls.specs.DtlsMeaning.{DtlsMeaning}
-use Rattle.rtc_dtls.specs.DtlsState.{DtlsState, PollsOutput, GivesPacket, SendsData, can_send, drawn_by}
-use Rattle.rtc_dtls.specs.DtlsWords.{takes}
-use Rattle.rtc_association.specs.AssociationLaws.{AssociationLaws}
+use Rattle.rtc_dtls.specs.declared.dtls_error.DtlsError.TheVariants.{Fault}
+use Rattle.rtc_dtls.specs.DtlsState.{DtlsState, GivesPacket, SendsData, can_send}
 use Rattle.rtc_media.specs.declared.media_error.MediaError.{MediaError}
 use Rattle.rtc_media.specs.declared.media_error.MediaError.TheVariants.{Alloc as MediaAlloc}
-use Rattle.rtc_media.specs.MediaLaws.{MediaLaws}
 use Rattle.rtc_media.specs.MediaMeaning.{held_media}
 use Rattle.rtc_sctp_entries.specs.declared.sctp_event.SctpEvent.{SctpEvent}
 use Rattle.rtc_sctp_entries.specs.declared.sctp_event.SctpEvent.TheVariants as event
 use Rattle.rtc_sctp.specs.Streams.{SctpStreams}
-use Rattle.rtc_sctp.specs.Polls.{PollsStreams}
 use Rattle.rtc_peer_state.specs.declared.rtc_error.RtcError.TheVariants.{Dtls, Media, Alloc}
 use Rattle.rtc_peer_state.specs.Meanings.{Meanings, PartsLaws}
 use Rattle.rtc_polling.specs.declared.event.Event.TheVariants as told
-use Rattle.rtc_polling.specs.declared.handshake.Handshake.{Handshake}
-use Rattle.rtc_polling.specs.declared.handshake.Handshake.TheVariants.{Pending, Finished, Told}
+use Rattle.rtc_polling.specs.declared.handshake.Handshake.TheVariants.{Finished}
 use Rattle.rtc_polling.specs.declared.met.Met.{Met}
 use Rattle.rtc_polling.specs.declared.met.Met.TheVariants.{Nothing, Again, Transmit, Event as MetEvent, Error}
 use Rattle.rtc_polling.specs.declared.polled_peer.PolledPeer.{PolledPeer}
 use Rattle.rtc_polling.specs.declared.send_addr.SendAddr.{SendAddr}
 use Rattle.rtc_polling.specs.Closing.{is_phase_closing}
 use Rattle.rtc_polling.specs.Connection.{with_ice, with_dtls, with_media, with_sctp, with_pushed}
-use Rattle.rtc_polling.specs.DtlsStages.{TimesDtls, TimesDtlsIf, TakesDtlsOutput, TakesDtlsAnswer, PollsDtlsOutput, PollsDtlsOutputs, TellsConnected, TellsConnectedFrom, is_dtls_due}
-use Rattle.rtc_polling.specs.IceStages.{PollsIceEvent, PollsIceEvents, TakesIceEvent}
+use Rattle.rtc_polling.specs.DtlsStages.{TimesDtls, PollsDtlsOutputs, TellsConnected, is_dtls_due}
+use Rattle.rtc_polling.specs.IceStages.{PollsIceEvents}
 use Rattle.rtc_polling.specs.MediaStages.{TellsMedia, TellsFallibleMedia}
 use Rattle.rtc_polling.specs.SendStages.{SendsChecks, SendsDtlsPacket, SendsMediaDatagram, SendsBy, SendsByPair}
-use Rattle.rtc_polling.specs.Stages.{Stage, FollowedBy, Stopped, WentOn, StartsOver, RepeatsStage}
-use Rattle.rtc_polling.specs.StreamStages.{TakesStreamEvent, TakesStreamAnswer, PollsStreamEvent, PollsStreamEvents, SendsPacket, SendsFirst, SendsKeptPackets, TellsStreams}
+use Rattle.rtc_polling.specs.StreamStages.{TakesStreamAnswer, PollsStreamEvent, PollsStreamEvents, SendsPacket, SendsFirst, SendsKeptPackets, TellsStreams}
 use Rattle.rtc_polling.specs.Walk.{StartsOverWhenDue, TellsConnection, TellsArrivals, SendsDatagrams, VisitsParts}
 use Rattle.rtc_polling_laws.proofs.RestingStreams.{HasFailed, StreamsRest}
 use Rattle.rtc_polling_laws.proofs.PushedAgain.{StreamsGive}
@@ -63,8 +49,8 @@ module _ {I D S M E X T W N : Type 0} (m : Meanings I D S M E X T W N) where
         (repeats_rest (PollsStreamEvent m) p
         (λ r q turn. stream_answer turn.answer turn.streams p r q (rests turn.answer turn.streams turn.by_poll) turn.by_answer))
         (λ r q h.
-            let sends = subst (λ (o : Option (List (List ℕ))). SendsFirst m o (with_pushed None p) r q) none h in
-            inl (sends.0, sends.1 ∙ ap (λ (o : Option (List (List ℕ))). with_pushed o p) (sym none)))
+        let sends = subst (λ (o : Option (List (List ℕ))). SendsFirst m o (with_pushed None p) r q) none h in
+        inl (sends.0, sends.1 ∙ ap (λ (o : Option (List (List ℕ))). with_pushed o p) (sym none)))
 
     -- a packet that cannot go yet comes back
     packet_waits : (packet : List ℕ) (rest : List (List ℕ)) (p : PolledPeer I D S M N) (r : Met E) (q : PolledPeer I D S M N)
@@ -88,10 +74,12 @@ module _ {I D S M E X T W N : Type 0} (m : Meanings I D S M E X T W N) where
         → TakesStreamAnswer m answer (with_sctp streams p) r q → Rests p r q
     given_answer packets answer streams p r q back gives taken =
         let told = subst (λ (a : Result (Option SctpEvent) AllocError). TakesStreamAnswer m a (with_sctp streams p) r q) gives.0 taken in
-        inl (told.0,
-        told.1
-        ∙ ap (λ (s : SctpStreams S). with_pushed (Some packets) (with_sctp s p)) gives.1
-        ∙ ap (λ (o : Option (List (List ℕ))). with_pushed o p) (sym back))
+        inl (
+          told.0,
+          told.1
+              ∙ ap (λ (s : SctpStreams S). with_pushed (Some packets) (with_sctp s p)) gives.1
+              ∙ ap (λ (o : Option (List (List ℕ))). with_pushed o p) (sym back),
+        )
 
     packets_rest : (packet : List ℕ) (rest : List (List ℕ)) (p : PolledPeer I D S M N) → StreamsGive m.association (packet ∷ rest) p.core.sctp
         → p.core.sctp.pushed ≡ Some (packet ∷ rest) → can_send m.dtls p.core.dtls ≡ false → StageRests (TellsStreams m) p
@@ -101,8 +89,8 @@ module _ {I D S M E X T W N : Type 0} (m : Meanings I D S M E X T W N) where
         (repeats_rest (PollsStreamEvent m) p
         (λ r q turn. given_answer (packet ∷ rest) turn.answer turn.streams p r q back (gives turn.answer turn.streams turn.by_poll) turn.by_answer))
         (λ r q h.
-            let sends = subst (λ (o : Option (List (List ℕ))). SendsFirst m o (with_pushed None p) r q) back h in
-            subst (λ (o : Option (List (List ℕ))). Rests (with_pushed o p) r q) (sym back) (packet_waits packet rest (with_pushed None p) r q blocked sends))
+        let sends = subst (λ (o : Option (List (List ℕ))). SendsFirst m o (with_pushed None p) r q) back h in
+        subst (λ (o : Option (List (List ℕ))). Rests (with_pushed o p) r q) (sym back) (packet_waits packet rest (with_pushed None p) r q blocked sends))
 
     -- a media part that holds nothing
     told_rests : (p : PolledPeer I D S M N) → m.media.held_events p.core.media ≡ 0 → StageRests (TellsMedia m) p

@@ -1,6 +1,6 @@
 -- A poll of the streams that gave nothing is followed by one that gives nothing and changes nothing, unless it finds no memory.
 use Rattle.std.proofs.Common.{◌≡◌, ◌<◌, ◌-◌, ◌^◌, ◌⊎◌, inl, inr, ℕ, zero, suc, Bool, true, false, List, [], ◌∷◌, Option, Some, None, Result, Ok, Err, refl, sym, ap, subst, ◌∙◌, arith}
-use Rattle.std.specs.Prelude.{◌&&◌, not}
+use Rattle.std.specs.Prelude.{◌&&◌}
 use Rattle.std.specs.declared.alloc.AllocError.{AllocError}
 use Rattle.rtc_association.specs.declared.assoc_event.AssocEvent.{AssocEvent}
 use Rattle.rtc_association.specs.declared.assoc_event.AssocEvent.TheVariants as assoc
@@ -11,15 +11,11 @@ use Rattle.rtc_sctp_entries.specs.declared.sctp_event.SctpEvent.{SctpEvent}
 use Rattle.rtc_sctp_entries.specs.declared.sctp_event.SctpEvent.TheVariants as event
 use Rattle.rtc_sctp_entries.specs.declared.met.Met.{Met}
 use Rattle.rtc_sctp_entries.specs.declared.met.Met.TheVariants.{Nothing, Again, Output, OutOfMemory}
-use Rattle.rtc_sctp_entries.specs.Entries.{is_closed_state, unclosed}
-use Rattle.rtc_sctp_entries.specs.Visits.{Turn, turn, Visits}
 use Rattle.rtc_sctp.specs.Streams.{SctpStreams, is_established}
 use Rattle.rtc_sctp.specs.Polls.{book_of, with_book, event_met, Else, ThenBy, unclosed_streams, CompletionOf, GivesCompletion, TakesPacket, TransmitIf}
-use Rattle.rtc_sctp.specs.Polls.{TransmitOf, GivesTransmit, TakesEvent, HandlesEvent, NotStarted, NoRoom, NoEvent, Event, VisitedThen, VisitsAll, VisitsIf}
+use Rattle.rtc_sctp.specs.Polls.{TransmitOf, GivesTransmit, HandlesEvent, NotStarted, NoRoom, NoEvent, Event, VisitsIf}
 use Rattle.rtc_sctp.specs.Polls.{VisitsEntries, MakesPass, Over, PollsStreams, Answers}
-use Rattle.rtc_sctp_laws.proofs.PollActs.{tour_did}
 use Rattle.rtc_polling_laws.specs.Drained.{WaitsToStart}
-use Rattle.rtc_polling_laws.proofs.RestingEntries.{EntryRests, visit_rests}
 use Rattle.rtc_polling_laws.proofs.RestingTours.{AllUnclosed, unclosed_left, unclosed_same, AllRest, tour_rests, TourRests, tour_again}
 
 -- a poll failed
@@ -235,11 +231,13 @@ module _ {S : Type 0} (m : AssociationMeaning S) (w : AssociationLaws m) where
       by (tour_again m w p.last p.entries p.association p.resets (all refl) met q.association q.resets q.entries h.0)
     where
       by : TourRests m w p.association p.resets p.entries met q.association q.resets q.entries → ((met ≡ Nothing) × (q ≡ p)) ⊎ (met ≡ OutOfMemory)
-      by (inl same) = inl (same.0,
+      by (inl same) = inl (
+        same.0,
         h.1
-        ∙ ap (λ (a : S). record p { association = a; resets = q.resets; entries = q.entries }) same.1
-        ∙ ap (λ (l : List ℕ). record p { resets = l; entries = q.entries }) same.2
-        ∙ ap (λ (l : List StreamEntry). record p { entries = l }) same.3)
+            ∙ ap (λ (a : S). record p { association = a; resets = q.resets; entries = q.entries }) same.1
+            ∙ ap (λ (l : List ℕ). record p { resets = l; entries = q.entries }) same.2
+            ∙ ap (λ (l : List StreamEntry). record p { entries = l }) same.3,
+      )
       by (inr lacks) = inr lacks
 
   completion_rests : (p : SctpStreams S) → p.completed ≡ [] → StepRests GivesCompletion p

@@ -1,24 +1,13 @@
 -- A visit of all streams that gave nothing is followed by one that gives nothing and changes nothing, unless it finds no memory.
-use Rattle.std.proofs.Common.{◌≡◌, ◌<◌, ◌-◌, ◌^◌, ◌⊎◌, inl, inr, ℕ, zero, suc, Bool, true, false, List, [], ◌∷◌, Option, Some, None, Result, Ok, Err, refl, sym, ap, subst, ◌∙◌, arith}
-use Rattle.std.specs.Prelude.{◌&&◌, not}
-use Rattle.std.specs.declared.alloc.AllocError.{AllocError}
-use Rattle.rtc_association.specs.declared.assoc_event.AssocEvent.{AssocEvent}
-use Rattle.rtc_association.specs.declared.assoc_event.AssocEvent.TheVariants as assoc
+use Rattle.std.proofs.Common.{◌≡◌, ◌<◌, ◌-◌, ◌^◌, ◌⊎◌, inl, inr, ℕ, Bool, true, false, List, [], ◌∷◌, refl, sym, ap, subst, ◌∙◌}
 use Rattle.rtc_association.specs.AssociationMeaning.{AssociationMeaning}
 use Rattle.rtc_association.specs.AssociationLaws.{AssociationLaws}
 use Rattle.rtc_sctp_entries.specs.declared.stream_entry.StreamEntry.{StreamEntry}
-use Rattle.rtc_sctp_entries.specs.declared.sctp_event.SctpEvent.{SctpEvent}
-use Rattle.rtc_sctp_entries.specs.declared.sctp_event.SctpEvent.TheVariants as event
 use Rattle.rtc_sctp_entries.specs.declared.met.Met.{Met}
 use Rattle.rtc_sctp_entries.specs.declared.met.Met.TheVariants.{Nothing, Again, Output, OutOfMemory}
 use Rattle.rtc_sctp_entries.specs.Entries.{is_closed_state, unclosed}
 use Rattle.rtc_sctp_entries.specs.Visits.{Turn, turn, Visits}
-use Rattle.rtc_sctp.specs.Streams.{SctpStreams, is_established}
-use Rattle.rtc_sctp.specs.Polls.{book_of, with_book, event_met, Else, ThenBy, unclosed_streams, CompletionOf, GivesCompletion, TakesPacket, TransmitIf}
-use Rattle.rtc_sctp.specs.Polls.{TransmitOf, GivesTransmit, TakesEvent, HandlesEvent, NotStarted, NoRoom, NoEvent, Event, VisitedThen, VisitsAll, VisitsIf}
-use Rattle.rtc_sctp.specs.Polls.{VisitsEntries, MakesPass, Over, PollsStreams, Answers}
-use Rattle.rtc_sctp_laws.proofs.PollActs.{tour_did}
-use Rattle.rtc_polling_laws.specs.Drained.{WaitsToStart}
+use Rattle.rtc_sctp.specs.Polls.{VisitedThen, VisitsAll}
 use Rattle.rtc_polling_laws.proofs.RestingEntries.{EntryRests, visit_rests}
 
 -- no entry is closed

@@ -1,12 +1,11 @@
 -- What stages of a poll did to the parts of a peer, one after the other.
-use Rattle.std.proofs.Common.{◌≡◌, ◌++◌, ◌∷◌, ℕ, zero, suc, Bool, true, false, List, [], append-nil, append_assoc, Option, Some, None, Result, Ok, Err, refl, sym, ap, subst, ◌∙◌}
+use Rattle.std.proofs.Common.{◌≡◌, ◌++◌, ◌∷◌, ℕ, zero, suc, true, List, [], append-nil, append_assoc, Some, None, refl, sym, ap, subst, ◌∙◌}
 use Rattle.rtc_association.specs.AssociationLaws.{AssociationLaws}
 use Rattle.rtc_sctp_entries.specs.declared.sctp_event.SctpEvent.{SctpEvent}
 use Rattle.rtc_sctp_entries.specs.declared.sctp_event.SctpEvent.TheVariants as event
 use Rattle.rtc_sctp_laws.specs.StreamMessages.{StreamMessage, are_dcep, shown_messages}
 use Rattle.rtc_sctp_laws.proofs.MessageLemmas.{dcep_join, shown-append}
-use Rattle.rtc_channels.specs.Channels.{Channel, Channels, numbered_stream}
-use Rattle.rtc_peer_state.specs.declared.rtc_error.RtcError.{RtcError}
+use Rattle.rtc_channels.specs.Channels.{Channel, Channels}
 use Rattle.rtc_peer_state.specs.Meanings.{Meanings}
 use Rattle.rtc_polling.specs.declared.event.Event.{Event}
 use Rattle.rtc_polling.specs.declared.event.Event.TheVariants.{ChannelData}
@@ -17,7 +16,7 @@ use Rattle.rtc_polling.specs.Stages.{Stage, FollowedBy, Stopped, WentOn, StartsO
 use Rattle.rtc_polling.specs.StreamStages.{channel_over}
 use Rattle.rtc_polling_laws.specs.PeerActs.{nothing_came}
 use Rattle.rtc_polling_laws.specs.Acts.{PeerDid, ArePassed}
-use Rattle.rtc_polling_laws.proofs.ActJoins.{SameParts, did_by, still_did, did_on}
+use Rattle.rtc_polling_laws.proofs.ActJoins.{SameParts, still_did, did_on}
 
 -- the contents of the datagram that is met
 abbrev pub contents_met : {E : Type 0} → Met E → List (List ℕ)

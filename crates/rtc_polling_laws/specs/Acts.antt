@@ -1,5 +1,5 @@
 -- What each call of a peer does to its parts, as lists of acts, and what of that it shows.
-use Rattle.std.specs.Prelude.{ℕ, ◌≡◌, ◌++◌, ◌∷◌, Bool, true, false, List, [], map, Option, Some, None, Result, Ok, Err}
+use Rattle.std.specs.Prelude.{ℕ, ◌≡◌, ◌++◌, ◌∷◌, Bool, true, false, List, [], map, Some, None, Result, Ok, Err}
 use Rattle.rtc_parts_values.specs.Among.{Among}
 use Rattle.rtc_ice.specs.IceWords.{ice_given}
 use Rattle.rtc_dtls.specs.DtlsWords.{dtls_given, dtls_sent, dtls_got}
@@ -18,7 +18,7 @@ use Rattle.rtc_polling.specs.declared.output.Output.{Output}
 use Rattle.rtc_polling.specs.declared.output.Output.TheVariants as outputs
 use Rattle.rtc_polling.specs.declared.polled_peer.PolledPeer.{PolledPeer}
 use Rattle.rtc_polling.specs.StreamStages.{channel_over}
-use Rattle.rtc_polling_laws.specs.PeerActs.{PeerActs, PeerMoved, Came, nothing_came, came_by, moment_of, contents_taken, media_given}
+use Rattle.rtc_polling_laws.specs.PeerActs.{PeerActs, PeerMoved, Came, nothing_came, came_by, moment_given, contents_taken, media_given}
 use Rattle.rtc_polling_laws.specs.PeerActs.{ice_moments, dtls_moments, media_moments}
 
 -- Acts in order took the parts of one peer to those of another. What they were given is among what came, and the moments that they were
@@ -91,4 +91,4 @@ CallActs m wrote p q = PeerDid m nothing_came [] [] wrote [] p q
 
 -- an input: what came, and its moment
 abbrev pub InputActs : {I D S M E X T W N : Type 0} → Meanings I D S M E X T W N → Input → PolledPeer I D S M N → PolledPeer I D S M N → Type 0
-InputActs m input p q = PeerDid m (came_by input) (moment_of input ∷ []) [] [] [] p q
+InputActs m input p q = PeerDid m (came_by input) (moment_given input ∷ []) [] [] [] p q

@@ -25,6 +25,11 @@ pub record PeerActs : Type 0 where
 abbrev pub peer_acts : List IceAct → List DtlsAct → List AssociationAct → List MediaAct → PeerActs
 peer_acts ice dtls association media = record { ice = ice; dtls = dtls; association = association; media = media }
 
+-- acts with more acts behind them, part by part
+abbrev pub acts_with : PeerActs → PeerActs → PeerActs
+acts_with past more =
+    peer_acts (past.ice ++ more.ice) (past.dtls ++ more.dtls) (past.association ++ more.association) (past.media ++ more.media)
+
 -- the packets that the media part was given, and those that were taken from it
 abbrev pub media_given : List MediaAct → List (List ℕ)
 media_given [] = []
@@ -74,17 +79,17 @@ pub record Came : Type 0 where
 abbrev pub nothing_came : Came
 nothing_came = record { ice = []; dtls = []; media = [] }
 
-abbrev pub came_in : DatagramRecv → Came
-came_in (datagrams.Stun view) = record nothing_came { ice = view.bytes.now ∷ [] }
-came_in (datagrams.Dtls bytes) = record nothing_came { dtls = bytes.now ∷ [] }
-came_in (datagrams.Rtp bytes) = record nothing_came { media = bytes.now ∷ [] }
-came_in (datagrams.Rtcp bytes) = record nothing_came { media = bytes.now ∷ [] }
+abbrev pub came_of_datagram : DatagramRecv → Came
+came_of_datagram (datagrams.Stun view) = record nothing_came { ice = view.bytes.now ∷ [] }
+came_of_datagram (datagrams.Dtls bytes) = record nothing_came { dtls = bytes.now ∷ [] }
+came_of_datagram (datagrams.Rtp bytes) = record nothing_came { media = bytes.now ∷ [] }
+came_of_datagram (datagrams.Rtcp bytes) = record nothing_came { media = bytes.now ∷ [] }
 
 abbrev pub came_by : Input → Came
 came_by (Timeout now) = nothing_came
-came_by (Datagram now datagram) = came_in datagram.contents
+came_by (Datagram now datagram) = came_of_datagram datagram.contents
 
 -- the moment of an input
-abbrev pub moment_of : Input → ℕ
-moment_of (Timeout now) = now
-moment_of (Datagram now datagram) = now
+abbrev pub moment_given : Input → ℕ
+moment_given (Timeout now) = now
+moment_given (Datagram now datagram) = now

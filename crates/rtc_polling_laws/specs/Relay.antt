@@ -1,5 +1,5 @@
 -- What a call of a peer does to its association and to its DTLS connection, and how packets go from one to the other.
-use Rattle.std.specs.Prelude.{ℕ, ◌++◌, List}
+use Rattle.std.specs.Prelude.{◌++◌, List}
 use Rattle.rtc_parts_values.specs.Among.{Among}
 use Rattle.rtc_dtls.specs.DtlsActs.{DtlsAct, DtlsMoved}
 use Rattle.rtc_dtls.specs.DtlsWords.{dtls_sent, dtls_got}

@@ -1,4 +1,4 @@
-use Rattle.rtc_peer_state.specs.Meanings.{PartsLaws, meanings}
+use Rattle.rtc_peer_state.specs.Meanings.{meanings}
 use Rattle.rtc_polling_laws.proofs.DrainedPolls.{polled_again, closed_again}
 use Rattle.rtc_polling_laws.proofs.drained.drained_peers_rest.Goals as goal
 

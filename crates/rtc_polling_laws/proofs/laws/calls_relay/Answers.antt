@@ -1,5 +1,5 @@
-use Rattle.std.proofs.Common.{[], ◌∷◌}
-use Rattle.rtc_peer_state.specs.Meanings.{PartsLaws, meanings}
+use Rattle.std.proofs.Common.{[]}
+use Rattle.rtc_peer_state.specs.Meanings.{meanings}
 use Rattle.rtc_polling_laws.specs.PeerActs.{nothing_came}
 use Rattle.rtc_polling_laws.proofs.ActedClosing.{close_acts}
 use Rattle.rtc_polling_laws.proofs.ActedInputs.{input_acts, write_acts, threshold_acts}
