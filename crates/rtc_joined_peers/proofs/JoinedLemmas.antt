@@ -1,7 +1,7 @@
 -- Two peers stay joined: what came over one DTLS part was sent over the other.
 use Rattle.std.proofs.Common.{◌≡◌, ◌++◌, ◌∷◌, ◌==◌, ◌&&◌, inl, inr, ℕ, Bool, true, false, List, [], map, if◌then◌else◌, append-nil, refl, sym, ap, subst, ◌∙◌}
 use Rattle.rtc_parts_values.specs.Among.{Member, Among}
-use Rattle.rtc_association.proofs.AmongLemmas.{member-left, member-right, among_none}
+use Rattle.rtc_association.proofs.AmongLemmas.{member-append, member-left, member-right, among_none}
 use Rattle.rtc_association.specs.AssociationActs.{AssociationAct, Moved, Wrote, Read}
 use Rattle.rtc_association.specs.AssociationWords.{given, taken, written, read}
 use Rattle.rtc_association.proofs.AssociationLemmas.{taken-append, written-append, read-append}

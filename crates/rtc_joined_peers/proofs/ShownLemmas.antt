@@ -32,7 +32,7 @@ begins_not : (bytes : List ℕ) → BeginsBelowTwo (23 ∷ bytes) → ⊥
 begins_not bytes h = absurd (omega (arith, h))
 
 marked_not : (bytes : List ℕ) → IsMarked (23 ∷ bytes) → ⊥
-marked_not bytes h = let is : 23 ≡ 128 = cc (h) in absurd (omega (arith, is))
+marked_not bytes h = let is : ◌≡◌ {A = ℕ} 23 128 = cc (h) in absurd (omega (arith, is))
 
 each_marked : (x : List ℕ) (datagrams : List (List ℕ)) → EachBegins datagrams → Member x datagrams → IsMarked x
 each_marked x [] h m = absurd m

@@ -1,4 +1,4 @@
--- Two peers over plain DTLS parts and plain associations, each of which was given application data that the DTLS part of the other one had sent.
+-- Two peers over plain DTLS parts and associations, each of which was given application data that the DTLS part of the other one had sent.
 use Rattle.std.specs.Prelude.{ℕ, ◌≡◌, ◌++◌, List, []}
 use Rattle.rtc_parts_values.specs.Among.{Member, Among}
 use Rattle.rtc_dtls.specs.DtlsActs.{DtlsAct, DtlsMoved}

@@ -24,7 +24,7 @@ use Rattle.rtc_polling_laws.proofs.Draining.{visit_drains}
 
 module _ {I D S M E X T W N : Type 0} (m : Meanings I D S M E X T W N) where
   -- how a poll that answered a timeout ended: the peer is closed, or a visit met nothing and it waits
-  data Ends (moment : ℕ) (q : PolledPeer I D S M N) : Type 0 where
+  pub data Ends (moment : ℕ) (q : PolledPeer I D S M N) : Type 0 where
     AtRest : q.core.phase ≡ Closed → moment ≡ 2 ^ 64 - 1 → q.transport.last_reason ≡ NotHappening → Ends moment q
     Waiting : (last visited : PolledPeer I D S M N) → VisitsParts m last Nothing visited → visited.core.phase ≢ Closed
         → is_closing_complete m visited ≡ false → moment ≡ wake_moment m visited → q ≡ with_reason (least_deadline m visited).1 visited → Ends moment q
@@ -70,7 +70,7 @@ module _ {I D S M E X T W N : Type 0} (m : Meanings I D S M E X T W N) where
       let phase = visited_phase h.met v.last h.visited (λ closed. live (sym kept ∙ closed)) v.ends (nothing_met h.met moment h.visited q h.by_answer) in
       met_ends h.met moment v.last h.visited q v.ends phase h.by_answer
 
-  poll_ends : (phase : Phase) (moment : ℕ) (p q : PolledPeer I D S M N) → p.core.phase ≡ phase → PollsPeerFrom m phase p (Ok (Timeout moment)) q
+  pub poll_ends : (phase : Phase) (moment : ℕ) (p q : PolledPeer I D S M N) → p.core.phase ≡ phase → PollsPeerFrom m phase p (Ok (Timeout moment)) q
       → Ends moment q
   poll_ends Alive moment p q is h = walk_ends moment p q (λ closed. let clash : Alive ≡ Closed = sym is ∙ closed in cc) h
   poll_ends Closing moment p q is h = walk_ends moment p q (λ closed. let clash : Closing ≡ Closed = sym is ∙ closed in cc) h

@@ -114,13 +114,13 @@ module _ {I D S M E X T W N : Type 0} (m : Meanings I D S M E X T W N) (laws : P
   told_from Told p q is h = (h.1, λ e. let clash : Told ≡ Finished = sym is ∙ e in cc)
 
   -- what the media part is once it told nothing
-  record Arrived (p q : PolledPeer I D S M N) : Type 0 where
-    transport : q.transport ≡ p.transport
-    dtls : q.core.dtls ≡ p.core.dtls
-    sctp : q.core.sctp ≡ p.core.sctp
-    events : m.media.held_events q.core.media ≡ 0
+  pub record Arrived (p q : PolledPeer I D S M N) : Type 0 where
+    pub transport : q.transport ≡ p.transport
+    pub dtls : q.core.dtls ≡ p.core.dtls
+    pub sctp : q.core.sctp ≡ p.core.sctp
+    pub events : m.media.held_events q.core.media ≡ 0
 
-  arrivals_drain : (p q : PolledPeer I D S M N) → TellsArrivals m p Nothing q → Arrived p q
+  pub arrivals_drain : (p q : PolledPeer I D S M N) → TellsArrivals m p Nothing q → Arrived p q
   unfolding TellsArrivals TellsMedia TellsFallibleMedia
   arrivals_drain p q h =
       let met = went_through (TellsMedia m) (TellsFallibleMedia m) p q h in
@@ -136,13 +136,13 @@ module _ {I D S M E X T W N : Type 0} (m : Meanings I D S M E X T W N) (laws : P
       }
 
   -- what is left once no datagram was given
-  record Sent (p q : PolledPeer I D S M N) : Type 0 where
-    transport : q.transport ≡ p.transport
-    ice : q.core.ice ≡ p.core.ice
-    dtls : q.core.dtls ≡ p.core.dtls
-    sctp : q.core.sctp ≡ p.core.sctp
-    packets : AreSent m laws q.transport.send_addr q.core.dtls.packets
-    media : held_media m.media q.core.media ≡ 0
+  pub record Sent (p q : PolledPeer I D S M N) : Type 0 where
+    pub transport : q.transport ≡ p.transport
+    pub ice : q.core.ice ≡ p.core.ice
+    pub dtls : q.core.dtls ≡ p.core.dtls
+    pub sctp : q.core.sctp ≡ p.core.sctp
+    pub packets : AreSent m laws q.transport.send_addr q.core.dtls.packets
+    pub media : held_media m.media q.core.media ≡ 0
 
   no_packet : (packets : List (List ℕ)) (d e : DtlsState D) → GivesPacket m.dtls d packets None e → (packets ≡ []) × (e ≡ d)
   no_packet [] d e h = (refl, h)
@@ -182,7 +182,7 @@ module _ {I D S M E X T W N : Type 0} (m : Meanings I D S M E X T W N) (laws : P
         media = omega (arith, quiet, empty);
       }
 
-  datagrams_drain : (p q : PolledPeer I D S M N) → m.media.held_events p.core.media ≡ 0 → SendsDatagrams m p Nothing q
+  pub datagrams_drain : (p q : PolledPeer I D S M N) → m.media.held_events p.core.media ≡ 0 → SendsDatagrams m p Nothing q
       → Sent p q × m.ice.gave q.core.ice None q.core.ice
   unfolding SendsDatagrams SendsChecks
   datagrams_drain p q events h =

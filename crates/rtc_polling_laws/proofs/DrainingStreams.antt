@@ -22,7 +22,7 @@ use Rattle.rtc_polling_laws.proofs.RestingStages.{WaitsOver}
 
 module _ {I D S M E X T W N : Type 0} (m : Meanings I D S M E X T W N) (laws : PartsLaws m) where
   -- packets are kept, and nothing else is met by nothing
-  kept_packets : (e : SctpEvent) (p q : PolledPeer I D S M N) → TakesStreamEvent m e p Nothing q
+  pub kept_packets : (e : SctpEvent) (p q : PolledPeer I D S M N) → TakesStreamEvent m e p Nothing q
       → (packets : List (List ℕ)) × ((e ≡ event.Transmit packets) × (q ≡ with_pushed (Some packets) p))
   unfolding OpensChannelOver LosesAssociation
   kept_packets (event.Transmit packets) p q h = (packets, (refl, h.1))

@@ -22,3 +22,5 @@ pub mod ActedPackets
 pub mod ActedStreams
 pub mod ActedPolls
 pub mod RelayedCalls
+pub mod HeardStreams
+pub mod HeardPolls

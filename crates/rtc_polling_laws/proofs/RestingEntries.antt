@@ -25,7 +25,7 @@ use Rattle.rtc_sctp_entries.specs.Visits.{ReadBy, ReadsEntry, AttendsBy, Attends
 use Rattle.rtc_polling_laws.proofs.MeetingEntries.{closes_meet, begins_meet, message_taken, threshold_handed}
 
 -- an opening that was refused for the stream that is there, or for its outstanding reset
-exists_is : (r : Result (Unit {0}) AssocError) → opening_of r ≡ opened.Exists → r ≡ Err StreamExists
+pub exists_is : (r : Result (Unit {0}) AssocError) → opening_of r ≡ opened.Exists → r ≡ Err StreamExists
 exists_is (Ok x) e = cc (e)
 exists_is (Err NoStream) e = cc (e)
 exists_is (Err TooLong) e = cc (e)
@@ -35,7 +35,7 @@ exists_is (Err Fault) e = cc (e)
 exists_is (Err StreamExists) e = refl
 exists_is (Err ResetPending) e = cc (e)
 
-pending_is : (r : Result (Unit {0}) AssocError) → opening_of r ≡ opened.Pending → r ≡ Err ResetPending
+pub pending_is : (r : Result (Unit {0}) AssocError) → opening_of r ≡ opened.Pending → r ≡ Err ResetPending
 pending_is (Ok x) e = cc (e)
 pending_is (Err NoStream) e = cc (e)
 pending_is (Err TooLong) e = cc (e)
@@ -188,7 +188,7 @@ module _ {S : Type 0} (m : AssociationMeaning S) where
         by (inr is) =
             inr (read_is h.answer heard.OutOfMemory (record t { association = h.between }) met t' (sym h.asks.is ∙ ap heard_of is) h.then).0
 
-    read_first : (answer : Heard) (t t' : Turn S) (q : S) (r : Result (Option (Ppi × List ℕ)) AssocError) → m.read t.association t.entry.id r q
+    pub read_first : (answer : Heard) (t t' : Turn S) (q : S) (r : Result (Option (Ppi × List ℕ)) AssocError) → m.read t.association t.entry.id r q
         → heard_of r ≡ answer → ReadBy m answer (record t { association = q }) Nothing t' → m.read t.association t.entry.id (Ok None) q × (t' ≡ t)
     read_first heard.Nothing t t' q r was is h =
         let called = subst (λ (x : Result (Option (Ppi × List ℕ)) AssocError). m.read t.association t.entry.id x q) (nothing_is r is) was in

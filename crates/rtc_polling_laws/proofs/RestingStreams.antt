@@ -62,20 +62,20 @@ module _ {S : Type 0} where
   else_rests first rest p one other met q h = then_rests rest p other h.0 h.1.0 (one h.0 h.1.0 h.1.1.0) met q h.1.1.1
 
   -- both steps met nothing
-  then_nothing : (rest : SctpStreams S → Met → SctpStreams S → Type 0) (own : Met) (b q : SctpStreams S) → ThenBy rest own b Nothing q
+  pub then_nothing : (rest : SctpStreams S → Met → SctpStreams S → Type 0) (own : Met) (b q : SctpStreams S) → ThenBy rest own b Nothing q
       → (own ≡ Nothing) × rest b Nothing q
   then_nothing rest Nothing b q k = (refl, k)
   then_nothing rest Again b q k = cc (k.0)
   then_nothing rest (Output o) b q k = cc (k.0)
   then_nothing rest OutOfMemory b q k = cc (k.0)
 
-  else_nothing : (first rest : SctpStreams S → Met → SctpStreams S → Type 0) (p q : SctpStreams S) → Else first rest p Nothing q
+  pub else_nothing : (first rest : SctpStreams S → Met → SctpStreams S → Type 0) (p q : SctpStreams S) → Else first rest p Nothing q
       → (b : SctpStreams S) × (first p Nothing b × rest b Nothing q)
   else_nothing first rest p q h =
       let k = then_nothing rest h.0 h.1.0 q h.1.1.1 in
       (h.1.0, (subst (λ (x : Met). first p x h.1.0) k.0 h.1.1.0, k.1))
 
-  completion_nothing : (l : List ℕ) (p q : SctpStreams S) → p.completed ≡ l → CompletionOf l p Nothing q → (q ≡ p) × (p.completed ≡ [])
+  pub completion_nothing : (l : List ℕ) (p q : SctpStreams S) → p.completed ≡ l → CompletionOf l p Nothing q → (q ≡ p) × (p.completed ≡ [])
   completion_nothing [] p q is h = (h.1, is)
   completion_nothing (id ∷ rest) p q is h = cc (h.0)
 
@@ -103,21 +103,21 @@ module _ {S : Type 0} (m : AssociationMeaning S) (w : AssociationLaws m) where
       let same = w.packet_none p.association q.association h.0 in
       (h.1 ∙ ap (λ (a : S). record p { association = a }) same, λ started. subst (λ (a : S). m.gave p.association None a) same h.0)
 
-  transmit_nothing : (o : Option (List (List ℕ))) (p q : SctpStreams S) → p.pushed ≡ o → TransmitOf m o p Nothing q
+  pub transmit_nothing : (o : Option (List (List ℕ))) (p q : SctpStreams S) → p.pushed ≡ o → TransmitOf m o p Nothing q
       → (q ≡ p) × (p.pushed ≡ None) × (m.started p.association ≡ true → m.gave p.association None p.association)
   transmit_nothing None p q is h =
       let k = transmit_if_nothing (m.started p.association) p q refl h in
       (k.0, is, k.1)
   transmit_nothing (Some packets) p q is h = cc (h.0)
 
-  abbrev GaveNoEvent : SctpStreams S → Type 0
+  abbrev pub GaveNoEvent : SctpStreams S → Type 0
   GaveNoEvent p = (m.started p.association ≡ false) ⊎ m.polled p.association None p.association
 
   same_book : (p q : SctpStreams S) → q ≡ with_book (book_of q) q.association p → q.association ≡ p.association → book_of q ≡ book_of p → q ≡ p
   same_book p q is same book =
       is ∙ ap (λ b. with_book b q.association p) book ∙ ap (λ (a : S). with_book (book_of p) a p) same
 
-  event_nothing : (p q : SctpStreams S) → HandlesEvent m p Nothing q → (q ≡ p) × GaveNoEvent p
+  pub event_nothing : (p q : SctpStreams S) → HandlesEvent m p Nothing q → (q ≡ p) × GaveNoEvent p
   event_nothing p q (NotStarted fresh met same book, k) = (same_book p q k same book, inl fresh)
   event_nothing p q (NoRoom met same book, k) = cc (met)
   event_nothing p q (NoEvent polled met book, k) =

@@ -90,5 +90,6 @@ abbrev pub CallActs : {I D S M E X T W N : Type 0} → Meanings I D S M E X T W 
 CallActs m wrote p q = PeerDid m nothing_came [] [] wrote [] p q
 
 -- an input: what came, and its moment
-abbrev pub InputActs : {I D S M E X T W N : Type 0} → Meanings I D S M E X T W N → Input → PolledPeer I D S M N → PolledPeer I D S M N → Type 0
+abbrev pub InputActs : {I D S M E X T W N : Type 0} → Meanings I D S M E X T W N → Input → PolledPeer I D S M N
+    → PolledPeer I D S M N → Type 0
 InputActs m input p q = PeerDid m (came_by input) (moment_given input ∷ []) [] [] [] p q

@@ -1,6 +1,9 @@
 -- Polls of a peer that answered a timeout, without a call between.
-use Rattle.std.specs.Prelude.{◌≡◌, ◌<◌, ◌-◌, ◌^◌, ◌⊎◌, ℕ, false, [], Result, Ok, Err}
+use Rattle.std.specs.Prelude.{◌≡◌, ◌<◌, ◌-◌, ◌^◌, ◌⊎◌, ◌&&◌, ℕ, true, false, List, [], ◌∷◌, Result, Ok, Err}
 use Rattle.rtc_association.specs.AssociationMeaning.{AssociationMeaning}
+use Rattle.rtc_sctp_entries.specs.declared.stream_entry.StreamEntry.{StreamEntry}
+use Rattle.rtc_sctp_entries.specs.declared.stream_entry_state.StreamEntryState.TheVariants.{AwaitOpen}
+use Rattle.rtc_sctp.specs.Streams.{SctpStreams, is_established}
 use Rattle.rtc_peer_state.specs.declared.rtc_error.RtcError.{RtcError}
 use Rattle.rtc_peer_state.specs.declared.rtc_error.RtcError.TheVariants.{Alloc}
 use Rattle.rtc_peer_state.specs.Meanings.{Meanings}
@@ -22,3 +25,20 @@ pub record CanRest {I D S M E X T W N : Type 0} (m : Meanings I D S M E X T W N)
 abbrev pub AnswersAgain : {I D S M E N : Type 0} → (moment : ℕ) → PolledPeer I D S M N → Result (Output E) RtcError
     → PolledPeer I D S M N → Type 0
 AnswersAgain moment p answer q = ((answer ≡ Ok (Timeout moment)) × (q ≡ p)) ⊎ (answer ≡ Err Alloc)
+
+-- A stream in use waits to be opened; or it is there, is not to be closed, and no whole message of its generation stands unread.
+abbrev pub IsHeard : {S : Type 0} → AssociationMeaning S → S → StreamEntry → Type 0
+IsHeard m a entry =
+    (entry.state ≡ AwaitOpen)
+    ⊎ ((entry.marked ≡ false)
+    × (m.has_stream a entry.id ≡ true)
+    × (m.has_unread a entry.id (m.generation a entry.id) ≡ false))
+
+abbrev pub AreHeard : {S : Type 0} → AssociationMeaning S → S → List StreamEntry → Type 0
+AreHeard m a [] = Unit {0}
+AreHeard m a (entry ∷ entries) = IsHeard m a entry × AreHeard m a entries
+
+-- The association, once it was started, holds nothing that a poll still gives; and once it is established, each stream in use was heard.
+pub record AllHeard {S : Type 0} (m : AssociationMeaning S) (p : SctpStreams S) : Type 0 where
+  pub quiet : m.started p.association ≡ true → m.held p.association ≡ 0
+  pub streams : (is_established p.state && m.started p.association) ≡ true → AreHeard m p.association p.entries

@@ -1,11 +1,11 @@
 //! What a peer answers that has nothing left to give.
-ghost use Rattle.std.specs.Prelude.{◌≡◌, ◌≢◌, ◌≤◌, ◌-◌, ◌^◌, ℕ, Ok};
+ghost use Rattle.std.specs.Prelude.{◌≡◌, ◌≢◌, ◌≤◌, ◌-◌, ◌^◌, ℕ, None, Ok};
 ghost use Rattle.rtc_peer_state.specs.Meanings.{meanings};
 ghost use Rattle.rtc_peer_state.specs.declared.phase.Phase.TheVariants.{Closed};
 ghost use Rattle.rtc_polling.specs.declared.output.Output.TheVariants.{Timeout};
 ghost use Rattle.rtc_polling.specs.declared.polled_peer.PolledPeer.{PolledPeer as Polled};
 ghost use Rattle.rtc_polling.specs.Walk.{PollsPeer};
-ghost use Rattle.rtc_polling_laws.specs.Drained.{AnswersAgain, CanRest};
+ghost use Rattle.rtc_polling_laws.specs.Drained.{AllHeard, AnswersAgain, CanRest};
 
 use rtc_association::Association;
 use rtc_dtls::DtlsInstance;
@@ -33,4 +33,18 @@ pub fn wakes_are_not_past<I: IceAgent, D: DtlsInstance, S: Association, M: Media
     ensures closed { (p q : Polled I D S M N) (moment : ℕ)
         → PollsPeer (meanings I.ice D.dtls S.association M.media N.ids) p (Ok (Timeout moment)) q → q.core.phase ≡ Closed
         → moment ≡ 2 ^ 64 - 1 }
+{}
+
+/// Once a peer that is not closed answered a timeout, and no packet stands to be sent, its association gives nothing more, and each
+/// stream in use waits to be opened, or every whole message of its generation was read.
+pub fn drained_peers_have_heard<
+    I: IceAgent,
+    D: DtlsInstance,
+    S: Association,
+    M: MediaSession,
+    N: Ids,
+>()
+    ensures { (p q : Polled I D S M N) (moment : ℕ)
+        → PollsPeer (meanings I.ice D.dtls S.association M.media N.ids) p (Ok (Timeout moment)) q → q.core.phase ≢ Closed
+        → q.core.sctp.pushed ≡ None → AllHeard S.association q.core.sctp }
 {}
