@@ -24,3 +24,5 @@ pub mod ActedPolls
 pub mod RelayedCalls
 pub mod HeardStreams
 pub mod HeardPolls
+pub mod FollowedParts
+pub mod ActedAcceptances

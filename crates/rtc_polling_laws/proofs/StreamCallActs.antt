@@ -16,7 +16,7 @@ use Rattle.rtc_polling.specs.ChannelCalls.{SetsThresholdIf}
 
 module _ {S : Type 0} (m : AssociationMeaning S) where
   -- nothing was done to the streams, or something and then more
-  call_none : (p q : SctpStreams S) → q ≡ p → CallDid m [] [] p q
+  pub call_none : (p q : SctpStreams S) → q ≡ p → CallDid m [] [] p q
   call_none p q is = subst (λ (x : SctpStreams S). CallDid m [] [] p x) (sym is)
       (record { did = did_none m p.association; pushed_is = refl; completed_is = refl })
 

@@ -10,6 +10,7 @@ use Rattle.rtc_sctp.specs.Calls.{written_ppi, is_nil}
 use Rattle.rtc_sctp_laws.specs.StreamMessages.{StreamMessage, stream_message, write_act, read_act, writes_of, reads_of}
 use Rattle.rtc_sctp_laws.specs.StreamMessages.{are_dcep, shown_messages, pushed_packets}
 use Rattle.rtc_channels.specs.Channels.{Channels}
+use Rattle.rtc_peer_state.specs.declared.peer.Peer.{Peer}
 use Rattle.rtc_peer_state.specs.declared.rtc_error.RtcError.{RtcError}
 use Rattle.rtc_peer_state.specs.Meanings.{Meanings}
 use Rattle.rtc_polling.specs.declared.event.Event.TheVariants.{ChannelData}
@@ -93,3 +94,16 @@ CallActs m wrote p q = PeerDid m nothing_came [] [] wrote [] p q
 abbrev pub InputActs : {I D S M E X T W N : Type 0} → Meanings I D S M E X T W N → Input → PolledPeer I D S M N
     → PolledPeer I D S M N → Type 0
 InputActs m input p q = PeerDid m (came_by input) (moment_given input ∷ []) [] [] [] p q
+
+-- A description that is accepted, or refused: no packet comes from outside, but a side that begins the handshake gives its DTLS part one
+-- of no bytes.
+abbrev pub begun_here : Came
+begun_here = record nothing_came { dtls = [] ∷ [] }
+
+abbrev pub NegotiationActs : {I D S M E X T W N : Type 0} → Meanings I D S M E X T W N → PolledPeer I D S M N
+    → PolledPeer I D S M N → Type 0
+NegotiationActs m p q = PeerDid m begun_here (p.core.greatest ∷ []) [] [] [] p q
+
+-- the peer with another core
+abbrev pub with_core : {I D S M N : Type 0} → Peer I D S M N → PolledPeer I D S M N → PolledPeer I D S M N
+with_core core p = record p { core = core }

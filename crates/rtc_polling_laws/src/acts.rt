@@ -1,5 +1,9 @@
 //! What each call does to the parts of a peer, as lists of acts.
 ghost use Rattle.std.specs.Prelude.{ℕ, Bool, List, []};
+ghost use Rattle.rtc_sdp_values.specs.declared.sdp.Sdp.{Sdp as Description};
+ghost use Rattle.rtc_change.specs.PendingOffer.{PendingOffer};
+ghost use Rattle.rtc_peer_state.specs.declared.peer.Peer.{Peer};
+ghost use Rattle.rtc_peer_state.specs.Acceptances.{AcceptsAnswer, AcceptsOffer};
 ghost use Rattle.rtc_peer_state.specs.Meanings.{meanings};
 ghost use Rattle.rtc_polling.specs.declared.input.Input.{Input as Given};
 ghost use Rattle.rtc_polling.specs.declared.polled_peer.PolledPeer.{PolledPeer as Polled};
@@ -7,7 +11,7 @@ ghost use Rattle.rtc_polling.specs.ChannelCalls.{AsksThreshold, WritesChannel};
 ghost use Rattle.rtc_polling.specs.Closing.{ClosesPeer};
 ghost use Rattle.rtc_polling.specs.Inputs.{HandlesInput};
 ghost use Rattle.rtc_polling.specs.Walk.{PollsPeer};
-ghost use Rattle.rtc_polling_laws.specs.Acts.{CallActs, InputActs, PollActs, message_of_write};
+ghost use Rattle.rtc_polling_laws.specs.Acts.{CallActs, InputActs, NegotiationActs, PollActs, message_of_write, with_core};
 
 use rtc_association::Association;
 use rtc_dtls::DtlsInstance;
@@ -34,4 +38,15 @@ pub fn calls_act<I: IceAgent, D: DtlsInstance, S: Association, M: MediaSession, 
         (message_of_write stream (S.association.generation p.core.sctp.association stream) binary bytes answer) p q }
     ensures thresholds { (p q : Polled I D S M N) (stream n : ℕ) → AsksThreshold stream n p q
         → CallActs (meanings I.ice D.dtls S.association M.media N.ids) [] p q }
+{}
+
+/// So is each offer and each answer that is accepted, refused or stopped: no packet comes from outside and none goes, no message is
+/// written or read, and no moment is handed on but the greatest that was taken.
+pub fn acceptances_act<I: IceAgent, D: DtlsInstance, S: Association, M: MediaSession, N: Ids>()
+    ensures offers { (p : Polled I D S M N) (core : Peer I D S M N) (offer : Description) (answer : _)
+        → AcceptsOffer (meanings I.ice D.dtls S.association M.media N.ids) p.core offer answer core
+        → NegotiationActs (meanings I.ice D.dtls S.association M.media N.ids) p (with_core core p) }
+    ensures answers { (p : Polled I D S M N) (core : Peer I D S M N) (token : PendingOffer) (description : Description) (answer : _)
+        → AcceptsAnswer (meanings I.ice D.dtls S.association M.media N.ids) p.core token description answer core
+        → NegotiationActs (meanings I.ice D.dtls S.association M.media N.ids) p (with_core core p) }
 {}
