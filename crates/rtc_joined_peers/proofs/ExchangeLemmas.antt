@@ -1,5 +1,5 @@
 -- Two peers over plain parts that exchange datagrams stay joined.
-use Rattle.std.proofs.Common.{◌≡◌, ◌++◌, ℕ, List, refl}
+use Rattle.std.proofs.Common.{◌++◌, ℕ, List}
 use Rattle.rtc_dtls.specs.DtlsWords.{dtls_taken}
 use Rattle.rtc_plain_ice.specs.Contents.{IceContents}
 use Rattle.rtc_plain_ice.specs.PlainMeaning.{plain_ice}
@@ -21,7 +21,6 @@ use Rattle.rtc_polling_laws.specs.Acts.{PeerDid}
 use Rattle.rtc_polling_laws.specs.PeerActs.{Came, PeerActs, acts_with}
 use Rattle.rtc_joined_peers.specs.Exchanging.{PeersExchange, parts_past}
 use Rattle.rtc_joined_peers.specs.JoinedPeers.{CarriesData, ends_of, packet_parts}
-use Rattle.rtc_joined_peers.specs.ShownData.{HasShown}
 use Rattle.rtc_joined_peers.proofs.JoinedLemmas.{left_stays, right_stays}
 use Rattle.rtc_joined_peers.proofs.ShownLemmas.{shown_data, shown_on}
 
@@ -35,7 +34,7 @@ module _ {N : Type 0} (ids : Draws N) where
       → PeersExchange (acts_with a did.acts) (before ++ after) next b others q
   left_exchanges a b before after others p next q came moments wrote heard x more did =
       let carried = data_through came.dtls others (dtls_taken b.dtls) more
-          (shown_data b others q.core.dtls.packets q.core.ice q.core.media x.right) in
+      (shown_data b others q.core.dtls.packets q.core.ice q.core.media x.right) in
       record {
         joined =
             left_stays (parts_past a) (parts_past b) (packet_parts p) (packet_parts next) (packet_parts q) did.acts came.dtls did.went.dtls
@@ -52,7 +51,7 @@ module _ {N : Type 0} (ids : Draws N) where
       → PeersExchange a others p (acts_with b did.acts) (before ++ after) next
   right_exchanges a b before after others p q next came moments wrote heard x more did =
       let carried = data_through came.dtls others (dtls_taken a.dtls) more
-          (shown_data a others p.core.dtls.packets p.core.ice p.core.media x.left) in
+      (shown_data a others p.core.dtls.packets p.core.ice p.core.media x.left) in
       record {
         joined =
             right_stays (parts_past a) (parts_past b) (packet_parts p) (packet_parts q) (packet_parts next) did.acts came.dtls did.went.dtls

@@ -1,6 +1,5 @@
 -- Of what a peer over plain parts shows, packets of application data are of the DTLS part.
-use Rattle.std.proofs.Common.{◌≡◌, ◌<◌, ◌++◌, ◌∷◌, ◌⊎◌, inl, inr, ℕ, List, [], map, Some, append-nil, refl, sym, ap, subst, ◌∙◌, arith}
-use Rattle.std.specs.Prelude.{slice_get}
+use Rattle.std.proofs.Common.{◌≡◌, ◌++◌, ◌∷◌, ◌⊎◌, inl, inr, ℕ, List, [], map, append-nil, refl, sym, ap, subst, arith}
 use Rattle.rtc_wire.specs.declared.transmit.Transmit.{Transmit}
 use Rattle.rtc_parts_values.specs.Among.{Member, Among}
 use Rattle.rtc_association.proofs.AmongLemmas.{member-append, member-left}

@@ -1,5 +1,5 @@
 -- What a peer over plain parts shows in datagrams.
-use Rattle.std.specs.Prelude.{ℕ, ◌++◌, List, []}
+use Rattle.std.specs.Prelude.{ℕ, ◌++◌, List}
 use Rattle.rtc_parts_values.specs.Among.{Among}
 use Rattle.rtc_ice.specs.IceActs.{IceMoved}
 use Rattle.rtc_media.specs.MediaActs.{MediaMoved}

@@ -1,7 +1,5 @@
 -- What accepting an offer or an answer does to the parts of a peer.
-use Rattle.std.proofs.Common.{◌≡◌, ◌++◌, ◌∷◌, ℕ, Bool, true, false, List, [], map, Option, Some, None, Result, Ok, Err, refl, sym, ap, subst, ◌∙◌}
-use Rattle.std.specs.declared.alloc.AllocError.{AllocError}
-use Rattle.rtc_wire.specs.declared.transmit.Transmit.{Transmit}
+use Rattle.std.proofs.Common.{◌≡◌, ◌++◌, ◌∷◌, ℕ, Bool, true, false, List, [], Option, Some, None, Result, Ok, Err, refl, sym, ap, subst, ◌∙◌}
 use Rattle.rtc_parts_values.specs.Among.{Among}
 use Rattle.rtc_association.proofs.AmongLemmas.{member-right, among_none}
 use Rattle.rtc_association.specs.AssociationWords.{given, taken}
@@ -17,7 +15,6 @@ use Rattle.rtc_change.specs.Plans.{is_offer, asked_by}
 use Rattle.rtc_change.specs.declared.change.Change.{Change}
 use Rattle.rtc_change.specs.Held.{Asked}
 use Rattle.rtc_change.specs.PendingOffer.{PendingOffer, staged_restart}
-use Rattle.rtc_dtls.specs.DtlsState.{DtlsState}
 use Rattle.rtc_sctp.specs.declared.proto_error.ProtoError.TheVariants.{Fault as AssociationFault}
 use Rattle.rtc_sctp.specs.declared.sctp_error.SctpError.{SctpError}
 use Rattle.rtc_sctp.specs.declared.sctp_error.SctpError.TheVariants.{Proto, Alloc as SctpAlloc}

@@ -1,12 +1,11 @@
 -- What negotiation does to each part, as lists of acts.
-use Rattle.std.proofs.Common.{◌≡◌, ◌++◌, ◌∷◌, inl, inr, ℕ, Bool, true, false, List, [], Option, Some, None, Result, Ok, Err, refl, sym, ap, subst, ◌∙◌}
+use Rattle.std.proofs.Common.{◌≡◌, ◌++◌, ◌∷◌, inl, inr, ℕ, Bool, true, false, List, [], Option, Some, None, Result, Ok, Err, refl, ap, ◌∙◌}
 use Rattle.std.specs.declared.alloc.AllocError.{AllocError}
 use Rattle.rtc_parts_values.specs.Why.{Other}
 use Rattle.rtc_parts_values.specs.Among.{Among}
 use Rattle.rtc_association.proofs.AmongLemmas.{among_none, among_self}
 use Rattle.rtc_sdp_values.specs.declared.candidate.Candidate.{Candidate}
 use Rattle.rtc_sdp_values.specs.declared.ice_creds.IceCreds.{IceCreds}
-use Rattle.rtc_sdp_values.specs.declared.line_row.LineRow.{LineRow}
 use Rattle.rtc_ice.specs.IceMeaning.{IceMeaning}
 use Rattle.rtc_ice.specs.IceActs.{IceAct, IceCall, IceMoved, IceCalled, Stirred as IceStirred, ControllingSet, RemoteSet, Restarted, RemoteAdded, ice_moved-append, ice_moved-one}
 use Rattle.rtc_ice.specs.IceWords.{ice_given, ice_taken}
@@ -72,13 +71,10 @@ module _ {I : Type 0} (m : IceMeaning I) where
 
   candidates_told : (i : I) (candidates : List Candidate) (r : Result (Unit {0}) AllocError) (j : I) → TakesCandidates m i candidates r j → AgentTold m i j
   candidates_told i [] r j h = agent_none i j h.1
-  candidates_told i (candidate ∷ candidates) r j h =
-      agent_on i h.0 j (agent_call i h.0 (RemoteAdded candidate h.1) h.2 refl) (by h.1 (candidates_told h.0 candidates r j) h.3)
-    where
-      by : (answer : Result Bool AllocError) → (TakesCandidates m h.0 candidates r j → AgentTold m h.0 j)
-          → (elim answer [ Ok taken ↦ TakesCandidates m h.0 candidates r j | Err error ↦ (r ≡ Err error) × (j ≡ h.0) ]) → AgentTold m h.0 j
-      by (Ok taken) rest k = rest k
-      by (Err error) rest k = agent_none h.0 j k.1
+  candidates_told i (candidate ∷ candidates) r j (between, (Ok taken, (added, rest))) =
+      agent_on i between j (agent_call i between (RemoteAdded candidate (Ok taken)) added refl) (candidates_told between candidates r j rest)
+  candidates_told i (candidate ∷ candidates) r j (between, (Err error, (added, rest))) =
+      agent_on i between j (agent_call i between (RemoteAdded candidate (Err error)) added refl) (agent_none between j rest.1)
 
   pub follows_told : (i : I) (restart : Option (IceCreds × Bool)) (creds : Option IceCreds) (candidates : List Candidate) (control : Option Bool) (j : I)
       → FollowsSdp m i restart creds candidates control j → AgentTold m i j
