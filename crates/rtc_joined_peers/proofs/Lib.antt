@@ -1,0 +1,3 @@
+pub mod JoinedLemmas
+pub mod ShownLemmas
+pub mod ExchangeLemmas

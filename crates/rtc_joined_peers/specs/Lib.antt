@@ -1,0 +1,3 @@
+pub mod JoinedPeers
+pub mod ShownData
+pub mod Exchanging

@@ -1,0 +1,61 @@
+-- Closing leaves the greatest moment and the channels.
+use Rattle.std.proofs.Common.{◌≡◌, Result, Ok, Err, refl, ◌∙◌}
+use Rattle.rtc_peer_state.specs.declared.phase.Phase.{Phase}
+use Rattle.rtc_peer_state.specs.declared.phase.Phase.TheVariants.{Alive, Closing, Closed}
+use Rattle.rtc_peer_state.specs.declared.rtc_error.RtcError.{RtcError}
+use Rattle.rtc_peer_state.specs.declared.rtc_error.RtcError.TheVariants.{Dtls, Sctp, Alloc}
+use Rattle.rtc_peer_state.specs.Meanings.{Meanings}
+use Rattle.rtc_polling.specs.declared.polled_peer.PolledPeer.{PolledPeer}
+use Rattle.rtc_polling.specs.Closing.{ShutsMedia, ShutsStreams, ShutsDtls, BecomesClosing, BeginsClosing, ClosesPeer, ClosesPeerFrom}
+use Rattle.rtc_polling.specs.Stages.{Call, InTurn, Failed, Passed}
+use Rattle.rtc_polling_laws.proofs.ActedClosing.{beside}
+
+abbrev pub KeepsChannels : {I D S M N : Type 0} → PolledPeer I D S M N → PolledPeer I D S M N → Type 0
+KeepsChannels p q = (q.core.greatest ≡ p.core.greatest) × (q.core.channels ≡ p.core.channels)
+
+abbrev CallKeepsChannels : {I D S M N : Type 0} → Call (PolledPeer I D S M N) → Type 0
+CallKeepsChannels {I} {D} {S} {M} {N} call =
+    (p : PolledPeer I D S M N) (r : Result (Unit {0}) RtcError) (q : PolledPeer I D S M N) → call p r q → KeepsChannels p q
+
+turn_keeps : {I D S M N : Type 0} (first rest : Call (PolledPeer I D S M N)) → CallKeepsChannels first → CallKeepsChannels rest
+    → CallKeepsChannels (InTurn first rest)
+turn_keeps first rest one other p r q (Failed error is h) = one p (Err error) q h
+turn_keeps first rest one other p r q (Passed between h k) =
+    let a = one p (Ok tt) between h in
+    let b = other between r q k in
+    (b.0 ∙ a.0, b.1 ∙ a.1)
+
+module _ {I D S M E X T W N : Type 0} (m : Meanings I D S M E X T W N) where
+  media_keeps : CallKeepsChannels (ShutsMedia m)
+  unfolding ShutsMedia
+  media_keeps p (Ok done) q h = beside KeepsChannels p _ q h.1 (refl, refl)
+  media_keeps p (Err Alloc) q h = beside KeepsChannels p _ q h.1 (refl, refl)
+  media_keeps p (Err _) q h = absurd h
+
+  streams_keep : CallKeepsChannels (ShutsStreams m)
+  unfolding ShutsStreams
+  streams_keep p (Ok done) q h = beside KeepsChannels p _ q h.1 (refl, refl)
+  streams_keep p (Err (Sctp cause)) q h = beside KeepsChannels p _ q h.2 (refl, refl)
+  streams_keep p (Err Alloc) q h = beside KeepsChannels p _ q h.1 (refl, refl)
+  streams_keep p (Err _) q h = absurd h
+
+  dtls_keeps : CallKeepsChannels (ShutsDtls m)
+  unfolding ShutsDtls
+  dtls_keeps p (Ok done) q h = beside KeepsChannels p _ q h.1 (refl, refl)
+  dtls_keeps p (Err (Dtls cause)) q h = beside KeepsChannels p _ q h.2 (refl, refl)
+  dtls_keeps p (Err Alloc) q h = beside KeepsChannels p _ q h.1 (refl, refl)
+  dtls_keeps p (Err _) q h = absurd h
+
+  begins_keep : CallKeepsChannels (BeginsClosing m)
+  begins_keep =
+      turn_keeps (ShutsMedia m) _ media_keeps
+      (turn_keeps (ShutsStreams m) _ streams_keep
+      (turn_keeps (ShutsDtls m) BecomesClosing dtls_keeps (λ p r q h. beside KeepsChannels p _ q h.1 (refl, refl))))
+
+  closes_from : (phase : Phase) → CallKeepsChannels (ClosesPeerFrom m phase)
+  closes_from Alive p r q h = begins_keep p r q h
+  closes_from Closing p r q h = beside KeepsChannels p p q h.1 (refl, refl)
+  closes_from Closed p r q h = beside KeepsChannels p p q h.1 (refl, refl)
+
+  pub close_rows : CallKeepsChannels (ClosesPeer m)
+  close_rows p r q h = closes_from p.core.phase p r q h

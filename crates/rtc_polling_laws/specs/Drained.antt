@@ -1,0 +1,44 @@
+-- Polls of a peer that answered a timeout, without a call between.
+use Rattle.std.specs.Prelude.{◌≡◌, ◌<◌, ◌-◌, ◌^◌, ◌⊎◌, ◌&&◌, ℕ, true, false, List, [], ◌∷◌, Result, Ok, Err}
+use Rattle.rtc_association.specs.AssociationMeaning.{AssociationMeaning}
+use Rattle.rtc_sctp_entries.specs.declared.stream_entry.StreamEntry.{StreamEntry}
+use Rattle.rtc_sctp_entries.specs.declared.stream_entry_state.StreamEntryState.TheVariants.{AwaitOpen}
+use Rattle.rtc_sctp.specs.Streams.{SctpStreams, is_established}
+use Rattle.rtc_peer_state.specs.declared.rtc_error.RtcError.{RtcError}
+use Rattle.rtc_peer_state.specs.declared.rtc_error.RtcError.TheVariants.{Alloc}
+use Rattle.rtc_peer_state.specs.Meanings.{Meanings}
+use Rattle.rtc_polling.specs.declared.output.Output.{Output}
+use Rattle.rtc_polling.specs.declared.output.Output.TheVariants.{Timeout}
+use Rattle.rtc_polling.specs.declared.polled_peer.PolledPeer.{PolledPeer}
+
+-- an association that was not started has no event that is due
+abbrev pub WaitsToStart : {S : Type 0} → AssociationMeaning S → S → Type 0
+WaitsToStart m a = m.started a ≡ false → m.due a ≡ []
+
+-- What the streams of a peer are before the last moment of all. At that moment an opening that was refused is given up with the poll after
+-- the one that it was refused in.
+pub record CanRest {I D S M E X T W N : Type 0} (m : Meanings I D S M E X T W N) (p : PolledPeer I D S M N) : Type 0 where
+  pub early : p.core.sctp.last < 2 ^ 64 - 1
+  pub waits : WaitsToStart m.association p.core.sctp.association
+
+-- the same timeout is answered, and nothing changes; or memory is wanting
+abbrev pub AnswersAgain : {I D S M E N : Type 0} → (moment : ℕ) → PolledPeer I D S M N → Result (Output E) RtcError
+    → PolledPeer I D S M N → Type 0
+AnswersAgain moment p answer q = ((answer ≡ Ok (Timeout moment)) × (q ≡ p)) ⊎ (answer ≡ Err Alloc)
+
+-- A stream in use waits to be opened; or it is there, is not to be closed, and no whole message of its generation stands unread.
+abbrev pub IsHeard : {S : Type 0} → AssociationMeaning S → S → StreamEntry → Type 0
+IsHeard m a entry =
+    (entry.state ≡ AwaitOpen)
+    ⊎ ((entry.marked ≡ false)
+    × (m.has_stream a entry.id ≡ true)
+    × (m.has_unread a entry.id (m.generation a entry.id) ≡ false))
+
+abbrev pub AreHeard : {S : Type 0} → AssociationMeaning S → S → List StreamEntry → Type 0
+AreHeard m a [] = Unit {0}
+AreHeard m a (entry ∷ entries) = IsHeard m a entry × AreHeard m a entries
+
+-- The association, once it was started, holds nothing that a poll still gives; and once it is established, each stream in use was heard.
+pub record AllHeard {S : Type 0} (m : AssociationMeaning S) (p : SctpStreams S) : Type 0 where
+  pub quiet : m.started p.association ≡ true → m.held p.association ≡ 0
+  pub streams : (is_established p.state && m.started p.association) ≡ true → AreHeard m p.association p.entries
