@@ -214,3 +214,14 @@ pub read_more : (s g : ℕ) (past acts : List AssociationAct) (heard : List Stre
     → read s g (past ++ acts) ≡ read s g past ++ read s g (map read_act heard)
 read_more s g past acts heard is =
     read-append s g past acts ∙ ap (λ l. read s g past ++ l) (read_by s g acts ∙ ap (λ l. read s g l) is)
+
+-- nothing, and a packet of no bytes, carry no application data
+pub none_carries : (others : List (List ℕ)) → CarriesData [] others
+none_carries others = record { each = λ bytes m. absurd m }
+
+empty_carries : (bytes : List ℕ) → Member (23 ∷ bytes) ([] ∷ []) → ⊥
+empty_carries bytes (inl e) = cc (e)
+empty_carries bytes (inr m) = absurd m
+
+pub begun_carries : (others : List (List ℕ)) → CarriesData ([] ∷ []) others
+begun_carries others = record { each = λ bytes m. absurd (empty_carries bytes m) }

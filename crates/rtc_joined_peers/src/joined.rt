@@ -11,8 +11,8 @@ ghost use Rattle.rtc_assoc.specs.Unread.{IsPrefix, unread};
 ghost use Rattle.rtc_sctp_laws.specs.StreamMessages.{StreamMessage, read_act, write_act};
 ghost use Rattle.rtc_peer_state.specs.Meanings.{meanings};
 ghost use Rattle.rtc_polling.specs.declared.polled_peer.PolledPeer.{PolledPeer as Polled};
-ghost use Rattle.rtc_polling_laws.specs.Acts.{PeerDid};
-ghost use Rattle.rtc_polling_laws.specs.PeerActs.{Came};
+ghost use Rattle.rtc_polling_laws.specs.Acts.{PeerDid, begun_here};
+ghost use Rattle.rtc_polling_laws.specs.PeerActs.{Came, nothing_came};
 ghost use Rattle.rtc_joined_peers.specs.JoinedPeers.{AreUnused, CarriesData, PartsPast, PeersJoined, PacketParts, past_with, packet_parts};
 
 use rtc_association::Association;
@@ -73,4 +73,10 @@ pub fn messages_are_those_of_calls<
         (wrote heard : List StreamMessage) (s g : ℕ)
         → (did : PeerDid (meanings I.ice D.dtls S.association M.media N.ids) came moments shown wrote heard p q)
         → read s g (past_with past did.acts).association ≡ read s g past.association ++ read s g (map read_act heard) }
+{}
+
+/// Calls to which no datagram comes, and a side that begins the handshake, bring no application data.
+pub fn calls_without_datagrams_carry_no_data()
+    ensures none { (others : List (List ℕ)) → CarriesData nothing_came.dtls others }
+    ensures begun { (others : List (List ℕ)) → CarriesData begun_here.dtls others }
 {}

@@ -71,9 +71,9 @@ module _ {I : Type 0} (m : IceMeaning I) where
 
   candidates_told : (i : I) (candidates : List Candidate) (r : Result (Unit {0}) AllocError) (j : I) → TakesCandidates m i candidates r j → AgentTold m i j
   candidates_told i [] r j h = agent_none i j h.1
-  candidates_told i (candidate ∷ candidates) r j (between, (Ok taken, (added, rest))) =
+  candidates_told i (candidate ∷ candidates) r j (between, Ok taken, added, rest) =
       agent_on i between j (agent_call i between (RemoteAdded candidate (Ok taken)) added refl) (candidates_told between candidates r j rest)
-  candidates_told i (candidate ∷ candidates) r j (between, (Err error, (added, rest))) =
+  candidates_told i (candidate ∷ candidates) r j (between, Err error, added, rest) =
       agent_on i between j (agent_call i between (RemoteAdded candidate (Err error)) added refl) (agent_none between j rest.1)
 
   pub follows_told : (i : I) (restart : Option (IceCreds × Bool)) (creds : Option IceCreds) (candidates : List Candidate) (control : Option Bool) (j : I)
