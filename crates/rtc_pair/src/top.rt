@@ -151,7 +151,8 @@ pub fn run_main<R: Source, W: Sink>(
     ensures refused { result ≡ 3
         → RefusesInput (script_program alloc) (R.left input.old) (R.left input.new) (W.written output.old) (W.written output.new) }
     ensures read { result ≡ 4 → TellsFault (R.faults input.old) (R.faults input.new) (W.written output.old) (W.written output.new) }
-    ensures write { result ≡ 5 → BreaksOff (IsDueOfRun alloc (R.left input.old) (R.left input.new) (R.faults input.old) (R.faults input.new))
+    ensures write { result ≡ 5 → BreaksOff
+        (IsDueOfRun alloc (R.left input.old) (R.left input.new) (R.faults input.old) (R.faults input.new))
         (W.written output.old) (W.written output.new) (W.faults output.old) (W.faults output.new) }
     ensures memory { result ≡ 6 → RunsScript alloc true (R.left input.old) (R.left input.new) (W.written output.old)
         (W.written output.new) last.new ⊎ ((output.new ≡ output.old) × (last.new ≡ last.old)) }
