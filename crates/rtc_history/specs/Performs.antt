@@ -16,7 +16,6 @@ use Rattle.rtc_peer_state.specs.declared.peer.Peer.{Peer}
 use Rattle.rtc_peer_state.specs.declared.rtc_error.RtcError.{RtcError}
 use Rattle.rtc_peer_state.specs.declared.rtc_error.RtcError.TheVariants.{BadChannel, Net, Alloc as PeerAlloc}
 use Rattle.rtc_peer_state.specs.Acceptances.{AcceptsOffer, AcceptsAnswer}
-use Rattle.rtc_peer_state.specs.ChannelRows.{channel_rows}
 use Rattle.rtc_peer_state.specs.Calls.{AddsMedia, SetsDirection, StopsMedia, AddsChannel, StagesRestart, Applies, Wanted}
 use Rattle.rtc_peer_state.specs.Meanings.{Meanings}
 use Rattle.rtc_polling.specs.declared.input.Input.TheVariants as given

@@ -13,7 +13,7 @@ use Rattle.rtc_polling.specs.Closing.{ClosesPeer}
 use Rattle.rtc_polling.specs.Inputs.{HandlesInput}
 use Rattle.rtc_polling.specs.Walk.{PollsPeer}
 use Rattle.rtc_history.specs.declared.outcome.Outcome.{Outcome}
-use Rattle.rtc_history.specs.declared.outcome.Outcome.TheVariants.{Done, Wrote, Polled, Refused, NoSuch, Alloc}
+use Rattle.rtc_history.specs.declared.outcome.Outcome.TheVariants.{Done, Polled, Refused, NoSuch, Alloc}
 use Rattle.rtc_history.specs.declared.poll_end.PollEnd.{PollEnd}
 use Rattle.rtc_history.specs.declared.poll_end.PollEnd.TheVariants.{Ended, Refused as EndRefused, NoRoom}
 use Rattle.rtc_history.specs.declared.sent_packet.SentPacket.{SentPacket}

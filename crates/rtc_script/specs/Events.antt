@@ -1,5 +1,5 @@
 -- The words of events.
-use Rattle.std.specs.Prelude.{ℕ, Bool, true, false, List, ◌++◌, length, codes}
+use Rattle.std.specs.Prelude.{ℕ, List, ◌++◌, length, codes}
 use Rattle.std.specs.Fmt.{decimal}
 use Rattle.rtc_ice.specs.declared.ice_connection_state.IceConnectionState.{IceConnectionState}
 use Rattle.rtc_ice.specs.declared.ice_connection_state.IceConnectionState.TheVariants.{New, Checking, Connected, Completed, Disconnected}
