@@ -1,12 +1,20 @@
 """A model of data channels over plain associations, for tests/connections.py.
 
 It is written from the rules of docs/FORMATS.md and of the READMEs of rtc_assoc_packets, rtc_assoc_end, rtc_sctp_entries, rtc_sctp and
-rtc_channels, and not from the program. All channels are announced by open messages, and nothing is written but these.
+rtc_channels, and not from the program. All channels are announced by open messages.
 """
 FAR_FUTURE = 2**64 - 1
 SECOND = 1_000_000_000
 PIECE = 1062 - 28
+LONGEST_MESSAGE = 262144
+MOST_BUFFERED = 131072
+OPENING = "opening"
 ACKNOWLEDGEMENT = b"\x02"
+
+
+# A write that a stream refuses.
+class Unwritten(Exception):
+    pass
 
 
 # A packet of the association: what it says, and how many bytes it has.
@@ -15,10 +23,10 @@ class Packet:
         self.kind, self.length, self.acknowledged, self.number, self.item = kind, length, acknowledged, number, item
 
 
-# A piece of a message, its last piece or a close, of a generation of a stream.
+# A piece of a message of a kind, its last piece or a close, of a generation of a stream.
 class Item:
-    def __init__(self, stream, generation, part, content=b""):
-        self.stream, self.generation, self.part, self.content = stream, generation, part, content
+    def __init__(self, stream, generation, part, content=b"", kind=None):
+        self.stream, self.generation, self.part, self.content, self.kind = stream, generation, part, content, kind
 
 
 class Stream:
@@ -70,14 +78,18 @@ class Association:
         stream = self.stream(number)
         return stream.there and stream.close is None and not self.is_ending()
 
-    def write(self, number, message):
-        if not self.is_open(number) or len(message) > 262144:
+    def write(self, number, message, kind=OPENING):
+        if not self.is_open(number) or len(message) > LONGEST_MESSAGE:
             return False
-        pieces = [message[at:at + PIECE] for at in range(0, len(message), PIECE)]
+        pieces = [message[at:at + PIECE] for at in range(0, len(message), PIECE)] or [b""]
         stream = self.stream(number)
-        kinds = ["more"] * (len(pieces) - 1) + ["last"]
-        self.send(self.now, [Item(number, stream.generation, kind, piece) for kind, piece in zip(kinds, pieces)])
+        parts = ["more"] * (len(pieces) - 1) + ["last"]
+        self.send(self.now, [Item(number, stream.generation, part, piece, kind) for part, piece in zip(parts, pieces)])
         return True
+
+    # The bytes of the messages of a stream that are not acknowledged.
+    def buffered(self, number):
+        return sum(len(item.content) for item in self.items if item.stream == number)
 
     def close_stream(self, number):
         if not self.is_open(number):
@@ -156,7 +168,7 @@ class Association:
         elif stream.close is None:
             stream.came += item.content
             if item.part == "last":
-                stream.unread.append(stream.came)
+                stream.unread.append((item.kind, stream.came))
                 stream.came = b""
                 self.events.append(("readable", item.stream))
 
@@ -217,6 +229,23 @@ class Streams:
     def is_open(self, number):
         return self.state == "established" and number in self.entries and self.entries[number].state == "open"
 
+    # Whether a message is taken: it is not where it is longer than what may be buffered yet over all streams in use.
+    def write(self, number, binary, message):
+        if len(message) > MOST_BUFFERED - sum(self.association.buffered(own) for own in self.entries):
+            return False
+        if self.association.is_ending():
+            raise Unwritten("Write on a stream before it was established")
+        if not self.association.is_open(number):
+            raise Unwritten(f"no stream {number}")
+        return self.association.write(number, message, "binary" if binary else "text")
+
+    # The entry of a stream that is closed is marked, and the stream of the association ends.
+    def close_stream(self, number):
+        if number in self.entries:
+            self.entries[number].marked = True
+            if self.association.close_stream(number) and number not in self.resets:
+                self.resets.append(number)
+
     # Packets for the other end, or what happened to a stream, or None.
     def poll(self):
         met = "again"
@@ -274,7 +303,7 @@ class Streams:
         if not stream.there:
             entry.marked = True
             return "again"
-        return self.read(number, entry, stream.unread.pop(0)) if stream.unread else None
+        return self.read(number, entry, *stream.unread.pop(0)) if stream.unread else None
 
     def visit_opening(self, number, entry):
         stream = self.association.stream(number)
@@ -298,7 +327,9 @@ class Streams:
         entry.state = "closed"
         return "closed", (number, number in self.resets)
 
-    def read(self, number, entry, message):
+    def read(self, number, entry, kind, message):
+        if kind != OPENING:
+            return "message", (number, kind, message)
         if entry.state == "await ack" and message == ACKNOWLEDGEMENT:
             entry.state = "open"
             return "opened", (number, entry.label)

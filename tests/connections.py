@@ -226,11 +226,21 @@ class Connection:
             channel = self.channels.of_stream(stream)
             number = channel.number if channel else self.channels.add(stream)
             return f"open {number} {label.hex() or '-'}"
+        if event == "message":
+            stream, kind, message = about
+            channel = self.channels.of_stream(stream)
+            return f"data {channel.number} {kind} {message.hex() or '-'}" if channel else None
         stream, pending = about
         channel = self.channels.of_stream(stream)
         if channel:
             self.channels.remove(channel, pending)
         return f"close {channel.number}" if channel else None
+
+    # The stream of a channel that is open, if it is.
+    def open_stream(self, number):
+        row = next((row for row in self.channels.rows if row.number == number), None)
+        found = self.phase == "alive" and row and row.stream is not None and self.streams.is_open(row.stream)
+        return row.stream if found else None
 
     # One walk over the parts: what it met, if anything.
     def walk(self):

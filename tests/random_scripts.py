@@ -12,6 +12,7 @@ import random
 import subprocess
 import sys
 
+from associations import Unwritten
 from connections import FAR_FUTURE, SECOND, Connection
 
 INVERSE = {"sendrecv": "sendrecv", "sendonly": "recvonly", "recvonly": "sendonly", "inactive": "inactive"}
@@ -266,6 +267,26 @@ class Pair:
         self.peers[at].connection.take(self.datagrams[number][1], now)
         return "done"
 
+    def write(self, at, number, kind, word):
+        connection = self.peers[at].connection
+        stream = connection.open_stream(number)
+        if stream is None:
+            return "nosuch"
+        message = bytes.fromhex("" if word == "-" else word)
+        try:
+            taken = connection.streams.write(stream, kind == "binary", message)
+        except Unwritten as cause:
+            return f"refused 5 {cause}"
+        return f"wrote {'true' if taken else 'false'}"
+
+    def close_channel(self, at, number):
+        connection = self.peers[at].connection
+        stream = connection.open_stream(number)
+        if stream is None:
+            return "nosuch"
+        connection.streams.close_stream(stream)
+        return "done"
+
     # A drain ends with the first timeout.
     def poll(self, at, once):
         told, ended = [], False
@@ -294,6 +315,10 @@ class Pair:
         if verb == "time":
             connection.take_moment(int(words[0]))
             return "done"
+        if verb == "write":
+            return self.write(at, int(words[0]), words[1], words[2])
+        if verb == "closechannel":
+            return self.close_channel(at, int(words[0]))
         if verb == "close":
             connection.close()
             return "done"
@@ -389,6 +414,23 @@ def join(chance, pair, at):
         exchange(chance, pair, number * chance.choice([0, 1000]), [1, 0], [1, 0, 0], 0)
 
 
+# A message of no bytes, of some, of several pieces, or of so many that two of them are not taken at once.
+def random_message(chance):
+    length = chance.choices([0, chance.randint(1, 9), chance.randint(1000, 3000), 100000], [3, 20, 6, 1])[0]
+    return chance.randbytes(length).hex() or "-"
+
+
+# A side writes to a channel, for the most part one that is open, or closes it now and then.
+def use_channel(chance, pair, at):
+    connection = pair.peers[at].connection
+    numbers = [row.number for row in connection.channels.rows if connection.open_stream(row.number) is not None]
+    number = chance.choice(numbers) if numbers and chance.random() < 0.95 else chance.randint(0, 3)
+    if chance.random() < 0.15:
+        pair.perform(f"{at} closechannel {number}")
+    else:
+        pair.perform(f"{at} write {number} {chance.choice(['text', 'binary'])} {random_message(chance)}")
+
+
 # A step that hands one side a moment or a datagram, polls it, or, now and then, closes it.
 def connect(chance, pair, at):
     moment, number = random_moment(chance, pair), chance.randint(0, len(pair.datagrams))
@@ -409,8 +451,10 @@ def random_pair(chance):
             random_round(chance, pair, at)
         elif kind < 0.6:
             random_exchange(chance, pair)
-        elif kind < 0.7:
+        elif kind < 0.65:
             connect(chance, pair, at)
+        elif kind < 0.7 + 0.1 * bool(pair.peers[at].connection.channels.rows):
+            use_channel(chance, pair, at)
         elif kind < 0.8:
             negotiate(chance, pair, at, chance.choice(["offer", "stage"]))
         elif kind < 0.9:

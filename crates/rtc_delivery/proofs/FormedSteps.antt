@@ -24,7 +24,7 @@ use Rattle.rtc_history.specs.declared.op_answer.OpAnswer.TheVariants.{Mid, Chang
 use Rattle.rtc_history.specs.declared.made.Made.{Made}
 use Rattle.rtc_history.specs.declared.made.Made.TheVariants.{NotAsked, Nothing, Offer, Alloc as MadeAlloc}
 use Rattle.rtc_history.specs.declared.step.Step.{Step}
-use Rattle.rtc_history.specs.declared.step.Step.TheVariants.{Negotiate, AcceptOffer, AcceptAnswer, Time, Datagram, Poll, Drain, Close}
+use Rattle.rtc_history.specs.declared.step.Step.TheVariants.{Negotiate, AcceptOffer, AcceptAnswer, Time, Datagram, Poll, Drain, Write, CloseChannel, Close}
 use Rattle.rtc_history.specs.declared.outcome.Outcome.{Outcome}
 use Rattle.rtc_history.specs.declared.outcome.Outcome.TheVariants.{Negotiated, Answered, Finished, Refused, NoSuch, Alloc}
 use Rattle.rtc_history.specs.declared.table.Table.{Table}
@@ -196,6 +196,8 @@ acts_formed (Time at now) old new kept kept' outcome table acts formed plain = (
 acts_formed (Datagram at packet now) old new kept kept' outcome table acts formed plain = (rest_formed old new acts.peer formed, rw acts.sdps_kept plain)
 acts_formed (Poll at) old new kept kept' outcome table acts formed plain = (rest_formed old new acts.peer formed, rw acts.sdps_kept plain)
 acts_formed (Drain at) old new kept kept' outcome table acts formed plain = (rest_formed old new acts.peer formed, rw acts.sdps_kept plain)
+acts_formed (Write at channel binary bytes) old new kept kept' outcome table acts formed plain = (rest_formed old new acts.peer formed, rw acts.sdps_kept plain)
+acts_formed (CloseChannel at channel) old new kept kept' outcome table acts formed plain = (rest_formed old new acts.peer formed, rw acts.sdps_kept plain)
 acts_formed (Close at) old new kept kept' outcome table acts formed plain = (rest_formed old new acts.peer formed, rw acts.sdps_kept plain)
 
 -- ---- all steps

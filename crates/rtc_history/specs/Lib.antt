@@ -12,6 +12,7 @@ pub mod CourseRows
 pub mod Orderly
 pub mod SoundEntry
 pub mod PairState
+pub mod CallReplies
 pub mod Performs
 pub mod SoundParts
 pub mod Runs

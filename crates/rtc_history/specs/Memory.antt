@@ -1,6 +1,10 @@
 -- Which replies tell that memory ran out, and which that a part failed.
-use Rattle.std.specs.Prelude.{Bool, true, false, ◌||◌, List}
+use Rattle.std.specs.Prelude.{Bool, true, false, ◌&&◌, ◌||◌, List}
 use Rattle.std.specs.List.{list_any}
+use Rattle.rtc_sctp.specs.declared.proto_error.ProtoError.{ProtoError}
+use Rattle.rtc_sctp.specs.declared.proto_error.ProtoError.TheVariants as proto
+use Rattle.rtc_sctp.specs.declared.sctp_error.SctpError.{SctpError}
+use Rattle.rtc_sctp.specs.declared.sctp_error.SctpError.TheVariants as sctp
 use Rattle.rtc_peer_state.specs.declared.rtc_error.RtcError.{RtcError}
 use Rattle.rtc_peer_state.specs.declared.rtc_error.RtcError.TheVariants.{Net, Media as MediaFailed}
 use Rattle.rtc_peer_state.specs.declared.rtc_error.RtcError.TheVariants.{RemoteSdp, Sdp, Dtls, Sctp, ChangesOutOfOrder, BadChannel}
@@ -13,7 +17,8 @@ use Rattle.rtc_history.specs.declared.made.Made.TheVariants.{NotAsked, Nothing, 
 use Rattle.rtc_history.specs.declared.poll_end.PollEnd.{PollEnd}
 use Rattle.rtc_history.specs.declared.poll_end.PollEnd.TheVariants.{Ended, Refused as EndRefused, NoRoom}
 use Rattle.rtc_history.specs.declared.outcome.Outcome.{Outcome}
-use Rattle.rtc_history.specs.declared.outcome.Outcome.TheVariants.{Negotiated, Answered, Finished, Done, Polled, Refused, NoSuch, Alloc}
+use Rattle.rtc_history.specs.declared.outcome.Outcome.TheVariants.{Negotiated, Answered, Finished, Done, Wrote, Polled, Refused}
+use Rattle.rtc_history.specs.declared.outcome.Outcome.TheVariants.{NoSuch, Alloc}
 use Rattle.rtc_history.specs.declared.reply.Reply.{Reply}
 
 abbrev pub answer_lacks : OpAnswer → Bool
@@ -56,6 +61,7 @@ outcome_lacks (Negotiated answers made) = made_lacks made || answers_lack answer
 outcome_lacks (Answered k) = false
 outcome_lacks Finished = false
 outcome_lacks Done = false
+outcome_lacks (Wrote taken) = false
 outcome_lacks (Polled outputs end) = end_lacks end
 outcome_lacks (Refused error) = error_lacks error
 outcome_lacks NoSuch = false
@@ -85,12 +91,27 @@ is_media_part DtlsPart = false
 is_media_part AssociationPart = false
 is_media_part MediaPart = true
 
+-- whether the association failed, and did not just refuse what a stream was asked
+abbrev pub is_proto_fault : ProtoError → Bool
+is_proto_fault proto.Started = false
+is_proto_fault (proto.TooLong len max) = false
+is_proto_fault (proto.NoStream id) = false
+is_proto_fault proto.Fault = true
+
+abbrev pub is_sctp_fault : SctpError → Bool
+is_sctp_fault (sctp.Proto cause) = is_proto_fault cause
+is_sctp_fault sctp.WriteBeforeEstablished = false
+is_sctp_fault sctp.DcepOpenTooSmall = false
+is_sctp_fault sctp.DcepIncorrectMessageType = false
+is_sctp_fault sctp.DcepBadUtf8 = false
+is_sctp_fault sctp.Alloc = false
+
 -- whether an error tells that this part failed
 abbrev pub is_fault_of : RtcError → CountedPart → Bool
 is_fault_of (RemoteSdp why) part = false
 is_fault_of (Sdp error) part = false
 is_fault_of (Dtls error) part = is_dtls_part part
-is_fault_of (Sctp error) part = is_association_part part
+is_fault_of (Sctp error) part = is_association_part part && is_sctp_fault error
 is_fault_of ChangesOutOfOrder part = false
 is_fault_of (Net cause) part = false
 is_fault_of (MediaFailed cause) part = is_media_part part
@@ -112,6 +133,7 @@ tells_fault_of (Negotiated answers made) part = false
 tells_fault_of (Answered k) part = false
 tells_fault_of Finished part = false
 tells_fault_of Done part = false
+tells_fault_of (Wrote taken) part = false
 tells_fault_of (Polled outputs end) part = is_end_fault_of end part
 tells_fault_of (Refused error) part = is_fault_of error part
 tells_fault_of NoSuch part = false

@@ -10,9 +10,11 @@ use Rattle.rtc_history.specs.declared.side.Side.{Side}
 use Rattle.rtc_history.specs.declared.side.Side.TheVariants.{Left, Right}
 use Rattle.rtc_history.specs.declared.op.Op.{Op}
 use Rattle.rtc_history.specs.declared.step.Step.{Step}
-use Rattle.rtc_history.specs.declared.step.Step.TheVariants.{Negotiate, AcceptOffer, AcceptAnswer, Time, Datagram, Poll, Drain, Close}
+use Rattle.rtc_history.specs.declared.step.Step.TheVariants.{Negotiate, AcceptOffer, AcceptAnswer, Time, Datagram, Poll, Drain}
+use Rattle.rtc_history.specs.declared.step.Step.TheVariants.{Write, CloseChannel, Close}
 use Rattle.rtc_history.specs.declared.outcome.Outcome.{Outcome}
-use Rattle.rtc_history.specs.declared.outcome.Outcome.TheVariants.{Negotiated, Answered, Finished, Done, Polled, Refused, NoSuch, Alloc}
+use Rattle.rtc_history.specs.declared.outcome.Outcome.TheVariants.{Negotiated, Answered, Finished, Done, Wrote, Polled, Refused}
+use Rattle.rtc_history.specs.declared.outcome.Outcome.TheVariants.{NoSuch, Alloc}
 use Rattle.rtc_history.specs.Sides.{same_side, other_side}
 use Rattle.rtc_history.specs.Sizes.{step_size}
 use Rattle.rtc_history.specs.Memory.{fails}
@@ -115,6 +117,8 @@ after_step course (Time at now) = Some course
 after_step course (Datagram at packet now) = Some course
 after_step course (Poll at) = Some course
 after_step course (Drain at) = Some course
+after_step course (Write at channel binary bytes) = Some course
+after_step course (CloseChannel at channel) = Some course
 after_step course (Close at) = Some course
 
 abbrev pub follow : Option Course → List Step → Option Course
@@ -143,6 +147,7 @@ is_ok (Negotiated answers made) = not (list_any is_bad answers)
 is_ok (Answered k) = true
 is_ok Finished = true
 is_ok Done = true
+is_ok (Wrote taken) = true
 is_ok (Polled outputs end) = true
 is_ok (Refused error) = false
 is_ok NoSuch = false
@@ -157,6 +162,8 @@ negotiates (Time at now) = false
 negotiates (Datagram at packet now) = false
 negotiates (Poll at) = false
 negotiates (Drain at) = false
+negotiates (Write at channel binary bytes) = false
+negotiates (CloseChannel at channel) = false
 negotiates (Close at) = false
 
 -- so many more channels can be numbered at each side: a peer gives 2^64 - 1 numbers

@@ -10,14 +10,16 @@ use Rattle.rtc_channels.specs.declared.channel_row.ChannelRow.{ChannelRow}
 use Rattle.rtc_polling.specs.declared.event.Event.TheVariants.{ChannelOpen}
 use Rattle.rtc_history.specs.declared.side.Side.{Side}
 use Rattle.rtc_history.specs.declared.step.Step.{Step}
-use Rattle.rtc_history.specs.declared.step.Step.TheVariants.{Negotiate, AcceptOffer, AcceptAnswer, Time, Datagram, Poll, Drain, Close}
+use Rattle.rtc_history.specs.declared.step.Step.TheVariants.{Negotiate, AcceptOffer, AcceptAnswer, Time, Datagram, Poll, Drain}
+use Rattle.rtc_history.specs.declared.step.Step.TheVariants.{Write, CloseChannel, Close}
 use Rattle.rtc_history.specs.declared.op_answer.OpAnswer.{OpAnswer}
 use Rattle.rtc_history.specs.declared.made.Made.{Made}
 use Rattle.rtc_history.specs.declared.made.Made.TheVariants.{NotAsked, Nothing, Offer, Alloc as MadeAlloc}
 use Rattle.rtc_history.specs.declared.shown.Shown.{Shown}
 use Rattle.rtc_history.specs.declared.shown.Shown.TheVariants.{Timeout, Packet, Event}
 use Rattle.rtc_history.specs.declared.outcome.Outcome.{Outcome}
-use Rattle.rtc_history.specs.declared.outcome.Outcome.TheVariants.{Negotiated, Answered, Finished, Done, Polled, Refused, NoSuch, Alloc}
+use Rattle.rtc_history.specs.declared.outcome.Outcome.TheVariants.{Negotiated, Answered, Finished, Done, Wrote, Polled, Refused}
+use Rattle.rtc_history.specs.declared.outcome.Outcome.TheVariants.{NoSuch, Alloc}
 use Rattle.rtc_history.specs.declared.table.Table.{Table}
 use Rattle.rtc_history.specs.declared.reply.Reply.{Reply}
 use Rattle.rtc_history.specs.Sides.{same_side, side_of}
@@ -74,6 +76,7 @@ packets_told at (Negotiated answers made) = []
 packets_told at (Answered k) = []
 packets_told at Finished = []
 packets_told at Done = []
+packets_told at (Wrote taken) = []
 packets_told at (Polled outputs end) = packets_in at outputs
 packets_told at (Refused error) = []
 packets_told at NoSuch = []
@@ -99,6 +102,7 @@ was_called (Negotiated answers made) = false
 was_called (Answered k) = true
 was_called Finished = true
 was_called Done = false
+was_called (Wrote taken) = false
 was_called (Polled outputs end) = false
 was_called (Refused error) = true
 was_called NoSuch = false
@@ -113,6 +117,8 @@ spends t (Time at now) outcome = false
 spends t (Datagram at packet now) outcome = false
 spends t (Poll at) outcome = false
 spends t (Drain at) outcome = false
+spends t (Write at channel binary bytes) outcome = false
+spends t (CloseChannel at channel) outcome = false
 spends t (Close at) outcome = false
 
 abbrev pub is_spent : {E : Type 0} → ℕ → List (Entry E) → Bool
@@ -139,6 +145,7 @@ applies (Negotiated answers made) = is_applied answers made
 applies (Answered k) = false
 applies Finished = false
 applies Done = false
+applies (Wrote taken) = false
 applies (Polled outputs end) = false
 applies (Refused error) = false
 applies NoSuch = false
@@ -153,6 +160,8 @@ moves at (Time side now) outcome = false
 moves at (Datagram side packet now) outcome = false
 moves at (Poll side) outcome = false
 moves at (Drain side) outcome = false
+moves at (Write side channel binary bytes) outcome = false
+moves at (CloseChannel side channel) outcome = false
 moves at (Close side) outcome = false
 
 abbrev pub is_offer_numbered : ℕ → Made → Bool
@@ -167,6 +176,7 @@ makes t (Negotiated answers made) = is_offer_numbered t made
 makes t (Answered k) = false
 makes t Finished = false
 makes t Done = false
+makes t (Wrote taken) = false
 makes t (Polled outputs end) = false
 makes t (Refused error) = false
 makes t NoSuch = false
@@ -207,6 +217,7 @@ restarts_in (Negotiated answers made) = do_restart answers
 restarts_in (Answered k) = false
 restarts_in Finished = false
 restarts_in Done = false
+restarts_in (Wrote taken) = false
 restarts_in (Polled outputs end) = false
 restarts_in (Refused error) = false
 restarts_in NoSuch = false
@@ -244,6 +255,7 @@ numbers_in (Negotiated answers made) = numbers_answered answers
 numbers_in (Answered k) = []
 numbers_in Finished = []
 numbers_in Done = []
+numbers_in (Wrote taken) = []
 numbers_in (Polled outputs end) = numbers_opened outputs
 numbers_in (Refused error) = []
 numbers_in NoSuch = []

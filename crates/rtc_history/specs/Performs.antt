@@ -16,12 +16,12 @@ use Rattle.rtc_peer_state.specs.declared.peer.Peer.{Peer}
 use Rattle.rtc_peer_state.specs.declared.rtc_error.RtcError.{RtcError}
 use Rattle.rtc_peer_state.specs.declared.rtc_error.RtcError.TheVariants.{BadChannel, Net, Alloc as PeerAlloc}
 use Rattle.rtc_peer_state.specs.Acceptances.{AcceptsOffer, AcceptsAnswer}
-use Rattle.rtc_peer_state.specs.ChannelRows.{channel_rows}
 use Rattle.rtc_peer_state.specs.Calls.{AddsMedia, SetsDirection, StopsMedia, AddsChannel, StagesRestart, Applies, Wanted}
 use Rattle.rtc_peer_state.specs.Meanings.{Meanings}
 use Rattle.rtc_polling.specs.declared.input.Input.TheVariants as given
 use Rattle.rtc_polling.specs.declared.output.Output.TheVariants as polled
 use Rattle.rtc_polling.specs.declared.polled_peer.PolledPeer.{PolledPeer}
+use Rattle.rtc_polling.specs.ChannelCalls.{open_stream_under}
 use Rattle.rtc_polling.specs.Closing.{ClosesPeer}
 use Rattle.rtc_polling.specs.Inputs.{HandlesInput}
 use Rattle.rtc_polling.specs.Walk.{PollsPeer}
@@ -29,7 +29,8 @@ use Rattle.rtc_history.specs.declared.side.Side.{Side}
 use Rattle.rtc_history.specs.declared.op.Op.{Op}
 use Rattle.rtc_history.specs.declared.op.Op.TheVariants.{AddMedia, SetDirection, StopMedia, AddChannel, IceRestart}
 use Rattle.rtc_history.specs.declared.step.Step.{Step}
-use Rattle.rtc_history.specs.declared.step.Step.TheVariants.{Negotiate, AcceptOffer, AcceptAnswer, Time, Datagram, Poll, Drain, Close}
+use Rattle.rtc_history.specs.declared.step.Step.TheVariants.{Negotiate, AcceptOffer, AcceptAnswer, Time, Datagram, Poll, Drain}
+use Rattle.rtc_history.specs.declared.step.Step.TheVariants.{Write, CloseChannel, Close}
 use Rattle.rtc_history.specs.declared.op_answer.OpAnswer.{OpAnswer}
 use Rattle.rtc_history.specs.declared.op_answer.OpAnswer.TheVariants.{Mid, Changed, NoLine, Channel, Creds}
 use Rattle.rtc_history.specs.declared.op_answer.OpAnswer.TheVariants.{BadChannel as NoChannel, Alloc as OpAlloc}
@@ -41,8 +42,10 @@ use Rattle.rtc_history.specs.declared.sent_packet.SentPacket.{SentPacket}
 use Rattle.rtc_history.specs.declared.shown.Shown.{Shown}
 use Rattle.rtc_history.specs.declared.shown.Shown.TheVariants.{Timeout, Packet, Event}
 use Rattle.rtc_history.specs.declared.outcome.Outcome.{Outcome}
-use Rattle.rtc_history.specs.declared.outcome.Outcome.TheVariants.{Negotiated, Answered, Finished, Done, Polled, Refused, NoSuch, Alloc}
+use Rattle.rtc_history.specs.declared.outcome.Outcome.TheVariants.{Negotiated, Answered, Finished, Polled, Refused}
+use Rattle.rtc_history.specs.declared.outcome.Outcome.TheVariants.{NoSuch, Alloc}
 use Rattle.rtc_history.specs.declared.table.Table.{Table}
+use Rattle.rtc_history.specs.CallReplies.{Shows, StepCalls, StepWrites, StepClosesChannel}
 use Rattle.rtc_history.specs.Memory.{answers_lack}
 use Rattle.rtc_history.specs.Sides.{side_of, other_side}
 use Rattle.rtc_history.specs.Sizes.{step_size}
@@ -94,11 +97,6 @@ pub record CallsLine (rows : List LineRow) (place : ℕ) (call : List ℕ → Ty
   pub called : call mid
 
 module _ {I D S M E X T W N : Type 0} (m : Meanings I D S M E X T W N) where
-  -- a table shows the lines and the channels of a peer
-  pub record Shows (table : Table) (peer : Peer I D S M N) : Type 0 where
-    pub lines : table.lines ≡ peer.lines
-    pub channels : table.channels ≡ channel_rows m.association peer.sctp peer.channels
-
   -- Ops are performed in order, up to the first that answers `Alloc`.
   abbrev pub PerformsOps : Peer I D S M N → List Op → List OpAnswer → Peer I D S M N → Type 0
   PerformsOps p [] [] q = q ≡ p
@@ -143,49 +141,41 @@ module _ {I D S M E X T W N : Type 0} (m : Meanings I D S M E X T W N) where
       (p : Peer I D S M N)
       × PerformsOps (lent old) ops answers p
       × MakesOf (apply && not (answers_lack answers)) at p sdps made new sdps'
-      × Shows table new
+      × Shows m table new
   Negotiates at ops apply old sdps outcome table new sdps' = ⊥
 
   -- A peer accepts or refuses an offer that the other side made.
   abbrev pub StepAcceptsOffer : Side → Option Sdp → Peer I D S M N → List Kept → Outcome E → Option Table → Peer I D S M N → List Kept
       → Type 0
   StepAcceptsOffer at offer old sdps Alloc None new sdps' = Stays old sdps new sdps'
-  StepAcceptsOffer at None old sdps NoSuch (Some table) new sdps' = Stays old sdps new sdps' × Shows table old
+  StepAcceptsOffer at None old sdps NoSuch (Some table) new sdps' = Stays old sdps new sdps' × Shows m table old
   StepAcceptsOffer at (Some sdp) old sdps (Answered k) (Some table) new sdps' =
       (answer : Sdp)
       × AcceptsOffer m (lent old) sdp (Ok answer) new
       × (sdps' ≡ sdps ++ kept_answer at answer ∷ [])
       × (k ≡ length sdps)
-      × Shows table new
+      × Shows m table new
   StepAcceptsOffer at (Some sdp) old sdps (Refused error) (Some table) new sdps' =
       AcceptsOffer m (lent old) sdp (Err error) new
       × (sdps' ≡ sdps)
-      × Shows table new
+      × Shows m table new
   StepAcceptsOffer at offer old sdps outcome table new sdps' = ⊥
 
   -- A peer accepts or refuses an answer that the other side made; the token of its own offer is spent.
   abbrev pub StepAcceptsAnswer : ℕ → Option PendingOffer → Option Sdp → Peer I D S M N → List Kept → Outcome E → Option Table
       → Peer I D S M N → List Kept → Type 0
   StepAcceptsAnswer t token answer old sdps Alloc None new sdps' = Stays old sdps new sdps'
-  StepAcceptsAnswer t None answer old sdps NoSuch (Some table) new sdps' = Stays old sdps new sdps' × Shows table old
-  StepAcceptsAnswer t (Some token) None old sdps NoSuch (Some table) new sdps' = Stays old sdps new sdps' × Shows table old
+  StepAcceptsAnswer t None answer old sdps NoSuch (Some table) new sdps' = Stays old sdps new sdps' × Shows m table old
+  StepAcceptsAnswer t (Some token) None old sdps NoSuch (Some table) new sdps' = Stays old sdps new sdps' × Shows m table old
   StepAcceptsAnswer t (Some token) (Some sdp) old sdps Finished (Some table) new sdps' =
       AcceptsAnswer m (lent old) token sdp (Ok tt) new
       × (sdps' ≡ spent t sdps)
-      × Shows table new
+      × Shows m table new
   StepAcceptsAnswer t (Some token) (Some sdp) old sdps (Refused error) (Some table) new sdps' =
       AcceptsAnswer m (lent old) token sdp (Err error) new
       × (sdps' ≡ spent t sdps)
-      × Shows table new
+      × Shows m table new
   StepAcceptsAnswer t token answer old sdps outcome table new sdps' = ⊥
-
-  -- An input or a close is answered: by `Done`, or by why it was refused. Without memory for the table there is no call.
-  abbrev pub StepCalls : (PolledPeer I D S M N → Result (Unit {0}) RtcError → PolledPeer I D S M N → Type 0) → PolledPeer I D S M N
-      → Outcome E → Option Table → PolledPeer I D S M N → Type 0
-  StepCalls call old Alloc None new = new ≡ old
-  StepCalls call old Done (Some table) new = call old (Ok tt) new × Shows table new.core
-  StepCalls call old (Refused error) (Some table) new = call old (Err error) new × Shows table new.core
-  StepCalls call old outcome table new = ⊥
 
   -- A datagram is refused where it is of no kind or has not the form of it, and the peer is not called; else it is handed to the peer.
   abbrev pub HandlesRead : Result MultiplexKind NetError → Transmit → ℕ → PolledPeer I D S M N → Result (Unit {0}) RtcError
@@ -198,10 +188,10 @@ module _ {I D S M E X T W N : Type 0} (m : Meanings I D S M E X T W N) where
   abbrev pub StepTakesDatagram : (List ℕ → Bool) → Option Transmit → ℕ → PolledPeer I D S M N → Outcome E → Option Table
       → PolledPeer I D S M N → Type 0
   StepTakesDatagram stun None now old Alloc None new = new ≡ old
-  StepTakesDatagram stun None now old NoSuch (Some table) new = (new ≡ old) × Shows table old.core
+  StepTakesDatagram stun None now old NoSuch (Some table) new = (new ≡ old) × Shows m table old.core
   StepTakesDatagram stun None now old outcome table new = ⊥
   StepTakesDatagram stun (Some transmit) now old outcome table new =
-      StepCalls (HandlesRead (kind_by stun transmit.contents) transmit now) old outcome table new
+      StepCalls m (HandlesRead (kind_by stun transmit.contents) transmit now) old outcome table new
 
   -- One poll, and what is shown of its output: of a timeout its reason, and of a datagram its number and its length.
   abbrev pub PollsShown : Side → PolledPeer I D S M N → List SentPacket → Shown E → PolledPeer I D S M N → List SentPacket → Type 0
@@ -252,7 +242,7 @@ module _ {I D S M E X T W N : Type 0} (m : Meanings I D S M E X T W N) where
       → PolledPeer I D S M N → List SentPacket → Outcome E → Option Table → PolledPeer I D S M N → List SentPacket → Type 0
   StepPollsPeer polls old packets Alloc None new packets' = (new ≡ old) × (packets' ≡ packets)
   StepPollsPeer polls old packets (Polled outputs end) (Some table) new packets' =
-      polls packets outputs end new packets' × Shows table new.core
+      polls packets outputs end new packets' × Shows m table new.core
   StepPollsPeer polls old packets outcome table new packets' = ⊥
 
   -- What the acting peer does, with the SDPs and the datagrams before and after: negotiation leaves its connection and the datagrams, and
@@ -268,15 +258,19 @@ module _ {I D S M E X T W N : Type 0} (m : Meanings I D S M E X T W N) where
       StepAcceptsAnswer token (held_token sdps at token) (kept_remote_sdp false sdps at answer) old.core sdps outcome table new.core sdps'
       × LeavesConnection old packets new packets'
   Acts stun (Time at now) old sdps packets outcome table new sdps' packets' =
-      StepCalls (HandlesInput m (given.Timeout now)) old outcome table new × (sdps' ≡ sdps) × (packets' ≡ packets)
+      StepCalls m (HandlesInput m (given.Timeout now)) old outcome table new × (sdps' ≡ sdps) × (packets' ≡ packets)
   Acts stun (Datagram at packet now) old sdps packets outcome table new sdps' packets' =
       StepTakesDatagram stun (remote_packet packets at packet) now old outcome table new × (sdps' ≡ sdps) × (packets' ≡ packets)
   Acts stun (Poll at) old sdps packets outcome table new sdps' packets' =
       StepPollsPeer (PollsOnce at old) old packets outcome table new packets' × (sdps' ≡ sdps)
   Acts stun (Drain at) old sdps packets outcome table new sdps' packets' =
       StepPollsPeer (DrainsPeer at old) old packets outcome table new packets' × (sdps' ≡ sdps)
+  Acts stun (Write at channel binary bytes) old sdps packets outcome table new sdps' packets' =
+      StepWrites m (open_stream_under channel old) binary bytes old outcome table new × (sdps' ≡ sdps) × (packets' ≡ packets)
+  Acts stun (CloseChannel at channel) old sdps packets outcome table new sdps' packets' =
+      StepClosesChannel m (open_stream_under channel old) channel old outcome table new × (sdps' ≡ sdps) × (packets' ≡ packets)
   Acts stun (Close at) old sdps packets outcome table new sdps' packets' =
-      StepCalls (ClosesPeer m) old outcome table new × (sdps' ≡ sdps) × (packets' ≡ packets)
+      StepCalls m (ClosesPeer m) old outcome table new × (sdps' ≡ sdps) × (packets' ≡ packets)
 
   -- A step: what the acting peer does. The other peer and both addresses stay as they were.
   pub record Performs (stun : List ℕ → Bool) (old : PairState I D S M N) (step : Step) (outcome : Outcome E) (table : Option Table)

@@ -6,7 +6,8 @@ use Rattle.rtc_history.specs.declared.side.Side.{Side}
 use Rattle.rtc_history.specs.declared.op.Op.{Op}
 use Rattle.rtc_history.specs.declared.op.Op.TheVariants.{AddMedia, SetDirection, StopMedia, AddChannel, IceRestart}
 use Rattle.rtc_history.specs.declared.step.Step.{Step}
-use Rattle.rtc_history.specs.declared.step.Step.TheVariants.{Negotiate, AcceptOffer, AcceptAnswer, Time, Datagram, Poll, Drain, Close}
+use Rattle.rtc_history.specs.declared.step.Step.TheVariants.{Negotiate, AcceptOffer, AcceptAnswer, Time, Datagram, Poll, Drain}
+use Rattle.rtc_history.specs.declared.step.Step.TheVariants.{Write, CloseChannel, Close}
 use Rattle.rtc_history.specs.declared.outcome.Outcome.{Outcome}
 use Rattle.rtc_history.specs.declared.outcome.Outcome.TheVariants.{Answered, Finished}
 use Rattle.rtc_history.specs.declared.table.Table.{Table}
@@ -62,6 +63,8 @@ sets_lines at (Time side now) = false
 sets_lines at (Datagram side packet now) = false
 sets_lines at (Poll side) = false
 sets_lines at (Drain side) = false
+sets_lines at (Write side channel binary bytes) = false
+sets_lines at (CloseChannel side channel) = false
 sets_lines at (Close side) = false
 
 -- whether a side set or stopped a line since it made the offer of a number

@@ -3,7 +3,8 @@ use Rattle.std.specs.Prelude.{Bool, true, false}
 use Rattle.rtc_history.specs.declared.side.Side.{Side}
 use Rattle.rtc_history.specs.declared.side.Side.TheVariants.{Left, Right}
 use Rattle.rtc_history.specs.declared.step.Step.{Step}
-use Rattle.rtc_history.specs.declared.step.Step.TheVariants.{Negotiate, AcceptOffer, AcceptAnswer, Time, Datagram, Poll, Drain, Close}
+use Rattle.rtc_history.specs.declared.step.Step.TheVariants.{Negotiate, AcceptOffer, AcceptAnswer, Time, Datagram, Poll, Drain}
+use Rattle.rtc_history.specs.declared.step.Step.TheVariants.{Write, CloseChannel, Close}
 
 abbrev pub same_side : Side → Side → Bool
 same_side Left Left = true
@@ -24,4 +25,6 @@ side_of (Time at now) = at
 side_of (Datagram at packet now) = at
 side_of (Poll at) = at
 side_of (Drain at) = at
+side_of (Write at channel binary bytes) = at
+side_of (CloseChannel at channel) = at
 side_of (Close at) = at

@@ -17,21 +17,24 @@ use Rattle.rtc_dtls.specs.declared.dtls_error.DtlsError.TheVariants.{Fault}
 use Rattle.rtc_sctp.specs.declared.proto_error.ProtoError.TheVariants.{Fault as AssociationFault}
 use Rattle.rtc_sctp.specs.declared.sctp_error.SctpError.TheVariants.{Proto}
 use Rattle.rtc_peer_state.specs.Stance.{Stance, held_by}
-use Rattle.rtc_peer_state.specs.declared.rtc_error.RtcError.TheVariants.{RemoteSdp, Sdp as SdpRefused, Dtls, Sctp}
-use Rattle.rtc_peer_state.specs.declared.rtc_error.RtcError.TheVariants.{ChangesOutOfOrder, Alloc as PeerAlloc}
+use Rattle.rtc_peer_state.specs.declared.rtc_error.RtcError.{RtcError}
+use Rattle.rtc_peer_state.specs.declared.rtc_error.RtcError.TheVariants.{RemoteSdp, Sdp as SdpRefused, Dtls, Sctp, Net, Media}
+use Rattle.rtc_peer_state.specs.declared.rtc_error.RtcError.TheVariants.{ChangesOutOfOrder, BadChannel as NoChannel, Alloc as PeerAlloc}
 use Rattle.rtc_history.specs.declared.side.Side.{Side}
 use Rattle.rtc_history.specs.declared.op.Op.{Op}
 use Rattle.rtc_history.specs.declared.op.Op.TheVariants.{AddMedia, SetDirection, StopMedia, AddChannel, IceRestart}
 use Rattle.rtc_history.specs.declared.step.Step.{Step}
-use Rattle.rtc_history.specs.declared.step.Step.TheVariants.{Negotiate, AcceptOffer, AcceptAnswer, Time, Datagram, Poll, Drain, Close}
+use Rattle.rtc_history.specs.declared.step.Step.TheVariants.{Negotiate, AcceptOffer, AcceptAnswer, Time, Datagram, Poll, Drain}
+use Rattle.rtc_history.specs.declared.step.Step.TheVariants.{Write, CloseChannel, Close}
 use Rattle.rtc_history.specs.declared.op_answer.OpAnswer.{OpAnswer}
 use Rattle.rtc_history.specs.declared.op_answer.OpAnswer.TheVariants.{Mid, Changed, NoLine, Channel, BadChannel, Creds, Alloc as OpAlloc}
 use Rattle.rtc_history.specs.declared.made.Made.{Made}
 use Rattle.rtc_history.specs.declared.made.Made.TheVariants.{NotAsked, Nothing, Offer, Alloc as MadeAlloc}
 use Rattle.rtc_history.specs.declared.outcome.Outcome.{Outcome}
-use Rattle.rtc_history.specs.declared.outcome.Outcome.TheVariants.{Negotiated, Answered, Finished, Done, Polled, Refused, NoSuch, Alloc}
+use Rattle.rtc_history.specs.declared.outcome.Outcome.TheVariants.{Negotiated, Answered, Finished, Done, Wrote, Polled, Refused}
+use Rattle.rtc_history.specs.declared.outcome.Outcome.TheVariants.{NoSuch, Alloc}
 use Rattle.rtc_history.specs.declared.table.Table.{Table}
-use Rattle.rtc_history.specs.Memory.{answers_lack}
+use Rattle.rtc_history.specs.Memory.{answers_lack, error_lacks}
 use Rattle.rtc_history.specs.Answers.{has_app_row, do_need_offer, with_numbered, rows_waiting}
 use Rattle.rtc_history.specs.Past.{
   Entry,
@@ -177,6 +180,7 @@ is_handled (Negotiated answers made) = false
 is_handled (Answered k) = false
 is_handled Finished = false
 is_handled Done = true
+is_handled (Wrote taken) = false
 is_handled (Polled outputs end) = false
 is_handled (Refused error) = true
 is_handled NoSuch = false
@@ -188,6 +192,7 @@ is_heard (Negotiated answers made) = false
 is_heard (Answered k) = false
 is_heard Finished = false
 is_heard Done = true
+is_heard (Wrote taken) = false
 is_heard (Polled outputs end) = false
 is_heard (Refused error) = true
 is_heard NoSuch = true
@@ -199,23 +204,64 @@ is_polled (Negotiated answers made) = false
 is_polled (Answered k) = false
 is_polled Finished = false
 is_polled Done = false
+is_polled (Wrote taken) = false
 is_polled (Polled outputs end) = true
 is_polled (Refused error) = false
 is_polled NoSuch = false
 is_polled Alloc = false
+
+-- whether an error is of the streams, or tells that memory ran out
+abbrev pub is_of_streams : RtcError → Bool
+is_of_streams (RemoteSdp why) = false
+is_of_streams (SdpRefused error) = false
+is_of_streams (Dtls error) = false
+is_of_streams (Sctp error) = true
+is_of_streams ChangesOutOfOrder = false
+is_of_streams (Net cause) = false
+is_of_streams (Media cause) = false
+is_of_streams NoChannel = false
+is_of_streams PeerAlloc = true
+
+-- a message was taken or not, or its write refused, or the channel is not open
+abbrev pub is_written : {E : Type 0} → Outcome E → Bool
+is_written (Negotiated answers made) = false
+is_written (Answered k) = false
+is_written Finished = false
+is_written Done = false
+is_written (Wrote taken) = true
+is_written (Polled outputs end) = false
+is_written (Refused error) = is_of_streams error
+is_written NoSuch = true
+is_written Alloc = false
+
+-- a channel was closed, or memory ran out in its close, or it is not open
+abbrev pub is_channel_closed : {E : Type 0} → Outcome E → Bool
+is_channel_closed (Negotiated answers made) = false
+is_channel_closed (Answered k) = false
+is_channel_closed Finished = false
+is_channel_closed Done = true
+is_channel_closed (Wrote taken) = false
+is_channel_closed (Polled outputs end) = false
+is_channel_closed (Refused error) = error_lacks error
+is_channel_closed NoSuch = true
+is_channel_closed Alloc = false
 
 -- the table that is shown has the lines from before
 abbrev pub ShowsOldLines : {E : Type 0} → Side → List (Entry E) → Table → Type 0
 ShowsOldLines at past table = table.lines ≡ before at past
 
 -- The outcome and table of a step after this past, given the SDP that it made, the sides of the fresh pair, and the sides between the
--- past and the step. Negotiation shows the channels from before, and one more that waits for each that was added. Inputs, polls and
+-- past and the step. Negotiation shows the channels from before, and one more that waits for each that was added. Inputs, polls, writes and
 -- closes change no line.
 abbrev pub IsSound : {E : Type 0} → Stances → List (Entry E) → Stances → Step → Outcome E → Option Table → List MadeSdp → Type 0
 IsSound fresh past between (Time at now) outcome (Some table) said = (is_handled outcome ≡ true) × ShowsOldLines at past table
 IsSound fresh past between (Datagram at packet now) outcome (Some table) said = (is_heard outcome ≡ true) × ShowsOldLines at past table
 IsSound fresh past between (Poll at) outcome (Some table) said = (is_polled outcome ≡ true) × ShowsOldLines at past table
 IsSound fresh past between (Drain at) outcome (Some table) said = (is_polled outcome ≡ true) × ShowsOldLines at past table
+IsSound fresh past between (Write at channel binary bytes) outcome (Some table) said =
+    (is_written outcome ≡ true) × ShowsOldLines at past table
+IsSound fresh past between (CloseChannel at channel) outcome (Some table) said =
+    (is_channel_closed outcome ≡ true) × ShowsOldLines at past table
 IsSound fresh past between (Close at) outcome (Some table) said = (is_handled outcome ≡ true) × ShowsOldLines at past table
 IsSound fresh past between step Alloc None said = Unit {0}
 IsSound fresh past between (Negotiate at ops apply) (Negotiated answers made) (Some table) said =

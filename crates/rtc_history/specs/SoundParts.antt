@@ -6,9 +6,11 @@ use Rattle.rtc_peer_state.specs.declared.peer.Peer.{Peer}
 use Rattle.rtc_peer_state.specs.Meanings.{Meanings}
 use Rattle.rtc_history.specs.declared.side.Side.{Side}
 use Rattle.rtc_history.specs.declared.step.Step.{Step}
-use Rattle.rtc_history.specs.declared.step.Step.TheVariants.{Negotiate, AcceptOffer, AcceptAnswer, Time, Datagram, Poll, Drain, Close}
+use Rattle.rtc_history.specs.declared.step.Step.TheVariants.{Negotiate, AcceptOffer, AcceptAnswer, Time, Datagram, Poll, Drain}
+use Rattle.rtc_history.specs.declared.step.Step.TheVariants.{Write, CloseChannel, Close}
 use Rattle.rtc_history.specs.declared.outcome.Outcome.{Outcome}
-use Rattle.rtc_history.specs.declared.outcome.Outcome.TheVariants.{Negotiated, Answered, Finished, Done, Polled, Refused, NoSuch, Alloc}
+use Rattle.rtc_history.specs.declared.outcome.Outcome.TheVariants.{Negotiated, Answered, Finished, Done, Wrote, Polled, Refused}
+use Rattle.rtc_history.specs.declared.outcome.Outcome.TheVariants.{NoSuch, Alloc}
 use Rattle.rtc_history.specs.Memory.{CountedPart, DtlsPart, AssociationPart, MediaPart, tells_fault_of}
 use Rattle.rtc_history.specs.Past.{Entry}
 use Rattle.rtc_history.specs.PairState.{PairState, peer_at}
@@ -20,6 +22,7 @@ tells_refusal (Negotiated answers made) = false
 tells_refusal (Answered k) = false
 tells_refusal Finished = false
 tells_refusal Done = false
+tells_refusal (Wrote taken) = false
 tells_refusal (Polled outputs end) = false
 tells_refusal (Refused error) = true
 tells_refusal NoSuch = false
@@ -34,6 +37,8 @@ refuses_sdp (Time at now) outcome = false
 refuses_sdp (Datagram at packet now) outcome = false
 refuses_sdp (Poll at) outcome = false
 refuses_sdp (Drain at) outcome = false
+refuses_sdp (Write at channel binary bytes) outcome = false
+refuses_sdp (CloseChannel at channel) outcome = false
 refuses_sdp (Close at) outcome = false
 
 module _ {I D S M E X T W N : Type 0} (m : Meanings I D S M E X T W N) where

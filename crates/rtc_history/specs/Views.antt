@@ -8,9 +8,11 @@ use Rattle.rtc_change.specs.Held.{Held}
 use Rattle.rtc_peer_state.specs.Stance.{Stance}
 use Rattle.rtc_history.specs.declared.side.Side.{Side}
 use Rattle.rtc_history.specs.declared.step.Step.{Step}
-use Rattle.rtc_history.specs.declared.step.Step.TheVariants.{Negotiate, AcceptOffer, AcceptAnswer, Time, Datagram, Poll, Drain, Close}
+use Rattle.rtc_history.specs.declared.step.Step.TheVariants.{Negotiate, AcceptOffer, AcceptAnswer, Time, Datagram, Poll, Drain}
+use Rattle.rtc_history.specs.declared.step.Step.TheVariants.{Write, CloseChannel, Close}
 use Rattle.rtc_history.specs.declared.outcome.Outcome.{Outcome}
-use Rattle.rtc_history.specs.declared.outcome.Outcome.TheVariants.{Negotiated, Answered, Finished, Done, Polled, Refused, NoSuch, Alloc}
+use Rattle.rtc_history.specs.declared.outcome.Outcome.TheVariants.{Negotiated, Answered, Finished, Done, Wrote, Polled, Refused}
+use Rattle.rtc_history.specs.declared.outcome.Outcome.TheVariants.{NoSuch, Alloc}
 use Rattle.rtc_history.specs.Memory.{error_lacks, is_fault}
 use Rattle.rtc_history.specs.Sides.{same_side}
 use Rattle.rtc_history.specs.Past.{Entry, before, remote_sdp}
@@ -36,6 +38,7 @@ is_broken_off (Negotiated answers made) = false
 is_broken_off (Answered k) = false
 is_broken_off Finished = false
 is_broken_off Done = false
+is_broken_off (Wrote taken) = false
 is_broken_off (Polled outputs end) = false
 is_broken_off (Refused error) = error_lacks error || is_fault error
 is_broken_off NoSuch = false
@@ -50,6 +53,8 @@ breaks_off at (Time side now) outcome = false
 breaks_off at (Datagram side packet now) outcome = false
 breaks_off at (Poll side) outcome = false
 breaks_off at (Drain side) outcome = false
+breaks_off at (Write side channel binary bytes) outcome = false
+breaks_off at (CloseChannel side channel) outcome = false
 breaks_off at (Close side) outcome = false
 
 -- no acceptance of a side was broken off, so that the past tells what the side knows of the other one

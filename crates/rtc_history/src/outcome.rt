@@ -16,8 +16,12 @@ pub enum Outcome<E> {
     },
     /// The answer was accepted.
     Finished,
-    /// The peer took the input, or was closed.
+    /// The peer took the input, or it or one of its channels was closed.
     Done,
+    /// Whether the message was taken. It is not where it is longer than what may be buffered yet over all channels.
+    Wrote {
+        taken: bool,
+    },
     /// What the polls of the step gave, in order, and what ended them.
     Polled {
         outputs: Seq<Shown<E>>,
@@ -25,7 +29,8 @@ pub enum Outcome<E> {
     },
     /// The peer refused, or a datagram has not the form of its kind.
     Refused(RtcError),
-    /// The other side made no such offer or answer or sent no such datagram, or this side holds no such token.
+    /// The other side made no such offer or answer or sent no such datagram, or this side holds no such token or has no such
+    /// channel that is open.
     NoSuch,
     /// Memory ran out before the peer was called: the step did nothing.
     Alloc,

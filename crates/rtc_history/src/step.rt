@@ -2,7 +2,7 @@
 ghost use Rattle.std.specs.Prelude.{◌≡◌, ◌<◌, ◌^◌};
 
 use crate::{Op, Side};
-use rtc_wire::{Moment, Seq};
+use rtc_wire::{Bytes, ChannelId, Moment, Seq};
 
 /// What one peer of a pair does in a step.
 ///
@@ -11,21 +11,57 @@ use rtc_wire::{Moment, Seq};
 #[derive(Debug, PartialEq, Eq, Drop)]
 pub enum Step {
     /// Performs the ops in order on one `SdpApi`, and applies what they staged, or drops it where `apply` is false.
-    Negotiate { at: Side, ops: Seq<Op>, apply: bool },
+    Negotiate {
+        at: Side,
+        ops: Seq<Op>,
+        apply: bool,
+    },
     /// Accepts an offer of the other side, as signalling delivers it.
-    AcceptOffer { at: Side, offer: u32 },
+    AcceptOffer {
+        at: Side,
+        offer: u32,
+    },
     /// Accepts an answer of the other side, as signalling delivers it, with the token of an offer of this side.
-    AcceptAnswer { at: Side, token: u32, answer: u32 },
+    AcceptAnswer {
+        at: Side,
+        token: u32,
+        answer: u32,
+    },
     /// Takes a moment.
-    Time { at: Side, now: Moment },
+    Time {
+        at: Side,
+        now: Moment,
+    },
     /// Takes a datagram that the other side sent, at a moment.
-    Datagram { at: Side, packet: u64, now: Moment },
+    Datagram {
+        at: Side,
+        packet: u64,
+        now: Moment,
+    },
     /// Polls once.
-    Poll { at: Side },
+    Poll {
+        at: Side,
+    },
     /// Polls up to a timeout or an error.
-    Drain { at: Side },
+    Drain {
+        at: Side,
+    },
+    /// Writes a message, text or binary, to a data channel that is open.
+    Write {
+        at: Side,
+        channel: ChannelId,
+        binary: bool,
+        bytes: Bytes,
+    },
+    /// Closes a data channel that is open.
+    CloseChannel {
+        at: Side,
+        channel: ChannelId,
+    },
     /// Begins to close.
-    Close { at: Side },
+    Close {
+        at: Side,
+    },
 }
 
 impl Step {
@@ -45,6 +81,8 @@ impl Step {
             Step::Datagram { .. } => 1,
             Step::Poll { .. } => 1,
             Step::Drain { .. } => 1,
+            Step::Write { .. } => 1,
+            Step::CloseChannel { .. } => 1,
             Step::Close { .. } => 1,
         }
     }
@@ -61,6 +99,8 @@ impl Step {
             Step::Datagram { at, .. } => *at,
             Step::Poll { at } => *at,
             Step::Drain { at } => *at,
+            Step::Write { at, .. } => *at,
+            Step::CloseChannel { at, .. } => *at,
             Step::Close { at } => *at,
         }
     }

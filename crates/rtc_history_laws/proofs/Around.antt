@@ -6,7 +6,7 @@ use Rattle.std.proofs.lemmas.Option.{slice_get-map}
 use Rattle.rtc_sdp_values.specs.declared.sdp.Sdp.{Sdp}
 use Rattle.rtc_history.specs.declared.side.Side.{Side}
 use Rattle.rtc_history.specs.declared.step.Step.{Step}
-use Rattle.rtc_history.specs.declared.step.Step.TheVariants.{Negotiate, AcceptOffer, AcceptAnswer, Time, Datagram, Poll, Drain, Close}
+use Rattle.rtc_history.specs.declared.step.Step.TheVariants.{Negotiate, AcceptOffer, AcceptAnswer, Time, Datagram, Poll, Drain, Write, CloseChannel, Close}
 use Rattle.rtc_history.specs.declared.outcome.Outcome.{Outcome}
 use Rattle.rtc_history.specs.declared.table.Table.{Table}
 use Rattle.rtc_history.specs.Sides.{same_side, other_side, side_of}
@@ -39,6 +39,8 @@ one_at_least (Time at now) = omega arith
 one_at_least (Datagram at packet now) = omega arith
 one_at_least (Poll at) = omega arith
 one_at_least (Drain at) = omega arith
+one_at_least (Write at channel binary bytes) = omega arith
+one_at_least (CloseChannel at channel) = omega arith
 one_at_least (Close at) = omega arith
 
 pub size_grows : (step : Step) (made : List MadeSdp) (old new : PairStance) → Around step made old new → old.size + 1 ≤ new.size

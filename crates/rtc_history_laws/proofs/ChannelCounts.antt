@@ -10,9 +10,9 @@ use Rattle.rtc_history.specs.declared.op.Op.TheVariants.{AddMedia, SetDirection,
 use Rattle.rtc_history.specs.declared.op_answer.OpAnswer.{OpAnswer}
 use Rattle.rtc_history.specs.declared.op_answer.OpAnswer.TheVariants.{Mid, Changed, NoLine, Channel as Numbered, BadChannel, Alloc as OpAlloc, Creds}
 use Rattle.rtc_history.specs.declared.step.Step.{Step}
-use Rattle.rtc_history.specs.declared.step.Step.TheVariants.{Negotiate, AcceptOffer, AcceptAnswer, Time, Datagram, Poll, Drain, Close}
+use Rattle.rtc_history.specs.declared.step.Step.TheVariants.{Negotiate, AcceptOffer, AcceptAnswer, Time, Datagram, Poll, Drain, Write, CloseChannel, Close}
 use Rattle.rtc_history.specs.declared.outcome.Outcome.{Outcome}
-use Rattle.rtc_history.specs.declared.outcome.Outcome.TheVariants.{Negotiated, Answered, Finished, Done, Polled, Refused, NoSuch, Alloc}
+use Rattle.rtc_history.specs.declared.outcome.Outcome.TheVariants.{Negotiated, Answered, Finished, Done, Wrote, Polled, Refused, NoSuch, Alloc}
 use Rattle.rtc_history.specs.Sides.{same_side, side_of}
 use Rattle.rtc_history.specs.Sizes.{step_size, steps_size}
 use Rattle.rtc_history.specs.Answers.{numbers_answered}
@@ -90,6 +90,7 @@ offer_untold (Some sdp) view next (Polled outputs end) after takes = absurd take
 offer_untold sdp view next (Answered k) after takes = refl
 offer_untold sdp view next Finished after takes = refl
 offer_untold sdp view next Done after takes = refl
+offer_untold sdp view next (Wrote taken) after takes = refl
 offer_untold sdp view next (Refused error) after takes = refl
 offer_untold sdp view next NoSuch after takes = refl
 offer_untold sdp view next Alloc after takes = refl
@@ -106,6 +107,7 @@ answer_untold true true asked (Some sdp) view (Polled outputs end) after takes =
 answer_untold held right asked sdp view (Answered k) after takes = refl
 answer_untold held right asked sdp view Finished after takes = refl
 answer_untold held right asked sdp view Done after takes = refl
+answer_untold held right asked sdp view (Wrote taken) after takes = refl
 answer_untold held right asked sdp view (Refused error) after takes = refl
 answer_untold held right asked sdp view NoSuch after takes = refl
 answer_untold held right asked sdp view Alloc after takes = refl
@@ -129,6 +131,8 @@ told_within fresh between past (Time at now) outcome table made negotiating soun
 told_within fresh between past (Datagram at packet now) outcome table made negotiating sound = absurd (cc)
 told_within fresh between past (Poll at) outcome table made negotiating sound = absurd (cc)
 told_within fresh between past (Drain at) outcome table made negotiating sound = absurd (cc)
+told_within fresh between past (Write at channel binary bytes) outcome table made negotiating sound = absurd (cc)
+told_within fresh between past (CloseChannel at channel) outcome table made negotiating sound = absurd (cc)
 told_within fresh between past (Close at) outcome table made negotiating sound = absurd (cc)
 told_within fresh between past step outcome table made negotiating sound = absurd sound
 

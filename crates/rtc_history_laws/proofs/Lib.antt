@@ -1,6 +1,7 @@
 pub mod NumberedChannels
 pub mod StanceSteps
 pub mod StandingPolls
+pub mod StandingChannels
 pub mod StandingSteps
 pub mod RestartChanges
 pub mod Bounds
@@ -70,6 +71,7 @@ pub mod PollCounts
 pub mod InputCounts
 pub mod OpParts
 pub mod RestSides
+pub mod ChannelFaults
 pub mod SoundSides
 pub mod PartsSound
 pub mod SentPackets

@@ -18,7 +18,7 @@ use Rattle.rtc_history.specs.declared.op_answer.OpAnswer.{OpAnswer}
 use Rattle.rtc_history.specs.declared.made.Made.{Made}
 use Rattle.rtc_history.specs.declared.made.Made.TheVariants.{NotAsked, Nothing, Offer, Alloc as MadeAlloc}
 use Rattle.rtc_history.specs.declared.step.Step.{Step}
-use Rattle.rtc_history.specs.declared.step.Step.TheVariants.{Negotiate, AcceptOffer, AcceptAnswer, Time, Datagram, Poll, Drain, Close}
+use Rattle.rtc_history.specs.declared.step.Step.TheVariants.{Negotiate, AcceptOffer, AcceptAnswer, Time, Datagram, Poll, Drain, Write, CloseChannel, Close}
 use Rattle.rtc_history.specs.declared.outcome.Outcome.{Outcome}
 use Rattle.rtc_history.specs.declared.outcome.Outcome.TheVariants.{Negotiated, Answered, Finished, Refused, NoSuch, Alloc}
 use Rattle.rtc_history.specs.declared.table.Table.{Table}
@@ -153,4 +153,6 @@ makes_sdp fresh between past old new (Time at now) outcome table performs is sou
 makes_sdp fresh between past old new (Datagram at packet now) outcome table performs is sound rows = none_behind old.sdps new.sdps performs.acts.sdps_kept
 makes_sdp fresh between past old new (Poll at) outcome table performs is sound rows = none_behind old.sdps new.sdps performs.acts.sdps_kept
 makes_sdp fresh between past old new (Drain at) outcome table performs is sound rows = none_behind old.sdps new.sdps performs.acts.sdps_kept
+makes_sdp fresh between past old new (Write at channel binary bytes) outcome table performs is sound rows = none_behind old.sdps new.sdps performs.acts.sdps_kept
+makes_sdp fresh between past old new (CloseChannel at channel) outcome table performs is sound rows = none_behind old.sdps new.sdps performs.acts.sdps_kept
 makes_sdp fresh between past old new (Close at) outcome table performs is sound rows = none_behind old.sdps new.sdps performs.acts.sdps_kept

@@ -15,7 +15,7 @@ use Rattle.rtc_history.specs.declared.op.Op.{Op}
 use Rattle.rtc_history.specs.declared.made.Made.{Made}
 use Rattle.rtc_history.specs.declared.made.Made.TheVariants.{NotAsked, Nothing, Offer, Alloc as MadeAlloc}
 use Rattle.rtc_history.specs.declared.step.Step.{Step}
-use Rattle.rtc_history.specs.declared.step.Step.TheVariants.{Negotiate, AcceptOffer, AcceptAnswer, Time, Datagram, Poll, Drain, Close}
+use Rattle.rtc_history.specs.declared.step.Step.TheVariants.{Negotiate, AcceptOffer, AcceptAnswer, Time, Datagram, Poll, Drain, Write, CloseChannel, Close}
 use Rattle.rtc_history.specs.declared.outcome.Outcome.{Outcome}
 use Rattle.rtc_history.specs.declared.outcome.Outcome.TheVariants.{Negotiated, Answered, Finished, Refused, NoSuch, Alloc}
 use Rattle.rtc_history.specs.declared.table.Table.{Table}
@@ -265,6 +265,10 @@ round_next fresh past old new (Datagram at packet now) outcome table made course
 round_next fresh past old new (Poll at) outcome table made course course' on tells' performs after either enough next =
     rest_round old new at course course' after (ap (λ (s : Stance). s.ice) performs.acts.peer) performs.other performs.acts.sdps_kept on.round
 round_next fresh past old new (Drain at) outcome table made course course' on tells' performs after either enough next =
+    rest_round old new at course course' after (ap (λ (s : Stance). s.ice) performs.acts.peer) performs.other performs.acts.sdps_kept on.round
+round_next fresh past old new (Write at channel binary bytes) outcome table made course course' on tells' performs after either enough next =
+    rest_round old new at course course' after (ap (λ (s : Stance). s.ice) performs.acts.peer) performs.other performs.acts.sdps_kept on.round
+round_next fresh past old new (CloseChannel at channel) outcome table made course course' on tells' performs after either enough next =
     rest_round old new at course course' after (ap (λ (s : Stance). s.ice) performs.acts.peer) performs.other performs.acts.sdps_kept on.round
 round_next fresh past old new (Close at) outcome table made course course' on tells' performs after either enough next =
     rest_round old new at course course' after (ap (λ (s : Stance). s.ice) performs.acts.peer) performs.other performs.acts.sdps_kept on.round

@@ -5,7 +5,7 @@ use Rattle.rtc_sdp_values.specs.declared.line_row.LineRow.TheVariants.{Media, Ap
 use Rattle.rtc_history.specs.declared.side.Side.{Side}
 use Rattle.rtc_history.specs.declared.side.Side.TheVariants.{Left, Right}
 use Rattle.rtc_history.specs.declared.step.Step.{Step}
-use Rattle.rtc_history.specs.declared.step.Step.TheVariants.{Negotiate, AcceptOffer, AcceptAnswer, Time, Datagram, Poll, Drain, Close}
+use Rattle.rtc_history.specs.declared.step.Step.TheVariants.{Negotiate, AcceptOffer, AcceptAnswer, Time, Datagram, Poll, Drain, Write, CloseChannel, Close}
 use Rattle.rtc_history.specs.declared.outcome.Outcome.{Outcome}
 use Rattle.rtc_history.specs.declared.table.Table.{Table}
 use Rattle.rtc_history.specs.Sides.{side_of}
@@ -54,6 +54,10 @@ step_goes_on fresh between past (Poll at) outcome table made course course' soun
     rest_goes_on fresh between past (Poll at) outcome table made course course' tt after is replied says
 step_goes_on fresh between past (Drain at) outcome table made course course' sound is side few replied says after =
     rest_goes_on fresh between past (Drain at) outcome table made course course' tt after is replied says
+step_goes_on fresh between past (Write at channel binary bytes) outcome table made course course' sound is side few replied says after =
+    rest_goes_on fresh between past (Write at channel binary bytes) outcome table made course course' tt after is replied says
+step_goes_on fresh between past (CloseChannel at channel) outcome table made course course' sound is side few replied says after =
+    rest_goes_on fresh between past (CloseChannel at channel) outcome table made course course' tt after is replied says
 step_goes_on fresh between past (Close at) outcome table made course course' sound is side few replied says after =
     rest_goes_on fresh between past (Close at) outcome table made course course' tt after is replied says
 

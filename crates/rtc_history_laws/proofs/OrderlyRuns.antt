@@ -9,7 +9,7 @@ use Rattle.rtc_history.specs.declared.side.Side.{Side}
 use Rattle.rtc_history.specs.declared.side.Side.TheVariants.{Left, Right}
 use Rattle.rtc_history.specs.declared.kept.Kept.{Kept}
 use Rattle.rtc_history.specs.declared.step.Step.{Step}
-use Rattle.rtc_history.specs.declared.step.Step.TheVariants.{Negotiate, AcceptOffer, AcceptAnswer, Time, Datagram, Poll, Drain, Close}
+use Rattle.rtc_history.specs.declared.step.Step.TheVariants.{Negotiate, AcceptOffer, AcceptAnswer, Time, Datagram, Poll, Drain, Write, CloseChannel, Close}
 use Rattle.rtc_history.specs.Sides.{same_side, other_side}
 use Rattle.rtc_history.specs.Past.{Entry, sdp_for, remote_sdp, restarts_by}
 use Rattle.rtc_history.specs.Orderly.{Phase, Course, after_step, can_connect}
@@ -109,4 +109,6 @@ step_side fresh past pair (Time at now) course course' connect on after = tt
 step_side fresh past pair (Datagram at packet now) course course' connect on after = tt
 step_side fresh past pair (Poll at) course course' connect on after = tt
 step_side fresh past pair (Drain at) course course' connect on after = tt
+step_side fresh past pair (Write at channel binary bytes) course course' connect on after = tt
+step_side fresh past pair (CloseChannel at channel) course course' connect on after = tt
 step_side fresh past pair (Close at) course course' connect on after = tt

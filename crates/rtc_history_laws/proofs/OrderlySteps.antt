@@ -8,7 +8,7 @@ use Rattle.rtc_change.specs.Plans.{verdict, side_verdict}
 use Rattle.rtc_peer_state.specs.declared.rtc_error.RtcError.TheVariants.{RemoteSdp, Sdp as SdpRefused, Alloc as PeerAlloc, Dtls, Sctp}
 use Rattle.rtc_history.specs.declared.side.Side.{Side}
 use Rattle.rtc_history.specs.declared.op.Op.{Op}
-use Rattle.rtc_history.specs.declared.step.Step.TheVariants.{Negotiate, AcceptOffer, AcceptAnswer, Time, Datagram, Poll, Drain, Close}
+use Rattle.rtc_history.specs.declared.step.Step.TheVariants.{Negotiate, AcceptOffer, AcceptAnswer, Time, Datagram, Poll, Drain, Write, CloseChannel, Close}
 use Rattle.rtc_history.specs.declared.outcome.Outcome.{Outcome}
 use Rattle.rtc_history.specs.declared.outcome.Outcome.TheVariants.{Negotiated, Answered, Finished, Refused, Alloc}
 use Rattle.rtc_history.specs.declared.table.Table.{Table}
@@ -51,7 +51,7 @@ offer_answers (Some sdp) said view next (Answered k) after is passes takes enoug
 offer_answers (Some sdp) said view next (Refused (RemoteSdp why)) after is passes takes enough = absurd (let same : sdp ≡ said = cc in let e = rw same at takes.0 in cc)
 offer_answers (Some sdp) said view next (Refused (SdpRefused error)) after is passes takes enough = absurd (let same : sdp ≡ said = cc in let e = rw same at takes.0 in cc)
 offer_answers (Some sdp) said view next (Refused (Dtls error)) after is passes takes enough = absurd (cc)
-offer_answers (Some sdp) said view next (Refused (Sctp error)) after is passes takes enough = absurd (cc)
+offer_answers (Some sdp) said view next (Refused (Sctp error)) after is passes takes enough = absurd (let e = rw takes.0 at enough in cc)
 offer_answers (Some sdp) said view next (Refused PeerAlloc) after is passes takes enough = absurd (cc)
 offer_answers (Some sdp) said view next outcome after is passes takes enough = absurd takes
 
@@ -65,7 +65,7 @@ answer_finishes true true asked (Some sdp) said view Finished after held_is righ
 answer_finishes true true asked (Some sdp) said view (Refused (RemoteSdp why)) after held_is right_is is passes takes enough = absurd (let same : sdp ≡ said = cc in let e = rw same at takes.0 in cc)
 answer_finishes true true asked (Some sdp) said view (Refused (SdpRefused error)) after held_is right_is is passes takes enough = absurd (let same : sdp ≡ said = cc in let e = rw same at takes.0 in cc)
 answer_finishes true true asked (Some sdp) said view (Refused (Dtls error)) after held_is right_is is passes takes enough = absurd (cc)
-answer_finishes true true asked (Some sdp) said view (Refused (Sctp error)) after held_is right_is is passes takes enough = absurd (cc)
+answer_finishes true true asked (Some sdp) said view (Refused (Sctp error)) after held_is right_is is passes takes enough = absurd (let e = rw takes.0 at enough in cc)
 answer_finishes true true asked (Some sdp) said view (Refused PeerAlloc) after held_is right_is is passes takes enough = absurd (cc)
 answer_finishes true true asked (Some sdp) said view outcome after held_is right_is is passes takes enough = absurd takes
 
@@ -99,6 +99,8 @@ SidePasses fresh between past (Time at now) = Unit {0}
 SidePasses fresh between past (Datagram at packet now) = Unit {0}
 SidePasses fresh between past (Poll at) = Unit {0}
 SidePasses fresh between past (Drain at) = Unit {0}
+SidePasses fresh between past (Write at channel binary bytes) = Unit {0}
+SidePasses fresh between past (CloseChannel at channel) = Unit {0}
 SidePasses fresh between past (Close at) = Unit {0}
 
 -- the course after the other side accepts an offer

@@ -12,9 +12,9 @@ use Rattle.rtc_history.specs.declared.op_answer.OpAnswer.{OpAnswer}
 use Rattle.rtc_history.specs.declared.made.Made.{Made}
 use Rattle.rtc_history.specs.declared.made.Made.TheVariants.{NotAsked, Nothing, Offer, Alloc as MadeAlloc}
 use Rattle.rtc_history.specs.declared.step.Step.{Step}
-use Rattle.rtc_history.specs.declared.step.Step.TheVariants.{Negotiate, AcceptOffer, AcceptAnswer, Time, Datagram, Poll, Drain, Close}
+use Rattle.rtc_history.specs.declared.step.Step.TheVariants.{Negotiate, AcceptOffer, AcceptAnswer, Time, Datagram, Poll, Drain, Write, CloseChannel, Close}
 use Rattle.rtc_history.specs.declared.outcome.Outcome.{Outcome}
-use Rattle.rtc_history.specs.declared.outcome.Outcome.TheVariants.{Negotiated, Answered, Finished, Done, Polled, Refused, NoSuch, Alloc}
+use Rattle.rtc_history.specs.declared.outcome.Outcome.TheVariants.{Negotiated, Answered, Finished, Done, Wrote, Polled, Refused, NoSuch, Alloc}
 use Rattle.rtc_history.specs.declared.table.Table.{Table}
 use Rattle.rtc_history.specs.Sides.{side_of}
 use Rattle.rtc_history.specs.Past.{Entry, MadeSdp, before, sdps, remote_sdp, is_offer_of, holds_token, is_right, moves, makes, new_app, added_in, added_by}
@@ -116,10 +116,13 @@ offer_entry {E} fresh past entry t sound makes_it = by sound.between entry.step 
     by between (Datagram at packet now) (Negotiated answers what) table made replied sdp makes_it = absurd (no_rest fresh between (Datagram at packet now) answers what table made past tt replied)
     by between (Poll at) (Negotiated answers what) table made replied sdp makes_it = absurd (no_rest fresh between (Poll at) answers what table made past tt replied)
     by between (Drain at) (Negotiated answers what) table made replied sdp makes_it = absurd (no_rest fresh between (Drain at) answers what table made past tt replied)
+    by between (Write at channel binary bytes) (Negotiated answers what) table made replied sdp makes_it = absurd (no_rest fresh between (Write at channel binary bytes) answers what table made past tt replied)
+    by between (CloseChannel at channel) (Negotiated answers what) table made replied sdp makes_it = absurd (no_rest fresh between (CloseChannel at channel) answers what table made past tt replied)
     by between (Close at) (Negotiated answers what) table made replied sdp makes_it = absurd (no_rest fresh between (Close at) answers what table made past tt replied)
     by between step (Answered k) table made replied sdp makes_it = absurd (cc)
     by between step Finished table made replied sdp makes_it = absurd (cc)
     by between step Done table made replied sdp makes_it = absurd (cc)
+    by between step (Wrote taken) table made replied sdp makes_it = absurd (cc)
     by between step (Polled outputs end) table made replied sdp makes_it = absurd (cc)
     by between step (Refused error) table made replied sdp makes_it = absurd (cc)
     by between step NoSuch table made replied sdp makes_it = absurd (cc)

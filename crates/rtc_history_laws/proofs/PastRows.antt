@@ -9,7 +9,7 @@ use Rattle.rtc_change.specs.Held.{Asked}
 use Rattle.rtc_peer_state.specs.declared.rtc_error.RtcError.TheVariants.{RemoteSdp, Sdp as SdpRefused, ChangesOutOfOrder, Alloc as PeerAlloc, Dtls, Sctp}
 use Rattle.rtc_history.specs.declared.side.Side.{Side}
 use Rattle.rtc_history.specs.declared.step.Step.{Step}
-use Rattle.rtc_history.specs.declared.step.Step.TheVariants.{Negotiate, AcceptOffer, AcceptAnswer, Time, Datagram, Poll, Drain, Close}
+use Rattle.rtc_history.specs.declared.step.Step.TheVariants.{Negotiate, AcceptOffer, AcceptAnswer, Time, Datagram, Poll, Drain, Write, CloseChannel, Close}
 use Rattle.rtc_history.specs.declared.outcome.Outcome.{Outcome}
 use Rattle.rtc_history.specs.declared.outcome.Outcome.TheVariants.{Negotiated, Answered, Finished, Refused, NoSuch, Alloc}
 use Rattle.rtc_history.specs.declared.table.Table.{Table}
@@ -100,6 +100,8 @@ stayed fresh between past (Time at now) outcome (Some table) made t sound replie
 stayed fresh between past (Datagram at packet now) outcome (Some table) made t sound replied right mine still unspent unset = replied.1
 stayed fresh between past (Poll at) outcome (Some table) made t sound replied right mine still unspent unset = replied.1
 stayed fresh between past (Drain at) outcome (Some table) made t sound replied right mine still unspent unset = replied.1
+stayed fresh between past (Write at channel binary bytes) outcome (Some table) made t sound replied right mine still unspent unset = replied.1
+stayed fresh between past (CloseChannel at channel) outcome (Some table) made t sound replied right mine still unspent unset = replied.1
 stayed fresh between past (Close at) outcome (Some table) made t sound replied right mine still unspent unset = replied.1
 stayed fresh between past step outcome table made t sound replied right mine still unspent unset = absurd replied
 

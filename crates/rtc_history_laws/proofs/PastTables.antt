@@ -9,7 +9,7 @@ use Rattle.rtc_change.proofs.VerdictLemmas.{unrefused_table}
 use Rattle.rtc_peer_state.specs.declared.rtc_error.RtcError.TheVariants.{RemoteSdp, Sdp as SdpRefused, ChangesOutOfOrder, Alloc as PeerAlloc, Dtls, Sctp}
 use Rattle.rtc_history.specs.declared.side.Side.{Side}
 use Rattle.rtc_history.specs.declared.step.Step.{Step}
-use Rattle.rtc_history.specs.declared.step.Step.TheVariants.{Negotiate, AcceptOffer, AcceptAnswer, Time, Datagram, Poll, Drain, Close}
+use Rattle.rtc_history.specs.declared.step.Step.TheVariants.{Negotiate, AcceptOffer, AcceptAnswer, Time, Datagram, Poll, Drain, Write, CloseChannel, Close}
 use Rattle.rtc_history.specs.declared.outcome.Outcome.{Outcome}
 use Rattle.rtc_history.specs.declared.outcome.Outcome.TheVariants.{Negotiated, Answered, Finished, Refused, NoSuch, Alloc}
 use Rattle.rtc_history.specs.declared.table.Table.{Table}
@@ -62,6 +62,8 @@ reply_table fresh between past (Time at now) outcome (Some after) made sound tab
 reply_table fresh between past (Datagram at packet now) outcome (Some after) made sound table = same_table (before at past) after.lines sound.1 table
 reply_table fresh between past (Poll at) outcome (Some after) made sound table = same_table (before at past) after.lines sound.1 table
 reply_table fresh between past (Drain at) outcome (Some after) made sound table = same_table (before at past) after.lines sound.1 table
+reply_table fresh between past (Write at channel binary bytes) outcome (Some after) made sound table = same_table (before at past) after.lines sound.1 table
+reply_table fresh between past (CloseChannel at channel) outcome (Some after) made sound table = same_table (before at past) after.lines sound.1 table
 reply_table fresh between past (Close at) outcome (Some after) made sound table = same_table (before at past) after.lines sound.1 table
 reply_table fresh between past step outcome after made sound table = absurd sound
 

@@ -7,7 +7,7 @@ use Rattle.rtc_tables.specs.Table.{IsTable}
 use Rattle.rtc_peer_state.specs.Stance.{Stance}
 use Rattle.rtc_history.specs.declared.side.Side.{Side}
 use Rattle.rtc_history.specs.declared.step.Step.{Step}
-use Rattle.rtc_history.specs.declared.step.Step.TheVariants.{Negotiate, AcceptOffer, AcceptAnswer, Time, Datagram, Poll, Drain, Close}
+use Rattle.rtc_history.specs.declared.step.Step.TheVariants.{Negotiate, AcceptOffer, AcceptAnswer, Time, Datagram, Poll, Drain, Write, CloseChannel, Close}
 use Rattle.rtc_history.specs.declared.outcome.Outcome.{Outcome}
 use Rattle.rtc_history.specs.declared.table.Table.{Table}
 use Rattle.rtc_history.specs.declared.kept.Kept.{Kept}
@@ -29,7 +29,7 @@ use Rattle.rtc_history_laws.proofs.SeenSteps.{step_sees}
 use Rattle.rtc_history_laws.proofs.NegotiateSteps.{negotiate_reply, negotiate_tells}
 use Rattle.rtc_history_laws.proofs.OfferSteps.{offer_reply, offer_tells}
 use Rattle.rtc_history_laws.proofs.AnswerSteps.{answer_reply, answer_tells}
-use Rattle.rtc_history_laws.proofs.Rests.{handled_rests, heard_rests, polled_rests, told_rests, rest_tells, lines_stay, time_reply, datagram_reply, poll_reply, drain_reply, close_reply}
+use Rattle.rtc_history_laws.proofs.Rests.{handled_rests, heard_rests, polled_rests, told_rests, rest_tells, lines_stay, time_reply, datagram_reply, poll_reply, drain_reply, close_reply, written_rests, closed_rests, write_reply, close_channel_reply}
 
 -- ---- one step
 
@@ -57,6 +57,10 @@ step_sound fresh past old new (Poll at) outcome table tells sees rows performs s
     poll_reply fresh old.sides past at (old.sides at) (new.sides at) outcome table (made_by old new) (sym (tells.sides at).rows) (lines_stay (old.sides at) (new.sides at) performs.acts.peer) performs.acts.told
 step_sound fresh past old new (Drain at) outcome table tells sees rows performs small =
     drain_reply fresh old.sides past at (old.sides at) (new.sides at) outcome table (made_by old new) (sym (tells.sides at).rows) (lines_stay (old.sides at) (new.sides at) performs.acts.peer) performs.acts.told
+step_sound fresh past old new (Write at channel binary bytes) outcome table tells sees rows performs small =
+    write_reply fresh old.sides past at channel binary bytes (old.sides at) (new.sides at) outcome table (made_by old new) (sym (tells.sides at).rows) (lines_stay (old.sides at) (new.sides at) performs.acts.peer) performs.acts.told
+step_sound fresh past old new (CloseChannel at channel) outcome table tells sees rows performs small =
+    close_channel_reply fresh old.sides past at channel (old.sides at) (new.sides at) outcome table (made_by old new) (sym (tells.sides at).rows) (lines_stay (old.sides at) (new.sides at) performs.acts.peer) performs.acts.told
 step_sound fresh past old new (Close at) outcome table tells sees rows performs small =
     close_reply fresh old.sides past at (old.sides at) (new.sides at) outcome table (made_by old new) (sym (tells.sides at).rows) (lines_stay (old.sides at) (new.sides at) performs.acts.peer) performs.acts.told
 
@@ -72,6 +76,8 @@ step_tells past old new (Time at now) outcome table made tells performs around =
 step_tells past old new (Datagram at packet now) outcome table made tells performs around = rest_tells past (Datagram at packet now) outcome table made old new _ tt (told_rests _ (old.sides at) outcome table (new.sides at) heard_rests performs.acts.told) performs.acts around tells
 step_tells past old new (Poll at) outcome table made tells performs around = rest_tells past (Poll at) outcome table made old new _ tt (told_rests _ (old.sides at) outcome table (new.sides at) polled_rests performs.acts.told) performs.acts around tells
 step_tells past old new (Drain at) outcome table made tells performs around = rest_tells past (Drain at) outcome table made old new _ tt (told_rests _ (old.sides at) outcome table (new.sides at) polled_rests performs.acts.told) performs.acts around tells
+step_tells past old new (Write at channel binary bytes) outcome table made tells performs around = rest_tells past (Write at channel binary bytes) outcome table made old new _ tt (told_rests _ (old.sides at) outcome table (new.sides at) written_rests performs.acts.told) performs.acts around tells
+step_tells past old new (CloseChannel at channel) outcome table made tells performs around = rest_tells past (CloseChannel at channel) outcome table made old new _ tt (told_rests _ (old.sides at) outcome table (new.sides at) closed_rests performs.acts.told) performs.acts around tells
 step_tells past old new (Close at) outcome table made tells performs around = rest_tells past (Close at) outcome table made old new _ tt (told_rests _ (old.sides at) outcome table (new.sides at) handled_rests performs.acts.told) performs.acts around tells
 
 -- ---- all steps

@@ -22,7 +22,8 @@ use Rattle.rtc_history.specs.declared.shown.Shown.TheVariants.{Timeout, Packet, 
 use Rattle.rtc_history.specs.declared.side.Side.{Side}
 use Rattle.rtc_history.specs.declared.table.Table.{Table}
 use Rattle.rtc_history.specs.Memory.{CountedPart, tells_fault_of, is_end_fault_of}
-use Rattle.rtc_history.specs.Performs.{StepCalls, HandlesRead, StepTakesDatagram, PollsShown, PollsOnce, DrainsOn, DrainsPeer, StepPollsPeer}
+use Rattle.rtc_history.specs.CallReplies.{StepCalls}
+use Rattle.rtc_history.specs.Performs.{HandlesRead, StepTakesDatagram, PollsShown, PollsOnce, DrainsOn, DrainsPeer, StepPollsPeer}
 use Rattle.rtc_history_laws.proofs.GrowingCounts.{answer_tells, Counts, later_of, counts_on, counts_as, still_counts}
 use Rattle.rtc_history_laws.proofs.ClosingCounts.{close_counts}
 use Rattle.rtc_history_laws.proofs.InputCounts.{input_counts}
@@ -30,7 +31,7 @@ use Rattle.rtc_history_laws.proofs.PollCounts.{poll_counts}
 
 module _ {I D S M E X T W N : Type 0} (m : Meanings I D S M E X T W N) (laws : PartsLaws m) where
   -- nothing was done
-  stays : (p q : PolledPeer I D S M N) (told : CountedPart → Bool) → ((part : CountedPart) → told part ≡ false) → q ≡ p → Counts m p told q
+  pub stays : (p q : PolledPeer I D S M N) (told : CountedPart → Bool) → ((part : CountedPart) → told part ≡ false) → q ≡ p → Counts m p told q
   stays p q told quiet same = still_counts m p p q told quiet same (record { dtls = refl; media = refl; association = refl })
 
   -- ---- calls
@@ -45,7 +46,7 @@ module _ {I D S M E X T W N : Type 0} (m : Meanings I D S M E X T W N) (laws : P
   poll_goes : (p : PolledPeer I D S M N) (answer : _) (q : PolledPeer I D S M N) → PollsPeer m p answer q → Counts m p (answer_tells answer) q
   poll_goes p answer q h = poll_counts m laws p answer q h
 
-  calls_go : (call : PolledPeer I D S M N → Result (Unit {0}) RtcError → PolledPeer I D S M N → Type 0)
+  pub calls_go : (call : PolledPeer I D S M N → Result (Unit {0}) RtcError → PolledPeer I D S M N → Type 0)
       → ((p : PolledPeer I D S M N) (r : Result (Unit {0}) RtcError) (q : PolledPeer I D S M N) → call p r q → Counts m p (answer_tells r) q)
       → (old : PolledPeer I D S M N) (outcome : Outcome E) (table : Option Table) (new : PolledPeer I D S M N) → StepCalls m call old outcome table new
       → Counts m old (tells_fault_of outcome) new

@@ -1,4 +1,4 @@
--- Steps that negotiate nothing: inputs, polls and closes. They leave what negotiation reads of both sides.
+-- Steps that negotiate nothing: inputs, polls, writes and closes. They leave what negotiation reads of both sides.
 use Rattle.std.proofs.Common.{◌≡◌, ◌∙◌, ℕ, Bool, true, false, List, [], ◌∷◌, length, Option, Some, None, refl, sym, ap}
 use Rattle.rtc_sdp_values.specs.declared.line_row.LineRow.{LineRow}
 use Rattle.rtc_channels.specs.declared.channel_row.ChannelRow.{ChannelRow}
@@ -6,16 +6,16 @@ use Rattle.rtc_peer_state.specs.Stance.{Stance}
 use Rattle.rtc_history.specs.declared.side.Side.{Side}
 use Rattle.rtc_history.specs.declared.side.Side.TheVariants.{Left, Right}
 use Rattle.rtc_history.specs.declared.step.Step.{Step}
-use Rattle.rtc_history.specs.declared.step.Step.TheVariants.{Negotiate, AcceptOffer, AcceptAnswer, Time, Datagram, Poll, Drain, Close}
+use Rattle.rtc_history.specs.declared.step.Step.TheVariants.{Negotiate, AcceptOffer, AcceptAnswer, Time, Datagram, Poll, Drain, Write, CloseChannel, Close}
 use Rattle.rtc_history.specs.declared.op_answer.OpAnswer.{OpAnswer}
 use Rattle.rtc_history.specs.declared.made.Made.{Made}
 use Rattle.rtc_history.specs.declared.outcome.Outcome.{Outcome}
-use Rattle.rtc_history.specs.declared.outcome.Outcome.TheVariants.{Negotiated, Answered, Finished, Done, Polled, Refused, NoSuch, Alloc}
+use Rattle.rtc_history.specs.declared.outcome.Outcome.TheVariants.{Negotiated, Answered, Finished, Done, Wrote, Polled, Refused, NoSuch, Alloc}
 use Rattle.rtc_history.specs.declared.table.Table.{Table}
 use Rattle.rtc_history.specs.SaidRows.{MakesSdp}
 use Rattle.rtc_history.specs.Sides.{side_of, other_side, same_side}
 use Rattle.rtc_history.specs.Past.{Entry, MadeSdp, before, rows_or, channel_rows_or, channels_shown, makes, moves, spends}
-use Rattle.rtc_history.specs.Sound.{IsSound, is_handled, is_heard, is_polled}
+use Rattle.rtc_history.specs.Sound.{IsSound, is_handled, is_heard, is_polled, is_written, is_channel_closed}
 use Rattle.rtc_history.specs.Views.{Stances}
 use Rattle.rtc_history_laws.proofs.StanceSteps.{PairStance, RestTold, StanceRests}
 use Rattle.rtc_history_laws.proofs.Tells.{Tells}
@@ -30,6 +30,8 @@ IsRest (Time at now) = Unit {0}
 IsRest (Datagram at packet now) = Unit {0}
 IsRest (Poll at) = Unit {0}
 IsRest (Drain at) = Unit {0}
+IsRest (Write at channel binary bytes) = Unit {0}
+IsRest (CloseChannel at channel) = Unit {0}
 IsRest (Close at) = Unit {0}
 
 -- an outcome that such a step may have
@@ -38,6 +40,7 @@ rests (Negotiated answers made) = false
 rests (Answered k) = false
 rests Finished = false
 rests Done = true
+rests (Wrote taken) = true
 rests (Polled outputs end) = true
 rests (Refused error) = true
 rests NoSuch = true
@@ -48,6 +51,7 @@ handled_rests (Negotiated answers made) is = is
 handled_rests (Answered k) is = is
 handled_rests Finished is = is
 handled_rests Done is = refl
+handled_rests (Wrote taken) is = refl
 handled_rests (Polled outputs end) is = refl
 handled_rests (Refused error) is = refl
 handled_rests NoSuch is = refl
@@ -58,6 +62,7 @@ heard_rests (Negotiated answers made) is = is
 heard_rests (Answered k) is = is
 heard_rests Finished is = is
 heard_rests Done is = refl
+heard_rests (Wrote taken) is = refl
 heard_rests (Polled outputs end) is = refl
 heard_rests (Refused error) is = refl
 heard_rests NoSuch is = refl
@@ -68,10 +73,33 @@ polled_rests (Negotiated answers made) is = is
 polled_rests (Answered k) is = is
 polled_rests Finished is = is
 polled_rests Done is = refl
+polled_rests (Wrote taken) is = refl
 polled_rests (Polled outputs end) is = refl
 polled_rests (Refused error) is = refl
 polled_rests NoSuch is = refl
 polled_rests Alloc is = refl
+
+pub written_rests : {E : Type 0} → (outcome : Outcome E) → is_written outcome ≡ true → rests outcome ≡ true
+written_rests (Negotiated answers made) is = is
+written_rests (Answered k) is = is
+written_rests Finished is = is
+written_rests Done is = refl
+written_rests (Wrote taken) is = refl
+written_rests (Polled outputs end) is = refl
+written_rests (Refused error) is = refl
+written_rests NoSuch is = refl
+written_rests Alloc is = refl
+
+pub closed_rests : {E : Type 0} → (outcome : Outcome E) → is_channel_closed outcome ≡ true → rests outcome ≡ true
+closed_rests (Negotiated answers made) is = is
+closed_rests (Answered k) is = is
+closed_rests Finished is = is
+closed_rests Done is = refl
+closed_rests (Wrote taken) is = refl
+closed_rests (Polled outputs end) is = refl
+closed_rests (Refused error) is = refl
+closed_rests NoSuch is = refl
+closed_rests Alloc is = refl
 
 pub told_rests : {E : Type 0} → (may : Outcome E → Bool) (old : Stance) (outcome : Outcome E) (table : Option Table) (new : Stance)
     → ((one : Outcome E) → may one ≡ true → rests one ≡ true) → RestTold may old outcome table new → rests outcome ≡ true
@@ -88,6 +116,8 @@ moves_none at (Time side now) outcome rest = refl
 moves_none at (Datagram side packet now) outcome rest = refl
 moves_none at (Poll side) outcome rest = refl
 moves_none at (Drain side) outcome rest = refl
+moves_none at (Write side channel binary bytes) outcome rest = refl
+moves_none at (CloseChannel side channel) outcome rest = refl
 moves_none at (Close side) outcome rest = refl
 
 pub spends_none : {E : Type 0} → (t : ℕ) (step : Step) (outcome : Outcome E) → IsRest step → spends t step outcome ≡ false
@@ -98,6 +128,8 @@ spends_none t (Time at now) outcome rest = refl
 spends_none t (Datagram at packet now) outcome rest = refl
 spends_none t (Poll at) outcome rest = refl
 spends_none t (Drain at) outcome rest = refl
+spends_none t (Write at channel binary bytes) outcome rest = refl
+spends_none t (CloseChannel at channel) outcome rest = refl
 spends_none t (Close at) outcome rest = refl
 
 pub makes_none : {E : Type 0} → (t : ℕ) (outcome : Outcome E) → rests outcome ≡ true → makes t outcome ≡ false
@@ -105,6 +137,7 @@ makes_none t (Negotiated answers made) is = absurd (cc)
 makes_none t (Answered k) is = refl
 makes_none t Finished is = refl
 makes_none t Done is = refl
+makes_none t (Wrote taken) is = refl
 makes_none t (Polled outputs end) is = refl
 makes_none t (Refused error) is = refl
 makes_none t NoSuch is = refl
@@ -160,6 +193,17 @@ pub drain_reply : {E : Type 0} → (fresh between : Stances) (past : List (Entry
 drain_reply fresh between past at old new outcome None made rows stay told = rw told.0 tt
 drain_reply fresh between past at old new outcome (Some table) made rows stay told = (told.0, told.1.lines ∙ stay ∙ sym rows)
 
+pub write_reply : {E : Type 0} → (fresh between : Stances) (past : List (Entry E)) (at : Side) (channel : ℕ) (binary : Bool) (bytes : List ℕ) (old new : Stance) (outcome : Outcome E) (table : Option Table)
+    (made : List MadeSdp) → before at past ≡ old.lines → new.lines ≡ old.lines → RestTold is_written old outcome table new
+    → IsSound fresh past between (Write at channel binary bytes) outcome table made
+write_reply fresh between past at channel binary bytes old new outcome None made rows stay told = rw told.0 tt
+write_reply fresh between past at channel binary bytes old new outcome (Some table) made rows stay told = (told.0, told.1.lines ∙ stay ∙ sym rows)
+
+pub close_channel_reply : {E : Type 0} → (fresh between : Stances) (past : List (Entry E)) (at : Side) (channel : ℕ) (old new : Stance) (outcome : Outcome E) (table : Option Table) (made : List MadeSdp)
+    → before at past ≡ old.lines → new.lines ≡ old.lines → RestTold is_channel_closed old outcome table new → IsSound fresh past between (CloseChannel at channel) outcome table made
+close_channel_reply fresh between past at channel old new outcome None made rows stay told = rw told.0 tt
+close_channel_reply fresh between past at channel old new outcome (Some table) made rows stay told = (told.0, told.1.lines ∙ stay ∙ sym rows)
+
 pub close_reply : {E : Type 0} → (fresh between : Stances) (past : List (Entry E)) (at : Side) (old new : Stance) (outcome : Outcome E) (table : Option Table) (made : List MadeSdp)
     → before at past ≡ old.lines → new.lines ≡ old.lines → RestTold is_handled old outcome table new → IsSound fresh past between (Close at) outcome table made
 close_reply fresh between past at old new outcome None made rows stay told = rw told.0 tt
@@ -181,7 +225,11 @@ no_rest fresh between (Poll at) answers what None made past rest sound = sound
 no_rest fresh between (Poll at) answers what (Some table) made past rest sound = let e : false ≡ true = sound.0 in cc
 no_rest fresh between (Drain at) answers what None made past rest sound = sound
 no_rest fresh between (Drain at) answers what (Some table) made past rest sound = let e : false ≡ true = sound.0 in cc
+no_rest fresh between (Write at channel binary bytes) answers what None made past rest sound = sound
+no_rest fresh between (CloseChannel at channel) answers what None made past rest sound = sound
 no_rest fresh between (Close at) answers what None made past rest sound = sound
+no_rest fresh between (Write at channel binary bytes) answers what (Some table) made past rest sound = let e : false ≡ true = sound.0 in cc
+no_rest fresh between (CloseChannel at channel) answers what (Some table) made past rest sound = let e : false ≡ true = sound.0 in cc
 no_rest fresh between (Close at) answers what (Some table) made past rest sound = let e : false ≡ true = sound.0 in cc
 
 -- it makes no offer
@@ -191,6 +239,7 @@ rest_unmade fresh between past step (Negotiated answers what) table made t rest 
 rest_unmade fresh between past step (Answered k) table made t rest sound = refl
 rest_unmade fresh between past step Finished table made t rest sound = refl
 rest_unmade fresh between past step Done table made t rest sound = refl
+rest_unmade fresh between past step (Wrote taken) table made t rest sound = refl
 rest_unmade fresh between past step (Polled outputs end) table made t rest sound = refl
 rest_unmade fresh between past step (Refused error) table made t rest sound = refl
 rest_unmade fresh between past step NoSuch table made t rest sound = refl
@@ -210,7 +259,11 @@ rest_shows fresh between past (Poll at) outcome None made rest sound = refl
 rest_shows fresh between past (Poll at) outcome (Some table) made rest sound = sound.1
 rest_shows fresh between past (Drain at) outcome None made rest sound = refl
 rest_shows fresh between past (Drain at) outcome (Some table) made rest sound = sound.1
+rest_shows fresh between past (Write at channel binary bytes) outcome None made rest sound = refl
+rest_shows fresh between past (CloseChannel at channel) outcome None made rest sound = refl
 rest_shows fresh between past (Close at) outcome None made rest sound = refl
+rest_shows fresh between past (Write at channel binary bytes) outcome (Some table) made rest sound = sound.1
+rest_shows fresh between past (CloseChannel at channel) outcome (Some table) made rest sound = sound.1
 rest_shows fresh between past (Close at) outcome (Some table) made rest sound = sound.1
 
 shown_at : {E : Type 0} → (at side : Side) (table : Option Table) (past : List (Entry E)) → rows_or true table (before at past) ≡ before at past
@@ -234,4 +287,6 @@ rest_says (Time at now) outcome table made rest says = says
 rest_says (Datagram at packet now) outcome table made rest says = says
 rest_says (Poll at) outcome table made rest says = says
 rest_says (Drain at) outcome table made rest says = says
+rest_says (Write at channel binary bytes) outcome table made rest says = says
+rest_says (CloseChannel at channel) outcome table made rest says = says
 rest_says (Close at) outcome table made rest says = says

@@ -12,9 +12,9 @@ use Rattle.rtc_change.specs.Plans.{no_fingerprint}
 use Rattle.rtc_peer_state.specs.Stance.{Stance, held_by}
 use Rattle.rtc_history.specs.declared.side.Side.{Side}
 use Rattle.rtc_history.specs.declared.step.Step.{Step}
-use Rattle.rtc_history.specs.declared.step.Step.TheVariants.{Negotiate, AcceptOffer, AcceptAnswer, Time, Datagram, Poll, Drain, Close}
+use Rattle.rtc_history.specs.declared.step.Step.TheVariants.{Negotiate, AcceptOffer, AcceptAnswer, Time, Datagram, Poll, Drain, Write, CloseChannel, Close}
 use Rattle.rtc_history.specs.declared.outcome.Outcome.{Outcome}
-use Rattle.rtc_history.specs.declared.outcome.Outcome.TheVariants.{Negotiated, Answered, Finished, Done, Polled, Refused, NoSuch, Alloc}
+use Rattle.rtc_history.specs.declared.outcome.Outcome.TheVariants.{Negotiated, Answered, Finished, Done, Wrote, Polled, Refused, NoSuch, Alloc}
 use Rattle.rtc_history.specs.Sides.{same_side, side_of}
 use Rattle.rtc_history.specs.Past.{Entry, before, remote_sdp}
 use Rattle.rtc_history.specs.Views.{Stances, accepted_by, last_accepted, breaks_off, is_firm, creds_told, view_in}
@@ -89,6 +89,7 @@ other_sees {E} fresh past e at s t another same sees = sees_still fresh past e a
     by (AcceptOffer side k) (Negotiated answers what) another = refl
     by (AcceptOffer side k) Finished another = refl
     by (AcceptOffer side k) Done another = refl
+    by (AcceptOffer side k) (Wrote taken) another = refl
     by (AcceptOffer side k) (Polled outputs end) another = refl
     by (AcceptOffer side k) (Refused error) another = refl
     by (AcceptOffer side k) NoSuch another = refl
@@ -96,6 +97,7 @@ other_sees {E} fresh past e at s t another same sees = sees_still fresh past e a
     by (AcceptAnswer side t a) (Negotiated answers what) another = refl
     by (AcceptAnswer side t a) (Answered n) another = refl
     by (AcceptAnswer side t a) Done another = refl
+    by (AcceptAnswer side t a) (Wrote taken) another = refl
     by (AcceptAnswer side t a) (Polled outputs end) another = refl
     by (AcceptAnswer side t a) (Refused error) another = refl
     by (AcceptAnswer side t a) NoSuch another = refl
@@ -104,4 +106,6 @@ other_sees {E} fresh past e at s t another same sees = sees_still fresh past e a
     by (Datagram side packet now) outcome another = refl
     by (Poll side) outcome another = refl
     by (Drain side) outcome another = refl
+    by (Write side channel binary bytes) outcome another = refl
+    by (CloseChannel side channel) outcome another = refl
     by (Close side) outcome another = refl

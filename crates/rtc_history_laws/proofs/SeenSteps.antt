@@ -10,6 +10,9 @@ use Rattle.rtc_change.proofs.VerdictLemmas.{unrefused}
 use Rattle.rtc_tables.specs.RowChanges.{RowChange}
 use Rattle.rtc_sdp_values.specs.declared.direction.Direction.{Direction}
 use Rattle.rtc_peer_state.specs.Stance.{Stance, held_by}
+use Rattle.rtc_sctp.specs.declared.proto_error.ProtoError.TheVariants.{Fault as AssociationFault}
+use Rattle.rtc_sctp.specs.declared.sctp_error.SctpError.{SctpError}
+use Rattle.rtc_sctp.specs.declared.sctp_error.SctpError.TheVariants.{Proto}
 use Rattle.rtc_peer_state.specs.declared.rtc_error.RtcError.TheVariants.{Net, Media as MediaFailed}
 use Rattle.rtc_peer_state.specs.declared.rtc_error.RtcError.TheVariants.{RemoteSdp, Sdp as SdpRefused, Dtls, Sctp, ChangesOutOfOrder, BadChannel, Alloc as PeerAlloc}
 use Rattle.rtc_peer_state.proofs.StanceCalls.{StanceChangesLine, stance_alone}
@@ -22,11 +25,11 @@ use Rattle.rtc_history.specs.declared.op_answer.OpAnswer.TheVariants.{Mid, Chang
 use Rattle.rtc_history.specs.declared.made.Made.{Made}
 use Rattle.rtc_history.specs.declared.made.Made.TheVariants.{NotAsked, Nothing, Offer, Alloc as MadeAlloc}
 use Rattle.rtc_history.specs.declared.step.Step.{Step}
-use Rattle.rtc_history.specs.declared.step.Step.TheVariants.{Negotiate, AcceptOffer, AcceptAnswer, Time, Datagram, Poll, Drain, Close}
+use Rattle.rtc_history.specs.declared.step.Step.TheVariants.{Negotiate, AcceptOffer, AcceptAnswer, Time, Datagram, Poll, Drain, Write, CloseChannel, Close}
 use Rattle.rtc_history.specs.declared.outcome.Outcome.{Outcome}
 use Rattle.rtc_history.specs.declared.outcome.Outcome.TheVariants.{Negotiated, Answered, Finished, Refused, NoSuch, Alloc}
 use Rattle.rtc_history.specs.declared.table.Table.{Table}
-use Rattle.rtc_history.specs.Memory.{answers_lack}
+use Rattle.rtc_history.specs.Memory.{answers_lack, is_fault}
 use Rattle.rtc_history.specs.Past.{Entry, MadeSdp, remote_sdp}
 use Rattle.rtc_history.specs.Sides.{same_side, other_side, side_of}
 use Rattle.rtc_history.specs.Views.{Stances}
@@ -99,6 +102,10 @@ here_is at found = rw (same_side-self at) refl
 here_breaks : (at : Side) (b : Bool) → b ≡ true → (same_side at at && b) ≡ true
 here_breaks at b is = rw (same_side-self at, is) refl
 
+-- an acceptance that the association's fault ends
+fault_breaks : (error : SctpError) → error ≡ Proto AssociationFault → is_fault (Sctp error) ≡ true
+fault_breaks error is = rw is refl
+
 offer_sees : {E : Type 0} → (fresh : Stances) (past : List (Entry E)) (at : Side) (k : ℕ) (offer : Option Sdp) (old new : Stance) (kept kept' : List Kept) (outcome : Outcome E) (table : Option Table) (made : List MadeSdp) → remote_sdp true at k past ≡ offer
     → StanceStepAcceptsOffer at offer old kept outcome table new kept' → SideSees fresh past at old → SideSees fresh (entry (AcceptOffer at k) outcome table made ∷ past) at new
 offer_sees fresh past at k None old new kept kept' Alloc None made said h sees = sees_still fresh past _ at old new (ap (λ s. s.ice) h.peer) (ap (λ s. s.fingerprint) h.peer) refl sees
@@ -111,7 +118,7 @@ offer_sees fresh past at k (Some sdp) old new kept kept' (Answered n) (Some tabl
 offer_sees fresh past at k (Some sdp) old new kept kept' (Refused (RemoteSdp why)) (Some table) made said h sees = sees_still fresh past _ at old new (ap (λ s. s.ice) h.0.1) (ap (λ s. s.fingerprint) h.0.1) refl sees
 offer_sees fresh past at k (Some sdp) old new kept kept' (Refused (SdpRefused error)) (Some table) made said h sees = sees_still fresh past _ at old new (ap (λ s. s.ice) h.0.1) (ap (λ s. s.fingerprint) h.0.1) refl sees
 offer_sees fresh past at k (Some sdp) old new kept kept' (Refused (Dtls Fault)) (Some table) made said h sees = sees_broken fresh past _ at old new h.0.1.breaks.lite (here_breaks at true refl) sees
-offer_sees fresh past at k (Some sdp) old new kept kept' (Refused (Sctp error)) (Some table) made said h sees = sees_broken fresh past _ at old new h.0.2.breaks.lite (here_breaks at true refl) sees
+offer_sees fresh past at k (Some sdp) old new kept kept' (Refused (Sctp error)) (Some table) made said h sees = sees_broken fresh past _ at old new h.0.2.breaks.lite (here_breaks at (is_fault (Sctp error)) (fault_breaks error h.0.0)) sees
 offer_sees fresh past at k (Some sdp) old new kept kept' (Refused PeerAlloc) (Some table) made said h sees = sees_broken fresh past _ at old new h.0.breaks.lite (here_breaks at true refl) sees
 offer_sees fresh past at k (Some sdp) old new kept kept' (Refused (Dtls WouldBlock)) (Some table) made said h sees = absurd h.0
 offer_sees fresh past at k (Some sdp) old new kept kept' (Refused (Dtls DtlsAlloc)) (Some table) made said h sees = absurd h.0
@@ -138,7 +145,7 @@ answer_sees fresh past at t a (Some token) (Some sdp) old new kept kept' (Refuse
 answer_sees fresh past at t a (Some token) (Some sdp) old new kept kept' (Refused (RemoteSdp why)) (Some table) made said h sees = sees_still fresh past _ at old new (ap (λ s. s.ice) h.0.1.1) (ap (λ s. s.fingerprint) h.0.1.1) refl sees
 answer_sees fresh past at t a (Some token) (Some sdp) old new kept kept' (Refused (SdpRefused error)) (Some table) made said h sees = sees_still fresh past _ at old new (ap (λ s. s.ice) h.0.1.1) (ap (λ s. s.fingerprint) h.0.1.1) refl sees
 answer_sees fresh past at t a (Some token) (Some sdp) old new kept kept' (Refused (Dtls Fault)) (Some table) made said h sees = sees_broken fresh past _ at old new h.0.2.lite (here_breaks at true refl) sees
-answer_sees fresh past at t a (Some token) (Some sdp) old new kept kept' (Refused (Sctp error)) (Some table) made said h sees = sees_broken fresh past _ at old new h.0.3.lite (here_breaks at true refl) sees
+answer_sees fresh past at t a (Some token) (Some sdp) old new kept kept' (Refused (Sctp error)) (Some table) made said h sees = sees_broken fresh past _ at old new h.0.3.lite (here_breaks at (is_fault (Sctp error)) (fault_breaks error h.0.1)) sees
 answer_sees fresh past at t a (Some token) (Some sdp) old new kept kept' (Refused PeerAlloc) (Some table) made said h sees = sees_broken fresh past _ at old new h.0.1.lite (here_breaks at true refl) sees
 answer_sees fresh past at t a (Some token) (Some sdp) old new kept kept' (Refused (Dtls WouldBlock)) (Some table) made said h sees = absurd h.0
 answer_sees fresh past at t a (Some token) (Some sdp) old new kept kept' (Refused (Dtls DtlsAlloc)) (Some table) made said h sees = absurd h.0
@@ -165,6 +172,10 @@ acts_see fresh past old new (Poll at) outcome table made tells acts sees =
     sees_still fresh past (entry (Poll at) outcome table made) at (old.sides at) (new.sides at) (ap (λ s. s.ice) acts.peer) (ap (λ s. s.fingerprint) acts.peer) refl sees
 acts_see fresh past old new (Drain at) outcome table made tells acts sees =
     sees_still fresh past (entry (Drain at) outcome table made) at (old.sides at) (new.sides at) (ap (λ s. s.ice) acts.peer) (ap (λ s. s.fingerprint) acts.peer) refl sees
+acts_see fresh past old new (Write at channel binary bytes) outcome table made tells acts sees =
+    sees_still fresh past (entry (Write at channel binary bytes) outcome table made) at (old.sides at) (new.sides at) (ap (λ s. s.ice) acts.peer) (ap (λ s. s.fingerprint) acts.peer) refl sees
+acts_see fresh past old new (CloseChannel at channel) outcome table made tells acts sees =
+    sees_still fresh past (entry (CloseChannel at channel) outcome table made) at (old.sides at) (new.sides at) (ap (λ s. s.ice) acts.peer) (ap (λ s. s.fingerprint) acts.peer) refl sees
 acts_see fresh past old new (Close at) outcome table made tells acts sees =
     sees_still fresh past (entry (Close at) outcome table made) at (old.sides at) (new.sides at) (ap (λ s. s.ice) acts.peer) (ap (λ s. s.fingerprint) acts.peer) refl sees
 

@@ -9,24 +9,26 @@ use Rattle.rtc_peer_state.specs.declared.peer.Peer.{Peer}
 use Rattle.rtc_peer_state.specs.Meanings.{Meanings}
 use Rattle.rtc_polling.specs.declared.input.Input.TheVariants as given
 use Rattle.rtc_polling.specs.declared.polled_peer.PolledPeer.{PolledPeer}
+use Rattle.rtc_polling.specs.ChannelCalls.{open_stream_under}
 use Rattle.rtc_polling.specs.Closing.{ClosesPeer}
 use Rattle.rtc_polling.specs.Inputs.{HandlesInput}
 use Rattle.rtc_history.specs.declared.side.Side.{Side}
 use Rattle.rtc_history.specs.declared.op.Op.{Op}
 use Rattle.rtc_history.specs.declared.step.Step.{Step}
-use Rattle.rtc_history.specs.declared.step.Step.TheVariants.{Negotiate, AcceptOffer, AcceptAnswer, Time, Datagram, Poll, Drain, Close}
+use Rattle.rtc_history.specs.declared.step.Step.TheVariants.{Negotiate, AcceptOffer, AcceptAnswer, Time, Datagram, Poll, Drain, Write, CloseChannel, Close}
 use Rattle.rtc_history.specs.declared.poll_end.PollEnd.{PollEnd}
 use Rattle.rtc_history.specs.declared.poll_end.PollEnd.TheVariants.{Ended, Refused as EndRefused, NoRoom}
 use Rattle.rtc_history.specs.declared.sent_packet.SentPacket.{SentPacket}
 use Rattle.rtc_history.specs.declared.shown.Shown.{Shown}
 use Rattle.rtc_history.specs.declared.shown.Shown.TheVariants.{Timeout, Packet, Event}
 use Rattle.rtc_history.specs.declared.outcome.Outcome.{Outcome}
-use Rattle.rtc_history.specs.declared.outcome.Outcome.TheVariants.{Negotiated, Answered, Finished, Done, Polled, Refused, NoSuch, Alloc}
+use Rattle.rtc_history.specs.declared.outcome.Outcome.TheVariants.{Negotiated, Answered, Finished, Done, Wrote, Polled, Refused, NoSuch, Alloc}
 use Rattle.rtc_history.specs.declared.table.Table.{Table}
 use Rattle.rtc_history.specs.declared.kept.Kept.{Kept}
 use Rattle.rtc_history.specs.Past.{packets_in, packets_told}
 use Rattle.rtc_history.specs.PairState.{PairState, rtc_at, size_sent, kept_remote_sdp, held_token, remote_packet}
-use Rattle.rtc_history.specs.Performs.{HandlesRead, Negotiates, StepAcceptsOffer, StepAcceptsAnswer, StepCalls, StepTakesDatagram, PollsShown, PollsOnce, DrainsOn, DrainsPeer, StepPollsPeer, Performs, sent_packet}
+use Rattle.rtc_history.specs.CallReplies.{StepCalls, FindsNone, StepWrites, StepClosesChannel, ClosesOpenChannel}
+use Rattle.rtc_history.specs.Performs.{HandlesRead, Negotiates, StepAcceptsOffer, StepAcceptsAnswer, StepTakesDatagram, PollsShown, PollsOnce, DrainsOn, DrainsPeer, StepPollsPeer, Performs, sent_packet}
 use Rattle.rtc_history.specs.Sides.{side_of}
 
 module _ {I D S M E X T W N : Type 0} (m : Meanings I D S M E X T W N) where
@@ -66,6 +68,24 @@ module _ {I D S M E X T W N : Type 0} (m : Meanings I D S M E X T W N) where
   calls_quiet at call old Done (Some table) new h = refl
   calls_quiet at call old (Refused error) (Some table) new h = refl
   calls_quiet at call old outcome table new h = absurd h
+
+  none_quiet : (at : Side) (old : PolledPeer I D S M N) (outcome : Outcome E) (table : Option Table) (new : PolledPeer I D S M N) → FindsNone m old outcome table new → packets_told at outcome ≡ []
+  none_quiet at old Alloc None new h = refl
+  none_quiet at old NoSuch (Some table) new h = refl
+  none_quiet at old outcome table new h = absurd h
+
+  write_quiet : (at : Side) (stream : Option ℕ) (binary : Bool) (bytes : List ℕ) (old : PolledPeer I D S M N) (outcome : Outcome E) (table : Option Table) (new : PolledPeer I D S M N)
+      → StepWrites m stream binary bytes old outcome table new → packets_told at outcome ≡ []
+  write_quiet at None binary bytes old outcome table new h = none_quiet at old outcome table new h
+  write_quiet at (Some stream) binary bytes old Alloc None new h = refl
+  write_quiet at (Some stream) binary bytes old (Wrote taken) (Some table) new h = refl
+  write_quiet at (Some stream) binary bytes old (Refused error) (Some table) new h = refl
+  write_quiet at (Some stream) binary bytes old outcome table new h = absurd h
+
+  close_channel_quiet : (at : Side) (stream : Option ℕ) (id : ℕ) (old : PolledPeer I D S M N) (outcome : Outcome E) (table : Option Table) (new : PolledPeer I D S M N)
+      → StepClosesChannel m stream id old outcome table new → packets_told at outcome ≡ []
+  close_channel_quiet at None id old outcome table new h = none_quiet at old outcome table new h
+  close_channel_quiet at (Some stream) id old outcome table new h = calls_quiet at (ClosesOpenChannel m id) old outcome table new h
 
   hears_quiet : (at : Side) (stun : List ℕ → Bool) (found : Option Transmit) (now : ℕ) (old : PolledPeer I D S M N) (outcome : Outcome E) (table : Option Table) (new : PolledPeer I D S M N)
       → StepTakesDatagram m stun found now old outcome table new → packets_told at outcome ≡ []
@@ -152,6 +172,10 @@ module _ {I D S M E X T W N : Type 0} (m : Meanings I D S M E X T W N) where
   step_packets stun old (Drain at) outcome table new performs =
       polls_packets at (DrainsPeer m at (rtc_at at old)) (λ packets outputs end q packets'. drains_packets at (rtc_at at old) packets outputs end q packets') (rtc_at at old) old.packets outcome table (rtc_at at new)
       new.packets performs.acts.0
+  step_packets stun old (Write at channel binary bytes) outcome table new performs =
+      same_packets old.packets new.packets _ (write_quiet at (open_stream_under channel (rtc_at at old)) binary bytes (rtc_at at old) outcome table (rtc_at at new) performs.acts.0) performs.acts.2
+  step_packets stun old (CloseChannel at channel) outcome table new performs =
+      same_packets old.packets new.packets _ (close_channel_quiet at (open_stream_under channel (rtc_at at old)) channel (rtc_at at old) outcome table (rtc_at at new) performs.acts.0) performs.acts.2
   step_packets stun old (Close at) outcome table new performs = same_packets old.packets new.packets _ (calls_quiet at (ClosesPeer m) (rtc_at at old) outcome table (rtc_at at new) performs.acts.0) performs.acts.2
 
   -- What a pair keeps after a step is what was shown before it, and what the step shows.

@@ -24,10 +24,11 @@ use Rattle.rtc_peer_state.specs.PartMoves.{remote_limit}
 use Rattle.rtc_peer_state.specs.Calls.{raised}
 use Rattle.rtc_peer_state.specs.Meanings.{Meanings, PartsLaws}
 use Rattle.rtc_polling.specs.declared.polled_peer.PolledPeer.{PolledPeer}
+use Rattle.rtc_polling.specs.ChannelCalls.{open_stream_under}
 use Rattle.rtc_history.specs.declared.side.Side.{Side}
 use Rattle.rtc_history.specs.declared.op.Op.{Op}
 use Rattle.rtc_history.specs.declared.step.Step.{Step}
-use Rattle.rtc_history.specs.declared.step.Step.TheVariants.{Negotiate, AcceptOffer, AcceptAnswer, Time, Datagram, Poll, Drain, Close}
+use Rattle.rtc_history.specs.declared.step.Step.TheVariants.{Negotiate, AcceptOffer, AcceptAnswer, Time, Datagram, Poll, Drain, Write, CloseChannel, Close}
 use Rattle.rtc_history.specs.declared.outcome.Outcome.{Outcome}
 use Rattle.rtc_history.specs.declared.outcome.Outcome.TheVariants.{Negotiated, Answered, Finished, Refused, NoSuch, Alloc}
 use Rattle.rtc_history.specs.declared.table.Table.{Table}
@@ -42,6 +43,7 @@ use Rattle.rtc_history_laws.proofs.CountedFaults.{by_part, equal_below, start_la
 use Rattle.rtc_history_laws.proofs.MediaFaults.{prepared_later, updated_later, stopped_later}
 use Rattle.rtc_history_laws.proofs.OpParts.{counting_parts, ops_counting, makes_counting}
 use Rattle.rtc_history_laws.proofs.GrowingCounts.{Counts}
+use Rattle.rtc_history_laws.proofs.ChannelFaults.{write_goes, close_channel_goes}
 use Rattle.rtc_history_laws.proofs.RestSides.{time_goes, shut_goes, datagram_goes, once_goes, drains_go, polls_go}
 
 module _ {I D S M E X T W N : Type 0} (m : Meanings I D S M E X T W N) (laws : PartsLaws m) where
@@ -252,4 +254,8 @@ module _ {I D S M E X T W N : Type 0} (m : Meanings I D S M E X T W N) (laws : P
       rest_side old new outcome (polls_go m laws (PollsOnce m at old) old (λ kept outputs end q kept'. once_goes m laws at old kept outputs end q kept') packets outcome table new packets' h.0)
   acts_side stun (Drain at) old sdps packets outcome table new sdps' packets' h =
       rest_side old new outcome (polls_go m laws (DrainsPeer m at old) old (λ kept outputs end q kept'. drains_go m laws at old kept outputs end q kept') packets outcome table new packets' h.0)
+  acts_side stun (Write at channel binary bytes) old sdps packets outcome table new sdps' packets' h =
+      rest_side old new outcome (write_goes m laws (open_stream_under channel old) binary bytes old outcome table new h.0)
+  acts_side stun (CloseChannel at channel) old sdps packets outcome table new sdps' packets' h =
+      rest_side old new outcome (close_channel_goes m laws (open_stream_under channel old) channel old outcome table new h.0)
   acts_side stun (Close at) old sdps packets outcome table new sdps' packets' h = rest_side old new outcome (shut_goes m laws old outcome table new h.0)

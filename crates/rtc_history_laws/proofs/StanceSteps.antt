@@ -22,7 +22,7 @@ use Rattle.rtc_history.specs.declared.side.Side.{Side}
 use Rattle.rtc_history.specs.declared.op.Op.{Op}
 use Rattle.rtc_history.specs.declared.op.Op.TheVariants.{AddMedia, SetDirection, StopMedia, AddChannel, IceRestart}
 use Rattle.rtc_history.specs.declared.step.Step.{Step}
-use Rattle.rtc_history.specs.declared.step.Step.TheVariants.{Negotiate, AcceptOffer, AcceptAnswer, Time, Datagram, Poll, Drain, Close}
+use Rattle.rtc_history.specs.declared.step.Step.TheVariants.{Negotiate, AcceptOffer, AcceptAnswer, Time, Datagram, Poll, Drain, Write, CloseChannel, Close}
 use Rattle.rtc_history.specs.declared.op_answer.OpAnswer.{OpAnswer}
 use Rattle.rtc_history.specs.declared.op_answer.OpAnswer.TheVariants.{Mid, Changed, NoLine, Channel, Creds}
 use Rattle.rtc_history.specs.declared.op_answer.OpAnswer.TheVariants.{BadChannel as NoChannel, Alloc as OpAlloc}
@@ -36,7 +36,7 @@ use Rattle.rtc_history.specs.Memory.{answers_lack}
 use Rattle.rtc_history.specs.Sides.{side_of, other_side}
 use Rattle.rtc_history.specs.Sizes.{step_size}
 use Rattle.rtc_history.specs.Past.{Entry, MadeSdp, numbers_in}
-use Rattle.rtc_history.specs.Sound.{is_handled, is_heard, is_polled}
+use Rattle.rtc_history.specs.Sound.{is_handled, is_heard, is_polled, is_written, is_channel_closed}
 use Rattle.rtc_history.specs.Views.{Stances}
 use Rattle.rtc_history.specs.PairState.{PairState, stances_of, kept_remote_sdp, held_token, spent}
 use Rattle.rtc_history.specs.Performs.{CallsLine, kept_offer, kept_answer, wanted, sdps_behind}
@@ -148,7 +148,7 @@ abbrev pub RestTold : {E : Type 0} → (Outcome E → Bool) → Stance → Outco
 RestTold may old outcome None new = (outcome ≡ Alloc) × (new ≡ old)
 RestTold may old outcome (Some table) new = (may outcome ≡ true) × StanceShows table new
 
--- a step that negotiates nothing, an input, polls or a close: it changes nothing but channels, and tells the numbers that it gives
+-- a step that negotiates nothing, an input, polls, a write or a close: it changes nothing but channels, and tells the numbers that it gives
 pub record StanceRests {E : Type 0} (may : Outcome E → Bool) (old : Stance) (sdps : List Kept) (outcome : Outcome E) (table : Option Table)
     (new : Stance) (sdps' : List Kept) : Type 0 where
   pub peer : new ≡ record old { channels = new.channels; rows = new.rows }
@@ -166,6 +166,8 @@ StanceActs (Time at now) old sdps outcome table new sdps' = StanceRests is_handl
 StanceActs (Datagram at packet now) old sdps outcome table new sdps' = StanceRests is_heard old sdps outcome table new sdps'
 StanceActs (Poll at) old sdps outcome table new sdps' = StanceRests is_polled old sdps outcome table new sdps'
 StanceActs (Drain at) old sdps outcome table new sdps' = StanceRests is_polled old sdps outcome table new sdps'
+StanceActs (Write at channel binary bytes) old sdps outcome table new sdps' = StanceRests is_written old sdps outcome table new sdps'
+StanceActs (CloseChannel at channel) old sdps outcome table new sdps' = StanceRests is_channel_closed old sdps outcome table new sdps'
 StanceActs (Close at) old sdps outcome table new sdps' = StanceRests is_handled old sdps outcome table new sdps'
 
 pub record StancePerforms {E : Type 0} (old : PairStance) (step : Step) (outcome : Outcome E) (table : Option Table) (new : PairStance) : Type 0 where

@@ -36,10 +36,11 @@ use Rattle.rtc_history.specs.declared.sent_packet.SentPacket.{SentPacket}
 use Rattle.rtc_history.specs.declared.shown.Shown.{Shown}
 use Rattle.rtc_history.specs.declared.shown.Shown.TheVariants.{Timeout, Packet, Event}
 use Rattle.rtc_history.specs.declared.outcome.Outcome.{Outcome}
-use Rattle.rtc_history.specs.declared.outcome.Outcome.TheVariants.{Negotiated, Answered, Finished, Done, Polled, Refused, NoSuch, Alloc}
+use Rattle.rtc_history.specs.declared.outcome.Outcome.TheVariants.{Negotiated, Answered, Finished, Done, Wrote, Polled, Refused, NoSuch, Alloc}
 use Rattle.rtc_history.specs.declared.table.Table.{Table}
 use Rattle.rtc_history.specs.declared.kept.Kept.{Kept}
-use Rattle.rtc_history.specs.Performs.{Shows, StepCalls, HandlesRead, StepTakesDatagram, PollsShown, PollsOnce, DrainsOn, DrainsPeer, StepPollsPeer}
+use Rattle.rtc_history.specs.CallReplies.{Shows, StepCalls}
+use Rattle.rtc_history.specs.Performs.{HandlesRead, StepTakesDatagram, PollsShown, PollsOnce, DrainsOn, DrainsPeer, StepPollsPeer}
 use Rattle.rtc_history.specs.Past.{number_opened, numbers_opened, numbers_in}
 use Rattle.rtc_history.specs.Sound.{is_handled, is_heard, is_polled}
 use Rattle.rtc_history_laws.proofs.NumberedChannels.{AreNumbered, same_numbers, numbered_on}
@@ -50,6 +51,7 @@ handled_heard (Negotiated answers made) is = is
 handled_heard (Answered k) is = is
 handled_heard Finished is = is
 handled_heard Done is = refl
+handled_heard (Wrote taken) is = is
 handled_heard (Polled outputs end) is = is
 handled_heard (Refused error) is = refl
 handled_heard NoSuch is = refl
@@ -103,7 +105,7 @@ module _ {I D S M E X T W N : Type 0} (m : Meanings I D S M E X T W N) (laws : P
     pub peer : stance_of m q.core ≡ record (stance_of m p.core) { channels = q.core.channels; rows = channel_rows m.association q.core.sctp q.core.channels }
     pub numbered : AreNumbered numbers p.core.channels q.core.channels
 
-  moves_none : (p q : PolledPeer I D S M N) → q ≡ p → Moves [] p q
+  pub moves_none : (p q : PolledPeer I D S M N) → q ≡ p → Moves [] p q
   moves_none p q same = rw same (record { peer = refl; numbered = same_numbers p.core.channels p.core.channels refl })
 
   moves_on : (numbers more : List ℕ) (p between q : PolledPeer I D S M N) → Moves numbers p between → Moves more between q → Moves (numbers ++ more) p q
@@ -130,11 +132,11 @@ module _ {I D S M E X T W N : Type 0} (m : Meanings I D S M E X T W N) (laws : P
     numbered = numbered_by None p.core.channels q.core.channels (close_numbers m p r q h);
   }
 
-  rests_by : (may : Outcome E → Bool) (outcome : Outcome E) (table : Option Table) (old new : PolledPeer I D S M N) (sdps sdps' : List Kept) → Moves (numbers_in outcome) old new → sdps' ≡ sdps
+  pub rests_by : (may : Outcome E → Bool) (outcome : Outcome E) (table : Option Table) (old new : PolledPeer I D S M N) (sdps sdps' : List Kept) → Moves (numbers_in outcome) old new → sdps' ≡ sdps
       → RestTold may (stance_of m old.core) outcome table (stance_of m new.core) → StanceRests may (stance_of m old.core) sdps outcome table (stance_of m new.core) sdps'
   rests_by may outcome table old new sdps sdps' moves kept told = record { peer = moves.peer; sdps_kept = kept; numbered = moves.numbered; told = told }
 
-  same_stance : (old new : PolledPeer I D S M N) → new ≡ old → stance_of m new.core ≡ stance_of m old.core
+  pub same_stance : (old new : PolledPeer I D S M N) → new ≡ old → stance_of m new.core ≡ stance_of m old.core
   same_stance old new same = ap (λ (p : PolledPeer I D S M N). stance_of m p.core) same
 
   -- an input or a close

@@ -19,14 +19,16 @@ use Rattle.rtc_peer_state.proofs.StanceLemmas.{
 use Rattle.rtc_peer_state.proofs.StanceAcceptances.{accepts_offer_stands, accepts_answer_stands}
 use Rattle.rtc_polling.specs.declared.input.Input.TheVariants as given
 use Rattle.rtc_polling.specs.declared.polled_peer.PolledPeer.{PolledPeer}
+use Rattle.rtc_polling.specs.ChannelCalls.{open_stream_under}
 use Rattle.rtc_polling.specs.Closing.{ClosesPeer}
 use Rattle.rtc_polling.specs.Inputs.{HandlesInput}
+use Rattle.rtc_history_laws.proofs.StandingChannels.{write_rest, close_channel_rest}
 use Rattle.rtc_history_laws.proofs.StandingPolls.{shows_stands, calls_rest, hears_rest, polls_rest, input_moves, close_moves, once_moves, drains_moves}
 use Rattle.rtc_history.specs.declared.side.Side.{Side}
 use Rattle.rtc_history.specs.declared.op.Op.{Op}
 use Rattle.rtc_history.specs.declared.op.Op.TheVariants.{AddMedia, SetDirection, StopMedia, AddChannel, IceRestart}
 use Rattle.rtc_history.specs.declared.step.Step.{Step}
-use Rattle.rtc_history.specs.declared.step.Step.TheVariants.{Negotiate, AcceptOffer, AcceptAnswer, Time, Datagram, Poll, Drain, Close}
+use Rattle.rtc_history.specs.declared.step.Step.TheVariants.{Negotiate, AcceptOffer, AcceptAnswer, Time, Datagram, Poll, Drain, Write, CloseChannel, Close}
 use Rattle.rtc_history.specs.declared.op_answer.OpAnswer.{OpAnswer}
 use Rattle.rtc_history.specs.declared.op_answer.OpAnswer.TheVariants.{Mid, Changed, NoLine, Channel, Creds}
 use Rattle.rtc_history.specs.declared.op_answer.OpAnswer.TheVariants.{BadChannel as NoChannel, Alloc as OpAlloc}
@@ -136,6 +138,10 @@ module _ {I D S M E X T W N : Type 0} (m : Meanings I D S M E X T W N) (laws : P
       polls_rest m laws (PollsOnce m at old) old (λ before_it outputs end q after. once_moves m laws at old before_it outputs end q after) packets outcome table new packets' sdps sdps' h.0 h.1
   acts_stand stun (Drain at) old sdps packets outcome table new sdps' packets' h =
       polls_rest m laws (DrainsPeer m at old) old (λ before_it outputs end q after. drains_moves m laws at old before_it outputs end q after) packets outcome table new packets' sdps sdps' h.0 h.1
+  acts_stand stun (Write at channel binary bytes) old sdps packets outcome table new sdps' packets' h =
+      write_rest m laws (open_stream_under channel old) binary bytes old outcome table new sdps sdps' h.0 h.1
+  acts_stand stun (CloseChannel at channel) old sdps packets outcome table new sdps' packets' h =
+      close_channel_rest m laws (open_stream_under channel old) channel old outcome table new sdps sdps' h.0 h.1
   acts_stand stun (Close at) old sdps packets outcome table new sdps' packets' h =
       calls_rest m laws (ClosesPeer m) (close_moves m laws) old outcome table new sdps sdps' h.0 h.1
 

@@ -1,6 +1,6 @@
--- What calls on streams and channels do to the count of faults of their association: it never falls, and shutting down tells a fault only
--- where it rose.
-use Rattle.std.proofs.Common.{◌≡◌, ◌≤◌, ◌||◌, ℕ, Bool, true, false, not, List, [], ◌∷◌, Option, Some, None, Result, Ok, Err, refl, ap, arith}
+-- What calls on streams and channels do to the count of faults of their association: it never falls, and writing and shutting down tell a
+-- fault only where it rose.
+use Rattle.std.proofs.Common.{◌≡◌, ◌∙◌, ◌≤◌, ◌||◌, ℕ, Bool, true, false, not, nat_lt, List, [], ◌∷◌, length, Option, Some, None, Result, Ok, Err, refl, sym, ap, arith}
 use Rattle.std.proofs.lemmas.Bool.{or_parts}
 use Rattle.std.specs.declared.alloc.AllocError.{AllocError}
 use Rattle.rtc_io.specs.Faults.{Rose}
@@ -9,21 +9,47 @@ use Rattle.rtc_wire.specs.declared.channel_config.ChannelConfig.{ChannelConfig}
 use Rattle.rtc_association.specs.AssociationActs.{AssociationAct, Moved}
 use Rattle.rtc_association.specs.AssociationLaws.{AssociationLaws}
 use Rattle.rtc_association.specs.AssociationMeaning.{AssociationMeaning}
-use Rattle.rtc_association.specs.AssociationNeeds.{Answered, closing_need}
+use Rattle.rtc_association.specs.declared.assoc_error.AssocError.{AssocError}
+use Rattle.rtc_association.specs.declared.assoc_error.AssocError.TheVariants as assoc
+use Rattle.rtc_association.specs.AssociationNeeds.{Answered, closing_need, need}
 use Rattle.rtc_sctp_entries.specs.declared.sctp_event.SctpEvent.{SctpEvent}
 use Rattle.rtc_sctp.specs.declared.proto_error.ProtoError.TheVariants as proto
 use Rattle.rtc_sctp.specs.declared.sctp_error.SctpError.{SctpError}
 use Rattle.rtc_sctp.specs.declared.sctp_error.SctpError.TheVariants as sctp
-use Rattle.rtc_sctp.specs.Calls.{Shuts, ShutBy, TakesInput, is_ended}
+use Rattle.rtc_sctp.specs.Calls.{Shuts, ShutBy, TakesInput, WritesStream, WrittenIf, can_write, is_ended, is_nil, write_answer, written_ppi}
 use Rattle.rtc_sctp.specs.Polls.{PollsStreams}
 use Rattle.rtc_sctp.specs.Streams.{SctpStreams}
 use Rattle.rtc_sctp_laws.specs.StreamActs.{CallDid, given_packet}
-use Rattle.rtc_sctp_laws.proofs.CallActs.{input_did, opens_did, shuts_did, timeout_did}
+use Rattle.rtc_sctp_laws.proofs.CallActs.{closes_did, input_did, opens_did, shuts_did, timeout_did, writes_did}
 use Rattle.rtc_sctp_laws.proofs.PollActs.{poll_did}
 use Rattle.rtc_channels.specs.Channels.{Channel, Channels}
-use Rattle.rtc_channels.specs.Openings.{OpensChannel, OpensAll, Following, Progresses, MeetsMoment, is_progress_due}
+use Rattle.rtc_channels.specs.Openings.{ClosesChannel, OpensChannel, OpensAll, Following, Progresses, MeetsMoment, is_progress_due}
 use Rattle.rtc_polling.specs.Inputs.{StreamsTimed, ChannelsTimed}
+use Rattle.rtc_history.specs.Memory.{is_sctp_fault}
 use Rattle.rtc_history_laws.proofs.CountedFaults.{equal_below, answered_fault}
+
+-- whether the answer of a write tells that the association failed
+abbrev does_write_fault : Result ℕ SctpError → Bool
+does_write_fault (Ok count) = false
+does_write_fault (Err cause) = is_sctp_fault cause
+
+-- A write that tells a fault comes of a fault of the association, since the needs of a write are answered by other errors.
+refused_write : (gone long ends : Bool) (before after id len max : ℕ) (r : Result ℕ AssocError) → Answered (need gone assoc.NoStream (need long assoc.TooLong (need ends assoc.Closing None))) before after r
+    → does_write_fault (write_answer id len max r) ≡ true → Rose before after
+refused_write gone long ends before after id len max (Ok n) h told = absurd (cc)
+refused_write gone long ends before after id len max (Err assoc.NoStream) h told = absurd (cc)
+refused_write gone long ends before after id len max (Err assoc.TooLong) h told = absurd (cc)
+refused_write gone long ends before after id len max (Err assoc.Closing) h told = absurd (cc)
+refused_write gone long ends before after id len max (Err assoc.Alloc) h told = absurd (cc)
+refused_write gone long ends before after id len max (Err assoc.Fault) h told = h
+refused_write true long ends before after id len max (Err assoc.StreamExists) h told = absurd (let e = h.0 in cc)
+refused_write false true ends before after id len max (Err assoc.StreamExists) h told = absurd (let e = h.0 in cc)
+refused_write false false true before after id len max (Err assoc.StreamExists) h told = absurd (let e = h.0 in cc)
+refused_write false false false before after id len max (Err assoc.StreamExists) h told = absurd (let e = h.0 in cc)
+refused_write true long ends before after id len max (Err assoc.ResetPending) h told = absurd (let e = h.0 in cc)
+refused_write false true ends before after id len max (Err assoc.ResetPending) h told = absurd (let e = h.0 in cc)
+refused_write false false true before after id len max (Err assoc.ResetPending) h told = absurd (let e = h.0 in cc)
+refused_write false false false before after id len max (Err assoc.ResetPending) h told = absurd (let e = h.0 in cc)
 
 module _ {S : Type 0} (m : AssociationMeaning S) (laws : AssociationLaws m) where
   -- acts in order
@@ -96,6 +122,30 @@ module _ {S : Type 0} (m : AssociationMeaning S) (laws : AssociationLaws m) wher
   pub channels_timed_later : (held : Channels) (p : SctpStreams S) (r : Result (Unit {0}) AllocError) (held' : Channels) (q : SctpStreams S)
       → ChannelsTimed m held p r held' q → StreamsLater p q
   channels_timed_later held p r held' q h = meets_later (is_progress_due m held p) held p both r held' q h.0 h.1
+
+  -- ---- writes and closes
+
+  -- a write to a stream
+  pub writes_later : (id : ℕ) (binary : Bool) (bytes : List ℕ) (p : SctpStreams S) (r : Result ℕ SctpError) (q : SctpStreams S) → WritesStream m id binary bytes p r q → StreamsLater p q
+  writes_later id binary bytes p r q h =
+      let call = writes_did m id binary bytes p r q h in moved_later p.association call.did.acts q.association call.did.went
+
+  -- a close of the stream of a channel, if it has one
+  pub closes_later : (stream : Option ℕ) (p : SctpStreams S) (r : Result (Unit {0}) AllocError) (q : SctpStreams S) → ClosesChannel m stream p r q → StreamsLater p q
+  closes_later None p r q h = streams_self p q h.1
+  closes_later (Some stream) p r q h = call_later [] p q (closes_did m stream p r q h)
+
+  write_fault : (can : Bool) (id : ℕ) (binary : Bool) (bytes : List ℕ) (p : SctpStreams S) (cause : SctpError) (q : SctpStreams S) → WrittenIf m can id binary bytes p (Err cause) q
+      → is_sctp_fault cause ≡ true → Rose (m.faults p.association) (m.faults q.association)
+  write_fault false id binary bytes p cause q h told = absurd (let e : is_sctp_fault cause ≡ false = ap does_write_fault h.0 in cc)
+  write_fault true id binary bytes p cause q h told =
+      refused_write (not (m.has_stream p.association id) || m.closed_here p.association id) (nat_lt (m.max_send p.association) (length bytes)) (m.closing p.association || m.closed p.association)
+      (m.faults p.association) (m.faults q.association) id (length bytes) p.remote_max h.0
+      (laws.write_answer p.association q.association id (written_ppi binary (is_nil bytes)) bytes h.0 h.1) (ap does_write_fault (sym h.2) ∙ told)
+
+  pub writes_fault : (id : ℕ) (binary : Bool) (bytes : List ℕ) (p : SctpStreams S) (cause : SctpError) (q : SctpStreams S) → WritesStream m id binary bytes p (Err cause) q
+      → is_sctp_fault cause ≡ true → Rose (m.faults p.association) (m.faults q.association)
+  writes_fault id binary bytes p cause q h told = write_fault (can_write m id p) id binary bytes p cause q h told
 
   -- ---- shutting down
 

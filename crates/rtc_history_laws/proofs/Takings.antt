@@ -3,7 +3,7 @@ use Rattle.std.proofs.Common.{ℕ, true, false, List, length, Some}
 use Rattle.rtc_history.specs.declared.side.Side.{Side}
 use Rattle.rtc_history.specs.declared.step.Step.TheVariants.{AcceptOffer, AcceptAnswer}
 use Rattle.rtc_history.specs.declared.outcome.Outcome.{Outcome}
-use Rattle.rtc_history.specs.declared.outcome.Outcome.TheVariants.{Negotiated, Answered, Finished, Done, Polled, Refused, NoSuch, Alloc}
+use Rattle.rtc_history.specs.declared.outcome.Outcome.TheVariants.{Negotiated, Answered, Finished, Done, Wrote, Polled, Refused, NoSuch, Alloc}
 use Rattle.rtc_history.specs.declared.table.Table.{Table}
 use Rattle.rtc_history.specs.Past.{Entry, MadeSdp, sdps, remote_sdp, holds_token, is_right}
 use Rattle.rtc_history.specs.Sound.{RepliesToOffer, RepliesToAnswer, IsSound, asked_in}
@@ -17,6 +17,7 @@ offer_taking fresh between past at k (Negotiated answers what) table made sound 
 offer_taking fresh between past at k (Answered n) table made sound = sound.0
 offer_taking fresh between past at k Finished table made sound = sound.0
 offer_taking fresh between past at k Done table made sound = sound.0
+offer_taking fresh between past at k (Wrote taken) table made sound = sound.0
 offer_taking fresh between past at k (Polled outputs end) table made sound = sound.0
 offer_taking fresh between past at k (Refused error) table made sound = sound.0
 offer_taking fresh between past at k NoSuch table made sound = sound.0
@@ -28,6 +29,7 @@ answer_taking fresh between past at t a (Negotiated answers what) table made sou
 answer_taking fresh between past at t a (Answered k) table made sound = sound.0
 answer_taking fresh between past at t a Finished table made sound = sound.0
 answer_taking fresh between past at t a Done table made sound = sound.0
+answer_taking fresh between past at t a (Wrote taken) table made sound = sound.0
 answer_taking fresh between past at t a (Polled outputs end) table made sound = sound.0
 answer_taking fresh between past at t a (Refused error) table made sound = sound.0
 answer_taking fresh between past at t a NoSuch table made sound = sound.0

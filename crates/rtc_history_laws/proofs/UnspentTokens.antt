@@ -7,7 +7,7 @@ use Rattle.rtc_sdp_values.specs.declared.line_row.LineRow.{LineRow}
 use Rattle.rtc_sdp_values.specs.declared.sdp.Sdp.{Sdp}
 use Rattle.rtc_change.specs.Held.{Held, Asked}
 use Rattle.rtc_history.specs.declared.step.Step.{Step}
-use Rattle.rtc_history.specs.declared.step.Step.TheVariants.{Negotiate, AcceptOffer, AcceptAnswer, Time, Datagram, Poll, Drain, Close}
+use Rattle.rtc_history.specs.declared.step.Step.TheVariants.{Negotiate, AcceptOffer, AcceptAnswer, Time, Datagram, Poll, Drain, Write, CloseChannel, Close}
 use Rattle.rtc_history.specs.declared.outcome.Outcome.{Outcome}
 use Rattle.rtc_history.specs.declared.outcome.Outcome.TheVariants.{NoSuch, Alloc}
 use Rattle.rtc_history.specs.declared.table.Table.{Table}
@@ -30,6 +30,8 @@ unspent_step fresh between past (Time at now) outcome table made n sound most = 
 unspent_step fresh between past (Datagram at packet now) outcome table made n sound most = refl
 unspent_step fresh between past (Poll at) outcome table made n sound most = refl
 unspent_step fresh between past (Drain at) outcome table made n sound most = refl
+unspent_step fresh between past (Write at channel binary bytes) outcome table made n sound most = refl
+unspent_step fresh between past (CloseChannel at channel) outcome table made n sound most = refl
 unspent_step fresh between past (Close at) outcome table made n sound most = refl
 unspent_step fresh between past (AcceptAnswer at t a) Alloc None made n sound most = and_false (t == n)
   where

@@ -4,7 +4,7 @@ ghost use Rattle.std.specs.Borrow.{RestsIfNone, sem};
 ghost use Rattle.rtc_peer.specs.contracts.rtc.Rtc.{the_row};
 ghost use Rattle.rtc_sctp_entries.specs.Entries.{stream_config};
 ghost use Rattle.rtc_peer_state.specs.Meanings.{meanings};
-ghost use Rattle.rtc_polling.specs.ChannelCalls.{AsksThreshold, WritesChannel, bytes_buffered, open_stream_under};
+ghost use Rattle.rtc_polling.specs.ChannelCalls.{AsksThreshold, ClosesDataChannel, WritesChannel, bytes_buffered, open_stream_under};
 ghost use Rattle.rtc_polling.specs.ChannelCalls.{config_under, stream_under};
 
 use crate::{Channel, Rtc};
@@ -15,6 +15,7 @@ use rtc_ids::Ids;
 use rtc_media::MediaSession;
 use rtc_peer_state::RtcError;
 use rtc_wire::{ChannelConfig, ChannelId};
+use std::alloc::AllocError;
 
 impl<I: IceAgent, D: DtlsInstance, S: Association, M: MediaSession, N: Ids> Rtc<I, D, S, M, N> {
     /// A data channel that is open. There is none where the peer is closing or closed, where the channel has no stream, and
@@ -42,6 +43,14 @@ impl<I: IceAgent, D: DtlsInstance, S: Association, M: MediaSession, N: Ids> Rtc<
             (λ config. config_under (stream_under id self.now.core.channels) self.now.core.sctp ≡ Some config.now) }
     {
         self.polled.channel_config(id)
+    }
+
+    /// Closes a data channel: its stream is reset, if it has one (RFC 8831, section 6.7). Nothing happens where there is no such
+    /// channel, or it has no stream yet. Its row goes with the poll that answers `ChannelClose`.
+    pub fn close_data_channel(&mut self, id: ChannelId) -> Result<(), AllocError>
+        ensures { ClosesDataChannel (meanings I.ice D.dtls S.association M.media N.ids) id self.old result self.new }
+    {
+        self.polled.close_data_channel(id)
     }
 
     pub(crate) fn write_channel(

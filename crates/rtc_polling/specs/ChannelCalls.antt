@@ -1,6 +1,7 @@
 -- What callers read of channels, and what they do with one that is open.
 use Rattle.std.specs.Prelude.{ℕ, ◌≡◌, ◌-◌, if◌then◌else◌, nat_lt, Bool, true, false, List, length, map}
 use Rattle.std.specs.Prelude.{Option, Some, None, option_and_then, Result, Ok, Err}
+use Rattle.std.specs.declared.alloc.AllocError.{AllocError}
 use Rattle.rtc_wire.specs.declared.channel_config.ChannelConfig.{ChannelConfig}
 use Rattle.rtc_sctp_entries.specs.Entries.{entry_place, stream_config}
 use Rattle.rtc_sctp.specs.declared.sctp_error.SctpError.{SctpError}
@@ -8,6 +9,7 @@ use Rattle.rtc_sctp.specs.Streams.{SctpStreams}
 use Rattle.rtc_sctp.specs.Calls.{WritesStream, buffered_sum, is_open_stream}
 use Rattle.rtc_sctp.specs.StreamCalls.{SetsThreshold}
 use Rattle.rtc_channels.specs.Channels.{Channels, numbered_stream, stream_of_channel}
+use Rattle.rtc_channels.specs.Openings.{ClosesChannel}
 use Rattle.rtc_peer_state.specs.declared.phase.Phase.{Phase}
 use Rattle.rtc_peer_state.specs.declared.phase.Phase.TheVariants.{Alive, Closing, Closed}
 use Rattle.rtc_peer_state.specs.declared.rtc_error.RtcError.{RtcError}
@@ -81,3 +83,8 @@ module _ {I D S M E X T W N : Type 0} (m : Meanings I D S M E X T W N) where
   abbrev pub WritesChannel : (stream : ℕ) → (binary : Bool) → List ℕ → PolledPeer I D S M N → Result Bool RtcError → PolledPeer I D S M N
       → Type 0
   WritesChannel stream binary bytes p r q = WritesIf (nat_lt (bytes_available p) (length bytes)) stream binary bytes p r q
+
+  -- A channel is closed: its stream is, if it has one. The channel keeps its row until a poll tells that it is closed.
+  abbrev pub ClosesDataChannel : (id : ℕ) → PolledPeer I D S M N → Result (Unit {0}) AllocError → PolledPeer I D S M N → Type 0
+  ClosesDataChannel id p r q =
+      ClosesChannel m.association (stream_under id p.core.channels) p.core.sctp r q.core.sctp × (q ≡ with_sctp q.core.sctp p)

@@ -2,7 +2,7 @@
 ghost use Rattle.std.specs.Prelude.{◌≡◌, None, Some, MatchOption, if◌then◌else◌, option_and_then};
 ghost use Rattle.rtc_peer_state.specs.Meanings.{meanings};
 ghost use Rattle.rtc_polling.specs.ChannelCalls.{is_phase_open, stream_under, if_open, open_stream_under, config_under};
-ghost use Rattle.rtc_polling.specs.ChannelCalls.{AsksThreshold, WritesChannel, write_taken as WriteTaken};
+ghost use Rattle.rtc_polling.specs.ChannelCalls.{AsksThreshold, ClosesDataChannel, WritesChannel, write_taken as WriteTaken};
 
 use crate::PolledPeer;
 use rtc_association::Association;
@@ -13,6 +13,7 @@ use rtc_media::MediaSession;
 use rtc_peer_state::{Phase, RtcError};
 use rtc_sctp::{RtcSctp, SctpError};
 use rtc_wire::{ChannelConfig, ChannelId};
+use std::alloc::AllocError;
 
 fn is_open_phase(phase: Phase) -> bool
     ensures { result ≡ is_phase_open phase }
@@ -90,5 +91,13 @@ impl<I: IceAgent, D: DtlsInstance, S: Association, M: MediaSession, N: Ids> Poll
         if self.core.sctp.is_open(stream) {
             self.core.sctp.set_buffered_amount_low_threshold(stream, n);
         }
+    }
+
+    /// Closes a channel: its stream is reset, if it has one (RFC 8831, section 6.7). The channel keeps its row until a poll
+    /// tells that it is closed.
+    pub fn close_data_channel(&mut self, id: ChannelId) -> Result<(), AllocError>
+        ensures { ClosesDataChannel (meanings I.ice D.dtls S.association M.media N.ids) id self.old result self.new }
+    {
+        self.core.channels.close_channel(id, &mut self.core.sctp)
     }
 }

@@ -1,6 +1,6 @@
 -- A call that answers nothing but whether it is refused, as a step replies to it.
 use Rattle.std.proofs.Common.{◌≡◌, Option, Some, Result, Ok, Err, refl}
-use Rattle.rtc_history.specs.Performs.{StepCalls}
+use Rattle.rtc_history.specs.CallReplies.{StepCalls}
 use Rattle.rtc_history.specs.declared.outcome.Outcome.{Outcome}
 use Rattle.rtc_history.specs.declared.table.Table.{Table}
 use Rattle.rtc_peer_state.specs.declared.rtc_error.RtcError.{RtcError}

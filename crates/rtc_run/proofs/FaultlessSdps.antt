@@ -12,7 +12,7 @@ use Rattle.rtc_dtls.specs.declared.dtls_error.DtlsError.TheVariants.{WouldBlock,
 use Rattle.rtc_history.specs.declared.side.Side.{Side}
 use Rattle.rtc_history.specs.declared.step.Step.TheVariants.{AcceptOffer, AcceptAnswer}
 use Rattle.rtc_history.specs.declared.outcome.Outcome.{Outcome}
-use Rattle.rtc_history.specs.declared.outcome.Outcome.TheVariants.{Negotiated, Answered, Finished, Done, Polled, Refused, NoSuch, Alloc}
+use Rattle.rtc_history.specs.declared.outcome.Outcome.TheVariants.{Negotiated, Answered, Finished, Done, Wrote, Polled, Refused, NoSuch, Alloc}
 use Rattle.rtc_history.specs.declared.table.Table.{Table}
 use Rattle.rtc_history.specs.Past.{Entry, MadeSdp, sdps, remote_sdp, holds_token, is_right}
 use Rattle.rtc_history.specs.Sound.{IsSound, RepliesToOffer, RepliesToAnswer, asked_in}
@@ -32,7 +32,7 @@ offer_passes sdp view next (Refused (SdpRefused error)) after replies passes = n
 offer_passes sdp view next (Refused (Dtls Fault)) after replies passes = refl
 offer_passes sdp view next (Refused (Dtls WouldBlock)) after replies passes = absurd replies
 offer_passes sdp view next (Refused (Dtls DtlsAlloc)) after replies passes = absurd replies
-offer_passes sdp view next (Refused (Sctp error)) after replies passes = refl
+offer_passes sdp view next (Refused (Sctp error)) after replies passes = rw replies.0 refl
 offer_passes sdp view next (Refused ChangesOutOfOrder) after replies passes = absurd replies
 offer_passes sdp view next (Refused (Net cause)) after replies passes = absurd replies
 offer_passes sdp view next (Refused (MediaFailed cause)) after replies passes = absurd replies
@@ -41,6 +41,7 @@ offer_passes sdp view next (Refused PeerAlloc) after replies passes = refl
 offer_passes sdp view next (Negotiated answers made) after replies passes = absurd replies
 offer_passes sdp view next Finished after replies passes = absurd replies
 offer_passes sdp view next Done after replies passes = absurd replies
+offer_passes sdp view next (Wrote taken) after replies passes = absurd replies
 offer_passes sdp view next (Polled outputs end) after replies passes = absurd replies
 offer_passes sdp view next NoSuch after replies passes = absurd replies
 offer_passes sdp view next Alloc after replies passes = absurd replies
@@ -57,6 +58,7 @@ faultless_offers fresh past between at k (Refused error) (Some table) made sound
 faultless_offers fresh past between at k (Negotiated answers what) (Some table) made sound faultless = offer_taken fresh past between at k (Negotiated answers what) table faultless sound.0
 faultless_offers fresh past between at k Finished (Some table) made sound faultless = refl
 faultless_offers fresh past between at k Done (Some table) made sound faultless = refl
+faultless_offers fresh past between at k (Wrote taken) (Some table) made sound faultless = refl
 faultless_offers fresh past between at k (Polled outputs end) (Some table) made sound faultless = refl
 faultless_offers fresh past between at k NoSuch (Some table) made sound faultless = offer_taken fresh past between at k NoSuch table faultless sound.0
 faultless_offers fresh past between at k Alloc table made sound faultless = refl
@@ -70,7 +72,7 @@ answer_passes asked sdp view (Refused (SdpRefused error)) after replies passes =
 answer_passes asked sdp view (Refused (Dtls Fault)) after replies passes = refl
 answer_passes asked sdp view (Refused (Dtls WouldBlock)) after replies passes = absurd replies
 answer_passes asked sdp view (Refused (Dtls DtlsAlloc)) after replies passes = absurd replies
-answer_passes asked sdp view (Refused (Sctp error)) after replies passes = refl
+answer_passes asked sdp view (Refused (Sctp error)) after replies passes = rw replies.0 refl
 answer_passes asked sdp view (Refused ChangesOutOfOrder) after replies passes = absurd replies
 answer_passes asked sdp view (Refused (Net cause)) after replies passes = absurd replies
 answer_passes asked sdp view (Refused (MediaFailed cause)) after replies passes = absurd replies
@@ -79,6 +81,7 @@ answer_passes asked sdp view (Refused PeerAlloc) after replies passes = refl
 answer_passes asked sdp view (Negotiated answers made) after replies passes = absurd replies
 answer_passes asked sdp view (Answered k) after replies passes = absurd replies
 answer_passes asked sdp view Done after replies passes = absurd replies
+answer_passes asked sdp view (Wrote taken) after replies passes = absurd replies
 answer_passes asked sdp view (Polled outputs end) after replies passes = absurd replies
 answer_passes asked sdp view NoSuch after replies passes = absurd replies
 answer_passes asked sdp view Alloc after replies passes = absurd replies
@@ -98,6 +101,7 @@ faultless_answers fresh past between at t a (Refused error) (Some table) made so
 faultless_answers fresh past between at t a (Negotiated answers what) (Some table) made sound faultless = answer_taken fresh past between at t a (Negotiated answers what) table faultless sound.0
 faultless_answers fresh past between at t a (Answered n) (Some table) made sound faultless = refl
 faultless_answers fresh past between at t a Done (Some table) made sound faultless = refl
+faultless_answers fresh past between at t a (Wrote taken) (Some table) made sound faultless = refl
 faultless_answers fresh past between at t a (Polled outputs end) (Some table) made sound faultless = refl
 faultless_answers fresh past between at t a NoSuch (Some table) made sound faultless = answer_taken fresh past between at t a NoSuch table faultless sound.0
 faultless_answers fresh past between at t a Alloc table made sound faultless = refl

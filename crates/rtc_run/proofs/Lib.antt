@@ -12,3 +12,4 @@ pub mod PlainFaults
 pub mod Drained
 pub mod PollsKeep
 pub mod Answered
+pub mod OpenChannels

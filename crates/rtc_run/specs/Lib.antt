@@ -6,3 +6,4 @@ pub mod RefusedChannel
 pub mod ShownTable
 pub mod Stages
 pub mod Turns
+pub mod Written

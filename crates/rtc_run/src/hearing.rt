@@ -3,7 +3,8 @@ ghost use Rattle.std.specs.Prelude.{◌≡◌, ◌<◌, ◌^◌, ◌≤◌, leng
 ghost use Rattle.std.specs.Option.{option_copied};
 ghost use Rattle.rtc_wire.specs.DatagramRecv.{kind_by};
 ghost use Rattle.rtc_history.specs.PairState.{remote_packet};
-ghost use Rattle.rtc_history.specs.Performs.{HandlesRead, StepCalls, StepTakesDatagram};
+ghost use Rattle.rtc_history.specs.CallReplies.{StepCalls};
+ghost use Rattle.rtc_history.specs.Performs.{HandlesRead, StepTakesDatagram};
 ghost use Rattle.rtc_run.specs.OutcomeOf.{outcome_of};
 ghost use Rattle.rtc_peer_state.specs.Meanings.{meanings};
 ghost use Rattle.rtc_polling.specs.Closing.{ClosesPeer};
@@ -17,8 +18,8 @@ use rtc_peer::{Association, DtlsInstance, IceAgent, Ids, Input, MediaSession, Rt
 use rtc_wire::{Moment, Receive, Transmit};
 use std::alloc::Global;
 
-// The outcome of a call that answers nothing but whether it is refused.
-fn outcome_of<E>(answer: Result<(), RtcError>) -> Outcome<E>
+/// The outcome of a call that answers nothing but whether it is refused.
+pub fn outcome_of<E>(answer: Result<(), RtcError>) -> Outcome<E>
     ensures { result ≡ outcome_of answer }
 {
     match answer {

@@ -3,6 +3,7 @@
 
 mod accepting;
 mod applied;
+mod channels;
 mod hearing;
 mod laws;
 mod negotiating;

@@ -5,6 +5,7 @@ ghost use Rattle.rtc_history.specs.Performs.{Acts};
 ghost use Rattle.rtc_peer_state.specs.Meanings.{meanings};
 
 use crate::accepting::{deliver_and_accept_answer, deliver_and_accept_offer};
+use crate::channels::{close_channel, write_message};
 use crate::hearing::{close, take_datagram, take_moment};
 use crate::negotiating::negotiate;
 use crate::polling::{drain, poll};
@@ -39,6 +40,13 @@ pub fn perform_step<I: IceAgent, D: DtlsInstance, S: Association, M: MediaSessio
         }
         Step::Poll { at } => poll(alloc, rtc, packets, *at),
         Step::Drain { at } => drain(alloc, rtc, packets, *at),
+        Step::Write {
+            channel,
+            binary,
+            bytes,
+            ..
+        } => write_message(alloc, rtc, *channel, *binary, bytes.as_slice()),
+        Step::CloseChannel { channel, .. } => close_channel(alloc, rtc, *channel),
         Step::Close { .. } => close(alloc, rtc),
     }
 }

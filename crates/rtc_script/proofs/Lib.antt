@@ -1,4 +1,5 @@
 pub mod LabelLemmas
+pub mod MessageWords
 pub mod LineLemmas
 pub mod SettingLines
 pub mod RefusedScripts

@@ -11,6 +11,7 @@ use Rattle.rtc_sdp_values.specs.declared.media_kind.MediaKind.{MediaKind}
 use Rattle.rtc_sdp_values.specs.declared.media_kind.MediaKind.TheVariants.{Audio, Video}
 use Rattle.rtc_script.specs.Lines.{IsOp, with_label, IsAct, AreStepWords, IsLine}
 use Rattle.rtc_script.proofs.LabelLemmas.{one_label}
+use Rattle.rtc_script.proofs.MessageWords.{bytes_of, is_binary_at, is_binary_again, same_message, writes}
 use Rattle.rtc_script.proofs.ZipLemmas.{one_zip}
 use Rattle.rtc_history.specs.Sides.{side_of}
 use Rattle.rtc_history.specs.declared.op.Op.{Op}
@@ -18,7 +19,7 @@ use Rattle.rtc_history.specs.declared.op.Op.TheVariants.{AddMedia, SetDirection,
 use Rattle.rtc_history.specs.declared.side.Side.{Side}
 use Rattle.rtc_history.specs.declared.side.Side.TheVariants.{Left, Right}
 use Rattle.rtc_history.specs.declared.step.Step.{Step}
-use Rattle.rtc_history.specs.declared.step.Step.TheVariants.{Negotiate, AcceptOffer, AcceptAnswer, Time, Datagram, Poll, Drain, Close}
+use Rattle.rtc_history.specs.declared.step.Step.TheVariants.{Negotiate, AcceptOffer, AcceptAnswer, Time, Datagram, Poll, Drain, Write, CloseChannel, Close}
 use Rattle.rtc_script.specs.Words.{side_text, kind_text, direction_text, keep_text}
 
 side_from : List ℕ → Side
@@ -173,22 +174,26 @@ ops_of (Time at now) = []
 ops_of (Datagram at packet now) = []
 ops_of (Poll at) = []
 ops_of (Drain at) = []
+ops_of (Write at channel binary bytes) = []
+ops_of (CloseChannel at channel) = []
 ops_of (Close at) = []
 
--- the step of a verb, the words behind it, and the ops among them
-step_from : Side → List ℕ → List (List ℕ) → List Op → Step
-step_from at verb rest ops =
+-- the step of a verb, the words behind it, and the ops or the message among them
+step_from : Side → List ℕ → List (List ℕ) → List Op → List ℕ → Step
+step_from at verb rest ops bytes =
     cond (eqb (get_or verb 0 0) 111) (Negotiate at ops true)
     (cond (eqb (get_or verb 0 0) 115) (Negotiate at ops false)
     (cond (eqb (get_or verb 0 0) 116) (Time at (number_at 0 rest))
     (cond (eqb (get_or verb 0 0) 112) (Poll at)
+    (cond (eqb (get_or verb 0 0) 119) (Write at (number_at 0 rest) (is_binary_at 1 rest) bytes)
+    (cond (eqb (get_or verb 5 0) 99) (CloseChannel at (number_at 0 rest))
     (cond (eqb (get_or verb 1 0) 97) (Datagram at (number_at 0 rest) (number_at 1 rest))
     (cond (eqb (get_or verb 1 0) 114) (Drain at)
     (cond (eqb (get_or verb 1 0) 108) (Close at)
-    (cond (eqb (get_or verb 1 0) 99) (AcceptOffer at (number_at 0 rest)) (AcceptAnswer at (number_at 0 rest) (number_at 1 rest)))))))))
+    (cond (eqb (get_or verb 1 0) 99) (AcceptOffer at (number_at 0 rest)) (AcceptAnswer at (number_at 0 rest) (number_at 1 rest)))))))))))
 
-step_again : (verb : List ℕ) (rest : List (List ℕ)) (s : Step) → IsAct verb rest s → step_from (side_of s) verb rest (ops_of s) ≡ s
-unfolding step_from ops_of
+step_again : (verb : List ℕ) (rest : List (List ℕ)) (s : Step) → IsAct verb rest s → step_from (side_of s) verb rest (ops_of s) (bytes_of s) ≡ s
+unfolding step_from ops_of bytes_of
 step_again verb rest (Negotiate at ops true) is = rw is.0 refl
 step_again verb rest (Negotiate at ops false) is = rw is.0 refl
 step_again verb rest (AcceptOffer at offer) is =
@@ -207,6 +212,13 @@ step_again verb rest (Datagram at packet now) is =
     rw (is.0, m, n) refl
 step_again verb rest (Poll at) is = rw is.0 refl
 step_again verb rest (Drain at) is = rw is.0 refl
+step_again verb rest (Write at channel binary bytes) is =
+    let n = number_again 0 rest channel is.1.1 (ap (λ found. get_or found 0 []) is.1.0) in
+    let kind = is_binary_again 1 rest binary (ap (λ found. get_or found 1 []) is.1.0) in
+    rw (is.0, n, kind) refl
+step_again verb rest (CloseChannel at channel) is =
+    let n = number_again 0 rest channel (is.1.1 0 0 (lit< tt)) (ap (λ found. get_or found 0 []) is.1.0) in
+    rw (is.0, n) refl
 step_again verb rest (Close at) is = rw is.0 refl
 
 -- the words behind a verb of ops are those of the ops
@@ -219,6 +231,8 @@ ops_zip verb rest (Time at now) is yes_ops = absurd (let bad : false ≡ true = 
 ops_zip verb rest (Datagram at packet now) is yes_ops = absurd (let bad : false ≡ true = rw is.0 at yes_ops in cc)
 ops_zip verb rest (Poll at) is yes_ops = absurd (let bad : false ≡ true = rw is.0 at yes_ops in cc)
 ops_zip verb rest (Drain at) is yes_ops = absurd (let bad : false ≡ true = rw is.0 at yes_ops in cc)
+ops_zip verb rest (Write at channel binary bytes) is yes_ops = absurd (let bad : false ≡ true = rw is.0 at yes_ops in cc)
+ops_zip verb rest (CloseChannel at channel) is yes_ops = absurd (let bad : false ≡ true = rw is.0 at yes_ops in cc)
 ops_zip verb rest (Close at) is yes_ops = absurd (let bad : false ≡ true = rw is.0 at yes_ops in cc)
 
 -- behind another verb there are none
@@ -232,6 +246,8 @@ no_ops verb rest (Time at now) is other = refl
 no_ops verb rest (Datagram at packet now) is other = refl
 no_ops verb rest (Poll at) is other = refl
 no_ops verb rest (Drain at) is other = refl
+no_ops verb rest (Write at channel binary bytes) is other = refl
+no_ops verb rest (CloseChannel at channel) is other = refl
 no_ops verb rest (Close at) is other = refl
 
 same_ops : (negotiating : Bool) (verb : List ℕ) (rest : List (List ℕ)) (a b : Step) → negotiates verb ≡ negotiating → IsAct verb rest a → IsAct verb rest b → ops_of a ≡ ops_of b
@@ -243,8 +259,9 @@ one_act : (verb : List ℕ) (rest : List (List ℕ)) (a b : Step) → side_of a 
 one_act verb rest a b same is is' =
     let ops = same_ops (negotiates verb) verb rest a b refl is is' in
     sym (step_again verb rest a is)
-    ∙ ap (λ at. step_from at verb rest (ops_of a)) same
-    ∙ ap (λ ops. step_from (side_of b) verb rest ops) ops
+    ∙ ap (λ at. step_from at verb rest (ops_of a) (bytes_of a)) same
+    ∙ ap (λ ops. step_from (side_of b) verb rest ops (bytes_of a)) ops
+    ∙ ap (λ bytes. step_from (side_of b) verb rest (ops_of b) bytes) (same_message (writes verb) verb rest a b refl is is')
     ∙ step_again verb rest b is'
 
 one_step : (found : List (List ℕ)) (a b : Step) → AreStepWords found a → AreStepWords found b → a ≡ b

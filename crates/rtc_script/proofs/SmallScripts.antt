@@ -14,7 +14,7 @@ use Rattle.rtc_history.specs.declared.side.Side.{Side}
 use Rattle.rtc_script.specs.declared.script_error.ScriptError.{ScriptError}
 use Rattle.rtc_history.specs.Sizes.{step_size, steps_size}
 use Rattle.rtc_history.specs.declared.step.Step.{Step}
-use Rattle.rtc_history.specs.declared.step.Step.TheVariants.{Negotiate, AcceptOffer, AcceptAnswer, Time, Datagram, Poll, Drain, Close}
+use Rattle.rtc_history.specs.declared.step.Step.TheVariants.{Negotiate, AcceptOffer, AcceptAnswer, Time, Datagram, Poll, Drain, Write, CloseChannel, Close}
 
 -- a line has a word for its side, one for its verb, and one for each op
 words_small : (found : List (List ℕ)) (step : Step) → AreStepWords found step → step_size step + 1 ≤ length found
@@ -30,6 +30,8 @@ words_small (side ∷ verb ∷ rest) (Time at now) h = omega arith
 words_small (side ∷ verb ∷ rest) (Datagram at packet now) h = omega arith
 words_small (side ∷ verb ∷ rest) (Poll at) h = omega arith
 words_small (side ∷ verb ∷ rest) (Drain at) h = omega arith
+words_small (side ∷ verb ∷ rest) (Write at channel binary bytes) h = omega arith
+words_small (side ∷ verb ∷ rest) (CloseChannel at channel) h = omega arith
 words_small (side ∷ verb ∷ rest) (Close at) h = omega arith
 
 -- so a step is no greater than its line

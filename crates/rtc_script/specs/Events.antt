@@ -1,5 +1,5 @@
 -- The words of events.
-use Rattle.std.specs.Prelude.{ℕ, Bool, true, false, List, ◌++◌, length, codes}
+use Rattle.std.specs.Prelude.{ℕ, List, ◌++◌, length, codes}
 use Rattle.std.specs.Fmt.{decimal}
 use Rattle.rtc_ice.specs.declared.ice_connection_state.IceConnectionState.{IceConnectionState}
 use Rattle.rtc_ice.specs.declared.ice_connection_state.IceConnectionState.TheVariants.{New, Checking, Connected, Completed, Disconnected}
@@ -9,7 +9,7 @@ use Rattle.rtc_plain_media.specs.declared.plain_media_event.PlainMediaEvent.{Pla
 use Rattle.rtc_plain_media.specs.declared.plain_media_event.PlainMediaEvent.TheVariants.{Added, Changed, Rtp, Rtcp, Raw}
 use Rattle.rtc_polling.specs.declared.event.Event.{Event}
 use Rattle.rtc_polling.specs.declared.event.Event.TheVariants as events
-use Rattle.rtc_script.specs.Words.{direction_text, hex_word, kind_text}
+use Rattle.rtc_script.specs.Words.{direction_text, hex_word, kind_text, message_kind_text}
 
 -- a state of the connection that ICE makes
 abbrev pub state_text : IceConnectionState → List ℕ
@@ -32,11 +32,6 @@ media_event_text (Changed mid dir) = codes "changed " ++ mid ++ codes " " ++ dir
 media_event_text (Rtp len) = codes "rtp " ++ decimal len
 media_event_text (Rtcp len) = codes "rtcp " ++ decimal len
 media_event_text (Raw packet) = codes "raw " ++ raw_packet_text packet
-
--- the kind of a message of a channel (RFC 8831, section 6.6)
-abbrev pub message_kind_text : Bool → List ℕ
-message_kind_text true = codes "binary"
-message_kind_text false = codes "text"
 
 -- the bytes that were counted of a line
 abbrev pub line_bytes_text : List ℕ → ℕ → List ℕ

@@ -3,6 +3,7 @@ use Rattle.std.specs.Prelude.{◌≡◌, ◌≢◌, ◌<◌, ◌^◌, ℕ, Bool,
 use Rattle.std.specs.Fmt.{decimal}
 use Rattle.std.specs.List.{AllZip}
 use Rattle.std.specs.Str.{IsUtf8}
+use Rattle.hex.specs.Hex.{IsBytes}
 use Rattle.rtc_fields.specs.Words.{parts, words}
 use Rattle.rtc_wire.specs.ChannelConfig.{fresh}
 use Rattle.rtc_wire.specs.declared.channel_config.ChannelConfig.{ChannelConfig}
@@ -11,8 +12,9 @@ use Rattle.rtc_history.specs.declared.op.Op.{Op}
 use Rattle.rtc_history.specs.declared.op.Op.TheVariants.{AddMedia, SetDirection, StopMedia, AddChannel, IceRestart}
 use Rattle.rtc_history.specs.declared.side.Side.{Side}
 use Rattle.rtc_history.specs.declared.step.Step.{Step}
-use Rattle.rtc_history.specs.declared.step.Step.TheVariants.{Negotiate, AcceptOffer, AcceptAnswer, Time, Datagram, Poll, Drain, Close}
-use Rattle.rtc_script.specs.Words.{side_text, kind_text, direction_text, hex_word, keep_text, setting_text}
+use Rattle.rtc_history.specs.declared.step.Step.TheVariants.{Negotiate, AcceptOffer, AcceptAnswer, Time, Datagram, Poll, Drain}
+use Rattle.rtc_history.specs.declared.step.Step.TheVariants.{Write, CloseChannel, Close}
+use Rattle.rtc_script.specs.Words.{side_text, kind_text, direction_text, hex_word, keep_text, message_kind_text, setting_text}
 use Rattle.rtc_script.specs.declared.setting.Setting.{Setting}
 
 -- what a channel is opened with that differs from the usual in its label alone
@@ -44,6 +46,11 @@ AreNumbers found numbers = (found ≡ map decimal numbers) × All (λ n. n < 2 ^
 abbrev pub AreLongNumbers : List (List ℕ) → List ℕ → Type 0
 AreLongNumbers found numbers = (found ≡ map decimal numbers) × All (λ n. n < 2 ^ 64) numbers
 
+-- the number of a channel, below 2 ^ 64, and a message for it: its kind and its bytes
+abbrev pub AreMessageWords : List (List ℕ) → (channel : ℕ) → (binary : Bool) → (bytes : List ℕ) → Type 0
+AreMessageWords found channel binary bytes =
+    (found ≡ decimal channel ∷ message_kind_text binary ∷ hex_word bytes ∷ []) × (channel < 2 ^ 64) × IsBytes bytes
+
 -- the verb of ops that are applied, and of those that are not
 abbrev pub ops_verb : Bool → List ℕ
 ops_verb true = codes "offer"
@@ -58,6 +65,8 @@ IsAct verb rest (Time at now) = (verb ≡ codes "time") × AreLongNumbers rest (
 IsAct verb rest (Datagram at packet now) = (verb ≡ codes "datagram") × AreLongNumbers rest (packet ∷ now ∷ [])
 IsAct verb rest (Poll at) = (verb ≡ codes "poll") × (rest ≡ [])
 IsAct verb rest (Drain at) = (verb ≡ codes "drain") × (rest ≡ [])
+IsAct verb rest (Write at channel binary bytes) = (verb ≡ codes "write") × AreMessageWords rest channel binary bytes
+IsAct verb rest (CloseChannel at channel) = (verb ≡ codes "closechannel") × AreLongNumbers rest (channel ∷ [])
 IsAct verb rest (Close at) = (verb ≡ codes "close") × (rest ≡ [])
 
 -- a verb of no negotiation
@@ -74,6 +83,8 @@ IsSingle (Time at now) = ⊥
 IsSingle (Datagram at packet now) = ⊥
 IsSingle (Poll at) = Unit {0}
 IsSingle (Drain at) = Unit {0}
+IsSingle (Write at channel binary bytes) = ⊥
+IsSingle (CloseChannel at channel) = ⊥
 IsSingle (Close at) = Unit {0}
 
 -- the letter of the side that acts, and then its act

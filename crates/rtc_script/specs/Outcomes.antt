@@ -11,21 +11,22 @@ use Rattle.rtc_history.specs.declared.op_answer.OpAnswer.{OpAnswer}
 use Rattle.rtc_history.specs.declared.op_answer.OpAnswer.TheVariants.{Mid, Changed, NoLine, Channel, Creds}
 use Rattle.rtc_history.specs.declared.op_answer.OpAnswer.TheVariants.{BadChannel as NoChannel, Alloc as OpAlloc}
 use Rattle.rtc_history.specs.declared.outcome.Outcome.{Outcome}
-use Rattle.rtc_history.specs.declared.outcome.Outcome.TheVariants.{Negotiated, Answered, Finished, Done, Polled, Refused, NoSuch, Alloc}
+use Rattle.rtc_history.specs.declared.outcome.Outcome.TheVariants.{Negotiated, Answered, Finished, Done, Wrote, Polled}
+use Rattle.rtc_history.specs.declared.outcome.Outcome.TheVariants.{Refused, NoSuch, Alloc}
 
 -- the word where memory ran out
 abbrev pub no_memory : List ℕ
 no_memory = codes "nomemory"
 
--- whether a line was changed
-abbrev pub changed_text : Bool → List ℕ
-changed_text true = codes "true"
-changed_text false = codes "false"
+-- whether a line was changed, or a message taken
+abbrev pub truth_text : Bool → List ℕ
+truth_text true = codes "true"
+truth_text false = codes "false"
 
 -- the answer to an op
 abbrev pub op_answer_text : OpAnswer → List ℕ
 op_answer_text (Mid mid) = mid
-op_answer_text (Changed changed) = changed_text changed
+op_answer_text (Changed changed) = truth_text changed
 op_answer_text NoLine = codes "none"
 op_answer_text (Channel id) = codes "c" ++ decimal id
 op_answer_text NoChannel = codes "bad"
@@ -66,6 +67,7 @@ outcome_text (Negotiated answers made) = codes "ops " ++ answers_text answers ++
 outcome_text (Answered text) = codes "answered " ++ decimal text
 outcome_text Finished = codes "finished"
 outcome_text Done = codes "done"
+outcome_text (Wrote taken) = codes "wrote " ++ truth_text taken
 outcome_text (Polled outputs end) = codes "polled " ++ decimal (length outputs)
 outcome_text (Refused error) = refusal_text error
 outcome_text NoSuch = codes "nosuch"

@@ -32,6 +32,11 @@ abbrev pub hex_word : List ℕ → List ℕ
 hex_word [] = codes "-"
 hex_word (byte ∷ bytes) = encode_lower (byte ∷ bytes)
 
+-- the kind of a message of a channel (RFC 8831, section 6.6)
+abbrev pub message_kind_text : Bool → List ℕ
+message_kind_text true = codes "binary"
+message_kind_text false = codes "text"
+
 -- whether a restart of ICE keeps the local candidates
 abbrev pub keep_text : Bool → List ℕ
 keep_text true = codes "keep"

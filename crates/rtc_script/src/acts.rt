@@ -1,14 +1,15 @@
 //! The act of a line: its verb, and the words behind it.
-ghost use Rattle.std.specs.Prelude.{◌≡◌, [], List, IfOk, IfSome, IfNone, map};
+ghost use Rattle.std.specs.Prelude.{◌≡◌, ◌≢◌, [], List, IfOk, IfSome, IfNone, map, codes};
 ghost use Rattle.rtc_script.specs.Lines.{AreOps, IsAct, IsNoVerbOfNegotiation, IsSingle, ops_verb};
 ghost use Rattle.rtc_history.specs.Sides.{side_of};
 ghost use Rattle.rtc_history.specs.declared.op.Op.{Op};
 ghost use Rattle.rtc_history.specs.declared.step.Step.{Step};
 
+use crate::messages::read_write;
 use crate::numbers::{read_long, read_one, read_two, read_two_long};
 use crate::ops::read_ops;
 use rtc_history::{Side, Step};
-use rtc_wire::Moment;
+use rtc_wire::{ChannelId, Moment};
 use std::alloc::{AllocError, Global};
 
 // The step whose ops the words name.
@@ -45,9 +46,10 @@ fn read_single(at: Side, verb: &[u8]) -> Option<Step>
     None
 }
 
-// The step of a verb that is none of negotiation, and the words behind it.
+// The step of a verb that is none of negotiation and writes no message, and the words behind it.
 fn read_polling(at: Side, verb: &[u8], rest: &[&[u8]]) -> Option<Step>
     requires negotiates { IsNoVerbOfNegotiation verb.now }
+    requires writes { verb.now ≢ codes "write" }
     ensures some { IfSome result (λ step. (side_of step ≡ at) × IsAct verb.now (map (λ word. word.now) rest.now) step) }
     ensures none { IfNone result ((step : Step) → IsAct verb.now (map (λ word. word.now) rest.now) step → ⊥) }
 {
@@ -61,11 +63,33 @@ fn read_polling(at: Side, verb: &[u8], rest: &[&[u8]]) -> Option<Step>
         let now = Moment::from_nanos(nanos);
         return Some(Step::Datagram { at, packet, now });
     }
+    if verb == b"closechannel".as_slice() {
+        let number = read_long(rest)?;
+        let channel = ChannelId::new(number);
+        return Some(Step::CloseChannel { at, channel });
+    }
     if rest.is_empty() {
         read_single(at, verb)
     } else {
         None
     }
+}
+
+// The step of a verb that is none of negotiation, and the words behind it.
+fn read_other(
+    alloc: Global,
+    at: Side,
+    verb: &[u8],
+    rest: &[&[u8]],
+) -> Result<Option<Step>, AllocError>
+    requires negotiates { IsNoVerbOfNegotiation verb.now }
+    ensures some { IfOk result (λ read. IfSome read (λ step. (side_of step ≡ at) × IsAct verb.now (map (λ word. word.now) rest.now) step)) }
+    ensures none { IfOk result (λ read. IfNone read ((step : Step) → IsAct verb.now (map (λ word. word.now) rest.now) step → ⊥)) }
+{
+    if verb == b"write".as_slice() {
+        return read_write(alloc, at, rest);
+    }
+    Ok(read_polling(at, verb, rest))
 }
 
 /// The step of a verb and the words behind it, at a side.
@@ -96,5 +120,5 @@ pub fn read_act(
             None => Ok(None),
         };
     }
-    Ok(read_polling(at, verb, rest))
+    read_other(alloc, at, verb, rest)
 }

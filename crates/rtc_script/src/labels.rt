@@ -1,4 +1,4 @@
-//! Labels of channels.
+//! Labels of channels, and bytes of messages.
 ghost use Rattle.std.specs.Prelude.{◌≡◌, ◌≢◌, ◌↔◌, IsTrue, ℕ, List, IfOk, IfSome, IfNone};
 ghost use Rattle.std.specs.Str.{IsUtf8};
 ghost use Rattle.hex.specs.Hex.{IsBytes, encode_lower};
@@ -40,8 +40,8 @@ fn read_digits(alloc: Global, word: &[u8]) -> Result<Option<Vec<u8>>, AllocError
     }
 }
 
-// The bytes that a word writes.
-fn read_bytes(alloc: Global, word: &[u8]) -> Result<Option<Vec<u8>>, AllocError>
+/// The bytes that a word writes.
+pub fn read_bytes(alloc: Global, word: &[u8]) -> Result<Option<Vec<u8>>, AllocError>
     ensures some { IfOk result (λ read. IfSome read (λ bytes. (word.now ≡ hex_word bytes.items) × IsBytes bytes.items)) }
     ensures none { IfOk result (λ read. IfNone read ((bytes : List ℕ) → IsBytes bytes → word.now ≢ hex_word bytes)) }
 {

@@ -9,6 +9,7 @@ mod events;
 mod kinds;
 mod labels;
 mod lines;
+mod messages;
 mod numbers;
 mod ops;
 mod outcomes;

@@ -75,6 +75,8 @@ pub fn push_outcome<E>(out: &mut String, outcome: &Outcome<E>) -> Result<(), All
         }
         Outcome::Finished => out.push_str("finished"),
         Outcome::Done => out.push_str("done"),
+        Outcome::Wrote { taken: true } => out.push_str("wrote true"),
+        Outcome::Wrote { taken: false } => out.push_str("wrote false"),
         Outcome::Polled { outputs, .. } => {
             out.push_str("polled ")?;
             push_count(out, outputs.as_slice().len())

@@ -128,6 +128,7 @@ pub fn push_polled(
         | Outcome::Answered { .. }
         | Outcome::Finished
         | Outcome::Done
+        | Outcome::Wrote { .. }
         | Outcome::Refused(_)
         | Outcome::NoSuch
         | Outcome::Alloc => Ok(()),
