@@ -84,11 +84,11 @@ sent_among at (sent ∷ packets) (suc k) transmit is =
 -- a datagram that comes carries application data in its own bytes alone
 one_carries : (bytes : List ℕ) (others : List (List ℕ)) → Member bytes others → CarriesData (bytes ∷ []) others
 one_carries bytes others there = record {
-  each = λ data m. elim m [ inl e ↦ subst (λ (x : List ℕ). Member x others) (sym e) there | inr n ↦ absurd n ];
+  each = λ payload m. elim m [ inl e ↦ subst (λ (x : List ℕ). Member x others) (sym e) there | inr n ↦ absurd n ];
 }
 
 no_data : (others : List (List ℕ)) → CarriesData [] others
-no_data others = record { each = λ data m. absurd m }
+no_data others = record { each = λ payload m. absurd m }
 
 pub datagram_carries : (datagram : DatagramRecv) (bytes : List ℕ) (others : List (List ℕ)) → bytes_lent datagram ≡ bytes → Member bytes others
     → CarriesData (came_of_datagram datagram).dtls others

@@ -67,6 +67,7 @@ module _ {N : Type 0} (draws : Draws N) where
       (AssociationStirred Other ∷ []) []
 
   pub new_built : (p : PlainPolled N) → IsNewPeer draws p.core → WasBuilt p
+  unfolding built_acts
   new_built p h =
       let dtls : p.core.dtls ≡ h.built.dtls = ap (λ (x : Peer IceContents DtlsContents Contents MediaContents N). x.dtls) h.rest in
       let sctp : p.core.sctp ≡ h.built.sctp = ap (λ (x : Peer IceContents DtlsContents Contents MediaContents N). x.sctp) h.rest in

@@ -1,5 +1,5 @@
 use Rattle.rtc_joined_runs.proofs.NewPeers.{new_exchanged}
-use Rattle.rtc_joined_runs.proofs.RunsExchange.{reached_exchanged, side_reads, went_reached}
+use Rattle.rtc_joined_runs.proofs.RunsExchange.{reached_exchanged, side_all, side_reads, went_reached}
 use Rattle.rtc_joined_runs.proofs.exchanged.runs_keep_peers_joined.Goals as goal
 
 pub returns-clause-reached : goal.returns-clause-reached
@@ -13,3 +13,6 @@ returns-clause-ran g c = λ stun start pair steps replies new run.
 
 pub returns-clause-reads : goal.returns-clause-reads
 returns-clause-reads g c = λ acts pair at s n x. side_reads acts pair at s n x
+
+pub returns-clause-all : goal.returns-clause-all
+returns-clause-all g c = λ acts pair at s n x here there none. side_all acts pair at s n x here there none
