@@ -1,12 +1,10 @@
 -- The contents of the datagrams that a pair keeps.
-use Rattle.std.proofs.Common.{◌≡◌, ◌∙◌, ◌++◌, ◌∷◌, ℕ, zero, suc, Bool, true, false, List, [], Option, Some, None, refl, sym, ap, subst, inl, inr, append-nil}
-use Rattle.std.specs.Prelude.{if◌then◌else◌}
+use Rattle.std.proofs.Common.{◌≡◌, ◌∙◌, ◌++◌, ◌∷◌, ℕ, zero, suc, Bool, true, false, List, [], Some, None, refl, sym, ap, subst, inl, inr, append-nil}
 use Rattle.rtc_wire.specs.DatagramRecv.{bytes_lent}
 use Rattle.rtc_wire.specs.declared.datagram_recv.DatagramRecv.{DatagramRecv}
 use Rattle.rtc_wire.specs.declared.datagram_recv.DatagramRecv.TheVariants as datagrams
 use Rattle.rtc_wire.specs.declared.transmit.Transmit.{Transmit}
 use Rattle.rtc_parts_values.specs.Among.{Member}
-use Rattle.rtc_plain_dtls.specs.Frames.{data_packet}
 use Rattle.rtc_polling_laws.specs.PeerActs.{came_of_datagram}
 use Rattle.rtc_joined_peers.specs.JoinedPeers.{CarriesData}
 use Rattle.rtc_history.specs.declared.sent_packet.SentPacket.{SentPacket}

@@ -19,7 +19,7 @@ use Rattle.rtc_peer_state.specs.Meanings.{Meanings}
 use Rattle.rtc_peer_state.specs.PartMoves.{TakesControl}
 use Rattle.rtc_polling.specs.declared.polled_peer.PolledPeer.{PolledPeer}
 use Rattle.rtc_polling_laws.specs.Acts.{NegotiationActs, begun_here, with_core}
-use Rattle.rtc_polling_laws.proofs.ActJoins.{ice_did, still_did}
+use Rattle.rtc_polling_laws.proofs.ActJoins.{ice_did}
 use Rattle.rtc_polling_laws.proofs.ActedAcceptances.{offer_did, answer_did}
 use Rattle.rtc_polling_laws.proofs.FollowedParts.{AgentTold, agent_none}
 use Rattle.rtc_history.specs.declared.side.Side.{Side}

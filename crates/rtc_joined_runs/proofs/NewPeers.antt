@@ -1,5 +1,5 @@
 -- What building a peer over fresh plain parts does to these.
-use Rattle.std.proofs.Common.{◌≡◌, ◌∙◌, ◌++◌, ◌∷◌, ℕ, Bool, List, [], Option, Some, None, Result, Ok, refl, sym, ap, subst, inl, inr}
+use Rattle.std.proofs.Common.{◌≡◌, ◌∙◌, ◌∷◌, ℕ, Bool, List, [], Result, Ok, refl, sym, ap, subst}
 use Rattle.std.specs.declared.alloc.AllocError.{AllocError}
 use Rattle.rtc_sdp_values.specs.declared.candidate.Candidate.{Candidate}
 use Rattle.rtc_parts_values.specs.Among.{Among}
@@ -10,17 +10,16 @@ use Rattle.rtc_ice.specs.IceMeaning.{IceMeaning}
 use Rattle.rtc_ice.specs.IceActs.{LiteSet, LocalSet, LocalAdded, Stirred as IceStirred}
 use Rattle.rtc_dtls.specs.DtlsActs.{CertificateSet, Stirred as DtlsStirred}
 use Rattle.rtc_dtls.specs.DtlsState.{DtlsState}
-use Rattle.rtc_sctp.specs.Streams.{SctpStreams, no_streams}
-use Rattle.rtc_plain_ice.specs.Contents.{IceContents, fresh_ice}
+use Rattle.rtc_sctp.specs.Streams.{SctpStreams}
+use Rattle.rtc_plain_ice.specs.Contents.{IceContents}
 use Rattle.rtc_plain_ice.specs.PlainMeaning.{plain_ice}
-use Rattle.rtc_plain_dtls.specs.Contents.{DtlsContents, fresh_dtls}
-use Rattle.rtc_assoc_state.specs.Contents.{Contents, fresh_contents}
+use Rattle.rtc_plain_dtls.specs.Contents.{DtlsContents}
+use Rattle.rtc_assoc_state.specs.Contents.{Contents}
 use Rattle.rtc_plain_media.specs.MediaContents.{MediaContents, fresh_media}
 use Rattle.rtc_ids.specs.Draws.{Draws}
 use Rattle.rtc_sctp_laws.specs.StreamMessages.{pushed_packets}
 use Rattle.rtc_peer_state.specs.declared.peer.Peer.{Peer}
 use Rattle.rtc_peer_state.specs.Built.{creds_or, cert_or, session_drawn, creds_drawn}
-use Rattle.rtc_polling.specs.declared.polled_peer.PolledPeer.{PolledPeer}
 use Rattle.rtc_polling_laws.specs.PeerActs.{PeerActs, peer_acts, contents_taken}
 use Rattle.rtc_joined_peers.specs.Exchanging.{parts_past}
 use Rattle.rtc_joined_peers.specs.JoinedPeers.{AreUnused, packet_parts}
@@ -30,7 +29,7 @@ use Rattle.rtc_history.specs.declared.sent_packet.SentPacket.{SentPacket}
 use Rattle.rtc_history.specs.declared.side.Side.{Side}
 use Rattle.rtc_history.specs.declared.side.Side.TheVariants.{Left, Right}
 use Rattle.rtc_joined_runs.specs.NewPairs.{GivenCandidates, IsNewPeer, IsNewPair}
-use Rattle.rtc_joined_runs.specs.PlainPairs.{HasExchanged, PlainPair, PlainPolled, plain_over}
+use Rattle.rtc_joined_runs.specs.PlainPairs.{HasExchanged, PlainPair, PlainPolled}
 use Rattle.rtc_joined_runs.specs.SentContents.{contents_sent}
 use Rattle.rtc_polling_laws.proofs.FollowedParts.{AgentTold, agent_none}
 

@@ -1,5 +1,5 @@
 -- The exchange of a pair as the side sees it that acts.
-use Rattle.std.proofs.Common.{◌≡◌, ◌++◌, ℕ, List, [], refl, sym, subst, ap}
+use Rattle.std.proofs.Common.{◌≡◌, ◌++◌, ℕ, List, [], sym, subst}
 use Rattle.rtc_ids.specs.Draws.{Draws}
 use Rattle.rtc_sctp_laws.specs.StreamMessages.{StreamMessage}
 use Rattle.rtc_polling_laws.specs.Acts.{PeerDid, NegotiationActs}

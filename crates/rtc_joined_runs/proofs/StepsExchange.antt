@@ -1,5 +1,5 @@
 -- Each step leaves the exchange of a pair.
-use Rattle.std.proofs.Common.{◌≡◌, ◌++◌, ◌∷◌, ℕ, Bool, true, false, List, [], Option, Some, None, Result, Ok, Err, refl, sym, subst, ap}
+use Rattle.std.proofs.Common.{◌≡◌, ◌∷◌, ℕ, Bool, true, false, List, [], Option, Some, None, Result, Ok, Err, refl, sym, subst}
 use Rattle.rtc_wire.specs.DatagramRecv.{kind_by}
 use Rattle.rtc_wire.specs.declared.multiplex_kind.MultiplexKind.{MultiplexKind}
 use Rattle.rtc_wire.specs.declared.net_error.NetError.{NetError}
@@ -176,7 +176,7 @@ module _ {N : Type 0} (draws : Draws N) (b : PeerActs) (q : PlainPolled N) where
   acts_stand stun (Time at now) old sdps packets outcome table new sdps' packets' h stands =
       calls_stand draws at b q (HandlesInput (plain_over draws) (given.Timeout now)) packets packets'
       (λ p r next handles s.
-        heard_stands draws at b q packets packets' (given.Timeout now) p r next h.2 (none_carries (contents_sent (other_side at) packets)) handles s)
+      heard_stands draws at b q packets packets' (given.Timeout now) p r next h.2 (none_carries (contents_sent (other_side at) packets)) handles s)
       old outcome table new h.2 h.0 stands
   acts_stand stun (Datagram at packet now) old sdps packets outcome table new sdps' packets' h stands =
       hears_stand draws at b q stun (remote_packet packets at packet) now packets packets' (λ transmit is. sent_among at packets packet transmit is)

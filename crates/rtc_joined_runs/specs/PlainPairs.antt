@@ -1,5 +1,4 @@
 -- Pairs of peers over plain parts, and what was done to these since they were fresh.
-use Rattle.std.specs.Prelude.{ℕ, List}
 use Rattle.rtc_plain_ice.specs.Contents.{IceContents}
 use Rattle.rtc_plain_ice.specs.PlainMeaning.{plain_ice}
 use Rattle.rtc_plain_dtls.specs.Contents.{DtlsContents}
