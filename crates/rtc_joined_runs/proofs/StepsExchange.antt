@@ -1,5 +1,5 @@
 -- Each step leaves the exchange of a pair.
-use Rattle.std.proofs.Common.{◌≡◌, ◌∷◌, ℕ, Bool, true, false, List, [], Option, Some, None, Result, Ok, Err, refl, sym, subst}
+use Rattle.std.proofs.Common.{◌≡◌, ◌∷◌, ℕ, Bool, true, false, List, [], Option, Some, None, Result, Ok, Err, alloc_error, refl, sym, subst}
 use Rattle.rtc_wire.specs.DatagramRecv.{kind_by}
 use Rattle.rtc_wire.specs.declared.multiplex_kind.MultiplexKind.{MultiplexKind}
 use Rattle.rtc_wire.specs.declared.net_error.NetError.{NetError}
@@ -11,25 +11,28 @@ use Rattle.rtc_assoc_state.proofs.PlainLaws.{plain_laws}
 use Rattle.rtc_plain_media.specs.PlainMediaLaws.{plain_media_laws}
 use Rattle.rtc_plain_media.specs.declared.plain_media_event.PlainMediaEvent.{PlainMediaEvent}
 use Rattle.rtc_ids.specs.Draws.{Draws}
+use Rattle.rtc_sctp_laws.specs.StreamMessages.{StreamMessage}
 use Rattle.rtc_peer_state.specs.declared.rtc_error.RtcError.{RtcError}
+use Rattle.rtc_peer_state.specs.declared.rtc_error.RtcError.TheVariants.{Alloc as PeerAlloc}
 use Rattle.rtc_peer_state.specs.Meanings.{PartsLaws}
 use Rattle.rtc_polling.specs.declared.input.Input.{Input}
 use Rattle.rtc_polling.specs.declared.input.Input.TheVariants as given
 use Rattle.rtc_polling.specs.declared.output.Output.{Output}
 use Rattle.rtc_polling.specs.declared.output.Output.TheVariants as polled
+use Rattle.rtc_polling.specs.ChannelCalls.{WritesChannel, open_stream_under}
 use Rattle.rtc_polling.specs.Closing.{ClosesPeer}
 use Rattle.rtc_polling.specs.Inputs.{HandlesInput}
 use Rattle.rtc_polling.specs.Walk.{PollsPeer}
-use Rattle.rtc_polling_laws.specs.Acts.{contents_shown}
+use Rattle.rtc_polling_laws.specs.Acts.{CallActs, contents_shown}
 use Rattle.rtc_polling_laws.specs.PeerActs.{PeerActs, came_by, moment_given, nothing_came}
 use Rattle.rtc_polling_laws.proofs.ActedClosing.{close_acts}
-use Rattle.rtc_polling_laws.proofs.ActedInputs.{input_acts}
+use Rattle.rtc_polling_laws.proofs.ActedInputs.{channel_close_acts, input_acts, write_acts}
 use Rattle.rtc_polling_laws.proofs.ActedPolls.{poll_acts}
 use Rattle.rtc_joined_peers.specs.JoinedPeers.{CarriesData}
 use Rattle.rtc_joined_peers.proofs.JoinedLemmas.{none_carries}
 use Rattle.rtc_history.specs.declared.kept.Kept.{Kept}
 use Rattle.rtc_history.specs.declared.outcome.Outcome.{Outcome}
-use Rattle.rtc_history.specs.declared.outcome.Outcome.TheVariants.{Done, Polled, Refused, NoSuch, Alloc}
+use Rattle.rtc_history.specs.declared.outcome.Outcome.TheVariants.{Done, Wrote, Polled, Refused, NoSuch, Alloc}
 use Rattle.rtc_history.specs.declared.poll_end.PollEnd.{PollEnd}
 use Rattle.rtc_history.specs.declared.poll_end.PollEnd.TheVariants.{Ended, Refused as EndRefused, NoRoom}
 use Rattle.rtc_history.specs.declared.sent_packet.SentPacket.{SentPacket}
@@ -37,10 +40,12 @@ use Rattle.rtc_history.specs.declared.shown.Shown.{Shown}
 use Rattle.rtc_history.specs.declared.shown.Shown.TheVariants.{Timeout, Packet, Event}
 use Rattle.rtc_history.specs.declared.side.Side.{Side}
 use Rattle.rtc_history.specs.declared.step.Step.{Step}
-use Rattle.rtc_history.specs.declared.step.Step.TheVariants.{Negotiate, AcceptOffer, AcceptAnswer, Time, Datagram, Poll, Drain, Close}
+use Rattle.rtc_history.specs.declared.step.Step.TheVariants.{Negotiate, AcceptOffer, AcceptAnswer, Time, Datagram, Poll, Drain}
+use Rattle.rtc_history.specs.declared.step.Step.TheVariants.{Write, CloseChannel, Close}
 use Rattle.rtc_history.specs.declared.table.Table.{Table}
+use Rattle.rtc_history.specs.CallReplies.{ClosesOpenChannel, FindsNone, StepCalls, StepClosesChannel, StepWrites, StepWritesOpen}
 use Rattle.rtc_history.specs.PairState.{rtc_at, held_token, kept_remote_sdp, remote_packet}
-use Rattle.rtc_history.specs.Performs.{Acts, DrainsOn, DrainsPeer, HandlesRead, Performs, PollsOnce, PollsShown, StepCalls, StepPollsPeer, StepTakesDatagram}
+use Rattle.rtc_history.specs.Performs.{Acts, DrainsOn, DrainsPeer, HandlesRead, Performs, PollsOnce, PollsShown, StepPollsPeer, StepTakesDatagram}
 use Rattle.rtc_history.specs.Sides.{other_side, side_of}
 use Rattle.rtc_joined_runs.specs.PlainPairs.{HasExchanged, PlainPair, PlainPolled, plain_over}
 use Rattle.rtc_joined_runs.specs.SentContents.{contents_sent}
@@ -83,6 +88,62 @@ module _ {N : Type 0} (draws : Draws N) (at : Side) (b : PeerActs) (q : PlainPol
   calls_stand call packets packets' keeps old Done (Some table) new kept h stands = keeps old (Ok tt) new h.0 stands
   calls_stand call packets packets' keeps old (Refused error) (Some table) new kept h stands = keeps old (Err error) new h.0 stands
   calls_stand call packets packets' keeps old outcome table new kept h stands = absurd h
+
+  -- a write, or a close of a channel: nothing came, and nothing is shown
+  done_stands : (packets packets' : List SentPacket) (wrote : List StreamMessage) (p next : PlainPolled N) → packets' ≡ packets
+      → CallActs (plain_over draws) wrote p next → Stands at packets b q p → Stands at packets' b q next
+  done_stands packets packets' wrote p next kept did stands =
+      call_stands draws at packets packets' b q p next nothing_came [] [] wrote [] (none_carries (contents_sent (other_side at) packets))
+      (shows_none at packets packets' kept) did stands
+
+  -- what names a channel that is not open
+  none_stands : (packets packets' : List SentPacket) (old : PlainPolled N) (outcome : Outcome PlainMediaEvent) (table : Option Table)
+      (new : PlainPolled N) → packets' ≡ packets → FindsNone (plain_over draws) old outcome table new → Stands at packets b q old
+      → Stands at packets' b q new
+  none_stands packets packets' old Alloc None new kept h stands = same_stands at packets packets' b q old new h kept stands
+  none_stands packets packets' old NoSuch (Some table) new kept h stands = same_stands at packets packets' b q old new h.0 kept stands
+  none_stands packets packets' old outcome table new kept h stands = absurd h
+
+  written_stands : (packets packets' : List SentPacket) (stream : ℕ) (binary : Bool) (bytes : List ℕ) (p : PlainPolled N) (r : Result Bool RtcError)
+      (next : PlainPolled N) → packets' ≡ packets → WritesChannel (plain_over draws) stream binary bytes p r next → Stands at packets b q p
+      → Stands at packets' b q next
+  written_stands packets packets' stream binary bytes p r next kept h stands =
+      done_stands packets packets' _ p next kept (write_acts (plain_over draws) stream binary bytes p r next h) stands
+
+  open_write_stands : (packets packets' : List SentPacket) (stream : ℕ) (binary : Bool) (bytes : List ℕ) (old : PlainPolled N)
+      (outcome : Outcome PlainMediaEvent) (table : Option Table) (new : PlainPolled N) → packets' ≡ packets
+      → StepWritesOpen (plain_over draws) stream binary bytes old outcome table new → Stands at packets b q old → Stands at packets' b q new
+  open_write_stands packets packets' stream binary bytes old Alloc None new kept h stands = same_stands at packets packets' b q old new h kept stands
+  open_write_stands packets packets' stream binary bytes old (Wrote taken) (Some table) new kept h stands =
+      written_stands packets packets' stream binary bytes old (Ok taken) new kept h.0 stands
+  open_write_stands packets packets' stream binary bytes old (Refused error) (Some table) new kept h stands =
+      written_stands packets packets' stream binary bytes old (Err error) new kept h.0 stands
+  open_write_stands packets packets' stream binary bytes old outcome table new kept h stands = absurd h
+
+  writes_stand : (packets packets' : List SentPacket) (stream : Option ℕ) (binary : Bool) (bytes : List ℕ) (old : PlainPolled N)
+      (outcome : Outcome PlainMediaEvent) (table : Option Table) (new : PlainPolled N) → packets' ≡ packets
+      → StepWrites (plain_over draws) stream binary bytes old outcome table new → Stands at packets b q old → Stands at packets' b q new
+  writes_stand packets packets' None binary bytes old outcome table new kept h stands =
+      none_stands packets packets' old outcome table new kept h stands
+  writes_stand packets packets' (Some stream) binary bytes old outcome table new kept h stands =
+      open_write_stands packets packets' stream binary bytes old outcome table new kept h stands
+
+  shut_stands : (packets packets' : List SentPacket) (id : ℕ) → packets' ≡ packets → (p : PlainPolled N) (r : Result (Unit {0}) RtcError)
+      (next : PlainPolled N) → ClosesOpenChannel (plain_over draws) id p r next → Stands at packets b q p → Stands at packets' b q next
+  shut_stands packets packets' id kept p (Ok done) next h stands =
+      done_stands packets packets' [] p next kept (channel_close_acts (plain_over draws) id p (Ok tt) next h) stands
+  shut_stands packets packets' id kept p (Err PeerAlloc) next h stands =
+      done_stands packets packets' [] p next kept (channel_close_acts (plain_over draws) id p (Err alloc_error) next h) stands
+  shut_stands packets packets' id kept p (Err error) next h stands = absurd h
+
+  channel_closes_stand : (packets packets' : List SentPacket) (stream : Option ℕ) (id : ℕ) (old : PlainPolled N)
+      (outcome : Outcome PlainMediaEvent) (table : Option Table) (new : PlainPolled N) → packets' ≡ packets
+      → StepClosesChannel (plain_over draws) stream id old outcome table new → Stands at packets b q old → Stands at packets' b q new
+  channel_closes_stand packets packets' None id old outcome table new kept h stands =
+      none_stands packets packets' old outcome table new kept h stands
+  channel_closes_stand packets packets' (Some stream) id old outcome table new kept h stands =
+      calls_stand (ClosesOpenChannel (plain_over draws) id) packets packets'
+      (λ p r next closes s. shut_stands packets packets' id kept p r next closes s) old outcome table new kept h stands
 
   -- a datagram that the other side sent
   read_stands : (packets packets' : List SentPacket) (kind : Result MultiplexKind NetError) (transmit : Transmit) (now : ℕ) → packets' ≡ packets
@@ -187,6 +248,10 @@ module _ {N : Type 0} (draws : Draws N) (b : PeerActs) (q : PlainPolled N) where
   acts_stand stun (Drain at) old sdps packets outcome table new sdps' packets' h stands =
       polls_stand draws at b q (DrainsPeer (plain_over draws) at old) old
       (λ from outputs end next to drains s. drains_stand draws at b q old from outputs end next to drains s) packets outcome table new packets' h.0 stands
+  acts_stand stun (Write at channel binary bytes) old sdps packets outcome table new sdps' packets' h stands =
+      writes_stand draws at b q packets packets' (open_stream_under channel old) binary bytes old outcome table new h.2 h.0 stands
+  acts_stand stun (CloseChannel at channel) old sdps packets outcome table new sdps' packets' h stands =
+      channel_closes_stand draws at b q packets packets' (open_stream_under channel old) channel old outcome table new h.2 h.0 stands
   acts_stand stun (Close at) old sdps packets outcome table new sdps' packets' h stands =
       calls_stand draws at b q (ClosesPeer (plain_over draws)) packets packets'
       (λ p r next closes s. closed_stands draws at b q packets packets' p r next h.2 closes s) old outcome table new h.2 h.0 stands

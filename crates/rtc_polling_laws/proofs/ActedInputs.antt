@@ -31,14 +31,14 @@ use Rattle.rtc_peer_state.specs.Meanings.{Meanings}
 use Rattle.rtc_polling.specs.declared.input.Input.{Input}
 use Rattle.rtc_polling.specs.declared.input.Input.TheVariants.{Timeout as TimeCame, Receive as Datagram}
 use Rattle.rtc_polling.specs.declared.polled_peer.PolledPeer.{PolledPeer}
-use Rattle.rtc_polling.specs.ChannelCalls.{SetsChannelThreshold, WritesIf, WritesChannel, write_taken}
+use Rattle.rtc_polling.specs.ChannelCalls.{ClosesDataChannel, SetsChannelThreshold, WritesIf, WritesChannel, stream_under, write_taken}
 use Rattle.rtc_polling.specs.Inputs.{TimesIce, TimesStreams, TimesChannels, TimesMedia, GivesTime, TakesTimeIf, with_moment}
 use Rattle.rtc_polling.specs.Inputs.{HearsStun, HearsDtls, HearsMedia, HearsKind, Hears, Heard, PartFailed, HandlesInputBy, HandlesInputIn, HandlesInput}
 use Rattle.rtc_polling_laws.specs.PeerActs.{Came, nothing_came, came_of_datagram, came_by, moment_given}
 use Rattle.rtc_polling_laws.specs.Acts.{PeerDid, CallActs as CallDone, message_of_write}
 use Rattle.rtc_polling_laws.proofs.ActJoins.{ice_did, dtls_did, media_did, still_did}
 use Rattle.rtc_polling_laws.proofs.ActedClosing.{beside, BesideIce, BesideDtls, BesideStreams, BesideMedia, call_did, CallActs, did_after, turn_acts, still_by}
-use Rattle.rtc_polling_laws.proofs.StreamCallActs.{moment_did, threshold_if}
+use Rattle.rtc_polling_laws.proofs.StreamCallActs.{close_did, moment_did, threshold_if}
 
 module _ {I D S M E X T W N : Type 0} (m : Meanings I D S M E X T W N) (came : Came) (now : ℕ) where
   time_ice : (r : Result (Unit {0}) AllocError) (p q : PolledPeer I D S M N) → m.ice.timed p.core.ice now r q.core.ice → BesideIce p q
@@ -221,4 +221,10 @@ module _ {I D S M E X T W N : Type 0} (m : Meanings I D S M E X T W N) where
   pub threshold_acts : (stream n : ℕ) (p q : PolledPeer I D S M N) → SetsChannelThreshold stream n p q → CallDone m [] p q
   threshold_acts stream n p q h =
       call_did m nothing_came [] [] p q (threshold_if m.association (is_open_stream stream p.core.sctp) stream n p.core.sctp q.core.sctp h.0)
+      (beside BesideStreams p _ q h.1 (refl, refl, refl, refl))
+
+  pub channel_close_acts : (id : ℕ) (p : PolledPeer I D S M N) (r : Result (Unit {0}) AllocError) (q : PolledPeer I D S M N)
+      → ClosesDataChannel m id p r q → CallDone m [] p q
+  channel_close_acts id p r q h =
+      call_did m nothing_came [] [] p q (close_did m.association (stream_under id p.core.channels) p.core.sctp r q.core.sctp h.0)
       (beside BesideStreams p _ q h.1 (refl, refl, refl, refl))

@@ -1,4 +1,4 @@
--- What moments and thresholds do to the association under the streams of channels.
+-- What moments, thresholds and closes do to the association under the streams of channels.
 use Rattle.std.proofs.Common.{◌≡◌, ℕ, Bool, true, false, List, [], ◌∷◌, Option, Some, None, Result, Ok, Err, refl, sym, subst, ◌∙◌}
 use Rattle.std.specs.declared.alloc.AllocError.{AllocError}
 use Rattle.rtc_wire.specs.declared.channel_config.ChannelConfig.{ChannelConfig}
@@ -8,9 +8,9 @@ use Rattle.rtc_sctp.specs.Streams.{SctpStreams}
 use Rattle.rtc_sctp.specs.StreamCalls.{SetsThreshold}
 use Rattle.rtc_sctp_laws.specs.StreamActs.{CallDid}
 use Rattle.rtc_sctp_laws.proofs.ActLemmas.{did_none, did_join}
-use Rattle.rtc_sctp_laws.proofs.CallActs.{opens_did}
+use Rattle.rtc_sctp_laws.proofs.CallActs.{closes_did, opens_did}
 use Rattle.rtc_channels.specs.Channels.{Channel, Channels}
-use Rattle.rtc_channels.specs.Openings.{OpensChannel, OpensAll, Following, Progresses, MeetsMoment}
+use Rattle.rtc_channels.specs.Openings.{ClosesChannel, OpensChannel, OpensAll, Following, Progresses, MeetsMoment}
 use Rattle.rtc_association.specs.AssociationMeaning.{AssociationMeaning}
 use Rattle.rtc_polling.specs.ChannelCalls.{SetsThresholdIf}
 
@@ -67,3 +67,9 @@ module _ {S : Type 0} (m : AssociationMeaning S) where
   pub threshold_if : (is_open : Bool) (stream n : ℕ) (p q : SctpStreams S) → SetsThresholdIf S is_open stream n p q → CallDid m [] [] p q
   threshold_if true stream n p q h = threshold_did (entry_place stream p.entries) n p q h
   threshold_if false stream n p q h = call_none p q h
+
+  -- the stream of a channel is closed, if it has one
+  pub close_did : (stream : Option ℕ) (p : SctpStreams S) (r : Result (Unit {0}) AllocError) (q : SctpStreams S) → ClosesChannel m stream p r q
+      → CallDid m [] [] p q
+  close_did None p r q h = call_none p q h.1
+  close_did (Some stream) p r q h = closes_did m stream p r q h

@@ -8,7 +8,7 @@ ghost use Rattle.rtc_peer_state.specs.Acceptances.{AcceptsAnswer, AcceptsOffer};
 ghost use Rattle.rtc_peer_state.specs.Meanings.{meanings};
 ghost use Rattle.rtc_polling.specs.declared.input.Input.{Input as Given};
 ghost use Rattle.rtc_polling.specs.declared.polled_peer.PolledPeer.{PolledPeer as Polled};
-ghost use Rattle.rtc_polling.specs.ChannelCalls.{SetsChannelThreshold, WritesChannel};
+ghost use Rattle.rtc_polling.specs.ChannelCalls.{ClosesDataChannel, SetsChannelThreshold, WritesChannel};
 ghost use Rattle.rtc_polling.specs.Closing.{ClosesPeer};
 ghost use Rattle.rtc_polling.specs.Inputs.{HandlesInput};
 ghost use Rattle.rtc_polling.specs.Walk.{PollsPeer};
@@ -22,7 +22,8 @@ use rtc_media::MediaSession;
 
 /// Each call is a list of acts of each part. A poll gives the parts nothing that came from outside, shows only what they gave,
 /// and tells the last message that it read for a channel, if any. An input gives its datagram to one part at most, and no moment
-/// but its own. A write that is taken is one message written.
+/// but its own. A write that is taken is one message written. Where a data channel is closed, nothing comes, and no message is
+/// written or read.
 pub fn calls_act<I: IceAgent, D: DtlsInstance, S: Association, M: MediaSession, N: Ids>()
     ensures polls { (p q : Polled I D S M N) (answer : _)
         → PollsPeer (meanings I.ice D.dtls S.association M.media N.ids) p answer q
@@ -38,6 +39,9 @@ pub fn calls_act<I: IceAgent, D: DtlsInstance, S: Association, M: MediaSession, 
         → CallActs (meanings I.ice D.dtls S.association M.media N.ids)
         (message_of_write stream (S.association.generation p.core.sctp.association stream) binary bytes answer) p q }
     ensures thresholds { (p q : Polled I D S M N) (stream n : ℕ) → SetsChannelThreshold stream n p q
+        → CallActs (meanings I.ice D.dtls S.association M.media N.ids) [] p q }
+    ensures channel_closes { (p q : Polled I D S M N) (id : ℕ) (answer : _)
+        → ClosesDataChannel (meanings I.ice D.dtls S.association M.media N.ids) id p answer q
         → CallActs (meanings I.ice D.dtls S.association M.media N.ids) [] p q }
 {}
 

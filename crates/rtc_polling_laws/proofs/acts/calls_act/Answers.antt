@@ -2,7 +2,7 @@ use Rattle.std.proofs.Common.{[]}
 use Rattle.rtc_peer_state.specs.Meanings.{meanings}
 use Rattle.rtc_polling_laws.specs.PeerActs.{nothing_came}
 use Rattle.rtc_polling_laws.proofs.ActedClosing.{close_acts}
-use Rattle.rtc_polling_laws.proofs.ActedInputs.{input_acts, write_acts, threshold_acts}
+use Rattle.rtc_polling_laws.proofs.ActedInputs.{channel_close_acts, input_acts, write_acts, threshold_acts}
 use Rattle.rtc_polling_laws.proofs.ActedPolls.{poll_acts}
 use Rattle.rtc_polling_laws.proofs.acts.calls_act.Goals as goal
 
@@ -20,3 +20,6 @@ returns-clause-writes g c = λ p q stream binary bytes answer h. write_acts (mea
 
 pub returns-clause-thresholds : goal.returns-clause-thresholds
 returns-clause-thresholds g c = λ p q stream n h. threshold_acts (meanings g.I.IceAgent.ice g.D.DtlsInstance.dtls g.S.Association.association g.M.MediaSession.media g.N.Ids.ids) stream n p q h
+
+pub returns-clause-channel_closes : goal.returns-clause-channel_closes
+returns-clause-channel_closes g c = λ p q id answer h. channel_close_acts (meanings g.I.IceAgent.ice g.D.DtlsInstance.dtls g.S.Association.association g.M.MediaSession.media g.N.Ids.ids) id p answer q h
