@@ -165,6 +165,25 @@ def streams():
         print(f"| {channels:,} | {more:,} | {more // channels:,} |")
 
 
+# Messages through two peers over parts in memory, by the last of so many open channels, each sent, read and acknowledged before the
+# next. The longest one is as long as what a peer buffers.
+def channels():
+    def cost(open_channels, messages, size):
+        words = [program("rtc_polling_measure"), "one", *map(str, (open_channels, messages, size))]
+        more, told = count(words, b"")
+        if told != b"opened %d messages %d bytes %d\n" % (2 * open_channels, messages, messages * size):
+            sys.exit(f"measure: {words[1:]} ended with {told!r}")
+        return more
+
+    print("| Open channels | Bytes | Instructions | A byte | Over those for 0 bytes | A byte |\n|---|---|---|---|---|---|")
+    for open_channels in (1, 10, 100, 1_000):
+        start = cost(open_channels, 0, 0)
+        empty = cost(open_channels, 1, 0) - start
+        for size in (1_024, 16_384, 131_072):
+            more = cost(open_channels, 1, size) - start
+            print(f"| {open_channels:,} | {size:,} | {more:,} | {more / size:.1f} | {more - empty:,} | {(more - empty) / size:.1f} |")
+
+
 # The greatest memory of a program, in KiB. Its parent is small, since the memory of a parent before the program starts counts too.
 def memory(words):
     done = subprocess.run(["/usr/bin/time", "-f", "%M", *words], stdin=subprocess.DEVNULL, capture_output=True)
@@ -271,7 +290,7 @@ def demos():
 def main():
     parts = {
         "descriptions": descriptions, "rounds": rounds, "orderly": orderly, "messages": messages, "associations": associations,
-        "streams": streams, "forged": forged, "lookups": lookups, "frames": frames, "polls": polls,
+        "streams": streams, "channels": channels, "forged": forged, "lookups": lookups, "frames": frames, "polls": polls,
         "connecting": connecting, "demos": demos,
     }
     wanted = sys.argv[1:] or list(parts)
