@@ -80,9 +80,9 @@ def random_label(chance):
     return chance.choice(["-", "61", "c3a9", "f09f98802d"])
 
 
-# Of no bytes, of some, or of several pieces.
+# Of no bytes, of some, of several pieces, or of so many that two of them are not taken at once.
 def random_message(chance):
-    length = chance.choices([0, chance.randint(1, 9), chance.randint(1000, 3000), 20000], [4, 20, 8, 1])[0]
+    length = chance.choices([0, chance.randint(1, 9), chance.randint(1000, 3000), 20000, 70000], [40, 200, 80, 10, 3])[0]
     return chance.randbytes(length).hex() or "-"
 
 
