@@ -1,7 +1,7 @@
 #!/usr/bin/env python3
 """Counts instructions of the proved programs by valgrind --tool=callgrind, so that growth is seen. It is no part of the gate.
 
-usage: tests/measure.py [PART..]     PART is descriptions, rounds, orderly, messages, associations, streams, forged, lookups,
+usage: tests/measure.py [PART..]     PART is descriptions, rounds, orderly, messages, associations, streams, channels, forged, lookups,
 frames, polls, connecting or demos; without one all are counted
 
 The programs are those that the gate left in crates/*/out/. Each figure is a difference of two runs, so that the start of the
@@ -165,6 +165,25 @@ def streams():
         print(f"| {channels:,} | {more:,} | {more // channels:,} |")
 
 
+# A message through two peers over parts in memory, by the last of so many open channels, until it is read and acknowledged; the longest
+# one is as long as what a peer buffers. Opening a thousand channels takes most of the time. What the program itself takes to make the
+# message is not in the figures. A packet has at most 1034 bytes of it.
+def channels():
+    def cost(open_channels, messages, size):
+        words = [program("rtc_polling_measure"), "one", *map(str, (open_channels, messages, size))]
+        more, told = count(words, b"")
+        if told != b"opened %d messages %d bytes %d\n" % (2 * open_channels, messages, messages * size):
+            sys.exit(f"measure: {words[1:]} ended with {told!r}")
+        return more
+
+    print("| Open channels | Bytes | Instructions | A byte | A packet |\n|---|---|---|---|---|")
+    for open_channels in (1, 10, 100, 1_000):
+        start = cost(open_channels, 0, 0)
+        for size in (1_024, 131_072):
+            more = cost(open_channels, 1, size) - start - (cost(1, 0, size) - cost(1, 0, 0))
+            print(f"| {open_channels:,} | {size:,} | {more:,} | {more / size:.1f} | {more // -(-size // 1034):,} |")
+
+
 # The greatest memory of a program, in KiB. Its parent is small, since the memory of a parent before the program starts counts too.
 def memory(words):
     done = subprocess.run(["/usr/bin/time", "-f", "%M", *words], stdin=subprocess.DEVNULL, capture_output=True)
@@ -271,7 +290,7 @@ def demos():
 def main():
     parts = {
         "descriptions": descriptions, "rounds": rounds, "orderly": orderly, "messages": messages, "associations": associations,
-        "streams": streams, "forged": forged, "lookups": lookups, "frames": frames, "polls": polls,
+        "streams": streams, "channels": channels, "forged": forged, "lookups": lookups, "frames": frames, "polls": polls,
         "connecting": connecting, "demos": demos,
     }
     wanted = sys.argv[1:] or list(parts)
