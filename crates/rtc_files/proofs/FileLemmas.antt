@@ -5,8 +5,8 @@ use Rattle.std.proofs.lemmas.List.{take_all, length-take}
 use Rattle.std.proofs.lemmas.List.Sums.{sum_by-append}
 use Rattle.std.proofs.lemmas.Bool.{true≢false}
 use Rattle.std.proofs.Math.Seq.{take-suc}
-use Rattle.rtc_files.specs.Receiving.{ReceivedFile}
-use Rattle.rtc_files.specs.Sending.{piece_count}
+use Rattle.rtc_file_records.specs.Receiving.{ReceivedFile}
+use Rattle.rtc_file_records.specs.Sending.{piece_count}
 use Rattle.rtc_files.specs.Sessions.{pieces_taken, front_sent, pieces_left, EndIsTaken, HoldsSession}
 
 -- the session at a place takes the End

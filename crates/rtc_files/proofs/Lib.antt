@@ -1,8 +1,4 @@
-pub mod ByteFields
-pub mod RecordLemmas
 pub mod SizeWords
-pub mod PieceLemmas
 pub mod SessionLemmas
 pub mod FileLemmas
-pub mod ReceiverLaw
-pub mod WorkedRows
+pub mod WorkedSessions

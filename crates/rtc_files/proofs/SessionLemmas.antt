@@ -10,15 +10,15 @@ use Rattle.std.specs.Option.{unwrap_or}
 use Rattle.std.proofs.lemmas.Option.{none-some}
 use Rattle.std.proofs.lemmas.Slice.Eq.{bytes_eq-Decides}
 use Rattle.sha2.specs.Sha256.{sha256}
-use Rattle.rtc_files.specs.declared.announced.Announced.{Announced}
-use Rattle.rtc_files.specs.declared.file_record.FileRecord.{FileRecord}
-use Rattle.rtc_files.specs.declared.file_record.FileRecord.TheVariants.{Begin, Piece, End}
-use Rattle.rtc_files.specs.declared.file_error.FileError.{FileError}
-use Rattle.rtc_files.specs.declared.file_error.FileError.TheVariants.{Alloc}
-use Rattle.rtc_files.specs.Receiving.{ReceivedFile, refusal_by, with_record}
-use Rattle.rtc_files.specs.Sending.{SentFile, piece_count, rest_from, session_from}
+use Rattle.rtc_file_records.specs.declared.announced.Announced.{Announced}
+use Rattle.rtc_file_records.specs.declared.file_record.FileRecord.{FileRecord}
+use Rattle.rtc_file_records.specs.declared.file_record.FileRecord.TheVariants.{Begin, Piece, End}
+use Rattle.rtc_file_records.specs.declared.file_error.FileError.{FileError}
+use Rattle.rtc_file_records.specs.declared.file_error.FileError.TheVariants.{Alloc}
+use Rattle.rtc_file_records.specs.Receiving.{ReceivedFile, refusal_by, with_record}
+use Rattle.rtc_file_records.specs.Sending.{SentFile, piece_count, rest_from, session_from}
 use Rattle.rtc_files.specs.Sessions.{SendsRecord, HoldsSession, CanGoOn}
-use Rattle.rtc_files.proofs.PieceLemmas.{end_left, piece_left}
+use Rattle.rtc_file_records.proofs.PieceLemmas.{end_left, piece_left}
 
 -- what the receiver knows of the file
 abbrev pub Knows : List ℕ → List ℕ → ReceivedFile → Type 0

@@ -1,10 +1,3 @@
-pub mod Records
-pub mod RecordView
-pub mod Receiving
-pub mod FileReceiver
-pub mod Sending
-pub mod FileSender
 pub mod Asking
 pub mod Sessions
 pub mod Answers
-pub mod Laws

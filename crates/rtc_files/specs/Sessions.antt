@@ -25,11 +25,11 @@ use Rattle.std.specs.Prelude.{
   Bool,
 }
 use Rattle.std.specs.List.{sum_by}
-use Rattle.rtc_files.specs.declared.file_record.FileRecord.{FileRecord}
-use Rattle.rtc_files.specs.declared.file_error.FileError.{FileError}
-use Rattle.rtc_files.specs.declared.file_error.FileError.TheVariants.{Alloc}
-use Rattle.rtc_files.specs.Receiving.{ReceivedFile, TakesMessage, refusal_by}
-use Rattle.rtc_files.specs.Sending.{SentFile, piece_count}
+use Rattle.rtc_file_records.specs.declared.file_record.FileRecord.{FileRecord}
+use Rattle.rtc_file_records.specs.declared.file_error.FileError.{FileError}
+use Rattle.rtc_file_records.specs.declared.file_error.FileError.TheVariants.{Alloc}
+use Rattle.rtc_file_records.specs.Receiving.{ReceivedFile, TakesMessage, refusal_by}
+use Rattle.rtc_file_records.specs.Sending.{SentFile, piece_count}
 
 -- how many pieces sessions of these sizes take, where none of them reaches the End: a Begin comes before them in each
 abbrev pub pieces_taken : List ℕ → ℕ

@@ -1,26 +1,13 @@
 //! Sends a file in pieces, over sessions that break off, and writes what came.
 #![tactic(auto)]
 
-mod announced;
 mod asking;
-mod file_error;
-mod file_receiver;
-mod file_record;
-mod file_sender;
-mod laws;
-mod record_view;
 mod sessions;
 #[cfg(test)]
 mod tests;
 mod top;
 
-pub use announced::Announced;
 pub use asking::{SESSION_LIMIT, session_sizes};
-pub use file_error::FileError;
-pub use file_receiver::FileReceiver;
-pub use file_record::{FileRecord, NAME_LIMIT, PIECE_LIMIT};
-pub use file_sender::FileSender;
-pub use laws::{records_read_back, whole_where_an_end_was_taken};
 use rtc_io::{StdSink, StdSource};
 pub use sessions::send_file;
 use std::io::ErrorKind;

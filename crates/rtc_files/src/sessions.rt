@@ -2,7 +2,7 @@
 ghost use Rattle.std.specs.Prelude.{◌≡◌, ◌≤◌, ◌↔◌, length, true, false, IfOk, OnErr, OnOk, IsErrOf};
 ghost use Rattle.rtc_files.specs.Sessions.{front_sent, EndIsTaken, CanGoOn, SendsRecord, HoldsSession};
 
-use crate::{FileError, FileReceiver, FileRecord, FileSender};
+use rtc_file_records::{FileError, FileReceiver, FileRecord, FileSender};
 use std::alloc::Global;
 
 // One record goes over; false where none is left.

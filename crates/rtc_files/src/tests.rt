@@ -1,6 +1,4 @@
-//! Records, a receiver at its wrong moments, and runs of the program.
-mod receiving;
-mod records;
+//! Runs of the program.
 mod runs;
 mod statuses;
 

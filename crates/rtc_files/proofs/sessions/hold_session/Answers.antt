@@ -1,5 +1,5 @@
 use Rattle.std.proofs.Common.{rules, refl, ◌≡◌, ◌∙◌, length}
-use Rattle.rtc_files.specs.declared.file_error.FileError.TheVariants.{Alloc}
+use Rattle.rtc_file_records.specs.declared.file_error.FileError.TheVariants.{Alloc}
 use Rattle.rtc_files.proofs.SessionLemmas.{session_more, session_over, session_full, session_lacks}
 use Rattle.rtc_files.proofs.sessions.hold_session.Goals as goal
 

@@ -1,0 +1,5 @@
+pub mod ByteFields
+pub mod RecordLemmas
+pub mod PieceLemmas
+pub mod ReceiverLaw
+pub mod WorkedRows

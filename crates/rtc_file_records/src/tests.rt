@@ -1,0 +1,3 @@
+//! Records by their bytes, and a receiver at its wrong moments.
+mod receiving;
+mod records;

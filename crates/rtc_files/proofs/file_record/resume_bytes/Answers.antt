@@ -1,6 +1,0 @@
-use Rattle.std.proofs.Common.{rules}
-use Rattle.rtc_files.proofs.RecordLemmas.{resume_back}
-use Rattle.rtc_files.proofs.file_record.resume_bytes.Goals as goal
-
-pub returns-clause-again : goal.returns-clause-again
-returns-clause-again c = resume_back c.args.offset (search rules)

@@ -1,5 +1,0 @@
-use Rattle.rtc_files.proofs.RecordLemmas.{record_is_read}
-use Rattle.rtc_files.proofs.laws.records_read_back.Goals as goal
-
-pub returns : goal.returns
-returns c = record_is_read

@@ -1,6 +1,0 @@
--- A receiver, seen by its callers.
-use Rattle.rtc_files.specs.declared.file_receiver.FileReceiver.TheInside.{Inside}
-use Rattle.rtc_files.specs.Receiving.{ReceivedFile}
-
-abbrev pub received_of : Inside → ReceivedFile
-received_of inside = record { announced = inside.announced; begun = inside.begun; held = inside.held.items; whole = inside.whole }
