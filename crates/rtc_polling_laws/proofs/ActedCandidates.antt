@@ -1,5 +1,5 @@
 -- What adding a candidate does to the parts of a peer.
-use Rattle.std.proofs.Common.{[], ◌∷◌, Bool, List, Result, refl}
+use Rattle.std.proofs.Common.{[], ◌∷◌, Bool, Result, refl}
 use Rattle.std.specs.declared.alloc.AllocError.{AllocError}
 use Rattle.rtc_association.proofs.AmongLemmas.{among_none, among_self, member-right}
 use Rattle.rtc_sdp_values.specs.declared.candidate.Candidate.{Candidate}
