@@ -2,7 +2,7 @@ use Rattle.std.proofs.Common.{[]}
 use Rattle.rtc_peer_state.specs.Meanings.{meanings}
 use Rattle.rtc_polling_laws.specs.PeerActs.{nothing_came}
 use Rattle.rtc_polling_laws.proofs.ActedClosing.{close_acts}
-use Rattle.rtc_polling_laws.proofs.ActedInputs.{input_acts, write_acts, threshold_acts}
+use Rattle.rtc_polling_laws.proofs.ActedInputs.{channel_close_acts, input_acts, write_acts, threshold_acts}
 use Rattle.rtc_polling_laws.proofs.ActedPolls.{poll_acts}
 use Rattle.rtc_polling_laws.proofs.RelayedCalls.{did_relay}
 use Rattle.rtc_polling_laws.proofs.laws.calls_relay.Goals as goal
@@ -21,3 +21,6 @@ returns-clause-writes g c = λ p q stream binary bytes answer h. did_relay (mean
 
 pub returns-clause-thresholds : goal.returns-clause-thresholds
 returns-clause-thresholds g c = λ p q stream n h. did_relay (meanings g.I.IceAgent.ice g.D.DtlsInstance.dtls g.S.Association.association g.M.MediaSession.media g.N.Ids.ids) _ _ _ _ _ p q (threshold_acts (meanings g.I.IceAgent.ice g.D.DtlsInstance.dtls g.S.Association.association g.M.MediaSession.media g.N.Ids.ids) stream n p q h)
+
+pub returns-clause-channel_closes : goal.returns-clause-channel_closes
+returns-clause-channel_closes g c = λ p q id answer h. did_relay (meanings g.I.IceAgent.ice g.D.DtlsInstance.dtls g.S.Association.association g.M.MediaSession.media g.N.Ids.ids) _ _ _ _ _ p q (channel_close_acts (meanings g.I.IceAgent.ice g.D.DtlsInstance.dtls g.S.Association.association g.M.MediaSession.media g.N.Ids.ids) id p answer q h)
