@@ -35,6 +35,7 @@ pub read_case : (o : Option DcepError) (message made : DcepOpen) → IfSome o (�
 read_case None message made h k = (refl, k)
 read_case (Some why) message made h k = absurd (ok_or_err message why h)
 
+-- a conjunction is false where its second part is
 over_false : (a b : Bool) → b ≡ false → (a && b) ≡ false
 over_false true b e = e
 over_false false b e = refl
