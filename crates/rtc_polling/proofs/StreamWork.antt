@@ -150,8 +150,8 @@ module _ {S : Type 0} (m : AssociationMeaning S) (w : AssociationLaws m) where
   handled_single : (p : SctpStreams S) (met : Met) (q : SctpStreams S) → HandlesEvent m p met q → Single met
   handled_single p met q (NotStarted s e f g, k) = single_is Nothing met e (omega arith)
   handled_single p met q (NoRoom e f g, k) = single_is OutOfMemory met e (omega arith)
-  handled_single p met q (NoEvent k e g, j) = single_is Nothing met e (omega arith)
-  handled_single p met q (Event e k f g, j) = single_is (event_met e) met f (event_single e)
+  handled_single p met q (NoEvent s k e g, j) = single_is Nothing met e (omega arith)
+  handled_single p met q (Event e s k f g, j) = single_is (event_met e) met f (event_single e)
 
   visits_single : (b : Bool) (p : SctpStreams S) (met : Met) (q : SctpStreams S) → VisitsIf m b p met q → Single met
   visits_single true p met q h =

@@ -16,7 +16,7 @@ use Rattle.rtc_polling.specs.declared.polled_peer.PolledPeer.{PolledPeer}
 use Rattle.rtc_polling.specs.Closing.{is_closing_complete}
 use Rattle.rtc_polling.specs.Deadlines.{least_deadline, wake_moment}
 use Rattle.rtc_polling.specs.Walk.{VisitsParts, Waits, WaitsIf, AnswersMet, Walks, PollsPeerFrom, PollsPeer, with_reason}
-use Rattle.rtc_polling_laws.specs.Drained.{CanRest, AnswersAgain}
+use Rattle.rtc_polling_laws.specs.Drained.{AnswersAgain}
 use Rattle.rtc_polling_laws.proofs.RestingConnection.{Rests, repeats_rest}
 use Rattle.rtc_polling_laws.proofs.RestingStages.{Drained, drained_rests}
 use Rattle.rtc_polling_laws.proofs.KeptTurns.{phase_of_peer, turns_keep, visits_kept}
@@ -118,28 +118,28 @@ module _ {I D S M E X T W N : Type 0} (m : Meanings I D S M E X T W N) where
 
     waiting_again : (last v : PolledPeer I D S M N) (reason : Reason) (moment : ℕ) (answer : Result (Output E) RtcError) (s : PolledPeer I D S M N)
         → VisitsParts m last Nothing v → v.core.phase ≢ Closed → is_closing_complete m v ≡ false → moment ≡ wake_moment m v
-        → reason ≡ (least_deadline m v).1 → CanRest m (with_reason reason v) → PollsPeer m (with_reason reason v) answer s
+        → reason ≡ (least_deadline m v).1 → PollsPeer m (with_reason reason v) answer s
         → AnswersAgain moment (with_reason reason v) answer s
-    waiting_again last v reason moment answer s visit live unclosed is by can h =
+    waiting_again last v reason moment answer s visit live unclosed is by h =
         let n : PolledPeer I D S M N = with_reason reason v in
-        let drained = drained_with reason v (visit_drains m laws last v can.early can.waits visit) in
+        let drained = drained_with reason v (visit_drains m laws last v visit) in
         let walk = walks_by v.core.phase n answer s live h in
         let rests = repeats_rest (VisitsParts m) n (drained_rests m laws n drained) walk.met walk.visited walk.by_visits in
         met_again walk.met n walk.visited answer s moment unclosed (sym is)
         (ap (λ (r : Reason). with_reason r v) (sym by)) rests walk.by_answer
 
-    again_by : (moment : ℕ) (q : PolledPeer I D S M N) (answer : Result (Output E) RtcError) (s : PolledPeer I D S M N) → Ends moment q → CanRest m q
+    again_by : (moment : ℕ) (q : PolledPeer I D S M N) (answer : Result (Output E) RtcError) (s : PolledPeer I D S M N) → Ends moment q
         → PollsPeer m q answer s → AnswersAgain moment q answer s
-    again_by moment q answer s (AtRest closed is reason) can h = inl (rest_again moment q answer s closed is reason h)
-    again_by moment q answer s (Waiting last v visit live unclosed is at) can h =
+    again_by moment q answer s (AtRest closed is reason) h = inl (rest_again moment q answer s closed is reason h)
+    again_by moment q answer s (Waiting last v visit live unclosed is at) h =
         subst (λ (x : PolledPeer I D S M N). AnswersAgain moment x answer s) (sym at)
         (waiting_again last v (least_deadline m v).1 moment answer s visit live unclosed is refl
-        (subst (λ (x : PolledPeer I D S M N). CanRest m x) at can) (subst (λ (x : PolledPeer I D S M N). PollsPeer m x answer s) at h))
+        (subst (λ (x : PolledPeer I D S M N). PollsPeer m x answer s) at h))
 
     -- a peer that answered a timeout, polled again
     pub polled_again : (p q s : PolledPeer I D S M N) (moment : ℕ) (answer : Result (Output E) RtcError) → PollsPeer m p (Ok (Timeout moment)) q
-        → CanRest m q → PollsPeer m q answer s → AnswersAgain moment q answer s
-    polled_again p q s moment answer first can second = again_by moment q answer s (poll_ends p.core.phase moment p q refl first) can second
+        → PollsPeer m q answer s → AnswersAgain moment q answer s
+    polled_again p q s moment answer first second = again_by moment q answer s (poll_ends p.core.phase moment p q refl first) second
 
   closed_by : (moment : ℕ) (q : PolledPeer I D S M N) → Ends moment q → q.core.phase ≡ Closed
       → (moment ≡ 2 ^ 64 - 1) × (q.transport.last_reason ≡ NotHappening)

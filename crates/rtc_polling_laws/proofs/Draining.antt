@@ -1,5 +1,5 @@
 -- A visit of the parts of a peer that met nothing leaves it drained.
-use Rattle.std.proofs.Common.{if◌then◌else◌, ◌≡◌, ◌≢◌, ◌<◌, ◌-◌, ◌^◌, ℕ, Bool, true, false, List, [], ◌∷◌, Option, Some, None, Result, Ok, Err}
+use Rattle.std.proofs.Common.{if◌then◌else◌, ◌≡◌, ◌≢◌, ◌-◌, ◌^◌, ℕ, Bool, true, false, List, [], ◌∷◌, Option, Some, None, Result, Ok, Err}
 use Rattle.std.proofs.Common.{refl, sym, ap, subst, ◌∙◌, arith}
 use Rattle.std.specs.declared.alloc.AllocError.{AllocError}
 use Rattle.rtc_ice.specs.declared.ice_event.IceEvent.{IceEvent}
@@ -28,7 +28,6 @@ use Rattle.rtc_polling.specs.Stages.{FollowedBy}
 use Rattle.rtc_polling.specs.StreamStages.{TellsStreams}
 use Rattle.rtc_polling.specs.Walk.{StartsOverWhenDue, TellsConnection, TellsArrivals, SendsDatagrams, VisitsParts}
 use Rattle.rtc_polling.proofs.StageLemmas.{went_through}
-use Rattle.rtc_polling_laws.specs.Drained.{WaitsToStart}
 use Rattle.rtc_polling_laws.proofs.RestingConnection.{DtlsRests}
 use Rattle.rtc_polling_laws.proofs.RestingStages.{AreSent, WaitsOver, Drained}
 use Rattle.rtc_polling_laws.proofs.KeptTurns.{outputs_kept, streams_kept, arrivals_kept}
@@ -245,11 +244,10 @@ module _ {I D S M E X T W N : Type 0} (m : Meanings I D S M E X T W N) (laws : P
         sent = sent.packets;
       }
 
-  -- a visit that met nothing drains the peer, before the last moment of all, where an association that was not started has no event
-  pub visit_drains : (p q : PolledPeer I D S M N) → q.core.sctp.last < 2 ^ 64 - 1
-      → WaitsToStart m.association q.core.sctp.association → VisitsParts m p Nothing q → Drained m laws q
+  -- a visit that met nothing drains the peer
+  pub visit_drains : (p q : PolledPeer I D S M N) → VisitsParts m p Nothing q → Drained m laws q
   unfolding VisitsParts
-  visit_drains p q early waits h =
+  visit_drains p q h =
       let one = went_through (TellsConnection m) (FollowedBy (TellsStreams m) (FollowedBy (TellsArrivals m) (FollowedBy (SendsDatagrams m) StartsOverWhenDue))) p q h in
       let two = went_through (TellsStreams m) (FollowedBy (TellsArrivals m) (FollowedBy (SendsDatagrams m) StartsOverWhenDue)) one.0 q one.1.1 in
       let three = went_through (TellsArrivals m) (FollowedBy (SendsDatagrams m) StartsOverWhenDue) two.0 q two.1.1 in
@@ -258,10 +256,7 @@ module _ {I D S M E X T W N : Type 0} (m : Meanings I D S M E X T W N) (laws : P
       let connects = connection_drains p one.0 one.1.0 in
       let arrived = arrivals_drain two.0 three.0 three.1.0 in
       let sent = datagrams_drain three.0 four.0 arrived.events four.1.0 in
-      let back : q.core.sctp ≡ two.0.core.sctp = ap (λ (x : PolledPeer I D S M N). x.core.sctp) four.1.1.1 ∙ sent.0.sctp ∙ arrived.sctp in
-      let early_two = subst (λ (s : SctpStreams S). s.last < 2 ^ 64 - 1) back early in
-      let waits_two = subst (λ (s : SctpStreams S). WaitsToStart m.association s.association) back waits in
-      let streams = streams_drain m laws one.0 two.0 two.1.0 early_two waits_two in
+      let streams = streams_drain m laws one.0 two.0 two.1.0 in
       let agent : two.0.core.ice ≡ one.0.core.ice = streams_kept m only_ice one.0 Nothing two.0 two.1.0 in
       let agent' : three.0.core.ice ≡ two.0.core.ice = arrivals_kept m only_ice two.0 Nothing three.0 three.1.0 in
       subst (λ (x : PolledPeer I D S M N). Drained m laws x) (sym four.1.1.1)

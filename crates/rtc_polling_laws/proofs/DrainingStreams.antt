@@ -1,5 +1,5 @@
 -- A visit that met nothing leaves streams that have nothing to give, or whose packets cannot go yet.
-use Rattle.std.proofs.Common.{◌≡◌, ◌<◌, ◌-◌, ◌^◌, ◌⊎◌, inl, inr, ℕ, false, List, [], ◌∷◌, Option, Some, None, Result, Ok, Err}
+use Rattle.std.proofs.Common.{◌≡◌, ◌⊎◌, inl, inr, ℕ, false, List, [], ◌∷◌, Option, Some, None, Result, Ok, Err}
 use Rattle.std.proofs.Common.{refl, sym, ap, subst, ◌∙◌}
 use Rattle.std.specs.declared.alloc.AllocError.{AllocError}
 use Rattle.rtc_dtls.specs.DtlsState.{DtlsState, can_send}
@@ -15,7 +15,6 @@ use Rattle.rtc_polling.specs.StreamStages.{OpensChannelOver, ClosesChannelOver, 
 use Rattle.rtc_polling.specs.StreamStages.{PollsStreamEvents, SendsPacket, SendsFirst, SendsKeptPackets, TellsStreams, channel_over}
 use Rattle.rtc_polling.proofs.StageLemmas.{went_through}
 use Rattle.rtc_polling.proofs.StreamTurns.{streams_polled, kept_stay}
-use Rattle.rtc_polling_laws.specs.Drained.{WaitsToStart}
 use Rattle.rtc_polling_laws.proofs.RestingStreams.{StreamsRest, polled_rest}
 use Rattle.rtc_polling_laws.proofs.PushedAgain.{StreamsGive, polled_gives}
 use Rattle.rtc_polling_laws.proofs.RestingStages.{WaitsOver}
@@ -56,15 +55,12 @@ module _ {I D S M E X T W N : Type 0} (m : Meanings I D S M E X T W N) (laws : P
   -- the streams after the last poll of them, by what it answered
   polled_wait : (answer : Result (Option SctpEvent) AllocError) (streams : SctpStreams S) (p n q : PolledPeer I D S M N)
       → PollsStreams m.association p.core.sctp answer streams → TakesStreamAnswer m answer (with_sctp streams p) Nothing n
-      → SendsKeptPackets m n Nothing q → q.core.sctp ≡ n.core.sctp → q.core.dtls ≡ n.core.dtls → q.core.sctp.last < 2 ^ 64 - 1
-      → WaitsToStart m.association q.core.sctp.association → WaitsOver m laws q.core.sctp q.core.dtls
-  polled_wait (Ok None) streams p n q polled taken sends same dtls early waits =
+      → SendsKeptPackets m n Nothing q → q.core.sctp ≡ n.core.sctp → q.core.dtls ≡ n.core.dtls → WaitsOver m laws q.core.sctp q.core.dtls
+  polled_wait (Ok None) streams p n q polled taken sends same dtls =
       let is : q.core.sctp ≡ streams = same ∙ ap (λ (x : PolledPeer I D S M N). x.core.sctp) taken.1 in
-      let early_streams = subst (λ (s : SctpStreams S). s.last < 2 ^ 64 - 1) is early in
-      let waits_streams = subst (λ (s : SctpStreams S). WaitsToStart m.association s.association) is waits in
       inl (subst (λ (s : SctpStreams S). StreamsRest m.association laws.association s × (s.pushed ≡ None)) (sym is)
-      (polled_rest m.association laws.association p.core.sctp streams early_streams waits_streams polled))
-  polled_wait (Ok (Some e)) streams p n q polled taken sends same dtls early waits =
+      (polled_rest m.association laws.association p.core.sctp streams polled))
+  polled_wait (Ok (Some e)) streams p n q polled taken sends same dtls =
       let kept = kept_packets e (with_sctp streams p) n taken in
       let back : n.core.sctp ≡ record streams { pushed = Some kept.0 } = ap (λ (x : PolledPeer I D S M N). x.core.sctp) kept.1.1 in
       by kept.0 (subst (λ (x : SctpEvent). PollsStreams m.association p.core.sctp (Ok (Some x)) streams) kept.1.0 polled) back
@@ -91,21 +87,20 @@ module _ {I D S M E X T W N : Type 0} (m : Meanings I D S M E X T W N) (laws : P
             ap (λ (s : SctpStreams S). s.pushed) is,
             ap (λ (d : DtlsState D). can_send m.dtls d) dtls ∙ sent.3,
           )
-  polled_wait (Err error) streams p n q polled taken sends same dtls early waits = cc (taken.0)
+  polled_wait (Err error) streams p n q polled taken sends same dtls = cc (taken.0)
 
   -- what the connection and the streams keep while nothing is met
   pub record Stays (p q : PolledPeer I D S M N) : Type 0 where
     pub transport : q.transport ≡ p.transport
     pub dtls : q.core.dtls ≡ p.core.dtls
 
-  pub streams_drain : (p q : PolledPeer I D S M N) → TellsStreams m p Nothing q → q.core.sctp.last < 2 ^ 64 - 1
-      → WaitsToStart m.association q.core.sctp.association → Stays p q × WaitsOver m laws q.core.sctp q.core.dtls
+  pub streams_drain : (p q : PolledPeer I D S M N) → TellsStreams m p Nothing q → Stays p q × WaitsOver m laws q.core.sctp q.core.dtls
   unfolding TellsStreams
-  streams_drain p q h early waits =
+  streams_drain p q h =
       let met = went_through (PollsStreamEvents m) (SendsKeptPackets m) p q h in
       let polled = streams_polled m laws.association p met.0 met.1.0 in
       let kept = kept_stay m met.0 q met.1.1 in
       let ends = met.1.0.ends in (
         record { transport = kept.0 ∙ polled.transport; dtls = kept.2 ∙ polled.dtls },
-        polled_wait ends.answer ends.streams met.1.0.last met.0 q ends.by_poll ends.by_answer met.1.1 kept.3 kept.2 early waits,
+        polled_wait ends.answer ends.streams met.1.0.last met.0 q ends.by_poll ends.by_answer met.1.1 kept.3 kept.2,
       )

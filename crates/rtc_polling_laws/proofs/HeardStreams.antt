@@ -1,6 +1,6 @@
 -- A poll of the streams that gave nothing has heard every stream in use.
 use Rattle.std.proofs.Common.{◌≡◌, ◌⊎◌, inl, inr, ℕ, Bool, true, false, List, [], ◌∷◌, Option, Some, None, Result, Ok, refl, sym, ap, subst, ◌∙◌}
-use Rattle.std.specs.Prelude.{◌&&◌, nat_le}
+use Rattle.std.specs.Prelude.{◌&&◌}
 use Rattle.rtc_association.specs.declared.assoc_error.AssocError.{AssocError}
 use Rattle.rtc_association.specs.declared.assoc_error.AssocError.TheVariants.{StreamExists, ResetPending}
 use Rattle.rtc_association.specs.AssociationMeaning.{AssociationMeaning}
@@ -16,7 +16,7 @@ use Rattle.rtc_sctp_entries.specs.declared.met.Met.{Met}
 use Rattle.rtc_sctp_entries.specs.declared.met.Met.TheVariants.{Nothing, Again, Output, OutOfMemory}
 use Rattle.rtc_sctp_entries.specs.Answers.{opening_of}
 use Rattle.rtc_sctp_entries.specs.Entries.{is_closed_state}
-use Rattle.rtc_sctp_entries.specs.Visits.{Turn, turn, opening_ends, RetriedIf, RetriedAt, is_adopted, AdoptedIf, OpenedBy, AttendsBy, AttendsIf, VisitsIn, Visits}
+use Rattle.rtc_sctp_entries.specs.Visits.{Turn, turn, is_opening_over, RetriedIf, RetriedAt, is_adopted, AdoptedIf, OpenedBy, AttendsBy, AttendsIf, VisitsIn, Visits}
 use Rattle.rtc_sctp.specs.Streams.{SctpStreams, is_established}
 use Rattle.rtc_sctp.specs.Polls.{Else, unclosed_streams, GivesCompletion, GivesTransmit, HandlesEvent, VisitedThen, VisitsAll, VisitsIf, VisitsEntries, MakesPass, PollsStreams}
 use Rattle.rtc_polling_laws.specs.Drained.{IsHeard, AreHeard, AllHeard}
@@ -34,7 +34,7 @@ module _ {S : Type 0} (m : AssociationMeaning S) (w : AssociationLaws m) where
   -- an opening that was refused is still waited for
   retried_waits : (now : ℕ) (refused : Option ℕ) (t t' : Turn S) → RetriedAt m now refused t Nothing t' → (t'.association ≡ t.association) × (t'.entry.state ≡ t.entry.state)
   retried_waits now None t t' h = (ap (λ (x : Turn S). x.association) h.1, ap (λ (x : Turn S). x.entry.state) h.1)
-  retried_waits now (Some first) t t' h = by (nat_le (opening_ends first) now) h
+  retried_waits now (Some first) t t' h = by (is_opening_over first now) h
     where
       by : (b : Bool) → RetriedIf m b t Nothing t' → (t'.association ≡ t.association) × (t'.entry.state ≡ t.entry.state)
       by true k = absurd (closes_meet m t t' k)

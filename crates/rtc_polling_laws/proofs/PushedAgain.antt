@@ -74,8 +74,8 @@ module _ {S : Type 0} (m : AssociationMeaning S) (w : AssociationLaws m) where
   handled_not : (packets : List (List ℕ)) (p q : SctpStreams S) → HandlesEvent m p (Output (event.Transmit packets)) q → ⊥
   handled_not packets p q (NotStarted fresh is same book, k) = cc (is)
   handled_not packets p q (NoRoom is same book, k) = cc (is)
-  handled_not packets p q (NoEvent polled is book, k) = cc (is)
-  handled_not packets p q (Event e polled is after, k) = not_sent packets e is
+  handled_not packets p q (NoEvent started polled is book, k) = cc (is)
+  handled_not packets p q (Event e started polled is after, k) = not_sent packets e is
 
   visited_not : (b : Bool) (packet : List ℕ) (rest : List (List ℕ)) (p q : SctpStreams S) → VisitsIf m b p (Output (event.Transmit (packet ∷ rest))) q → ⊥
   visited_not false packet rest p q h = cc (h.0)

@@ -1,6 +1,5 @@
 -- A visit of a stream that gave nothing is followed by one that gives nothing and changes nothing, unless it finds no memory.
-use Rattle.std.proofs.Common.{◌≡◌, ◌<◌, ◌-◌, ◌^◌, ◌⊎◌, inl, inr, ℕ, Bool, true, false, List, Option, Some, None, Result, Ok, Err, refl, sym, ap, subst, ◌∙◌, arith}
-use Rattle.std.specs.Prelude.{nat_le}
+use Rattle.std.proofs.Common.{◌≡◌, ◌⊎◌, inl, inr, ℕ, Bool, true, false, List, Option, Some, None, Result, Ok, Err, refl, sym, ap, subst, ◌∙◌}
 use Rattle.rtc_association.specs.declared.assoc_error.AssocError.{AssocError}
 use Rattle.rtc_association.specs.declared.assoc_error.AssocError.TheVariants.{NoStream, TooLong, Closing, Alloc, Fault, StreamExists, ResetPending}
 use Rattle.rtc_association.specs.declared.ppi.Ppi.{Ppi}
@@ -19,9 +18,10 @@ use Rattle.rtc_sctp_entries.specs.declared.met.Met.{Met}
 use Rattle.rtc_sctp_entries.specs.declared.met.Met.TheVariants.{Nothing, OutOfMemory}
 use Rattle.rtc_sctp_entries.specs.Answers.{opening_of, heard_of}
 use Rattle.rtc_sctp_entries.specs.Entries.{is_closed_state}
-use Rattle.rtc_sctp_entries.specs.Visits.{Turn, turn, opening_ends}
+use Rattle.rtc_sctp_entries.specs.Visits.{Turn, turn, is_opening_over}
 use Rattle.rtc_sctp_entries.specs.Visits.{RetriedIf, RetriedAt, Retries, is_adopted, AdoptedIf, OpenedBy, OpensEntry}
 use Rattle.rtc_sctp_entries.specs.Visits.{ReadBy, ReadsEntry, AttendsBy, AttendsIf, VisitsIn, Visits}
+use Rattle.rtc_sctp_entries.proofs.VisitLemmas.{not_over}
 use Rattle.rtc_polling_laws.proofs.MeetingEntries.{closes_meet, begins_meet, message_taken, threshold_handed}
 
 -- an opening that was refused for the stream that is there, or for its outstanding reset
@@ -57,10 +57,6 @@ nothing_is (Err Fault) e = cc (e)
 nothing_is (Err StreamExists) e = cc (e)
 nothing_is (Err ResetPending) e = cc (e)
 
--- an opening that was first refused now is not given up now, but at the last moment of all
-not_over : (now : ℕ) → now < 2 ^ 64 - 1 → nat_le (opening_ends now) now ≡ false
-not_over now early = grind (arith, early)
-
 module _ {S : Type 0} (m : AssociationMeaning S) where
   -- what is met is nothing, and nothing changes; or memory is wanting
   abbrev TurnRests : Turn S → Met → Turn S → Type 0
@@ -78,7 +74,7 @@ module _ {S : Type 0} (m : AssociationMeaning S) where
     pub rests : EntryRests now t.association t.resets t'.entry
 
   -- an opening that was refused, and is not given up, is refused again
-  retries_rest : (now first : ℕ) (t : Turn S) (met : Met) (t' : Turn S) → t.entry.refused ≡ Some first → nat_le (opening_ends first) now ≡ false
+  retries_rest : (now first : ℕ) (t : Turn S) (met : Met) (t' : Turn S) → t.entry.refused ≡ Some first → is_opening_over first now ≡ false
       → Retries m now t met t' → (met ≡ Nothing) × (t' ≡ t)
   retries_rest now first t met t' was waits h =
       let at = subst (λ (o : Option ℕ). RetriedAt m now o t met t') was h in
@@ -94,7 +90,7 @@ module _ {S : Type 0} (m : AssociationMeaning S) where
   refused_cause why t (inr h) = inr h
 
   opened_as : (why : AssocError) (now first : ℕ) (t : Turn S) (met : Met) (t' : Turn S) → IsRefusedWith why t → t.entry.refused ≡ Some first
-      → nat_le (opening_ends first) now ≡ false → OpenedBy m (opening_of (Err why)) now t met t' → (met ≡ Nothing) × (t' ≡ t)
+      → is_opening_over first now ≡ false → OpenedBy m (opening_of (Err why)) now t met t' → (met ≡ Nothing) × (t' ≡ t)
   opened_as why now first t met t' (inl cause) was waits h =
       let by = subst (λ (x : AssocError). OpenedBy m (opening_of (Err x)) now t met t') cause.0 h in
       retries_rest now first t met t' was waits (subst (λ (b : Bool). AdoptedIf m b now t met t') cause.1 by)
@@ -110,7 +106,7 @@ module _ {S : Type 0} (m : AssociationMeaning S) where
 
   module _ (w : AssociationLaws m) where
     opening_rests : (why : AssocError) (now first : ℕ) (t : Turn S) (q : S) → IsRefusedWith why t → m.opened t.association t.entry.id (Err why) q
-        → t.entry.refused ≡ Some first → nat_le (opening_ends first) now ≡ false → (met : Met) (t' : Turn S) → OpensEntry m now t met t' → TurnRests t met t'
+        → t.entry.refused ≡ Some first → is_opening_over first now ≡ false → (met : Met) (t' : Turn S) → OpensEntry m now t met t' → TurnRests t met t'
     opening_rests why now first t q cause was refused waits met t' h =
         by (w.open_refused_again t.association q h.between t.entry.id why h.asks.result (refused_cause why t cause) was h.asks.called)
       where
@@ -126,26 +122,26 @@ module _ {S : Type 0} (m : AssociationMeaning S) where
 
     -- the entry of a stream that waits to be opened
     waiting_rests : (why : AssocError) (now first : ℕ) (t : Turn S) (q : S) → t.entry.state ≡ AwaitOpen → IsRefusedWith why t
-        → m.opened t.association t.entry.id (Err why) q → t.entry.refused ≡ Some first → nat_le (opening_ends first) now ≡ false
+        → m.opened t.association t.entry.id (Err why) q → t.entry.refused ≡ Some first → is_opening_over first now ≡ false
         → EntryRests now t.association t.resets t.entry
     waiting_rests why now first t q state cause was refused waits met t' h =
         opening_rests why now first t q cause was refused waits met t' (subst (λ (st : StreamEntryState). VisitsIn m st now t met t') state h)
 
     -- an opening was refused for now
-    retried : (why : AssocError) (now : ℕ) (refused : Option ℕ) (t t' : Turn S) (q : S) → now < 2 ^ 64 - 1 → t.entry.state ≡ AwaitOpen
+    retried : (why : AssocError) (now : ℕ) (refused : Option ℕ) (t t' : Turn S) (q : S) → t.entry.state ≡ AwaitOpen
         → IsRefusedWith why t → m.opened t.association t.entry.id (Err why) q → t.entry.refused ≡ refused → RetriedAt m now refused t Nothing t'
         → Rested now t t'
-    retried why now None t t' q early state cause was is h = record {
+    retried why now None t t' q state cause was is h = record {
       association = ap (λ (x : Turn S). x.association) h.1;
       resets = ap (λ (x : Turn S). x.resets) h.1;
       unclosed = ap (λ (x : Turn S). is_closed_state x.entry.state) h.1 ∙ ap is_closed_state state;
       rests =
           subst (λ (x : Turn S). EntryRests now t.association t.resets x.entry) (sym h.1)
-          (waiting_rests why now now (record t { entry = record t.entry { refused = Some now } }) q state cause was refl (not_over now early));
+          (waiting_rests why now now (record t { entry = record t.entry { refused = Some now } }) q state cause was refl (not_over now));
     }
-    retried why now (Some first) t t' q early state cause was is h = by (nat_le (opening_ends first) now) refl h
+    retried why now (Some first) t t' q state cause was is h = by (is_opening_over first now) refl h
       where
-        by : (b : Bool) → nat_le (opening_ends first) now ≡ b → RetriedIf m b t Nothing t' → Rested now t t'
+        by : (b : Bool) → is_opening_over first now ≡ b → RetriedIf m b t Nothing t' → Rested now t t'
         by true over k = absurd (closes_meet m t t' k)
         by false over k = record {
           association = ap (λ (x : Turn S). x.association) k.1;
@@ -156,23 +152,23 @@ module _ {S : Type 0} (m : AssociationMeaning S) where
         }
 
     -- the stream is there, or its reset is outstanding
-    opened_first : (o : Opening) (now : ℕ) (t t' : Turn S) (q : S) (r : Result (Unit {0}) AssocError) → now < 2 ^ 64 - 1 → t.entry.state ≡ AwaitOpen
+    opened_first : (o : Opening) (now : ℕ) (t t' : Turn S) (q : S) (r : Result (Unit {0}) AssocError) → t.entry.state ≡ AwaitOpen
         → m.opened t.association t.entry.id r q → opening_of r ≡ o → OpenedBy m o now (record t { association = q }) Nothing t' → Rested now t t'
-    opened_first opened.Done now t t' q r early state was is h = absurd (begins_meet m (record t { association = q }) t' h)
-    opened_first opened.Refused now t t' q r early state was is h = absurd (closes_meet m (record t { association = q }) t' h)
-    opened_first opened.OutOfMemory now t t' q r early state was is h = cc (h.0)
-    opened_first opened.Exists now t t' q r early state was is h =
+    opened_first opened.Done now t t' q r state was is h = absurd (begins_meet m (record t { association = q }) t' h)
+    opened_first opened.Refused now t t' q r state was is h = absurd (closes_meet m (record t { association = q }) t' h)
+    opened_first opened.OutOfMemory now t t' q r state was is h = cc (h.0)
+    opened_first opened.Exists now t t' q r state was is h =
         let called = subst (λ (x : Result (Unit {0}) AssocError). m.opened t.association t.entry.id x q) (exists_is r is) was in
         let same = w.open_refused t.association q t.entry.id StreamExists (inl refl) called in
         by called (is_adopted m t) refl (subst (λ (x : S). AdoptedIf m (is_adopted m (record t { association = x })) now (record t { association = x }) Nothing t') same h)
       where
         by : m.opened t.association t.entry.id (Err StreamExists) q → (b : Bool) → is_adopted m t ≡ b → AdoptedIf m b now t Nothing t' → Rested now t t'
         by called true adopted k = absurd (begins_meet m t t' k)
-        by called false adopted k = retried StreamExists now t.entry.refused t t' q early state (inl (refl, adopted)) called refl k
-    opened_first opened.Pending now t t' q r early state was is h =
+        by called false adopted k = retried StreamExists now t.entry.refused t t' q state (inl (refl, adopted)) called refl k
+    opened_first opened.Pending now t t' q r state was is h =
         let called = subst (λ (x : Result (Unit {0}) AssocError). m.opened t.association t.entry.id x q) (pending_is r is) was in
         let same = w.open_refused t.association q t.entry.id ResetPending (inr refl) called in
-        retried ResetPending now t.entry.refused t t' q early state (inr refl) called refl
+        retried ResetPending now t.entry.refused t t' q state (inr refl) called refl
         (subst (λ (x : S). Retries m now (record t { association = x }) Nothing t') same h)
 
     -- a stream of which nothing could be read
@@ -226,18 +222,18 @@ module _ {S : Type 0} (m : AssociationMeaning S) where
           (λ met s visit. h.1 met s (subst (λ (x : StreamEntryState). VisitsIn m x now t met s) state visit));
     }
 
-    visit_in : (st : StreamEntryState) (now : ℕ) (t t' : Turn S) → now < 2 ^ 64 - 1 → t.entry.state ≡ st → is_closed_state st ≡ false
+    visit_in : (st : StreamEntryState) (now : ℕ) (t t' : Turn S) → t.entry.state ≡ st → is_closed_state st ≡ false
         → VisitsIn m st now t Nothing t' → Rested now t t'
-    visit_in AwaitOpen now t t' early state unclosed h =
-        opened_first h.answer now t t' h.between h.asks.result early state h.asks.called h.asks.is h.then
-    visit_in AwaitConfig now t t' early state unclosed h =
+    visit_in AwaitOpen now t t' state unclosed h =
+        opened_first h.answer now t t' h.between h.asks.result state h.asks.called h.asks.is h.then
+    visit_in AwaitConfig now t t' state unclosed h =
         attended AwaitConfig now t t' state refl (attends_if t.entry.marked (m.has_stream t.association t.entry.id) t t' h)
-    visit_in AwaitDcepAck now t t' early state unclosed h =
+    visit_in AwaitDcepAck now t t' state unclosed h =
         attended AwaitDcepAck now t t' state refl (attends_if t.entry.marked (m.has_stream t.association t.entry.id) t t' h)
-    visit_in Open now t t' early state unclosed h =
+    visit_in Open now t t' state unclosed h =
         attended Open now t t' state refl (attends_if t.entry.marked (m.has_stream t.association t.entry.id) t t' h)
-    visit_in Closed now t t' early state unclosed h = cc (unclosed)
+    visit_in Closed now t t' state unclosed h = cc (unclosed)
 
-    -- a visit that gave nothing, before the last moment of all, of an entry that is not closed
-    pub visit_rests : (now : ℕ) (t t' : Turn S) → now < 2 ^ 64 - 1 → is_closed_state t.entry.state ≡ false → Visits m now t Nothing t' → Rested now t t'
-    visit_rests now t t' early unclosed h = visit_in t.entry.state now t t' early refl unclosed h
+    -- a visit that gave nothing of an entry that is not closed
+    pub visit_rests : (now : ℕ) (t t' : Turn S) → is_closed_state t.entry.state ≡ false → Visits m now t Nothing t' → Rested now t t'
+    visit_rests now t t' unclosed h = visit_in t.entry.state now t t' refl unclosed h

@@ -1,5 +1,5 @@
 -- A poll of the streams that gave nothing is followed by one that gives nothing and changes nothing, unless it finds no memory.
-use Rattle.std.proofs.Common.{◌≡◌, ◌<◌, ◌-◌, ◌^◌, ◌⊎◌, inl, inr, ℕ, zero, suc, Bool, true, false, List, [], ◌∷◌, Option, Some, None, Result, Ok, Err, refl, sym, ap, subst, ◌∙◌, arith}
+use Rattle.std.proofs.Common.{◌≡◌, ◌⊎◌, inl, inr, ℕ, zero, suc, Bool, true, false, List, [], ◌∷◌, Option, Some, None, Result, Ok, Err, refl, sym, ap, subst, ◌∙◌, arith}
 use Rattle.std.specs.Prelude.{◌&&◌}
 use Rattle.std.specs.declared.alloc.AllocError.{AllocError}
 use Rattle.rtc_association.specs.declared.assoc_event.AssocEvent.{AssocEvent}
@@ -15,7 +15,6 @@ use Rattle.rtc_sctp.specs.Streams.{SctpStreams, is_established}
 use Rattle.rtc_sctp.specs.Polls.{book_of, with_book, event_met, Else, ThenBy, unclosed_streams, CompletionOf, GivesCompletion, TakesPacket, TransmitIf}
 use Rattle.rtc_sctp.specs.Polls.{TransmitOf, GivesTransmit, HandlesEvent, NotStarted, NoRoom, NoEvent, Event, VisitsIf}
 use Rattle.rtc_sctp.specs.Polls.{VisitsEntries, MakesPass, Over, PollsStreams, Answers}
-use Rattle.rtc_polling_laws.specs.Drained.{WaitsToStart}
 use Rattle.rtc_polling_laws.proofs.RestingTours.{AllUnclosed, unclosed_left, unclosed_same, AllRest, tour_rests, TourRests, tour_again}
 
 -- a poll failed
@@ -92,7 +91,7 @@ module _ {S : Type 0} (m : AssociationMeaning S) (w : AssociationLaws m) where
     unclosed_all : AllUnclosed p.entries
     none : p.pushed ≡ None
     unsent : m.started p.association ≡ true → (q : S) (packet : List ℕ) → m.gave p.association (Some packet) q → ⊥
-    untold : (q : S) (e : AssocEvent) → m.polled p.association (Some e) q → ⊥
+    untold : m.started p.association ≡ true → (q : S) (e : AssocEvent) → m.polled p.association (Some e) q → ⊥
     visits : (is_established p.state && m.started p.association) ≡ true → AllRest m w p.last p.association p.resets p.entries
     completed : p.completed ≡ []
 
@@ -120,25 +119,25 @@ module _ {S : Type 0} (m : AssociationMeaning S) (w : AssociationLaws m) where
   pub event_nothing : (p q : SctpStreams S) → HandlesEvent m p Nothing q → (q ≡ p) × GaveNoEvent p
   event_nothing p q (NotStarted fresh met same book, k) = (same_book p q k same book, inl fresh)
   event_nothing p q (NoRoom met same book, k) = cc (met)
-  event_nothing p q (NoEvent polled met book, k) =
+  event_nothing p q (NoEvent started polled met book, k) =
       let same = w.event_none p.association q.association polled in
       (same_book p q k same book, inr (subst (λ (a : S). m.polled p.association None a) same polled))
-  event_nothing p q (Event e polled met after, k) = absurd (not_met e met)
+  event_nothing p q (Event e started polled met after, k) = absurd (not_met e met)
 
   record Visited (p q : SctpStreams S) : Type 0 where
     same : q ≡ record p { entries = q.entries }
     unclosed_all : AllUnclosed q.entries
     rest : (is_established p.state && m.started p.association) ≡ true → AllRest m w p.last p.association p.resets q.entries
 
-  visits_if_nothing : (b : Bool) (p q : SctpStreams S) → (is_established p.state && m.started p.association) ≡ b → p.last < 2 ^ 64 - 1
+  visits_if_nothing : (b : Bool) (p q : SctpStreams S) → (is_established p.state && m.started p.association) ≡ b
       → AllUnclosed p.entries → VisitsIf m b p Nothing q → Visited p q
-  visits_if_nothing false p q is early all h = record {
+  visits_if_nothing false p q is all h = record {
     same = h.1 ∙ ap (λ (x : SctpStreams S). record p { entries = x.entries }) (sym h.1);
     unclosed_all = subst (λ (x : SctpStreams S). AllUnclosed x.entries) (sym h.1) all;
     rest = λ due. cc;
   }
-  visits_if_nothing true p q is early all h =
-      let left = tour_rests m w p.last early p.entries all p.association p.resets q.association q.resets q.entries h.0 in
+  visits_if_nothing true p q is all h =
+      let left = tour_rests m w p.last p.entries all p.association p.resets q.association q.resets q.entries h.0 in
       record {
         same =
             h.1
@@ -148,16 +147,9 @@ module _ {S : Type 0} (m : AssociationMeaning S) (w : AssociationLaws m) where
         rest = λ due. left.rest;
       }
 
-  visited_last : (b : Bool) (p q : SctpStreams S) → VisitsIf m b p Nothing q → q.last ≡ p.last
-  visited_last false p q h = ap (λ (x : SctpStreams S). x.last) h.1
-  visited_last true p q h = ap (λ (x : SctpStreams S). x.last) h.1
-
-  no_event_due : (a : S) → WaitsToStart m a → (m.started a ≡ false) ⊎ m.polled a None a → m.due a ≡ []
-  no_event_due a waits (inl fresh) = waits fresh
-  no_event_due a waits (inr polled) = w.poll_none a a polled
-
-  not_due : (a b : S) (e : AssocEvent) → m.due a ≡ [] → m.polled a (Some e) b → ⊥
-  not_due a b e none polled = let k : [] ≡ e ∷ m.due b = sym none ∙ w.poll_head a b e polled in cc
+  not_told : (a b : S) (e : AssocEvent) → (m.started a ≡ false) ⊎ m.polled a None a → m.started a ≡ true → m.polled a (Some e) b → ⊥
+  not_told a b e (inl fresh) started told = let k : true ≡ false = sym started ∙ fresh in cc
+  not_told a b e (inr polled) started told = let k : [] ≡ e ∷ m.due b = sym (w.poll_none a a polled) ∙ w.poll_head a b e told in cc
 
   not_given : (a b : S) (packet : List ℕ) → (m.started a ≡ false) ⊎ m.polled a None a → m.started a ≡ true → m.gave a None a
       → m.gave a (Some packet) b → ⊥
@@ -168,32 +160,29 @@ module _ {S : Type 0} (m : AssociationMeaning S) (w : AssociationLaws m) where
       absurd (omega (arith, none, falls))
 
   -- a pass that gave nothing
-  pass_quiets : (p q : SctpStreams S) → q.last < 2 ^ 64 - 1 → WaitsToStart m q.association → MakesPass m p Nothing q → Quiet q
+  pass_quiets : (p q : SctpStreams S) → MakesPass m p Nothing q → Quiet q
   unfolding MakesPass
-  pass_quiets p q early waits h =
+  pass_quiets p q h =
       let one = else_nothing (GivesTransmit m) (Else (HandlesEvent m) (Else (VisitsEntries m) GivesCompletion)) (unclosed_streams p) q h in
       let two = else_nothing (HandlesEvent m) (Else (VisitsEntries m) GivesCompletion) one.0 q one.1.1 in
       let three = else_nothing (VisitsEntries m) GivesCompletion two.0 q two.1.1 in
       let sent = transmit_nothing p.pushed (unclosed_streams p) one.0 refl one.1.0 in
       let told = event_nothing one.0 two.0 two.1.0 in
       quiet_by (unclosed_streams p) two.0 three.0 q (told.0 ∙ sent.0) (unclosed_left p.entries) sent.1 sent.2
-      (subst (λ (x : SctpStreams S). GaveNoEvent x) sent.0 told.1) three.1.0 (completion_nothing three.0.completed three.0 q refl three.1.1) early waits
+      (subst (λ (x : SctpStreams S). GaveNoEvent x) sent.0 told.1) three.1.0 (completion_nothing three.0.completed three.0 q refl three.1.1)
     where
       quiet_by : (u y z q : SctpStreams S) → y ≡ u → AllUnclosed u.entries → u.pushed ≡ None
           → (m.started u.association ≡ true → m.gave u.association None u.association) → GaveNoEvent u → VisitsEntries m y Nothing z
-          → (q ≡ z) × (z.completed ≡ []) → q.last < 2 ^ 64 - 1 → WaitsToStart m q.association → Quiet q
-      quiet_by u y z q is all none sent told visits done early waits =
+          → (q ≡ z) × (z.completed ≡ []) → Quiet q
+      quiet_by u y z q is all none sent told visits done =
           let visits_u = subst (λ (x : SctpStreams S). VisitsEntries m x Nothing z) is visits in
-          let last : q.last ≡ u.last = ap (λ (x : SctpStreams S). x.last) done.0 ∙ visited_last (is_established u.state && m.started u.association) u z visits_u in
-          let early_u = subst (λ (n : ℕ). n < 2 ^ 64 - 1) last early in
-          let left = visits_if_nothing (is_established u.state && m.started u.association) u z refl early_u all visits_u in
+          let left = visits_if_nothing (is_established u.state && m.started u.association) u z refl all visits_u in
           let same : q ≡ record u { entries = z.entries } = done.0 ∙ left.same in
-          let waits_u = subst (λ (a : S). WaitsToStart m a) (ap (λ (x : SctpStreams S). x.association) same) waits in
           subst (λ (x : SctpStreams S). Quiet x) (sym same) (record {
             unclosed_all = left.unclosed_all;
             none = none;
             unsent = λ started b packet given. not_given u.association b packet told started (sent started) given;
-            untold = λ b e polled. not_due u.association b e (no_event_due u.association waits_u told) polled;
+            untold = λ started b e polled. not_told u.association b e told started polled;
             visits = left.rest;
             completed = ap (λ (x : SctpStreams S). x.completed) (sym left.same) ∙ done.1;
           })
@@ -222,8 +211,8 @@ module _ {S : Type 0} (m : AssociationMeaning S) (w : AssociationLaws m) where
   event_rests : (p : SctpStreams S) → Quiet p → StepRests (HandlesEvent m) p
   event_rests p quiet met q (NotStarted fresh is same book, k) = inl (is, same_book p q k same book)
   event_rests p quiet met q (NoRoom is same book, k) = inr is
-  event_rests p quiet met q (NoEvent polled is book, k) = inl (is, same_book p q k (w.event_none p.association q.association polled) book)
-  event_rests p quiet met q (Event e polled is after, k) = absurd (quiet.untold q.association e polled)
+  event_rests p quiet met q (NoEvent started polled is book, k) = inl (is, same_book p q k (w.event_none p.association q.association polled) book)
+  event_rests p quiet met q (Event e started polled is after, k) = absurd (quiet.untold started q.association e polled)
 
   visits_if_rest : (b : Bool) (p : SctpStreams S) → (b ≡ true → AllRest m w p.last p.association p.resets p.entries) → StepRests (VisitsIf m b) p
   visits_if_rest false p all met q h = inl (h.0, h.1)
@@ -280,8 +269,7 @@ module _ {S : Type 0} (m : AssociationMeaning S) (w : AssociationLaws m) where
       quiet_answer r h.met p q h.answers (pass_rests p quiet h.met q (subst (λ (x : SctpStreams S). MakesPass m x h.met q) same h.last))
 
   -- what a poll that gave nothing leaves
-  pub polled_rest : (p q : SctpStreams S) → q.last < 2 ^ 64 - 1 → WaitsToStart m q.association → PollsStreams m p (Ok None) q
-      → StreamsRest q × (q.pushed ≡ None)
-  polled_rest p q early waits h =
-      let quiet = pass_quiets h.between q early waits (subst (λ (x : Met). MakesPass m h.between x q) h.answers h.last) in
+  pub polled_rest : (p q : SctpStreams S) → PollsStreams m p (Ok None) q → StreamsRest q × (q.pushed ≡ None)
+  polled_rest p q h =
+      let quiet = pass_quiets h.between q (subst (λ (x : Met). MakesPass m h.between x q) h.answers h.last) in
       (quiet_rests q quiet, quiet.none)

@@ -1,5 +1,5 @@
 -- A visit of all streams that gave nothing is followed by one that gives nothing and changes nothing, unless it finds no memory.
-use Rattle.std.proofs.Common.{◌≡◌, ◌<◌, ◌-◌, ◌^◌, ◌⊎◌, inl, inr, ℕ, Bool, true, false, List, [], ◌∷◌, refl, sym, ap, subst, ◌∙◌}
+use Rattle.std.proofs.Common.{◌≡◌, ◌⊎◌, inl, inr, ℕ, Bool, true, false, List, [], ◌∷◌, refl, sym, ap, subst, ◌∙◌}
 use Rattle.rtc_association.specs.AssociationMeaning.{AssociationMeaning}
 use Rattle.rtc_association.specs.AssociationLaws.{AssociationLaws}
 use Rattle.rtc_sctp_entries.specs.declared.stream_entry.StreamEntry.{StreamEntry}
@@ -40,12 +40,12 @@ module _ {S : Type 0} (m : AssociationMeaning S) (w : AssociationLaws m) where
     pub unclosed_all : AllUnclosed es'
     pub rest : AllRest now a resets es'
 
-  toured_then : (now : ℕ) (e : StreamEntry) (es : List StreamEntry) (a : S) (resets : List ℕ) → now < 2 ^ 64 - 1 → is_closed_state e.state ≡ false
+  toured_then : (now : ℕ) (e : StreamEntry) (es : List StreamEntry) (a : S) (resets : List ℕ) → is_closed_state e.state ≡ false
       → ((b : S) (rs : List ℕ) (a' : S) (rs' : List ℕ) (es' : List StreamEntry) → VisitsAll m now es b rs Nothing a' rs' es' → Toured now b rs a' rs' es')
       → (own : Met) (t : Turn S) → Visits m now (turn a e resets) own t → (a' : S) (resets' : List ℕ) (es' : List StreamEntry)
       → VisitedThen m (VisitsAll m now es) own es t Nothing a' resets' es' → Toured now a resets a' resets' es'
-  toured_then now e es a resets early here rest Nothing t visit a' resets' es' k =
-      let left = visit_rests m w now (turn a e resets) t early here visit in
+  toured_then now e es a resets here rest Nothing t visit a' resets' es' k =
+      let left = visit_rests m w now (turn a e resets) t here visit in
       let others = rest t.association t.resets a' resets' k.0 k.1 in
       let rested = subst (λ (x : S). AllRest now x resets k.0) left.association (subst (λ (x : List ℕ). AllRest now t.association x k.0) left.resets others.rest) in
       record {
@@ -54,20 +54,20 @@ module _ {S : Type 0} (m : AssociationMeaning S) (w : AssociationLaws m) where
         unclosed_all = subst (λ (l : List StreamEntry). AllUnclosed l) (sym k.2) (left.unclosed, others.unclosed_all);
         rest = subst (λ (l : List StreamEntry). AllRest now a resets l) (sym k.2) (left.rests, rested);
       }
-  toured_then now e es a resets early here rest Again t visit a' resets' es' k = cc (k.0)
-  toured_then now e es a resets early here rest (Output o) t visit a' resets' es' k = cc (k.0)
-  toured_then now e es a resets early here rest OutOfMemory t visit a' resets' es' k = cc (k.0)
+  toured_then now e es a resets here rest Again t visit a' resets' es' k = cc (k.0)
+  toured_then now e es a resets here rest (Output o) t visit a' resets' es' k = cc (k.0)
+  toured_then now e es a resets here rest OutOfMemory t visit a' resets' es' k = cc (k.0)
 
-  pub tour_rests : (now : ℕ) → now < 2 ^ 64 - 1 → (es : List StreamEntry) → AllUnclosed es → (a : S) (resets : List ℕ) (a' : S) (resets' : List ℕ)
+  pub tour_rests : (now : ℕ) (es : List StreamEntry) → AllUnclosed es → (a : S) (resets : List ℕ) (a' : S) (resets' : List ℕ)
       (es' : List StreamEntry) → VisitsAll m now es a resets Nothing a' resets' es' → Toured now a resets a' resets' es'
-  tour_rests now early [] all a resets a' resets' es' h = record {
+  tour_rests now [] all a resets a' resets' es' h = record {
     association = h.1;
     resets_same = h.2;
     unclosed_all = subst (λ (l : List StreamEntry). AllUnclosed l) (sym h.3) tt;
     rest = subst (λ (l : List StreamEntry). AllRest now a resets l) (sym h.3) tt;
   }
-  tour_rests now early (e ∷ es) all a resets a' resets' es' h =
-      toured_then now e es a resets early all.0 (tour_rests now early es all.1) h.0 h.1 h.2 a' resets' es' h.3
+  tour_rests now (e ∷ es) all a resets a' resets' es' h =
+      toured_then now e es a resets all.0 (tour_rests now es all.1) h.0 h.1 h.2 a' resets' es' h.3
 
   abbrev pub TourRests : S → List ℕ → List StreamEntry → Met → S → List ℕ → List StreamEntry → Type 0
   TourRests a resets es met a' resets' es' = ((met ≡ Nothing) × (a' ≡ a) × (resets' ≡ resets) × (es' ≡ es)) ⊎ (met ≡ OutOfMemory)

@@ -1,25 +1,14 @@
 -- Polls of a peer that answered a timeout, without a call between.
-use Rattle.std.specs.Prelude.{◌≡◌, ◌<◌, ◌-◌, ◌^◌, ◌⊎◌, ◌&&◌, ℕ, true, false, List, [], ◌∷◌, Result, Ok, Err}
+use Rattle.std.specs.Prelude.{◌≡◌, ◌⊎◌, ◌&&◌, ℕ, true, false, List, [], ◌∷◌, Result, Ok, Err}
 use Rattle.rtc_association.specs.AssociationMeaning.{AssociationMeaning}
 use Rattle.rtc_sctp_entries.specs.declared.stream_entry.StreamEntry.{StreamEntry}
 use Rattle.rtc_sctp_entries.specs.declared.stream_entry_state.StreamEntryState.TheVariants.{AwaitOpen}
 use Rattle.rtc_sctp.specs.Streams.{SctpStreams, is_established}
 use Rattle.rtc_peer_state.specs.declared.rtc_error.RtcError.{RtcError}
 use Rattle.rtc_peer_state.specs.declared.rtc_error.RtcError.TheVariants.{Alloc}
-use Rattle.rtc_peer_state.specs.Meanings.{Meanings}
 use Rattle.rtc_polling.specs.declared.output.Output.{Output}
 use Rattle.rtc_polling.specs.declared.output.Output.TheVariants.{Timeout}
 use Rattle.rtc_polling.specs.declared.polled_peer.PolledPeer.{PolledPeer}
-
--- an association that was not started has no event that is due
-abbrev pub WaitsToStart : {S : Type 0} → AssociationMeaning S → S → Type 0
-WaitsToStart m a = m.started a ≡ false → m.due a ≡ []
-
--- What the streams of a peer are before the last moment of all. At that moment an opening that was refused is given up with the poll after
--- the one that it was refused in.
-pub record CanRest {I D S M E X T W N : Type 0} (m : Meanings I D S M E X T W N) (p : PolledPeer I D S M N) : Type 0 where
-  pub early : p.core.sctp.last < 2 ^ 64 - 1
-  pub waits : WaitsToStart m.association p.core.sctp.association
 
 -- the same timeout is answered, and nothing changes; or memory is wanting
 abbrev pub AnswersAgain : {I D S M E N : Type 0} → (moment : ℕ) → PolledPeer I D S M N → Result (Output E) RtcError

@@ -5,7 +5,7 @@ ghost use Rattle.rtc_peer_state.specs.declared.phase.Phase.TheVariants.{Closed};
 ghost use Rattle.rtc_polling.specs.declared.output.Output.TheVariants.{Timeout};
 ghost use Rattle.rtc_polling.specs.declared.polled_peer.PolledPeer.{PolledPeer as Polled};
 ghost use Rattle.rtc_polling.specs.Walk.{PollsPeer};
-ghost use Rattle.rtc_polling_laws.specs.Drained.{AllHeard, AnswersAgain, CanRest};
+ghost use Rattle.rtc_polling_laws.specs.Drained.{AllHeard, AnswersAgain};
 
 use rtc_association::Association;
 use rtc_dtls::DtlsInstance;
@@ -18,7 +18,6 @@ use rtc_media::MediaSession;
 pub fn drained_peers_rest<I: IceAgent, D: DtlsInstance, S: Association, M: MediaSession, N: Ids>()
     ensures again { (p q s : Polled I D S M N) (moment : ℕ) (answer : _)
         → PollsPeer (meanings I.ice D.dtls S.association M.media N.ids) p (Ok (Timeout moment)) q
-        → CanRest (meanings I.ice D.dtls S.association M.media N.ids) q
         → PollsPeer (meanings I.ice D.dtls S.association M.media N.ids) q answer s → AnswersAgain moment q answer s }
     ensures closed { (p q s : Polled I D S M N) (moment : ℕ) (answer : _)
         → PollsPeer (meanings I.ice D.dtls S.association M.media N.ids) p (Ok (Timeout moment)) q → q.core.phase ≡ Closed

@@ -69,8 +69,8 @@ module _ {S : Type 0} (m : AssociationMeaning S) where
   pub event_ascend : (a : S) (b : Book) (met : Met) (a' : S) (b' : Book) → TakesEvent m a b met a' b' → Ascend b.entries → Ascend b'.entries
   event_ascend a b met a' b' (NotStarted s e f g) k = ascend_is _ b'.entries (ap (λ (x : Book). x.entries) g) k
   event_ascend a b met a' b' (NoRoom e f g) k = ascend_is _ b'.entries (ap (λ (x : Book). x.entries) g) k
-  event_ascend a b met a' b' (NoEvent h e g) k = ascend_is _ b'.entries (ap (λ (x : Book). x.entries) g) k
-  event_ascend a b met a' b' (Event event h e f) k = after_ascend event b b' f k
+  event_ascend a b met a' b' (NoEvent s h e g) k = ascend_is _ b'.entries (ap (λ (x : Book). x.entries) g) k
+  event_ascend a b met a' b' (Event event s h e f) k = after_ascend event b b' f k
 
   -- visits
   headed : (low : ℕ) (e e' : StreamEntry) (es es' : List StreamEntry) → e'.id ≡ e.id → low ≤ e.id → AscendFrom (e.id + 1) es → es' ≡ e' ∷ es → AscendFrom low es'

@@ -122,8 +122,8 @@ module _ {S : Type 0} (m : AssociationMeaning S) (w : AssociationLaws m) where
   event_work : (a : S) (b : Book) (met : Met) (a' : S) (b' : Book) → TakesEvent m a b met a' b' → Gains met 1 (m.units a + (credits b.entries + length b.completed)) (m.units a' + (credits b'.entries + length b'.completed))
   event_work a b met a' b' (NotStarted s e f g) = rw (e, f, g) (omega arith)
   event_work a b met a' b' (NoRoom e f g) = rw e tt
-  event_work a b met a' b' (NoEvent k e g) = rw (e, g) (omega (arith, ap m.units (w.event_none a a' k)))
-  event_work a b met a' b' (Event event k e f) =
+  event_work a b met a' b' (NoEvent s k e g) = rw (e, g) (omega (arith, ap m.units (w.event_none a a' k)))
+  event_work a b met a' b' (Event event s k e f) =
       let units = w.event_units a a' event k in
       let booked = after_event event b b' f in
       rw e (event_falls event _ _ (omega (arith, units, booked)))

@@ -1,5 +1,5 @@
 -- One step of a pass, and the next where it meets nothing.
-use Rattle.std.proofs.Common.{◌≡◌, refl, subst, ap, Option, Some}
+use Rattle.std.proofs.Common.{◌≡◌, true, refl, subst, ap, Option, Some}
 use Rattle.rtc_association.specs.declared.assoc_event.AssocEvent.{AssocEvent}
 use Rattle.rtc_association.specs.AssociationMeaning.{AssociationMeaning}
 use Rattle.rtc_sctp_entries.specs.declared.met.Met.{Met}
@@ -22,9 +22,9 @@ else_stop A B p OutOfMemory q a n = (OutOfMemory, (q, (a, (refl, refl))))
 module _ {S : Type 0} (m : AssociationMeaning S) where
   -- an event that was polled is taken
   pub event_taken : (e : AssocEvent) (o : Option AssocEvent) (a a' : S) (b c b' : Book) (met : Met)
-      → o ≡ Some e → m.polled a o a' → c ≡ b → met ≡ event_met e → AfterEvent e c b' → TakesEvent m a b met a' b'
-  event_taken e o a a' b c b' met is k same told after =
-      Event e (subst (λ (x : Option AssocEvent). m.polled a x a') is k) told (subst (λ (x : Book). AfterEvent e x b') same after)
+      → m.started a ≡ true → o ≡ Some e → m.polled a o a' → c ≡ b → met ≡ event_met e → AfterEvent e c b' → TakesEvent m a b met a' b'
+  event_taken e o a a' b c b' met started is k same told after =
+      Event e started (subst (λ (x : Option AssocEvent). m.polled a x a') is k) told (subst (λ (x : Book). AfterEvent e x b') same after)
 
   -- what is known of the fields of streams is known of the streams
   pub event_handled : (p0 p : SctpStreams S) (met : Met) (a' : S) (b' : Book) → p0 ≡ p → TakesEvent m p0.association (book_of p0) met a' b'

@@ -135,8 +135,9 @@ module _ {S : Type 0} (m : AssociationMeaning S) where
   pub data TakesEvent (a : S) (b : Book) (met : Met) (a' : S) (b' : Book) : Type 0 where
     NotStarted : m.started a ≡ false → met ≡ Nothing → a' ≡ a → b' ≡ b → TakesEvent a b met a' b'
     NoRoom : met ≡ OutOfMemory → a' ≡ a → b' ≡ b → TakesEvent a b met a' b'
-    NoEvent : m.polled a None a' → met ≡ Nothing → b' ≡ b → TakesEvent a b met a' b'
-    Event : (e : AssocEvent) → m.polled a (Some e) a' → met ≡ event_met e → AfterEvent e b b' → TakesEvent a b met a' b'
+    NoEvent : m.started a ≡ true → m.polled a None a' → met ≡ Nothing → b' ≡ b → TakesEvent a b met a' b'
+    Event : (e : AssocEvent) → m.started a ≡ true → m.polled a (Some e) a' → met ≡ event_met e → AfterEvent e b b'
+        → TakesEvent a b met a' b'
 
   -- fourth step: an event is taken
   abbrev pub HandlesEvent : SctpStreams S → Met → SctpStreams S → Type 0

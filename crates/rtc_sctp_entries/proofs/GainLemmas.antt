@@ -1,6 +1,5 @@
 -- A visit takes work away.
 use Rattle.std.proofs.Common.{◌≡◌, ℕ, ◌+◌, ◌≤◌, Bool, true, false, List, ◌++◌, length, length-append, Option, Some, None, refl, sym, ap, subst, arith}
-use Rattle.std.specs.Prelude.{nat_le}
 use Rattle.rtc_association.specs.declared.ppi.Ppi.{Ppi}
 use Rattle.rtc_association.specs.declared.ppi.Ppi.TheVariants as ppi
 use Rattle.rtc_association.specs.AssociationMeaning.{AssociationMeaning}
@@ -25,7 +24,7 @@ use Rattle.rtc_sctp_entries.specs.declared.met.Met.{Met}
 use Rattle.rtc_sctp_entries.specs.declared.met.Met.TheVariants.{Nothing, Again, Output, OutOfMemory}
 use Rattle.rtc_sctp_entries.specs.Part.{ReadUnits}
 use Rattle.rtc_sctp_entries.specs.Entries.{config_or_fresh, is_short_entry, is_out_of_band, state_credit, mark_credit, threshold_credit, entry_credit, closed_entry}
-use Rattle.rtc_sctp_entries.specs.Visits.{Turn, turn_work, given_config, Marks, Settles, TakesAck, ForEntry, ClosedBy, Closes, NoRoom, Ended, AnnouncedBy, Announces, NoMessage, Written, AnnouncesIf, BegunAs, BegunBy, Begins, RetriedIf, RetriedAt, is_adopted, AdoptedIf, OpenedBy, OpensEntry, AcknowledgedBy, Acknowledges, TakenUpBy, TakesUp, TakenAs, TakesDcep, TakesStreamMessage, ReadBy, ReadsEntry, HandedBy, AttendsBy, AttendsIf, VisitsIn, Visits, opening_ends}
+use Rattle.rtc_sctp_entries.specs.Visits.{Turn, turn_work, given_config, Marks, Settles, TakesAck, ForEntry, ClosedBy, Closes, NoRoom, Ended, AnnouncedBy, Announces, NoMessage, Written, AnnouncesIf, BegunAs, BegunBy, Begins, RetriedIf, RetriedAt, is_adopted, AdoptedIf, OpenedBy, OpensEntry, AcknowledgedBy, Acknowledges, TakenUpBy, TakesUp, TakenAs, TakesDcep, TakesStreamMessage, ReadBy, ReadsEntry, HandedBy, AttendsBy, AttendsIf, VisitsIn, Visits, is_opening_over}
 use Rattle.rtc_sctp_entries.proofs.PartLemmas.{units_read}
 
 -- what is met takes this much work away; where nothing is met none comes
@@ -135,7 +134,7 @@ module _ {S : Type 0} (m : AssociationMeaning S) (w : AssociationLaws m) where
 
   retried : (now : ℕ) (o : Option ℕ) (t : Turn S) (met : Met) (t' : Turn S) → t.entry.state ≡ AwaitOpen → RetriedAt m now o t met t' → Gains met 2 (turn_work m t) (turn_work m t')
   retried now None t met t' c h = gain_is Nothing 2 (turn_work m t) _ met t' h.0 h.1 (omega arith)
-  retried now (Some first) t met t' c h = retried_if (nat_le (opening_ends first) now) t met t' c h
+  retried now (Some first) t met t' c h = retried_if (is_opening_over first now) t met t' c h
 
   adopted : (b : Bool) (now : ℕ) (t : Turn S) (met : Met) (t' : Turn S) → t.entry.state ≡ AwaitOpen → AdoptedIf m b now t met t' → Gains met 2 (turn_work m t) (turn_work m t')
   adopted true now t met t' c h = begins t met t' c h

@@ -18,8 +18,7 @@ use Rattle.rtc_sctp_entries.specs.declared.stream_entry_state.StreamEntryState.{
 use Rattle.rtc_sctp_entries.specs.declared.stream_entry_state.StreamEntryState.TheVariants.{AwaitOpen, AwaitConfig, AwaitDcepAck, Open, Closed}
 use Rattle.rtc_sctp_entries.specs.declared.met.Met.{Met}
 use Rattle.rtc_sctp_entries.specs.Entries.{is_short_entry, is_out_of_band}
-use Rattle.rtc_sctp_entries.specs.Visits.{Turn, given_config, ClosedBy, Closes, NoRoom, Ended, AnnouncedBy, Announces, NoMessage, Written, AnnouncesIf, BegunAs, BegunBy, Begins, RetriedIf, RetriedAt, is_adopted, AdoptedIf, OpenedBy, OpensEntry, AcknowledgedBy, Acknowledges, TakenUpBy, TakesUp, TakenAs, TakesDcep, TakesStreamMessage, ReadBy, ReadsEntry, HandedBy, AttendsBy, AttendsIf, VisitsIn, Visits, opening_ends}
-use Rattle.std.specs.Prelude.{nat_le}
+use Rattle.rtc_sctp_entries.specs.Visits.{Turn, given_config, ClosedBy, Closes, NoRoom, Ended, AnnouncedBy, Announces, NoMessage, Written, AnnouncesIf, BegunAs, BegunBy, Begins, RetriedIf, RetriedAt, is_adopted, AdoptedIf, OpenedBy, OpensEntry, AcknowledgedBy, Acknowledges, TakenUpBy, TakesUp, TakenAs, TakesDcep, TakesStreamMessage, ReadBy, ReadsEntry, HandedBy, AttendsBy, AttendsIf, VisitsIn, Visits, is_opening_over}
 use Rattle.rtc_sctp_entries.proofs.PartLemmas.{started_opened, started_wrote, started_read, started_ended, started_threshold, started_reliability}
 
 module _ {S : Type 0} (m : AssociationMeaning S) (w : AssociationLaws m) where
@@ -66,7 +65,7 @@ module _ {S : Type 0} (m : AssociationMeaning S) (w : AssociationLaws m) where
 
   retried : (now : ℕ) (o : Option ℕ) (t : Turn S) (met : Met) (t' : Turn S) → m.started t.association ≡ true → RetriedAt m now o t met t' → m.started t'.association ≡ true
   retried now None t met t' s h = same _ t' h.1 s
-  retried now (Some first) t met t' s h = retried_if (nat_le (opening_ends first) now) t met t' s h
+  retried now (Some first) t met t' s h = retried_if (is_opening_over first now) t met t' s h
 
   adopted : (b : Bool) (now : ℕ) (t : Turn S) (met : Met) (t' : Turn S) → m.started t.association ≡ true → AdoptedIf m b now t met t' → m.started t'.association ≡ true
   adopted true now t met t' s h = begins t met t' s h

@@ -1,6 +1,5 @@
 -- Laws of streams: data comes of an entry that is not marked, and an opening is given up ten seconds after its first refusal.
 use Rattle.std.proofs.Common.{◌≡◌, ℕ, Bool, true, false, List, Option, Some, None, refl, sym, ap, subst, ◌∙◌}
-use Rattle.std.specs.Prelude.{nat_le}
 use Rattle.rtc_association.specs.AssociationMeaning.{AssociationMeaning}
 use Rattle.rtc_sctp_entries.specs.declared.asked.Asked.{Asked}
 use Rattle.rtc_sctp_entries.specs.declared.asked.Asked.TheVariants as did
@@ -13,7 +12,7 @@ use Rattle.rtc_sctp_entries.specs.declared.sctp_event.SctpEvent.TheVariants as e
 use Rattle.rtc_sctp_entries.specs.declared.met.Met.{Met}
 use Rattle.rtc_sctp_entries.specs.declared.met.Met.TheVariants.{Nothing, Again, Output, OutOfMemory}
 use Rattle.rtc_sctp_entries.specs.Entries.{is_short_entry, is_out_of_band}
-use Rattle.rtc_sctp_entries.specs.Visits.{Turn, opening_ends, Settles, ForEntry, ClosedBy, Closes, NoRoom, Ended, AnnouncedBy, Announces, NoMessage, Written}
+use Rattle.rtc_sctp_entries.specs.Visits.{Turn, is_opening_over, Settles, ForEntry, ClosedBy, Closes, NoRoom, Ended, AnnouncedBy, Announces, NoMessage, Written}
 use Rattle.rtc_sctp_entries.specs.Visits.{AnnouncesIf, BegunAs, BegunBy, Begins, RetriedIf, RetriedAt, is_adopted, AdoptedIf, OpenedBy, OpensEntry}
 use Rattle.rtc_sctp_entries.specs.Visits.{AttendsIf, VisitsIn, Visits}
 use Rattle.rtc_sctp_entries.specs.StreamLaws.{is_given_up, is_data_met, is_nothing_met}
@@ -69,7 +68,7 @@ module _ {S : Type 0} (m : AssociationMeaning S) (Q : Met → Type 0) (again : Q
 
   retried : (now : ℕ) (o : Option ℕ) → (is_given_up now o ≡ false → Q Nothing) → (t : Turn S) (met : Met) (t' : Turn S) → RetriedAt m now o t met t' → Q met
   retried now None kept t met t' h = met_by _ met h.0 (kept refl)
-  retried now (Some first) kept t met t' h = retried_if (nat_le (opening_ends first) now) kept t met t' h
+  retried now (Some first) kept t met t' h = retried_if (is_opening_over first now) kept t met t' h
 
   adopted : (b : Bool) (now : ℕ) (t : Turn S) (met : Met) (t' : Turn S) → (is_given_up now t.entry.refused ≡ false → Q Nothing) → AdoptedIf m b now t met t' → Q met
   adopted true now t met t' kept h = begins t met t' h

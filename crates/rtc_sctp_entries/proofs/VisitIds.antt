@@ -19,8 +19,7 @@ use Rattle.rtc_sctp_entries.specs.declared.met.Met.{Met}
 use Rattle.rtc_sctp_entries.specs.declared.met.Met.TheVariants.{Nothing, Again, Output, OutOfMemory}
 use Rattle.rtc_sctp_entries.specs.declared.stream_entry.StreamEntry.{StreamEntry}
 use Rattle.rtc_sctp_entries.specs.Entries.{is_short_entry, is_out_of_band}
-use Rattle.rtc_sctp_entries.specs.Visits.{Turn, Settles, TakesAck, ForEntry, given_config, ClosedBy, Closes, NoRoom, Ended, AnnouncedBy, Announces, NoMessage, Written, AnnouncesIf, BegunAs, BegunBy, Begins, RetriedIf, RetriedAt, is_adopted, AdoptedIf, OpenedBy, OpensEntry, AcknowledgedBy, Acknowledges, TakenUpBy, TakesUp, TakenAs, TakesDcep, TakesStreamMessage, ReadBy, ReadsEntry, HandedBy, AttendsBy, AttendsIf, VisitsIn, Visits, opening_ends}
-use Rattle.std.specs.Prelude.{nat_le}
+use Rattle.rtc_sctp_entries.specs.Visits.{Turn, Settles, TakesAck, ForEntry, given_config, ClosedBy, Closes, NoRoom, Ended, AnnouncedBy, Announces, NoMessage, Written, AnnouncesIf, BegunAs, BegunBy, Begins, RetriedIf, RetriedAt, is_adopted, AdoptedIf, OpenedBy, OpensEntry, AcknowledgedBy, Acknowledges, TakenUpBy, TakesUp, TakenAs, TakesDcep, TakesStreamMessage, ReadBy, ReadsEntry, HandedBy, AttendsBy, AttendsIf, VisitsIn, Visits, is_opening_over}
 
 module _ {S : Type 0} (m : AssociationMeaning S) where
   same : (u t' : Turn S) (id : ℕ) → t' ≡ u → u.entry.id ≡ id → t'.entry.id ≡ id
@@ -75,7 +74,7 @@ module _ {S : Type 0} (m : AssociationMeaning S) where
 
   retried : (now : ℕ) (o : Option ℕ) (t : Turn S) (met : Met) (t' : Turn S) → RetriedAt m now o t met t' → t'.entry.id ≡ t.entry.id
   retried now None t met t' h = same _ t' t.entry.id h.1 refl
-  retried now (Some first) t met t' h = retried_if (nat_le (opening_ends first) now) t met t' h
+  retried now (Some first) t met t' h = retried_if (is_opening_over first now) t met t' h
 
   adopted : (b : Bool) (now : ℕ) (t : Turn S) (met : Met) (t' : Turn S) → AdoptedIf m b now t met t' → t'.entry.id ≡ t.entry.id
   adopted true now t met t' h = begins t met t' h

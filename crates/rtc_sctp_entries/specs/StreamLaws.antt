@@ -1,15 +1,15 @@
 -- What is told of visits by the laws of streams.
-use Rattle.std.specs.Prelude.{ℕ, nat_le, Bool, true, false, Option, Some, None}
+use Rattle.std.specs.Prelude.{ℕ, Bool, true, false, Option, Some, None}
 use Rattle.rtc_sctp_entries.specs.declared.sctp_event.SctpEvent.{SctpEvent}
 use Rattle.rtc_sctp_entries.specs.declared.sctp_event.SctpEvent.TheVariants as event
 use Rattle.rtc_sctp_entries.specs.declared.met.Met.{Met}
 use Rattle.rtc_sctp_entries.specs.declared.met.Met.TheVariants.{Nothing, Again, Output, OutOfMemory}
-use Rattle.rtc_sctp_entries.specs.Visits.{opening_ends}
+use Rattle.rtc_sctp_entries.specs.Visits.{is_opening_over}
 
 -- whether ten seconds went by since an opening was refused first
 abbrev pub is_given_up : ℕ → Option ℕ → Bool
 is_given_up now None = false
-is_given_up now (Some first) = nat_le (opening_ends first) now
+is_given_up now (Some first) = is_opening_over first now
 
 abbrev pub is_data_event : SctpEvent → Bool
 is_data_event (event.Transmit packets) = false

@@ -1,5 +1,5 @@
 -- What a poll does with one stream in use.
-use Rattle.std.specs.Prelude.{ℕ, ◌≡◌, ◌≢◌, ◌+◌, ◌-◌, ◌^◌, ◌&&◌, not, min, nat_le, Bool, true, false}
+use Rattle.std.specs.Prelude.{ℕ, ◌≡◌, ◌≢◌, ◌+◌, ◌-◌, ◌^◌, ◌&&◌, not, min, nat_le, nat_lt, Bool, true, false}
 use Rattle.std.specs.Prelude.{List, [], ◌∷◌, Option, Some, None}
 use Rattle.rtc_wire.specs.declared.channel_config.ChannelConfig.{ChannelConfig}
 use Rattle.rtc_wire.specs.ChannelConfig.{open_of, config_of}
@@ -39,9 +39,14 @@ pub record Turn (S : Type 0) : Type 0 where
 abbrev pub turn : {S : Type 0} → S → StreamEntry → List ℕ → Turn S
 turn association entry resets = record { association = association; entry = entry; resets = resets }
 
--- when an opening that was refused first at a moment is given up: ten seconds later
+-- when an opening that was refused first at a moment is given up: ten seconds later, at most at the last moment of all
 abbrev pub opening_ends : ℕ → ℕ
 opening_ends first = min (first + 10_000_000_000) (2 ^ 64 - 1)
+
+-- Whether an opening that was refused first at a moment is given up by now. It is not at the moment of that refusal itself, also where this
+-- is the last moment of all.
+abbrev pub is_opening_over : (first now : ℕ) → Bool
+is_opening_over first now = nat_lt first now && nat_le (opening_ends first) now
 
 -- the work that an association and an entry hold
 abbrev pub turn_work : {S : Type 0} → AssociationMeaning S → Turn S → ℕ
@@ -157,7 +162,7 @@ module _ {S : Type 0} (m : AssociationMeaning S) where
 
   abbrev pub RetriedAt : ℕ → Option ℕ → Turn S → Met → Turn S → Type 0
   RetriedAt now None t met t' = (met ≡ Nothing) × (t' ≡ record t { entry = record t.entry { refused = Some now } })
-  RetriedAt now (Some first) t met t' = RetriedIf (nat_le (opening_ends first) now) t met t'
+  RetriedAt now (Some first) t met t' = RetriedIf (is_opening_over first now) t met t'
 
   abbrev pub Retries : ℕ → Turn S → Met → Turn S → Type 0
   Retries now t met t' = RetriedAt now t.entry.refused t met t'

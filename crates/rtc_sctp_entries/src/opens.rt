@@ -1,10 +1,10 @@
 //! The opening of streams (RFC 8832, section 6).
-ghost use Rattle.std.specs.Prelude.{◌≡◌, ◌≤◌, true, length, nat_le, IfOk};
+ghost use Rattle.std.specs.Prelude.{◌≡◌, ◌≤◌, true, length, IfOk};
 ghost use Rattle.rtc_wire.specs.ChannelConfig.{open_of};
 ghost use Rattle.rtc_wire.specs.DcepOpen.{open_bytes};
 ghost use Rattle.rtc_sctp_entries.specs.Entries.{config_or_fresh, is_out_of_band as IsOutOfBand, is_short_entry};
 ghost use Rattle.rtc_sctp_entries.specs.Part.{AsksReliability};
-ghost use Rattle.rtc_sctp_entries.specs.Visits.{turn, opening_ends, Settles, Announces, AnnouncesIf, Begins};
+ghost use Rattle.rtc_sctp_entries.specs.Visits.{turn, is_opening_over, Settles, Announces, AnnouncesIf, Begins};
 ghost use Rattle.rtc_sctp_entries.specs.Visits.{BegunAs, Retries, is_adopted as IsAdopted, AdoptedIf, OpensEntry};
 
 use crate::asked::Asked;
@@ -181,9 +181,9 @@ fn begin<S: Association>(
 
 // Whether an opening that was refused first at a moment is given up.
 fn is_timed_out(first: Moment, now: Moment) -> bool
-    ensures { result ≡ nat_le (opening_ends first) now }
+    ensures { result ≡ is_opening_over first now }
 {
-    first.plus(STREAM_OPEN_TIMEOUT) <= now
+    first < now && first.plus(STREAM_OPEN_TIMEOUT) <= now
 }
 
 // An opening is refused for now.

@@ -163,8 +163,8 @@ module _ {S : Type 0} (m : AssociationMeaning S) (w : AssociationLaws m) where
   event_after : (id : ℕ) (p : SctpStreams S) (met : Met) (q : SctpStreams S) → PollDid m p met q → TakesEvent m p.association (book_of p) met q.association (book_of q) → Waits id p → After id met q
   event_after id p met q d (NotStarted s e a b) h = kept_after id p met q (ap (λ (x : Book). x.entries) b) (ap (λ (x : Book). x.state) b) (ap resets_met e) d h
   event_after id p met q d (NoRoom e a b) h = kept_after id p met q (ap (λ (x : Book). x.entries) b) (ap (λ (x : Book). x.state) b) (ap resets_met e) d h
-  event_after id p met q d (NoEvent k e b) h = kept_after id p met q (ap (λ (x : Book). x.entries) b) (ap (λ (x : Book). x.state) b) (ap resets_met e) d h
-  event_after id p met q d (Event event k e b) h = after_waits id met q (ap resets_met e ∙ event_reset m w event) (record {
+  event_after id p met q d (NoEvent s k e b) h = kept_after id p met q (ap (λ (x : Book). x.entries) b) (ap (λ (x : Book). x.state) b) (ap resets_met e) d h
+  event_after id p met q d (Event event s k e b) h = after_waits id met q (ap resets_met e ∙ event_reset m w event) (record {
     established = event_established event (book_of p) (book_of q) b h.established;
     started = started_moved d.did.acts p.association q.association h.started d.did.went;
     ending = event_ending event id (book_of p) (book_of q) b h.ending;

@@ -197,8 +197,8 @@ module _ {S : Type 0} (m : AssociationMeaning S) (w : AssociationLaws m) where
   event_did : (p : SctpStreams S) (met : Met) (q : SctpStreams S) → q.pushed ≡ p.pushed → TakesEvent m p.association (book_of p) met q.association (book_of q) → PollDid m p met q
   event_did p met q f (NotStarted s e a b) = told_step [] p met q (did_same m p.association q.association a) f (ap packets_met e) (ap resets_met e) (ap data_met e) (ap (λ (x : Book). x.completed) (sym b))
   event_did p met q f (NoRoom e a b) = told_step [] p met q (did_same m p.association q.association a) f (ap packets_met e) (ap resets_met e) (ap data_met e) (ap (λ (x : Book). x.completed) (sym b))
-  event_did p met q f (NoEvent k e b) = told_step [] p met q (did_same m p.association q.association (w.event_none p.association q.association k)) f (ap packets_met e) (ap resets_met e) (ap data_met e) (ap (λ (x : Book). x.completed) (sym b))
-  event_did p met q f (Event event k e b) =
+  event_did p met q f (NoEvent s k e b) = told_step [] p met q (did_same m p.association q.association (w.event_none p.association q.association k)) f (ap packets_met e) (ap resets_met e) (ap data_met e) (ap (λ (x : Book). x.completed) (sym b))
+  event_did p met q f (Event event s k e b) =
       told_step (event ∷ []) p met q (told_did m w p.association q.association event k) f (ap packets_met e ∙ event_sent event) (ap resets_met e ∙ event_reset event) (ap data_met e ∙ event_shown event) (event_completed event (book_of p) (book_of q) b)
 
   pub events_did : (p : SctpStreams S) (met : Met) (q : SctpStreams S) → HandlesEvent m p met q → PollDid m p met q

@@ -1,6 +1,5 @@
 -- What a visit of a stream does to the association.
 use Rattle.std.proofs.Common.{◌≡◌, ℕ, Bool, true, false, List, [], ◌∷◌, ◌++◌, append-nil, Option, Some, None, Result, Ok, Err, refl, sym, ap, subst, ◌∙◌}
-use Rattle.std.specs.Prelude.{nat_le}
 use Rattle.rtc_association.specs.declared.assoc_error.AssocError.{AssocError}
 use Rattle.rtc_association.specs.declared.assoc_error.AssocError.TheVariants.{StreamExists, ResetPending, NoStream, TooLong, Closing, Fault, Alloc}
 use Rattle.rtc_association.specs.declared.ppi.Ppi.{Ppi}
@@ -62,7 +61,7 @@ use Rattle.rtc_sctp_entries.specs.Visits.{
   AttendsIf,
   VisitsIn,
   Visits,
-  opening_ends,
+  is_opening_over,
 }
 use Rattle.rtc_sctp_laws.specs.StreamMessages.{StreamMessage, stream_message, are_dcep, shown_message, shown_messages, data_met, packets_met, resets_met}
 use Rattle.rtc_sctp_laws.specs.StreamActs.{AssociationDid, VisitDid}
@@ -150,7 +149,7 @@ module _ {S : Type 0} (m : AssociationMeaning S) (w : AssociationLaws m) where
 
   retried : (now : ℕ) (o : Option ℕ) (t : Turn S) (met : Met) (t' : Turn S) → RetriedAt m now o t met t' → Showing m [] t.association met t'.association
   retried now None t met t' h = still [] _ _ met t' t.association h.0 h.1 refl refl refl refl
-  retried now (Some first) t met t' h = retried_if (nat_le (opening_ends first) now) t met t' h
+  retried now (Some first) t met t' h = retried_if (is_opening_over first now) t met t' h
 
   adopted : (b : Bool) (now : ℕ) (t : Turn S) (met : Met) (t' : Turn S) → AdoptedIf m b now t met t' → Showing m [] t.association met t'.association
   adopted true now t met t' h = begins t met t' h
