@@ -30,13 +30,10 @@ fn any_ready(rows: &[(ChannelId, Option<u16>)], kept: &[Kept]) -> bool
 }
 
 impl ChannelHandler {
-    // Whether a channel can be given a stream.
-    fn can_allocate(&self, client: bool) -> bool
+    // Whether a channel can be given a stream, by a look at each. The free ids are set up here and not where no channel waits.
+    fn can_give(&self, client: bool) -> bool
         ensures { result ≡ CanAllocate (ParityOf client) self.now }
     {
-        if !self.is_waiting() {
-            return false;
-        }
         let ids = self.free_ids(client);
         let count = self.count();
         let mut place = 0usize;
@@ -47,6 +44,16 @@ impl ChannelHandler {
             place += 1;
         }
         false
+    }
+
+    // Whether a channel can be given a stream.
+    fn can_allocate(&self, client: bool) -> bool
+        ensures { result ≡ CanAllocate (ParityOf client) self.now }
+    {
+        if !self.is_waiting() {
+            return false;
+        }
+        self.can_give(client)
     }
 
     // Whether a channel can be opened.

@@ -4,11 +4,8 @@ use Rattle.std.specs.List.{list_any}
 use Rattle.rtc_free_ids.specs.Ids.{parity_of}
 use Rattle.rtc_channels.specs.Channels.{Channel}
 use Rattle.rtc_channels.specs.Allocation.{sought_at, can_be_given}
-use Rattle.rtc_channels.proofs.OpeningLemmas.{given_step, drop_past, none_given}
-use Rattle.rtc_channels.proofs.channel_handler.ChannelHandler.can_allocate.Goals as goal
-
-pub returns-then-not-is_waiting : goal.returns-then-not-is_waiting
-returns-then-not-is_waiting c = sym (none_given (parity_of c.args.client) c.args.self.now c.args.self.now.rows (grind (arith, c.is_waiting.ensures, c.if-not-is_waiting.true)))
+use Rattle.rtc_channels.proofs.OpeningLemmas.{given_step, drop_past}
+use Rattle.rtc_channels.proofs.channel_handler.ChannelHandler.can_give.Goals as goal
 
 pub returns-then-is_some : goal.returns-then-is_some
 returns-then-is_some c =
