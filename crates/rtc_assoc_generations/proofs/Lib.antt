@@ -1,0 +1,2 @@
+pub mod RowsGo
+pub mod PlainGenerations
