@@ -1,2 +1,5 @@
 pub mod RowsGo
 pub mod PlainGenerations
+pub mod Tallies
+pub mod TallyActs
+pub mod PacketTallies
