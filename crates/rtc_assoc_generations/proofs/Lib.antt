@@ -3,3 +3,4 @@ pub mod PlainGenerations
 pub mod Tallies
 pub mod TallyActs
 pub mod PacketTallies
+pub mod CountedCloses
