@@ -1,9 +1,9 @@
 -- Of two ends, the closes that one sent and those that the other one got are counted by the rows of the stream.
-use Rattle.std.proofs.Common.{◌≡◌, ◌⊎◌, inl, inr, ℕ, zero, suc, ◌+◌, ◌<◌, ◌≤◌, ◌==◌, ◌&&◌, ◌||◌, not, cond, Bool, true, false, true≢false, Option, Some, None, List, [], ◌∷◌, ◌++◌, length, take, drop, append-nil, append_assoc, refl, sym, ap, subst, ◌∙◌, arith, zero-add}
+use Rattle.std.proofs.Common.{◌≡◌, ◌⊎◌, inl, inr, ℕ, ◌+◌, ◌≤◌, ◌==◌, not, cond, Bool, true, false, Option, Some, None, List, [], ◌∷◌, ◌++◌, length, take, drop, append-nil, append_assoc, refl, sym, ap, subst, ◌∙◌, arith}
 use Rattle.std.proofs.Common.{length-append}
 use Rattle.std.proofs.lemmas.List.{take-append-drop, take-append-le}
 use Rattle.std.proofs.Math.Seq.{take-add}
-use Rattle.rtc_association.specs.AssociationActs.{AssociationAct, Started, Opened, Wrote, Ended, Given, Taken, Read, Told as ToldEvent, Stirred, Acted}
+use Rattle.rtc_association.specs.AssociationActs.{AssociationAct, Given, Acted}
 use Rattle.rtc_assoc_packets.specs.declared.item.Item.{Item}
 use Rattle.rtc_assoc_packets.specs.declared.item_part.ItemPart.{ItemPart}
 use Rattle.rtc_assoc_packets.specs.declared.item_part.ItemPart.TheVariants.{More, Last, Close}
@@ -17,11 +17,11 @@ use Rattle.rtc_assoc_state.specs.Contents.{Contents}
 use Rattle.rtc_assoc_state.specs.Streams.{stream_of, is_closed_here, is_unclosed}
 use Rattle.rtc_assoc_state.specs.PlainMeaning.{plain_meaning}
 use Rattle.rtc_assoc.proofs.FrameLemmas.{Brings}
-use Rattle.rtc_assoc.proofs.CoreLemmas.{Core, Causes}
+use Rattle.rtc_assoc.proofs.CoreLemmas.{Core}
 use Rattle.rtc_assoc.proofs.OrderLemmas.{SenderOk, Next}
 use Rattle.rtc_assoc_generations.proofs.Tallies.{close_by, close_in, closes_of, closes_of-append, one_if, settled_by, queued_by, queued_close, sent_closes, heard_closes, settled_closes, Tally}
 use Rattle.rtc_assoc_generations.proofs.TallyActs.{EndTallies, no_closes, acted_tallies}
-use Rattle.rtc_assoc_generations.proofs.PacketTallies.{settled_of, got_of, given_tallies}
+use Rattle.rtc_assoc_generations.proofs.PacketTallies.{given_tallies}
 
 -- numbers that count up from one
 abbrev pub Counts : ℕ → List ℕ → Type 0

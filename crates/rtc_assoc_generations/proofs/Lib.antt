@@ -4,3 +4,4 @@ pub mod Tallies
 pub mod TallyActs
 pub mod PacketTallies
 pub mod CountedCloses
+pub mod CountedEnds

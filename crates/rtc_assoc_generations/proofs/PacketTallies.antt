@@ -1,5 +1,5 @@
 -- What a packet does to the closes of each stream.
-use Rattle.std.proofs.Common.{◌≡◌, ◌⊎◌, inl, inr, ℕ, ◌+◌, ◌<◌, ◌≤◌, ◌==◌, ◌&&◌, ◌||◌, not, cond, Bool, true, false, true≢false, List, [], ◌∷◌, ◌++◌, length, take, drop, append-nil, Option, Some, None, Result, Ok, Err, refl, sym, ap, subst, ◌∙◌, arith}
+use Rattle.std.proofs.Common.{◌≡◌, ◌⊎◌, inl, inr, ℕ, ◌+◌, ◌≤◌, ◌==◌, ◌&&◌, ◌||◌, not, cond, Bool, true, false, true≢false, List, [], ◌∷◌, ◌++◌, length, take, append-nil, Option, Some, None, Result, Ok, Err, refl, sym, ap, subst, ◌∙◌, arith}
 use Rattle.std.specs.Prelude.{nat_lt}
 use Rattle.std.specs.declared.alloc.AllocError.{AllocError}
 use Rattle.std.proofs.lemmas.Bool.{eqb-true, eqb-false}
@@ -25,7 +25,7 @@ use Rattle.rtc_assoc_state.proofs.RaiseLemmas.{stream_of-stream}
 use Rattle.rtc_assoc.proofs.ArriveLemmas.{came_taken}
 use Rattle.rtc_assoc.proofs.FrameLemmas.{Brings}
 use Rattle.rtc_assoc_generations.proofs.Tallies.{close_by, closes_of, one_if, settled_by, queued_by, heard_closes, Tally, tally_settled}
-use Rattle.rtc_assoc_generations.proofs.TallyActs.{EndTallies, no_closes, tallies_same, tallies_join, tallies_then, tallies_put, Beside, close_behind, self}
+use Rattle.rtc_assoc_generations.proofs.TallyActs.{EndTallies, no_closes, tallies_same, tallies_join, tallies_then, tallies_put, close_behind, self}
 
 -- what does not touch the closes
 tallies_greeted : (p : Contents) → EndTallies p (greeted p) no_closes no_closes

@@ -1,36 +1,25 @@
 -- What each act of the plain association does to the closes of each stream.
-use Rattle.std.proofs.Common.{◌≡◌, ◌⊎◌, inl, inr, ℕ, ◌+◌, ◌-◌, ◌<◌, ◌≤◌, ◌==◌, ◌&&◌, ◌||◌, not, cond, Bool, true, false, true≢false, List, [], ◌∷◌, ◌++◌, length, take, drop, append-nil, append_assoc, Option, Some, None, Result, Ok, Err, refl, sym, ap, subst, ◌∙◌, arith}
-use Rattle.std.specs.Prelude.{nat_lt}
-use Rattle.std.proofs.lemmas.Bool.{eqb-true, eqb-false}
-use Rattle.std.proofs.lemmas.Bool.Decides.{eqb_tells, nat_tests}
-use Rattle.std.specs.declared.alloc.AllocError.{AllocError}
+use Rattle.std.proofs.Common.{◌≡◌, inl, inr, ℕ, ◌-◌, ◌==◌, ◌||◌, not, cond, Bool, true, false, true≢false, List, [], ◌∷◌, ◌++◌, length, append-nil, Option, Some, None, refl, sym, ap, subst, ◌∙◌, arith}
+use Rattle.std.proofs.lemmas.Bool.Decides.{eqb_tells}
 use Rattle.rtc_association.specs.declared.assoc_error.AssocError.{AssocError}
 use Rattle.rtc_association.specs.declared.assoc_error.AssocError.TheVariants.{NoStream}
-use Rattle.rtc_association.specs.declared.assoc_event.AssocEvent.TheVariants.{Connected}
 use Rattle.rtc_association.specs.Ppi.{ppi_number}
 use Rattle.rtc_association.specs.AssociationNeeds.{need}
 use Rattle.rtc_association.specs.AssociationActs.{AssociationAct, Started, Opened, Wrote, Ended, Given, Taken, Read, Told as ToldEvent, Stirred, Starts, ByConnect, ByAccept, BySnap, Stirs, LimitsSet, ConnectRefused, AcceptRefused, SnapRefused, OpenRefused, WriteRefused, ReadRefused, EndRefused, ThresholdSet, ReliabilitySet, Acted}
 use Rattle.rtc_parts_values.specs.Why.{Timed, Shut as ShutDown, Other}
 use Rattle.rtc_assoc_packets.specs.declared.item.Item.{Item}
-use Rattle.rtc_assoc_packets.specs.declared.item_part.ItemPart.{ItemPart}
-use Rattle.rtc_assoc_packets.specs.declared.item_part.ItemPart.TheVariants.{More, Last, Close}
-use Rattle.rtc_assoc_packets.specs.declared.frame.Frame.{Frame}
-use Rattle.rtc_assoc_packets.specs.declared.frame.Frame.TheVariants.{Hello, Welcome, Data, Acknowledgement, Shutdown}
-use Rattle.rtc_assoc_packets.specs.Packets.{frame_in}
 use Rattle.rtc_assoc_packets.specs.Pieces.{close_of, pieces_of}
 use Rattle.rtc_assoc_state.specs.declared.close_state.CloseState.{CloseState}
 use Rattle.rtc_assoc_state.specs.declared.close_state.CloseState.TheVariants.{Unclosed, Queued, Acknowledged}
 use Rattle.rtc_assoc_state.specs.declared.stream_row.StreamRow.{StreamRow}
-use Rattle.rtc_assoc_state.specs.Contents.{Contents, is_server, is_ending}
-use Rattle.rtc_assoc_state.specs.Streams.{stream_of, put, reset_row, is_closed_here, is_unclosed, takes_messages}
-use Rattle.rtc_assoc_state.specs.Outbox.{settled_count}
-use Rattle.rtc_assoc_state.specs.Settling.{told_of, can_reset}
-use Rattle.rtc_assoc_state.specs.Calls.{limited, started_as, said_hello, connected, accepted, snapped, opened, sent, message_written, next_message, taken_out, stream_ended, thresholded, shut_down, greeted, welcomed, acknowledged, item_counted, more_kept, last_kept, piece_kept, piece_came, finished, reset_told, close_came_at, close_came, part_came, item_taken, is_ahead, item_came, answered, lost, framed, at_moment, input_taken, half_taken, timed, event_given, packet_given}
-use Rattle.rtc_assoc_state.specs.PlainMeaning.{plain_meaning, open_cause, write_cause, end_cause, stream_cause, ending_cause, Does, Leaves, Sends, Reads, Gives}
+use Rattle.rtc_assoc_state.specs.Contents.{Contents}
+use Rattle.rtc_assoc_state.specs.Streams.{stream_of, put, is_closed_here, is_unclosed}
+use Rattle.rtc_assoc_state.specs.Calls.{limited, started_as, said_hello, connected, accepted, snapped, opened, sent, message_written, next_message, taken_out, stream_ended, thresholded, shut_down, timed, event_given, packet_given}
+use Rattle.rtc_assoc_state.specs.PlainMeaning.{plain_meaning, open_cause, write_cause, end_cause, stream_cause, ending_cause, Leaves, Sends, Reads}
 use Rattle.rtc_assoc_state.proofs.RaiseLemmas.{stream_of-stream, stream_of-put_other}
 use Rattle.rtc_assoc_state.proofs.DoesLemmas.{refused_changes_nothing, does_leaves, polls_some, transmits_some, reads_some, times}
 use Rattle.rtc_stream_uses.specs.GenerationLaws.{gives_packet}
-use Rattle.rtc_assoc_generations.proofs.Tallies.{close_by, close_in, closes_of, closes_of-append, one_if, settled_by, queued_by, queued_close, heard_closes, settled_closes, Tally, tally_same, tally_join, tally_kept, no_close_pieces, own_put, tally_settled}
+use Rattle.rtc_assoc_generations.proofs.Tallies.{closes_of, closes_of-append, settled_by, queued_by, Tally, tally_same, tally_join, tally_kept, no_close_pieces, own_put}
 
 -- what an end does to the closes of each stream, with those that are acknowledged and those that came
 pub record EndTallies (p q : Contents) (acked got : ℕ → List ℕ) : Type 0 where

@@ -2,5 +2,7 @@
 #![tactic(auto)]
 
 mod plain;
+mod resets;
 
 pub use plain::plain_generations_change_by_packets;
+pub use resets::resets_wait_for_both_closes;
