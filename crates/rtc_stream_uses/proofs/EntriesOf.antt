@@ -43,14 +43,14 @@ none_head s e es h = by (e.id == s) refl
 pub none_more : (s : ℕ) (e : StreamEntry) (es : List StreamEntry) → (e.id == s) ≡ false → entries_of s es ≡ [] → entries_of s (e ∷ es) ≡ []
 none_more s e es c h = entries_other s e es c ∙ h
 
-none_set : (s : ℕ) (es : List StreamEntry) (i : ℕ) (e e' : StreamEntry) → slice_get es i ≡ Some e → e'.id ≡ e.id → entries_of s es ≡ [] → entries_of s (slice_set es i e') ≡ []
+pub none_set : (s : ℕ) (es : List StreamEntry) (i : ℕ) (e e' : StreamEntry) → slice_get es i ≡ Some e → e'.id ≡ e.id → entries_of s es ≡ [] → entries_of s (slice_set es i e') ≡ []
 none_set s [] i e e' at same h = absurd (no_entry e at)
 none_set s (x ∷ xs) zero e e' at same h =
     let none = none_head s x xs h in
     none_more s e' xs (same_test x.id e'.id s false (same ∙ ap (λ (y : StreamEntry). y.id) (sym (same_Some x e at))) none.0) none.1
 none_set s (x ∷ xs) (suc i) e e' at same h = let none = none_head s x xs h in none_more s x (slice_set xs i e') none.0 (none_set s xs i e e' at same none.1)
 
-none_unclosed : (s : ℕ) (es : List StreamEntry) → entries_of s es ≡ [] → entries_of s (unclosed es) ≡ []
+pub none_unclosed : (s : ℕ) (es : List StreamEntry) → entries_of s es ≡ [] → entries_of s (unclosed es) ≡ []
 none_unclosed s [] h = refl
 none_unclosed s (x ∷ xs) h = by (not (is_closed_state x.state)) refl (none_head s x xs h).0 (none_unclosed s xs (none_head s x xs h).1)
   where
@@ -182,15 +182,17 @@ module _ {S : Type 0} (m : AssociationMeaning S) where
   rested_used s a b ws hs ws' hs' [] h e f k = unused_blank m s b ws' hs' e f
   rested_used s a b ws hs ws' hs' (x ∷ xs) h e f k = by (x.id == s) refl h (λ g. rested_used s a b ws hs ws' hs' xs g e f)
     where
-      closed_in : (st : StreamEntryState) → (is_past_opening st || is_in_use s xs) ≡ false → IsUsedIn m st x.marked s b ws' hs'
-      closed_in AwaitOpen g = unused_blank m s b ws' hs' e f
-      closed_in AwaitConfig g = absurd (true≢false g)
-      closed_in AwaitDcepAck g = absurd (true≢false g)
-      closed_in Open g = tt
-      closed_in Closed g = unused_blank m s b ws' hs' e f
+      closed_in : (st : StreamEntryState) (marked : Bool) → ((is_past_opening st && not marked) || is_in_use s xs) ≡ false → IsUsedIn m st marked s b ws' hs'
+      closed_in AwaitOpen marked g = unused_blank m s b ws' hs' e f
+      closed_in AwaitConfig true g = tt
+      closed_in AwaitConfig false g = absurd (true≢false g)
+      closed_in AwaitDcepAck true g = tt
+      closed_in AwaitDcepAck false g = absurd (true≢false g)
+      closed_in Open marked g = tt
+      closed_in Closed marked g = unused_blank m s b ws' hs' e f
 
-      by : (c : Bool) → (x.id == s) ≡ c → ((c && is_past_opening x.state) || is_in_use s xs) ≡ false → (is_in_use s xs ≡ false → AreUsedIn m (entries_of s xs) s a ws hs → AreUsedIn m (entries_of s xs) s b ws' hs') → AreUsedIn m (entries_of s (x ∷ xs)) s b ws' hs'
+      by : (c : Bool) → (x.id == s) ≡ c → ((c && (is_past_opening x.state && not x.marked)) || is_in_use s xs) ≡ false → (is_in_use s xs ≡ false → AreUsedIn m (entries_of s xs) s a ws hs → AreUsedIn m (entries_of s xs) s b ws' hs') → AreUsedIn m (entries_of s (x ∷ xs)) s b ws' hs'
       by true c g rest =
           let one = only_used s a ws hs x (entries_of s xs) (used_is _ _ s a ws hs (sym (entries_own s x xs c)) k) in
-          used_is (x ∷ []) _ s b ws' hs' (entries_own s x xs c ∙ ap (λ (l : List StreamEntry). x ∷ l) one.0) (closed_in x.state g)
+          used_is (x ∷ []) _ s b ws' hs' (entries_own s x xs c ∙ ap (λ (l : List StreamEntry). x ∷ l) one.0) (closed_in x.state x.marked g)
       by false c g rest = used_is _ _ s b ws' hs' (entries_other s x xs c) (rest g (used_is _ _ s a ws hs (sym (entries_other s x xs c)) k))

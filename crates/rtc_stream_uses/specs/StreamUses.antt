@@ -1,5 +1,5 @@
 -- How a stream is used in the generation that it has: what was written and read of it, by the state of its entry.
-use Rattle.std.specs.Prelude.{ℕ, ◌≡◌, ◌<◌, ◌++◌, ◌==◌, ◌&&◌, ◌||◌, ◌⊎◌, Bool, true, false, List, [], ◌∷◌}
+use Rattle.std.specs.Prelude.{ℕ, ◌≡◌, ◌<◌, ◌++◌, ◌==◌, ◌&&◌, ◌||◌, ◌⊎◌, not, Bool, true, false, List, [], ◌∷◌}
 use Rattle.std.specs.List.{filter, list_all, list_any}
 use Rattle.rtc_association.specs.AssociationMeaning.{AssociationMeaning}
 use Rattle.rtc_sctp_entries.specs.declared.stream_entry_state.StreamEntryState.{StreamEntryState}
@@ -33,9 +33,12 @@ begins_with_dcep (x ∷ messages) = is_dcep_message x
 abbrev pub entries_of : ℕ → List StreamEntry → List StreamEntry
 entries_of s entries = filter (is_entry_of s) entries
 
--- whether a stream has an entry that is past its opening and not closed
+-- whether a stream has an entry that is past its opening, not closed, and not to be closed
+abbrev pub is_unmarked_use : StreamEntry → Bool
+is_unmarked_use entry = is_past_opening entry.state && not entry.marked
+
 abbrev pub is_use_of : ℕ → StreamEntry → Bool
-is_use_of s entry = (entry.id == s) && is_past_opening entry.state
+is_use_of s entry = (entry.id == s) && is_unmarked_use entry
 
 abbrev pub is_in_use : ℕ → List StreamEntry → Bool
 is_in_use s entries = list_any (is_use_of s) entries

@@ -25,7 +25,7 @@ pub record PollUses {S : Type 0} (m : AssociationMeaning S) (p : SctpStreams S) 
   pub leaves : (s : ℕ) (written read : List StreamMessage) → IsUsedOver m s written read p
       → LeavesUse m met s (written ++ wrote) (read ++ heard) q.association q.entries
 
--- No stream comes to another generation while it is in use. An end sends its close of a stream behind a poll that took what the other end
+-- No stream comes to another generation while it has an entry in use that is not to be closed. An end sends its close of a stream behind a poll that took what the other end
 -- closed, and so the reset completes behind that.
 abbrev pub IsTimely : {S : Type 0} → AssociationMeaning S → ℕ → SctpStreams S → SctpStreams S → Type 0
 IsTimely m s p q = m.generation q.association s ≢ m.generation p.association s → is_in_use s p.entries ≡ false

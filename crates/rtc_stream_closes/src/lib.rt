@@ -1,0 +1,2 @@
+//! What is due of streams that this end closed, and that none of them stays in use.
+#![tactic(auto)]
