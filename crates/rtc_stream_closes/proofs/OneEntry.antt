@@ -1,15 +1,18 @@
 -- The one entry of a stream, where entries are set, put in and dropped.
-use Rattle.std.proofs.Common.{◌≡◌, ℕ, zero, suc, ◌==◌, not, cond, Bool, true, false, true≢false, List, [], ◌∷◌, ◌++◌, take, drop, insert, Option, Some, None, refl, sym, ap, subst, ◌∙◌}
+use Rattle.std.proofs.Common.{◌≡◌, ℕ, zero, suc, ◌==◌, not, cond, Bool, true, false, List, [], ◌∷◌, ◌++◌, take, drop, insert, Some, None, refl, sym, ap, subst, ◌∙◌, arith}
 use Rattle.std.specs.Prelude.{slice_get, slice_set}
-use Rattle.std.proofs.lemmas.Bool.{eqb-true}
+use Rattle.std.proofs.lemmas.Bool.{eqb-true, eqb-false}
 use Rattle.std.proofs.lemmas.List.{take-append-drop}
 use Rattle.std.proofs.lemmas.List.Elements.{filter-append}
 use Rattle.std.proofs.lemmas.Option.{same_Some}
 use Rattle.rtc_sctp_entries.specs.declared.stream_entry.StreamEntry.{StreamEntry}
 use Rattle.rtc_sctp_entries.specs.Entries.{is_entry_of, is_closed_state, unclosed}
 use Rattle.rtc_stream_uses.specs.StreamUses.{entries_of}
-use Rattle.rtc_stream_uses.proofs.EntriesOf.{no_entries, no_entry, entries_own, entries_other, same_test, none_more, none_set, none_unclosed}
+use Rattle.rtc_stream_uses.proofs.EntriesOf.{no_entries, entries_own, entries_other, same_test, none_head, none_set, none_unclosed}
 use Rattle.rtc_stream_closes.specs.ClosedStreams.{OneAtMost}
+
+no_entry : (e : StreamEntry) → None ≡ Some e → ⊥
+no_entry e h = cc
 
 pub one_only : (N : Type 0) (P : StreamEntry → Type 0) (e : StreamEntry) (l : List StreamEntry) → OneAtMost N P (e ∷ l) → (l ≡ []) × P e
 one_only N P e [] h = (refl, h)
@@ -82,3 +85,40 @@ one_unclosed N P s (x ∷ xs) drops h = by (x.id == s) refl (not (is_closed_stat
         one_is N P [] _ (none_unclosed s xs one.0) (drops x o one.1)
     by false c true o rest = one_is N P _ _ (entries_other s x (unclosed xs) c) (rest (one_is N P _ _ (sym (entries_other s x xs c)) h))
     by false c false o rest = rest (one_is N P _ _ (sym (entries_other s x xs c)) h)
+
+-- an entry of a stream is another one, and what is asked of the entries changes
+got_none : (s : ℕ) (es : List StreamEntry) (i : ℕ) (e : StreamEntry) → slice_get es i ≡ Some e → entries_of s es ≡ [] → e.id ≡ s → ⊥
+got_none s [] i e at none same = no_entry e at
+got_none s (x ∷ xs) zero e at none same =
+    let test : (x.id == s) ≡ true = ap (λ (y : StreamEntry). y.id == s) (same_Some x e at) ∙ (let k : (e.id == s) ≡ true = grind (arith, same) in k) in
+    no_entries x (entries_of s xs) (sym (entries_own s x xs test) ∙ none)
+got_none s (x ∷ xs) (suc i) e at none same = got_none s xs i e at (none_head s x xs none).1 same
+
+pub one_set_to : (N N' : Type 0) (P P' : StreamEntry → Type 0) (s : ℕ) (es : List StreamEntry) (i : ℕ) (e e' : StreamEntry) → slice_get es i ≡ Some e → e'.id ≡ e.id
+    → (N → N') → ((x : StreamEntry) → (e.id ≡ s → ⊥) → P x → P' x) → (e.id ≡ s → P e → P' e') → OneAtMost N P (entries_of s es) → OneAtMost N' P' (entries_of s (slice_set es i e'))
+one_set_to N N' P P' s [] i e e' at same f g k h = absurd (no_entry e at)
+one_set_to N N' P P' s (x ∷ xs) zero e e' at same f g k h = by (x.id == s) refl
+  where
+    is : x ≡ e
+    is = same_Some x e at
+
+    own_id : e.id ≡ x.id
+    own_id = ap (λ (y : StreamEntry). y.id) (sym is)
+
+    id : e'.id ≡ x.id
+    id = same ∙ own_id
+
+    by : (b : Bool) → (x.id == s) ≡ b → OneAtMost N' P' (entries_of s (e' ∷ xs))
+    by true c =
+        let one = one_only N P x (entries_of s xs) (one_is N P _ _ (sym (entries_own s x xs c)) h) in
+        one_is N' P' (e' ∷ []) _ (entries_own s e' xs (same_test x.id e'.id s true id c) ∙ ap (λ (l : List StreamEntry). e' ∷ l) one.0) (k (own_id ∙ eqb-true x.id s c) (subst P is one.1))
+    by false c =
+        let ne : e.id ≡ s → ⊥ = λ q. eqb-false x.id s c (sym own_id ∙ q) in
+        one_is N' P' _ _ (entries_other s e' xs (same_test x.id e'.id s false id c)) (one_map N N' P P' (entries_of s xs) f (λ y. g y ne) (one_is N P _ _ (sym (entries_other s x xs c)) h))
+one_set_to N N' P P' s (x ∷ xs) (suc i) e e' at same f g k h = by (x.id == s) refl (λ q. one_set_to N N' P P' s xs i e e' at same f g k q)
+  where
+    by : (b : Bool) → (x.id == s) ≡ b → (OneAtMost N P (entries_of s xs) → OneAtMost N' P' (entries_of s (slice_set xs i e'))) → OneAtMost N' P' (entries_of s (x ∷ slice_set xs i e'))
+    by true c rest =
+        let one = one_only N P x (entries_of s xs) (one_is N P _ _ (sym (entries_own s x xs c)) h) in
+        one_is N' P' (x ∷ []) _ (entries_own s x (slice_set xs i e') c ∙ ap (λ (l : List StreamEntry). x ∷ l) (none_set s xs i e e' at same one.0)) (g x (λ q. got_none s xs i e at one.0 q) one.1)
+    by false c rest = one_is N' P' _ _ (entries_other s x (slice_set xs i e') c) (rest (one_is N P _ _ (sym (entries_other s x xs c)) h))

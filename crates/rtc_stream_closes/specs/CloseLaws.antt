@@ -1,5 +1,5 @@
 -- How the streams of an association come to be closed by this end, and which events tell it.
-use Rattle.std.specs.Prelude.{ℕ, ◌≡◌, ◌≢◌, ◌++◌, ◌==◌, ◌&&◌, ◌||◌, not, Bool, true, false, List, [], ◌∷◌}
+use Rattle.std.specs.Prelude.{ℕ, ◌≡◌, ◌++◌, ◌==◌, ◌&&◌, ◌||◌, not, Bool, true, false, List, [], ◌∷◌}
 use Rattle.rtc_association.specs.declared.assoc_event.AssocEvent.{AssocEvent}
 use Rattle.rtc_association.specs.declared.assoc_event.AssocEvent.TheVariants.{Readable, Writable, Finished}
 use Rattle.rtc_association.specs.AssociationMeaning.{AssociationMeaning}
@@ -21,13 +21,19 @@ abbrev pub ends_stream : ℕ → AssociationAct → Bool
 ends_stream s (Ended t g) = t == s
 ends_stream s _ = false
 
--- What a packet does to a stream that this end has closed once it was taken. If it was closed before, no use of it is told behind its
--- close; and if this end closed it for the close of the other end, that is told last.
+-- whether some events tell a use of a stream
+abbrev pub tells_use : ℕ → List AssocEvent → Bool
+tells_use s [] = false
+tells_use s (Readable t ∷ events) = (t == s) || tells_use s events
+tells_use s (Writable t ∷ events) = (t == s) || tells_use s events
+tells_use s (_ ∷ events) = tells_use s events
+
+-- What a packet does to a stream that this end has closed once it was taken. If it was closed before, no use of it is told; and if this
+-- end closed it for the close of the other end, that is told last.
 pub record TellsClose {S : Type 0} (m : AssociationMeaning S) (s : ℕ) (a b : S) : Type 0 where
-  pub generation_is : m.generation b s ≡ m.generation a s
   pub more : List AssocEvent
   pub due_is : m.due b ≡ m.due a ++ more
-  pub before : m.closed_here a s ≡ true → ends_closed s true more ≡ true
+  pub before : m.closed_here a s ≡ true → tells_use s more ≡ false
   pub now : m.closed_here a s ≡ false → ends_closed s false more ≡ true
 
 pub record CloseLaws {S : Type 0} (m : AssociationMeaning S) : Type 0 where
