@@ -5,3 +5,4 @@ pub mod TallyActs
 pub mod PacketTallies
 pub mod CountedCloses
 pub mod CountedEnds
+pub mod PlainCloses
