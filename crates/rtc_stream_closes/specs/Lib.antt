@@ -1,0 +1,3 @@
+pub mod CloseLaws
+pub mod ClosedStreams
+pub mod SealedCalls
