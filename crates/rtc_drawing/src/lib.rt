@@ -9,4 +9,4 @@ mod sourcing;
 pub use credentials::make_creds;
 pub use earlier_numbers::EarlierNumbers;
 pub use naming::{draw_name, keep_name};
-pub use sourcing::{draw_first_pairs, draw_pairs};
+pub use sourcing::{draw_first_pairs, draw_pairs, draw_source};

@@ -44,7 +44,12 @@ fn find_source<M: MediaSession>(media: &M, earlier: &EarlierNumbers, first: u32)
     first
 }
 
-fn draw_source<M: MediaSession, N: Ids>(ids: &mut N, media: &M, earlier: &EarlierNumbers) -> Ssrc
+/// A source that no stream has, and that was not drawn earlier in the call; where there is none, that of the number drawn.
+pub fn draw_source<M: MediaSession, N: Ids>(
+    ids: &mut N,
+    media: &M,
+    earlier: &EarlierNumbers,
+) -> Ssrc
     ensures source { result ≡ record { 0 = next_source N.ids (has_source M.media media.now) earlier.now ids.old } }
     ensures after { ids.new ≡ N.ids.after ids.old }
 {

@@ -13,3 +13,4 @@ mod starting_sctp;
 
 pub use accepting::{accept_answer, accept_offer};
 pub use applying::apply_staged;
+pub use following::start_dtls;

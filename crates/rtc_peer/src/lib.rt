@@ -4,17 +4,23 @@
 #![tactic(auto)]
 
 mod channel;
+mod direct_api;
+mod direct_calls;
+mod direct_lends;
+mod direct_media;
+mod direct_streams;
 mod open_channels;
 mod polls;
 mod rtc;
 mod sdp_api;
 
 pub use channel::Channel;
+pub use direct_api::DirectApi;
 pub use rtc::Rtc;
 pub use rtc_association::Association;
 pub use rtc_change::{AddMedia, Change, Changes, Lines, NewLine, SdpPendingOffer, Why};
 pub use rtc_channels::{ChannelError, ChannelRow};
-pub use rtc_dtls::{DtlsError, DtlsInstance};
+pub use rtc_dtls::{DtlsError, DtlsInstance, DtlsVersion};
 pub use rtc_ice::{IceAgent, IceConnectionState};
 pub use rtc_ids::Ids;
 pub use rtc_lines::{
@@ -22,7 +28,7 @@ pub use rtc_lines::{
     IceCreds, Inconsistent, LineKind, LineRow, MediaKind, MediaLine, Mid, Msid, PayloadRow, Pt,
     Rid, Sdp, SdpAnswer, SdpError, SdpOffer, Setup, Simulcast, SimulcastLayer, Ssrc,
 };
-pub use rtc_media::{MediaError, MediaSession};
+pub use rtc_media::{MediaError, MediaSession, NoStream};
 pub use rtc_parts_values::Reason;
 pub use rtc_peer_state::{RtcConfig, RtcError};
 pub use rtc_polling::{ChannelData, Event, Input, Output};

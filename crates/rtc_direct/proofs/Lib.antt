@@ -1,0 +1,2 @@
+pub mod MadeChannels
+pub mod LoanLemmas

@@ -1,0 +1,66 @@
+//! The association as a user starts it, and channels that a user makes.
+ghost use Rattle.std.specs.Prelude.{◌≡◌, not};
+ghost use Rattle.rtc_peer_state.specs.PartMoves.{StartsWhere, remote_limit};
+ghost use Rattle.rtc_direct.specs.ChannelMaking.{start_answer, StartsStreams, CreatesChannel};
+
+use rtc_association::Association;
+use rtc_channels::ChannelError;
+use rtc_peer_state::RtcError;
+use rtc_polling::PolledPeer;
+use rtc_sctp::{RtcSctp, SctpError};
+use rtc_wire::{ChannelConfig, ChannelId, Moment};
+
+fn start_streams<S: Association>(
+    sctp: &mut RtcSctp<S>,
+    client: bool,
+    now: Moment,
+) -> Result<(), SctpError>
+    ensures { StartsWhere S.association (not (S.association.started sctp.old.association)) sctp.old client now (remote_limit None)
+        result sctp.new }
+{
+    if sctp.is_inited() {
+        return Ok(());
+    }
+    match sctp.init(client, now, None) {
+        Ok(()) => Ok(()),
+        Err(error) => Err(error),
+    }
+}
+
+// What a start of the association answers, as a peer tells it.
+fn answer_start(answer: Result<(), SctpError>) -> Result<(), RtcError>
+    ensures { result ≡ start_answer answer }
+{
+    match answer {
+        Ok(()) => Ok(()),
+        Err(error) => Err(RtcError::from(error)),
+    }
+}
+
+/// Starts the association, where nothing started it before.
+pub fn start_sctp<I, D, S: Association, M, N>(
+    peer: &mut PolledPeer<I, D, S, M, N>,
+    client: bool,
+) -> Result<(), RtcError>
+    ensures { StartsStreams S.association client peer.old result peer.new }
+{
+    let now = peer.core.greatest;
+    answer_start(start_streams(&mut peer.core.sctp, client, now))
+}
+
+/// Makes a channel that is confirmed, and answers its number: it is opened once it has a stream.
+pub fn create_data_channel<I, D, S, M, N>(
+    peer: &mut PolledPeer<I, D, S, M, N>,
+    config: ChannelConfig,
+) -> Result<ChannelId, RtcError>
+    ensures { CreatesChannel config peer.old result peer.new }
+{
+    match peer.core.channels.new_channel(&config) {
+        Ok(id) => {
+            peer.core.channels.confirm(id, config);
+            Ok(id)
+        }
+        Err(ChannelError::BadChannel) => Err(RtcError::BadChannel),
+        Err(ChannelError::Alloc) => Err(RtcError::Alloc),
+    }
+}

@@ -1,0 +1,15 @@
+use Rattle.std.proofs.Common.{◌≡◌, refl}
+use Rattle.std.specs.Borrow.{MutBor}
+use Rattle.rtc_direct.specs.Streams.{LendsTx}
+use Rattle.rtc_peer.proofs.HandleLoans.{lent_beside}
+use Rattle.rtc_peer.proofs.direct_api.DirectApi.stream_tx.Goals as goal
+
+pub returns : goal.returns
+returns g c = (
+  (
+    refl,
+    (λ w. lent_beside c.stream_tx.result (λ (lent : MutBor g.row.M-Tx.Denot). LendsTx g.M.MediaSession.media c.args.ssrc c.args.self.now.rtc.now lent.now w (c.stream_tx.follows.lender w)) (c.args.self.now.rtc.ghost_name ≡ c.args.self.now.rtc.ghost_name) refl (c.stream_tx.follows.holds w)),
+    (refl, c.stream_tx.follows.holds-at-none),
+  ),
+  record { leaves = tt; found = c.stream_tx.ensures.found },
+)

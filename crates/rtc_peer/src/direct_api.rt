@@ -1,0 +1,186 @@
+//! The handle by which a user drives a peer without session descriptions.
+ghost use Rattle.std.specs.Prelude.{◌≡◌, IfOk, MatchOption, None, Some, map};
+ghost use Rattle.rtc_channels.specs.Channels.{channel_of_stream, numbered_stream};
+ghost use Rattle.rtc_peer_state.specs.Meanings.{meanings};
+ghost use Rattle.rtc_polling.specs.ChannelCalls.{ClosesDataChannel, stream_under};
+ghost use Rattle.rtc_direct.specs.IceCalls.{SetsControlling, SetsLite, SetsLocalCreds, SetsRemoteCreds, InvalidatesCandidate};
+ghost use Rattle.rtc_direct.specs.DtlsCalls.{with_fingerprint, TakesDtlsRole};
+ghost use Rattle.rtc_direct.specs.ChannelMaking.{StartsStreams, CreatesChannel};
+
+use crate::Rtc;
+use rtc_association::Association;
+use rtc_dtls::{DtlsInstance, DtlsVersion};
+use rtc_ice::IceAgent;
+use rtc_ids::Ids;
+use rtc_lines::{Candidate, Fingerprint, IceCreds};
+use rtc_media::MediaSession;
+use rtc_peer_state::RtcError;
+use rtc_wire::{ChannelConfig, ChannelId};
+use std::alloc::AllocError;
+
+/// A handle by which a user drives a peer without session descriptions, where both sides agree by other means.
+///
+/// Its calls act at once, also on a peer that is closing or closed.
+pub struct DirectApi<'a, I: IceAgent, D: DtlsInstance, S: Association, M: MediaSession, N: Ids> {
+    pub(crate) rtc: &'a mut Rtc<I, D, S, M, N>,
+}
+
+impl<I: IceAgent, D: DtlsInstance, S: Association, M: MediaSession, N: Ids> Drop
+    for DirectApi<'_, I, D, S, M, N> {
+    fn drop(self)
+        ensures { self.exit.0.now ≡ self.entry.rtc.now }
+    {
+        let DirectApi { rtc: _ } = self;
+    }
+}
+
+impl<'a, I: IceAgent, D: DtlsInstance, S: Association, M: MediaSession, N: Ids> DirectApi<
+    'a,
+    I,
+    D,
+    S,
+    M,
+    N,
+> {
+    /// A handle on a peer, which is as before.
+    pub fn new(rtc: &'a mut Rtc<I, D, S, M, N>) -> DirectApi<'a, I, D, S, M, N>
+        ensures same_reference { result.rtc.ghost_name ≡ rtc.entry.ghost_name }
+        ensures peer { result.rtc.now ≡ rtc.old }
+    {
+        DirectApi { rtc }
+    }
+}
+
+impl<'a, I: IceAgent, D: DtlsInstance, S: Association, M: MediaSession, N: Ids> DirectApi<
+    'a,
+    I,
+    D,
+    S,
+    M,
+    N,
+> {
+    /// Sets whether this side is controlling (RFC 8445, section 6.1.1).
+    pub fn set_ice_controlling(&mut self, on: bool)
+        ensures same_reference { self.new.rtc.ghost_name ≡ self.old.rtc.ghost_name }
+        ensures does { SetsControlling I.ice on self.old.rtc.now self.new.rtc.now }
+    {
+        self.rtc.set_ice_controlling(on);
+    }
+
+    /// Sets whether this side only answers checks (RFC 8445, section 2.5).
+    pub fn set_ice_lite(&mut self, on: bool)
+        ensures same_reference { self.new.rtc.ghost_name ≡ self.old.rtc.ghost_name }
+        ensures does { SetsLite I.ice on self.old.rtc.now self.new.rtc.now }
+    {
+        self.rtc.set_ice_lite(on);
+    }
+
+    /// Sets the credentials of this side.
+    pub fn set_local_ice_credentials(&mut self, creds: IceCreds)
+        ensures same_reference { self.new.rtc.ghost_name ≡ self.old.rtc.ghost_name }
+        ensures does { SetsLocalCreds I.ice creds self.old.rtc.now self.new.rtc.now }
+    {
+        self.rtc.set_local_ice_credentials(creds);
+    }
+
+    /// Sets the credentials of the other side.
+    pub fn set_remote_ice_credentials(&mut self, creds: IceCreds)
+        ensures same_reference { self.new.rtc.ghost_name ≡ self.old.rtc.ghost_name }
+        ensures does { SetsRemoteCreds I.ice creds self.old.rtc.now self.new.rtc.now }
+    {
+        self.rtc.set_remote_ice_credentials(creds);
+    }
+
+    /// Stops using a candidate. Answers whether it was there.
+    pub fn invalidate_candidate(&mut self, candidate: &Candidate) -> bool
+        ensures same_reference { self.new.rtc.ghost_name ≡ self.old.rtc.ghost_name }
+        ensures does { InvalidatesCandidate I.ice candidate.now result self.old.rtc.now self.new.rtc.now }
+    {
+        self.rtc.invalidate_candidate(candidate)
+    }
+
+    /// The credentials of this side, copied.
+    pub fn local_ice_credentials(&self) -> Result<IceCreds, AllocError>
+        ensures { IfOk result (λ creds. creds ≡ (I.ice.settings self.now.rtc.now.core.ice).local) }
+    {
+        self.rtc.copy_credentials()
+    }
+
+    /// Sets the fingerprint that the certificate of the other side has to match (RFC 8122, section 5).
+    pub fn set_remote_fingerprint(&mut self, fingerprint: Fingerprint)
+        ensures same_reference { self.new.rtc.ghost_name ≡ self.old.rtc.ghost_name }
+        ensures does { self.new.rtc.now ≡ with_fingerprint fingerprint self.old.rtc.now }
+    {
+        self.rtc.set_remote_fingerprint(fingerprint);
+    }
+
+    /// Takes a DTLS role, where there is none: an active side begins the handshake. Ok, and nothing happens, where there is
+    /// one.
+    pub fn start_dtls(&mut self, active: bool) -> Result<(), RtcError>
+        ensures same_reference { self.new.rtc.ghost_name ≡ self.old.rtc.ghost_name }
+        ensures does { TakesDtlsRole D.dtls active self.old.rtc.now result self.new.rtc.now }
+    {
+        self.rtc.start_dtls(active)
+    }
+
+    /// The SHA-256 fingerprint of the certificate of this side (RFC 8122, section 5).
+    pub fn local_dtls_fingerprint(&self) -> &Fingerprint
+        ensures { result.now ≡ self.now.rtc.now.core.dtls.local }
+    {
+        self.rtc.own_fingerprint()
+    }
+
+    /// The fingerprint of the certificate that the other side showed.
+    pub fn remote_dtls_fingerprint(&self) -> Option<&Fingerprint>
+        ensures { MatchOption result (self.now.rtc.now.core.dtls.remote ≡ None)
+            (λ f. self.now.rtc.now.core.dtls.remote ≡ Some f.now) }
+    {
+        self.rtc.checked_fingerprint()
+    }
+
+    /// The version that the handshake gave; None before.
+    pub fn dtls_protocol_version(&self) -> Option<DtlsVersion>
+        ensures { result ≡ D.dtls.version self.now.rtc.now.core.dtls.instance }
+    {
+        self.rtc.dtls_version()
+    }
+
+    /// Starts the association as client or as server. Ok, and nothing happens, where it was started before.
+    pub fn start_sctp(&mut self, client: bool) -> Result<(), RtcError>
+        ensures same_reference { self.new.rtc.ghost_name ≡ self.old.rtc.ghost_name }
+        ensures does { StartsStreams S.association client self.old.rtc.now result self.new.rtc.now }
+    {
+        self.rtc.start_sctp(client)
+    }
+
+    /// Makes a channel, and answers its number: it is opened once the association is started and it has a stream.
+    pub fn create_data_channel(&mut self, config: ChannelConfig) -> Result<ChannelId, RtcError>
+        ensures same_reference { self.new.rtc.ghost_name ≡ self.old.rtc.ghost_name }
+        ensures does { CreatesChannel config self.old.rtc.now result self.new.rtc.now }
+    {
+        self.rtc.create_data_channel(config)
+    }
+
+    /// Closes a data channel: its stream is reset, if it has one (RFC 8831, section 6.7). Nothing happens where there is no such
+    /// channel, or it has no stream yet.
+    pub fn close_data_channel(&mut self, id: ChannelId) -> Result<(), AllocError>
+        ensures same_reference { self.new.rtc.ghost_name ≡ self.old.rtc.ghost_name }
+        ensures does { ClosesDataChannel (meanings I.ice D.dtls S.association M.media N.ids) id self.old.rtc.now result self.new.rtc.now }
+    {
+        self.rtc.close_data_channel(id)
+    }
+
+    /// The channel that a stream was given to.
+    pub fn channel_id_by_sctp_stream_id(&self, s: u16) -> Option<ChannelId>
+        ensures { result ≡ channel_of_stream s (map numbered_stream self.now.rtc.now.core.channels.rows) }
+    {
+        self.rtc.channel_of(s)
+    }
+
+    /// The stream that a channel was given.
+    pub fn sctp_stream_id_by_channel_id(&self, id: ChannelId) -> Option<u16>
+        ensures { result ≡ stream_under id self.now.rtc.now.core.channels }
+    {
+        self.rtc.stream_of(id)
+    }
+}

@@ -1,0 +1,102 @@
+//! Media lines and streams of a peer without session descriptions.
+ghost use Rattle.std.specs.Prelude.{◌≡◌};
+ghost use Rattle.rtc_direct.specs.DeclaredRows.{DeclaresMedia, RemovesMedia};
+ghost use Rattle.rtc_direct.specs.SourcesAndFeedback.{DrawsSource, SetsRed, EnablesTwcc, SendsAppFeedback, SendsPli};
+ghost use Rattle.rtc_direct.specs.Streams.{RemovesRx, RemovesTx};
+
+use crate::DirectApi;
+use rtc_association::Association;
+use rtc_dtls::DtlsInstance;
+use rtc_ice::IceAgent;
+use rtc_ids::Ids;
+use rtc_lines::{MediaKind, Mid, Ssrc};
+use rtc_media::MediaSession;
+use std::alloc::AllocError;
+
+impl<'a, I: IceAgent, D: DtlsInstance, S: Association, M: MediaSession, N: Ids> DirectApi<
+    'a,
+    I,
+    D,
+    S,
+    M,
+    N,
+> {
+    /// Draws a source that no stream has; where there is none, the answer is that of the number drawn.
+    pub fn new_ssrc(&mut self) -> Ssrc
+        ensures same_reference { self.new.rtc.ghost_name ≡ self.old.rtc.ghost_name }
+        ensures does { DrawsSource M.media N.ids self.old.rtc.now result self.new.rtc.now }
+    {
+        self.rtc.new_ssrc()
+    }
+
+    /// Declares a media line behind the others, which sends and receives and was created here. False where a row has the mid.
+    pub fn declare_media(&mut self, mid: Mid, kind: MediaKind) -> Result<bool, AllocError>
+        ensures same_reference { self.new.rtc.ghost_name ≡ self.old.rtc.ghost_name }
+        ensures does { DeclaresMedia mid kind self.old.rtc.now result self.new.rtc.now }
+    {
+        self.rtc.declare_media(mid, kind)
+    }
+
+    /// Removes a media line with its streams: the last row goes, and another is stopped for good. False where no row of media
+    /// has the mid.
+    pub fn remove_media(&mut self, mid: Mid) -> bool
+        ensures same_reference { self.new.rtc.ghost_name ≡ self.old.rtc.ghost_name }
+        ensures does { RemovesMedia M.media mid self.old.rtc.now result self.new.rtc.now }
+    {
+        self.rtc.remove_media(mid)
+    }
+
+    /// Switches redundancy of what a line sends on or off (RFC 2198). False where the line has none.
+    pub fn set_red_send(&mut self, mid: Mid, on: bool) -> bool
+        ensures same_reference { self.new.rtc.ghost_name ≡ self.old.rtc.ghost_name }
+        ensures does { SetsRed M.media mid on self.old.rtc.now result self.new.rtc.now }
+    {
+        self.rtc.set_red_send(mid, on)
+    }
+
+    /// Switches on feedback on the congestion of the whole transport.
+    pub fn enable_twcc_feedback(&mut self)
+        ensures same_reference { self.new.rtc.ghost_name ≡ self.old.rtc.ghost_name }
+        ensures does { EnablesTwcc M.media self.old.rtc.now self.new.rtc.now }
+    {
+        self.rtc.enable_twcc_feedback();
+    }
+
+    /// Sends feedback that the application defines (RFC 4585, section 6.4).
+    pub fn send_app_specific_feedback(
+        &mut self,
+        sender: Ssrc,
+        media_source: Ssrc,
+        payload: &[u8],
+    ) -> Result<(), AllocError>
+        ensures same_reference { self.new.rtc.ghost_name ≡ self.old.rtc.ghost_name }
+        ensures does { SendsAppFeedback M.media sender media_source payload.now self.old.rtc.now result self.new.rtc.now }
+    {
+        self.rtc
+            .send_app_specific_feedback(sender, media_source, payload)
+    }
+
+    /// Asks for a new picture (RFC 4585, section 6.3.1).
+    pub fn send_pli_feedback(&mut self, sender: Ssrc, media_source: Ssrc) -> Result<(), AllocError>
+        ensures same_reference { self.new.rtc.ghost_name ≡ self.old.rtc.ghost_name }
+        ensures does { SendsPli M.media sender media_source self.old.rtc.now result self.new.rtc.now }
+    {
+        self.rtc.send_pli_feedback(sender, media_source)
+    }
+
+    /// Drops the stream of a source that is received. False where there is none.
+    pub fn remove_stream_rx(&mut self, ssrc: Ssrc) -> bool
+        ensures same_reference { self.new.rtc.ghost_name ≡ self.old.rtc.ghost_name }
+        ensures does { RemovesRx M.media ssrc self.old.rtc.now result self.new.rtc.now }
+    {
+        self.rtc.remove_stream_rx(ssrc)
+    }
+
+    /// Drops the stream of a source that is sent. False where there is none.
+    pub fn remove_stream_tx(&mut self, ssrc: Ssrc) -> bool
+        ensures same_reference { self.new.rtc.ghost_name ≡ self.old.rtc.ghost_name }
+        ensures does { RemovesTx M.media ssrc self.old.rtc.now result self.new.rtc.now }
+    {
+        self.rtc.remove_stream_tx(ssrc)
+    }
+}

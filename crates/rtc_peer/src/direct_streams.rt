@@ -1,0 +1,169 @@
+//! Streams that the handle without session descriptions lends.
+ghost use Rattle.std.specs.Prelude.{◌≡◌, ◌↔◌, [], IfOk, IfSome, IsNone, IsTrue, is_some};
+ghost use mir.Syntax.{named};
+ghost use Rattle.std.specs.Borrow.{LendsSo, LendsSoOk, sem};
+ghost use Rattle.rtc_media.specs.NoStream.{StreamAnswers};
+ghost use Rattle.rtc_peer.specs.contracts.direct_api.DirectApi.{the_row};
+ghost use Rattle.rtc_direct.specs.Streams.{gives_no_rx, gives_no_tx};
+ghost use Rattle.rtc_direct.specs.Streams.{ExpectsRx, DeclaresTx, LendsRx, LendsTx, LendsNamedRx, LendsNamedTx, ResetsTx};
+
+use crate::DirectApi;
+use rtc_association::Association;
+use rtc_dtls::DtlsInstance;
+use rtc_ice::IceAgent;
+use rtc_ids::Ids;
+use rtc_lines::{Mid, Rid, Ssrc};
+use rtc_media::{MediaSession, NoStream, answer_of};
+use std::alloc::AllocError;
+
+impl<'a, I: IceAgent, D: DtlsInstance, S: Association, M: MediaSession, N: Ids> DirectApi<
+    'a,
+    I,
+    D,
+    S,
+    M,
+    N,
+> {
+    /// Makes the stream of a source to be received, or replaces it, and lends it. The error says why there is none.
+    pub fn make_stream_rx(
+        &mut self,
+        ssrc: Ssrc,
+        rtx: Option<Ssrc>,
+        mid: Mid,
+        rid: Option<Rid>,
+    ) -> Result<&mut M::Rx, NoStream>
+        ensures* leaves { sem 𝓛 (LendsSoOk
+            (the_row (record { mir = named 1; lft = [] }) I.row D.row S.row M.row N.row M.E.row M.Rx.row M.Tx.row M.Writer.row
+            (record { ice = I.ice }) (record { stun = I.stun }) D.DtlsInstance S.Association M.MediaSession M.E.MediaEvent N.Ids)
+            M.Rx.row self.entry result
+            (λ n x. IfOk result (λ lent. (n.rtc.ghost_name ≡ self.old.rtc.ghost_name)
+            × ExpectsRx M.media ssrc rtx mid rid self.old.rtc.now lent.now x n.rtc.now))
+            (λ n. (n.rtc.ghost_name ≡ self.old.rtc.ghost_name) × (n.rtc.now ≡ self.old.rtc.now))) }
+        ensures answer { StreamAnswers (gives_no_rx M.media ssrc rtx mid rid self.old.rtc.now) result }
+    {
+        self.rtc.make_stream_rx(ssrc, rtx, mid, rid)
+    }
+
+    /// Makes the stream of a source to be sent, or replaces it, and lends it. The error says why there is none.
+    pub fn make_stream_tx(
+        &mut self,
+        ssrc: Ssrc,
+        rtx: Option<Ssrc>,
+        mid: Mid,
+        rid: Option<Rid>,
+    ) -> Result<&mut M::Tx, NoStream>
+        ensures* leaves { sem 𝓛 (LendsSoOk
+            (the_row (record { mir = named 1; lft = [] }) I.row D.row S.row M.row N.row M.E.row M.Rx.row M.Tx.row M.Writer.row
+            (record { ice = I.ice }) (record { stun = I.stun }) D.DtlsInstance S.Association M.MediaSession M.E.MediaEvent N.Ids)
+            M.Tx.row self.entry result
+            (λ n x. IfOk result (λ lent. (n.rtc.ghost_name ≡ self.old.rtc.ghost_name)
+            × DeclaresTx M.media ssrc rtx mid rid self.old.rtc.now lent.now x n.rtc.now))
+            (λ n. (n.rtc.ghost_name ≡ self.old.rtc.ghost_name) × (n.rtc.now ≡ self.old.rtc.now))) }
+        ensures answer { StreamAnswers (gives_no_tx M.media ssrc rtx mid rid self.old.rtc.now) result }
+    {
+        self.rtc.make_stream_tx(ssrc, rtx, mid, rid)
+    }
+
+    /// `make_stream_rx` with None where no row of media has the mid, and where the media part has no such stream.
+    pub fn expect_stream_rx(
+        &mut self,
+        ssrc: Ssrc,
+        rtx: Option<Ssrc>,
+        mid: Mid,
+        rid: Option<Rid>,
+    ) -> Result<Option<&mut M::Rx>, AllocError>
+        ensures answer { IfOk result (λ lent. IsNone lent ↔ IsTrue (gives_no_rx M.media ssrc rtx mid rid self.old.rtc.now)) }
+    {
+        answer_of(self.make_stream_rx(ssrc, rtx, mid, rid))
+    }
+
+    /// `make_stream_tx` with None where no row of media has the mid, and where the media part has no such stream.
+    pub fn declare_stream_tx(
+        &mut self,
+        ssrc: Ssrc,
+        rtx: Option<Ssrc>,
+        mid: Mid,
+        rid: Option<Rid>,
+    ) -> Result<Option<&mut M::Tx>, AllocError>
+        ensures answer { IfOk result (λ lent. IsNone lent ↔ IsTrue (gives_no_tx M.media ssrc rtx mid rid self.old.rtc.now)) }
+    {
+        answer_of(self.make_stream_tx(ssrc, rtx, mid, rid))
+    }
+
+    /// The stream of a source that is received.
+    pub fn stream_rx(&mut self, ssrc: Ssrc) -> Option<&mut M::Rx>
+        ensures* leaves { sem 𝓛 (LendsSo
+            (the_row (record { mir = named 1; lft = [] }) I.row D.row S.row M.row N.row M.E.row M.Rx.row M.Tx.row M.Writer.row
+            (record { ice = I.ice }) (record { stun = I.stun }) D.DtlsInstance S.Association M.MediaSession M.E.MediaEvent N.Ids)
+            M.Rx.row self.entry result
+            (λ n x. IfSome result (λ lent. (n.rtc.ghost_name ≡ self.old.rtc.ghost_name)
+            × LendsRx M.media ssrc self.old.rtc.now lent.now x n.rtc.now))
+            (λ n. (n.rtc.ghost_name ≡ self.old.rtc.ghost_name) × (n.rtc.now ≡ self.old.rtc.now))) }
+        ensures found { is_some result ≡ M.media.has_rx self.old.rtc.now.core.media ssrc }
+    {
+        self.rtc.stream_rx(ssrc)
+    }
+
+    /// The stream of a source that is sent.
+    pub fn stream_tx(&mut self, ssrc: Ssrc) -> Option<&mut M::Tx>
+        ensures* leaves { sem 𝓛 (LendsSo
+            (the_row (record { mir = named 1; lft = [] }) I.row D.row S.row M.row N.row M.E.row M.Rx.row M.Tx.row M.Writer.row
+            (record { ice = I.ice }) (record { stun = I.stun }) D.DtlsInstance S.Association M.MediaSession M.E.MediaEvent N.Ids)
+            M.Tx.row self.entry result
+            (λ n x. IfSome result (λ lent. (n.rtc.ghost_name ≡ self.old.rtc.ghost_name)
+            × LendsTx M.media ssrc self.old.rtc.now lent.now x n.rtc.now))
+            (λ n. (n.rtc.ghost_name ≡ self.old.rtc.ghost_name) × (n.rtc.now ≡ self.old.rtc.now))) }
+        ensures found { is_some result ≡ M.media.has_tx self.old.rtc.now.core.media ssrc }
+    {
+        self.rtc.stream_tx(ssrc)
+    }
+
+    /// The stream of a line and a layer that is received.
+    pub fn stream_rx_by_mid(&mut self, mid: Mid, rid: Option<Rid>) -> Option<&mut M::Rx>
+        ensures* leaves { sem 𝓛 (LendsSo
+            (the_row (record { mir = named 1; lft = [] }) I.row D.row S.row M.row N.row M.E.row M.Rx.row M.Tx.row M.Writer.row
+            (record { ice = I.ice }) (record { stun = I.stun }) D.DtlsInstance S.Association M.MediaSession M.E.MediaEvent N.Ids)
+            M.Rx.row self.entry result
+            (λ n x. IfSome result (λ lent. (n.rtc.ghost_name ≡ self.old.rtc.ghost_name)
+            × LendsNamedRx M.media mid rid self.old.rtc.now lent.now x n.rtc.now))
+            (λ n. (n.rtc.ghost_name ≡ self.old.rtc.ghost_name) × (n.rtc.now ≡ self.old.rtc.now))) }
+        ensures found { is_some result ≡ M.media.has_rx_named self.old.rtc.now.core.media mid rid }
+    {
+        self.rtc.stream_rx_by_mid(mid, rid)
+    }
+
+    /// The stream of a line and a layer that is sent.
+    pub fn stream_tx_by_mid(&mut self, mid: Mid, rid: Option<Rid>) -> Option<&mut M::Tx>
+        ensures* leaves { sem 𝓛 (LendsSo
+            (the_row (record { mir = named 1; lft = [] }) I.row D.row S.row M.row N.row M.E.row M.Rx.row M.Tx.row M.Writer.row
+            (record { ice = I.ice }) (record { stun = I.stun }) D.DtlsInstance S.Association M.MediaSession M.E.MediaEvent N.Ids)
+            M.Tx.row self.entry result
+            (λ n x. IfSome result (λ lent. (n.rtc.ghost_name ≡ self.old.rtc.ghost_name)
+            × LendsNamedTx M.media mid rid self.old.rtc.now lent.now x n.rtc.now))
+            (λ n. (n.rtc.ghost_name ≡ self.old.rtc.ghost_name) × (n.rtc.now ≡ self.old.rtc.now))) }
+        ensures found { is_some result ≡ M.media.has_tx_named self.old.rtc.now.core.media mid rid }
+    {
+        self.rtc.stream_tx_by_mid(mid, rid)
+    }
+
+    /// Gives the stream of a line and a layer that is sent a new source. None where there is no such stream, or where it has this
+    /// source, or these retransmissions, already.
+    pub fn reset_stream_tx(
+        &mut self,
+        mid: Mid,
+        rid: Option<Rid>,
+        new_ssrc: Ssrc,
+        new_rtx: Option<Ssrc>,
+    ) -> Option<&mut M::Tx>
+        ensures* leaves { sem 𝓛 (LendsSo
+            (the_row (record { mir = named 1; lft = [] }) I.row D.row S.row M.row N.row M.E.row M.Rx.row M.Tx.row M.Writer.row
+            (record { ice = I.ice }) (record { stun = I.stun }) D.DtlsInstance S.Association M.MediaSession M.E.MediaEvent N.Ids)
+            M.Tx.row self.entry result
+            (λ n x. IfSome result (λ lent. (n.rtc.ghost_name ≡ self.old.rtc.ghost_name)
+            × ResetsTx M.media mid rid new_ssrc new_rtx self.old.rtc.now lent.now x n.rtc.now))
+            (λ n. (n.rtc.ghost_name ≡ self.old.rtc.ghost_name) × (n.rtc.now ≡ self.old.rtc.now))) }
+        ensures found { is_some result ≡ M.media.resets_tx self.old.rtc.now.core.media mid rid new_ssrc new_rtx }
+    {
+        self.rtc.reset_stream_tx(mid, rid, new_ssrc, new_rtx)
+    }
+}
