@@ -21,7 +21,6 @@ use std::marker::Model;
 /// Items (pieces of messages, and closes of streams) are numbered from 1 over all streams. A receiver takes the next
 /// one alone and answers with the greatest number up to which all came; a sender queues what is not acknowledged again
 /// one second after it last queued an item.
-#[derive(Drop)]
 pub struct PlainAssociation {
     pub(crate) alloc: Global,
     pub(crate) limits: Limits,
@@ -60,6 +59,27 @@ impl Model for PlainAssociation {
 
     ghost invariant = { λ a. SoundContents a.limits.max_payload a.acked (deque_len a.items) a.amounts a.items.items
         (stream_rows a.streams.states a.streams.generations.items) a.streams.places a.streams.at_last };
+}
+
+// Written out, so that the proof of what owns an association sees one call and not the drop of each field.
+impl Drop for PlainAssociation {
+    fn drop(self) {
+        let PlainAssociation {
+            alloc: _alloc,
+            limits: _limits,
+            standing: _standing,
+            clock: _clock,
+            acked: _acked,
+            items: _items,
+            amounts: _amounts,
+            received: _received,
+            parts: _parts,
+            unread: _unread,
+            streams: _streams,
+            events: _events,
+            packets: _packets,
+        } = self;
+    }
 }
 
 impl PlainAssociation {

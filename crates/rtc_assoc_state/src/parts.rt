@@ -14,7 +14,6 @@ use std::marker::Model;
 ///
 /// Two ends that keep to the format have one such message of a stream at most, so that a piece is found in the logarithm
 /// of the streams.
-#[derive(Drop)]
 pub struct Parts {
     queues: BTreeMap<u16, Vec<Partial>>,
 }
@@ -30,6 +29,13 @@ impl Model for Parts {
     ghost view = { λ p. all_queued vec_items p.queues.entries };
 
     ghost invariant = { λ p. SoundQueues vec_items stream_of_part p.queues };
+}
+
+// Written out, so that the proof of what owns the parts sees one call and not the drop of each field.
+impl Drop for Parts {
+    fn drop(self) {
+        let Parts { queues: _queues } = self;
+    }
 }
 
 impl Parts {

@@ -16,7 +16,7 @@ use std::collections::BTreeMap;
 
 /// The rows of the streams, in the order in which the streams were first heard of. Of a stream that is gone, its
 /// generation and its place stay, and nothing else.
-#[derive(Debug, Drop)]
+#[derive(Debug)]
 pub struct StreamTable {
     /// The generation of each stream, in order.
     pub generations: Vec<StreamGeneration>,
@@ -26,6 +26,18 @@ pub struct StreamTable {
     pub states: BTreeMap<usize, StreamState>,
     /// Whether the generation of a stream is the last.
     pub at_last: bool,
+}
+
+// Written out, so that the proof of what owns a table sees one call and not the drop of each field.
+impl Drop for StreamTable {
+    fn drop(self) {
+        let StreamTable {
+            generations: _generations,
+            places: _places,
+            states: _states,
+            at_last: _at_last,
+        } = self;
+    }
 }
 
 impl StreamTable {

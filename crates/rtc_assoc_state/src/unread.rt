@@ -13,7 +13,6 @@ use std::collections::{BTreeMap, VecDeque};
 use std::marker::Model;
 
 /// The messages that are not read, in a queue for each stream that has some. A contract sees one list of them.
-#[derive(Drop)]
 pub struct Unread {
     queues: BTreeMap<u16, VecDeque<Message>>,
 }
@@ -29,6 +28,13 @@ impl Model for Unread {
     ghost view = { λ u. all_queued deque_items u.queues.entries };
 
     ghost invariant = { λ u. SoundQueues deque_items stream_of_message u.queues };
+}
+
+// Written out, so that the proof of what owns the messages sees one call and not the drop of each field.
+impl Drop for Unread {
+    fn drop(self) {
+        let Unread { queues: _queues } = self;
+    }
 }
 
 impl Unread {

@@ -37,7 +37,7 @@ pub(crate) fn next_channel(given: u64) -> ChannelId
 }
 
 /// The channels of a peer, numbered as they were made.
-#[derive(Debug, Drop)]
+#[derive(Debug)]
 pub struct ChannelHandler {
     pub(crate) given: u64,
     pub(crate) rows: Vec<(ChannelId, Option<u16>)>,
@@ -59,6 +59,18 @@ impl Model for ChannelHandler {
     } };
 
     ghost invariant = { λ handler. AreHandled handler.given handler.rows.items handler.kept.items handler.grants };
+}
+
+// Written out, so that the proof of what owns the channels sees one call and not the drop of each field.
+impl Drop for ChannelHandler {
+    fn drop(self) {
+        let ChannelHandler {
+            given: _given,
+            rows: _rows,
+            kept: _kept,
+            grants: _grants,
+        } = self;
+    }
 }
 
 impl ChannelHandler {

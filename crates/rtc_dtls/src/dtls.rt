@@ -15,7 +15,6 @@ use std::marker::Model;
 /// A DTLS connection with its role, the fingerprints of both sides (RFC 8122) and a queue of packets.
 ///
 /// Until a role is set it gives nothing and ignores what it is given.
-#[derive(Drop)]
 pub struct Dtls<D> {
     pub(crate) alloc: Global,
     pub(crate) instance: D,
@@ -39,6 +38,21 @@ impl<D> Model for Dtls<D> {
       mtu = a.mtu;
       packets = a.packets.items;
     } };
+}
+
+// Written out, so that the proof of what owns a connection sees one call and not the drop of each field.
+impl<D: Drop> Drop for Dtls<D> {
+    fn drop(self) {
+        let Dtls {
+            alloc: _alloc,
+            instance: _instance,
+            active: _active,
+            local: _local,
+            remote: _remote,
+            mtu: _mtu,
+            packets: _packets,
+        } = self;
+    }
 }
 
 fn fingerprint(alloc: Global, cert: &[u8]) -> Result<Fingerprint, AllocError>

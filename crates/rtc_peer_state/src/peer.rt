@@ -9,7 +9,6 @@ use rtc_wire::Moment;
 use std::alloc::Global;
 
 /// The state of a peer. Its fields are public for the crates that work on it; callers hold an `Rtc`.
-#[derive(Drop)]
 pub struct Peer<I, D, S, M, N> {
     pub alloc: Global,
     pub lines: Lines,
@@ -31,4 +30,26 @@ pub struct Peer<I, D, S, M, N> {
     pub sctp: RtcSctp<S>,
     pub media: M,
     pub ids: N,
+}
+
+// Written out, so that the proof of what owns a peer sees one call and not the drop of each field.
+impl<I: Drop, D: Drop, S: Drop, M: Drop, N: Drop> Drop for Peer<I, D, S, M, N> {
+    fn drop(self) {
+        let Peer {
+            alloc: _alloc,
+            lines: _lines,
+            staged: _staged,
+            channels: _channels,
+            counter: _counter,
+            session_id: _session_id,
+            phase: _phase,
+            fingerprint: _fingerprint,
+            greatest: _greatest,
+            ice: _ice,
+            dtls: _dtls,
+            sctp: _sctp,
+            media: _media,
+            ids: _ids,
+        } = self;
+    }
 }

@@ -21,7 +21,6 @@ use std::mem;
 /// The changes of a peer that are staged and not yet applied, in the order in which they were asked for.
 ///
 /// A contract sees them as a list. The lines that they add are counted, and found by mid without a walk over the list.
-#[derive(Drop)]
 pub struct Staged {
     changes: Vec<Change>,
     // The mids of the media lines that they add.
@@ -55,6 +54,18 @@ fn move_kept(all: &mut Vec<Change>, changes: Vec<Change>)
         if !change.is_restart() {
             all.push_reserved(change);
         }
+    }
+}
+
+// Written out, so that the proof of what owns the changes sees one call and not the drop of each field.
+impl Drop for Staged {
+    fn drop(self) {
+        let Staged {
+            changes: _changes,
+            mids: _mids,
+            app: _app,
+            count: _count,
+        } = self;
     }
 }
 

@@ -14,10 +14,19 @@ use rtc_peer_state::Peer;
 use rtc_wire::{Addr, DatagramRecv};
 
 /// A peer with its connection to the other side. Its fields are public for the crates that work on it; callers hold an `Rtc`.
-#[derive(Drop)]
 pub struct PolledPeer<I, D, S, M, N> {
     pub core: Peer<I, D, S, M, N>,
     pub transport: Transport,
+}
+
+// Written out, so that the proof of what owns a peer sees one call and not the drop of each field.
+impl<I: Drop, D: Drop, S: Drop, M: Drop, N: Drop> Drop for PolledPeer<I, D, S, M, N> {
+    fn drop(self) {
+        let PolledPeer {
+            core: _core,
+            transport: _transport,
+        } = self;
+    }
 }
 
 fn is_finished(handshake: Handshake) -> bool

@@ -17,7 +17,6 @@ use std::marker::Model;
 /// The streams of the data channels of a peer, over an association.
 ///
 /// Packets and moments are handed in, and events are polled.
-#[derive(Drop)]
 pub struct RtcSctp<S> {
     pub(crate) alloc: Global,
     pub(crate) association: S,
@@ -56,6 +55,27 @@ impl<S> Model for RtcSctp<S> {
     } };
 
     ghost invariant = { λ s. Ascend s.entries.items };
+}
+
+// Written out, so that the proof of what owns the streams sees one call and not the drop of each field.
+impl<S: Drop> Drop for RtcSctp<S> {
+    fn drop(self) {
+        let RtcSctp {
+            alloc: _alloc,
+            association: _association,
+            state: _state,
+            client: _client,
+            local_max: _local_max,
+            remote_max: _remote_max,
+            max_payload: _max_payload,
+            max_buffered: _max_buffered,
+            last: _last,
+            pushed: _pushed,
+            entries: _entries,
+            resets: _resets,
+            completed: _completed,
+        } = self;
+    }
 }
 
 impl<S: Association> RtcSctp<S> {
