@@ -1,5 +1,6 @@
 pub mod LabelLemmas
 pub mod LineLemmas
+pub mod ChannelPartLemmas
 pub mod SettingLines
 pub mod RefusedScripts
 pub mod StepLines
