@@ -1,5 +1,5 @@
 -- What the parts of the op that adds a channel determine.
-use Rattle.std.proofs.Common.{◌≡◌, ◌≢◌, ◌<◌, ◌^◌, ◌∙◌, ℕ, Bool, true, false, List, [], ◌∷◌, ◌++◌, Option, Some, None, inl, inr, ◌⊎◌, refl, ap, sym, cond, eqb, get_or, codes, arith}
+use Rattle.std.proofs.Common.{◌≡◌, ◌≢◌, ◌<◌, ◌^◌, ◌∙◌, ℕ, Bool, true, false, List, [], ◌∷◌, ◌++◌, Option, Some, None, refl, ap, sym, subst, cond, eqb, get_or, codes, arith}
 use Rattle.std.specs.Fmt.{decimal}
 use Rattle.std.specs.Str.{IsUtf8}
 use Rattle.std.proofs.lemmas.Fmt.{decimal_injective}
@@ -14,7 +14,7 @@ use Rattle.rtc_history.specs.declared.op.Op.{Op}
 use Rattle.rtc_history.specs.declared.op.Op.TheVariants.{AddMedia, SetDirection, StopMedia, AddChannel, IceRestart}
 use Rattle.rtc_script.specs.Words.{hex_word}
 use Rattle.rtc_script.specs.ChannelParts.{order_text, reliability_text, settled_text, IsReliability, IsSettled, with_label}
-use Rattle.rtc_script.specs.ChannelParts.{IsLabelWord, AreConfigWords, AreLabelParts, AreConfigParts, AreChannelParts}
+use Rattle.rtc_script.specs.ChannelParts.{IsLabelWord, AreConfigWords, AreChannelParts}
 use Rattle.rtc_script.specs.Lines.{AreOpParts}
 use Rattle.rtc_script.proofs.LabelLemmas.{one_label}
 
@@ -87,62 +87,32 @@ one_labelled word a b is is' = is.2 ∙ ap with_label (one_label a.label b.label
 
 -- ---- parts
 
--- two parts are not six
-two_or_six : (a b c d e f g h : List ℕ) → a ∷ b ∷ [] ≡ c ∷ d ∷ e ∷ f ∷ g ∷ h ∷ [] → ⊥
-two_or_six a b c d e f g h same = absurd (cc)
-
-same_label_parts : (v w : List ℕ) → codes "channel" ∷ v ∷ [] ≡ codes "channel" ∷ w ∷ [] → v ≡ w
-same_label_parts v w same = ap (λ (found : List (List ℕ)). get_or found 1 []) same
-
-labelled_parts : (found : List (List ℕ)) (a b : ChannelConfig) → AreLabelParts found a → AreLabelParts found b → a ≡ b
-labelled_parts found a b is is' =
-    let same : is'.0 ≡ is.0 = same_label_parts is'.0 is.0 (sym is'.1 ∙ is.1) in
-    one_labelled is.0 a b is.2 (rw same at is'.2)
-
-same_config_parts : (c l o r s p l' o' r' s' p' : List ℕ) (a : ChannelConfig) → c ∷ l' ∷ o' ∷ r' ∷ s' ∷ p' ∷ [] ≡ c ∷ l ∷ o ∷ r ∷ s ∷ p ∷ []
-    → AreConfigWords l' o' r' s' p' a → AreConfigWords l o r s p a
-same_config_parts c l o r s p l' o' r' s' p' a same is =
-    let e : l' ≡ l = ap (λ (found : List (List ℕ)). get_or found 1 []) same in
-    let f : o' ≡ o = ap (λ (found : List (List ℕ)). get_or found 2 []) same in
-    let g : r' ≡ r = ap (λ (found : List (List ℕ)). get_or found 3 []) same in
-    let h : s' ≡ s = ap (λ (found : List (List ℕ)). get_or found 4 []) same in
-    let i : p' ≡ p = ap (λ (found : List (List ℕ)). get_or found 5 []) same in
-    (sym e ∙ is.0, sym f ∙ is.1, sym g ∙ is.2, sym h ∙ is.3, sym i ∙ is.4, is.5, is.6, is.7, is.8)
-
-config_parts : (found : List (List ℕ)) (a b : ChannelConfig) → AreConfigParts found a → AreConfigParts found b → a ≡ b
-config_parts found a b is is' =
-    one_config is.0 is.1 is.2 is.3 is.4 a b is.6
-    (same_config_parts (codes "channel") is.0 is.1 is.2 is.3 is.4 is'.0 is'.1 is'.2 is'.3 is'.4 b (sym is'.5 ∙ is.5) is'.6)
-
 -- parts are those of one channel
 pub one_channel : (found : List (List ℕ)) (a b : ChannelConfig) → AreChannelParts found a → AreChannelParts found b → a ≡ b
-one_channel found a b (inl is) (inl is') = labelled_parts found a b is is'
-one_channel found a b (inl is) (inr is') = absurd (two_or_six _ _ _ _ _ _ _ _ (sym is.1 ∙ is'.5))
-one_channel found a b (inr is) (inl is') = absurd (two_or_six _ _ _ _ _ _ _ _ (sym is'.1 ∙ is.5))
-one_channel found a b (inr is) (inr is') = config_parts found a b is is'
+one_channel [] a b is is' = absurd is
+one_channel (n ∷ []) a b is is' = absurd is
+one_channel (n ∷ l ∷ []) a b is is' = one_labelled l a b is.1 is'.1
+one_channel (n ∷ l ∷ o ∷ []) a b is is' = absurd is
+one_channel (n ∷ l ∷ o ∷ r ∷ []) a b is is' = absurd is
+one_channel (n ∷ l ∷ o ∷ r ∷ s ∷ []) a b is is' = absurd is
+one_channel (n ∷ l ∷ o ∷ r ∷ s ∷ p ∷ []) a b is is' = one_config l o r s p a b is.1 is'.1
+one_channel (n ∷ l ∷ o ∷ r ∷ s ∷ p ∷ q ∷ rest) a b is is' = absurd is
 
 -- the first of them is the name of the op
+named : (name : List ℕ) (more : List (List ℕ)) (config : ChannelConfig) → AreChannelParts (name ∷ more) config → name ≡ codes "channel"
+named name [] config is = absurd is
+named name (l ∷ []) config is = is.0
+named name (l ∷ o ∷ []) config is = absurd is
+named name (l ∷ o ∷ r ∷ []) config is = absurd is
+named name (l ∷ o ∷ r ∷ s ∷ []) config is = absurd is
+named name (l ∷ o ∷ r ∷ s ∷ p ∷ []) config is = is.0
+named name (l ∷ o ∷ r ∷ s ∷ p ∷ q ∷ rest) config is = absurd is
+
 pub first_part : (found : List (List ℕ)) (config : ChannelConfig) (name : List ℕ) (more : List (List ℕ)) → found ≡ name ∷ more
     → AreChannelParts found config → name ≡ codes "channel"
-first_part found config name more is (inl are) = ap (λ (f : List (List ℕ)). get_or f 0 []) (sym is ∙ are.1)
-first_part found config name more is (inr are) = ap (λ (f : List (List ℕ)). get_or f 0 []) (sym is ∙ are.5)
+first_part found config name more is are = named name more config (subst (λ (parts : List (List ℕ)). AreChannelParts parts config) is are)
 
--- ---- what is no channel
-
--- two parts are those of a label's config or of none
-pub two_parts_of : (word : List ℕ) (config : ChannelConfig) → AreChannelParts (codes "channel" ∷ word ∷ []) config → IsLabelWord word config
-two_parts_of word config (inl are) =
-    let same : are.0 ≡ word = sym (same_label_parts word are.0 are.1) in
-    rw same at are.2
-two_parts_of word config (inr are) = absurd (two_or_six _ _ _ _ _ _ _ _ are.5)
-
--- and six those of a whole config
-pub six_parts_of : (c l o r s p : List ℕ) (config : ChannelConfig) → AreChannelParts (c ∷ l ∷ o ∷ r ∷ s ∷ p ∷ []) config
-    → AreConfigWords l o r s p config
-six_parts_of c l o r s p config (inl are) = absurd (two_or_six _ _ _ _ _ _ _ _ (sym are.1))
-six_parts_of c l o r s p config (inr are) =
-    let name : c ≡ codes "channel" = ap (λ (f : List (List ℕ)). get_or f 0 []) are.5 in
-    same_config_parts (codes "channel") l o r s p are.0 are.1 are.2 are.3 are.4 config (sym are.5 ∙ ap (λ (n : List ℕ). n ∷ l ∷ o ∷ r ∷ s ∷ p ∷ []) name) are.6
+-- ---- ops
 
 -- two parts of which the second is no label are no op
 pub no_labelled : (word : List ℕ) → ((config : ChannelConfig) → IsLabelWord word config → ⊥)
@@ -151,7 +121,7 @@ no_labelled word none (AddMedia Audio dir) are = absurd (let e : 99 ≡ 97 = ap 
 no_labelled word none (AddMedia Video dir) are = absurd (let e : 99 ≡ 118 = ap first_letter are in omega (arith, e))
 no_labelled word none (SetDirection place dir) are = absurd (let e : 99 ≡ 100 = ap first_letter are.0 in omega (arith, e))
 no_labelled word none (StopMedia place) are = absurd (let e : 99 ≡ 115 = ap first_letter are.0 in omega (arith, e))
-no_labelled word none (AddChannel config) are = none config (two_parts_of word config are)
+no_labelled word none (AddChannel config) are = none config are.1
 no_labelled word none (IceRestart keep) are = absurd (let e : 99 ≡ 114 = ap first_letter are in omega (arith, e))
 
 -- six parts are no op but one that adds a channel
@@ -161,25 +131,17 @@ six_or_two a b c d e f g h same = absurd (cc)
 six_or_three : (x y z c d e f g h : List ℕ) → c ∷ d ∷ e ∷ f ∷ g ∷ h ∷ [] ≡ x ∷ y ∷ z ∷ [] → ⊥
 six_or_three x y z c d e f g h same = absurd (cc)
 
-pub no_whole : (c l o r s p : List ℕ) → ((config : ChannelConfig) → AreConfigWords l o r s p config → ⊥)
-    → (op : Op) → AreOpParts (c ∷ l ∷ o ∷ r ∷ s ∷ p ∷ []) op → ⊥
-no_whole c l o r s p none (AddMedia kind dir) are = six_or_two _ _ _ _ _ _ _ _ are
-no_whole c l o r s p none (SetDirection place dir) are = six_or_three _ _ _ _ _ _ _ _ _ are.0
-no_whole c l o r s p none (StopMedia place) are = six_or_two _ _ _ _ _ _ _ _ are.0
-no_whole c l o r s p none (AddChannel config) are = none config (six_parts_of c l o r s p config are)
-no_whole c l o r s p none (IceRestart keep) are = six_or_two _ _ _ _ _ _ _ _ are
+pub no_whole : (l o r s p : List ℕ) → ((config : ChannelConfig) → AreConfigWords l o r s p config → ⊥)
+    → (op : Op) → AreOpParts (codes "channel" ∷ l ∷ o ∷ r ∷ s ∷ p ∷ []) op → ⊥
+no_whole l o r s p none (AddMedia kind dir) are = six_or_two _ _ _ _ _ _ _ _ are
+no_whole l o r s p none (SetDirection place dir) are = six_or_three _ _ _ _ _ _ _ _ _ are.0
+no_whole l o r s p none (StopMedia place) are = six_or_two _ _ _ _ _ _ _ _ are.0
+no_whole l o r s p none (AddChannel config) are = none config are.1
+no_whole l o r s p none (IceRestart keep) are = six_or_two _ _ _ _ _ _ _ _ are
 
 pub no_other : (c l o r s p : List ℕ) → c ≢ codes "channel" → (op : Op) → AreOpParts (c ∷ l ∷ o ∷ r ∷ s ∷ p ∷ []) op → ⊥
 no_other c l o r s p other (AddMedia kind dir) are = six_or_two _ _ _ _ _ _ _ _ are
 no_other c l o r s p other (SetDirection place dir) are = six_or_three _ _ _ _ _ _ _ _ _ are.0
 no_other c l o r s p other (StopMedia place) are = six_or_two _ _ _ _ _ _ _ _ are.0
-no_other c l o r s p other (AddChannel config) are = other (first_part (c ∷ l ∷ o ∷ r ∷ s ∷ p ∷ []) config c (l ∷ o ∷ r ∷ s ∷ p ∷ []) refl are)
+no_other c l o r s p other (AddChannel config) are = other are.0
 no_other c l o r s p other (IceRestart keep) are = six_or_two _ _ _ _ _ _ _ _ are
-
--- the label alone, and the whole config, are those of an op
-pub labelled_op : (word : List ℕ) (config : ChannelConfig) → IsLabelWord word config → AreOpParts (codes "channel" ∷ word ∷ []) (AddChannel config)
-labelled_op word config is = inl (word, refl, is)
-
-pub whole_op : (c l o r s p : List ℕ) (config : ChannelConfig) → c ≡ codes "channel" → AreConfigWords l o r s p config
-    → AreOpParts (c ∷ l ∷ o ∷ r ∷ s ∷ p ∷ []) (AddChannel config)
-whole_op c l o r s p config name are = inr (l, o, r, s, p, ap (λ (n : List ℕ). n ∷ l ∷ o ∷ r ∷ s ∷ p ∷ []) name, are)

@@ -1,5 +1,5 @@
 -- The op that adds a channel: its label alone, or all that the channel is opened with.
-use Rattle.std.specs.Prelude.{◌≡◌, ◌<◌, ◌⊎◌, ◌^◌, ℕ, Bool, true, false, List, [], ◌∷◌, ◌++◌, Option, Some, None, codes}
+use Rattle.std.specs.Prelude.{◌≡◌, ◌<◌, ◌^◌, ℕ, Bool, true, false, List, [], ◌∷◌, ◌++◌, Option, Some, None, codes}
 use Rattle.std.specs.Fmt.{decimal}
 use Rattle.std.specs.Str.{IsUtf8}
 use Rattle.rtc_wire.specs.ChannelConfig.{fresh}
@@ -56,14 +56,8 @@ AreConfigWords label order reliability stream protocol config =
     × IsUtf8 config.protocol
 
 -- the parts of the op: its name and a label, or its name and five words
-abbrev pub AreLabelParts : List (List ℕ) → ChannelConfig → Type 0
-AreLabelParts found config = (word : List ℕ) × (found ≡ codes "channel" ∷ word ∷ []) × IsLabelWord word config
-
-abbrev pub AreConfigParts : List (List ℕ) → ChannelConfig → Type 0
-AreConfigParts found config =
-    (label : List ℕ) × (order : List ℕ) × (reliability : List ℕ) × (stream : List ℕ) × (protocol : List ℕ)
-    × (found ≡ codes "channel" ∷ label ∷ order ∷ reliability ∷ stream ∷ protocol ∷ [])
-    × AreConfigWords label order reliability stream protocol config
-
 abbrev pub AreChannelParts : List (List ℕ) → ChannelConfig → Type 0
-AreChannelParts found config = AreLabelParts found config ⊎ AreConfigParts found config
+AreChannelParts (name ∷ label ∷ []) config = (name ≡ codes "channel") × IsLabelWord label config
+AreChannelParts (name ∷ label ∷ order ∷ reliability ∷ stream ∷ protocol ∷ []) config =
+    (name ≡ codes "channel") × AreConfigWords label order reliability stream protocol config
+AreChannelParts found config = ⊥

@@ -60,14 +60,15 @@ fn read_three_parts(word: &[u8], place: &[u8], value: &[u8]) -> Option<Op>
 }
 
 // An op that adds a channel with the label that a word writes.
+#[tactic(auto, using(crate::proofs::ChannelPartLemmas::no_labelled))]
 fn read_labelled(alloc: Global, value: &[u8]) -> Result<Option<Op>, AllocError>
     ensures some { IfOk result (λ read. IfSome read (λ op. AreOpParts (codes "channel" ∷ value.now ∷ []) op)) }
     ensures none { IfOk result (λ read. IfNone read ((op : Op) → AreOpParts (codes "channel" ∷ value.now ∷ []) op → ⊥)) }
 {
-    match read_label_word(alloc, value)? {
-        Some(config) => Ok(Some(Op::AddChannel { config })),
-        None => Ok(None),
-    }
+    let Some(config) = read_label_word(alloc, value)? else {
+        return Ok(None);
+    };
+    Ok(Some(Op::AddChannel { config }))
 }
 
 // An op of two parts.
@@ -81,7 +82,29 @@ fn read_pair(alloc: Global, word: &[u8], value: &[u8]) -> Result<Option<Op>, All
     Ok(read_two_parts(word, value))
 }
 
-// An op of six parts: it adds a channel with all that it is opened with.
+// An op that adds a channel with all that it is opened with, by the words of its parts.
+#[tactic(auto, using(crate::proofs::ChannelPartLemmas::no_whole))]
+fn read_whole(
+    alloc: Global,
+    label: &[u8],
+    order: &[u8],
+    reliability: &[u8],
+    stream: &[u8],
+    protocol: &[u8],
+) -> Result<Option<Op>, AllocError>
+    ensures some { IfOk result (λ read. IfSome read (λ op. AreOpParts
+        (codes "channel" ∷ label.now ∷ order.now ∷ reliability.now ∷ stream.now ∷ protocol.now ∷ []) op)) }
+    ensures none { IfOk result (λ read. IfNone read ((op : Op) → AreOpParts
+        (codes "channel" ∷ label.now ∷ order.now ∷ reliability.now ∷ stream.now ∷ protocol.now ∷ []) op → ⊥)) }
+{
+    let Some(config) = read_config(alloc, label, order, reliability, stream, protocol)? else {
+        return Ok(None);
+    };
+    Ok(Some(Op::AddChannel { config }))
+}
+
+// An op of six parts.
+#[tactic(auto, using(crate::proofs::ChannelPartLemmas::no_other))]
 fn read_six_parts(
     alloc: Global,
     word: &[u8],
@@ -96,13 +119,10 @@ fn read_six_parts(
     ensures none { IfOk result (λ read. IfNone read ((op : Op) → AreOpParts
         (word.now ∷ label.now ∷ order.now ∷ reliability.now ∷ stream.now ∷ protocol.now ∷ []) op → ⊥)) }
 {
-    if word != b"channel".as_slice() {
-        return Ok(None);
+    if word == b"channel".as_slice() {
+        return read_whole(alloc, label, order, reliability, stream, protocol);
     }
-    match read_config(alloc, label, order, reliability, stream, protocol)? {
-        Some(config) => Ok(Some(Op::AddChannel { config })),
-        None => Ok(None),
-    }
+    Ok(None)
 }
 
 fn read_parts(alloc: Global, parts: &[&[u8]]) -> Result<Option<Op>, AllocError>

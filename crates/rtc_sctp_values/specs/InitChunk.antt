@@ -1,6 +1,6 @@
 -- The chunk that starts an association, drawn once, and its text in a session description (RFC 9260, section 3.3.2;
 -- draft-hancke-tsvwg-snap).
-use Rattle.std.specs.Prelude.{ℕ, zero, suc, ◌%◌, ◌^◌, max, List, [], ◌∷◌, ◌++◌, Option}
+use Rattle.std.specs.Prelude.{ℕ, ◌%◌, ◌^◌, ◌==◌, max, if◌then◌else◌, List, [], ◌∷◌, ◌++◌, Option}
 use Rattle.std.specs.Int.{w32, to_be_bytes}
 use Rattle.base64.specs.Engines.{standard}
 use Rattle.base64.specs.GeneralPurpose.{encode_of, decoded_of}
@@ -9,13 +9,11 @@ use Rattle.rtc_ids.specs.Draws.{Draws}
 -- how many unacknowledged bytes an end holds (section 3.3.2, the advertised window): at least 1 MiB (ours), and at least its longest
 -- message, of which 0 means any
 abbrev pub receive_budget : (limit : ℕ) → ℕ
-receive_budget zero = 4_294_967_295
-receive_budget (suc limit) = max 1_048_576 (suc limit)
+receive_budget limit = if limit == 0 then 4_294_967_295 else max 1_048_576 limit
 
 -- a tag is not 0 (section 3.3.2)
 abbrev pub nonzero_tag : ℕ → ℕ
-nonzero_tag zero = 1
-nonzero_tag (suc n) = suc n
+nonzero_tag n = if n == 0 then 1 else n
 
 -- an INIT chunk without parameters: its type, flags and length, its tag, the window, 65535 streams each way, its first number
 unfoldable pub init_chunk : (tag budget first : ℕ) → List ℕ

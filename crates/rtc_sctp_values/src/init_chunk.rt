@@ -1,5 +1,5 @@
 //! The chunk that starts an association (RFC 9260, section 3.3.2).
-ghost use Rattle.std.specs.Prelude.{◌≡◌, ◌%◌, ◌^◌, IfOk, IfErr};
+ghost use Rattle.std.specs.Prelude.{◌≡◌};
 ghost use Rattle.rtc_sctp_values.specs.InitChunk.{
   receive_budget as ReceiveBudget,
   nonzero_tag as NonzeroTag,
@@ -13,6 +13,9 @@ use rtc_ids::Ids;
 
 /// What an end holds of unacknowledged bytes at least.
 const MIN_RECEIVE_BUDGET: u32 = 1_048_576;
+
+/// How many numbers of 32 bits there are.
+const WORDS: u64 = 1 << 32;
 
 // How many unacknowledged bytes an end holds that takes messages up to `limit`; 0 means any.
 fn receive_budget(limit: u32) -> u32
@@ -37,8 +40,7 @@ fn draw_word<N: Ids>(ids: &mut N) -> u32
     ensures word { result ≡ drawn_word N.ids ids.old }
     ensures after { ids.new ≡ N.ids.after ids.old }
 {
-    let n = ids.draw();
-    (n % (1 << 32)) as u32
+    (ids.draw() % WORDS) as u32
 }
 
 #[tactic(auto, unfolding(crate::specs::InitChunk::init_chunk))]
