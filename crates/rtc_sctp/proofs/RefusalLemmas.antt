@@ -16,7 +16,7 @@ use Rattle.rtc_sctp_values.specs.declared.sctp_error.SctpError.{SctpError}
 use Rattle.rtc_sctp_values.specs.declared.sctp_error.SctpError.TheVariants as sctp
 use Rattle.rtc_sctp_values.specs.InitHalves.{InitHalves, half_bytes}
 use Rattle.rtc_sctp.specs.Streams.{SctpStreams}
-use Rattle.rtc_sctp.specs.Calls.{AsksSnap, AsksInit, lacks_half, Inits, Shuts, ShutBy, WritesStream, WrittenIf, can_write, is_ended, is_open_stream, write_answer, written_ppi, is_nil}
+use Rattle.rtc_sctp.specs.Calls.{AsksSnap, AsksInit, are_whole, Inits, Shuts, ShutBy, WritesStream, WrittenIf, can_write, is_ended, is_open_stream, write_answer, written_ppi, is_nil}
 use Rattle.rtc_sctp.specs.Refusals.{refusal_if, IsRefusedAs, refusal_of_start, refusal_of_message}
 
 -- a message that its stream takes is refused as the association refuses it
@@ -126,11 +126,11 @@ module _ {S : Type 0} (m : AssociationMeaning S) (w : AssociationLaws m) where
   init_rose None client p q now max h = started_rose client p q now max h
   init_rose (Some halves) client p q now max h = snap_rose halves p q now max h.1
 
-  -- a start that the association is asked for lacks no half
+  -- a start that the association is asked for has both halves, or none
   asked_whole : (snap : Option InitHalves) (client : Bool) (p q : S) (now max : ℕ) (answer : Asked) → AsksInit m snap client p now max answer q
-      → lacks_half snap ≡ false
+      → are_whole snap ≡ true
   asked_whole None client p q now max answer h = refl
-  asked_whole (Some halves) client p q now max answer h = rw h.0 refl
+  asked_whole (Some halves) client p q now max answer h = h.0
 
   pub inits_refused : (client : Bool) (now max : ℕ) (snap : Option InitHalves) (p q : SctpStreams S) (r : Result (Unit {0}) SctpError)
       → Inits m client now max snap p r q → IsRefusedAs (refusal_of_start m snap p) (m.faults p.association) (m.faults q.association) r

@@ -35,10 +35,10 @@ abbrev pub begun_state : Option InitHalves → Bool → RtcSctpState
 begun_state None client = started_state client
 begun_state (Some halves) client = Established
 
--- halves are given, and one of them is not there
-abbrev pub lacks_half : Option InitHalves → Bool
-lacks_half None = false
-lacks_half (Some halves) = not (is_whole halves)
+-- no halves are given, or both of them
+abbrev pub are_whole : Option InitHalves → Bool
+are_whole None = true
+are_whole (Some halves) = is_whole halves
 
 -- the limit of the other end, which is 65536 where it announced none (RFC 8841, section 6.1)
 abbrev pub limit_or_default : Option ℕ → ℕ
@@ -123,7 +123,7 @@ module _ {S : Type 0} (m : AssociationMeaning S) where
       })
   Inits client now max snap p (Err (sctp.Proto proto.Started)) q = (m.started p.association ≡ true) × (q ≡ p)
   Inits client now max snap p (Err (sctp.Proto proto.SnapHalf)) q =
-      (m.started p.association ≡ false) × (lacks_half snap ≡ true) × (q ≡ p)
+      (m.started p.association ≡ false) × (are_whole snap ≡ false) × (q ≡ p)
   Inits client now max snap p (Err (sctp.Proto proto.Fault)) q =
       (m.started p.association ≡ false)
       × AsksInit snap client p.association now max did.Refused q.association

@@ -7,7 +7,7 @@ use Rattle.rtc_sctp_values.specs.declared.sctp_error.SctpError.{SctpError}
 use Rattle.rtc_sctp_values.specs.declared.sctp_error.SctpError.TheVariants as sctp
 use Rattle.rtc_sctp.specs.Streams.{SctpStreams}
 use Rattle.rtc_sctp_values.specs.InitHalves.{InitHalves}
-use Rattle.rtc_sctp.specs.Calls.{can_write, lacks_half}
+use Rattle.rtc_sctp.specs.Calls.{can_write, are_whole}
 
 -- a refusal, where its cause holds, and else what follows
 abbrev pub refusal_if : Bool → SctpError → Option SctpError → Option SctpError
@@ -27,7 +27,7 @@ module _ {S : Type 0} (m : AssociationMeaning S) where
   abbrev pub refusal_of_start : Option InitHalves → SctpStreams S → Option SctpError
   refusal_of_start snap p =
       refusal_if (m.started p.association) (sctp.Proto proto.Started)
-      (refusal_if (lacks_half snap) (sctp.Proto proto.SnapHalf) None)
+      (refusal_if (not (are_whole snap)) (sctp.Proto proto.SnapHalf) None)
 
   -- how a message is refused: where its stream takes none; where the association has no such stream, or this end closed it;
   -- where it is longer than the other end takes

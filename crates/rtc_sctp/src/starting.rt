@@ -1,9 +1,8 @@
 //! The start of an association, and its end.
-ghost use Rattle.std.specs.Prelude.{◌≡◌, None, false, if◌then◌else◌};
+ghost use Rattle.std.specs.Prelude.{◌≡◌, None, false, true};
 ghost use Rattle.rtc_sctp_values.specs.SnapHalves.{begun_halves};
-ghost use Rattle.rtc_sctp.specs.declared.rtc_sctp_state.RtcSctpState.TheVariants.{Established};
 ghost use Rattle.rtc_sctp.specs.Calls.{AsksSnap, AsksInit, Inits, Shuts, is_ended as IsEnded};
-ghost use Rattle.rtc_sctp.specs.Calls.{limit_or_default as LimitOrDefault, lacks_half as LacksHalf};
+ghost use Rattle.rtc_sctp.specs.Calls.{limit_or_default as LimitOrDefault, are_whole as AreWhole};
 ghost use Rattle.rtc_sctp.specs.Calls.{started_state as StartedState, begun_state as BegunState};
 ghost use Rattle.rtc_sctp.specs.Refusals.{IsRefusedAs, refusal_of_start};
 
@@ -31,22 +30,22 @@ fn started_state(client: bool) -> RtcSctpState
     RtcSctpState::AwaitRemoteAssociation
 }
 
-fn begun_state(by_snap: bool, client: bool) -> RtcSctpState
-    ensures { result ≡ (if by_snap then Established else StartedState client) }
-{
-    if by_snap {
-        return RtcSctpState::Established;
-    }
-    started_state(client)
-}
-
-// Whether halves are given, and one of them is not there.
-fn lacks_half(snap: &Option<SctpInitData>) -> bool
-    ensures { result ≡ LacksHalf snap.now }
+fn begun_state(snap: &Option<SctpInitData>, client: bool) -> RtcSctpState
+    ensures { result ≡ BegunState snap.now client }
 {
     match snap {
-        None => false,
-        Some(halves) => !halves.is_whole(),
+        None => started_state(client),
+        Some(_) => RtcSctpState::Established,
+    }
+}
+
+// Whether no halves are given, or both of them.
+fn are_whole(snap: &Option<SctpInitData>) -> bool
+    ensures { result ≡ AreWhole snap.now }
+{
+    match snap {
+        None => true,
+        Some(halves) => halves.is_whole(),
     }
 }
 
@@ -77,7 +76,7 @@ fn ask_start<S: Association>(
     max_send: u32,
 ) -> Asked
     requires fresh { S.association.started association.old ≡ false }
-    requires whole { LacksHalf snap.now ≡ false }
+    requires whole { AreWhole snap.now ≡ true }
     ensures { AsksInit S.association snap.now client association.old now max_send result association.new }
 {
     match snap {
@@ -99,7 +98,7 @@ impl<S: Association> RtcSctp<S> {
         if self.association.is_started() {
             return Err(SctpError::Proto(ProtoError::Started));
         }
-        if lacks_half(&snap) {
+        if !are_whole(&snap) {
             return Err(SctpError::Proto(ProtoError::SnapHalf));
         }
         let max = limit_or_default(remote_max);
@@ -124,7 +123,7 @@ impl<S: Association> RtcSctp<S> {
     {
         self.client = client;
         self.remote_max = max;
-        self.state = begun_state(snap.is_some(), client);
+        self.state = begun_state(&snap, client);
         self.snap.begin(snap);
     }
 

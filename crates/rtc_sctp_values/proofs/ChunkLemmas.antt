@@ -1,5 +1,5 @@
 -- A chunk and its text.
-use Rattle.std.proofs.Common.{◌≡◌, ℕ, List, Option, Some, None, Result, Ok, Err, refl, sym}
+use Rattle.std.proofs.Common.{◌≡◌, ◌∙◌, ℕ, List, Option, Some, None, Result, Ok, Err, refl, sym, ap}
 use Rattle.std.specs.Result.{result_ok}
 use Rattle.base64.specs.Engines.{standard}
 use Rattle.base64.specs.GeneralPurpose.{IsBytes, decode_of, decoded_of, encode_of}
@@ -21,3 +21,17 @@ chunk_text-chunk_of_text text bytes short h =
 pub chunk_of_text-chunk_text : (bytes : List ℕ) → IsBytes bytes → chunk_of_text (chunk_text bytes) ≡ Some bytes
 unfolding chunk_text chunk_of_text decoded_of
 chunk_of_text-chunk_text bytes short = rw (decode_of-encode_of standard bytes refl short) refl
+
+-- what decodes is the chunk of its text, whose text it is
+pub read_is : (input text bytes : List ℕ) → input ≡ text → decode_of standard input ≡ Ok bytes → Some bytes ≡ chunk_of_text text
+unfolding chunk_of_text decoded_of
+read_is input text bytes same h = sym (ap (λ (t : List ℕ). result_ok (decode_of standard t)) (sym same) ∙ ap result_ok h)
+
+pub read_text_is : (input text bytes : List ℕ) → input ≡ text → input ≡ encode_of standard bytes → chunk_text bytes ≡ text
+unfolding chunk_text
+read_text_is input text bytes same h = sym h ∙ same
+
+-- and what does not decode has none
+pub unread_is : (input text : List ℕ) (e : DecodeError) → input ≡ text → decode_of standard input ≡ Err e → None ≡ chunk_of_text text
+unfolding chunk_of_text decoded_of
+unread_is input text e same h = sym (ap (λ (t : List ℕ). result_ok (decode_of standard t)) (sym same) ∙ ap result_ok h)
