@@ -67,15 +67,16 @@ one_settled (Some m) (Some n) is is' same = ap Some (one_number m n is is' same)
 
 -- ---- configs
 
-one_record : (l l' : List ℕ) (o o' : Bool) (r r' : Reliability) (n n' : Option ℕ) (p p' : List ℕ)
-    → l ≡ l' → o ≡ o' → r ≡ r' → n ≡ n' → p ≡ p'
-    → (record { label = l; ordered = o; reliability = r; negotiated = n; protocol = p } : ChannelConfig)
-    ≡ record { label = l'; ordered = o'; reliability = r'; negotiated = n'; protocol = p' }
-one_record l l' o o' r r' n n' p p' a b c d e = rw (a, b, c, d, e) refl
+abbrev config_with : List ℕ → Bool → Reliability → Option ℕ → List ℕ → ChannelConfig
+config_with l o r n p = record { label = l; ordered = o; reliability = r; negotiated = n; protocol = p }
+
+same_config : (l l' : List ℕ) (o o' : Bool) (r r' : Reliability) (n n' : Option ℕ) (p p' : List ℕ) → l ≡ l' → o ≡ o' → r ≡ r' → n ≡ n' → p ≡ p'
+    → config_with l o r n p ≡ config_with l' o' r' n' p'
+same_config l l' o o' r r' n n' p p' a b c d e = rw (a, b, c, d, e) refl
 
 one_config : (l o r s p : List ℕ) (a b : ChannelConfig) → AreConfigWords l o r s p a → AreConfigWords l o r s p b → a ≡ b
 one_config l o r s p a b is is' =
-    one_record a.label b.label a.ordered b.ordered a.reliability b.reliability a.negotiated b.negotiated a.protocol b.protocol
+    same_config a.label b.label a.ordered b.ordered a.reliability b.reliability a.negotiated b.negotiated a.protocol b.protocol
     (one_label a.label b.label is.5 is'.5 (sym is.0 ∙ is'.0))
     (one_order a.ordered b.ordered (sym is.1 ∙ is'.1))
     (one_reliability a.reliability b.reliability is.6 is'.6 (sym is.2 ∙ is'.2))

@@ -36,7 +36,7 @@ impl<S: Association> RtcSctp<S> {
     /// are pending.
     pub fn enable_snap(&mut self)
         ensures { self.new ≡ record self.old {
-            snap = enabled_halves (S.association.started self.old.association) self.old.local_max self.old.snap;
+          snap = enabled_halves (S.association.started self.old.association) self.old.local_max self.old.snap;
         } }
     {
         let is_started = self.association.is_started();

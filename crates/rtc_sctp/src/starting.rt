@@ -59,12 +59,7 @@ fn start_by_snap<S: Association>(
     requires { S.association.started association.old ≡ false }
     ensures { AsksSnap S.association halves.now association.old now max_send result association.new }
 {
-    Asked::of(association.connect_snap(
-        now,
-        max_send,
-        halves.local_bytes(),
-        halves.remote_bytes(),
-    ))
+    Asked::of(association.connect_snap(now, max_send, halves.local_bytes(), halves.remote_bytes()))
 }
 
 // Starts an association with both halves, where there are any, or else as the client or as the server.
@@ -115,10 +110,10 @@ impl<S: Association> RtcSctp<S> {
     // Keeps what the association was started with.
     fn begin(&mut self, client: bool, max: u32, snap: Option<SctpInitData>)
         ensures { self.new ≡ record self.old {
-            client = client;
-            remote_max = max;
-            state = BegunState snap client;
-            snap = begun_halves snap self.old.snap;
+          client = client;
+          remote_max = max;
+          state = BegunState snap client;
+          snap = begun_halves snap self.old.snap;
         } }
     {
         self.client = client;
