@@ -1,7 +1,6 @@
 -- What the parts of the op that adds a channel determine.
-use Rattle.std.proofs.Common.{◌≡◌, ◌≢◌, ◌<◌, ◌^◌, ◌∙◌, ℕ, Bool, true, false, List, [], ◌∷◌, ◌++◌, Option, Some, None, refl, ap, sym, subst, cond, eqb, get_or, codes, arith}
+use Rattle.std.proofs.Common.{◌≡◌, ◌≢◌, ◌<◌, ◌^◌, ◌∙◌, ℕ, Bool, true, false, List, [], ◌∷◌, Option, Some, None, refl, ap, sym, subst, eqb, get_or, codes, arith}
 use Rattle.std.specs.Fmt.{decimal}
-use Rattle.std.specs.Str.{IsUtf8}
 use Rattle.std.proofs.lemmas.Fmt.{decimal_injective}
 use Rattle.std.proofs.lemmas.List.{append_cancel_left}
 use Rattle.rtc_fields.specs.Numbers.{is_numeral}
@@ -12,7 +11,6 @@ use Rattle.rtc_wire.specs.declared.reliability.Reliability.TheVariants.{Reliable
 use Rattle.rtc_sdp_values.specs.declared.media_kind.MediaKind.TheVariants.{Audio, Video}
 use Rattle.rtc_history.specs.declared.op.Op.{Op}
 use Rattle.rtc_history.specs.declared.op.Op.TheVariants.{AddMedia, SetDirection, StopMedia, AddChannel, IceRestart}
-use Rattle.rtc_script.specs.Words.{hex_word}
 use Rattle.rtc_script.specs.ChannelParts.{order_text, reliability_text, settled_text, IsReliability, IsSettled, with_label}
 use Rattle.rtc_script.specs.ChannelParts.{IsLabelWord, AreConfigWords, AreChannelParts}
 use Rattle.rtc_script.specs.Lines.{AreOpParts}

@@ -1,5 +1,5 @@
 //! The halves of a start by session descriptions (draft-hancke-tsvwg-snap).
-ghost use Rattle.std.specs.Prelude.{◌≡◌, ◌&&◌, false, true, Ok, is_some, IfOk, option_map, string_bytes};
+ghost use Rattle.std.specs.Prelude.{◌≡◌, false, true, Ok, is_some, IfOk, option_map, string_bytes};
 ghost use Rattle.rtc_sctp_values.specs.InitHalves.{remote_text};
 ghost use Rattle.rtc_sctp_values.specs.SnapHalves.{
   enabled_halves,

@@ -1,6 +1,6 @@
 -- The chunk that starts an association, drawn once, and its text in a session description (RFC 9260, section 3.3.2;
 -- draft-hancke-tsvwg-snap).
-use Rattle.std.specs.Prelude.{ℕ, ◌%◌, ◌^◌, ◌==◌, max, if◌then◌else◌, List, [], ◌∷◌, ◌++◌, Option}
+use Rattle.std.specs.Prelude.{ℕ, ◌%◌, ◌^◌, ◌==◌, max, if◌then◌else◌, List, ◌∷◌, ◌++◌, Option}
 use Rattle.std.specs.Int.{w32, to_be_bytes}
 use Rattle.base64.specs.Engines.{standard}
 use Rattle.base64.specs.GeneralPurpose.{encode_of, decoded_of}

@@ -10,8 +10,6 @@ ghost use Rattle.rtc_sctp_values.specs.InitHalves.{
   remote_text as RemoteText,
   half_bytes,
   local_half,
-  after_half,
-  with_local,
   SetsRemoteText,
   DrawsLocal,
   MayDrawLocal,
