@@ -1,5 +1,6 @@
 //! The words of what a channel is opened with.
-ghost use Rattle.std.specs.Prelude.{◌≡◌, ◌≢◌, ◌++◌, ℕ, Bool, List, Option, MatchOption, IfOk, IfSome, IfNone};
+ghost use Rattle.std.specs.Prelude.{◌≡◌, ◌≢◌, ◌<◌, ◌^◌, ◌++◌, ℕ, Bool, List, Option, MatchOption, IfOk, IfSome, IfNone, codes};
+ghost use Rattle.std.specs.Fmt.{decimal};
 ghost use Rattle.rtc_script.specs.ChannelParts.{
   order_text,
   reliability_text,
@@ -38,7 +39,33 @@ fn behind<'a>(word: &'a [u8], prefix: &[u8]) -> Option<&'a [u8]>
     word.strip_prefix(prefix)
 }
 
+// The number below 2^16 whose decimal stands behind a prefix.
+#[tactic(auto, using(crate::proofs::ChannelPartLemmas::nothing_behind, crate::proofs::ChannelPartLemmas::no_number_behind))]
+fn read_behind(word: &[u8], prefix: &[u8]) -> Option<u16>
+    ensures some { IfSome result (λ n. word.now ≡ prefix.now ++ decimal n) }
+    ensures none { IfNone result ((n : ℕ) → n < 2 ^ 16 → word.now ≢ prefix.now ++ decimal n) }
+{
+    let rest = behind(word, prefix)?;
+    let n = read_u16(rest)?;
+    Some(n)
+}
+
+fn read_retransmits(word: &[u8]) -> Option<u16>
+    ensures some { IfSome result (λ n. word.now ≡ codes "retransmits=" ++ decimal n) }
+    ensures none { IfNone result ((n : ℕ) → n < 2 ^ 16 → word.now ≢ codes "retransmits=" ++ decimal n) }
+{
+    read_behind(word, b"retransmits=".as_slice())
+}
+
+fn read_lifetime(word: &[u8]) -> Option<u16>
+    ensures some { IfSome result (λ n. word.now ≡ codes "lifetime=" ++ decimal n) }
+    ensures none { IfNone result ((n : ℕ) → n < 2 ^ 16 → word.now ≢ codes "lifetime=" ++ decimal n) }
+{
+    read_behind(word, b"lifetime=".as_slice())
+}
+
 // How long messages are resent.
+#[tactic(auto, using(crate::proofs::ChannelPartLemmas::no_reliability))]
 fn read_reliability(word: &[u8]) -> Option<Reliability>
     ensures some { IfSome result (λ reliability. (word.now ≡ reliability_text reliability) × IsReliability reliability) }
     ensures none { IfNone result ((reliability : Reliability) → IsReliability reliability → word.now ≢ reliability_text reliability) }
@@ -46,16 +73,15 @@ fn read_reliability(word: &[u8]) -> Option<Reliability>
     if word == b"reliable".as_slice() {
         return Some(Reliability::Reliable);
     }
-    if let Some(number) = behind(word, b"retransmits=".as_slice()) {
-        let retransmits = read_u16(number)?;
+    if let Some(retransmits) = read_retransmits(word) {
         return Some(Reliability::MaxRetransmits { retransmits });
     }
-    let number = behind(word, b"lifetime=".as_slice())?;
-    let lifetime = read_u16(number)?;
+    let lifetime = read_lifetime(word)?;
     Some(Reliability::MaxPacketLifetime { lifetime })
 }
 
 // The stream that both ends settled, if they did.
+#[tactic(auto, using(crate::proofs::ChannelPartLemmas::no_settled))]
 fn read_settled(word: &[u8]) -> Option<Option<u16>>
     ensures some { IfSome result (λ stream. (word.now ≡ settled_text stream) × IsSettled stream) }
     ensures none { IfNone result ((stream : Option ℕ) → IsSettled stream → word.now ≢ settled_text stream) }
