@@ -1,5 +1,5 @@
 -- What the parts of the op that adds a channel determine.
-use Rattle.std.proofs.Common.{◌≡◌, ◌≢◌, ◌<◌, ◌^◌, ◌∙◌, ℕ, Bool, true, false, List, [], ◌∷◌, ◌++◌, Option, Some, None, refl, ap, sym, subst, eqb, get_or, codes, arith}
+use Rattle.std.proofs.Common.{◌≡◌, ◌≢◌, ◌<◌, ◌^◌, ◌∙◌, ℕ, Bool, true, false, List, [], ◌∷◌, ◌++◌, Option, Some, None, refl, ap, sym, subst, eqb, get_or, codes, IfNone, arith}
 use Rattle.std.specs.Fmt.{decimal}
 use Rattle.std.proofs.lemmas.Fmt.{decimal_injective}
 use Rattle.std.proofs.lemmas.List.{append_cancel_left}
@@ -65,22 +65,23 @@ one_settled (Some m) (Some n) is is' same = ap Some (one_number m n is is' same)
 
 -- ---- words that are none
 
--- nothing stands behind a prefix that is not there
-pub nothing_behind : (word prefix : List ℕ) → ((rest : List ℕ) → word ≢ prefix ++ rest) → (n : ℕ) → n < 2 ^ 16 → word ≢ prefix ++ decimal n
-nothing_behind word prefix none n small = none (decimal n)
+-- no number stands behind a prefix where what stands there is none
+pub no_number_behind : (r : Option ℕ) (word prefix rest : List ℕ) → word ≡ prefix ++ rest → ((n : ℕ) → n < 2 ^ 16 → rest ≢ decimal n)
+    → IfNone r ((n : ℕ) → n < 2 ^ 16 → word ≢ prefix ++ decimal n)
+no_number_behind (Some x) word prefix rest is none = tt
+no_number_behind None word prefix rest is none =
+    λ n small same. none n small (append_cancel_left prefix rest (decimal n) (sym is ∙ same))
 
--- nor a number where what stands there is none
-pub no_number_behind : (word prefix rest : List ℕ) → word ≡ prefix ++ rest → ((n : ℕ) → n < 2 ^ 16 → rest ≢ decimal n)
-    → (n : ℕ) → n < 2 ^ 16 → word ≢ prefix ++ decimal n
-no_number_behind word prefix rest is none n small same =
-    none n small (append_cancel_left prefix rest (decimal n) (sym is ∙ same))
-
-pub no_reliability : (word : List ℕ) → word ≢ codes "reliable" → ((n : ℕ) → n < 2 ^ 16 → word ≢ codes "retransmits=" ++ decimal n)
-    → ((n : ℕ) → n < 2 ^ 16 → word ≢ codes "lifetime=" ++ decimal n)
-    → (reliability : Reliability) → IsReliability reliability → word ≢ reliability_text reliability
-no_reliability word other none none' Reliable is = other
-no_reliability word other none none' (MaxRetransmits n) is = none n is
-no_reliability word other none none' (MaxPacketLifetime n) is = none' n is
+pub no_reliability : (r : Option Reliability) (word : List ℕ) → word ≢ codes "reliable"
+    → ((n : ℕ) → n < 2 ^ 16 → word ≢ codes "retransmits=" ++ decimal n) → ((n : ℕ) → n < 2 ^ 16 → word ≢ codes "lifetime=" ++ decimal n)
+    → IfNone r ((reliability : Reliability) → IsReliability reliability → word ≢ reliability_text reliability)
+no_reliability (Some x) word other none none' = tt
+no_reliability None word other none none' = by
+  where
+    by : (reliability : Reliability) → IsReliability reliability → word ≢ reliability_text reliability
+    by Reliable is = other
+    by (MaxRetransmits n) is = none n is
+    by (MaxPacketLifetime n) is = none' n is
 
 pub no_settled : (word : List ℕ) → word ≢ codes "inband" → ((n : ℕ) → n < 2 ^ 16 → word ≢ decimal n)
     → (stream : Option ℕ) → IsSettled stream → word ≢ settled_text stream

@@ -40,7 +40,6 @@ fn behind<'a>(word: &'a [u8], prefix: &[u8]) -> Option<&'a [u8]>
 }
 
 // The number below 2^16 whose decimal stands behind a prefix.
-#[tactic(auto, using(crate::proofs::ChannelPartLemmas::nothing_behind, crate::proofs::ChannelPartLemmas::no_number_behind))]
 fn read_behind(word: &[u8], prefix: &[u8]) -> Option<u16>
     ensures some { IfSome result (λ n. word.now ≡ prefix.now ++ decimal n) }
     ensures none { IfNone result ((n : ℕ) → n < 2 ^ 16 → word.now ≢ prefix.now ++ decimal n) }
@@ -65,7 +64,6 @@ fn read_lifetime(word: &[u8]) -> Option<u16>
 }
 
 // How long messages are resent.
-#[tactic(auto, using(crate::proofs::ChannelPartLemmas::no_reliability))]
 fn read_reliability(word: &[u8]) -> Option<Reliability>
     ensures some { IfSome result (λ reliability. (word.now ≡ reliability_text reliability) × IsReliability reliability) }
     ensures none { IfNone result ((reliability : Reliability) → IsReliability reliability → word.now ≢ reliability_text reliability) }
