@@ -7,6 +7,7 @@ use crate::pushed_back::PushedBack;
 use crate::{RtcSctpState, StreamEntry};
 use rtc_association::Association;
 use rtc_sctp_entries::entries::config_of;
+use rtc_sctp_values::SnapHalves;
 use rtc_wire::{
     Bytes, ChannelConfig, DEFAULT_MAX_BUFFERED_AMOUNT, DEFAULT_REMOTE_MAX_MESSAGE_SIZE,
     MAX_DTLS_OVERHEAD, Moment, SCTP_OVERHEAD, Seq,
@@ -28,6 +29,7 @@ pub struct RtcSctp<S> {
     pub(crate) max_payload: usize,
     pub(crate) max_buffered: usize,
     pub(crate) last: Moment,
+    pub(crate) snap: SnapHalves,
     pub(crate) pushed: PushedBack,
     pub(crate) entries: Vec<StreamEntry>,
     pub(crate) resets: Vec<u16>,
@@ -49,6 +51,7 @@ impl<S> Model for RtcSctp<S> {
       max_payload = s.max_payload;
       max_buffered = s.max_buffered;
       last = s.last;
+      snap = s.snap;
       pushed = s.pushed;
       entries = s.entries.items;
       resets = s.resets.items;
@@ -87,6 +90,7 @@ impl<S: Association> RtcSctp<S> {
             max_payload,
             max_buffered: DEFAULT_MAX_BUFFERED_AMOUNT,
             last: start,
+            snap: SnapHalves::none(alloc),
             pushed: PushedBack::none(),
             entries: Vec::new(alloc),
             resets: Vec::new(alloc),
