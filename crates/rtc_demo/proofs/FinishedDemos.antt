@@ -20,11 +20,11 @@ use Rattle.rtc_history.specs.Sound.{IsSound, RepliesToOffer, RepliesToAnswer, as
 use Rattle.rtc_history.specs.SoundEntry.{IsSoundEntry}
 use Rattle.rtc_history.specs.Views.{Stances}
 use Rattle.rtc_history.specs.declared.outcome.Outcome.{Outcome}
-use Rattle.rtc_history.specs.declared.outcome.Outcome.TheVariants.{Negotiated, Answered, Finished, Done, Polled, Refused, NoSuch, Alloc}
+use Rattle.rtc_history.specs.declared.outcome.Outcome.TheVariants.{Negotiated, Answered, Finished, Done, Wrote, Polled, Refused, NoSuch, Alloc}
 use Rattle.rtc_history.specs.declared.reply.Reply.{Reply}
 use Rattle.rtc_history.specs.declared.side.Side.{Side}
 use Rattle.rtc_history.specs.declared.step.Step.{Step}
-use Rattle.rtc_history.specs.declared.step.Step.TheVariants.{Negotiate, AcceptOffer, AcceptAnswer, Time, Datagram, Poll, Drain, Close}
+use Rattle.rtc_history.specs.declared.step.Step.TheVariants.{Negotiate, AcceptOffer, AcceptAnswer, Time, Datagram, Poll, Drain, Write, CloseChannel, Close}
 use Rattle.rtc_history.specs.declared.table.Table.{Table}
 use Rattle.rtc_history_laws.proofs.ChannelCounts.{steps_size-append, told_within}
 use Rattle.rtc_history_laws.proofs.OrderlyPasts.{next_of, follow_last}
@@ -43,6 +43,8 @@ accepts_answer (Time at now) = false
 accepts_answer (Datagram at packet now) = false
 accepts_answer (Poll at) = false
 accepts_answer (Drain at) = false
+accepts_answer (Write at channel binary bytes) = false
+accepts_answer (CloseChannel at channel) = false
 accepts_answer (Close at) = false
 
 -- how many steps do
@@ -62,6 +64,7 @@ offer_unfinished (Some sdp) view next Finished after takes = absurd takes
 offer_unfinished sdp view next (Negotiated answers made) after takes = refl
 offer_unfinished sdp view next (Answered k) after takes = refl
 offer_unfinished sdp view next Done after takes = refl
+offer_unfinished sdp view next (Wrote taken) after takes = refl
 offer_unfinished sdp view next (Polled outputs end) after takes = refl
 offer_unfinished sdp view next (Refused error) after takes = refl
 offer_unfinished sdp view next NoSuch after takes = refl
@@ -85,6 +88,10 @@ answer_finished false right asked sdp view Done after takes fine = absurd takes
 answer_finished true right asked None view Done after takes fine = absurd takes
 answer_finished true false asked (Some sdp) view Done after takes fine = absurd takes
 answer_finished true true asked (Some sdp) view Done after takes fine = absurd takes
+answer_finished false right asked sdp view (Wrote taken) after takes fine = absurd takes
+answer_finished true right asked None view (Wrote taken) after takes fine = absurd takes
+answer_finished true false asked (Some sdp) view (Wrote taken) after takes fine = absurd takes
+answer_finished true true asked (Some sdp) view (Wrote taken) after takes fine = absurd takes
 answer_finished false right asked sdp view (Polled outputs end) after takes fine = absurd takes
 answer_finished true right asked None view (Polled outputs end) after takes fine = absurd takes
 answer_finished true false asked (Some sdp) view (Polled outputs end) after takes fine = absurd takes
@@ -105,6 +112,8 @@ ok_finished fresh between past (Time at now) outcome table made negotiating soun
 ok_finished fresh between past (Datagram at packet now) outcome table made negotiating sound fine = absurd (cc)
 ok_finished fresh between past (Poll at) outcome table made negotiating sound fine = absurd (cc)
 ok_finished fresh between past (Drain at) outcome table made negotiating sound fine = absurd (cc)
+ok_finished fresh between past (Write at channel binary bytes) outcome table made negotiating sound fine = absurd (cc)
+ok_finished fresh between past (CloseChannel at channel) outcome table made negotiating sound fine = absurd (cc)
 ok_finished fresh between past (Close at) outcome table made negotiating sound fine = absurd (cc)
 ok_finished fresh between past step outcome table made negotiating sound fine = absurd sound
 

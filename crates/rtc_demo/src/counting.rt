@@ -14,6 +14,7 @@ fn tells_finished<E>(outcome: &Outcome<E>) -> bool
         Outcome::Answered { .. } => false,
         Outcome::Finished => true,
         Outcome::Done => false,
+        Outcome::Wrote { .. } => false,
         Outcome::Polled { .. } => false,
         Outcome::Refused(_) => false,
         Outcome::NoSuch => false,
