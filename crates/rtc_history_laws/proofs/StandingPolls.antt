@@ -21,7 +21,7 @@ use Rattle.rtc_polling.specs.declared.polled_peer.PolledPeer.{PolledPeer}
 use Rattle.rtc_polling.specs.Closing.{ClosesPeer}
 use Rattle.rtc_polling.specs.Inputs.{HandlesInput}
 use Rattle.rtc_polling.specs.Walk.{PollsPeer}
-use Rattle.rtc_polling.specs.Numbers.{Numbers, number_told}
+use Rattle.rtc_polling.specs.Numbers.{ChannelNumbers, number_told}
 use Rattle.rtc_polling.proofs.Keeping.{poll_keeps}
 use Rattle.rtc_polling.proofs.KeptCalls.{close_keeps}
 use Rattle.rtc_polling.proofs.KeptInputs.{input_keeps}
@@ -68,7 +68,7 @@ abbrev numbers_of : Option ℕ → List ℕ
 numbers_of None = []
 numbers_of (Some id) = id ∷ []
 
-numbered_by : (told : Option ℕ) (held held' : Channels) → Numbers told held held' → AreNumbered (numbers_of told) held held'
+numbered_by : (told : Option ℕ) (held held' : Channels) → ChannelNumbers told held held' → AreNumbered (numbers_of told) held held'
 numbered_by None held held' numbers = record {
   rises = numbers.rises;
   few = omega (arith, numbers.unless_told refl);

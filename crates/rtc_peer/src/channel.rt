@@ -2,7 +2,7 @@
 ghost use Rattle.std.specs.Prelude.{◌≡◌, None, Some, MatchOption, if◌then◌else◌};
 ghost use Rattle.rtc_sctp_entries.specs.Entries.{stream_config};
 ghost use Rattle.rtc_peer_state.specs.Meanings.{meanings};
-ghost use Rattle.rtc_polling.specs.ChannelCalls.{AsksThreshold, WritesChannel, bytes_buffered};
+ghost use Rattle.rtc_polling.specs.ChannelCalls.{SetsChannelThreshold, WritesChannel, bytes_buffered};
 
 use crate::Rtc;
 use rtc_association::Association;
@@ -56,7 +56,7 @@ impl<I: IceAgent, D: DtlsInstance, S: Association, M: MediaSession, N: Ids> Chan
 
     /// Asks to be told where what the channel has buffered falls to `threshold` bytes.
     pub fn set_buffered_amount_low_threshold(&mut self, threshold: usize)
-        ensures asks { AsksThreshold self.old.stream threshold self.old.rtc.now self.new.rtc.now }
+        ensures asks { SetsChannelThreshold self.old.stream threshold self.old.rtc.now self.new.rtc.now }
         ensures same_stream { self.new.stream ≡ self.old.stream }
         ensures same_reference { self.new.rtc.ghost_name ≡ self.old.rtc.ghost_name }
     {

@@ -4,7 +4,7 @@ ghost use Rattle.std.specs.Borrow.{RestsIfNone, sem};
 ghost use Rattle.rtc_peer.specs.contracts.rtc.Rtc.{the_row};
 ghost use Rattle.rtc_sctp_entries.specs.Entries.{stream_config};
 ghost use Rattle.rtc_peer_state.specs.Meanings.{meanings};
-ghost use Rattle.rtc_polling.specs.ChannelCalls.{AsksThreshold, ClosesDataChannel, WritesChannel, bytes_buffered, open_stream_under};
+ghost use Rattle.rtc_polling.specs.ChannelCalls.{SetsChannelThreshold, ClosesDataChannel, WritesChannel, bytes_buffered, open_stream_under};
 ghost use Rattle.rtc_polling.specs.ChannelCalls.{config_under, stream_under};
 
 use crate::{Channel, Rtc};
@@ -71,7 +71,7 @@ impl<I: IceAgent, D: DtlsInstance, S: Association, M: MediaSession, N: Ids> Rtc<
     }
 
     pub(crate) fn set_threshold(&mut self, stream: u16, n: usize)
-        ensures { AsksThreshold stream n self.old self.new }
+        ensures { SetsChannelThreshold stream n self.old self.new }
     {
         self.polled.set_threshold(stream, n);
     }

@@ -20,7 +20,7 @@ use Rattle.rtc_polling.specs.declared.polled_peer.PolledPeer.{PolledPeer}
 use Rattle.rtc_polling.specs.Closing.{ShutsMedia, ShutsStreams, ShutsDtls, BecomesClosing, BeginsClosing, ClosesPeer, ClosesPeerFrom}
 use Rattle.rtc_polling.specs.Inputs.{TimesIce, TimesStreams, TimesChannels, TimesMedia, GivesTime, TakesTimeIf, with_moment}
 use Rattle.rtc_polling.specs.Inputs.{HearsStun, HearsDtls, HearsMedia, HearsKind, Hears, Heard, PartFailed, HandlesInputBy, HandlesInputIn, HandlesInput}
-use Rattle.rtc_polling.specs.Numbers.{Numbers}
+use Rattle.rtc_polling.specs.Numbers.{ChannelNumbers}
 use Rattle.rtc_polling.specs.Stages.{Call, InTurn, Failed, Passed, Stage, FollowedBy, Stopped, WentOn, RepeatsStage}
 use Rattle.rtc_polling.proofs.StageLemmas.{over_carries}
 use Rattle.rtc_polling.proofs.NumberedChannels.{Stays, stays_self, stays_same, stays_on, NumbersWhen, numbers_on, numbers_of, moment_stays}
@@ -114,7 +114,7 @@ module _ {I D S M E X T W N : Type 0} (m : Meanings I D S M E X T W N) where
 
   -- closing gives no number
   pub close_numbers : (p : PolledPeer I D S M N) (r : Result (Unit {0}) RtcError) (q : PolledPeer I D S M N) → ClosesPeer m p r q
-      → Numbers None p.core.channels q.core.channels
+      → ChannelNumbers None p.core.channels q.core.channels
   close_numbers p r q h = numbers_of None p.core.channels q.core.channels (close_stays p r q h)
 
   ice_timed_stays : (now : ℕ) → CallStays (TimesIce m now)
@@ -206,5 +206,5 @@ module _ {I D S M E X T W N : Type 0} (m : Meanings I D S M E X T W N) where
 
   -- an input gives no number
   pub input_numbers : (input : Input) (p : PolledPeer I D S M N) (r : Result (Unit {0}) RtcError) (q : PolledPeer I D S M N)
-      → HandlesInput m input p r q → Numbers None p.core.channels q.core.channels
+      → HandlesInput m input p r q → ChannelNumbers None p.core.channels q.core.channels
   input_numbers input p r q h = numbers_of None p.core.channels q.core.channels (input_in_stays p.core.phase input p r q h)

@@ -15,7 +15,7 @@ use Rattle.rtc_channels.specs.Openings.{OpensChannel, OpensAll, Following, Progr
 use Rattle.rtc_channels.proofs.KeptLemmas.{below_more, below_one_more}
 use Rattle.rtc_channels.proofs.GivenLemmas.{below_given, below_without}
 use Rattle.rtc_channels.proofs.OpeningLemmas.{below_opened}
-use Rattle.rtc_polling.specs.Numbers.{Numbers}
+use Rattle.rtc_polling.specs.Numbers.{ChannelNumbers}
 use Rattle.rtc_polling.specs.StreamStages.{channel_over}
 
 -- no number was given, and no row is new
@@ -49,7 +49,7 @@ stays_rows held rows holds few below = record { given = refl; rows = few; below 
 -- what a call does that told this number
 abbrev pub NumbersWhen : Option ℕ → Channels → Channels → Type 0
 NumbersWhen None held held' = Stays held held'
-NumbersWhen (Some id) held held' = Numbers (Some id) held held'
+NumbersWhen (Some id) held held' = ChannelNumbers (Some id) held held'
 
 -- bounds after the channels stayed
 below_stays : (a b : Channels) → Stays a b → AreBelow a.given a.rows → AreBelow b.given b.rows
@@ -67,7 +67,7 @@ numbers_on (Some id) a b c first rest = record {
   told_below = λ below other told. rest.told_below (below_stays a b first below) other told;
 }
 
-pub numbers_of : (told : Option ℕ) (a b : Channels) → NumbersWhen told a b → Numbers told a b
+pub numbers_of : (told : Option ℕ) (a b : Channels) → NumbersWhen told a b → ChannelNumbers told a b
 numbers_of None a b stays = record {
   rises = omega (arith, stays.given);
   unless_told = λ none. stays.given;
@@ -209,11 +209,11 @@ below_opened_by stream held below =
 
 -- a stream that is open has a channel: the number told is its own
 pub opened_numbers : (stream id : ℕ) (held : Channels) → channel_over stream (channel_ensured stream held) ≡ Some id
-    → Numbers (Some id) held (channel_ensured stream held)
+    → ChannelNumbers (Some id) held (channel_ensured stream held)
 opened_numbers stream id held found = by (is_ensured stream held) found
   where
     by : (ensured : Bool) → channel_over stream (cond ensured held (with_opened stream held)) ≡ Some id
-        → Numbers (Some id) held (cond ensured held (with_opened stream held))
+        → ChannelNumbers (Some id) held (cond ensured held (with_opened stream held))
     by true is = record {
       rises = omega arith;
       unless_told = λ none. cc (none);

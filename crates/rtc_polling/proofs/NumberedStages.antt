@@ -22,7 +22,7 @@ use Rattle.rtc_polling.specs.DtlsStages.{GivesDtlsTime, TimesDtls, TimesDtlsIf, 
 use Rattle.rtc_polling.specs.DtlsStages.{PollsDtlsOutputs, TakesKeys, TakesCloseNotify, HandsPacket, ChecksCert, TellsConnectedFrom, is_dtls_due}
 use Rattle.rtc_polling.specs.IceStages.{PollsIceEvent, PollsIceEvents, TakesIceEvent, met_of_ice_event}
 use Rattle.rtc_polling.specs.MediaStages.{TellsMedia, TellsFallibleMedia}
-use Rattle.rtc_polling.specs.Numbers.{Numbers}
+use Rattle.rtc_polling.specs.Numbers.{ChannelNumbers}
 use Rattle.rtc_polling.specs.SendStages.{SendsChecks, SendsDtlsPacket, SendsMediaDatagram, SendsBy, SendsByPair}
 use Rattle.rtc_polling.specs.StreamStages.{OpensChannelOver, ClosesChannelOver, HearsChannelOver, FallsChannelOver, LosesAssociation, TakesStreamEvent}
 use Rattle.rtc_polling.specs.StreamStages.{TakesStreamAnswer, PollsStreamEvent, PollsStreamEvents, SendsPacket, SendsFirst, SendsKeptPackets, TellsStreams, channel_over}
@@ -124,7 +124,7 @@ module _ {I D S M E X T W N : Type 0} (m : Meanings I D S M E X T W N) where
   opens_numbered : (stream : ℕ) (label : List ℕ) → Numbered (OpensChannelOver {I = I} {D = D} {S = S} {M = M} {E = E} {N = N} stream label)
   unfolding OpensChannelOver
   opens_numbered stream label p (MetEvent (told.ChannelOpen id text)) q h =
-      subst (λ (x : PolledPeer I D S M N). Numbers (Some id) p.core.channels x.core.channels) (sym h.2)
+      subst (λ (x : PolledPeer I D S M N). ChannelNumbers (Some id) p.core.channels x.core.channels) (sym h.2)
       (opened_numbers stream id p.core.channels h.1)
   opens_numbered stream label p Again q h =
       subst (λ (x : PolledPeer I D S M N). PeerStays p x) (sym h.1) (unopened_stays stream p.core.channels h.0)

@@ -13,7 +13,7 @@ use Rattle.rtc_polling.specs.declared.output.Output.{Output}
 use Rattle.rtc_polling.specs.declared.output.Output.TheVariants as answers
 use Rattle.rtc_polling.specs.declared.polled_peer.PolledPeer.{PolledPeer}
 use Rattle.rtc_polling.specs.Closing.{is_closing_complete}
-use Rattle.rtc_polling.specs.Numbers.{Numbers, number_told}
+use Rattle.rtc_polling.specs.Numbers.{ChannelNumbers, number_told}
 use Rattle.rtc_polling.specs.Walk.{VisitsParts, WaitsIf, AnswersMet, Walks, PollsPeerFrom, PollsPeer}
 use Rattle.rtc_polling.proofs.NumberedChannels.{NumbersWhen, numbers_of}
 use Rattle.rtc_polling.proofs.NumberedCalls.{number_met, PeerNumbers, stays_by, repeats_numbered}
@@ -70,6 +70,6 @@ module _ {I D S M E X T W N : Type 0} (m : Meanings I D S M E X T W N) where
 
   -- a poll gives one number at most, and tells it
   pub poll_numbers : (p : PolledPeer I D S M N) (answer : Result (Output E) RtcError) (q : PolledPeer I D S M N) → PollsPeer m p answer q
-      → Numbers (number_told answer) p.core.channels q.core.channels
+      → ChannelNumbers (number_told answer) p.core.channels q.core.channels
   poll_numbers p answer q h =
       numbers_of (number_told answer) p.core.channels q.core.channels (polls_from_numbered p.core.phase p answer q h)

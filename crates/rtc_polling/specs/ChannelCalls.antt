@@ -53,8 +53,8 @@ abbrev pub SetsThresholdIf : (S : Type 0) → (is_open : Bool) → (stream n : �
 SetsThresholdIf S true stream n p q = SetsThreshold S n (entry_place stream p.entries) p q
 SetsThresholdIf S false stream n p q = q ≡ p
 
-abbrev pub AsksThreshold : {I D S M N : Type 0} → (stream n : ℕ) → PolledPeer I D S M N → PolledPeer I D S M N → Type 0
-AsksThreshold {I} {D} {S} {M} {N} stream n p q =
+abbrev pub SetsChannelThreshold : {I D S M N : Type 0} → (stream n : ℕ) → PolledPeer I D S M N → PolledPeer I D S M N → Type 0
+SetsChannelThreshold {I} {D} {S} {M} {N} stream n p q =
     SetsThresholdIf S (is_open_stream stream p.core.sctp) stream n p.core.sctp q.core.sctp × (q ≡ with_sctp q.core.sctp p)
 
 module _ {I D S M E X T W N : Type 0} (m : Meanings I D S M E X T W N) where

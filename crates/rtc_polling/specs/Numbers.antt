@@ -15,7 +15,7 @@ number_told (Err error) = None
 
 -- The numbers of channels before and after a call that told this one. A number is given, and a row is new, where it is told, if at
 -- all, and each number that is told was given.
-pub record Numbers (told : Option ℕ) (held held' : Channels) : Type 0 where
+pub record ChannelNumbers (told : Option ℕ) (held held' : Channels) : Type 0 where
   pub rises : held.given ≤ held'.given
   pub unless_told : told ≡ None → held'.given ≡ held.given
   pub one_more : held'.given ≤ held.given + 1

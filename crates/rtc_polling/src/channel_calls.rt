@@ -2,7 +2,7 @@
 ghost use Rattle.std.specs.Prelude.{◌≡◌, None, Some, MatchOption, if◌then◌else◌, option_and_then};
 ghost use Rattle.rtc_peer_state.specs.Meanings.{meanings};
 ghost use Rattle.rtc_polling.specs.ChannelCalls.{is_phase_open, stream_under, if_open, open_stream_under, config_under};
-ghost use Rattle.rtc_polling.specs.ChannelCalls.{AsksThreshold, ClosesDataChannel, WritesChannel, write_taken as WriteTaken};
+ghost use Rattle.rtc_polling.specs.ChannelCalls.{SetsChannelThreshold, ClosesDataChannel, WritesChannel, write_taken as WriteTaken};
 
 use crate::PolledPeer;
 use rtc_association::Association;
@@ -86,7 +86,7 @@ impl<I: IceAgent, D: DtlsInstance, S: Association, M: MediaSession, N: Ids> Poll
 
     /// Asks to be told where what the channel of a stream has buffered falls to `n` bytes.
     pub fn set_threshold(&mut self, stream: u16, n: usize)
-        ensures { AsksThreshold stream n self.old self.new }
+        ensures { SetsChannelThreshold stream n self.old self.new }
     {
         if self.core.sctp.is_open(stream) {
             self.core.sctp.set_buffered_amount_low_threshold(stream, n);

@@ -10,7 +10,7 @@ ghost use Rattle.rtc_peer_state.specs.declared.rtc_error.RtcError.TheVariants.{A
 ghost use Rattle.rtc_polling.specs.Closing.{ClosesPeer};
 ghost use Rattle.rtc_polling.specs.Inputs.{HandlesInput};
 ghost use Rattle.rtc_polling.specs.Kept.{KeepsNegotiation};
-ghost use Rattle.rtc_polling.specs.Numbers.{Numbers, number_told};
+ghost use Rattle.rtc_polling.specs.Numbers.{ChannelNumbers, number_told};
 ghost use Rattle.rtc_polling.specs.Walk.{PollsPeer};
 
 use rtc_association::Association;
@@ -76,11 +76,11 @@ pub fn channels_are_numbered<
 >()
     ensures polls { (p q : Polled I D S M N) (answer : _)
         → PollsPeer (meanings I.ice D.dtls S.association M.media N.ids) p answer q
-        → Numbers (number_told answer) p.core.channels q.core.channels }
+        → ChannelNumbers (number_told answer) p.core.channels q.core.channels }
     ensures inputs { (p q : Polled I D S M N) (input : Given) (answer : _)
         → HandlesInput (meanings I.ice D.dtls S.association M.media N.ids) input p answer q
-        → Numbers None p.core.channels q.core.channels }
+        → ChannelNumbers None p.core.channels q.core.channels }
     ensures closes { (p q : Polled I D S M N) (answer : _)
         → ClosesPeer (meanings I.ice D.dtls S.association M.media N.ids) p answer q
-        → Numbers None p.core.channels q.core.channels }
+        → ChannelNumbers None p.core.channels q.core.channels }
 {}

@@ -31,7 +31,7 @@ use Rattle.rtc_peer_state.specs.Meanings.{Meanings}
 use Rattle.rtc_polling.specs.declared.input.Input.{Input}
 use Rattle.rtc_polling.specs.declared.input.Input.TheVariants.{Timeout as TimeCame, Receive as Datagram}
 use Rattle.rtc_polling.specs.declared.polled_peer.PolledPeer.{PolledPeer}
-use Rattle.rtc_polling.specs.ChannelCalls.{AsksThreshold, WritesIf, WritesChannel, write_taken}
+use Rattle.rtc_polling.specs.ChannelCalls.{SetsChannelThreshold, WritesIf, WritesChannel, write_taken}
 use Rattle.rtc_polling.specs.Inputs.{TimesIce, TimesStreams, TimesChannels, TimesMedia, GivesTime, TakesTimeIf, with_moment}
 use Rattle.rtc_polling.specs.Inputs.{HearsStun, HearsDtls, HearsMedia, HearsKind, Hears, Heard, PartFailed, HandlesInputBy, HandlesInputIn, HandlesInput}
 use Rattle.rtc_polling_laws.specs.PeerActs.{Came, nothing_came, came_of_datagram, came_by, moment_given}
@@ -218,7 +218,7 @@ module _ {I D S M E X T W N : Type 0} (m : Meanings I D S M E X T W N) where
       → CallDone m (message_of_write stream (m.association.generation p.core.sctp.association stream) binary bytes r) p q
   write_acts stream binary bytes p r q h = writes_by _ stream binary bytes p r q h
 
-  pub threshold_acts : (stream n : ℕ) (p q : PolledPeer I D S M N) → AsksThreshold stream n p q → CallDone m [] p q
+  pub threshold_acts : (stream n : ℕ) (p q : PolledPeer I D S M N) → SetsChannelThreshold stream n p q → CallDone m [] p q
   threshold_acts stream n p q h =
       call_did m nothing_came [] [] p q (threshold_if m.association (is_open_stream stream p.core.sctp) stream n p.core.sctp q.core.sctp h.0)
       (beside BesideStreams p _ q h.1 (refl, refl, refl, refl))

@@ -7,7 +7,7 @@ ghost use Rattle.rtc_peer_state.specs.Acceptances.{AcceptsAnswer, AcceptsOffer};
 ghost use Rattle.rtc_peer_state.specs.Meanings.{meanings};
 ghost use Rattle.rtc_polling.specs.declared.input.Input.{Input as Given};
 ghost use Rattle.rtc_polling.specs.declared.polled_peer.PolledPeer.{PolledPeer as Polled};
-ghost use Rattle.rtc_polling.specs.ChannelCalls.{AsksThreshold, WritesChannel};
+ghost use Rattle.rtc_polling.specs.ChannelCalls.{SetsChannelThreshold, WritesChannel};
 ghost use Rattle.rtc_polling.specs.Closing.{ClosesPeer};
 ghost use Rattle.rtc_polling.specs.Inputs.{HandlesInput};
 ghost use Rattle.rtc_polling.specs.Walk.{PollsPeer};
@@ -36,7 +36,7 @@ pub fn calls_act<I: IceAgent, D: DtlsInstance, S: Association, M: MediaSession, 
         → WritesChannel (meanings I.ice D.dtls S.association M.media N.ids) stream binary bytes p answer q
         → CallActs (meanings I.ice D.dtls S.association M.media N.ids)
         (message_of_write stream (S.association.generation p.core.sctp.association stream) binary bytes answer) p q }
-    ensures thresholds { (p q : Polled I D S M N) (stream n : ℕ) → AsksThreshold stream n p q
+    ensures thresholds { (p q : Polled I D S M N) (stream n : ℕ) → SetsChannelThreshold stream n p q
         → CallActs (meanings I.ice D.dtls S.association M.media N.ids) [] p q }
 {}
 

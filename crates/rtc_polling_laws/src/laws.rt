@@ -3,7 +3,7 @@ ghost use Rattle.std.specs.Prelude.{ℕ, Bool, List};
 ghost use Rattle.rtc_peer_state.specs.Meanings.{meanings};
 ghost use Rattle.rtc_polling.specs.declared.input.Input.{Input as Given};
 ghost use Rattle.rtc_polling.specs.declared.polled_peer.PolledPeer.{PolledPeer as Polled};
-ghost use Rattle.rtc_polling.specs.ChannelCalls.{AsksThreshold, WritesChannel};
+ghost use Rattle.rtc_polling.specs.ChannelCalls.{SetsChannelThreshold, WritesChannel};
 ghost use Rattle.rtc_polling.specs.Closing.{ClosesPeer};
 ghost use Rattle.rtc_polling.specs.Inputs.{HandlesInput};
 ghost use Rattle.rtc_polling.specs.Walk.{PollsPeer};
@@ -31,6 +31,6 @@ pub fn calls_relay<I: IceAgent, D: DtlsInstance, S: Association, M: MediaSession
     ensures writes { (p q : Polled I D S M N) (stream : ℕ) (binary : Bool) (bytes : List ℕ) (answer : _)
         → WritesChannel (meanings I.ice D.dtls S.association M.media N.ids) stream binary bytes p answer q
         → Relays (meanings I.ice D.dtls S.association M.media N.ids) p q }
-    ensures thresholds { (p q : Polled I D S M N) (stream n : ℕ) → AsksThreshold stream n p q
+    ensures thresholds { (p q : Polled I D S M N) (stream n : ℕ) → SetsChannelThreshold stream n p q
         → Relays (meanings I.ice D.dtls S.association M.media N.ids) p q }
 {}
