@@ -40,7 +40,7 @@ use Rattle.rtc_change.specs.declared.change.Change.TheVariants.{AddMedia, AddCha
 use Rattle.rtc_change.specs.PendingOffer.{PendingOffer, do_offer, new_channels}
 use Rattle.rtc_tables.specs.RowChanges.{RowChange, directed_row, stopped_row, is_changed, changed_of}
 use Rattle.rtc_tables.specs.Table.{row_of}
-use Rattle.rtc_ids.specs.Draws.{Draws, Later}
+use Rattle.rtc_ids.specs.Draws.{Later}
 use Rattle.rtc_peer_state.specs.declared.peer.Peer.{Peer}
 use Rattle.rtc_peer_state.specs.declared.rtc_error.RtcError.{RtcError}
 use Rattle.rtc_peer_state.specs.declared.rtc_error.RtcError.TheVariants.{

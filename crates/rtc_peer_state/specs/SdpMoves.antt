@@ -1,5 +1,5 @@
 -- What the parts of a peer are told of an offer or an answer, and how they follow it.
-use Rattle.std.specs.Prelude.{◌≡◌, ℕ, Bool, List, [], length, take, Option, None, Result, Ok}
+use Rattle.std.specs.Prelude.{ℕ, Bool, List, [], length, take, Option, None, Result, Ok}
 use Rattle.rtc_sdp_values.specs.Sdp.{creds_of, candidates_of, sdp_setup, max_message_size_of}
 use Rattle.rtc_sdp_values.specs.declared.ice_creds.IceCreds.{IceCreds}
 use Rattle.rtc_sdp_values.specs.declared.line_row.LineRow.{LineRow}

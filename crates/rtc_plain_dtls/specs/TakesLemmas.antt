@@ -1,6 +1,7 @@
 -- What packets and time add to the queues of a plain part: what is told of application data came in a packet, and no
 -- application data is sent.
-use Rattle.std.proofs.Common.{ℕ, ◌≡◌, ◌≤◌, ◌+◌, Bool, true, false, inl, inr, List, [], ◌∷◌, ◌++◌, length, refl, sym, ap, arith, append-nil, length-append}
+use Rattle.std.proofs.Common.{ℕ, ◌≡◌, ◌≤◌, ◌+◌, Bool, true, false, inl, inr, List, [], ◌∷◌, ◌++◌, length}
+use Rattle.std.proofs.Common.{refl, sym, ap, arith, append-nil, length-append}
 use Rattle.rtc_parts_values.specs.Among.{Member}
 use Rattle.rtc_plain_dtls.specs.declared.output.Output.{Output}
 use Rattle.rtc_plain_dtls.specs.declared.output.Output.TheVariants.{PeerCert, Keying, Connected, Data, Close}
@@ -15,7 +16,7 @@ use Rattle.rtc_plain_dtls.specs.declared.phase.Phase.TheVariants.{
   FinishedPassive,
 }
 use Rattle.rtc_plain_dtls.specs.Frames as said
-use Rattle.rtc_plain_dtls.specs.Frames.{DtlsFrame, hello_packet, certificate_packet, finish_packet}
+use Rattle.rtc_plain_dtls.specs.Frames.{DtlsFrame, certificate_packet, finish_packet}
 use Rattle.rtc_plain_dtls.specs.Contents.{DtlsContents}
 use Rattle.rtc_plain_dtls.specs.Calls.{
   went_on,

@@ -116,8 +116,10 @@ pub data MediaEffect (p q : MediaContents) : Type 0 where
 lent_effect : (p q : MediaContents) → LendsMedia plain_media_meaning p q → KeepsMedia p q
 lent_effect p q (WriterLent mid lent left h) =
     keeps_by p _ q (record { lines = λ m. update-writer_marked m mid left p.lines; pending = refl; begins = λ b. b }) h.1
-lent_effect p q (RxExpected ssrc rtx mid rid lent left h) = keeps_by p _ q (record { lines = λ m. refl; pending = refl; begins = λ b. b }) h.1
-lent_effect p q (TxDeclared ssrc rtx mid rid lent left h) = keeps_by p _ q (record { lines = λ m. refl; pending = refl; begins = λ b. b }) h.1
+lent_effect p q (RxExpected ssrc rtx mid rid lent left h) =
+    keeps_by p _ q (record { lines = λ m. refl; pending = refl; begins = λ b. b }) h.1
+lent_effect p q (TxDeclared ssrc rtx mid rid lent left h) =
+    keeps_by p _ q (record { lines = λ m. refl; pending = refl; begins = λ b. b }) h.1
 lent_effect p q (RxLent ssrc lent left h) = keeps_by p _ q (record { lines = λ m. refl; pending = refl; begins = λ b. b }) h.1
 lent_effect p q (TxLent ssrc lent left h) = keeps_by p _ q (record { lines = λ m. refl; pending = refl; begins = λ b. b }) h.1
 lent_effect p q (RxNamedLent mid rid lent left h) = keeps_by p _ q (record { lines = λ m. refl; pending = refl; begins = λ b. b }) h.1

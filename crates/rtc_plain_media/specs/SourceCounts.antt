@@ -1,5 +1,6 @@
 -- How often each ssrc stands among the sources of lines, so that one in use is found without a walk over the lines.
-use Rattle.std.specs.Prelude.{◌≡◌, ◌==◌, ◌+◌, ◌*◌, ◌^◌, ◌≤◌, ◌<◌, nat_eq, filter, ℕ, Bool, List, [], ◌∷◌, Option, Some, None, length, if◌then◌else◌}
+use Rattle.std.specs.Prelude.{◌≡◌, ◌==◌, ◌+◌, ◌*◌, ◌^◌, ◌≤◌, ◌<◌, nat_eq, filter, ℕ, Bool}
+use Rattle.std.specs.Prelude.{List, [], ◌∷◌, Option, Some, None, length, if◌then◌else◌}
 use Rattle.std.specs.Map.{count_at}
 use Rattle.indexmap.specs.IndexMap.{IndexMap, get, spare}
 use Rattle.rtc_sdp_values.specs.declared.ssrc.Ssrc.{Ssrc}
