@@ -11,9 +11,9 @@ use Rattle.rtc_association.specs.AssociationLaws.{AssociationLaws}
 use Rattle.rtc_association.specs.AssociationMeaning.{AssociationMeaning}
 use Rattle.rtc_association.specs.AssociationNeeds.{Answered, closing_need}
 use Rattle.rtc_sctp_entries.specs.declared.sctp_event.SctpEvent.{SctpEvent}
-use Rattle.rtc_sctp.specs.declared.proto_error.ProtoError.TheVariants as proto
-use Rattle.rtc_sctp.specs.declared.sctp_error.SctpError.{SctpError}
-use Rattle.rtc_sctp.specs.declared.sctp_error.SctpError.TheVariants as sctp
+use Rattle.rtc_sctp_values.specs.declared.proto_error.ProtoError.TheVariants as proto
+use Rattle.rtc_sctp_values.specs.declared.sctp_error.SctpError.{SctpError}
+use Rattle.rtc_sctp_values.specs.declared.sctp_error.SctpError.TheVariants as sctp
 use Rattle.rtc_sctp.specs.Calls.{Shuts, ShutBy, TakesInput, is_ended}
 use Rattle.rtc_sctp.specs.Polls.{PollsStreams}
 use Rattle.rtc_sctp.specs.Streams.{SctpStreams}

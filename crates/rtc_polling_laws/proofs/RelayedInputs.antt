@@ -11,7 +11,7 @@ use Rattle.rtc_dtls.specs.DtlsActs.{Given, dtls_moved-one}
 use Rattle.rtc_dtls.specs.DtlsState.{DtlsState, HandsOn}
 use Rattle.rtc_ready.specs.Signals.{Signals, both}
 use Rattle.rtc_sctp_entries.specs.Entries.{entry_place}
-use Rattle.rtc_sctp.specs.declared.sctp_error.SctpError.{SctpError}
+use Rattle.rtc_sctp_values.specs.declared.sctp_error.SctpError.{SctpError}
 use Rattle.rtc_sctp.specs.Streams.{SctpStreams}
 use Rattle.rtc_sctp.specs.Calls.{is_open_stream}
 use Rattle.rtc_sctp.specs.StreamCalls.{SetsThreshold}
