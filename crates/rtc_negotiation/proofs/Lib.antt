@@ -1,10 +1,7 @@
 pub mod Counts
 pub mod ConfirmLemmas
-pub mod ShownLemmas
 pub mod FollowLemmas
-pub mod StagedMedia
 pub mod MediaLemmas
-pub mod BuildLemmas
 pub mod GrowthLemmas
 pub mod MoveLemmas
 pub mod AcceptanceLemmas

@@ -1,4 +1,2 @@
-pub mod ShownChannels
 pub mod Growths
 pub mod Moves
-pub mod StagedNames

@@ -26,12 +26,13 @@ use rtc_lines::{
     Candidate, Direction, IceCreds, LineRow, MediaKind, Mid, SdpAnswer, SdpOffer, Simulcast,
 };
 use rtc_media::MediaSession;
-use rtc_negotiation::{
-    accept_answer, accept_offer, apply_staged, build_peer, list_channels, set_direction,
-    show_channel, stage_channel, stage_media, stage_restart, stop_media,
-};
+use rtc_negotiation::{accept_answer, accept_offer, apply_staged};
 use rtc_peer_state::{Phase, RtcConfig, RtcError};
 use rtc_polling::{PolledPeer, Transport};
+use rtc_staging::{
+    build_peer, list_channels, set_direction, show_channel, stage_channel, stage_media,
+    stage_restart, stop_media,
+};
 use rtc_wire::{ChannelConfig, ChannelId, Moment, Seq, Text};
 use std::alloc::{AllocError, Global};
 use std::marker::Model;

@@ -38,7 +38,7 @@ use Rattle.rtc_polling_laws.proofs.StreamCallActs.{call_none}
 use Rattle.rtc_polling_laws.proofs.FollowedParts.{AgentTold, agent_none, follows_told, stops_told, ConnectionTold, connection_none, starts_told, started_told}
 use Rattle.rtc_polling_laws.proofs.FollowedParts.{MediaTold, media_none, media_prepared, media_updated}
 
-nil_among : {A : Type 0} (l k : List A) → l ≡ [] → Among l k
+pub nil_among : {A : Type 0} (l k : List A) → l ≡ [] → Among l k
 nil_among {A} l k is = subst (λ (x : List A). Among x k) (sym is) (among_none k)
 
 module _ {I D S M E X T W N : Type 0} (m : Meanings I D S M E X T W N) where

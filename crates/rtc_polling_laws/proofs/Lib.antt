@@ -26,3 +26,4 @@ pub mod HeardStreams
 pub mod HeardPolls
 pub mod FollowedParts
 pub mod ActedAcceptances
+pub mod ActedCandidates

@@ -107,3 +107,7 @@ NegotiationActs m p q = PeerDid m begun_here (p.core.greatest ∷ []) [] [] [] p
 -- the peer with another core
 abbrev pub with_core : {I D S M N : Type 0} → Peer I D S M N → PolledPeer I D S M N → PolledPeer I D S M N
 with_core core p = record p { core = core }
+
+-- the peer with another agent
+abbrev pub with_agent : {I D S M N : Type 0} → I → PolledPeer I D S M N → PolledPeer I D S M N
+with_agent ice p = record p { core = record p.core { ice = ice } }

@@ -1,5 +1,6 @@
 //! What each call does to the parts of a peer, as lists of acts.
 ghost use Rattle.std.specs.Prelude.{ℕ, Bool, List, []};
+ghost use Rattle.rtc_sdp_values.specs.declared.candidate.Candidate.{Candidate as Reachable};
 ghost use Rattle.rtc_sdp_values.specs.declared.sdp.Sdp.{Sdp as Description};
 ghost use Rattle.rtc_change.specs.PendingOffer.{PendingOffer};
 ghost use Rattle.rtc_peer_state.specs.declared.peer.Peer.{Peer};
@@ -11,7 +12,7 @@ ghost use Rattle.rtc_polling.specs.ChannelCalls.{SetsChannelThreshold, WritesCha
 ghost use Rattle.rtc_polling.specs.Closing.{ClosesPeer};
 ghost use Rattle.rtc_polling.specs.Inputs.{HandlesInput};
 ghost use Rattle.rtc_polling.specs.Walk.{PollsPeer};
-ghost use Rattle.rtc_polling_laws.specs.Acts.{CallActs, InputActs, NegotiationActs, PollActs, message_of_write, with_core};
+ghost use Rattle.rtc_polling_laws.specs.Acts.{CallActs, InputActs, NegotiationActs, PollActs, message_of_write, with_agent, with_core};
 
 use rtc_association::Association;
 use rtc_dtls::DtlsInstance;
@@ -49,4 +50,15 @@ pub fn acceptances_act<I: IceAgent, D: DtlsInstance, S: Association, M: MediaSes
     ensures answers { (p : Polled I D S M N) (core : Peer I D S M N) (token : PendingOffer) (description : Description) (answer : _)
         → AcceptsAnswer (meanings I.ice D.dtls S.association M.media N.ids) p.core token description answer core
         → NegotiationActs (meanings I.ice D.dtls S.association M.media N.ids) p (with_core core p) }
+{}
+
+/// A candidate that is added, of this side or of the other one, is one act of the agent: it is given no message and no moment, and
+/// the other parts are as they were.
+pub fn candidates_act<I: IceAgent, D: DtlsInstance, S: Association, M: MediaSession, N: Ids>()
+    ensures own { (p : Polled I D S M N) (ice : I) (candidate : Reachable) (answer : _)
+        → I.ice.local_added p.core.ice candidate answer ice
+        → CallActs (meanings I.ice D.dtls S.association M.media N.ids) [] p (with_agent ice p) }
+    ensures others { (p : Polled I D S M N) (ice : I) (candidate : Reachable) (answer : _)
+        → I.ice.remote_added p.core.ice candidate answer ice
+        → CallActs (meanings I.ice D.dtls S.association M.media N.ids) [] p (with_agent ice p) }
 {}

@@ -5,6 +5,6 @@ mod acts;
 mod drained;
 mod laws;
 
-pub use acts::{acceptances_act, calls_act};
+pub use acts::{acceptances_act, calls_act, candidates_act};
 pub use drained::{drained_peers_have_heard, drained_peers_rest, wakes_are_not_past};
 pub use laws::calls_relay;

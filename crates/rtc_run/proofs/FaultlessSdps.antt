@@ -10,12 +10,11 @@ use Rattle.rtc_peer_state.specs.declared.rtc_error.RtcError.TheVariants.{Net, Me
 use Rattle.rtc_peer_state.specs.declared.rtc_error.RtcError.TheVariants.{RemoteSdp, Sdp as SdpRefused, Dtls, Sctp, ChangesOutOfOrder, BadChannel, Alloc as PeerAlloc}
 use Rattle.rtc_dtls.specs.declared.dtls_error.DtlsError.TheVariants.{WouldBlock, Fault, Alloc as DtlsAlloc}
 use Rattle.rtc_history.specs.declared.side.Side.{Side}
-use Rattle.rtc_history.specs.declared.step.Step.TheVariants.{AcceptOffer, AcceptAnswer}
 use Rattle.rtc_history.specs.declared.outcome.Outcome.{Outcome}
 use Rattle.rtc_history.specs.declared.outcome.Outcome.TheVariants.{Negotiated, Answered, Finished, Done, Wrote, Polled, Refused, NoSuch, Alloc}
 use Rattle.rtc_history.specs.declared.table.Table.{Table}
-use Rattle.rtc_history.specs.Past.{Entry, MadeSdp, sdps, remote_sdp, holds_token, is_right}
-use Rattle.rtc_history.specs.Sound.{IsSound, RepliesToOffer, RepliesToAnswer, asked_in}
+use Rattle.rtc_history.specs.Past.{Entry, sdps, remote_sdp, holds_token, is_right}
+use Rattle.rtc_history.specs.Sound.{RepliesToOffer, RepliesToAnswer, asked_in}
 use Rattle.rtc_history.specs.Views.{Stances, view_in}
 use Rattle.rtc_peer_state.specs.Stance.{held_by}
 use Rattle.rtc_run.specs.Completeness.{SucceedsOrFails, IsFaultlessOffer, IsFaultlessAnswer, FaultlessOffersPass, FaultlessAnswersPass}

@@ -12,4 +12,4 @@ pub mod PlainFaults
 pub mod Drained
 pub mod PollsKeep
 pub mod Answered
-pub mod OpenChannels
+pub mod AnsweredWrites

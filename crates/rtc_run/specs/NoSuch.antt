@@ -1,5 +1,5 @@
 -- The reply where there is no such thing: the table is told, or there is no memory.
-use Rattle.std.specs.Prelude.{◌≡◌, Option, Some, None}
+use Rattle.std.specs.Prelude.{Option, Some, None}
 use Rattle.rtc_peer_state.specs.declared.peer.Peer.{Peer}
 use Rattle.rtc_peer_state.specs.Meanings.{Meanings}
 use Rattle.rtc_history.specs.declared.outcome.Outcome.{Outcome}

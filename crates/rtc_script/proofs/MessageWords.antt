@@ -21,7 +21,7 @@ pub writes : List ℕ → Bool
 writes verb = eqb (get_or verb 0 0) 119
 
 -- the bytes of the message of a step
-pub bytes_of : Step → List ℕ
+unfoldable pub bytes_of : Step → List ℕ
 bytes_of (Negotiate at ops apply) = []
 bytes_of (AcceptOffer at offer) = []
 bytes_of (AcceptAnswer at token answer) = []

@@ -1,7 +1,7 @@
 use Rattle.std.proofs.Common.{◌∙◌}
 use Rattle.rtc_peer_state.specs.Meanings.{meanings}
 use Rattle.rtc_polling.specs.ChannelCalls.{open_stream_under}
-use Rattle.rtc_run.proofs.OpenChannels.{answered_write, no_room_to_write}
+use Rattle.rtc_run.proofs.AnsweredWrites.{answered_write, no_room_to_write}
 use Rattle.rtc_run.proofs.channels.write_message.Goals as goal
 
 pub returns-in_default : goal.returns-in_default

@@ -9,7 +9,7 @@ use Rattle.rtc_peer_state.specs.Calls.{AddsMedia, Wanted, uses_source}
 use Rattle.rtc_peer_state.specs.Meanings.{Meanings}
 use Rattle.rtc_peer_state.specs.Names.{is_held, next_mid}
 use Rattle.rtc_peer_state.specs.Sources.{next_pairs, after_pairs, pair_count}
-use Rattle.rtc_negotiation.specs.StagedNames.{drawn_stream, drawn_track, after_names}
+use Rattle.rtc_staging.specs.StagedNames.{drawn_stream, drawn_track, after_names}
 
 pub staged_stands : {I D S M E X T W N : Type 0} (m : Meanings I D S M E X T W N) (p : Peer I D S M N) (wanted : Wanted) (lines : List LineRow) (staged : List Change)
     (drawn last : N) (mid : List ℕ) (media : Media) → lines ≡ p.lines → mid ≡ next_mid m.ids lines p.staged p.ids → is_held lines p.staged mid ≡ false

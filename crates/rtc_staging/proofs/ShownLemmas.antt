@@ -7,7 +7,7 @@ use Rattle.rtc_sctp.specs.Streams.{SctpStreams}
 use Rattle.rtc_channels.specs.declared.channel_row.ChannelRow.{ChannelRow}
 use Rattle.rtc_channels.specs.Channels.{Channel, numbered_stream}
 use Rattle.rtc_peer_state.specs.ChannelRows.{channel_row}
-use Rattle.rtc_negotiation.specs.ShownChannels.{numbered_row}
+use Rattle.rtc_staging.specs.ShownChannels.{numbered_row}
 
 pub shown_rows : {S : Type 0} (m : AssociationMeaning S) (p : SctpStreams S) (rows : List Channel) → map (numbered_row m p) (map numbered_stream rows) ≡ map (channel_row m p) rows
 shown_rows m p [] = refl

@@ -2,7 +2,7 @@
 ghost use Rattle.std.specs.Prelude.{◌≡◌, IfOk, OnOk};
 ghost use Rattle.rtc_ids.specs.Draws.{Later};
 ghost use Rattle.rtc_peer_state.specs.Sources.{has_source, after_pairs, pair_count};
-ghost use Rattle.rtc_negotiation.specs.StagedNames.{given_name, drawn_msid, drawn_media, after_names};
+ghost use Rattle.rtc_staging.specs.StagedNames.{given_name, drawn_msid, drawn_media, after_names};
 ghost use Rattle.rtc_peer_state.specs.Calls.{AddsMedia, AddsChannel, StagesRestart};
 ghost use Rattle.rtc_peer_state.specs.Meanings.{meanings};
 

@@ -5,7 +5,7 @@ ghost use Rattle.rtc_peer_state.specs.ChannelRows.{
   is_open_over as IsOpenOver,
   channel_rows,
 };
-ghost use Rattle.rtc_negotiation.specs.ShownChannels.{numbered_row};
+ghost use Rattle.rtc_staging.specs.ShownChannels.{numbered_row};
 
 use rtc_association::Association;
 use rtc_channels::ChannelRow;

@@ -1,6 +1,6 @@
 use Rattle.rtc_peer_state.specs.Meanings.{meanings}
-use Rattle.rtc_negotiation.proofs.BuildLemmas.{peer_built}
-use Rattle.rtc_negotiation.proofs.building.build_peer.Goals as goal
+use Rattle.rtc_staging.proofs.BuildLemmas.{peer_built}
+use Rattle.rtc_staging.proofs.building.build_peer.Goals as goal
 
 pub returns : goal.returns
 returns g c =

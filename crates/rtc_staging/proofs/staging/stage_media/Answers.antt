@@ -1,7 +1,7 @@
 use Rattle.rtc_peer_state.specs.Meanings.{meanings}
-use Rattle.rtc_negotiation.specs.StagedNames.{given_name}
-use Rattle.rtc_negotiation.proofs.StagedMedia.{staged_stands}
-use Rattle.rtc_negotiation.proofs.staging.stage_media.Goals as goal
+use Rattle.rtc_staging.specs.StagedNames.{given_name}
+use Rattle.rtc_staging.proofs.StagedMedia.{staged_stands}
+use Rattle.rtc_staging.proofs.staging.stage_media.Goals as goal
 
 pub returns : goal.returns
 returns g c =

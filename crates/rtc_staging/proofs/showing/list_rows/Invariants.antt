@@ -1,6 +1,6 @@
 use Rattle.std.proofs.Common.{◌≡◌, ◌++◌, drop, map}
-use Rattle.rtc_negotiation.specs.ShownChannels.{numbered_row}
-use Rattle.rtc_negotiation.proofs.showing.list_rows.Given as goal
+use Rattle.rtc_staging.specs.ShownChannels.{numbered_row}
+use Rattle.rtc_staging.proofs.showing.list_rows.Given as goal
 
 -- the rows so far, and those of what is left
 abbrev pub invariant-loop-row : goal.invariant-loop-row

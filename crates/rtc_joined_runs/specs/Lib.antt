@@ -1,0 +1,3 @@
+pub mod SentContents
+pub mod PlainPairs
+pub mod NewPairs

@@ -1,0 +1,51 @@
+-- Pairs of peers over plain parts, and what was done to these since they were fresh.
+use Rattle.rtc_plain_ice.specs.Contents.{IceContents}
+use Rattle.rtc_plain_ice.specs.PlainMeaning.{plain_ice}
+use Rattle.rtc_plain_dtls.specs.Contents.{DtlsContents}
+use Rattle.rtc_plain_dtls.specs.PlainMeaning.{plain_dtls}
+use Rattle.rtc_assoc_state.specs.Contents.{Contents}
+use Rattle.rtc_assoc_state.specs.PlainMeaning.{plain_meaning}
+use Rattle.rtc_plain_media.specs.MediaContents.{MediaContents}
+use Rattle.rtc_plain_media.specs.PlainMediaMeaning.{plain_media_meaning}
+use Rattle.rtc_plain_media.specs.declared.plain_media_event.PlainMediaEvent.{PlainMediaEvent}
+use Rattle.rtc_plain_media.specs.declared.plain_mark.PlainMark.{PlainMark}
+use Rattle.rtc_ids.specs.Draws.{Draws}
+use Rattle.rtc_peer_state.specs.Meanings.{Meanings, meanings}
+use Rattle.rtc_polling.specs.declared.polled_peer.PolledPeer.{PolledPeer}
+use Rattle.rtc_polling_laws.specs.PeerActs.{PeerActs}
+use Rattle.rtc_joined_peers.specs.Exchanging.{PeersExchange}
+use Rattle.rtc_history.specs.declared.side.Side.{Side}
+use Rattle.rtc_history.specs.declared.side.Side.TheVariants.{Left, Right}
+use Rattle.rtc_history.specs.PairState.{PairState}
+use Rattle.rtc_joined_runs.specs.SentContents.{contents_sent}
+
+-- plain parts with a source of numbers
+abbrev pub plain_over : {N : Type 0} → Draws N
+    → Meanings IceContents DtlsContents Contents MediaContents PlainMediaEvent PlainMark PlainMark PlainMark N
+plain_over draws = meanings plain_ice plain_dtls plain_meaning plain_media_meaning draws
+
+abbrev pub PlainPolled : Type 0 → Type 0
+PlainPolled N = PolledPeer IceContents DtlsContents Contents MediaContents N
+
+abbrev pub PlainPair : Type 0 → Type 0
+PlainPair N = PairState IceContents DtlsContents Contents MediaContents N
+
+-- what was done to the parts of both peers since they were fresh
+pub record PairActs : Type 0 where
+  pub left : PeerActs
+  pub right : PeerActs
+
+abbrev pub acts_at : Side → PairActs → PeerActs
+acts_at Left acts = acts.left
+acts_at Right acts = acts.right
+
+-- Since their parts were fresh, these acts were done to the peers of a pair, and what each showed are the datagrams that the pair keeps as
+-- sent by it. The two are joined.
+abbrev pub PairExchanges : {N : Type 0} → PairActs → PlainPair N → Type 0
+PairExchanges acts pair =
+    PeersExchange acts.left (contents_sent Left pair.packets) pair.left acts.right (contents_sent Right pair.packets) pair.right
+
+-- there are such acts
+pub record HasExchanged {N : Type 0} (pair : PlainPair N) : Type 0 where
+  pub acts : PairActs
+  pub exchange : PairExchanges acts pair

@@ -1,0 +1,2 @@
+pub mod ShownChannels
+pub mod StagedNames
