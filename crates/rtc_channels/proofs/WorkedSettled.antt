@@ -1,5 +1,5 @@
 -- Streams that both ends settled, and those that ask for them, computed.
-use Rattle.std.proofs.Common.{◌≡◌, true, false, Option, Some, None, refl}
+use Rattle.std.proofs.Common.{◌≡◌, true, false, Some, refl}
 use Rattle.rtc_wire.specs.declared.channel_config.ChannelConfig.{ChannelConfig}
 use Rattle.rtc_wire.specs.ChannelConfig.{fresh}
 use Rattle.rtc_channels.specs.Channels.{Channels, no_channels, with_channel, is_bad_channel}
