@@ -94,6 +94,7 @@ is_media_part MediaPart = true
 -- whether the association failed, and did not just refuse what a stream was asked
 abbrev pub is_proto_fault : ProtoError → Bool
 is_proto_fault proto.Started = false
+is_proto_fault proto.SnapHalf = false
 is_proto_fault (proto.TooLong len max) = false
 is_proto_fault (proto.NoStream id) = false
 is_proto_fault proto.Fault = true
@@ -104,6 +105,7 @@ is_sctp_fault sctp.WriteBeforeEstablished = false
 is_sctp_fault sctp.DcepOpenTooSmall = false
 is_sctp_fault sctp.DcepIncorrectMessageType = false
 is_sctp_fault sctp.DcepBadUtf8 = false
+is_sctp_fault sctp.InvalidSnap = false
 is_sctp_fault sctp.Alloc = false
 
 -- whether an error tells that this part failed

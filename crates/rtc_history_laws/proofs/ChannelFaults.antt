@@ -44,6 +44,7 @@ module _ {I D S M E X T W N : Type 0} (m : Meanings I D S M E X T W N) (laws : P
   taken_counts stream binary bytes p (Err sctp.DcepOpenTooSmall) q h is = refused_counts stream binary bytes p sctp.DcepOpenTooSmall q h is
   taken_counts stream binary bytes p (Err sctp.DcepIncorrectMessageType) q h is = refused_counts stream binary bytes p sctp.DcepIncorrectMessageType q h is
   taken_counts stream binary bytes p (Err sctp.DcepBadUtf8) q h is = refused_counts stream binary bytes p sctp.DcepBadUtf8 q h is
+  taken_counts stream binary bytes p (Err sctp.InvalidSnap) q h is = refused_counts stream binary bytes p sctp.InvalidSnap q h is
   taken_counts stream binary bytes p (Err sctp.Alloc) q h is = quiet_write stream binary bytes p (Err sctp.Alloc) q (answer_tells {A = Bool} (Err PeerAlloc)) (λ part. refl) h is
 
   written_counts : (full : Bool) (stream : ℕ) (binary : Bool) (bytes : List ℕ) (p : PolledPeer I D S M N) (r : Result Bool RtcError) (q : PolledPeer I D S M N)

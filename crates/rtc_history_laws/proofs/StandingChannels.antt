@@ -35,6 +35,7 @@ taken_of_write (Err sctp.WriteBeforeEstablished) = refl
 taken_of_write (Err sctp.DcepOpenTooSmall) = refl
 taken_of_write (Err sctp.DcepIncorrectMessageType) = refl
 taken_of_write (Err sctp.DcepBadUtf8) = refl
+taken_of_write (Err sctp.InvalidSnap) = refl
 taken_of_write (Err sctp.Alloc) = refl
 
 module _ {I D S M E X T W N : Type 0} (m : Meanings I D S M E X T W N) (laws : PartsLaws m) where

@@ -162,7 +162,7 @@ module _ {D : Type 0} (m : DtlsMeaning D) where
 pub started_told : {S : Type 0} (m : AssociationMeaning S) (b client : Bool) (now max : ℕ) (p : SctpStreams S) (r : Result (Unit {0}) SctpError)
     (q : SctpStreams S) → StartsWhere m b p client now max r q → CallDid m [] [] p q
 started_told m false client now max p r q h = call_none m p q h.1
-started_told m true client now max p r q h = inits_did m client now max p r q h
+started_told m true client now max p r q h = inits_did m client now max None p r q h
 
 -- the media part was told something
 pub record MediaTold {M E X T W : Type 0} (m : MediaMeaning M E X T W) (a b : M) : Type 0 where
