@@ -10,3 +10,4 @@ pub mod GivingLemmas
 pub mod OpeningLemmas
 pub mod UnheldLemmas
 pub mod WorkedHolds
+pub mod WorkedSettled

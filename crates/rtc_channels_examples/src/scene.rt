@@ -33,7 +33,7 @@ impl Scene {
 
     /// Starts the association.
     pub fn start(&mut self, client: bool) -> Result<(), SctpError> {
-        self.sctp.init(client, Moment::FAR_PAST, None)
+        self.sctp.init(client, Moment::FAR_PAST, None, None)
     }
 
     /// Makes a channel and confirms it.

@@ -21,7 +21,7 @@ fn start_streams<S: Association>(
     if sctp.is_inited() {
         return Ok(());
     }
-    match sctp.init(client, now, None) {
+    match sctp.init(client, now, None, None) {
         Ok(()) => Ok(()),
         Err(error) => Err(error),
     }

@@ -1,10 +1,10 @@
 -- Which replies tell that memory ran out, and which that a part failed.
 use Rattle.std.specs.Prelude.{Bool, true, false, ◌&&◌, ◌||◌, List}
 use Rattle.std.specs.List.{list_any}
-use Rattle.rtc_sctp.specs.declared.proto_error.ProtoError.{ProtoError}
-use Rattle.rtc_sctp.specs.declared.proto_error.ProtoError.TheVariants as proto
-use Rattle.rtc_sctp.specs.declared.sctp_error.SctpError.{SctpError}
-use Rattle.rtc_sctp.specs.declared.sctp_error.SctpError.TheVariants as sctp
+use Rattle.rtc_sctp_values.specs.declared.proto_error.ProtoError.{ProtoError}
+use Rattle.rtc_sctp_values.specs.declared.proto_error.ProtoError.TheVariants as proto
+use Rattle.rtc_sctp_values.specs.declared.sctp_error.SctpError.{SctpError}
+use Rattle.rtc_sctp_values.specs.declared.sctp_error.SctpError.TheVariants as sctp
 use Rattle.rtc_peer_state.specs.declared.rtc_error.RtcError.{RtcError}
 use Rattle.rtc_peer_state.specs.declared.rtc_error.RtcError.TheVariants.{Net, Media as MediaFailed}
 use Rattle.rtc_peer_state.specs.declared.rtc_error.RtcError.TheVariants.{RemoteSdp, Sdp, Dtls, Sctp, ChangesOutOfOrder, BadChannel}
@@ -94,6 +94,7 @@ is_media_part MediaPart = true
 -- whether the association failed, and did not just refuse what a stream was asked
 abbrev pub is_proto_fault : ProtoError → Bool
 is_proto_fault proto.Started = false
+is_proto_fault proto.SnapHalf = false
 is_proto_fault (proto.TooLong len max) = false
 is_proto_fault (proto.NoStream id) = false
 is_proto_fault proto.Fault = true
@@ -104,6 +105,7 @@ is_sctp_fault sctp.WriteBeforeEstablished = false
 is_sctp_fault sctp.DcepOpenTooSmall = false
 is_sctp_fault sctp.DcepIncorrectMessageType = false
 is_sctp_fault sctp.DcepBadUtf8 = false
+is_sctp_fault sctp.InvalidSnap = false
 is_sctp_fault sctp.Alloc = false
 
 -- whether an error tells that this part failed

@@ -1,8 +1,8 @@
 -- What writes to channels and closes of them do to the counts of faults of the peer that acts: none falls, and a write tells a fault only
 -- where that of the association rose.
 use Rattle.std.proofs.Common.{◌≡◌, ℕ, Bool, true, false, nat_lt, List, length, Option, Some, None, Result, Ok, Err, alloc_error, refl, sym, ap, subst}
-use Rattle.rtc_sctp.specs.declared.sctp_error.SctpError.{SctpError}
-use Rattle.rtc_sctp.specs.declared.sctp_error.SctpError.TheVariants as sctp
+use Rattle.rtc_sctp_values.specs.declared.sctp_error.SctpError.{SctpError}
+use Rattle.rtc_sctp_values.specs.declared.sctp_error.SctpError.TheVariants as sctp
 use Rattle.rtc_sctp.specs.Calls.{WritesStream}
 use Rattle.rtc_peer_state.specs.declared.rtc_error.RtcError.{RtcError}
 use Rattle.rtc_peer_state.specs.declared.rtc_error.RtcError.TheVariants.{Sctp, Alloc as PeerAlloc}
@@ -44,6 +44,7 @@ module _ {I D S M E X T W N : Type 0} (m : Meanings I D S M E X T W N) (laws : P
   taken_counts stream binary bytes p (Err sctp.DcepOpenTooSmall) q h is = refused_counts stream binary bytes p sctp.DcepOpenTooSmall q h is
   taken_counts stream binary bytes p (Err sctp.DcepIncorrectMessageType) q h is = refused_counts stream binary bytes p sctp.DcepIncorrectMessageType q h is
   taken_counts stream binary bytes p (Err sctp.DcepBadUtf8) q h is = refused_counts stream binary bytes p sctp.DcepBadUtf8 q h is
+  taken_counts stream binary bytes p (Err sctp.InvalidSnap) q h is = refused_counts stream binary bytes p sctp.InvalidSnap q h is
   taken_counts stream binary bytes p (Err sctp.Alloc) q h is = quiet_write stream binary bytes p (Err sctp.Alloc) q (answer_tells {A = Bool} (Err PeerAlloc)) (λ part. refl) h is
 
   written_counts : (full : Bool) (stream : ℕ) (binary : Bool) (bytes : List ℕ) (p : PolledPeer I D S M N) (r : Result Bool RtcError) (q : PolledPeer I D S M N)

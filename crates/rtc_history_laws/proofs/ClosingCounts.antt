@@ -4,8 +4,8 @@ use Rattle.std.proofs.Common.{◌≡◌, false, Result, Ok, Err, alloc_error, re
 use Rattle.rtc_parts_values.specs.Why.{Shut}
 use Rattle.rtc_dtls.specs.declared.dtls_error.DtlsError.TheVariants.{Fault, Alloc as DtlsAlloc}
 use Rattle.rtc_media.specs.MediaActs.{MediaStirred}
-use Rattle.rtc_sctp.specs.declared.proto_error.ProtoError.TheVariants as proto
-use Rattle.rtc_sctp.specs.declared.sctp_error.SctpError.TheVariants as sctp
+use Rattle.rtc_sctp_values.specs.declared.proto_error.ProtoError.TheVariants as proto
+use Rattle.rtc_sctp_values.specs.declared.sctp_error.SctpError.TheVariants as sctp
 use Rattle.rtc_peer_state.specs.declared.phase.Phase.{Phase}
 use Rattle.rtc_peer_state.specs.declared.phase.Phase.TheVariants.{Alive, Closing, Closed}
 use Rattle.rtc_peer_state.specs.declared.rtc_error.RtcError.{RtcError}

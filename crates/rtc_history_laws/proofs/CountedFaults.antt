@@ -21,9 +21,9 @@ use Rattle.rtc_sctp_entries.specs.Answers.{asked_of}
 use Rattle.rtc_sctp_entries.specs.Part.{StartedAs}
 use Rattle.rtc_sctp.specs.Calls.{Inits}
 use Rattle.rtc_sctp.specs.Streams.{SctpStreams}
-use Rattle.rtc_sctp.specs.declared.proto_error.ProtoError.TheVariants as proto
-use Rattle.rtc_sctp.specs.declared.sctp_error.SctpError.{SctpError}
-use Rattle.rtc_sctp.specs.declared.sctp_error.SctpError.TheVariants as sctp
+use Rattle.rtc_sctp_values.specs.declared.proto_error.ProtoError.TheVariants as proto
+use Rattle.rtc_sctp_values.specs.declared.sctp_error.SctpError.{SctpError}
+use Rattle.rtc_sctp_values.specs.declared.sctp_error.SctpError.TheVariants as sctp
 use Rattle.rtc_peer_state.specs.PartMoves.{begun_answer, BeginsHandshake, BeginsTimed, TakesRole, StartsDtls}
 use Rattle.rtc_history.specs.Memory.{CountedPart, DtlsPart, AssociationPart, MediaPart}
 use Rattle.rtc_peer_state.specs.PartMoves.{needs_start, StartsWhere, StartsSctp}
@@ -133,10 +133,11 @@ module _ {S : Type 0} (association : AssociationMeaning S) (laws : AssociationLa
   same_association p q same =
       let e : association.faults q.association ≡ association.faults p.association = ap (λ (s : SctpStreams S). association.faults s.association) same in omega arith
 
-  inits_later : (client : Bool) (now max : ℕ) (p : SctpStreams S) (r : Result (Unit {0}) SctpError) (q : SctpStreams S) → Inits association client now max p r q
+  inits_later : (client : Bool) (now max : ℕ) (p : SctpStreams S) (r : Result (Unit {0}) SctpError) (q : SctpStreams S) → Inits association client now max None p r q
       → association.faults p.association ≤ association.faults q.association
   inits_later client now max p (Ok done) q h = started_later client p.association q.association now max h.1.result h.0 h.1.called
   inits_later client now max p (Err (sctp.Proto proto.Started)) q h = same_association p q h.1
+  inits_later client now max p (Err (sctp.Proto proto.SnapHalf)) q h = same_association p q h.2
   inits_later client now max p (Err (sctp.Proto proto.Fault)) q h = started_later client p.association q.association now max h.1.result h.0 h.1.called
   inits_later client now max p (Err sctp.Alloc) q h = started_later client p.association q.association now max h.1.result h.0 h.1.called
   inits_later client now max p (Err error) q h = absurd h

@@ -1,7 +1,7 @@
 -- Writes to channels and closes of them leave what negotiation reads of a peer, but for the rows of its channels, and give no number.
 use Rattle.std.proofs.Common.{◌≡◌, ◌∙◌, ℕ, Bool, true, false, nat_lt, List, [], length, Option, Some, None, Result, Ok, Err, refl, sym, ap, subst}
-use Rattle.rtc_sctp.specs.declared.sctp_error.SctpError.{SctpError}
-use Rattle.rtc_sctp.specs.declared.sctp_error.SctpError.TheVariants as sctp
+use Rattle.rtc_sctp_values.specs.declared.sctp_error.SctpError.{SctpError}
+use Rattle.rtc_sctp_values.specs.declared.sctp_error.SctpError.TheVariants as sctp
 use Rattle.rtc_peer_state.specs.declared.rtc_error.RtcError.{RtcError}
 use Rattle.rtc_peer_state.specs.declared.rtc_error.RtcError.TheVariants.{Alloc as PeerAlloc}
 use Rattle.rtc_peer_state.specs.Meanings.{Meanings, PartsLaws}
@@ -35,6 +35,7 @@ taken_of_write (Err sctp.WriteBeforeEstablished) = refl
 taken_of_write (Err sctp.DcepOpenTooSmall) = refl
 taken_of_write (Err sctp.DcepIncorrectMessageType) = refl
 taken_of_write (Err sctp.DcepBadUtf8) = refl
+taken_of_write (Err sctp.InvalidSnap) = refl
 taken_of_write (Err sctp.Alloc) = refl
 
 module _ {I D S M E X T W N : Type 0} (m : Meanings I D S M E X T W N) (laws : PartsLaws m) where

@@ -13,9 +13,9 @@ use Rattle.rtc_association.specs.declared.assoc_error.AssocError.{AssocError}
 use Rattle.rtc_association.specs.declared.assoc_error.AssocError.TheVariants as assoc
 use Rattle.rtc_association.specs.AssociationNeeds.{Answered, closing_need, need}
 use Rattle.rtc_sctp_entries.specs.declared.sctp_event.SctpEvent.{SctpEvent}
-use Rattle.rtc_sctp.specs.declared.proto_error.ProtoError.TheVariants as proto
-use Rattle.rtc_sctp.specs.declared.sctp_error.SctpError.{SctpError}
-use Rattle.rtc_sctp.specs.declared.sctp_error.SctpError.TheVariants as sctp
+use Rattle.rtc_sctp_values.specs.declared.proto_error.ProtoError.TheVariants as proto
+use Rattle.rtc_sctp_values.specs.declared.sctp_error.SctpError.{SctpError}
+use Rattle.rtc_sctp_values.specs.declared.sctp_error.SctpError.TheVariants as sctp
 use Rattle.rtc_sctp.specs.Calls.{Shuts, ShutBy, TakesInput, WritesStream, WrittenIf, can_write, is_ended, is_nil, write_answer, written_ppi}
 use Rattle.rtc_sctp.specs.Polls.{PollsStreams}
 use Rattle.rtc_sctp.specs.Streams.{SctpStreams}

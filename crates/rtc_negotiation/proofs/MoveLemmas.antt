@@ -1,5 +1,5 @@
 -- Parts that move as a session description is accepted, put together from the steps.
-use Rattle.std.proofs.Common.{◌≡◌, ℕ, Bool, true, false, not, ◌&&◌, List, Ok, Err, refl, subst}
+use Rattle.std.proofs.Common.{◌≡◌, ℕ, Bool, true, false, true≢false, not, ◌&&◌, List, Ok, Err, refl, subst}
 use Rattle.std.specs.Prelude.{is_some}
 use Rattle.rtc_sdp_values.specs.Sdp.{sdp_setup, max_message_size_of}
 use Rattle.rtc_sdp_values.specs.declared.line_row.LineRow.{LineRow}
@@ -10,9 +10,9 @@ use Rattle.rtc_dtls.specs.DtlsMeaning.{DtlsMeaning}
 use Rattle.rtc_dtls.specs.DtlsState.{DtlsState}
 use Rattle.rtc_association.specs.AssociationMeaning.{AssociationMeaning}
 use Rattle.rtc_sctp.specs.Streams.{SctpStreams}
-use Rattle.rtc_sctp.specs.declared.proto_error.ProtoError.TheVariants.{Started, TooLong, NoStream, Fault as AssociationFault}
-use Rattle.rtc_sctp.specs.declared.sctp_error.SctpError.{SctpError}
-use Rattle.rtc_sctp.specs.declared.sctp_error.SctpError.TheVariants as sctp
+use Rattle.rtc_sctp_values.specs.declared.proto_error.ProtoError.TheVariants.{Started, SnapHalf, TooLong, NoStream, Fault as AssociationFault}
+use Rattle.rtc_sctp_values.specs.declared.sctp_error.SctpError.{SctpError}
+use Rattle.rtc_sctp_values.specs.declared.sctp_error.SctpError.TheVariants as sctp
 use Rattle.rtc_peer_state.specs.MadeSdp.{role_after}
 use Rattle.rtc_peer_state.specs.PartMoves.{AtStart, needs_start, StartsWhere, remote_limit}
 use Rattle.rtc_peer_state.specs.RtcErrors.{error_of_sctp}
@@ -38,11 +38,13 @@ module _ {I D S : Type 0} (ice : IceMeaning I) (dtls : DtlsMeaning D) (associati
       by true is (sctp.Proto Started) h = absurd (not_again (is_some (app_of rows)) (association.started s.association) h.0 is)
       by true is (sctp.Proto AssociationFault) h =
           (refl, follows, role, subst (λ (b : Bool). StartsWhere association b s (role_after d.active (sdp_setup sdp)) now (remote_limit (max_message_size_of sdp)) (Err (sctp.Proto AssociationFault)) t) is h)
+      by true is (sctp.Proto SnapHalf) h = absurd (true≢false h.1)
       by true is (sctp.Proto (TooLong len max)) h = absurd h
       by true is (sctp.Proto (NoStream id)) h = absurd h
       by true is sctp.WriteBeforeEstablished h = absurd h
       by true is sctp.DcepOpenTooSmall h = absurd h
       by true is sctp.DcepIncorrectMessageType h = absurd h
       by true is sctp.DcepBadUtf8 h = absurd h
+      by true is sctp.InvalidSnap h = absurd h
       by true is sctp.Alloc h =
           AtStart follows role (subst (λ (b : Bool). StartsWhere association b s (role_after d.active (sdp_setup sdp)) now (remote_limit (max_message_size_of sdp)) (Err sctp.Alloc) t) is h)

@@ -57,7 +57,7 @@ pub fn start_sctp<S: Association>(
         return Ok(());
     }
     let limit = told_limit(sdp.max_message_size());
-    match sctp.init(client, now, limit) {
+    match sctp.init(client, now, None, limit) {
         Ok(()) => Ok(()),
         Err(error) => Err(error),
     }

@@ -6,7 +6,7 @@ use Rattle.rtc_sdp_values.specs.declared.line_row.LineRow.{LineRow}
 use Rattle.rtc_association.specs.AssociationMeaning.{AssociationMeaning}
 use Rattle.rtc_association.specs.AssociationLaws.{AssociationLaws}
 use Rattle.rtc_sctp.specs.Streams.{SctpStreams}
-use Rattle.rtc_sctp.specs.declared.sctp_error.SctpError.{SctpError}
+use Rattle.rtc_sctp_values.specs.declared.sctp_error.SctpError.{SctpError}
 use Rattle.rtc_sctp.proofs.StartLemmas.{AlikeStreams, streams_same, inits_same}
 use Rattle.rtc_channels.specs.Channels.{Channel, Channels, has_id, unconfirmed, with_channel, rows_confirmed, confirmed, all_confirmed}
 use Rattle.rtc_channels.specs.declared.channel_row.ChannelRow.{ChannelRow}
@@ -66,7 +66,7 @@ module _ {S : Type 0} (m : AssociationMeaning S) where
   started_where : AssociationLaws m → (needed : Bool) (p q : SctpStreams S) (client : Bool) (now max : ℕ) (r : Result (Unit {0}) SctpError)
       → StartsWhere m needed p client now max r q → AlikeStreams m p q
   started_where laws false p q client now max r h = streams_same m p q h.1
-  started_where laws true p q client now max r h = inits_same m laws client now max p q r h
+  started_where laws true p q client now max r h = inits_same m laws client now max None p q r tt h
 
   -- a start of the association, Ok or refused, leaves all rows
   pub started_rows : AssociationLaws m → (p q : SctpStreams S) (rows : List LineRow) (client : Bool) (now max : ℕ)

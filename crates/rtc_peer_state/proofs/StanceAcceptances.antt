@@ -8,9 +8,9 @@ use Rattle.rtc_sdp_values.specs.declared.sdp.Sdp.{Sdp}
 use Rattle.rtc_ids.specs.Draws.{Draws}
 use Rattle.rtc_ice.specs.IceMeaning.{IceSettings}
 use Rattle.rtc_sctp.specs.Streams.{SctpStreams}
-use Rattle.rtc_sctp.specs.declared.proto_error.ProtoError.TheVariants.{Fault as AssociationFault}
-use Rattle.rtc_sctp.specs.declared.sctp_error.SctpError.{SctpError}
-use Rattle.rtc_sctp.specs.declared.sctp_error.SctpError.TheVariants.{Proto}
+use Rattle.rtc_sctp_values.specs.declared.proto_error.ProtoError.TheVariants.{Fault as AssociationFault}
+use Rattle.rtc_sctp_values.specs.declared.sctp_error.SctpError.{SctpError}
+use Rattle.rtc_sctp_values.specs.declared.sctp_error.SctpError.TheVariants.{Proto}
 use Rattle.rtc_channels.specs.Channels.{Channels, all_confirmed}
 use Rattle.rtc_channels.specs.declared.channel_row.ChannelRow.{ChannelRow}
 use Rattle.rtc_dtls.specs.declared.dtls_error.DtlsError.TheVariants.{WouldBlock, Fault, Alloc as DtlsAlloc}

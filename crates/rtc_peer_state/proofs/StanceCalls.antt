@@ -31,8 +31,8 @@ use Rattle.rtc_sdp_values.specs.declared.ice_creds.IceCreds.{IceCreds}
 use Rattle.rtc_sdp_values.specs.declared.sdp.Sdp.{Sdp}
 use Rattle.rtc_channels.specs.Channels.{is_bad_channel, with_channel, all_confirmed}
 use Rattle.rtc_dtls.specs.declared.dtls_error.DtlsError.TheVariants.{WouldBlock, Fault, Alloc as DtlsAlloc}
-use Rattle.rtc_sctp.specs.declared.proto_error.ProtoError.TheVariants.{Fault as AssociationFault}
-use Rattle.rtc_sctp.specs.declared.sctp_error.SctpError.TheVariants.{Proto}
+use Rattle.rtc_sctp_values.specs.declared.proto_error.ProtoError.TheVariants.{Fault as AssociationFault}
+use Rattle.rtc_sctp_values.specs.declared.sctp_error.SctpError.TheVariants.{Proto}
 use Rattle.rtc_change.specs.declared.add_media.AddMedia.{AddMedia as Media}
 use Rattle.rtc_change.specs.declared.change.Change.{Change}
 use Rattle.rtc_change.specs.declared.change.Change.TheVariants.{AddMedia, AddApp, AddChannel, Direction as SetDirection}

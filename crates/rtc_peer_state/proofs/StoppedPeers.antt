@@ -9,7 +9,7 @@ use Rattle.rtc_media.specs.MediaLaws.{MediaLaws, SameLines}
 use Rattle.rtc_change.specs.declared.change.Change.{Change}
 use Rattle.rtc_change.specs.Held.{Asked}
 use Rattle.rtc_change.specs.Plans.{is_offer}
-use Rattle.rtc_sctp.specs.declared.sctp_error.SctpError.{SctpError}
+use Rattle.rtc_sctp_values.specs.declared.sctp_error.SctpError.{SctpError}
 use Rattle.rtc_peer_state.specs.declared.peer.Peer.{Peer}
 use Rattle.rtc_peer_state.specs.MadeSdp.{role_for}
 use Rattle.rtc_peer_state.specs.Meanings.{Meanings}

@@ -14,8 +14,8 @@ use Rattle.rtc_dtls.specs.DtlsState.{DtlsState}
 use Rattle.rtc_association.specs.AssociationMeaning.{AssociationMeaning}
 use Rattle.rtc_sctp.specs.Calls.{Inits}
 use Rattle.rtc_sctp.specs.Streams.{SctpStreams}
-use Rattle.rtc_sctp.specs.declared.sctp_error.SctpError.{SctpError}
-use Rattle.rtc_sctp.specs.declared.sctp_error.SctpError.TheVariants.{Alloc as SctpAlloc}
+use Rattle.rtc_sctp_values.specs.declared.sctp_error.SctpError.{SctpError}
+use Rattle.rtc_sctp_values.specs.declared.sctp_error.SctpError.TheVariants.{Alloc as SctpAlloc}
 
 module _ {I : Type 0} (ice : IceMeaning I) where
   -- the agent is restarted, where there are new credentials
@@ -108,7 +108,7 @@ module _ {S : Type 0} (association : AssociationMeaning S) where
   -- it is started as client or as server, where it is to be
   abbrev pub StartsWhere : Bool → SctpStreams S → (client : Bool) → (now max : ℕ) → Result (Unit {0}) SctpError → SctpStreams S → Type 0
   StartsWhere false p client now max r q = (r ≡ Ok tt) × (q ≡ p)
-  StartsWhere true p client now max r q = Inits association client now max p r q
+  StartsWhere true p client now max r q = Inits association client now max None p r q
 
   -- The first rows with a line of the data channels start the association.
   abbrev pub StartsSctp : SctpStreams S → List LineRow → (client : Bool) → (now max : ℕ) → Result (Unit {0}) SctpError → SctpStreams S

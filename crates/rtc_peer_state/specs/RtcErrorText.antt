@@ -6,7 +6,7 @@ use Rattle.rtc_wire.specs.declared.net_error.NetError.TheVariants.{Stun, Io}
 use Rattle.rtc_sdp_values.specs.SdpErrorText.{sdp_error_text}
 use Rattle.rtc_dtls.specs.DtlsErrorText.{dtls_error_text}
 use Rattle.rtc_media.specs.MediaErrorText.{media_error_text}
-use Rattle.rtc_sctp.specs.SctpErrorText.{sctp_error_text}
+use Rattle.rtc_sctp_values.specs.SctpErrorText.{sctp_error_text}
 use Rattle.rtc_tables.specs.WhyText.{why_text}
 use Rattle.rtc_peer_state.specs.declared.rtc_error.RtcError.{RtcError}
 use Rattle.rtc_peer_state.specs.declared.rtc_error.RtcError.TheVariants.{

@@ -9,8 +9,8 @@ use Rattle.rtc_dtls.specs.declared.dtls_error.DtlsError.{DtlsError}
 use Rattle.rtc_dtls.specs.declared.dtls_error.DtlsError.TheVariants.{WouldBlock, Fault, Alloc as DtlsAlloc}
 use Rattle.rtc_media.specs.declared.media_error.MediaError.{MediaError}
 use Rattle.rtc_media.specs.declared.media_error.MediaError.TheVariants as media
-use Rattle.rtc_sctp.specs.declared.sctp_error.SctpError.{SctpError}
-use Rattle.rtc_sctp.specs.declared.sctp_error.SctpError.TheVariants as sctp
+use Rattle.rtc_sctp_values.specs.declared.sctp_error.SctpError.{SctpError}
+use Rattle.rtc_sctp_values.specs.declared.sctp_error.SctpError.TheVariants as sctp
 use Rattle.rtc_peer_state.specs.declared.rtc_error.RtcError.{RtcError}
 use Rattle.rtc_peer_state.specs.declared.rtc_error.RtcError.TheVariants.{RemoteSdp, Sdp, Dtls, Sctp, Media, BadChannel, Alloc}
 
@@ -40,6 +40,7 @@ error_of_sctp sctp.WriteBeforeEstablished = Sctp sctp.WriteBeforeEstablished
 error_of_sctp sctp.DcepOpenTooSmall = Sctp sctp.DcepOpenTooSmall
 error_of_sctp sctp.DcepIncorrectMessageType = Sctp sctp.DcepIncorrectMessageType
 error_of_sctp sctp.DcepBadUtf8 = Sctp sctp.DcepBadUtf8
+error_of_sctp sctp.InvalidSnap = Sctp sctp.InvalidSnap
 error_of_sctp sctp.Alloc = Alloc
 
 abbrev pub error_of_media : MediaError → RtcError

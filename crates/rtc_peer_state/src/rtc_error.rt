@@ -150,6 +150,7 @@ impl From<SctpError> for RtcError {
                 RtcError::Sctp(SctpError::DcepIncorrectMessageType)
             }
             SctpError::DcepBadUtf8 => RtcError::Sctp(SctpError::DcepBadUtf8),
+            SctpError::InvalidSnap => RtcError::Sctp(SctpError::InvalidSnap),
             SctpError::Alloc => RtcError::Alloc,
         }
     }

@@ -18,7 +18,7 @@ use Rattle.rtc_media.specs.declared.media_error.MediaError.TheVariants.{Alloc as
 use Rattle.rtc_media.specs.MediaActs.{MediaGiven, MediaStirred, MediaMoved, media_moved-one}
 use Rattle.rtc_ready.specs.Signals.{both}
 use Rattle.rtc_sctp_laws.specs.StreamMessages.{StreamMessage}
-use Rattle.rtc_sctp.specs.declared.sctp_error.SctpError.{SctpError}
+use Rattle.rtc_sctp_values.specs.declared.sctp_error.SctpError.{SctpError}
 use Rattle.rtc_sctp_laws.specs.StreamActs.{written_message}
 use Rattle.rtc_sctp_laws.proofs.CallActs.{writes_did, timeout_did}
 use Rattle.rtc_sctp.specs.Calls.{is_open_stream}

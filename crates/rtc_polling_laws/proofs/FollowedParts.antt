@@ -19,7 +19,7 @@ use Rattle.rtc_association.specs.AssociationMeaning.{AssociationMeaning}
 use Rattle.rtc_media.specs.declared.media_update.MediaUpdate.{MediaUpdate}
 use Rattle.rtc_media.specs.MediaMeaning.{MediaMeaning}
 use Rattle.rtc_media.specs.MediaActs.{MediaAct, MediaMoved, MediaStirred, Committed, Prepared, media_moved-one}
-use Rattle.rtc_sctp.specs.declared.sctp_error.SctpError.{SctpError}
+use Rattle.rtc_sctp_values.specs.declared.sctp_error.SctpError.{SctpError}
 use Rattle.rtc_sctp.specs.Streams.{SctpStreams}
 use Rattle.rtc_sctp_laws.specs.StreamActs.{CallDid}
 use Rattle.rtc_sctp_laws.proofs.CallActs.{inits_did}
@@ -162,7 +162,7 @@ module _ {D : Type 0} (m : DtlsMeaning D) where
 pub started_told : {S : Type 0} (m : AssociationMeaning S) (b client : Bool) (now max : ℕ) (p : SctpStreams S) (r : Result (Unit {0}) SctpError)
     (q : SctpStreams S) → StartsWhere m b p client now max r q → CallDid m [] [] p q
 started_told m false client now max p r q h = call_none m p q h.1
-started_told m true client now max p r q h = inits_did m client now max p r q h
+started_told m true client now max p r q h = inits_did m client now max None p r q h
 
 -- the media part was told something
 pub record MediaTold {M E X T W : Type 0} (m : MediaMeaning M E X T W) (a b : M) : Type 0 where

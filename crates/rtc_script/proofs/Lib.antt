@@ -1,6 +1,7 @@
 pub mod LabelLemmas
 pub mod MessageWords
 pub mod LineLemmas
+pub mod ChannelPartLemmas
 pub mod SettingLines
 pub mod RefusedScripts
 pub mod StepLines

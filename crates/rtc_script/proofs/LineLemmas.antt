@@ -4,13 +4,13 @@ use Rattle.std.specs.Fmt.{decimal}
 use Rattle.std.specs.List.{AllZip}
 use Rattle.std.specs.Str.Parse.{digits_value}
 use Rattle.std.proofs.lemmas.Fmt.{decimal_injective, decimal_is_IsNumeral}
-use Rattle.rtc_fields.specs.Words.{words}
+use Rattle.rtc_fields.specs.Words.{parts, words}
 use Rattle.rtc_sdp_values.specs.declared.direction.Direction.{Direction}
 use Rattle.rtc_sdp_values.specs.declared.direction.Direction.TheVariants.{SendRecv, SendOnly, RecvOnly, Inactive}
 use Rattle.rtc_sdp_values.specs.declared.media_kind.MediaKind.{MediaKind}
 use Rattle.rtc_sdp_values.specs.declared.media_kind.MediaKind.TheVariants.{Audio, Video}
-use Rattle.rtc_script.specs.Lines.{IsOp, with_label, IsAct, AreStepWords, IsLine}
-use Rattle.rtc_script.proofs.LabelLemmas.{one_label}
+use Rattle.rtc_script.specs.Lines.{IsOp, IsAct, AreStepWords, IsLine}
+use Rattle.rtc_script.proofs.ChannelPartLemmas.{first_part, one_channel}
 use Rattle.rtc_script.proofs.MessageWords.{bytes_of, is_binary_at, is_binary_again, same_message, writes}
 use Rattle.rtc_script.proofs.ZipLemmas.{one_zip}
 use Rattle.rtc_history.specs.Sides.{side_of}
@@ -97,8 +97,12 @@ no_restart Video same = absurd (omega (arith, same_letter 0 (codes "video") (cod
 stop_no_restart : codes "stop" ≡ codes "restart" → ⊥
 stop_no_restart same = absurd (omega (arith, same_letter 0 (codes "stop") (codes "stop") (codes "restart") refl same))
 
-channel_no_restart : codes "channel" ≡ codes "restart" → ⊥
-channel_no_restart same = absurd (omega (arith, same_letter 0 (codes "channel") (codes "channel") (codes "restart") refl same))
+restart_no_channel : codes "restart" ≡ codes "channel" → ⊥
+restart_no_channel same = absurd (omega (arith, same_letter 0 (codes "restart") (codes "restart") (codes "channel") refl same))
+
+-- nor is a direction set where a channel is added
+no_direction : codes "dir" ≡ codes "channel" → ⊥
+no_direction same = absurd (omega (arith, same_letter 0 (codes "dir") (codes "dir") (codes "channel") refl same))
 
 keep_from : List ℕ → Bool
 keep_from text = eqb (get_or text 0 0) 107
@@ -132,25 +136,22 @@ one_op word (StopMedia place) (SetDirection place' to) is is' = absurd (two_or_t
 one_op word (StopMedia place) (StopMedia place') is is' =
     let places = one_number place place' is.1 is'.1 (first_same _ _ _ _ (rest_same _ _ _ _ (sym is.0 ∙ is'.0))) in
     rw places refl
-one_op word (AddMedia kind dir) (AddChannel config) is is' = absurd (no_channel kind (first_same _ _ _ _ (sym is ∙ is'.0)))
-one_op word (AddChannel config) (AddMedia kind dir) is is' = absurd (no_channel kind (first_same _ _ _ _ (sym is' ∙ is.0)))
-one_op word (SetDirection place to) (AddChannel config) is is' = absurd (two_or_three _ _ _ _ _ (sym is'.0 ∙ is.0))
-one_op word (AddChannel config) (SetDirection place to) is is' = absurd (two_or_three _ _ _ _ _ (sym is.0 ∙ is'.0))
-one_op word (StopMedia place) (AddChannel config) is is' = absurd (no_stopped (first_same _ _ _ _ (sym is.0 ∙ is'.0)))
-one_op word (AddChannel config) (StopMedia place) is is' = absurd (no_stopped (first_same _ _ _ _ (sym is'.0 ∙ is.0)))
+one_op word (AddMedia kind dir) (AddChannel config) is is' = absurd (no_channel kind (first_part _ config (kind_text kind) _ is is'))
+one_op word (AddChannel config) (AddMedia kind dir) is is' = absurd (no_channel kind (first_part _ config (kind_text kind) _ is' is))
+one_op word (SetDirection place to) (AddChannel config) is is' = absurd (no_direction (first_part _ config (codes "dir") _ is.0 is'))
+one_op word (AddChannel config) (SetDirection place to) is is' = absurd (no_direction (first_part _ config (codes "dir") _ is'.0 is))
+one_op word (StopMedia place) (AddChannel config) is is' = absurd (no_stopped (first_part _ config (codes "stop") _ is.0 is'))
+one_op word (AddChannel config) (StopMedia place) is is' = absurd (no_stopped (first_part _ config (codes "stop") _ is'.0 is))
 one_op word (AddChannel config) (AddChannel config') is is' =
-    let words = first_same _ _ _ _ (rest_same _ _ _ _ (sym is.0 ∙ is'.0)) in
-    let label = one_label config.label config'.label is.1 is'.1 words in
-    let same : config ≡ config' = is.2 ∙ ap with_label label ∙ sym is'.2 in
-    rw same refl
+    ap AddChannel (one_channel (parts 58 word) config config' is is')
 one_op word (AddMedia kind dir) (IceRestart keep) is is' = absurd (no_restart kind (first_same _ _ _ _ (sym is ∙ is')))
 one_op word (IceRestart keep) (AddMedia kind dir) is is' = absurd (no_restart kind (first_same _ _ _ _ (sym is' ∙ is)))
 one_op word (SetDirection place to) (IceRestart keep) is is' = absurd (two_or_three _ _ _ _ _ (sym is' ∙ is.0))
 one_op word (IceRestart keep) (SetDirection place to) is is' = absurd (two_or_three _ _ _ _ _ (sym is ∙ is'.0))
 one_op word (StopMedia place) (IceRestart keep) is is' = absurd (stop_no_restart (first_same _ _ _ _ (sym is.0 ∙ is')))
 one_op word (IceRestart keep) (StopMedia place) is is' = absurd (stop_no_restart (first_same _ _ _ _ (sym is'.0 ∙ is)))
-one_op word (AddChannel config) (IceRestart keep) is is' = absurd (channel_no_restart (first_same _ _ _ _ (sym is.0 ∙ is')))
-one_op word (IceRestart keep) (AddChannel config) is is' = absurd (channel_no_restart (first_same _ _ _ _ (sym is'.0 ∙ is)))
+one_op word (AddChannel config) (IceRestart keep) is is' = absurd (restart_no_channel (first_part _ config (codes "restart") _ is' is))
+one_op word (IceRestart keep) (AddChannel config) is is' = absurd (restart_no_channel (first_part _ config (codes "restart") _ is is'))
 one_op word (IceRestart keep) (IceRestart keep') is is' = ap IceRestart (one_keep keep keep' (first_same _ _ _ _ (rest_same _ _ _ _ (sym is ∙ is'))))
 
 -- the number that a word writes

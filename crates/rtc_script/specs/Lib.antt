@@ -1,4 +1,5 @@
 pub mod Words
+pub mod ChannelParts
 pub mod Lines
 pub mod Script
 pub mod Steps

@@ -2,11 +2,8 @@
 use Rattle.std.specs.Prelude.{◌≡◌, ◌≢◌, ◌<◌, ◌^◌, ℕ, Bool, true, false, List, [], ◌∷◌, map, All, codes}
 use Rattle.std.specs.Fmt.{decimal}
 use Rattle.std.specs.List.{AllZip}
-use Rattle.std.specs.Str.{IsUtf8}
 use Rattle.hex.specs.Hex.{IsBytes}
 use Rattle.rtc_fields.specs.Words.{parts, words}
-use Rattle.rtc_wire.specs.ChannelConfig.{fresh}
-use Rattle.rtc_wire.specs.declared.channel_config.ChannelConfig.{ChannelConfig}
 use Rattle.rtc_history.specs.Sides.{side_of}
 use Rattle.rtc_history.specs.declared.op.Op.{Op}
 use Rattle.rtc_history.specs.declared.op.Op.TheVariants.{AddMedia, SetDirection, StopMedia, AddChannel, IceRestart}
@@ -14,20 +11,16 @@ use Rattle.rtc_history.specs.declared.side.Side.{Side}
 use Rattle.rtc_history.specs.declared.step.Step.{Step}
 use Rattle.rtc_history.specs.declared.step.Step.TheVariants.{Negotiate, AcceptOffer, AcceptAnswer, Time, Datagram, Poll, Drain}
 use Rattle.rtc_history.specs.declared.step.Step.TheVariants.{Write, CloseChannel, Close}
+use Rattle.rtc_script.specs.ChannelParts.{AreChannelParts}
 use Rattle.rtc_script.specs.Words.{side_text, kind_text, direction_text, hex_word, keep_text, message_kind_text, setting_text}
 use Rattle.rtc_script.specs.declared.setting.Setting.{Setting}
 
--- what a channel is opened with that differs from the usual in its label alone
-abbrev pub with_label : List ℕ → ChannelConfig
-with_label label = record fresh { label = label }
-
--- the parts of an op's word; the label of a channel is UTF-8
+-- the parts of an op's word
 abbrev pub AreOpParts : List (List ℕ) → Op → Type 0
 AreOpParts found (AddMedia kind dir) = found ≡ kind_text kind ∷ direction_text dir ∷ []
 AreOpParts found (SetDirection place dir) = (found ≡ codes "dir" ∷ decimal place ∷ direction_text dir ∷ []) × (place < 2 ^ 32)
 AreOpParts found (StopMedia place) = (found ≡ codes "stop" ∷ decimal place ∷ []) × (place < 2 ^ 32)
-AreOpParts found (AddChannel config) =
-    (found ≡ codes "channel" ∷ hex_word config.label ∷ []) × IsUtf8 config.label × (config ≡ with_label config.label)
+AreOpParts found (AddChannel config) = AreChannelParts found config
 AreOpParts found (IceRestart keep) = found ≡ codes "restart" ∷ keep_text keep ∷ []
 
 -- the word of an op: parts with a colon between

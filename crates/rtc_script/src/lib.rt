@@ -2,6 +2,7 @@
 #![tactic(auto)]
 
 mod acts;
+mod channel_parts;
 mod channels;
 mod cutting;
 mod directions;

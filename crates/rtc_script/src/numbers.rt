@@ -22,6 +22,19 @@ pub fn read_u32(word: &[u8]) -> Option<u32>
     }
 }
 
+/// The number below 2^16 that a word is the decimal of, without leading zeros.
+pub fn read_u16(word: &[u8]) -> Option<u16>
+    ensures some { IfSome result (λ n. word.now ≡ decimal n) }
+    ensures none { IfNone result ((n : ℕ) → n < 2 ^ 16 → word.now ≢ decimal n) }
+{
+    let n = read_u32(word)?;
+    if n <= u16::MAX as u32 {
+        Some(n as u16)
+    } else {
+        None
+    }
+}
+
 /// The number below 2^64 that a word is the decimal of, without leading zeros.
 pub fn read_u64(word: &[u8]) -> Option<u64>
     ensures some { IfSome result (λ n. word.now ≡ decimal n) }

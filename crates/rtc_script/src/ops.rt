@@ -4,13 +4,13 @@ ghost use Rattle.rtc_script.specs.Lines.{AreOpParts, IsOp, AreOps};
 ghost use Rattle.rtc_script.specs.Words.{keep_text};
 ghost use Rattle.rtc_history.specs.declared.op.Op.{Op};
 
+use crate::channel_parts::{read_config, read_label_word};
 use crate::cutting::cut_parts;
 use crate::directions::read_direction;
 use crate::kinds::read_kind;
-use crate::labels::read_label;
 use crate::numbers::read_u32;
 use rtc_history::Op;
-use rtc_wire::{ChannelConfig, Seq};
+use rtc_wire::Seq;
 use std::alloc::{AllocError, Global};
 
 // Whether a restart keeps the local candidates.
@@ -60,15 +60,14 @@ fn read_three_parts(word: &[u8], place: &[u8], value: &[u8]) -> Option<Op>
 }
 
 // An op that adds a channel with the label that a word writes.
-fn read_channel(alloc: Global, value: &[u8]) -> Result<Option<Op>, AllocError>
+#[tactic(auto, using(crate::proofs::ChannelPartLemmas::no_labelled))]
+fn read_labelled(alloc: Global, value: &[u8]) -> Result<Option<Op>, AllocError>
     ensures some { IfOk result (λ read. IfSome read (λ op. AreOpParts (codes "channel" ∷ value.now ∷ []) op)) }
     ensures none { IfOk result (λ read. IfNone read ((op : Op) → AreOpParts (codes "channel" ∷ value.now ∷ []) op → ⊥)) }
 {
-    let Some(label) = read_label(alloc, value)? else {
+    let Some(config) = read_label_word(alloc, value)? else {
         return Ok(None);
     };
-    let mut config = ChannelConfig::new(alloc);
-    config.label = label;
     Ok(Some(Op::AddChannel { config }))
 }
 
@@ -78,9 +77,52 @@ fn read_pair(alloc: Global, word: &[u8], value: &[u8]) -> Result<Option<Op>, All
     ensures none { IfOk result (λ read. IfNone read ((op : Op) → AreOpParts (word.now ∷ value.now ∷ []) op → ⊥)) }
 {
     if word == b"channel".as_slice() {
-        return read_channel(alloc, value);
+        return read_labelled(alloc, value);
     }
     Ok(read_two_parts(word, value))
+}
+
+// An op that adds a channel with all that it is opened with, by the words of its parts.
+#[tactic(auto, using(crate::proofs::ChannelPartLemmas::no_whole))]
+fn read_whole(
+    alloc: Global,
+    label: &[u8],
+    order: &[u8],
+    reliability: &[u8],
+    stream: &[u8],
+    protocol: &[u8],
+) -> Result<Option<Op>, AllocError>
+    ensures some { IfOk result (λ read. IfSome read (λ op. AreOpParts
+        (codes "channel" ∷ label.now ∷ order.now ∷ reliability.now ∷ stream.now ∷ protocol.now ∷ []) op)) }
+    ensures none { IfOk result (λ read. IfNone read ((op : Op) → AreOpParts
+        (codes "channel" ∷ label.now ∷ order.now ∷ reliability.now ∷ stream.now ∷ protocol.now ∷ []) op → ⊥)) }
+{
+    let Some(config) = read_config(alloc, label, order, reliability, stream, protocol)? else {
+        return Ok(None);
+    };
+    Ok(Some(Op::AddChannel { config }))
+}
+
+// An op of six parts.
+#[tactic(auto, using(crate::proofs::ChannelPartLemmas::no_other))]
+fn read_six_parts(
+    alloc: Global,
+    word: &[u8],
+    label: &[u8],
+    order: &[u8],
+    reliability: &[u8],
+    stream: &[u8],
+    protocol: &[u8],
+) -> Result<Option<Op>, AllocError>
+    ensures some { IfOk result (λ read. IfSome read (λ op. AreOpParts
+        (word.now ∷ label.now ∷ order.now ∷ reliability.now ∷ stream.now ∷ protocol.now ∷ []) op)) }
+    ensures none { IfOk result (λ read. IfNone read ((op : Op) → AreOpParts
+        (word.now ∷ label.now ∷ order.now ∷ reliability.now ∷ stream.now ∷ protocol.now ∷ []) op → ⊥)) }
+{
+    if word == b"channel".as_slice() {
+        return read_whole(alloc, label, order, reliability, stream, protocol);
+    }
+    Ok(None)
 }
 
 fn read_parts(alloc: Global, parts: &[&[u8]]) -> Result<Option<Op>, AllocError>
@@ -90,6 +132,9 @@ fn read_parts(alloc: Global, parts: &[&[u8]]) -> Result<Option<Op>, AllocError>
     match parts {
         [word, value] => read_pair(alloc, word, value),
         [word, place, value] => Ok(read_three_parts(word, place, value)),
+        [word, label, order, reliability, stream, protocol] => {
+            read_six_parts(alloc, word, label, order, reliability, stream, protocol)
+        }
         _ => Ok(None),
     }
 }

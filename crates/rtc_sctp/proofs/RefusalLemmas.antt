@@ -8,13 +8,15 @@ use Rattle.rtc_association.specs.AssociationMeaning.{AssociationMeaning}
 use Rattle.rtc_association.specs.AssociationLaws.{AssociationLaws}
 use Rattle.rtc_association.specs.AssociationNeeds.{Answered, need}
 use Rattle.rtc_sctp_entries.specs.Answers.{asked_of}
+use Rattle.rtc_sctp_entries.specs.declared.asked.Asked.{Asked}
 use Rattle.rtc_sctp_entries.specs.declared.asked.Asked.TheVariants as did
 use Rattle.rtc_sctp_entries.specs.Part.{AsksStart}
-use Rattle.rtc_sctp.specs.declared.proto_error.ProtoError.TheVariants as proto
-use Rattle.rtc_sctp.specs.declared.sctp_error.SctpError.{SctpError}
-use Rattle.rtc_sctp.specs.declared.sctp_error.SctpError.TheVariants as sctp
+use Rattle.rtc_sctp_values.specs.declared.proto_error.ProtoError.TheVariants as proto
+use Rattle.rtc_sctp_values.specs.declared.sctp_error.SctpError.{SctpError}
+use Rattle.rtc_sctp_values.specs.declared.sctp_error.SctpError.TheVariants as sctp
+use Rattle.rtc_sctp_values.specs.InitHalves.{InitHalves, half_bytes}
 use Rattle.rtc_sctp.specs.Streams.{SctpStreams}
-use Rattle.rtc_sctp.specs.Calls.{Inits, Shuts, ShutBy, WritesStream, WrittenIf, can_write, is_ended, is_open_stream, write_answer, written_ppi, is_nil}
+use Rattle.rtc_sctp.specs.Calls.{AsksSnap, AsksInit, are_whole, Inits, Shuts, ShutBy, WritesStream, WrittenIf, can_write, is_ended, is_open_stream, write_answer, written_ppi, is_nil}
 use Rattle.rtc_sctp.specs.Refusals.{refusal_if, IsRefusedAs, refusal_of_start, refusal_of_message}
 
 -- a message that its stream takes is refused as the association refuses it
@@ -110,27 +112,49 @@ module _ {S : Type 0} (m : AssociationMeaning S) (w : AssociationLaws m) where
           (write_answer id (length bytes) p.remote_max k.0) is k.2
           (written_before_its_end k.0 gone long ended id (length bytes) p.remote_max (m.faults p.association) (m.faults q.association) free answered)
 
+  snap_rose : (halves : InitHalves) (p q : S) (now max : ℕ) → AsksSnap m halves p now max did.Refused q → Rose (m.faults p) (m.faults q)
+  snap_rose halves p q now max h =
+      rose h.result (m.faults p) (m.faults q) h.is
+      (w.snap_answer p q now max (half_bytes halves.local) (half_bytes halves.remote) h.result h.called)
+
   started_rose : (client : Bool) (p q : S) (now max : ℕ) → AsksStart m client p now max did.Refused q → Rose (m.faults p) (m.faults q)
   started_rose true p q now max h = rose h.result (m.faults p) (m.faults q) h.is (w.connect_answer p q now max h.result h.called)
   started_rose false p q now max h = rose h.result (m.faults p) (m.faults q) h.is (w.accept_answer p q now max h.result h.called)
 
-  pub inits_refused : (client : Bool) (now max : ℕ) (p q : SctpStreams S) (r : Result (Unit {0}) SctpError) → Inits m client now max p r q
-      → IsRefusedAs (refusal_of_start m p) (m.faults p.association) (m.faults q.association) r
-  inits_refused client now max p q (Ok x) h = rw h.0 refl
-  inits_refused client now max p q (Err (sctp.Proto proto.Started)) h = rw h.0 refl
-  inits_refused client now max p q (Err (sctp.Proto proto.Fault)) h = started_rose client p.association q.association now max h.1
-  inits_refused client now max p q (Err (sctp.Proto (proto.TooLong len limit))) h = absurd h
-  inits_refused client now max p q (Err (sctp.Proto (proto.NoStream id))) h = absurd h
-  inits_refused client now max p q (Err sctp.WriteBeforeEstablished) h = absurd h
-  inits_refused client now max p q (Err sctp.DcepOpenTooSmall) h = absurd h
-  inits_refused client now max p q (Err sctp.DcepIncorrectMessageType) h = absurd h
-  inits_refused client now max p q (Err sctp.DcepBadUtf8) h = absurd h
-  inits_refused client now max p q (Err sctp.Alloc) h = tt
+  init_rose : (snap : Option InitHalves) (client : Bool) (p q : S) (now max : ℕ) → AsksInit m snap client p now max did.Refused q
+      → Rose (m.faults p) (m.faults q)
+  init_rose None client p q now max h = started_rose client p q now max h
+  init_rose (Some halves) client p q now max h = snap_rose halves p q now max h.1
+
+  -- a start that the association is asked for has both halves, or none
+  asked_whole : (snap : Option InitHalves) (client : Bool) (p q : S) (now max : ℕ) (answer : Asked) → AsksInit m snap client p now max answer q
+      → are_whole snap ≡ true
+  asked_whole None client p q now max answer h = refl
+  asked_whole (Some halves) client p q now max answer h = h.0
+
+  pub inits_refused : (client : Bool) (now max : ℕ) (snap : Option InitHalves) (p q : SctpStreams S) (r : Result (Unit {0}) SctpError)
+      → Inits m client now max snap p r q → IsRefusedAs (refusal_of_start m snap p) (m.faults p.association) (m.faults q.association) r
+  inits_refused client now max snap p q (Ok x) h =
+      let whole = asked_whole snap client p.association q.association now max did.Done h.1 in
+      rw (h.0, whole) refl
+  inits_refused client now max snap p q (Err (sctp.Proto proto.Started)) h = rw h.0 refl
+  inits_refused client now max snap p q (Err (sctp.Proto proto.SnapHalf)) h = rw (h.0, h.1) refl
+  inits_refused client now max snap p q (Err (sctp.Proto proto.Fault)) h =
+      init_rose snap client p.association q.association now max h.1
+  inits_refused client now max snap p q (Err (sctp.Proto (proto.TooLong len limit))) h = absurd h
+  inits_refused client now max snap p q (Err (sctp.Proto (proto.NoStream id))) h = absurd h
+  inits_refused client now max snap p q (Err sctp.WriteBeforeEstablished) h = absurd h
+  inits_refused client now max snap p q (Err sctp.DcepOpenTooSmall) h = absurd h
+  inits_refused client now max snap p q (Err sctp.DcepIncorrectMessageType) h = absurd h
+  inits_refused client now max snap p q (Err sctp.DcepBadUtf8) h = absurd h
+  inits_refused client now max snap p q (Err sctp.InvalidSnap) h = absurd h
+  inits_refused client now max snap p q (Err sctp.Alloc) h = tt
 
   shut_by : (r : Result (Unit {0}) SctpError) (p q : SctpStreams S) → is_ended m p.association ≡ false → ShutBy m false p r q
       → IsRefusedAs None (m.faults p.association) (m.faults q.association) r
   shut_by (Ok x) p q is h = refl
   shut_by (Err (sctp.Proto proto.Started)) p q is h = absurd h
+  shut_by (Err (sctp.Proto proto.SnapHalf)) p q is h = absurd h
   shut_by (Err (sctp.Proto proto.Fault)) p q is h =
       let ended = m.closing p.association || m.closed p.association in
       let free = begun_unended (m.started p.association) ended is in
@@ -141,6 +165,7 @@ module _ {S : Type 0} (m : AssociationMeaning S) (w : AssociationLaws m) where
   shut_by (Err sctp.DcepOpenTooSmall) p q is h = absurd h
   shut_by (Err sctp.DcepIncorrectMessageType) p q is h = absurd h
   shut_by (Err sctp.DcepBadUtf8) p q is h = absurd h
+  shut_by (Err sctp.InvalidSnap) p q is h = absurd h
   shut_by (Err sctp.Alloc) p q is h = tt
 
   pub shuts_refused : (p q : SctpStreams S) (r : Result (Unit {0}) SctpError) → Shuts m p r q

@@ -10,14 +10,18 @@ use Rattle.rtc_association.specs.declared.ppi.Ppi.TheVariants as ppi
 use Rattle.rtc_association.specs.AssociationMeaning.{AssociationMeaning}
 use Rattle.rtc_ready.specs.Signals.{Signals}
 use Rattle.rtc_sctp_entries.specs.declared.asked.Asked.TheVariants as did
-use Rattle.rtc_sctp.specs.declared.proto_error.ProtoError.TheVariants as proto
-use Rattle.rtc_sctp.specs.declared.sctp_error.SctpError.{SctpError}
-use Rattle.rtc_sctp.specs.declared.sctp_error.SctpError.TheVariants as sctp
+use Rattle.rtc_sctp_values.specs.declared.proto_error.ProtoError.TheVariants as proto
+use Rattle.rtc_sctp_values.specs.declared.sctp_error.SctpError.{SctpError}
+use Rattle.rtc_sctp_values.specs.declared.sctp_error.SctpError.TheVariants as sctp
 use Rattle.rtc_sctp.specs.declared.rtc_sctp_state.RtcSctpState.{RtcSctpState}
 use Rattle.rtc_sctp.specs.declared.rtc_sctp_state.RtcSctpState.TheVariants.{Uninited, AwaitRemoteAssociation}
 use Rattle.rtc_sctp.specs.declared.rtc_sctp_state.RtcSctpState.TheVariants.{AwaitAssociationEstablished, Established}
 use Rattle.rtc_sctp_entries.specs.declared.stream_entry.StreamEntry.{StreamEntry}
+use Rattle.rtc_sctp_entries.specs.Answers.{asked_of}
 use Rattle.rtc_sctp_entries.specs.Part.{AsksStart, AsksShutdown}
+use Rattle.rtc_sctp_entries.specs.declared.asked.Asked.{Asked}
+use Rattle.rtc_sctp_values.specs.InitHalves.{InitHalves, is_whole, half_bytes}
+use Rattle.rtc_sctp_values.specs.SnapHalves.{begun_halves}
 use Rattle.rtc_sctp_entries.specs.Entries.{has_open, is_retrying, unclosed}
 use Rattle.rtc_sctp.specs.Streams.{SctpStreams, is_attached, is_established}
 
@@ -25,6 +29,16 @@ use Rattle.rtc_sctp.specs.Streams.{SctpStreams, is_attached, is_established}
 abbrev pub started_state : Bool → RtcSctpState
 started_state true = AwaitAssociationEstablished
 started_state false = AwaitRemoteAssociation
+
+-- the state of an association that was started: by both halves it is established at once
+abbrev pub begun_state : Option InitHalves → Bool → RtcSctpState
+begun_state None client = started_state client
+begun_state (Some halves) client = Established
+
+-- no halves are given, or both of them
+abbrev pub are_whole : Option InitHalves → Bool
+are_whole None = true
+are_whole (Some halves) = is_whole halves
 
 -- the limit of the other end, which is 65536 where it announced none (RFC 8841, section 6.1)
 abbrev pub limit_or_default : Option ℕ → ℕ
@@ -83,22 +97,42 @@ abbrev pub is_open_stream : {S : Type 0} → ℕ → SctpStreams S → Bool
 is_open_stream id p = is_established p.state && has_open id p.entries
 
 module _ {S : Type 0} (m : AssociationMeaning S) where
-  -- the association is started; a second start is refused, and a refusal leaves everything but the association
-  abbrev pub Inits : Bool → (now max : ℕ) → SctpStreams S → Result (Unit {0}) SctpError → SctpStreams S → Type 0
-  Inits client now max p (Ok x) q =
+  -- a start with the chunks of both ends
+  pub record AsksSnap (halves : InitHalves) (p : S) (now max_send : ℕ) (answer : Asked) (q : S) : Type 0 where
+    pub result : Result (Unit {0}) AssocError
+    pub called : m.connected_snap p now max_send (half_bytes halves.local) (half_bytes halves.remote) result q
+    pub is : asked_of result ≡ answer
+
+  -- a start with both halves, where there are any, or else as the client or as the server
+  abbrev pub AsksInit : Option InitHalves → Bool → S → (now max : ℕ) → Asked → S → Type 0
+  AsksInit None client p now max answer q = AsksStart m client p now max answer q
+  AsksInit (Some halves) client p now max answer q = (is_whole halves ≡ true) × AsksSnap halves p now max answer q
+
+  -- the association is started; a second start is refused, and so is one with a half alone, and a refusal leaves everything but the
+  -- association
+  abbrev pub Inits : Bool → (now max : ℕ) → Option InitHalves → SctpStreams S → Result (Unit {0}) SctpError → SctpStreams S → Type 0
+  Inits client now max snap p (Ok x) q =
       (m.started p.association ≡ false)
-      × AsksStart m client p.association now max did.Done q.association
-      × (q ≡ record p { association = q.association; client = client; remote_max = max; state = started_state client })
-  Inits client now max p (Err (sctp.Proto proto.Started)) q = (m.started p.association ≡ true) × (q ≡ p)
-  Inits client now max p (Err (sctp.Proto proto.Fault)) q =
+      × AsksInit snap client p.association now max did.Done q.association
+      × (q ≡ record p {
+        association = q.association;
+        client = client;
+        remote_max = max;
+        state = begun_state snap client;
+        snap = begun_halves snap p.snap;
+      })
+  Inits client now max snap p (Err (sctp.Proto proto.Started)) q = (m.started p.association ≡ true) × (q ≡ p)
+  Inits client now max snap p (Err (sctp.Proto proto.SnapHalf)) q =
+      (m.started p.association ≡ false) × (are_whole snap ≡ false) × (q ≡ p)
+  Inits client now max snap p (Err (sctp.Proto proto.Fault)) q =
       (m.started p.association ≡ false)
-      × AsksStart m client p.association now max did.Refused q.association
+      × AsksInit snap client p.association now max did.Refused q.association
       × (q ≡ record p { association = q.association })
-  Inits client now max p (Err sctp.Alloc) q =
+  Inits client now max snap p (Err sctp.Alloc) q =
       (m.started p.association ≡ false)
-      × AsksStart m client p.association now max did.OutOfMemory q.association
+      × AsksInit snap client p.association now max did.OutOfMemory q.association
       × (q ≡ record p { association = q.association })
-  Inits client now max p (Err e) q = ⊥
+  Inits client now max snap p (Err e) q = ⊥
 
   -- whether there is nothing to shut down: the association is not started, closing or closed
   abbrev pub is_ended : S → Bool

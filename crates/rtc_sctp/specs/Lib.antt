@@ -1,7 +1,6 @@
-pub mod SctpErrors
-pub mod SctpErrorText
 pub mod Streams
 pub mod Calls
 pub mod Refusals
+pub mod SnapCalls
 pub mod StreamCalls
 pub mod Polls

@@ -2,11 +2,12 @@
 use Rattle.std.specs.Prelude.{ℕ, ◌≡◌, ◌||◌, not, nat_lt, Bool, true, false, List, length, Option, Some, None, Result, Ok, Err}
 use Rattle.rtc_io.specs.Faults.{Rose}
 use Rattle.rtc_association.specs.AssociationMeaning.{AssociationMeaning}
-use Rattle.rtc_sctp.specs.declared.proto_error.ProtoError.TheVariants as proto
-use Rattle.rtc_sctp.specs.declared.sctp_error.SctpError.{SctpError}
-use Rattle.rtc_sctp.specs.declared.sctp_error.SctpError.TheVariants as sctp
+use Rattle.rtc_sctp_values.specs.declared.proto_error.ProtoError.TheVariants as proto
+use Rattle.rtc_sctp_values.specs.declared.sctp_error.SctpError.{SctpError}
+use Rattle.rtc_sctp_values.specs.declared.sctp_error.SctpError.TheVariants as sctp
 use Rattle.rtc_sctp.specs.Streams.{SctpStreams}
-use Rattle.rtc_sctp.specs.Calls.{can_write}
+use Rattle.rtc_sctp_values.specs.InitHalves.{InitHalves}
+use Rattle.rtc_sctp.specs.Calls.{can_write, are_whole}
 
 -- a refusal, where its cause holds, and else what follows
 abbrev pub refusal_if : Bool → SctpError → Option SctpError → Option SctpError
@@ -22,9 +23,11 @@ IsRefusedAs due before after (Err sctp.Alloc) = Unit {0}
 IsRefusedAs due before after (Err why) = due ≡ Some why
 
 module _ {S : Type 0} (m : AssociationMeaning S) where
-  -- how a start is refused: where the association was started
-  abbrev pub refusal_of_start : SctpStreams S → Option SctpError
-  refusal_of_start p = refusal_if (m.started p.association) (sctp.Proto proto.Started) None
+  -- how a start is refused: where the association was started; where one of the halves that are given is not there
+  abbrev pub refusal_of_start : Option InitHalves → SctpStreams S → Option SctpError
+  refusal_of_start snap p =
+      refusal_if (m.started p.association) (sctp.Proto proto.Started)
+      (refusal_if (not (are_whole snap)) (sctp.Proto proto.SnapHalf) None)
 
   -- how a message is refused: where its stream takes none; where the association has no such stream, or this end closed it;
   -- where it is longer than the other end takes

@@ -4,6 +4,7 @@ use Rattle.rtc_sctp.specs.declared.rtc_sctp_state.RtcSctpState.{RtcSctpState}
 use Rattle.rtc_sctp.specs.declared.rtc_sctp_state.RtcSctpState.TheVariants.{Uninited, AwaitRemoteAssociation}
 use Rattle.rtc_sctp.specs.declared.rtc_sctp_state.RtcSctpState.TheVariants.{AwaitAssociationEstablished, Established}
 use Rattle.rtc_sctp_entries.specs.declared.stream_entry.StreamEntry.{StreamEntry}
+use Rattle.rtc_sctp_values.specs.SnapHalves.{KeptHalves, nothing_kept}
 
 -- an association, and what is kept of the streams over it
 pub record SctpStreams (S : Type 0) : Type 0 where
@@ -18,6 +19,8 @@ pub record SctpStreams (S : Type 0) : Type 0 where
   pub max_buffered : ℕ
   -- the moment of the last timeout
   pub last : ℕ
+  -- what is kept of starts by session descriptions
+  pub snap : KeptHalves
   -- packets that were given out and came back
   pub pushed : Option (List (List ℕ))
   -- the streams in use, in order of their numbers
@@ -43,6 +46,7 @@ no_streams mtu local_max start association = record {
   max_payload = mtu - 48 - 40;
   max_buffered = 131072;
   last = start;
+  snap = nothing_kept;
   pushed = None;
   entries = [];
   resets = [];

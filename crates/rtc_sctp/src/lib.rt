@@ -3,18 +3,16 @@
 
 mod events;
 mod polls;
-mod proto_error;
 mod pushed_back;
 mod rtc_sctp_state;
-mod sctp_error;
+mod snap_calls;
 mod starting;
 mod stream_calls;
 mod streams;
 mod timing;
 mod writing;
 
-pub use proto_error::ProtoError;
 pub use rtc_sctp_entries::{BufferedThresholdConfig, SctpEvent, StreamEntry, StreamEntryState};
 pub use rtc_sctp_state::RtcSctpState;
-pub use sctp_error::SctpError;
+pub use rtc_sctp_values::{ProtoError, SctpError, SctpInitData};
 pub use streams::RtcSctp;

@@ -1,11 +1,13 @@
 //! The start of an association, and its end.
-ghost use Rattle.std.specs.Prelude.{◌≡◌, None};
-ghost use Rattle.rtc_sctp.specs.Calls.{Inits, Shuts, is_ended as IsEnded};
-ghost use Rattle.rtc_sctp.specs.Calls.{limit_or_default as LimitOrDefault, started_state as StartedState};
+ghost use Rattle.std.specs.Prelude.{◌≡◌, None, false, true};
+ghost use Rattle.rtc_sctp_values.specs.SnapHalves.{begun_halves};
+ghost use Rattle.rtc_sctp.specs.Calls.{AsksSnap, AsksInit, Inits, Shuts, is_ended as IsEnded};
+ghost use Rattle.rtc_sctp.specs.Calls.{limit_or_default as LimitOrDefault, are_whole as AreWhole};
+ghost use Rattle.rtc_sctp.specs.Calls.{started_state as StartedState, begun_state as BegunState};
 ghost use Rattle.rtc_sctp.specs.Refusals.{IsRefusedAs, refusal_of_start};
 
 use crate::streams::RtcSctp;
-use crate::{ProtoError, RtcSctpState, SctpError};
+use crate::{ProtoError, RtcSctpState, SctpError, SctpInitData};
 use rtc_association::Association;
 use rtc_sctp_entries::{Asked, part};
 use rtc_wire::{DEFAULT_REMOTE_MAX_MESSAGE_SIZE, Moment};
@@ -28,19 +30,76 @@ fn started_state(client: bool) -> RtcSctpState
     RtcSctpState::AwaitRemoteAssociation
 }
 
+fn begun_state(snap: &Option<SctpInitData>, client: bool) -> RtcSctpState
+    ensures { result ≡ BegunState snap.now client }
+{
+    match snap {
+        None => started_state(client),
+        Some(_) => RtcSctpState::Established,
+    }
+}
+
+// Whether no halves are given, or both of them.
+fn are_whole(snap: &Option<SctpInitData>) -> bool
+    ensures { result ≡ AreWhole snap.now }
+{
+    match snap {
+        None => true,
+        Some(halves) => halves.is_whole(),
+    }
+}
+
+// Starts an association with the chunks of both ends.
+fn start_by_snap<S: Association>(
+    association: &mut S,
+    halves: &SctpInitData,
+    now: Moment,
+    max_send: u32,
+) -> Asked
+    requires { S.association.started association.old ≡ false }
+    ensures { AsksSnap S.association halves.now association.old now max_send result association.new }
+{
+    Asked::of(association.connect_snap(now, max_send, halves.local_bytes(), halves.remote_bytes()))
+}
+
+// Starts an association with both halves, where there are any, or else as the client or as the server.
+fn ask_start<S: Association>(
+    association: &mut S,
+    snap: &Option<SctpInitData>,
+    client: bool,
+    now: Moment,
+    max_send: u32,
+) -> Asked
+    requires fresh { S.association.started association.old ≡ false }
+    requires whole { AreWhole snap.now ≡ true }
+    ensures { AsksInit S.association snap.now client association.old now max_send result association.new }
+{
+    match snap {
+        None => part::start(association, client, now, max_send),
+        Some(halves) => start_by_snap(association, halves, now, max_send),
+    }
+}
+
 impl<S: Association> RtcSctp<S> {
-    fn start(&mut self, client: bool, now: Moment, remote_max: Option<u32>) -> Result<(), SctpError>
-        ensures { Inits S.association client now (LimitOrDefault remote_max) self.old result self.new }
+    fn start(
+        &mut self,
+        client: bool,
+        now: Moment,
+        snap: Option<SctpInitData>,
+        remote_max: Option<u32>,
+    ) -> Result<(), SctpError>
+        ensures { Inits S.association client now (LimitOrDefault remote_max) snap self.old result self.new }
     {
         if self.association.is_started() {
             return Err(SctpError::Proto(ProtoError::Started));
         }
+        if !are_whole(&snap) {
+            return Err(SctpError::Proto(ProtoError::SnapHalf));
+        }
         let max = limit_or_default(remote_max);
-        match part::start(&mut self.association, client, now, max) {
+        match ask_start(&mut self.association, &snap, client, now, max) {
             Asked::Done => {
-                self.client = client;
-                self.remote_max = max;
-                self.state = started_state(client);
+                self.begin(client, max, snap);
                 Ok(())
             }
             Asked::Refused => Err(SctpError::Proto(ProtoError::Fault)),
@@ -48,19 +107,35 @@ impl<S: Association> RtcSctp<S> {
         }
     }
 
-    /// Starts the association. `remote_max` is the longest message that the other end takes, in bytes, where its
-    /// session description says it.
+    // Keeps what the association was started with.
+    fn begin(&mut self, client: bool, max: u32, snap: Option<SctpInitData>)
+        ensures { self.new ≡ record self.old {
+          client = client;
+          remote_max = max;
+          state = BegunState snap client;
+          snap = begun_halves snap self.old.snap;
+        } }
+    {
+        self.client = client;
+        self.remote_max = max;
+        self.state = begun_state(&snap, client);
+        self.snap.begin(snap);
+    }
+
+    /// Starts the association. `snap` has the halves of a start by session descriptions: with both it is established at once.
+    /// `remote_max` is the longest message that the other end takes, in bytes, where its session description says it.
     pub fn init(
         &mut self,
         client: bool,
         now: Moment,
+        snap: Option<SctpInitData>,
         remote_max: Option<u32>,
     ) -> Result<(), SctpError>
-        ensures inits { Inits S.association client now (LimitOrDefault remote_max) self.old result self.new }
-        ensures refused { IsRefusedAs (refusal_of_start S.association self.old)
+        ensures inits { Inits S.association client now (LimitOrDefault remote_max) snap self.old result self.new }
+        ensures refused { IsRefusedAs (refusal_of_start S.association snap self.old)
             (S.association.faults self.old.association) (S.association.faults self.new.association) result }
     {
-        self.start(client, now, remote_max)
+        self.start(client, now, snap, remote_max)
     }
 
     pub(crate) fn is_ended(&self) -> bool

@@ -7,6 +7,7 @@ use crate::pushed_back::PushedBack;
 use crate::{RtcSctpState, StreamEntry};
 use rtc_association::Association;
 use rtc_sctp_entries::entries::config_of;
+use rtc_sctp_values::SnapHalves;
 use rtc_wire::{
     Bytes, ChannelConfig, DEFAULT_MAX_BUFFERED_AMOUNT, DEFAULT_REMOTE_MAX_MESSAGE_SIZE,
     MAX_DTLS_OVERHEAD, Moment, SCTP_OVERHEAD, Seq,
@@ -27,6 +28,7 @@ pub struct RtcSctp<S> {
     pub(crate) max_payload: usize,
     pub(crate) max_buffered: usize,
     pub(crate) last: Moment,
+    pub(crate) snap: SnapHalves,
     pub(crate) pushed: PushedBack,
     pub(crate) entries: Vec<StreamEntry>,
     pub(crate) resets: Vec<u16>,
@@ -48,6 +50,7 @@ impl<S> Model for RtcSctp<S> {
       max_payload = s.max_payload;
       max_buffered = s.max_buffered;
       last = s.last;
+      snap = s.snap;
       pushed = s.pushed;
       entries = s.entries.items;
       resets = s.resets.items;
@@ -70,6 +73,7 @@ impl<S: Drop> Drop for RtcSctp<S> {
             max_payload: _max_payload,
             max_buffered: _max_buffered,
             last: _last,
+            snap: _snap,
             pushed: _pushed,
             entries: _entries,
             resets: _resets,
@@ -107,6 +111,7 @@ impl<S: Association> RtcSctp<S> {
             max_payload,
             max_buffered: DEFAULT_MAX_BUFFERED_AMOUNT,
             last: start,
+            snap: SnapHalves::none(alloc),
             pushed: PushedBack::none(),
             entries: Vec::new(alloc),
             resets: Vec::new(alloc),

@@ -41,8 +41,8 @@ impl TwoPeers {
 
     /// Starts the left side as the client, and the right one as the server.
     pub fn start(&mut self) -> Result<(), SctpError> {
-        self.left.init(true, Moment::FAR_PAST, None)?;
-        self.right.init(false, Moment::FAR_PAST, None)
+        self.left.init(true, Moment::FAR_PAST, None, None)?;
+        self.right.init(false, Moment::FAR_PAST, None, None)
     }
 
     /// Hands over what each side has to send, and notes what each is told.

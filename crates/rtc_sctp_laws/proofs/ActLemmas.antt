@@ -11,7 +11,7 @@ use Rattle.rtc_association.specs.Ppi.{ppi_number}
 use Rattle.rtc_association.specs.AssociationMeaning.{AssociationMeaning}
 use Rattle.rtc_association.specs.AssociationLaws.{AssociationLaws}
 use Rattle.rtc_association.specs.AssociationActs.{AssociationAct, Started, Opened, Wrote, Ended, Given, Taken, Read, Told, Stirred, Stirs, Acted, moved-append}
-use Rattle.rtc_association.specs.AssociationActs.{ByConnect, ByAccept, ConnectRefused, AcceptRefused, OpenRefused, WriteRefused, ReadRefused, EndRefused, ThresholdSet, ReliabilitySet}
+use Rattle.rtc_association.specs.AssociationActs.{ByConnect, ByAccept, BySnap, ConnectRefused, AcceptRefused, SnapRefused, OpenRefused, WriteRefused, ReadRefused, EndRefused, ThresholdSet, ReliabilitySet}
 use Rattle.rtc_association.specs.AssociationWords.{given, taken, told}
 use Rattle.rtc_association.proofs.AssociationLemmas.{given-append, taken-append, told-append}
 use Rattle.rtc_parts_values.specs.Why.{Timed, Shut, Other}
@@ -110,6 +110,11 @@ module _ {S : Type 0} (m : AssociationMeaning S) where
   started_did true a b now max (Err e) s h = stirred_did a b (ConnectRefused now max e s h)
   started_did false a b now max (Ok x) s h = did_one Started [] [] [] [] [] a b refl refl refl refl refl (s, ByAccept now max h)
   started_did false a b now max (Err e) s h = stirred_did a b (AcceptRefused now max e s h)
+
+  pub snapped_did : (a b : S) (now max : ℕ) (local remote : List ℕ) (r : Result (Unit {0}) AssocError) → m.started a ≡ false
+      → m.connected_snap a now max local remote r b → AssociationDid m [] [] [] [] [] a b
+  snapped_did a b now max l o (Ok x) s h = did_one Started [] [] [] [] [] a b refl refl refl refl refl (s, BySnap now max l o h)
+  snapped_did a b now max l o (Err e) s h = stirred_did a b (SnapRefused now max l o e s h)
 
   -- what left the association as it was did nothing
   pub did_same : (a b : S) → b ≡ a → AssociationDid m [] [] [] [] [] a b

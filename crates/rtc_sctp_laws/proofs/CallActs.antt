@@ -14,15 +14,16 @@ use Rattle.rtc_sctp_entries.specs.Part.{AsksStart}
 use Rattle.rtc_sctp_entries.specs.Entries.{entry_place}
 use Rattle.rtc_sctp.specs.declared.rtc_sctp_state.RtcSctpState.{RtcSctpState}
 use Rattle.rtc_sctp.specs.declared.rtc_sctp_state.RtcSctpState.TheVariants.{Uninited, AwaitRemoteAssociation, AwaitAssociationEstablished, Established}
-use Rattle.rtc_sctp.specs.declared.proto_error.ProtoError.TheVariants as proto
-use Rattle.rtc_sctp.specs.declared.sctp_error.SctpError.{SctpError}
-use Rattle.rtc_sctp.specs.declared.sctp_error.SctpError.TheVariants as sctp
+use Rattle.rtc_sctp_values.specs.declared.proto_error.ProtoError.TheVariants as proto
+use Rattle.rtc_sctp_values.specs.declared.sctp_error.SctpError.{SctpError}
+use Rattle.rtc_sctp_values.specs.declared.sctp_error.SctpError.TheVariants as sctp
 use Rattle.rtc_sctp.specs.Streams.{SctpStreams}
-use Rattle.rtc_sctp.specs.Calls.{Inits, ShutBy, Shuts, is_ended, WrittenIf, WritesStream, can_write, written_ppi, is_nil, write_answer, InputIf, TakesInput, TimedBy, TakesTimeout}
+use Rattle.rtc_sctp_values.specs.InitHalves.{InitHalves, half_bytes}
+use Rattle.rtc_sctp.specs.Calls.{AsksInit, Inits, ShutBy, Shuts, is_ended, WrittenIf, WritesStream, can_write, written_ppi, is_nil, write_answer, InputIf, TakesInput, TimedBy, TakesTimeout}
 use Rattle.rtc_sctp.specs.StreamCalls.{TakesConfig, Declined, Answered, OpensAwaiting, OpensOver, OpensAt, OpensStream, EndsStream, NoRoom, Ended, EndsIf, ClosesAt, ClosesDataStream}
 use Rattle.rtc_sctp_laws.specs.StreamMessages.{StreamMessage}
 use Rattle.rtc_sctp_laws.specs.StreamActs.{AssociationDid, CallDid, written_message, given_packet}
-use Rattle.rtc_sctp_laws.proofs.ActLemmas.{did_same, ended_did, reliability_did, wrote_did, shut_did, timed_did, given_did, started_did, message_taken}
+use Rattle.rtc_sctp_laws.proofs.ActLemmas.{did_same, ended_did, reliability_did, wrote_did, shut_did, timed_did, given_did, started_did, snapped_did, message_taken}
 
 module _ {S : Type 0} (m : AssociationMeaning S) where
   -- what a call did to the association, where what stood pushed back stands
@@ -35,12 +36,20 @@ module _ {S : Type 0} (m : AssociationMeaning S) where
   starts : (client : Bool) (now max : ℕ) (a : Asked) (p q : S) → m.started p ≡ false → AsksStart m client p now max a q → AssociationDid m [] [] [] [] [] p q
   starts client now max a p q s k = started_did m client p q now max k.result s k.called
 
-  pub inits_did : (client : Bool) (now max : ℕ) (p : SctpStreams S) (r : Result (Unit {0}) SctpError) (q : SctpStreams S) → Inits m client now max p r q → CallDid m [] [] p q
-  inits_did client now max p (Ok x) q h = call [] [] p _ q h.2 refl refl (starts client now max did.Done p.association q.association h.0 h.1)
-  inits_did client now max p (Err (sctp.Proto proto.Started)) q h = unchanged p q h.1
-  inits_did client now max p (Err (sctp.Proto proto.Fault)) q h = call [] [] p _ q h.2 refl refl (starts client now max did.Refused p.association q.association h.0 h.1)
-  inits_did client now max p (Err sctp.Alloc) q h = call [] [] p _ q h.2 refl refl (starts client now max did.OutOfMemory p.association q.association h.0 h.1)
-  inits_did client now max p (Err e) q h = absurd h
+  begins : (snap : Option InitHalves) (client : Bool) (now max : ℕ) (a : Asked) (p q : S) → m.started p ≡ false
+      → AsksInit m snap client p now max a q → AssociationDid m [] [] [] [] [] p q
+  begins None client now max a p q s k = starts client now max a p q s k
+  begins (Some halves) client now max a p q s k =
+      snapped_did m p q now max (half_bytes halves.local) (half_bytes halves.remote) k.1.result s k.1.called
+
+  pub inits_did : (client : Bool) (now max : ℕ) (snap : Option InitHalves) (p : SctpStreams S) (r : Result (Unit {0}) SctpError) (q : SctpStreams S)
+      → Inits m client now max snap p r q → CallDid m [] [] p q
+  inits_did client now max snap p (Ok x) q h = call [] [] p _ q h.2 refl refl (begins snap client now max did.Done p.association q.association h.0 h.1)
+  inits_did client now max snap p (Err (sctp.Proto proto.Started)) q h = unchanged p q h.1
+  inits_did client now max snap p (Err (sctp.Proto proto.SnapHalf)) q h = unchanged p q h.2
+  inits_did client now max snap p (Err (sctp.Proto proto.Fault)) q h = call [] [] p _ q h.2 refl refl (begins snap client now max did.Refused p.association q.association h.0 h.1)
+  inits_did client now max snap p (Err sctp.Alloc) q h = call [] [] p _ q h.2 refl refl (begins snap client now max did.OutOfMemory p.association q.association h.0 h.1)
+  inits_did client now max snap p (Err e) q h = absurd h
 
   shut_by : (b : Bool) (p : SctpStreams S) (r : Result (Unit {0}) SctpError) (q : SctpStreams S) → ShutBy m b p r q → CallDid m [] [] p q
   shut_by true p r q h = unchanged p q h.1

@@ -15,15 +15,16 @@ use Rattle.rtc_sctp_entries.specs.declared.sctp_event.SctpEvent.TheVariants as e
 use Rattle.rtc_sctp_entries.specs.Entries.{entry_place, marked_entry}
 use Rattle.rtc_sctp.specs.declared.rtc_sctp_state.RtcSctpState.{RtcSctpState}
 use Rattle.rtc_sctp.specs.declared.rtc_sctp_state.RtcSctpState.TheVariants.{Uninited, AwaitRemoteAssociation, AwaitAssociationEstablished, Established}
-use Rattle.rtc_sctp.specs.declared.proto_error.ProtoError.TheVariants as proto
-use Rattle.rtc_sctp.specs.declared.sctp_error.SctpError.{SctpError}
-use Rattle.rtc_sctp.specs.declared.sctp_error.SctpError.TheVariants as sctp
+use Rattle.rtc_sctp_values.specs.declared.proto_error.ProtoError.TheVariants as proto
+use Rattle.rtc_sctp_values.specs.declared.sctp_error.SctpError.{SctpError}
+use Rattle.rtc_sctp_values.specs.declared.sctp_error.SctpError.TheVariants as sctp
 use Rattle.rtc_sctp.specs.Streams.{SctpStreams, is_established}
+use Rattle.rtc_sctp_values.specs.InitHalves.{InitHalves}
 use Rattle.rtc_sctp.specs.Calls.{Inits, ShutBy, is_ended, WrittenIf, can_write, InputIf, TimedBy, state_on_input}
 use Rattle.rtc_sctp.specs.StreamCalls.{ConfigBy, TakesConfig, Declined, Answered, OpensAwaiting, OpensOver, OpensAt, OpensStream, ClosesAt, ClosesDataStream, SetsThreshold}
 use Rattle.rtc_sctp_laws.specs.StreamMessages.{StreamMessage, resets_event, met_of}
 use Rattle.rtc_sctp_laws.specs.StreamActs.{CallDid}
-use Rattle.rtc_sctp_laws.specs.StreamRuns.{event_of, CallsStreams, Inited, ShutDown, Wrote, StreamOpened, StreamClosed, ThresholdSet, LimitSet, InputTaken, TimeoutTaken, PushedBack, Polled}
+use Rattle.rtc_sctp_laws.specs.StreamRuns.{event_of, CallsStreams, Inited, HalvesKept, ShutDown, Wrote, StreamOpened, StreamClosed, ThresholdSet, LimitSet, InputTaken, TimeoutTaken, PushedBack, Polled}
 use Rattle.rtc_sctp_laws.specs.StreamRuns.{CallsInTurn, all_events, is_closing_entry, has_closing_entry, closes_first}
 use Rattle.rtc_sctp_laws.proofs.CallActs.{shuts_did, writes_did, input_did, timeout_did, opens_did, closes_did}
 use Rattle.rtc_sctp_laws.proofs.EndingLemmas.{ending_is, ending_id, ending_marked, ending_past, ending_insert, ending_set, ending_unclosed}
@@ -44,12 +45,13 @@ module _ {S : Type 0} (m : AssociationMeaning S) (w : AssociationLaws m) where
       call_waits id ins wrote p q d (ap (λ (x : SctpStreams S). is_established x.state) f ∙ ap is_established s ∙ k.established)
       (ap (λ (x : SctpStreams S). has_closing_entry id x.entries) f ∙ ap (has_closing_entry id) e ∙ k.ending) k
 
-  inits_waits : (id : ℕ) (client : Bool) (now max : ℕ) (p : SctpStreams S) (r : Result (Unit {0}) SctpError) (q : SctpStreams S) → Inits m client now max p r q → Waits m w id p → Waits m w id q
-  inits_waits id client now max p (Ok x) q h k = absurd (true≢false (sym k.started ∙ h.0))
-  inits_waits id client now max p (Err (sctp.Proto proto.Started)) q h k = waits_is m w id p q h.1 k
-  inits_waits id client now max p (Err (sctp.Proto proto.Fault)) q h k = absurd (true≢false (sym k.started ∙ h.0))
-  inits_waits id client now max p (Err sctp.Alloc) q h k = absurd (true≢false (sym k.started ∙ h.0))
-  inits_waits id client now max p (Err e) q h k = absurd h
+  inits_waits : (id : ℕ) (client : Bool) (now max : ℕ) (snap : Option InitHalves) (p : SctpStreams S) (r : Result (Unit {0}) SctpError) (q : SctpStreams S) → Inits m client now max snap p r q → Waits m w id p → Waits m w id q
+  inits_waits id client now max snap p (Ok x) q h k = absurd (true≢false (sym k.started ∙ h.0))
+  inits_waits id client now max snap p (Err (sctp.Proto proto.Started)) q h k = waits_is m w id p q h.1 k
+  inits_waits id client now max snap p (Err (sctp.Proto proto.SnapHalf)) q h k = waits_is m w id p q h.2 k
+  inits_waits id client now max snap p (Err (sctp.Proto proto.Fault)) q h k = absurd (true≢false (sym k.started ∙ h.0))
+  inits_waits id client now max snap p (Err sctp.Alloc) q h k = absurd (true≢false (sym k.started ∙ h.0))
+  inits_waits id client now max snap p (Err e) q h k = absurd h
 
   shut_waits : (b : Bool) (id : ℕ) (p : SctpStreams S) (r : Result (Unit {0}) SctpError) (q : SctpStreams S) → CallDid m [] [] p q → ShutBy m b p r q → Waits m w id p → Waits m w id q
   shut_waits true id p r q d h k = waits_is m w id p q h.1 k
@@ -145,7 +147,9 @@ module _ {S : Type 0} (m : AssociationMeaning S) (w : AssociationLaws m) where
   polled id events (Err x) q e h = Quiet e h
 
   call_after : (id : ℕ) (p : SctpStreams S) (events : List SctpEvent) (q : SctpStreams S) → CallsStreams m p events q → Waits m w id p → CallAfter id events q
-  call_after id p events q (Inited client now max r h e) k = Quiet e (inits_waits id client now max p r q h k)
+  call_after id p events q (Inited client now max snap r h e) k = Quiet e (inits_waits id client now max snap p r q h k)
+  call_after id p events q (HalvesKept h e) k =
+      Quiet e (waits_is m w id _ q h (record { established = k.established; started = k.started; ending = k.ending }))
   call_after id p events q (ShutDown r h e) k = Quiet e (shut_waits (is_ended m p.association) id p r q (shuts_did m p r q h) h k)
   call_after id p events q (Wrote other binary bytes r h e) k = Quiet e (written_waits (can_write m other p) id other binary bytes _ p r q (writes_did m other binary bytes p r q h) h k)
   call_after id p events q (StreamOpened other config r h e) k = Quiet e (opens_waits id other config p r q h k)

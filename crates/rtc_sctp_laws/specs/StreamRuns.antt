@@ -12,7 +12,8 @@ use Rattle.rtc_sctp_entries.specs.declared.stream_entry.StreamEntry.{StreamEntry
 use Rattle.rtc_sctp_entries.specs.declared.sctp_event.SctpEvent.{SctpEvent}
 use Rattle.rtc_sctp_entries.specs.declared.sctp_event.SctpEvent.TheVariants as event
 use Rattle.rtc_sctp_entries.specs.Entries.{entry_place}
-use Rattle.rtc_sctp.specs.declared.sctp_error.SctpError.{SctpError}
+use Rattle.rtc_sctp_values.specs.declared.sctp_error.SctpError.{SctpError}
+use Rattle.rtc_sctp_values.specs.InitHalves.{InitHalves}
 use Rattle.rtc_sctp.specs.Streams.{SctpStreams}
 use Rattle.rtc_sctp.specs.Calls.{Inits, Shuts, WritesStream, TakesInput, TakesTimeout}
 use Rattle.rtc_sctp.specs.StreamCalls.{OpensStream, ClosesDataStream, SetsThreshold}
@@ -27,8 +28,9 @@ event_of (Err x) = []
 -- one call on streams, and the events that it answers
 pub data CallsStreams {S : Type 0} (m : AssociationMeaning S) (p : SctpStreams S) (events : List SctpEvent) (q : SctpStreams S)
     : Type 0 where
-  Inited : (client : Bool) (now max : ℕ) (r : Result (Unit {0}) SctpError) → Inits m client now max p r q → events ≡ []
-      → CallsStreams m p events q
+  Inited : (client : Bool) (now max : ℕ) (snap : Option InitHalves) (r : Result (Unit {0}) SctpError) → Inits m client now max snap p r q
+      → events ≡ [] → CallsStreams m p events q
+  HalvesKept : q ≡ record p { snap = q.snap } → events ≡ [] → CallsStreams m p events q
   ShutDown : (r : Result (Unit {0}) SctpError) → Shuts m p r q → events ≡ [] → CallsStreams m p events q
   Wrote : (id : ℕ) (binary : Bool) (bytes : List ℕ) (r : Result ℕ SctpError) → WritesStream m id binary bytes p r q → events ≡ []
       → CallsStreams m p events q

@@ -4,7 +4,8 @@ ghost use Rattle.std.specs.declared.alloc.AllocError.{AllocError};
 ghost use Rattle.rtc_ready.specs.Signals.{Signals};
 ghost use Rattle.rtc_wire.specs.declared.channel_config.ChannelConfig.{ChannelConfig};
 ghost use Rattle.rtc_sctp_entries.specs.declared.sctp_event.SctpEvent.{SctpEvent};
-ghost use Rattle.rtc_sctp.specs.declared.sctp_error.SctpError.{SctpError};
+ghost use Rattle.rtc_sctp_values.specs.declared.sctp_error.SctpError.{SctpError};
+ghost use Rattle.rtc_sctp_values.specs.InitHalves.{InitHalves};
 ghost use Rattle.rtc_sctp.specs.Streams.{SctpStreams};
 ghost use Rattle.rtc_sctp.specs.Calls.{Inits, Shuts, WritesStream, TakesInput, TakesTimeout};
 ghost use Rattle.rtc_sctp.specs.StreamCalls.{OpensStream, ClosesDataStream};
@@ -35,8 +36,8 @@ pub fn calls_did<S: Association>()
         → OpensStream S.association id config p r q → CallDid S.association [] [] p q }
     ensures closes { (p q : SctpStreams S) (id : ℕ) (r : Result (Unit {0}) AllocError)
         → ClosesDataStream S.association id p r q → CallDid S.association [] [] p q }
-    ensures starts { (p q : SctpStreams S) (client : Bool) (now max : ℕ) (r : Result (Unit {0}) SctpError)
-        → Inits S.association client now max p r q → CallDid S.association [] [] p q }
+    ensures starts { (p q : SctpStreams S) (client : Bool) (now max : ℕ) (snap : Option InitHalves) (r : Result (Unit {0}) SctpError)
+        → Inits S.association client now max snap p r q → CallDid S.association [] [] p q }
     ensures shuts { (p q : SctpStreams S) (r : Result (Unit {0}) SctpError) → Shuts S.association p r q
         → CallDid S.association [] [] p q }
 {}

@@ -24,8 +24,8 @@ impl OpenStreams {
             left: unstarted(alloc),
             right: unstarted(alloc),
         };
-        streams.left.init(true, Moment::FAR_PAST, None)?;
-        streams.right.init(false, Moment::FAR_PAST, None)?;
+        streams.left.init(true, Moment::FAR_PAST, None, None)?;
+        streams.right.init(false, Moment::FAR_PAST, None, None)?;
         streams.exchange()?;
         Ok(streams)
     }

@@ -10,7 +10,7 @@ use Rattle.rtc_association.specs.declared.assoc_event.AssocEvent.{AssocEvent}
 use Rattle.rtc_association.specs.declared.assoc_event.AssocEvent.TheVariants as assoc
 use Rattle.rtc_association.specs.AssociationMeaning.{AssociationMeaning}
 use Rattle.rtc_association.specs.AssociationLaws.{AssociationLaws}
-use Rattle.rtc_association.specs.AssociationActs.{AssociationAct, Started, Stirred, ByConnect, ByAccept, ConnectRefused, AcceptRefused, Acted}
+use Rattle.rtc_association.specs.AssociationActs.{AssociationAct, Started, Stirred, ByConnect, ByAccept, BySnap, ConnectRefused, AcceptRefused, SnapRefused, Acted}
 use Rattle.rtc_association.specs.AssociationWords.{told}
 use Rattle.rtc_parts_values.specs.Why.{Timed, Shut as ShutDown, Other}
 use Rattle.rtc_sctp_entries.specs.declared.asked.Asked.{Asked}
@@ -22,11 +22,12 @@ use Rattle.rtc_sctp_entries.specs.Part.{StartedAs}
 use Rattle.rtc_sctp_entries.specs.Entries.{entry_place, new_place, new_entry, marked_entry, has_open, is_open_state, is_closed_state, unclosed}
 use Rattle.rtc_sctp.specs.declared.rtc_sctp_state.RtcSctpState.{RtcSctpState}
 use Rattle.rtc_sctp.specs.declared.rtc_sctp_state.RtcSctpState.TheVariants.{Uninited, AwaitRemoteAssociation, AwaitAssociationEstablished, Established}
-use Rattle.rtc_sctp.specs.declared.proto_error.ProtoError.TheVariants as proto
-use Rattle.rtc_sctp.specs.declared.sctp_error.SctpError.{SctpError}
-use Rattle.rtc_sctp.specs.declared.sctp_error.SctpError.TheVariants as sctp
+use Rattle.rtc_sctp_values.specs.declared.proto_error.ProtoError.TheVariants as proto
+use Rattle.rtc_sctp_values.specs.declared.sctp_error.SctpError.{SctpError}
+use Rattle.rtc_sctp_values.specs.declared.sctp_error.SctpError.TheVariants as sctp
+use Rattle.rtc_sctp_values.specs.InitHalves.{InitHalves, half_bytes}
 use Rattle.rtc_sctp.specs.Streams.{SctpStreams}
-use Rattle.rtc_sctp.specs.Calls.{Inits, ShutBy, Shuts, is_ended, WrittenIf, WritesStream, can_write, InputIf, TimedBy, TakesTimeout}
+use Rattle.rtc_sctp.specs.Calls.{AsksInit, Inits, ShutBy, Shuts, is_ended, WrittenIf, WritesStream, can_write, InputIf, TimedBy, TakesTimeout}
 use Rattle.rtc_sctp.specs.StreamCalls.{ConfigBy, TakesConfig, Declined, Answered, OpensAwaiting, OpensOver, OpensAt, OpensStream, NoRoom, Ended, EndsIf, ClosesAt, ClosesDataStream, SetsThreshold}
 use Rattle.rtc_sctp_laws.specs.StreamRuns.{is_past_opening}
 use Rattle.rtc_stream_uses.specs.GenerationLaws.{gives_packet}
@@ -224,6 +225,10 @@ module _ {S : Type 0} (m : AssociationMeaning S) where
     starts_open false a b now max (Ok x) st h = quiet_act a b Started refl refl (λ s. refl) (st, ByAccept now max h)
     starts_open false a b now max (Err e) st h = quiet_act a b (Stirred Other) refl refl (λ s. refl) (AcceptRefused now max e st h)
 
+    snaps_open : (a b : S) (now max : ℕ) (local remote : List ℕ) (r : Result (Unit {0}) AssocError) → m.started a ≡ false → m.connected_snap a now max local remote r b → AllOpen a b
+    snaps_open a b now max l o (Ok x) st h = quiet_act a b Started refl refl (λ s. refl) (st, BySnap now max l o h)
+    snaps_open a b now max l o (Err e) st h = quiet_act a b (Stirred Other) refl refl (λ s. refl) (SnapRefused now max l o e st h)
+
     -- what a call does to the association, and to the entries
     pub record CallSeals (p q : SctpStreams S) : Type 1 where
       pub kept : AllOpen p.association q.association
@@ -235,12 +240,17 @@ module _ {S : Type 0} (m : AssociationMeaning S) where
     same_list : (p q : SctpStreams S) → AllOpen p.association q.association → q.entries ≡ p.entries → CallSeals p q
     same_list p q o e = record { kept = o; keeps = held_same p.entries q.entries e }
 
-    pub inits_seal : (client : Bool) (now max : ℕ) (p : SctpStreams S) (r : Result (Unit {0}) SctpError) (q : SctpStreams S) → Inits m client now max p r q → CallSeals p q
-    inits_seal client now max p (Ok x) q h = same_list p q (starts_open client p.association q.association now max h.1.result h.0 h.1.called) (ap (λ (y : SctpStreams S). y.entries) h.2)
-    inits_seal client now max p (Err (sctp.Proto proto.Started)) q h = unchanged p q h.1
-    inits_seal client now max p (Err (sctp.Proto proto.Fault)) q h = same_list p q (starts_open client p.association q.association now max h.1.result h.0 h.1.called) (ap (λ (y : SctpStreams S). y.entries) h.2)
-    inits_seal client now max p (Err sctp.Alloc) q h = same_list p q (starts_open client p.association q.association now max h.1.result h.0 h.1.called) (ap (λ (y : SctpStreams S). y.entries) h.2)
-    inits_seal client now max p (Err e) q h = absurd h
+    begins_open : (snap : Option InitHalves) (client : Bool) (now max : ℕ) (a : Asked) (p q : S) → m.started p ≡ false → AsksInit m snap client p now max a q → AllOpen p q
+    begins_open None client now max a p q st k = starts_open client p q now max k.result st k.called
+    begins_open (Some halves) client now max a p q st k = snaps_open p q now max (half_bytes halves.local) (half_bytes halves.remote) k.1.result st k.1.called
+
+    pub inits_seal : (client : Bool) (now max : ℕ) (snap : Option InitHalves) (p : SctpStreams S) (r : Result (Unit {0}) SctpError) (q : SctpStreams S) → Inits m client now max snap p r q → CallSeals p q
+    inits_seal client now max snap p (Ok x) q h = same_list p q (begins_open snap client now max did.Done p.association q.association h.0 h.1) (ap (λ (y : SctpStreams S). y.entries) h.2)
+    inits_seal client now max snap p (Err (sctp.Proto proto.Started)) q h = unchanged p q h.1
+    inits_seal client now max snap p (Err (sctp.Proto proto.SnapHalf)) q h = unchanged p q h.2
+    inits_seal client now max snap p (Err (sctp.Proto proto.Fault)) q h = same_list p q (begins_open snap client now max did.Refused p.association q.association h.0 h.1) (ap (λ (y : SctpStreams S). y.entries) h.2)
+    inits_seal client now max snap p (Err sctp.Alloc) q h = same_list p q (begins_open snap client now max did.OutOfMemory p.association q.association h.0 h.1) (ap (λ (y : SctpStreams S). y.entries) h.2)
+    inits_seal client now max snap p (Err e) q h = absurd h
 
     shut_act : (a b : S) (r : Result (Unit {0}) AssocError) → m.shut a r b → AllOpen a b
     shut_act a b r h = quiet_act a b (Stirred ShutDown) refl refl (λ s. refl) (r, h)

@@ -5,7 +5,8 @@ ghost use Rattle.rtc_ready.specs.Signals.{Signals};
 ghost use Rattle.rtc_wire.specs.declared.channel_config.ChannelConfig.{ChannelConfig};
 ghost use Rattle.rtc_sctp_entries.specs.Entries.{entry_place, has_open};
 ghost use Rattle.rtc_sctp_entries.specs.declared.sctp_event.SctpEvent.{SctpEvent};
-ghost use Rattle.rtc_sctp.specs.declared.sctp_error.SctpError.{SctpError};
+ghost use Rattle.rtc_sctp_values.specs.declared.sctp_error.SctpError.{SctpError};
+ghost use Rattle.rtc_sctp_values.specs.InitHalves.{InitHalves};
 ghost use Rattle.rtc_sctp.specs.Streams.{SctpStreams};
 ghost use Rattle.rtc_sctp.specs.Calls.{Inits, Shuts, WritesStream, TakesInput, TakesTimeout};
 ghost use Rattle.rtc_sctp.specs.StreamCalls.{OpensStream, ClosesDataStream, SetsThreshold};
@@ -51,8 +52,8 @@ pub fn calls_seal_closed_streams<S: Association>()
         (r : Result ℕ SctpError) (s : ℕ) → WritesStream S.association id binary bytes p r q → KeepsSealed S.association s p q }
     ensures threshold { CloseLaws S.association → (p q : SctpStreams S) (id n s : ℕ)
         → SetsThreshold S n (entry_place id p.entries) p q → KeepsSealed S.association s p q }
-    ensures starts { CloseLaws S.association → (p q : SctpStreams S) (client : Bool) (now max : ℕ)
-        (r : Result (Unit {0}) SctpError) (s : ℕ) → Inits S.association client now max p r q → KeepsSealed S.association s p q }
+    ensures starts { CloseLaws S.association → (p q : SctpStreams S) (client : Bool) (now max : ℕ) (snap : Option InitHalves)
+        (r : Result (Unit {0}) SctpError) (s : ℕ) → Inits S.association client now max snap p r q → KeepsSealed S.association s p q }
     ensures shuts { CloseLaws S.association → (p q : SctpStreams S) (r : Result (Unit {0}) SctpError) (s : ℕ)
         → Shuts S.association p r q → KeepsSealed S.association s p q }
     ensures rests { (p : SctpStreams S) (s : ℕ) → S.association.due p.association ≡ []

@@ -19,9 +19,10 @@ use Rattle.rtc_sctp_entries.specs.declared.stream_entry.StreamEntry.{StreamEntry
 use Rattle.rtc_sctp_entries.specs.Entries.{entry_place, new_place, new_entry, marked_entry, has_open}
 use Rattle.rtc_sctp.specs.declared.rtc_sctp_state.RtcSctpState.{RtcSctpState}
 use Rattle.rtc_sctp.specs.declared.rtc_sctp_state.RtcSctpState.TheVariants.{Uninited, AwaitRemoteAssociation, AwaitAssociationEstablished, Established}
-use Rattle.rtc_sctp.specs.declared.proto_error.ProtoError.TheVariants as proto
-use Rattle.rtc_sctp.specs.declared.sctp_error.SctpError.{SctpError}
-use Rattle.rtc_sctp.specs.declared.sctp_error.SctpError.TheVariants as sctp
+use Rattle.rtc_sctp_values.specs.declared.proto_error.ProtoError.TheVariants as proto
+use Rattle.rtc_sctp_values.specs.declared.sctp_error.SctpError.{SctpError}
+use Rattle.rtc_sctp_values.specs.declared.sctp_error.SctpError.TheVariants as sctp
+use Rattle.rtc_sctp_values.specs.InitHalves.{InitHalves}
 use Rattle.rtc_sctp.specs.Streams.{SctpStreams, is_established}
 use Rattle.rtc_sctp.specs.Calls.{Inits, ShutBy, Shuts, is_ended, WrittenIf, WritesStream, can_write, written_ppi, is_nil, write_answer, InputIf, TakesInput, TimedBy, TakesTimeout}
 use Rattle.rtc_sctp.specs.StreamCalls.{ConfigBy, TakesConfig, Declined, Answered, OpensAwaiting, OpensOver, OpensAt, OpensStream, ClosesAt, ClosesDataStream, SetsThreshold}
@@ -67,15 +68,16 @@ module _ {S : Type 0} (m : AssociationMeaning S) where
     same_use s ws hs p q d e h = call_use s ws hs p q d (λ k. used_is m _ _ s q.association _ _ (ap (entries_of s) e) k) h
 
     -- starts and ends
-    inits_entries : (client : Bool) (now max : ℕ) (p : SctpStreams S) (r : Result (Unit {0}) SctpError) (q : SctpStreams S) → Inits m client now max p r q → q.entries ≡ p.entries
-    inits_entries client now max p (Ok x) q h = ap (λ (y : SctpStreams S). y.entries) h.2
-    inits_entries client now max p (Err (sctp.Proto proto.Started)) q h = ap (λ (y : SctpStreams S). y.entries) h.1
-    inits_entries client now max p (Err (sctp.Proto proto.Fault)) q h = ap (λ (y : SctpStreams S). y.entries) h.2
-    inits_entries client now max p (Err sctp.Alloc) q h = ap (λ (y : SctpStreams S). y.entries) h.2
-    inits_entries client now max p (Err e) q h = absurd h
+    inits_entries : (client : Bool) (now max : ℕ) (snap : Option InitHalves) (p : SctpStreams S) (r : Result (Unit {0}) SctpError) (q : SctpStreams S) → Inits m client now max snap p r q → q.entries ≡ p.entries
+    inits_entries client now max snap p (Ok x) q h = ap (λ (y : SctpStreams S). y.entries) h.2
+    inits_entries client now max snap p (Err (sctp.Proto proto.Started)) q h = ap (λ (y : SctpStreams S). y.entries) h.1
+    inits_entries client now max snap p (Err (sctp.Proto proto.SnapHalf)) q h = ap (λ (y : SctpStreams S). y.entries) h.2
+    inits_entries client now max snap p (Err (sctp.Proto proto.Fault)) q h = ap (λ (y : SctpStreams S). y.entries) h.2
+    inits_entries client now max snap p (Err sctp.Alloc) q h = ap (λ (y : SctpStreams S). y.entries) h.2
+    inits_entries client now max snap p (Err e) q h = absurd h
 
-    pub inits_use : (client : Bool) (now max : ℕ) (p : SctpStreams S) (r : Result (Unit {0}) SctpError) (q : SctpStreams S) (s : ℕ) (ws hs : List StreamMessage) → Inits m client now max p r q → IsUsedOver m s ws hs p → IsUsedOver m s ws hs q
-    inits_use client now max p r q s ws hs h k = same_use s ws hs p q (inits_did m client now max p r q h) (inits_entries client now max p r q h) k
+    pub inits_use : (client : Bool) (now max : ℕ) (snap : Option InitHalves) (p : SctpStreams S) (r : Result (Unit {0}) SctpError) (q : SctpStreams S) (s : ℕ) (ws hs : List StreamMessage) → Inits m client now max snap p r q → IsUsedOver m s ws hs p → IsUsedOver m s ws hs q
+    inits_use client now max snap p r q s ws hs h k = same_use s ws hs p q (inits_did m client now max snap p r q h) (inits_entries client now max snap p r q h) k
 
     shut_entries : (b : Bool) (p : SctpStreams S) (r : Result (Unit {0}) SctpError) (q : SctpStreams S) → ShutBy m b p r q → q.entries ≡ p.entries
     shut_entries true p r q h = ap (λ (y : SctpStreams S). y.entries) h.1

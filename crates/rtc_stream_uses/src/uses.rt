@@ -5,7 +5,8 @@ ghost use Rattle.rtc_ready.specs.Signals.{Signals};
 ghost use Rattle.rtc_wire.specs.declared.channel_config.ChannelConfig.{ChannelConfig};
 ghost use Rattle.rtc_sctp_entries.specs.Entries.{entry_place};
 ghost use Rattle.rtc_sctp_entries.specs.declared.sctp_event.SctpEvent.{SctpEvent};
-ghost use Rattle.rtc_sctp.specs.declared.sctp_error.SctpError.{SctpError};
+ghost use Rattle.rtc_sctp_values.specs.declared.sctp_error.SctpError.{SctpError};
+ghost use Rattle.rtc_sctp_values.specs.InitHalves.{InitHalves};
 ghost use Rattle.rtc_sctp.specs.Streams.{SctpStreams};
 ghost use Rattle.rtc_sctp.specs.Calls.{Inits, Shuts, WritesStream, TakesInput, TakesTimeout};
 ghost use Rattle.rtc_sctp.specs.StreamCalls.{OpensStream, ClosesDataStream, SetsThreshold};
@@ -50,9 +51,9 @@ pub fn calls_keep_uses<S: Association>()
     ensures threshold { GenerationLaws S.association → (p q : SctpStreams S) (id n s : ℕ) (written heard : List StreamMessage)
         → SetsThreshold S n (entry_place id p.entries) p q → IsUsedOver S.association s written heard p
         → IsUsedOver S.association s written heard q }
-    ensures starts { GenerationLaws S.association → (p q : SctpStreams S) (client : Bool) (now max : ℕ)
-        (r : Result (Unit {0}) SctpError) (s : ℕ) (written heard : List StreamMessage) → Inits S.association client now max p r q
-        → IsUsedOver S.association s written heard p → IsUsedOver S.association s written heard q }
+    ensures starts { GenerationLaws S.association → (p q : SctpStreams S) (client : Bool) (now max : ℕ) (snap : Option InitHalves)
+        (r : Result (Unit {0}) SctpError) (s : ℕ) (written heard : List StreamMessage)
+        → Inits S.association client now max snap p r q → IsUsedOver S.association s written heard p → IsUsedOver S.association s written heard q }
     ensures shuts { GenerationLaws S.association → (p q : SctpStreams S) (r : Result (Unit {0}) SctpError) (s : ℕ)
         (written heard : List StreamMessage) → Shuts S.association p r q → IsUsedOver S.association s written heard p
         → IsUsedOver S.association s written heard q }

@@ -21,7 +21,7 @@ pub returns-clause-closes : goal.returns-clause-closes
 returns-clause-closes g c = λ p q id r h. closes_did g.S.Association.association id p r q h
 
 pub returns-clause-starts : goal.returns-clause-starts
-returns-clause-starts g c = λ p q client now max r h. inits_did g.S.Association.association client now max p r q h
+returns-clause-starts g c = λ p q client now max snap r h. inits_did g.S.Association.association client now max snap p r q h
 
 pub returns-clause-shuts : goal.returns-clause-shuts
 returns-clause-shuts g c = λ p q r h. shuts_did g.S.Association.association p r q h

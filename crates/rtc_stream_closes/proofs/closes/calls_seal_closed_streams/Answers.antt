@@ -36,7 +36,7 @@ pub returns-clause-threshold : goal.returns-clause-threshold
 returns-clause-threshold g c = λ laws p q id n s h. keeps_by g.S.Association.association g.met.S.Association.laws laws s p q (threshold_seal g.S.Association.association g.met.S.Association.laws laws n _ p q h)
 
 pub returns-clause-starts : goal.returns-clause-starts
-returns-clause-starts g c = λ laws p q client now max r s h. keeps_by g.S.Association.association g.met.S.Association.laws laws s p q (inits_seal g.S.Association.association g.met.S.Association.laws laws client now max p r q h)
+returns-clause-starts g c = λ laws p q client now max snap r s h. keeps_by g.S.Association.association g.met.S.Association.laws laws s p q (inits_seal g.S.Association.association g.met.S.Association.laws laws client now max snap p r q h)
 
 pub returns-clause-shuts : goal.returns-clause-shuts
 returns-clause-shuts g c = λ laws p q r s h. keeps_by g.S.Association.association g.met.S.Association.laws laws s p q (shuts_seal g.S.Association.association g.met.S.Association.laws laws p r q h)

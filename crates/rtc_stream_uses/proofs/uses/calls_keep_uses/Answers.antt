@@ -28,7 +28,7 @@ pub returns-clause-threshold : goal.returns-clause-threshold
 returns-clause-threshold g c = λ v p q id n s written heard h k. threshold_use g.S.Association.association v n _ p q s written heard h k
 
 pub returns-clause-starts : goal.returns-clause-starts
-returns-clause-starts g c = λ v p q client now max r s written heard h k. inits_use g.S.Association.association v client now max p r q s written heard h k
+returns-clause-starts g c = λ v p q client now max snap r s written heard h k. inits_use g.S.Association.association v client now max snap p r q s written heard h k
 
 pub returns-clause-shuts : goal.returns-clause-shuts
 returns-clause-shuts g c = λ v p q r s written heard h k. shuts_use g.S.Association.association v p r q s written heard h k

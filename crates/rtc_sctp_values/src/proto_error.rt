@@ -1,6 +1,6 @@
 //! Why the association of a peer refuses.
 ghost use Rattle.std.specs.Prelude.{Some};
-ghost use Rattle.rtc_sctp.specs.SctpErrorText as text;
+ghost use Rattle.rtc_sctp_values.specs.SctpErrorText as text;
 
 use std::error::Error;
 use std::fmt;
@@ -10,6 +10,8 @@ use std::fmt;
 pub enum ProtoError {
     /// It was started before.
     Started,
+    /// SNAP data lacks the chunk of one end.
+    SnapHalf,
     /// The message is longer than the other end takes; lengths in bytes.
     TooLong { len: usize, max: u32 },
     NoStream(u16),
@@ -24,6 +26,9 @@ impl fmt::Display for ProtoError {
     fn fmt<W: fmt::Write>(&self, f: &mut fmt::Formatter<W>) -> fmt::Result {
         match self {
             ProtoError::Started => f.write_str("SCTP already initialized"),
+            ProtoError::SnapHalf => {
+                f.write_str("SNAP requires both local and remote SCTP INIT chunks")
+            }
             ProtoError::TooLong { len, max } => {
                 write!(f, "message of {len} bytes is longer than {max}")
             }

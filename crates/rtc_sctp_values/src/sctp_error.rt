@@ -1,6 +1,6 @@
 //! Why a call on streams refuses.
 ghost use Rattle.std.specs.Prelude.{Some};
-ghost use Rattle.rtc_sctp.specs.SctpErrorText as text;
+ghost use Rattle.rtc_sctp_values.specs.SctpErrorText as text;
 
 use crate::ProtoError;
 use rtc_wire::DcepError;
@@ -17,6 +17,8 @@ pub enum SctpError {
     DcepOpenTooSmall,
     DcepIncorrectMessageType,
     DcepBadUtf8,
+    /// The text of an INIT chunk is no base64 with padding.
+    InvalidSnap,
     Alloc,
 }
 
@@ -33,6 +35,7 @@ impl fmt::Display for SctpError {
             SctpError::DcepOpenTooSmall => f.write_str("DCEP open message too small"),
             SctpError::DcepIncorrectMessageType => f.write_str("DCEP incorrect message type"),
             SctpError::DcepBadUtf8 => f.write_str("DCEP bad UTF-8 string"),
+            SctpError::InvalidSnap => f.write_str("Invalid SNAP token"),
             SctpError::Alloc => f.write_str("out of memory"),
         }
     }
@@ -42,7 +45,7 @@ impl Error for SctpError {}
 
 impl From<AllocError> for SctpError {
     ghost use Rattle.std.specs.Prelude.{◌≡◌};
-    ghost use Rattle.rtc_sctp.specs.declared.sctp_error.SctpError.TheVariants.{Alloc};
+    ghost use Rattle.rtc_sctp_values.specs.declared.sctp_error.SctpError.TheVariants.{Alloc};
 
     ghost from_gives = { λ _ e. e ≡ Alloc };
 
@@ -53,7 +56,7 @@ impl From<AllocError> for SctpError {
 
 impl<T: Drop> From<AllocFailed<T>> for SctpError {
     ghost use Rattle.std.specs.Prelude.{◌≡◌};
-    ghost use Rattle.rtc_sctp.specs.declared.sctp_error.SctpError.TheVariants.{Alloc};
+    ghost use Rattle.rtc_sctp_values.specs.declared.sctp_error.SctpError.TheVariants.{Alloc};
 
     ghost from_gives = { λ _ e. e ≡ Alloc };
 
@@ -64,7 +67,7 @@ impl<T: Drop> From<AllocFailed<T>> for SctpError {
 
 impl From<DcepError> for SctpError {
     ghost use Rattle.std.specs.Prelude.{◌≡◌};
-    ghost use Rattle.rtc_sctp.specs.SctpErrors.{sctp_error_of};
+    ghost use Rattle.rtc_sctp_values.specs.SctpErrors.{sctp_error_of};
 
     ghost from_gives = { λ e made. made ≡ sctp_error_of e };
 

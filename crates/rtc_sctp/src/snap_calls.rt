@@ -1,0 +1,90 @@
+//! The halves of a start by session descriptions (draft-hancke-tsvwg-snap).
+ghost use Rattle.std.specs.Prelude.{◌≡◌, false, true, Ok, is_some, IfOk, option_map, string_bytes};
+ghost use Rattle.rtc_sctp_values.specs.InitHalves.{remote_text};
+ghost use Rattle.rtc_sctp_values.specs.SnapHalves.{
+  enabled_halves,
+  without_pending,
+  shown_local,
+  shown_remote,
+  text_in,
+  whole_halves,
+};
+ghost use Rattle.rtc_sctp.specs.SnapCalls.{EnsuresLocalHalf, TakesRemoteHalf};
+
+use crate::SctpInitData;
+use crate::streams::RtcSctp;
+use rtc_association::Association;
+use rtc_ids::Ids;
+use std::alloc::AllocError;
+
+impl<S: Association> RtcSctp<S> {
+    /// Whether a start by session descriptions was enabled.
+    pub fn snap_enabled(&self) -> bool
+        ensures { result ≡ self.now.snap.enabled }
+    {
+        self.snap.is_enabled()
+    }
+
+    /// Whether the association was started with both halves.
+    pub fn is_snap_established(&self) -> bool
+        ensures { result ≡ is_some self.now.snap.started }
+    {
+        self.snap.is_begun()
+    }
+
+    /// Enables a start by session descriptions for good, with empty pending halves where an `init` has not answered Ok and none
+    /// are pending.
+    pub fn enable_snap(&mut self)
+        ensures { self.new ≡ record self.old {
+          snap = enabled_halves (S.association.started self.old.association) self.old.local_max self.old.snap;
+        } }
+    {
+        let is_started = self.association.is_started();
+        self.snap.enable(is_started, self.local_max);
+    }
+
+    /// Lets the pending halves go. A start by session descriptions stays enabled.
+    pub fn disable_pending_snap(&mut self)
+        ensures { self.new ≡ record self.old { snap = without_pending self.old.snap } }
+    {
+        self.snap.disable_pending();
+    }
+
+    /// Draws this end's half where it is not there. Where memory runs out, nothing changes and nothing is drawn.
+    pub fn ensure_local_snap_init<N: Ids>(&mut self, ids: &mut N) -> Result<(), AllocError>
+        ensures { EnsuresLocalHalf N.ids self.old ids.old result self.new ids.new }
+    {
+        self.snap.ensure_local(self.local_max, ids)
+    }
+
+    /// The text of this end's half: of those that the association was started with, or else of the pending ones.
+    pub fn local_sctp_init_for_sdp(&self) -> Result<Option<String>, AllocError>
+        ensures { IfOk result (λ text. option_map (λ t. string_bytes t) text ≡ shown_local self.now.snap) }
+    {
+        self.snap.local_text()
+    }
+
+    /// The text of the other end's half: of those that the association was started with, or else of the pending ones.
+    pub fn snap_remote_init_string(&self) -> Result<Option<String>, AllocError>
+        ensures { IfOk result (λ text. option_map (λ t. string_bytes t) text ≡ shown_remote self.now.snap) }
+    {
+        self.snap.remote_text()
+    }
+
+    /// A copy of the pending halves, where both are there.
+    pub fn build_snap_init_data(&self) -> Result<Option<SctpInitData>, AllocError>
+        ensures { IfOk result (λ halves. halves ≡ whole_halves self.now.snap.pending) }
+    {
+        self.snap.build()
+    }
+
+    /// Takes the text of the other end's half into the pending ones. One that is no base64 with its padding
+    /// (RFC 4648, section 4) lets the pending halves go, and is answered false.
+    pub fn set_remote_snap_init_string(&mut self, v: &str) -> Result<bool, AllocError>
+        requires { S.association.started self.old.association ≡ false }
+        ensures takes { TakesRemoteHalf v.now self.old result self.new }
+        ensures text { result ≡ Ok true → text_in remote_text self.new.snap.pending ≡ Some v.now }
+    {
+        self.snap.set_remote_text(self.local_max, v)
+    }
+}

@@ -1,0 +1,3 @@
+pub mod StandardFacts
+pub mod ChunkLemmas
+pub mod HalfLemmas

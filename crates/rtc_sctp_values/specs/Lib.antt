@@ -1,0 +1,5 @@
+pub mod InitChunk
+pub mod InitHalves
+pub mod SctpErrors
+pub mod SctpErrorText
+pub mod SnapHalves

@@ -1,0 +1,203 @@
+//! What an end keeps of starts by session descriptions.
+ghost use Rattle.std.specs.Prelude.{◌≡◌, true, Some, Ok, is_some, IfOk, option_map, string_bytes};
+ghost use Rattle.std.specs.Option.{option_copied};
+ghost use Rattle.rtc_sctp_values.specs.InitHalves.{with_remote, remote_text};
+ghost use Rattle.rtc_sctp_values.specs.SnapHalves.{
+  nothing_kept,
+  enabled_halves,
+  without_pending,
+  begun_halves,
+  halves_or_none,
+  text_in,
+  shown_of,
+  shown_local,
+  shown_remote,
+  whole_halves,
+  KeepsRemote,
+  DrawsPending,
+  EnsuresLocal,
+};
+
+use crate::SctpInitData;
+use crate::sctp_init_data::read_chunk;
+use rtc_ids::Ids;
+use rtc_wire::TryCopy;
+use std::alloc::{AllocError, Global};
+use std::marker::Model;
+
+/// What an end keeps of starts by session descriptions: whether it may be started so, the pending halves, and those that the
+/// association was started with.
+#[derive(Debug, Drop)]
+pub struct SnapHalves {
+    alloc: Global,
+    enabled: bool,
+    pending: Option<SctpInitData>,
+    started: Option<SctpInitData>,
+}
+
+impl Model for SnapHalves {
+    ghost use Rattle.rtc_sctp_values.specs.SnapHalves.{KeptHalves};
+
+    ghost Value = { KeptHalves };
+
+    ghost view = { λ kept. record {
+      enabled = kept.enabled;
+      pending = kept.pending;
+      started = kept.started;
+    } };
+}
+
+impl SnapHalves {
+    /// Nothing is enabled or pending.
+    pub fn none(alloc: Global) -> SnapHalves
+        ensures { result ≡ nothing_kept }
+    {
+        SnapHalves {
+            alloc,
+            enabled: false,
+            pending: None,
+            started: None,
+        }
+    }
+
+    pub fn is_enabled(&self) -> bool
+        ensures { result ≡ self.now.enabled }
+    {
+        self.enabled
+    }
+
+    /// Whether the association was started with both halves.
+    pub fn is_begun(&self) -> bool
+        ensures { result ≡ is_some self.now.started }
+    {
+        self.started.is_some()
+    }
+
+    /// Enables a start by session descriptions for good, with pending halves until the association is started. `limit` is the
+    /// longest message that this end takes, in bytes.
+    pub fn enable(&mut self, is_started: bool, limit: u32)
+        ensures { self.new ≡ enabled_halves is_started limit self.old }
+    {
+        self.enabled = true;
+        if !is_started && self.pending.is_none() {
+            self.pending = Some(SctpInitData::with_limit(self.alloc, limit));
+        }
+    }
+
+    /// Lets the pending halves go.
+    pub fn disable_pending(&mut self)
+        ensures { self.new ≡ without_pending self.old }
+    {
+        self.pending = None;
+    }
+
+    /// Keeps the halves that the association was started with, if any, and lets the pending ones go.
+    pub fn begin(&mut self, halves: Option<SctpInitData>)
+        ensures { self.new ≡ begun_halves halves self.old }
+    {
+        self.pending = None;
+        self.started = halves;
+    }
+
+    // Draws the pending half of this end, where it is not there.
+    fn draw_pending<N: Ids>(&mut self, limit: u32, ids: &mut N) -> Result<(), AllocError>
+        ensures { DrawsPending N.ids limit self.old ids.old result self.new ids.new }
+    {
+        match &mut self.pending {
+            Some(halves) => halves.ensure_local_init_chunk(ids),
+            None => {
+                let mut halves = SctpInitData::with_limit(self.alloc, limit);
+                halves.ensure_local_init_chunk(ids)?;
+                self.pending = Some(halves);
+                Ok(())
+            }
+        }
+    }
+
+    /// Draws this end's half, where it is not there. Where memory runs out, nothing changes and nothing is drawn.
+    pub fn ensure_local<N: Ids>(&mut self, limit: u32, ids: &mut N) -> Result<(), AllocError>
+        ensures { EnsuresLocal N.ids limit self.old ids.old result self.new ids.new }
+    {
+        if self.started.is_some() {
+            return Ok(());
+        }
+        self.draw_pending(limit, ids)
+    }
+
+    // Sets the pending half of the other end.
+    fn put_remote(&mut self, limit: u32, chunk: Vec<u8>)
+        ensures { self.new ≡ record self.old { pending = Some (with_remote chunk.items (halves_or_none limit self.old.pending)) } }
+    {
+        match &mut self.pending {
+            Some(halves) => halves.set_remote_init_chunk(chunk),
+            None => {
+                let mut halves = SctpInitData::with_limit(self.alloc, limit);
+                halves.set_remote_init_chunk(chunk);
+                self.pending = Some(halves);
+            }
+        }
+    }
+
+    /// Takes the text of the other end's half. One that is no base64 with its padding lets the pending halves go, and is answered
+    /// false.
+    pub fn set_remote_text(&mut self, limit: u32, value: &str) -> Result<bool, AllocError>
+        ensures keeps { KeepsRemote value.now limit self.old result self.new }
+        ensures text { result ≡ Ok true → text_in remote_text self.new.pending ≡ Some value.now }
+    {
+        match read_chunk(self.alloc, value)? {
+            Some(chunk) => {
+                self.put_remote(limit, chunk);
+                Ok(true)
+            }
+            None => {
+                self.disable_pending();
+                Ok(false)
+            }
+        }
+    }
+
+    /// The text of this end's half: of those that the association was started with, or else of the pending ones.
+    pub fn local_text(&self) -> Result<Option<String>, AllocError>
+        ensures { IfOk result (λ text. option_map (λ t. string_bytes t) text ≡ shown_local self.now) }
+    {
+        match self.shown() {
+            None => Ok(None),
+            Some(halves) => halves.local_text(),
+        }
+    }
+
+    /// The text of the other end's half: of those that the association was started with, or else of the pending ones.
+    pub fn remote_text(&self) -> Result<Option<String>, AllocError>
+        ensures { IfOk result (λ text. option_map (λ t. string_bytes t) text ≡ shown_remote self.now) }
+    {
+        match self.shown() {
+            None => Ok(None),
+            Some(halves) => halves.remote_init_string(),
+        }
+    }
+
+    fn shown(&self) -> Option<&SctpInitData>
+        ensures { option_copied result ≡ shown_of self.now.started self.now.pending }
+    {
+        match &self.started {
+            Some(halves) => Some(halves),
+            None => self.pending.as_ref(),
+        }
+    }
+
+    /// A copy of the pending halves, where both are there.
+    pub fn build(&self) -> Result<Option<SctpInitData>, AllocError>
+        ensures { IfOk result (λ halves. halves ≡ whole_halves self.now.pending) }
+    {
+        match &self.pending {
+            None => Ok(None),
+            Some(halves) => {
+                if halves.is_whole() {
+                    let copied = halves.copy()?;
+                    return Ok(Some(copied));
+                }
+                Ok(None)
+            }
+        }
+    }
+}
