@@ -1,5 +1,5 @@
 -- Demos on the pair of the program.
-use Rattle.std.proofs.Common.{◌≡◌, ◌≤◌, ℕ, Bool, true, false, not, ◌&&◌, List, Option, refl, ap, subst, ◌∙◌}
+use Rattle.std.proofs.Common.{◌≡◌, ◌≤◌, ℕ, Bool, true, false, not, ◌&&◌, List, [], Option, refl, ap, subst, ◌∙◌}
 use Rattle.std.specs.declared.alloc.Global.{Global}
 use Rattle.rtc_demo.proofs.FinishedDemos.{demo_finishes}
 use Rattle.rtc_demo.proofs.OrderlyDemos.{demo_orderly}
@@ -7,6 +7,7 @@ use Rattle.rtc_demo.specs.DemoCounts.{count_finished}
 use Rattle.rtc_history.specs.Orderly.{can_connect}
 use Rattle.rtc_history.specs.PairState.{stances_of}
 use Rattle.rtc_history.specs.declared.reply.Reply.{Reply}
+use Rattle.rtc_history.specs.declared.side.Side.TheVariants.{Left, Right}
 use Rattle.rtc_io.proofs.Told.{breaks_off_as}
 use Rattle.rtc_io.specs.Saying.{BreaksOff}
 use Rattle.rtc_peer_state.specs.Stance.{stance_of}
@@ -15,11 +16,12 @@ use Rattle.rtc_plain_ice.specs.Contents.{IceContents, fresh_ice}
 use Rattle.rtc_plain_ice.specs.Messages.{is_ice_message}
 use Rattle.rtc_plain_media.specs.declared.plain_media_event.PlainMediaEvent.{PlainMediaEvent}
 use Rattle.rtc_run.specs.ProgramPair.{PlainPeer, PlainPairState, plain_parts, host_at, IsProgramPeer, IsProgramPair}
+use Rattle.rtc_run.specs.declared.peer_settings.PeerSettings.{PeerSettings}
 use Rattle.rtc_script.specs.declared.script.Script.{Script}
 use Rattle.rtc_sdp_values.specs.declared.candidate.Candidate.{Candidate}
 use Rattle.rtc_sdp_values.specs.declared.ice_creds.IceCreds.{IceCreds}
 use Rattle.rtc_wire.specs.declared.addr.Addr.{Addr}
-use Rattle.rtc_pair.specs.Answers.{RanScript, lack_memory}
+use Rattle.rtc_pair.specs.Answers.{RanScript, lack_memory, peer_settings}
 use Rattle.rtc_pair.specs.Demo.{demo_script, demo_text, TellsCounts, PerformsDemo, IsDemoText}
 
 -- ---- agents of the program that are not lite
@@ -32,13 +34,13 @@ added_lite : (c : Candidate) (p : IceContents) → (local_added c p).settings.li
 unfolding local_added
 added_lite c p = refl
 
-lite_of : (alloc : Global) (lite : Bool) (cert : List ℕ) (first : ℕ) (addr : Addr) (p : PlainPeer) → IsProgramPeer alloc lite cert first addr p → (stance_of plain_parts p).ice.lite ≡ lite
-lite_of alloc lite cert first addr p made =
+lite_of : (alloc : Global) (settings : PeerSettings) (cert : List ℕ) (first : ℕ) (addr : Addr) (p : PlainPeer) → IsProgramPeer alloc settings cert first addr p → (stance_of plain_parts p).ice.lite ≡ settings.lite
+lite_of alloc settings cert first addr p made =
     ap (λ (ice : IceContents). ice.settings.lite) made.by_address.1 ∙ added_lite (host_at addr) made.built.ice
-    ∙ ap (λ (ice : IceContents). ice.settings.lite) (made.by_build.by_creds ∙ ap (local_set _) made.by_build.by_lite) ∙ lite_after lite _
+    ∙ ap (λ (ice : IceContents). ice.settings.lite) (made.by_build.by_creds ∙ ap (local_set _) made.by_build.by_lite) ∙ lite_after settings.lite _
 
-connects : (alloc : Global) (right_lite : Bool) (pair : PlainPairState) → IsProgramPair alloc false right_lite pair → can_connect (stances_of plain_parts pair) ≡ true
-connects alloc right_lite pair made = by (stance_of plain_parts pair.left.core).ice.lite (stance_of plain_parts pair.right.core).ice.lite (lite_of alloc false _ _ _ pair.left.core made.left)
+connects : (alloc : Global) (left_settings right_settings : PeerSettings) (pair : PlainPairState) → left_settings.lite ≡ false → IsProgramPair alloc left_settings right_settings pair → can_connect (stances_of plain_parts pair) ≡ true
+connects alloc left_settings right_settings pair full made = by (stance_of plain_parts pair.left.core).ice.lite (stance_of plain_parts pair.right.core).ice.lite (lite_of alloc left_settings _ _ _ pair.left.core made.left ∙ full)
   where
     by : (left right : Bool) → left ≡ false → not (left && right) ≡ true
     by false right is = refl
@@ -48,7 +50,7 @@ connects alloc right_lite pair made = by (stance_of plain_parts pair.left.core).
 
 ran_finishes : (alloc : Global) (rounds seed : ℕ) (replies : List (Reply PlainMediaEvent)) (pair : PlainPairState) → rounds ≤ 100 → RanScript alloc (demo_script rounds seed) replies pair → lack_memory replies ≡ false → count_finished replies ≡ rounds
 ran_finishes alloc rounds seed replies pair few ran enough =
-    demo_finishes plain_parts is_ice_message ran.start rounds seed replies pair few (connects alloc false ran.start ran.program) ran.runs enough ran.no_fault
+    demo_finishes plain_parts is_ice_message ran.start rounds seed replies pair few (connects alloc (peer_settings Left []) (peer_settings Right []) ran.start refl ran.program) ran.runs enough ran.no_fault
 
 pub performs_demo : (alloc : Global) (rounds seed : ℕ) (script : Script) (replies : List (Reply PlainMediaEvent)) (pair : PlainPairState) (written written' : Option (List ℕ)) (last : Option PlainPairState)
     → rounds ≤ 100 → script ≡ demo_script rounds seed → RanScript alloc script replies pair → TellsCounts rounds script.steps replies pair written written' last → PerformsDemo alloc rounds seed written written' last

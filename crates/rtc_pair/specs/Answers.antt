@@ -5,6 +5,7 @@ use Rattle.std.specs.declared.alloc.Global.{Global}
 use Rattle.std.specs.Io.KnownBytes.{Appends}
 use Rattle.rtc_io.specs.Faults.{Rose}
 use Rattle.rtc_io.specs.Programs.{Program, ReadsInput, IsTooLong, IsDue, fault_line, long_line}
+use Rattle.rtc_history.specs.declared.side.Side.{Side}
 use Rattle.rtc_history.specs.declared.side.Side.TheVariants.{Left, Right}
 use Rattle.rtc_history.specs.declared.reply.Reply.{Reply}
 use Rattle.rtc_history.specs.declared.step.Step.{Step}
@@ -14,11 +15,13 @@ use Rattle.rtc_delivery.specs.Delivered.{AllReadBack}
 use Rattle.rtc_plain_ice.specs.Messages.{is_ice_message}
 use Rattle.rtc_plain_media.specs.declared.plain_media_event.PlainMediaEvent.{PlainMediaEvent}
 use Rattle.rtc_run.specs.ProgramPair.{plain_parts, PlainPairState, IsProgramPair}
+use Rattle.rtc_run.specs.declared.peer_settings.PeerSettings.{PeerSettings}
 use Rattle.rtc_script.specs.Script.{IsScript, IsRefused}
 use Rattle.rtc_script.specs.declared.script_error.ScriptError.TheVariants.{Line}
 use Rattle.rtc_script.specs.Report.{report}
 use Rattle.rtc_script.specs.declared.script.Script.{Script}
-use Rattle.rtc_script.specs.Settings.{sets_lite}
+use Rattle.rtc_script.specs.Settings.{sets_lite, buffer_set}
+use Rattle.rtc_script.specs.declared.setting.Setting.{Setting}
 
 -- the words of a run
 abbrev pub run_words : List (List ℕ)
@@ -28,9 +31,14 @@ run_words = codes "run" ∷ []
 abbrev pub lack_memory : {E : Type 0} → List (Reply E) → Bool
 lack_memory replies = list_any lacks_memory replies
 
+-- what the settings of a script set a peer to
+abbrev pub peer_settings : Side → List (Side × Setting) → PeerSettings
+peer_settings at settings = record { lite = sets_lite at settings; max_buffered = buffer_set at settings }
+
 -- The pair of the program, as the settings of a script make it.
 abbrev pub IsPairOf : Global → Script → PlainPairState → Type 0
-IsPairOf alloc script pair = IsProgramPair alloc (sets_lite Left script.settings) (sets_lite Right script.settings) pair
+IsPairOf alloc script pair =
+    IsProgramPair alloc (peer_settings Left script.settings) (peer_settings Right script.settings) pair
 
 -- A script was run on the program's pair with these replies, which left this pair, and each description that was made is read as it was
 -- written. No reply tells that a part failed: those in memory never do.

@@ -9,6 +9,7 @@ ghost use Rattle.rtc_run.specs.ProgramPair.{plain_parts};
 ghost use Rattle.rtc_script.specs.Report.{report};
 ghost use Rattle.rtc_pair.specs.Answers.{
   script_program,
+  peer_settings,
   IsPairOf,
   IsReport,
   RanScript,
@@ -25,7 +26,7 @@ ghost use Rattle.rtc_pair.specs.Answers.{
 use rtc_history::{Reply, Side, Step};
 use rtc_io::{OUT_OF_MEMORY, SINK_FAILED, Sink, Source, read_input, refuse_input, write_all};
 use rtc_plain::PlainMediaEvent;
-use rtc_run::{PlainPair, make_pair, run_pair};
+use rtc_run::{PeerSettings, PlainPair, make_pair, run_pair};
 use rtc_script::{Script, ScriptError, read_script, write_report};
 use rtc_wire::Seq;
 use std::alloc::{AllocError, Global};
@@ -42,17 +43,25 @@ pub fn lack_memory(replies: &[Reply<PlainMediaEvent>]) -> bool
     false
 }
 
+// What the settings of a script set a peer to.
+fn settings_of(script: &Script, at: Side) -> PeerSettings
+    ensures { result ≡ peer_settings at script.now.settings }
+{
+    PeerSettings {
+        lite: script.sets_lite(at),
+        max_buffered: script.buffer_set(at),
+    }
+}
+
 // The pair of the program, as the settings of a script make it.
 fn make_program_pair(alloc: Global, script: &Script) -> Result<PlainPair, AllocError>
     ensures program { IfOk result (λ pair. IsPairOf alloc script.now pair) }
     ensures fresh { IfOk result (λ pair. IsFresh plain_parts pair) }
     ensures formed { IfOk result (λ pair. ArePeersFormed plain_parts pair) }
 {
-    make_pair(
-        alloc,
-        script.sets_lite(Side::Left),
-        script.sets_lite(Side::Right),
-    )
+    let left_settings = settings_of(script, Side::Left);
+    let right_settings = settings_of(script, Side::Right);
+    make_pair(alloc, left_settings, right_settings)
 }
 
 // Replies, with what the steps were performed on.

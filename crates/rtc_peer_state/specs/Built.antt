@@ -61,6 +61,11 @@ empty_peer alloc session start ice dtls sctp media ids = record {
   ids = ids;
 }
 
+-- the streams of a peer of a config: as many bytes may be buffered as the config says
+abbrev pub streams_of_config : {S : Type 0} → Config → (start : ℕ) → S → SctpStreams S
+streams_of_config config start association =
+    record (no_streams 1150 262144 start association) { max_buffered = config.max_buffered }
+
 module _ {I D S M E X T W N : Type 0} (m : Meanings I D S M E X T W N) where
   -- parts that are as they were made
   pub record AreFresh (ice : I) (dtls : D) (association : S) (media : M) : Type 0 where
@@ -79,5 +84,5 @@ module _ {I D S M E X T W N : Type 0} (m : Meanings I D S M E X T W N) where
     pub by_cert : BeginsDtls m.dtls (cert_or m.ids config.cert (creds_drawn m.ids config ids)) dtls (1150, 1280) p.dtls
     -- datagrams of 1150 bytes leave 1062 for a packet of the association
     pub by_limits : m.association.limits_set association 1062 262144 p.sctp.association
-    pub streams : p.sctp ≡ no_streams 1150 262144 start p.sctp.association
+    pub streams : p.sctp ≡ streams_of_config config start p.sctp.association
     pub rest : p ≡ empty_peer alloc (m.ids.drawn ids) start p.ice p.dtls p.sctp media (cert_drawn m.ids config ids)

@@ -6,6 +6,8 @@ pub record Config : Type 0 where
   pub ice_lite : Bool
   pub creds : Option IceCreds
   pub cert : Option (List ℕ)
+  -- how many bytes of data channels may be buffered before nothing is available
+  pub max_buffered : ℕ
 
 -- a certificate that is set has at most 1900 bytes
 abbrev pub IsShort : Option (List ℕ) → Type 0

@@ -4,7 +4,7 @@ ghost use Rattle.std.specs.Option.{option_copied};
 ghost use Rattle.rtc_peer_state.specs.Config.{IsShort};
 
 use rtc_sdp_values::IceCreds;
-use rtc_wire::Bytes;
+use rtc_wire::{Bytes, DEFAULT_MAX_BUFFERED_AMOUNT};
 use std::alloc::{AllocError, Global};
 use std::marker::Model;
 
@@ -14,6 +14,7 @@ pub struct RtcConfig {
     ice_lite: bool,
     creds: Option<IceCreds>,
     cert: Option<Bytes>,
+    max_buffered: usize,
 }
 
 impl Model for RtcConfig {
@@ -21,20 +22,26 @@ impl Model for RtcConfig {
 
     ghost Value = { Config };
 
-    ghost view = { λ config. record { ice_lite = config.ice_lite; creds = config.creds; cert = config.cert } };
+    ghost view = { λ config. record {
+      ice_lite = config.ice_lite;
+      creds = config.creds;
+      cert = config.cert;
+      max_buffered = config.max_buffered;
+    } };
 
     ghost invariant = { λ config. IsShort config.cert };
 }
 
 impl RtcConfig {
-    /// The default: an agent that makes checks, and a peer that draws its credentials and its certificate.
+    /// The default: an agent that makes checks, a peer that draws its credentials and its certificate, and 131072 bytes that may be buffered.
     pub fn new(_alloc: Global) -> Result<RtcConfig, AllocError>
-        ensures { IfOk result (λ config. config ≡ record { ice_lite = false; creds = None; cert = None }) }
+        ensures { IfOk result (λ config. config ≡ record { ice_lite = false; creds = None; cert = None; max_buffered = 131072 }) }
     {
         Ok(RtcConfig {
             ice_lite: false,
             creds: None,
             cert: None,
+            max_buffered: DEFAULT_MAX_BUFFERED_AMOUNT,
         })
     }
 
@@ -46,11 +53,13 @@ impl RtcConfig {
             ice_lite: _,
             creds,
             cert,
+            max_buffered,
         } = self;
         RtcConfig {
             ice_lite: lite,
             creds,
             cert,
+            max_buffered,
         }
     }
 
@@ -69,11 +78,13 @@ impl RtcConfig {
             ice_lite,
             creds: _,
             cert,
+            max_buffered,
         } = self;
         RtcConfig {
             ice_lite,
             creds: Some(creds),
             cert,
+            max_buffered,
         }
     }
 
@@ -93,11 +104,13 @@ impl RtcConfig {
             ice_lite,
             creds,
             cert: _,
+            max_buffered,
         } = self;
         RtcConfig {
             ice_lite,
             creds,
             cert: Some(Bytes::new(cert)),
+            max_buffered,
         }
     }
 
@@ -110,5 +123,30 @@ impl RtcConfig {
             Some(cert) => Some(cert.as_slice()),
             None => None,
         }
+    }
+
+    /// Sets how many bytes of data channels may be buffered before nothing is available.
+    pub fn set_sctp_max_buffered_amount(self, size: usize) -> RtcConfig
+        ensures { result ≡ record self { max_buffered = size } }
+    {
+        let RtcConfig {
+            ice_lite,
+            creds,
+            cert,
+            max_buffered: _,
+        } = self;
+        RtcConfig {
+            ice_lite,
+            creds,
+            cert,
+            max_buffered: size,
+        }
+    }
+
+    /// How many bytes of data channels may be buffered before nothing is available.
+    pub fn sctp_max_buffered_amount(&self) -> usize
+        ensures { result ≡ self.now.max_buffered }
+    {
+        self.max_buffered
     }
 }

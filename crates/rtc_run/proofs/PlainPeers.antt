@@ -19,7 +19,8 @@ use Rattle.rtc_history.specs.declared.side.Side.{Side}
 use Rattle.rtc_history.specs.declared.side.Side.TheVariants.{Left, Right}
 use Rattle.rtc_history.specs.Fresh.{IsFresh, IsJustBuilt}
 use Rattle.rtc_history.specs.PairState.{stances_of}
-use Rattle.rtc_run.specs.ProgramPair.{PlainPeer, PlainPairState, plain_parts, host_at, left_address, right_address, IsProgramPeer}
+use Rattle.rtc_run.specs.ProgramPair.{PlainPeer, PlainPairState, plain_parts, host_at, left_address, right_address, program_config, IsProgramPeer}
+use Rattle.rtc_run.specs.declared.peer_settings.PeerSettings.{PeerSettings}
 
 -- no candidate and no credentials of the other side are there after the first two calls
 fresh_after : (lite : Bool) (creds : IceCreds) → (local_set creds (lite_set lite fresh_ice)).settings.candidates ≡ []
@@ -54,24 +55,24 @@ built_alone alloc config first p h =
     ap (λ (ice : IceContents). ice.settings.remote) (h.by_creds ∙ ap (local_set _) h.by_lite) ∙ alone_after config.ice_lite _
 
 -- how a peer was built and given its address
-pub record Makes (alloc : Global) (lite : Bool) (cert : List ℕ) (first : ℕ) (addr : Addr) (config : Config) (built p : PlainPeer) : Type 0 where
-  pub config_is : config ≡ record { ice_lite = lite; creds = None; cert = Some cert }
+pub record Makes (alloc : Global) (settings : PeerSettings) (cert : List ℕ) (first : ℕ) (addr : Addr) (config : Config) (built p : PlainPeer) : Type 0 where
+  pub config_is : config ≡ program_config settings cert
   pub builds : IsBuilt alloc config first built
   pub added : plain_ice.local_added built.ice (host_at addr) (Ok true) p.ice
   pub rest : p ≡ record built { ice = p.ice }
 
-pub program_peer : (alloc : Global) (lite : Bool) (cert : List ℕ) (first : ℕ) (addr : Addr) (config : Config) (built p : PlainPeer)
-    → Makes alloc lite cert first addr config built p → IsProgramPeer alloc lite cert first addr p
-program_peer alloc lite cert first addr config built p h = record {
+pub program_peer : (alloc : Global) (settings : PeerSettings) (cert : List ℕ) (first : ℕ) (addr : Addr) (config : Config) (built p : PlainPeer)
+    → Makes alloc settings cert first addr config built p → IsProgramPeer alloc settings cert first addr p
+program_peer alloc settings cert first addr config built p h = record {
   built = built;
   by_build = subst (λ (c : Config). IsBuilt alloc c first built) h.config_is h.builds;
   by_address = h.added;
   rest = h.rest;
 }
 
-pub program_fresh : (alloc : Global) (lite : Bool) (cert : List ℕ) (first : ℕ) (addr : Addr) (config : Config) (built p : PlainPeer)
-    → Makes alloc lite cert first addr config built p → IsJustBuilt (stance_of plain_parts p)
-program_fresh alloc lite cert first addr config built p h = record {
+pub program_fresh : (alloc : Global) (settings : PeerSettings) (cert : List ℕ) (first : ℕ) (addr : Addr) (config : Config) (built p : PlainPeer)
+    → Makes alloc settings cert first addr config built p → IsJustBuilt (stance_of plain_parts p)
+program_fresh alloc settings cert first addr config built p h = record {
   lines = ap (λ (q : PlainPeer). q.lines) h.rest ∙ ap (λ (q : PlainPeer). q.lines) h.builds.rest;
   staged = ap (λ (q : PlainPeer). q.staged) h.rest ∙ ap (λ (q : PlainPeer). q.staged) h.builds.rest;
   channels = ap (λ (q : PlainPeer). q.channels) h.rest ∙ ap (λ (q : PlainPeer). q.channels) h.builds.rest;
@@ -80,10 +81,10 @@ program_fresh alloc lite cert first addr config built p h = record {
   fingerprint = ap (λ (q : PlainPeer). q.fingerprint) h.rest ∙ ap (λ (q : PlainPeer). q.fingerprint) h.builds.rest;
 }
 
-pub program_formed : (alloc : Global) (lite : Bool) (cert : List ℕ) (first : ℕ) (addr : Addr) (config : Config) (built p : PlainPeer)
-    → Makes alloc lite cert first addr config built p → (config.creds ≡ None → IsFormed (stance_of plain_parts built)) → IsHostCandidate (host_at addr)
+pub program_formed : (alloc : Global) (settings : PeerSettings) (cert : List ℕ) (first : ℕ) (addr : Addr) (config : Config) (built p : PlainPeer)
+    → Makes alloc settings cert first addr config built p → (config.creds ≡ None → IsFormed (stance_of plain_parts built)) → IsHostCandidate (host_at addr)
     → IsFormed (stance_of plain_parts p)
-program_formed alloc lite cert first addr config built p h formed host =
+program_formed alloc settings cert first addr config built p h formed host =
     let was : IsFormed (stance_of plain_parts built) = formed (ap (λ (c : Config). c.creds) h.config_is) in
     let candidates : p.ice.settings.candidates ≡ host_at addr ∷ [] =
     ap (λ (ice : IceContents). ice.settings.candidates) h.added.1 ∙ added_candidates (host_at addr) built.ice

@@ -1,5 +1,5 @@
 -- The pair that scripts are performed on.
-use Rattle.std.specs.Prelude.{◌≡◌, ◌+◌, ◌%◌, ◌^◌, ℕ, Bool, true, List, [], ◌∷◌, Some, None, Ok, codes}
+use Rattle.std.specs.Prelude.{◌≡◌, ◌+◌, ◌%◌, ◌^◌, ℕ, true, List, [], ◌∷◌, Some, None, Ok, codes}
 use Rattle.std.specs.declared.alloc.Global.{Global}
 use Rattle.rtc_wire.specs.declared.addr.Addr.{Addr}
 use Rattle.rtc_wire.specs.declared.protocol.Protocol.TheVariants.{Udp}
@@ -18,8 +18,10 @@ use Rattle.rtc_plain_media.specs.declared.plain_media_event.PlainMediaEvent.{Pla
 use Rattle.rtc_plain_media.specs.declared.plain_mark.PlainMark.{PlainMark}
 use Rattle.rtc_peer_state.specs.declared.peer.Peer.{Peer}
 use Rattle.rtc_peer_state.specs.Built.{Builds}
+use Rattle.rtc_peer_state.specs.Config.{Config}
 use Rattle.rtc_peer_state.specs.Meanings.{Meanings, meanings}
 use Rattle.rtc_history.specs.PairState.{PairState}
+use Rattle.rtc_run.specs.declared.peer_settings.PeerSettings.{PeerSettings}
 
 -- numbers that count up by one, and wrap
 abbrev pub counting : Draws ℕ
@@ -46,11 +48,20 @@ host_at addr = record {
   kind = Host;
 }
 
+-- what a peer of the program is built from
+abbrev pub program_config : PeerSettings → (cert : List ℕ) → Config
+program_config settings cert = record {
+  ice_lite = settings.lite;
+  creds = None;
+  cert = Some cert;
+  max_buffered = settings.max_buffered;
+}
+
 -- A peer of the program: built at moment 0 over fresh parts with a certificate, drawing numbers that count up from one, and then
 -- given its address.
-pub record IsProgramPeer (alloc : Global) (lite : Bool) (cert : List ℕ) (first : ℕ) (addr : Addr) (p : PlainPeer) : Type 0 where
+pub record IsProgramPeer (alloc : Global) (settings : PeerSettings) (cert : List ℕ) (first : ℕ) (addr : Addr) (p : PlainPeer) : Type 0 where
   pub built : PlainPeer
-  pub by_build : Builds plain_parts alloc (record { ice_lite = lite; creds = None; cert = Some cert }) 0
+  pub by_build : Builds plain_parts alloc (program_config settings cert) 0
       fresh_ice fresh_dtls fresh_contents fresh_media first built
   pub by_address : plain_ice.local_added built.ice (host_at addr) (Ok true) p.ice
   pub rest : p ≡ record built { ice = p.ice }
@@ -61,11 +72,11 @@ left_address = record { ip = 1 ∷ 1 ∷ 1 ∷ 1 ∷ []; port = 1000 }
 abbrev pub right_address : Addr
 right_address = record { ip = 2 ∷ 2 ∷ 2 ∷ 2 ∷ []; port = 2000 }
 
--- The pair of the program, where each agent is lite or not: the left peer draws from 1 and has the certificate abc, the right one from
+-- The pair of the program, where each peer is set to this: the left peer draws from 1 and has the certificate abc, the right one from
 -- 1000001 and def.
-pub record IsProgramPair (alloc : Global) (left_lite right_lite : Bool) (pair : PlainPairState) : Type 0 where
-  pub left : IsProgramPeer alloc left_lite (codes "abc") 1 left_address pair.left.core
-  pub right : IsProgramPeer alloc right_lite (codes "def") 1000001 right_address pair.right.core
+pub record IsProgramPair (alloc : Global) (left_settings right_settings : PeerSettings) (pair : PlainPairState) : Type 0 where
+  pub left : IsProgramPeer alloc left_settings (codes "abc") 1 left_address pair.left.core
+  pub right : IsProgramPeer alloc right_settings (codes "def") 1000001 right_address pair.right.core
   pub left_addr : pair.left_addr ≡ left_address
   pub right_addr : pair.right_addr ≡ right_address
   pub sdps : pair.sdps ≡ []

@@ -1,5 +1,5 @@
 //! The pair that scripts are performed on.
-ghost use Rattle.std.specs.Prelude.{◌≡◌, ◌≤◌, [], true, IfOk, OnOk, Ok, Some, None, length};
+ghost use Rattle.std.specs.Prelude.{◌≡◌, ◌≤◌, [], true, IfOk, OnOk, Ok, None, length};
 ghost use Rattle.rtc_plain_ice.specs.Contents.{fresh_ice};
 ghost use Rattle.rtc_plain_ice.specs.PlainMeaning.{plain_ice};
 ghost use Rattle.rtc_plain_dtls.specs.Contents.{fresh_dtls};
@@ -10,9 +10,9 @@ ghost use Rattle.rtc_peer_state.specs.Formed.{IsFormed, IsHostCandidate};
 ghost use Rattle.rtc_peer_state.specs.Stance.{stance_of};
 ghost use Rattle.rtc_delivery.specs.Delivered.{ArePeersFormed};
 ghost use Rattle.rtc_history.specs.Fresh.{IsFresh, IsJustBuilt};
-ghost use Rattle.rtc_run.specs.ProgramPair.{plain_parts, host_at, IsProgramPeer, IsProgramPair};
+ghost use Rattle.rtc_run.specs.ProgramPair.{plain_parts, host_at, program_config, IsProgramPeer, IsProgramPair};
 
-use crate::Pair;
+use crate::{Pair, PeerSettings};
 use rtc_assoc_end::PlainAssociation;
 use rtc_peer::{Candidate, Rtc, RtcConfig};
 use rtc_plain::{CountIds, PlainDtls, PlainIce, PlainMedia};
@@ -25,14 +25,21 @@ pub type PlainPeer = Rtc<PlainIce, PlainDtls, PlainAssociation, PlainMedia, Coun
 /// A pair of such peers.
 pub type PlainPair = Pair<PlainIce, PlainDtls, PlainAssociation, PlainMedia, CountIds>;
 
-fn make_config(alloc: Global, lite: bool, name: &str) -> Result<RtcConfig, AllocError>
+fn make_config(
+    alloc: Global,
+    settings: PeerSettings,
+    name: &str,
+) -> Result<RtcConfig, AllocError>
     requires { length name.now ≤ 1900 }
-    ensures { IfOk result (λ config. config ≡ record { ice_lite = lite; creds = None; cert = Some name.now }) }
+    ensures { IfOk result (λ config. config ≡ program_config settings name.now) }
 {
     let mut cert = Vec::new(alloc);
     cert.extend_from_slice(name.as_bytes())?;
     let config = RtcConfig::new(alloc)?;
-    Ok(config.set_ice_lite(lite).set_dtls_cert(cert))
+    Ok(config
+        .set_ice_lite(settings.lite)
+        .set_dtls_cert(cert)
+        .set_sctp_max_buffered_amount(settings.max_buffered))
 }
 
 fn build_peer(alloc: Global, config: RtcConfig, first: u64) -> Result<PlainPeer, AllocError>
@@ -65,26 +72,30 @@ fn add_address(alloc: Global, rtc: &mut PlainPeer, addr: Addr) -> Result<(), All
 // A peer with the certificate `name` and an address, whose numbers count up from `first`.
 fn make_peer(
     alloc: Global,
-    lite: bool,
+    settings: PeerSettings,
     name: &str,
     first: u64,
     addr: Addr,
 ) -> Result<PlainPeer, AllocError>
     requires { length name.now ≤ 1900 }
-    ensures peer { IfOk result (λ rtc. IsProgramPeer alloc lite name.now first addr rtc.core) }
+    ensures peer { IfOk result (λ rtc. IsProgramPeer alloc settings name.now first addr rtc.core) }
     ensures fresh { IfOk result (λ rtc. IsJustBuilt (stance_of plain_parts rtc.core)) }
     ensures formed { IfOk result (λ rtc. IsHostCandidate (host_at addr) → IsFormed (stance_of plain_parts rtc.core)) }
 {
-    let config = make_config(alloc, lite, name)?;
+    let config = make_config(alloc, settings, name)?;
     let mut rtc = build_peer(alloc, config, first)?;
     add_address(alloc, &mut rtc, addr)?;
     Ok(rtc)
 }
 
-/// Two fresh peers at moment 0, each lite or not, whose certificates, addresses and first numbers are fixed, so that every report
+/// Two fresh peers at moment 0, each set to what is given, whose certificates, addresses and first numbers are fixed, so that every report
 /// can be told beforehand.
-pub fn make_pair(alloc: Global, left_lite: bool, right_lite: bool) -> Result<PlainPair, AllocError>
-    ensures state { IfOk result (λ pair. IsProgramPair alloc left_lite right_lite pair) }
+pub fn make_pair(
+    alloc: Global,
+    left_settings: PeerSettings,
+    right_settings: PeerSettings,
+) -> Result<PlainPair, AllocError>
+    ensures state { IfOk result (λ pair. IsProgramPair alloc left_settings right_settings pair) }
     ensures fresh { IfOk result (λ pair. IsFresh plain_parts pair) }
     ensures formed { IfOk result (λ pair. ArePeersFormed plain_parts pair) }
 {
@@ -96,7 +107,7 @@ pub fn make_pair(alloc: Global, left_lite: bool, right_lite: bool) -> Result<Pla
         ip: [2, 2, 2, 2],
         port: 2000,
     };
-    let left = make_peer(alloc, left_lite, "abc", 1, left_addr)?;
-    let right = make_peer(alloc, right_lite, "def", 1_000_001, right_addr)?;
+    let left = make_peer(alloc, left_settings, "abc", 1, left_addr)?;
+    let right = make_peer(alloc, right_settings, "def", 1_000_001, right_addr)?;
     Ok(Pair::new(alloc, left, right, left_addr, right_addr))
 }

@@ -3,6 +3,7 @@ pub mod MessageWords
 pub mod LineLemmas
 pub mod ChannelPartLemmas
 pub mod SettingLines
+pub mod SettingWords
 pub mod RefusedScripts
 pub mod StepLines
 pub mod ZipLemmas

@@ -2,10 +2,10 @@
 use Rattle.std.proofs.Common.{◌≡◌, ◌+◌, ◌<◌, ℕ, zero, suc, List, [], ◌∷◌, length, take, drop, get_or, refl, ap, sym, subst, ◌∙◌, codes, arith, Bor}
 use Rattle.std.specs.List.{AllZip}
 use Rattle.std.proofs.lemmas.List.{drop-map}
-use Rattle.rtc_script.specs.Lines.{IsLine, IsSetting, AreStepWords}
+use Rattle.rtc_script.specs.Lines.{IsLine, IsSetting, AreSettingWords, AreStepWords}
 use Rattle.rtc_script.specs.Script.{HaveSteps, HaveBoth, HaveLines}
 use Rattle.rtc_script.specs.Steps.{AreAllSettings, StepsFailAt, FailsAt}
-use Rattle.rtc_script.specs.Words.{side_text, setting_text}
+use Rattle.rtc_script.specs.Words.{side_text}
 use Rattle.rtc_script.specs.declared.script.Script.{Script}
 use Rattle.rtc_script.specs.declared.setting.Setting.{Setting}
 use Rattle.rtc_script.proofs.LineLemmas.{same_letter}
@@ -44,9 +44,12 @@ no_side Left same = absurd (omega (arith, same_letter 0 (codes "set") (codes "se
 no_side Right same = absurd (omega (arith, same_letter 0 (codes "set") (codes "set") (codes "R") refl same))
 
 setting_no_step : (line : List ℕ) (setting : Side × Setting) (step : Step) → IsSetting line setting → IsLine line step → ⊥
-setting_no_step line setting step is line_is =
-    let words_are : AreStepWords (codes "set" ∷ side_text setting.0 ∷ setting_text setting.1 ∷ []) step = subst (λ (found : List (List ℕ)). AreStepWords found step) is line_is in
-    no_side (side_of step) words_are.0
+setting_no_step line setting step is line_is = by (words line) is line_is
+  where
+    by : (found : List (List ℕ)) → AreSettingWords found setting → AreStepWords found step → ⊥
+    by [] k l = k
+    by (verb ∷ []) k l = k
+    by (verb ∷ side ∷ value) k l = no_side (side_of step) (sym k.0 ∙ l.0)
 
 -- ---- lines of settings, and then of steps
 

@@ -1,5 +1,5 @@
 -- The lines of settings and of steps: words parted by single spaces.
-use Rattle.std.specs.Prelude.{◌≡◌, ◌≢◌, ◌<◌, ◌^◌, ℕ, Bool, true, false, List, [], ◌∷◌, map, All, codes}
+use Rattle.std.specs.Prelude.{◌≡◌, ◌≢◌, ◌<◌, ◌≤◌, ◌^◌, ℕ, Bool, true, false, List, [], ◌∷◌, map, All, codes}
 use Rattle.std.specs.Fmt.{decimal}
 use Rattle.std.specs.List.{AllZip}
 use Rattle.hex.specs.Hex.{IsBytes}
@@ -12,8 +12,9 @@ use Rattle.rtc_history.specs.declared.step.Step.{Step}
 use Rattle.rtc_history.specs.declared.step.Step.TheVariants.{Negotiate, AcceptOffer, AcceptAnswer, Time, Datagram, Poll, Drain}
 use Rattle.rtc_history.specs.declared.step.Step.TheVariants.{Write, CloseChannel, Close}
 use Rattle.rtc_script.specs.ChannelParts.{AreChannelParts}
-use Rattle.rtc_script.specs.Words.{side_text, kind_text, direction_text, hex_word, keep_text, message_kind_text, setting_text}
+use Rattle.rtc_script.specs.Words.{side_text, kind_text, direction_text, hex_word, keep_text, message_kind_text, setting_words}
 use Rattle.rtc_script.specs.declared.setting.Setting.{Setting}
+use Rattle.rtc_script.specs.declared.setting.Setting.TheVariants.{Lite, Buffer}
 
 -- the parts of an op's word
 abbrev pub AreOpParts : List (List ℕ) → Op → Type 0
@@ -90,9 +91,21 @@ AreStepWords (side ∷ verb ∷ rest) step = (side ≡ side_text (side_of step))
 abbrev pub IsLine : List ℕ → Step → Type 0
 IsLine line step = AreStepWords (words line) step
 
+-- a setting may say this: a buffer has at most 1000000000 bytes
+abbrev pub IsAllowed : Setting → Type 0
+IsAllowed Lite = Unit {0}
+IsAllowed (Buffer size) = size ≤ 1000000000
+
+-- the words of a setting that is allowed
+abbrev pub AreValueWords : List (List ℕ) → Setting → Type 0
+AreValueWords found setting = (found ≡ setting_words setting) × IsAllowed setting
+
 -- the verb of settings, the letter of a side, and what it is set to
 abbrev pub AreSettingWords : List (List ℕ) → Side × Setting → Type 0
-AreSettingWords found setting = found ≡ codes "set" ∷ side_text setting.0 ∷ setting_text setting.1 ∷ []
+AreSettingWords [] setting = ⊥
+AreSettingWords (verb ∷ []) setting = ⊥
+AreSettingWords (verb ∷ side ∷ value) setting =
+    (verb ≡ codes "set") × (side ≡ side_text setting.0) × AreValueWords value setting.1
 
 -- the line of a setting
 abbrev pub IsSetting : List ℕ → Side × Setting → Type 0

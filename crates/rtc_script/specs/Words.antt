@@ -1,5 +1,6 @@
 -- The words that scripts and reports share.
 use Rattle.std.specs.Prelude.{ℕ, Bool, true, false, List, [], ◌∷◌, codes}
+use Rattle.std.specs.Fmt.{decimal}
 use Rattle.hex.specs.Hex.{encode_lower}
 use Rattle.rtc_sdp_values.specs.declared.direction.Direction.{Direction}
 use Rattle.rtc_sdp_values.specs.declared.direction.Direction.TheVariants.{SendRecv, SendOnly, RecvOnly, Inactive}
@@ -8,7 +9,7 @@ use Rattle.rtc_sdp_values.specs.declared.media_kind.MediaKind.TheVariants.{Audio
 use Rattle.rtc_history.specs.declared.side.Side.{Side}
 use Rattle.rtc_history.specs.declared.side.Side.TheVariants.{Left, Right}
 use Rattle.rtc_script.specs.declared.setting.Setting.{Setting}
-use Rattle.rtc_script.specs.declared.setting.Setting.TheVariants.{Lite}
+use Rattle.rtc_script.specs.declared.setting.Setting.TheVariants.{Lite, Buffer}
 
 -- the letter of a side
 abbrev pub side_text : Side → List ℕ
@@ -42,5 +43,7 @@ abbrev pub keep_text : Bool → List ℕ
 keep_text true = codes "keep"
 keep_text false = codes "new"
 
-abbrev pub setting_text : Setting → List ℕ
-setting_text Lite = codes "lite"
+-- the words of a setting
+abbrev pub setting_words : Setting → List (List ℕ)
+setting_words Lite = codes "lite" ∷ []
+setting_words (Buffer size) = codes "buffer" ∷ decimal size ∷ []

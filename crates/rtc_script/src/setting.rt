@@ -5,4 +5,6 @@
 pub enum Setting {
     /// Its ICE agent only answers checks (RFC 8445, section 2.5).
     Lite,
+    /// How many bytes of its data channels may be buffered, at most 1000000000.
+    Buffer { size: u32 },
 }

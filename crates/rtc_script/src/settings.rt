@@ -1,21 +1,24 @@
 //! Lines of settings.
-ghost use Rattle.std.specs.Prelude.{◌≡◌, ◌≢◌, [], ◌∷◌, IfOk, IfSome, IfNone, map};
+ghost use Rattle.std.specs.Prelude.{◌≡◌, ◌≢◌, ◌≤◌, ℕ, [], ◌∷◌, IfOk, IfSome, IfNone, map};
+ghost use Rattle.std.specs.Fmt.{decimal};
 ghost use Rattle.rtc_history.specs.declared.side.Side.{Side};
-ghost use Rattle.rtc_script.specs.Lines.{AreSettingWords, IsSetting};
+ghost use Rattle.rtc_script.specs.Lines.{AreValueWords, AreSettingWords, IsSetting};
 ghost use Rattle.rtc_script.specs.Steps.{AreAllSettings};
-ghost use Rattle.rtc_script.specs.Words.{setting_text};
 ghost use Rattle.rtc_script.specs.declared.setting.Setting.{Setting};
 
 use crate::Setting;
 use crate::cutting::cut_words;
+use crate::numbers::read_u32;
 use crate::sides::read_side;
 use rtc_history::Side;
 use rtc_wire::Seq;
 use std::alloc::{AllocError, Global};
 
-fn read_value(word: &[u8]) -> Option<Setting>
-    ensures some { IfSome result (λ setting. word.now ≡ setting_text setting) }
-    ensures none { IfNone result ((setting : Setting) → word.now ≢ setting_text setting) }
+// A setting of one word.
+#[tactic(auto, using(crate::proofs::SettingWords::no_one_word))]
+fn read_one_word(word: &[u8]) -> Option<Setting>
+    ensures some { IfSome result (λ setting. AreValueWords (word.now ∷ []) setting) }
+    ensures none { IfNone result ((setting : Setting) → AreValueWords (word.now ∷ []) setting → ⊥) }
 {
     if word == b"lite".as_slice() {
         Some(Setting::Lite)
@@ -24,9 +27,47 @@ fn read_value(word: &[u8]) -> Option<Setting>
     }
 }
 
-fn read_three(verb: &[u8], side: &[u8], value: &[u8]) -> Option<(Side, Setting)>
-    ensures some { IfSome result (λ setting. AreSettingWords (verb.now ∷ side.now ∷ value.now ∷ []) setting) }
-    ensures none { IfNone result ((setting : Side × Setting) → AreSettingWords (verb.now ∷ side.now ∷ value.now ∷ []) setting → ⊥) }
+// The number of bytes of a buffer, at most 1000000000.
+fn read_size(word: &[u8]) -> Option<u32>
+    ensures some { IfSome result (λ size. (word.now ≡ decimal size) × (size ≤ 1000000000)) }
+    ensures none { IfNone result ((size : ℕ) → size ≤ 1000000000 → word.now ≢ decimal size) }
+{
+    let size = read_u32(word)?;
+    if size <= 1_000_000_000 {
+        Some(size)
+    } else {
+        None
+    }
+}
+
+// A setting of two words.
+#[tactic(auto, using(crate::proofs::SettingWords::no_two_words, crate::proofs::SettingWords::no_size))]
+fn read_two_words(word: &[u8], number: &[u8]) -> Option<Setting>
+    ensures some { IfSome result (λ setting. AreValueWords (word.now ∷ number.now ∷ []) setting) }
+    ensures none { IfNone result ((setting : Setting) → AreValueWords (word.now ∷ number.now ∷ []) setting → ⊥) }
+{
+    if word != b"buffer".as_slice() {
+        return None;
+    }
+    let size = read_size(number)?;
+    Some(Setting::Buffer { size })
+}
+
+fn read_value(words: &[&[u8]]) -> Option<Setting>
+    ensures some { IfSome result (λ setting. AreValueWords (map (λ word. word.now) words.now) setting) }
+    ensures none { IfNone result ((setting : Setting) → AreValueWords (map (λ word. word.now) words.now) setting → ⊥) }
+{
+    match words {
+        [word] => read_one_word(word),
+        [word, number] => read_two_words(word, number),
+        _ => None,
+    }
+}
+
+fn read_behind(verb: &[u8], side: &[u8], value: &[&[u8]]) -> Option<(Side, Setting)>
+    ensures some { IfSome result (λ setting. AreSettingWords (verb.now ∷ side.now ∷ map (λ word. word.now) value.now) setting) }
+    ensures none { IfNone result ((setting : Side × Setting)
+        → AreSettingWords (verb.now ∷ side.now ∷ map (λ word. word.now) value.now) setting → ⊥) }
 {
     if verb != b"set".as_slice() {
         return None;
@@ -40,10 +81,10 @@ fn read_words(words: &[&[u8]]) -> Option<(Side, Setting)>
     ensures some { IfSome result (λ setting. AreSettingWords (map (λ word. word.now) words.now) setting) }
     ensures none { IfNone result ((setting : Side × Setting) → AreSettingWords (map (λ word. word.now) words.now) setting → ⊥) }
 {
-    match words {
-        [verb, side, value] => read_three(verb, side, value),
-        _ => None,
-    }
+    let [verb, side, value @ ..] = words else {
+        return None;
+    };
+    read_behind(verb, side, value)
 }
 
 fn read_setting(alloc: Global, line: &[u8]) -> Result<Option<(Side, Setting)>, AllocError>

@@ -6,7 +6,7 @@ use crate::releasing::release;
 use rtc_history::{Outcome, Reply, Side, Step};
 use rtc_io::INPUT_LIMIT;
 use rtc_plain::PlainMediaEvent;
-use rtc_run::{make_pair, run_pair};
+use rtc_run::{PeerSettings, make_pair, run_pair};
 use rtc_script::{Script, ScriptError, read_script, write_report};
 use rtc_wire::Seq;
 use std::alloc::{AllocError, Global};
@@ -51,13 +51,21 @@ fn tell_rounds(
     Ok(told.into_bytes())
 }
 
+// What the settings of a script set a peer to.
+fn settings_of(script: &Script, at: Side) -> PeerSettings {
+    PeerSettings {
+        lite: script.sets_lite(at),
+        max_buffered: script.buffer_set(at),
+    }
+}
+
 // The replies of a script's steps.
 fn replies_to(alloc: Global, script: &Script) -> Result<Seq<Reply<PlainMediaEvent>>, AllocError>
     requires { steps_size script.now.steps < 2 ^ 32 }
 {
-    let left_lite = script.sets_lite(Side::Left);
-    let right_lite = script.sets_lite(Side::Right);
-    let mut pair = make_pair(alloc, left_lite, right_lite)?;
+    let left_settings = settings_of(script, Side::Left);
+    let right_settings = settings_of(script, Side::Right);
+    let mut pair = make_pair(alloc, left_settings, right_settings)?;
     let replies = run_pair(alloc, &mut pair, script.steps.as_slice());
     release(pair, replies)
 }

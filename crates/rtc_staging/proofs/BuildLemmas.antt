@@ -3,17 +3,34 @@ use Rattle.std.proofs.Common.{◌≡◌, ℕ, refl, sym, ap, subst}
 use Rattle.std.specs.declared.alloc.Global.{Global}
 use Rattle.rtc_dtls.specs.DtlsState.{DtlsState, BeginsDtls}
 use Rattle.rtc_sctp.specs.Streams.{SctpStreams, no_streams}
+use Rattle.rtc_association.specs.AssociationMeaning.{AssociationMeaning}
 use Rattle.rtc_peer_state.specs.declared.peer.Peer.{Peer}
-use Rattle.rtc_peer_state.specs.Built.{Builds, empty_peer, creds_or, cert_or, session_drawn, creds_drawn, cert_drawn}
+use Rattle.rtc_peer_state.specs.Built.{Builds, empty_peer, creds_or, cert_or, session_drawn, creds_drawn, cert_drawn, streams_of_config}
 use Rattle.rtc_peer_state.specs.Config.{Config}
 use Rattle.rtc_peer_state.specs.Meanings.{Meanings}
+
+-- streams that were made, with the limit of a config, are those of the config
+pub limited : {S : Type 0} (config : Config) (start : ℕ) (made sctp : SctpStreams S) → made ≡ no_streams 1150 262144 start made.association
+    → sctp ≡ record made { max_buffered = config.max_buffered } → sctp ≡ streams_of_config config start sctp.association
+limited {S} config start made sctp fresh set =
+    let same : sctp.association ≡ made.association = ap (λ (s : SctpStreams S). s.association) set in
+    set ∙ ap (λ (s : SctpStreams S). record s { max_buffered = config.max_buffered }) fresh
+    ∙ ap (λ (a : S). streams_of_config config start a) (sym same)
+
+-- the limits of the association stay those that it was made with
+pub limits_kept : {S : Type 0} (m : AssociationMeaning S) (association : S) (start most : ℕ) (made sctp : SctpStreams S)
+    → made ≡ no_streams 1150 262144 start made.association → sctp ≡ record made { max_buffered = most }
+    → m.limits_set association made.max_payload 262144 made.association → m.limits_set association 1062 262144 sctp.association
+limits_kept {S} m association start most made sctp fresh set limits =
+    subst (λ (a : S). m.limits_set association 1062 262144 a) (sym (ap (λ (s : SctpStreams S). s.association) set))
+    (subst (λ (n : ℕ). m.limits_set association n 262144 made.association) (ap (λ (s : SctpStreams S). s.max_payload) fresh) limits)
 
 pub peer_built : {I D S M E X T W N : Type 0} (m : Meanings I D S M E X T W N) (alloc : Global) (config : Config) (start : ℕ) (ice : I) (dtls : D) (association : S) (media : M)
     (ids : N) (lite_set ready : I) (begun : DtlsState D) (sctp : SctpStreams S) (p : Peer I D S M N)
     → p ≡ empty_peer alloc (m.ids.drawn ids) start ready begun sctp media (cert_drawn m.ids config ids) → m.ice.lite_set ice config.ice_lite lite_set
     → m.ice.local_set lite_set (creds_or m.ids config.creds (session_drawn m.ids ids)) ready
     → BeginsDtls m.dtls (cert_or m.ids config.cert (creds_drawn m.ids config ids)) dtls (1150, 1280) begun
-    → m.association.limits_set association sctp.max_payload 262144 sctp.association → sctp ≡ no_streams 1150 262144 start sctp.association
+    → m.association.limits_set association 1062 262144 sctp.association → sctp ≡ streams_of_config config start sctp.association
     → Builds m alloc config start ice dtls association media ids p
 peer_built {I} {D} {S} {M} {E} {X} {T} {W} {N} m alloc config start ice dtls association media ids lite_set ready begun sctp p is lite creds cert limits streams =
     subst (λ (q : Peer I D S M N). Builds m alloc config start ice dtls association media ids q) (sym is) (record {
@@ -21,7 +38,7 @@ peer_built {I} {D} {S} {M} {E} {X} {T} {W} {N} m alloc config start ice dtls ass
       by_lite = lite;
       by_creds = creds;
       by_cert = cert;
-      by_limits = subst (λ (n : ℕ). m.association.limits_set association n 262144 sctp.association) (ap (λ (s : SctpStreams S). s.max_payload) streams) limits;
+      by_limits = limits;
       streams = streams;
       rest = refl;
     })

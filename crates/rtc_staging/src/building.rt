@@ -1,7 +1,7 @@
 //! Peers that are built.
 ghost use Rattle.std.specs.Prelude.{◌≡◌, ◌≤◌, ◌<◌, ◌^◌, IfOk, OnOk, length, ℕ};
 ghost use Rattle.std.specs.Option.{option_copied};
-ghost use Rattle.rtc_peer_state.specs.Built.{Builds, creds_or, after_creds, cert_or, after_cert, empty_peer as EmptyPeer};
+ghost use Rattle.rtc_peer_state.specs.Built.{Builds, creds_or, after_creds, cert_or, after_cert, empty_peer as EmptyPeer, streams_of_config};
 ghost use Rattle.rtc_peer_state.specs.Meanings.{meanings};
 
 use rtc_association::Association;
@@ -55,6 +55,22 @@ fn make_cert<N: Ids>(alloc: Global, ids: &mut N, given: Option<&[u8]>) -> Result
             Ok(Bytes::new(bytes))
         }
     }
+}
+
+// The streams of a peer over a fresh association, with the limit that its config says.
+fn make_streams<S: Association>(
+    alloc: Global,
+    config: &RtcConfig,
+    start: Moment,
+    association: S,
+) -> RtcSctp<S>
+    requires { S.association.fresh association }
+    ensures limits { S.association.limits_set association 1062 262144 result.association }
+    ensures made { result ≡ streams_of_config config.now start result.association }
+{
+    let mut sctp = RtcSctp::new(alloc, MTU.0, LOCAL_MAX_MESSAGE_SIZE, start, association);
+    sctp.set_max_buffered_amount(config.sctp_max_buffered_amount());
+    sctp
 }
 
 fn empty_peer<I, D, S, M, N>(
@@ -117,6 +133,6 @@ pub fn build_peer<
     ice.set_ice_lite(config.ice_lite());
     ice.set_local_credentials(creds);
     let dtls = Dtls::new(alloc, cert.as_slice(), dtls, MTU)?;
-    let sctp = RtcSctp::new(alloc, MTU.0, LOCAL_MAX_MESSAGE_SIZE, start, association);
+    let sctp = make_streams(alloc, &config, start, association);
     Ok(empty_peer(alloc, session_id, start, ice, dtls, sctp, media, ids))
 }

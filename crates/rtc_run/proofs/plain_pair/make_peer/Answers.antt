@@ -6,10 +6,10 @@ add_address-requires c = built_bare c.args.alloc c.in_ok-config.config c.args.fi
 
 pub returns-clause-fresh : goal.returns-clause-fresh
 returns-clause-fresh c =
-    program_fresh c.args.alloc c.args.lite c.args.name.now c.args.first c.args.addr c.in_ok-config.config c.in_ok-rtc.rtc.core c.add_address.new.rtc.core
+    program_fresh c.args.alloc c.args.settings c.args.name.now c.args.first c.args.addr c.in_ok-config.config c.in_ok-rtc.rtc.core c.add_address.new.rtc.core
     (record { config_is = c.in_ok-config.ensures; builds = c.in_ok-rtc.ensures.built; added = c.in_ok-add_address.ensures.added; rest = c.in_ok-add_address.ensures.others })
 
 pub returns-clause-formed : goal.returns-clause-formed
 returns-clause-formed c =
-    program_formed c.args.alloc c.args.lite c.args.name.now c.args.first c.args.addr c.in_ok-config.config c.in_ok-rtc.rtc.core c.add_address.new.rtc.core
+    program_formed c.args.alloc c.args.settings c.args.name.now c.args.first c.args.addr c.in_ok-config.config c.in_ok-rtc.rtc.core c.add_address.new.rtc.core
     (record { config_is = c.in_ok-config.ensures; builds = c.in_ok-rtc.ensures.built; added = c.in_ok-add_address.ensures.added; rest = c.in_ok-add_address.ensures.others }) c.in_ok-rtc.ensures.formed

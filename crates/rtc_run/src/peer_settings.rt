@@ -1,0 +1,10 @@
+//! Settings of the peers of the program.
+
+/// What a peer of the program's pair is set to before it is built.
+#[derive(Clone, Copy, Debug, PartialEq, Eq)]
+pub struct PeerSettings {
+    /// Whether its ICE agent only answers checks (RFC 8445, section 2.5).
+    pub lite: bool,
+    /// How many bytes of its data channels may be buffered before nothing is available.
+    pub max_buffered: usize,
+}
