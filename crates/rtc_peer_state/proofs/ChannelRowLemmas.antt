@@ -1,12 +1,16 @@
--- What the rows of channels stay over, and what they become where a channel is added.
-use Rattle.std.proofs.Common.{◌≡◌, ◌∙◌, ◌++◌, ℕ, Bool, true, false, cond, List, [], ◌∷◌, map, Option, Some, None, Result, refl, ap}
+-- What the rows of channels stay over, and what they become where a channel is added; and that a start keeps the longest message.
+use Rattle.std.proofs.Common.{◌≡◌, ◌∙◌, ◌++◌, ℕ, Bool, true, false, cond, List, [], ◌∷◌, map, Option, Some, None, Result, Ok, Err, refl, ap}
 use Rattle.std.proofs.lemmas.List.{map-append}
 use Rattle.rtc_wire.specs.declared.channel_config.ChannelConfig.{ChannelConfig}
 use Rattle.rtc_sdp_values.specs.declared.line_row.LineRow.{LineRow}
 use Rattle.rtc_association.specs.AssociationMeaning.{AssociationMeaning}
 use Rattle.rtc_association.specs.AssociationLaws.{AssociationLaws}
 use Rattle.rtc_sctp.specs.Streams.{SctpStreams}
+use Rattle.rtc_sctp.specs.Calls.{Inits}
+use Rattle.rtc_sctp_values.specs.InitHalves.{InitHalves}
+use Rattle.rtc_sctp_values.specs.declared.proto_error.ProtoError.TheVariants as proto
 use Rattle.rtc_sctp_values.specs.declared.sctp_error.SctpError.{SctpError}
+use Rattle.rtc_sctp_values.specs.declared.sctp_error.SctpError.TheVariants as sctp
 use Rattle.rtc_sctp.proofs.StartLemmas.{AlikeStreams, streams_same, inits_same}
 use Rattle.rtc_channels.specs.Channels.{Channel, Channels, has_id, unconfirmed, with_channel, rows_confirmed, confirmed, all_confirmed}
 use Rattle.rtc_channels.specs.declared.channel_row.ChannelRow.{ChannelRow}
@@ -73,3 +77,28 @@ module _ {S : Type 0} (m : AssociationMeaning S) where
       (r : Result (Unit {0}) SctpError) (held : Channels) → StartsSctp m p rows client now max r q
       → channel_rows m q held ≡ channel_rows m p held
   started_rows laws p q rows client now max r held h = alike_rows p q held (started_where laws (needs_start m rows p) p q client now max r h)
+
+  inits_size : (client : Bool) (now max : ℕ) (snap : Option InitHalves) (p q : SctpStreams S) (r : Result (Unit {0}) SctpError)
+      → Inits m client now max snap p r q → q.local_max ≡ p.local_max
+  inits_size client now max snap p q (Ok x) h = ap (λ (s : SctpStreams S). s.local_max) h.2
+  inits_size client now max snap p q (Err (sctp.Proto proto.Started)) h = ap (λ (s : SctpStreams S). s.local_max) h.1
+  inits_size client now max snap p q (Err (sctp.Proto proto.SnapHalf)) h = ap (λ (s : SctpStreams S). s.local_max) h.2
+  inits_size client now max snap p q (Err (sctp.Proto proto.Fault)) h = ap (λ (s : SctpStreams S). s.local_max) h.2
+  inits_size client now max snap p q (Err (sctp.Proto (proto.TooLong len limit))) h = absurd h
+  inits_size client now max snap p q (Err (sctp.Proto (proto.NoStream id))) h = absurd h
+  inits_size client now max snap p q (Err sctp.WriteBeforeEstablished) h = absurd h
+  inits_size client now max snap p q (Err sctp.DcepOpenTooSmall) h = absurd h
+  inits_size client now max snap p q (Err sctp.DcepIncorrectMessageType) h = absurd h
+  inits_size client now max snap p q (Err sctp.DcepBadUtf8) h = absurd h
+  inits_size client now max snap p q (Err sctp.InvalidSnap) h = absurd h
+  inits_size client now max snap p q (Err sctp.Alloc) h = ap (λ (s : SctpStreams S). s.local_max) h.2
+
+  where_size : (needed : Bool) (p q : SctpStreams S) (client : Bool) (now max : ℕ) (r : Result (Unit {0}) SctpError)
+      → StartsWhere m needed p client now max r q → q.local_max ≡ p.local_max
+  where_size false p q client now max r h = ap (λ (s : SctpStreams S). s.local_max) h.1
+  where_size true p q client now max r h = inits_size client now max None p q r h
+
+  -- and so does the longest message that this side takes
+  pub started_size : (p q : SctpStreams S) (rows : List LineRow) (client : Bool) (now max : ℕ)
+      (r : Result (Unit {0}) SctpError) → StartsSctp m p rows client now max r q → q.local_max ≡ p.local_max
+  started_size p q rows client now max r h = where_size (needs_start m rows p) p q client now max r h

@@ -49,12 +49,13 @@ candidates_in_use_hosts (Some restart) settings hosts = if_kept restart.1 settin
 
 -- ---- heads and rows
 
--- a head whose session number, credentials, fingerprint and candidates are those of a formed peer
+-- a head whose session number, credentials, fingerprint, candidates and longest message are those of a formed peer
 pub record IsFormedHead (head : SdpHead) : Type 0 where
   pub session : head.session < 2 ^ 64
   pub creds : AreSdpCreds head.creds
   pub fingerprint : IsSha256 head.fingerprint
   pub candidates : AllByRecursion IsHostCandidate head.candidates
+  pub size : head.max_message_size < 2 ^ 32
 
 pub offer_head_formed : (s : Stance) → IsFormed s → IsFormedHead (offer_head s)
 offer_head_formed s formed = record {
@@ -62,6 +63,7 @@ offer_head_formed s formed = record {
   creds = creds_in_use_words (staged_restart s.staged) s.ice (restart_words s.staged formed.restarts) formed.creds;
   fingerprint = formed.fingerprint;
   candidates = candidates_in_use_hosts (staged_restart s.staged) s.ice formed.candidates;
+  size = formed.size;
 }
 
 pub answer_head_formed : (s : Stance) (restart : Option (IceCreds × Bool)) (offer : Sdp) → IfSome restart (λ r. AreSdpCreds r.0)
@@ -72,6 +74,7 @@ answer_head_formed s restart offer tokens formed = record {
   creds = creds_in_use_words restart s.ice tokens formed.creds;
   fingerprint = formed.fingerprint;
   candidates = candidates_in_use_hosts restart s.ice formed.candidates;
+  size = formed.size;
 }
 
 pub offered_rows_tokens : (s : Stance) → IsFormed s → HaveTokens (offered_rows s)

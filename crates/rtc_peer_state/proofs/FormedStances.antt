@@ -70,6 +70,7 @@ lent_formed s formed = record {
   rows = formed.rows;
   staged = tt;
   restarts = tt;
+  size = formed.size;
 }
 
 -- with another counter, and other channels with their rows
@@ -82,6 +83,7 @@ counted_formed s counter channels rows formed = record {
   rows = formed.rows;
   staged = formed.staged;
   restarts = formed.restarts;
+  size = formed.size;
 }
 
 -- more is staged
@@ -96,6 +98,7 @@ staged_formed s more tokens restarts formed = record {
   staged = rw (added_mids-append s.staged more)
       (all-append (λ mid. is_short_token mid ≡ true) (added_mids s.staged) (added_mids more) formed.staged tokens);
   restarts = all-append (λ change. IfSome (restart_of change) (λ restart. AreSdpCreds restart.0)) s.staged more formed.restarts restarts;
+  size = formed.size;
 }
 
 pub adds_media_formed : (s : Stance) (wanted : Wanted) (result : Result (List ℕ) AllocError) (t : Stance)
@@ -158,6 +161,7 @@ changes_line_formed change to s mid (Ok true) t keeps changes formed =
       rows = tokens_alike s.lines (changed_of change mid s.lines) (changed_of_alike change keeps mid s.lines) formed.rows;
       staged = staged.staged;
       restarts = staged.restarts;
+      size = staged.size;
     })
 changes_line_formed change to s mid (Ok false) t keeps changes formed = rw changes.1 formed
 changes_line_formed change to s mid (Err error) t keeps changes formed = rw changes formed
@@ -192,6 +196,7 @@ stages_restart_formed s keeps (Ok creds) t stages formed =
       rows = formed.rows;
       staged = kept_tokens s.staged formed.staged;
       restarts = kept_restarts s.staged;
+      size = formed.size;
     } in
     rw stages.1 (staged_formed kept (IceRestart creds keeps ∷ []) tt (stages.0, tt) before)
 stages_restart_formed s keeps (Err error) t stages formed = rw stages formed
@@ -228,6 +233,7 @@ followed_formed s restart sdp offer tokens names formed = record {
   rows = table_after_tokens s.lines (parsed_lines sdp) offer formed.rows names;
   staged = formed.staged;
   restarts = formed.restarts;
+  size = formed.size;
 }
 
 -- what holds of two values holds of one that is either
@@ -248,6 +254,7 @@ broken_formed s restart counter t breaks tokens formed = record {
   rows = subst HaveTokens (sym (ap (λ r. r.lines) breaks.rest)) formed.rows;
   staged = subst AddTokens (sym (ap (λ r. r.staged) breaks.rest)) formed.staged;
   restarts = subst RestartWords (sym (ap (λ r. r.staged) breaks.rest)) formed.restarts;
+  size = subst (λ (n : ℕ). n < 2 ^ 32) (sym (ap (λ r. r.max_message_size) breaks.rest)) formed.size;
 }
 
 refused_formed : (s : Stance) (asked : Option Asked) (sdp : Sdp) (why : Refusal) (t : Stance) → StanceRefuses s asked sdp why t

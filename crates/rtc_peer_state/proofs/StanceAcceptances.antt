@@ -63,7 +63,7 @@ use Rattle.rtc_peer_state.proofs.StanceLemmas.{parts_stand}
 use Rattle.rtc_peer_state.proofs.PartMovesLemmas.{AreLeft, restarted_by, followed_settings, told_creds, left_after}
 use Rattle.rtc_peer_state.proofs.PartMovesLemmas.{role_taken, start_keeps_local}
 use Rattle.rtc_peer_state.proofs.StoppedPeers.{stopped_ice, stopped_local, stopped_sctp}
-use Rattle.rtc_peer_state.proofs.ChannelRowLemmas.{confirmed_rows, started_rows}
+use Rattle.rtc_peer_state.proofs.ChannelRowLemmas.{confirmed_rows, started_rows, started_size}
 use Rattle.rtc_peer_state.proofs.StanceCalls.{StanceRefuses, StanceAcceptsOffer, StanceAcceptsAnswer, StandsOffer, StandsAnswer}
 use Rattle.rtc_peer_state.proofs.StanceCalls.{BreaksOffer, Breaks, IsFollowed, followed_by}
 
@@ -100,11 +100,11 @@ followed_stands m p offer =
 
 -- what is left where a part failed or memory lacked
 breaks_by : (s : Stance) (restart : Option (IceCreds × Bool)) (counter : ℕ) (ice : IceSettings) (own : Fingerprint) (role : Option Bool)
-    (rows : List ChannelRow) (t : Stance)
-    → t ≡ record s { counter = counter; ice = ice; own_fingerprint = own; role = role; rows = rows } → own ≡ s.own_fingerprint
-    → rows ≡ s.rows → AreLeft s.ice restart ice
+    (rows : List ChannelRow) (most : ℕ) (t : Stance)
+    → t ≡ record s { counter = counter; ice = ice; own_fingerprint = own; role = role; rows = rows; max_message_size = most }
+    → own ≡ s.own_fingerprint → rows ≡ s.rows → most ≡ s.max_message_size → AreLeft s.ice restart ice
     → Breaks s restart counter t
-breaks_by s restart counter ice own role rows t is same shown left = rw (is, same, shown) (record {
+breaks_by s restart counter ice own role rows most t is same shown size left = rw (is, same, shown, size) (record {
   lite = left.lite;
   local = left.local;
   candidates = left.candidates;
@@ -119,12 +119,25 @@ by_sdp_rows m laws p offers sdp r s held h =
     started_rows m.association laws.association p.sctp s (table_after p.lines (parsed_lines sdp) offers)
     (role_after p.dtls.active (sdp_setup sdp)) p.greatest (remote_limit (max_message_size_of sdp)) r held h
 
+-- and the longest message that this side takes
+by_sdp_size : {I D S M E X T W N : Type 0} (m : Meanings I D S M E X T W N) (p : Peer I D S M N) (offers : Bool) (sdp : Sdp)
+    (r : Result (Unit {0}) SctpError) (s : SctpStreams S) → StartsBySdp m p offers sdp r s → s.local_max ≡ p.sctp.local_max
+by_sdp_size m p offers sdp r s h =
+    started_size m.association p.sctp s (table_after p.lines (parsed_lines sdp) offers)
+    (role_after p.dtls.active (sdp_setup sdp)) p.greatest (remote_limit (max_message_size_of sdp)) r h
+
 -- and so does an acceptance that stopped
 stopped_rows : {I D S M E X T W N : Type 0} (m : Meanings I D S M E X T W N) → PartsLaws m → (p : Peer I D S M N) (offers : Bool) (sdp : Sdp)
     (s : SctpStreams S) (held : Channels) → (s ≡ p.sctp) ⊎ ((r : Result (Unit {0}) SctpError) × StartsBySdp m p offers sdp r s)
     → channel_rows m.association s held ≡ channel_rows m.association p.sctp held
 stopped_rows {I} {D} {S} m laws p offers sdp s held (inl same) = ap (λ (x : SctpStreams S). channel_rows m.association x held) same
 stopped_rows m laws p offers sdp s held (inr starts) = by_sdp_rows m laws p offers sdp starts.0 s held starts.1
+
+stopped_size : {I D S M E X T W N : Type 0} (m : Meanings I D S M E X T W N) (p : Peer I D S M N) (offers : Bool) (sdp : Sdp)
+    (s : SctpStreams S) → (s ≡ p.sctp) ⊎ ((r : Result (Unit {0}) SctpError) × StartsBySdp m p offers sdp r s)
+    → s.local_max ≡ p.sctp.local_max
+stopped_size {I} {D} {S} m p offers sdp s (inl same) = ap (λ (x : SctpStreams S). x.local_max) same
+stopped_size m p offers sdp s (inr starts) = by_sdp_size m p offers sdp starts.0 s starts.1
 
 accepted_offer_stands : {I D S M E X T W N : Type 0} (m : Meanings I D S M E X T W N) → PartsLaws m
     → (p : Peer I D S M N) (offer answer : Sdp)
@@ -138,12 +151,13 @@ accepted_offer_stands m laws p offer answer q h =
       followed = followed_stands m p offer;
       answered = h.answered;
       rest = ap (stance_of m) h.rest
-          ∙ parts_stand (record (followed_by s (followed_restart m p offer) offer true) { counter = raised p.counter }) _ _ _ _ _ _ _ _
+          ∙ parts_stand (record (followed_by s (followed_restart m p offer) offer true) { counter = raised p.counter }) _ _ _ _ _ _ _ _ _ _
           (followed_settings m.ice laws.ice p.ice q.ice _ _ _ _ h.ice_follows
           ∙ told_creds (creds_of offer) (restarted_by (followed_restart m p offer) s.ice) there)
           (start_keeps_local m.dtls p.dtls q.dtls _ _ _ _ h.dtls_starts)
           (role_taken m.dtls p.dtls q.dtls p.dtls.active (sdp_setup offer) p.greatest (Ok tt) refl h.dtls_starts)
-          (by_sdp_rows m laws p true offer (Ok tt) q.sctp p.channels h.sctp_starts);
+          (by_sdp_rows m laws p true offer (Ok tt) q.sctp p.channels h.sctp_starts)
+          (by_sdp_size m p true offer (Ok tt) q.sctp h.sctp_starts);
     }
 
 faulted_offer_stands : {I D S M E X T W N : Type 0} (m : Meanings I D S M E X T W N) → PartsLaws m → (p : Peer I D S M N) (offer : Sdp)
@@ -152,8 +166,8 @@ faulted_offer_stands m laws p offer q h = record {
   restart = followed_restart m p offer;
   followed = followed_stands m p offer;
   breaks = breaks_by (stance_of m p) (followed_restart m p offer) (raised p.counter) (m.ice.settings q.ice) q.dtls.local q.dtls.active
-      (channel_rows m.association p.sctp p.channels) (stance_of m q)
-      (ap (stance_of m) h.rest) (start_keeps_local m.dtls p.dtls q.dtls _ _ _ _ h.dtls_fails) refl
+      (channel_rows m.association p.sctp p.channels) p.sctp.local_max (stance_of m q)
+      (ap (stance_of m) h.rest) (start_keeps_local m.dtls p.dtls q.dtls _ _ _ _ h.dtls_fails) refl refl
       (left_after m.ice laws.ice p.ice q.ice _ _ _ _ h.ice_follows);
 }
 
@@ -163,9 +177,10 @@ unstarted_offer_stands m laws p offer q h = record {
   restart = followed_restart m p offer;
   followed = followed_stands m p offer;
   breaks = breaks_by (stance_of m p) (followed_restart m p offer) (raised p.counter) (m.ice.settings q.ice) q.dtls.local q.dtls.active
-      (channel_rows m.association q.sctp p.channels) (stance_of m q)
+      (channel_rows m.association q.sctp p.channels) q.sctp.local_max (stance_of m q)
       (ap (stance_of m) h.rest) (start_keeps_local m.dtls p.dtls q.dtls _ _ _ _ h.dtls_starts)
       (by_sdp_rows m laws p true offer (Err (Proto AssociationFault)) q.sctp p.channels h.sctp_fails)
+      (by_sdp_size m p true offer (Err (Proto AssociationFault)) q.sctp h.sctp_fails)
       (left_after m.ice laws.ice p.ice q.ice _ _ _ _ h.ice_follows);
 }
 
@@ -175,9 +190,11 @@ stopped_offer_stands m laws p offer q h = record {
   restart = followed_restart m p offer;
   followed = followed_stands m p offer;
   breaks = breaks_by (stance_of m p) (followed_restart m p offer) (raised p.counter) (m.ice.settings q.ice) q.dtls.local q.dtls.active
-      (channel_rows m.association q.sctp p.channels) (stance_of m q)
+      (channel_rows m.association q.sctp p.channels) q.sctp.local_max (stance_of m q)
       (ap (stance_of m) h.rest) (stopped_local m (record p { counter = raised p.counter }) _ _ _ _ _ _ q h.stops)
       (stopped_rows m laws (record p { counter = raised p.counter }) (is_offer None) offer q.sctp p.channels
+      (stopped_sctp m (record p { counter = raised p.counter }) _ _ _ _ _ _ q h.stops))
+      (stopped_size m (record p { counter = raised p.counter }) (is_offer None) offer q.sctp
       (stopped_sctp m (record p { counter = raised p.counter }) _ _ _ _ _ _ q h.stops))
       (stopped_ice m laws.ice (record p { counter = raised p.counter }) _ _ _ _ _ _ q h.stops);
 }
@@ -209,13 +226,14 @@ accepted_answer_stands m laws p token answer q h =
       right = h.right;
       passes = h.passes;
       rest = ap (stance_of m) h.rest
-          ∙ parts_stand (record (followed_by s (staged_restart token.changes) answer false) { channels = confirmed }) _ _ _ _ _ _ _ _
+          ∙ parts_stand (record (followed_by s (staged_restart token.changes) answer false) { channels = confirmed }) _ _ _ _ _ _ _ _ _ _
           (followed_settings m.ice laws.ice p.ice q.ice _ _ _ _ h.ice_follows
           ∙ told_creds (creds_of answer) (restarted_by (staged_restart token.changes) s.ice) there)
           (start_keeps_local m.dtls p.dtls q.dtls _ _ _ _ h.dtls_starts)
           (role_taken m.dtls p.dtls q.dtls p.dtls.active (sdp_setup answer) p.greatest (Ok tt) refl h.dtls_starts)
           (by_sdp_rows m laws p false answer (Ok tt) q.sctp confirmed h.sctp_starts
-          ∙ confirmed_rows m.association p.sctp (fitting_channels token.changes) p.channels);
+          ∙ confirmed_rows m.association p.sctp (fitting_channels token.changes) p.channels)
+          (by_sdp_size m p false answer (Ok tt) q.sctp h.sctp_starts);
     }
 
 faulted_answer_stands : {I D S M E X T W N : Type 0} (m : Meanings I D S M E X T W N) → PartsLaws m
@@ -224,8 +242,8 @@ faulted_answer_stands : {I D S M E X T W N : Type 0} (m : Meanings I D S M E X T
     → Breaks (stance_of m p) (staged_restart token.changes) p.counter (stance_of m q)
 faulted_answer_stands m laws p token answer q h =
     breaks_by (stance_of m p) (staged_restart token.changes) p.counter (m.ice.settings q.ice) q.dtls.local q.dtls.active
-    (channel_rows m.association p.sctp p.channels) (stance_of m q)
-    (ap (stance_of m) h.rest) (start_keeps_local m.dtls p.dtls q.dtls _ _ _ _ h.dtls_fails) refl
+    (channel_rows m.association p.sctp p.channels) p.sctp.local_max (stance_of m q)
+    (ap (stance_of m) h.rest) (start_keeps_local m.dtls p.dtls q.dtls _ _ _ _ h.dtls_fails) refl refl
     (left_after m.ice laws.ice p.ice q.ice _ _ _ _ h.ice_follows)
 
 unstarted_answer_stands : {I D S M E X T W N : Type 0} (m : Meanings I D S M E X T W N) → PartsLaws m
@@ -234,9 +252,10 @@ unstarted_answer_stands : {I D S M E X T W N : Type 0} (m : Meanings I D S M E X
     → Breaks (stance_of m p) (staged_restart token.changes) p.counter (stance_of m q)
 unstarted_answer_stands m laws p token answer q h =
     breaks_by (stance_of m p) (staged_restart token.changes) p.counter (m.ice.settings q.ice) q.dtls.local q.dtls.active
-    (channel_rows m.association q.sctp p.channels) (stance_of m q)
+    (channel_rows m.association q.sctp p.channels) q.sctp.local_max (stance_of m q)
     (ap (stance_of m) h.rest) (start_keeps_local m.dtls p.dtls q.dtls _ _ _ _ h.dtls_starts)
     (by_sdp_rows m laws p false answer (Err (Proto AssociationFault)) q.sctp p.channels h.sctp_fails)
+    (by_sdp_size m p false answer (Err (Proto AssociationFault)) q.sctp h.sctp_fails)
     (left_after m.ice laws.ice p.ice q.ice _ _ _ _ h.ice_follows)
 
 stopped_answer_stands : {I D S M E X T W N : Type 0} (m : Meanings I D S M E X T W N) → PartsLaws m
@@ -245,9 +264,10 @@ stopped_answer_stands : {I D S M E X T W N : Type 0} (m : Meanings I D S M E X T
     → Breaks (stance_of m p) (staged_restart token.changes) p.counter (stance_of m q)
 stopped_answer_stands m laws p token answer q h =
     breaks_by (stance_of m p) (staged_restart token.changes) p.counter (m.ice.settings q.ice) q.dtls.local q.dtls.active
-    (channel_rows m.association q.sctp p.channels) (stance_of m q)
+    (channel_rows m.association q.sctp p.channels) q.sctp.local_max (stance_of m q)
     (ap (stance_of m) h.rest) (stopped_local m p _ _ _ _ _ _ q h.stops)
     (stopped_rows m laws p (is_offer (Some (asked_by p.lines token))) answer q.sctp p.channels (stopped_sctp m p _ _ _ _ _ _ q h.stops))
+    (stopped_size m p (is_offer (Some (asked_by p.lines token))) answer q.sctp (stopped_sctp m p _ _ _ _ _ _ q h.stops))
     (stopped_ice m laws.ice p _ _ _ _ _ _ q h.stops)
 
 pub accepts_answer_stands : {I D S M E X T W N : Type 0} (m : Meanings I D S M E X T W N) → PartsLaws m

@@ -133,11 +133,11 @@ alone_stands m p (change ∷ changes) = ap (λ (rows : List ChannelRow). record 
 }) (confirmed_rows m.association p.sctp (fitting_channels (change ∷ changes)) p.channels)
 
 -- the parts that an acceptance moves are read by their settings, their fingerprint, their role and the rows over them
-pub parts_stand : (s : Stance) (ice ice' : IceSettings) (own own' : Fingerprint) (role role' : Option Bool) (rows rows' : List ChannelRow)
-    → ice ≡ ice' → own ≡ own' → role ≡ role' → rows ≡ rows'
-    → record s { ice = ice; own_fingerprint = own; role = role; rows = rows }
-    ≡ record s { ice = ice'; own_fingerprint = own'; role = role'; rows = rows' }
-parts_stand s ice ice' own own' role role' rows rows' a b c d = rw (a, b, c, d) refl
+pub parts_stand : (s : Stance) (ice ice' : IceSettings) (own own' : Fingerprint) (role role' : Option Bool) (rows rows' : List ChannelRow) (most most' : ℕ)
+    → ice ≡ ice' → own ≡ own' → role ≡ role' → rows ≡ rows' → most ≡ most'
+    → record s { ice = ice; own_fingerprint = own; role = role; rows = rows; max_message_size = most }
+    ≡ record s { ice = ice'; own_fingerprint = own'; role = role'; rows = rows'; max_message_size = most' }
+parts_stand s ice ice' own own' role role' rows rows' most most' a b c d e = rw (a, b, c, d, e) refl
 
 pub applies_stands : {I D S M E X T W N : Type 0} (m : Meanings I D S M E X T W N) → PartsLaws m → (p : Peer I D S M N)
     (result : Result (Option (Sdp × PendingOffer)) AllocError) (q : Peer I D S M N) → Applies m p result q
@@ -148,7 +148,7 @@ applies_stands m laws p (Ok (Some made)) q h = (
   h.1,
   h.2,
   ap (stance_of m) h.4
-      ∙ parts_stand (record (stance_of m p) { staged = []; counter = raised p.counter }) _ _ _ _ _ _ _ _
-      (control_settings m.ice laws.ice p.ice q.ice _ h.3) refl refl refl,
+      ∙ parts_stand (record (stance_of m p) { staged = []; counter = raised p.counter }) _ _ _ _ _ _ _ _ _ _
+      (control_settings m.ice laws.ice p.ice q.ice _ h.3) refl refl refl refl,
 )
 applies_stands m laws p (Err error) q h = ap (stance_of m) h

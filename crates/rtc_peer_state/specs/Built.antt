@@ -61,10 +61,10 @@ empty_peer alloc session start ice dtls sctp media ids = record {
   ids = ids;
 }
 
--- the streams of a peer of a config: as many bytes may be buffered as the config says
+-- the streams of a peer of a config: messages may be as long, and as many bytes may be buffered, as the config says
 abbrev pub streams_of_config : {S : Type 0} → Config → (start : ℕ) → S → SctpStreams S
 streams_of_config config start association =
-    record (no_streams 1150 262144 start association) { max_buffered = config.max_buffered }
+    record (no_streams 1150 config.max_message_size start association) { max_buffered = config.max_buffered }
 
 module _ {I D S M E X T W N : Type 0} (m : Meanings I D S M E X T W N) where
   -- parts that are as they were made
@@ -83,6 +83,6 @@ module _ {I D S M E X T W N : Type 0} (m : Meanings I D S M E X T W N) where
     pub by_creds : m.ice.local_set lite_set (creds_or m.ids config.creds (session_drawn m.ids ids)) p.ice
     pub by_cert : BeginsDtls m.dtls (cert_or m.ids config.cert (creds_drawn m.ids config ids)) dtls (1150, 1280) p.dtls
     -- datagrams of 1150 bytes leave 1062 for a packet of the association
-    pub by_limits : m.association.limits_set association 1062 262144 p.sctp.association
+    pub by_limits : m.association.limits_set association 1062 config.max_message_size p.sctp.association
     pub streams : p.sctp ≡ streams_of_config config start p.sctp.association
     pub rest : p ≡ empty_peer alloc (m.ids.drawn ids) start p.ice p.dtls p.sctp media (cert_drawn m.ids config ids)

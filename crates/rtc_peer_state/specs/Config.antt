@@ -8,6 +8,8 @@ pub record Config : Type 0 where
   pub cert : Option (List ℕ)
   -- how many bytes of data channels may be buffered before nothing is available
   pub max_buffered : ℕ
+  -- the longest messages that this side takes, as its session descriptions tell
+  pub max_message_size : ℕ
 
 -- a certificate that is set has at most 1900 bytes
 abbrev pub IsShort : Option (List ℕ) → Type 0

@@ -56,7 +56,7 @@ pub record IsHostCandidate (candidate : Candidate) : Type 0 where
 abbrev pub RestartWords : List Change → Type 0
 RestartWords changes = AllByRecursion (λ change. IfSome (restart_of change) (λ restart. AreSdpCreds restart.0)) changes
 
--- a peer whose session number, credentials, fingerprint, candidates and mids are such
+-- a peer whose session number, credentials, fingerprint, candidates, mids and longest message are such
 pub record IsFormed (s : Stance) : Type 0 where
   pub session : s.session < 2 ^ 64
   pub creds : AreSdpCreds s.ice.local
@@ -65,3 +65,4 @@ pub record IsFormed (s : Stance) : Type 0 where
   pub rows : HaveTokens s.lines
   pub staged : AddTokens s.staged
   pub restarts : RestartWords s.staged
+  pub size : s.max_message_size < 2 ^ 32

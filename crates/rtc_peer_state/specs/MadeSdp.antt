@@ -31,14 +31,14 @@ abbrev pub line_kind : MediaKind → LineKind
 line_kind Audio = AudioLine
 line_kind Video = VideoLine
 
--- the m-line of a row, without what it tells of its peer; the data channels take messages of up to 262144 bytes
-abbrev pub bare_row_line : LineRow → MediaLine
-bare_row_line (Media place mid kind dir stopped remote_created) = record (bare_line (line_kind kind) mid dir) { disabled = stopped }
-bare_row_line (App place mid) = record (bare_line Application mid SendRecv) { max_message_size = Some 262144 }
+-- the m-line of a row, without what it tells of its peer but how long messages of its data channels may be
+abbrev pub bare_row_line : (most : ℕ) → LineRow → MediaLine
+bare_row_line most (Media place mid kind dir stopped remote_created) = record (bare_line (line_kind kind) mid dir) { disabled = stopped }
+bare_row_line most (App place mid) = record (bare_line Application mid SendRecv) { max_message_size = Some most }
 
--- the m-line of a row, with the credentials, the fingerprint and the role of its peer
+-- the m-line of a row, with the credentials, the fingerprint, the role and the longest message of its peer
 abbrev pub row_line : SdpHead → LineRow → MediaLine
-row_line head row = record (bare_row_line row) {
+row_line head row = record (bare_row_line head.max_message_size row) {
   creds = Some head.creds;
   fingerprint = Some head.fingerprint;
   setup = Some head.setup;
@@ -101,6 +101,7 @@ offer_head s = record {
   fingerprint = s.own_fingerprint;
   setup = ActPass;
   candidates = candidates_in_use (staged_restart s.staged) s.ice;
+  max_message_size = s.max_message_size;
 }
 
 -- the rows of an offer: those that are there, then those that it adds
@@ -120,6 +121,7 @@ answer_head s restart offer = record {
   fingerprint = s.own_fingerprint;
   setup = setup_of_role (role_after s.role (sdp_setup offer));
   candidates = candidates_in_use restart s.ice;
+  max_message_size = s.max_message_size;
 }
 
 -- the answer to an offer

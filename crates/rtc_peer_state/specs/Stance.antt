@@ -26,6 +26,8 @@ pub record Stance : Type 0 where
   pub fingerprint : Option Fingerprint
   -- the DTLS role, once it is taken: whether this side begins the handshake
   pub role : Option Bool
+  -- the longest message that this side takes, in bytes
+  pub max_message_size : ℕ
 
 abbrev pub stance_of : {I D S M E X T W N : Type 0} → Meanings I D S M E X T W N → Peer I D S M N → Stance
 stance_of m p = record {
@@ -39,6 +41,7 @@ stance_of m p = record {
   own_fingerprint = p.dtls.local;
   fingerprint = p.fingerprint;
   role = p.dtls.active;
+  max_message_size = p.sctp.local_max;
 }
 
 -- what an offer or an answer is judged by

@@ -4,7 +4,7 @@ ghost use Rattle.std.specs.Option.{option_copied};
 ghost use Rattle.rtc_peer_state.specs.Config.{IsShort};
 
 use rtc_sdp_values::IceCreds;
-use rtc_wire::{Bytes, DEFAULT_MAX_BUFFERED_AMOUNT};
+use rtc_wire::{Bytes, DEFAULT_MAX_BUFFERED_AMOUNT, LOCAL_MAX_MESSAGE_SIZE};
 use std::alloc::{AllocError, Global};
 use std::marker::Model;
 
@@ -15,6 +15,7 @@ pub struct RtcConfig {
     creds: Option<IceCreds>,
     cert: Option<Bytes>,
     max_buffered: usize,
+    max_message_size: u32,
 }
 
 impl Model for RtcConfig {
@@ -27,21 +28,30 @@ impl Model for RtcConfig {
       creds = config.creds;
       cert = config.cert;
       max_buffered = config.max_buffered;
+      max_message_size = config.max_message_size;
     } };
 
     ghost invariant = { λ config. IsShort config.cert };
 }
 
 impl RtcConfig {
-    /// The default: an agent that makes checks, a peer that draws its credentials and its certificate, and 131072 bytes that may be buffered.
+    /// The default: an agent that makes checks, a peer that draws its credentials and its certificate, 131072 bytes that may be buffered,
+    /// and messages of up to 262144 bytes.
     pub fn new(_alloc: Global) -> Result<RtcConfig, AllocError>
-        ensures { IfOk result (λ config. config ≡ record { ice_lite = false; creds = None; cert = None; max_buffered = 131072 }) }
+        ensures { IfOk result (λ config. config ≡ record {
+          ice_lite = false;
+          creds = None;
+          cert = None;
+          max_buffered = 131072;
+          max_message_size = 262144;
+        }) }
     {
         Ok(RtcConfig {
             ice_lite: false,
             creds: None,
             cert: None,
             max_buffered: DEFAULT_MAX_BUFFERED_AMOUNT,
+            max_message_size: LOCAL_MAX_MESSAGE_SIZE,
         })
     }
 
@@ -54,12 +64,14 @@ impl RtcConfig {
             creds,
             cert,
             max_buffered,
+            max_message_size,
         } = self;
         RtcConfig {
             ice_lite: lite,
             creds,
             cert,
             max_buffered,
+            max_message_size,
         }
     }
 
@@ -79,12 +91,14 @@ impl RtcConfig {
             creds: _,
             cert,
             max_buffered,
+            max_message_size,
         } = self;
         RtcConfig {
             ice_lite,
             creds: Some(creds),
             cert,
             max_buffered,
+            max_message_size,
         }
     }
 
@@ -105,12 +119,14 @@ impl RtcConfig {
             creds,
             cert: _,
             max_buffered,
+            max_message_size,
         } = self;
         RtcConfig {
             ice_lite,
             creds,
             cert: Some(Bytes::new(cert)),
             max_buffered,
+            max_message_size,
         }
     }
 
@@ -134,12 +150,14 @@ impl RtcConfig {
             creds,
             cert,
             max_buffered: _,
+            max_message_size,
         } = self;
         RtcConfig {
             ice_lite,
             creds,
             cert,
             max_buffered: size,
+            max_message_size,
         }
     }
 
@@ -148,5 +166,33 @@ impl RtcConfig {
         ensures { result ≡ self.now.max_buffered }
     {
         self.max_buffered
+    }
+
+    /// Sets the longest message that this side takes, in bytes, which its session descriptions tell (RFC 8841, section 6.1): 0 stands for
+    /// any length.
+    pub fn set_sctp_max_message_size(self, size: u32) -> RtcConfig
+        ensures { result ≡ record self { max_message_size = size } }
+    {
+        let RtcConfig {
+            ice_lite,
+            creds,
+            cert,
+            max_buffered,
+            max_message_size: _,
+        } = self;
+        RtcConfig {
+            ice_lite,
+            creds,
+            cert,
+            max_buffered,
+            max_message_size: size,
+        }
+    }
+
+    /// The longest message that this side takes, in bytes.
+    pub fn sctp_max_message_size(&self) -> u32
+        ensures { result ≡ self.now.max_message_size }
+    {
+        self.max_message_size
     }
 }

@@ -17,4 +17,6 @@ pub struct SdpHead {
     pub setup: Setup,
     /// The candidates, which stand at the first m-line.
     pub candidates: Seq<Candidate>,
+    /// The longest message that this side takes, in bytes, which the line of the data channels tells (RFC 8841, section 6.1).
+    pub max_message_size: u32,
 }
