@@ -31,7 +31,8 @@ use Rattle.rtc_file_records.specs.declared.announced.Announced.{Announced}
 use Rattle.rtc_file_records.specs.declared.file_record.FileRecord.{FileRecord}
 use Rattle.rtc_file_records.specs.declared.file_record.FileRecord.TheVariants.{Begin, Piece, End, Resume}
 use Rattle.rtc_file_records.specs.declared.file_error.FileError.{FileError}
-use Rattle.rtc_file_records.specs.declared.file_error.FileError.TheVariants.{BadRecord, Order, OtherFile, Gap, TooMuch, Short, Mismatch, Alloc}
+use Rattle.rtc_file_records.specs.declared.file_error.FileError.TheVariants.{BadRecord, Order, OtherFile, Gap}
+use Rattle.rtc_file_records.specs.declared.file_error.FileError.TheVariants.{TooMuch, Short, Mismatch, Alloc}
 
 -- a file as it comes
 pub record ReceivedFile : Type 0 where

@@ -32,7 +32,8 @@ pub record TellsCounts {P : Type 0} (rounds : ℕ) (steps : List Step) (replies 
 
 -- The steps of a demo, which are orderly, were performed on the program's pair; each of its rounds was finished, and what was counted
 -- over the replies was written. The pair is left.
-pub record PerformsDemo (alloc : Global) (rounds seed : ℕ) (written written' : Option (List ℕ)) (last : Option PlainPairState) : Type 0 where
+pub record PerformsDemo (alloc : Global) (rounds seed : ℕ) (written written' : Option (List ℕ)) (last : Option PlainPairState)
+    : Type 0 where
   pub replies : List (Reply PlainMediaEvent)
   pub pair : PlainPairState
   pub ran : RanScript alloc (demo_script rounds seed) replies pair

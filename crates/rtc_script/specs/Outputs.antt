@@ -9,7 +9,8 @@ use Rattle.rtc_peer_state.specs.declared.rtc_error.RtcError.{RtcError}
 use Rattle.rtc_peer_state.specs.declared.rtc_error.RtcError.TheVariants.{RemoteSdp, Sdp, Net, Dtls, Sctp, Media}
 use Rattle.rtc_peer_state.specs.declared.rtc_error.RtcError.TheVariants.{ChangesOutOfOrder, BadChannel, Alloc as PeerAlloc}
 use Rattle.rtc_history.specs.declared.outcome.Outcome.{Outcome}
-use Rattle.rtc_history.specs.declared.outcome.Outcome.TheVariants.{Negotiated, Answered, Finished, Done, Wrote, Polled, Refused, NoSuch, Alloc}
+use Rattle.rtc_history.specs.declared.outcome.Outcome.TheVariants.{Negotiated, Answered, Finished, Done, Wrote, Polled}
+use Rattle.rtc_history.specs.declared.outcome.Outcome.TheVariants.{Refused, NoSuch, Alloc}
 use Rattle.rtc_history.specs.declared.poll_end.PollEnd.{PollEnd}
 use Rattle.rtc_history.specs.declared.poll_end.PollEnd.TheVariants.{Ended, Refused as EndRefused, NoRoom}
 use Rattle.rtc_history.specs.declared.shown.Shown.{Shown}
