@@ -6,8 +6,7 @@ rtc_channels, and not from the program. All channels are announced by open messa
 FAR_FUTURE = 2**64 - 1
 SECOND = 1_000_000_000
 PIECE = 1062 - 28
-LONGEST_MESSAGE = 262144
-MOST_BUFFERED = 131072
+ANY_LENGTH = 2**32 - 1
 OPENING = "opening"
 ACKNOWLEDGEMENT = b"\x02"
 
@@ -15,6 +14,12 @@ ACKNOWLEDGEMENT = b"\x02"
 # A write that a stream refuses.
 class Unwritten(Exception):
     pass
+
+
+# What a side is set to: how many bytes may be buffered, and the longest message that it takes, where 0 stands for any length.
+class Sizes:
+    def __init__(self, buffered=131072, longest=262144):
+        self.buffered, self.longest = buffered, longest
 
 
 # A packet of the association: what it says, and how many bytes it has.
@@ -41,7 +46,7 @@ def after(moment, span):
 # One end. `role` is None before a start.
 class Association:
     def __init__(self):
-        self.role, self.connected, self.shut, self.lost = None, False, False, False
+        self.role, self.connected, self.shut, self.lost, self.longest = None, False, False, False, None
         self.now, self.hello_sent, self.items_sent = 0, 0, 0
         self.acknowledged, self.items, self.received, self.streams = 0, [], 0, {}
         self.events, self.packets = [], []
@@ -52,8 +57,9 @@ class Association:
     def is_ending(self):
         return self.shut or self.lost
 
-    def start(self, client, now):
-        self.role, self.now = "client" if client else "server", now
+    # `longest` is what the other end told, by which a message is too long for it.
+    def start(self, client, now, longest):
+        self.role, self.now, self.longest = "client" if client else "server", now, longest or ANY_LENGTH
         if client:
             self.say_hello(now)
 
@@ -79,7 +85,7 @@ class Association:
         return stream.there and stream.close is None and not self.is_ending()
 
     def write(self, number, message, kind=OPENING):
-        if not self.is_open(number) or len(message) > LONGEST_MESSAGE:
+        if not self.is_open(number) or len(message) > self.longest:
             return False
         pieces = [message[at:at + PIECE] for at in range(0, len(message), PIECE)] or [b""]
         stream = self.stream(number)
@@ -185,14 +191,15 @@ class Entry:
 
 # The streams of data channels over an association.
 class Streams:
-    def __init__(self):
+    def __init__(self, most_buffered):
         self.association, self.state, self.client, self.last = Association(), "fresh", False, 0
+        self.most_buffered = most_buffered
         self.entries, self.resets, self.completed, self.returned = {}, [], [], []
 
-    def start(self, client, now):
+    def start(self, client, now, longest):
         if self.association.role is None:
             self.client, self.state = client, "waiting" if client else "unheard"
-            self.association.start(client, now)
+            self.association.start(client, now, longest)
 
     def close(self):
         if self.association.role and not self.association.is_ending():
@@ -229,14 +236,17 @@ class Streams:
     def is_open(self, number):
         return self.state == "established" and number in self.entries and self.entries[number].state == "open"
 
-    # Whether a message is taken: it is not where it is longer than what may be buffered yet over all streams in use.
+    # Whether a message is taken: it is not where it is longer than what may be buffered yet over all streams in use. One of no bytes is
+    # taken also where open messages filled the buffer.
     def write(self, number, binary, message):
-        if len(message) > MOST_BUFFERED - sum(self.association.buffered(own) for own in self.entries):
+        if len(message) > max(self.most_buffered - sum(self.association.buffered(own) for own in self.entries), 0):
             return False
         if self.association.is_ending():
             raise Unwritten("Write on a stream before it was established")
         if not self.association.is_open(number):
             raise Unwritten(f"no stream {number}")
+        if len(message) > self.association.longest:
+            raise Unwritten(f"message of {len(message)} bytes is longer than {self.association.longest}")
         return self.association.write(number, message, "binary" if binary else "text")
 
     # The entry of a stream that is closed is marked, and the stream of the association ends.

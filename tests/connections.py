@@ -142,18 +142,18 @@ class Media:
 
 
 class Connection:
-    def __init__(self, ufrag):
+    def __init__(self, ufrag, sizes):
         self.ice, self.dtls, self.media = Ice(ufrag), Dtls(), Media()
-        self.streams, self.channels = Streams(), Channels()
+        self.streams, self.channels = Streams(sizes.buffered), Channels()
         self.phase, self.handshake, self.greatest, self.dtls_wake, self.paired = "alive", "pending", 0, FAR_FUTURE, False
 
-    # Follows a description that is accepted: the fragment of its side, whether this side begins the handshake, and whether there is a line
-    # of data channels, with which the association starts.
-    def follow(self, ufrag, active, has_channels):
+    # Follows a description that is accepted: the fragment of its side, whether this side begins the handshake, whether there is a line of
+    # data channels, with which the association starts, and the longest message that the other side tells.
+    def follow(self, ufrag, active, has_channels, longest):
         self.ice.remote = ufrag
         self.dtls.begin(active, self.greatest)
         if has_channels:
-            self.streams.start(self.dtls.active, self.greatest)
+            self.streams.start(self.dtls.active, self.greatest, longest)
 
     def take_moment(self, now):
         if self.phase != "closed" and now >= self.greatest:

@@ -12,7 +12,7 @@ import random
 import subprocess
 import sys
 
-from associations import Unwritten
+from associations import Sizes, Unwritten
 from connections import FAR_FUTURE, SECOND, Connection
 
 INVERSE = {"sendrecv": "sendrecv", "sendonly": "recvonly", "recvonly": "sendonly", "inactive": "inactive"}
@@ -39,11 +39,12 @@ class Row:
 
 
 class Peer:
-    def __init__(self, first):
+    def __init__(self, first, sizes):
+        self.sizes = sizes
         self.next, self.rows, self.staged, self.counter, self.sources = first, [], [], 0, {}
         self.draw()  # the number of the session
         self.ufrag = f"u{self.draw():016x}"
-        self.connection = Connection(self.ufrag)
+        self.connection = Connection(self.ufrag, sizes)
 
     def draw(self):
         self.next += 1
@@ -194,27 +195,32 @@ class Peer:
         self.rows = after + self.rows[len(text):]
 
     # An offer leaves the choice of the role, and this side then waits for the handshake.
-    def accept_offer(self, text, ufrag):
+    def accept_offer(self, text, other):
         self.staged, self.counter = [], self.counter + 1
         new = self.judge(text, True)
         self.take(text, True, new, [])
-        self.connection.follow(ufrag, False, self.has_channels())
+        self.connection.follow(other.ufrag, False, self.has_channels(), other.sizes.longest)
         return [row.copy() for row in self.rows]
 
-    def accept_answer(self, token, text, ufrag, active):
+    def accept_answer(self, token, text, other, active):
         self.staged = []
         if self.counter != token[0] + 1:
             raise Refused("7 Changes made out of order")
         new = self.judge(text, False)
         self.judge_new(text, new, token[1])
         self.take(text, False, new, token[1])
-        self.connection.follow(ufrag, active, self.has_channels())
+        self.connection.follow(other.ufrag, active, self.has_channels(), other.sizes.longest)
         self.confirm(token[2])
 
 
 class Pair:
-    def __init__(self):
-        self.peers = {"L": Peer(1), "R": Peer(1000001)}
+    # `settings` are words behind a side, of which the last one counts.
+    def __init__(self, settings=()):
+        sizes = {"L": Sizes(), "R": Sizes()}
+        for at, name, number in settings:
+            setattr(sizes[at], {"buffer": "buffered", "maxmsg": "longest"}[name], number)
+        self.settings = [f"set {at} {name} {number}" for at, name, number in settings]
+        self.peers = {"L": Peer(1, sizes["L"]), "R": Peer(1000001, sizes["R"])}
         self.texts, self.tokens, self.lines, self.report = [], {}, [], ""
         self.datagrams = []
 
@@ -249,7 +255,7 @@ class Pair:
         if text is None:
             return "nosuch"
         peer = self.peers[at]
-        answer = peer.accept_offer(text[0], self.peers[OTHER[at]].ufrag)
+        answer = peer.accept_offer(text[0], self.peers[OTHER[at]])
         self.texts.append((at, False, answer, peer.connection.dtls.active))
         return f"answered {len(self.texts) - 1}"
 
@@ -258,7 +264,7 @@ class Pair:
         if text is None or self.tokens.get(token, (None,))[0] != at:
             return "nosuch"
         rows, active = text
-        self.peers[at].accept_answer(self.tokens.pop(token)[1], rows, self.peers[OTHER[at]].ufrag, not active)
+        self.peers[at].accept_answer(self.tokens.pop(token)[1], rows, self.peers[OTHER[at]], not active)
         return "finished"
 
     def hand_datagram(self, at, number, now):
@@ -286,6 +292,9 @@ class Pair:
             return "nosuch"
         connection.streams.close_stream(stream)
         return "done"
+
+    def script(self):
+        return "str0m-pair 1\n" + "".join(f"{line}\n" for line in self.settings + self.lines)
 
     # A drain ends with the first timeout.
     def poll(self, at, once):
@@ -341,6 +350,13 @@ class Pair:
         connection = self.peers[at].connection
         self.report += connection.channels.report(connection.streams)
         self.lines.append(line)
+
+
+# None, or some, among them sizes that an open message or its acknowledgement just fits, and the greatest ones.
+def random_settings(chance):
+    sizes = {"buffer": [0, 1, 13, 100, 5000, 131072, 10**9], "maxmsg": [0, 1, 12, 13, 16, 1034, 1035, 20000, 262144, 2**32 - 1]}
+    names = chance.choices(list(sizes), k=chance.choice([0, 0, 1, 1, 2, 3]))
+    return [(chance.choice("LR"), name, chance.choice(sizes[name])) for name in names]
 
 
 # A label, now and then the longest one or one that is too long.
@@ -439,7 +455,7 @@ def connect(chance, pair, at):
 
 
 def random_pair(chance):
-    pair = Pair()
+    pair = Pair(random_settings(chance))
     length = chance.randint(6, 100)
     if chance.random() < 0.3:
         join(chance, pair, chance.choice("LR"))
@@ -471,7 +487,7 @@ def main():
     wrong = 0
     for number in range(count):
         pair = random_pair(chance)
-        script = "str0m-pair 1\n" + "".join(f"{line}\n" for line in pair.lines)
+        script = pair.script()
         done = subprocess.run([program, "run"], input=script.encode(), capture_output=True, timeout=60)
         if (done.returncode, done.stdout.decode()) != (0, pair.report):
             wrong += 1

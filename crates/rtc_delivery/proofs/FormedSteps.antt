@@ -182,6 +182,7 @@ rest_formed old new rest formed =
       rows = formed.rows;
       staged = formed.staged;
       restarts = formed.restarts;
+      size = formed.size;
     })
 
 acts_formed : {E : Type 0} → (step : Step) (old new : Stance) (kept kept' : List Kept) (outcome : Outcome E) (table : Option Table)

@@ -1,5 +1,5 @@
 -- What formed peers make is plain.
-use Rattle.std.proofs.Common.{◌≡◌, ◌<◌, ◌≤◌, ◌^◌, ℕ, Bool, true, false, ltb, List, [], ◌∷◌, map, length, Option, Some, None, refl, sym, ◌∙◌, ap, arith}
+use Rattle.std.proofs.Common.{◌≡◌, ◌<◌, ◌^◌, ℕ, Bool, true, false, ltb, List, [], ◌∷◌, map, length, Option, Some, None, refl, sym, ◌∙◌, ap, arith}
 use Rattle.std.specs.Prelude.{IfSome}
 use Rattle.std.specs.List.{AllByRecursion}
 use Rattle.std.proofs.lemmas.Bool.{le-leb, lt-ltb}
@@ -132,7 +132,8 @@ row_plain head plain (Media place mid Audio dir stopped remote_created) token =
 row_plain head plain (Media place mid Video dir stopped remote_created) token =
     plain_bare head VideoLine stopped mid dir None plain token tt (medium head VideoLine stopped mid dir)
 row_plain head plain (App place mid) token =
-    plain_bare head Application false mid _ (Some 262144) plain token (let e : 262144 < 2 ^ 64 = omega arith in e) (record {
+    plain_bare head Application false mid _ (Some head.max_message_size) plain token
+    (let small = plain.size in let e : head.max_message_size < 2 ^ 64 = omega (arith, small) in e) (record {
       dir = refl;
       live = refl;
       limit = refl;

@@ -17,7 +17,7 @@ use rtc_sdp_values::{
     Candidate, Direction, Fingerprint, IceCreds, LineKind, LineRow, MediaKind, MediaLine, Mid, Sdp,
     Setup,
 };
-use rtc_wire::{LOCAL_MAX_MESSAGE_SIZE, Seq, TryCopy};
+use rtc_wire::{Seq, TryCopy};
 use std::alloc::{AllocError, Global};
 
 fn kind_of_line(kind: MediaKind) -> LineKind
@@ -54,9 +54,9 @@ fn peer_line(creds: IceCreds, fingerprint: Fingerprint, setup: Setup, line: Medi
     line
 }
 
-// The m-line of a row, without what it tells of its peer.
-fn bare_row_line(alloc: Global, row: &LineRow) -> MediaLine
-    ensures { result ≡ BareRowLine row.now }
+// The m-line of a row, without what it tells of its peer but how long messages of its data channels may be.
+fn bare_row_line(alloc: Global, most: u32, row: &LineRow) -> MediaLine
+    ensures { result ≡ BareRowLine most row.now }
 {
     match row {
         LineRow::Media {
@@ -72,7 +72,7 @@ fn bare_row_line(alloc: Global, row: &LineRow) -> MediaLine
         }
         LineRow::App { mid, .. } => {
             let mut line = MediaLine::bare(alloc, LineKind::Application, *mid, Direction::SendRecv);
-            line.max_message_size = Some(LOCAL_MAX_MESSAGE_SIZE as u64);
+            line.max_message_size = Some(most as u64);
             line
         }
     }
@@ -84,7 +84,7 @@ fn line_of_row(alloc: Global, head: &SdpHead, row: &LineRow) -> Result<MediaLine
 {
     let creds = head.creds.copy()?;
     let fingerprint = head.fingerprint.copy()?;
-    let line = bare_row_line(alloc, row);
+    let line = bare_row_line(alloc, head.max_message_size, row);
     Ok(peer_line(creds, fingerprint, head.setup, line))
 }
 

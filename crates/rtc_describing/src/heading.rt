@@ -95,6 +95,7 @@ pub fn make_head<I: IceAgent, D: DtlsInstance>(
     dtls: &Dtls<D>,
     setup: Setup,
     restart: Option<(&IceCreds, bool)>,
+    max_message_size: u32,
 ) -> Result<SdpHead, AllocError>
     ensures { IfOk result (λ head. head ≡ record {
       session = session;
@@ -103,6 +104,7 @@ pub fn make_head<I: IceAgent, D: DtlsInstance>(
       fingerprint = dtls.now.local;
       setup = setup;
       candidates = CandidatesInUse (option_map (λ asked. (asked.0.now, asked.1)) restart.entry) (I.ice.settings ice.now);
+      max_message_size = max_message_size;
     }) }
 {
     let creds = creds_in_use(ice, restart)?;
@@ -115,5 +117,6 @@ pub fn make_head<I: IceAgent, D: DtlsInstance>(
         fingerprint,
         setup,
         candidates,
+        max_message_size,
     })
 }

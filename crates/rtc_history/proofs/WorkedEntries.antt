@@ -26,7 +26,15 @@ abbrev pub other_creds : IceCreds
 other_creds = record { ufrag = codes "u9"; pass = codes "p9" }
 
 abbrev pub worked_head : SdpHead
-worked_head = record { session = 1; lite = false; creds = worked_creds; fingerprint = worked_fingerprint; setup = ActPass; candidates = [] }
+worked_head = record {
+  session = 1;
+  lite = false;
+  creds = worked_creds;
+  fingerprint = worked_fingerprint;
+  setup = ActPass;
+  candidates = [];
+  max_message_size = 262144;
+}
 
 -- an SDP of these rows, by a side with these credentials, which may be lite
 abbrev pub says_with : IceCreds → Bool → Side → Bool → List LineRow → List MadeSdp
@@ -49,6 +57,7 @@ plain at = record {
   own_fingerprint = worked_fingerprint;
   fingerprint = None;
   role = None;
+  max_message_size = 262144;
 }
 
 -- an entry whose table shows these rows, and a channel of each of these numbers

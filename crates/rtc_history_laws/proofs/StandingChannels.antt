@@ -1,5 +1,5 @@
 -- Writes to channels and closes of them leave what negotiation reads of a peer, but for the rows of its channels, and give no number.
-use Rattle.std.proofs.Common.{◌≡◌, ◌∙◌, ℕ, Bool, true, false, nat_lt, List, [], length, Option, Some, None, Result, Ok, Err, refl, sym, ap, subst}
+use Rattle.std.proofs.Common.{◌≡◌, ◌∙◌, ℕ, Bool, true, false, nat_lt, List, [], length, Option, Some, None, Result, Ok, Err, alloc_error, refl, sym, ap, subst}
 use Rattle.rtc_sctp_values.specs.declared.sctp_error.SctpError.{SctpError}
 use Rattle.rtc_sctp_values.specs.declared.sctp_error.SctpError.TheVariants as sctp
 use Rattle.rtc_peer_state.specs.declared.rtc_error.RtcError.{RtcError}
@@ -12,6 +12,7 @@ use Rattle.rtc_polling.specs.Connection.{with_sctp}
 use Rattle.rtc_polling.proofs.KeptCalls.{keeps_by}
 use Rattle.rtc_polling.proofs.StandingCalls.{stands_by}
 use Rattle.rtc_polling.proofs.StandingInputs.{stance_by}
+use Rattle.rtc_polling.proofs.StreamSizes.{SameSize, written_size, closed_size}
 use Rattle.rtc_history.specs.declared.outcome.Outcome.{Outcome}
 use Rattle.rtc_history.specs.declared.outcome.Outcome.TheVariants.{Done, Wrote, Refused, NoSuch, Alloc}
 use Rattle.rtc_history.specs.declared.table.Table.{Table}
@@ -40,16 +41,16 @@ taken_of_write (Err sctp.Alloc) = refl
 
 module _ {I D S M E X T W N : Type 0} (m : Meanings I D S M E X T W N) (laws : PartsLaws m) where
   -- only the streams change
-  streams_move : (p q : PolledPeer I D S M N) → q ≡ with_sctp q.core.sctp p → Moves m laws [] p q
-  streams_move p q is = record {
-    peer = stance_by m p q (keeps_by p (with_sctp q.core.sctp p) q is refl) (stands_by m p (with_sctp q.core.sctp p) q is (refl, refl, refl));
+  streams_move : (p q : PolledPeer I D S M N) → q ≡ with_sctp q.core.sctp p → SameSize p.core.sctp q.core.sctp → Moves m laws [] p q
+  streams_move p q is size = record {
+    peer = stance_by m p q (keeps_by p (with_sctp q.core.sctp p) q is refl) (stands_by m p (with_sctp q.core.sctp p) q is (refl, refl, refl, size));
     numbered = same_numbers p.core.channels q.core.channels (ap (λ (x : PolledPeer I D S M N). x.core.channels) is);
   }
 
   written_moves : (full : Bool) (stream : ℕ) (binary : Bool) (bytes : List ℕ) (p : PolledPeer I D S M N) (r : Result Bool RtcError) (q : PolledPeer I D S M N)
       → WritesIf m full stream binary bytes p r q → Moves m laws [] p q
   written_moves true stream binary bytes p r q h = moves_none m laws p q h.1
-  written_moves false stream binary bytes p r q h = streams_move p q h.3
+  written_moves false stream binary bytes p r q h = streams_move p q h.3 (written_size m.association stream binary bytes p.core.sctp h.0 q.core.sctp h.1)
 
   write_moves : (stream : ℕ) (binary : Bool) (bytes : List ℕ) (p : PolledPeer I D S M N) (r : Result Bool RtcError) (q : PolledPeer I D S M N)
       → WritesChannel m stream binary bytes p r q → Moves m laws [] p q
@@ -91,8 +92,8 @@ module _ {I D S M E X T W N : Type 0} (m : Meanings I D S M E X T W N) (laws : P
   write_rest (Some stream) binary bytes old outcome table new sdps sdps' h kept = open_write_rest stream binary bytes old outcome table new sdps sdps' h kept
 
   closes_move : (id : ℕ) (p : PolledPeer I D S M N) (r : Result (Unit {0}) RtcError) (q : PolledPeer I D S M N) → ClosesOpenChannel m id p r q → Moves m laws [] p q
-  closes_move id p (Ok done) q h = streams_move p q h.1
-  closes_move id p (Err PeerAlloc) q h = streams_move p q h.1
+  closes_move id p (Ok done) q h = streams_move p q h.1 (closed_size m.association _ p.core.sctp (Ok tt) q.core.sctp h.0)
+  closes_move id p (Err PeerAlloc) q h = streams_move p q h.1 (closed_size m.association _ p.core.sctp (Err alloc_error) q.core.sctp h.0)
   closes_move id p (Err error) q h = absurd h
 
   close_refused : (id : ℕ) (p : PolledPeer I D S M N) (error : RtcError) (q : PolledPeer I D S M N) → ClosesOpenChannel m id p (Err error) q → error_lacks error ≡ true

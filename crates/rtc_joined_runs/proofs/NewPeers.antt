@@ -80,7 +80,7 @@ module _ {N : Type 0} (draws : Draws N) where
           dtls = (h.built.dtls.instance, (h.by_build.by_cert.certificate, ap (λ (x : DtlsState DtlsContents). x.instance) dtls));
           association = (
             h.built.sctp.association,
-            (LimitsSet 1062 262144 h.by_build.by_limits, ap (λ (x : SctpStreams Contents). x.association) sctp),
+            (LimitsSet 1062 h.config.max_message_size h.by_build.by_limits, ap (λ (x : SctpStreams Contents). x.association) sctp),
           );
           none_given = λ bytes given. absurd given;
           none_sent = refl;

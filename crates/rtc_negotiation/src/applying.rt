@@ -56,6 +56,7 @@ fn make_offer_head<I: IceAgent, D: DtlsInstance, S: Association, M: MediaSession
         &peer.dtls,
         Setup::ActPass,
         find_restart(peer.staged.as_slice()),
+        peer.sctp.local_max_message_size(),
     )
 }
 

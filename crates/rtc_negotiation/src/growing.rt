@@ -73,6 +73,7 @@ fn make_answer_head<I: IceAgent, D: DtlsInstance, S: Association, M: MediaSessio
         &peer.dtls,
         setup_of_role(active),
         lend_restart(restart),
+        peer.sctp.local_max_message_size(),
     )
 }
 

@@ -20,7 +20,7 @@ use Rattle.rtc_script.specs.Script.{IsScript, IsRefused}
 use Rattle.rtc_script.specs.declared.script_error.ScriptError.TheVariants.{Line}
 use Rattle.rtc_script.specs.Report.{report}
 use Rattle.rtc_script.specs.declared.script.Script.{Script}
-use Rattle.rtc_script.specs.Settings.{sets_lite, buffer_set}
+use Rattle.rtc_script.specs.Settings.{sets_lite, buffer_set, max_message_set}
 use Rattle.rtc_script.specs.declared.setting.Setting.{Setting}
 
 -- the words of a run
@@ -33,7 +33,11 @@ lack_memory replies = list_any lacks_memory replies
 
 -- what the settings of a script set a peer to
 abbrev pub peer_settings : Side → List (Side × Setting) → PeerSettings
-peer_settings at settings = record { lite = sets_lite at settings; max_buffered = buffer_set at settings }
+peer_settings at settings = record {
+  lite = sets_lite at settings;
+  max_buffered = buffer_set at settings;
+  max_message_size = max_message_set at settings;
+}
 
 -- The pair of the program, as the settings of a script make it.
 abbrev pub IsPairOf : Global → Script → PlainPairState → Type 0

@@ -50,6 +50,7 @@ fn settings_of(script: &Script, at: Side) -> PeerSettings
     PeerSettings {
         lite: script.sets_lite(at),
         max_buffered: script.buffer_set(at),
+        max_message_size: script.max_message_set(at),
     }
 }
 

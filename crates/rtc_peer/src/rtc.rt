@@ -108,6 +108,7 @@ impl<
         let transport = Transport::new(alloc, true)?;
         let core = build_peer(alloc, config, start, ice, dtls, association, media, ids)?;
         let _session = core.session_id;
+        let _most = core.sctp.local_max_message_size();
         Ok(Rtc {
             polled: PolledPeer { core, transport },
         })

@@ -15,6 +15,7 @@ pub mod KeptStreams
 pub mod Keeping
 pub mod KeptInputs
 pub mod DtlsRoles
+pub mod StreamSizes
 pub mod StandingCalls
 pub mod StandingStreams
 pub mod Standing

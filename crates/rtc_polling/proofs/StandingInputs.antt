@@ -1,4 +1,4 @@
--- Inputs leave the settings of the ICE agent, the DTLS role and the fingerprint of this side.
+-- Inputs leave the settings of the ICE agent, the DTLS role, the fingerprint of this side and the longest message that it takes.
 use Rattle.std.proofs.Common.{◌≡◌, ℕ, Bool, true, false, List, Option, Result, Ok, Err, alloc_error, refl, ap, ◌∙◌}
 use Rattle.std.specs.declared.alloc.AllocError.{AllocError}
 use Rattle.rtc_wire.specs.declared.datagram_recv.DatagramRecv.{DatagramRecv}
@@ -20,38 +20,47 @@ use Rattle.rtc_peer_state.specs.declared.rtc_error.RtcError.{RtcError}
 use Rattle.rtc_peer_state.specs.declared.rtc_error.RtcError.TheVariants.{Dtls, Media, Alloc}
 use Rattle.rtc_polling.specs.Inputs.{TimesIce, TimesStreams, TimesChannels, TimesMedia, with_moment, GivesTime, TakesTimeIf, HearsStun, HearsDtls, HearsMedia, HearsKind, Hears, Heard, PartFailed, HandlesInputBy, HandlesInputIn, HandlesInput}
 use Rattle.rtc_polling.specs.Kept.{KeepsNegotiation, KeepsParts}
+use Rattle.rtc_ready.specs.Signals.{both}
 use Rattle.rtc_polling.proofs.DtlsRoles.{hands_on_role}
+use Rattle.rtc_polling.proofs.StreamSizes.{timed_size, moment_size}
 use Rattle.rtc_polling.proofs.StandingCalls.{CallStands, stands_on, stands_by, dtls_stand, turn_stands}
 
 module _ {I D S M E X T W N : Type 0} (m : Meanings I D S M E X T W N) (laws : IceLaws m.ice) where
   ice_timed_stands : (now : ℕ) → CallStands m (TimesIce m now)
   unfolding TimesIce
-  ice_timed_stands now p (Ok done) q h = stands_by m p _ q h.1 (laws.timed_settings p.core.ice q.core.ice now (Ok tt) h.0, refl, refl)
-  ice_timed_stands now p (Err Alloc) q h = stands_by m p _ q h.1 (laws.timed_settings p.core.ice q.core.ice now (Err alloc_error) h.0, refl, refl)
+  ice_timed_stands now p (Ok done) q h = stands_by m p _ q h.1 (laws.timed_settings p.core.ice q.core.ice now (Ok tt) h.0, refl, refl, refl)
+  ice_timed_stands now p (Err Alloc) q h = stands_by m p _ q h.1 (laws.timed_settings p.core.ice q.core.ice now (Err alloc_error) h.0, refl, refl, refl)
   ice_timed_stands now p (Err _) q h = absurd h
 
   streams_timed_stand : (now : ℕ) → CallStands m (TimesStreams m now)
   unfolding TimesStreams
-  streams_timed_stand now p (Ok done) q h = stands_by m p _ q h.1 (refl, refl, refl)
-  streams_timed_stand now p (Err Alloc) q h = stands_by m p _ q h.1 (refl, refl, refl)
+  streams_timed_stand now p (Ok done) q h =
+      stands_by m p _ q h.1 (refl, refl, refl, timed_size m.association p.core.sctp.state now p.core.sctp both (Ok tt) q.core.sctp h.0.0 h.0.1)
+  streams_timed_stand now p (Err Alloc) q h =
+      stands_by m p _ q h.1
+      (refl, refl, refl, timed_size m.association p.core.sctp.state now p.core.sctp both (Err alloc_error) q.core.sctp h.0.0 h.0.1)
   streams_timed_stand now p (Err _) q h = absurd h
 
   channels_timed_stand : CallStands m (TimesChannels m)
   unfolding TimesChannels
-  channels_timed_stand p (Ok done) q h = stands_by m p _ q h.1 (refl, refl, refl)
-  channels_timed_stand p (Err Alloc) q h = stands_by m p _ q h.1 (refl, refl, refl)
+  channels_timed_stand p (Ok done) q h =
+      stands_by m p _ q h.1
+      (refl, refl, refl, moment_size m.association _ p.core.channels p.core.sctp both (Ok tt) q.core.channels q.core.sctp h.0.0 h.0.1)
+  channels_timed_stand p (Err Alloc) q h =
+      stands_by m p _ q h.1
+      (refl, refl, refl, moment_size m.association _ p.core.channels p.core.sctp both (Err alloc_error) q.core.channels q.core.sctp h.0.0 h.0.1)
   channels_timed_stand p (Err _) q h = absurd h
 
   media_timed_stands : (now : ℕ) → CallStands m (TimesMedia m now)
   unfolding TimesMedia
-  media_timed_stands now p (Ok done) q h = stands_by m p _ q h.1 (refl, refl, refl)
-  media_timed_stands now p (Err (Media cause)) q h = stands_by m p _ q h.2 (refl, refl, refl)
-  media_timed_stands now p (Err Alloc) q h = stands_by m p _ q h.1 (refl, refl, refl)
+  media_timed_stands now p (Ok done) q h = stands_by m p _ q h.1 (refl, refl, refl, refl)
+  media_timed_stands now p (Err (Media cause)) q h = stands_by m p _ q h.2 (refl, refl, refl, refl)
+  media_timed_stands now p (Err Alloc) q h = stands_by m p _ q h.1 (refl, refl, refl, refl)
   media_timed_stands now p (Err _) q h = absurd h
 
   time_given_stands : (now : ℕ) → CallStands m (GivesTime m now)
   time_given_stands now p r q h =
-      stands_on m p (with_moment now p) q (refl, refl, refl)
+      stands_on m p (with_moment now p) q (refl, refl, refl, refl)
       (turn_stands m (TimesIce m now) _ (ice_timed_stands now)
       (turn_stands m (TimesStreams m now) _ (streams_timed_stand now)
       (turn_stands m (TimesChannels m) (TimesMedia m now) channels_timed_stand (media_timed_stands now)))
@@ -59,14 +68,14 @@ module _ {I D S M E X T W N : Type 0} (m : Meanings I D S M E X T W N) (laws : I
 
   time_stands : (earlier : Bool) (now : ℕ) (p : PolledPeer I D S M N) (r : Result (Unit {0}) RtcError) (q : PolledPeer I D S M N)
       → TakesTimeIf m earlier now p r q → KeepsParts m p q
-  time_stands true now p r q h = stands_by m p p q h.1 (refl, refl, refl)
+  time_stands true now p r q h = stands_by m p p q h.1 (refl, refl, refl, refl)
   time_stands false now p r q h = time_given_stands now p r q h
 
   stun_stands : (now : ℕ) (datagram : Receive) (bytes : List ℕ) (p : PolledPeer I D S M N) (r : Result (Unit {0}) RtcError)
       (q : PolledPeer I D S M N) → HearsStun m now datagram bytes p r q → KeepsParts m p q
   unfolding HearsStun
-  stun_stands now datagram bytes p (Ok done) q h = stands_by m p _ q h.1 (laws.given_settings p.core.ice q.core.ice now datagram.proto datagram.source datagram.destination bytes (Ok tt) h.0, refl, refl)
-  stun_stands now datagram bytes p (Err Alloc) q h = stands_by m p _ q h.1 (laws.given_settings p.core.ice q.core.ice now datagram.proto datagram.source datagram.destination bytes (Err alloc_error) h.0, refl, refl)
+  stun_stands now datagram bytes p (Ok done) q h = stands_by m p _ q h.1 (laws.given_settings p.core.ice q.core.ice now datagram.proto datagram.source datagram.destination bytes (Ok tt) h.0, refl, refl, refl)
+  stun_stands now datagram bytes p (Err Alloc) q h = stands_by m p _ q h.1 (laws.given_settings p.core.ice q.core.ice now datagram.proto datagram.source datagram.destination bytes (Err alloc_error) h.0, refl, refl, refl)
   stun_stands now datagram bytes p (Err _) q h = absurd h
 
   dtls_stands : (bytes : List ℕ) (p : PolledPeer I D S M N) (r : Result (Unit {0}) RtcError) (q : PolledPeer I D S M N) → HearsDtls m bytes p r q
@@ -80,8 +89,8 @@ module _ {I D S M E X T W N : Type 0} (m : Meanings I D S M E X T W N) (laws : I
   media_stands : (given : M → Result (Unit {0}) AllocError → M → Type 0) (bytes : List ℕ) (p : PolledPeer I D S M N)
       (r : Result (Unit {0}) RtcError) (q : PolledPeer I D S M N) → HearsMedia m given bytes p r q → KeepsParts m p q
   unfolding HearsMedia
-  media_stands given bytes p (Ok done) q h = stands_by m p _ q h.1 (refl, refl, refl)
-  media_stands given bytes p (Err Alloc) q h = stands_by m p _ q h.1 (refl, refl, refl)
+  media_stands given bytes p (Ok done) q h = stands_by m p _ q h.1 (refl, refl, refl, refl)
+  media_stands given bytes p (Err Alloc) q h = stands_by m p _ q h.1 (refl, refl, refl, refl)
   media_stands given bytes p (Err _) q h = absurd h
 
   kind_stands : (now : ℕ) (datagram : Receive) (contents : DatagramRecv) (p : PolledPeer I D S M N) (r : Result (Unit {0}) RtcError)
@@ -106,7 +115,7 @@ module _ {I D S M E X T W N : Type 0} (m : Meanings I D S M E X T W N) (laws : I
       → HandlesInputIn m phase input p r q → KeepsParts m p q
   input_in_stands Alive input p r q h = input_by_stands input p r q h
   input_in_stands Closing input p r q h = input_by_stands input p r q h
-  input_in_stands Closed input p r q h = stands_by m p p q h.1 (refl, refl, refl)
+  input_in_stands Closed input p r q h = stands_by m p p q h.1 (refl, refl, refl, refl)
 
   -- an input leaves them
   pub input_stands : (input : Input) (p : PolledPeer I D S M N) (r : Result (Unit {0}) RtcError) (q : PolledPeer I D S M N) → HandlesInput m input p r q
@@ -123,6 +132,16 @@ stance_by m p q kept parts =
       rows = channel_rows m.association q.core.sctp q.core.channels;
     } in
     ap (stance_of m) kept
-    ∙ ap (λ (s : IceSettings). record after { ice = s; own_fingerprint = q.core.dtls.local; role = q.core.dtls.active }) parts.0
-    ∙ ap (λ (f : Fingerprint). record after { own_fingerprint = f; role = q.core.dtls.active }) parts.2
-    ∙ ap (λ (o : Option Bool). record after { role = o }) parts.1
+    ∙ ap (λ (s : IceSettings). record after {
+      ice = s;
+      own_fingerprint = q.core.dtls.local;
+      role = q.core.dtls.active;
+      max_message_size = q.core.sctp.local_max;
+    }) parts.0
+    ∙ ap (λ (f : Fingerprint). record after {
+      own_fingerprint = f;
+      role = q.core.dtls.active;
+      max_message_size = q.core.sctp.local_max;
+    }) parts.2
+    ∙ ap (λ (o : Option Bool). record after { role = o; max_message_size = q.core.sctp.local_max }) parts.1
+    ∙ ap (λ (n : ℕ). record after { max_message_size = n }) parts.3

@@ -31,7 +31,7 @@ pub fn negotiation_is_kept<I: IceAgent, D: DtlsInstance, S: Association, M: Medi
 {}
 
 /// Polls, inputs and closing leave all that negotiation reads of a peer but for the channels: beside what it keeps, the settings
-/// of the ICE agent, the DTLS role and the fingerprint of this side.
+/// of the ICE agent, the DTLS role, the fingerprint of this side and the longest message that it takes.
 pub fn stance_is_kept<I: IceAgent, D: DtlsInstance, S: Association, M: MediaSession, N: Ids>()
     ensures polls { (p q : Polled I D S M N) (answer : _)
         → PollsPeer (meanings I.ice D.dtls S.association M.media N.ids) p answer q

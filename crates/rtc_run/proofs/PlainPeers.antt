@@ -1,5 +1,5 @@
 -- The peers of the program were just built, and make session descriptions that are read back.
-use Rattle.std.proofs.Common.{◌≡◌, ◌∙◌, ℕ, Bool, true, List, [], ◌∷◌, ◌++◌, Option, Some, None, Result, Ok, Err, refl, sym, ap, subst, arith}
+use Rattle.std.proofs.Common.{◌≡◌, ◌∙◌, ℕ, Bool, true, List, [], ◌∷◌, ◌++◌, Option, None, Result, Ok, Err, refl, sym, ap, subst, arith}
 use Rattle.std.specs.Prelude.{IfOk, IfSome}
 use Rattle.std.specs.declared.alloc.Global.{Global}
 use Rattle.rtc_wire.specs.declared.addr.Addr.{Addr}
@@ -99,6 +99,7 @@ program_formed alloc settings cert first addr config built p h formed host =
       rows = rw (ap (λ (q : PlainPeer). q.lines) h.rest) was.rows;
       staged = rw (ap (λ (q : PlainPeer). q.staged) h.rest) was.staged;
       restarts = rw (ap (λ (q : PlainPeer). q.staged) h.rest) was.restarts;
+      size = rw (ap (λ (q : PlainPeer). q.sctp) h.rest) was.size;
     }
 
 pub left_host : IsHostCandidate (host_at left_address)

@@ -55,6 +55,7 @@ program_config settings cert = record {
   creds = None;
   cert = Some cert;
   max_buffered = settings.max_buffered;
+  max_message_size = settings.max_message_size;
 }
 
 -- A peer of the program: built at moment 0 over fresh parts with a certificate, drawing numbers that count up from one, and then

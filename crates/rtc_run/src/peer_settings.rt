@@ -7,4 +7,6 @@ pub struct PeerSettings {
     pub lite: bool,
     /// How many bytes of its data channels may be buffered before nothing is available.
     pub max_buffered: usize,
+    /// The longest message that it takes, in bytes, which its session descriptions tell (RFC 8841, section 6.1).
+    pub max_message_size: u32,
 }

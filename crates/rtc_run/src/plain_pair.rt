@@ -25,21 +25,20 @@ pub type PlainPeer = Rtc<PlainIce, PlainDtls, PlainAssociation, PlainMedia, Coun
 /// A pair of such peers.
 pub type PlainPair = Pair<PlainIce, PlainDtls, PlainAssociation, PlainMedia, CountIds>;
 
-fn make_config(
-    alloc: Global,
-    settings: PeerSettings,
-    name: &str,
-) -> Result<RtcConfig, AllocError>
+fn make_config(alloc: Global, settings: PeerSettings, name: &str) -> Result<RtcConfig, AllocError>
     requires { length name.now ≤ 1900 }
     ensures { IfOk result (λ config. config ≡ program_config settings name.now) }
 {
     let mut cert = Vec::new(alloc);
     cert.extend_from_slice(name.as_bytes())?;
     let config = RtcConfig::new(alloc)?;
-    Ok(config
-        .set_ice_lite(settings.lite)
-        .set_dtls_cert(cert)
-        .set_sctp_max_buffered_amount(settings.max_buffered))
+    Ok(
+        config
+            .set_ice_lite(settings.lite)
+            .set_dtls_cert(cert)
+            .set_sctp_max_buffered_amount(settings.max_buffered)
+            .set_sctp_max_message_size(settings.max_message_size),
+    )
 }
 
 fn build_peer(alloc: Global, config: RtcConfig, first: u64) -> Result<PlainPeer, AllocError>

@@ -1,9 +1,10 @@
 -- What the words of a setting determine.
-use Rattle.std.proofs.Common.{◌≡◌, ◌≢◌, ◌≤◌, ℕ, List, [], ◌∷◌, length, ap, codes, arith}
+use Rattle.std.proofs.Common.{◌≡◌, ◌≢◌, ◌<◌, ◌≤◌, ◌^◌, ℕ, List, [], ◌∷◌, length, refl, sym, ap, codes, arith}
 use Rattle.std.specs.Fmt.{decimal}
 use Rattle.rtc_script.specs.Lines.{AreValueWords}
 use Rattle.rtc_script.specs.declared.setting.Setting.{Setting}
-use Rattle.rtc_script.specs.declared.setting.Setting.TheVariants.{Lite, Buffer}
+use Rattle.rtc_script.specs.declared.setting.Setting.TheVariants.{Lite, Buffer, MaxMessage}
+use Rattle.rtc_script.proofs.LineLemmas.{same_letter}
 
 one_same : (a b : List ℕ) → a ∷ [] ≡ b ∷ [] → a ≡ b
 one_same a b same = cc (same)
@@ -20,23 +21,39 @@ first_same a b c d same = cc (same)
 second_same : (a b c d : List ℕ) → a ∷ b ∷ [] ≡ c ∷ d ∷ [] → b ≡ d
 second_same a b c d same = cc (same)
 
+-- the two words that take a number
+apart : codes "buffer" ≡ codes "maxmsg" → ⊥
+apart same = absurd (omega (arith, same_letter 0 (codes "buffer") (codes "buffer") (codes "maxmsg") refl same))
+
 -- another word than `lite` is no setting by itself
 pub no_one_word : (word : List ℕ) → word ≢ codes "lite" → (setting : Setting) → AreValueWords (word ∷ []) setting → ⊥
 no_one_word word other Lite are = other (one_same word (codes "lite") are.0)
 no_one_word word other (Buffer size) are = one_or_two word (codes "buffer") (decimal size) are.0
+no_one_word word other (MaxMessage size) are = one_or_two word (codes "maxmsg") (decimal size) are.0
 
--- another word than `buffer` has no number behind it
-pub no_two_words : (word number : List ℕ) → word ≢ codes "buffer" → (setting : Setting) → AreValueWords (word ∷ number ∷ []) setting → ⊥
-no_two_words word number other Lite are = two_or_one word number (codes "lite") are.0
-no_two_words word number other (Buffer size) are = other (first_same word number (codes "buffer") (decimal size) are.0)
-
--- what is no size of a buffer stands behind no word
-pub no_size : (word number : List ℕ) → ((size : ℕ) → size ≤ 1000000000 → number ≢ decimal size) → (setting : Setting)
+-- another word than these has no number behind it
+pub no_two_words : (word number : List ℕ) → word ≢ codes "buffer" → word ≢ codes "maxmsg" → (setting : Setting)
     → AreValueWords (word ∷ number ∷ []) setting → ⊥
-no_size word number none Lite are = two_or_one word number (codes "lite") are.0
-no_size word number none (Buffer size) are = none size are.1 (second_same word number (codes "buffer") (decimal size) are.0)
+no_two_words word number one two Lite are = two_or_one word number (codes "lite") are.0
+no_two_words word number one two (Buffer size) are = one (first_same word number (codes "buffer") (decimal size) are.0)
+no_two_words word number one two (MaxMessage size) are = two (first_same word number (codes "maxmsg") (decimal size) are.0)
+
+-- what is no size of a buffer
+pub no_buffer : (number : List ℕ) → ((size : ℕ) → size ≤ 1000000000 → number ≢ decimal size) → (setting : Setting)
+    → AreValueWords (codes "buffer" ∷ number ∷ []) setting → ⊥
+no_buffer number none Lite are = two_or_one (codes "buffer") number (codes "lite") are.0
+no_buffer number none (Buffer size) are = none size are.1 (second_same (codes "buffer") number (codes "buffer") (decimal size) are.0)
+no_buffer number none (MaxMessage size) are = apart (first_same (codes "buffer") number (codes "maxmsg") (decimal size) are.0)
+
+-- what is no length of a message
+pub no_max_message : (number : List ℕ) → ((size : ℕ) → size < 2 ^ 32 → number ≢ decimal size) → (setting : Setting)
+    → AreValueWords (codes "maxmsg" ∷ number ∷ []) setting → ⊥
+no_max_message number none Lite are = two_or_one (codes "maxmsg") number (codes "lite") are.0
+no_max_message number none (Buffer size) are = apart (sym (first_same (codes "maxmsg") number (codes "buffer") (decimal size) are.0))
+no_max_message number none (MaxMessage size) are = none size are.1 (second_same (codes "maxmsg") number (codes "maxmsg") (decimal size) are.0)
 
 -- a setting has one or two words
 pub no_value : (found : List (List ℕ)) → (length found ≡ 1 → ⊥) → (length found ≡ 2 → ⊥) → (setting : Setting) → AreValueWords found setting → ⊥
 no_value found one two Lite are = one (ap length are.0)
 no_value found one two (Buffer size) are = two (ap length are.0)
+no_value found one two (MaxMessage size) are = two (ap length are.0)

@@ -4,11 +4,12 @@ use Rattle.std.specs.List.{list_any}
 use Rattle.rtc_history.specs.declared.side.Side.{Side}
 use Rattle.rtc_history.specs.Sides.{same_side}
 use Rattle.rtc_script.specs.declared.setting.Setting.{Setting}
-use Rattle.rtc_script.specs.declared.setting.Setting.TheVariants.{Lite, Buffer}
+use Rattle.rtc_script.specs.declared.setting.Setting.TheVariants.{Lite, Buffer, MaxMessage}
 
 abbrev pub is_lite_setting : Setting → Bool
 is_lite_setting Lite = true
 is_lite_setting (Buffer size) = false
+is_lite_setting (MaxMessage size) = false
 
 abbrev pub makes_lite : Side → Side × Setting → Bool
 makes_lite at setting = same_side setting.0 at && is_lite_setting setting.1
@@ -17,19 +18,30 @@ makes_lite at setting = same_side setting.0 at && is_lite_setting setting.1
 abbrev pub sets_lite : Side → List (Side × Setting) → Bool
 sets_lite at settings = list_any (makes_lite at) settings
 
+-- a number of a side behind a setting, by what settings make of it, and behind all settings: the last one of the side counts
+abbrev pub number_after : (Setting → ℕ → ℕ) → Side → Side × Setting → ℕ → ℕ
+number_after by at setting n = if same_side setting.0 at then by setting.1 n else n
+
+abbrev pub number_from : (Setting → ℕ → ℕ) → Side → List (Side × Setting) → ℕ → ℕ
+number_from by at [] n = n
+number_from by at (setting ∷ settings) n = number_from by at settings (number_after by at setting n)
+
 -- how many bytes may be buffered by a setting, or else as before
 abbrev pub buffer_by : Setting → ℕ → ℕ
 buffer_by Lite size = size
 buffer_by (Buffer set) size = set
-
-abbrev pub buffer_after : Side → Side × Setting → ℕ → ℕ
-buffer_after at setting size = if same_side setting.0 at then buffer_by setting.1 size else size
-
--- the last setting of a side counts
-abbrev pub buffer_from : Side → List (Side × Setting) → ℕ → ℕ
-buffer_from at [] size = size
-buffer_from at (setting ∷ settings) size = buffer_from at settings (buffer_after at setting size)
+buffer_by (MaxMessage set) size = size
 
 -- how many bytes a side may buffer by the settings, 131072 where none says so
 abbrev pub buffer_set : Side → List (Side × Setting) → ℕ
-buffer_set at settings = buffer_from at settings 131072
+buffer_set at settings = number_from buffer_by at settings 131072
+
+-- the longest message that is taken by a setting, or else as before
+abbrev pub max_message_by : Setting → ℕ → ℕ
+max_message_by Lite size = size
+max_message_by (Buffer set) size = size
+max_message_by (MaxMessage set) size = set
+
+-- the longest message that a side takes by the settings, 262144 bytes where none says so
+abbrev pub max_message_set : Side → List (Side × Setting) → ℕ
+max_message_set at settings = number_from max_message_by at settings 262144

@@ -9,7 +9,7 @@ use Rattle.rtc_sdp_values.specs.declared.media_kind.MediaKind.TheVariants.{Audio
 use Rattle.rtc_history.specs.declared.side.Side.{Side}
 use Rattle.rtc_history.specs.declared.side.Side.TheVariants.{Left, Right}
 use Rattle.rtc_script.specs.declared.setting.Setting.{Setting}
-use Rattle.rtc_script.specs.declared.setting.Setting.TheVariants.{Lite, Buffer}
+use Rattle.rtc_script.specs.declared.setting.Setting.TheVariants.{Lite, Buffer, MaxMessage}
 
 -- the letter of a side
 abbrev pub side_text : Side → List ℕ
@@ -47,3 +47,4 @@ keep_text false = codes "new"
 abbrev pub setting_words : Setting → List (List ℕ)
 setting_words Lite = codes "lite" ∷ []
 setting_words (Buffer size) = codes "buffer" ∷ decimal size ∷ []
+setting_words (MaxMessage size) = codes "maxmsg" ∷ decimal size ∷ []

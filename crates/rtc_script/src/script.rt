@@ -1,10 +1,10 @@
 //! What a script says.
 ghost use Rattle.std.specs.Prelude.{◌≡◌};
-ghost use Rattle.rtc_script.specs.Settings.{makes_lite, sets_lite, buffer_by, buffer_after, buffer_set};
+ghost use Rattle.rtc_script.specs.Settings.{makes_lite, sets_lite, buffer_by, buffer_set, max_message_by, max_message_set, number_after};
 
 use crate::Setting;
 use rtc_history::{Side, Step};
-use rtc_wire::{DEFAULT_MAX_BUFFERED_AMOUNT, Seq};
+use rtc_wire::{DEFAULT_MAX_BUFFERED_AMOUNT, LOCAL_MAX_MESSAGE_SIZE, Seq};
 
 /// A script that was read.
 #[derive(Debug, PartialEq, Eq, Drop)]
@@ -19,7 +19,7 @@ fn makes_lite(setting: &(Side, Setting), at: Side) -> bool
     match (setting.0, at) {
         (Side::Left, Side::Left) | (Side::Right, Side::Right) => match setting.1 {
             Setting::Lite => true,
-            Setting::Buffer { size: _ } => false,
+            Setting::Buffer { size: _ } | Setting::MaxMessage { size: _ } => false,
         },
         (Side::Left, Side::Right) | (Side::Right, Side::Left) => false,
     }
@@ -41,13 +41,13 @@ fn buffer_by(setting: Setting, size: usize) -> usize
     ensures { result ≡ buffer_by setting size }
 {
     match setting {
-        Setting::Lite => size,
+        Setting::Lite | Setting::MaxMessage { size: _ } => size,
         Setting::Buffer { size: set } => set as usize,
     }
 }
 
 fn buffer_after(setting: &(Side, Setting), at: Side, size: usize) -> usize
-    ensures { result ≡ buffer_after at setting.now size }
+    ensures { result ≡ number_after buffer_by at setting.now size }
 {
     match (setting.0, at) {
         (Side::Left, Side::Left) | (Side::Right, Side::Right) => buffer_by(setting.1, size),
@@ -65,6 +65,35 @@ fn buffer_set(settings: &[(Side, Setting)], at: Side) -> usize
     size
 }
 
+// The longest message that is taken by a setting, or else as before.
+fn max_message_by(setting: Setting, size: u32) -> u32
+    ensures { result ≡ max_message_by setting size }
+{
+    match setting {
+        Setting::Lite | Setting::Buffer { size: _ } => size,
+        Setting::MaxMessage { size: set } => set,
+    }
+}
+
+fn max_message_after(setting: &(Side, Setting), at: Side, size: u32) -> u32
+    ensures { result ≡ number_after max_message_by at setting.now size }
+{
+    match (setting.0, at) {
+        (Side::Left, Side::Left) | (Side::Right, Side::Right) => max_message_by(setting.1, size),
+        (Side::Left, Side::Right) | (Side::Right, Side::Left) => size,
+    }
+}
+
+fn max_message_set(settings: &[(Side, Setting)], at: Side) -> u32
+    ensures { result ≡ max_message_set at settings.now }
+{
+    let mut size = LOCAL_MAX_MESSAGE_SIZE;
+    for setting in settings {
+        size = max_message_after(setting, at, size);
+    }
+    size
+}
+
 impl Script {
     /// Whether its settings make the ICE agent of a side lite.
     pub fn sets_lite(&self, at: Side) -> bool
@@ -78,5 +107,12 @@ impl Script {
         ensures { result ≡ buffer_set at self.now.settings }
     {
         buffer_set(self.settings.as_slice(), at)
+    }
+
+    /// The longest message that its settings let a side take, in bytes.
+    pub fn max_message_set(&self, at: Side) -> u32
+        ensures { result ≡ max_message_set at self.now.settings }
+    {
+        max_message_set(self.settings.as_slice(), at)
     }
 }

@@ -7,4 +7,6 @@ pub enum Setting {
     Lite,
     /// How many bytes of its data channels may be buffered, at most 1000000000.
     Buffer { size: u32 },
+    /// The longest message that it takes, in bytes, which its session descriptions tell (RFC 8841, section 6.1).
+    MaxMessage { size: u32 },
 }

@@ -1,5 +1,5 @@
 //! Lines of settings.
-ghost use Rattle.std.specs.Prelude.{◌≡◌, ◌≢◌, ◌≤◌, ℕ, [], ◌∷◌, IfOk, IfSome, IfNone, map};
+ghost use Rattle.std.specs.Prelude.{◌≡◌, ◌≢◌, ◌≤◌, ℕ, [], ◌∷◌, IfOk, IfSome, IfNone, codes, map};
 ghost use Rattle.std.specs.Fmt.{decimal};
 ghost use Rattle.rtc_history.specs.declared.side.Side.{Side};
 ghost use Rattle.rtc_script.specs.Lines.{AreValueWords, AreSettingWords, IsSetting};
@@ -40,17 +40,39 @@ fn read_size(word: &[u8]) -> Option<u32>
     }
 }
 
+// The setting `buffer`, whose number is this.
+#[tactic(auto, using(crate::proofs::SettingWords::no_buffer))]
+fn read_buffer(number: &[u8]) -> Option<Setting>
+    ensures some { IfSome result (λ setting. AreValueWords (codes "buffer" ∷ number.now ∷ []) setting) }
+    ensures none { IfNone result ((setting : Setting) → AreValueWords (codes "buffer" ∷ number.now ∷ []) setting → ⊥) }
+{
+    let size = read_size(number)?;
+    Some(Setting::Buffer { size })
+}
+
+// The setting `maxmsg`, whose number is this.
+#[tactic(auto, using(crate::proofs::SettingWords::no_max_message))]
+fn read_max_message(number: &[u8]) -> Option<Setting>
+    ensures some { IfSome result (λ setting. AreValueWords (codes "maxmsg" ∷ number.now ∷ []) setting) }
+    ensures none { IfNone result ((setting : Setting) → AreValueWords (codes "maxmsg" ∷ number.now ∷ []) setting → ⊥) }
+{
+    let size = read_u32(number)?;
+    Some(Setting::MaxMessage { size })
+}
+
 // A setting of two words.
-#[tactic(auto, using(crate::proofs::SettingWords::no_two_words, crate::proofs::SettingWords::no_size))]
+#[tactic(auto, using(crate::proofs::SettingWords::no_two_words))]
 fn read_two_words(word: &[u8], number: &[u8]) -> Option<Setting>
     ensures some { IfSome result (λ setting. AreValueWords (word.now ∷ number.now ∷ []) setting) }
     ensures none { IfNone result ((setting : Setting) → AreValueWords (word.now ∷ number.now ∷ []) setting → ⊥) }
 {
-    if word != b"buffer".as_slice() {
-        return None;
+    if word == b"buffer".as_slice() {
+        read_buffer(number)
+    } else if word == b"maxmsg".as_slice() {
+        read_max_message(number)
+    } else {
+        None
     }
-    let size = read_size(number)?;
-    Some(Setting::Buffer { size })
 }
 
 fn read_value(words: &[&[u8]]) -> Option<Setting>

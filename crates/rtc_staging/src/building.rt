@@ -15,7 +15,7 @@ use rtc_media::MediaSession;
 use rtc_peer_state::{Peer, Phase, RtcConfig, Staged};
 use rtc_sctp::RtcSctp;
 use rtc_sdp_values::IceCreds;
-use rtc_wire::{Bytes, LOCAL_MAX_MESSAGE_SIZE, Moment, TryCopy};
+use rtc_wire::{Bytes, Moment, TryCopy};
 use std::alloc::{AllocError, Global};
 
 // The sizes of datagrams that the DTLS part and the association aim at, and that the DTLS part warns of, in bytes.
@@ -57,7 +57,7 @@ fn make_cert<N: Ids>(alloc: Global, ids: &mut N, given: Option<&[u8]>) -> Result
     }
 }
 
-// The streams of a peer over a fresh association, with the limit that its config says.
+// The streams of a peer over a fresh association, with the limits that its config says.
 fn make_streams<S: Association>(
     alloc: Global,
     config: &RtcConfig,
@@ -65,10 +65,11 @@ fn make_streams<S: Association>(
     association: S,
 ) -> RtcSctp<S>
     requires { S.association.fresh association }
-    ensures limits { S.association.limits_set association 1062 262144 result.association }
+    ensures limits { S.association.limits_set association 1062 config.now.max_message_size result.association }
     ensures made { result ≡ streams_of_config config.now start result.association }
 {
-    let mut sctp = RtcSctp::new(alloc, MTU.0, LOCAL_MAX_MESSAGE_SIZE, start, association);
+    let size = config.sctp_max_message_size();
+    let mut sctp = RtcSctp::new(alloc, MTU.0, size, start, association);
     sctp.set_max_buffered_amount(config.sctp_max_buffered_amount());
     sctp
 }

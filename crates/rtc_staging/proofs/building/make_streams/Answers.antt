@@ -1,14 +1,15 @@
 use Rattle.std.proofs.Common.{ap, ◌∙◌}
-use Rattle.rtc_sctp.specs.Streams.{SctpStreams}
 use Rattle.rtc_staging.proofs.BuildLemmas.{limited, limits_kept}
 use Rattle.rtc_staging.proofs.building.make_streams.Goals as goal
 
 pub returns-clause-limits : goal.returns-clause-limits
 returns-clause-limits g c =
-    limits_kept g.S.Association.association c.args.association c.args.start c.sctp_max_buffered_amount.result c.new.result
-    c.set_max_buffered_amount.new.self c.new.ensures.made c.set_max_buffered_amount.ensures c.new.ensures.limits
+    limits_kept g.S.Association.association c.args.config.now c.args.association c.args.start c.sctp_max_message_size.result
+    c.sctp_max_buffered_amount.result c.new.result c.set_max_buffered_amount.new.self c.sctp_max_message_size.ensures c.new.ensures.made
+    c.set_max_buffered_amount.ensures c.new.ensures.limits
 
 pub returns-clause-made : goal.returns-clause-made
 returns-clause-made g c =
-    limited c.args.config.now c.args.start c.new.result c.set_max_buffered_amount.new.self c.new.ensures.made
+    limited c.args.config.now c.args.start c.sctp_max_message_size.result c.new.result c.set_max_buffered_amount.new.self
+    c.sctp_max_message_size.ensures c.new.ensures.made
     (c.set_max_buffered_amount.ensures ∙ ap (λ n. record c.new.result { max_buffered = n }) c.sctp_max_buffered_amount.ensures)
