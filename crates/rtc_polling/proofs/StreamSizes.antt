@@ -112,7 +112,7 @@ module _ {S : Type 0} (m : AssociationMeaning S) where
   then_size next one OutOfMemory p met q h = same_size p p q h.1 refl
 
   else_size : (first next : SctpStreams S → Met → SctpStreams S → Type 0) → SizedStep first → SizedStep next → SizedStep (Else first next)
-  else_size first next one other p met q h = then_size next other h.0 h.1.0 met q h.1.2 ∙ one p h.0 h.1.0 h.1.1
+  else_size first next one other p met q h = then_size next other h.0 h.1.0 met q h.1.1.1 ∙ one p h.0 h.1.0 h.1.1.0
 
   completion_size : (completed : List ℕ) (p : SctpStreams S) (met : Met) (q : SctpStreams S) → CompletionOf completed p met q → SameSize p q
   completion_size [] p met q h = same_size p p q h.1 refl
