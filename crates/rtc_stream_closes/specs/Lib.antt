@@ -1,3 +1,0 @@
-pub mod CloseLaws
-pub mod ClosedStreams
-pub mod SealedCalls

@@ -1,9 +1,0 @@
-pub mod GenerationMessages
-pub mod KeptUses
-pub mod KnownUses
-pub mod UsedVisits
-pub mod UsedReadings
-pub mod EntriesOf
-pub mod UsedTours
-pub mod UsedPolls
-pub mod CallUses
