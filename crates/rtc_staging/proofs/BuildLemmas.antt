@@ -1,5 +1,5 @@
 -- A peer that is built, put together from the steps of the call.
-use Rattle.std.proofs.Common.{◌≡◌, ℕ, refl, sym, ap, subst}
+use Rattle.std.proofs.Common.{◌≡◌, ◌∙◌, ℕ, refl, sym, ap, subst}
 use Rattle.std.specs.declared.alloc.Global.{Global}
 use Rattle.rtc_dtls.specs.DtlsState.{DtlsState, BeginsDtls}
 use Rattle.rtc_sctp.specs.Streams.{SctpStreams, no_streams}
