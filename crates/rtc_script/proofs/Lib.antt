@@ -2,6 +2,7 @@ pub mod LabelLemmas
 pub mod MessageWords
 pub mod LineLemmas
 pub mod ChannelPartLemmas
+pub mod SixParts
 pub mod SettingLines
 pub mod SettingWords
 pub mod RefusedScripts

@@ -2,6 +2,7 @@
 use Rattle.std.proofs.Common.{◌≡◌, ◌+◌, ◌<◌, ℕ, zero, suc, List, [], ◌∷◌, length, take, drop, get_or, refl, ap, sym, subst, ◌∙◌, codes, arith, Bor}
 use Rattle.std.specs.List.{AllZip}
 use Rattle.std.proofs.lemmas.List.{drop-map}
+use Rattle.rtc_fields.specs.Words.{words}
 use Rattle.rtc_script.specs.Lines.{IsLine, IsSetting, AreSettingWords, AreStepWords}
 use Rattle.rtc_script.specs.Script.{HaveSteps, HaveBoth, HaveLines}
 use Rattle.rtc_script.specs.Steps.{AreAllSettings, StepsFailAt, FailsAt}
