@@ -179,7 +179,7 @@ def channels():
     print("| Open channels | Bytes | Instructions | A byte | A packet |\n|---|---|---|---|---|")
     for open_channels in (1, 10, 100, 1_000):
         start = cost(open_channels, 0, 0)
-        for size in (1_024, 131_072):
+        for size in (1_024, 131_072, 262_144):
             more = cost(open_channels, 1, size) - start - (cost(1, 0, size) - cost(1, 0, 0))
             print(f"| {open_channels:,} | {size:,} | {more:,} | {more / size:.1f} | {more // -(-size // 1034):,} |")
 

@@ -8,9 +8,9 @@ use std::alloc::{AllocError, Global};
 /// A peer over parts in memory.
 pub type Peer<N> = Rtc<PlainIce, PlainDtls, PlainAssociation, PlainMedia, N>;
 
-/// A peer at moment 0, without an address.
+/// A peer at moment 0, without an address, which buffers as much as its longest message is.
 pub fn build<N: Ids + Drop>(alloc: Global, ids: N) -> Result<Peer<N>, AllocError> {
-    let config = RtcConfig::new(alloc)?;
+    let config = RtcConfig::new(alloc)?.set_sctp_max_buffered_amount(262_144);
     Rtc::build(
         alloc,
         config,
