@@ -1,13 +1,10 @@
-//! Runs stored examples of signalling: scripts of two peers, session descriptions, copies, and frames of a gateway.
+//! Runs stored examples of signalling: scripts of two peers, session descriptions, and frames of a gateway.
 //!
 //! Each line of the input names an example, and is printed again behind `agrees` or `differs`: `script PATH` gives
 //! `PATH.report`, `orderly PATH rounds N finished N` performs `PATH.orderly`, which accepts N answers, each of them with success,
-//! `description PATH` is `PATH.sdp` and is read as `PATH.expected` says, and `changes NAME`, `copies NAME` and `gateway NAME` are
-//! calls.
+//! `description PATH` is `PATH.sdp` and is read as `PATH.expected` says, and `gateway NAME` is a call.
 #![tactic(auto)]
 
-mod changes;
-mod copies;
 mod descriptions;
 mod gateways;
 mod releasing;
@@ -48,8 +45,6 @@ fn is_read<R: Files + AllocGlobal>(rt: &R, path: &str) -> io::Result<bool> {
 
 fn does_agree<R: Files + AllocGlobal>(rt: &R, subject: &str, name: &str) -> io::Result<bool> {
     match subject {
-        "changes" => Ok(changes::does_agree(rt.alloc(), name)?),
-        "copies" => Ok(copies::does_agree(rt.alloc(), name)?),
         "description" => is_read(rt, name),
         "gateway" => Ok(gateways::does_agree(rt.alloc(), name)?),
         "orderly" => is_finished(rt, name),
