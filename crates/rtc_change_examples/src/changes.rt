@@ -3,7 +3,9 @@ use crate::copies::media;
 use crate::releasing::release;
 use rtc_assoc_end::PlainAssociation;
 use rtc_change::{Change, Changes, Lines, SdpPendingOffer, count_added};
-use rtc_lines::{Candidate, Direction, LineRow, MediaKind, MediaLine, Mid, SdpOffer, Setup};
+use rtc_lines::{
+    Candidate, Direction, LineRow, MediaKind, MediaLine, Mid, SdpAnswer, SdpOffer, Setup,
+};
 use rtc_peer::{Association, DtlsInstance, IceAgent, Ids, MediaSession, Rtc, RtcConfig, RtcError};
 use rtc_plain::{CountIds, PlainDtls, PlainIce, PlainMedia};
 use rtc_run::{deliver_answer, deliver_offer};
@@ -102,30 +104,49 @@ fn build(alloc: Global, first: u64) -> Result<Peer, AllocError> {
     )
 }
 
-// Whether a peer's offer of a channel is written as it is to be.
-fn writes_channel<I: IceAgent, D: DtlsInstance, S: Association, M: MediaSession, N: Ids>(
+fn give_address<I: IceAgent, D: DtlsInstance, S: Association, M: MediaSession, N: Ids>(
     alloc: Global,
     left: &mut Rtc<I, D, S, M, N>,
-) -> Result<bool, RtcError> {
+) -> Result<(), AllocError> {
     let addr = Addr {
         ip: [1, 1, 1, 1],
         port: 1000,
     };
     let candidate = Candidate::host(alloc, addr, Protocol::Udp)?;
     left.add_local_candidate(candidate)?;
+    Ok(())
+}
+
+fn offer_channel<I: IceAgent, D: DtlsInstance, S: Association, M: MediaSession, N: Ids>(
+    alloc: Global,
+    left: &mut Rtc<I, D, S, M, N>,
+) -> Result<Option<(ChannelId, SdpOffer)>, RtcError> {
     let label = Text::from_str(alloc, "ch1")?;
     let mut api = left.sdp_api();
     let id = api.add_channel(label.into_string())?;
-    let Some((offer, _token)) = api.apply()? else {
+    match api.apply()? {
+        Some((offer, _token)) => Ok(Some((id, offer))),
+        None => Ok(None),
+    }
+}
+
+// Whether a peer's offer of a channel is written as it is to be.
+fn writes_channel<I: IceAgent, D: DtlsInstance, S: Association, M: MediaSession, N: Ids>(
+    alloc: Global,
+    left: &mut Rtc<I, D, S, M, N>,
+    expected: &str,
+) -> Result<bool, RtcError> {
+    give_address(alloc, left)?;
+    let Some((id, offer)) = offer_channel(alloc, left)? else {
         return Ok(false);
     };
     let written = offer.to_sdp_string()?;
-    Ok(id.number() == 0 && written.as_str() == CHANNEL_OFFER)
+    Ok(id.number() == 0 && written.as_str() == expected)
 }
 
-fn is_channel_offered(alloc: Global) -> Result<bool, RtcError> {
+fn is_channel_offered(alloc: Global, expected: &str) -> Result<bool, RtcError> {
     let mut left = build(alloc, 1)?;
-    let told = writes_channel(alloc, &mut left);
+    let told = writes_channel(alloc, &mut left, expected);
     release(left, told)
 }
 
@@ -148,28 +169,67 @@ fn all_have_setup(lines: &[MediaLine], setup: Setup) -> bool {
     !lines.is_empty()
 }
 
-// Whether an offer leaves the role in DTLS to the other side, its answer takes one, and a later offer leaves it open again
-// (RFC 8842, sections 5.2, 5.3 and 5.5).
+// An offer with one more line, as the other side reads it.
+fn offer_read<I: IceAgent, D: DtlsInstance, S: Association, M: MediaSession, N: Ids>(
+    alloc: Global,
+    left: &mut Rtc<I, D, S, M, N>,
+    kind: MediaKind,
+) -> Result<Option<(SdpOffer, SdpPendingOffer)>, RtcError> {
+    match offer_line(left, kind)? {
+        Some((offer, token)) => Ok(Some((deliver_offer(alloc, &offer)?, token))),
+        None => Ok(None),
+    }
+}
+
+// The answer to an offer, as the other side reads it.
+fn answer_read<I: IceAgent, D: DtlsInstance, S: Association, M: MediaSession, N: Ids>(
+    alloc: Global,
+    right: &mut Rtc<I, D, S, M, N>,
+    offer: SdpOffer,
+) -> Result<SdpAnswer, RtcError> {
+    let answer = right.sdp_api().accept_offer(offer)?;
+    let answer = deliver_answer(alloc, &answer)?;
+    Ok(answer)
+}
+
+// Whether an offer leaves the role in DTLS to the other side, and its answer takes one (RFC 8842, sections 5.2 and 5.3).
+fn tell_first_roles<I: IceAgent, D: DtlsInstance, S: Association, M: MediaSession, N: Ids>(
+    alloc: Global,
+    left: &mut Rtc<I, D, S, M, N>,
+    right: &mut Rtc<I, D, S, M, N>,
+) -> Result<bool, RtcError> {
+    let Some((offer, token)) = offer_read(alloc, left, MediaKind::Audio)? else {
+        return Ok(false);
+    };
+    let offered = all_have_setup(offer.0.lines.as_slice(), Setup::ActPass);
+    let answer = answer_read(alloc, right, offer)?;
+    let answered = all_have_setup(answer.0.lines.as_slice(), Setup::Passive);
+    left.sdp_api().accept_answer(token, answer)?;
+    Ok(offered && answered)
+}
+
+// Whether a later offer leaves the role open again (RFC 8842, section 5.5).
+fn tells_later_role<I: IceAgent, D: DtlsInstance, S: Association, M: MediaSession, N: Ids>(
+    alloc: Global,
+    left: &mut Rtc<I, D, S, M, N>,
+) -> Result<bool, RtcError> {
+    let Some((later, _token)) = offer_read(alloc, left, MediaKind::Video)? else {
+        return Ok(false);
+    };
+    let lines = later.0.lines.as_slice();
+    Ok(all_have_setup(lines, Setup::ActPass) && lines.len() == 2)
+}
+
 fn tell_roles<I: IceAgent, D: DtlsInstance, S: Association, M: MediaSession, N: Ids>(
     alloc: Global,
     left: &mut Rtc<I, D, S, M, N>,
     right: &mut Rtc<I, D, S, M, N>,
 ) -> Result<bool, RtcError> {
-    let Some((offer, token)) = offer_line(left, MediaKind::Audio)? else {
-        return Ok(false);
-    };
-    let offer = deliver_offer(alloc, &offer)?;
-    let offered = all_have_setup(offer.0.lines.as_slice(), Setup::ActPass);
-    let answer = right.sdp_api().accept_offer(offer)?;
-    let answer = deliver_answer(alloc, &answer)?;
-    let answered = all_have_setup(answer.0.lines.as_slice(), Setup::Passive);
-    left.sdp_api().accept_answer(token, answer)?;
-    let Some((later, _token)) = offer_line(left, MediaKind::Video)? else {
-        return Ok(false);
-    };
-    let later = deliver_offer(alloc, &later)?;
-    let later_offered = all_have_setup(later.0.lines.as_slice(), Setup::ActPass);
-    Ok(offered && answered && later_offered && later.0.lines.len() == 2)
+    if tell_first_roles(alloc, left, right)? {
+        tells_later_role(alloc, left)
+    } else {
+        Ok(false)
+    }
 }
 
 fn tell_roles_to_another(alloc: Global, left: &mut Peer) -> Result<bool, RtcError> {
@@ -188,7 +248,7 @@ fn answer(alloc: Global, example: &str, mid: Mid) -> Result<bool, RtcError> {
     match example {
         "are offered for either role and answered with one" => are_roles_told(alloc),
         "give places to the lines that they add" => Ok(are_places_given(alloc, mid)?),
-        "of a channel are written in an offer" => is_channel_offered(alloc),
+        "of a channel are written in an offer" => is_channel_offered(alloc, CHANNEL_OFFER),
         "take their channels the last first" => Ok(are_channels_taken(alloc, mid)?),
         "to a table declare a line" => Ok(is_line_declared(alloc, mid)?),
         _ => Ok(false),
