@@ -9,15 +9,20 @@ fn settled(alloc: Global, stream: u16) -> ChannelConfig {
     config
 }
 
-fn is_numbered(made: &Result<ChannelId, RtcError>, number: u64) -> bool {
-    match made {
-        Ok(id) => *id == ChannelId::new(number),
-        Err(_) => false,
+/// Whether a call was done.
+pub fn is_done(answer: Result<(), RtcError>) -> bool {
+    answer.is_ok()
+}
+
+fn number_of(made: Result<ChannelId, RtcError>) -> Option<ChannelId> {
+    match &made {
+        Ok(id) => Some(*id),
+        Err(_) => None,
     }
 }
 
-fn is_refused(made: &Result<ChannelId, RtcError>) -> bool {
-    match made {
+fn is_refused(made: Result<ChannelId, RtcError>) -> bool {
+    match &made {
         Ok(_) => false,
         Err(error) => matches!(error, RtcError::BadChannel),
     }
@@ -28,16 +33,15 @@ pub fn make_channels<I: IceAgent, D: DtlsInstance, S: Association, M: MediaSessi
     alloc: Global,
     api: &mut DirectApi<'_, I, D, S, M, N>,
 ) -> Result<bool, AllocError> {
-    let started = api.start_sctp(true).is_ok() && api.start_sctp(false).is_ok();
-    let first = api.create_data_channel(settled(alloc, 4));
-    let numbered = is_numbered(&first, 0);
-    let again = api.create_data_channel(settled(alloc, 4));
-    let refused = is_refused(&again);
-    let second = api.create_data_channel(ChannelConfig::new(alloc));
-    let counted = is_numbered(&second, 1);
+    let started = is_done(api.start_sctp(true)) && is_done(api.start_sctp(false));
+    let first = number_of(api.create_data_channel(settled(alloc, 4)));
+    let refused = is_refused(api.create_data_channel(settled(alloc, 4)));
+    let second = number_of(api.create_data_channel(ChannelConfig::new(alloc)));
+    let numbered = first == Some(ChannelId::new(0));
+    let counted = second == Some(ChannelId::new(1));
     let waits = api.channel_id_by_sctp_stream_id(4).is_none();
-    if let Ok(id) = &first {
-        api.close_data_channel(*id)?;
+    if let Some(id) = first {
+        api.close_data_channel(id)?;
     }
     let made = numbered && refused && counted;
     Ok(started && made && waits)

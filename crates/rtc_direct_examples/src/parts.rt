@@ -1,4 +1,5 @@
 //! What is set at the ICE agent and the DTLS part.
+use crate::channels::is_done;
 use rtc_peer::{
     Association, Candidate, DirectApi, DtlsInstance, Fingerprint, IceAgent, IceCreds, Ids,
     MediaSession,
@@ -56,7 +57,7 @@ pub fn set_parts<I: IceAgent, D: DtlsInstance, S: Association, M: MediaSession, 
 pub fn keep_role<I: IceAgent, D: DtlsInstance, S: Association, M: MediaSession, N: Ids>(
     api: &mut DirectApi<'_, I, D, S, M, N>,
 ) -> bool {
-    let first = api.start_dtls(false).is_ok();
-    let second = api.start_dtls(true).is_ok();
+    let first = is_done(api.start_dtls(false));
+    let second = is_done(api.start_dtls(true));
     first && second
 }
