@@ -1,5 +1,7 @@
 pub mod FormLemmas
 pub mod WordLemmas
+mod HashLemmas
+pub mod PlaceLemmas
 pub mod FingerprintLemmas
 pub mod CandidateLemmas
 pub mod PairLemmas

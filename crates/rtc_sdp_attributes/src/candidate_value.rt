@@ -4,7 +4,8 @@ ghost use Rattle.rtc_sdp_attributes.specs.Forms;
 ghost use Rattle.rtc_sdp_attributes.specs.AttributeForms as form;
 ghost use Rattle.rtc_sdp_attributes.specs.AttributeTexts as written;
 
-use rtc_fields::{cut, is_token, number_up_to, same_letters};
+use crate::cut;
+use rtc_fields::{is_token, number_up_to, same_letters};
 use rtc_sdp_values::{Candidate, CandidateKind};
 use rtc_wire::{Addr, Protocol, Text};
 use std::alloc::{AllocError, Global};
@@ -36,11 +37,11 @@ fn protocol_word(proto: Protocol) -> &'static str
 fn ip_of(word: &str) -> Option<[u8; 4]>
     ensures { result ≡ form.ip word.now }
 {
-    let (a, rest) = cut(word, '.')?;
+    let (a, rest) = cut(word, b'.')?;
     let a = number_up_to(255, a)?;
-    let (b, rest) = cut(rest, '.')?;
+    let (b, rest) = cut(rest, b'.')?;
     let b = number_up_to(255, b)?;
-    let (c, rest) = cut(rest, '.')?;
+    let (c, rest) = cut(rest, b'.')?;
     let c = number_up_to(255, c)?;
     let d = number_up_to(255, rest)?;
     Some([a as u8, b as u8, c as u8, d as u8])
@@ -77,13 +78,13 @@ fn kind_word(kind: CandidateKind) -> &'static str
 fn end_of(text: &str) -> Option<CandidateKind>
     ensures { result ≡ form.candidate_end text.now }
 {
-    let Some((label, kind)) = cut(text, ' ') else {
+    let Some((label, kind)) = cut(text, b' ') else {
         return None;
     };
     if label != "typ" {
         return None;
     }
-    match cut(kind, ' ') {
+    match cut(kind, b' ') {
         Some((kind, _)) => kind_of(kind),
         None => kind_of(kind),
     }
@@ -93,9 +94,9 @@ fn end_of(text: &str) -> Option<CandidateKind>
 fn addr_of(text: &str) -> Option<(Addr, CandidateKind)>
     ensures { option_map (λ read. (read.0.ip, (read.0.port, read.1))) result ≡ form.candidate_addr text.now }
 {
-    let (ip, rest) = cut(text, ' ')?;
+    let (ip, rest) = cut(text, b' ')?;
     let ip = ip_of(ip)?;
-    let (port, rest) = cut(rest, ' ')?;
+    let (port, rest) = cut(rest, b' ')?;
     let port = number_up_to(65535, port)?;
     let kind = end_of(rest)?;
     let port = port as u16;
@@ -106,25 +107,25 @@ fn addr_of(text: &str) -> Option<(Addr, CandidateKind)>
 pub fn read_candidate(alloc: Global, value: &str) -> Result<Option<Candidate>, AllocError>
     ensures { IfOk result (λ read. read ≡ form.candidate value.now) }
 {
-    let Some((foundation, rest)) = cut(value, ' ') else {
+    let Some((foundation, rest)) = cut(value, b' ') else {
         return Ok(None);
     };
     if !is_token(foundation) {
         return Ok(None);
     }
-    let Some((component, rest)) = cut(rest, ' ') else {
+    let Some((component, rest)) = cut(rest, b' ') else {
         return Ok(None);
     };
     let Some(component) = number_up_to(65535, component) else {
         return Ok(None);
     };
-    let Some((proto, rest)) = cut(rest, ' ') else {
+    let Some((proto, rest)) = cut(rest, b' ') else {
         return Ok(None);
     };
     let Some(proto) = protocol_of(proto) else {
         return Ok(None);
     };
-    let Some((priority, rest)) = cut(rest, ' ') else {
+    let Some((priority, rest)) = cut(rest, b' ') else {
         return Ok(None);
     };
     let Some(priority) = number_up_to(4_294_967_295, priority) else {

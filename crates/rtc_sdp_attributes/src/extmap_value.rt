@@ -4,8 +4,8 @@ ghost use Rattle.rtc_sdp_attributes.specs.Forms;
 ghost use Rattle.rtc_sdp_attributes.specs.AttributeForms as form;
 ghost use Rattle.rtc_sdp_attributes.specs.AttributeTexts as written;
 
-use crate::put_decimal;
-use rtc_fields::{cut, number_up_to};
+use crate::{cut, put_decimal};
+use rtc_fields::number_up_to;
 use rtc_sdp_values::{Direction, Extension};
 use std::alloc::AllocError;
 
@@ -37,7 +37,7 @@ fn extension_id(word: &str) -> Option<u64>
 fn id_of(word: &str) -> Option<u64>
     ensures { result ≡ option_map (λ fields. fields.0) (form.extmap_id word.now) }
 {
-    match cut(word, '/') {
+    match cut(word, b'/') {
         None => extension_id(word),
         Some((id, direction)) => {
             let id = extension_id(id)?;
@@ -51,7 +51,7 @@ fn id_of(word: &str) -> Option<u64>
 pub fn read_extmap(value: &str) -> Option<(u8, Extension)>
     ensures { result ≡ form.extmap value.now }
 {
-    let Some((id, uri)) = cut(value, ' ') else {
+    let Some((id, uri)) = cut(value, b' ') else {
         return None;
     };
     let (Some(id), Some(extension)) = (id_of(id), Extension::from_uri(uri)) else {

@@ -3,7 +3,9 @@ ghost use Rattle.std.specs.Prelude.{◌≡◌, ◌++◌, IfOk, OnOk, string_byte
 ghost use Rattle.rtc_sdp_attributes.specs.AttributeForms as form;
 ghost use Rattle.rtc_sdp_attributes.specs.AttributeTexts as written;
 
-use rtc_fields::{cut, hex_bytes, is_token, lower, push_hex};
+use crate::cut;
+use crate::hash_value::{put_hash, read_hash};
+use rtc_fields::{is_token, lower};
 use rtc_sdp_values::Fingerprint;
 use std::alloc::{AllocError, Global};
 
@@ -11,13 +13,13 @@ use std::alloc::{AllocError, Global};
 pub fn read_fingerprint(alloc: Global, value: &str) -> Result<Option<Fingerprint>, AllocError>
     ensures { IfOk result (λ read. read ≡ form.fingerprint value.now) }
 {
-    let Some((name, digits)) = cut(value, ' ') else {
+    let Some((name, digits)) = cut(value, b' ') else {
         return Ok(None);
     };
     if !is_token(name) {
         return Ok(None);
     }
-    let Some(bytes) = hex_bytes(alloc, digits)? else {
+    let Some(bytes) = read_hash(alloc, digits)? else {
         return Ok(None);
     };
     let hash_func = lower(alloc, name)?;
@@ -31,5 +33,5 @@ pub fn put_fingerprint(out: &mut String, fingerprint: &Fingerprint) -> Result<()
 {
     out.push_str(fingerprint.hash_func.as_str())?;
     out.push_str(" ")?;
-    push_hex(out, fingerprint.bytes.as_slice())
+    put_hash(out, fingerprint.bytes.as_slice())
 }

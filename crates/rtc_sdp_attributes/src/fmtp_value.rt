@@ -4,8 +4,8 @@ ghost use Rattle.rtc_fields.specs.Fields.{first};
 ghost use Rattle.rtc_sdp_attributes.specs.AttributeForms as form;
 ghost use Rattle.rtc_sdp_attributes.specs.AttributeTexts as written;
 
-use crate::{Fmtp, put_decimal};
-use rtc_fields::{cut, number_up_to, parts, without_blanks};
+use crate::{Fmtp, cut, put_decimal};
+use rtc_fields::{number_up_to, parts, without_blanks};
 use rtc_sdp_values::Pt;
 use rtc_wire::Text;
 use std::alloc::{AllocError, Global};
@@ -14,7 +14,7 @@ use std::alloc::{AllocError, Global};
 pub fn read_fmtp(alloc: Global, value: &str) -> Result<Option<Fmtp>, AllocError>
     ensures { IfOk result (λ read. read ≡ form.fmtp value.now) }
 {
-    let Some((pt, text)) = cut(value, ' ') else {
+    let Some((pt, text)) = cut(value, b' ') else {
         return Ok(None);
     };
     let Some(pt) = number_up_to(127, pt) else {
@@ -43,7 +43,7 @@ pub fn put_fmtp(out: &mut String, pt: Pt, text: &str) -> Result<(), AllocError>
 fn apt_pair(pair: &str) -> Option<u64>
     ensures { result ≡ form.apt_pair pair.now }
 {
-    match cut(without_blanks(pair), '=') {
+    match cut(without_blanks(pair), b'=') {
         Some((name, number)) => if name == "apt" {
             number_up_to(127, number)
         } else {
@@ -85,7 +85,7 @@ pub fn put_apt(out: &mut String, pt: Pt) -> Result<(), AllocError>
 pub fn read_red_primary(text: &str) -> Option<u64>
     ensures { result ≡ form.red_primary text.now }
 {
-    match cut(text, '/') {
+    match cut(text, b'/') {
         None => number_up_to(127, text),
         Some((number, _)) => number_up_to(127, number),
     }

@@ -2,11 +2,13 @@
 #![tactic(auto)]
 
 mod candidate_value;
+mod cutting;
 mod decimal_text;
 mod extmap_value;
 mod fingerprint_value;
 mod fmtp;
 mod fmtp_value;
+mod hash_value;
 mod laws;
 mod media_laws;
 mod msid_value;
@@ -22,6 +24,7 @@ mod ssrc_value;
 mod word_value;
 
 pub use candidate_value::{put_candidate, read_candidate};
+pub use cutting::cut;
 pub use decimal_text::put_decimal;
 pub use extmap_value::{put_extmap, read_extmap};
 pub use fingerprint_value::{put_fingerprint, read_fingerprint};

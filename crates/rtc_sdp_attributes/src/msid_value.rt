@@ -3,7 +3,8 @@ ghost use Rattle.std.specs.Prelude.{◌≡◌, ◌++◌, IfOk, OnOk, string_byte
 ghost use Rattle.rtc_sdp_attributes.specs.AttributeForms as form;
 ghost use Rattle.rtc_sdp_attributes.specs.AttributeTexts as written;
 
-use rtc_fields::{cut, is_token};
+use crate::cut;
+use rtc_fields::is_token;
 use rtc_sdp_values::Msid;
 use rtc_wire::Text;
 use std::alloc::{AllocError, Global};
@@ -13,7 +14,7 @@ use std::fmt::Write;
 pub fn read_msid(alloc: Global, value: &str) -> Result<Option<Msid>, AllocError>
     ensures { IfOk result (λ read. read ≡ form.msid value.now) }
 {
-    let Some((stream, track)) = cut(value, ' ') else {
+    let Some((stream, track)) = cut(value, b' ') else {
         return Ok(None);
     };
     if !is_token(stream) || !is_token(track) {

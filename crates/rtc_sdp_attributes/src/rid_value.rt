@@ -5,8 +5,8 @@ ghost use Rattle.rtc_fields.specs.Fields.{each};
 ghost use Rattle.rtc_sdp_attributes.specs.AttributeForms as form;
 ghost use Rattle.rtc_sdp_attributes.specs.AttributeTexts as written;
 
-use crate::{RidDirection, RidLine};
-use rtc_fields::{cut, parts};
+use crate::{RidDirection, RidLine, cut};
+use rtc_fields::parts;
 use rtc_sdp_values::Rid;
 use rtc_wire::{Seq, Text};
 use std::alloc::{AllocError, Global};
@@ -35,8 +35,8 @@ fn direction_word(direction: RidDirection) -> &'static str
 fn pair_of(part: &str) -> Option<(&str, &str)>
     ensures { option_map (λ pair. (pair.0.now, pair.1.now)) result ≡ form.rid_pair part.now }
 {
-    match cut(part, '=') {
-        Some((key, value)) => if cut(value, '=').is_none() {
+    match cut(part, b'=') {
+        Some((key, value)) => if cut(value, b'=').is_none() {
             Some((key, value))
         } else {
             None
@@ -93,7 +93,7 @@ fn rest_of(
 ) -> Result<Option<(RidDirection, Seq<(Text, Text)>)>, AllocError>
     ensures { IfOk result (λ read. read ≡ Forms.tailed 32 (Forms.one_of form.rid_direction_words) [] form.rid_pairs text.now) }
 {
-    let Some((direction, pairs)) = cut(text, ' ') else {
+    let Some((direction, pairs)) = cut(text, b' ') else {
         return match direction_of(text) {
             Some(direction) => Ok(Some((direction, Seq::empty(alloc)))),
             None => Ok(None),
@@ -112,7 +112,7 @@ fn rest_of(
 pub fn read_rid(alloc: Global, value: &str) -> Result<Option<RidLine>, AllocError>
     ensures { IfOk result (λ read. read ≡ form.rid value.now) }
 {
-    let Some((rid, rest)) = cut(value, ' ') else {
+    let Some((rid, rest)) = cut(value, b' ') else {
         return Ok(None);
     };
     let Some(rid) = Rid::read(rid) else {

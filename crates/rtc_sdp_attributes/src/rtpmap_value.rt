@@ -3,8 +3,8 @@ ghost use Rattle.std.specs.Prelude.{◌≡◌, ◌++◌, IfOk, OnOk, string_byte
 ghost use Rattle.rtc_sdp_attributes.specs.AttributeForms as form;
 ghost use Rattle.rtc_sdp_attributes.specs.AttributeTexts as written;
 
-use crate::{Rtpmap, put_decimal};
-use rtc_fields::{cut, is_token, number_up_to};
+use crate::{Rtpmap, cut, put_decimal};
+use rtc_fields::{is_token, number_up_to};
 use rtc_sdp_values::Pt;
 use rtc_wire::Text;
 use std::alloc::{AllocError, Global};
@@ -13,7 +13,7 @@ use std::alloc::{AllocError, Global};
 fn rate_of(text: &str) -> Option<(u64, u64)>
     ensures { result ≡ form.rtpmap_rate text.now }
 {
-    match cut(text, '/') {
+    match cut(text, b'/') {
         None => {
             let clock = number_up_to(4_294_967_295, text)?;
             Some((clock, 1))
@@ -30,13 +30,13 @@ fn rate_of(text: &str) -> Option<(u64, u64)>
 pub fn read_rtpmap(alloc: Global, value: &str) -> Result<Option<Rtpmap>, AllocError>
     ensures { IfOk result (λ read. read ≡ form.rtpmap value.now) }
 {
-    let Some((pt, rest)) = cut(value, ' ') else {
+    let Some((pt, rest)) = cut(value, b' ') else {
         return Ok(None);
     };
     let Some(pt) = number_up_to(127, pt) else {
         return Ok(None);
     };
-    let Some((codec, rate)) = cut(rest, '/') else {
+    let Some((codec, rate)) = cut(rest, b'/') else {
         return Ok(None);
     };
     if !is_token(codec) {

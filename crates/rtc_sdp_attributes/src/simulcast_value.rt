@@ -12,8 +12,8 @@ ghost use Rattle.rtc_sdp_attributes.specs.AttributeForms as form;
 ghost use Rattle.rtc_sdp_attributes.specs.AttributeTexts as written;
 
 use crate::rid_value::direction_of;
-use crate::{RidDirection, SimulcastLine};
-use rtc_fields::{cut, parts, without_first, words};
+use crate::{RidDirection, SimulcastLine, cut};
+use rtc_fields::{parts, without_first, words};
 use rtc_sdp_values::{Rid, Simulcast, SimulcastLayer};
 use rtc_wire::Seq;
 use std::alloc::{AllocError, Global};
@@ -22,7 +22,7 @@ use std::collections::BTreeSet;
 fn layer_name(part: &str) -> &str
     ensures { result.now ≡ from_first (is_byte 126) (Forms.front_of part.now (cut_at 44 part.now)) }
 {
-    match cut(part, ',') {
+    match cut(part, b',') {
         Some((name, _)) => without_first(name, '~'),
         None => without_first(part, '~'),
     }

@@ -3,8 +3,8 @@ ghost use Rattle.std.specs.Prelude.{◌≡◌, ◌++◌, IfOk, OnOk, string_byte
 ghost use Rattle.rtc_sdp_attributes.specs.AttributeForms as form;
 ghost use Rattle.rtc_sdp_attributes.specs.AttributeTexts as written;
 
-use crate::{SsrcName, put_decimal};
-use rtc_fields::{cut, number_up_to};
+use crate::{SsrcName, cut, put_decimal};
+use rtc_fields::number_up_to;
 use rtc_sdp_values::{Msid, Ssrc};
 use rtc_wire::Text;
 use std::alloc::{AllocError, Global};
@@ -19,13 +19,13 @@ fn ssrc_number(word: &str) -> Option<u64>
 pub fn read_ssrc_name(alloc: Global, value: &str) -> Result<Option<SsrcName>, AllocError>
     ensures { IfOk result (λ read. read ≡ form.source value.now) }
 {
-    let Some((number, attribute)) = cut(value, ' ') else {
+    let Some((number, attribute)) = cut(value, b' ') else {
         return Ok(None);
     };
     let Some(number) = ssrc_number(number) else {
         return Ok(None);
     };
-    let Some((name, cname)) = cut(attribute, ':') else {
+    let Some((name, cname)) = cut(attribute, b':') else {
         return Ok(None);
     };
     if name != "cname" || cname.is_empty() {
@@ -65,11 +65,11 @@ pub fn put_ssrc_msid(out: &mut String, ssrc: Ssrc, msid: &Msid) -> Result<(), Al
 pub fn read_ssrc_pair(value: &str) -> Option<(Ssrc, Ssrc)>
     ensures { result ≡ form.source_pair_form value.now }
 {
-    let (word, numbers) = cut(value, ' ')?;
+    let (word, numbers) = cut(value, b' ')?;
     if word != "FID" {
         return None;
     }
-    let (ssrc, rtx) = cut(numbers, ' ')?;
+    let (ssrc, rtx) = cut(numbers, b' ')?;
     let ssrc = ssrc_number(ssrc)?;
     let rtx = ssrc_number(rtx)?;
     Some((Ssrc(ssrc as u32), Ssrc(rtx as u32)))

@@ -10,7 +10,7 @@ use std::alloc::{AllocError, Global};
 fn is_spaceless(text: &str) -> bool
     ensures { result ≡ form.is_spaceless text.now }
 {
-    text.bytes().all(|byte| byte != b' ')
+    !text.as_bytes().contains(&b' ')
 }
 
 fn is_word_up_to(most: usize, text: &str) -> bool

@@ -14,7 +14,7 @@ use crate::media_attribute_form::{
     codec, extension, layer, layer_list, parameters, source, source_pair, stream,
 };
 use crate::{Attribute, Item, Level, Strict};
-use rtc_fields::cut;
+use rtc_sdp_attributes::cut;
 use rtc_sdp_values::Direction;
 use std::alloc::{AllocError, Global};
 
@@ -229,7 +229,7 @@ fn attribute_item(alloc: Global, name: &str, value: Option<&str>) -> Result<Item
 pub(crate) fn attribute(alloc: Global, value: &str) -> Result<Item, AllocError>
     ensures { IfOk result (λ item. item ≡ attribute_line value.now) }
 {
-    match cut(value, ':') {
+    match cut(value, b':') {
         None => attribute_item(alloc, value, None),
         Some((name, value)) => attribute_item(alloc, name, Some(value)),
     }

@@ -7,7 +7,8 @@ ghost use Rattle.rtc_sdp_grammar.specs.ItemForm as spec;
 use crate::Item;
 use crate::attribute_form::attribute;
 use crate::media_form::{is_filled, media};
-use rtc_fields::{cut, number, words};
+use rtc_fields::{number, words};
+use rtc_sdp_attributes::cut;
 use std::alloc::{AllocError, Global};
 
 fn origin(alloc: Global, value: &str) -> Result<Item, AllocError>
@@ -88,7 +89,7 @@ pub fn item_of(alloc: Global, line: &str) -> Result<Item, AllocError>
     if let Some(value) = attribute_value(line) {
         return attribute(alloc, value);
     }
-    match cut(line, '=') {
+    match cut(line, b'=') {
         None => Ok(Item::Bad),
         Some((name, value)) => lettered(alloc, name, value),
     }

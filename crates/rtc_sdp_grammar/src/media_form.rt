@@ -1,15 +1,17 @@
 //! The form of `m=` lines.
-ghost use Rattle.std.specs.Prelude.{◌≡◌, IfOk, map, option_map, eqb};
+ghost use Rattle.std.specs.Prelude.{◌≡◌, ◌∷◌, IfOk, map, option_map, eqb};
 ghost use Rattle.std.specs.List.{list_all};
 ghost use Rattle.rtc_fields.specs.Fields.{each};
 ghost use Rattle.rtc_fields.specs.Numbers.{number_up_to as spec_number_up_to};
 ghost use Rattle.rtc_fields.specs.Tokens.{is_token as IsToken};
+ghost use Rattle.rtc_fields.specs.Words.{words as spec_words};
 ghost use Rattle.rtc_sdp_attributes.specs.Forms as filled;
 ghost use Rattle.rtc_sdp_grammar.specs.MediaForm as spec;
 ghost use Rattle.rtc_fields.specs.Once.{each_once as spec_each_once};
 
 use crate::{Item, MediaHead};
-use rtc_fields::{cut, is_numeral, is_token, number_up_to, words};
+use rtc_fields::{is_numeral, is_token, number_up_to, words};
+use rtc_sdp_attributes::cut;
 use rtc_sdp_values::LineKind;
 use rtc_wire::Seq;
 use std::alloc::{AllocError, Global};
@@ -31,7 +33,7 @@ fn kind_of(word: &str) -> LineKind
 fn port_of(word: &str) -> Option<u64>
     ensures { result ≡ spec.port_of word.now }
 {
-    match cut(word, '/') {
+    match cut(word, b'/') {
         None => number_up_to(65535, word),
         Some((port, count)) => if is_numeral(count) {
             number_up_to(65535, port)
@@ -163,14 +165,16 @@ fn of_kind(
     }
 }
 
-/// What an `m=` line says (RFC 8866, section 5.14).
-pub(crate) fn media(alloc: Global, value: &str) -> Result<Item, AllocError>
-    ensures { IfOk result (λ item. item ≡ spec.media value.now) }
+fn at_port(
+    alloc: Global,
+    kind: &str,
+    port: &str,
+    protocol: &str,
+    formats: &[&str],
+) -> Result<Item, AllocError>
+    ensures { IfOk result (λ item. item
+        ≡ spec.at_port kind.now (spec.port_of port.now) protocol.now (map (λ word. word.now) formats.now)) }
 {
-    let fields = words(alloc, value)?;
-    let [kind, port, protocol, formats @ ..] = fields.as_slice() else {
-        return Ok(Item::BadMedia);
-    };
     let Some(port) = port_of(port) else {
         return Ok(Item::BadMedia);
     };
@@ -178,4 +182,32 @@ pub(crate) fn media(alloc: Global, value: &str) -> Result<Item, AllocError>
         return Ok(Item::BadMedia);
     }
     of_kind(alloc, kind_of(kind), port == 0, protocol, formats)
+}
+
+/// What a line says by its kind, its port and the words behind them.
+#[tactic(auto, using(crate::proofs::WordLemmas::no_formats, crate::proofs::WordLemmas::some_formats))]
+fn behind_port(alloc: Global, kind: &str, port: &str, rest: &str) -> Result<Item, AllocError>
+    ensures { IfOk result (λ item. item ≡ spec.media_words (kind.now ∷ port.now ∷ spec_words rest.now)) }
+{
+    match cut(rest, b' ') {
+        None => at_port(alloc, kind, port, rest, &[]),
+        Some((protocol, formats)) => {
+            let formats = words(alloc, formats)?;
+            at_port(alloc, kind, port, protocol, formats.as_slice())
+        }
+    }
+}
+
+/// What an `m=` line says (RFC 8866, section 5.14). Its first words are cut off one by one, so that a line without formats makes no list.
+#[tactic(auto, using(crate::proofs::WordLemmas::one_word, crate::proofs::WordLemmas::more_words))]
+pub(crate) fn media(alloc: Global, value: &str) -> Result<Item, AllocError>
+    ensures { IfOk result (λ item. item ≡ spec.media value.now) }
+{
+    let Some((kind, rest)) = cut(value, b' ') else {
+        return Ok(Item::BadMedia);
+    };
+    let Some((port, rest)) = cut(rest, b' ') else {
+        return Ok(Item::BadMedia);
+    };
+    behind_port(alloc, kind, port, rest)
 }

@@ -9,3 +9,4 @@ pub mod FirstRefusedLaw
 pub mod PutLaws
 pub mod Resume
 mod StandardFacts
+mod FirstLine

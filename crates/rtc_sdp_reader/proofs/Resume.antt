@@ -1,11 +1,11 @@
 -- What the reader will answer if these lines come next: the reading, from where it stands.
-use Rattle.std.proofs.Common.{◌≡◌, ℕ, ◌+◌, nat_eq, Bool, true, false, not, cond, List, [], ◌∷◌, ◌++◌, Option, Some, None, Result, Ok, Err, refl, sym, ap, ◌∙◌, append_assoc, zero-add, add-zero, ◌<◌, length, map, drop, get_or, drop-cons, add-one, arith, subst}
+use Rattle.std.proofs.Common.{◌≡◌, ℕ, ◌+◌, nat_eq, Bool, true, false, not, cond, List, [], ◌∷◌, ◌++◌, Option, Some, None, Result, Ok, Err, refl, sym, ap, ◌∙◌, append_assoc, zero-add, add-zero, ◌<◌, length, map, arith, subst}
 use Rattle.std.specs.Prelude.{filter}
 use Rattle.std.specs.List.{cons_option}
 use Rattle.std.specs.Option.{option_or}
 use Rattle.std.specs.Result.{IsErrAnd}
 use Rattle.std.proofs.lemmas.Bool.Decides.{nat_tests}
-use Rattle.std.proofs.lemmas.List.{append-nil, drop_all}
+use Rattle.std.proofs.lemmas.List.{append-nil}
 use Rattle.rtc_fields.specs.Fields.{first}
 use Rattle.rtc_sdp_values.specs.declared.media_line.MediaLine.{MediaLine}
 use Rattle.rtc_sdp_values.specs.declared.sdp.Sdp.{Sdp}
@@ -16,7 +16,8 @@ use Rattle.rtc_sdp_grammar.specs.declared.item.Item.{Item}
 use Rattle.rtc_sdp_grammar.specs.declared.item.Item.TheVariants.{Blank, Bad, BadMedia, Skipped, Version, Origin, Media, Says, Malformed}
 use Rattle.rtc_sdp_grammar.specs.declared.level.Level.TheVariants.{SessionLevel, MediaLevel, AnyLevel}
 use Rattle.rtc_sdp_grammar.specs.declared.media_head.MediaHead.{MediaHead}
-use Rattle.rtc_sdp_grammar.specs.ItemForm.{item_of}
+use Rattle.rtc_fields.specs.Lines.{lines}
+use Rattle.rtc_sdp_grammar.specs.ItemForm.{item_of, items_of}
 use Rattle.rtc_sdp_reader.specs.declared.part.Part.{Part}
 use Rattle.rtc_sdp_reader.specs.declared.place.Place.TheVariants.{First, Second, Session, Line}
 use Rattle.rtc_sdp_reader.specs.declared.reader.Reader.{Reader}
@@ -246,19 +247,13 @@ pub start_law : (items : List Item) → resume start items ≡ items_reading ite
 unfolding resume sdp_of
 start_law items = refl
 
--- ---- the loop: the lines from the k-th on are still to be read
-line_at : (ls : List (List ℕ)) (k : ℕ) (line : List ℕ) → (k < length ls) × (line ≡ get_or ls k line) → drop k ls ≡ line ∷ drop (k + 1) ls
-line_at ls k line h = let cons : drop k ls ≡ get_or ls k line ∷ drop (k + 1) ls = rw add-one (drop-cons ls k line h.0) in cons ∙ ap (λ (l : List ℕ). l ∷ drop (k + 1) ls) (sym h.1)
-
-abbrev pub from : List (List ℕ) → ℕ → List Item
-from ls k = map item_of (drop k ls)
-
--- what the step at the k-th line answers leads to what was to come
-pub stepped : (r : Reader) (item : Item) (ls : List (List ℕ)) (k : ℕ) (line : List ℕ) (total : Result Sdp ℕ) → (k < length ls) × (line ≡ get_or ls k line) → item ≡ item_of line
-    → resume r (from ls k) ≡ total → after (step r item) (from ls (k + 1)) ≡ total
-stepped r item ls k line total at said h =
-    let items : item ∷ from ls (k + 1) ≡ from ls k = ap (λ (i : Item). i ∷ from ls (k + 1)) said ∙ sym (ap (λ (rest : List (List ℕ)). map item_of rest) (line_at ls k line at)) in
-    step_law r item (from ls (k + 1)) ∙ ap (resume r) items ∙ h
+-- ---- the loop: the lines of what is left are still to be read
+-- what the step at its first line answers leads to what was to come
+pub stepped : (r : Reader) (item : Item) (text line behind : List ℕ) (total : Result Sdp ℕ) → lines text ≡ line ∷ lines behind → item ≡ item_of line
+    → resume r (items_of text) ≡ total → after (step r item) (items_of behind) ≡ total
+stepped r item text line behind total parted said h =
+    let items : item ∷ items_of behind ≡ items_of text = ap (λ (i : Item). i ∷ items_of behind) said ∙ sym (ap (λ (ls : List (List ℕ)). map item_of ls) parted) in
+    step_law r item (items_of behind) ∙ ap (resume r) items ∙ h
 
 -- it gave a reader
 pub goes_on : (r : Reader) (item : Item) (next_reader : Reader) (rest : List Item) (total : Result Sdp ℕ) → step r item ≡ Ok next_reader → after (step r item) rest ≡ total → resume next_reader rest ≡ total
@@ -276,7 +271,6 @@ handed (Ok sdp) error total e h = absurd e
 handed (Err other) error total e h = subst (λ (x : SdpError). GivesReading {A = Sdp} (Err x) total) (sym e) h
 
 -- no line is left
-pub done : (r : Reader) (ls : List (List ℕ)) (k : ℕ) (total : Result Sdp ℕ) → k ≡ length ls → resume r (from ls k) ≡ total → finish r ≡ total
-done r ls k total e h =
-    let none : from ls k ≡ [] = ap (λ (rest : List (List ℕ)). map item_of rest) (drop_all k ls (omega arith)) in
-    finish_law r ∙ ap (resume r) (sym none) ∙ h
+pub done : (r : Reader) (text : List ℕ) (total : Result Sdp ℕ) → length text ≡ 0 → resume r (items_of text) ≡ total → finish r ≡ total
+done r [] total e h = finish_law r ∙ h
+done r (b ∷ bs) total e h = absurd (omega arith)

@@ -1,12 +1,14 @@
 -- What the reader will answer with the lines that are left is the answer for the whole text.
 use Rattle.std.proofs.Common.{◌≡◌, length}
-use Rattle.rtc_fields.specs.Lines.{lines}
+use denote.Shadow.{shadow}
+use denote.Text.{Utf8}
+use Rattle.rtc_sdp_grammar.specs.ItemForm.{items_of}
 use Rattle.rtc_sdp_reader.specs.Reading.{reading}
-use Rattle.rtc_sdp_reader.proofs.Resume.{resume, from}
+use Rattle.rtc_sdp_reader.proofs.Resume.{resume}
 use Rattle.rtc_sdp_reader.proofs.answers.read_by.Given as goal
 
-abbrev pub invariant-loop-line : goal.invariant-loop-line
-invariant-loop-line l =
-    (goal.iterator-loop-line).can_next l.line-iterator
-    × (goal.iterator-loop-line).is_finite l.line-iterator
-    × (resume l.reader (from (lines l.text) (length l.yielded)) ≡ reading l.text)
+abbrev pub invariant-line : goal.invariant-line
+invariant-line l = (resume l.reader (items_of l.rest) ≡ reading l.fn.text) × shadow (Utf8 l.rest)
+
+abbrev pub decreases-line : goal.decreases-line
+decreases-line l = length l.rest
