@@ -2,14 +2,14 @@
 use Rattle.std.specs.Prelude.{◌≡◌, ◌≢◌, ◌<◌, ◌^◌, ℕ, List, [], ◌∷◌, Some, codes}
 use Rattle.std.specs.Fmt.{decimal}
 use Rattle.rtc_fields.specs.Words.{words}
-use Rattle.rtc_gate_frames.specs.Signal.{text_in}
+use Rattle.rtc_gate_frames.specs.Signal.{utf8_text_in}
 use Rattle.rtc_gate_calls.specs.declared.gate_call.GateCall.{GateCall}
 use Rattle.rtc_gate_calls.specs.declared.gate_call.GateCall.TheVariants.{Join, Leave, Feed, Take}
 use Rattle.rtc_gate.specs.HexWords.{bytes_in_word}
 
 -- one word in UTF-8, which is not empty
 abbrev pub IsNameWord : List (List ℕ) → List ℕ → Type 0
-IsNameWord found name = (found ≡ name ∷ []) × (text_in name ≡ Some name) × (name ≢ [])
+IsNameWord found name = (found ≡ name ∷ []) × (utf8_text_in name ≡ Some name) × (name ≢ [])
 
 -- one word, the decimal of a number below 2^32 without leading zeros
 abbrev pub IsNumberWord : List (List ℕ) → ℕ → Type 0

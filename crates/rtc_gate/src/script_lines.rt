@@ -5,7 +5,7 @@ ghost use Rattle.rtc_gate_calls.specs.declared.gate_call.GateCall.{GateCall};
 
 use crate::cutting::cut_words;
 use crate::hexadecimal::read_hex;
-use crate::naming::text_in;
+use crate::naming::utf8_text_in;
 use crate::numbers::read_number;
 use rtc_gate_calls::GateCall;
 use rtc_wire::{Bytes, Text};
@@ -21,7 +21,7 @@ fn name_in<'a>(rest: &[&'a [u8]]) -> Option<&'a str>
     if word.is_empty() {
         return None;
     }
-    text_in(word)
+    utf8_text_in(word)
 }
 
 fn number_in(rest: &[&[u8]]) -> Option<u32>

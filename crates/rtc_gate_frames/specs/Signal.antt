@@ -63,8 +63,8 @@ abbrev pub signal_bytes : Signal → List ℕ
 signal_bytes signal = to_be_bytes w32 (length (signal_body signal)) ++ signal_body signal
 
 -- bytes as a text
-abbrev pub text_in : List ℕ → Option (List ℕ)
-text_in bytes = if is_utf8 bytes then Some bytes else None
+abbrev pub utf8_text_in : List ℕ → Option (List ℕ)
+utf8_text_in bytes = if is_utf8 bytes then Some bytes else None
 
 -- bytes as the name of a connection
 abbrev pub signal_name_in : List ℕ → Option (List ℕ)
@@ -80,7 +80,7 @@ abbrev pub signal_in : List ℕ → Option Signal
 signal_in [] = None
 signal_in (kind ∷ []) = None
 signal_in (kind ∷ count ∷ rest) =
-    if nat_le count (length rest) then signal_with (incoming_kind kind) (signal_name_in (take count rest)) (text_in
+    if nat_le count (length rest) then signal_with (incoming_kind kind) (signal_name_in (take count rest)) (utf8_text_in
     (drop count rest)) else None
 
 -- how much of a frame is there, by the number of bytes and the length that they begin with: a body has 3 to 65536 bytes

@@ -16,8 +16,8 @@ pub struct SignalFrame<'a> {
     pub text: &'a str,
 }
 
-fn text_in(bytes: &[u8]) -> Option<&str>
-    ensures { option_map (λ text. text.now) result ≡ spec.text_in bytes.now }
+fn utf8_text_in(bytes: &[u8]) -> Option<&str>
+    ensures { option_map (λ text. text.now) result ≡ spec.utf8_text_in bytes.now }
 {
     match str::from_utf8(bytes) {
         Ok(text) => Some(text),
@@ -27,10 +27,10 @@ fn text_in(bytes: &[u8]) -> Option<&str>
 
 fn frame_with<'a>(kind: SignalKind, name: &[u8], text: &'a [u8]) -> Option<SignalFrame<'a>>
     ensures signal { option_map spec.signal_of result ≡ spec.signal_with (Some kind) (spec.signal_name_in name.now)
-        (spec.text_in text.now) }
+        (spec.utf8_text_in text.now) }
     ensures text { IfSome result (λ frame. frame.text.now ≡ text.now) }
 {
-    match (name_in(name), text_in(text)) {
+    match (name_in(name), utf8_text_in(text)) {
         (Some(name), Some(text)) => Some(SignalFrame { kind, name, text }),
         _ => None,
     }

@@ -16,7 +16,7 @@ use Rattle.rtc_sctp_values.specs.declared.sctp_error.SctpError.{SctpError}
 use Rattle.rtc_sctp_values.specs.declared.sctp_error.SctpError.TheVariants as sctp
 use Rattle.rtc_sctp_values.specs.InitHalves.{InitHalves, half_bytes}
 use Rattle.rtc_sctp.specs.Streams.{SctpStreams}
-use Rattle.rtc_sctp.specs.Calls.{AsksSnap, AsksInit, are_whole, Inits, Shuts, ShutBy, WritesStream, WrittenIf, can_write, is_ended, is_open_stream, write_answer, written_ppi, is_nil}
+use Rattle.rtc_sctp.specs.Calls.{AsksSnap, AsksInit, are_whole, Inits, Shuts, ShutBy, WritesStream, WrittenIf, can_write, is_current, is_ended, is_open_stream, write_answer, written_ppi, is_nil}
 use Rattle.rtc_sctp.specs.Refusals.{refusal_if, IsRefusedAs, refusal_of_start, refusal_of_message}
 
 -- a message that its stream takes is refused as the association refuses it
@@ -59,6 +59,15 @@ refused_late : (taken : Bool) (next : Option SctpError) (b a : ℕ) (r made : Re
     → IsRefusedAs next b a made → IsRefusedAs (refusal_if (not taken) sctp.WriteBeforeEstablished next) b a r
 refused_late taken next b a r made is e h = rw (is, e) h
 
+-- a stream that came to another generation since takes no message
+refused_gone : (current : Bool) (next : Option SctpError) (id b a : ℕ) → current ≡ false
+    → IsRefusedAs {T = ℕ} (refusal_if (not current) (sctp.Proto (proto.NoStream id)) next) b a (Err (sctp.Proto (proto.NoStream id)))
+refused_gone current next id b a is = rw is refl
+
+refused_current : (current : Bool) (next : Option SctpError) (id b a : ℕ) (r : Result ℕ SctpError) → current ≡ true
+    → IsRefusedAs next b a r → IsRefusedAs (refusal_if (not current) (sctp.Proto (proto.NoStream id)) next) b a r
+refused_current current next id b a r is h = rw is h
+
 unended : (taken started ended : Bool) → (taken && not (not started || ended)) ≡ true → ended ≡ false
 unended taken started false h = refl
 unended false started true h = absurd (true≢false (sym h))
@@ -95,22 +104,33 @@ module _ {S : Type 0} (m : AssociationMeaning S) (w : AssociationLaws m) where
       refusal_if (not (m.has_stream p.association id) || m.closed_here p.association id) (sctp.Proto (proto.NoStream id))
       (refusal_if (nat_lt (m.max_send p.association) (length bytes)) (sctp.Proto (proto.TooLong (length bytes) p.remote_max)) None)
 
+  -- and how one that its stream takes in some generation
+  abbrev pub refusal_past_opening : (id : ℕ) → List ℕ → SctpStreams S → Option SctpError
+  refusal_past_opening id bytes p = refusal_if (not (is_current m id p)) (sctp.Proto (proto.NoStream id)) (refusal_in_use id bytes p)
+
   pub writes_refused : (p q : SctpStreams S) (id : ℕ) (binary : Bool) (bytes : List ℕ) (r : Result ℕ SctpError) → WritesStream m id binary bytes p r q
       → IsRefusedAs (refusal_of_message m id bytes p) (m.faults p.association) (m.faults q.association) r
   writes_refused p q id binary bytes r h = by (can_write m id p) refl h
     where
-      by : (b : Bool) → can_write m id p ≡ b → WrittenIf m b id binary bytes p r q
-          → IsRefusedAs (refusal_of_message m id bytes p) (m.faults p.association) (m.faults q.association) r
-      by false is k = refused_early (can_write m id p) (refusal_in_use id bytes p) (m.faults p.association) (m.faults q.association) r is k.0
-      by true is k =
+      past : (c : Bool) → is_current m id p ≡ c → can_write m id p ≡ true → WrittenIf m true c id binary bytes p r q
+          → IsRefusedAs (refusal_past_opening id bytes p) (m.faults p.association) (m.faults q.association) r
+      past false own is k =
+          rw k.0 (refused_gone (is_current m id p) (refusal_in_use id bytes p) id (m.faults p.association) (m.faults q.association) own)
+      past true own is k =
           let gone = not (m.has_stream p.association id) || m.closed_here p.association id in
           let long = nat_lt (m.max_send p.association) (length bytes) in
           let ended = m.closing p.association || m.closed p.association in
           let free = unended (is_open_stream id p) (m.started p.association) ended is in
           let answered = w.write_answer p.association q.association id (written_ppi binary (is_nil bytes)) bytes k.0 k.1 in
-          refused_late (can_write m id p) (refusal_in_use id bytes p) (m.faults p.association) (m.faults q.association) r
-          (write_answer id (length bytes) p.remote_max k.0) is k.2
-          (written_before_its_end k.0 gone long ended id (length bytes) p.remote_max (m.faults p.association) (m.faults q.association) free answered)
+          refused_current (is_current m id p) (refusal_in_use id bytes p) id (m.faults p.association) (m.faults q.association) r own
+          (rw k.2 (written_before_its_end k.0 gone long ended id (length bytes) p.remote_max (m.faults p.association) (m.faults q.association) free answered))
+
+      by : (b : Bool) → can_write m id p ≡ b → WrittenIf m b (is_current m id p) id binary bytes p r q
+          → IsRefusedAs (refusal_of_message m id bytes p) (m.faults p.association) (m.faults q.association) r
+      by false is k = refused_early (can_write m id p) (refusal_past_opening id bytes p) (m.faults p.association) (m.faults q.association) r is k.0
+      by true is k =
+          refused_late (can_write m id p) (refusal_past_opening id bytes p) (m.faults p.association) (m.faults q.association) r r is refl
+          (past (is_current m id p) refl is k)
 
   snap_rose : (halves : InitHalves) (p q : S) (now max : ℕ) → AsksSnap m halves p now max did.Refused q → Rose (m.faults p) (m.faults q)
   snap_rose halves p q now max h =

@@ -22,7 +22,7 @@ use Rattle.rtc_sctp_entries.specs.Part.{AsksStart, AsksShutdown}
 use Rattle.rtc_sctp_entries.specs.declared.asked.Asked.{Asked}
 use Rattle.rtc_sctp_values.specs.InitHalves.{InitHalves, is_whole, half_bytes}
 use Rattle.rtc_sctp_values.specs.SnapHalves.{begun_halves}
-use Rattle.rtc_sctp_entries.specs.Entries.{has_open, is_retrying, unclosed}
+use Rattle.rtc_sctp_entries.specs.Entries.{has_open, is_retrying, unclosed, stream_generation, fits_generation}
 use Rattle.rtc_sctp.specs.Streams.{SctpStreams, is_attached, is_established}
 
 -- the state of an association that was started as client or as server
@@ -155,17 +155,22 @@ module _ {S : Type 0} (m : AssociationMeaning S) where
   abbrev pub can_write : ℕ → SctpStreams S → Bool
   can_write id p = is_open_stream id p && not (is_ended p.association)
 
-  -- a message is written
-  abbrev pub WrittenIf : Bool → (id : ℕ) → Bool → List ℕ → SctpStreams S → Result ℕ SctpError → SctpStreams S → Type 0
-  WrittenIf false id binary bytes p r q = (r ≡ Err sctp.WriteBeforeEstablished) × (q ≡ p)
-  WrittenIf true id binary bytes p r q =
+  -- whether a stream has the generation that its entry keeps, if it keeps one
+  abbrev pub is_current : ℕ → SctpStreams S → Bool
+  is_current id p = fits_generation (stream_generation id p.entries) (m.generation p.association id)
+
+  -- a message is written, to the generation of the channel alone: not to one that the stream came to since
+  abbrev pub WrittenIf : (can current : Bool) → (id : ℕ) → Bool → List ℕ → SctpStreams S → Result ℕ SctpError → SctpStreams S → Type 0
+  WrittenIf false current id binary bytes p r q = (r ≡ Err sctp.WriteBeforeEstablished) × (q ≡ p)
+  WrittenIf true false id binary bytes p r q = (r ≡ Err (sctp.Proto (proto.NoStream id))) × (q ≡ p)
+  WrittenIf true true id binary bytes p r q =
       (answer : Result ℕ AssocError)
       × m.wrote p.association id (written_ppi binary (is_nil bytes)) bytes answer q.association
       × (r ≡ write_answer id (length bytes) p.remote_max answer)
       × (q ≡ record p { association = q.association })
 
   abbrev pub WritesStream : (id : ℕ) → Bool → List ℕ → SctpStreams S → Result ℕ SctpError → SctpStreams S → Type 0
-  WritesStream id binary bytes p r q = WrittenIf (can_write id p) id binary bytes p r q
+  WritesStream id binary bytes p r q = WrittenIf (can_write id p) (is_current id p) id binary bytes p r q
 
   -- how many bytes of the streams in use are not acknowledged
   abbrev pub buffered_sum : S → List StreamEntry → ℕ

@@ -7,7 +7,7 @@ use Rattle.rtc_sctp_values.specs.declared.sctp_error.SctpError.{SctpError}
 use Rattle.rtc_sctp_values.specs.declared.sctp_error.SctpError.TheVariants as sctp
 use Rattle.rtc_sctp.specs.Streams.{SctpStreams}
 use Rattle.rtc_sctp_values.specs.InitHalves.{InitHalves}
-use Rattle.rtc_sctp.specs.Calls.{can_write, are_whole}
+use Rattle.rtc_sctp.specs.Calls.{can_write, is_current, are_whole}
 
 -- a refusal, where its cause holds, and else what follows
 abbrev pub refusal_if : Bool → SctpError → Option SctpError → Option SctpError
@@ -29,10 +29,11 @@ module _ {S : Type 0} (m : AssociationMeaning S) where
       refusal_if (m.started p.association) (sctp.Proto proto.Started)
       (refusal_if (not (are_whole snap)) (sctp.Proto proto.SnapHalf) None)
 
-  -- how a message is refused: where its stream takes none; where the association has no such stream, or this end closed it;
-  -- where it is longer than the other end takes
+  -- how a message is refused: where its stream takes none; where the stream came to another generation since its channel was opened;
+  -- where the association has no such stream, or this end closed it; where it is longer than the other end takes
   abbrev pub refusal_of_message : (id : ℕ) → List ℕ → SctpStreams S → Option SctpError
   refusal_of_message id bytes p =
       refusal_if (not (can_write m id p)) sctp.WriteBeforeEstablished
+      (refusal_if (not (is_current m id p)) (sctp.Proto (proto.NoStream id))
       (refusal_if (not (m.has_stream p.association id) || m.closed_here p.association id) (sctp.Proto (proto.NoStream id))
-      (refusal_if (nat_lt (m.max_send p.association) (length bytes)) (sctp.Proto (proto.TooLong (length bytes) p.remote_max)) None))
+      (refusal_if (nat_lt (m.max_send p.association) (length bytes)) (sctp.Proto (proto.TooLong (length bytes) p.remote_max)) None)))

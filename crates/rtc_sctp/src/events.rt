@@ -21,6 +21,7 @@ fn opened_there(id: u16) -> StreamEntry
         marked: false,
         threshold: BufferedThresholdConfig::Unconfigured,
         refused: None,
+        generation: None,
     }
 }
 

@@ -25,6 +25,7 @@ fn opened_here(id: u16, config: ChannelConfig) -> StreamEntry
         marked: false,
         threshold: BufferedThresholdConfig::Unconfigured,
         refused: None,
+        generation: None,
     }
 }
 

@@ -1,13 +1,14 @@
 //! Messages to the other end.
 ghost use Rattle.std.specs.Prelude.{◌≡◌, ◌-◌, if◌then◌else◌, true};
 ghost use Rattle.rtc_sctp.specs.Calls.{is_open_stream, can_write as CanWrite, WritesStream, WrittenIf, buffered_sum};
+ghost use Rattle.rtc_sctp.specs.Calls.{is_current as IsCurrent};
 ghost use Rattle.rtc_sctp.specs.Calls.{written_ppi as WrittenPpi, write_refusal as WriteRefusal};
 ghost use Rattle.rtc_sctp.specs.Refusals.{IsRefusedAs, refusal_of_message};
 
 use crate::streams::RtcSctp;
 use crate::{ProtoError, SctpError};
 use rtc_association::{AssocError, Association, Ppi};
-use rtc_sctp_entries::entries::has_open;
+use rtc_sctp_entries::entries::{fits_generation, generation_of, has_open};
 
 fn written_ppi(binary: bool, empty: bool) -> Ppi
     ensures { result ≡ WrittenPpi binary empty }
@@ -70,9 +71,19 @@ impl<S: Association> RtcSctp<S> {
         self.is_open(id) && !self.is_ended()
     }
 
+    // Whether a stream has the generation that its entry keeps.
+    fn is_current(&self, id: u16) -> bool
+        ensures { result ≡ IsCurrent S.association id self.now }
+    {
+        fits_generation(
+            generation_of(self.entries.as_slice(), id),
+            self.association.generation(id),
+        )
+    }
+
     fn write_open(&mut self, id: u16, binary: bool, buf: &[u8]) -> Result<usize, SctpError>
         requires { S.association.started self.old.association ≡ true }
-        ensures { WrittenIf S.association true id binary buf.now self.old result self.new }
+        ensures { WrittenIf S.association true true id binary buf.now self.old result self.new }
     {
         let ppi = written_ppi(binary, buf.is_empty());
         match self.association.stream_write(id, ppi, buf) {
@@ -81,11 +92,21 @@ impl<S: Association> RtcSctp<S> {
         }
     }
 
+    fn write_current(&mut self, id: u16, binary: bool, buf: &[u8]) -> Result<usize, SctpError>
+        requires { S.association.started self.old.association ≡ true }
+        ensures { WrittenIf S.association true (IsCurrent S.association id self.old) id binary buf.now self.old result self.new }
+    {
+        if self.is_current(id) {
+            return self.write_open(id, binary, buf);
+        }
+        Err(SctpError::Proto(ProtoError::NoStream(id)))
+    }
+
     fn write_message(&mut self, id: u16, binary: bool, buf: &[u8]) -> Result<usize, SctpError>
         ensures { WritesStream S.association id binary buf.now self.old result self.new }
     {
         if self.can_write(id) {
-            return self.write_open(id, binary, buf);
+            return self.write_current(id, binary, buf);
         }
         Err(SctpError::WriteBeforeEstablished)
     }

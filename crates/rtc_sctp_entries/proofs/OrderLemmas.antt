@@ -10,7 +10,7 @@ use Rattle.std.proofs.Math.Logic.{⊎_elim}
 use Rattle.std.proofs.lemmas.Bool.{cases_lt}
 use Rattle.rtc_wire.specs.declared.channel_config.ChannelConfig.{ChannelConfig}
 use Rattle.rtc_sctp_entries.specs.declared.stream_entry.StreamEntry.{StreamEntry}
-use Rattle.rtc_sctp_entries.specs.Entries.{AscendFrom, Ascend, is_entry_of, entry_place, new_place, with_entry, has_open, is_open_state, stream_config}
+use Rattle.rtc_sctp_entries.specs.Entries.{AscendFrom, Ascend, is_entry_of, entry_place, new_place, with_entry, has_open, is_open_state, stream_config, stream_generation}
 
 -- entries from a number on are from a lower one on too
 pub ascend_lower : (low more : ℕ) (es : List StreamEntry) → low ≤ more → AscendFrom more es → AscendFrom low es
@@ -185,6 +185,25 @@ config_none id (x ∷ es) none =
     by true e = absurd (none 0 x (omega arith) (eqb-true x.id id e))
     by false e = refl
 
+-- the generation that the entry of a stream keeps
+pub generation_found : (id low i : ℕ) (es : List StreamEntry) (d : StreamEntry) → AscendFrom low es → i < length es → (get_or es i d).id ≡ id → stream_generation id es ≡ (get_or es i d).generation
+generation_found id low i [] d h lt at = absurd (omega (arith, lt))
+generation_found id low zero (x ∷ es) d h lt at = let same : (x.id == id) ≡ true = grind (arith, at) in rw same refl
+generation_found id low (suc i) (x ∷ es) d h lt at =
+    let least = ascend_least (x.id + 1) es i d h.1 (omega (arith, lt)) in
+    let other : (x.id == id) ≡ false = let low : x.id < id = omega (arith, at, least) in grind (arith, low) in
+    rw other (generation_found id (x.id + 1) i es d h.1 (omega (arith, lt)) at)
+
+pub generation_none : (id : ℕ) (es : List StreamEntry) → ((k : ℕ) (d : StreamEntry) → k < length es → (get_or es k d).id ≡ id → ⊥) → stream_generation id es ≡ None
+generation_none id [] none = refl
+generation_none id (x ∷ es) none =
+    let other : (x.id == id) ≡ false = by (x.id == id) refl in
+    rw other (generation_none id es (λ k d l. none (suc k) d (omega (arith, l))))
+  where
+    by : (b : Bool) → (x.id == id) ≡ b → b ≡ false
+    by true e = absurd (none 0 x (omega arith) (eqb-true x.id id e))
+    by false e = refl
+
 -- what stands at a place, read with any default
 at_place : (es : List StreamEntry) (i : ℕ) (x d : StreamEntry) → i < length es → x ≡ get_or es i x → get_or es i d ≡ x
 at_place es i x d lt is = get_or_default es i d x lt ∙ sym is
@@ -198,6 +217,9 @@ open_here id i es x d h lt is at = open_found id 0 i es d h lt (ap (λ (y : Stre
 
 pub config_here : (id i : ℕ) (es : List StreamEntry) (x d : StreamEntry) → Ascend es → i < length es → x ≡ get_or es i x → x.id ≡ id → stream_config id es ≡ (get_or es i d).config
 config_here id i es x d h lt is at = config_found id 0 i es d h lt (ap (λ (y : StreamEntry). y.id) (at_place es i x d lt is) ∙ at)
+
+pub generation_here : (id i : ℕ) (es : List StreamEntry) (x d : StreamEntry) → Ascend es → i < length es → x ≡ get_or es i x → x.id ≡ id → stream_generation id es ≡ (get_or es i d).generation
+generation_here id i es x d h lt is at = generation_found id 0 i es d h lt (ap (λ (y : StreamEntry). y.id) (at_place es i x d lt is) ∙ at)
 
 -- a config that is lent
 pub config_lent : (o : Option (Bor ChannelConfig)) (config : Option ChannelConfig) → option_copied o ≡ config → MatchOption o (config ≡ None) (λ lent. config ≡ Some lent.now)

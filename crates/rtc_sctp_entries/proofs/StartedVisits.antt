@@ -18,7 +18,7 @@ use Rattle.rtc_sctp_entries.specs.declared.stream_entry_state.StreamEntryState.{
 use Rattle.rtc_sctp_entries.specs.declared.stream_entry_state.StreamEntryState.TheVariants.{AwaitOpen, AwaitConfig, AwaitDcepAck, Open, Closed}
 use Rattle.rtc_sctp_entries.specs.declared.met.Met.{Met}
 use Rattle.rtc_sctp_entries.specs.Entries.{is_short_entry, is_out_of_band}
-use Rattle.rtc_sctp_entries.specs.Visits.{Turn, given_config, ClosedBy, Closes, NoRoom, Ended, AnnouncedBy, Announces, NoMessage, Written, AnnouncesIf, BegunAs, BegunBy, Begins, RetriedIf, RetriedAt, is_adopted, AdoptedIf, OpenedBy, OpensEntry, AcknowledgedBy, Acknowledges, TakenUpBy, TakesUp, TakenAs, TakesDcep, TakesStreamMessage, ReadBy, ReadsEntry, HandedBy, AttendsBy, AttendsIf, VisitsIn, Visits, is_opening_over}
+use Rattle.rtc_sctp_entries.specs.Visits.{Turn, given_config, ClosedBy, Closes, NoRoom, Ended, AnnouncedBy, Announces, NoMessage, Written, AnnouncesIf, BegunAs, BegunBy, Begins, RetriedIf, RetriedAt, is_adopted, AdoptedIf, OpenedBy, OpensEntry, AcknowledgedBy, Acknowledges, TakenUpBy, TakesUp, TakenAs, TakesDcep, TakesStreamMessage, ReadBy, ReadsEntry, HandedBy, AttendsBy, AttendsIf, is_entry_there, VisitsIn, Visits, is_opening_over}
 use Rattle.rtc_sctp_entries.proofs.PartLemmas.{started_opened, started_wrote, started_read, started_ended, started_threshold, started_reliability}
 
 module _ {S : Type 0} (m : AssociationMeaning S) (w : AssociationLaws m) where
@@ -143,9 +143,9 @@ module _ {S : Type 0} (m : AssociationMeaning S) (w : AssociationLaws m) where
 
   visits_in : (st : StreamEntryState) (now : ℕ) (t : Turn S) (met : Met) (t' : Turn S) → m.started t.association ≡ true → VisitsIn m st now t met t' → m.started t'.association ≡ true
   visits_in AwaitOpen now t met t' s h = opens now t met t' s h
-  visits_in AwaitConfig now t met t' s h = attends_if t.entry.marked (m.has_stream t.association t.entry.id) t met t' s h
-  visits_in AwaitDcepAck now t met t' s h = attends_if t.entry.marked (m.has_stream t.association t.entry.id) t met t' s h
-  visits_in Open now t met t' s h = attends_if t.entry.marked (m.has_stream t.association t.entry.id) t met t' s h
+  visits_in AwaitConfig now t met t' s h = attends_if t.entry.marked (is_entry_there m t.association t.entry) t met t' s h
+  visits_in AwaitDcepAck now t met t' s h = attends_if t.entry.marked (is_entry_there m t.association t.entry) t met t' s h
+  visits_in Open now t met t' s h = attends_if t.entry.marked (is_entry_there m t.association t.entry) t met t' s h
   visits_in Closed now t met t' s h = same _ t' h.1 s
 
   pub visits_started : (now : ℕ) (t : Turn S) (met : Met) (t' : Turn S) → m.started t.association ≡ true → Visits m now t met t' → m.started t'.association ≡ true

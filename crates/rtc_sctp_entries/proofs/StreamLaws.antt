@@ -14,7 +14,7 @@ use Rattle.rtc_sctp_entries.specs.declared.met.Met.TheVariants.{Nothing, Again, 
 use Rattle.rtc_sctp_entries.specs.Entries.{is_short_entry, is_out_of_band}
 use Rattle.rtc_sctp_entries.specs.Visits.{Turn, is_opening_over, Settles, ForEntry, ClosedBy, Closes, NoRoom, Ended, AnnouncedBy, Announces, NoMessage, Written}
 use Rattle.rtc_sctp_entries.specs.Visits.{AnnouncesIf, BegunAs, BegunBy, Begins, RetriedIf, RetriedAt, is_adopted, AdoptedIf, OpenedBy, OpensEntry}
-use Rattle.rtc_sctp_entries.specs.Visits.{AttendsIf, VisitsIn, Visits}
+use Rattle.rtc_sctp_entries.specs.Visits.{AttendsIf, is_entry_there, VisitsIn, Visits}
 use Rattle.rtc_sctp_entries.specs.StreamLaws.{is_given_up, is_data_met, is_nothing_met}
 
 -- what is met where an entry is opened or closed
@@ -96,9 +96,9 @@ module _ {S : Type 0} (m : AssociationMeaning S) where
   data_in : (st : StreamEntryState) (now : ℕ) (t : Turn S) (met : Met) (t' : Turn S) → VisitsIn m st now t met t' → is_data_met met ≡ true → t.entry.marked ≡ false
   data_in AwaitOpen now t met t' h d =
       absurd (both_ways _ d (opens_meet m (λ (x : Met). is_data_met x ≡ false) refl refl (λ id label. refl) (λ id pending. refl) now t met t' (λ k. refl) h))
-  data_in AwaitConfig now t met t' h d = attended t.entry.marked (m.has_stream t.association t.entry.id) t met t' refl h d
-  data_in AwaitDcepAck now t met t' h d = attended t.entry.marked (m.has_stream t.association t.entry.id) t met t' refl h d
-  data_in Open now t met t' h d = attended t.entry.marked (m.has_stream t.association t.entry.id) t met t' refl h d
+  data_in AwaitConfig now t met t' h d = attended t.entry.marked (is_entry_there m t.association t.entry) t met t' refl h d
+  data_in AwaitDcepAck now t met t' h d = attended t.entry.marked (is_entry_there m t.association t.entry) t met t' refl h d
+  data_in Open now t met t' h d = attended t.entry.marked (is_entry_there m t.association t.entry) t met t' refl h d
   data_in Closed now t met t' h d = absurd (both_ways _ d (ap is_data_met h.0))
 
   -- data is answered only of an entry that is not marked

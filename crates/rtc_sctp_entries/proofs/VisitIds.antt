@@ -19,7 +19,7 @@ use Rattle.rtc_sctp_entries.specs.declared.met.Met.{Met}
 use Rattle.rtc_sctp_entries.specs.declared.met.Met.TheVariants.{Nothing, Again, Output, OutOfMemory}
 use Rattle.rtc_sctp_entries.specs.declared.stream_entry.StreamEntry.{StreamEntry}
 use Rattle.rtc_sctp_entries.specs.Entries.{is_short_entry, is_out_of_band}
-use Rattle.rtc_sctp_entries.specs.Visits.{Turn, Settles, TakesAck, ForEntry, given_config, ClosedBy, Closes, NoRoom, Ended, AnnouncedBy, Announces, NoMessage, Written, AnnouncesIf, BegunAs, BegunBy, Begins, RetriedIf, RetriedAt, is_adopted, AdoptedIf, OpenedBy, OpensEntry, AcknowledgedBy, Acknowledges, TakenUpBy, TakesUp, TakenAs, TakesDcep, TakesStreamMessage, ReadBy, ReadsEntry, HandedBy, AttendsBy, AttendsIf, VisitsIn, Visits, is_opening_over}
+use Rattle.rtc_sctp_entries.specs.Visits.{Turn, Settles, TakesAck, ForEntry, given_config, ClosedBy, Closes, NoRoom, Ended, AnnouncedBy, Announces, NoMessage, Written, AnnouncesIf, BegunAs, BegunBy, Begins, RetriedIf, RetriedAt, is_adopted, AdoptedIf, OpenedBy, OpensEntry, AcknowledgedBy, Acknowledges, TakenUpBy, TakesUp, TakenAs, TakesDcep, TakesStreamMessage, ReadBy, ReadsEntry, HandedBy, AttendsBy, AttendsIf, is_entry_there, VisitsIn, Visits, is_opening_over}
 
 module _ {S : Type 0} (m : AssociationMeaning S) where
   same : (u t' : Turn S) (id : ℕ) → t' ≡ u → u.entry.id ≡ id → t'.entry.id ≡ id
@@ -161,9 +161,9 @@ module _ {S : Type 0} (m : AssociationMeaning S) where
 
   visits_in : (st : StreamEntryState) (now : ℕ) (t : Turn S) (met : Met) (t' : Turn S) → VisitsIn m st now t met t' → t'.entry.id ≡ t.entry.id
   visits_in AwaitOpen now t met t' h = opens now t met t' h
-  visits_in AwaitConfig now t met t' h = attends_if t.entry.marked (m.has_stream t.association t.entry.id) t met t' h
-  visits_in AwaitDcepAck now t met t' h = attends_if t.entry.marked (m.has_stream t.association t.entry.id) t met t' h
-  visits_in Open now t met t' h = attends_if t.entry.marked (m.has_stream t.association t.entry.id) t met t' h
+  visits_in AwaitConfig now t met t' h = attends_if t.entry.marked (is_entry_there m t.association t.entry) t met t' h
+  visits_in AwaitDcepAck now t met t' h = attends_if t.entry.marked (is_entry_there m t.association t.entry) t met t' h
+  visits_in Open now t met t' h = attends_if t.entry.marked (is_entry_there m t.association t.entry) t met t' h
   visits_in Closed now t met t' h = same _ t' t.entry.id h.1 refl
 
   pub visits_id : (now : ℕ) (t : Turn S) (met : Met) (t' : Turn S) → Visits m now t met t' → t'.entry.id ≡ t.entry.id

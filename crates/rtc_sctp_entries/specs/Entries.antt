@@ -63,6 +63,10 @@ closed_entry entry = record entry { state = Closed }
 abbrev pub open_entry : StreamEntry → StreamEntry
 open_entry entry = record entry { state = Open }
 
+-- the entry of a channel that is announced, or acknowledged, in a generation of its stream
+abbrev pub entry_in : ℕ → StreamEntry → StreamEntry
+entry_in generation entry = record entry { generation = Some generation }
+
 abbrev pub marked_entry : StreamEntry → StreamEntry
 marked_entry entry = record entry { marked = true }
 
@@ -120,7 +124,7 @@ Ascend entries = AscendFrom 0 entries
 
 abbrev pub new_entry : ℕ → StreamEntryState → Option ChannelConfig → StreamEntry
 new_entry id state config =
-    record { id = id; state = state; config = config; marked = false; threshold = Unconfigured; refused = None }
+    record { id = id; state = state; config = config; marked = false; threshold = Unconfigured; refused = None; generation = None }
 
 abbrev pub is_open_state : StreamEntryState → Bool
 is_open_state AwaitOpen = false
@@ -148,6 +152,16 @@ has_open id entries = list_any (λ entry. entry.id == id && is_open_state entry.
 abbrev pub stream_config : ℕ → List StreamEntry → Option ChannelConfig
 stream_config id [] = None
 stream_config id (entry ∷ entries) = if entry.id == id then entry.config else stream_config id entries
+
+-- the generation that a stream's entry keeps, where there is one
+abbrev pub stream_generation : ℕ → List StreamEntry → Option ℕ
+stream_generation id [] = None
+stream_generation id (entry ∷ entries) = if entry.id == id then entry.generation else stream_generation id entries
+
+-- whether a generation is the one that is kept, where one is
+abbrev pub fits_generation : Option ℕ → ℕ → Bool
+fits_generation None generation = true
+fits_generation (Some own) generation = own == generation
 
 abbrev pub is_open_awaited : StreamEntryState → Bool
 is_open_awaited AwaitOpen = true

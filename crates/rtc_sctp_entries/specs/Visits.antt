@@ -28,7 +28,7 @@ use Rattle.rtc_sctp_entries.specs.declared.met.Met.{Met}
 use Rattle.rtc_sctp_entries.specs.declared.met.Met.TheVariants.{Nothing, Again, Output, OutOfMemory}
 use Rattle.rtc_sctp_entries.specs.Part.{AsksOpen, AsksRead, AsksWrite, AsksEnd, AsksThreshold, AsksReliability}
 use Rattle.rtc_sctp_entries.specs.Entries.{config_or_fresh, is_short_entry, is_out_of_band, closed_entry, open_entry}
-use Rattle.rtc_sctp_entries.specs.Entries.{marked_entry, has_reset, with_reset, entry_credit}
+use Rattle.rtc_sctp_entries.specs.Entries.{marked_entry, has_reset, with_reset, entry_credit, entry_in, fits_generation}
 
 -- what a visit of a stream sees and changes: the association, the entry, and the streams whose reset is outstanding
 pub record Turn (S : Type 0) : Type 0 where
@@ -121,9 +121,14 @@ module _ {S : Type 0} (m : AssociationMeaning S) where
     Ended : (answer : Asked) (q : S) → AsksEnd m t.association t.entry.id answer q
         → ClosedBy answer (record t { association = q }) met t' → Closes t met t'
 
+  -- the entry is of a channel in the generation that its stream has
+  abbrev pub in_generation : Turn S → Turn S
+  in_generation t = record t { entry = entry_in (m.generation t.association t.entry.id) t.entry }
+
   -- the open message of an entry is written
   abbrev pub AnnouncedBy : Asked → Turn S → Met → Turn S → Type 0
-  AnnouncedBy did.Done t met t' = (met ≡ Again) × (t' ≡ record t { entry = record t.entry { state = AwaitDcepAck } })
+  AnnouncedBy did.Done t met t' =
+      (met ≡ Again) × (t' ≡ record t { entry = record (in_generation t).entry { state = AwaitDcepAck } })
   AnnouncedBy did.Refused t met t' = Closes t met t'
   AnnouncedBy did.OutOfMemory t met t' = Starves t met t'
 
@@ -192,7 +197,7 @@ module _ {S : Type 0} (m : AssociationMeaning S) where
 
   -- the acknowledgement of an open message is written
   abbrev pub AcknowledgedBy : Asked → List ℕ → Turn S → Met → Turn S → Type 0
-  AcknowledgedBy did.Done label t met t' = TellsOpen label t met t'
+  AcknowledgedBy did.Done label t met t' = TellsOpen label (in_generation t) met t'
   AcknowledgedBy did.Refused label t met t' = Closes t met t'
   AcknowledgedBy did.OutOfMemory label t met t' = Starves t met t'
 
@@ -279,10 +284,14 @@ module _ {S : Type 0} (m : AssociationMeaning S) where
   AttendsIf false false t met t' = Marks t met t'
   AttendsIf false true t met t' = AttendsBy t.entry.threshold t met t'
 
+  -- whether the stream of an entry is there, in the generation that the entry keeps, if it keeps one
+  abbrev pub is_entry_there : S → StreamEntry → Bool
+  is_entry_there a entry = m.has_stream a entry.id && fits_generation entry.generation (m.generation a entry.id)
+
   -- an entry past its opening is closed where it is marked, marked where its stream is not there, and else has its
   -- threshold handed over or a message read
   abbrev pub Attends : Turn S → Met → Turn S → Type 0
-  Attends t met t' = AttendsIf t.entry.marked (m.has_stream t.association t.entry.id) t met t'
+  Attends t met t' = AttendsIf t.entry.marked (is_entry_there t.association t.entry) t met t'
 
   -- what a visit does, by the state of the entry
   abbrev pub VisitsIn : StreamEntryState → ℕ → Turn S → Met → Turn S → Type 0

@@ -5,6 +5,7 @@ ghost use Rattle.rtc_sctp_entries.specs.declared.stream_entry.StreamEntry.{Strea
 ghost use Rattle.std.specs.List.{list_any};
 ghost use Rattle.rtc_sctp_entries.specs.Entries.{Ascend, entry_place, new_place, with_entry, has_open as HasOpen};
 ghost use Rattle.rtc_sctp_entries.specs.Entries.{stream_config, is_retrying as IsRetrying};
+ghost use Rattle.rtc_sctp_entries.specs.Entries.{stream_generation, fits_generation as FitsGeneration};
 ghost use Rattle.rtc_sctp_entries.specs.Entries.{is_open_state as IsOpenState};
 ghost use Rattle.rtc_sctp_entries.specs.Entries.{unclosed, is_closed_state as IsClosedState};
 
@@ -137,6 +138,31 @@ pub fn config_of(entries: &[StreamEntry], id: u16) -> Option<&ChannelConfig>
         return entries[place].config.as_ref();
     }
     None
+}
+
+/// The generation that a stream's entry keeps.
+pub fn generation_of(entries: &[StreamEntry], id: u16) -> Option<u64>
+    requires { Ascend entries.now }
+    ensures { result ≡ stream_generation id entries.now }
+{
+    let place = place_from(entries, id);
+    if entries.len() <= place {
+        return None;
+    }
+    if entries[place].id == id {
+        return entries[place].generation;
+    }
+    None
+}
+
+/// Whether a generation is the one that is kept, where one is.
+pub fn fits_generation(own: Option<u64>, generation: u64) -> bool
+    ensures { result ≡ FitsGeneration own generation }
+{
+    match own {
+        Some(own) => own == generation,
+        None => true,
+    }
 }
 
 /// Puts in the entry of a stream, for which there is room.

@@ -30,6 +30,7 @@ fn acknowledge<S: Association>(
     DcepAck.marshal_to(&mut bytes);
     match part::write(association, entry.id, Ppi::Dcep, &bytes) {
         Asked::Done => {
+            entry.generation = Some(association.generation(entry.id));
             entry.state = StreamEntryState::Open;
             Met::Output(SctpEvent::Open {
                 id: entry.id,

@@ -119,6 +119,7 @@ fn announce<S: Association>(
     };
     match part::write(association, entry.id, Ppi::Dcep, bytes.as_slice()) {
         Asked::Done => {
+            entry.generation = Some(association.generation(entry.id));
             entry.state = StreamEntryState::AwaitDcepAck;
             Met::Again
         }

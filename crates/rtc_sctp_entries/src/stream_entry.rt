@@ -14,4 +14,7 @@ pub struct StreamEntry {
     pub threshold: BufferedThresholdConfig,
     /// When its opening was refused first, where it is tried again.
     pub refused: Option<Moment>,
+    /// The generation of the stream that its channel was announced or acknowledged in; None before, and where both ends
+    /// settled the channel by other means.
+    pub generation: Option<u64>,
 }

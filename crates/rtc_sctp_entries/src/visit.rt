@@ -1,9 +1,11 @@
 //! What a poll does with one stream in use.
 ghost use Rattle.std.specs.Prelude.{◌≡◌, true};
 ghost use Rattle.rtc_sctp_entries.specs.Visits.{turn, ReadBy, ReadsEntry, HandsThreshold, AttendsBy, Attends, Visits};
+ghost use Rattle.rtc_sctp_entries.specs.Visits.{is_entry_there as IsEntryThere};
 
 use crate::asked::Asked;
 use crate::closing::{close_entry, mark};
+use crate::entries::fits_generation;
 use crate::heard::Heard;
 use crate::message::take_message;
 use crate::met::Met;
@@ -102,6 +104,14 @@ fn is_marked(entry: &StreamEntry) -> bool
     entry.marked
 }
 
+// Whether the stream of an entry is there, in the generation that the entry keeps.
+fn is_entry_there<S: Association>(association: &S, entry: &StreamEntry) -> bool
+    ensures { result ≡ IsEntryThere S.association association.now entry.now }
+{
+    association.has_stream(entry.id)
+        && fits_generation(entry.generation, association.generation(entry.id))
+}
+
 // Closes, marks or reads an entry past its opening.
 fn attend<S: Association>(
     alloc: Global,
@@ -116,7 +126,7 @@ fn attend<S: Association>(
     if is_marked(entry) {
         return close_entry(association, entry, resets);
     }
-    if association.has_stream(entry.id) {
+    if is_entry_there(association, entry) {
         return attend_unmarked(alloc, association, entry, resets);
     }
     mark(entry)

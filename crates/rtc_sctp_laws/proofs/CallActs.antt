@@ -19,7 +19,7 @@ use Rattle.rtc_sctp_values.specs.declared.sctp_error.SctpError.{SctpError}
 use Rattle.rtc_sctp_values.specs.declared.sctp_error.SctpError.TheVariants as sctp
 use Rattle.rtc_sctp.specs.Streams.{SctpStreams}
 use Rattle.rtc_sctp_values.specs.InitHalves.{InitHalves, half_bytes}
-use Rattle.rtc_sctp.specs.Calls.{AsksInit, Inits, ShutBy, Shuts, is_ended, WrittenIf, WritesStream, can_write, written_ppi, is_nil, write_answer, InputIf, TakesInput, TimedBy, TakesTimeout}
+use Rattle.rtc_sctp.specs.Calls.{AsksInit, Inits, ShutBy, Shuts, is_ended, WrittenIf, WritesStream, can_write, is_current, written_ppi, is_nil, write_answer, InputIf, TakesInput, TimedBy, TakesTimeout}
 use Rattle.rtc_sctp.specs.StreamCalls.{TakesConfig, Declined, Answered, OpensAwaiting, OpensOver, OpensAt, OpensStream, EndsStream, NoRoom, Ended, EndsIf, ClosesAt, ClosesDataStream}
 use Rattle.rtc_sctp_laws.specs.StreamMessages.{StreamMessage}
 use Rattle.rtc_sctp_laws.specs.StreamActs.{AssociationDid, CallDid, written_message, given_packet}
@@ -66,9 +66,10 @@ module _ {S : Type 0} (m : AssociationMeaning S) where
   answered id g binary bytes max (Ok n) = refl
   answered id g binary bytes max (Err e) = refl
 
-  written_if : (b : Bool) (id : ℕ) (binary : Bool) (bytes : List ℕ) (p : SctpStreams S) (r : Result ℕ SctpError) (q : SctpStreams S) → WrittenIf m b id binary bytes p r q → CallDid m [] (written_message id (m.generation p.association id) binary bytes r) p q
-  written_if false id binary bytes p r q h = subst (λ (x : Result ℕ SctpError). CallDid m [] (written_message id (m.generation p.association id) binary bytes x) p q) (sym h.0) (unchanged p q h.1)
-  written_if true id binary bytes p r q h =
+  written_if : (b c : Bool) (id : ℕ) (binary : Bool) (bytes : List ℕ) (p : SctpStreams S) (r : Result ℕ SctpError) (q : SctpStreams S) → WrittenIf m b c id binary bytes p r q → CallDid m [] (written_message id (m.generation p.association id) binary bytes r) p q
+  written_if false c id binary bytes p r q h = subst (λ (x : Result ℕ SctpError). CallDid m [] (written_message id (m.generation p.association id) binary bytes x) p q) (sym h.0) (unchanged p q h.1)
+  written_if true false id binary bytes p r q h = subst (λ (x : Result ℕ SctpError). CallDid m [] (written_message id (m.generation p.association id) binary bytes x) p q) (sym h.0) (unchanged p q h.1)
+  written_if true true id binary bytes p r q h =
       let g = m.generation p.association id in
       subst (λ (x : Result ℕ SctpError). CallDid m [] (written_message id g binary bytes x) p q) (sym h.2)
       (call [] _ p _ q h.3 refl refl
@@ -76,7 +77,7 @@ module _ {S : Type 0} (m : AssociationMeaning S) where
       (wrote_did m p.association q.association id (written_ppi binary (is_nil bytes)) bytes h.0 h.1)))
 
   pub writes_did : (id : ℕ) (binary : Bool) (bytes : List ℕ) (p : SctpStreams S) (r : Result ℕ SctpError) (q : SctpStreams S) → WritesStream m id binary bytes p r q → CallDid m [] (written_message id (m.generation p.association id) binary bytes r) p q
-  writes_did id binary bytes p r q h = written_if (can_write m id p) id binary bytes p r q h
+  writes_did id binary bytes p r q h = written_if (can_write m id p) (is_current m id p) id binary bytes p r q h
 
   input_if : (b : Bool) (now : ℕ) (bytes : List ℕ) (p : SctpStreams S) (r : Result (Unit {0}) AllocError) (q : SctpStreams S) → InputIf m b now bytes p r q → CallDid m (given_packet b bytes) [] p q
   input_if false now bytes p r q h = unchanged p q h.1

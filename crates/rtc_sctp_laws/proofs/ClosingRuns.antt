@@ -20,7 +20,7 @@ use Rattle.rtc_sctp_values.specs.declared.sctp_error.SctpError.{SctpError}
 use Rattle.rtc_sctp_values.specs.declared.sctp_error.SctpError.TheVariants as sctp
 use Rattle.rtc_sctp.specs.Streams.{SctpStreams, is_established}
 use Rattle.rtc_sctp_values.specs.InitHalves.{InitHalves}
-use Rattle.rtc_sctp.specs.Calls.{Inits, ShutBy, is_ended, WrittenIf, can_write, InputIf, TimedBy, state_on_input}
+use Rattle.rtc_sctp.specs.Calls.{Inits, ShutBy, is_ended, WrittenIf, can_write, is_current, InputIf, TimedBy, state_on_input}
 use Rattle.rtc_sctp.specs.StreamCalls.{ConfigBy, TakesConfig, Declined, Answered, OpensAwaiting, OpensOver, OpensAt, OpensStream, ClosesAt, ClosesDataStream, SetsThreshold}
 use Rattle.rtc_sctp_laws.specs.StreamMessages.{StreamMessage, resets_event, met_of}
 use Rattle.rtc_sctp_laws.specs.StreamActs.{CallDid}
@@ -60,9 +60,10 @@ module _ {S : Type 0} (m : AssociationMeaning S) (w : AssociationLaws m) where
   shut_waits false id p (Err sctp.Alloc) q d h k = kept_waits id [] [] p _ q d h.1 refl refl k
   shut_waits false id p (Err e) q d h k = absurd h
 
-  written_waits : (b : Bool) (id other : ℕ) (binary : Bool) (bytes : List ℕ) (wrote : List StreamMessage) (p : SctpStreams S) (r : Result ℕ SctpError) (q : SctpStreams S) → CallDid m [] wrote p q → WrittenIf m b other binary bytes p r q → Waits m w id p → Waits m w id q
-  written_waits false id other binary bytes wrote p r q d h k = waits_is m w id p q h.1 k
-  written_waits true id other binary bytes wrote p r q d h k = kept_waits id [] wrote p _ q d h.3 refl refl k
+  written_waits : (b c : Bool) (id other : ℕ) (binary : Bool) (bytes : List ℕ) (wrote : List StreamMessage) (p : SctpStreams S) (r : Result ℕ SctpError) (q : SctpStreams S) → CallDid m [] wrote p q → WrittenIf m b c other binary bytes p r q → Waits m w id p → Waits m w id q
+  written_waits false c id other binary bytes wrote p r q d h k = waits_is m w id p q h.1 k
+  written_waits true false id other binary bytes wrote p r q d h k = waits_is m w id p q h.1 k
+  written_waits true true id other binary bytes wrote p r q d h k = kept_waits id [] wrote p _ q d h.3 refl refl k
 
   -- streams that are opened and closed
   config_by : (a : Asked) (id : ℕ) (config : ChannelConfig) (e : StreamEntry) (r : Result (Unit {0}) AllocError) (e' : StreamEntry) → ConfigBy a config e r e' → is_closing_entry id e ≡ true → is_closing_entry id e' ≡ true
@@ -151,7 +152,7 @@ module _ {S : Type 0} (m : AssociationMeaning S) (w : AssociationLaws m) where
   call_after id p events q (HalvesKept h e) k =
       Quiet e (waits_is m w id _ q h (record { established = k.established; started = k.started; ending = k.ending }))
   call_after id p events q (ShutDown r h e) k = Quiet e (shut_waits (is_ended m p.association) id p r q (shuts_did m p r q h) h k)
-  call_after id p events q (Wrote other binary bytes r h e) k = Quiet e (written_waits (can_write m other p) id other binary bytes _ p r q (writes_did m other binary bytes p r q h) h k)
+  call_after id p events q (Wrote other binary bytes r h e) k = Quiet e (written_waits (can_write m other p) (is_current m other p) id other binary bytes _ p r q (writes_did m other binary bytes p r q h) h k)
   call_after id p events q (StreamOpened other config r h e) k = Quiet e (opens_waits id other config p r q h k)
   call_after id p events q (StreamClosed other r h e) k = Quiet e (closes_waits id other p r q h k)
   call_after id p events q (ThresholdSet other n h e) k = Quiet e (threshold_waits (entry_place other p.entries) id n p q h k)

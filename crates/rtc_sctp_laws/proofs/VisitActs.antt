@@ -59,6 +59,7 @@ use Rattle.rtc_sctp_entries.specs.Visits.{
   HandsThreshold,
   AttendsBy,
   AttendsIf,
+  is_entry_there,
   VisitsIn,
   Visits,
   is_opening_over,
@@ -269,9 +270,9 @@ module _ {S : Type 0} (m : AssociationMeaning S) (w : AssociationLaws m) where
 
   visits_in : (st : StreamEntryState) (now : ℕ) (t : Turn S) (met : Met) (t' : Turn S) → VisitsIn m st now t met t' → VisitDid m t.association met t'.association
   visits_in AwaitOpen now t met t' h = unheard t.association met t'.association (opens now t met t' h)
-  visits_in AwaitConfig now t met t' h = attends_if t.entry.marked (m.has_stream t.association t.entry.id) t met t' h
-  visits_in AwaitDcepAck now t met t' h = attends_if t.entry.marked (m.has_stream t.association t.entry.id) t met t' h
-  visits_in Open now t met t' h = attends_if t.entry.marked (m.has_stream t.association t.entry.id) t met t' h
+  visits_in AwaitConfig now t met t' h = attends_if t.entry.marked (is_entry_there m t.association t.entry) t met t' h
+  visits_in AwaitDcepAck now t met t' h = attends_if t.entry.marked (is_entry_there m t.association t.entry) t met t' h
+  visits_in Open now t met t' h = attends_if t.entry.marked (is_entry_there m t.association t.entry) t met t' h
   visits_in Closed now t met t' h = unheard t.association met t'.association (still [] _ _ met t' t.association h.0 h.1 refl refl refl refl)
 
   pub visit_did : (now : ℕ) (t : Turn S) (met : Met) (t' : Turn S) → Visits m now t met t' → VisitDid m t.association met t'.association

@@ -1,10 +1,11 @@
 -- Messages of streams, as acts of the association and as events that are answered.
-use Rattle.std.specs.Prelude.{ℕ, ◌++◌, Bool, true, false, List, [], ◌∷◌, Option, Some, None, Result, Ok, Err}
+use Rattle.std.specs.Prelude.{ℕ, ◌≡◌, ◌++◌, Bool, true, false, List, [], ◌∷◌, Option, Some, None, Result, Ok, Err}
 use Rattle.std.specs.List.{list_all}
 use Rattle.std.specs.declared.alloc.AllocError.{AllocError}
 use Rattle.rtc_association.specs.declared.ppi.Ppi.{Ppi}
 use Rattle.rtc_association.specs.declared.ppi.Ppi.TheVariants as ppi
-use Rattle.rtc_association.specs.Ppi.{ppi_number}
+use Rattle.rtc_association.specs.Ppi.{ppi_number, ppi_of}
+use Rattle.rtc_association.specs.AssociationMeaning.{AssociationMeaning}
 use Rattle.rtc_association.specs.AssociationActs.{AssociationAct, Wrote, Read}
 use Rattle.rtc_sctp_entries.specs.declared.sctp_event.SctpEvent.{SctpEvent}
 use Rattle.rtc_sctp_entries.specs.declared.sctp_event.SctpEvent.TheVariants as event
@@ -20,6 +21,18 @@ pub record StreamMessage : Type 0 where
 
 abbrev pub stream_message : (stream generation : ℕ) → Ppi → List ℕ → StreamMessage
 stream_message stream generation ppi bytes = record { stream = stream; generation = generation; ppi = ppi; bytes = bytes }
+
+-- whether an identifier has its name, where its number has one (RFC 8831, section 8)
+abbrev pub IsNamed : Ppi → Type 0
+IsNamed i = ppi_of (ppi_number i) ≡ i
+
+abbrev pub AreNamed : List StreamMessage → Type 0
+AreNamed [] = Unit {0}
+AreNamed (x ∷ messages) = IsNamed x.ppi × AreNamed messages
+
+-- What holds of an association whose readings answer identifiers by their names.
+abbrev pub NamesReadings : {S : Type 0} → AssociationMeaning S → Type 0
+NamesReadings {S} m = (a b : S) (id : ℕ) (i : Ppi) (bytes : List ℕ) → m.read a id (Ok (Some (i, bytes))) b → IsNamed i
 
 -- the act that writes a message, and the one that reads it
 abbrev pub write_act : StreamMessage → AssociationAct

@@ -1,7 +1,7 @@
 use Rattle.std.proofs.Common.{ℕ, ◌≡◌, ◌∙◌, List, Bool, true, false, Option, Some, None, cond, refl, sym, ap}
 use Rattle.std.specs.Str.{IsUtf8, is_utf8}
 use Rattle.std.proofs.lemmas.Str.{IsUtf8-from_is_utf8, is_utf8-from_IsUtf8}
-use Rattle.rtc_gate_frames.proofs.signal_frame.text_in.Goals as goal
+use Rattle.rtc_gate_frames.proofs.signal_frame.utf8_text_in.Goals as goal
 
 -- the test fails where the fact does
 refuted : (bytes : List ℕ) → ¬ (IsUtf8 bytes) → (test : Bool) → is_utf8 bytes ≡ test → None ≡ cond test (Some bytes) None

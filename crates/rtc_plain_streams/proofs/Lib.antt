@@ -1,0 +1,3 @@
+pub mod RowsGo
+pub mod PlainGenerations
+pub mod PlainReadings

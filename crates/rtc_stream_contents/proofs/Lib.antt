@@ -1,0 +1,4 @@
+pub mod ContentLemmas
+pub mod PastLemmas
+pub mod LiveCalls
+mod WorkedContents

@@ -1,0 +1,12 @@
+pub mod GenerationMessages
+pub mod OneEntry
+pub mod KeptUses
+pub mod KnownUses
+pub mod UsedVisits
+pub mod LivingEntries
+pub mod LivingVisits
+pub mod UsedReadings
+pub mod EntriesOf
+pub mod UsedTours
+pub mod UsedPolls
+pub mod CallUses

@@ -1,0 +1,3 @@
+pub mod GenerationLaws
+pub mod StreamUses
+pub mod UsedCalls
