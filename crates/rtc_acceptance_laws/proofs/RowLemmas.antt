@@ -48,9 +48,10 @@ use Rattle.rtc_tables.specs.ParsedLines.{parsed_lines}
 use Rattle.rtc_change.specs.declared.change.Change.{Change}
 use Rattle.rtc_change.specs.TableAfter.{table_after}
 use Rattle.rtc_peer_state.specs.declared.peer.Peer.{Peer}
+use Rattle.rtc_peer_state.specs.declared.formats.Formats.{Formats}
 use Rattle.rtc_peer_state.specs.declared.sending.Sending.{Sending}
 use Rattle.rtc_peer_state.specs.Calls.{uses_source}
-use Rattle.rtc_peer_state.specs.LineUpdates.{row_updates, row_update, row_pairs, after_row, first_row, rows_behind}
+use Rattle.rtc_peer_state.specs.LineUpdates.{layered, row_updates, row_update, row_pairs, after_row, first_row, rows_behind}
 use Rattle.rtc_peer_state.specs.Sources.{pair_numbers}
 use Rattle.rtc_peer_state.specs.Meanings.{Meanings}
 use Rattle.rtc_peer_state.specs.SdpMoves.{rows_of_sdp, sends_on, updates_for, answer_ids, UpdatesMedia}
@@ -82,59 +83,61 @@ stands_last : (mid : List ℕ) (u : MediaUpdate) (us : List MediaUpdate) (held :
     → latest mid us (Some u) ≡ Some u → latest mid (u ∷ us) held ≡ Some u
 stands_last mid u us held is rest = ap (λ (t : Bool). latest mid us (cond t (Some u) held)) is ∙ rest
 
-module _ {N : Type 0} (draws : Draws N) (used : ℕ → Bool) (sends : List ℕ → Sending) (offer : Bool) where
+module _ {N : Type 0} (draws : Draws N) (used : ℕ → Bool) (sends : List ℕ → Sending) (formats : Formats) (offer : Bool) where
   -- the update of a row, and what is drawn and told behind it
   abbrev update_at : List LineRow → LineRow → MediaLine → List ℕ → N → MediaUpdate
   update_at before row line earlier ids =
-      row_update offer (first_row before) row line (sends (row_mid row)) (row_pairs draws used (sends (row_mid row)) earlier row ids)
+      row_update formats offer (first_row before) row line (layered line (sends (row_mid row)))
+      (row_pairs draws used (layered line (sends (row_mid row))) earlier row ids)
 
-  abbrev earlier_behind : LineRow → List ℕ → N → List ℕ
-  earlier_behind row earlier ids = earlier ++ flat_map pair_numbers (row_pairs draws used (sends (row_mid row)) earlier row ids)
+  abbrev earlier_behind : LineRow → MediaLine → List ℕ → N → List ℕ
+  earlier_behind row line earlier ids =
+      earlier ++ flat_map pair_numbers (row_pairs draws used (layered line (sends (row_mid row))) earlier row ids)
 
-  abbrev ids_behind : LineRow → N → N
-  ids_behind row ids = after_row draws used (sends (row_mid row)) row ids
+  abbrev ids_behind : LineRow → MediaLine → N → N
+  ids_behind row line ids = after_row draws used (layered line (sends (row_mid row))) row ids
 
-  abbrev updates_behind : List LineRow → LineRow → List LineRow → List MediaLine → List ℕ → N → List MediaUpdate
-  updates_behind before row rows lines earlier ids =
-      row_updates draws used sends offer (rows_behind before) rows lines (earlier_behind row earlier ids) (ids_behind row ids)
+  abbrev updates_behind : List LineRow → LineRow → List LineRow → MediaLine → List MediaLine → List ℕ → N → List MediaUpdate
+  updates_behind before row rows line lines earlier ids =
+      row_updates draws used sends formats offer (rows_behind before) rows lines (earlier_behind row line earlier ids) (ids_behind row line ids)
 
   -- the updates of rows without a mid leave its line
   lacks : (mid : List ℕ) (before rows : List LineRow) (lines : List MediaLine) (earlier : List ℕ) (ids : N) (held : Option MediaUpdate)
-      → has_mid mid rows ≡ false → latest mid (row_updates draws used sends offer before rows lines earlier ids) held ≡ held
+      → has_mid mid rows ≡ false → latest mid (row_updates draws used sends formats offer before rows lines earlier ids) held ≡ held
   lacks mid before [] lines earlier ids held none = refl
   lacks mid before (row ∷ rows) [] earlier ids held none = refl
   lacks mid before (App place other ∷ rows) (line ∷ lines) earlier ids held none =
-      lacks mid (rows_behind before) rows lines (earlier_behind (App place other) earlier ids) (ids_behind (App place other) ids) held
+      lacks mid (rows_behind before) rows lines (earlier_behind (App place other) line earlier ids) (ids_behind (App place other) line ids) held
       (or_falses (bytes_eq other mid) (has_mid mid rows) none).1
   lacks mid before (Media place other kind dir stopped remote_created ∷ rows) (line ∷ lines) earlier ids held none =
       let row : LineRow = Media place other kind dir stopped remote_created in
       let both = or_falses (bytes_eq other mid) (has_mid mid rows) none in
-      passes_by mid (update_at before row line earlier ids) (updates_behind before row rows lines earlier ids) held
+      passes_by mid (update_at before row line earlier ids) (updates_behind before row rows line lines earlier ids) held
       (differ_back other mid both.0)
-      (lacks mid (rows_behind before) rows lines (earlier_behind row earlier ids) (ids_behind row ids) held both.1)
+      (lacks mid (rows_behind before) rows lines (earlier_behind row line earlier ids) (ids_behind row line ids) held both.1)
 
   -- those of a table leave each media row at the line of its mid
   finds : (row : LineRow) (before rows : List LineRow) (lines : List MediaLine) (earlier : List ℕ) (ids : N) (held : Option MediaUpdate)
       → Distinct rows → Member row rows → is_app row ≡ false → length rows ≤ length lines
-      → option_map update_row (latest (row_mid row) (row_updates draws used sends offer before rows lines earlier ids) held) ≡ Some row
+      → option_map update_row (latest (row_mid row) (row_updates draws used sends formats offer before rows lines earlier ids) held) ≡ Some row
   finds row before [] lines earlier ids held distinct among media short = absurd among
   finds row before (x ∷ rows) [] earlier ids held distinct among media short = absurd (omega (arith, short))
   finds row before (App place other ∷ rows) (line ∷ lines) earlier ids held distinct (inl same) media short =
       absurd (true≢false (sym (ap is_app same) ∙ media))
   finds row before (App place other ∷ rows) (line ∷ lines) earlier ids held distinct (inr rest) media short =
-      finds row (rows_behind before) rows lines (earlier_behind (App place other) earlier ids) (ids_behind (App place other) ids) held
+      finds row (rows_behind before) rows lines (earlier_behind (App place other) line earlier ids) (ids_behind (App place other) line ids) held
       distinct.1 rest media (omega (arith, short))
   finds row before (Media place other kind dir stopped remote_created ∷ rows) (line ∷ lines) earlier ids held distinct (inl same) media short =
       let x : LineRow = Media place other kind dir stopped remote_created in
       let u = update_at before x line earlier ids in
-      let us = updates_behind before x rows lines earlier ids in
+      let us = updates_behind before x rows line lines earlier ids in
       subst (λ (r : LineRow). option_map update_row (latest (row_mid r) (u ∷ us) held) ≡ Some r) (sym same)
       (ap (λ (o : Option MediaUpdate). option_map update_row o)
       (stands_last other u us held ((bytes_decides other other).1 refl)
-      (lacks other (rows_behind before) rows lines (earlier_behind x earlier ids) (ids_behind x ids) (Some u) distinct.0)))
+      (lacks other (rows_behind before) rows lines (earlier_behind x line earlier ids) (ids_behind x line ids) (Some u) distinct.0)))
   finds row before (Media place other kind dir stopped remote_created ∷ rows) (line ∷ lines) earlier ids held distinct (inr rest) media short =
       let x : LineRow = Media place other kind dir stopped remote_created in
-      finds row (rows_behind before) rows lines (earlier_behind x earlier ids) (ids_behind x ids)
+      finds row (rows_behind before) rows lines (earlier_behind x line earlier ids) (ids_behind x line ids)
       (cond (same_mid (row_mid row) other) (Some (update_at before x line earlier ids)) held) distinct.1 rest media (omega (arith, short))
 
 module _ {I D S M E X T W N : Type 0} (m : Meanings I D S M E X T W N) (laws : MediaLaws m.media) where
@@ -150,7 +153,7 @@ module _ {I D S M E X T W N : Type 0} (m : Meanings I D S M E X T W N) (laws : M
   leaves_rows p q offer changes sdp ids table lines w = λ row among media.
       let same : take (length sdp.lines) q.lines ≡ rows_of_sdp m p offer sdp = ap (take (length sdp.lines)) lines in
       ap (option_map update_row) (line_left p.media q.media (updates_for m p offer changes sdp ids) (row_mid row) w)
-      ∙ finds m.ids (uses_source m p) (sends_on m p changes) offer row p.lines (rows_of_sdp m p offer sdp) sdp.lines [] ids _
+      ∙ finds m.ids (uses_source m p) (sends_on m p changes) p.formats offer row p.lines (rows_of_sdp m p offer sdp) sdp.lines [] ids _
       (subst Distinct same (table_take (length sdp.lines) q.lines table).distinct)
       (subst (Member row) same among) media (few_taken (length sdp.lines) (table_after p.lines (parsed_lines sdp) offer))
 

@@ -1,4 +1,3 @@
-pub mod Stats
 pub mod RtcConfig
 pub mod CodecSettings
 pub mod FormedConfig

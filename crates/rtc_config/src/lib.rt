@@ -11,10 +11,9 @@ mod media_setters;
 mod rtc_config;
 mod sctp_settings;
 mod setters;
-mod stats;
 
 pub use dtls_settings::DtlsSettings;
 pub use ice_settings::IceSettings;
 pub use rtc_config::RtcConfig;
+pub use rtc_statistics::Stats;
 pub use sctp_settings::SctpSettings;
-pub use stats::Stats;

@@ -8,9 +8,10 @@ use Rattle.rtc_sdp_values.specs.declared.media_line.MediaLine.{MediaLine}
 use Rattle.rtc_media.specs.declared.media_update.MediaUpdate.{MediaUpdate}
 use Rattle.rtc_ids.specs.Draws.{Draws, Later}
 use Rattle.rtc_ids.proofs.LaterLemmas.{later_none, later_join}
+use Rattle.rtc_peer_state.specs.declared.formats.Formats.{Formats}
 use Rattle.rtc_peer_state.specs.declared.sending.Sending.{Sending}
 use Rattle.rtc_peer_state.specs.Sources.{pair_numbers, pair_count, after_pairs}
-use Rattle.rtc_peer_state.specs.LineUpdates.{first_row, rows_behind, if_media, row_update, row_kind, row_pairs, wants_sources, after_row, row_updates, after_updates}
+use Rattle.rtc_peer_state.specs.LineUpdates.{layered, first_row, rows_behind, if_media, row_update, row_kind, row_pairs, wants_sources, after_row, row_updates, after_updates}
 use Rattle.rtc_drawing.proofs.Pairs.{after_pairs_later}
 
 -- what is at a place is the first of those from there on
@@ -51,21 +52,25 @@ behind_from (suc k) [] = refl
 behind_from (suc k) (row ∷ rows) = behind_from k rows
 
 -- one row more
-pub one_update : {N : Type 0} (draws : Draws N) (used : ℕ → Bool) (sends : List ℕ → Sending) (offer : Bool) (k next place : ℕ) (before rows : List LineRow) (lines : List MediaLine)
+pub one_update : {N : Type 0} (draws : Draws N) (used : ℕ → Bool) (sends : List ℕ → Sending) (formats : Formats) (offer : Bool) (k next place : ℕ) (before rows : List LineRow) (lines : List MediaLine)
     (earlier later : List ℕ) (ids after : N) (done more all : List MediaUpdate) (at : Option LineRow) (row : LineRow) (line : MediaLine) (sending : Sending)
-    → next ≡ suc k → drop k rows ≡ row ∷ drop (suc k) rows → drop k lines ≡ line ∷ drop (suc k) lines → place ≡ k → at ≡ slice_get before place → sending ≡ sends (row_mid row)
-    → more ≡ done ++ if_media row (row_update offer at row line sending (row_pairs draws used sending earlier row ids))
+    → next ≡ suc k → drop k rows ≡ row ∷ drop (suc k) rows → drop k lines ≡ line ∷ drop (suc k) lines → place ≡ k → at ≡ slice_get before place → sending ≡ layered line (sends (row_mid row))
+    → more ≡ done ++ if_media row (row_update formats offer at row line sending (row_pairs draws used sending earlier row ids))
     → later ≡ earlier ++ flat_map pair_numbers (row_pairs draws used sending earlier row ids) → after ≡ after_row draws used sending row ids
-    → done ++ row_updates draws used sends offer (drop k before) (drop k rows) (drop k lines) earlier ids ≡ all
-    → more ++ row_updates draws used sends offer (drop next before) (drop next rows) (drop next lines) later after ≡ all
-one_update draws used sends offer k next place before rows lines earlier later ids after done more all at row line sending next_is rows_are lines_are place_is at_is sent more_is later_is after_is h =
+    → done ++ row_updates draws used sends formats offer (drop k before) (drop k rows) (drop k lines) earlier ids ≡ all
+    → more ++ row_updates draws used sends formats offer (drop next before) (drop next rows) (drop next lines) later after ≡ all
+one_update draws used sends formats offer k next place before rows lines earlier later ids after done more all at row line sending next_is rows_are lines_are place_is at_is sent more_is later_is after_is h =
     let first : first_row (drop k before) ≡ at = first_from k before ∙ sym (at_is ∙ ap (slice_get before) place_is) in
-    let inv = rw (rows_are, lines_are, first, behind_from k before, sym sent) at h in
-    rw (next_is, more_is, later_is, after_is, append_assoc) inv
+    let Goes : Sending → Type 0 =
+    λ (s : Sending). done ++ (if_media row (row_update formats offer at row line s (row_pairs draws used s earlier row ids))
+    ++ row_updates draws used sends formats offer (drop (suc k) before) (drop (suc k) rows) (drop (suc k) lines)
+    (earlier ++ flat_map pair_numbers (row_pairs draws used s earlier row ids)) (after_row draws used s row ids)) ≡ all in
+    let inv : Goes (layered line (sends (row_mid row))) = rw (rows_are, lines_are, first, behind_from k before) at h in
+    rw (next_is, more_is, later_is, after_is, append_assoc) (subst Goes (sym sent) inv)
 
 pub one_update_after : {N : Type 0} (draws : Draws N) (used : ℕ → Bool) (sends : List ℕ → Sending) (k next : ℕ) (rows : List LineRow) (lines : List MediaLine)
     (ids after last : N) (row : LineRow) (line : MediaLine) (sending : Sending)
-    → next ≡ suc k → drop k rows ≡ row ∷ drop (suc k) rows → drop k lines ≡ line ∷ drop (suc k) lines → sending ≡ sends (row_mid row) → after ≡ after_row draws used sending row ids
+    → next ≡ suc k → drop k rows ≡ row ∷ drop (suc k) rows → drop k lines ≡ line ∷ drop (suc k) lines → sending ≡ layered line (sends (row_mid row)) → after ≡ after_row draws used sending row ids
     → after_updates draws used sends (drop k rows) (drop k lines) ids ≡ last
     → after_updates draws used sends (drop next rows) (drop next lines) after ≡ last
 one_update_after draws used sends k next rows lines ids after last row line sending next_is rows_are lines_are sent after_is h =
@@ -73,11 +78,11 @@ one_update_after draws used sends k next rows lines ids after last row line send
     (subst (λ (rs : List LineRow). after_updates draws used sends rs (drop k lines) ids ≡ last) rows_are h))
 
 -- there are no m-lines any more
-pub no_updates : {N : Type 0} (draws : Draws N) (used : ℕ → Bool) (sends : List ℕ → Sending) (offer : Bool) (before rows : List LineRow) (lines : List MediaLine)
-    (earlier : List ℕ) (ids : N) (done all : List MediaUpdate) → lines ≡ [] → done ++ row_updates draws used sends offer before rows lines earlier ids ≡ all → done ≡ all
-no_updates draws used sends offer before [] lines earlier ids done all none h = sym (append-nil done) ∙ h
-no_updates draws used sends offer before (row ∷ rows) lines earlier ids done all none h =
-    sym (append-nil done) ∙ subst (λ (ls : List MediaLine). done ++ row_updates draws used sends offer before (row ∷ rows) ls earlier ids ≡ all) none h
+pub no_updates : {N : Type 0} (draws : Draws N) (used : ℕ → Bool) (sends : List ℕ → Sending) (formats : Formats) (offer : Bool) (before rows : List LineRow) (lines : List MediaLine)
+    (earlier : List ℕ) (ids : N) (done all : List MediaUpdate) → lines ≡ [] → done ++ row_updates draws used sends formats offer before rows lines earlier ids ≡ all → done ≡ all
+no_updates draws used sends formats offer before [] lines earlier ids done all none h = sym (append-nil done) ∙ h
+no_updates draws used sends formats offer before (row ∷ rows) lines earlier ids done all none h =
+    sym (append-nil done) ∙ subst (λ (ls : List MediaLine). done ++ row_updates draws used sends formats offer before (row ∷ rows) ls earlier ids ≡ all) none h
 
 pub after_no_updates : {N : Type 0} (draws : Draws N) (used : ℕ → Bool) (sends : List ℕ → Sending) (rows : List LineRow) (lines : List MediaLine) (ids last : N)
     → lines ≡ [] → after_updates draws used sends rows lines ids ≡ last → ids ≡ last
@@ -102,8 +107,8 @@ after_updates_later : {N : Type 0} (draws : Draws N) (used : ℕ → Bool) (send
 after_updates_later draws used sends [] lines ids = later_none draws ids
 after_updates_later draws used sends (row ∷ rows) [] ids = later_none draws ids
 after_updates_later draws used sends (row ∷ rows) (line ∷ lines) ids =
-    later_join draws ids (after_row draws used (sends (row_mid row)) row ids) _ (after_row_later draws used (sends (row_mid row)) row ids)
-    (after_updates_later draws used sends rows lines (after_row draws used (sends (row_mid row)) row ids))
+    later_join draws ids (after_row draws used (layered line (sends (row_mid row))) row ids) _ (after_row_later draws used (layered line (sends (row_mid row))) row ids)
+    (after_updates_later draws used sends rows lines (after_row draws used (layered line (sends (row_mid row))) row ids))
 
 -- where memory lacks between rows, no more numbers were drawn than for all of them
 pub most_updates : {N : Type 0} (draws : Draws N) (used : ℕ → Bool) (sends : List ℕ → Sending) (rows : List LineRow) (lines : List MediaLine) (ids last : N)
@@ -113,12 +118,12 @@ most_updates {N} draws used sends rows lines ids last h = subst (λ (x : N). Lat
 -- and where it lacks at a row
 pub most_with_row : {N : Type 0} (draws : Draws N) (used : ℕ → Bool) (sends : List ℕ → Sending) (k : ℕ) (rows : List LineRow) (lines : List MediaLine)
     (ids stopped last : N) (row : LineRow) (line : MediaLine) (sending : Sending)
-    → drop k rows ≡ row ∷ drop (suc k) rows → drop k lines ≡ line ∷ drop (suc k) lines → sending ≡ sends (row_mid row)
+    → drop k rows ≡ row ∷ drop (suc k) rows → drop k lines ≡ line ∷ drop (suc k) lines → sending ≡ layered line (sends (row_mid row))
     → Later draws stopped (after_row draws used sending row ids) → after_updates draws used sends (drop k rows) (drop k lines) ids ≡ last → Later draws stopped last
 most_with_row {N} draws used sends k rows lines ids stopped last row line sending rows_are lines_are sent most h =
     let all : after_updates draws used sends (row ∷ drop (suc k) rows) (line ∷ drop (suc k) lines) ids ≡ last =
     subst (λ (ls : List MediaLine). after_updates draws used sends (row ∷ drop (suc k) rows) ls ids ≡ last) lines_are
     (subst (λ (rs : List LineRow). after_updates draws used sends rs (drop k lines) ids ≡ last) rows_are h) in
-    later_join draws stopped (after_row draws used (sends (row_mid row)) row ids) last
+    later_join draws stopped (after_row draws used (layered line (sends (row_mid row))) row ids) last
     (subst (λ (s : Sending). Later draws stopped (after_row draws used s row ids)) sent most)
-    (most_updates draws used sends (drop (suc k) rows) (drop (suc k) lines) (after_row draws used (sends (row_mid row)) row ids) last all)
+    (most_updates draws used sends (drop (suc k) rows) (drop (suc k) lines) (after_row draws used (layered line (sends (row_mid row))) row ids) last all)

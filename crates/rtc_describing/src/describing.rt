@@ -1,23 +1,25 @@
 //! Session descriptions that a peer makes.
-ghost use Rattle.std.specs.Prelude.{◌≡◌, ◌+◌, ◌++◌, ◌<◌, ◌^◌, IfOk, map, length};
-ghost use Rattle.rtc_change.specs.PendingOffer.{added_mids, added_rows};
+ghost use Rattle.std.specs.Prelude.{◌≡◌, IfOk, map};
 ghost use Rattle.rtc_peer_state.specs.MadeSdp.{
   is_stopped,
+  shown_msid as ShownMsid,
+  shown_ssrcs as ShownSsrcs,
+  name_of_sources as NameOfSources,
   bare_row_line as BareRowLine,
-  row_line,
+  told_line,
+  row_told,
   line_kind,
   live_mids,
   with_candidates,
   sdp_of_rows,
 };
 
-use rtc_change::Change;
-use rtc_peer_state::SdpHead;
+use rtc_peer_state::{LineMedia, SdpHead, ToldRow};
 use rtc_sdp_values::{
-    Candidate, Direction, Fingerprint, IceCreds, LineKind, LineRow, MediaKind, MediaLine, Mid, Sdp,
-    Setup,
+    Candidate, Direction, Fingerprint, IceCreds, LineKind, LineRow, MediaKind, MediaLine, Mid,
+    Msid, Sdp, Setup, Ssrc,
 };
-use rtc_wire::{Seq, TryCopy};
+use rtc_wire::{Seq, Text, TryCopy};
 use std::alloc::{AllocError, Global};
 
 fn kind_of_line(kind: MediaKind) -> LineKind
@@ -54,9 +56,69 @@ fn peer_line(creds: IceCreds, fingerprint: Fingerprint, setup: Setup, line: Medi
     line
 }
 
+// A stopped line tells no stream.
+fn shown_msid(stopped: bool, msid: Option<Msid>) -> Option<Msid>
+    ensures { result ≡ ShownMsid stopped msid }
+{
+    if stopped { None } else { msid }
+}
+
+// A stopped line tells no source.
+fn shown_ssrcs(
+    alloc: Global,
+    stopped: bool,
+    ssrcs: Seq<(Ssrc, Option<Ssrc>)>,
+) -> Seq<(Ssrc, Option<Ssrc>)>
+    ensures { result ≡ ShownSsrcs stopped ssrcs }
+{
+    if stopped { Seq::empty(alloc) } else { ssrcs }
+}
+
+// The name of sources stands where sources do.
+fn name_of_sources(ssrcs: &Seq<(Ssrc, Option<Ssrc>)>, cname: Option<Text>) -> Option<Text>
+    ensures { result ≡ NameOfSources ssrcs.now cname }
+{
+    match ssrcs.as_slice() {
+        [] => None,
+        [_, ..] => cname,
+    }
+}
+
+// A line with what it tells of its media.
+fn with_media(alloc: Global, line: MediaLine, stopped: bool, media: LineMedia) -> MediaLine
+    ensures { result ≡ record line {
+      disabled = stopped;
+      payloads = media.payloads;
+      exts = media.exts;
+      simulcast = media.simulcast;
+      msid = ShownMsid stopped media.msid;
+      cname = NameOfSources (ShownSsrcs stopped media.ssrcs) media.cname;
+      ssrcs = ShownSsrcs stopped media.ssrcs;
+    } }
+{
+    let LineMedia {
+        payloads,
+        exts,
+        simulcast,
+        msid,
+        cname,
+        ssrcs,
+    } = media;
+    let ssrcs = shown_ssrcs(alloc, stopped, ssrcs);
+    let mut line = line;
+    line.disabled = stopped;
+    line.payloads = payloads;
+    line.exts = exts;
+    line.simulcast = simulcast;
+    line.msid = shown_msid(stopped, msid);
+    line.cname = name_of_sources(&ssrcs, cname);
+    line.ssrcs = ssrcs;
+    line
+}
+
 // The m-line of a row, without what it tells of its peer but how long messages of its data channels may be.
-fn bare_row_line(alloc: Global, most: u32, row: &LineRow) -> MediaLine
-    ensures { result ≡ BareRowLine most row.now }
+fn bare_row_line(alloc: Global, most: u32, media: LineMedia, row: &LineRow) -> MediaLine
+    ensures { result ≡ BareRowLine most media row.now }
 {
     match row {
         LineRow::Media {
@@ -66,9 +128,8 @@ fn bare_row_line(alloc: Global, most: u32, row: &LineRow) -> MediaLine
             stopped,
             ..
         } => {
-            let mut line = MediaLine::bare(alloc, kind_of_line(*kind), *mid, *dir);
-            line.disabled = *stopped;
-            line
+            let line = MediaLine::bare(alloc, kind_of_line(*kind), *mid, *dir);
+            with_media(alloc, line, *stopped, media)
         }
         LineRow::App { mid, .. } => {
             let mut line = MediaLine::bare(alloc, LineKind::Application, *mid, Direction::SendRecv);
@@ -79,21 +140,25 @@ fn bare_row_line(alloc: Global, most: u32, row: &LineRow) -> MediaLine
 }
 
 // The m-line of a row.
-fn line_of_row(alloc: Global, head: &SdpHead, row: &LineRow) -> Result<MediaLine, AllocError>
-    ensures { IfOk result (λ line. line ≡ row_line head.now row.now) }
+fn line_of_row(alloc: Global, head: &SdpHead, told: ToldRow) -> Result<MediaLine, AllocError>
+    ensures { IfOk result (λ line. line ≡ told_line head.now told) }
 {
     let creds = head.creds.copy()?;
     let fingerprint = head.fingerprint.copy()?;
-    let line = bare_row_line(alloc, head.max_message_size, row);
+    let line = bare_row_line(alloc, head.max_message_size, told.media, &told.row);
     Ok(peer_line(creds, fingerprint, head.setup, line))
 }
 
-fn list_lines(alloc: Global, head: &SdpHead, rows: &[LineRow]) -> Result<Vec<MediaLine>, AllocError>
-    ensures { IfOk result (λ lines. lines.items ≡ map (row_line head.now) rows.now) }
+fn list_lines(
+    alloc: Global,
+    head: &SdpHead,
+    rows: Vec<ToldRow>,
+) -> Result<Vec<MediaLine>, AllocError>
+    ensures { IfOk result (λ lines. lines.items ≡ map (told_line head.now) rows.items) }
 {
     let mut lines = Vec::with_capacity(alloc, rows.len())?;
-    for row in rows {
-        let line = line_of_row(alloc, head, row)?;
+    for told in rows {
+        let line = line_of_row(alloc, head, told)?;
         lines.push(line)?;
     }
     Ok(lines)
@@ -111,23 +176,23 @@ fn put_candidates(lines: Vec<MediaLine>, candidates: Seq<Candidate>) -> Vec<Medi
 }
 
 // The mids of the rows that are not stopped.
-fn list_live_mids(alloc: Global, rows: &[LineRow]) -> Result<Seq<Mid>, AllocError>
-    ensures { IfOk result (λ mids. mids ≡ live_mids rows.now) }
+fn list_live_mids(alloc: Global, rows: &[ToldRow]) -> Result<Seq<Mid>, AllocError>
+    ensures { IfOk result (λ mids. mids ≡ live_mids (map row_told rows.now)) }
 {
     let mut mids = Vec::with_capacity(alloc, rows.len())?;
-    for row in rows {
-        if !is_stopped_row(row) {
-            mids.push(row.mid())?;
+    for told in rows {
+        if !is_stopped_row(&told.row) {
+            mids.push(told.row.mid())?;
         }
     }
     Ok(Seq::new(mids))
 }
 
 /// The session description of rows.
-pub fn make_sdp(alloc: Global, head: SdpHead, rows: &[LineRow]) -> Result<Sdp, AllocError>
-    ensures { IfOk result (λ sdp. sdp ≡ sdp_of_rows head rows.now) }
+pub fn make_sdp(alloc: Global, head: SdpHead, rows: Vec<ToldRow>) -> Result<Sdp, AllocError>
+    ensures { IfOk result (λ sdp. sdp ≡ sdp_of_rows head rows.items) }
 {
-    let group = list_live_mids(alloc, rows)?;
+    let group = list_live_mids(alloc, rows.as_slice())?;
     let mut groups = Seq::empty(alloc);
     groups.push(group)?;
     let lines = list_lines(alloc, &head, rows)?;
@@ -141,25 +206,4 @@ pub fn make_sdp(alloc: Global, head: SdpHead, rows: &[LineRow]) -> Result<Sdp, A
         setup: None,
         lines: Seq::new(lines),
     })
-}
-
-/// The rows of an offer: those that are there, then those that it adds.
-pub fn list_offered_rows(
-    alloc: Global,
-    rows: &[LineRow],
-    staged: &[Change],
-) -> Result<Vec<LineRow>, AllocError>
-    requires { length rows.now + length (added_mids staged.now) < 2 ^ 32 }
-    ensures { IfOk result (λ offered. offered.items ≡ rows.now ++ added_rows (length rows.now) staged.now) }
-{
-    let mut offered = rows.to_vec(alloc)?;
-    let mut place = rows.len() as u32;
-    for change in staged {
-        let Some(row) = change.new_row(place) else {
-            continue;
-        };
-        offered.push(row)?;
-        place += 1;
-    }
-    Ok(offered)
 }

@@ -3,9 +3,12 @@
 
 mod describing;
 mod heading;
+mod line_told;
 mod sent_on_lines;
+mod telling;
 mod updating;
 
-pub use describing::{list_offered_rows, make_sdp};
+pub use describing::make_sdp;
 pub use heading::{make_head, role_after, role_for, setup_of_role};
+pub use telling::{tell_offered, tell_rows};
 pub use updating::{count_pairs, list_updates};

@@ -1,12 +1,12 @@
 //! What is sent on the lines of a peer.
-ghost use Rattle.std.specs.Prelude.{◌≡◌, [], IfOk, Option, Some, None};
+ghost use Rattle.std.specs.Prelude.{◌≡◌, [], IfOk, Option, Some, None, option_map};
 ghost use Rattle.std.specs.Option.{option_copied};
-ghost use Rattle.rtc_peer_state.specs.LineUpdates.{added_media, bare_sending as BareSending, sending_of};
+ghost use Rattle.rtc_peer_state.specs.LineUpdates.{added_media, bare_sending as BareSending, sending_of, inverted, layered};
 
 use rtc_change::{AddMedia, Change};
 use rtc_media::{MediaSession, MediaUpdate};
 use rtc_peer_state::Sending;
-use rtc_sdp_values::{Mid, Msid};
+use rtc_sdp_values::{MediaLine, Mid, Msid, Simulcast};
 use rtc_wire::{Seq, Text, TryCopy};
 use std::alloc::{AllocError, Global};
 
@@ -73,8 +73,8 @@ fn bare_sending(alloc: Global, mid: Mid) -> Result<Sending, AllocError>
     })
 }
 
-/// What is sent on a line: what the media part has of it, or else what was staged with it.
-pub fn find_sending<M: MediaSession>(
+// What is sent on a line: what the media part has of it, or else what was staged with it.
+fn find_sending<M: MediaSession>(
     alloc: Global,
     media: &M,
     changes: &[Change],
@@ -89,4 +89,54 @@ pub fn find_sending<M: MediaSession>(
         return sending_of_media(added);
     }
     bare_sending(alloc, mid)
+}
+
+// Layers as the other side sees them.
+fn invert_layers(told: &Option<Simulcast>) -> Result<Option<Simulcast>, AllocError>
+    ensures { IfOk result (λ layers. layers ≡ option_map inverted told.now) }
+{
+    match told {
+        None => Ok(None),
+        Some(simulcast) => {
+            let layers = simulcast.invert()?;
+            Ok(Some(layers))
+        }
+    }
+}
+
+// A line that has no layers takes those that the other side tells.
+fn take_layers(line: &MediaLine, sending: Sending) -> Result<Sending, AllocError>
+    ensures { IfOk result (λ made. made ≡ layered line.now sending) }
+{
+    let Sending {
+        simulcast,
+        msid,
+        cname,
+        ssrcs,
+    } = sending;
+    let simulcast = match simulcast {
+        Some(own) => Some(own),
+        None => invert_layers(&line.simulcast)?,
+    };
+    Ok(Sending {
+        simulcast,
+        msid,
+        cname,
+        ssrcs,
+    })
+}
+
+/// What is sent on the line of a mid once its m-line of the other side is taken.
+pub fn find_layered<M: MediaSession>(
+    alloc: Global,
+    media: &M,
+    changes: &[Change],
+    line: &MediaLine,
+    mid: Mid,
+) -> Result<Sending, AllocError>
+    ensures { IfOk result (λ sending. sending
+        ≡ layered line.now (sending_of (M.media.line media.now mid) (added_media changes.now mid) mid)) }
+{
+    let sending = find_sending(alloc, media, changes, mid)?;
+    take_layers(line, sending)
 }

@@ -21,12 +21,13 @@ ghost use Rattle.rtc_peer_state.specs.LineUpdates.{
 };
 
 use crate::describing::is_stopped_row;
-use crate::sent_on_lines::find_sending;
+use crate::sent_on_lines::find_layered;
 use rtc_change::Change;
+use rtc_codecs::{match_rows, share_extensions};
 use rtc_drawing::{EarlierNumbers, draw_pairs};
 use rtc_ids::Ids;
 use rtc_media::{MediaSession, MediaUpdate};
-use rtc_peer_state::Sending;
+use rtc_peer_state::{Formats, Sending};
 use rtc_sdp_values::{LineRow, MediaKind, MediaLine, Mid, Simulcast, Ssrc};
 use rtc_wire::{Seq, TryCopy};
 use std::alloc::{AllocError, Global};
@@ -135,6 +136,7 @@ fn join_pairs(
 // What the media part is told of a row.
 fn row_update(
     alloc: Global,
+    formats: &Formats,
     offer: bool,
     before: Option<&LineRow>,
     row: &LineRow,
@@ -142,16 +144,28 @@ fn row_update(
     sending: Sending,
     drawn: Seq<(Ssrc, Option<Ssrc>)>,
 ) -> Result<MediaUpdate, AllocError>
-    ensures { IfOk result (λ update. update ≡ RowUpdate offer (option_copied before.entry) row.now line.now sending drawn) }
+    ensures { IfOk result (λ update. update
+        ≡ RowUpdate formats.now offer (option_copied before.entry) row.now line.now sending drawn) }
 {
+    let payloads = match_rows(
+        alloc,
+        kind_of_row(row),
+        formats.codecs.rows.as_slice(),
+        line.payloads.as_slice(),
+    )?;
+    let exts = share_extensions(
+        alloc,
+        formats.extensions.rows.as_slice(),
+        line.exts.as_slice(),
+    )?;
     let ssrcs_rx = line.ssrcs.copy()?;
     let ssrcs_tx = join_pairs(sending.ssrcs, drawn)?;
     Ok(MediaUpdate {
         row: *row,
         removed: replaced_mid(before, row),
         announce: is_announced(offer, before, row),
-        payloads: Seq::empty(alloc),
-        exts: Seq::empty(alloc),
+        payloads: Seq::new(payloads),
+        exts: Seq::new(exts),
         simulcast: sending.simulcast,
         msid: sending.msid,
         cname: sending.cname,
@@ -179,6 +193,7 @@ fn push_if_media(
 // A row of an offer or an answer, with the row that stood at its place before and the m-line that names it.
 #[derive(Drop)]
 struct NamedRow<'a> {
+    formats: &'a Formats,
     offer: bool,
     before: Option<&'a LineRow>,
     row: &'a LineRow,
@@ -195,8 +210,8 @@ fn push_update<M: MediaSession, N: Ids>(
     sending: Sending,
     updates: &mut Vec<MediaUpdate>,
 ) -> Result<(), AllocError>
-    ensures updates { OnOk result (updates.new.items ≡ updates.old.items ++ if_media named.now.row.now (RowUpdate named.now.offer
-        (option_copied named.now.before) named.now.row.now named.now.line.now sending
+    ensures updates { OnOk result (updates.new.items ≡ updates.old.items ++ if_media named.now.row.now (RowUpdate
+        named.now.formats.now named.now.offer (option_copied named.now.before) named.now.row.now named.now.line.now sending
         (row_pairs N.ids (has_source M.media media.now) sending earlier.old named.now.row.now ids.old))) }
     ensures earlier { OnOk result (earlier.new
         ≡ earlier.old ++ flat_map pair_numbers
@@ -208,6 +223,7 @@ fn push_update<M: MediaSession, N: Ids>(
     let drawn = draw_row(alloc, ids, media, earlier, named.row, &sending)?;
     let update = row_update(
         alloc,
+        named.formats,
         named.offer,
         named.before,
         named.row,
@@ -237,6 +253,7 @@ pub fn list_updates<M: MediaSession, N: Ids>(
     alloc: Global,
     ids: &mut N,
     media: &M,
+    formats: &Formats,
     changes: &[Change],
     offer: bool,
     before: &[LineRow],
@@ -244,7 +261,7 @@ pub fn list_updates<M: MediaSession, N: Ids>(
     lines: &[MediaLine],
 ) -> Result<Vec<MediaUpdate>, AllocError>
     ensures updates { IfOk result (λ updates. updates.items ≡ row_updates N.ids (has_source M.media media.now)
-        (line_sending (M.media.line media.now) changes.now) offer before.now rows.now lines.now [] ids.old) }
+        (line_sending (M.media.line media.now) changes.now) formats.now offer before.now rows.now lines.now [] ids.old) }
     ensures after { OnOk result (ids.new ≡ after_updates N.ids (has_source M.media media.now)
         (line_sending (M.media.line media.now) changes.now) rows.now lines.now ids.old) }
     ensures later { Later N.ids ids.old ids.new }
@@ -258,8 +275,9 @@ pub fn list_updates<M: MediaSession, N: Ids>(
         let Some(line) = line_at(lines, place) else {
             return Ok(updates);
         };
-        let sending = find_sending(alloc, media, changes, row.mid())?;
+        let sending = find_layered(alloc, media, changes, line, row.mid())?;
         let named = NamedRow {
+            formats,
             offer,
             before: row_at(before, place),
             row,

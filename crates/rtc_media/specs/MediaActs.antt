@@ -64,6 +64,15 @@ MediaActed m p (MediaStirred (Timed now)) q = (r : _) × m.timed p now r q
 MediaActed m p (MediaStirred Shut) q = (r : _) × m.rtp_shut p r q
 MediaActed m p (MediaStirred Other) q = ChangesLines m p q ⊎ (LendsMedia m p q ⊎ StirsMedia m p q)
 
+-- the calls that keep every line: all but a commit and the removal of a line
+pub data KeepsLines {M E X T W : Type 0} (m : MediaMeaning M E X T W) (p q : M) : Type 0 where
+  ByGiven : (packet : List ℕ) → MediaActed m p (MediaGiven packet) q → KeepsLines m p q
+  ByTaken : (datagram : List ℕ) → MediaActed m p (MediaTaken datagram) q → KeepsLines m p q
+  ByTime : (now : ℕ) → MediaActed m p (MediaStirred (Timed now)) q → KeepsLines m p q
+  ByShut : MediaActed m p (MediaStirred Shut) q → KeepsLines m p q
+  ByLoan : LendsMedia m p q → KeepsLines m p q
+  ByOther : StirsMedia m p q → KeepsLines m p q
+
 -- a list of acts took the part from p to q
 abbrev pub MediaMoved : {M E X T W : Type 0} → MediaMeaning M E X T W → M → List MediaAct → M → Type 0
 MediaMoved m p [] q = q ≡ p

@@ -8,7 +8,7 @@ use Rattle.rtc_media.specs.declared.media_error.MediaError.TheVariants.{Alloc}
 use Rattle.rtc_media.specs.declared.media_update.MediaUpdate.{MediaUpdate}
 use Rattle.rtc_media.specs.MediaMeaning.{MediaMeaning, held_media}
 use Rattle.rtc_media.specs.MediaUpdates.{line_after, removed_by}
-use Rattle.rtc_media.specs.MediaActs.{MediaAct, MediaActed, ChangesLines}
+use Rattle.rtc_media.specs.MediaActs.{MediaAct, MediaActed, KeepsLines}
 
 -- the lines and the ssrcs in use are the same
 pub record SameLines {M E X T W : Type 0} (m : MediaMeaning M E X T W) (p q : M) : Type 0 where
@@ -41,7 +41,7 @@ pub record MediaLaws {M E X T W : Type 0} (m : MediaMeaning M E X T W) : Type 0 
   pub removed_streams : (p q : M) (mid : List ℕ) → m.line_removed p mid q → m.has_streams q mid ≡ false
   pub removed_others : (p q : M) (mid other : List ℕ) → other ≢ mid → m.line_removed p mid q → m.line q other ≡ m.line p other
   -- a line changes by nothing else
-  pub lines_stay : (p q : M) (act : MediaAct) (mid : List ℕ) → MediaActed m p act q → (m.line q mid ≡ m.line p mid) ⊎ ChangesLines m p q
+  pub lines_stay : (p q : M) (mid : List ℕ) → KeepsLines m p q → m.line q mid ≡ m.line p mid
   -- whatever is written through a reference, the lines stay; an ssrc is newly in use only by a stream that is made
   pub writer_same : (p q : M) (mid : List ℕ) (lent left : W) → m.writer_lent p mid lent left q → SameLines m p q
   pub rx_same : (p q : M) (ssrc : Ssrc) (lent left : X) → m.rx_lent p ssrc lent left q → SameLines m p q

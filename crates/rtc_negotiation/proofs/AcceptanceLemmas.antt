@@ -13,9 +13,9 @@ use Rattle.rtc_change.specs.declared.refusal.Refusal.{Refusal}
 use Rattle.rtc_change.specs.declared.refusal.Refusal.TheVariants.{RemoteSdp as RefusedSdp, Sdp as RefusedText, Alloc as NoMemory}
 use Rattle.rtc_dtls.specs.declared.dtls_error.DtlsError.TheVariants.{WouldBlock, Fault, Alloc as DtlsAlloc}
 use Rattle.rtc_dtls.specs.DtlsState.{DtlsState}
+use Rattle.rtc_media.specs.declared.media_update.MediaUpdate.{MediaUpdate}
 use Rattle.rtc_sctp.specs.Streams.{SctpStreams}
 use Rattle.rtc_peer_state.specs.declared.peer.Peer.{Peer}
-use Rattle.rtc_peer_state.specs.declared.phase.Phase.{Phase}
 use Rattle.rtc_peer_state.specs.declared.rtc_error.RtcError.{RtcError}
 use Rattle.rtc_peer_state.specs.declared.rtc_error.RtcError.TheVariants.{
   RemoteSdp,
@@ -29,7 +29,7 @@ use Rattle.rtc_peer_state.specs.declared.rtc_error.RtcError.TheVariants.{
   Alloc,
 }
 use Rattle.rtc_peer_state.specs.Acceptances.{AcceptsOffer, OfferAccepted, OfferStopped, refused_phase}
-use Rattle.rtc_peer_state.specs.Acceptances.{followed_restart, answer_ids, ids_after_updates}
+use Rattle.rtc_peer_state.specs.Acceptances.{followed_restart, answer_ids, updates_for, ids_after_updates}
 use Rattle.rtc_peer_state.specs.Calls.{raised, control_for}
 use Rattle.rtc_peer_state.specs.MadeSdp.{answer_sdp}
 use Rattle.rtc_peer_state.specs.Meanings.{Meanings}
@@ -48,10 +48,10 @@ module _ {I D S M E X T W N : Type 0} (m : Meanings I D S M E X T W N) where
   counted p = record p { counter = raised p.counter }
 
   -- the answer is not a matter of the counter
-  same_answer : (p : Peer I D S M N) (restart : Option (IceCreds × Bool)) (offer : Sdp)
-      → answer_sdp (stance_of m (counted p)) restart offer ≡ answer_sdp (stance_of m p) restart offer
+  same_answer : (p : Peer I D S M N) (restart : Option (IceCreds × Bool)) (updates : List MediaUpdate) (offer : Sdp)
+      → answer_sdp (stance_of m (counted p)) restart updates offer ≡ answer_sdp (stance_of m p) restart updates offer
   unfolding answer_sdp
-  same_answer p restart offer = refl
+  same_answer p restart updates offer = refl
 
   -- memory lacked, which leaves rows, channels and fingerprint wherever it stopped
   stopped_at : (p q : Peer I D S M N) (offer : Sdp)
@@ -79,13 +79,11 @@ module _ {I D S M E X T W N : Type 0} (m : Meanings I D S M E X T W N) where
   judged p offer (RefusedText (Inconsistent cause)) plans = (plans, refl)
   judged p offer NoMemory plans = offer_unjudged p offer
 
-  pub offer_refused : (p : Peer I D S M N) (offer : Sdp) (refusal : Refusal) (error : RtcError) (phase : Phase)
-      → PlansSdp (held_by (stance_of m p)) None offer (Err refusal) → error ≡ error_of_refusal refusal → phase ≡ refused_phase refusal p.phase
-      → AcceptsOffer m p offer (Err error) (record p { counter = raised p.counter; phase = phase })
-  offer_refused p offer refusal error phase plans error_is phase_is =
-      subst (λ (e : RtcError). AcceptsOffer m p offer (Err e) (record p { counter = raised p.counter; phase = phase })) (sym error_is)
-      (subst (λ (x : Phase). AcceptsOffer m p offer (Err (error_of_refusal refusal)) (record p { counter = raised p.counter; phase = x })) (sym phase_is)
-      (judged p offer refusal plans))
+  pub offer_refused : (p q : Peer I D S M N) (offer : Sdp) (refusal : Refusal) (error : RtcError) → PlansSdp (held_by (stance_of m p)) None offer (Err refusal)
+      → error ≡ error_of_refusal refusal → q ≡ record (counted p) { phase = refused_phase refusal p.phase } → AcceptsOffer m p offer (Err error) q
+  offer_refused p q offer refusal error plans error_is rest =
+      subst (λ (e : RtcError). AcceptsOffer m p offer (Err e) q) (sym error_is)
+      (subst (λ (x : Peer I D S M N). AcceptsOffer m p offer (Err (error_of_refusal refusal)) x) (sym rest) (judged p offer refusal plans))
 
   abbrev pub offered : Peer I D S M N → Sdp → Following
   offered p offer = following_of (followed_restart m p offer) offer (control_for p.dtls.active offer.ice_lite)
@@ -164,8 +162,9 @@ module _ {I D S M E X T W N : Type 0} (m : Meanings I D S M E X T W N) where
       → OfferMoves p offer (Ok tt) ice dtls sctp → m.media.committed q.media media → lines ≡ table_after p.lines (parsed_lines offer) true
       → OfferAccepted m p offer answer (record q { ice = ice; dtls = dtls; sctp = sctp; fingerprint = growth.fingerprint; media = media; lines = lines })
   offer_accepted p q offer answer growth ice dtls sctp media lines grown made passes moves committed lines_are =
-      let shown : Some answer ≡ Some (answer_sdp (stance_of m p) (followed_restart m p offer) offer) =
-      sym made ∙ ap (λ (x : Growth). x.answer) grown.0 ∙ ap Some (same_answer p (followed_restart m p offer) offer) in
+      let updates : List MediaUpdate = updates_for m p true [] offer (answer_ids m p offer) in
+      let shown : Some answer ≡ Some (answer_sdp (stance_of m p) (followed_restart m p offer) updates offer) =
+      sym made ∙ ap (λ (x : Growth). x.answer) grown.0 ∙ ap Some (same_answer p (followed_restart m p offer) updates offer) in
       let told : growth.fingerprint ≡ option_or p.fingerprint (sdp_fingerprint offer) = ap (λ (x : Growth). x.fingerprint) grown.0 in
       record {
         passes = passes;

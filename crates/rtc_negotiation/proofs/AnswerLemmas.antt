@@ -17,7 +17,6 @@ use Rattle.rtc_dtls.specs.declared.dtls_error.DtlsError.TheVariants.{WouldBlock,
 use Rattle.rtc_dtls.specs.DtlsState.{DtlsState}
 use Rattle.rtc_sctp.specs.Streams.{SctpStreams}
 use Rattle.rtc_peer_state.specs.declared.peer.Peer.{Peer}
-use Rattle.rtc_peer_state.specs.declared.phase.Phase.{Phase}
 use Rattle.rtc_peer_state.specs.declared.rtc_error.RtcError.{RtcError}
 use Rattle.rtc_peer_state.specs.declared.rtc_error.RtcError.TheVariants.{
   RemoteSdp,
@@ -71,12 +70,12 @@ module _ {I D S M E X T W N : Type 0} (m : Meanings I D S M E X T W N) where
   judged p token answer (RefusedText (Inconsistent cause)) right plans = (right, (plans, refl))
   judged p token answer NoMemory right plans = answer_unjudged p token answer right
 
-  pub answer_refused : (p : Peer I D S M N) (token : PendingOffer) (answer : Sdp) (refusal : Refusal) (error : RtcError) (phase : Phase) → p.counter ≡ raised token.id
+  pub answer_refused : (p q : Peer I D S M N) (token : PendingOffer) (answer : Sdp) (refusal : Refusal) (error : RtcError) → p.counter ≡ raised token.id
       → PlansSdp (held_by (stance_of m p)) (Some (asked_by p.lines token)) answer (Err refusal) → error ≡ error_of_refusal refusal
-      → phase ≡ refused_phase refusal p.phase → AcceptsAnswer m p token answer (Err error) (record p { phase = phase })
-  answer_refused p token answer refusal error phase right plans error_is phase_is =
-      subst (λ (e : RtcError). AcceptsAnswer m p token answer (Err e) (record p { phase = phase })) (sym error_is)
-      (subst (λ (x : Phase). AcceptsAnswer m p token answer (Err (error_of_refusal refusal)) (record p { phase = x })) (sym phase_is) (judged p token answer refusal right plans))
+      → q ≡ record p { phase = refused_phase refusal p.phase } → AcceptsAnswer m p token answer (Err error) q
+  answer_refused p q token answer refusal error right plans error_is rest =
+      subst (λ (e : RtcError). AcceptsAnswer m p token answer (Err e) q) (sym error_is)
+      (subst (λ (x : Peer I D S M N). AcceptsAnswer m p token answer (Err (error_of_refusal refusal)) x) (sym rest) (judged p token answer refusal right plans))
 
   abbrev pub answered : List Change → Sdp → Following
   answered changes answer = following_of (staged_restart changes) answer None

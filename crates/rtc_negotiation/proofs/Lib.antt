@@ -6,3 +6,4 @@ pub mod GrowthLemmas
 pub mod MoveLemmas
 pub mod AcceptanceLemmas
 pub mod AnswerLemmas
+pub mod OfferLemmas

@@ -30,7 +30,8 @@ module _ {I D S M E X T W N : Type 0} (m : Meanings I D S M E X T W N) where
   abbrev pub GrowsOffer : Peer I D S M N → Sdp → Result Growth AllocError → Peer I D S M N → Type 0
   GrowsOffer p offer (Ok growth) q =
       (growth ≡ record {
-        answer = Some (answer_sdp (stance_of m p) (followed_restart m p offer) offer);
+        answer = Some (answer_sdp (stance_of m p) (followed_restart m p offer)
+            (updates_for m p true [] offer (answer_ids m p offer)) offer);
         following = following_of (followed_restart m p offer) offer (control_for p.dtls.active offer.ice_lite);
         fingerprint = option_or p.fingerprint (sdp_fingerprint offer);
       })

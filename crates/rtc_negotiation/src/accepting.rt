@@ -96,7 +96,7 @@ fn close_unknown(phase: Phase, why: &Why) -> Phase
 }
 
 // Why an offer or an answer is refused, as a peer tells it.
-fn refuse(phase: &mut Phase, refusal: Refusal) -> RtcError
+fn refusal_error(phase: &mut Phase, refusal: Refusal) -> RtcError
     ensures error { result ≡ error_of_refusal refusal }
     ensures phase { phase.new ≡ refused_phase refusal phase.old }
 {
@@ -110,6 +110,17 @@ fn refuse(phase: &mut Phase, refusal: Refusal) -> RtcError
     }
 }
 
+// Refuses an offer or an answer, which leaves all of the peer but its phase.
+fn refuse<I: IceAgent, D: DtlsInstance, S: Association, M: MediaSession, N: Ids>(
+    peer: &mut Peer<I, D, S, M, N>,
+    refusal: Refusal,
+) -> RtcError
+    ensures error { result ≡ error_of_refusal refusal }
+    ensures rest { peer.new ≡ record peer.old { phase = refused_phase refusal peer.old.phase } }
+{
+    refusal_error(&mut peer.phase, refusal)
+}
+
 /// Accepts an offer, and answers it; the token of an own offer is superseded, also where the offer is refused.
 pub fn accept_offer<I: IceAgent, D: DtlsInstance, S: Association, M: MediaSession, N: Ids>(
     peer: &mut Peer<I, D, S, M, N>,
@@ -120,7 +131,7 @@ pub fn accept_offer<I: IceAgent, D: DtlsInstance, S: Association, M: MediaSessio
     peer.counter = peer.counter.wrapping_add(1);
     let plan = match judge_offer(peer, &offer) {
         Ok(plan) => plan,
-        Err(refusal) => return Err(refuse(&mut peer.phase, refusal)),
+        Err(refusal) => return Err(refuse(peer, refusal)),
     };
     let growth = match grow_offer(peer, &offer, &plan) {
         Ok(growth) => growth,
@@ -163,7 +174,7 @@ pub fn accept_answer<I: IceAgent, D: DtlsInstance, S: Association, M: MediaSessi
     }
     let plan = match judge_answer(peer, &token, &answer) {
         Ok(plan) => plan,
-        Err(refusal) => return Err(refuse(&mut peer.phase, refusal)),
+        Err(refusal) => return Err(refuse(peer, refusal)),
     };
     let changes = token.into_changes();
     let growth = match grow_answer(peer, &changes, &answer, &plan) {

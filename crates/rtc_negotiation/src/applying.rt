@@ -10,7 +10,7 @@ use crate::confirming::confirm_channels;
 use crate::following::take_control;
 use rtc_association::Association;
 use rtc_change::{Change, SdpPendingOffer, find_restart};
-use rtc_describing::{list_offered_rows, make_head, make_sdp};
+use rtc_describing::{make_head, make_sdp, tell_offered};
 use rtc_dtls::{Dtls, DtlsInstance};
 use rtc_ice::IceAgent;
 use rtc_ids::Ids;
@@ -61,16 +61,21 @@ fn make_offer_head<I: IceAgent, D: DtlsInstance, S: Association, M: MediaSession
 }
 
 // The offer of what is staged.
-#[tactic(auto, unfolding(rtc_peer_state::specs::MadeSdp::offer_sdp))]
 fn make_offer<I: IceAgent, D: DtlsInstance, S: Association, M: MediaSession, N: Ids>(
     peer: &Peer<I, D, S, M, N>,
 ) -> Result<Sdp, AllocError>
     ensures { IfOk result (λ offer. offer ≡ offer_sdp (stance_of (meanings I.ice D.dtls S.association M.media N.ids) peer.now)) }
 {
     count_lines(&peer.lines, peer.staged.count_added())?;
-    let rows = list_offered_rows(peer.alloc, peer.lines.rows(), peer.staged.as_slice())?;
+    let told = tell_offered(
+        peer.alloc,
+        &peer.media,
+        &peer.formats,
+        peer.lines.rows(),
+        peer.staged.as_slice(),
+    )?;
     let head = make_offer_head(peer)?;
-    make_sdp(peer.alloc, head, rows.as_slice())
+    make_sdp(peer.alloc, head, told)
 }
 
 // Whether this side is controlling, where that is still to be settled.

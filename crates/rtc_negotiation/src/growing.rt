@@ -19,7 +19,7 @@ use crate::copying::{copy_restart, first_fingerprint, lend_restart, make_followi
 use crate::growth::Growth;
 use rtc_association::Association;
 use rtc_change::{Change, Changes, Plan};
-use rtc_describing::{list_updates, make_head, make_sdp, role_after, setup_of_role};
+use rtc_describing::{list_updates, make_head, make_sdp, role_after, setup_of_role, tell_rows};
 use rtc_drawing::make_creds;
 use rtc_dtls::{Dtls, DtlsInstance};
 use rtc_ice::IceAgent;
@@ -77,20 +77,22 @@ fn make_answer_head<I: IceAgent, D: DtlsInstance, S: Association, M: MediaSessio
     )
 }
 
-// The answer to an offer that leaves these rows.
+// The answer to an offer that leaves these rows, and of whose lines the media part is told this.
 #[tactic(auto, unfolding(rtc_peer_state::specs::MadeSdp::answer_sdp))]
 fn make_answer<I: IceAgent, D: DtlsInstance, S: Association, M: MediaSession, N: Ids>(
     peer: &Peer<I, D, S, M, N>,
     restart: &Option<(IceCreds, bool)>,
     offer: &Sdp,
     rows: &[LineRow],
+    updates: &[MediaUpdate],
 ) -> Result<Sdp, AllocError>
     requires { rows.now ≡ table_after peer.now.lines (parsed_lines offer.now) true }
     ensures { IfOk result (λ answer. answer
-        ≡ answer_sdp (stance_of (meanings I.ice D.dtls S.association M.media N.ids) peer.now) restart.now offer.now) }
+        ≡ answer_sdp (stance_of (meanings I.ice D.dtls S.association M.media N.ids) peer.now) restart.now updates.now offer.now) }
 {
     let head = make_answer_head(peer, restart, offer)?;
-    make_sdp(peer.alloc, head, rows)
+    let told = tell_rows(peer.alloc, &peer.media, updates, rows)?;
+    make_sdp(peer.alloc, head, told)
 }
 
 // What the media part is told, by the rows that the lines leave. Numbers are drawn for sources.
@@ -111,11 +113,13 @@ fn list_line_updates<I: IceAgent, D: DtlsInstance, S: Association, M: MediaSessi
     ensures most { Later N.ids peer.new.ids
         (ids_after_updates (meanings I.ice D.dtls S.association M.media N.ids) peer.old offer changes.now sdp.now peer.old.ids) }
     ensures others { peer.new ≡ record peer.old { ids = peer.new.ids } }
+    ensures lines { peer.new.lines ≡ peer.old.lines }
 {
     let updates = list_updates(
         peer.alloc,
         &mut peer.ids,
         &peer.media,
+        &peer.formats,
         changes,
         offer,
         peer.lines.rows(),
@@ -135,21 +139,22 @@ fn prepare_media<M: MediaSession>(media: &mut M, updates: &[MediaUpdate]) -> Res
     }
 }
 
-// What the acceptance of an offer needs besides the updates, once a restart was drawn.
+// What the acceptance of an offer needs besides the updates, once a restart was drawn and they were made.
 fn grow_followed<I: IceAgent, D: DtlsInstance, S: Association, M: MediaSession, N: Ids>(
     peer: &Peer<I, D, S, M, N>,
     offer: &Sdp,
     rows: &[LineRow],
     restart: Option<(IceCreds, bool)>,
+    updates: &[MediaUpdate],
 ) -> Result<Growth, AllocError>
     requires { rows.now ≡ table_after peer.now.lines (parsed_lines offer.now) true }
     ensures { IfOk result (λ growth. growth ≡ record {
-      answer = Some (answer_sdp (stance_of (meanings I.ice D.dtls S.association M.media N.ids) peer.now) restart offer.now);
+      answer = Some (answer_sdp (stance_of (meanings I.ice D.dtls S.association M.media N.ids) peer.now) restart updates.now offer.now);
       following = following_of restart offer.now (ControlFor peer.now.dtls.active offer.now.ice_lite);
       fingerprint = option_or peer.now.fingerprint (sdp_fingerprint offer.now);
     }) }
 {
-    let answer = make_answer(peer, &restart, offer, rows)?;
+    let answer = make_answer(peer, &restart, offer, rows, updates)?;
     let control = control_for(&peer.dtls, offer.ice_lite);
     let following = make_following(restart, offer, control)?;
     let fingerprint = first_fingerprint(&peer.fingerprint, offer)?;
@@ -160,7 +165,7 @@ fn grow_followed<I: IceAgent, D: DtlsInstance, S: Association, M: MediaSession, 
     })
 }
 
-/// Makes ready what the acceptance of an offer needs: credentials are drawn before sources.
+/// Makes ready what the acceptance of an offer needs: credentials are drawn before sources, and the answer tells of both.
 pub fn grow_offer<I: IceAgent, D: DtlsInstance, S: Association, M: MediaSession, N: Ids>(
     peer: &mut Peer<I, D, S, M, N>,
     offer: &Sdp,
@@ -175,12 +180,18 @@ pub fn grow_offer<I: IceAgent, D: DtlsInstance, S: Association, M: MediaSession,
         Ok(restart) => restart,
         Err(error) => return Err(error),
     };
-    let growth = match grow_followed(peer, offer, plan.rows.as_slice(), restart) {
-        Ok(growth) => growth,
-        Err(error) => return Err(error),
-    };
     let updates = match list_line_updates(peer, true, &[], offer, plan.rows.as_slice()) {
         Ok(updates) => updates,
+        Err(error) => return Err(error),
+    };
+    let growth = match grow_followed(
+        peer,
+        offer,
+        plan.rows.as_slice(),
+        restart,
+        updates.as_slice(),
+    ) {
+        Ok(growth) => growth,
         Err(error) => return Err(error),
     };
     match prepare_media(&mut peer.media, updates.as_slice()) {

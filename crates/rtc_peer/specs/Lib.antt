@@ -1,3 +1,4 @@
+pub mod BuiltFrom
 pub mod Described
 pub mod Labelled
 pub mod Readings

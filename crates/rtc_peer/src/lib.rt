@@ -3,6 +3,7 @@
 //! The crate passes on all that its callers name, so that a program lists `rtc_peer`, `rtc_wire` and a crate with a source of numbers.
 #![tactic(auto)]
 
+mod built;
 mod channel;
 mod direct_api;
 mod direct_calls;

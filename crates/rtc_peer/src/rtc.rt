@@ -6,6 +6,7 @@ ghost use Rattle.rtc_peer_state.specs.Acceptances.{AcceptsOffer, AcceptsAnswer};
 ghost use Rattle.rtc_peer_state.specs.ChannelRows.{channel_rows};
 ghost use Rattle.rtc_peer_state.specs.Calls.{AddsMedia, AddsChannel, StagesRestart, SetsDirection, StopsMedia, Applies};
 ghost use Rattle.rtc_peer_state.specs.Built.{AreFresh, Builds};
+ghost use Rattle.rtc_peer_state.specs.Formats.{AreFormedFormats};
 ghost use Rattle.rtc_peer_state.specs.Formed.{AreSdpCreds, IsFormed};
 ghost use Rattle.rtc_peer_state.specs.Meanings.{meanings};
 ghost use Rattle.rtc_peer_state.specs.Stance.{stance_of};
@@ -101,11 +102,11 @@ impl<
         requires fresh { AreFresh (meanings I.ice D.dtls S.association M.media N.ids) ice dtls association media }
         ensures built { IfOk result (λ rtc. Builds (meanings I.ice D.dtls S.association M.media N.ids)
             alloc config start ice dtls association media ids rtc.core) }
-        ensures unconnected { IfOk result (λ rtc. rtc.transport ≡ no_transport true) }
-        ensures formed { IfOk result (λ rtc. IfSome config.creds AreSdpCreds
+        ensures unconnected { IfOk result (λ rtc. rtc.transport ≡ no_transport true config.stats_interval) }
+        ensures formed { IfOk result (λ rtc. IfSome config.creds AreSdpCreds → AreFormedFormats config.formats
             → IsFormed (stance_of (meanings I.ice D.dtls S.association M.media N.ids) rtc.core)) }
     {
-        let transport = Transport::new(alloc, true)?;
+        let transport = Transport::new(alloc, true, config.stats_interval())?;
         let core = build_peer(alloc, config, start, ice, dtls, association, media, ids)?;
         let _session = core.session_id;
         let _most = core.sctp.local_max_message_size();

@@ -21,6 +21,7 @@ use Rattle.rtc_peer_state.specs.Meanings.{Meanings, PartsLaws}
 use Rattle.rtc_peer_state.specs.Stance.{stance_of}
 use Rattle.rtc_peer_state.specs.Config.{Config}
 use Rattle.rtc_ids.specs.Draws.{Draws}
+use Rattle.rtc_peer_state.specs.Formats.{AreFormedFormats}
 use Rattle.rtc_peer_state.specs.Formed.{IsSdpWord, AreSdpCreds, IsSha256, IsFormed}
 use Rattle.rtc_peer_state.proofs.Alls.{all-append, all_token}
 
@@ -93,12 +94,13 @@ creds_are_words : {N : Type 0} (draws : Draws N) (set : Option IceCreds) (ids : 
 creds_are_words draws None ids h = drawn_creds_words (draws.drawn ids)
 creds_are_words draws (Some creds) ids h = h
 
--- The peer that is built is formed, where the credentials of its config are words, numbers that are drawn have 64 bits, and the longest
--- message that its streams take is told in 32.
+-- The peer that is built is formed, where the credentials of its config are words, its codecs and header extensions are formed, numbers
+-- that are drawn have 64 bits, and the longest message that its streams take is told in 32.
 pub built_formed : {I D S M E X T W N : Type 0} (m : Meanings I D S M E X T W N) → PartsLaws m → (alloc : Global) (config : Config) (start : ℕ)
     (ice : I) (dtls : D) (association : S) (media : M) (ids : N) (p : Peer I D S M N) → AreFresh m ice dtls association media
-    → IfSome config.creds AreSdpCreds → m.ids.drawn ids < 2 ^ 64 → p.sctp.local_max < 2 ^ 32 → Builds m alloc config start ice dtls association media ids p → IsFormed (stance_of m p)
-built_formed m laws alloc config start ice dtls association media ids p fresh tokens small size built =
+    → IfSome config.creds AreSdpCreds → AreFormedFormats config.formats → m.ids.drawn ids < 2 ^ 64 → p.sctp.local_max < 2 ^ 32
+    → Builds m alloc config start ice dtls association media ids p → IsFormed (stance_of m p)
+built_formed m laws alloc config start ice dtls association media ids p fresh tokens formats small size built =
     let none : (m.ice.settings ice).candidates ≡ [] = laws.ice.fresh_candidates ice fresh.fresh_ice in
     let lite = laws.ice.lite_settings ice built.lite_set config.ice_lite built.by_lite in
     let local = laws.ice.local_settings built.lite_set p.ice _ built.by_creds in
@@ -109,6 +111,8 @@ built_formed m laws alloc config start ice dtls association media ids p fresh to
       fingerprint = fingerprint_by_sha256 _ p.dtls.local built.by_cert.fingerprint;
       rows = rw built.rest tt;
       staged = rw built.rest tt;
-      restarts = rw built.rest tt;
       size = size;
+      changes = rw built.rest tt;
+      formats = rw built.rest formats;
+      media = λ mid. rw (built.rest, laws.media.fresh_line media mid fresh.fresh_media) tt;
     }

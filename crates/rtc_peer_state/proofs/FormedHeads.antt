@@ -15,7 +15,7 @@ use Rattle.rtc_change.specs.declared.change.Change.{Change}
 use Rattle.rtc_change.specs.declared.change.Change.TheVariants.{AddMedia, AddApp, AddChannel, Direction as SetDirection, IceRestart}
 use Rattle.rtc_change.specs.PendingOffer.{added_rows, staged_restart}
 use Rattle.rtc_peer_state.specs.declared.sdp_head.SdpHead.{SdpHead}
-use Rattle.rtc_peer_state.specs.Formed.{AreSdpCreds, IsSha256, HaveTokens, IsHostCandidate, RestartWords, IsFormed}
+use Rattle.rtc_peer_state.specs.Formed.{AreSdpCreds, IsSha256, HaveTokens, IsHostCandidate, AreFormedChanges, IsFormed}
 use Rattle.rtc_peer_state.specs.MadeSdp.{creds_in_use, candidates_in_use, offer_head, answer_head, offered_rows}
 use Rattle.rtc_peer_state.specs.Stance.{Stance}
 use Rattle.rtc_peer_state.proofs.Alls.{all-append}
@@ -23,13 +23,13 @@ use Rattle.rtc_peer_state.proofs.TokenTables.{added_tokens}
 
 -- ---- what is in use after a restart
 
-pub restart_words : (changes : List Change) → RestartWords changes → IfSome (staged_restart changes) (λ restart. AreSdpCreds restart.0)
+pub restart_words : (changes : List Change) → AreFormedChanges changes → IfSome (staged_restart changes) (λ restart. AreSdpCreds restart.0)
 restart_words [] tokens = tt
 restart_words (AddMedia media ∷ changes) tokens = restart_words changes tokens.1
 restart_words (AddApp mid ∷ changes) tokens = restart_words changes tokens.1
 restart_words (AddChannel id config ∷ changes) tokens = restart_words changes tokens.1
 restart_words (SetDirection mid dir ∷ changes) tokens = restart_words changes tokens.1
-restart_words (IceRestart creds keeps ∷ changes) tokens = tokens.0
+restart_words (IceRestart creds keeps ∷ changes) tokens = tokens.0.restart
 
 pub creds_in_use_words : (restart : Option (IceCreds × Bool)) (settings : IceSettings) → IfSome restart (λ r. AreSdpCreds r.0)
     → AreSdpCreds settings.local → AreSdpCreds (creds_in_use restart settings)
@@ -60,7 +60,7 @@ pub record IsFormedHead (head : SdpHead) : Type 0 where
 pub offer_head_formed : (s : Stance) → IsFormed s → IsFormedHead (offer_head s)
 offer_head_formed s formed = record {
   session = formed.session;
-  creds = creds_in_use_words (staged_restart s.staged) s.ice (restart_words s.staged formed.restarts) formed.creds;
+  creds = creds_in_use_words (staged_restart s.staged) s.ice (restart_words s.staged formed.changes) formed.creds;
   fingerprint = formed.fingerprint;
   candidates = candidates_in_use_hosts (staged_restart s.staged) s.ice formed.candidates;
   size = formed.size;

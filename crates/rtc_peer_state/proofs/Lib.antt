@@ -1,9 +1,13 @@
+pub mod FormedFormats
 pub mod FreeMid
 pub mod Alls
 pub mod DrawnMids
 pub mod BuiltPeers
 pub mod TokenTables
 pub mod StagedLemmas
+pub mod ToldRows
+pub mod FormedNames
+pub mod FormedUpdates
 pub mod StanceCalls
 pub mod ChannelRowLemmas
 pub mod PartMovesLemmas
@@ -12,4 +16,6 @@ pub mod StoppedPeers
 pub mod StanceAcceptances
 pub mod FormedHeads
 pub mod FormedStances
+pub mod FormedAcceptances
 mod LimitFacts
+mod MediaFacts

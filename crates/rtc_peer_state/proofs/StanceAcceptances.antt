@@ -1,12 +1,16 @@
 -- Each acceptance by a peer is one by its stance, whatever its parts are.
-use Rattle.std.proofs.Common.{◌≡◌, ◌∙◌, ◌⊎◌, inl, inr, ℕ, Bool, List, true, false, Option, Some, None, Result, Ok, Err, refl, ap}
+use Rattle.std.proofs.Common.{◌≡◌, ◌∙◌, ◌⊎◌, inl, inr, ℕ, Bool, List, [], true, false, Option, Some, None, Result, Ok, Err, refl, ap}
 use Rattle.std.specs.Prelude.{is_some, IfSome}
+use Rattle.std.proofs.Math.Path.{fun_ext}
 use Rattle.rtc_sdp_values.specs.Sdp.{creds_of, sdp_setup, max_message_size_of}
 use Rattle.rtc_sdp_values.specs.declared.fingerprint.Fingerprint.{Fingerprint}
 use Rattle.rtc_sdp_values.specs.declared.ice_creds.IceCreds.{IceCreds}
 use Rattle.rtc_sdp_values.specs.declared.sdp.Sdp.{Sdp}
 use Rattle.rtc_ids.specs.Draws.{Draws}
 use Rattle.rtc_ice.specs.IceMeaning.{IceSettings}
+use Rattle.rtc_media.specs.MediaLaws.{SameLines}
+use Rattle.rtc_media.specs.MediaUpdates.{line_after}
+use Rattle.rtc_media.specs.declared.media_update.MediaUpdate.{MediaUpdate}
 use Rattle.rtc_sctp.specs.Streams.{SctpStreams}
 use Rattle.rtc_sctp_values.specs.declared.proto_error.ProtoError.TheVariants.{Fault as AssociationFault}
 use Rattle.rtc_sctp_values.specs.declared.sctp_error.SctpError.{SctpError}
@@ -17,6 +21,7 @@ use Rattle.rtc_dtls.specs.declared.dtls_error.DtlsError.TheVariants.{WouldBlock,
 use Rattle.rtc_change.specs.declared.refusal.Refusal.{Refusal}
 use Rattle.rtc_change.specs.declared.refusal.Refusal.TheVariants.{RemoteSdp as RefusedSdp, Sdp as RefusedText}
 use Rattle.rtc_change.specs.Held.{Asked}
+use Rattle.rtc_change.specs.declared.change.Change.{Change}
 use Rattle.rtc_tables.specs.ParsedLines.{parsed_lines}
 use Rattle.rtc_change.specs.PendingOffer.{PendingOffer, staged_restart}
 use Rattle.rtc_change.specs.Plans.{no_credentials, asked_by, is_restart, is_offer}
@@ -48,6 +53,9 @@ use Rattle.rtc_peer_state.specs.Acceptances.{
   AnswerStopped,
   AcceptsAnswer,
   followed_restart,
+  answer_ids,
+  updates_for,
+  UpdatesMedia,
 }
 use Rattle.rtc_peer_state.specs.Calls.{raised, fitting_channels}
 use Rattle.rtc_peer_state.specs.ChannelRows.{channel_rows}
@@ -62,10 +70,11 @@ use Rattle.rtc_peer_state.proofs.BuiltPeers.{drawn_creds_words}
 use Rattle.rtc_peer_state.proofs.StanceLemmas.{parts_stand}
 use Rattle.rtc_peer_state.proofs.PartMovesLemmas.{AreLeft, restarted_by, followed_settings, told_creds, left_after}
 use Rattle.rtc_peer_state.proofs.PartMovesLemmas.{role_taken, start_keeps_local}
-use Rattle.rtc_peer_state.proofs.StoppedPeers.{stopped_ice, stopped_local, stopped_sctp}
+use Rattle.rtc_peer_state.proofs.StoppedPeers.{stopped_ice, stopped_local, stopped_sctp, stopped_media}
+use Rattle.rtc_peer_state.proofs.FormedUpdates.{told_updates_formed}
 use Rattle.rtc_peer_state.proofs.ChannelRowLemmas.{confirmed_rows, started_rows, started_size}
 use Rattle.rtc_peer_state.proofs.StanceCalls.{StanceRefuses, StanceAcceptsOffer, StanceAcceptsAnswer, StandsOffer, StandsAnswer}
-use Rattle.rtc_peer_state.proofs.StanceCalls.{BreaksOffer, Breaks, IsFollowed, followed_by}
+use Rattle.rtc_peer_state.proofs.StanceCalls.{BreaksOffer, Breaks, IsFollowed, TellsMedia, followed_by}
 
 -- ---- what is accepted
 
@@ -100,11 +109,11 @@ followed_stands m p offer =
 
 -- what is left where a part failed or memory lacked
 breaks_by : (s : Stance) (restart : Option (IceCreds × Bool)) (counter : ℕ) (ice : IceSettings) (own : Fingerprint) (role : Option Bool)
-    (rows : List ChannelRow) (most : ℕ) (t : Stance)
-    → t ≡ record s { counter = counter; ice = ice; own_fingerprint = own; role = role; rows = rows; max_message_size = most }
-    → own ≡ s.own_fingerprint → rows ≡ s.rows → most ≡ s.max_message_size → AreLeft s.ice restart ice
+    (rows : List ChannelRow) (most : ℕ) (line : List ℕ → Option MediaUpdate) (t : Stance)
+    → t ≡ record s { counter = counter; ice = ice; own_fingerprint = own; role = role; rows = rows; max_message_size = most; line = line }
+    → own ≡ s.own_fingerprint → rows ≡ s.rows → most ≡ s.max_message_size → line ≡ s.line → AreLeft s.ice restart ice
     → Breaks s restart counter t
-breaks_by s restart counter ice own role rows most t is same shown size left = rw (is, same, shown, size) (record {
+breaks_by s restart counter ice own role rows most line t is same shown size kept left = rw (is, same, shown, size, kept) (record {
   lite = left.lite;
   local = left.local;
   candidates = left.candidates;
@@ -139,6 +148,31 @@ stopped_size : {I D S M E X T W N : Type 0} (m : Meanings I D S M E X T W N) (p 
 stopped_size {I} {D} {S} m p offers sdp s (inl same) = ap (λ (x : SctpStreams S). x.local_max) same
 stopped_size m p offers sdp s (inr starts) = by_sdp_size m p offers sdp starts.0 s starts.1
 
+-- the media part is told of a description, and applies it
+tells_media : {I D S M E X T W N : Type 0} (m : Meanings I D S M E X T W N) → PartsLaws m → (p q : Peer I D S M N) (offer : Bool)
+    (changes : List Change) (sdp : Sdp) (ids : N) → UpdatesMedia m p.media (updates_for m p offer changes sdp ids) q.media
+    → TellsMedia (stance_of m p) changes sdp (updates_for m p offer changes sdp ids) (stance_of m q)
+tells_media m laws p q offer changes sdp ids h =
+    let updates : List MediaUpdate = updates_for m p offer changes sdp ids in
+    record {
+      lines = λ mid.
+          laws.media.commit_lines h.prepared q.media mid h.by_commit
+          ∙ ap (λ (us : List MediaUpdate). line_after us mid (m.media.line h.prepared mid))
+          (laws.media.prepare_pending p.media h.prepared updates h.by_prepare)
+          ∙ ap (λ (before : Option MediaUpdate). line_after updates mid before)
+          ((laws.media.prepare_same p.media h.prepared updates (Ok tt) h.by_prepare).lines mid);
+      formed = told_updates_formed m p offer changes sdp ids;
+    }
+
+-- updates that are prepared change no line
+prepared_lines : {I D S M E X T W N : Type 0} (m : Meanings I D S M E X T W N) → PartsLaws m → (p q : M) (updates : List MediaUpdate)
+    → m.media.prepared p updates (Ok tt) q → m.media.line q ≡ m.media.line p
+prepared_lines m laws p q updates h = fun_ext (λ mid. (laws.media.prepare_same p q updates (Ok tt) h).lines mid)
+
+same_lines : {I D S M E X T W N : Type 0} (m : Meanings I D S M E X T W N) (p q : M) → SameLines m.media p q
+    → m.media.line q ≡ m.media.line p
+same_lines m p q h = fun_ext (λ mid. h.lines mid)
+
 accepted_offer_stands : {I D S M E X T W N : Type 0} (m : Meanings I D S M E X T W N) → PartsLaws m
     → (p : Peer I D S M N) (offer answer : Sdp)
     (q : Peer I D S M N) → OfferAccepted m p offer answer q → StandsOffer (stance_of m p) offer answer (stance_of m q)
@@ -149,9 +183,14 @@ accepted_offer_stands m laws p offer answer q h =
       passes = h.passes;
       restart = followed_restart m p offer;
       followed = followed_stands m p offer;
+      told = updates_for m p true [] offer (answer_ids m p offer);
+      tells = tells_media m laws p q true [] offer (answer_ids m p offer) h.media_updated;
       answered = h.answered;
       rest = ap (stance_of m) h.rest
-          ∙ parts_stand (record (followed_by s (followed_restart m p offer) offer true) { counter = raised p.counter }) _ _ _ _ _ _ _ _ _ _
+          ∙ parts_stand (record (followed_by s (followed_restart m p offer) offer true) {
+            counter = raised p.counter;
+            line = m.media.line q.media;
+          }) _ _ _ _ _ _ _ _ _ _
           (followed_settings m.ice laws.ice p.ice q.ice _ _ _ _ h.ice_follows
           ∙ told_creds (creds_of offer) (restarted_by (followed_restart m p offer) s.ice) there)
           (start_keeps_local m.dtls p.dtls q.dtls _ _ _ _ h.dtls_starts)
@@ -166,8 +205,9 @@ faulted_offer_stands m laws p offer q h = record {
   restart = followed_restart m p offer;
   followed = followed_stands m p offer;
   breaks = breaks_by (stance_of m p) (followed_restart m p offer) (raised p.counter) (m.ice.settings q.ice) q.dtls.local q.dtls.active
-      (channel_rows m.association p.sctp p.channels) p.sctp.local_max (stance_of m q)
+      (channel_rows m.association p.sctp p.channels) p.sctp.local_max (m.media.line q.media) (stance_of m q)
       (ap (stance_of m) h.rest) (start_keeps_local m.dtls p.dtls q.dtls _ _ _ _ h.dtls_fails) refl refl
+      (prepared_lines m laws p.media q.media _ h.media_prepared)
       (left_after m.ice laws.ice p.ice q.ice _ _ _ _ h.ice_follows);
 }
 
@@ -177,10 +217,11 @@ unstarted_offer_stands m laws p offer q h = record {
   restart = followed_restart m p offer;
   followed = followed_stands m p offer;
   breaks = breaks_by (stance_of m p) (followed_restart m p offer) (raised p.counter) (m.ice.settings q.ice) q.dtls.local q.dtls.active
-      (channel_rows m.association q.sctp p.channels) q.sctp.local_max (stance_of m q)
+      (channel_rows m.association q.sctp p.channels) q.sctp.local_max (m.media.line q.media) (stance_of m q)
       (ap (stance_of m) h.rest) (start_keeps_local m.dtls p.dtls q.dtls _ _ _ _ h.dtls_starts)
       (by_sdp_rows m laws p true offer (Err (Proto AssociationFault)) q.sctp p.channels h.sctp_fails)
       (by_sdp_size m p true offer (Err (Proto AssociationFault)) q.sctp h.sctp_fails)
+      (prepared_lines m laws p.media q.media _ h.media_prepared)
       (left_after m.ice laws.ice p.ice q.ice _ _ _ _ h.ice_follows);
 }
 
@@ -190,12 +231,13 @@ stopped_offer_stands m laws p offer q h = record {
   restart = followed_restart m p offer;
   followed = followed_stands m p offer;
   breaks = breaks_by (stance_of m p) (followed_restart m p offer) (raised p.counter) (m.ice.settings q.ice) q.dtls.local q.dtls.active
-      (channel_rows m.association q.sctp p.channels) q.sctp.local_max (stance_of m q)
+      (channel_rows m.association q.sctp p.channels) q.sctp.local_max (m.media.line q.media) (stance_of m q)
       (ap (stance_of m) h.rest) (stopped_local m (record p { counter = raised p.counter }) _ _ _ _ _ _ q h.stops)
       (stopped_rows m laws (record p { counter = raised p.counter }) (is_offer None) offer q.sctp p.channels
       (stopped_sctp m (record p { counter = raised p.counter }) _ _ _ _ _ _ q h.stops))
       (stopped_size m (record p { counter = raised p.counter }) (is_offer None) offer q.sctp
       (stopped_sctp m (record p { counter = raised p.counter }) _ _ _ _ _ _ q h.stops))
+      (same_lines m p.media q.media (stopped_media m laws.media (record p { counter = raised p.counter }) _ _ _ _ _ _ q h.stops))
       (stopped_ice m laws.ice (record p { counter = raised p.counter }) _ _ _ _ _ _ q h.stops);
 }
 
@@ -225,8 +267,13 @@ accepted_answer_stands m laws p token answer q h =
     record {
       right = h.right;
       passes = h.passes;
+      told = updates_for m p false token.changes answer p.ids;
+      tells = tells_media m laws p q false token.changes answer p.ids h.media_updated;
       rest = ap (stance_of m) h.rest
-          ∙ parts_stand (record (followed_by s (staged_restart token.changes) answer false) { channels = confirmed }) _ _ _ _ _ _ _ _ _ _
+          ∙ parts_stand (record (followed_by s (staged_restart token.changes) answer false) {
+            channels = confirmed;
+            line = m.media.line q.media;
+          }) _ _ _ _ _ _ _ _ _ _
           (followed_settings m.ice laws.ice p.ice q.ice _ _ _ _ h.ice_follows
           ∙ told_creds (creds_of answer) (restarted_by (staged_restart token.changes) s.ice) there)
           (start_keeps_local m.dtls p.dtls q.dtls _ _ _ _ h.dtls_starts)
@@ -242,8 +289,9 @@ faulted_answer_stands : {I D S M E X T W N : Type 0} (m : Meanings I D S M E X T
     → Breaks (stance_of m p) (staged_restart token.changes) p.counter (stance_of m q)
 faulted_answer_stands m laws p token answer q h =
     breaks_by (stance_of m p) (staged_restart token.changes) p.counter (m.ice.settings q.ice) q.dtls.local q.dtls.active
-    (channel_rows m.association p.sctp p.channels) p.sctp.local_max (stance_of m q)
+    (channel_rows m.association p.sctp p.channels) p.sctp.local_max (m.media.line q.media) (stance_of m q)
     (ap (stance_of m) h.rest) (start_keeps_local m.dtls p.dtls q.dtls _ _ _ _ h.dtls_fails) refl refl
+    (prepared_lines m laws p.media q.media _ h.media_prepared)
     (left_after m.ice laws.ice p.ice q.ice _ _ _ _ h.ice_follows)
 
 unstarted_answer_stands : {I D S M E X T W N : Type 0} (m : Meanings I D S M E X T W N) → PartsLaws m
@@ -252,10 +300,11 @@ unstarted_answer_stands : {I D S M E X T W N : Type 0} (m : Meanings I D S M E X
     → Breaks (stance_of m p) (staged_restart token.changes) p.counter (stance_of m q)
 unstarted_answer_stands m laws p token answer q h =
     breaks_by (stance_of m p) (staged_restart token.changes) p.counter (m.ice.settings q.ice) q.dtls.local q.dtls.active
-    (channel_rows m.association q.sctp p.channels) q.sctp.local_max (stance_of m q)
+    (channel_rows m.association q.sctp p.channels) q.sctp.local_max (m.media.line q.media) (stance_of m q)
     (ap (stance_of m) h.rest) (start_keeps_local m.dtls p.dtls q.dtls _ _ _ _ h.dtls_starts)
     (by_sdp_rows m laws p false answer (Err (Proto AssociationFault)) q.sctp p.channels h.sctp_fails)
     (by_sdp_size m p false answer (Err (Proto AssociationFault)) q.sctp h.sctp_fails)
+    (prepared_lines m laws p.media q.media _ h.media_prepared)
     (left_after m.ice laws.ice p.ice q.ice _ _ _ _ h.ice_follows)
 
 stopped_answer_stands : {I D S M E X T W N : Type 0} (m : Meanings I D S M E X T W N) → PartsLaws m
@@ -264,10 +313,11 @@ stopped_answer_stands : {I D S M E X T W N : Type 0} (m : Meanings I D S M E X T
     → Breaks (stance_of m p) (staged_restart token.changes) p.counter (stance_of m q)
 stopped_answer_stands m laws p token answer q h =
     breaks_by (stance_of m p) (staged_restart token.changes) p.counter (m.ice.settings q.ice) q.dtls.local q.dtls.active
-    (channel_rows m.association q.sctp p.channels) q.sctp.local_max (stance_of m q)
+    (channel_rows m.association q.sctp p.channels) q.sctp.local_max (m.media.line q.media) (stance_of m q)
     (ap (stance_of m) h.rest) (stopped_local m p _ _ _ _ _ _ q h.stops)
     (stopped_rows m laws p (is_offer (Some (asked_by p.lines token))) answer q.sctp p.channels (stopped_sctp m p _ _ _ _ _ _ q h.stops))
     (stopped_size m p (is_offer (Some (asked_by p.lines token))) answer q.sctp (stopped_sctp m p _ _ _ _ _ _ q h.stops))
+    (same_lines m p.media q.media (stopped_media m laws.media p _ _ _ _ _ _ q h.stops))
     (stopped_ice m laws.ice p _ _ _ _ _ _ q h.stops)
 
 pub accepts_answer_stands : {I D S M E X T W N : Type 0} (m : Meanings I D S M E X T W N) → PartsLaws m

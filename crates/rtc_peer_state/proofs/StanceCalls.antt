@@ -21,6 +21,7 @@ use Rattle.std.specs.Prelude.{
   IfSome,
 }
 use Rattle.std.specs.Option.{option_or}
+use Rattle.std.specs.List.{AllByRecursion}
 use Rattle.std.specs.declared.alloc.AllocError.{AllocError}
 use Rattle.rtc_wire.specs.declared.channel_config.ChannelConfig.{ChannelConfig}
 use Rattle.rtc_fields.specs.Tokens.{is_short_token}
@@ -31,6 +32,8 @@ use Rattle.rtc_sdp_values.specs.declared.ice_creds.IceCreds.{IceCreds}
 use Rattle.rtc_sdp_values.specs.declared.sdp.Sdp.{Sdp}
 use Rattle.rtc_channels.specs.Channels.{is_bad_channel, with_channel, all_confirmed}
 use Rattle.rtc_dtls.specs.declared.dtls_error.DtlsError.TheVariants.{WouldBlock, Fault, Alloc as DtlsAlloc}
+use Rattle.rtc_media.specs.declared.media_update.MediaUpdate.{MediaUpdate}
+use Rattle.rtc_media.specs.MediaUpdates.{line_after}
 use Rattle.rtc_sctp_values.specs.declared.proto_error.ProtoError.TheVariants.{Fault as AssociationFault}
 use Rattle.rtc_sctp_values.specs.declared.sctp_error.SctpError.TheVariants.{Proto}
 use Rattle.rtc_change.specs.declared.add_media.AddMedia.{AddMedia as Media}
@@ -59,11 +62,20 @@ use Rattle.rtc_peer_state.specs.declared.rtc_error.RtcError.TheVariants.{
 }
 use Rattle.rtc_peer_state.specs.Acceptances.{counter_after}
 use Rattle.rtc_peer_state.specs.Calls.{Wanted, raised, fitting_channels}
-use Rattle.rtc_peer_state.specs.Formed.{AreSdpCreds}
+use Rattle.rtc_peer_state.specs.Formed.{
+  AreSdpCreds,
+  IsFormedSimulcast,
+  IsFormedAdded,
+  IsFormedUpdate,
+  AreFormedChanges,
+  IsTakenLine,
+  IsFormed,
+}
 use Rattle.rtc_peer_state.specs.MadeSdp.{creds_in_use, candidates_in_use, offer_sdp, answer_sdp, role_after}
 use Rattle.rtc_peer_state.specs.Names.{is_held}
 use Rattle.rtc_peer_state.specs.Staging.{lacks_app, with_restart}
 use Rattle.rtc_peer_state.specs.Stance.{Stance, held_by}
+use Rattle.rtc_peer_state.proofs.TokenTables.{NameTokens}
 
 -- a mid that may be given to a staged line
 abbrev pub IsFreeMid : Stance → List ℕ → Type 0
@@ -76,6 +88,7 @@ pub record StandsMedia (s : Stance) (wanted : Wanted) (mid : List ℕ) (t : Stan
   pub kind : media.kind ≡ wanted.kind
   pub dir : media.dir ≡ wanted.dir
   pub free : IsFreeMid s mid
+  pub formed : IfSome wanted.simulcast IsFormedSimulcast → IsFormedAdded media
   pub rest : t ≡ record s { staged = s.staged ++ AddMedia media ∷ [] }
 
 abbrev pub StanceAddsMedia : Stance → Wanted → Result (List ℕ) AllocError → Stance → Type 0
@@ -168,6 +181,12 @@ followed_by s restart sdp offer = record s {
   role = Some (role_after s.role (sdp_setup sdp));
 }
 
+-- what the media part is told of a description, and what it then has of lines: what is told is formed, where the lines can be taken
+pub record TellsMedia (s : Stance) (changes : List Change) (sdp : Sdp) (told : List MediaUpdate) (t : Stance) : Type 0 where
+  pub lines : (mid : List ℕ) → t.line mid ≡ line_after told mid (s.line mid)
+  pub formed : IsFormed s → AreFormedChanges changes → NameTokens (parsed_lines sdp) → AllByRecursion IsTakenLine sdp.lines
+      → AllByRecursion IsFormedUpdate told
+
 -- a part failed or memory lacked on the way: what ICE and DTLS have may have changed, but whether the agent is lite
 pub record Breaks (s : Stance) (restart : Option (IceCreds × Bool)) (counter : ℕ) (t : Stance) : Type 0 where
   pub lite : t.ice.lite ≡ s.ice.lite
@@ -179,8 +198,10 @@ pub record StandsOffer (s : Stance) (offer answer : Sdp) (t : Stance) : Type 0 w
   pub passes : verdict (held_by s) None offer ≡ None
   pub restart : Option (IceCreds × Bool)
   pub followed : IsFollowed s offer restart
-  pub answered : answer ≡ answer_sdp s restart offer
-  pub rest : t ≡ record (followed_by s restart offer true) { counter = raised s.counter }
+  pub told : List MediaUpdate
+  pub tells : TellsMedia s [] offer told t
+  pub answered : answer ≡ answer_sdp s restart told offer
+  pub rest : t ≡ record (followed_by s restart offer true) { counter = raised s.counter; line = t.line }
 
 pub record BreaksOffer (s : Stance) (offer : Sdp) (t : Stance) : Type 0 where
   pub restart : Option (IceCreds × Bool)
@@ -205,8 +226,11 @@ StanceAcceptsOffer s offer (Err Alloc) t = BreaksOffer s offer t
 pub record StandsAnswer (s : Stance) (token : PendingOffer) (answer : Sdp) (t : Stance) : Type 0 where
   pub right : s.counter ≡ raised token.id
   pub passes : verdict (held_by s) (Some (asked_by s.lines token)) answer ≡ None
+  pub told : List MediaUpdate
+  pub tells : TellsMedia s token.changes answer told t
   pub rest : t ≡ record (followed_by s (staged_restart token.changes) answer false) {
     channels = all_confirmed (fitting_channels token.changes) s.channels;
+    line = t.line;
   }
 
 abbrev pub StanceAcceptsAnswer : Stance → PendingOffer → Sdp → Result (Unit {0}) RtcError → Stance → Type 0

@@ -37,6 +37,7 @@ use Rattle.rtc_peer_state.specs.Stance.{Stance, stance_of}
 use Rattle.rtc_peer_state.proofs.BuiltPeers.{drawn_creds_words}
 use Rattle.rtc_peer_state.proofs.ChannelRowLemmas.{added_rows, confirmed_rows}
 use Rattle.rtc_peer_state.proofs.DrawnMids.{free_mid_token}
+use Rattle.rtc_peer_state.proofs.FormedNames.{staged_media_formed}
 use Rattle.rtc_peer_state.proofs.PartMovesLemmas.{control_settings}
 use Rattle.rtc_peer_state.proofs.StanceCalls.{StanceAddsMedia, StanceChangesLine, StanceAddsChannel, StanceStagesRestart, StanceApplies}
 use Rattle.rtc_peer_state.proofs.StanceCalls.{IsAppFor, stance_alone}
@@ -58,6 +59,7 @@ adds_media_stands m laws p wanted (Ok mid) q h = record {
   kind = refl;
   dir = refl;
   free = (h.2, rw h.0 (staged_mid_token m p));
+  formed = staged_media_formed m p wanted;
   rest = ap (stance_of m) h.1;
 }
 adds_media_stands m laws p wanted (Err error) q h = ap (stance_of m) h.1

@@ -98,7 +98,8 @@ module _ {I D S M E X T W N : Type 0} (m : Meanings I D S M E X T W N) where
   -- an offer is accepted, and answered
   pub record OfferAccepted (p : Peer I D S M N) (offer answer : Sdp) (q : Peer I D S M N) : Type 0 where
     pub passes : verdict (held_by (stance_of m p)) None offer ≡ None
-    pub answered : answer ≡ answer_sdp (stance_of m p) (followed_restart m p offer) offer
+    pub answered : answer
+        ≡ answer_sdp (stance_of m p) (followed_restart m p offer) (updates_for m p true [] offer (answer_ids m p offer)) offer
     pub ice_follows : FollowsOffer m p offer q
     pub dtls_starts : StartsDtls m.dtls p.dtls p.dtls.active (role_for (sdp_setup offer)) p.greatest (Ok tt) q.dtls
     pub sctp_starts : StartsBySdp m p true offer (Ok tt) q.sctp

@@ -7,6 +7,7 @@ use Rattle.rtc_sdp_values.specs.declared.ice_creds.IceCreds.{IceCreds}
 use Rattle.rtc_dtls.specs.DtlsState.{DtlsState, BeginsDtls}
 use Rattle.rtc_sctp.specs.Streams.{SctpStreams, no_streams}
 use Rattle.rtc_peer_state.specs.declared.peer.Peer.{Peer}
+use Rattle.rtc_peer_state.specs.declared.formats.Formats.{Formats}
 use Rattle.rtc_peer_state.specs.declared.phase.Phase.TheVariants.{Alive}
 use Rattle.rtc_peer_state.specs.Creds.{drawn_creds}
 use Rattle.rtc_peer_state.specs.Meanings.{Meanings}
@@ -43,9 +44,11 @@ module _ {N : Type 0} (draws : Draws N) where
   cert_drawn config ids = after_cert config.cert (creds_drawn config ids)
 
 -- a peer with no rows, no channels and no offer yet
-abbrev pub empty_peer : {I D S M N : Type 0} → Global → (session start : ℕ) → I → DtlsState D → SctpStreams S → M → N → Peer I D S M N
-empty_peer alloc session start ice dtls sctp media ids = record {
+abbrev pub empty_peer : {I D S M N : Type 0} → Global → Formats → (session start : ℕ) → I → DtlsState D → SctpStreams S → M → N
+    → Peer I D S M N
+empty_peer alloc formats session start ice dtls sctp media ids = record {
   alloc = alloc;
+  formats = formats;
   lines = [];
   staged = [];
   channels = no_channels;
@@ -85,4 +88,4 @@ module _ {I D S M E X T W N : Type 0} (m : Meanings I D S M E X T W N) where
     -- datagrams of 1150 bytes leave 1062 for a packet of the association
     pub by_limits : m.association.limits_set association 1062 config.max_message_size p.sctp.association
     pub streams : p.sctp ≡ streams_of_config config start p.sctp.association
-    pub rest : p ≡ empty_peer alloc (m.ids.drawn ids) start p.ice p.dtls p.sctp media (cert_drawn m.ids config ids)
+    pub rest : p ≡ empty_peer alloc config.formats (m.ids.drawn ids) start p.ice p.dtls p.sctp media (cert_drawn m.ids config ids)

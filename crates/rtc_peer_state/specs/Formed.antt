@@ -1,7 +1,10 @@
 -- Peers whose session descriptions are read back as they were written.
-use Rattle.std.specs.Prelude.{◌≡◌, ◌<◌, ◌≤◌, ◌^◌, ℕ, true, List, length, codes, IfSome}
+use Rattle.std.specs.Prelude.{◌≡◌, ◌⊎◌, ◌+◌, ◌<◌, ◌≤◌, ◌^◌, ◌==◌, ℕ, Bool, true}
+use Rattle.std.specs.Prelude.{false, if◌then◌else◌, List, [], ◌∷◌, length, codes, Option, IfSome, IsSome}
 use Rattle.std.specs.List.{AllByRecursion}
+use Rattle.std.specs.Str.{bytes_eq}
 use Rattle.rtc_fields.specs.Cuts.{Lacks}
+use Rattle.rtc_fields.specs.Once.{IsApart}
 use Rattle.rtc_fields.specs.Tokens.{is_token, is_short_token}
 use Rattle.rtc_wire.specs.declared.protocol.Protocol.TheVariants.{Udp}
 use Rattle.rtc_sdp_values.specs.LineRow.{row_mid}
@@ -10,8 +13,20 @@ use Rattle.rtc_sdp_values.specs.declared.candidate_kind.CandidateKind.TheVariant
 use Rattle.rtc_sdp_values.specs.declared.fingerprint.Fingerprint.{Fingerprint}
 use Rattle.rtc_sdp_values.specs.declared.ice_creds.IceCreds.{IceCreds}
 use Rattle.rtc_sdp_values.specs.declared.line_row.LineRow.{LineRow}
+use Rattle.rtc_sdp_values.specs.declared.media_line.MediaLine.{MediaLine}
+use Rattle.rtc_sdp_values.specs.declared.msid.Msid.{Msid}
+use Rattle.rtc_sdp_values.specs.declared.simulcast.Simulcast.{Simulcast}
+use Rattle.rtc_sdp_values.specs.declared.simulcast_layer.SimulcastLayer.{SimulcastLayer}
+use Rattle.rtc_sdp_values.specs.declared.ssrc.Ssrc.{Ssrc}
+use Rattle.rtc_codecs.specs.FormedCodecs.{AreFormedRows, AreFormedExtensions, AreDistinctNumbers}
+use Rattle.rtc_media.specs.declared.media_update.MediaUpdate.{MediaUpdate}
+use Rattle.rtc_change.specs.declared.add_media.AddMedia.{AddMedia}
 use Rattle.rtc_change.specs.declared.change.Change.{Change}
 use Rattle.rtc_change.specs.PendingOffer.{added_mids, restart_of}
+use Rattle.rtc_peer_state.specs.declared.line_media.LineMedia.{LineMedia}
+use Rattle.rtc_peer_state.specs.Formats.{AreFormedFormats}
+use Rattle.rtc_peer_state.specs.LineUpdates.{media_of_change}
+use Rattle.rtc_peer_state.specs.MadeSdp.{media_of_update}
 use Rattle.rtc_peer_state.specs.Stance.{Stance}
 
 -- a text of 1 byte to so many, without a space and without a line feed
@@ -52,11 +67,88 @@ pub record IsHostCandidate (candidate : Candidate) : Type 0 where
   pub port : candidate.addr.port ≤ 65535
   pub kind : candidate.kind ≡ Host
 
--- restarts that are staged have such credentials
-abbrev pub RestartWords : List Change → Type 0
-RestartWords changes = AllByRecursion (λ change. IfSome (restart_of change) (λ restart. AreSdpCreds restart.0)) changes
+-- ---- what lines carry
+-- a name and a value of a layer that stand in its line (RFC 8851, section 10); payload types are none of them, since none are told
+pub record IsFormedPair (pair : List ℕ × List ℕ) : Type 0 where
+  pub kept : bytes_eq pair.0 (codes "pt") ≡ false
+  pub key_line : Lacks 10 pair.0
+  pub key_semicolon : Lacks 59 pair.0
+  pub key_equals : Lacks 61 pair.0
+  pub value_line : Lacks 10 pair.1
+  pub value_semicolon : Lacks 59 pair.1
+  pub value_equals : Lacks 61 pair.1
 
--- a peer whose session number, credentials, fingerprint, candidates, mids and longest message are such
+-- a name that stands in a list of layers: a short token that no `~` begins (RFC 8853, section 5.1)
+abbrev pub is_layer_name : List ℕ → Bool
+is_layer_name [] = false
+is_layer_name (byte ∷ bytes) = if byte == 126 then false else is_short_token (byte ∷ bytes)
+
+pub record IsFormedLayer (layer : SimulcastLayer) : Type 0 where
+  pub name : is_layer_name layer.rid ≡ true
+  pub pairs : AllByRecursion IsFormedPair layer.attributes
+
+abbrev pub same_layer : SimulcastLayer → SimulcastLayer → Bool
+same_layer a b = bytes_eq a.rid b.rid
+
+-- layers of one direction, each with a name of its own
+pub record AreFormedLayers (layers : List SimulcastLayer) : Type 0 where
+  pub each : AllByRecursion IsFormedLayer layers
+  pub apart : IsApart same_layer layers
+
+-- at least one layer
+pub record IsFormedSimulcast (simulcast : Simulcast) : Type 0 where
+  pub some : 0 < length simulcast.send + length simulcast.recv
+  pub send : AreFormedLayers simulcast.send
+  pub recv : AreFormedLayers simulcast.recv
+
+-- names of a stream and of its track that are tokens (RFC 8830, section 2)
+pub record IsFormedMsid (msid : Msid) : Type 0 where
+  pub stream : is_token msid.stream_id ≡ true
+  pub track : is_token msid.track_id ≡ true
+
+-- a source and that of its retransmissions, with numbers of 32 bits (RFC 3550, section 5.1)
+pub record IsFormedSource (source : Ssrc × Option Ssrc) : Type 0 where
+  pub own : source.0.0 < 2 ^ 32
+  pub rtx : IfSome source.1 (λ ssrc. ssrc.0 < 2 ^ 32)
+
+-- what a line carries whole; sources have a name and a stream, and may stand twice
+pub record IsFormedMedia (media : LineMedia) : Type 0 where
+  pub payloads : AreFormedRows media.payloads
+  pub exts : AreFormedExtensions media.exts
+  pub simulcast : IfSome media.simulcast IsFormedSimulcast
+  pub msid : IfSome media.msid IsFormedMsid
+  pub cname : IfSome media.cname (λ name. is_token name ≡ true)
+  pub named : media.ssrcs ≡ [] ⊎ (IsSome media.msid × IsSome media.cname)
+  pub ssrcs : AllByRecursion IsFormedSource media.ssrcs
+
+-- what a media part is told of a line: it has a stream and a name for its sources
+pub record IsFormedUpdate (update : MediaUpdate) : Type 0 where
+  pub carried : IsFormedMedia (media_of_update update)
+  pub has_msid : IsSome update.msid
+  pub has_cname : IsSome update.cname
+
+-- what is staged with a line
+pub record IsFormedAdded (media : AddMedia) : Type 0 where
+  pub simulcast : IfSome media.simulcast IsFormedSimulcast
+  pub msid : IsFormedMsid media.msid
+  pub cname : is_token media.cname ≡ true
+  pub ssrcs : AllByRecursion IsFormedSource media.ssrcs
+
+-- a restart that is staged has such credentials, and a line that is staged carries such media
+pub record IsFormedChange (change : Change) : Type 0 where
+  pub restart : IfSome (restart_of change) (λ restart. AreSdpCreds restart.0)
+  pub media : IfSome (media_of_change change) IsFormedAdded
+
+abbrev pub AreFormedChanges : List Change → Type 0
+AreFormedChanges changes = AllByRecursion IsFormedChange changes
+
+-- what is taken of a line of the other side: payload types that do not repeat, extensions by their numbers, and layers
+pub record IsTakenLine (line : MediaLine) : Type 0 where
+  pub payloads : AreDistinctNumbers line.payloads
+  pub exts : AreFormedExtensions line.exts
+  pub simulcast : IfSome line.simulcast IsFormedSimulcast
+
+-- a peer whose session number, credentials, fingerprint, candidates, mids, longest message, codecs, header extensions and lines are such
 pub record IsFormed (s : Stance) : Type 0 where
   pub session : s.session < 2 ^ 64
   pub creds : AreSdpCreds s.ice.local
@@ -64,5 +156,7 @@ pub record IsFormed (s : Stance) : Type 0 where
   pub fingerprint : IsSha256 s.own_fingerprint
   pub rows : HaveTokens s.lines
   pub staged : AddTokens s.staged
-  pub restarts : RestartWords s.staged
   pub size : s.max_message_size < 2 ^ 32
+  pub changes : AreFormedChanges s.staged
+  pub formats : AreFormedFormats s.formats
+  pub media : (mid : List ℕ) → IfSome (s.line mid) IsFormedUpdate

@@ -1,3 +1,4 @@
+pub mod Formats
 pub mod Config
 pub mod Creds
 pub mod Meanings

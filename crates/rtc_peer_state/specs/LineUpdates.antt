@@ -1,6 +1,7 @@
 -- What the media part is told of each media line that an offer or an answer names.
-use Rattle.std.specs.Prelude.{ℕ, ◌&&◌, not, Bool, true, false, List, [], ◌∷◌, ◌++◌, if◌then◌else◌, Option, Some, None}
+use Rattle.std.specs.Prelude.{ℕ, ◌&&◌, not, Bool, true, false, List, [], ◌∷◌, ◌++◌, if◌then◌else◌, Option, Some, None, option_map}
 use Rattle.std.specs.List.{flat_map}
+use Rattle.std.specs.Option.{option_or}
 use Rattle.std.specs.Str.{bytes_eq}
 use Rattle.rtc_fields.specs.Fields.{first}
 use Rattle.rtc_sdp_values.specs.Direction.{does_send}
@@ -10,10 +11,13 @@ use Rattle.rtc_sdp_values.specs.declared.line_row.LineRow.TheVariants.{Media, Ap
 use Rattle.rtc_sdp_values.specs.declared.media_kind.MediaKind.{MediaKind}
 use Rattle.rtc_sdp_values.specs.declared.media_kind.MediaKind.TheVariants.{Audio}
 use Rattle.rtc_sdp_values.specs.declared.media_line.MediaLine.{MediaLine}
+use Rattle.rtc_sdp_values.specs.declared.simulcast.Simulcast.{Simulcast}
+use Rattle.rtc_codecs.specs.LineFormats.{matched_rows, shared_extensions}
 use Rattle.rtc_media.specs.declared.media_update.MediaUpdate.{MediaUpdate}
 use Rattle.rtc_change.specs.declared.add_media.AddMedia.{AddMedia as AddedMedia}
 use Rattle.rtc_change.specs.declared.change.Change.{Change}
 use Rattle.rtc_change.specs.declared.change.Change.TheVariants.{AddMedia, AddApp, AddChannel, Direction as SetDirection, IceRestart}
+use Rattle.rtc_peer_state.specs.declared.formats.Formats.{Formats}
 use Rattle.rtc_peer_state.specs.declared.sending.Sending.{Sending}
 use Rattle.rtc_peer_state.specs.MadeSdp.{is_stopped}
 use Rattle.rtc_peer_state.specs.Sources.{Pair, pair_numbers, pair_count, next_pairs, after_pairs}
@@ -68,6 +72,14 @@ sending_of None None mid = bare_sending mid
 abbrev pub line_sending : (List ℕ → Option MediaUpdate) → List Change → List ℕ → Sending
 line_sending line changes mid = sending_of (line mid) (added_media changes mid) mid
 
+-- layers as the other side sees them (RFC 8853, section 5.3)
+abbrev pub inverted : Simulcast → Simulcast
+inverted simulcast = record { send = simulcast.recv; recv = simulcast.send }
+
+-- a line that has no layers takes the first ones that the other side tells, and keeps them
+abbrev pub layered : MediaLine → Sending → Sending
+layered line sending = record sending { simulcast = option_or sending.simulcast (option_map inverted line.simulcast) }
+
 abbrev pub has_none : List Pair → Bool
 has_none [] = true
 has_none (pair ∷ pairs) = false
@@ -100,14 +112,15 @@ rows_behind [] = []
 rows_behind (row ∷ rows) = rows
 
 -- what the media part is told of a row: the row that stood at its place before, the m-line, what is sent on it and the sources
--- that are drawn for it. A new live row of an offer is announced.
-abbrev pub row_update : Bool → Option LineRow → LineRow → MediaLine → Sending → List Pair → MediaUpdate
-row_update offer before row line sending drawn = record {
+-- that are drawn for it. A new live row of an offer is announced. The line has the codecs and header extensions that both sides have, by
+-- the numbers of the other side (RFC 3264, sections 5.1 and 6.1).
+abbrev pub row_update : Formats → Bool → Option LineRow → LineRow → MediaLine → Sending → List Pair → MediaUpdate
+row_update formats offer before row line sending drawn = record {
   row = row;
   removed = replaced_mid before row;
   announce = offer && (is_added before row && not (is_stopped row));
-  payloads = [];
-  exts = [];
+  payloads = matched_rows (row_kind row) formats.codecs.rows line.payloads;
+  exts = shared_extensions formats.extensions.rows line.exts;
   simulcast = sending.simulcast;
   msid = sending.msid;
   cname = sending.cname;
@@ -137,17 +150,18 @@ module _ {N : Type 0} (draws : Draws N) (used : ℕ → Bool) where
 -- the sources are drawn for the lines in their order
 module _ {N : Type 0} (draws : Draws N) (used : ℕ → Bool) (sends : List ℕ → Sending) where
   -- the updates of rows, with the rows that stood at their places before and the m-lines that name them
-  abbrev pub row_updates : Bool → List LineRow → List LineRow → List MediaLine → List ℕ → N → List MediaUpdate
-  row_updates offer before [] lines earlier ids = []
-  row_updates offer before (row ∷ rows) [] earlier ids = []
-  row_updates offer before (row ∷ rows) (line ∷ lines) earlier ids =
-      if_media row (row_update offer (first_row before) row line (sends (row_mid row))
-      (row_pairs draws used (sends (row_mid row)) earlier row ids))
-      ++ row_updates offer (rows_behind before) rows lines
-      (earlier ++ flat_map pair_numbers (row_pairs draws used (sends (row_mid row)) earlier row ids))
-      (after_row draws used (sends (row_mid row)) row ids)
+  abbrev pub row_updates : Formats → Bool → List LineRow → List LineRow → List MediaLine → List ℕ → N → List MediaUpdate
+  row_updates formats offer before [] lines earlier ids = []
+  row_updates formats offer before (row ∷ rows) [] earlier ids = []
+  row_updates formats offer before (row ∷ rows) (line ∷ lines) earlier ids =
+      if_media row (row_update formats offer (first_row before) row line (layered line (sends (row_mid row)))
+      (row_pairs draws used (layered line (sends (row_mid row))) earlier row ids))
+      ++ row_updates formats offer (rows_behind before) rows lines
+      (earlier ++ flat_map pair_numbers (row_pairs draws used (layered line (sends (row_mid row))) earlier row ids))
+      (after_row draws used (layered line (sends (row_mid row))) row ids)
 
   abbrev pub after_updates : List LineRow → List MediaLine → N → N
   after_updates [] lines ids = ids
   after_updates (row ∷ rows) [] ids = ids
-  after_updates (row ∷ rows) (line ∷ lines) ids = after_updates rows lines (after_row draws used (sends (row_mid row)) row ids)
+  after_updates (row ∷ rows) (line ∷ lines) ids =
+      after_updates rows lines (after_row draws used (layered line (sends (row_mid row))) row ids)

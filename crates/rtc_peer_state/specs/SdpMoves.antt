@@ -40,7 +40,7 @@ module _ {I D S M E X T W N : Type 0} (m : Meanings I D S M E X T W N) where
   -- what the media part is told, where these numbers are drawn from
   abbrev pub updates_for : Peer I D S M N → Bool → List Change → Sdp → N → List MediaUpdate
   updates_for p offer changes sdp ids =
-      row_updates m.ids (uses_source m p) (sends_on p changes) offer p.lines (rows_of_sdp p offer sdp) sdp.lines [] ids
+      row_updates m.ids (uses_source m p) (sends_on p changes) p.formats offer p.lines (rows_of_sdp p offer sdp) sdp.lines [] ids
 
   abbrev pub ids_after_updates : Peer I D S M N → Bool → List Change → Sdp → N → N
   ids_after_updates p offer changes sdp ids =

@@ -7,12 +7,16 @@ use Rattle.rtc_channels.specs.Channels.{Channels}
 use Rattle.rtc_channels.specs.declared.channel_row.ChannelRow.{ChannelRow}
 use Rattle.rtc_change.specs.declared.change.Change.{Change}
 use Rattle.rtc_change.specs.Held.{Held}
+use Rattle.rtc_media.specs.declared.media_update.MediaUpdate.{MediaUpdate}
+use Rattle.rtc_peer_state.specs.declared.formats.Formats.{Formats}
 use Rattle.rtc_peer_state.specs.declared.peer.Peer.{Peer}
 use Rattle.rtc_peer_state.specs.ChannelRows.{channel_rows}
 use Rattle.rtc_peer_state.specs.Meanings.{Meanings}
 
 pub record Stance : Type 0 where
   pub session : ℕ
+  -- the codecs and header extensions that it offers and takes
+  pub formats : Formats
   pub lines : List LineRow
   pub staged : List Change
   pub channels : Channels
@@ -28,10 +32,13 @@ pub record Stance : Type 0 where
   pub role : Option Bool
   -- the longest message that this side takes, in bytes
   pub max_message_size : ℕ
+  -- what the media part has of the line of a mid
+  pub line : List ℕ → Option MediaUpdate
 
 abbrev pub stance_of : {I D S M E X T W N : Type 0} → Meanings I D S M E X T W N → Peer I D S M N → Stance
 stance_of m p = record {
   session = p.session_id;
+  formats = p.formats;
   lines = p.lines;
   staged = p.staged;
   channels = p.channels;
@@ -42,6 +49,7 @@ stance_of m p = record {
   fingerprint = p.fingerprint;
   role = p.dtls.active;
   max_message_size = p.sctp.local_max;
+  line = m.media.line p.media;
 }
 
 -- what an offer or an answer is judged by

@@ -1,5 +1,5 @@
 //! The state of a peer.
-use crate::{Phase, Staged};
+use crate::{Formats, Phase, Staged};
 use rtc_change::Lines;
 use rtc_channels::ChannelHandler;
 use rtc_dtls::Dtls;
@@ -11,6 +11,8 @@ use std::alloc::Global;
 /// The state of a peer. Its fields are public for the crates that work on it; callers hold an `Rtc`.
 pub struct Peer<I, D, S, M, N> {
     pub alloc: Global,
+    /// The codecs and header extensions that it was built with.
+    pub formats: Formats,
     pub lines: Lines,
     /// What is staged and not yet applied.
     pub staged: Staged,
@@ -37,6 +39,7 @@ impl<I: Drop, D: Drop, S: Drop, M: Drop, N: Drop> Drop for Peer<I, D, S, M, N> {
     fn drop(self) {
         let Peer {
             alloc: _alloc,
+            formats: _formats,
             lines: _lines,
             staged: _staged,
             channels: _channels,

@@ -2,9 +2,11 @@
 ghost use Rattle.std.specs.Prelude.{◌≡◌, ◌≤◌, IfOk, Some, None, false, vec_len};
 ghost use Rattle.std.specs.Option.{option_copied};
 ghost use Rattle.rtc_peer_state.specs.Config.{IsShort};
+ghost use Rattle.rtc_peer_state.specs.Formats.{default_formats, AreFormedFormats};
 
-use rtc_sdp_values::IceCreds;
-use rtc_wire::{Bytes, DEFAULT_MAX_BUFFERED_AMOUNT, LOCAL_MAX_MESSAGE_SIZE};
+use crate::Formats;
+use rtc_sdp_values::{CodecConfig, ExtensionMap, IceCreds};
+use rtc_wire::{Bytes, DEFAULT_MAX_BUFFERED_AMOUNT, LOCAL_MAX_MESSAGE_SIZE, Span};
 use std::alloc::{AllocError, Global};
 use std::marker::Model;
 
@@ -14,8 +16,10 @@ pub struct RtcConfig {
     ice_lite: bool,
     creds: Option<IceCreds>,
     cert: Option<Bytes>,
+    formats: Formats,
     max_buffered: usize,
     max_message_size: u32,
+    stats_interval: Option<Span>,
 }
 
 impl Model for RtcConfig {
@@ -27,52 +31,48 @@ impl Model for RtcConfig {
       ice_lite = config.ice_lite;
       creds = config.creds;
       cert = config.cert;
+      formats = config.formats;
       max_buffered = config.max_buffered;
       max_message_size = config.max_message_size;
+      stats_interval = config.stats_interval;
     } };
 
     ghost invariant = { λ config. IsShort config.cert };
 }
 
 impl RtcConfig {
-    /// The default: an agent that makes checks, a peer that draws its credentials and its certificate, 131072 bytes that may be buffered,
-    /// and messages of up to 262144 bytes.
-    pub fn new(_alloc: Global) -> Result<RtcConfig, AllocError>
-        ensures { IfOk result (λ config. config ≡ record {
+    /// The default: an agent that makes checks, a peer that draws its credentials and its certificate, with the codecs and header
+    /// extensions that are enabled by default, 131072 bytes that may be buffered, messages of up to 262144 bytes, and no statistics.
+    pub fn new(alloc: Global) -> Result<RtcConfig, AllocError>
+        ensures value { IfOk result (λ config. config ≡ record {
           ice_lite = false;
           creds = None;
           cert = None;
+          formats = default_formats;
           max_buffered = 131072;
           max_message_size = 262144;
+          stats_interval = None;
         }) }
+        ensures formed { IfOk result (λ config. AreFormedFormats config.formats) }
     {
+        let formats = Formats::standard(alloc)?;
         Ok(RtcConfig {
             ice_lite: false,
             creds: None,
             cert: None,
+            formats,
             max_buffered: DEFAULT_MAX_BUFFERED_AMOUNT,
             max_message_size: LOCAL_MAX_MESSAGE_SIZE,
+            stats_interval: None,
         })
     }
 
     /// Sets whether the ICE agent only answers checks (RFC 8445, section 2.5).
-    pub fn set_ice_lite(self, lite: bool) -> RtcConfig
+    pub fn set_ice_lite(mut self, lite: bool) -> RtcConfig
         ensures { result ≡ record self { ice_lite = lite } }
     {
-        let RtcConfig {
-            ice_lite: _,
-            creds,
-            cert,
-            max_buffered,
-            max_message_size,
-        } = self;
-        RtcConfig {
-            ice_lite: lite,
-            creds,
-            cert,
-            max_buffered,
-            max_message_size,
-        }
+        self.ice_lite = lite;
+        self
     }
 
     /// Whether the ICE agent only answers checks.
@@ -90,15 +90,19 @@ impl RtcConfig {
             ice_lite,
             creds: _,
             cert,
+            formats,
             max_buffered,
             max_message_size,
+            stats_interval,
         } = self;
         RtcConfig {
             ice_lite,
             creds: Some(creds),
             cert,
+            formats,
             max_buffered,
             max_message_size,
+            stats_interval,
         }
     }
 
@@ -118,15 +122,19 @@ impl RtcConfig {
             ice_lite,
             creds,
             cert: _,
+            formats,
             max_buffered,
             max_message_size,
+            stats_interval,
         } = self;
         RtcConfig {
             ice_lite,
             creds,
             cert: Some(Bytes::new(cert)),
+            formats,
             max_buffered,
             max_message_size,
+            stats_interval,
         }
     }
 
@@ -141,24 +149,84 @@ impl RtcConfig {
         }
     }
 
-    /// Sets how many bytes of data channels may be buffered before nothing is available.
-    pub fn set_sctp_max_buffered_amount(self, size: usize) -> RtcConfig
-        ensures { result ≡ record self { max_buffered = size } }
+    /// Sets the codecs.
+    pub fn set_codec_config(self, codecs: CodecConfig) -> RtcConfig
+        ensures { result ≡ record self { formats = record { codecs = codecs; extensions = self.formats.extensions } } }
     {
         let RtcConfig {
             ice_lite,
             creds,
             cert,
-            max_buffered: _,
+            formats,
+            max_buffered,
             max_message_size,
+            stats_interval,
         } = self;
+        let Formats {
+            codecs: _,
+            extensions,
+        } = formats;
         RtcConfig {
             ice_lite,
             creds,
             cert,
-            max_buffered: size,
+            formats: Formats { codecs, extensions },
+            max_buffered,
             max_message_size,
+            stats_interval,
         }
+    }
+
+    /// Sets the header extensions.
+    pub fn set_extension_map(self, extensions: ExtensionMap) -> RtcConfig
+        ensures { result ≡ record self { formats = record { codecs = self.formats.codecs; extensions = extensions } } }
+    {
+        let RtcConfig {
+            ice_lite,
+            creds,
+            cert,
+            formats,
+            max_buffered,
+            max_message_size,
+            stats_interval,
+        } = self;
+        let Formats {
+            codecs,
+            extensions: _,
+        } = formats;
+        RtcConfig {
+            ice_lite,
+            creds,
+            cert,
+            formats: Formats { codecs, extensions },
+            max_buffered,
+            max_message_size,
+            stats_interval,
+        }
+    }
+
+    /// The codecs and header extensions, of which the config is made.
+    pub fn into_formats(self) -> Formats
+        ensures { result ≡ self.formats }
+    {
+        let RtcConfig {
+            ice_lite: _,
+            creds: _,
+            cert: _,
+            formats,
+            max_buffered: _,
+            max_message_size: _,
+            stats_interval: _,
+        } = self;
+        formats
+    }
+
+    /// Sets how many bytes of data channels may be buffered before nothing is available.
+    pub fn set_sctp_max_buffered_amount(mut self, size: usize) -> RtcConfig
+        ensures { result ≡ record self { max_buffered = size } }
+    {
+        self.max_buffered = size;
+        self
     }
 
     /// How many bytes of data channels may be buffered before nothing is available.
@@ -170,23 +238,11 @@ impl RtcConfig {
 
     /// Sets the longest message that this side takes, in bytes, which its session descriptions tell (RFC 8841, section 6.1): 0 stands for
     /// any length.
-    pub fn set_sctp_max_message_size(self, size: u32) -> RtcConfig
+    pub fn set_sctp_max_message_size(mut self, size: u32) -> RtcConfig
         ensures { result ≡ record self { max_message_size = size } }
     {
-        let RtcConfig {
-            ice_lite,
-            creds,
-            cert,
-            max_buffered,
-            max_message_size: _,
-        } = self;
-        RtcConfig {
-            ice_lite,
-            creds,
-            cert,
-            max_buffered,
-            max_message_size: size,
-        }
+        self.max_message_size = size;
+        self
     }
 
     /// The longest message that this side takes, in bytes.
@@ -194,5 +250,20 @@ impl RtcConfig {
         ensures { result ≡ self.now.max_message_size }
     {
         self.max_message_size
+    }
+
+    /// Sets the time between two rounds of statistics; none are reported without one.
+    pub fn set_stats_interval(mut self, interval: Option<Span>) -> RtcConfig
+        ensures { result ≡ record self { stats_interval = interval } }
+    {
+        self.stats_interval = interval;
+        self
+    }
+
+    /// The time between two rounds of statistics, where they are reported.
+    pub fn stats_interval(&self) -> Option<Span>
+        ensures { result ≡ self.now.stats_interval }
+    {
+        self.stats_interval
     }
 }

@@ -9,6 +9,13 @@ use Rattle.rtc_media.specs.MediaActs.{
   MediaTaken,
   MediaStirred,
   MediaActed,
+  KeepsLines,
+  ByGiven,
+  ByTaken,
+  ByTime,
+  ByShut,
+  ByLoan,
+  ByOther,
   ChangesLines,
   LendsMedia,
   WriterLent,
@@ -106,12 +113,16 @@ keeps_goodbye p = by p.is_shut refl
           ∷ [];
     }) (said_goodbye p) (record { lines = λ mid. refl; pending = refl; begins = λ b. begins_more p.datagrams goodbye b refl }) (rw is refl)
 
--- each act keeps both, or changes lines, or prepares
-pub data MediaEffect (p q : MediaContents) : Type 0 where
-  Keeping : KeepsMedia p q → MediaEffect p q
-  ChangingLines : ChangesLines plain_media_meaning p q → MediaEffect p q
+-- each call that keeps lines keeps both, or prepares
+pub data MediaStay (p q : MediaContents) : Type 0 where
+  Keeping : KeepsMedia p q → MediaStay p q
   Preparing : (updates : List MediaUpdate) (r : Result (Unit {0}) AllocError)
-      → MediaLeaves p (record p { pending = updates }) r q → MediaEffect p q
+      → MediaLeaves p (record p { pending = updates }) r q → MediaStay p q
+
+-- each act is such a call, or changes lines
+pub data MediaEffect (p q : MediaContents) : Type 0 where
+  Staying : MediaStay p q → MediaEffect p q
+  ChangingLines : ChangesLines plain_media_meaning p q → MediaEffect p q
 
 lent_effect : (p q : MediaContents) → LendsMedia plain_media_meaning p q → KeepsMedia p q
 lent_effect p q (WriterLent mid lent left h) =
@@ -126,7 +137,7 @@ lent_effect p q (RxNamedLent mid rid lent left h) = keeps_by p _ q (record { lin
 lent_effect p q (TxNamedLent mid rid lent left h) = keeps_by p _ q (record { lines = λ m. refl; pending = refl; begins = λ b. b }) h.1
 lent_effect p q (TxReset mid rid ssrc rtx lent left h) = keeps_by p _ q (record { lines = λ m. refl; pending = refl; begins = λ b. b }) h.1
 
-stirred_effect : (p q : MediaContents) → StirsMedia plain_media_meaning p q → MediaEffect p q
+stirred_effect : (p q : MediaContents) → StirsMedia plain_media_meaning p q → MediaStay p q
 stirred_effect p q (Configured settings h) = Keeping (keeps_by p _ q (record { lines = λ m. refl; pending = refl; begins = λ b. b }) h)
 stirred_effect p q (Prepared updates r h) = Preparing updates r h
 stirred_effect p q (Keyed key profile active r h) =
@@ -154,20 +165,28 @@ stirred_effect p q (PliFed sender media r h) =
 stirred_effect p q (RxRemoved ssrc b h) = Keeping (keeps_by p _ q (record { lines = λ m. refl; pending = refl; begins = λ b. b }) h.1)
 stirred_effect p q (TxRemoved ssrc b h) = Keeping (keeps_by p _ q (record { lines = λ m. refl; pending = refl; begins = λ b. b }) h.1)
 
-pub effect : (p q : MediaContents) (act : MediaAct) → MediaActed plain_media_meaning p act q → MediaEffect p q
-effect p q (MediaGiven packet) (now, (r, inl h)) =
+pub stay : (p q : MediaContents) → KeepsLines plain_media_meaning p q → MediaStay p q
+stay p q (ByGiven packet (now, (r, inl h))) =
     Keeping (keeps_left p _ q r (record { lines = λ m. refl; pending = refl; begins = λ b. b }) h)
-effect p q (MediaGiven packet) (now, (r, inr h)) =
+stay p q (ByGiven packet (now, (r, inr h))) =
     Keeping (keeps_left p _ q r (record { lines = λ m. refl; pending = refl; begins = λ b. b }) h)
-effect p q (MediaTaken datagram) (now, h) =
+stay p q (ByTaken datagram (now, h)) =
     let t = gives_some p.datagrams p q datagram h in
     Keeping (keeps_by p _ q (record {
       lines = λ m. refl;
       pending = refl;
       begins = λ b. (subst EachBegins t.0.is b).1;
     }) t.1)
-effect p q (MediaStirred (Timed now)) (r, h) = Keeping (keeps_by p p q (keeps_self p) (stays_same tt p q r h))
-effect p q (MediaStirred Shut) (r, h) = Keeping (keeps_left p _ q r (keeps_goodbye p) h)
+stay p q (ByTime now (r, h)) = Keeping (keeps_by p p q (keeps_self p) (stays_same tt p q r h))
+stay p q (ByShut (r, h)) = Keeping (keeps_left p _ q r (keeps_goodbye p) h)
+stay p q (ByLoan h) = Keeping (lent_effect p q h)
+stay p q (ByOther h) = stirred_effect p q h
+
+pub effect : (p q : MediaContents) (act : MediaAct) → MediaActed plain_media_meaning p act q → MediaEffect p q
+effect p q (MediaGiven packet) h = Staying (stay p q (ByGiven packet h))
+effect p q (MediaTaken datagram) h = Staying (stay p q (ByTaken datagram h))
+effect p q (MediaStirred (Timed now)) h = Staying (stay p q (ByTime now h))
+effect p q (MediaStirred Shut) h = Staying (stay p q (ByShut h))
 effect p q (MediaStirred Other) (inl h) = ChangingLines h
-effect p q (MediaStirred Other) (inr (inl h)) = Keeping (lent_effect p q h)
-effect p q (MediaStirred Other) (inr (inr h)) = stirred_effect p q h
+effect p q (MediaStirred Other) (inr (inl h)) = Staying (stay p q (ByLoan h))
+effect p q (MediaStirred Other) (inr (inr h)) = Staying (stay p q (ByOther h))

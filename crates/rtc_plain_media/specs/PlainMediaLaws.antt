@@ -30,7 +30,7 @@ use Rattle.rtc_sdp_values.specs.declared.ssrc.Ssrc.{Ssrc}
 use Rattle.rtc_media.specs.declared.media_update.MediaUpdate.{MediaUpdate}
 use Rattle.rtc_media.specs.MediaUpdates.{same_mid, removed_by}
 use Rattle.rtc_media.specs.MediaMeaning.{held_media}
-use Rattle.rtc_media.specs.MediaActs.{ChangesLines, Committed, LineRemoved}
+use Rattle.rtc_media.specs.MediaActs.{Committed, LineRemoved}
 use Rattle.rtc_media.specs.MediaLaws.{MediaLaws, SameLines, UsesStream, ChangesPending, ByPrepare, ByCommit}
 use Rattle.rtc_plain_media.specs.declared.plain_mark.PlainMark.{PlainMark}
 use Rattle.rtc_plain_media.specs.declared.stream_row.StreamRow.{StreamRow}
@@ -84,9 +84,12 @@ use Rattle.rtc_plain_media.specs.QueueLemmas.{
 }
 use Rattle.rtc_plain_media.specs.ActLemmas.{
   MediaEffect,
-  Keeping,
+  Staying,
   ChangingLines,
+  MediaStay,
+  Keeping,
   Preparing,
+  stay,
   effect,
   leaves_with,
   tells_none,
@@ -109,17 +112,15 @@ prepared_same p q updates r h =
 
 -- what is pending, and what lines are, after each act
 pending_after : (p q : MediaContents) → MediaEffect p q → (q.pending ≡ p.pending) ⊎ ChangesPending plain_media_meaning p q
-pending_after p q (Keeping k) = inl k.pending
+pending_after p q (Staying (Keeping k)) = inl k.pending
 pending_after p q (ChangingLines (Committed h)) = inr (ByCommit h)
 pending_after p q (ChangingLines (LineRemoved mid h)) = inl (ap (λ (c : MediaContents). c.pending) h)
-pending_after p q (Preparing updates (Ok x) h) = inr (ByPrepare updates h)
-pending_after p q (Preparing updates (Err e) h) = inl (ap (λ (c : MediaContents). c.pending) h)
+pending_after p q (Staying (Preparing updates (Ok x) h)) = inr (ByPrepare updates h)
+pending_after p q (Staying (Preparing updates (Err e) h)) = inl (ap (λ (c : MediaContents). c.pending) h)
 
-lines_after_act : (p q : MediaContents) (mid : List ℕ) → MediaEffect p q → (update_of q mid ≡ update_of p mid)
-    ⊎ ChangesLines plain_media_meaning p q
-lines_after_act p q mid (Keeping k) = inl (k.lines mid)
-lines_after_act p q mid (ChangingLines h) = inr h
-lines_after_act p q mid (Preparing updates r h) = inl ((prepared_same p q updates r h).lines mid)
+lines_kept : (p q : MediaContents) (mid : List ℕ) → MediaStay p q → update_of q mid ≡ update_of p mid
+lines_kept p q mid (Keeping k) = k.lines mid
+lines_kept p q mid (Preparing updates r h) = (prepared_same p q updates r h).lines mid
 
 -- streams of lines that are gone
 no_streams : (p : MediaContents) (mid : List ℕ) (gone : List ℕ → Bool) → gone mid ≡ true
@@ -237,7 +238,7 @@ plain_media_laws = record {
       ∙ no_streams p mid (λ other. same_mid other mid) (is_same mid mid refl);
   removed_others = λ p q mid other n h.
       ap (λ (c : MediaContents). update_of c other) h ∙ line-dropped_other p mid other (other_mid other mid n);
-  lines_stay = λ p q act mid h. lines_after_act p q mid (effect p q act h);
+  lines_stay = λ p q mid h. lines_kept p q mid (stay p q h);
   writer_same = writer_kept;
   rx_same = λ p q ssrc lent left h. rx_marked p q (has_ssrc ssrc) left h.1;
   tx_same = λ p q ssrc lent left h. tx_marked p q (has_ssrc ssrc) left h.1;

@@ -4,7 +4,7 @@ use Rattle.rtc_media.specs.MediaActs.{MediaAct, MediaGiven, MediaTaken, MediaSti
 use Rattle.rtc_plain_media.specs.Feedback.{EachBegins}
 use Rattle.rtc_plain_media.specs.MediaContents.{MediaContents}
 use Rattle.rtc_plain_media.specs.PlainMediaMeaning.{plain_media_meaning}
-use Rattle.rtc_plain_media.specs.ActLemmas.{MediaEffect, Keeping, ChangingLines, Preparing, effect, leaves_with, gives_some}
+use Rattle.rtc_plain_media.specs.ActLemmas.{MediaEffect, Staying, ChangingLines, Keeping, Preparing, effect, leaves_with, gives_some}
 
 -- the datagrams that a list of acts took
 abbrev pub datagrams_taken : List MediaAct → List (List ℕ)
@@ -14,10 +14,10 @@ datagrams_taken (MediaGiven packet ∷ acts) = datagrams_taken acts
 datagrams_taken (MediaStirred why ∷ acts) = datagrams_taken acts
 
 queued_begin : (p q : MediaContents) → MediaEffect p q → EachBegins p.datagrams → EachBegins q.datagrams
-queued_begin p q (Keeping k) b = k.begins b
+queued_begin p q (Staying (Keeping k)) b = k.begins b
 queued_begin p q (ChangingLines (Committed h)) b = subst (λ (c : MediaContents). EachBegins c.datagrams) (sym h) b
 queued_begin p q (ChangingLines (LineRemoved mid h)) b = subst (λ (c : MediaContents). EachBegins c.datagrams) (sym h) b
-queued_begin p q (Preparing updates r h) b = leaves_with (λ (c : MediaContents). EachBegins c.datagrams) p _ q r b b h
+queued_begin p q (Staying (Preparing updates r h)) b = leaves_with (λ (c : MediaContents). EachBegins c.datagrams) p _ q r b b h
 
 -- where those that wait begin with 80, those that are taken do, too
 pub taken_begin : (p q : MediaContents) (acts : List MediaAct) → EachBegins p.datagrams → MediaMoved plain_media_meaning p acts q

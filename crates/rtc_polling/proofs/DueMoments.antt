@@ -18,7 +18,9 @@ use Rattle.rtc_polling.specs.IceStages.{PollsIceEvent, PollsIceEvents, TakesIceE
 use Rattle.rtc_polling.specs.MediaStages.{TellsMedia, TellsFallibleMedia}
 use Rattle.rtc_polling.specs.SendStages.{SendsChecks, SendsDtlsPacket, SendsMediaDatagram, SendsBy, SendsByPair}
 use Rattle.rtc_polling.specs.Walk.{TellsArrivals, SendsDatagrams}
+use Rattle.rtc_polling.specs.Statistics.{TellsStatistics}
 use Rattle.rtc_polling.proofs.StageLemmas.{over_carries, went_through}
+use Rattle.rtc_polling.proofs.StatisticsTurns.{statistics_told}
 
 and_false : (b : Bool) → (b && false) ≡ false
 and_false true = refl
@@ -72,8 +74,11 @@ module _ {I D S M E X T W N : Type 0} (m : Meanings I D S M E X T W N) where
   pub arrivals_keep : (p q : PolledPeer I D S M N) → TellsArrivals m p Nothing q → KeepsMoments p q
   unfolding TellsArrivals TellsMedia TellsFallibleMedia
   arrivals_keep p q h =
-      let met = went_through (TellsMedia m) (TellsFallibleMedia m) p q h in
-      keeps_join p met.0 q (keeps_as p _ met.0 met.1.0.1 (refl, refl)) (keeps_as met.0 _ q met.1.1.1 (refl, refl))
+      let met = went_through (TellsMedia m) _ p q h in
+      let more = went_through (TellsFallibleMedia m) TellsStatistics met.0 q met.1.1 in
+      keeps_join p met.0 q (keeps_as p _ met.0 met.1.0.1 (refl, refl))
+      (keeps_join met.0 more.0 q (keeps_as met.0 _ more.0 more.1.0.1 (refl, refl))
+      (keeps_as more.0 _ q (statistics_told more.0 Nothing q more.1.1) (refl, refl)))
 
   pair_keeps : (send_addr : Option SendAddr) (p q : PolledPeer I D S M N) → SendsBy m send_addr p Nothing q → KeepsMoments p q
   unfolding SendsDtlsPacket SendsMediaDatagram

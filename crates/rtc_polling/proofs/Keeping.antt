@@ -25,10 +25,12 @@ use Rattle.rtc_polling.specs.IceStages.{PollsIceEvent, PollsIceEvents, TakesIceE
 use Rattle.rtc_polling.specs.Kept.{KeepsNegotiation}
 use Rattle.rtc_polling.specs.MediaStages.{TellsMedia, TellsFallibleMedia}
 use Rattle.rtc_polling.specs.SendStages.{SendsChecks, SendsDtlsPacket, SendsMediaDatagram, SendsBy, SendsByPair}
+use Rattle.rtc_polling.specs.Statistics.{TellsStatistics}
 use Rattle.rtc_polling.specs.StreamStages.{TellsStreams}
 use Rattle.rtc_polling.specs.Walk.{StartsOverWhenDue, TellsConnection, TellsArrivals, SendsDatagrams, VisitsParts, WaitsIf, AnswersMet, Walks, PollsPeerFrom, PollsPeer}
 use Rattle.rtc_polling.proofs.KeptCalls.{Keeps, keeps_on, keeps_by, else_keeps, repeats_keeps, close_keeps}
 use Rattle.rtc_polling.proofs.KeptStreams.{streams_keep}
+use Rattle.rtc_polling.proofs.StatisticsTurns.{statistics_told}
 
 module _ {I D S M E X T W N : Type 0} (m : Meanings I D S M E X T W N) where
   taken_event_keeps : (event : Option IceEvent) (ice : I) (p : PolledPeer I D S M N) (r : Met E) (q : PolledPeer I D S M N)
@@ -121,7 +123,9 @@ module _ {I D S M E X T W N : Type 0} (m : Meanings I D S M E X T W N) where
 
   arrivals_keep_it : Keeps (TellsArrivals m)
   unfolding TellsArrivals
-  arrivals_keep_it = else_keeps (TellsMedia m) (TellsFallibleMedia m) media_told_keeps fallible_told_keeps
+  arrivals_keep_it =
+      else_keeps (TellsMedia m) _ media_told_keeps
+      (else_keeps (TellsFallibleMedia m) TellsStatistics fallible_told_keeps (λ p r q h. keeps_by p _ q (statistics_told p r q h) refl))
 
   checks_keep : Keeps (SendsChecks m)
   unfolding SendsChecks

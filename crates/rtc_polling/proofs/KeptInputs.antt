@@ -14,7 +14,9 @@ use Rattle.rtc_peer_state.specs.declared.rtc_error.RtcError.{RtcError}
 use Rattle.rtc_peer_state.specs.declared.rtc_error.RtcError.TheVariants.{Dtls, Media, Alloc}
 use Rattle.rtc_polling.specs.Inputs.{TimesIce, TimesStreams, TimesChannels, TimesMedia, GivesTime, TakesTimeIf, with_moment, HearsStun, HearsDtls, HearsMedia, HearsKind, Hears, Heard, PartFailed, HandlesInputBy, HandlesInputIn, HandlesInput}
 use Rattle.rtc_polling.specs.Kept.{KeepsNegotiation}
+use Rattle.rtc_polling.specs.Statistics.{TimesStatistics}
 use Rattle.rtc_polling.proofs.KeptCalls.{CallKeeps, keeps_on, keeps_by, turn_keeps}
+use Rattle.rtc_polling.proofs.StatisticsTurns.{statistics_timed}
 
 module _ {I D S M E X T W N : Type 0} (m : Meanings I D S M E X T W N) where
   ice_timed_keeps : (now : ℕ) → CallKeeps (TimesIce m now)
@@ -47,7 +49,9 @@ module _ {I D S M E X T W N : Type 0} (m : Meanings I D S M E X T W N) where
       keeps_on p (with_moment now p) q refl
       (turn_keeps (TimesIce m now) _ (ice_timed_keeps now)
       (turn_keeps (TimesStreams m now) _ (streams_timed_keep now)
-      (turn_keeps (TimesChannels m) (TimesMedia m now) channels_timed_keep (media_timed_keeps now)))
+      (turn_keeps (TimesChannels m) _ channels_timed_keep
+      (turn_keeps (TimesMedia m now) (TimesStatistics m now) (media_timed_keeps now)
+      (λ p r q h. keeps_by p _ q (statistics_timed m now p r q h).kept refl))))
       (with_moment now p) r q h)
 
   time_keeps : (earlier : Bool) (now : ℕ) (p : PolledPeer I D S M N) (r : Result (Unit {0}) RtcError) (q : PolledPeer I D S M N)

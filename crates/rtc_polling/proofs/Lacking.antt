@@ -1,5 +1,5 @@
 -- Want of memory in a poll, an input or a close leaves the peer closed.
-use Rattle.std.proofs.Common.{if◌then◌else◌, ◌≡◌, ℕ, Bool, true, false, List, [], ◌∷◌, Option, Some, None, Result, Ok, Err, sym, ap, subst}
+use Rattle.std.proofs.Common.{if◌then◌else◌, ◌≡◌, ◌⊎◌, inl, inr, ℕ, Bool, true, false, List, [], ◌∷◌, Option, Some, None, Result, Ok, Err, sym, ap, subst}
 use Rattle.std.specs.declared.alloc.AllocError.{AllocError}
 use Rattle.rtc_wire.specs.declared.datagram_recv.DatagramRecv.{DatagramRecv}
 use Rattle.rtc_wire.specs.declared.datagram_recv.DatagramRecv.TheVariants as datagrams
@@ -34,6 +34,8 @@ use Rattle.rtc_sctp_entries.specs.declared.sctp_event.SctpEvent.{SctpEvent}
 use Rattle.rtc_sctp_entries.specs.declared.sctp_event.SctpEvent.TheVariants as event
 use Rattle.rtc_polling.specs.Connection.{with_pushed, with_channels}
 use Rattle.rtc_channels.specs.Holds.{holds_lost}
+use Rattle.rtc_polling.specs.Statistics.{TellsStatistics, TimesStatistics}
+use Rattle.rtc_polling.proofs.StatisticsTurns.{StatisticsTimed, statistics_told_well, statistics_timed}
 use Rattle.rtc_polling.specs.Walk.{StartsOverWhenDue, TellsConnection, TellsArrivals, SendsDatagrams, VisitsParts, WaitsIf, AnswersMet, PollsPeerFrom, PollsPeer}
 
 -- a call that lacks memory leaves the peer closed
@@ -168,7 +170,9 @@ module _ {I D S M E X T W N : Type 0} (m : Meanings I D S M E X T W N) where
   arrivals_lack : ClosesWhenLacking (TellsArrivals m)
   unfolding TellsArrivals TellsMedia TellsFallibleMedia
   arrivals_lack =
-      else_lacks (TellsMedia m) (TellsFallibleMedia m) (λ p q h. absurd h) (λ p q h. ap (λ (x : PolledPeer I D S M N). x.core.phase) h.1)
+      else_lacks (TellsMedia m) _ (λ p q h. absurd h)
+      (else_lacks (TellsFallibleMedia m) TellsStatistics (λ p q h. ap (λ (x : PolledPeer I D S M N). x.core.phase) h.1)
+      (λ p q h. absurd (statistics_told_well E Alloc p q h)))
 
   sends_lack : (addr : Option SendAddr) (p q : PolledPeer I D S M N) → SendsBy m addr p (Error Alloc) q → q.core.phase ≡ Closed
   unfolding SendsDtlsPacket SendsMediaDatagram
@@ -209,13 +213,22 @@ module _ {I D S M E X T W N : Type 0} (m : Meanings I D S M E X T W N) where
   pub poll_lacks : (p q : PolledPeer I D S M N) → PollsPeer m p (Err Alloc) q → q.core.phase ≡ Closed
   poll_lacks p q h = polls_lack p.core.phase p q h
 
+  lacking_closes : (now : ℕ) (p q : PolledPeer I D S M N) → StatisticsTimed m now p (Err Alloc) q → q.core.phase ≡ Closed
+  lacking_closes now p q timed = by timed.ends
+    where
+      by : ((◌≡◌ {A = Result (Unit {0}) RtcError} (Err Alloc) (Ok tt)) × (q.core.phase ≡ p.core.phase))
+          ⊎ ((◌≡◌ {A = Result (Unit {0}) RtcError} (Err Alloc) (Err Alloc)) × (q.core.phase ≡ Closed)) → q.core.phase ≡ Closed
+      by (inl h) = cc (h.0)
+      by (inr h) = h.1
+
   time_given_lacks : (now : ℕ) → CallClosesWhenLacking (GivesTime m now)
   unfolding TimesIce TimesStreams TimesChannels TimesMedia
   time_given_lacks now p q h =
       turn_lacks (TimesIce m now) _ (λ p q h. ap (λ (x : PolledPeer I D S M N). x.core.phase) h.1)
       (turn_lacks (TimesStreams m now) _ (λ p q h. ap (λ (x : PolledPeer I D S M N). x.core.phase) h.1)
-      (turn_lacks (TimesChannels m) (TimesMedia m now) (λ p q h. ap (λ (x : PolledPeer I D S M N). x.core.phase) h.1)
-      (λ p q h. ap (λ (x : PolledPeer I D S M N). x.core.phase) h.1)))
+      (turn_lacks (TimesChannels m) _ (λ p q h. ap (λ (x : PolledPeer I D S M N). x.core.phase) h.1)
+      (turn_lacks (TimesMedia m now) (TimesStatistics m now) (λ p q h. ap (λ (x : PolledPeer I D S M N). x.core.phase) h.1)
+      (λ p q h. lacking_closes now p q (statistics_timed m now p (Err Alloc) q h)))))
       (with_moment now p) q h
 
   input_time_lacks : (earlier : Bool) (now : ℕ) (p q : PolledPeer I D S M N) → TakesTimeIf m earlier now p (Err Alloc) q → q.core.phase ≡ Closed

@@ -1,6 +1,7 @@
 pub mod StageLemmas
 pub mod IceTurns
 pub mod DtlsTurns
+pub mod StatisticsTurns
 pub mod DueMoments
 pub mod SettledMoments
 pub mod DrainedInput

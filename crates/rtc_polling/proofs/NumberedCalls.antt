@@ -22,7 +22,9 @@ use Rattle.rtc_polling.specs.Inputs.{TimesIce, TimesStreams, TimesChannels, Time
 use Rattle.rtc_polling.specs.Inputs.{HearsStun, HearsDtls, HearsMedia, HearsKind, Hears, Heard, PartFailed, HandlesInputBy, HandlesInputIn, HandlesInput}
 use Rattle.rtc_polling.specs.Numbers.{ChannelNumbers}
 use Rattle.rtc_polling.specs.Stages.{Call, InTurn, Failed, Passed, Stage, FollowedBy, Stopped, WentOn, RepeatsStage}
+use Rattle.rtc_polling.specs.Statistics.{TimesStatistics}
 use Rattle.rtc_polling.proofs.StageLemmas.{over_carries}
+use Rattle.rtc_polling.proofs.StatisticsTurns.{statistics_timed}
 use Rattle.rtc_polling.proofs.NumberedChannels.{Stays, stays_self, stays_same, stays_on, NumbersWhen, numbers_on, numbers_of, moment_stays}
 
 -- the number of the channel that is met as open, if any
@@ -150,7 +152,9 @@ module _ {I D S M E X T W N : Type 0} (m : Meanings I D S M E X T W N) where
   time_given_stays now p r q h =
       turn_stays (TimesIce m now) _ (ice_timed_stays now)
       (turn_stays (TimesStreams m now) _ (streams_timed_stay now)
-      (turn_stays (TimesChannels m) (TimesMedia m now) channels_timed_stay (media_timed_stays now)))
+      (turn_stays (TimesChannels m) _ channels_timed_stay
+      (turn_stays (TimesMedia m now) (TimesStatistics m now) (media_timed_stays now)
+      (λ p r q h. stays_by p _ q (statistics_timed m now p r q h).kept refl))))
       (with_moment now p) r q h
 
   time_stays : (earlier : Bool) (now : ℕ) (p : PolledPeer I D S M N) (r : Result (Unit {0}) RtcError) (q : PolledPeer I D S M N)

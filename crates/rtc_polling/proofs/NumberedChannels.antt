@@ -8,27 +8,29 @@ use Rattle.rtc_association.specs.AssociationMeaning.{AssociationMeaning}
 use Rattle.rtc_ready.specs.Signals.{Signals}
 use Rattle.rtc_sctp.specs.Streams.{SctpStreams}
 use Rattle.rtc_free_ids.specs.Ids.{parity_of}
-use Rattle.rtc_channels.specs.Channels.{Channel, Channels, AreBelow, has_id, is_of_stream, numbered_stream, channel_of_stream}
+use Rattle.rtc_channels.specs.Channels.{Channel, Channels, AreBelow, AreRising, has_id, is_of_stream, numbered_stream, channel_of_stream}
 use Rattle.rtc_channels.specs.Allocation.{Allocates, all_allocated, rows_given, stream_given, sought_by, channel_ensured, is_ensured, opened_by_other}
 use Rattle.rtc_channels.specs.Holds.{channels_without, removed_channel}
 use Rattle.rtc_channels.specs.Openings.{OpensChannel, OpensAll, Following, Progresses, MeetsMoment, rows_opened}
-use Rattle.rtc_channels.proofs.KeptLemmas.{below_more, below_one_more}
-use Rattle.rtc_channels.proofs.GivenLemmas.{below_given, below_without}
+use Rattle.rtc_channels.proofs.KeptLemmas.{below_more, below_one_more, rising_more}
+use Rattle.rtc_channels.proofs.GivenLemmas.{below_given, below_without, rising_given, rising_without}
 use Rattle.rtc_channels.proofs.OpeningLemmas.{below_opened}
 use Rattle.rtc_polling.specs.Numbers.{ChannelNumbers}
 use Rattle.rtc_polling.specs.StreamStages.{channel_over}
 
--- no number was given, and no row is new
+-- no number was given, no row is new, and rows that rise still do
 pub record Stays (held held' : Channels) : Type 0 where
   pub given : held'.given ≡ held.given
   pub rows : length held'.rows ≤ length held.rows
   pub below : (n : ℕ) → AreBelow n held.rows → AreBelow n held'.rows
+  pub rising : (n : ℕ) → AreRising n held.rows → AreRising n held'.rows
 
 pub stays_same : (held held' : Channels) → held' ≡ held → Stays held held'
 stays_same held held' same = record {
   given = ap (λ (h : Channels). h.given) same;
   rows = omega (arith, ap (λ (h : Channels). length h.rows) same);
   below = λ n below. subst (λ (h : Channels). AreBelow n h.rows) (sym same) below;
+  rising = λ n rising. subst (λ (h : Channels). AreRising n h.rows) (sym same) rising;
 }
 
 pub stays_self : (held : Channels) → Stays held held
@@ -39,12 +41,14 @@ stays_on a b c first rest = record {
   given = rest.given ∙ first.given;
   rows = omega (arith, first.rows, rest.rows);
   below = λ n below. rest.below n (first.below n below);
+  rising = λ n rising. rest.rising n (first.rising n rising);
 }
 
 -- with these rows, and whatever is held
 pub stays_rows : (held : Channels) (rows : List Channel) (holds : List ℕ) → length rows ≤ length held.rows
-    → ((n : ℕ) → AreBelow n held.rows → AreBelow n rows) → Stays held (record held { rows = rows; holds = holds })
-stays_rows held rows holds few below = record { given = refl; rows = few; below = below }
+    → ((n : ℕ) → AreBelow n held.rows → AreBelow n rows) → ((n : ℕ) → AreRising n held.rows → AreRising n rows)
+    → Stays held (record held { rows = rows; holds = holds })
+stays_rows held rows holds few below rising = record { given = refl; rows = few; below = below; rising = rising }
 
 -- what a call does that told this number
 abbrev pub NumbersWhen : Option ℕ → Channels → Channels → Type 0
@@ -64,6 +68,7 @@ numbers_on (Some id) a b c first rest = record {
   few_rows = omega (arith, first.rows, rest.few_rows);
   no_new_row = λ none. omega (arith, first.rows, rest.no_new_row none);
   below = λ below. rest.below (below_stays a b first below);
+  rising = λ below rising. rest.rising (below_stays a b first below) (first.rising 0 rising);
   told_below = λ below other told. rest.told_below (below_stays a b first below) other told;
 }
 
@@ -75,6 +80,7 @@ numbers_of None a b stays = record {
   few_rows = omega (arith, stays.rows);
   no_new_row = λ none. stays.rows;
   below = λ below. below_stays a b stays below;
+  rising = λ below rising. stays.rising 0 rising;
   told_below = λ below id told. cc (told);
 }
 numbers_of (Some id) a b numbers = numbers
@@ -93,6 +99,7 @@ length_without id (channel ∷ rest) = by (has_id id channel) (length_without id
 pub stays_removed : (id : ℕ) (pending : Bool) (held : Channels) → Stays held (removed_channel id pending held)
 stays_removed id pending held =
     stays_rows held (channels_without id held.rows) _ (length_without id held.rows) (λ n below. below_without n id held.rows below)
+    (λ n rising. rising_without n id held.rows rising)
 
 -- ---- channels that are given streams, and opened
 
@@ -109,7 +116,7 @@ stays_given : (id : ℕ) (stream : Option ℕ) (held : Channels) → Stays held 
 stays_given id None held = stays_self held
 stays_given id (Some stream) held =
     stays_rows held (rows_given id stream held.rows) held.holds (length_given id stream held.rows)
-    (λ n below. below_given n id stream held.rows below)
+    (λ n below. below_given n id stream held.rows below) (λ n rising. rising_given n id stream held.rows rising)
 
 stays_allocated : (parity : ℕ) (rows : List Channel) (held : Channels) → Stays held (all_allocated parity rows held)
 stays_allocated parity [] held = stays_self held
@@ -132,13 +139,18 @@ length_opened id (channel ∷ rest) = by (has_id id channel) (length_opened id r
     by true few = omega arith
     by false few = omega (arith, few)
 
+rising_opened : (least id : ℕ) (rows : List Channel) → AreRising least rows → AreRising least (rows_opened id rows)
+rising_opened least id [] rising = tt
+rising_opened least id (channel ∷ rest) rising = grind (arith, rising_opened (channel.id + 1) id rest rising.1)
+
 module _ {S : Type 0} (m : AssociationMeaning S) where
   opens_stays : (stream : Option ℕ) (config : Option ChannelConfig) (id : ℕ) (held : Channels) (p : SctpStreams S)
       (r : Result (Unit {0}) AllocError) (held' : Channels) (p' : SctpStreams S) → OpensChannel m stream config id held p r held' p'
       → Stays held held'
   opens_stays (Some stream) (Some config) id held p r held' p' h =
       subst (Stays held) (sym h.1)
-      (stays_rows held (rows_opened id held.rows) held.holds (length_opened id held.rows) (λ n below. below_opened n id held.rows below))
+      (stays_rows held (rows_opened id held.rows) held.holds (length_opened id held.rows) (λ n below. below_opened n id held.rows below)
+      (λ n rising. rising_opened n id held.rows rising))
   opens_stays (Some stream) None id held p r held' p' h = stays_same held held' h.1
   opens_stays None config id held p r held' p' h = stays_same held held' h.1
 
@@ -221,6 +233,7 @@ opened_numbers stream id held found = by (is_ensured stream held) found
       few_rows = omega arith;
       no_new_row = λ none. cc (none);
       below = λ below. below;
+      rising = λ below rising. rising;
       told_below = λ below other told.
           let same : id ≡ other = cc (told) in subst (λ k. k < held.given) same (found_below held.given stream id held.rows is below);
     }
@@ -231,6 +244,7 @@ opened_numbers stream id held found = by (is_ensured stream held) found
       few_rows = omega (arith, length-append held.rows (opened_by_other held.given stream ∷ []));
       no_new_row = λ none. cc (none);
       below = λ below. below_opened_by stream held below;
+      rising = λ below rising. rising_more 0 held.given held.rows (opened_by_other held.given stream) rising below (omega arith) refl;
       told_below = λ below other told.
           let same : id ≡ other = cc (told) in
           subst (λ k. k < held.given + 1) same

@@ -24,6 +24,10 @@ use Rattle.rtc_polling.specs.IceStages.{PollsIceEvent, PollsIceEvents, TakesIceE
 use Rattle.rtc_polling.specs.MediaStages.{TellsMedia, TellsFallibleMedia}
 use Rattle.rtc_polling.specs.Numbers.{ChannelNumbers}
 use Rattle.rtc_polling.specs.SendStages.{SendsChecks, SendsDtlsPacket, SendsMediaDatagram, SendsBy, SendsByPair}
+use Rattle.rtc_media.specs.declared.stats_event.StatsEvent.{StatsEvent}
+use Rattle.rtc_media.specs.declared.stats_event.StatsEvent.TheVariants as reports
+use Rattle.rtc_statistics.specs.Stats.{Reporting}
+use Rattle.rtc_polling.specs.Statistics.{TellsReport, TellsReportOf, TellsStatistics}
 use Rattle.rtc_polling.specs.StreamStages.{OpensChannelOver, ClosesChannelOver, HearsChannelOver, FallsChannelOver, LosesAssociation, TakesStreamEvent}
 use Rattle.rtc_polling.specs.StreamStages.{TakesStreamAnswer, PollsStreamEvent, PollsStreamEvents, SendsPacket, SendsFirst, SendsKeptPackets, TellsStreams, channel_over}
 use Rattle.rtc_polling.specs.Walk.{StartsOverWhenDue, TellsConnection, TellsArrivals, SendsDatagrams, VisitsParts}
@@ -149,7 +153,7 @@ module _ {I D S M E X T W N : Type 0} (m : Meanings I D S M E X T W N) where
 
   -- other holds are no numbers
   held_stays : (p : PolledPeer I D S M N) (holds : List ℕ) → PeerStays p (with_channels (record p.core.channels { holds = holds }) p)
-  held_stays p holds = stays_rows p.core.channels p.core.channels.rows holds (omega arith) (λ n below. below)
+  held_stays p holds = stays_rows p.core.channels p.core.channels.rows holds (omega arith) (λ n below. below) (λ n rising. rising)
 
   lost_numbered : Numbered (LosesAssociation m)
   unfolding LosesAssociation
@@ -213,9 +217,27 @@ module _ {I D S M E X T W N : Type 0} (m : Meanings I D S M E X T W N) where
   fallible_told_numbered p (Error Alloc) q h = stays_by p _ q h.1 refl
   fallible_told_numbered p _ q h = absurd h
 
+  report_told_numbered : (events : List StatsEvent) (stats : Reporting) (p : PolledPeer I D S M N) (r : Met E) (q : PolledPeer I D S M N)
+      → TellsReport events stats p r q → PeerNumbers r p q
+  report_told_numbered [] stats p r q h = quiet_by r Nothing p p q h.0 refl h.1 refl
+  report_told_numbered (reports.Peer report ∷ events) stats p r q h = quiet_by r _ p _ q h.0 refl h.1 refl
+  report_told_numbered (reports.MediaIngress report ∷ events) stats p r q h = quiet_by r _ p _ q h.0 refl h.1 refl
+  report_told_numbered (reports.MediaEgress report ∷ events) stats p r q h = quiet_by r _ p _ q h.0 refl h.1 refl
+
+  report_of_numbered : (stats : Option Reporting) (p : PolledPeer I D S M N) (r : Met E) (q : PolledPeer I D S M N)
+      → TellsReportOf stats p r q → PeerNumbers r p q
+  report_of_numbered None p r q h = quiet_by r Nothing p p q h.0 refl h.1 refl
+  report_of_numbered (Some stats) p r q h = report_told_numbered stats.events stats p r q h
+
+  statistics_told_numbered : Numbered (TellsStatistics {I = I} {D = D} {S = S} {M = M} {E = E} {N = N})
+  unfolding TellsStatistics
+  statistics_told_numbered p r q h = report_of_numbered p.transport.stats p r q h
+
   arrivals_numbered : Numbered (TellsArrivals m)
   unfolding TellsArrivals
-  arrivals_numbered = else_numbered (TellsMedia m) (TellsFallibleMedia m) media_told_numbered fallible_told_numbered
+  arrivals_numbered =
+      else_numbered (TellsMedia m) _ media_told_numbered
+      (else_numbered (TellsFallibleMedia m) TellsStatistics fallible_told_numbered statistics_told_numbered)
 
   checks_numbered : Numbered (SendsChecks m)
   unfolding SendsChecks

@@ -1,5 +1,5 @@
 -- Small cases of the definitions, computed.
-use Rattle.std.proofs.Common.{◌≡◌, ◌-◌, ◌^◌, ℕ, Bool, true, false, List, [], ◌∷◌, Some, None, codes, refl}
+use Rattle.std.proofs.Common.{◌≡◌, ◌-◌, ◌^◌, ℕ, Bool, true, false, List, [], ◌∷◌, Option, Some, None, codes, refl}
 use Rattle.rtc_parts_values.specs.declared.reason.Reason.TheVariants.{NotHappening, DTLS, Ice}
 use Rattle.rtc_sdp_values.specs.declared.fingerprint.Fingerprint.{Fingerprint}
 use Rattle.rtc_tables.specs.declared.why.Why.TheVariants.{NoMatch, UnknownHash, NoneAnnounced}
@@ -42,8 +42,8 @@ pub md5_prints : rtc_error_text (RemoteSdp (UnknownHash (codes "md5"))) ≡ code
 unfolding rtc_error_text why_text
 md5_prints = refl
 
-pub new_peer_waits_for_nothing : (verifies : Bool) → (no_transport verifies).last_reason ≡ NotHappening
-new_peer_waits_for_nothing verifies = refl
+pub new_peer_waits_for_nothing : (verifies : Bool) (interval : Option ℕ) → (no_transport verifies interval).last_reason ≡ NotHappening
+new_peer_waits_for_nothing verifies interval = refl
 
 pub first_of_equal_deadlines : sooner (250, DTLS) (Some (250, Ice)) ≡ (250, DTLS)
 first_of_equal_deadlines = refl

@@ -9,7 +9,7 @@ use Rattle.rtc_sctp_entries.specs.declared.sctp_event.SctpEvent.{SctpEvent}
 use Rattle.rtc_sctp_values.specs.declared.proto_error.ProtoError.TheVariants as proto
 use Rattle.rtc_sctp_values.specs.declared.sctp_error.SctpError.{SctpError}
 use Rattle.rtc_sctp_values.specs.declared.sctp_error.SctpError.TheVariants as sctp
-use Rattle.rtc_sctp.specs.Calls.{ShutBy, Shuts, WrittenIf, WritesStream, InputIf, TakesInput, TimedBy, is_ended, can_write}
+use Rattle.rtc_sctp.specs.Calls.{ShutBy, Shuts, WrittenIf, WritesStream, InputIf, TakesInput, TimedBy, is_ended, is_current, can_write}
 use Rattle.rtc_sctp.specs.Polls.{ThenBy, Else, CompletionOf, GivesCompletion, TransmitIf, TransmitOf, GivesTransmit, HandlesEvent, VisitsIf, VisitsEntries, MakesPass, Over, PollsStreams, unclosed_streams}
 use Rattle.rtc_sctp.specs.Streams.{SctpStreams}
 use Rattle.rtc_sctp.specs.declared.rtc_sctp_state.RtcSctpState.{RtcSctpState}
@@ -55,14 +55,15 @@ module _ {S : Type 0} (m : AssociationMeaning S) where
   timed_size AwaitAssociationEstablished now p wake r q wake' h = same_size p _ q h.1 refl
   timed_size Established now p wake r q wake' h = same_size p _ q h.1 refl
 
-  written_if_size : (can : Bool) (id : ℕ) (binary : Bool) (bytes : List ℕ) (p : SctpStreams S) (r : Result ℕ SctpError) (q : SctpStreams S)
-      → WrittenIf m can id binary bytes p r q → SameSize p q
-  written_if_size false id binary bytes p r q h = same_size p p q h.1 refl
-  written_if_size true id binary bytes p r q h = same_size p _ q h.3 refl
+  written_if_size : (can current : Bool) (id : ℕ) (binary : Bool) (bytes : List ℕ) (p : SctpStreams S) (r : Result ℕ SctpError)
+      (q : SctpStreams S) → WrittenIf m can current id binary bytes p r q → SameSize p q
+  written_if_size false current id binary bytes p r q h = same_size p p q h.1 refl
+  written_if_size true false id binary bytes p r q h = same_size p p q h.1 refl
+  written_if_size true true id binary bytes p r q h = same_size p _ q h.3 refl
 
   pub written_size : (id : ℕ) (binary : Bool) (bytes : List ℕ) (p : SctpStreams S) (r : Result ℕ SctpError) (q : SctpStreams S)
       → WritesStream m id binary bytes p r q → SameSize p q
-  written_size id binary bytes p r q h = written_if_size (can_write m id p) id binary bytes p r q h
+  written_size id binary bytes p r q h = written_if_size (can_write m id p) (is_current m id p) id binary bytes p r q h
 
   pub closed_size : (stream : Option ℕ) (p : SctpStreams S) (r : Result (Unit {0}) AllocError) (q : SctpStreams S)
       → ClosesChannel m stream p r q → SameSize p q

@@ -15,6 +15,8 @@ use Rattle.rtc_polling.specs.DtlsStages.{is_dtls_due}
 use Rattle.rtc_polling.specs.MediaStages.{TellsMedia, TellsFallibleMedia}
 use Rattle.rtc_polling.specs.SendStages.{SendsChecks, SendsDtlsPacket, SendsMediaDatagram, SendsBy, SendsByPair}
 use Rattle.rtc_polling.specs.Stages.{FollowedBy, Stopped, WentOn}
+use Rattle.rtc_polling.specs.Statistics.{TellsStatistics}
+use Rattle.rtc_polling.proofs.StatisticsTurns.{statistics_told, statistics_never}
 use Rattle.rtc_polling.specs.Walk.{StartsOverWhenDue, TellsConnection, TellsArrivals, SendsDatagrams, VisitsParts}
 use Rattle.rtc_polling.proofs.StageLemmas.{NeverAgain, repeats_never, went_through, else_again, else_never}
 use Rattle.rtc_polling.proofs.DueMoments.{KeepsMoments, due_kept, keeps_as, keeps_join, arrivals_keep, datagrams_keep}
@@ -46,8 +48,11 @@ module _ {I D S M E X T W N : Type 0} (m : Meanings I D S M E X T W N) where
   arrivals_same : (p q : PolledPeer I D S M N) → TellsArrivals m p Nothing q → SameParts m p q
   unfolding TellsArrivals TellsMedia TellsFallibleMedia
   arrivals_same p q h =
-      let met = went_through (TellsMedia m) (TellsFallibleMedia m) p q h in
-      parts_on m p met.0 q (parts_by m p _ met.0 met.1.0.1 (refl, refl)) (parts_by m met.0 _ q met.1.1.1 (refl, refl))
+      let met = went_through (TellsMedia m) _ p q h in
+      let more = went_through (TellsFallibleMedia m) TellsStatistics met.0 q met.1.1 in
+      parts_on m p met.0 q (parts_by m p _ met.0 met.1.0.1 (refl, refl))
+      (parts_on m met.0 more.0 q (parts_by m met.0 _ more.0 more.1.0.1 (refl, refl))
+      (parts_by m more.0 _ q (statistics_told more.0 Nothing q more.1.1) (refl, refl)))
 
   no_packet : (packets : List (List ℕ)) (d e : DtlsState D) → GivesPacket m.dtls d packets None e → e ≡ d
   no_packet [] d e h = h
@@ -70,7 +75,8 @@ module _ {I D S M E X T W N : Type 0} (m : Meanings I D S M E X T W N) where
 
   arrivals_never : NeverAgain (TellsArrivals m)
   unfolding TellsArrivals TellsMedia TellsFallibleMedia
-  arrivals_never = else_never (TellsMedia m) (TellsFallibleMedia m) (λ p q h. h) (λ p q h. h)
+  arrivals_never =
+      else_never (TellsMedia m) _ (λ p q h. h) (else_never (TellsFallibleMedia m) TellsStatistics (λ p q h. h) (statistics_never E))
 
   pair_never : (send_addr : Option SendAddr) (p q : PolledPeer I D S M N) → SendsBy m send_addr p Again q → ⊥
   unfolding SendsDtlsPacket SendsMediaDatagram

@@ -1,17 +1,23 @@
 -- A peer with its connection, and what changes of it.
-use Rattle.std.specs.Prelude.{ℕ, ◌-◌, ◌^◌, Bool, List, [], Option, None}
+use Rattle.std.specs.Prelude.{ℕ, ◌-◌, ◌^◌, Bool, List, [], Option, Some, None}
 use Rattle.rtc_parts_values.specs.declared.reason.Reason.TheVariants.{NotHappening}
 use Rattle.rtc_dtls.specs.DtlsState.{DtlsState}
 use Rattle.rtc_sctp.specs.Streams.{SctpStreams}
 use Rattle.rtc_channels.specs.Channels.{Channels}
+use Rattle.rtc_statistics.specs.Stats.{Reporting}
 use Rattle.rtc_peer_state.specs.declared.phase.Phase.TheVariants.{Closed}
 use Rattle.rtc_polling.specs.declared.handshake.Handshake.TheVariants.{Pending}
 use Rattle.rtc_polling.specs.declared.transport.Transport.{Transport}
 use Rattle.rtc_polling.specs.declared.polled_peer.PolledPeer.{PolledPeer}
 
+-- no report yet, with an interval, where there is one
+abbrev pub first_stats : Option ℕ → Option Reporting
+first_stats None = None
+first_stats (Some interval) = Some (record { interval = interval; last = None; events = [] })
+
 -- nothing is known of the other side
-abbrev pub no_transport : Bool → Transport
-no_transport verifies = record {
+abbrev pub no_transport : Bool → (interval : Option ℕ) → Transport
+no_transport verifies interval = record {
   send_addr = None;
   discovered = [];
   handshake = Pending;
@@ -20,6 +26,7 @@ no_transport verifies = record {
   last_reason = NotHappening;
   received = 0;
   sent = 0;
+  stats = first_stats interval;
 }
 
 -- the peer with another ICE agent, DTLS connection or media part

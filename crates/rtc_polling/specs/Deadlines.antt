@@ -1,11 +1,12 @@
 -- When a peer wants a timeout, and what for.
 use Rattle.std.specs.Prelude.{if◌then◌else◌, ℕ, nat_lt, max, Option, Some, None}
 use Rattle.rtc_parts_values.specs.declared.reason.Reason.{Reason}
-use Rattle.rtc_parts_values.specs.declared.reason.Reason.TheVariants.{DTLS, Ice, Sctp, Channel}
+use Rattle.rtc_parts_values.specs.declared.reason.Reason.TheVariants.{DTLS, Ice, Sctp, Channel, Stats as StatsReason}
 use Rattle.rtc_sctp.specs.Calls.{streams_wake}
 use Rattle.rtc_channels.specs.Openings.{channels_wake}
 use Rattle.rtc_peer_state.specs.Meanings.{Meanings}
 use Rattle.rtc_polling.specs.declared.polled_peer.PolledPeer.{PolledPeer}
+use Rattle.rtc_polling.specs.Statistics.{stats_wake}
 
 -- the sooner of two deadlines, the first of equal ones
 abbrev pub sooner : ℕ × Reason → Option (ℕ × Reason) → ℕ × Reason
@@ -24,12 +25,14 @@ module _ {I D S M E X T W N : Type 0} (m : Meanings I D S M E X T W N) where
       sooner (sooner (p.transport.dtls_wake, DTLS) (wanted_for Ice (m.ice.wake p.core.ice))) (m.media.wake p.core.media)
 
   -- The least deadline, with its reason. Of equal ones that of DTLS comes first, then that of ICE, of media, of the association with
-  -- its streams, and of the channels.
+  -- its streams, of the channels, and of the statistics.
   abbrev pub least_deadline : PolledPeer I D S M N → ℕ × Reason
   least_deadline p =
       sooner
+      (sooner
       (sooner (transport_deadline p) (wanted_for Sctp (streams_wake m.association p.core.sctp)))
-      (wanted_for Channel (channels_wake m.association p.core.channels p.core.sctp))
+      (wanted_for Channel (channels_wake m.association p.core.channels p.core.sctp)))
+      (wanted_for StatsReason (stats_wake p.transport.stats))
 
   -- when a timeout is wanted: not before the greatest moment that was taken
   abbrev pub wake_moment : PolledPeer I D S M N → ℕ

@@ -51,8 +51,8 @@ abbrev pub is_dtls_client : Option Bool → Bool
 is_dtls_client active = unwrap_or active false
 
 -- the connection knows the fingerprint of the certificate that came
-abbrev pub with_remote : {I D S M N : Type 0} → Fingerprint → PolledPeer I D S M N → PolledPeer I D S M N
-with_remote got p = record p { core = record p.core { dtls = record p.core.dtls { remote = Some got } } }
+abbrev pub with_remote_fingerprint : {I D S M N : Type 0} → Fingerprint → PolledPeer I D S M N → PolledPeer I D S M N
+with_remote_fingerprint got p = record p { core = record p.core { dtls = record p.core.dtls { remote = Some got } } }
 
 -- a certificate is taken, or refused with its cause
 unfoldable pub ChecksCert : {I D S M E N : Type 0} → List ℕ → Stage (PolledPeer I D S M N) E
@@ -60,12 +60,12 @@ ChecksCert cert p Again q =
     (got : Fingerprint)
     × Hashes p.core.fingerprint cert got
     × (cert_refusal p.core.fingerprint p.transport.verifies got ≡ None)
-    × (q ≡ with_remote got p)
+    × (q ≡ with_remote_fingerprint got p)
 ChecksCert cert p (Error (RemoteSdp why)) q =
     (got : Fingerprint)
     × Hashes p.core.fingerprint cert got
     × (cert_refusal p.core.fingerprint p.transport.verifies got ≡ Some why)
-    × (q ≡ closed_peer (with_remote got p))
+    × (q ≡ closed_peer (with_remote_fingerprint got p))
 ChecksCert cert p (Error Alloc) q = q ≡ closed_peer p
 ChecksCert cert p r q = ⊥
 

@@ -23,6 +23,7 @@ use Rattle.rtc_peer_state.specs.declared.rtc_error.RtcError.TheVariants.{Dtls, M
 use Rattle.rtc_polling.specs.declared.polled_peer.PolledPeer.{PolledPeer}
 use Rattle.rtc_polling.specs.Connection.{with_ice, with_dtls, with_media, with_sctp, with_channels, closed_peer}
 use Rattle.rtc_polling.specs.SendStages.{bytes_counted}
+use Rattle.rtc_polling.specs.Statistics.{TimesStatistics}
 use Rattle.rtc_polling.specs.Stages.{Call, InTurn}
 
 -- the peer that took a moment
@@ -75,10 +76,12 @@ module _ {I D S M E X T W N : Type 0} (m : Meanings I D S M E X T W N) where
       m.media.timed p.core.media now (Err MediaAlloc) q.core.media × (q ≡ closed_peer (with_media q.core.media p))
   TimesMedia now p (Err error) q = ⊥
 
-  -- A moment is handed to the ICE agent, the streams, the channels and the media part. It stays taken where one of them fails.
+  -- A moment is handed to the ICE agent, the streams, the channels, the media part and the statistics. It stays taken where one of them
+  -- fails, and what comes behind that is left out.
   abbrev pub GivesTime : ℕ → Call (PolledPeer I D S M N)
   GivesTime now p r q =
-      InTurn (TimesIce now) (InTurn (TimesStreams now) (InTurn TimesChannels (TimesMedia now))) (with_moment now p) r q
+      InTurn (TimesIce now) (InTurn (TimesStreams now) (InTurn TimesChannels (InTurn (TimesMedia now) (TimesStatistics m now))))
+      (with_moment now p) r q
 
   abbrev pub TakesTimeIf : (earlier : Bool) → ℕ → PolledPeer I D S M N → Result (Unit {0}) RtcError → PolledPeer I D S M N → Type 0
   TakesTimeIf true now p r q = (r ≡ Ok tt) × (q ≡ p)

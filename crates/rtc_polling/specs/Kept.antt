@@ -17,10 +17,12 @@ KeepsNegotiation p q =
       sctp = q.core.sctp;
     }
 
--- the settings of the ICE agent stay, and so do the DTLS role, the fingerprint of this side and the longest message that it takes
+-- the settings of the ICE agent stay, and so do the DTLS role, the fingerprint of this side, the longest message that it takes, and the
+-- lines of the media part
 abbrev pub KeepsParts : {I D S M E X T W N : Type 0} → Meanings I D S M E X T W N → PolledPeer I D S M N → PolledPeer I D S M N → Type 0
 KeepsParts m p q =
     (m.ice.settings q.core.ice ≡ m.ice.settings p.core.ice)
     × (q.core.dtls.active ≡ p.core.dtls.active)
     × (q.core.dtls.local ≡ p.core.dtls.local)
     × (q.core.sctp.local_max ≡ p.core.sctp.local_max)
+    × (m.media.line q.core.media ≡ m.media.line p.core.media)

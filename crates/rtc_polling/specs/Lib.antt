@@ -9,6 +9,7 @@ pub mod DtlsStages
 pub mod StreamStages
 pub mod MediaStages
 pub mod SendStages
+pub mod Statistics
 pub mod Deadlines
 pub mod Walk
 pub mod Inputs

@@ -18,6 +18,7 @@ use Rattle.rtc_polling.specs.DtlsStages.{TimesDtls, PollsDtlsOutputs, TellsConne
 use Rattle.rtc_polling.specs.IceStages.{PollsIceEvents}
 use Rattle.rtc_polling.specs.MediaStages.{TellsMedia, TellsFallibleMedia}
 use Rattle.rtc_polling.specs.SendStages.{SendsChecks, SendsByPair}
+use Rattle.rtc_polling.specs.Statistics.{TellsStatistics}
 use Rattle.rtc_polling.specs.StreamStages.{TellsStreams}
 use Rattle.rtc_polling.specs.Stages.{Stage, FollowedBy, RepeatsStage}
 
@@ -38,9 +39,9 @@ module _ {I D S M E X T W N : Type 0} (m : Meanings I D S M E X T W N) where
   unfoldable pub TellsConnection : Stage (PolledPeer I D S M N) E
   TellsConnection = FollowedBy (PollsIceEvents m) (FollowedBy (TimesDtls m) (FollowedBy (PollsDtlsOutputs m) TellsConnected))
 
-  -- what else came over it: events of media, those first that cannot fail
+  -- what else is told: events of media, those first that cannot fail, and statistics
   unfoldable pub TellsArrivals : Stage (PolledPeer I D S M N) E
-  TellsArrivals = FollowedBy (TellsMedia m) (TellsFallibleMedia m)
+  TellsArrivals = FollowedBy (TellsMedia m) (FollowedBy (TellsFallibleMedia m) TellsStatistics)
 
   -- datagrams to be sent: those of ICE, then those by the nominated pair
   unfoldable pub SendsDatagrams : Stage (PolledPeer I D S M N) E

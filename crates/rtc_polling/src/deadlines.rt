@@ -2,6 +2,7 @@
 ghost use Rattle.std.specs.Prelude.{◌≡◌};
 ghost use Rattle.rtc_peer_state.specs.Meanings.{meanings};
 ghost use Rattle.rtc_polling.specs.Deadlines.{sooner as sooner_of, wanted_for, least_deadline, transport_deadline};
+ghost use Rattle.rtc_polling.specs.Statistics.{stats_wake};
 
 use crate::PolledPeer;
 use rtc_association::Association;
@@ -51,6 +52,15 @@ impl<I: IceAgent, D: DtlsInstance, S: Association, M: MediaSession, N: Ids> Poll
         sooner(sooner(dtls, ice), self.core.media.poll_timeout())
     }
 
+    fn stats_deadline(&self) -> Option<Moment>
+        ensures { result ≡ stats_wake self.now.transport.stats }
+    {
+        match &self.transport.stats {
+            None => None,
+            Some(stats) => stats.poll_timeout(),
+        }
+    }
+
     /// The least deadline, with its reason.
     pub(crate) fn least_deadline(&self) -> (Moment, Reason)
         ensures { result ≡ least_deadline (meanings I.ice D.dtls S.association M.media N.ids) self.now }
@@ -61,6 +71,7 @@ impl<I: IceAgent, D: DtlsInstance, S: Association, M: MediaSession, N: Ids> Poll
             Reason::Channel,
             self.core.channels.poll_timeout(&self.core.sctp),
         );
-        sooner(sooner(transport, streams), channels)
+        let statistics = wanted(Reason::Stats, self.stats_deadline());
+        sooner(sooner(sooner(transport, streams), channels), statistics)
     }
 }

@@ -66,7 +66,11 @@ impl<I: IceAgent, D: DtlsInstance, S: Association, M: MediaSession, N: Ids> Poll
             Ok(()) => {}
             Err(error) => return Err(error),
         }
-        self.time_media(now)
+        match self.time_media(now) {
+            Ok(()) => {}
+            Err(error) => return Err(error),
+        }
+        self.time_statistics(now)
     }
 
     fn take_time(&mut self, now: Moment) -> Result<(), RtcError>

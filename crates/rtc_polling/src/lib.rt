@@ -22,6 +22,7 @@ mod recent_addrs;
 mod send_addr;
 mod sending;
 mod sending_packets;
+mod statistics;
 mod timing;
 mod transport;
 mod walking;

@@ -1,10 +1,11 @@
 //! The connection to the other side.
 ghost use Rattle.std.specs.Prelude.{◌≡◌, IfOk};
-ghost use Rattle.rtc_polling.specs.Connection.{no_transport};
+ghost use Rattle.rtc_polling.specs.Connection.{first_stats as FirstStats, no_transport};
 
 use crate::{Handshake, RecentAddrs, SendAddr};
 use rtc_parts_values::Reason;
-use rtc_wire::Moment;
+use rtc_statistics::Stats;
+use rtc_wire::{Moment, Span};
 use std::alloc::{AllocError, Global};
 
 /// What a peer keeps of its connection to the other side, beside its parts.
@@ -23,6 +24,8 @@ pub struct Transport {
     pub received: u64,
     /// The bytes of all datagrams that went out, at most `u64::MAX`.
     pub sent: u64,
+    /// The statistics, where an interval is set.
+    pub stats: Option<Stats>,
 }
 
 // Written out, so that the proof of what owns a connection sees one call and not the drop of each field.
@@ -37,14 +40,28 @@ impl Drop for Transport {
             last_reason: _last_reason,
             received: _received,
             sent: _sent,
+            stats: _stats,
         } = self;
     }
 }
 
+fn first_stats(alloc: Global, interval: Option<Span>) -> Option<Stats>
+    ensures { result ≡ FirstStats interval }
+{
+    match interval {
+        None => None,
+        Some(interval) => Some(Stats::new(alloc, interval)),
+    }
+}
+
 impl Transport {
-    /// Nothing is known of the other side.
-    pub fn new(alloc: Global, verifies: bool) -> Result<Transport, AllocError>
-        ensures { IfOk result (λ made. made ≡ no_transport verifies) }
+    /// Nothing is known of the other side. Statistics are reported where an interval is given.
+    pub fn new(
+        alloc: Global,
+        verifies: bool,
+        interval: Option<Span>,
+    ) -> Result<Transport, AllocError>
+        ensures { IfOk result (λ made. made ≡ no_transport verifies interval) }
     {
         let discovered = RecentAddrs::new(alloc)?;
         Ok(Transport {
@@ -56,6 +73,7 @@ impl Transport {
             last_reason: Reason::NotHappening,
             received: 0,
             sent: 0,
+            stats: first_stats(alloc, interval),
         })
     }
 }

@@ -52,7 +52,11 @@ impl<I: IceAgent, D: DtlsInstance, S: Association, M: MediaSession, N: Ids> Poll
             Met::Nothing => {}
             met => return met,
         }
-        self.tell_fallible_media()
+        match self.tell_fallible_media() {
+            Met::Nothing => {}
+            met => return met,
+        }
+        self.tell_statistics()
     }
 
     #[tactic(auto, unfolding(crate::specs::Walk::SendsDatagrams))]

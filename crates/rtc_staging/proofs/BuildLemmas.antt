@@ -31,7 +31,7 @@ limits_kept {S} m config association start size most made sctp is fresh set limi
 
 pub peer_built : {I D S M E X T W N : Type 0} (m : Meanings I D S M E X T W N) (alloc : Global) (config : Config) (start : ℕ) (ice : I) (dtls : D) (association : S) (media : M)
     (ids : N) (lite_set ready : I) (begun : DtlsState D) (sctp : SctpStreams S) (p : Peer I D S M N)
-    → p ≡ empty_peer alloc (m.ids.drawn ids) start ready begun sctp media (cert_drawn m.ids config ids) → m.ice.lite_set ice config.ice_lite lite_set
+    → p ≡ empty_peer alloc config.formats (m.ids.drawn ids) start ready begun sctp media (cert_drawn m.ids config ids) → m.ice.lite_set ice config.ice_lite lite_set
     → m.ice.local_set lite_set (creds_or m.ids config.creds (session_drawn m.ids ids)) ready
     → BeginsDtls m.dtls (cert_or m.ids config.cert (creds_drawn m.ids config ids)) dtls (1150, 1280) begun
     → m.association.limits_set association 1062 config.max_message_size sctp.association → sctp ≡ streams_of_config config start sctp.association

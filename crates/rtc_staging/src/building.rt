@@ -1,7 +1,8 @@
 //! Peers that are built.
 ghost use Rattle.std.specs.Prelude.{◌≡◌, ◌≤◌, ◌<◌, ◌^◌, IfOk, OnOk, length, ℕ};
 ghost use Rattle.std.specs.Option.{option_copied};
-ghost use Rattle.rtc_peer_state.specs.Built.{Builds, creds_or, after_creds, cert_or, after_cert, empty_peer as EmptyPeer, streams_of_config};
+ghost use Rattle.rtc_peer_state.specs.Built.{Builds, creds_or, after_creds, cert_or, after_cert};
+ghost use Rattle.rtc_peer_state.specs.Built.{empty_peer as EmptyPeer, streams_of_config};
 ghost use Rattle.rtc_peer_state.specs.Meanings.{meanings};
 
 use rtc_association::Association;
@@ -12,7 +13,7 @@ use rtc_dtls::{Dtls, DtlsInstance};
 use rtc_ice::IceAgent;
 use rtc_ids::Ids;
 use rtc_media::MediaSession;
-use rtc_peer_state::{Peer, Phase, RtcConfig, Staged};
+use rtc_peer_state::{Formats, Peer, Phase, RtcConfig, Staged};
 use rtc_sctp::RtcSctp;
 use rtc_sdp_values::IceCreds;
 use rtc_wire::{Bytes, Moment, TryCopy};
@@ -76,6 +77,7 @@ fn make_streams<S: Association>(
 
 fn empty_peer<I, D, S, M, N>(
     alloc: Global,
+    formats: Formats,
     session_id: u64,
     start: Moment,
     ice: I,
@@ -84,10 +86,11 @@ fn empty_peer<I, D, S, M, N>(
     media: M,
     ids: N,
 ) -> Peer<I, D, S, M, N>
-    ensures { result ≡ EmptyPeer alloc session_id start ice dtls sctp media ids }
+    ensures { result ≡ EmptyPeer alloc formats session_id start ice dtls sctp media ids }
 {
     Peer {
         alloc,
+        formats,
         lines: Lines::new(alloc),
         staged: Staged::new(alloc),
         channels: ChannelHandler::new(alloc),
@@ -135,5 +138,8 @@ pub fn build_peer<
     ice.set_local_credentials(creds);
     let dtls = Dtls::new(alloc, cert.as_slice(), dtls, MTU)?;
     let sctp = make_streams(alloc, &config, start, association);
-    Ok(empty_peer(alloc, session_id, start, ice, dtls, sctp, media, ids))
+    let formats = config.into_formats();
+    Ok(empty_peer(
+        alloc, formats, session_id, start, ice, dtls, sctp, media, ids,
+    ))
 }

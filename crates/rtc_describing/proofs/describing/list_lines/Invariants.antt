@@ -1,6 +1,6 @@
-use Rattle.std.proofs.Common.{◌≡◌, ◌++◌, drop, map}
-use Rattle.rtc_peer_state.specs.MadeSdp.{row_line}
+use Rattle.std.proofs.Common.{◌≡◌, map}
+use Rattle.rtc_peer_state.specs.MadeSdp.{told_line}
 use Rattle.rtc_describing.proofs.describing.list_lines.Given as goal
 
-abbrev pub invariant-loop-row : goal.invariant-loop-row
-invariant-loop-row l = l.lines.items ++ map (row_line l.head) (drop l.row-index l.rows) ≡ map (row_line l.head) l.rows
+abbrev pub invariant-loop-told : goal.invariant-loop-told
+invariant-loop-told l = l.lines.items ≡ map (told_line l.head) l.yielded

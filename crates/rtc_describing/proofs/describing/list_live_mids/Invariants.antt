@@ -1,6 +1,6 @@
-use Rattle.std.proofs.Common.{◌≡◌, ◌++◌, drop}
-use Rattle.rtc_peer_state.specs.MadeSdp.{live_mids}
+use Rattle.std.proofs.Common.{◌≡◌, ◌++◌, drop, map}
+use Rattle.rtc_peer_state.specs.MadeSdp.{live_mids, row_told}
 use Rattle.rtc_describing.proofs.describing.list_live_mids.Given as goal
 
-abbrev pub invariant-loop-row : goal.invariant-loop-row
-invariant-loop-row l = l.mids.items ++ live_mids (drop l.row-index l.rows) ≡ live_mids l.rows
+abbrev pub invariant-loop-told : goal.invariant-loop-told
+invariant-loop-told l = l.mids.items ++ live_mids (map row_told (drop l.told-index l.rows)) ≡ live_mids (map row_told l.rows)

@@ -13,7 +13,7 @@ loop-row-preserved g c =
     let sent = rw c.mid.ensures at c.in_ok-sending.ensures in
     record {
       place = omega (arith, c.loop-row.invariant.place);
-      updates = one_update g.N.Ids.ids (has_source g.M.MediaSession.media c.args.media.now) (λ mid. sending_of (g.M.MediaSession.media.line c.args.media.now mid) (added_media c.args.changes.now mid) mid) c.args.offer c.loop-row.row-index _ c.loop-row.place c.args.before.now c.args.rows.now c.args.lines.now _ _ c.loop-row.ids _ c.loop-row.updates.items _ _ _
+      updates = one_update g.N.Ids.ids (has_source g.M.MediaSession.media c.args.media.now) (λ mid. sending_of (g.M.MediaSession.media.line c.args.media.now mid) (added_media c.args.changes.now mid) mid) c.args.formats.now c.args.offer c.loop-row.row-index _ c.loop-row.place c.args.before.now c.args.rows.now c.args.lines.now _ _ c.loop-row.ids _ c.loop-row.updates.items _ _ _
           c.row-item.result c.in-Some.line.now c.in_ok-sending.sending next rows_are lines_are c.loop-row.invariant.place c.row_at.ensures sent
           c.in_ok-push_update.ensures.updates c.in_ok-push_update.ensures.earlier c.in_ok-push_update.ensures.after c.loop-row.invariant.updates;
       after = one_update_after g.N.Ids.ids (has_source g.M.MediaSession.media c.args.media.now) (λ mid. sending_of (g.M.MediaSession.media.line c.args.media.now mid) (added_media c.args.changes.now mid) mid) c.loop-row.row-index _ c.args.rows.now c.args.lines.now c.loop-row.ids _ _
@@ -23,7 +23,7 @@ loop-row-preserved g c =
 
 pub returns-in_default-clause-updates : goal.returns-in_default-clause-updates
 returns-in_default-clause-updates g c =
-    no_updates g.N.Ids.ids (has_source g.M.MediaSession.media c.args.media.now) (λ mid. sending_of (g.M.MediaSession.media.line c.args.media.now mid) (added_media c.args.changes.now mid) mid) c.args.offer
+    no_updates g.N.Ids.ids (has_source g.M.MediaSession.media c.args.media.now) (λ mid. sending_of (g.M.MediaSession.media.line c.args.media.now mid) (added_media c.args.changes.now mid) mid) c.args.formats.now c.args.offer
     (drop c.loop-row.row-index c.args.before.now) (drop c.loop-row.row-index c.args.rows.now) (drop c.loop-row.row-index c.args.lines.now) c.loop-row.drawn c.loop-row.ids c.loop-row.updates.items _
     (none_from c.loop-row.row-index c.loop-row.place c.args.lines.now c.loop-row.invariant.place c.in_default.ensures) c.loop-row.invariant.updates
 

@@ -8,10 +8,10 @@ abbrev pub invariant-loop-row : goal.invariant-loop-row
 invariant-loop-row g l = record {
   place : l.place ≡ l.row-index;
   updates : l.updates.items ++ row_updates g.N.Ids.ids (has_source g.M.MediaSession.media l.media)
-      (λ mid. sending_of (g.M.MediaSession.media.line l.media mid) (added_media l.changes mid) mid) l.offer
+      (λ mid. sending_of (g.M.MediaSession.media.line l.media mid) (added_media l.changes mid) mid) l.formats l.offer
       (drop l.row-index l.before) (drop l.row-index l.rows) (drop l.row-index l.lines) l.drawn l.ids
       ≡ row_updates g.N.Ids.ids (has_source g.M.MediaSession.media l.media)
-      (λ mid. sending_of (g.M.MediaSession.media.line l.media mid) (added_media l.changes mid) mid) l.offer l.before l.rows l.lines [] l.fn.ids;
+      (λ mid. sending_of (g.M.MediaSession.media.line l.media mid) (added_media l.changes mid) mid) l.formats l.offer l.before l.rows l.lines [] l.fn.ids;
   after : after_updates g.N.Ids.ids (has_source g.M.MediaSession.media l.media)
       (λ mid. sending_of (g.M.MediaSession.media.line l.media mid) (added_media l.changes mid) mid)
       (drop l.row-index l.rows) (drop l.row-index l.lines) l.ids

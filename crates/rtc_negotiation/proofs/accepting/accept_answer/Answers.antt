@@ -8,8 +8,8 @@ use Rattle.rtc_negotiation.proofs.accepting.accept_answer.Goals as goal
 pub returns-in-Err : goal.returns-in-Err
 returns-in-Err g c =
     let right : c.args.peer.now.counter ≡ raised c.args.token.id = grind (arith, c.if-peer-change_id.false, c.change_id.ensures) in
-    answer_refused (meanings g.I.IceAgent.ice g.D.DtlsInstance.dtls g.S.Association.association g.M.MediaSession.media g.N.Ids.ids) c.args.peer.now c.args.token c.args.answer c.in-Err.refusal c.refuse.result c.refuse.new.phase right
-    c.in-Err.ensures.plans c.refuse.ensures.error c.refuse.ensures.phase
+    answer_refused (meanings g.I.IceAgent.ice g.D.DtlsInstance.dtls g.S.Association.association g.M.MediaSession.media g.N.Ids.ids) c.args.peer.now c.refuse.new.peer c.args.token c.args.answer
+    c.in-Err.refusal c.refuse.result right c.in-Err.ensures.plans c.refuse.ensures.error c.refuse.ensures.rest
 
 pub returns-in-Err-grow_answer : goal.returns-in-Err-grow_answer
 returns-in-Err-grow_answer g c =

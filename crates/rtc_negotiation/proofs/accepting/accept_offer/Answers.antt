@@ -6,8 +6,8 @@ use Rattle.rtc_negotiation.proofs.accepting.accept_offer.Goals as goal
 
 pub returns-in-Err : goal.returns-in-Err
 returns-in-Err g c =
-    offer_refused (meanings g.I.IceAgent.ice g.D.DtlsInstance.dtls g.S.Association.association g.M.MediaSession.media g.N.Ids.ids) c.args.peer.now c.args.offer c.in-Err.refusal c.refuse.result c.refuse.new.phase
-    c.in-Err.ensures.plans c.refuse.ensures.error c.refuse.ensures.phase
+    offer_refused (meanings g.I.IceAgent.ice g.D.DtlsInstance.dtls g.S.Association.association g.M.MediaSession.media g.N.Ids.ids) c.args.peer.now c.refuse.new.peer c.args.offer c.in-Err.refusal
+    c.refuse.result c.in-Err.ensures.plans c.refuse.ensures.error c.refuse.ensures.rest
 
 pub returns-in-Err-grow_offer : goal.returns-in-Err-grow_offer
 returns-in-Err-grow_offer g c =

@@ -1,4 +1,4 @@
-use Rattle.std.proofs.Common.{◌≡◌, false, refl}
+use Rattle.std.proofs.Common.{false, refl}
 use Rattle.rtc_peer_state.specs.Meanings.{meanings}
 use Rattle.rtc_negotiation.proofs.GrowthLemmas.{stops_before_sources, stops_among_sources, stops_at_updates}
 use Rattle.rtc_negotiation.proofs.growing.grow_answer.Goals as goal

@@ -4,7 +4,7 @@ use Rattle.rtc_staging.proofs.building.build_peer.Goals as goal
 
 pub returns : goal.returns
 returns g c =
-    let is = rw (c.draw-session_id.ensures.value, c.in_ok-cert.ensures.after, c.dtls_cert.ensures.value, c.in_ok-creds.ensures.after, c.local_ice_credentials.ensures, c.draw-session_id.ensures.after) at c.empty_peer.ensures in
+    let is = rw (c.into_formats-formats.ensures, c.draw-session_id.ensures.value, c.in_ok-cert.ensures.after, c.dtls_cert.ensures.value, c.in_ok-creds.ensures.after, c.local_ice_credentials.ensures, c.draw-session_id.ensures.after) at c.empty_peer.ensures in
     let lite = rw c.ice_lite.ensures at c.set_ice_lite.ensures in
     let creds = rw (c.in_ok-creds.ensures.creds, c.local_ice_credentials.ensures, c.draw-session_id.ensures.after) at c.set_local_credentials.ensures in
     let cert = rw (c.as_slice.ensures, c.in_ok-cert.ensures.cert, c.dtls_cert.ensures.value, c.in_ok-creds.ensures.after, c.local_ice_credentials.ensures, c.draw-session_id.ensures.after) at c.in_ok-dtls.ensures in

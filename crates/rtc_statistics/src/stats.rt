@@ -2,7 +2,7 @@
 ghost use Rattle.std.specs.Prelude.{◌≡◌, ◌∷◌, [], ◌++◌, map, drop, slice_get, Some, None, IfOk, OnOk, OnErr};
 ghost use Rattle.std.specs.BTreeMap.{values};
 ghost use Rattle.rtc_media.specs.declared.stats_event.StatsEvent.TheVariants.{MediaIngress, MediaEgress, Peer};
-ghost use Rattle.rtc_config.specs.Stats as spec;
+ghost use Rattle.rtc_statistics.specs.Stats as spec;
 
 use rtc_media::{MediaEgressStats, MediaIngressStats, PeerStats, StatsEvent, StatsSnapshot};
 use rtc_sdp_values::{Mid, Rid};
@@ -21,7 +21,7 @@ pub struct Stats {
 }
 
 impl Model for Stats {
-    ghost use Rattle.rtc_config.specs.Stats.{Reporting};
+    ghost use Rattle.rtc_statistics.specs.Stats.{Reporting};
 
     ghost Value = { Reporting };
 

@@ -1,7 +1,7 @@
 use Rattle.std.proofs.Common.{◌≡◌, ◌++◌, map}
 use Rattle.std.specs.BTreeMap.{values}
 use Rattle.rtc_media.specs.declared.stats_event.StatsEvent.TheVariants.{MediaIngress}
-use Rattle.rtc_config.proofs.stats.tell_ingress.Given as goal
+use Rattle.rtc_statistics.proofs.stats.tell_ingress.Given as goal
 
 abbrev pub invariant-loop-report : goal.invariant-loop-report
 invariant-loop-report l =

@@ -1,0 +1,114 @@
+//! What the lines of a peer tell of their media.
+ghost use Rattle.std.specs.Prelude.{◌≡◌, IfOk, Option, Some, None};
+ghost use Rattle.std.specs.Option.{option_copied};
+ghost use Rattle.rtc_peer_state.specs.MadeSdp.{
+  no_media as NoMedia,
+  media_of_update as MediaOfUpdate,
+  media_held as MediaHeld,
+  media_of_added as MediaOfAdded,
+  media_told as MediaTold,
+  newest as Newest,
+};
+
+use rtc_change::AddMedia;
+use rtc_codecs::{extensions_of_kind, rows_of_kind};
+use rtc_media::{MediaSession, MediaUpdate};
+use rtc_peer_state::{Formats, LineMedia};
+use rtc_sdp_values::LineRow;
+use rtc_wire::{Seq, TryCopy};
+use std::alloc::{AllocError, Global};
+
+/// Nothing of media.
+pub fn no_media(alloc: Global) -> LineMedia
+    ensures { result ≡ NoMedia }
+{
+    LineMedia {
+        payloads: Seq::empty(alloc),
+        exts: Seq::empty(alloc),
+        simulcast: None,
+        msid: None,
+        cname: None,
+        ssrcs: Seq::empty(alloc),
+    }
+}
+
+fn media_of_update(update: &MediaUpdate) -> Result<LineMedia, AllocError>
+    ensures { IfOk result (λ media. media ≡ MediaOfUpdate update.now) }
+{
+    let payloads = update.payloads.copy()?;
+    let exts = update.exts.copy()?;
+    let simulcast = update.simulcast.copy()?;
+    let msid = update.msid.copy()?;
+    let cname = update.cname.copy()?;
+    let ssrcs = update.ssrcs_tx.copy()?;
+    Ok(LineMedia {
+        payloads,
+        exts,
+        simulcast,
+        msid,
+        cname,
+        ssrcs,
+    })
+}
+
+// What a media part was told last of a line.
+fn media_held(alloc: Global, held: Option<&MediaUpdate>) -> Result<LineMedia, AllocError>
+    ensures { IfOk result (λ media. media ≡ MediaHeld (option_copied held.entry)) }
+{
+    match held {
+        None => Ok(no_media(alloc)),
+        Some(update) => media_of_update(update),
+    }
+}
+
+/// What a line carries that this side adds: the rows and the extensions of its kind, and what was staged with it.
+pub fn media_of_added(
+    alloc: Global,
+    formats: &Formats,
+    media: &AddMedia,
+) -> Result<LineMedia, AllocError>
+    ensures { IfOk result (λ made. made ≡ MediaOfAdded formats.now media.now) }
+{
+    let payloads = rows_of_kind(alloc, media.kind, formats.codecs.rows.as_slice())?;
+    let exts = extensions_of_kind(alloc, media.kind, formats.extensions.rows.as_slice())?;
+    let simulcast = media.simulcast.copy()?;
+    let msid = media.msid.copy()?;
+    let cname = media.cname.copy()?;
+    let ssrcs = media.ssrcs.copy()?;
+    Ok(LineMedia {
+        payloads: Seq::new(payloads),
+        exts: Seq::new(exts),
+        simulcast,
+        msid: Some(msid),
+        cname: Some(cname),
+        ssrcs,
+    })
+}
+
+// The first of these updates, or else what is held.
+fn newest<'a>(updates: &'a [MediaUpdate], held: Option<&'a MediaUpdate>) -> Option<&'a MediaUpdate>
+    ensures { option_copied result ≡ Newest updates.now (option_copied held.entry) }
+{
+    match updates {
+        [] => held,
+        [update, ..] => Some(update),
+    }
+}
+
+/// What is told of the line of a row: of media what the first of these updates says, or else what the media part has of its line.
+pub fn media_told<M: MediaSession>(
+    alloc: Global,
+    media: &M,
+    updates: &[MediaUpdate],
+    row: &LineRow,
+) -> Result<LineMedia, AllocError>
+    ensures { IfOk result (λ told. told ≡ MediaTold (M.media.line media.now) updates.now row.now) }
+{
+    match row {
+        LineRow::Media { mid, .. } => {
+            let held = media.line(*mid);
+            media_held(alloc, newest(updates, held))
+        }
+        LineRow::App { .. } => Ok(no_media(alloc)),
+    }
+}

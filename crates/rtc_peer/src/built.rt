@@ -1,0 +1,65 @@
+//! What a peer is built from.
+ghost use Rattle.std.specs.Prelude.{◌≡◌, IfOk, None, true};
+ghost use Rattle.rtc_peer_state.specs.Built.{AreFresh, Builds};
+ghost use Rattle.rtc_peer_state.specs.Formats.{AreFormedFormats};
+ghost use Rattle.rtc_peer_state.specs.Formed.{IsFormed};
+ghost use Rattle.rtc_peer_state.specs.Meanings.{meanings};
+ghost use Rattle.rtc_peer_state.specs.Stance.{stance_of};
+ghost use Rattle.rtc_polling.specs.Connection.{no_transport};
+ghost use Rattle.rtc_peer.specs.BuiltFrom.{standard_config};
+
+use crate::Rtc;
+use rtc_association::Association;
+use rtc_dtls::DtlsInstance;
+use rtc_ice::IceAgent;
+use rtc_ids::Ids;
+use rtc_lines::CodecConfig;
+use rtc_media::MediaSession;
+use rtc_peer_state::RtcConfig;
+use rtc_wire::Moment;
+use std::alloc::{AllocError, Global};
+
+impl<
+    I: IceAgent + Drop,
+    D: DtlsInstance + Drop,
+    S: Association + Drop,
+    M: MediaSession + Drop,
+    N: Ids + Drop,
+> Rtc<I, D, S, M, N> {
+    /// The peer of the default config over five fresh parts.
+    pub fn new(
+        alloc: Global,
+        start: Moment,
+        ice: I,
+        dtls: D,
+        association: S,
+        media: M,
+        ids: N,
+    ) -> Result<Rtc<I, D, S, M, N>, AllocError>
+        requires fresh { AreFresh (meanings I.ice D.dtls S.association M.media N.ids) ice dtls association media }
+        ensures built { IfOk result (λ rtc. Builds (meanings I.ice D.dtls S.association M.media N.ids)
+            alloc standard_config start ice dtls association media ids rtc.core) }
+        ensures unconnected { IfOk result (λ rtc. rtc.transport ≡ no_transport true None) }
+        ensures formed { IfOk result (λ rtc. IsFormed (stance_of (meanings I.ice D.dtls S.association M.media N.ids) rtc.core)) }
+    {
+        let config = RtcConfig::new(alloc)?;
+        Rtc::build(alloc, config, start, ice, dtls, association, media, ids)
+    }
+}
+
+impl<I: IceAgent, D: DtlsInstance, S: Association, M: MediaSession, N: Ids> Rtc<I, D, S, M, N> {
+    /// The default config, whose setters say what a peer is built from.
+    pub fn builder(alloc: Global) -> Result<RtcConfig, AllocError>
+        ensures value { IfOk result (λ config. config ≡ standard_config) }
+        ensures formed { IfOk result (λ config. AreFormedFormats config.formats) }
+    {
+        RtcConfig::new(alloc)
+    }
+
+    /// The codecs of the config that it was built from. Negotiation leaves them as they are: what a line has is its own.
+    pub fn codec_config(&self) -> &CodecConfig
+        ensures { result.now ≡ self.now.core.formats.codecs }
+    {
+        &self.polled.core.formats.codecs
+    }
+}

@@ -1,0 +1,6 @@
+//! The rounds of statistics that a peer reports.
+#![tactic(auto)]
+
+mod stats;
+
+pub use stats::Stats;
