@@ -4,7 +4,6 @@ use Rattle.std.specs.Prelude.{alloc_error}
 use Rattle.std.specs.declared.alloc.AllocError.{AllocError}
 use Rattle.rtc_sdp_values.specs.declared.direction.Direction.{Direction}
 use Rattle.rtc_sdp_values.specs.declared.direction.Direction.TheVariants.{Inactive}
-use Rattle.rtc_sdp_values.specs.declared.sdp.Sdp.{Sdp}
 use Rattle.rtc_parts_values.specs.Among.{Among}
 use Rattle.rtc_association.proofs.AmongLemmas.{among_none}
 use Rattle.rtc_ice.specs.IceActs.{ControllingSet, Stirred, ice_moved-one}
@@ -22,6 +21,7 @@ use Rattle.rtc_polling_laws.specs.Acts.{NegotiationActs, begun_here, with_core}
 use Rattle.rtc_polling_laws.proofs.ActJoins.{ice_did}
 use Rattle.rtc_polling_laws.proofs.ActedAcceptances.{offer_did, answer_did}
 use Rattle.rtc_polling_laws.proofs.FollowedParts.{AgentTold, agent_none}
+use Rattle.rtc_history.specs.Signalled.{Signalled, NotMade, Unreadable, Readable}
 use Rattle.rtc_history.specs.declared.side.Side.{Side}
 use Rattle.rtc_history.specs.declared.op.Op.{Op}
 use Rattle.rtc_history.specs.declared.op.Op.TheVariants.{AddMedia, SetDirection, StopMedia, AddChannel, IceRestart}
@@ -136,32 +136,39 @@ module _ {I D S M E X T W N : Type 0} (m : Meanings I D S M E X T W N) where
     relayed = h.relayed;
     wrote_is = h.wrote_is;
     heard_is = h.heard_is;
+    named = h.named;
   }
 
-  pub offer_acts : (at : Side) (offer : Option Sdp) (old : PolledPeer I D S M N) (sdps : List Kept) (outcome : Outcome E) (table : Option Table)
+  pub offer_acts : (at : Side) (offer : Signalled) (old : PolledPeer I D S M N) (sdps : List Kept) (outcome : Outcome E) (table : Option Table)
       (new : PolledPeer I D S M N) (sdps' : List Kept) → StepAcceptsOffer m at offer old.core sdps outcome table new.core sdps'
       → NegotiationActs m old new
-  offer_acts at None old sdps Alloc None new sdps' h = same_did old new h.peer
-  offer_acts at (Some sdp) old sdps Alloc None new sdps' h = same_did old new h.peer
-  offer_acts at None old sdps NoSuch (Some table) new sdps' h = same_did old new h.0.peer
-  offer_acts at (Some sdp) old sdps (Answered k) (Some table) new sdps' h =
+  offer_acts at NotMade old sdps Alloc None new sdps' h = same_did old new h.peer
+  offer_acts at (Unreadable line) old sdps Alloc None new sdps' h = same_did old new h.peer
+  offer_acts at (Readable sdp) old sdps Alloc None new sdps' h = same_did old new h.peer
+  offer_acts at NotMade old sdps NoSuch (Some table) new sdps' h = same_did old new h.0.peer
+  offer_acts at (Unreadable line) old sdps (Refused error) (Some table) new sdps' h = same_did old new h.1.peer
+  offer_acts at (Readable sdp) old sdps (Answered k) (Some table) new sdps' h =
       lent_did old new (offer_did m (with_core (lent old.core) old) sdp (Ok h.0) new.core h.1)
-  offer_acts at (Some sdp) old sdps (Refused error) (Some table) new sdps' h =
+  offer_acts at (Readable sdp) old sdps (Refused error) (Some table) new sdps' h =
       lent_did old new (offer_did m (with_core (lent old.core) old) sdp (Err error) new.core h.0)
   offer_acts at offer old sdps outcome table new sdps' h = absurd h
 
-  pub answer_acts : (t : ℕ) (token : Option PendingOffer) (answer : Option Sdp) (old : PolledPeer I D S M N) (sdps : List Kept)
+  pub answer_acts : (t : ℕ) (token : Option PendingOffer) (answer : Signalled) (old : PolledPeer I D S M N) (sdps : List Kept)
       (outcome : Outcome E) (table : Option Table) (new : PolledPeer I D S M N) (sdps' : List Kept)
       → StepAcceptsAnswer m t token answer old.core sdps outcome table new.core sdps' → NegotiationActs m old new
-  answer_acts t None None old sdps Alloc None new sdps' h = same_did old new h.peer
-  answer_acts t None (Some sdp) old sdps Alloc None new sdps' h = same_did old new h.peer
-  answer_acts t (Some token) None old sdps Alloc None new sdps' h = same_did old new h.peer
-  answer_acts t (Some token) (Some sdp) old sdps Alloc None new sdps' h = same_did old new h.peer
-  answer_acts t None None old sdps NoSuch (Some table) new sdps' h = same_did old new h.0.peer
-  answer_acts t None (Some sdp) old sdps NoSuch (Some table) new sdps' h = same_did old new h.0.peer
-  answer_acts t (Some token) None old sdps NoSuch (Some table) new sdps' h = same_did old new h.0.peer
-  answer_acts t (Some token) (Some sdp) old sdps Finished (Some table) new sdps' h =
+  answer_acts t None NotMade old sdps Alloc None new sdps' h = same_did old new h.peer
+  answer_acts t None (Unreadable line) old sdps Alloc None new sdps' h = same_did old new h.peer
+  answer_acts t None (Readable sdp) old sdps Alloc None new sdps' h = same_did old new h.peer
+  answer_acts t (Some token) NotMade old sdps Alloc None new sdps' h = same_did old new h.peer
+  answer_acts t (Some token) (Unreadable line) old sdps Alloc None new sdps' h = same_did old new h.peer
+  answer_acts t (Some token) (Readable sdp) old sdps Alloc None new sdps' h = same_did old new h.peer
+  answer_acts t None NotMade old sdps NoSuch (Some table) new sdps' h = same_did old new h.0.peer
+  answer_acts t None (Unreadable line) old sdps NoSuch (Some table) new sdps' h = same_did old new h.0.peer
+  answer_acts t None (Readable sdp) old sdps NoSuch (Some table) new sdps' h = same_did old new h.0.peer
+  answer_acts t (Some token) NotMade old sdps NoSuch (Some table) new sdps' h = same_did old new h.0.peer
+  answer_acts t (Some token) (Unreadable line) old sdps (Refused error) (Some table) new sdps' h = same_did old new h.1.peer
+  answer_acts t (Some token) (Readable sdp) old sdps Finished (Some table) new sdps' h =
       lent_did old new (answer_did m (with_core (lent old.core) old) token sdp (Ok tt) new.core h.0)
-  answer_acts t (Some token) (Some sdp) old sdps (Refused error) (Some table) new sdps' h =
+  answer_acts t (Some token) (Readable sdp) old sdps (Refused error) (Some table) new sdps' h =
       lent_did old new (answer_did m (with_core (lent old.core) old) token sdp (Err error) new.core h.0)
   answer_acts t token answer old sdps outcome table new sdps' h = absurd h

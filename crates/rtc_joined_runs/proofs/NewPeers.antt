@@ -17,7 +17,7 @@ use Rattle.rtc_plain_dtls.specs.Contents.{DtlsContents}
 use Rattle.rtc_assoc_state.specs.Contents.{Contents}
 use Rattle.rtc_plain_media.specs.MediaContents.{MediaContents, fresh_media}
 use Rattle.rtc_ids.specs.Draws.{Draws}
-use Rattle.rtc_sctp_laws.specs.StreamMessages.{pushed_packets}
+use Rattle.rtc_sctp_laws.specs.StreamMessages.{pushed_packets, reads_of, writes_of}
 use Rattle.rtc_peer_state.specs.declared.peer.Peer.{Peer}
 use Rattle.rtc_peer_state.specs.Built.{creds_or, cert_or, session_drawn, creds_drawn}
 use Rattle.rtc_polling_laws.specs.PeerActs.{PeerActs, peer_acts, contents_taken}
@@ -54,6 +54,8 @@ pub record WasBuilt {N : Type 0} (p : PlainPolled N) : Type 0 where
   pub acts : PeerActs
   pub unused : AreUnused (parts_past acts) (packet_parts p)
   pub shown : HasShown acts [] p
+  pub wrote_none : writes_of acts.association ≡ []
+  pub read_none : reads_of acts.association ≡ []
 
 module _ {N : Type 0} (draws : Draws N) where
   built_acts : (p : Peer IceContents DtlsContents Contents MediaContents N) → IsNewPeer draws p → PeerActs
@@ -92,9 +94,11 @@ module _ {N : Type 0} (draws : Draws N) where
           media_went = media ∙ fresh;
           sent = subst (λ (l : List (List ℕ)). Among l (contents_taken (built_acts p.core h))) (sym packets) (among_none (contents_taken (built_acts p.core h)));
         };
+        wrote_none = refl;
+        read_none = refl;
       }
 
-  nothing_sent : (at : Side) (packets : List SentPacket) (acts : PeerActs) (p : PlainPolled N) → packets ≡ [] → HasShown acts [] p
+  pub nothing_sent : (at : Side) (packets : List SentPacket) (acts : PeerActs) (p : PlainPolled N) → packets ≡ [] → HasShown acts [] p
       → HasShown acts (contents_sent at packets) p
   nothing_sent at packets acts p none h = subst (λ (l : List SentPacket). HasShown acts (contents_sent at l) p) (sym none) h
 

@@ -17,6 +17,7 @@ use Rattle.rtc_dtls.proofs.DtlsLemmas.{dtls_given-append, dtls_sent-append, dtls
 use Rattle.rtc_media.specs.MediaActs.{MediaAct, MediaMoved, media_moved-append}
 use Rattle.rtc_sctp_laws.specs.StreamActs.{AssociationDid}
 use Rattle.rtc_sctp_laws.specs.StreamMessages.{StreamMessage, write_act, read_act, writes_of, reads_of, pushed_packets}
+use Rattle.rtc_sctp_laws.proofs.ActLemmas.{named-append}
 use Rattle.rtc_sctp_laws.proofs.ClosingPolls.{started_moved}
 use Rattle.rtc_peer_state.specs.Meanings.{Meanings}
 use Rattle.rtc_polling.specs.declared.polled_peer.PolledPeer.{PolledPeer}
@@ -64,6 +65,7 @@ module _ {I D S M E X T W N : Type 0} (m : Meanings I D S M E X T W N) where
     relayed = same_among _ _ (ap (λ s. pushed_packets s.pushed) sctp);
     wrote_is = refl;
     heard_is = refl;
+    named = λ n. tt;
   }
     where
       shown_of : Among (shown ++ q.core.dtls.packets) (contents_taken (peer_acts acts [] [] []) ++ p.core.dtls.packets)
@@ -99,6 +101,7 @@ module _ {I D S M E X T W N : Type 0} (m : Meanings I D S M E X T W N) where
     relayed = same_among _ _ (ap (λ l. l ++ pushed_packets q.core.sctp.pushed) unsent ∙ ap (λ s. pushed_packets s.pushed) sctp);
     wrote_is = refl;
     heard_is = refl;
+    named = λ n. tt;
   }
 
   -- acts of the media part
@@ -126,6 +129,7 @@ module _ {I D S M E X T W N : Type 0} (m : Meanings I D S M E X T W N) where
     relayed = same_among _ _ (ap (λ s. pushed_packets s.pushed) sctp);
     wrote_is = refl;
     heard_is = refl;
+    named = λ n. tt;
   }
 
   -- nothing was done
@@ -161,6 +165,7 @@ module _ {I D S M E X T W N : Type 0} (m : Meanings I D S M E X T W N) where
     };
     wrote_is = did.wrote_is;
     heard_is = did.heard_is;
+    named = did.named;
   }
 
   module _ (laws : AssociationLaws m.association) where
@@ -213,4 +218,5 @@ module _ {I D S M E X T W N : Type 0} (m : Meanings I D S M E X T W N) where
           ∙ ap (λ l. l ++ reads_of b.acts.association) a.heard_is
           ∙ ap (λ l. map read_act h ++ l) b.heard_is
           ∙ sym (map-append read_act h h');
+      named = λ n. named-append h h' (a.named n) (b.named n);
     }

@@ -66,6 +66,7 @@ module _ {I D S M E X T W N : Type 0} (m : Meanings I D S M E X T W N) where
         (record { each = λ x h. member-right x (taken streams.did.acts) (pushed_packets p.core.sctp.pushed) h }));
     wrote_is = streams.did.wrote_is;
     heard_is = streams.did.heard_is;
+    named = streams.did.named;
   }
 
   -- all parts are as they were

@@ -30,6 +30,7 @@ module _ {I D S M E X T W N : Type 0} (m : Meanings I D S M E X T W N) where
     relayed = among_self (pushed_packets p.core.sctp.pushed);
     wrote_is = refl;
     heard_is = refl;
+    named = λ n. tt;
   }
 
   pub local_did : (p : PolledPeer I D S M N) (ice : I) (candidate : Candidate) (answer : Result Bool AllocError)

@@ -4,7 +4,7 @@ use Rattle.std.specs.declared.alloc.AllocError.{AllocError}
 use Rattle.rtc_wire.specs.declared.datagram_recv.DatagramRecv.{DatagramRecv}
 use Rattle.rtc_wire.specs.declared.datagram_recv.DatagramRecv.TheVariants as datagrams
 use Rattle.rtc_wire.specs.declared.receive.Receive.{Receive}
-use Rattle.rtc_parts_values.specs.Why.{Timed}
+use Rattle.rtc_parts_values.specs.Why.{Timed, Other}
 use Rattle.rtc_parts_values.specs.Among.{Among}
 use Rattle.rtc_association.proofs.AmongLemmas.{among_none, among_self}
 use Rattle.rtc_association.specs.AssociationLaws.{AssociationLaws}
@@ -15,7 +15,7 @@ use Rattle.rtc_dtls.specs.DtlsState.{DtlsState, HandsOn}
 use Rattle.rtc_ice.specs.IceActs.{Given as IceGiven, Stirred as IceStirred, TimedAt as IceTimed, ByPacket, ice_moved-one}
 use Rattle.rtc_media.specs.declared.media_error.MediaError.{MediaError}
 use Rattle.rtc_media.specs.declared.media_error.MediaError.TheVariants.{Alloc as MediaAlloc}
-use Rattle.rtc_media.specs.MediaActs.{MediaGiven, MediaStirred, MediaMoved, media_moved-one}
+use Rattle.rtc_media.specs.MediaActs.{MediaGiven, MediaStirred, MediaMoved, StatsVisited, media_moved-one}
 use Rattle.rtc_ready.specs.Signals.{both}
 use Rattle.rtc_sctp_laws.specs.StreamMessages.{StreamMessage}
 use Rattle.rtc_sctp_values.specs.declared.sctp_error.SctpError.{SctpError}
@@ -34,6 +34,8 @@ use Rattle.rtc_polling.specs.declared.polled_peer.PolledPeer.{PolledPeer}
 use Rattle.rtc_polling.specs.ChannelCalls.{ClosesDataChannel, SetsChannelThreshold, WritesIf, WritesChannel, stream_under, write_taken}
 use Rattle.rtc_polling.specs.Inputs.{TimesIce, TimesStreams, TimesChannels, TimesMedia, GivesTime, TakesTimeIf, with_moment}
 use Rattle.rtc_polling.specs.Inputs.{HearsStun, HearsDtls, HearsMedia, HearsKind, Hears, Heard, PartFailed, HandlesInputBy, HandlesInputIn, HandlesInput}
+use Rattle.rtc_polling.specs.Statistics.{TimesStatistics}
+use Rattle.rtc_polling.proofs.StatisticsTurns.{KeepsAllButRound, VisitedOnce, statistics_timed}
 use Rattle.rtc_polling_laws.specs.PeerActs.{Came, nothing_came, came_of_datagram, came_by, moment_given}
 use Rattle.rtc_polling_laws.specs.Acts.{PeerDid, CallActs as CallDone, message_of_write}
 use Rattle.rtc_polling_laws.proofs.ActJoins.{ice_did, dtls_did, media_did, still_did}
@@ -89,6 +91,21 @@ module _ {I D S M E X T W N : Type 0} (m : Meanings I D S M E X T W N) (came : C
   media_timed p (Err Alloc) q h = time_media (Err MediaAlloc) p q h.0 (beside BesideMedia p _ q h.1 (refl, refl, refl, refl, refl))
   media_timed p (Err _) q h = absurd h
 
+  round_acts : (p q : PolledPeer I D S M N) → KeepsAllButRound m p q → VisitedOnce m now p.core.media q.core.media
+      → PeerDid m came (now ∷ []) [] [] [] p q
+  round_acts p q kept (inl same) = still_by m came (now ∷ []) p _ q kept (refl, refl, refl, refl, same)
+  round_acts p q kept (inr visited) =
+      let beside = beside BesideMedia p _ q kept (refl, refl, refl, refl, refl) in
+      media_did m came (now ∷ []) [] p q (MediaStirred Other ∷ [])
+      (media_moved-one m.media p.core.media q.core.media (MediaStirred Other)
+      (inr (inr (StatsVisited now visited.0 visited.1.0 visited.1.1.0 visited.1.1.1))))
+      (among_none came.media) (among_none (now ∷ [])) (among_none []) beside.0 (ap (λ d. d.instance) beside.1) (ap (λ d. d.packets) beside.1) beside.2
+
+  statistics_acts : CallActs m came (now ∷ []) (TimesStatistics m now)
+  statistics_acts p r q h =
+      let timed = statistics_timed m now p r q h in
+      round_acts p q timed.kept timed.media
+
   module _ (laws : AssociationLaws m.association) where
     time_given : CallActs m came (now ∷ []) (GivesTime m now)
     time_given p r q h =
@@ -96,7 +113,8 @@ module _ {I D S M E X T W N : Type 0} (m : Meanings I D S M E X T W N) (came : C
         (still_did m came (now ∷ []) p (with_moment now p) (refl, refl, refl, refl, refl))
         (turn_acts m came (now ∷ []) laws (TimesIce m now) _ ice_timed
         (turn_acts m came (now ∷ []) laws (TimesStreams m now) _ streams_timed
-        (turn_acts m came (now ∷ []) laws (TimesChannels m) (TimesMedia m now) channels_timed media_timed))
+        (turn_acts m came (now ∷ []) laws (TimesChannels m) _ channels_timed
+        (turn_acts m came (now ∷ []) laws (TimesMedia m now) (TimesStatistics m now) media_timed statistics_acts)))
         (with_moment now p) r q h)
 
     pub time_acts : (earlier : Bool) → CallActs m came (now ∷ []) (TakesTimeIf m earlier now)

@@ -19,6 +19,7 @@ use Rattle.rtc_polling.specs.Connection.{with_pushed}
 use Rattle.rtc_polling.specs.StreamStages.{SendsPacket, SendsFirst, left_over}
 use Rattle.rtc_polling_laws.specs.PeerActs.{peer_acts, nothing_came, dtls_moments}
 use Rattle.rtc_polling_laws.specs.Acts.{PeerDid}
+use Rattle.rtc_polling_laws.proofs.StreamsJoin.{answer_met, TellsNoOpening}
 use Rattle.rtc_polling_laws.proofs.VisitActs.{contents_met, MeetsData, KeepsRows, VisitDid, visit_is, plain_visit, still_visit}
 
 pushed_is_left : (packets : List (List ℕ)) → pushed_packets (left_over packets) ≡ packets
@@ -103,6 +104,7 @@ module _ {I D S M E X T W N : Type 0} (m : Meanings I D S M E X T W N) (laws : P
     };
     wrote_is = refl;
     heard_is = refl;
+    named = λ n. tt;
   }
     where
       first : (x : List ℕ) → Member x (packet ∷ []) → Member x (packet ∷ rest)
@@ -113,13 +115,15 @@ module _ {I D S M E X T W N : Type 0} (m : Meanings I D S M E X T W N) (laws : P
   first_visit : (r : Met E) (packet : List ℕ) (rest : List (List ℕ)) (p n q : PolledPeer I D S M N) → contents_met r ≡ [] → MeetsData r q.core.channels []
       → SentActs packet n.core.dtls q.core.dtls → n ≡ with_pushed None p → p.core.sctp.pushed ≡ Some (packet ∷ rest)
       → q.core.sctp ≡ record n.core.sctp { pushed = left_over rest } → q.core.ice ≡ n.core.ice → q.core.media ≡ n.core.media
-      → q.core.greatest ≡ n.core.greatest → KeepsRows r p.core.channels q.core.channels → VisitDid m p r q
-  first_visit r packet rest p n q none shows sent is stood same ice media greatest rows =
+      → q.core.greatest ≡ n.core.greatest → KeepsRows r p.core.channels q.core.channels → q.core.channels ≡ n.core.channels
+      → TellsNoOpening (answer_met r) → VisitDid m p r q
+  first_visit r packet rest p n q none shows sent is stood same ice media greatest rows held unopened =
       plain_visit m r p q
       (subst (λ (l : List (List ℕ)). PeerDid m nothing_came (p.core.greatest ∷ []) l [] [] p q) (sym none)
       (sent_did packet rest p q (subst (λ (x : PolledPeer I D S M N). SentActs packet x.core.dtls q.core.dtls) is sent) stood
       (same ∙ ap (λ (x : PolledPeer I D S M N). record x.core.sctp { pushed = left_over rest }) is) (ice ∙ ap (λ (x : PolledPeer I D S M N). x.core.ice) is)
       (media ∙ ap (λ (x : PolledPeer I D S M N). x.core.media) is))) shows (greatest ∙ ap (λ (x : PolledPeer I D S M N). x.core.greatest) is) rows
+      (ap (λ (s : SctpStreams S). s.entries) same ∙ ap (λ (x : PolledPeer I D S M N). x.core.sctp.entries) is, held ∙ ap (λ (x : PolledPeer I D S M N). x.core.channels) is) unopened
 
   sent_or : (packet : List ℕ) (p q : PolledPeer I D S M N)
       → SendsData m.dtls p.core.dtls (can_send m.dtls p.core.dtls) packet (Ok tt) q.core.dtls
@@ -132,7 +136,7 @@ module _ {I D S M E X T W N : Type 0} (m : Meanings I D S M E X T W N) (laws : P
       → p.core.sctp.pushed ≡ packets → SendsFirst m packets n r q → VisitDid m p r q
   unfolding SendsPacket
   sends_visit None p n r q is stood h =
-      still_visit m Nothing r p (with_pushed None p) q h.0 (h.1 ∙ is) (refl, λ held. refl)
+      still_visit m Nothing r p (with_pushed None p) q h.0 (h.1 ∙ is) (refl, λ held. refl, tt)
       ((refl, refl, refl, ap (λ (o : Option (List (List ℕ))). record p.core.sctp { pushed = o }) (sym stood), refl), refl, refl)
   sends_visit (Some []) p n r q is stood h =
       subst (λ (y : PolledPeer I D S M N). VisitDid m p r y) (sym (h.1 ∙ is))
@@ -153,22 +157,26 @@ module _ {I D S M E X T W N : Type 0} (m : Meanings I D S M E X T W N) (laws : P
         relayed = among_none (pushed_packets p.core.sctp.pushed);
         wrote_is = refl;
         heard_is = refl;
-      }) refl refl refl))
+        named = λ n. tt;
+      }) refl refl refl (refl, refl) tt))
   sends_visit (Some (packet ∷ rest)) p n Nothing q is stood h =
       still_visit m Nothing Nothing p (with_pushed (Some (packet ∷ rest)) p) q refl
-      (h.1 ∙ ap (λ (x : PolledPeer I D S M N). with_pushed (Some (packet ∷ rest)) x) is) (refl, λ held. refl)
+      (h.1 ∙ ap (λ (x : PolledPeer I D S M N). with_pushed (Some (packet ∷ rest)) x) is) (refl, λ held. refl, tt)
       ((refl, refl, refl, ap (λ (o : Option (List (List ℕ))). record p.core.sctp { pushed = o }) (sym stood), refl), refl, refl)
   sends_visit (Some (packet ∷ rest)) p n Again q is stood h =
       first_visit Again packet rest p n q refl refl (sent_or packet n q h.1) is stood (ap (λ (x : PolledPeer I D S M N). x.core.sctp) h.0)
       (ap (λ (x : PolledPeer I D S M N). x.core.ice) h.0) (ap (λ (x : PolledPeer I D S M N). x.core.media) h.0)
       (ap (λ (x : PolledPeer I D S M N). x.core.greatest) h.0)
       (ap (λ (x : PolledPeer I D S M N). x.core.channels.rows) h.0 ∙ ap (λ (x : PolledPeer I D S M N). x.core.channels.rows) is)
+      (ap (λ (x : PolledPeer I D S M N). x.core.channels) h.0) tt
   sends_visit (Some (packet ∷ rest)) p n (Error (Dtls cause)) q is stood h =
       first_visit (Error (Dtls cause)) packet rest p n q refl refl (data_refused (can_send m.dtls n.core.dtls) packet Fault n.core.dtls q.core.dtls h.2) is stood
       (ap (λ (x : PolledPeer I D S M N). x.core.sctp) h.3) (ap (λ (x : PolledPeer I D S M N). x.core.ice) h.3)
       (ap (λ (x : PolledPeer I D S M N). x.core.media) h.3) (ap (λ (x : PolledPeer I D S M N). x.core.greatest) h.3) tt
+      (ap (λ (x : PolledPeer I D S M N). x.core.channels) h.3) tt
   sends_visit (Some (packet ∷ rest)) p n (Error Alloc) q is stood h =
       first_visit (Error Alloc) packet rest p n q refl refl (data_refused (can_send m.dtls n.core.dtls) packet DtlsAlloc n.core.dtls q.core.dtls h.0) is stood
       (ap (λ (x : PolledPeer I D S M N). x.core.sctp) h.1) (ap (λ (x : PolledPeer I D S M N). x.core.ice) h.1)
       (ap (λ (x : PolledPeer I D S M N). x.core.media) h.1) (ap (λ (x : PolledPeer I D S M N). x.core.greatest) h.1) tt
+      (ap (λ (x : PolledPeer I D S M N). x.core.channels) h.1) tt
   sends_visit (Some (packet ∷ rest)) p n _ q is stood h = absurd h

@@ -31,18 +31,19 @@ use Rattle.rtc_polling_laws.specs.Acts.{PeerDid}
 use Rattle.rtc_polling_laws.proofs.ActJoins.{ice_did, dtls_did, media_did, still_did}
 use Rattle.rtc_polling_laws.proofs.ActedClosing.{beside, BesideIce, BesideDtls, BesideMedia, close_acts}
 use Rattle.rtc_polling_laws.proofs.ClosedRows.{close_rows}
+use Rattle.rtc_polling_laws.proofs.StreamsJoin.{answer_met, TellsNoOpening, ice_kept, dtls_kept, media_kept}
 use Rattle.rtc_polling_laws.proofs.VisitActs.{contents_met, MeetsData, KeepsRows, VisitDid, ShowsNone, quiet_nothing, visit_is, plain_visit, still_visit}
 use Rattle.rtc_polling_laws.proofs.VisitActs.{keeps_by, visit_on, StageActs}
 
 module _ {I D S M E X T W N : Type 0} (m : Meanings I D S M E X T W N) (laws : PartsLaws m) where
   pub shows_again : ShowsNone m Again
-  shows_again = (refl, λ held. refl)
+  shows_again = (refl, λ held. refl, tt)
 
   pub shows_nothing : ShowsNone m Nothing
-  shows_nothing = (refl, λ held. refl)
+  shows_nothing = (refl, λ held. refl, tt)
 
   pub shows_error : (error : RtcError) → ShowsNone m (Error error)
-  shows_error error = (refl, λ held. refl)
+  shows_error error = (refl, λ held. refl, tt)
 
   -- an event of the agent
   ice_told : (event : IceEvent) (p q : PolledPeer I D S M N) → m.ice.polled p.core.ice (Some event) q.core.ice → BesideIce p q
@@ -52,14 +53,14 @@ module _ {I D S M E X T W N : Type 0} (m : Meanings I D S M E X T W N) (laws : P
       (ice_moved-one m.ice p.core.ice q.core.ice (IceStirred (IceTold event)) h) (among_none []) (among_none (p.core.greatest ∷ [])) (among_none [])
       (ap (λ d. d.instance) beside.0) (ap (λ d. d.packets) beside.0) beside.1 beside.2
 
-  ice_met : (x r : Met E) (event : IceEvent) (p n q : PolledPeer I D S M N) → r ≡ x → q ≡ n → contents_met x ≡ [] → MeetsData x n.core.channels []
+  ice_met : (x r : Met E) (event : IceEvent) (p n q : PolledPeer I D S M N) → r ≡ x → q ≡ n → contents_met x ≡ [] → MeetsData x n.core.channels [] → TellsNoOpening (answer_met x)
       → m.ice.polled p.core.ice (Some event) n.core.ice → BesideIce p n → KeepsRows x p.core.channels n.core.channels → VisitDid m p r q
-  ice_met x r event p n q met is none data_none polled beside rows =
+  ice_met x r event p n q met is none data_none unopened polled beside rows =
       visit_is m x r p q met
       (subst (λ (y : PolledPeer I D S M N). VisitDid m p x y) (sym is)
       (plain_visit m x p n
       (subst (λ (l : List (List ℕ)). PeerDid m nothing_came (p.core.greatest ∷ []) l [] [] p n) (sym none) (ice_told event p n polled beside))
-      data_none beside.3 rows))
+      data_none beside.3 rows (ice_kept p n beside) unopened))
 
   pub ice_event : (event : Option IceEvent) (ice : I) (p : PolledPeer I D S M N) (r : Met E) (q : PolledPeer I D S M N) → m.ice.polled p.core.ice event ice
       → TakesIceEvent event (with_ice ice p) r q → VisitDid m p r q
@@ -67,13 +68,13 @@ module _ {I D S M E X T W N : Type 0} (m : Meanings I D S M E X T W N) (laws : P
       still_visit m Nothing r p (with_ice ice p) q taken.0 taken.1 shows_nothing
       ((laws.ice.event_none p.core.ice ice polled, refl, refl, refl, refl), refl, refl)
   ice_event (Some IceRestart) ice p r q polled taken =
-      ice_met Again r IceRestart p _ q taken.0 taken.1 refl refl polled (refl, refl, refl, refl, refl) refl
+      ice_met Again r IceRestart p _ q taken.0 taken.1 refl refl tt polled (refl, refl, refl, refl, refl) refl
   ice_event (Some (StateChange state)) ice p r q polled taken =
-      ice_met (MetEvent (told.IceConnectionStateChange state)) r (StateChange state) p _ q taken.0 taken.1 refl refl polled (refl, refl, refl, refl, refl) tt
+      ice_met (MetEvent (told.IceConnectionStateChange state)) r (StateChange state) p _ q taken.0 taken.1 refl refl tt polled (refl, refl, refl, refl, refl) tt
   ice_event (Some (DiscoveredRecv proto source)) ice p r q polled taken =
-      ice_met Again r (DiscoveredRecv proto source) p _ q taken.0 taken.1 refl refl polled (refl, refl, refl, refl, refl) refl
+      ice_met Again r (DiscoveredRecv proto source) p _ q taken.0 taken.1 refl refl tt polled (refl, refl, refl, refl, refl) refl
   ice_event (Some (NominatedSend proto source destination)) ice p r q polled taken =
-      ice_met Again r (NominatedSend proto source destination) p _ q taken.0 taken.1 refl refl polled (refl, refl, refl, refl, refl) refl
+      ice_met Again r (NominatedSend proto source destination) p _ q taken.0 taken.1 refl refl tt polled (refl, refl, refl, refl, refl) refl
 
   -- the greatest moment is handed to the connection
   handed_time : (active : Option Bool) (r : Result (Unit {0}) DtlsError) (p q : PolledPeer I D S M N)
@@ -93,13 +94,13 @@ module _ {I D S M E X T W N : Type 0} (m : Meanings I D S M E X T W N) (laws : P
   unfolding GivesDtlsTime
   given_time p Nothing q h =
       let kept = beside BesideDtls p _ q h.1 (refl, refl, refl, refl, refl) in
-      plain_visit m Nothing p q (handed_time p.core.dtls.active (Ok tt) p q h.0 kept) refl kept.3 (ap (λ held. held.rows) kept.4)
+      plain_visit m Nothing p q (handed_time p.core.dtls.active (Ok tt) p q h.0 kept) refl kept.3 (ap (λ held. held.rows) kept.4) (dtls_kept p q kept) tt
   given_time p (Error (Dtls cause)) q h =
       let kept = beside BesideDtls p _ q h.2 (refl, refl, refl, refl, refl) in
-      plain_visit m (Error (Dtls cause)) p q (handed_time p.core.dtls.active (Err Fault) p q h.1 kept) refl kept.3 tt
+      plain_visit m (Error (Dtls cause)) p q (handed_time p.core.dtls.active (Err Fault) p q h.1 kept) refl kept.3 tt (dtls_kept p q kept) tt
   given_time p (Error Alloc) q h =
       let kept = beside BesideDtls p _ q h.1 (refl, refl, refl, refl, refl) in
-      plain_visit m (Error Alloc) p q (handed_time p.core.dtls.active (Err DtlsAlloc) p q h.0 kept) refl kept.3 tt
+      plain_visit m (Error Alloc) p q (handed_time p.core.dtls.active (Err DtlsAlloc) p q h.0 kept) refl kept.3 tt (dtls_kept p q kept) tt
   given_time p _ q h = absurd h
 
   pub times_act : (due : Bool) (p : PolledPeer I D S M N) (r : Met E) (q : PolledPeer I D S M N) → TimesDtlsIf m due p r q → VisitDid m p r q
@@ -118,10 +119,10 @@ module _ {I D S M E X T W N : Type 0} (m : Meanings I D S M E X T W N) (laws : P
   unfolding TakesKeys
   keys_act key profile active p Again q h =
       let kept = beside BesideMedia p _ q h.1 (refl, refl, refl, refl, refl) in
-      plain_visit m Again p q (keyed_did key profile active (Ok tt) p q h.0 kept) refl kept.3 (ap (λ held. held.rows) kept.4)
+      plain_visit m Again p q (keyed_did key profile active (Ok tt) p q h.0 kept) refl kept.3 (ap (λ held. held.rows) kept.4) (media_kept p q kept) tt
   keys_act key profile active p (Error Alloc) q h =
       let kept = beside BesideMedia p _ q h.1 (refl, refl, refl, refl, refl) in
-      plain_visit m (Error Alloc) p q (keyed_did key profile active (Err alloc_error) p q h.0 kept) refl kept.3 tt
+      plain_visit m (Error Alloc) p q (keyed_did key profile active (Err alloc_error) p q h.0 kept) refl kept.3 tt (media_kept p q kept) tt
   keys_act key profile active p _ q h = absurd h
 
   pub cert_acts : (cert : List ℕ) → StageActs m laws.association (ChecksCert {I = I} {D = D} {S = S} {M = M} {E = E} {N = N} cert)
@@ -134,18 +135,19 @@ module _ {I D S M E X T W N : Type 0} (m : Meanings I D S M E X T W N) (laws : P
 
   -- closing, met as an event or an error
   pub closing_visit : (r : Met E) (answer : Result (Unit {0}) RtcError) (p q : PolledPeer I D S M N) → contents_met r ≡ [] → MeetsData r q.core.channels []
-      → ClosesPeer m p answer q → VisitDid m p r q
-  closing_visit r answer p q none shows h =
+      → TellsNoOpening (answer_met r) → ClosesPeer m p answer q → VisitDid m p r q
+  closing_visit r answer p q none shows unopened h =
       plain_visit m r p q
       (subst (λ (l : List (List ℕ)). PeerDid m nothing_came (p.core.greatest ∷ []) l [] [] p q) (sym none)
       (close_acts m nothing_came (p.core.greatest ∷ []) laws.association p answer q h)) shows (close_rows m p answer q h).0
       (keeps_by m r p.core.channels q.core.channels (ap (λ held. held.rows) (close_rows m p answer q h).1))
+      ((close_rows m p answer q h).2, (close_rows m p answer q h).1) unopened
 
   pub close_notify : StageActs m laws.association (TakesCloseNotify m)
   unfolding TakesCloseNotify
   close_notify p (MetEvent told.Closed) q h =
       visit_on m laws.association (MetEvent told.Closed) p h.0 q
-      (quiet_nothing m p h.0 (closing_visit Nothing (Ok tt) p h.0 refl refl h.1))
-      (still_visit m (MetEvent told.Closed) (MetEvent told.Closed) h.0 _ q refl h.2 (refl, λ held. refl) ((refl, refl, refl, refl, refl), refl, refl))
-  close_notify p (Error error) q h = closing_visit (Error error) (Err error) p q refl refl h
+      (quiet_nothing m p h.0 (closing_visit Nothing (Ok tt) p h.0 refl refl tt h.1))
+      (still_visit m (MetEvent told.Closed) (MetEvent told.Closed) h.0 _ q refl h.2 (refl, λ held. refl, tt) ((refl, refl, refl, refl, refl), refl, refl))
+  close_notify p (Error error) q h = closing_visit (Error error) (Err error) p q refl refl tt h
   close_notify p _ q h = absurd h

@@ -114,7 +114,7 @@ module _ {I D S M E X T W N : Type 0} (m : Meanings I D S M E X T W N) where
     -- the peer that waits differs by its reason alone
     drained_with : (reason : Reason) (p : PolledPeer I D S M N) → Drained m laws p → Drained m laws (with_reason reason p)
     drained_with reason p d =
-        record { ice = d.ice; due = d.due; dtls = d.dtls; told = d.told; streams = d.streams; media = d.media; sent = d.sent }
+        record { ice = d.ice; due = d.due; dtls = d.dtls; told = d.told; streams = d.streams; media = d.media; sent = d.sent; reports = d.reports }
 
     waiting_again : (last v : PolledPeer I D S M N) (reason : Reason) (moment : ℕ) (answer : Result (Output E) RtcError) (s : PolledPeer I D S M N)
         → VisitsParts m last Nothing v → v.core.phase ≢ Closed → is_closing_complete m v ≡ false → moment ≡ wake_moment m v

@@ -25,6 +25,9 @@ use Rattle.rtc_polling.specs.IceStages.{PollsIceEvents, TakesIceEvent, met_of_ic
 use Rattle.rtc_polling.specs.MediaStages.{TellsMedia, TellsFallibleMedia}
 use Rattle.rtc_polling.specs.SendStages.{SendsChecks, SendsDtlsPacket, SendsMediaDatagram, SendsBy, SendsByPair}
 use Rattle.rtc_polling.specs.Stages.{FollowedBy}
+use Rattle.rtc_statistics.specs.Stats.{Reporting}
+use Rattle.rtc_polling.specs.Statistics.{TellsStatistics}
+use Rattle.rtc_polling.proofs.StatisticsTurns.{HasNoReport, no_report_left, no_statistics_told}
 use Rattle.rtc_polling.specs.StreamStages.{TellsStreams}
 use Rattle.rtc_polling.specs.Walk.{StartsOverWhenDue, TellsConnection, TellsArrivals, SendsDatagrams, VisitsParts}
 use Rattle.rtc_polling.proofs.StageLemmas.{went_through}
@@ -118,20 +121,33 @@ module _ {I D S M E X T W N : Type 0} (m : Meanings I D S M E X T W N) (laws : P
     pub dtls : q.core.dtls ≡ p.core.dtls
     pub sctp : q.core.sctp ≡ p.core.sctp
     pub events : m.media.held_events q.core.media ≡ 0
+    pub reports : HasNoReport q.transport.stats
 
   pub arrivals_drain : (p q : PolledPeer I D S M N) → TellsArrivals m p Nothing q → Arrived p q
   unfolding TellsArrivals TellsMedia TellsFallibleMedia
   arrivals_drain p q h =
-      let met = went_through (TellsMedia m) (TellsFallibleMedia m) p q h in
+      let met = went_through (TellsMedia m) _ p q h in
+      let more = went_through (TellsFallibleMedia m) TellsStatistics met.0 q met.1.1 in
+      let last : q ≡ more.0 = no_statistics_told E more.0 q more.1.1 in
       let first = laws.media.event_none p.core.media met.0.core.media met.1.0.0 in
-      let second = laws.media.fallible_none met.0.core.media q.core.media met.0.core.greatest met.1.1.0 in
+      let second = laws.media.fallible_none met.0.core.media more.0.core.media met.0.core.greatest more.1.0.0 in
       let told = subst (λ (a : M). m.media.told a None met.0.core.media) (sym first) met.1.0.0 in
-      let none = laws.media.silent_events met.0.core.media met.0.core.media q.core.media met.0.core.greatest told met.1.1.0 in
+      let none = laws.media.silent_events met.0.core.media met.0.core.media more.0.core.media met.0.core.greatest told more.1.0.0 in
       record {
-        transport = ap (λ (x : PolledPeer I D S M N). x.transport) met.1.1.1 ∙ ap (λ (x : PolledPeer I D S M N). x.transport) met.1.0.1;
-        dtls = ap (λ (x : PolledPeer I D S M N). x.core.dtls) met.1.1.1 ∙ ap (λ (x : PolledPeer I D S M N). x.core.dtls) met.1.0.1;
-        sctp = ap (λ (x : PolledPeer I D S M N). x.core.sctp) met.1.1.1 ∙ ap (λ (x : PolledPeer I D S M N). x.core.sctp) met.1.0.1;
-        events = ap m.media.held_events second ∙ none;
+        transport =
+            ap (λ (x : PolledPeer I D S M N). x.transport) last
+            ∙ ap (λ (x : PolledPeer I D S M N). x.transport) more.1.0.1
+            ∙ ap (λ (x : PolledPeer I D S M N). x.transport) met.1.0.1;
+        dtls =
+            ap (λ (x : PolledPeer I D S M N). x.core.dtls) last
+            ∙ ap (λ (x : PolledPeer I D S M N). x.core.dtls) more.1.0.1
+            ∙ ap (λ (x : PolledPeer I D S M N). x.core.dtls) met.1.0.1;
+        sctp =
+            ap (λ (x : PolledPeer I D S M N). x.core.sctp) last
+            ∙ ap (λ (x : PolledPeer I D S M N). x.core.sctp) more.1.0.1
+            ∙ ap (λ (x : PolledPeer I D S M N). x.core.sctp) met.1.0.1;
+        events = ap (λ (x : PolledPeer I D S M N). m.media.held_events x.core.media) last ∙ ap m.media.held_events second ∙ none;
+        reports = no_report_left E more.0 q more.1.1;
       }
 
   -- what is left once no datagram was given
@@ -242,6 +258,7 @@ module _ {I D S M E X T W N : Type 0} (m : Meanings I D S M E X T W N) (laws : P
         streams = wait;
         media = sent.media;
         sent = sent.packets;
+        reports = subst (λ (s : Option Reporting). HasNoReport s) (sym (ap (λ (t : Transport). t.stats) sent.transport)) arrived.reports;
       }
 
   -- a visit that met nothing drains the peer

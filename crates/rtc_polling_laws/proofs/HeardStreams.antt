@@ -1,5 +1,5 @@
 -- A poll of the streams that gave nothing has heard every stream in use.
-use Rattle.std.proofs.Common.{◌≡◌, ◌⊎◌, inl, inr, ℕ, Bool, true, false, List, [], ◌∷◌, Option, Some, None, Result, Ok, refl, sym, ap, subst, ◌∙◌}
+use Rattle.std.proofs.Common.{◌≡◌, ◌⊎◌, inl, inr, ℕ, Bool, true, false, true≢false, List, [], ◌∷◌, Option, Some, None, Result, Ok, refl, sym, ap, subst, ◌∙◌}
 use Rattle.std.specs.Prelude.{◌&&◌}
 use Rattle.rtc_association.specs.declared.assoc_error.AssocError.{AssocError}
 use Rattle.rtc_association.specs.declared.assoc_error.AssocError.TheVariants.{StreamExists, ResetPending}
@@ -16,7 +16,7 @@ use Rattle.rtc_sctp_entries.specs.declared.met.Met.{Met}
 use Rattle.rtc_sctp_entries.specs.declared.met.Met.TheVariants.{Nothing, Again, Output, OutOfMemory}
 use Rattle.rtc_sctp_entries.specs.Answers.{opening_of}
 use Rattle.rtc_sctp_entries.specs.Entries.{is_closed_state}
-use Rattle.rtc_sctp_entries.specs.Visits.{Turn, turn, is_opening_over, RetriedIf, RetriedAt, is_adopted, AdoptedIf, OpenedBy, AttendsBy, AttendsIf, VisitsIn, Visits}
+use Rattle.rtc_sctp_entries.specs.Visits.{Turn, turn, is_opening_over, RetriedIf, RetriedAt, is_adopted, is_entry_there, AdoptedIf, OpenedBy, AttendsBy, AttendsIf, VisitsIn, Visits}
 use Rattle.rtc_sctp.specs.Streams.{SctpStreams, is_established}
 use Rattle.rtc_sctp.specs.Polls.{Else, unclosed_streams, GivesCompletion, GivesTransmit, HandlesEvent, VisitedThen, VisitsAll, VisitsIf, VisitsEntries, MakesPass, PollsStreams}
 use Rattle.rtc_polling_laws.specs.Drained.{IsHeard, AreHeard, AllHeard}
@@ -24,6 +24,10 @@ use Rattle.rtc_polling_laws.proofs.MeetingEntries.{closes_meet, begins_meet, thr
 use Rattle.rtc_polling_laws.proofs.RestingEntries.{exists_is, pending_is, read_first}
 use Rattle.rtc_polling_laws.proofs.RestingTours.{AllUnclosed, unclosed_left}
 use Rattle.rtc_polling_laws.proofs.RestingStreams.{else_nothing, completion_nothing, GaveNoEvent, transmit_nothing, event_nothing}
+
+first_of_and : (x y : Bool) → (x && y) ≡ true → x ≡ true
+first_of_and true y h = refl
+first_of_and false y h = absurd (true≢false (sym h))
 
 module _ {S : Type 0} (m : AssociationMeaning S) (w : AssociationLaws m) where
   -- what a visit that gave nothing left
@@ -71,7 +75,7 @@ module _ {S : Type 0} (m : AssociationMeaning S) (w : AssociationLaws m) where
       let first = read_first m w h.answer t t' h.between h.asks.result h.asks.called h.asks.is h.then in
       (first.1, w.none_unread t.association h.between t.entry.id first.0)
 
-  attended_if : (marked there : Bool) (t t' : Turn S) → t.entry.marked ≡ marked → m.has_stream t.association t.entry.id ≡ there
+  attended_if : (marked there : Bool) (t t' : Turn S) → t.entry.marked ≡ marked → is_entry_there m t.association t.entry ≡ there
       → AttendsIf m marked there t Nothing t' → Heard t t'
   attended_if true there t t' e f h = absurd (closes_meet m t t' h)
   attended_if false false t t' e f h = cc (h.0)
@@ -79,14 +83,14 @@ module _ {S : Type 0} (m : AssociationMeaning S) (w : AssociationLaws m) where
       let by = attended_by t.entry.threshold t t' h in
       record {
         association = ap (λ (x : Turn S). x.association) by.0;
-        heard = subst (λ (x : Turn S). IsHeard m t.association x.entry) (sym by.0) (inr (e, f, by.1));
+        heard = subst (λ (x : Turn S). IsHeard m t.association x.entry) (sym by.0) (inr (e, first_of_and (m.has_stream t.association t.entry.id) _ f, by.1));
       }
 
   heard_in : (st : StreamEntryState) (now : ℕ) (t t' : Turn S) → t.entry.state ≡ st → is_closed_state st ≡ false → VisitsIn m st now t Nothing t' → Heard t t'
   heard_in AwaitOpen now t t' state unclosed h = opened_waits h.answer now t t' h.between h.asks.result state h.asks.called h.asks.is h.then
-  heard_in AwaitConfig now t t' state unclosed h = attended_if t.entry.marked (m.has_stream t.association t.entry.id) t t' refl refl h
-  heard_in AwaitDcepAck now t t' state unclosed h = attended_if t.entry.marked (m.has_stream t.association t.entry.id) t t' refl refl h
-  heard_in Open now t t' state unclosed h = attended_if t.entry.marked (m.has_stream t.association t.entry.id) t t' refl refl h
+  heard_in AwaitConfig now t t' state unclosed h = attended_if t.entry.marked (is_entry_there m t.association t.entry) t t' refl refl h
+  heard_in AwaitDcepAck now t t' state unclosed h = attended_if t.entry.marked (is_entry_there m t.association t.entry) t t' refl refl h
+  heard_in Open now t t' state unclosed h = attended_if t.entry.marked (is_entry_there m t.association t.entry) t t' refl refl h
   heard_in Closed now t t' state unclosed h = cc (unclosed)
 
   -- a visit of all entries

@@ -23,6 +23,8 @@ use Rattle.rtc_polling.specs.IceStages.{PollsIceEvent, PollsIceEvents, TakesIceE
 use Rattle.rtc_polling.specs.MediaStages.{TellsMedia, TellsFallibleMedia}
 use Rattle.rtc_polling.specs.SendStages.{SendsChecks, SendsDtlsPacket, SendsMediaDatagram, SendsBy, SendsByPair}
 use Rattle.rtc_polling.specs.Stages.{Stage, FollowedBy, Stopped, WentOn, StartsOver, RepeatsStage}
+use Rattle.rtc_polling.specs.Statistics.{TellsStatistics}
+use Rattle.rtc_polling.proofs.StatisticsTurns.{no_statistics_told, statistics_never}
 use Rattle.rtc_polling.specs.StreamStages.{OpensChannelOver, ClosesChannelOver, HearsChannelOver, FallsChannelOver, LosesAssociation, TakesStreamEvent, TakesStreamAnswer}
 use Rattle.rtc_polling.specs.StreamStages.{PollsStreamEvent, PollsStreamEvents, SendsPacket, SendsFirst, SendsKeptPackets, TellsStreams, channel_over}
 use Rattle.rtc_polling.specs.Walk.{StartsOverWhenDue, TellsConnection, TellsArrivals, SendsDatagrams, VisitsParts}
@@ -191,9 +193,16 @@ module _ {I D S M E X T W N K : Type 0} (m : Meanings I D S M E X T W N) (f : Ph
   fallible_kept p (Error error) q h = tt
   fallible_kept p _ q h = absurd h
 
+  statistics_kept : StageKeeps (kept_by f) (TellsStatistics {I = I} {D = D} {S = S} {M = M} {E = E} {N = N})
+  statistics_kept p Nothing q h = same_of {E = E} (kept_by f) Nothing p p q (no_statistics_told E p q h) refl
+  statistics_kept p Again q h = absurd (statistics_never E p q h)
+  statistics_kept p _ q h = tt
+
   pub arrivals_kept : StageKeeps (kept_by f) (TellsArrivals m)
   unfolding TellsArrivals
-  arrivals_kept = else_keeps (kept_by f) (TellsMedia m) (TellsFallibleMedia m) told_kept fallible_kept
+  arrivals_kept =
+      else_keeps (kept_by f) (TellsMedia m) _ told_kept
+      (else_keeps (kept_by f) (TellsFallibleMedia m) TellsStatistics fallible_kept statistics_kept)
 
 -- the phase alone
 abbrev pub only_phase : {I : Type 0} → Phase → I → Phase

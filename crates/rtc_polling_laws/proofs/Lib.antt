@@ -14,6 +14,9 @@ pub mod ActWords
 pub mod ActJoins
 pub mod ActedClosing
 pub mod ActedInputs
+pub mod StreamsJoin
+pub mod ChannelsOver
+pub mod UnsharedRows
 pub mod VisitActs
 pub mod ClosedRows
 pub mod ActedTransport

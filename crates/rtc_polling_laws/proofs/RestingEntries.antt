@@ -19,7 +19,7 @@ use Rattle.rtc_sctp_entries.specs.declared.met.Met.TheVariants.{Nothing, OutOfMe
 use Rattle.rtc_sctp_entries.specs.Answers.{opening_of, heard_of}
 use Rattle.rtc_sctp_entries.specs.Entries.{is_closed_state}
 use Rattle.rtc_sctp_entries.specs.Visits.{Turn, turn, is_opening_over}
-use Rattle.rtc_sctp_entries.specs.Visits.{RetriedIf, RetriedAt, Retries, is_adopted, AdoptedIf, OpenedBy, OpensEntry}
+use Rattle.rtc_sctp_entries.specs.Visits.{RetriedIf, RetriedAt, Retries, is_adopted, is_entry_there, AdoptedIf, OpenedBy, OpensEntry}
 use Rattle.rtc_sctp_entries.specs.Visits.{ReadBy, ReadsEntry, AttendsBy, AttendsIf, VisitsIn, Visits}
 use Rattle.rtc_sctp_entries.proofs.VisitLemmas.{not_over}
 use Rattle.rtc_polling_laws.proofs.MeetingEntries.{closes_meet, begins_meet, message_taken, threshold_handed}
@@ -227,11 +227,11 @@ module _ {S : Type 0} (m : AssociationMeaning S) where
     visit_in AwaitOpen now t t' state unclosed h =
         opened_first h.answer now t t' h.between h.asks.result state h.asks.called h.asks.is h.then
     visit_in AwaitConfig now t t' state unclosed h =
-        attended AwaitConfig now t t' state refl (attends_if t.entry.marked (m.has_stream t.association t.entry.id) t t' h)
+        attended AwaitConfig now t t' state refl (attends_if t.entry.marked (is_entry_there m t.association t.entry) t t' h)
     visit_in AwaitDcepAck now t t' state unclosed h =
-        attended AwaitDcepAck now t t' state refl (attends_if t.entry.marked (m.has_stream t.association t.entry.id) t t' h)
+        attended AwaitDcepAck now t t' state refl (attends_if t.entry.marked (is_entry_there m t.association t.entry) t t' h)
     visit_in Open now t t' state unclosed h =
-        attended Open now t t' state refl (attends_if t.entry.marked (m.has_stream t.association t.entry.id) t t' h)
+        attended Open now t t' state refl (attends_if t.entry.marked (is_entry_there m t.association t.entry) t t' h)
     visit_in Closed now t t' state unclosed h = cc (unclosed)
 
     -- a visit that gave nothing of an entry that is not closed

@@ -24,6 +24,8 @@ use Rattle.rtc_polling.specs.DtlsStages.{TimesDtls, PollsDtlsOutputs, TellsConne
 use Rattle.rtc_polling.specs.IceStages.{PollsIceEvents}
 use Rattle.rtc_polling.specs.MediaStages.{TellsMedia, TellsFallibleMedia}
 use Rattle.rtc_polling.specs.SendStages.{SendsChecks, SendsDtlsPacket, SendsMediaDatagram, SendsBy, SendsByPair}
+use Rattle.rtc_polling.specs.Statistics.{TellsStatistics}
+use Rattle.rtc_polling.proofs.StatisticsTurns.{HasNoReport, statistics_rest}
 use Rattle.rtc_polling.specs.StreamStages.{TakesStreamAnswer, PollsStreamEvent, PollsStreamEvents, SendsPacket, SendsFirst, SendsKeptPackets, TellsStreams}
 use Rattle.rtc_polling.specs.Walk.{StartsOverWhenDue, TellsConnection, TellsArrivals, SendsDatagrams, VisitsParts}
 use Rattle.rtc_polling_laws.proofs.RestingStreams.{HasFailed, StreamsRest}
@@ -120,11 +122,13 @@ module _ {I D S M E X T W N : Type 0} (m : Meanings I D S M E X T W N) where
     fallible_rests p held (Error Alloc) q h = inr refl
     fallible_rests p held _ q h = absurd h
 
-    arrivals_rest : (p : PolledPeer I D S M N) → held_media m.media p.core.media ≡ 0 → StageRests (TellsArrivals m) p
+    arrivals_rest : (p : PolledPeer I D S M N) → held_media m.media p.core.media ≡ 0 → HasNoReport p.transport.stats
+        → StageRests (TellsArrivals m) p
     unfolding TellsArrivals
-    arrivals_rest p held =
+    arrivals_rest p held none =
         let events : m.media.held_events p.core.media ≡ 0 = omega (arith, held) in
-        else_rests (TellsMedia m) (TellsFallibleMedia m) p (told_rests p events) (fallible_rests p events)
+        else_rests (TellsMedia m) _ p (told_rests p events)
+        (else_rests (TellsFallibleMedia m) TellsStatistics p (fallible_rests p events) (λ r q h. inl (statistics_rest p r q none h)))
 
     checks_rest : (p : PolledPeer I D S M N) → m.ice.held p.core.ice ≡ 0 → StageRests (SendsChecks m) p
     unfolding SendsChecks
@@ -191,6 +195,7 @@ module _ {I D S M E X T W N : Type 0} (m : Meanings I D S M E X T W N) where
       pub streams : WaitsOver p.core.sctp p.core.dtls
       pub media : held_media m.media p.core.media ≡ 0
       pub sent : AreSent p.transport.send_addr p.core.dtls.packets
+      pub reports : HasNoReport p.transport.stats
 
     pub drained_rests : (p : PolledPeer I D S M N) → Drained p → StageRests (VisitsParts m) p
     unfolding VisitsParts TellsConnection
@@ -200,6 +205,6 @@ module _ {I D S M E X T W N : Type 0} (m : Meanings I D S M E X T W N) where
         (else_rests (TimesDtls m) _ p (times_rest m laws p drained.due)
         (else_rests (PollsDtlsOutputs m) TellsConnected p (outputs_rest m laws p drained.dtls) (connected_rests m laws p drained.told))))
         (else_rests (TellsStreams m) _ p (waiting_rests p drained.streams)
-        (else_rests (TellsArrivals m) _ p (arrivals_rest p drained.media)
+        (else_rests (TellsArrivals m) _ p (arrivals_rest p drained.media drained.reports)
         (else_rests (SendsDatagrams m) StartsOverWhenDue p (datagrams_rest p drained.ice drained.sent drained.media)
         (λ r q h. inl (h.0 ∙ ap (λ (b : Bool). if b then Again else Nothing) drained.due, h.1)))))

@@ -1,5 +1,5 @@
 -- What stages of a poll did to the parts of a peer, one after the other.
-use Rattle.std.proofs.Common.{◌≡◌, ◌++◌, ◌∷◌, ℕ, zero, suc, true, List, [], append-nil, append_assoc, Some, None, refl, sym, ap, subst, ◌∙◌}
+use Rattle.std.proofs.Common.{◌≡◌, ◌++◌, ◌∷◌, ℕ, zero, suc, true, List, [], append-nil, append_assoc, Some, None, Ok, refl, sym, ap, subst, ◌∙◌}
 use Rattle.rtc_association.specs.AssociationLaws.{AssociationLaws}
 use Rattle.rtc_sctp_entries.specs.declared.sctp_event.SctpEvent.{SctpEvent}
 use Rattle.rtc_sctp_entries.specs.declared.sctp_event.SctpEvent.TheVariants as event
@@ -11,12 +11,15 @@ use Rattle.rtc_polling.specs.declared.event.Event.{Event}
 use Rattle.rtc_polling.specs.declared.event.Event.TheVariants.{ChannelData}
 use Rattle.rtc_polling.specs.declared.met.Met.{Met}
 use Rattle.rtc_polling.specs.declared.met.Met.TheVariants.{Nothing, Again, Transmit, Event as MetEvent, Error}
+use Rattle.rtc_polling.specs.declared.output.Output.TheVariants as outputs
 use Rattle.rtc_polling.specs.declared.polled_peer.PolledPeer.{PolledPeer}
 use Rattle.rtc_polling.specs.Stages.{Stage, FollowedBy, Stopped, WentOn, StartsOver, RepeatsStage}
 use Rattle.rtc_polling.specs.StreamStages.{channel_over}
 use Rattle.rtc_polling_laws.specs.PeerActs.{nothing_came}
 use Rattle.rtc_polling_laws.specs.Acts.{PeerDid, ArePassed}
+use Rattle.rtc_polling_laws.specs.ChannelStreams.{StreamsWent}
 use Rattle.rtc_polling_laws.proofs.ActJoins.{SameParts, still_did, did_on}
+use Rattle.rtc_polling_laws.proofs.StreamsJoin.{answer_met, TellsNoOpening, KeepsStreams, streams_stay, streams_on}
 
 -- the contents of the datagram that is met
 abbrev pub contents_met : {E : Type 0} → Met E → List (List ℕ)
@@ -89,6 +92,7 @@ module _ {I D S M E X T W N : Type 0} (m : Meanings I D S M E X T W N) where
     pub meets : MeetsData r q.core.channels told
     pub greatest : q.core.greatest ≡ p.core.greatest
     pub rows : KeepsRows r p.core.channels q.core.channels
+    pub streams : StreamsWent m p (answer_met r) wrote heard q
 
   -- the same where nothing is shown, and more follows
   pub record QuietDid (p q : PolledPeer I D S M N) : Type 0 where
@@ -99,6 +103,7 @@ module _ {I D S M E X T W N : Type 0} (m : Meanings I D S M E X T W N) where
     pub data_passed : ArePassed p.core.channels (shown_messages heard)
     pub greatest : q.core.greatest ≡ p.core.greatest
     pub rows : q.core.channels.rows ≡ p.core.channels.rows
+    pub streams : StreamsWent m p (Ok (outputs.Timeout 0)) wrote heard q
 
   passed_all : (p : PolledPeer I D S M N) (heard : List StreamMessage) (passed told : List SctpEvent) → shown_messages heard ≡ passed ++ told → told ≡ []
       → ArePassed p.core.channels passed → ArePassed p.core.channels (shown_messages heard)
@@ -114,6 +119,7 @@ module _ {I D S M E X T W N : Type 0} (m : Meanings I D S M E X T W N) where
     data_passed = passed_all p h.heard h.passed h.told h.data_is h.meets h.passed_over;
     greatest = h.greatest;
     rows = h.rows;
+    streams = record { uses = h.streams.uses; lives = h.streams.lives; live_heard = h.streams.live_heard; gone = h.streams.gone; apart = h.streams.apart; opens = tt };
   }
 
   pub quiet_again : (p q : PolledPeer I D S M N) → VisitDid p Again q → QuietDid p q
@@ -125,6 +131,7 @@ module _ {I D S M E X T W N : Type 0} (m : Meanings I D S M E X T W N) where
     data_passed = passed_all p h.heard h.passed h.told h.data_is h.meets h.passed_over;
     greatest = h.greatest;
     rows = h.rows;
+    streams = record { uses = h.streams.uses; lives = h.streams.lives; live_heard = h.streams.live_heard; gone = h.streams.gone; apart = h.streams.apart; opens = tt };
   }
 
   pub quiet_none : (p : PolledPeer I D S M N) → QuietDid p p
@@ -136,6 +143,7 @@ module _ {I D S M E X T W N : Type 0} (m : Meanings I D S M E X T W N) where
     data_passed = tt;
     greatest = refl;
     rows = refl;
+    streams = streams_stay m (Ok (outputs.Timeout 0)) p p [] refl (refl, refl) tt;
   }
 
   -- what was met is another's, and so is the peer
@@ -144,8 +152,9 @@ module _ {I D S M E X T W N : Type 0} (m : Meanings I D S M E X T W N) where
 
   -- acts by which no message was written or read
   pub plain_visit : (r : Met E) (p q : PolledPeer I D S M N) → PeerDid m nothing_came (p.core.greatest ∷ []) (contents_met r) [] [] p q
-      → MeetsData r q.core.channels [] → q.core.greatest ≡ p.core.greatest → KeepsRows r p.core.channels q.core.channels → VisitDid p r q
-  plain_visit r p q did meets greatest rows = record {
+      → MeetsData r q.core.channels [] → q.core.greatest ≡ p.core.greatest → KeepsRows r p.core.channels q.core.channels → KeepsStreams p q
+      → TellsNoOpening (answer_met r) → VisitDid p r q
+  plain_visit r p q did meets greatest rows kept unopened = record {
     wrote = [];
     heard = [];
     did = did;
@@ -157,15 +166,16 @@ module _ {I D S M E X T W N : Type 0} (m : Meanings I D S M E X T W N) where
     meets = meets;
     greatest = greatest;
     rows = rows;
+    streams = streams_stay m (answer_met r) p q did.acts.association did.went.association kept unopened;
   }
 
   -- what leaves the parts as they were
   abbrev pub StillHere : PolledPeer I D S M N → PolledPeer I D S M N → Type 0
-  StillHere p n = SameParts m p n × (n.core.greatest ≡ p.core.greatest) × (n.core.channels.rows ≡ p.core.channels.rows)
+  StillHere p n = SameParts m p n × (n.core.greatest ≡ p.core.greatest) × (n.core.channels ≡ p.core.channels)
 
   -- what is met that shows no data of channels and no datagram
   abbrev pub ShowsNone : Met E → Type 0
-  ShowsNone r = (contents_met r ≡ []) × ((held : Channels) → MeetsData r held [])
+  ShowsNone r = (contents_met r ≡ []) × ((held : Channels) → MeetsData r held []) × TellsNoOpening (answer_met r)
 
   pub keeps_by : (r : Met E) (a b : Channels) → b.rows ≡ a.rows → KeepsRows r a b
   keeps_by Nothing a b is = is
@@ -180,7 +190,7 @@ module _ {I D S M E X T W N : Type 0} (m : Meanings I D S M E X T W N) where
       (subst (λ (y : PolledPeer I D S M N). VisitDid p x y) (sym is)
       (plain_visit x p n
       (subst (λ (l : List (List ℕ)). PeerDid m nothing_came (p.core.greatest ∷ []) l [] [] p n) (sym none.0)
-      (still_did m nothing_came (p.core.greatest ∷ []) p n same.0)) (none.1 n.core.channels) same.1 (keeps_by x p.core.channels n.core.channels same.2)))
+      (still_did m nothing_came (p.core.greatest ∷ []) p n same.0)) (none.1 n.core.channels) same.1 (keeps_by x p.core.channels n.core.channels (ap (λ held. held.rows) same.2)) (ap (λ s. s.entries) same.0.3, same.2) none.2))
 
   module _ (laws : AssociationLaws m.association) where
     pub visit_on : (r : Met E) (p b q : PolledPeer I D S M N) → QuietDid p b → VisitDid b r q → VisitDid p r q
@@ -202,6 +212,7 @@ module _ {I D S M E X T W N : Type 0} (m : Meanings I D S M E X T W N) where
       meets = y.meets;
       greatest = y.greatest ∙ x.greatest;
       rows = rows_kept r p.core.channels b.core.channels q.core.channels x.rows y.rows;
+      streams = streams_on m (answer_met r) 0 p b q x.wrote x.heard y.wrote y.heard x.rows x.streams y.streams;
     }
 
     pub quiet_on : (p b q : PolledPeer I D S M N) → QuietDid p b → QuietDid b q → QuietDid p q
@@ -218,6 +229,7 @@ module _ {I D S M E X T W N : Type 0} (m : Meanings I D S M E X T W N) where
           (passed_with p.core.channels b.core.channels (shown_messages y.heard) x.rows y.data_passed));
       greatest = y.greatest ∙ x.greatest;
       rows = y.rows ∙ x.rows;
+      streams = streams_on m (Ok (outputs.Timeout 0)) 0 p b q x.wrote x.heard y.wrote y.heard x.rows x.streams y.streams;
     }
 
     -- a stage acts, whatever is met

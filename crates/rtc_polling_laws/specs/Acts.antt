@@ -8,7 +8,7 @@ use Rattle.rtc_sctp_entries.specs.declared.sctp_event.SctpEvent.{SctpEvent}
 use Rattle.rtc_sctp_entries.specs.declared.sctp_event.SctpEvent.TheVariants as event
 use Rattle.rtc_sctp.specs.Calls.{written_ppi, is_nil}
 use Rattle.rtc_sctp_laws.specs.StreamMessages.{StreamMessage, stream_message, write_act, read_act, writes_of, reads_of}
-use Rattle.rtc_sctp_laws.specs.StreamMessages.{are_dcep, shown_messages, pushed_packets}
+use Rattle.rtc_sctp_laws.specs.StreamMessages.{AreNamed, NamesReadings, are_dcep, shown_messages, pushed_packets}
 use Rattle.rtc_channels.specs.Channels.{Channels}
 use Rattle.rtc_peer_state.specs.declared.peer.Peer.{Peer}
 use Rattle.rtc_peer_state.specs.declared.rtc_error.RtcError.{RtcError}
@@ -19,6 +19,7 @@ use Rattle.rtc_polling.specs.declared.output.Output.{Output}
 use Rattle.rtc_polling.specs.declared.output.Output.TheVariants as outputs
 use Rattle.rtc_polling.specs.declared.polled_peer.PolledPeer.{PolledPeer}
 use Rattle.rtc_polling.specs.StreamStages.{channel_over}
+use Rattle.rtc_polling_laws.specs.ChannelStreams.{AreNumberedChannels, StreamsWent}
 use Rattle.rtc_polling_laws.specs.PeerActs.{PeerActs, PeerMoved, Came, nothing_came, came_by, moment_given, contents_taken, media_given}
 use Rattle.rtc_polling_laws.specs.PeerActs.{ice_moments, dtls_moments, media_moments}
 
@@ -26,7 +27,8 @@ use Rattle.rtc_polling_laws.specs.PeerActs.{ice_moments, dtls_moments, media_mom
 -- handed are among these. What was shown as contents of datagrams, and the packets that stand to be shown behind it, are among what was
 -- taken from the parts in these acts and what stood before. What the association was given came over the DTLS connection, and all of that
 -- was given to it, in order, once it was started. What was sent over the connection, or stands to be sent behind it, was taken from the
--- association or stood to be sent before. These messages were written and read.
+-- association or stood to be sent before. These messages were written and read, and the identifiers that were read have their names where
+-- the association's readings do.
 pub record PeerDid {I D S M E X T W N : Type 0} (m : Meanings I D S M E X T W N) (came : Came) (moments : List ℕ)
     (shown : List (List ℕ)) (wrote heard : List StreamMessage) (p q : PolledPeer I D S M N) : Type 0 where
   pub acts : PeerActs
@@ -44,6 +46,7 @@ pub record PeerDid {I D S M E X T W N : Type 0} (m : Meanings I D S M E X T W N)
       (taken acts.association ++ pushed_packets p.core.sctp.pushed)
   pub wrote_is : writes_of acts.association ≡ map write_act wrote
   pub heard_is : reads_of acts.association ≡ map read_act heard
+  pub named : NamesReadings m.association → AreNamed heard
 
 -- the contents of the datagram that an answer shows
 abbrev pub contents_shown : {E : Type 0} → Result (Output E) RtcError → List (List ℕ)
@@ -66,7 +69,8 @@ ShowsData (Ok output) held told = told ≡ []
 ShowsData (Err error) held told = told ≡ []
 
 -- What a poll did. Nothing came. It wrote messages that open channels alone. Of the data that it read, in order, all is of streams without
--- a channel, but for what it shows last, if it shows any.
+-- a channel, but for what it shows last, if it shows any. Streams and live channels went on by what it wrote and read, and channels keep
+-- their order.
 pub record PollActs {I D S M E X T W N : Type 0} (m : Meanings I D S M E X T W N) (p : PolledPeer I D S M N)
     (answer : Result (Output E) RtcError) (q : PolledPeer I D S M N) : Type 0 where
   pub wrote : List StreamMessage
@@ -78,6 +82,8 @@ pub record PollActs {I D S M E X T W N : Type 0} (m : Meanings I D S M E X T W N
   pub data_is : shown_messages heard ≡ passed ++ told
   pub passed_over : ArePassed p.core.channels passed
   pub shows : ShowsData answer q.core.channels told
+  pub streams : StreamsWent m p answer wrote heard q
+  pub numbers : AreNumberedChannels p.core.channels → AreNumberedChannels q.core.channels
 
 -- the message that a write took, if it did
 abbrev pub message_of_write : (stream generation : ℕ) → (binary : Bool) → List ℕ → Result Bool RtcError → List StreamMessage

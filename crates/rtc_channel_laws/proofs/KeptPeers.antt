@@ -1,0 +1,268 @@
+-- The calls of a peer beside polls keep the use of each stream, and live channels.
+use Rattle.std.proofs.Common.{◌≡◌, ◌⊎◌, inl, inr, ◌++◌, ℕ, Bool, true, false, List, [], append-nil, Result, Ok, Err, refl, sym, ap, subst, ◌∙◌}
+use Rattle.std.specs.Prelude.{alloc_error}
+use Rattle.std.specs.declared.alloc.AllocError.{AllocError}
+use Rattle.rtc_wire.specs.declared.datagram_recv.DatagramRecv.{DatagramRecv}
+use Rattle.rtc_wire.specs.declared.datagram_recv.DatagramRecv.TheVariants as datagrams
+use Rattle.rtc_wire.specs.declared.receive.Receive.{Receive}
+use Rattle.rtc_association.specs.AssociationLaws.{AssociationLaws}
+use Rattle.rtc_stream_uses.specs.StreamUses.{IsLive}
+use Rattle.rtc_stream_contents.proofs.LiveCalls.{writes_own}
+use Rattle.rtc_ready.specs.Signals.{both}
+use Rattle.rtc_sctp_values.specs.declared.sctp_error.SctpError.{SctpError}
+use Rattle.rtc_sctp.specs.Calls.{WritesStream, is_open_stream}
+use Rattle.rtc_sctp_laws.specs.StreamActs.{written_message}
+use Rattle.rtc_sctp_laws.specs.StreamMessages.{StreamMessage}
+use Rattle.rtc_channels.specs.Channels.{Channels}
+use Rattle.rtc_channels.specs.Openings.{is_progress_due}
+use Rattle.rtc_peer_state.specs.declared.phase.Phase.{Phase}
+use Rattle.rtc_peer_state.specs.declared.phase.Phase.TheVariants.{Alive, Closing, Closed}
+use Rattle.rtc_peer_state.specs.declared.rtc_error.RtcError.{RtcError}
+use Rattle.rtc_peer_state.specs.declared.rtc_error.RtcError.TheVariants.{Alloc, Dtls, Media}
+use Rattle.rtc_peer_state.specs.Meanings.{Meanings}
+use Rattle.rtc_polling.specs.declared.input.Input.{Input}
+use Rattle.rtc_polling.specs.declared.input.Input.TheVariants.{Timeout, Receive as Datagram}
+use Rattle.rtc_polling.specs.declared.polled_peer.PolledPeer.{PolledPeer}
+use Rattle.rtc_polling.specs.ChannelCalls.{ClosesDataChannel, SetsChannelThreshold, WritesChannel, WritesIf, stream_under, write_taken}
+use Rattle.rtc_polling.specs.Closing.{ClosesPeer, ClosesPeerFrom}
+use Rattle.rtc_polling.specs.Statistics.{TimesStatistics}
+use Rattle.rtc_polling.proofs.StatisticsTurns.{StatisticsTimed, statistics_timed}
+use Rattle.rtc_polling.specs.Inputs.{TimesIce, TimesStreams, TimesChannels, TimesMedia, GivesTime, TakesTimeIf, HandlesInputBy, HandlesInputIn, HandlesInput, with_moment}
+use Rattle.rtc_polling.specs.Inputs.{HearsStun, HearsDtls, HearsMedia, HearsKind, Hears, Heard, PartFailed}
+use Rattle.rtc_polling.specs.Stages.{Call, InTurn, Failed, Passed}
+use Rattle.rtc_polling.specs.StreamStages.{channel_over}
+use Rattle.rtc_polling_laws.specs.Acts.{message_of_write}
+use Rattle.rtc_polling_laws.specs.ChannelStreams.{AreNumberedChannels, IsGone, IsUsedStream}
+use Rattle.rtc_polling_laws.specs.PeerActs.{nothing_came}
+use Rattle.rtc_polling_laws.proofs.ActedClosing.{beside, close_acts}
+use Rattle.rtc_polling_laws.proofs.ClosedRows.{close_rows}
+use Rattle.rtc_channel_laws.specs.KeptChannels.{CallKeepsStreams}
+use Rattle.rtc_channel_laws.proofs.KeptCalls.{StreamsKept, kept_same, kept_acts, kept_write, kept_timeout, kept_threshold_if, kept_close, ChannelsKept, moment_kept}
+
+-- a closed peer stays closed
+abbrev StaysClosed : {I D S M N : Type 0} → PolledPeer I D S M N → PolledPeer I D S M N → Type 0
+StaysClosed p q = p.core.phase ≡ Closed → q.core.phase ≡ Closed
+
+-- streams and channels stay
+abbrev KeepsBoth : {I D S M N : Type 0} → PolledPeer I D S M N → PolledPeer I D S M N → Type 0
+KeepsBoth p q = (q.core.sctp ≡ p.core.sctp) × (q.core.channels ≡ p.core.channels) × StaysClosed p q
+
+abbrev KeepsRows : {I D S M N : Type 0} → PolledPeer I D S M N → PolledPeer I D S M N → Type 0
+KeepsRows p q = (q.core.channels ≡ p.core.channels) × StaysClosed p q
+
+-- what a write took
+written_is : (stream generation : ℕ) (binary : Bool) (bytes : List ℕ) (answer : Result ℕ SctpError)
+    → written_message stream generation binary bytes answer ≡ message_of_write stream generation binary bytes (write_taken answer)
+written_is stream generation binary bytes (Ok count) = refl
+written_is stream generation binary bytes (Err error) = refl
+
+module _ {I D S M E X T W N : Type 0} (m : Meanings I D S M E X T W N) where
+  over_streams : (p q : PolledPeer I D S M N) (wrote : List StreamMessage) → StreamsKept m.association p.core.sctp wrote q.core.sctp
+      → q.core.channels ≡ p.core.channels → (p.core.phase ≡ Closed → q.core.phase ≡ Closed) → CallKeepsStreams m p wrote q
+  over_streams p q wrote h is closed = record {
+    uses = h.uses;
+    lives = λ c s g numbered k. (ap (λ (x : Channels). channel_over s x) is ∙ k.0, h.lives s g k.1);
+    numbers = λ k. subst (λ (x : Channels). AreNumberedChannels x) (sym is) k;
+    gone = λ c k. subst (λ (x : Channels). IsGone c x) (sym is) k;
+    closed = closed;
+  }
+
+  pub over_channels : (p q : PolledPeer I D S M N) → ChannelsKept m.association p.core.channels p.core.sctp q.core.channels q.core.sctp
+      → (p.core.phase ≡ Closed → q.core.phase ≡ Closed) → CallKeepsStreams m p [] q
+  over_channels p q h closed = record {
+    uses = h.streams.uses;
+    lives = λ c s g numbered k. (h.over s c numbered k.0, h.streams.lives s g k.1);
+    numbers = h.numbers;
+    gone = h.gone;
+    closed = closed;
+  }
+
+  by_rows : (p q : PolledPeer I D S M N) (wrote : List StreamMessage) → StreamsKept m.association p.core.sctp wrote q.core.sctp → KeepsRows p q
+      → CallKeepsStreams m p wrote q
+  by_rows p q wrote h k = over_streams p q wrote h k.0 k.1
+
+  pub same_kept : (p q : PolledPeer I D S M N) → KeepsBoth p q → CallKeepsStreams m p [] q
+  same_kept p q h = over_streams p q [] (kept_same m.association p.core.sctp q.core.sctp h.0) h.1 h.2
+
+  pub calls_on : (p b q : PolledPeer I D S M N) → CallKeepsStreams m p [] b → CallKeepsStreams m b [] q → CallKeepsStreams m p [] q
+  calls_on p b q x y = record {
+    uses = λ v s ws hs k.
+        subst (λ (l : List StreamMessage). IsUsedStream m s l hs q) (append-nil (ws ++ [])) (y.uses v s (ws ++ []) hs (x.uses v s ws hs k));
+    lives = λ c s g numbered k. y.lives c s g (x.numbers numbered) (x.lives c s g numbered k);
+    numbers = λ k. y.numbers (x.numbers k);
+    gone = λ c k. y.gone c (x.gone c k);
+    closed = λ k. y.closed (x.closed k);
+  }
+
+  -- a call keeps them, whatever it answers
+  abbrev CallKeeps : Call (PolledPeer I D S M N) → Type 0
+  CallKeeps call = (p : PolledPeer I D S M N) (r : Result (Unit {0}) RtcError) (q : PolledPeer I D S M N) → call p r q → CallKeepsStreams m p [] q
+
+  turn_keeps : (first rest : Call (PolledPeer I D S M N)) → CallKeeps first → CallKeeps rest → CallKeeps (InTurn first rest)
+  turn_keeps first rest one other p r q (Failed error is h) = one p (Err error) q h
+  turn_keeps first rest one other p r q (Passed between h k) = calls_on p between q (one p (Ok tt) between h) (other between r q k)
+
+  -- what a part alone was told
+  kept_by : (p n q : PolledPeer I D S M N) → q ≡ n → KeepsBoth p n → CallKeepsStreams m p [] q
+  kept_by p n q is h = same_kept p q (beside KeepsBoth p n q is h)
+
+  ice_keeps : (now : ℕ) → CallKeeps (TimesIce m now)
+  unfolding TimesIce
+  ice_keeps now p (Ok done) q h = kept_by p _ q h.1 (refl, refl, λ k. k)
+  ice_keeps now p (Err Alloc) q h = kept_by p _ q h.1 (refl, refl, λ k. refl)
+  ice_keeps now p (Err _) q h = absurd h
+
+  streams_keep : (now : ℕ) → CallKeeps (TimesStreams m now)
+  unfolding TimesStreams
+  streams_keep now p (Ok done) q h =
+      by_rows p q [] (kept_timeout m.association now p.core.sctp both (Ok tt) q.core.sctp h.0.0 h.0.1) (beside KeepsRows p _ q h.1 (refl, λ k. k))
+  streams_keep now p (Err Alloc) q h =
+      by_rows p q [] (kept_timeout m.association now p.core.sctp both (Err alloc_error) q.core.sctp h.0.0 h.0.1) (beside KeepsRows p _ q h.1 (refl, λ k. refl))
+  streams_keep now p (Err _) q h = absurd h
+
+  channels_keep : CallKeeps (TimesChannels m)
+  unfolding TimesChannels
+  channels_keep p (Ok done) q h =
+      over_channels p q
+      (moment_kept m.association (is_progress_due m.association p.core.channels p.core.sctp) p.core.channels p.core.sctp both (Ok tt) q.core.channels
+      q.core.sctp h.0.0 h.0.1) (beside StaysClosed p _ q h.1 (λ k. k))
+  channels_keep p (Err Alloc) q h =
+      over_channels p q
+      (moment_kept m.association (is_progress_due m.association p.core.channels p.core.sctp) p.core.channels p.core.sctp both (Err alloc_error) q.core.channels
+      q.core.sctp h.0.0 h.0.1) (beside StaysClosed p _ q h.1 (λ k. refl))
+  channels_keep p (Err _) q h = absurd h
+
+  media_keeps : (now : ℕ) → CallKeeps (TimesMedia m now)
+  unfolding TimesMedia
+  media_keeps now p (Ok done) q h = kept_by p _ q h.1 (refl, refl, λ k. k)
+  media_keeps now p (Err (Media cause)) q h = kept_by p _ q h.2 (refl, refl, λ k. k)
+  media_keeps now p (Err Alloc) q h = kept_by p _ q h.1 (refl, refl, λ k. refl)
+  media_keeps now p (Err _) q h = absurd h
+
+  stays_closed : (now : ℕ) (p : PolledPeer I D S M N) (r : Result (Unit {0}) RtcError) (q : PolledPeer I D S M N) → StatisticsTimed m now p r q
+      → p.core.phase ≡ Closed → q.core.phase ≡ Closed
+  stays_closed now p r q timed closed = by timed.ends
+    where
+      by : ((r ≡ Ok tt) × (q.core.phase ≡ p.core.phase)) ⊎ ((r ≡ Err Alloc) × (q.core.phase ≡ Closed)) → q.core.phase ≡ Closed
+      by (inl same) = same.1 ∙ closed
+      by (inr shut) = shut.1
+
+  statistics_keep : (now : ℕ) → CallKeeps (TimesStatistics m now)
+  statistics_keep now p r q h =
+      let timed = statistics_timed m now p r q h in
+      kept_by p _ q timed.kept (refl, refl, stays_closed now p r q timed)
+
+  gives_keep : (now : ℕ) → CallKeeps (GivesTime m now)
+  gives_keep now p r q h =
+      calls_on p (with_moment now p) q (same_kept p (with_moment now p) (refl, refl, λ k. k))
+      (turn_keeps (TimesIce m now) _ (ice_keeps now)
+      (turn_keeps (TimesStreams m now) _ (streams_keep now)
+      (turn_keeps (TimesChannels m) _ channels_keep
+      (turn_keeps (TimesMedia m now) (TimesStatistics m now) (media_keeps now) (statistics_keep now)))) (with_moment now p) r q h)
+
+  time_keeps : (earlier : Bool) (now : ℕ) → CallKeeps (TakesTimeIf m earlier now)
+  time_keeps true now p r q h = kept_by p p q h.1 (refl, refl, λ k. k)
+  time_keeps false now p r q h = gives_keep now p r q h
+
+  stun_keeps : (now : ℕ) (datagram : Receive) (bytes : List ℕ) → CallKeeps (HearsStun m now datagram bytes)
+  unfolding HearsStun
+  stun_keeps now datagram bytes p (Ok done) q h = kept_by p _ q h.1 (refl, refl, λ k. k)
+  stun_keeps now datagram bytes p (Err Alloc) q h = kept_by p _ q h.1 (refl, refl, λ k. refl)
+  stun_keeps now datagram bytes p (Err _) q h = absurd h
+
+  dtls_keeps : (bytes : List ℕ) → CallKeeps (HearsDtls m bytes)
+  unfolding HearsDtls
+  dtls_keeps bytes p (Ok done) q h = kept_by p _ q h.1 (refl, refl, λ k. k)
+  dtls_keeps bytes p (Err (Dtls cause)) q h = kept_by p _ q h.2 (refl, refl, λ k. k)
+  dtls_keeps bytes p (Err Alloc) q h = kept_by p _ q h.1 (refl, refl, λ k. refl)
+  dtls_keeps bytes p (Err _) q h = absurd h
+
+  packet_keeps : (given : M → Result (Unit {0}) AllocError → M → Type 0) (bytes : List ℕ) → CallKeeps (HearsMedia m given bytes)
+  unfolding HearsMedia
+  packet_keeps given bytes p (Ok done) q h = kept_by p _ q h.1 (refl, refl, λ k. k)
+  packet_keeps given bytes p (Err Alloc) q h = kept_by p _ q h.1 (refl, refl, λ k. refl)
+  packet_keeps given bytes p (Err _) q h = absurd h
+
+  kind_keeps : (now : ℕ) (datagram : Receive) (contents : DatagramRecv) → CallKeeps (HearsKind m now datagram contents)
+  kind_keeps now datagram (datagrams.Stun view) p r q h = stun_keeps now datagram view.bytes.now p r q h
+  kind_keeps now datagram (datagrams.Dtls bytes) p r q h = dtls_keeps bytes.now p r q h
+  kind_keeps now datagram (datagrams.Rtp bytes) p r q h = packet_keeps (λ a s b. m.media.rtp_given a now bytes.now s b) bytes.now p r q h
+  kind_keeps now datagram (datagrams.Rtcp bytes) p r q h = packet_keeps (λ a s b. m.media.rtcp_given a now bytes.now s b) bytes.now p r q h
+
+  hears_keep : (now : ℕ) (datagram : Receive) → CallKeeps (Hears m now datagram)
+  hears_keep now datagram p r q (Heard between heard time) =
+      calls_on p between q (kind_keeps now datagram datagram.contents p (Ok tt) between heard) (time_keeps _ now between r q time)
+  hears_keep now datagram p r q (PartFailed error is heard) = kind_keeps now datagram datagram.contents p (Err error) q heard
+
+  input_by : (input : Input) → CallKeeps (HandlesInputBy m input)
+  input_by (Timeout now) p r q h = time_keeps _ now p r q h
+  input_by (Datagram now datagram) p r q h = hears_keep now datagram p r q h
+
+  input_in : (phase : Phase) (input : Input) → CallKeeps (HandlesInputIn m phase input)
+  input_in Alive input p r q h = input_by input p r q h
+  input_in Closing input p r q h = input_by input p r q h
+  input_in Closed input p r q h = kept_by p p q h.1 (refl, refl, λ k. k)
+
+  pub input_keeps : (input : Input) → CallKeeps (HandlesInput m input)
+  input_keeps input p r q h = input_in p.core.phase input p r q h
+
+  pub threshold_keeps : (stream n : ℕ) (p q : PolledPeer I D S M N) → SetsChannelThreshold stream n p q → CallKeepsStreams m p [] q
+  threshold_keeps stream n p q h =
+      by_rows p q [] (kept_threshold_if m.association (is_open_stream stream p.core.sctp) stream n p.core.sctp q.core.sctp h.0)
+      (beside KeepsRows p _ q h.1 (refl, λ k. k))
+
+  -- a message that a live stream took is of its generation
+  own_by : (full : Bool) (stream : ℕ) (binary : Bool) (bytes : List ℕ) (p q : PolledPeer I D S M N) (g : ℕ)
+      → WritesIf m full stream binary bytes p (Ok true) q → IsLive stream g p.core.sctp.entries
+      → m.association.generation p.core.sctp.association stream ≡ g
+  own_by true stream binary bytes p q g h live = absurd (let e = h.0 in cc)
+  own_by false stream binary bytes p q g h live = by h.0 h.1 h.2
+    where
+      by : (answer : Result ℕ SctpError) → WritesStream m.association stream binary bytes p.core.sctp answer q.core.sctp
+          → Ok true ≡ write_taken answer → m.association.generation p.core.sctp.association stream ≡ g
+      by (Ok count) wrote e = writes_own m.association stream binary bytes p.core.sctp count q.core.sctp g wrote live
+      by (Err error) wrote e = absurd (let f = e in cc)
+
+  pub channel_writes_own : (stream : ℕ) (binary : Bool) (bytes : List ℕ) (p q : PolledPeer I D S M N) (g : ℕ)
+      → WritesChannel m stream binary bytes p (Ok true) q → IsLive stream g p.core.sctp.entries
+      → m.association.generation p.core.sctp.association stream ≡ g
+  channel_writes_own stream binary bytes p q g h live = own_by _ stream binary bytes p q g h live
+
+  pub channel_close_keeps : (id : ℕ) (p : PolledPeer I D S M N) (r : Result (Unit {0}) AllocError) (q : PolledPeer I D S M N)
+      → ClosesDataChannel m id p r q → CallKeepsStreams m p [] q
+  channel_close_keeps id p r q h =
+      by_rows p q [] (kept_close m.association (stream_under id p.core.channels) p.core.sctp r q.core.sctp h.0) (beside KeepsRows p _ q h.1 (refl, λ k. k))
+
+  module _ (laws : AssociationLaws m.association) where
+    write_keeps : (full : Bool) (stream : ℕ) (binary : Bool) (bytes : List ℕ) (p : PolledPeer I D S M N) (r : Result Bool RtcError)
+        (q : PolledPeer I D S M N) → WritesIf m full stream binary bytes p r q
+        → CallKeepsStreams m p (message_of_write stream (m.association.generation p.core.sctp.association stream) binary bytes r) q
+    write_keeps true stream binary bytes p r q h =
+        subst (λ (x : Result Bool RtcError).
+        CallKeepsStreams m p (message_of_write stream (m.association.generation p.core.sctp.association stream) binary bytes x) q) (sym h.0)
+        (kept_by p p q h.1 (refl, refl, λ k. k))
+    write_keeps false stream binary bytes p r q h =
+        subst (λ (l : List StreamMessage). CallKeepsStreams m p l q)
+        (written_is stream (m.association.generation p.core.sctp.association stream) binary bytes h.0
+        ∙ ap (message_of_write stream (m.association.generation p.core.sctp.association stream) binary bytes) (sym h.2))
+        (by_rows p q (written_message stream (m.association.generation p.core.sctp.association stream) binary bytes h.0)
+        (kept_write m.association laws stream binary bytes p.core.sctp h.0 q.core.sctp h.1) (beside KeepsRows p _ q h.3 (refl, λ k. k)))
+
+    pub channel_write_keeps : (stream : ℕ) (binary : Bool) (bytes : List ℕ) (p : PolledPeer I D S M N) (r : Result Bool RtcError)
+        (q : PolledPeer I D S M N) → WritesChannel m stream binary bytes p r q
+        → CallKeepsStreams m p (message_of_write stream (m.association.generation p.core.sctp.association stream) binary bytes r) q
+    channel_write_keeps stream binary bytes p r q h = write_keeps _ stream binary bytes p r q h
+
+    -- closing acts on the association, and leaves entries and channels
+    close_stays : (phase : Phase) (p : PolledPeer I D S M N) (r : Result (Unit {0}) RtcError) (q : PolledPeer I D S M N)
+        → ClosesPeerFrom m phase p r q → phase ≡ p.core.phase → StaysClosed p q
+    close_stays Alive p r q h e k = absurd (let f = e ∙ k in cc)
+    close_stays Closing p r q h e k = absurd (let f = e ∙ k in cc)
+    close_stays Closed p r q h e k = ap (λ (x : PolledPeer I D S M N). x.core.phase) h.1 ∙ k
+
+    pub close_keeps : CallKeeps (ClosesPeer m)
+    close_keeps p r q h =
+        let did = close_acts m nothing_came [] laws p r q h in
+        let kept = close_rows m p r q h in
+        over_streams p q [] (kept_acts m.association laws p.core.sctp q.core.sctp did.acts.association did.went.association kept.2) kept.1
+        (close_stays p.core.phase p r q h refl)

@@ -1,0 +1,111 @@
+-- Polls keep what holds of the channels that their side announced.
+use Rattle.std.proofs.Common.{◌≡◌, ◌∷◌, List, [], Option, Some, None, Result, Ok, Err}
+use Rattle.rtc_wire.specs.declared.transmit.Transmit.{Transmit}
+use Rattle.rtc_assoc_state.proofs.PlainLaws.{plain_laws}
+use Rattle.rtc_plain_media.specs.declared.plain_media_event.PlainMediaEvent.{PlainMediaEvent}
+use Rattle.rtc_ids.specs.Draws.{Draws}
+use Rattle.rtc_plain_streams.proofs.PlainGenerations.{plain_generations}
+use Rattle.rtc_plain_streams.proofs.PlainReadings.{plain_named}
+use Rattle.rtc_peer_state.specs.declared.rtc_error.RtcError.{RtcError}
+use Rattle.rtc_polling.specs.declared.output.Output.{Output}
+use Rattle.rtc_polling.specs.declared.output.Output.TheVariants as polled
+use Rattle.rtc_polling.specs.Walk.{PollsPeer}
+use Rattle.rtc_polling_laws.specs.Acts.{contents_shown}
+use Rattle.rtc_polling_laws.specs.PeerActs.{PeerActs, nothing_came}
+use Rattle.rtc_polling_laws.proofs.ActedPolls.{poll_acts}
+use Rattle.rtc_joined_peers.proofs.JoinedLemmas.{none_carries}
+use Rattle.rtc_history.specs.declared.outcome.Outcome.{Outcome}
+use Rattle.rtc_history.specs.declared.outcome.Outcome.TheVariants.{Polled, Alloc}
+use Rattle.rtc_history.specs.declared.poll_end.PollEnd.{PollEnd}
+use Rattle.rtc_history.specs.declared.poll_end.PollEnd.TheVariants.{Ended, Refused as EndRefused, NoRoom}
+use Rattle.rtc_history.specs.declared.sent_packet.SentPacket.{SentPacket}
+use Rattle.rtc_history.specs.declared.shown.Shown.{Shown}
+use Rattle.rtc_history.specs.declared.shown.Shown.TheVariants.{Timeout, Packet, Event}
+use Rattle.rtc_history.specs.declared.side.Side.{Side}
+use Rattle.rtc_history.specs.declared.table.Table.{Table}
+use Rattle.rtc_history.specs.Performs.{DrainsOn, DrainsPeer, PollsOnce, PollsShown, StepPollsPeer}
+use Rattle.rtc_history.specs.Sides.{other_side}
+use Rattle.rtc_joined_runs.specs.PlainPairs.{PlainPolled, plain_over}
+use Rattle.rtc_joined_runs.specs.SentContents.{contents_sent}
+use Rattle.rtc_joined_runs.proofs.ContentsLemmas.{Shows, shows_none, shows_one}
+use Rattle.rtc_joined_runs.proofs.StepsExchange.{plain_over_laws}
+use Rattle.rtc_channel_runs.specs.ChannelUses.{ChannelUse, uses_shown}
+use Rattle.rtc_channel_runs.specs.UsesOfRuns.{uses_behind, uses_drained, uses_drained_by, uses_drawn, uses_polled}
+use Rattle.rtc_channel_runs.proofs.SidesTold.{side_polled, uses_answered}
+use Rattle.rtc_channel_runs.proofs.StandingSides.{Stood, call_stood, same_stood}
+
+module _ {N : Type 0} (draws : Draws N) (at : Side) (b : PeerActs) (q : PlainPolled N) where
+  -- polls
+  polled_stood : (packets packets' : List SentPacket) (uses : List ChannelUse) (p : PlainPolled N) (answer : Result (Output PlainMediaEvent) RtcError)
+      (next : PlainPolled N) → Shows at packets packets' (contents_shown answer) → PollsPeer (plain_over draws) p answer next
+      → Stood draws at packets b q uses p → Stood draws at packets' b q (uses_answered (plain_over draws) answer next uses) next
+  polled_stood packets packets' uses p answer next shows h stood =
+      let acts = poll_acts (plain_over draws) (plain_over_laws draws) p answer next h in
+      call_stood draws at packets packets' b q p next nothing_came (p.core.greatest ∷ []) (contents_shown answer) acts.wrote acts.heard uses
+      (uses_answered (plain_over draws) answer next uses) (none_carries (contents_sent (other_side at) packets)) shows acts.did stood
+      (side_polled (plain_over draws) plain_laws plain_generations plain_named p answer next h acts uses stood.side.written stood.side.read stood.side.told)
+
+  shown_stood : (packets : List SentPacket) (shown : Shown PlainMediaEvent) (packets' : List SentPacket) (uses : List ChannelUse) (p next : PlainPolled N)
+      → PollsShown (plain_over draws) at p packets shown next packets' → Stood draws at packets b q uses p
+      → Stood draws at packets' b q (uses_shown (plain_over draws) shown next uses) next
+  shown_stood packets (Timeout moment reason) packets' uses p next h stood =
+      polled_stood packets packets' uses p (Ok (polled.Timeout moment)) next (shows_none at packets packets' h.2) h.0 stood
+  shown_stood packets (Packet number len) packets' uses p next h stood =
+      polled_stood packets packets' uses p (Ok (polled.Transmit h.0)) next (shows_one at packets packets' h.0 h.4) h.1 stood
+  shown_stood packets (Event event) packets' uses p next h stood =
+      polled_stood packets packets' uses p (Ok (polled.Event event)) next (shows_none at packets packets' h.1) h.0 stood
+
+  refused_stood : (packets packets' : List SentPacket) (uses : List ChannelUse) (p : PlainPolled N) (error : RtcError) (next : PlainPolled N)
+      → packets' ≡ packets → PollsPeer (plain_over draws) p (Err error) next → Stood draws at packets b q uses p → Stood draws at packets' b q uses next
+  refused_stood packets packets' uses p error next kept h stood =
+      polled_stood packets packets' uses p (Err error) next (shows_none at packets packets' kept) h stood
+
+  once_stood : (p : PlainPolled N) (packets : List SentPacket) (outputs : List (Shown PlainMediaEvent)) (end : PollEnd) (next : PlainPolled N)
+      (packets' : List SentPacket) (uses : List ChannelUse) → PollsOnce (plain_over draws) at p packets outputs end next packets'
+      → Stood draws at packets b q uses p → Stood draws at packets' b q (uses_polled (plain_over draws) outputs next uses) next
+  once_stood p packets (shown ∷ []) Ended next packets' uses h stood = shown_stood packets shown packets' uses p next h stood
+  once_stood p packets [] (EndRefused error) next packets' uses h stood = refused_stood packets packets' uses p error next h.1 h.0 stood
+  once_stood p packets outputs end next packets' uses h stood = absurd h
+
+  drains_on_stood : (p : PlainPolled N) (packets : List SentPacket) (outputs : List (Shown PlainMediaEvent)) (end : PollEnd) (next : PlainPolled N)
+      (packets' : List SentPacket) (uses : List ChannelUse) (h : DrainsOn (plain_over draws) at p packets outputs end next packets')
+      → Stood draws at packets b q uses p
+      → Stood draws at packets' b q (uses_drained (plain_over draws) at p packets outputs end next packets' h uses) next
+  drains_on_stood p packets [] Ended next packets' uses h stood = absurd h
+  drains_on_stood p packets [] (EndRefused error) next packets' uses h stood = refused_stood packets packets' uses p error next h.1 h.0 stood
+  drains_on_stood p packets [] NoRoom next packets' uses h stood = same_stood draws at packets packets' b q p next uses h.0 h.1 stood
+  drains_on_stood p packets (Timeout moment reason ∷ []) Ended next packets' uses h stood =
+      shown_stood packets (Timeout moment reason) packets' uses p next h stood
+  drains_on_stood p packets (Timeout moment reason ∷ outputs) end next packets' uses h stood = absurd h
+  drains_on_stood p packets (Packet number len ∷ outputs) end next packets' uses h stood =
+      drains_on_stood h.0 h.1 outputs end next packets' uses h.3 (shown_stood packets (Packet number len) h.1 uses p h.0 h.2 stood)
+  drains_on_stood p packets (Event event ∷ outputs) end next packets' uses h stood =
+      drains_on_stood h.0 h.1 outputs end next packets' (uses_shown (plain_over draws) (Event event) h.0 uses) h.3
+      (shown_stood packets (Event event) h.1 uses p h.0 h.2 stood)
+
+  drawn_stood : (p : PlainPolled N) (packets : List SentPacket) (outputs : List (Shown PlainMediaEvent)) (end : PollEnd) (next : PlainPolled N)
+      (packets' : List SentPacket) (uses : List ChannelUse) (h : DrainsPeer (plain_over draws) at p packets outputs end next packets')
+      → Stood draws at packets b q uses p
+      → Stood draws at packets' b q (uses_drawn (plain_over draws) at p packets outputs end next packets' h uses) next
+  drawn_stood p packets [] NoRoom next packets' uses h stood = absurd h
+  drawn_stood p packets [] Ended next packets' uses h stood = drains_on_stood p packets [] Ended next packets' uses h stood
+  drawn_stood p packets [] (EndRefused error) next packets' uses h stood = drains_on_stood p packets [] (EndRefused error) next packets' uses h stood
+  drawn_stood p packets (shown ∷ outputs) end next packets' uses h stood = drains_on_stood p packets (shown ∷ outputs) end next packets' uses h stood
+
+  pub poll_step_stood : (old : PlainPolled N) (packets : List SentPacket) (outcome : Outcome PlainMediaEvent) (table : Option Table) (new : PlainPolled N)
+      (packets' : List SentPacket) (uses : List ChannelUse)
+      → StepPollsPeer (plain_over draws) (PollsOnce (plain_over draws) at old) old packets outcome table new packets' → Stood draws at packets b q uses old
+      → Stood draws at packets' b q (uses_behind (plain_over draws) outcome new uses) new
+  poll_step_stood old packets Alloc None new packets' uses h stood = same_stood draws at packets packets' b q old new uses h.0 h.1 stood
+  poll_step_stood old packets (Polled outputs end) (Some table) new packets' uses h stood = once_stood old packets outputs end new packets' uses h.0 stood
+  poll_step_stood old packets outcome table new packets' uses h stood = absurd h
+
+  pub drain_step_stood : (old : PlainPolled N) (packets : List SentPacket) (outcome : Outcome PlainMediaEvent) (table : Option Table) (new : PlainPolled N)
+      (packets' : List SentPacket) (uses : List ChannelUse)
+      (h : StepPollsPeer (plain_over draws) (DrainsPeer (plain_over draws) at old) old packets outcome table new packets')
+      → Stood draws at packets b q uses old
+      → Stood draws at packets' b q (uses_drained_by (plain_over draws) at old packets outcome table new packets' h uses) new
+  drain_step_stood old packets Alloc None new packets' uses h stood = same_stood draws at packets packets' b q old new uses h.0 h.1 stood
+  drain_step_stood old packets (Polled outputs end) (Some table) new packets' uses h stood =
+      drawn_stood old packets outputs end new packets' uses h.0 stood
+  drain_step_stood old packets outcome table new packets' uses h stood = absurd h

@@ -1,0 +1,103 @@
+-- The side of a pair that acts: what was done to it, its exchange with the other one, and what holds of the channels that it announced.
+use Rattle.std.proofs.Common.{◌≡◌, ◌∙◌, ◌++◌, ℕ, List, [], map, sym, subst, ap}
+use Rattle.std.proofs.lemmas.List.{map-append}
+use Rattle.rtc_association.specs.AssociationActs.{AssociationAct, Moved, moved-append}
+use Rattle.rtc_assoc_state.proofs.PlainLaws.{plain_laws}
+use Rattle.rtc_assoc_state.specs.Contents.{fresh_contents}
+use Rattle.rtc_assoc_state.specs.PlainMeaning.{plain_meaning}
+use Rattle.rtc_ids.specs.Draws.{Draws}
+use Rattle.rtc_sctp_laws.specs.StreamMessages.{StreamMessage, read_act, reads_of, write_act, writes_of}
+use Rattle.rtc_plain_streams.proofs.PlainGenerations.{plain_generations}
+use Rattle.rtc_polling_laws.specs.Acts.{PeerDid}
+use Rattle.rtc_polling_laws.specs.PeerActs.{Came, PeerActs, acts_with}
+use Rattle.rtc_polling_laws.proofs.ActWords.{reads_of-append, writes_of-append}
+use Rattle.rtc_channel_laws.specs.KeptChannels.{CallKeepsStreams}
+use Rattle.rtc_joined_peers.specs.JoinedPeers.{CarriesData}
+use Rattle.rtc_joined_peers.proofs.ExchangeLemmas.{left_exchanges, right_exchanges}
+use Rattle.rtc_history.specs.declared.sent_packet.SentPacket.{SentPacket}
+use Rattle.rtc_history.specs.declared.side.Side.{Side}
+use Rattle.rtc_history.specs.declared.side.Side.TheVariants.{Left, Right}
+use Rattle.rtc_history.specs.Sides.{other_side}
+use Rattle.rtc_joined_runs.specs.PlainPairs.{PlainPolled, plain_over}
+use Rattle.rtc_joined_runs.specs.SentContents.{contents_sent}
+use Rattle.rtc_joined_runs.proofs.ContentsLemmas.{Shows}
+use Rattle.rtc_joined_runs.proofs.StandingExchange.{ExchangeBy}
+use Rattle.rtc_channel_runs.specs.ChannelUses.{ChannelUse}
+use Rattle.rtc_channel_runs.proofs.SidesTold.{SideTold, side_called}
+
+acts_join : (act : StreamMessage → AssociationAct) (all first more : List AssociationAct) (xs ys : List StreamMessage) → all ≡ first ++ more
+    → first ≡ map act xs → more ≡ map act ys → all ≡ map act (xs ++ ys)
+acts_join act all first more xs ys is h k =
+    is
+    ∙ ap (λ (l : List AssociationAct). l ++ more) h
+    ∙ ap (λ (l : List AssociationAct). map act xs ++ l) k
+    ∙ sym (map-append act xs ys)
+
+module _ {N : Type 0} (draws : Draws N) where
+  -- these acts were done to the side: the messages that they wrote and read, and what holds by them
+  pub record SideStood (acts : PeerActs) (uses : List ChannelUse) (p : PlainPolled N) : Type 0 where
+    pub written : List StreamMessage
+    pub read : List StreamMessage
+    pub wrote_is : writes_of acts.association ≡ map write_act written
+    pub read_is : reads_of acts.association ≡ map read_act read
+    pub told : SideTold (plain_over draws) uses written read p
+    pub went : Moved plain_meaning fresh_contents acts.association p.core.sctp.association
+
+  pub record Stood (at : Side) (packets : List SentPacket) (b : PeerActs) (q : PlainPolled N) (uses : List ChannelUse) (p : PlainPolled N) : Type 0 where
+    pub acts : PeerActs
+    pub exchange : ExchangeBy at acts (contents_sent at packets) p b (contents_sent (other_side at) packets) q
+    pub side : SideStood acts uses p
+
+  exchanged_on : (at : Side) (a b : PeerActs) (before after others : List (List ℕ)) (p next q : PlainPolled N) (came : Came) (moments : List ℕ)
+      (wrote heard : List StreamMessage) → ExchangeBy at a before p b others q → CarriesData came.dtls others
+      → (did : PeerDid (plain_over draws) came moments after wrote heard p next)
+      → ExchangeBy at (acts_with a did.acts) (before ++ after) next b others q
+  exchanged_on Left a b before after others p next q came moments wrote heard x carried did =
+      left_exchanges draws a b before after others p next q came moments wrote heard x carried did
+  exchanged_on Right a b before after others p next q came moments wrote heard x carried did =
+      right_exchanges draws b a before after others q p next came moments wrote heard x carried did
+
+  -- a call of the acting peer
+  pub call_stood : (at : Side) (packets packets' : List SentPacket) (b : PeerActs) (q p next : PlainPolled N) (came : Came) (moments : List ℕ)
+      (shown : List (List ℕ)) (wrote heard : List StreamMessage) (uses uses' : List ChannelUse)
+      → CarriesData came.dtls (contents_sent (other_side at) packets) → Shows at packets packets' shown
+      → PeerDid (plain_over draws) came moments shown wrote heard p next → (h : Stood at packets b q uses p)
+      → SideTold (plain_over draws) uses' (h.side.written ++ wrote) (h.side.read ++ heard) next → Stood at packets' b q uses' next
+  call_stood at packets packets' b q p next came moments shown wrote heard uses uses' carried shows did h told = record {
+    acts = acts_with h.acts did.acts;
+    exchange =
+        subst (λ (l : List (List ℕ)). ExchangeBy at (acts_with h.acts did.acts) (contents_sent at packets') next b l q) (sym shows.other)
+        (subst (λ (l : List (List ℕ)). ExchangeBy at (acts_with h.acts did.acts) l next b (contents_sent (other_side at) packets) q) (sym shows.own)
+        (exchanged_on at h.acts b (contents_sent at packets) shown (contents_sent (other_side at) packets) p next q came moments wrote heard
+        h.exchange carried did));
+    side = record {
+      written = h.side.written ++ wrote;
+      read = h.side.read ++ heard;
+      wrote_is =
+          acts_join write_act (writes_of (h.acts.association ++ did.acts.association)) (writes_of h.acts.association) (writes_of did.acts.association)
+          h.side.written wrote (writes_of-append h.acts.association did.acts.association) h.side.wrote_is did.wrote_is;
+      read_is =
+          acts_join read_act (reads_of (h.acts.association ++ did.acts.association)) (reads_of h.acts.association) (reads_of did.acts.association)
+          h.side.read heard (reads_of-append h.acts.association did.acts.association) h.side.read_is did.heard_is;
+      told = told;
+      went =
+          moved-append plain_meaning fresh_contents p.core.sctp.association next.core.sctp.association h.acts.association did.acts.association h.side.went
+          did.went.association;
+    };
+  }
+
+  -- one that neither writes nor reads
+  pub quiet_stood : (at : Side) (packets packets' : List SentPacket) (b : PeerActs) (q p next : PlainPolled N) (came : Came) (moments : List ℕ)
+      (uses : List ChannelUse) → CarriesData came.dtls (contents_sent (other_side at) packets) → Shows at packets packets' []
+      → PeerDid (plain_over draws) came moments [] [] [] p next → CallKeepsStreams (plain_over draws) p [] next → Stood at packets b q uses p
+      → Stood at packets' b q uses next
+  quiet_stood at packets packets' b q p next came moments uses carried shows did keeps h =
+      call_stood at packets packets' b q p next came moments [] [] [] uses uses carried shows did h
+      (side_called (plain_over draws) plain_laws plain_generations came moments [] p next uses h.side.written h.side.read did keeps h.side.told)
+
+  -- the same peer, and the same datagrams
+  pub same_stood : (at : Side) (packets packets' : List SentPacket) (b : PeerActs) (q p next : PlainPolled N) (uses : List ChannelUse) → next ≡ p
+      → packets' ≡ packets → Stood at packets b q uses p → Stood at packets' b q uses next
+  same_stood at packets packets' b q p next uses same kept h =
+      subst (λ (l : List SentPacket). Stood at l b q uses next) (sym kept)
+      (subst (λ (x : PlainPolled N). Stood at packets b q uses x) (sym same) h)

@@ -1,0 +1,17 @@
+-- That a channel is announced once, and a generation of a stream in-band once.
+use Rattle.std.specs.Prelude.{◌≡◌, true, List, [], ◌∷◌}
+use Rattle.rtc_channel_runs.specs.ChannelUses.{ChannelUse}
+
+-- two that were opened in-band are of two channels, and not over one generation of a stream
+abbrev pub IsAnother : ChannelUse → ChannelUse → Type 0
+IsAnother x y =
+    x.in_band ≡ true → y.in_band ≡ true → (x.channel ≡ y.channel → ⊥) × (x.stream ≡ y.stream → x.generation ≡ y.generation → ⊥)
+
+abbrev pub AreOthers : ChannelUse → List ChannelUse → Type 0
+AreOthers x [] = Unit {0}
+AreOthers x (y ∷ uses) = IsAnother x y × AreOthers x uses
+
+-- so it is for each two of these
+abbrev pub AreAnnouncedOnce : List ChannelUse → Type 0
+AreAnnouncedOnce [] = Unit {0}
+AreAnnouncedOnce (x ∷ uses) = AreOthers x uses × AreAnnouncedOnce uses

@@ -1,0 +1,5 @@
+pub mod ChannelUses
+pub mod UsesOfRuns
+pub mod AnnouncedOnce
+pub mod OpenUses
+pub mod HandedOut

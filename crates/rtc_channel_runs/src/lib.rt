@@ -1,0 +1,6 @@
+//! What a run tells of data channels: those that each side announced, and that what one hands out was sent over the other.
+#![tactic(auto)]
+
+mod handing;
+
+pub use handing::channels_hand_out_prefixes;

@@ -1,0 +1,143 @@
+-- What stages of a poll leave of streams and live channels, one after the other.
+use Rattle.std.proofs.Common.{◌≡◌, ◌++◌, ◌⊎◌, inl, inr, ℕ, true, List, [], map, append-nil, append_assoc, Some, Result, Ok, Err, refl, sym, ap, subst, ◌∙◌}
+use Rattle.rtc_association.specs.AssociationActs.{AssociationAct, Moved}
+use Rattle.rtc_association.specs.AssociationLaws.{AssociationLaws}
+use Rattle.rtc_sctp_entries.specs.declared.stream_entry.StreamEntry.{StreamEntry}
+use Rattle.rtc_sctp_laws.specs.StreamMessages.{StreamMessage}
+use Rattle.rtc_stream_uses.specs.GenerationLaws.{GenerationLaws}
+use Rattle.rtc_stream_uses.specs.StreamUses.{WereOpened, entries_of, messages_of, IsUsed}
+use Rattle.rtc_stream_uses.proofs.CallUses.{acts_use}
+use Rattle.rtc_stream_uses.proofs.LivingEntries.{live_is, are_join}
+use Rattle.rtc_channels.specs.Channels.{AreRising, Channel, Channels}
+use Rattle.rtc_peer_state.specs.declared.rtc_error.RtcError.{RtcError}
+use Rattle.rtc_peer_state.specs.declared.rtc_error.RtcError.TheVariants.{Alloc}
+use Rattle.rtc_peer_state.specs.Meanings.{Meanings}
+use Rattle.rtc_polling.specs.declared.event.Event.{Event}
+use Rattle.rtc_polling.specs.declared.event.Event.TheVariants.{ChannelOpen, ChannelClose}
+use Rattle.rtc_polling.specs.declared.met.Met.{Met}
+use Rattle.rtc_polling.specs.declared.met.Met.TheVariants.{Nothing, Again, Transmit, Event as MetEvent, Error}
+use Rattle.rtc_polling.specs.declared.output.Output.{Output}
+use Rattle.rtc_polling.specs.declared.output.Output.TheVariants as outputs
+use Rattle.rtc_polling.specs.declared.polled_peer.PolledPeer.{PolledPeer}
+use Rattle.rtc_polling.specs.StreamStages.{channel_over}
+use Rattle.rtc_polling_laws.proofs.UnsharedRows.{AreApart}
+use Rattle.rtc_polling_laws.proofs.ActedClosing.{BesideIce, BesideDtls, BesideMedia}
+use Rattle.rtc_polling_laws.specs.ChannelStreams.{IsGone, IsLiveChannel, LeavesLiveBy, LeavesLiveChannel, UnlessLacking, IsUsedStream, OpensStreamOf, OpensBy, OpensByAnswer, StreamsWent}
+
+-- what is met, as a poll answers it
+abbrev pub answer_met : {E : Type 0} → Met E → Result (Output E) RtcError
+answer_met Nothing = Ok (outputs.Timeout 0)
+answer_met Again = Ok (outputs.Timeout 0)
+answer_met (Transmit transmit) = Ok (outputs.Transmit transmit)
+answer_met (MetEvent event) = Ok (outputs.Event event)
+answer_met (Error error) = Err error
+
+-- no channel is told to be open
+abbrev pub TellsNoOpening : {E : Type 0} → Result (Output E) RtcError → Type 0
+TellsNoOpening (Ok (outputs.Event (ChannelOpen id label))) = ⊥
+TellsNoOpening answer = Unit {0}
+
+-- the entries of streams stay, and so do the channels
+abbrev pub KeepsStreams : {I D S M N : Type 0} → PolledPeer I D S M N → PolledPeer I D S M N → Type 0
+KeepsStreams p q = (q.core.sctp.entries ≡ p.core.sctp.entries) × (q.core.channels ≡ p.core.channels)
+
+pub ice_kept : {I D S M N : Type 0} (p q : PolledPeer I D S M N) → BesideIce p q → KeepsStreams p q
+ice_kept p q kept = (ap (λ s. s.entries) kept.1, kept.4)
+
+pub dtls_kept : {I D S M N : Type 0} (p q : PolledPeer I D S M N) → BesideDtls p q → KeepsStreams p q
+dtls_kept p q kept = (ap (λ s. s.entries) kept.1, kept.4)
+
+pub media_kept : {I D S M N : Type 0} (p q : PolledPeer I D S M N) → BesideMedia p q → KeepsStreams p q
+media_kept p q kept = (ap (λ s. s.entries) kept.2, kept.4)
+
+pub unless_of : {E : Type 0} (answer : Result (Output E) RtcError) (T : Type 0) → T → UnlessLacking answer T
+unless_of (Ok output) T h = h
+unless_of (Err Alloc) T h = tt
+unless_of (Err error) T h = h
+
+leaves_event : {I D S M E N : Type 0} (event : Event E) (c s g : ℕ) (q : PolledPeer I D S M N) → IsLiveChannel c s g q → LeavesLiveBy event c s g q
+leaves_event (ChannelClose id) c s g q h = inl h
+leaves_event event c s g q h = h
+
+pub leaves_live : {I D S M E N : Type 0} (answer : Result (Output E) RtcError) (c s g : ℕ) (q : PolledPeer I D S M N) → IsLiveChannel c s g q
+    → LeavesLiveChannel answer c s g q
+leaves_live (Ok (outputs.Event event)) c s g q h = leaves_event event c s g q h
+leaves_live (Ok (outputs.Transmit transmit)) c s g q h = h
+leaves_live (Ok (outputs.Timeout moment)) c s g q h = h
+leaves_live (Err Alloc) c s g q h = tt
+leaves_live (Err error) c s g q h = h
+
+-- a live channel, over the same entries and channels
+pub live_kept : {I D S M N : Type 0} (c s g : ℕ) (p q : PolledPeer I D S M N) → KeepsStreams p q → IsLiveChannel c s g p → IsLiveChannel c s g q
+live_kept c s g p q kept h =
+    (ap (λ (held : Channels). channel_over s held) kept.1 ∙ h.0, live_is s g p.core.sctp.entries q.core.sctp.entries kept.0 h.1)
+
+module _ {I D S M E X T W N : Type 0} (m : Meanings I D S M E X T W N) where
+  pub opens_none : (answer : Result (Output E) RtcError) (p : PolledPeer I D S M N) (wrote heard : List StreamMessage) (q : PolledPeer I D S M N)
+      → TellsNoOpening answer → OpensByAnswer m answer p wrote heard q
+  opens_none (Ok (outputs.Event (ChannelOpen id label))) p wrote heard q h = absurd h
+  opens_none (Ok (outputs.Event event)) p wrote heard q h = tt
+  opens_none (Ok (outputs.Transmit transmit)) p wrote heard q h = tt
+  opens_none (Ok (outputs.Timeout moment)) p wrote heard q h = tt
+  opens_none (Err error) p wrote heard q h = tt
+
+  -- acts by which no message was written or read
+  pub streams_stay : (answer : Result (Output E) RtcError) (p q : PolledPeer I D S M N) (acts : List AssociationAct)
+      → Moved m.association p.core.sctp.association acts q.core.sctp.association → KeepsStreams p q → TellsNoOpening answer
+      → StreamsWent m p answer [] [] q
+  streams_stay answer p q acts went kept none = record {
+    uses = λ w v s ws hs h.
+        let left = acts_use m.association v w acts p.core.sctp.association q.core.sctp.association p.core.sctp.entries s ws hs went h in
+        let over = subst (λ (l : List StreamEntry). IsUsed m.association s ws hs q.core.sctp.association l) (sym kept.0) left in
+        unless_of answer (IsUsedStream m s (ws ++ []) (hs ++ []) q)
+        (subst (λ (l : List StreamMessage). IsUsedStream m s l (hs ++ []) q) (sym (append-nil ws))
+        (subst (λ (l : List StreamMessage). IsUsedStream m s ws l q) (sym (append-nil hs)) over));
+    lives = λ c s g rising h. leaves_live answer c s g q (live_kept c s g p q kept h);
+    live_heard = λ c s g rising h. refl;
+    gone = λ c h. subst (λ (held : Channels). IsGone c held) (sym kept.1) h;
+    apart = λ h. subst (λ (held : Channels). AreApart held.rows) (sym kept.1) h;
+    opens = opens_none answer p [] [] q none;
+  }
+
+  -- an opening behind what was met before
+  opens_on : (answer : Result (Output E) RtcError) (p b : PolledPeer I D S M N) (first told more heard : List StreamMessage) (q : PolledPeer I D S M N)
+      → (AssociationLaws m.association → GenerationLaws m.association → (s : ℕ) (ws hs : List StreamMessage) → IsUsedStream m s ws hs p
+      → IsUsedStream m s (ws ++ first) (hs ++ told) b)
+      → ((c s g : ℕ) → AreRising 0 p.core.channels.rows → IsLiveChannel c s g p → IsLiveChannel c s g b)
+      → (AreRising 0 p.core.channels.rows → AreRising 0 b.core.channels.rows) → OpensByAnswer m answer b more heard q → OpensByAnswer m answer p (first ++ more) (told ++ heard) q
+  opens_on (Ok (outputs.Event (ChannelOpen id label))) p b first told more heard q goes lives keeps h =
+      let gen = m.association.generation q.core.sctp.association h.stream in
+      let own = entries_of h.stream q.core.sctp.entries in
+      record {
+        stream = h.stream;
+        over = h.over;
+        anew = λ c g rising live. h.anew c g (keeps rising) (lives c h.stream g rising live);
+        opened = λ w v ws hs used.
+            subst (λ (l : List StreamMessage). WereOpened own gen (messages_of h.stream gen l) (messages_of h.stream gen (hs ++ (told ++ heard)))) (append_assoc ws first more)
+            (subst (λ (l : List StreamMessage). WereOpened own gen (messages_of h.stream gen ((ws ++ first) ++ more)) (messages_of h.stream gen l)) (append_assoc hs told heard)
+            (h.opened w v (ws ++ first) (hs ++ told) (goes w v h.stream ws hs used)));
+      }
+  opens_on (Ok (outputs.Event event)) p b first told more heard q goes lives keeps h = tt
+  opens_on (Ok (outputs.Transmit transmit)) p b first told more heard q goes lives keeps h = tt
+  opens_on (Ok (outputs.Timeout moment)) p b first told more heard q goes lives keeps h = tt
+  opens_on (Err error) p b first told more heard q goes lives keeps h = tt
+
+  -- a stage that told nothing, and what follows
+  pub streams_on : (answer : Result (Output E) RtcError) (moment : ℕ) (p b q : PolledPeer I D S M N) (first told more heard : List StreamMessage)
+      → b.core.channels.rows ≡ p.core.channels.rows → StreamsWent m p (Ok (outputs.Timeout moment)) first told b → StreamsWent m b answer more heard q
+      → StreamsWent m p answer (first ++ more) (told ++ heard) q
+  streams_on answer moment p b q first told more heard rows x y = record {
+    uses = λ w v s ws hs h.
+        subst (λ (l : List StreamMessage). UnlessLacking answer (IsUsedStream m s l (hs ++ (told ++ heard)) q)) (append_assoc ws first more)
+        (subst (λ (l : List StreamMessage). UnlessLacking answer (IsUsedStream m s ((ws ++ first) ++ more) l q)) (append_assoc hs told heard)
+        (y.uses w v s (ws ++ first) (hs ++ told) (x.uses w v s ws hs h)));
+    lives = λ c s g rising h. y.lives c s g (rising_kept rising) (x.lives c s g rising h);
+    live_heard = λ c s g rising h. are_join s g told heard (x.live_heard c s g rising h) (y.live_heard c s g (rising_kept rising) (x.lives c s g rising h));
+    gone = λ c h. y.gone c (x.gone c h);
+    apart = λ h. y.apart (x.apart h);
+    opens =
+        opens_on answer p b first told more heard q (λ w v s ws hs h. x.uses w v s ws hs h) (λ c s g rising h. x.lives c s g rising h) rising_kept y.opens;
+  }
+    where
+      rising_kept : AreRising 0 p.core.channels.rows → AreRising 0 b.core.channels.rows
+      rising_kept h = subst (λ (l : List Channel). AreRising 0 l) (sym rows) h
