@@ -1,17 +1,16 @@
 //! Offers and answers through signalling.
 ghost use Rattle.std.specs.Prelude.{◌≡◌, IfOk};
 ghost use Rattle.rtc_lines.specs.SdpReads.{ReadsAnswer, ReadsOffer};
-ghost use Rattle.rtc_sdp_reader.specs.Reading.{reading};
+ghost use Rattle.rtc_sdp_reader.specs.Reading.{ReadsSdp, reading};
 ghost use Rattle.rtc_sdp_writer.specs.AsRead.{as_read};
 ghost use Rattle.rtc_sdp_writer.specs.Plain.{IsLegible, IsPlain};
 ghost use Rattle.rtc_sdp_writer.specs.SessionRows.{written_sdp};
-ghost use Rattle.rtc_delivery.specs.Delivered.{ReadsBack};
 
 use rtc_lines::{SdpAnswer, SdpOffer};
 use rtc_sdp_reader::read;
 use rtc_sdp_values::{Sdp, SdpError};
 use rtc_sdp_writer::write;
-use std::alloc::{AllocError, Global};
+use std::alloc::Global;
 
 /// The offer that arrives where this one is sent (RFC 8829, section 5.8, in our profile).
 ///
@@ -35,34 +34,10 @@ pub fn deliver_answer(alloc: Global, answer: &SdpAnswer) -> Result<SdpAnswer, Sd
     SdpAnswer::from_sdp_string(alloc, text.as_str())
 }
 
-// What arrives where a session description is sent that reads back as it is.
-fn deliver_kept(alloc: Global, sdp: &Sdp) -> Result<Sdp, AllocError>
-    requires { ReadsBack sdp.now }
-    ensures { IfOk result (λ delivered. delivered ≡ sdp.now) }
+/// What arrives where a session description is sent, or the first line that refuses what was written of it.
+pub fn deliver(alloc: Global, sdp: &Sdp) -> Result<Sdp, SdpError>
+    ensures { ReadsSdp result (reading (written_sdp sdp.now)) }
 {
     let text = write(sdp)?;
-    match read(alloc, text.as_str()) {
-        Ok(delivered) => Ok(delivered),
-        Err(SdpError::Alloc) => Err(AllocError),
-        Err(SdpError::Parse(_)) => unreachable!(),
-        Err(SdpError::Inconsistent(_)) => unreachable!(),
-    }
-}
-
-/// The offer that arrives where a kept one is sent that reads back as it is.
-pub fn deliver_kept_offer(alloc: Global, sdp: &Sdp) -> Result<SdpOffer, AllocError>
-    requires { ReadsBack sdp.now }
-    ensures { IfOk result (λ offer. offer.0 ≡ sdp.now) }
-{
-    let delivered = deliver_kept(alloc, sdp)?;
-    Ok(SdpOffer(delivered))
-}
-
-/// The answer that arrives where a kept one is sent that reads back as it is.
-pub fn deliver_kept_answer(alloc: Global, sdp: &Sdp) -> Result<SdpAnswer, AllocError>
-    requires { ReadsBack sdp.now }
-    ensures { IfOk result (λ answer. answer.0 ≡ sdp.now) }
-{
-    let delivered = deliver_kept(alloc, sdp)?;
-    Ok(SdpAnswer(delivered))
+    read(alloc, text.as_str())
 }

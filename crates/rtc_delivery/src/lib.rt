@@ -3,4 +3,4 @@
 
 mod delivery;
 
-pub use delivery::{deliver_answer, deliver_kept_answer, deliver_kept_offer, deliver_offer};
+pub use delivery::{deliver, deliver_answer, deliver_offer};

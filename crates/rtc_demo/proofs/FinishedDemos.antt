@@ -8,7 +8,8 @@ use Rattle.std.proofs.lemmas.List.Sums.{sum_by-append}
 use Rattle.rtc_change.specs.Held.{Held, Asked}
 use Rattle.rtc_peer_state.specs.Meanings.{Meanings}
 use Rattle.rtc_sdp_values.specs.declared.line_row.LineRow.{LineRow}
-use Rattle.rtc_sdp_values.specs.declared.sdp.Sdp.{Sdp}
+use Rattle.rtc_history.specs.Signalled.{Signalled, NotMade, Unreadable, Readable}
+use Rattle.rtc_history.specs.Views.{AreFormed}
 use Rattle.rtc_history.specs.Memory.{lacks_memory, outcome_lacks, tells_fault, tell_fault, fails}
 use Rattle.rtc_history.specs.Orderly.{Course, course_of, are_orderly, has_failed, can_connect, is_ok, negotiates, AreNumbersLeft}
 use Rattle.rtc_history.specs.PairState.{PairState, stances_of}
@@ -58,9 +59,10 @@ answers_in_both (step ∷ steps) more = omega (arith, answers_in_both steps more
 
 -- ---- a step that negotiates, and succeeded
 
-offer_unfinished : {E : Type 0} → (sdp : Option Sdp) (view : Held) (next : ℕ) (outcome : Outcome E) (after : List LineRow) → RepliesToOffer sdp view next outcome after → tells_finished outcome ≡ false
-offer_unfinished None view next Finished after takes = absurd takes
-offer_unfinished (Some sdp) view next Finished after takes = absurd takes
+offer_unfinished : {E : Type 0} → (sdp : Signalled) (view : Held) (next : ℕ) (outcome : Outcome E) (after : List LineRow) → RepliesToOffer sdp view next outcome after → tells_finished outcome ≡ false
+offer_unfinished NotMade view next Finished after takes = absurd takes
+offer_unfinished (Unreadable line) view next Finished after takes = absurd takes
+offer_unfinished (Readable sdp) view next Finished after takes = absurd takes
 offer_unfinished sdp view next (Negotiated answers made) after takes = refl
 offer_unfinished sdp view next (Answered k) after takes = refl
 offer_unfinished sdp view next Done after takes = refl
@@ -71,31 +73,36 @@ offer_unfinished sdp view next NoSuch after takes = refl
 offer_unfinished sdp view next Alloc after takes = refl
 
 -- an acceptance of an answer is answered by no other Ok
-answer_finished : {E : Type 0} → (held right : Bool) (asked : Asked) (sdp : Option Sdp) (view : Held) (outcome : Outcome E) (after : List LineRow) → RepliesToAnswer held right asked sdp view outcome after → is_ok outcome ≡ true → tells_finished outcome ≡ true
+answer_finished : {E : Type 0} → (held right : Bool) (asked : Asked) (sdp : Signalled) (view : Held) (outcome : Outcome E) (after : List LineRow) → RepliesToAnswer held right asked sdp view outcome after → is_ok outcome ≡ true → tells_finished outcome ≡ true
 answer_finished held right asked sdp view Finished after takes fine = refl
 answer_finished held right asked sdp view (Refused error) after takes fine = absurd (cc)
 answer_finished held right asked sdp view NoSuch after takes fine = absurd (cc)
 answer_finished held right asked sdp view Alloc after takes fine = absurd (cc)
 answer_finished false right asked sdp view (Negotiated answers made) after takes fine = absurd takes
-answer_finished true right asked None view (Negotiated answers made) after takes fine = absurd takes
-answer_finished true false asked (Some sdp) view (Negotiated answers made) after takes fine = absurd takes
-answer_finished true true asked (Some sdp) view (Negotiated answers made) after takes fine = absurd takes
+answer_finished true right asked NotMade view (Negotiated answers made) after takes fine = absurd takes
+answer_finished true right asked (Unreadable line) view (Negotiated answers made) after takes fine = absurd takes
+answer_finished true false asked (Readable sdp) view (Negotiated answers made) after takes fine = absurd takes
+answer_finished true true asked (Readable sdp) view (Negotiated answers made) after takes fine = absurd takes
 answer_finished false right asked sdp view (Answered k) after takes fine = absurd takes
-answer_finished true right asked None view (Answered k) after takes fine = absurd takes
-answer_finished true false asked (Some sdp) view (Answered k) after takes fine = absurd takes
-answer_finished true true asked (Some sdp) view (Answered k) after takes fine = absurd takes
+answer_finished true right asked NotMade view (Answered k) after takes fine = absurd takes
+answer_finished true right asked (Unreadable line) view (Answered k) after takes fine = absurd takes
+answer_finished true false asked (Readable sdp) view (Answered k) after takes fine = absurd takes
+answer_finished true true asked (Readable sdp) view (Answered k) after takes fine = absurd takes
 answer_finished false right asked sdp view Done after takes fine = absurd takes
-answer_finished true right asked None view Done after takes fine = absurd takes
-answer_finished true false asked (Some sdp) view Done after takes fine = absurd takes
-answer_finished true true asked (Some sdp) view Done after takes fine = absurd takes
+answer_finished true right asked NotMade view Done after takes fine = absurd takes
+answer_finished true right asked (Unreadable line) view Done after takes fine = absurd takes
+answer_finished true false asked (Readable sdp) view Done after takes fine = absurd takes
+answer_finished true true asked (Readable sdp) view Done after takes fine = absurd takes
 answer_finished false right asked sdp view (Wrote taken) after takes fine = absurd takes
-answer_finished true right asked None view (Wrote taken) after takes fine = absurd takes
-answer_finished true false asked (Some sdp) view (Wrote taken) after takes fine = absurd takes
-answer_finished true true asked (Some sdp) view (Wrote taken) after takes fine = absurd takes
+answer_finished true right asked NotMade view (Wrote taken) after takes fine = absurd takes
+answer_finished true right asked (Unreadable line) view (Wrote taken) after takes fine = absurd takes
+answer_finished true false asked (Readable sdp) view (Wrote taken) after takes fine = absurd takes
+answer_finished true true asked (Readable sdp) view (Wrote taken) after takes fine = absurd takes
 answer_finished false right asked sdp view (Polled outputs end) after takes fine = absurd takes
-answer_finished true right asked None view (Polled outputs end) after takes fine = absurd takes
-answer_finished true false asked (Some sdp) view (Polled outputs end) after takes fine = absurd takes
-answer_finished true true asked (Some sdp) view (Polled outputs end) after takes fine = absurd takes
+answer_finished true right asked NotMade view (Polled outputs end) after takes fine = absurd takes
+answer_finished true right asked (Unreadable line) view (Polled outputs end) after takes fine = absurd takes
+answer_finished true false asked (Readable sdp) view (Polled outputs end) after takes fine = absurd takes
+answer_finished true true asked (Readable sdp) view (Polled outputs end) after takes fine = absurd takes
 
 -- it tells Finished exactly where it accepts an answer
 ok_finished : {E : Type 0} → (fresh between : Stances) (past : List (Entry E)) (step : Step) (outcome : Outcome E) (table : Option Table) (made : List MadeSdp) → negotiates step ≡ true
@@ -166,19 +173,19 @@ module _ {I D S M E X T W N : Type 0} (m : Meanings I D S M E X T W N) (stun : L
       omega (arith, some, earlier, numbers_grow (same_side (side_of last.step) at) last.outcome (numbers_told at past), steps_size-append (steps_of past) last.step)
 
   -- as many replies tell Finished as steps accept an answer
-  run_finishes : (start : PairState I D S M N) (past : List (Entry E)) (pair : PairState I D S M N) → can_connect (stances_of m start) ≡ true → GoesThrough start past pair → list_all negotiates (steps_of past) ≡ true
+  run_finishes : (start : PairState I D S M N) (past : List (Entry E)) (pair : PairState I D S M N) → AreFormed (stances_of m start) → can_connect (stances_of m start) ≡ true → GoesThrough start past pair → list_all negotiates (steps_of past) ≡ true
       → are_orderly (steps_of past) ≡ true → has_failed past ≡ false → steps_size (steps_of past) < 2 ^ 64 → count_finished (replies_of past) ≡ answers_in (steps_of past)
-  run_finishes start [] pair connect went all orderly whole small = refl
-  run_finishes start (last ∷ past) pair connect went all orderly whole small =
+  run_finishes start [] pair formed connect went all orderly whole small = refl
+  run_finishes start (last ∷ past) pair formed connect went all orderly whole small =
       let parts = and_parts (list_all negotiates (steps_of past)) (negotiates last.step && true) (sym (list_all-append negotiates (steps_of past) (last.step ∷ [])) ∙ all) in
       let here = and_parts (negotiates last.step) true parts.1 in
       let failing = or_parts (fails last.outcome) (has_failed past) whole in
       let size = steps_size-append (steps_of past) last.step in
       let sound : IsSoundEntry (stances_of m start) past (stances_of m went.0) last (stances_of m pair) = went.2.1 in
       let left : AreNumbersLeft (step_size last.step) past = λ at. omega (arith, size, small, numbers_within start past went.0 went.1 parts.0 at) in
-      let fine : is_ok last.outcome ≡ true = ok_unfailed (is_ok last.outcome) (fails last.outcome) (sound.orderly here.0 connect orderly failing.1 left) failing.0 in
+      let fine : is_ok last.outcome ≡ true = ok_unfailed (is_ok last.outcome) (fails last.outcome) (sound.orderly formed here.0 connect orderly failing.1 left) failing.0 in
       let finished : tells_finished last.outcome ≡ accepts_answer last.step = ok_finished (stances_of m start) (stances_of m went.0) past last.step last.outcome last.table last.made here.0 sound.replied fine in
-      let earlier = run_finishes start past went.0 connect went.1 parts.0 (orderly_before (steps_of past) last.step orderly) failing.1 (omega (arith, size, small)) in
+      let earlier = run_finishes start past went.0 formed connect went.1 parts.0 (orderly_before (steps_of past) last.step orderly) failing.1 (omega (arith, size, small)) in
       let both = sum_by-append (λ reply. cond (tells_finished reply.outcome) 1 0) (replies_of past) (reply_of last ∷ []) in
       let one : ◌≡◌ {A = ℕ} (cond (tells_finished last.outcome) 1 0) (cond (accepts_answer last.step) 1 0) = ap (λ (b : Bool). cond {A = ℕ} b 1 0) finished in
       omega (arith, both, one, earlier, answers_in_both (steps_of past) (last.step ∷ []))
@@ -203,12 +210,12 @@ demo_answers (suc rounds) seed few =
 
 -- In a run of a demo, of a pair that can connect, as many replies tell Finished as there are rounds.
 pub demo_finishes : {I D S M E X T W N : Type 0} → (m : Meanings I D S M E X T W N) (stun : List ℕ → Bool) (start : PairState I D S M N) (rounds seed : ℕ) (replies : List (Reply E)) (pair : PairState I D S M N) → rounds ≤ 100
-    → can_connect (stances_of m start) ≡ true → Runs m stun start (demo_steps rounds seed) replies pair → list_any lacks_memory replies ≡ false → tell_fault replies ≡ false → count_finished replies ≡ rounds
-demo_finishes m stun start rounds seed replies pair few connect runs enough whole =
+    → AreFormed (stances_of m start) → can_connect (stances_of m start) ≡ true → Runs m stun start (demo_steps rounds seed) replies pair → list_any lacks_memory replies ≡ false → tell_fault replies ≡ false → count_finished replies ≡ rounds
+demo_finishes m stun start rounds seed replies pair few formed connect runs enough whole =
     let steps = runs.steps_are in
     let size : steps_size (demo_steps rounds seed) ≤ 5 * rounds = demo_size rounds seed few in
     let are : replies_of runs.past ≡ replies = runs.replies_are in
     let small : steps_size (steps_of runs.past) < 2 ^ 64 = rw steps (omega (arith, size, few)) in
-    let finished = run_finishes m stun start runs.past pair connect runs.went (ap (list_all negotiates) steps ∙ demo_negotiates rounds seed few) (ap are_orderly steps ∙ demo_orderly rounds seed few)
+    let finished = run_finishes m stun start runs.past pair formed connect runs.went (ap (list_all negotiates) steps ∙ demo_negotiates rounds seed few) (ap are_orderly steps ∙ demo_orderly rounds seed few)
     (unfailed runs.past (rw are enough) (rw are whole)) small in
     sym (ap count_finished are) ∙ finished ∙ ap answers_in steps ∙ demo_answers rounds seed few

@@ -12,7 +12,6 @@ use Rattle.rtc_tables.specs.declared.parsed_line.ParsedLine.{ParsedLine}
 use Rattle.rtc_tables.specs.ParsedLines.{parsed_lines}
 use Rattle.rtc_channels.specs.Channels.{is_overlong}
 use Rattle.rtc_polling.specs.declared.event.Event.TheVariants.{ChannelOpen}
-use Rattle.rtc_peer_state.specs.declared.rtc_error.RtcError.TheVariants.{ChangesOutOfOrder}
 use Rattle.rtc_peer_state.specs.MadeSdp.{sdp_of_rows}
 use Rattle.rtc_history.specs.declared.side.Side.{Side}
 use Rattle.rtc_history.specs.declared.side.Side.TheVariants.{Left, Right}
@@ -22,7 +21,7 @@ use Rattle.rtc_history.specs.declared.made.Made.{Made}
 use Rattle.rtc_history.specs.declared.made.Made.TheVariants.{Nothing, Offer}
 use Rattle.rtc_history.specs.declared.step.Step.{Step}
 use Rattle.rtc_history.specs.declared.step.Step.TheVariants.{Negotiate, AcceptOffer, AcceptAnswer, Poll}
-use Rattle.rtc_history.specs.declared.outcome.Outcome.TheVariants.{Negotiated, Answered, Finished, Polled, Refused}
+use Rattle.rtc_history.specs.declared.outcome.Outcome.TheVariants.{Negotiated, Answered, Finished, Polled}
 use Rattle.rtc_history.specs.declared.poll_end.PollEnd.TheVariants.{Ended}
 use Rattle.rtc_history.specs.declared.shown.Shown.TheVariants.{Event}
 use Rattle.rtc_history.specs.declared.table.Table.{Table}
@@ -32,21 +31,21 @@ use Rattle.rtc_history.specs.SaidRows.{MakesSdp}
 use Rattle.rtc_history.proofs.WorkedEntries.{says, entry, plain, worked_head}
 use Rattle.rtc_history.specs.Sound.{IsSound}
 
-abbrev labelled : List ℕ → ChannelConfig
+abbrev pub labelled : List ℕ → ChannelConfig
 labelled label = record fresh { label = label }
 
-abbrev offers_channel : Side → Step
+abbrev pub offers_channel : Side → Step
 offers_channel at = Negotiate at (AddChannel (labelled (codes "chat")) ∷ []) true
 
 -- ---- both sides offer a channel, and accept each other's offer
 
-abbrev left_mid : List ℕ
+abbrev pub left_mid : List ℕ
 left_mid = codes "m3"
 
-abbrev right_mid : List ℕ
+abbrev pub right_mid : List ℕ
 right_mid = codes "m1000003"
 
-abbrev crossed : List (Entry (Unit {0}))
+abbrev pub crossed : List (Entry (Unit {0}))
 crossed =
     entry (AcceptOffer Right 0) (Answered 3) (App 0 left_mid ∷ []) (0 ∷ []) (says Right false (App 0 left_mid ∷ []))
     ∷ entry (AcceptOffer Left 1) (Answered 2) (App 0 right_mid ∷ []) (0 ∷ []) (says Left false (App 0 right_mid ∷ []))
@@ -61,10 +60,6 @@ crossed_line = refl
 -- accepting the other offer superseded the token
 crossed_token : is_right Left 0 crossed ≡ false
 crossed_token = refl
-
-crossed_refused : (made : List MadeSdp)
-    → IsSound {E = Unit {0}} plain crossed plain (AcceptAnswer Left 0 3) (Refused ChangesOutOfOrder) (Some (record { lines = App 0 right_mid ∷ []; channels = waiting_row 0 ∷ [] })) made
-crossed_refused made = (refl, refl)
 
 -- ---- a channel alone, once there is a line
 

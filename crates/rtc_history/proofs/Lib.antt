@@ -2,7 +2,7 @@ pub mod BothSides
 mod FinishedFacts
 mod RoundFacts
 mod OrderlyFacts
-mod WorkedEntries
-mod LineFacts
-mod ChannelFacts
-mod RestartFacts
+pub mod WorkedEntries
+pub mod LineFacts
+pub mod ChannelFacts
+pub mod RestartFacts

@@ -1,6 +1,5 @@
 -- Steps that restart ICE, and what sides know of each other, computed.
 use Rattle.std.proofs.Common.{◌≡◌, true, false, List, [], ◌∷◌, Some, refl}
-use Rattle.rtc_sdp_values.specs.Sdp.{inconsistency}
 use Rattle.rtc_sdp_values.specs.declared.direction.Direction.TheVariants.{SendOnly}
 use Rattle.rtc_sdp_values.specs.declared.line_row.LineRow.{LineRow}
 use Rattle.rtc_sdp_values.specs.declared.media_kind.MediaKind.TheVariants.{Audio}
@@ -8,23 +7,21 @@ use Rattle.rtc_sdp_values.specs.declared.direction.Direction.TheVariants.{SendRe
 use Rattle.rtc_dtls.specs.declared.dtls_error.DtlsError.TheVariants.{Fault}
 use Rattle.rtc_sctp_values.specs.declared.proto_error.ProtoError.TheVariants.{Fault as AssociationFault}
 use Rattle.rtc_sctp_values.specs.declared.sctp_error.SctpError.TheVariants.{Proto}
-use Rattle.rtc_tables.specs.declared.why.Why.TheVariants.{BothLite, UnaskedRestart}
-use Rattle.rtc_change.specs.Plans.{verdict, head_verdict, side_verdict}
-use Rattle.rtc_peer_state.specs.declared.rtc_error.RtcError.TheVariants.{RemoteSdp, Dtls, Sctp}
+use Rattle.rtc_peer_state.specs.declared.rtc_error.RtcError.TheVariants.{Dtls, Sctp}
 use Rattle.rtc_history.specs.declared.side.Side.TheVariants.{Left, Right}
 use Rattle.rtc_history.specs.declared.op.Op.TheVariants.{AddMedia, SetDirection, IceRestart}
 use Rattle.rtc_history.specs.declared.op_answer.OpAnswer.TheVariants.{Mid, Changed, Creds}
 use Rattle.rtc_history.specs.declared.made.Made.TheVariants.{Nothing, Offer}
-use Rattle.rtc_history.specs.declared.step.Step.TheVariants.{Negotiate, AcceptOffer, AcceptAnswer}
-use Rattle.rtc_history.specs.declared.outcome.Outcome.TheVariants.{Negotiated, Answered, Finished, Refused}
+use Rattle.rtc_history.specs.declared.step.Step.TheVariants.{Negotiate, AcceptOffer}
+use Rattle.rtc_history.specs.declared.outcome.Outcome.TheVariants.{Negotiated, Answered, Refused}
 use Rattle.rtc_history.specs.declared.table.Table.{Table}
 use Rattle.rtc_history.specs.Past.{Entry, MadeSdp, restarts_by}
 use Rattle.rtc_history.specs.Sound.{IsSound}
-use Rattle.rtc_history.specs.Views.{Stances, is_firm, last_accepted, creds_told}
+use Rattle.rtc_history.specs.Views.{Stances, is_firm}
 use Rattle.rtc_history.proofs.LineFacts.{here, there, one_round, sending, receiving}
 use Rattle.rtc_history.proofs.WorkedEntries.{says, says_with, entry, plain, worked_creds, other_creds}
 
-abbrev shows : List LineRow → Table
+abbrev pub shows : List LineRow → Table
 shows rows = record { lines = rows; channels = [] }
 
 -- ---- a restart is offered
@@ -35,7 +32,7 @@ restart_offered made = (refl, refl, refl)
 restart_not_offered : (made : List MadeSdp) (table : Table) → IsSound {E = Unit {0}} plain one_round plain (Negotiate Left (IceRestart true ∷ []) true) (Negotiated (Creds other_creds ∷ []) Nothing) (Some table) made → ⊥
 restart_not_offered made table sound = sound.1
 
-abbrev restarted : List (Entry (Unit {0}))
+abbrev pub restarted : List (Entry (Unit {0}))
 restarted =
     entry (Negotiate Left (IceRestart true ∷ []) true) (Negotiated (Creds other_creds ∷ []) (Offer 2)) (here ∷ []) [] (says_with other_creds false Left true (here ∷ []))
     ∷ one_round
@@ -46,51 +43,20 @@ restart_told = refl
 no_restart_told : restarts_by 0 restarted ≡ false
 no_restart_told = refl
 
--- the other side knows the credentials of the first offer, and accepts those of the second
-known_before : creds_told (last_accepted Right restarted) ≡ Some worked_creds
-known_before = refl
-
-restart_accepted : (made : List MadeSdp) → IsSound {E = Unit {0}} plain restarted plain (AcceptOffer Right 2) (Answered 3) (Some (shows (there ∷ []))) made
-unfolding verdict head_verdict side_verdict inconsistency
-restart_accepted made = ((refl, refl, refl), refl)
-
-abbrev answered : List (Entry (Unit {0}))
+abbrev pub answered : List (Entry (Unit {0}))
 answered = entry (AcceptOffer Right 2) (Answered 3) (there ∷ []) [] (says_with other_creds false Right false (there ∷ [])) ∷ restarted
-
-known_after : creds_told (last_accepted Right answered) ≡ Some other_creds
-known_after = refl
-
--- the answer may restart ICE too, since its offer did
-answer_accepted : (made : List MadeSdp) → IsSound {E = Unit {0}} plain answered plain (AcceptAnswer Left 2 3) Finished (Some (shows (here ∷ []))) made
-unfolding verdict head_verdict side_verdict inconsistency
-answer_accepted made = ((refl, refl), refl)
 
 -- ---- an answer restarts ICE, and its offer did not
 
-abbrev unasked : List (Entry (Unit {0}))
+abbrev pub unasked : List (Entry (Unit {0}))
 unasked =
     entry (AcceptOffer Right 2) (Answered 3) (receiving ∷ []) [] (says_with other_creds false Right false (receiving ∷ []))
     ∷ entry (Negotiate Left (SetDirection 0 SendOnly ∷ []) true) (Negotiated (Changed true ∷ []) (Offer 2)) (sending ∷ []) [] (says Left true (sending ∷ []))
     ∷ one_round
 
-unasked_refused : (made : List MadeSdp) → IsSound {E = Unit {0}} plain unasked plain (AcceptAnswer Left 2 3) (Refused (RemoteSdp (UnaskedRestart worked_creds other_creds))) (Some (shows (sending ∷ []))) made
-unfolding verdict head_verdict side_verdict inconsistency
-unasked_refused made = ((refl, refl), refl)
-
 -- ---- a part fails
 
--- the acceptance of what no cause refuses may be broken off, and leaves the rows
-fault_told : (made : List MadeSdp) → IsSound {E = Unit {0}} plain restarted plain (AcceptOffer Right 2) (Refused (Dtls Fault)) (Some (shows (there ∷ []))) made
-unfolding verdict head_verdict side_verdict inconsistency
-fault_told made = ((refl, refl), refl)
-
--- so may be that of an association
-association_fault_told : (made : List MadeSdp)
-    → IsSound {E = Unit {0}} plain restarted plain (AcceptOffer Right 2) (Refused (Sctp (Proto AssociationFault))) (Some (shows (there ∷ []))) made
-unfolding verdict head_verdict side_verdict inconsistency
-association_fault_told made = ((refl, refl, refl), refl)
-
-abbrev broken : List (Entry (Unit {0}))
+abbrev pub broken : List (Entry (Unit {0}))
 broken = entry (AcceptOffer Right 2) (Refused (Dtls Fault)) (there ∷ []) [] [] ∷ restarted
 
 -- from then on the past does not tell what the side knows
@@ -105,19 +71,10 @@ unstarted_side = refl
 
 -- ---- both sides are lite
 
-abbrev lite_sides : Stances
+abbrev pub lite_sides : Stances
 lite_sides at = record (plain at) { ice = record (plain at).ice { lite = true } }
 
-abbrev lite_offer : List (Entry (Unit {0}))
+abbrev pub lite_offer : List (Entry (Unit {0}))
 lite_offer =
     entry (Negotiate Left (AddMedia Audio SendRecv ∷ []) true) (Negotiated (Mid (109 ∷ 51 ∷ []) ∷ []) (Offer 0)) [] [] (says_with worked_creds true Left true (here ∷ []))
     ∷ []
-
-both_lite_refused : (made : List MadeSdp) → IsSound {E = Unit {0}} lite_sides lite_offer lite_sides (AcceptOffer Right 0) (Refused (RemoteSdp BothLite)) (Some (shows [])) made
-unfolding verdict head_verdict side_verdict inconsistency
-both_lite_refused made = ((refl, refl), refl)
-
--- a side that is not lite accepts it
-one_lite_accepted : (made : List MadeSdp) → IsSound {E = Unit {0}} plain lite_offer plain (AcceptOffer Right 0) (Answered 1) (Some (shows (there ∷ []))) made
-unfolding verdict head_verdict side_verdict inconsistency
-one_lite_accepted made = ((refl, refl, refl), refl)

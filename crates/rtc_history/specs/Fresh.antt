@@ -5,6 +5,7 @@ use Rattle.rtc_peer_state.specs.Meanings.{Meanings}
 use Rattle.rtc_peer_state.specs.Stance.{Stance}
 use Rattle.rtc_history.specs.declared.side.Side.{Side}
 use Rattle.rtc_history.specs.PairState.{PairState, stances_of}
+use Rattle.rtc_history.specs.Views.{AreFormed}
 
 -- there are no rows and no channels, nothing is staged, the counter is 0, and nothing is known of the other side
 pub record IsJustBuilt (s : Stance) : Type 0 where
@@ -21,3 +22,7 @@ pub record IsFresh {I D S M E X T W N : Type 0} (m : Meanings I D S M E X T W N)
   pub sdps : pair.sdps ≡ []
   pub packets : pair.packets ≡ []
   pub size : pair.size ≡ 0
+
+-- both peers make session descriptions that are read back
+abbrev pub ArePeersFormed : {I D S M E X T W N : Type 0} → Meanings I D S M E X T W N → PairState I D S M N → Type 0
+ArePeersFormed m pair = AreFormed (stances_of m pair)

@@ -2,6 +2,7 @@ pub mod Sides
 pub mod Memory
 pub mod Sizes
 pub mod Answers
+pub mod Signalled
 pub mod Past
 pub mod Views
 pub mod Sound

@@ -12,6 +12,7 @@ use Rattle.rtc_polling.specs.declared.polled_peer.PolledPeer.{PolledPeer}
 use Rattle.rtc_history.specs.declared.side.Side.{Side}
 use Rattle.rtc_history.specs.declared.side.Side.TheVariants.{Left, Right}
 use Rattle.rtc_history.specs.Sides.{same_side}
+use Rattle.rtc_history.specs.Signalled.{Signalled, signalled_if}
 use Rattle.rtc_history.specs.Past.{MadeSdp, sdp_for}
 use Rattle.rtc_history.specs.Views.{Stances}
 use Rattle.rtc_history.specs.declared.kept.Kept.{Kept}
@@ -48,8 +49,12 @@ abbrev pub size_sent : SentPacket → Side × ℕ
 size_sent sent = (sent.at, length sent.transmit.contents)
 
 -- the offer (or the answer) of a number, if the other side made it
-abbrev pub kept_remote_sdp : Bool → List Kept → Side → ℕ → Option Sdp
-kept_remote_sdp offer sdps at k = sdp_for offer at (option_map made_sdp (slice_get sdps k))
+abbrev pub sent_sdp : Bool → List Kept → Side → ℕ → Option Sdp
+sent_sdp offer sdps at k = sdp_for offer at (option_map made_sdp (slice_get sdps k))
+
+-- the same as signalling brings it
+abbrev pub kept_remote_sdp : Bool → List Kept → Side → ℕ → Signalled
+kept_remote_sdp offer sdps at k = signalled_if (sent_sdp offer sdps at k)
 
 -- a datagram that was sent, if the other side sent it
 abbrev pub packet_for : Side → Option SentPacket → Option Transmit

@@ -4,9 +4,14 @@ use Rattle.std.specs.Prelude.{Option, Some, None, slice_get}
 use Rattle.rtc_sdp_values.specs.Sdp.{is_application}
 use Rattle.rtc_sdp_values.specs.declared.line_row.LineRow.{LineRow}
 use Rattle.rtc_sdp_values.specs.declared.sdp.Sdp.{Sdp}
+use Rattle.rtc_sdp_values.specs.declared.sdp_error.SdpError.{SdpError}
+use Rattle.rtc_sdp_values.specs.declared.sdp_error.SdpError.TheVariants.{Parse, Inconsistent, Alloc as TextAlloc}
 use Rattle.rtc_tables.specs.declared.parsed_line.ParsedLine.{ParsedLine}
 use Rattle.rtc_tables.specs.ParsedLines.{parsed_lines}
 use Rattle.rtc_channels.specs.declared.channel_row.ChannelRow.{ChannelRow}
+use Rattle.rtc_peer_state.specs.declared.rtc_error.RtcError.{RtcError}
+use Rattle.rtc_peer_state.specs.declared.rtc_error.RtcError.TheVariants.{RemoteSdp, Sdp as SdpRefused, Dtls, Sctp, Net, Media}
+use Rattle.rtc_peer_state.specs.declared.rtc_error.RtcError.TheVariants.{ChangesOutOfOrder, BadChannel, Alloc as PeerAlloc}
 use Rattle.rtc_polling.specs.declared.event.Event.TheVariants.{ChannelOpen}
 use Rattle.rtc_history.specs.declared.side.Side.{Side}
 use Rattle.rtc_history.specs.declared.step.Step.{Step}
@@ -23,6 +28,7 @@ use Rattle.rtc_history.specs.declared.outcome.Outcome.TheVariants.{NoSuch, Alloc
 use Rattle.rtc_history.specs.declared.table.Table.{Table}
 use Rattle.rtc_history.specs.declared.reply.Reply.{Reply}
 use Rattle.rtc_history.specs.Sides.{same_side, side_of}
+use Rattle.rtc_history.specs.Signalled.{Signalled, signalled_if}
 use Rattle.rtc_history.specs.Answers.{do_stage, do_restart, has_app_row, added, numbers_answered}
 
 -- an SDP, with the side that made it and whether it is an offer
@@ -92,9 +98,26 @@ abbrev pub sdp_for : Bool → Side → Option MadeSdp → Option Sdp
 sdp_for offer at None = None
 sdp_for offer at (Some said) = if (if offer then said.offer else not said.offer) && not (same_side said.at at) then Some said.sdp else None
 
--- the offer (or the answer) of a number, if the other side made it
-abbrev pub remote_sdp : {E : Type 0} → Bool → Side → ℕ → List (Entry E) → Option Sdp
-remote_sdp offer at k past = sdp_for offer at (slice_get (sdps past) k)
+-- the offer (or the answer) of a number as signalling brings it, if the other side made it
+abbrev pub remote_sdp : {E : Type 0} → Bool → Side → ℕ → List (Entry E) → Signalled
+remote_sdp offer at k past = signalled_if (sdp_for offer at (slice_get (sdps past) k))
+
+abbrev pub is_unread_for : SdpError → Bool
+is_unread_for (Parse line) = true
+is_unread_for (Inconsistent why) = false
+is_unread_for TextAlloc = false
+
+-- whether an error tells that what was written of an SDP could not be read
+abbrev pub is_unread : RtcError → Bool
+is_unread (RemoteSdp why) = false
+is_unread (SdpRefused error) = is_unread_for error
+is_unread (Dtls error) = false
+is_unread (Sctp error) = false
+is_unread ChangesOutOfOrder = false
+is_unread (Net cause) = false
+is_unread (Media cause) = false
+is_unread BadChannel = false
+is_unread PeerAlloc = false
 
 -- whether a reply says that the peer's accept call was reached
 abbrev pub was_called : {E : Type 0} → Outcome E → Bool
@@ -104,7 +127,7 @@ was_called Finished = true
 was_called Done = false
 was_called (Wrote taken) = false
 was_called (Polled outputs end) = false
-was_called (Refused error) = true
+was_called (Refused error) = not (is_unread error)
 was_called NoSuch = false
 was_called Alloc = false
 

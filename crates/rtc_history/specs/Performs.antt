@@ -10,11 +10,12 @@ use Rattle.rtc_sdp_values.specs.declared.direction.Direction.{Direction}
 use Rattle.rtc_sdp_values.specs.declared.line_row.LineRow.{LineRow}
 use Rattle.rtc_sdp_values.specs.declared.media_kind.MediaKind.{MediaKind}
 use Rattle.rtc_sdp_values.specs.declared.sdp.Sdp.{Sdp}
+use Rattle.rtc_sdp_values.specs.declared.sdp_error.SdpError.TheVariants.{Parse}
 use Rattle.rtc_change.specs.PendingOffer.{PendingOffer}
 use Rattle.rtc_tables.specs.RowChanges.{media_mid}
 use Rattle.rtc_peer_state.specs.declared.peer.Peer.{Peer}
 use Rattle.rtc_peer_state.specs.declared.rtc_error.RtcError.{RtcError}
-use Rattle.rtc_peer_state.specs.declared.rtc_error.RtcError.TheVariants.{BadChannel, Net, Alloc as PeerAlloc}
+use Rattle.rtc_peer_state.specs.declared.rtc_error.RtcError.TheVariants.{Sdp as SdpRefused, BadChannel, Net, Alloc as PeerAlloc}
 use Rattle.rtc_peer_state.specs.Acceptances.{AcceptsOffer, AcceptsAnswer}
 use Rattle.rtc_peer_state.specs.Calls.{AddsMedia, SetsDirection, StopsMedia, AddsChannel, StagesRestart, Applies, Wanted}
 use Rattle.rtc_peer_state.specs.Meanings.{Meanings}
@@ -51,6 +52,7 @@ use Rattle.rtc_history.specs.Sides.{side_of, other_side}
 use Rattle.rtc_history.specs.Sizes.{step_size}
 use Rattle.rtc_history.specs.Past.{Entry, MadeSdp}
 use Rattle.rtc_history.specs.declared.kept.Kept.{Kept}
+use Rattle.rtc_history.specs.Signalled.{Signalled, NotMade, Unreadable, Readable}
 use Rattle.rtc_history.specs.PairState.{PairState, rtc_at, made_sdp, kept_remote_sdp, remote_packet, held_token, spent}
 
 -- the peer as `sdp_api` lends it: earlier staged changes are dropped
@@ -144,34 +146,39 @@ module _ {I D S M E X T W N : Type 0} (m : Meanings I D S M E X T W N) where
       × Shows m table new
   Negotiates at ops apply old sdps outcome table new sdps' = ⊥
 
-  -- A peer accepts or refuses an offer that the other side made.
-  abbrev pub StepAcceptsOffer : Side → Option Sdp → Peer I D S M N → List Kept → Outcome E → Option Table → Peer I D S M N → List Kept
+  -- A peer accepts or refuses an offer that the other side made, as it is read. One that cannot be read does not reach the peer.
+  abbrev pub StepAcceptsOffer : Side → Signalled → Peer I D S M N → List Kept → Outcome E → Option Table → Peer I D S M N → List Kept
       → Type 0
   StepAcceptsOffer at offer old sdps Alloc None new sdps' = Stays old sdps new sdps'
-  StepAcceptsOffer at None old sdps NoSuch (Some table) new sdps' = Stays old sdps new sdps' × Shows m table old
-  StepAcceptsOffer at (Some sdp) old sdps (Answered k) (Some table) new sdps' =
+  StepAcceptsOffer at NotMade old sdps NoSuch (Some table) new sdps' = Stays old sdps new sdps' × Shows m table old
+  StepAcceptsOffer at (Unreadable line) old sdps (Refused error) (Some table) new sdps' =
+      (error ≡ SdpRefused (Parse line)) × Stays old sdps new sdps' × Shows m table old
+  StepAcceptsOffer at (Readable sdp) old sdps (Answered k) (Some table) new sdps' =
       (answer : Sdp)
       × AcceptsOffer m (lent old) sdp (Ok answer) new
       × (sdps' ≡ sdps ++ kept_answer at answer ∷ [])
       × (k ≡ length sdps)
       × Shows m table new
-  StepAcceptsOffer at (Some sdp) old sdps (Refused error) (Some table) new sdps' =
+  StepAcceptsOffer at (Readable sdp) old sdps (Refused error) (Some table) new sdps' =
       AcceptsOffer m (lent old) sdp (Err error) new
       × (sdps' ≡ sdps)
       × Shows m table new
   StepAcceptsOffer at offer old sdps outcome table new sdps' = ⊥
 
-  -- A peer accepts or refuses an answer that the other side made; the token of its own offer is spent.
-  abbrev pub StepAcceptsAnswer : ℕ → Option PendingOffer → Option Sdp → Peer I D S M N → List Kept → Outcome E → Option Table
+  -- A peer accepts or refuses an answer that the other side made, as it is read; the token of its own offer is spent. One that cannot be
+  -- read does not reach the peer, and spends no token.
+  abbrev pub StepAcceptsAnswer : ℕ → Option PendingOffer → Signalled → Peer I D S M N → List Kept → Outcome E → Option Table
       → Peer I D S M N → List Kept → Type 0
   StepAcceptsAnswer t token answer old sdps Alloc None new sdps' = Stays old sdps new sdps'
   StepAcceptsAnswer t None answer old sdps NoSuch (Some table) new sdps' = Stays old sdps new sdps' × Shows m table old
-  StepAcceptsAnswer t (Some token) None old sdps NoSuch (Some table) new sdps' = Stays old sdps new sdps' × Shows m table old
-  StepAcceptsAnswer t (Some token) (Some sdp) old sdps Finished (Some table) new sdps' =
+  StepAcceptsAnswer t (Some token) NotMade old sdps NoSuch (Some table) new sdps' = Stays old sdps new sdps' × Shows m table old
+  StepAcceptsAnswer t (Some token) (Unreadable line) old sdps (Refused error) (Some table) new sdps' =
+      (error ≡ SdpRefused (Parse line)) × Stays old sdps new sdps' × Shows m table old
+  StepAcceptsAnswer t (Some token) (Readable sdp) old sdps Finished (Some table) new sdps' =
       AcceptsAnswer m (lent old) token sdp (Ok tt) new
       × (sdps' ≡ spent t sdps)
       × Shows m table new
-  StepAcceptsAnswer t (Some token) (Some sdp) old sdps (Refused error) (Some table) new sdps' =
+  StepAcceptsAnswer t (Some token) (Readable sdp) old sdps (Refused error) (Some table) new sdps' =
       AcceptsAnswer m (lent old) token sdp (Err error) new
       × (sdps' ≡ spent t sdps)
       × Shows m table new

@@ -5,7 +5,7 @@ use Rattle.rtc_wire.specs.declared.channel_config.ChannelConfig.{ChannelConfig}
 use Rattle.rtc_channels.specs.Channels.{Channels, is_bad_channel}
 use Rattle.rtc_sdp_values.specs.LineRow.{row_mid}
 use Rattle.rtc_sdp_values.specs.declared.line_row.LineRow.{LineRow}
-use Rattle.rtc_sdp_values.specs.declared.sdp.Sdp.{Sdp}
+use Rattle.rtc_sdp_values.specs.declared.sdp_error.SdpError.TheVariants.{Parse}
 use Rattle.rtc_sdp_values.specs.Mids.{is_among}
 use Rattle.rtc_change.specs.Held.{Held, Asked}
 use Rattle.rtc_tables.specs.RowChanges.{RowChange, directed_row, stopped_row, is_changed, changed_at, media_mid}
@@ -35,6 +35,7 @@ use Rattle.rtc_history.specs.declared.outcome.Outcome.TheVariants.{Negotiated, A
 use Rattle.rtc_history.specs.declared.outcome.Outcome.TheVariants.{NoSuch, Alloc}
 use Rattle.rtc_history.specs.declared.table.Table.{Table}
 use Rattle.rtc_history.specs.Memory.{answers_lack, error_lacks}
+use Rattle.rtc_history.specs.Signalled.{Signalled, NotMade, Unreadable, Readable}
 use Rattle.rtc_history.specs.Answers.{has_app_row, do_need_offer, with_numbered, rows_waiting}
 use Rattle.rtc_history.specs.Past.{
   Entry,
@@ -139,35 +140,39 @@ MadeOf true false Nothing next = Unit {0}
 MadeOf true offers MadeAlloc next = Unit {0}
 MadeOf asked offers made next = ⊥
 
--- The outcome of accepting an offer: its answer and the rows that it leaves, or the first cause that refuses it.
-abbrev pub RepliesToOffer : {E : Type 0} → Option Sdp → Held → ℕ → Outcome E → List LineRow → Type 0
-RepliesToOffer None view next NoSuch after = after ≡ view.lines
-RepliesToOffer (Some sdp) view next (Answered k) after =
+-- The outcome of accepting an offer: its answer and the rows that it leaves, or the first cause that refuses it: the line that cannot be
+-- read, or what the peer says.
+abbrev pub RepliesToOffer : {E : Type 0} → Signalled → Held → ℕ → Outcome E → List LineRow → Type 0
+RepliesToOffer NotMade view next NoSuch after = after ≡ view.lines
+RepliesToOffer (Unreadable line) view next (Refused error) after = (error ≡ SdpRefused (Parse line)) × (after ≡ view.lines)
+RepliesToOffer (Readable sdp) view next (Answered k) after =
     (verdict view None sdp ≡ None) × (after ≡ table_after view.lines (parsed_lines sdp) true) × (k ≡ next)
-RepliesToOffer (Some sdp) view next (Refused (RemoteSdp why)) after = (verdict view None sdp ≡ Some (RefusedSdp why)) × (after ≡ view.lines)
-RepliesToOffer (Some sdp) view next (Refused (SdpRefused error)) after =
+RepliesToOffer (Readable sdp) view next (Refused (RemoteSdp why)) after = (verdict view None sdp ≡ Some (RefusedSdp why)) × (after ≡ view.lines)
+RepliesToOffer (Readable sdp) view next (Refused (SdpRefused error)) after =
     (verdict view None sdp ≡ Some (RefusedAsSdp error)) × (after ≡ view.lines)
-RepliesToOffer (Some sdp) view next (Refused (Dtls Fault)) after = (verdict view None sdp ≡ None) × (after ≡ view.lines)
-RepliesToOffer (Some sdp) view next (Refused (Sctp error)) after =
+RepliesToOffer (Readable sdp) view next (Refused (Dtls Fault)) after = (verdict view None sdp ≡ None) × (after ≡ view.lines)
+RepliesToOffer (Readable sdp) view next (Refused (Sctp error)) after =
     (error ≡ Proto AssociationFault) × (verdict view None sdp ≡ None) × (after ≡ view.lines)
-RepliesToOffer (Some sdp) view next (Refused PeerAlloc) after = after ≡ view.lines
+RepliesToOffer (Readable sdp) view next (Refused PeerAlloc) after = after ≡ view.lines
 RepliesToOffer sdp view next outcome after = ⊥
 
 -- The outcome of accepting an answer: the rows that it leaves, where the token is held and right, or the first cause that refuses it.
-abbrev pub RepliesToAnswer : {E : Type 0} → Bool → Bool → Asked → Option Sdp → Held → Outcome E → List LineRow → Type 0
+abbrev pub RepliesToAnswer : {E : Type 0} → Bool → Bool → Asked → Signalled → Held → Outcome E → List LineRow → Type 0
 RepliesToAnswer false right asked sdp view NoSuch after = after ≡ view.lines
-RepliesToAnswer true right asked None view NoSuch after = after ≡ view.lines
-RepliesToAnswer true false asked (Some sdp) view (Refused ChangesOutOfOrder) after = after ≡ view.lines
-RepliesToAnswer true true asked (Some sdp) view Finished after =
+RepliesToAnswer true right asked NotMade view NoSuch after = after ≡ view.lines
+RepliesToAnswer true right asked (Unreadable line) view (Refused error) after =
+    (error ≡ SdpRefused (Parse line)) × (after ≡ view.lines)
+RepliesToAnswer true false asked (Readable sdp) view (Refused ChangesOutOfOrder) after = after ≡ view.lines
+RepliesToAnswer true true asked (Readable sdp) view Finished after =
     (verdict view (Some asked) sdp ≡ None) × (after ≡ table_after view.lines (parsed_lines sdp) false)
-RepliesToAnswer true true asked (Some sdp) view (Refused (RemoteSdp why)) after =
+RepliesToAnswer true true asked (Readable sdp) view (Refused (RemoteSdp why)) after =
     (verdict view (Some asked) sdp ≡ Some (RefusedSdp why)) × (after ≡ view.lines)
-RepliesToAnswer true true asked (Some sdp) view (Refused (SdpRefused error)) after =
+RepliesToAnswer true true asked (Readable sdp) view (Refused (SdpRefused error)) after =
     (verdict view (Some asked) sdp ≡ Some (RefusedAsSdp error)) × (after ≡ view.lines)
-RepliesToAnswer true true asked (Some sdp) view (Refused (Dtls Fault)) after = (verdict view (Some asked) sdp ≡ None) × (after ≡ view.lines)
-RepliesToAnswer true true asked (Some sdp) view (Refused (Sctp error)) after =
+RepliesToAnswer true true asked (Readable sdp) view (Refused (Dtls Fault)) after = (verdict view (Some asked) sdp ≡ None) × (after ≡ view.lines)
+RepliesToAnswer true true asked (Readable sdp) view (Refused (Sctp error)) after =
     (error ≡ Proto AssociationFault) × (verdict view (Some asked) sdp ≡ None) × (after ≡ view.lines)
-RepliesToAnswer true true asked (Some sdp) view (Refused PeerAlloc) after = after ≡ view.lines
+RepliesToAnswer true true asked (Readable sdp) view (Refused PeerAlloc) after = after ≡ view.lines
 RepliesToAnswer held right asked sdp view outcome after = ⊥
 
 -- what the offer of a token asks of its answer: the rows that it added, placed after the rows of its side, and whether it restarted ICE

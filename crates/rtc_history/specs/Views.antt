@@ -5,6 +5,7 @@ use Rattle.rtc_sdp_values.specs.Sdp.{creds_of}
 use Rattle.rtc_sdp_values.specs.declared.ice_creds.IceCreds.{IceCreds}
 use Rattle.rtc_sdp_values.specs.declared.sdp.Sdp.{Sdp}
 use Rattle.rtc_change.specs.Held.{Held}
+use Rattle.rtc_peer_state.specs.Formed.{IsFormed}
 use Rattle.rtc_peer_state.specs.Stance.{Stance}
 use Rattle.rtc_history.specs.declared.side.Side.{Side}
 use Rattle.rtc_history.specs.declared.step.Step.{Step}
@@ -14,6 +15,7 @@ use Rattle.rtc_history.specs.declared.outcome.Outcome.{Outcome}
 use Rattle.rtc_history.specs.declared.outcome.Outcome.TheVariants.{Negotiated, Answered, Finished, Done, Wrote, Polled, Refused}
 use Rattle.rtc_history.specs.declared.outcome.Outcome.TheVariants.{NoSuch, Alloc}
 use Rattle.rtc_history.specs.Memory.{error_lacks, is_fault}
+use Rattle.rtc_history.specs.Signalled.{sdp_read}
 use Rattle.rtc_history.specs.Sides.{same_side}
 use Rattle.rtc_history.specs.Past.{Entry, before, remote_sdp}
 
@@ -21,10 +23,14 @@ use Rattle.rtc_history.specs.Past.{Entry, before, remote_sdp}
 abbrev pub Stances : Type 0
 Stances = Side → Stance
 
+-- both sides make session descriptions that are read back
+abbrev pub AreFormed : Stances → Type 0
+AreFormed sides = (at : Side) → IsFormed (sides at)
+
 -- the session description that a step had a side accept, if any
 abbrev pub accepted_by : {E : Type 0} → Side → Step → Outcome E → List (Entry E) → Option Sdp
-accepted_by at (AcceptOffer side k) (Answered n) past = if same_side side at then remote_sdp true at k past else None
-accepted_by at (AcceptAnswer side t a) Finished past = if same_side side at then remote_sdp false at a past else None
+accepted_by at (AcceptOffer side k) (Answered n) past = if same_side side at then sdp_read (remote_sdp true at k past) else None
+accepted_by at (AcceptAnswer side t a) Finished past = if same_side side at then sdp_read (remote_sdp false at a past) else None
 accepted_by at step outcome past = None
 
 -- the last one that a side accepted

@@ -1,9 +1,8 @@
 -- What surrounds what the acting peer of a step does, and steps that add no row and no SDP.
-use Rattle.std.proofs.Common.{◌≡◌, ◌≤◌, ◌<◌, ◌+◌, ◌^◌, ℕ, List, ◌∷◌, ◌++◌, length, length-append, Bool, true, false, not, ◌&&◌, cond, Option, Some, None, refl, sym, ◌∙◌, ap, arith}
-use Rattle.std.specs.Prelude.{slice_get, option_map}
+use Rattle.std.proofs.Common.{◌≡◌, ◌≤◌, ◌<◌, ◌+◌, ◌^◌, ℕ, List, ◌∷◌, ◌++◌, length, length-append, Bool, true, false, cond, Option, sym, ◌∙◌, ap, arith}
+use Rattle.std.specs.Prelude.{slice_get}
 use Rattle.std.proofs.lemmas.List.{length-map}
 use Rattle.std.proofs.lemmas.Option.{slice_get-map}
-use Rattle.rtc_sdp_values.specs.declared.sdp.Sdp.{Sdp}
 use Rattle.rtc_history.specs.declared.side.Side.{Side}
 use Rattle.rtc_history.specs.declared.step.Step.{Step}
 use Rattle.rtc_history.specs.declared.step.Step.TheVariants.{Negotiate, AcceptOffer, AcceptAnswer, Time, Datagram, Poll, Drain, Write, CloseChannel, Close}
@@ -12,13 +11,12 @@ use Rattle.rtc_history.specs.declared.table.Table.{Table}
 use Rattle.rtc_history.specs.Sides.{same_side, other_side, side_of}
 use Rattle.rtc_history.specs.Sizes.{step_size}
 use Rattle.rtc_history.specs.Past.{Entry, MadeSdp, before, channels_shown, channel_rows_or, numbers_in, numbers_told, numbers_or, rows_or, sdps, sdp_for, remote_sdp, spends, moves, makes}
-use Rattle.rtc_history.specs.declared.kept.Kept.{Kept}
+use Rattle.rtc_history.specs.Signalled.{signalled_if}
 use Rattle.rtc_history.specs.PairState.{made_sdp, kept_remote_sdp}
 use Rattle.rtc_peer_state.specs.Stance.{Stance}
 use Rattle.rtc_history_laws.proofs.NumberedChannels.{AreNumbered, less_weaker, less_append}
 use Rattle.rtc_history_laws.proofs.Tells.{ChannelsTell, Tells, same_side-self}
 use Rattle.rtc_history_laws.proofs.Entries.{Goes, unmade_tells}
-use Rattle.rtc_history_laws.proofs.TokenEntries.{All-slice_get}
 use Rattle.rtc_history_laws.proofs.StanceSteps.{PairStance, made_by}
 
 abbrev pub entry : {E : Type 0} → Step → Outcome E → Option Table → List MadeSdp → Entry E
@@ -51,15 +49,14 @@ pub goes_on : {E : Type 0} → (moved : Bool) (past : List (Entry E)) (step : St
     → ChannelsTell (entry step outcome table made ∷ past) (side_of step) (new.sides (side_of step))
     → (new.sides (side_of step)).counter ≡ cond moved ((old.sides (side_of step)).counter + 1) (old.sides (side_of step)).counter
     → moves (side_of step) step outcome ≡ moved → moves (other_side (side_of step)) step outcome ≡ false
-    → length (new.sides (side_of step)).lines ≤ new.size → Around step made old new → Goes moved past (entry step outcome table made) old new
-goes_on moved past step outcome table made old new rows channels counter mine theirs few around = record {
+    → Around step made old new → Goes moved past (entry step outcome table made) old new
+goes_on moved past step outcome table made old new rows channels counter mine theirs around = record {
   rows = rows;
   channels = channels;
   counter = counter;
   other = around.other;
   mine = mine;
   theirs = theirs;
-  few = few;
   grows = size_grows step made old new around;
   small = around.small;
   made = around.made_is;
@@ -79,38 +76,25 @@ channels_next past step outcome table made s t numbered shown tell =
       told = rw all (less_append t.channels.given (numbers_in outcome) earlier (numbered.told tell.below) (less_weaker s.channels.given t.channels.given earlier numbered.rises tell.told));
     }
 
--- A step that leaves as many rows, and SDPs as they were.
+-- A step that leaves SDPs as they were.
 pub quiet_tells : {E : Type 0} → (moved : Bool) (past : List (Entry E)) (step : Step) (outcome : Outcome E) (table : Option Table) (made : List MadeSdp) (old new : PairStance)
-    → length (new.sides (side_of step)).lines ≡ length (old.sides (side_of step)).lines → new.sdps ≡ old.sdps
+    → new.sdps ≡ old.sdps
     → (new.sides (side_of step)).lines ≡ rows_or true table (before (side_of step) past)
     → ChannelsTell (entry step outcome table made ∷ past) (side_of step) (new.sides (side_of step))
     → (new.sides (side_of step)).counter ≡ cond moved ((old.sides (side_of step)).counter + 1) (old.sides (side_of step)).counter
     → moves (side_of step) step outcome ≡ moved → moves (other_side (side_of step)) step outcome ≡ false
     → ((t : ℕ) → spends t step outcome ≡ false) → ((t : ℕ) → makes t outcome ≡ false)
     → Around step made old new → Tells past old → Tells (entry step outcome table made ∷ past) new
-quiet_tells moved past step outcome table made old new lines kept rows channels counter mine theirs unspent unmade around tells =
-    let few : length (old.sides (side_of step)).lines ≤ old.size = (tells.sides (side_of step)).few in
-    let grows : old.size + 1 ≤ new.size = size_grows step made old new around in
-    unmade_tells moved past (entry step outcome table made) old new (goes_on moved past step outcome table made old new rows channels counter mine theirs (omega arith) around) lines kept unspent unmade tells
+quiet_tells moved past step outcome table made old new kept rows channels counter mine theirs unspent unmade around tells =
+    unmade_tells moved past (entry step outcome table made) old new (goes_on moved past step outcome table made old new rows channels counter mine theirs around) kept unspent unmade tells
 
 -- ---- SDPs that are delivered
 
 -- what the past says of an SDP is what is kept of it
 pub remote_sdp-told : {E : Type 0} → (past : List (Entry E)) (pair : PairStance) (offer : Bool) (at : Side) (k : ℕ) → Tells past pair → remote_sdp offer at k past ≡ kept_remote_sdp offer pair.sdps at k
-remote_sdp-told past pair offer at k tells = ap (λ said. sdp_for offer at (slice_get said k)) (sym tells.says) ∙ ap (sdp_for offer at) (slice_get-map made_sdp pair.sdps k)
+remote_sdp-told past pair offer at k tells =
+    ap signalled_if (ap (λ said. sdp_for offer at (slice_get said k)) (sym tells.says) ∙ ap (sdp_for offer at) (slice_get-map made_sdp pair.sdps k))
 
 -- how many SDPs there are
 pub length-told : {E : Type 0} → (past : List (Entry E)) (pair : PairStance) → Tells past pair → length (sdps past) ≡ length pair.sdps
 length-told past pair tells = ap length (sym tells.says) ∙ length-map pair.sdps made_sdp
-
--- the SDP that is delivered is one of the pair's
-pub sdp_within : {E : Type 0} → (past : List (Entry E)) (pair : PairStance) (offer : Bool) (at : Side) (k : ℕ) (sdp : Sdp) → Tells past pair → kept_remote_sdp offer pair.sdps at k ≡ Some sdp → length sdp.lines ≤ pair.size
-sdp_within past pair offer at k sdp tells is = by (slice_get pair.sdps k) refl is
-  where
-    picked : (b : Bool) (kept : Kept) → slice_get pair.sdps k ≡ Some kept → cond b (Some kept.sdp) None ≡ Some sdp → length sdp.lines ≤ pair.size
-    picked true kept there e = let same : kept.sdp ≡ sdp = cc in rw (← same) (All-slice_get (λ (one : Kept). length one.sdp.lines ≤ pair.size) pair.sdps k kept there tells.each)
-    picked false kept there e = absurd (let f : None ≡ Some sdp = e in cc)
-
-    by : (found : Option Kept) → slice_get pair.sdps k ≡ found → sdp_for offer at (option_map made_sdp found) ≡ Some sdp → length sdp.lines ≤ pair.size
-    by None there e = absurd (let f : None ≡ Some sdp = e in cc)
-    by (Some kept) there e = picked (cond offer kept.offer (not kept.offer) && not (same_side kept.at at)) kept there e

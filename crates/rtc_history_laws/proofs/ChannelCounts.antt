@@ -5,6 +5,7 @@ use Rattle.std.proofs.lemmas.Bool.{or_parts, or_from, and_parts, not-true, ne_eq
 use Rattle.rtc_wire.specs.declared.channel_config.ChannelConfig.{ChannelConfig}
 use Rattle.rtc_sdp_values.specs.declared.line_row.LineRow.{LineRow}
 use Rattle.rtc_channels.specs.Channels.{Channel, Channels, claims_again, is_overlong, is_bad_channel}
+use Rattle.rtc_history.specs.Signalled.{Signalled, NotMade, Unreadable, Readable}
 use Rattle.rtc_history.specs.declared.op.Op.{Op}
 use Rattle.rtc_history.specs.declared.op.Op.TheVariants.{AddMedia, SetDirection, StopMedia, AddChannel, IceRestart}
 use Rattle.rtc_history.specs.declared.op_answer.OpAnswer.{OpAnswer}
@@ -22,7 +23,6 @@ use Rattle.rtc_history.specs.Sound.{Midway, holding_mid, having_rows, having_cha
 use Rattle.rtc_history.specs.Orderly.{AreNumbersLeft, negotiates}
 use Rattle.rtc_history.specs.Views.{Stances}
 use Rattle.rtc_change.specs.Held.{Held, Asked}
-use Rattle.rtc_sdp_values.specs.declared.sdp.Sdp.{Sdp}
 use Rattle.rtc_history_laws.proofs.Takings.{offer_taking, answer_taking}
 use Rattle.rtc_history_laws.proofs.Tells.{same_side-self}
 use Rattle.rtc_tables.specs.RowChanges.{directed_row, stopped_row, changed_at}
@@ -82,11 +82,13 @@ ops_within m (IceRestart keep ∷ ops) (OpAlloc ∷ []) after answered = omega a
 ops_within m ops answers after answered = absurd answered
 
 -- acceptances tell none
-offer_untold : {E : Type 0} → (sdp : Option Sdp) (view : Held) (next : ℕ) (outcome : Outcome E) (after : List LineRow) → RepliesToOffer sdp view next outcome after → numbers_in outcome ≡ []
-offer_untold None view next (Negotiated answers made) after takes = absurd takes
-offer_untold (Some sdp) view next (Negotiated answers made) after takes = absurd takes
-offer_untold None view next (Polled outputs end) after takes = absurd takes
-offer_untold (Some sdp) view next (Polled outputs end) after takes = absurd takes
+offer_untold : {E : Type 0} → (sdp : Signalled) (view : Held) (next : ℕ) (outcome : Outcome E) (after : List LineRow) → RepliesToOffer sdp view next outcome after → numbers_in outcome ≡ []
+offer_untold NotMade view next (Negotiated answers made) after takes = absurd takes
+offer_untold (Unreadable line) view next (Negotiated answers made) after takes = absurd takes
+offer_untold (Readable sdp) view next (Negotiated answers made) after takes = absurd takes
+offer_untold NotMade view next (Polled outputs end) after takes = absurd takes
+offer_untold (Unreadable line) view next (Polled outputs end) after takes = absurd takes
+offer_untold (Readable sdp) view next (Polled outputs end) after takes = absurd takes
 offer_untold sdp view next (Answered k) after takes = refl
 offer_untold sdp view next Finished after takes = refl
 offer_untold sdp view next Done after takes = refl
@@ -95,15 +97,17 @@ offer_untold sdp view next (Refused error) after takes = refl
 offer_untold sdp view next NoSuch after takes = refl
 offer_untold sdp view next Alloc after takes = refl
 
-answer_untold : {E : Type 0} → (held right : Bool) (asked : Asked) (sdp : Option Sdp) (view : Held) (outcome : Outcome E) (after : List LineRow) → RepliesToAnswer held right asked sdp view outcome after → numbers_in outcome ≡ []
+answer_untold : {E : Type 0} → (held right : Bool) (asked : Asked) (sdp : Signalled) (view : Held) (outcome : Outcome E) (after : List LineRow) → RepliesToAnswer held right asked sdp view outcome after → numbers_in outcome ≡ []
 answer_untold false right asked sdp view (Negotiated answers made) after takes = absurd takes
-answer_untold true right asked None view (Negotiated answers made) after takes = absurd takes
-answer_untold true false asked (Some sdp) view (Negotiated answers made) after takes = absurd takes
-answer_untold true true asked (Some sdp) view (Negotiated answers made) after takes = absurd takes
+answer_untold true right asked NotMade view (Negotiated answers made) after takes = absurd takes
+answer_untold true right asked (Unreadable line) view (Negotiated answers made) after takes = absurd takes
+answer_untold true false asked (Readable sdp) view (Negotiated answers made) after takes = absurd takes
+answer_untold true true asked (Readable sdp) view (Negotiated answers made) after takes = absurd takes
 answer_untold false right asked sdp view (Polled outputs end) after takes = absurd takes
-answer_untold true right asked None view (Polled outputs end) after takes = absurd takes
-answer_untold true false asked (Some sdp) view (Polled outputs end) after takes = absurd takes
-answer_untold true true asked (Some sdp) view (Polled outputs end) after takes = absurd takes
+answer_untold true right asked NotMade view (Polled outputs end) after takes = absurd takes
+answer_untold true right asked (Unreadable line) view (Polled outputs end) after takes = absurd takes
+answer_untold true false asked (Readable sdp) view (Polled outputs end) after takes = absurd takes
+answer_untold true true asked (Readable sdp) view (Polled outputs end) after takes = absurd takes
 answer_untold held right asked sdp view (Answered k) after takes = refl
 answer_untold held right asked sdp view Finished after takes = refl
 answer_untold held right asked sdp view Done after takes = refl

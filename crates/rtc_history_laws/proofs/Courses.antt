@@ -9,6 +9,7 @@ use Rattle.rtc_tables.specs.ParsedLines.{parsed_lines}
 use Rattle.rtc_tables.specs.Table.{IsTable}
 use Rattle.rtc_change.specs.TableAfter.{table_after, rows_after}
 use Rattle.rtc_change.specs.Plans.{verdict, side_verdict}
+use Rattle.rtc_history.specs.Signalled.{Readable, signalled_if}
 use Rattle.rtc_history.specs.declared.side.Side.{Side}
 use Rattle.rtc_history.specs.declared.side.Side.TheVariants.{Left, Right}
 use Rattle.rtc_history.specs.declared.step.Step.{Step}
@@ -22,6 +23,10 @@ use Rattle.rtc_history.specs.Sound.{IsSound, asked_in}
 use Rattle.rtc_history.specs.SaidRows.{row_said, MakesSdp}
 use Rattle.rtc_history.specs.CourseRows.{unnamed, course_rows_after}
 use Rattle.rtc_history.specs.Orderly.{Phase, Idle, AwaitsAnswer, AwaitsEnd, Course, course_rows, moved_on}
+use Rattle.rtc_sdp_writer.specs.AsRead.{as_read}
+use Rattle.rtc_history.specs.SoundEntry.{AreReadBack}
+use Rattle.rtc_history_laws.proofs.AsReadSdps.{lines_as_read, fits_as_read}
+use Rattle.rtc_history_laws.proofs.ReadPasts.{read_at}
 use Rattle.rtc_history_laws.proofs.SoundPasts.{Sound}
 use Rattle.rtc_history_laws.proofs.Tells.{same_side-self, same_side-other}
 use Rattle.rtc_history_laws.proofs.Around.{entry}
@@ -94,15 +99,15 @@ moved_in at course rows count phase step outcome table made past here mine is co
     by_phase Left = in_phase
     by_phase Right = in_phase
 
-some_same : (one other : Sdp) → Some one ≡ Some other → one ≡ other
-some_same one other same = cc
+read_same : (one other : Sdp) → Readable one ≡ Readable other → one ≡ other
+read_same one other same = cc
 
 -- ---- an offer is accepted
 
 -- The offer that is outstanding may be delivered to the other side, which does not refuse it.
 pub record MayAccept {E : Type 0} (offer : OfferSaid) (at : Side) (n : ℕ) (past : List (Entry E)) : Type 0 where
-  pub remote_is : remote_sdp true (other_side at) n past ≡ Some offer.sdp
-  pub leaves : table_after (before (other_side at) past) (parsed_lines offer.sdp) true ≡ rows_after (before (other_side at) past) true 0 (map row_said (offer.front ++ offer.more))
+  pub remote_is : remote_sdp true (other_side at) n past ≡ Readable (as_read offer.sdp)
+  pub leaves : table_after (before (other_side at) past) (parsed_lines (as_read offer.sdp)) true ≡ rows_after (before (other_side at) past) true 0 (map row_said (offer.front ++ offer.more))
   pub here : Follows (before at past) (before at past) (offer.front ++ offer.more)
   pub there : Follows (before (other_side at) past) (before (other_side at) past) (offer.front ++ offer.more)
 
@@ -113,27 +118,30 @@ offer_follows offer rows same =
     (added_follow rows offer.may (map row_mid offer.front) (length offer.front) offer.more offer.new (λ mid free. has_mid-aligned offer.front rows mid same ∙ sym (among_mids offer.front mid) ∙ free)
     (λ may. has_app-aligned offer.front rows same ∙ offer.first may))
 
-pub may_accept : {E : Type 0} → (fresh : Stances) (at : Side) (n : ℕ) (said : List LineRow) (past : List (Entry E)) → Sound fresh past → (it : IsOffered at n said past) → MayAccept it.offer at n past
-may_accept fresh at n said past sound it =
+pub may_accept : {E : Type 0} → (fresh : Stances) (at : Side) (n : ℕ) (said : List LineRow) (past : List (Entry E)) → AreReadBack (sdps past) → Sound fresh past → (it : IsOffered at n said past)
+    → MayAccept it.offer at n past
+may_accept fresh at n said past read sound it =
     let offer : OfferSaid = it.offer in
     let theirs : List LineRow = before (other_side at) past in
     let same : Aligned offer.front theirs = aligned_trans offer.front (before at past) theirs it.has.kept it.same in
     let there : Follows theirs theirs (offer.front ++ offer.more) = offer_follows offer theirs same in
     let lines : length (map row_said (offer.front ++ offer.more)) ≡ length (offer.front ++ offer.more) = length-map (offer.front ++ offer.more) row_said in
     record {
-      remote_is = ap (sdp_for true (other_side at)) it.has.there ∙ remote_offer at offer.sdp;
-      leaves = ap (λ list. table_after theirs list true) offer.says ∙ taken_whole theirs (map row_said (offer.front ++ offer.more)) true (omega (arith, length-aligned offer.front theirs same, length-append offer.front offer.more));
+      remote_is = ap (λ said. signalled_if (sdp_for true (other_side at) said)) it.has.there ∙ ap signalled_if (remote_offer at offer.sdp)
+          ∙ read_at past n _ read it.has.there;
+      leaves = ap (λ list. table_after theirs list true) (lines_as_read offer.sdp ∙ offer.says) ∙ taken_whole theirs (map row_said (offer.front ++ offer.more)) true (omega (arith, length-aligned offer.front theirs same, length-append offer.front offer.more));
       here = offer_follows offer (before at past) it.has.kept;
       there = there;
     }
 
 -- the other side does not refuse the offer, where that tells of its side what it has to
 pub accept_passes : {E : Type 0} → (fresh : Stances) (at : Side) (n : ℕ) (said : List LineRow) (past : List (Entry E)) (view : Held) → Sound fresh past → (it : IsOffered at n said past) → view.lines ≡ before (other_side at) past
-    → side_verdict view true it.offer.sdp ≡ None → verdict view None it.offer.sdp ≡ None
+    → side_verdict view true (as_read it.offer.sdp) ≡ None → verdict view None (as_read it.offer.sdp) ≡ None
 accept_passes fresh at n said past view sound it is side =
     let offer : OfferSaid = it.offer in
     let same : Aligned offer.front view.lines = rw is (aligned_trans offer.front (before at past) (before (other_side at) past) it.has.kept it.same) in
-    offer_passes view (offer.front ++ offer.more) offer.sdp (subst IsTable (sym is) (past_table fresh past (other_side at) sound)) (offer_follows offer view.lines same) offer.whole.one_app offer.says offer.fits offer.live side
+    offer_passes view (offer.front ++ offer.more) (as_read offer.sdp) (subst IsTable (sym is) (past_table fresh past (other_side at) sound)) (offer_follows offer view.lines same) offer.whole.one_app (lines_as_read offer.sdp ∙ offer.says)
+    (fits_as_read offer.sdp ∙ offer.fits) offer.live side
 
 -- an offer stays outstanding as the other side accepts it
 offer_stays : {E : Type 0} → (offer : OfferSaid) (at : Side) (n : ℕ) (past : List (Entry E)) (k j : ℕ) (table : Option Table) (made : List MadeSdp) → HasOffered offer at n past
@@ -152,14 +160,14 @@ pub record Accepted {E : Type 0} (at : Side) (n m : ℕ) (said : List LineRow) (
   pub side : IsSideOf said table.lines
 
 -- The other side has accepted the offer.
-pub accepted_next : {E : Type 0} → (fresh between : Stances) (at : Side) (n m : ℕ) (said seen : List LineRow) (past : List (Entry E)) (j : ℕ) (table : Table) (made : List MadeSdp) → Sound fresh past → IsOffered at n said past
+pub accepted_next : {E : Type 0} → (fresh between : Stances) (at : Side) (n m : ℕ) (said seen : List LineRow) (past : List (Entry E)) (j : ℕ) (table : Table) (made : List MadeSdp) → AreReadBack (sdps past) → Sound fresh past → IsOffered at n said past
     → IsSideOf seen (before (other_side at) past) → m ≡ length (sdps past)
     → IsSound fresh past between (AcceptOffer (other_side at) n) (Answered j) (Some table) made → MakesSdp {E = E} (AcceptOffer (other_side at) n) (Answered j) (Some table) made
     → Accepted at n m (course_rows_after true 0 seen said) (entry (AcceptOffer (other_side at) n) (Answered j) (Some table) made ∷ past) table
-accepted_next {E} fresh between at n m said seen past j table made sound out side count replied says =
-    let may : MayAccept out.offer at n past = may_accept fresh at n said past sound out in
+accepted_next {E} fresh between at n m said seen past j table made read sound out side count replied says =
+    let may : MayAccept out.offer at n past = may_accept fresh at n said past read sound out in
     let it = answered E (remote_sdp true (other_side at) n past) (view_in fresh (other_side at) past (held_by (between (other_side at)))) (length (sdps past)) j table.lines replied.0 in
-    let text_is : it.offer ≡ out.offer.sdp = some_same _ _ (sym it.is ∙ may.remote_is) in
+    let text_is : it.offer ≡ as_read out.offer.sdp = read_same _ _ (sym it.is ∙ may.remote_is) in
     let after : table.lines ≡ rows_after theirs true 0 (map row_said offered) = it.leaves ∙ ap (λ sdp. table_after theirs (parsed_lines sdp) true) text_is ∙ may.leaves in
     let table_of : IsTable theirs = past_table fresh past (other_side at) sound in
     let apps : SayApps theirs offered = follows_say theirs 0 theirs offered table_of (all_left theirs) may.there in
@@ -201,11 +209,12 @@ accepted_next {E} fresh between at n m said seen past j table made sound out sid
 pub record MayEnd {E : Type 0} (answer : AnswerSaid) (at : Side) (n m : ℕ) (past : List (Entry E)) : Type 0 where
   pub held : holds_token at n past ≡ true
   pub right : is_right at n past ≡ true
-  pub remote_is : remote_sdp false at m past ≡ Some answer.sdp
-  pub leaves : table_after (before at past) (parsed_lines answer.sdp) false ≡ rows_after (before at past) false 0 (map row_said answer.rows)
+  pub remote_is : remote_sdp false at m past ≡ Readable (as_read answer.sdp)
+  pub leaves : table_after (before at past) (parsed_lines (as_read answer.sdp)) false ≡ rows_after (before at past) false 0 (map row_said answer.rows)
 
-pub may_end : {E : Type 0} → (fresh : Stances) (at : Side) (n m : ℕ) (said : List LineRow) (past : List (Entry E)) → Sound fresh past → (it : IsAnswered at n m said past) → MayEnd it.answer at n m past
-may_end fresh at n m said past sound it =
+pub may_end : {E : Type 0} → (fresh : Stances) (at : Side) (n m : ℕ) (said : List LineRow) (past : List (Entry E)) → AreReadBack (sdps past) → Sound fresh past → (it : IsAnswered at n m said past)
+    → MayEnd it.answer at n m past
+may_end fresh at n m said past read sound it =
     let offer : OfferSaid = it.offer in
     let answer : AnswerSaid = it.answer in
     let mine : List LineRow = before at past in
@@ -214,21 +223,24 @@ may_end fresh at n m said past sound it =
     record {
       held = rw (it.has.there, it.has.unspent, same_side-self at) refl;
       right = it.has.right;
-      remote_is = ap (sdp_for false at) it.answered.there ∙ remote_answer at answer.sdp;
-      leaves = ap (λ list. table_after mine list false) answer.says
+      remote_is = ap (λ said. signalled_if (sdp_for false at said)) it.answered.there ∙ ap signalled_if (remote_answer at answer.sdp)
+          ∙ read_at past m _ read it.answered.there;
+      leaves = ap (λ list. table_after mine list false) (lines_as_read answer.sdp ∙ answer.says)
           ∙ taken_whole mine (map row_said answer.rows) false (omega (arith, length-aligned (offer.front ++ offer.more) answer.rows it.answered.offered, length-append offer.front offer.more));
     }
 
 -- the side that offered does not refuse the answer, where that tells of its side what it has to
 pub end_passes : {E : Type 0} → (fresh : Stances) (at : Side) (n m : ℕ) (said : List LineRow) (past : List (Entry E)) (view : Held) → Sound fresh past → (it : IsAnswered at n m said past) → view.lines ≡ before at past
-    → side_verdict view (restarts_by n past) it.answer.sdp ≡ None → verdict view (Some (asked_in at n past)) it.answer.sdp ≡ None
+    → side_verdict view (restarts_by n past) (as_read it.answer.sdp) ≡ None
+    → verdict view (Some (asked_in at n past)) (as_read it.answer.sdp) ≡ None
 end_passes fresh at n m said past view sound it is side =
     let offer : OfferSaid = it.offer in
     let answer : AnswerSaid = it.answer in
     let few : length (before at past) ≡ length offer.front = length-aligned offer.front (before at past) it.has.kept in
     let adds : added_by (length (before at past)) n past ≡ offer.more = ap (λ (k : ℕ). added_by k n past) few ∙ it.has.adds in
-    rw adds (answer_passes view (restarts_by n past) offer answer.rows answer.sdp (subst IsTable (sym is) (past_table fresh past at sound))
-    (rw is (it.answered.mine)) answer.table.one_app it.answered.offered (rw is it.has.kept) answer.says answer.fits side)
+    rw adds (answer_passes view (restarts_by n past) offer answer.rows (as_read answer.sdp) (subst IsTable (sym is) (past_table fresh past at sound))
+    (rw is (it.answered.mine)) answer.table.one_app it.answered.offered (rw is it.has.kept) (lines_as_read answer.sdp ∙ answer.says)
+    (fits_as_read answer.sdp ∙ answer.fits) side)
 
 -- What the side is left with that offered, and has accepted the answer.
 pub record Ended {E : Type 0} (said : List LineRow) (past : List (Entry E)) (table : Table) : Type 0 where
@@ -236,13 +248,13 @@ pub record Ended {E : Type 0} (said : List LineRow) (past : List (Entry E)) (tab
   pub side : IsSideOf said table.lines
 
 -- The side that offered has accepted the answer.
-pub ended_next : {E : Type 0} → (fresh between : Stances) (at : Side) (n m : ℕ) (said seen : List LineRow) (past : List (Entry E)) (table : Table) (made : List MadeSdp) → Sound fresh past → IsAnswered at n m said past
+pub ended_next : {E : Type 0} → (fresh between : Stances) (at : Side) (n m : ℕ) (said seen : List LineRow) (past : List (Entry E)) (table : Table) (made : List MadeSdp) → AreReadBack (sdps past) → Sound fresh past → IsAnswered at n m said past
     → IsSideOf seen (before at past) → IsSound fresh past between (AcceptAnswer at n m) Finished (Some table) made
     → Ended (course_rows_after false 0 seen said) (entry (AcceptAnswer at n m) Finished (Some table) made ∷ past) table
-ended_next {E} fresh between at n m said seen past table made sound out side replied =
-    let may : MayEnd out.answer at n m past = may_end fresh at n m said past sound out in
+ended_next {E} fresh between at n m said seen past table made read sound out side replied =
+    let may : MayEnd out.answer at n m past = may_end fresh at n m said past read sound out in
     let it = answer_taken E (holds_token at n past) (is_right at n past) (asked_in at n past) (remote_sdp false at m past) (view_in fresh at past (held_by (between at))) table.lines replied.0 in
-    let text_is : it.answer ≡ out.answer.sdp = some_same _ _ (sym it.is ∙ may.remote_is) in
+    let text_is : it.answer ≡ as_read out.answer.sdp = read_same _ _ (sym it.is ∙ may.remote_is) in
     let after : table.lines ≡ rows_after mine false 0 (map row_said rows) = it.leaves ∙ ap (λ sdp. table_after mine (parsed_lines sdp) false) text_is ∙ may.leaves in
     let apps : SayApps mine rows = follows_say mine 0 mine rows (past_table fresh past at sound) (all_left mine) out.answered.mine in
     let names : Aligned rows table.lines = rw after (after_aligned mine false 0 rows rows apps (aligned_self rows)) in

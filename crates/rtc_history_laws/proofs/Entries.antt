@@ -1,13 +1,11 @@
 -- What a past says of a pair after a new entry: one that makes no SDP, makes an answer, spends a token, or makes an offer.
-use Rattle.std.proofs.Common.{◌≡◌, ◌≤◌, ◌<◌, ◌+◌, ◌^◌, ◌==◌, ℕ, List, [], ◌∷◌, ◌++◌, map, length, drop, All, Bool, true, false, Option, Some, None, refl, sym, ◌∙◌, ap, arith, cond, append-nil, length-append, ◌⊎◌, inl, inr}
+use Rattle.std.proofs.Common.{◌≡◌, ◌≤◌, ◌<◌, ◌+◌, ◌^◌, ◌==◌, ℕ, List, [], ◌∷◌, ◌++◌, map, length, drop, Bool, true, false, Option, Some, None, refl, sym, ◌∙◌, ap, arith, cond, append-nil, length-append, ◌⊎◌, inl, inr}
 use Rattle.std.specs.Prelude.{slice_get, option_map}
 use Rattle.std.proofs.Math.Seq.{drop-append_seam, drop-length}
 use Rattle.std.proofs.lemmas.Bool.{and_left}
 use Rattle.std.proofs.lemmas.List.{map-append}
-use Rattle.std.proofs.lemmas.List.Elements.{All-weaker, All-push}
 use Rattle.std.proofs.lemmas.Option.{slice_get-map}
 use Rattle.rtc_change.specs.PendingOffer.{PendingOffer}
-use Rattle.rtc_peer_state.specs.Stance.{Stance}
 use Rattle.rtc_history.specs.declared.side.Side.{Side}
 use Rattle.rtc_history.specs.Sides.{same_side, other_side, side_of}
 use Rattle.rtc_history.specs.Past.{Entry, MadeSdp, before, rows_or, sdps, spends, is_spent, is_offer_of, holds_token, moves, makes}
@@ -15,7 +13,7 @@ use Rattle.rtc_history.specs.declared.kept.Kept.{Kept}
 use Rattle.rtc_history.specs.PairState.{made_sdp, token_for}
 use Rattle.rtc_history_laws.proofs.PushedLists.{push_places}
 use Rattle.rtc_history.proofs.BothSides.{both_sides}
-use Rattle.rtc_history_laws.proofs.Tells.{TokenTells, ChannelsTell, SideTells, Tells, IsUntold, Fits, HeldBefore, same_side-self, same_side-other, token_next, no_token, held_before, fits_moved, fits_same, side_next, side_stays}
+use Rattle.rtc_history_laws.proofs.Tells.{TokenTells, ChannelsTell, SideTells, Tells, IsUntold, HeldBefore, same_side-self, same_side-other, token_next, no_token, held_before, side_next, side_stays}
 use Rattle.rtc_history_laws.proofs.StanceSteps.{PairStance, made_by}
 
 -- What a new entry leaves, whatever it makes: rows and counter of its side, and the other side as it was.
@@ -26,7 +24,6 @@ pub record Goes {E : Type 0} (moved : Bool) (past : List (Entry E)) (e : Entry E
   pub other : new.sides (other_side (side_of e.step)) ≡ old.sides (other_side (side_of e.step))
   pub mine : moves (side_of e.step) e.step e.outcome ≡ moved
   pub theirs : moves (other_side (side_of e.step)) e.step e.outcome ≡ false
-  pub few : length (new.sides (side_of e.step)).lines ≤ new.size
   pub grows : old.size + 1 ≤ new.size
   pub small : new.size < 2 ^ 32
   pub made : e.made ≡ made_by old new
@@ -36,7 +33,6 @@ pub record TextsNext {E : Type 0} (past : List (Entry E)) (e : Entry E) (old new
   pub says : map made_sdp new.sdps ≡ sdps (e ∷ past)
   pub later : (t : ℕ) → length (sdps (e ∷ past)) ≤ t → is_spent t (e ∷ past) ≡ false
   pub count : length new.sdps ≤ length old.sdps + 1
-  pub each : All (λ kept. length kept.sdp.lines ≤ new.size) new.sdps
 
 pub rows_told : {E : Type 0} → (moved : Bool) (past : List (Entry E)) (e : Entry E) (old new : PairStance) → Goes moved past e old new
     → (new.sides (side_of e.step)).lines ≡ before (side_of e.step) (e ∷ past)
@@ -57,15 +53,7 @@ tells_next moved past e old new goes kept mine was tokens tells =
       says = kept.says;
       later = kept.later;
       count = omega (arith, kept.count, goes.grows);
-      each = kept.each;
     }
-
-pub each_grown : (kept : List Kept) (size size' : ℕ) → size ≤ size' → All (λ kept. length kept.sdp.lines ≤ size) kept → All (λ kept. length kept.sdp.lines ≤ size') kept
-each_grown kept size size' grows each =
-    All-weaker (λ (one : Kept). length one.sdp.lines ≤ size) (λ (one : Kept). length one.sdp.lines ≤ size') (λ one few. at_most (length one.sdp.lines) few) kept each
-  where
-    at_most : (n : ℕ) → n ≤ size → n ≤ size'
-    at_most n few = omega arith
 
 -- what a past says of an SDP is what is kept of it
 pub said_at : {E : Type 0} → (past : List (Entry E)) (pair : PairStance) (t : ℕ) → map made_sdp pair.sdps ≡ sdps past → slice_get (sdps past) t ≡ option_map made_sdp (slice_get pair.sdps t)
@@ -78,18 +66,11 @@ same_offer past e old new side t says says' same = ap (is_offer_of side) (said_a
 
 -- ---- an entry that makes no SDP
 
-fits_unmade : {E : Type 0} → (moved : Bool) (past : List (Entry E)) (at : Side) (old new : Stance) (kept kept' : List Kept) (size size' : ℕ)
-    → new.counter ≡ cond moved (old.counter + 1) old.counter → length new.lines ≡ length old.lines → size < 2 ^ 32 → size ≤ size' → HeldBefore at kept kept' → SideTells past at old kept size → Fits at new kept' size'
-fits_unmade true past at old new kept kept' size size' counter lines small grows was told = fits_moved past at old new kept kept' size size' counter small was told
-fits_unmade false past at old new kept kept' size size' counter lines small grows was told = fits_same past at old new kept kept' size size' counter lines grows was told
-
 pub unmade_tells : {E : Type 0} → (moved : Bool) (past : List (Entry E)) (e : Entry E) (old new : PairStance) → Goes moved past e old new
-    → length (new.sides (side_of e.step)).lines ≡ length (old.sides (side_of e.step)).lines → new.sdps ≡ old.sdps
+    → new.sdps ≡ old.sdps
     → ((t : ℕ) → spends t e.step e.outcome ≡ false) → ((t : ℕ) → makes t e.outcome ≡ false) → Tells past old → Tells (e ∷ past) new
-unmade_tells moved past e old new goes lines kept unspent unmade tells =
+unmade_tells moved past e old new goes kept unspent unmade tells =
     let at = side_of e.step in
-    let size : old.size ≤ new.size = omega (arith, goes.grows) in
-    let small : old.size < 2 ^ 32 = omega (arith, goes.grows, goes.small) in
     let none : e.made ≡ [] = goes.made ∙ ap (λ now. map made_sdp (drop (length old.sdps) now)) kept ∙ ap (map made_sdp) (drop-length old.sdps) in
     let same_said : sdps (e ∷ past) ≡ sdps past = ap (λ made. sdps past ++ made) none ∙ append-nil (sdps past) in
     let was : (side : Side) → HeldBefore side old.sdps new.sdps = λ side. held_before side old.sdps new.sdps (λ t. inl (ap (λ now. slice_get now t) kept)) in
@@ -99,11 +80,9 @@ unmade_tells moved past e old new goes lines kept unspent unmade tells =
       says = ap (map made_sdp) kept ∙ tells.says ∙ sym same_said;
       later = λ t most. rw (unspent t) (tells.later t (rw same_said at most));
       count = let n : length new.sdps ≡ length old.sdps = ap length kept in omega arith;
-      each = rw kept (each_grown old.sdps old.size new.size size tells.each);
     })
-    (side_next moved past e at (old.sides at) (new.sides at) old.sdps new.sdps old.size new.size (rows_told moved past e old new goes) goes.counter goes.grows goes.few (was at)
+    (side_next moved past e at (old.sides at) (new.sides at) old.sdps new.sdps old.size new.size (rows_told moved past e old new goes) goes.counter goes.grows (was at)
     (λ t. rw kept (token_next moved past e at _ t _ (untold at t) goes.mine ((tells.sides at).tokens t)))
-    (fits_unmade moved past at (old.sides at) (new.sides at) old.sdps new.sdps old.size new.size goes.counter lines small size (was at) (tells.sides at))
     goes.channels (tells.sides at))
     (was (other_side at))
     (λ t. rw kept (token_next false past e (other_side at) _ t _ (untold (other_side at) t) goes.theirs ((tells.sides (other_side at)).tokens t)))
@@ -122,12 +101,11 @@ fewer : (xs ys : List MadeSdp) (t : ℕ) → length (xs ++ ys) ≤ t → length 
 fewer xs ys t h = omega (arith, length-append xs ys)
 
 pub texts_pushed : {E : Type 0} → (past : List (Entry E)) (e : Entry E) (old new : PairStance) (kept : Kept) → e.made ≡ made_by old new → new.sdps ≡ old.sdps ++ kept ∷ []
-    → old.size ≤ new.size → length kept.sdp.lines ≤ new.size → ((t : ℕ) → spends t e.step e.outcome ≡ false) → Tells past old → TextsNext past e old new
-texts_pushed past e old new kept made pushed size few unspent tells = record {
+    → ((t : ℕ) → spends t e.step e.outcome ≡ false) → Tells past old → TextsNext past e old new
+texts_pushed past e old new kept made pushed unspent tells = record {
   says = says_pushed past e old new kept made pushed tells.says;
   later = λ t most. rw (unspent t) (tells.later t (fewer (sdps past) e.made t most));
   count = let n : length new.sdps ≡ length old.sdps + 1 = ap length pushed ∙ length-append old.sdps (kept ∷ []) in omega arith;
-  each = rw pushed (All-push (λ (one : Kept). length one.sdp.lines ≤ new.size) old.sdps kept (each_grown old.sdps old.size new.size size tells.each) few);
 }
 
 pub no_choice : (b : Bool) → ◌≡◌ {A = Option PendingOffer} (cond b None None) None
@@ -143,12 +121,10 @@ pub unheld : {E : Type 0} → (past : List (Entry E)) (side : Side) (t : ℕ) (s
 unheld past side t said is none = rw (is, none) refl
 
 pub answered_tells : {E : Type 0} → (past : List (Entry E)) (e : Entry E) (old new : PairStance) (kept : Kept) → Goes true past e old new
-    → kept.offer ≡ false → kept.token ≡ None → length kept.sdp.lines ≤ new.size → new.sdps ≡ old.sdps ++ kept ∷ []
+    → kept.offer ≡ false → kept.token ≡ None → new.sdps ≡ old.sdps ++ kept ∷ []
     → ((t : ℕ) → spends t e.step e.outcome ≡ false) → ((t : ℕ) → makes t e.outcome ≡ false) → Tells past old → Tells (e ∷ past) new
-answered_tells past e old new kept goes answer none few pushed unspent unmade tells =
+answered_tells past e old new kept goes answer none pushed unspent unmade tells =
     let at = side_of e.step in
-    let size : old.size ≤ new.size = omega (arith, goes.grows) in
-    let small : old.size < 2 ^ 32 = omega (arith, goes.grows, goes.small) in
     let says : map made_sdp new.sdps ≡ sdps (e ∷ past) = says_pushed past e old new kept goes.made pushed tells.says in
     let place : (t : ℕ) → (((length old.sdps == t) ≡ false) × (slice_get new.sdps t ≡ slice_get old.sdps t)) ⊎ ((t ≡ length old.sdps) × ((length old.sdps == t) ≡ true) × (slice_get new.sdps t ≡ Some kept)) =
     λ t. rw pushed (push_places old.sdps kept t) in
@@ -159,13 +135,12 @@ answered_tells past e old new kept goes answer none few pushed unspent unmade te
     let last : (side : Side) (counter t : ℕ) → slice_get new.sdps t ≡ Some kept → TokenTells (e ∷ past) side counter t (Some kept) =
     λ side counter t there. no_token (e ∷ past) side counter t (Some kept) (tokenless side kept none)
     (unheld (e ∷ past) side t (Some (made_sdp kept)) (said_at (e ∷ past) new t says ∙ ap (option_map made_sdp) there) (and_left kept.offer (same_side kept.at side) answer)) in
-    tells_next true past e old new goes (texts_pushed past e old new kept goes.made pushed size few unspent tells)
-    (side_next true past e at (old.sides at) (new.sides at) old.sdps new.sdps old.size new.size (rows_told true past e old new goes) goes.counter goes.grows goes.few (was at)
+    tells_next true past e old new goes (texts_pushed past e old new kept goes.made pushed unspent tells)
+    (side_next true past e at (old.sides at) (new.sides at) old.sdps new.sdps old.size new.size (rows_told true past e old new goes) goes.counter goes.grows (was at)
     (λ t. elim (place t) [
       | inl h ↦ rw h.1 (token_next true past e at _ t _ (untold at t h.1) goes.mine ((tells.sides at).tokens t))
       | inr h ↦ rw h.2 (last at _ t h.2)
     ])
-    (fits_moved past at (old.sides at) (new.sides at) old.sdps new.sdps old.size new.size goes.counter small (was at) (tells.sides at))
     goes.channels (tells.sides at))
     (was (other_side at))
     (λ t. elim (place t) [

@@ -19,6 +19,7 @@ use Rattle.rtc_change.specs.TableAfter.{table_after, rows_after}
 use Rattle.rtc_tables.proofs.TableLemmas.{row_of_its_mid, has_mid_row_of}
 use Rattle.rtc_change.proofs.TableAfterLemmas.{length_table_after, length_rows_after}
 use Rattle.rtc_change.proofs.VerdictLemmas.{unrefused}
+use Rattle.rtc_history.specs.Signalled.{Signalled, NotMade, Unreadable, Readable, signalled_if}
 use Rattle.rtc_history.specs.declared.side.Side.{Side}
 use Rattle.rtc_history.specs.declared.side.Side.TheVariants.{Left, Right}
 use Rattle.rtc_history.specs.declared.step.Step.{Step}
@@ -31,7 +32,7 @@ use Rattle.rtc_history.specs.Past.{Entry, MadeSdp, before, sdps, sdp_for, remote
 use Rattle.rtc_history.specs.Sound.{RepliesToAnswer, IsSound, asked_in}
 use Rattle.rtc_history.specs.SaidRows.{row_said}
 use Rattle.rtc_history.specs.Finished.{FinishedRound}
-use Rattle.rtc_history.specs.Rounds.{is_own, has_set, rows_at_offer, EndsRound, FinishesRound}
+use Rattle.rtc_history.specs.Rounds.{before_last, through_last, makes_answer, is_own, has_set, rows_at_offer, EndsRound, FinishesRound}
 use Rattle.rtc_history_laws.proofs.SoundPasts.{Sound}
 use Rattle.rtc_history_laws.proofs.AddedRows.{AreAdded, added_rising, among_mids, rising_append}
 use Rattle.rtc_history_laws.proofs.FinishedRows.{IsKnown, AllKnown, known_each, rows_finished}
@@ -40,7 +41,10 @@ use Rattle.rtc_history_laws.proofs.PastTables.{past_table}
 use Rattle.rtc_history_laws.proofs.PastOffers.{past_offer}
 use Rattle.rtc_history_laws.proofs.PastAnswers.{TookOffer, past_answer}
 use Rattle.rtc_history_laws.proofs.PastRows.{rows_since}
-use Rattle.rtc_history.specs.Views.{Stances, view_in}
+use Rattle.rtc_history.specs.Views.{Stances, AreFormed, view_in}
+use Rattle.rtc_sdp_writer.specs.AsRead.{as_read}
+use Rattle.rtc_history_laws.proofs.AsReadSdps.{lines_as_read}
+use Rattle.rtc_history_laws.proofs.ReadPasts.{past_read, read_at}
 use Rattle.rtc_peer_state.specs.Stance.{held_by}
 
 -- ---- the rows of an offer
@@ -124,7 +128,7 @@ answer_lines view asked offerer added before sdp lines_are adds rows says passes
 
 -- ---- the past
 
-same_sdp : (one other : Sdp) → Some one ≡ Some other → one ≡ other
+same_sdp : (one other : Sdp) → Readable one ≡ Readable other → one ≡ other
 same_sdp one other same = cc
 
 -- the answer of the other side is what is delivered
@@ -138,19 +142,21 @@ remote_offer Left sdp = refl
 remote_offer Right sdp = refl
 
 -- What an answer that is accepted came with.
-pub record AnswerAccepted (held right : Bool) (asked : Asked) (sdp : Option Sdp) (view : Held) (after : List LineRow) : Type 0 where
+pub record AnswerAccepted (held right : Bool) (asked : Asked) (sdp : Signalled) (view : Held) (after : List LineRow) : Type 0 where
   pub answer : Sdp
   pub held_is : held ≡ true
   pub right_is : right ≡ true
-  pub is : sdp ≡ Some answer
+  pub is : sdp ≡ Readable answer
   pub passes : verdict view (Some asked) answer ≡ None
   pub leaves : after ≡ table_after view.lines (parsed_lines answer) false
 
-pub answer_taken : (E : Type 0) (held right : Bool) (asked : Asked) (sdp : Option Sdp) (view : Held) (after : List LineRow) → RepliesToAnswer {E = E} held right asked sdp view Finished after → AnswerAccepted held right asked sdp view after
-answer_taken E true true asked (Some sdp) view after takes = record { answer = sdp; held_is = refl; right_is = refl; is = refl; passes = takes.0; leaves = takes.1 }
-answer_taken E true true asked None view after takes = absurd takes
-answer_taken E true false asked None view after takes = absurd takes
-answer_taken E true false asked (Some sdp) view after takes = absurd takes
+pub answer_taken : (E : Type 0) (held right : Bool) (asked : Asked) (sdp : Signalled) (view : Held) (after : List LineRow) → RepliesToAnswer {E = E} held right asked sdp view Finished after → AnswerAccepted held right asked sdp view after
+answer_taken E true true asked (Readable sdp) view after takes = record { answer = sdp; held_is = refl; right_is = refl; is = refl; passes = takes.0; leaves = takes.1 }
+answer_taken E true true asked NotMade view after takes = absurd takes
+answer_taken E true true asked (Unreadable line) view after takes = absurd takes
+answer_taken E true false asked NotMade view after takes = absurd takes
+answer_taken E true false asked (Unreadable line) view after takes = absurd takes
+answer_taken E true false asked (Readable sdp) view after takes = absurd takes
 answer_taken E false right asked sdp view after takes = absurd takes
 
 -- the same of equal rows and SDPs
@@ -164,25 +170,33 @@ ends_alike view asked offerer added before answerer after offer answer lines_are
     let after_is : after ≡ table_after offerer (map row_said (table_after before (map row_said (offerer ++ added)) true)) false = leaves ∙ ap (λ list. table_after list (parsed_lines answer) false) lines_are ∙ ap (λ said. table_after offerer said false) answer_says in
     rw (answerer_is, after_is) (round_finished offerer added before rows (answer_lines view asked offerer added before answer lines_are adds rows answer_says passes))
 
-ends_round : {E : Type 0} → (fresh : Stances) (past : List (Entry E)) (at : Side) (t a : ℕ) (view : Held) (after : List LineRow) → Sound fresh past
+ends_round : {E : Type 0} → (fresh : Stances) (past : List (Entry E)) (at : Side) (t a : ℕ) (view : Held) (after : List LineRow) → AreFormed fresh → Sound fresh past
     → AnswerAccepted (holds_token at t past) (is_right at t past) (asked_in at t past) (remote_sdp false at a past) view after → view.lines ≡ before at past
     → is_own at t a past ≡ true → has_set at t past ≡ false → EndsRound at t a past after
-ends_round fresh past at t a view after sound accepts seen own unset =
+ends_round fresh past at t a view after formed sound accepts seen own unset =
+    let read = past_read fresh past formed sound in
     let held = and_parts (is_offer_of at (slice_get (sdps past) t)) (not (is_spent t past)) accepts.held_is in
     let offer = past_offer fresh at t past sound accepts.right_is held.0 in
     let answer = past_answer fresh at t a past sound own in
     let rows : before at past ≡ rows_at_offer at t past = rows_since fresh past at t sound accepts.right_is held.0 (not-true (is_spent t past) held.1) unset in
     let table : IsTable (rows_at_offer at t past) = subst IsTable rows (past_table fresh past at sound) in
-    let answer_is : answer.sdp ≡ accepts.answer = same_sdp _ _ (sym (remote_answer at answer.sdp) ∙ ap (sdp_for false at) (sym answer.there) ∙ accepts.is) in
-    let offer_is : answer.offer ≡ offer.sdp = same_sdp _ _ (sym answer.offered ∙ ap (sdp_for true (other_side at)) offer.there ∙ remote_offer at offer.sdp) in
+    let answer_is : accepts.answer ≡ as_read answer.sdp =
+    same_sdp _ _ (sym accepts.is ∙ ap (λ said. signalled_if (sdp_for false at said)) answer.there ∙ ap signalled_if (remote_answer at answer.sdp)
+    ∙ read_at past a _ read answer.there) in
+    let offer_is : answer.offer ≡ as_read offer.sdp =
+    same_sdp _ _ (sym answer.offered ∙ ap (λ said. signalled_if (sdp_for true (other_side at) said)) offer.there
+    ∙ ap signalled_if (remote_offer at offer.sdp) ∙ read_at past t _ read offer.there) in
+    let took : TookOffer (before (other_side at) (before_last (makes_answer at t a) past)) (before (other_side at) (through_last (makes_answer at t a) past)) answer.offer accepts.answer =
+    record { leaves = answer.took.leaves; says = ap parsed_lines answer_is ∙ lines_as_read answer.sdp ∙ answer.took.says } in
     let adds : added_by (length (before at past)) t past ≡ offer.more = ap (λ (list : List LineRow). added_by (length list) t past) rows ∙ offer.adds in
-    rw offer.adds (ends_alike view (asked_in at t past) (rows_at_offer at t past) offer.more _ _ after answer.offer answer.sdp (seen ∙ rows) adds
-    (offered_known (rows_at_offer at t past) offer.more offer.may table offer.new) answer.took (ap parsed_lines offer_is ∙ offer.says)
-    (rw answer_is accepts.passes) (rw answer_is accepts.leaves))
+    rw offer.adds (ends_alike view (asked_in at t past) (rows_at_offer at t past) offer.more _ _ after answer.offer accepts.answer (seen ∙ rows) adds
+    (offered_known (rows_at_offer at t past) offer.more offer.may table offer.new) took (ap parsed_lines offer_is ∙ lines_as_read offer.sdp ∙ offer.says)
+    accepts.passes accepts.leaves)
 
 -- Each accepted answer that is its token's own ends the round.
-pub finishes_round : {E : Type 0} → (fresh between : Stances) (past : List (Entry E)) (step : Step) (outcome : Outcome E) (table : Option Table) (made : List MadeSdp) → Sound fresh past → IsSound fresh past between step outcome table made → FinishesRound past step outcome table
-finishes_round {E} fresh between past (AcceptAnswer at t a) Finished (Some table) made sound replied =
-    λ own unset. ends_round fresh past at t a (view_in fresh at past (held_by (between at))) table.lines sound
+pub finishes_round : {E : Type 0} → (fresh between : Stances) (past : List (Entry E)) (step : Step) (outcome : Outcome E) (table : Option Table) (made : List MadeSdp) → AreFormed fresh → Sound fresh past → IsSound fresh past between step outcome table made
+    → FinishesRound past step outcome table
+finishes_round {E} fresh between past (AcceptAnswer at t a) Finished (Some table) made formed sound replied =
+    λ own unset. ends_round fresh past at t a (view_in fresh at past (held_by (between at))) table.lines formed sound
     (answer_taken E (holds_token at t past) (is_right at t past) (asked_in at t past) (remote_sdp false at a past) (view_in fresh at past (held_by (between at))) table.lines replied.0) refl own unset
-finishes_round {E} fresh between past step outcome table made sound replied = tt
+finishes_round {E} fresh between past step outcome table made formed sound replied = tt

@@ -1,12 +1,12 @@
 -- What inputs do to the counts of faults: none falls, and an error that tells a fault of a part comes only where that part's count rose.
-use Rattle.std.proofs.Common.{◌≤◌, inl, inr, ℕ, Bool, true, false, List, Result, Ok, Err, alloc_error, refl, ap}
+use Rattle.std.proofs.Common.{◌≡◌, ◌≤◌, ◌⊎◌, inl, inr, ℕ, Bool, true, false, List, Result, Ok, Err, alloc_error, refl, sym, ap, subst, arith}
 use Rattle.std.specs.declared.alloc.AllocError.{AllocError}
 use Rattle.rtc_wire.specs.declared.datagram_recv.DatagramRecv.{DatagramRecv}
 use Rattle.rtc_wire.specs.declared.datagram_recv.DatagramRecv.TheVariants as datagrams
 use Rattle.rtc_wire.specs.declared.receive.Receive.{Receive}
-use Rattle.rtc_parts_values.specs.Why.{Timed}
+use Rattle.rtc_parts_values.specs.Why.{Timed, Other}
 use Rattle.rtc_dtls.specs.declared.dtls_error.DtlsError.TheVariants.{Fault, Alloc as DtlsAlloc}
-use Rattle.rtc_media.specs.MediaActs.{MediaGiven, MediaStirred}
+use Rattle.rtc_media.specs.MediaActs.{MediaGiven, MediaStirred, StatsVisited}
 use Rattle.rtc_media.specs.declared.media_error.MediaError.{MediaError}
 use Rattle.rtc_media.specs.declared.media_error.MediaError.TheVariants.{Alloc as MediaAlloc}
 use Rattle.rtc_peer_state.specs.declared.phase.Phase.{Phase}
@@ -18,7 +18,10 @@ use Rattle.rtc_polling.specs.declared.input.Input.{Input}
 use Rattle.rtc_polling.specs.declared.input.Input.TheVariants.{Timeout as TimeCame, Receive as Datagram}
 use Rattle.rtc_polling.specs.declared.polled_peer.PolledPeer.{PolledPeer}
 use Rattle.rtc_polling.specs.Inputs.{TimesIce, TimesStreams, TimesChannels, TimesMedia, GivesTime, TakesTimeIf, with_moment, HearsStun, HearsDtls, HearsMedia, HearsKind, Hears, Heard, PartFailed, HandlesInputBy, HandlesInputIn, HandlesInput}
-use Rattle.rtc_history_laws.proofs.GrowingCounts.{grows_quiet, answer_tells, given_grows, hands_grow, association_faults, Counts, same_later, later_of, counts_on, counts_as, still_counts, dtls_counts, media_counts, association_counts}
+use Rattle.rtc_polling.specs.Statistics.{TimesStatistics}
+use Rattle.rtc_polling.proofs.StatisticsTurns.{StatisticsTimed, VisitedOnce, statistics_timed}
+use Rattle.rtc_history.specs.Memory.{CountedPart}
+use Rattle.rtc_history_laws.proofs.GrowingCounts.{same_dtls, same_association, quiet_counts, grows_quiet, answer_tells, given_grows, hands_grow, association_faults, Counts, same_later, later_of, counts_on, counts_as, still_counts, dtls_counts, media_counts, association_counts}
 use Rattle.rtc_history_laws.proofs.ClosingCounts.{CallCounts, turn_counts, none_counts}
 use Rattle.rtc_history_laws.proofs.StreamFaults.{streams_timed_later, channels_timed_later}
 
@@ -69,13 +72,40 @@ module _ {I D S M E X T W N : Type 0} (m : Meanings I D S M E X T W N) (laws : P
       (grows_quiet (m.media.faults p.core.media) (m.media.faults q.core.media) false refl (timed_later p.core.media q.core.media now (Err MediaAlloc) h.0))
   media_timed_counts now p (Err _) q h = absurd h
 
+  visited_later : (now : ℕ) (p q : M) → VisitedOnce m now p q → m.media.faults p ≤ m.media.faults q
+  visited_later now p q (inl same) = subst (λ (x : M). m.media.faults p ≤ m.media.faults x) (sym same) (omega arith)
+  visited_later now p q (inr visited) =
+      laws.media.faults_rise p q (MediaStirred Other) (inr (inr (StatsVisited now visited.0 visited.1.0 visited.1.1.0 visited.1.1.1)))
+
+  -- statistics tell no fault
+  statistics_timed_count : (now : ℕ) → CallCounts m (TimesStatistics m now)
+  statistics_timed_count now p r q h = by timed.ends
+    where
+      timed : StatisticsTimed m now p r q
+      timed = statistics_timed m now p r q h
+
+      counts : (s : Result (Unit {0}) RtcError) → ((part : CountedPart) → answer_tells s part ≡ false) → Counts m p (answer_tells s) q
+      counts s quiet =
+          quiet_counts m p q (answer_tells s) quiet (
+          record {
+            dtls = same_dtls m p q (ap (λ (x : PolledPeer I D S M N). x.core.dtls.instance) timed.kept);
+            media = visited_later now p.core.media q.core.media timed.media;
+            association = same_association m p q (ap (λ (x : PolledPeer I D S M N). x.core.sctp.association) timed.kept);
+          }
+          )
+
+      by : ((r ≡ Ok tt) × (q.core.phase ≡ p.core.phase)) ⊎ ((r ≡ Err Alloc) × (q.core.phase ≡ Closed)) → Counts m p (answer_tells r) q
+      by (inl well) = subst (λ (s : Result (Unit {0}) RtcError). Counts m p (answer_tells s) q) (sym well.0) (counts (Ok tt) (λ part. refl))
+      by (inr lacking) = subst (λ (s : Result (Unit {0}) RtcError). Counts m p (answer_tells s) q) (sym lacking.0) (counts (Err Alloc) (λ part. refl))
+
   time_given_counts : (now : ℕ) (p : PolledPeer I D S M N) (r : Result (Unit {0}) RtcError) (q : PolledPeer I D S M N) → GivesTime m now p r q
       → Counts m p (answer_tells r) q
   time_given_counts now p r q h =
       counts_on m p (with_moment now p) q (answer_tells r) (same_later m p (with_moment now p) (with_moment now p) refl (record { dtls = refl; media = refl; association = refl }))
       (turn_counts m (TimesIce m now) _ (ice_timed_counts now)
       (turn_counts m (TimesStreams m now) _ (streams_timed_count now)
-      (turn_counts m (TimesChannels m) (TimesMedia m now) channels_timed_count (media_timed_counts now))) (with_moment now p) r q h)
+      (turn_counts m (TimesChannels m) _ channels_timed_count
+      (turn_counts m (TimesMedia m now) (TimesStatistics m now) (media_timed_counts now) (statistics_timed_count now)))) (with_moment now p) r q h)
 
   time_counts : (earlier : Bool) (now : ℕ) (p : PolledPeer I D S M N) (r : Result (Unit {0}) RtcError) (q : PolledPeer I D S M N)
       → TakesTimeIf m earlier now p r q → Counts m p (answer_tells r) q

@@ -19,6 +19,7 @@ pub mod Tells
 pub mod Entries
 pub mod TokenEntries
 pub mod Around
+pub mod UnreadSdps
 pub mod Rests
 pub mod OfferSteps
 pub mod AnswerSteps
@@ -58,6 +59,15 @@ pub mod OrderlyRuns
 pub mod OrderlyNext
 pub mod OrderlySounds
 pub mod StanceRuns
+pub mod CarriedLines
+pub mod TakenLines
+pub mod RowLines
+pub mod PlainSdps
+pub mod AsReadSdps
+pub mod ReadPasts
+pub mod LegibleSdps
+pub mod FormedSteps
+mod ReadFacts
 pub mod Reaches
 pub mod CountedFaults
 pub mod StreamFaults

@@ -11,7 +11,10 @@ use Rattle.rtc_tables.specs.ParsedLines.{parsed_lines}
 use Rattle.rtc_tables.specs.Table.{IsTable, Distinct}
 use Rattle.rtc_change.specs.TableAfter.{table_after}
 use Rattle.rtc_peer_state.specs.Stance.{Stance}
-use Rattle.rtc_peer_state.specs.MadeSdp.{offer_sdp, answer_sdp, sdp_of_rows, offer_head, answer_head}
+use Rattle.rtc_media.specs.declared.media_update.MediaUpdate.{MediaUpdate}
+use Rattle.rtc_peer_state.specs.MadeSdp.{offer_sdp, answer_sdp, row_told, offer_head, offered_told, answer_head, answered_told}
+use Rattle.rtc_peer_state.proofs.ToldRows.{rows_of_offered, rows_of_answered}
+use Rattle.rtc_history.specs.Signalled.{Signalled, NotMade, Unreadable, Readable}
 use Rattle.rtc_history.specs.declared.side.Side.{Side}
 use Rattle.rtc_history.specs.declared.op.Op.{Op}
 use Rattle.rtc_history.specs.declared.op_answer.OpAnswer.{OpAnswer}
@@ -45,22 +48,30 @@ use Rattle.rtc_history.specs.Views.{Stances}
 offer_says : (p : Stance) (more : List LineRow) → Distinct (p.lines ++ more) → added_rows (length p.lines) p.staged ≡ more → parsed_lines (offer_sdp p) ≡ map row_said (p.lines ++ more)
 unfolding offer_sdp
 offer_says p more distinct adds =
-    ap (λ added. parsed_lines (sdp_of_rows (offer_head p) (p.lines ++ added))) adds ∙ sdp_says (offer_head p) (p.lines ++ more) distinct
+    let rows : map row_told (offered_told p) ≡ p.lines ++ more = rows_of_offered p ∙ ap (λ (added : List LineRow). p.lines ++ added) adds in
+    sdp_says (offer_head p) (offered_told p) (subst Distinct (sym rows) distinct) ∙ ap (map row_said) rows
 
 -- an offer fits together where one of its rows is live
 offer_fits : (p : Stance) (more : List LineRow) → Distinct (p.lines ++ more) → added_rows (length p.lines) p.staged ≡ more → are_live (p.lines ++ more) ≡ true → inconsistency (offer_sdp p) ≡ None
 unfolding offer_sdp
 offer_fits p more distinct adds live =
-    ap (λ added. inconsistency (sdp_of_rows (offer_head p) (p.lines ++ added))) adds ∙ sdp_fits (offer_head p) (p.lines ++ more) distinct live
+    let rows : map row_told (offered_told p) ≡ p.lines ++ more = rows_of_offered p ∙ ap (λ (added : List LineRow). p.lines ++ added) adds in
+    sdp_fits (offer_head p) (offered_told p) (subst Distinct (sym rows) distinct) (subst (λ (all : List LineRow). are_live all ≡ true) (sym rows) live)
 
-answer_fits : (p : Stance) (restart : Option (IceCreds × Bool)) (sdp : Sdp) (rows : List LineRow) → table_after p.lines (parsed_lines sdp) true ≡ rows → IsTable rows → are_live rows ≡ true → inconsistency (answer_sdp p restart sdp) ≡ None
+answer_fits : (p : Stance) (restart : Option (IceCreds × Bool)) (told : List MediaUpdate) (sdp : Sdp) (rows : List LineRow) → table_after p.lines (parsed_lines sdp) true ≡ rows → IsTable rows → are_live rows ≡ true
+    → inconsistency (answer_sdp p restart told sdp) ≡ None
 unfolding answer_sdp
-answer_fits p restart sdp rows is table live = rw is (sdp_fits (answer_head p restart sdp) rows table.distinct live)
+answer_fits p restart told sdp rows is table live =
+    let same : map row_told (answered_told p told sdp) ≡ rows = rows_of_answered p told sdp ∙ is in
+    sdp_fits (answer_head p restart sdp) (answered_told p told sdp) (subst Distinct (sym same) table.distinct) (subst (λ (all : List LineRow). are_live all ≡ true) (sym same) live)
 
 -- an answer says the rows that it leaves
-answer_says : (p : Stance) (restart : Option (IceCreds × Bool)) (sdp : Sdp) (rows : List LineRow) → table_after p.lines (parsed_lines sdp) true ≡ rows → IsTable rows → parsed_lines (answer_sdp p restart sdp) ≡ map row_said rows
+answer_says : (p : Stance) (restart : Option (IceCreds × Bool)) (told : List MediaUpdate) (sdp : Sdp) (rows : List LineRow) → table_after p.lines (parsed_lines sdp) true ≡ rows → IsTable rows
+    → parsed_lines (answer_sdp p restart told sdp) ≡ map row_said rows
 unfolding answer_sdp
-answer_says p restart sdp rows is table = rw is (sdp_says (answer_head p restart sdp) rows table.distinct)
+answer_says p restart told sdp rows is table =
+    let same : map row_told (answered_told p told sdp) ≡ rows = rows_of_answered p told sdp ∙ is in
+    sdp_says (answer_head p restart sdp) (answered_told p told sdp) (subst Distinct (sym same) table.distinct) ∙ ap (map row_said) same
 
 -- ---- each kind of step
 
@@ -99,18 +110,20 @@ negotiate_makes {E} fresh between at ops apply old new kept kept' (Negotiated an
     (offer_table (between at) past at ops answers table (behind kept kept') is sound.0).distinct
 negotiate_makes {E} fresh between at ops apply old new kept kept' outcome table past h is sound = absurd h
 
-offer_makes : {E : Type 0} → (at : Side) (k : ℕ) (offer : Option Sdp) (old new : Stance) (kept kept' : List Kept) (outcome : Outcome E) (table : Option Table)
+offer_makes : {E : Type 0} → (at : Side) (k : ℕ) (offer : Signalled) (old new : Stance) (kept kept' : List Kept) (outcome : Outcome E) (table : Option Table)
     → StanceStepAcceptsOffer at offer old kept outcome table new kept' → IsTable (rows_or true table (old.lines)) → MakesSdp (AcceptOffer at k) outcome table (behind kept kept')
-offer_makes at k None old new kept kept' Alloc None h is = none_behind kept kept' h.sdps_kept
-offer_makes at k (Some sdp) old new kept kept' Alloc None h is = none_behind kept kept' h.sdps_kept
-offer_makes at k None old new kept kept' NoSuch (Some table) h is = none_behind kept kept' h.0.sdps_kept
-offer_makes at k (Some sdp) old new kept kept' (Answered n) (Some table) h is = record {
+offer_makes at k NotMade old new kept kept' Alloc None h is = none_behind kept kept' h.sdps_kept
+offer_makes at k (Unreadable line) old new kept kept' Alloc None h is = none_behind kept kept' h.sdps_kept
+offer_makes at k (Readable sdp) old new kept kept' Alloc None h is = none_behind kept kept' h.sdps_kept
+offer_makes at k NotMade old new kept kept' NoSuch (Some table) h is = none_behind kept kept' h.0.sdps_kept
+offer_makes at k (Unreadable line) old new kept kept' (Refused error) (Some table) h is = none_behind kept kept' h.1.sdps_kept
+offer_makes at k (Readable sdp) old new kept kept' (Answered n) (Some table) h is = record {
   sdp = h.0;
   one = one_behind kept kept' (kept_answer at h.0) h.2;
-  says = ap (λ (a : Sdp). parsed_lines a) h.1.answered ∙ answer_says (lent old) h.1.restart sdp table.lines (sym (h.4.lines ∙ ap (λ p. p.lines) h.1.rest)) is;
-  fits = λ live. ap (λ (a : Sdp). inconsistency a) h.1.answered ∙ answer_fits (lent old) h.1.restart sdp table.lines (sym (h.4.lines ∙ ap (λ p. p.lines) h.1.rest)) is live;
+  says = ap (λ (a : Sdp). parsed_lines a) h.1.answered ∙ answer_says (lent old) h.1.restart h.1.told sdp table.lines (sym (h.4.lines ∙ ap (λ p. p.lines) h.1.rest)) is;
+  fits = λ live. ap (λ (a : Sdp). inconsistency a) h.1.answered ∙ answer_fits (lent old) h.1.restart h.1.told sdp table.lines (sym (h.4.lines ∙ ap (λ p. p.lines) h.1.rest)) is live;
 }
-offer_makes at k (Some sdp) old new kept kept' (Refused error) (Some table) h is = none_behind kept kept' h.1
+offer_makes at k (Readable sdp) old new kept kept' (Refused error) (Some table) h is = none_behind kept kept' h.1
 offer_makes at k offer old new kept kept' outcome table h is = absurd h
 
 length-spent : (t : ℕ) (kept : List Kept) → length (spent t kept) ≡ length kept
@@ -125,17 +138,21 @@ spent_behind t kept kept' same =
     let count : length kept' ≡ length kept = ap length same ∙ length-spent t kept in
     ap (map made_sdp) (drop_all (length kept) kept' (omega arith))
 
-answer_makes : {E : Type 0} → (at : Side) (t a : ℕ) (token : Option PendingOffer) (answer : Option Sdp) (old new : Stance) (kept kept' : List Kept) (outcome : Outcome E) (table : Option Table)
+answer_makes : {E : Type 0} → (at : Side) (t a : ℕ) (token : Option PendingOffer) (answer : Signalled) (old new : Stance) (kept kept' : List Kept) (outcome : Outcome E) (table : Option Table)
     → StanceStepAcceptsAnswer t token answer old kept outcome table new kept' → MakesSdp (AcceptAnswer at t a) outcome table (behind kept kept')
-answer_makes at t a None None old new kept kept' Alloc None h = none_behind kept kept' h.sdps_kept
-answer_makes at t a None (Some sdp) old new kept kept' Alloc None h = none_behind kept kept' h.sdps_kept
-answer_makes at t a (Some token) None old new kept kept' Alloc None h = none_behind kept kept' h.sdps_kept
-answer_makes at t a (Some token) (Some sdp) old new kept kept' Alloc None h = none_behind kept kept' h.sdps_kept
-answer_makes at t a None None old new kept kept' NoSuch (Some table) h = none_behind kept kept' h.0.sdps_kept
-answer_makes at t a None (Some sdp) old new kept kept' NoSuch (Some table) h = none_behind kept kept' h.0.sdps_kept
-answer_makes at t a (Some token) None old new kept kept' NoSuch (Some table) h = none_behind kept kept' h.0.sdps_kept
-answer_makes at t a (Some token) (Some sdp) old new kept kept' Finished (Some table) h = spent_behind t kept kept' h.1
-answer_makes at t a (Some token) (Some sdp) old new kept kept' (Refused error) (Some table) h = spent_behind t kept kept' h.1
+answer_makes at t a None NotMade old new kept kept' Alloc None h = none_behind kept kept' h.sdps_kept
+answer_makes at t a None (Unreadable line) old new kept kept' Alloc None h = none_behind kept kept' h.sdps_kept
+answer_makes at t a None (Readable sdp) old new kept kept' Alloc None h = none_behind kept kept' h.sdps_kept
+answer_makes at t a (Some token) NotMade old new kept kept' Alloc None h = none_behind kept kept' h.sdps_kept
+answer_makes at t a (Some token) (Unreadable line) old new kept kept' Alloc None h = none_behind kept kept' h.sdps_kept
+answer_makes at t a (Some token) (Readable sdp) old new kept kept' Alloc None h = none_behind kept kept' h.sdps_kept
+answer_makes at t a None NotMade old new kept kept' NoSuch (Some table) h = none_behind kept kept' h.0.sdps_kept
+answer_makes at t a None (Unreadable line) old new kept kept' NoSuch (Some table) h = none_behind kept kept' h.0.sdps_kept
+answer_makes at t a None (Readable sdp) old new kept kept' NoSuch (Some table) h = none_behind kept kept' h.0.sdps_kept
+answer_makes at t a (Some token) NotMade old new kept kept' NoSuch (Some table) h = none_behind kept kept' h.0.sdps_kept
+answer_makes at t a (Some token) (Unreadable line) old new kept kept' (Refused error) (Some table) h = none_behind kept kept' h.1.sdps_kept
+answer_makes at t a (Some token) (Readable sdp) old new kept kept' Finished (Some table) h = spent_behind t kept kept' h.1
+answer_makes at t a (Some token) (Readable sdp) old new kept kept' (Refused error) (Some table) h = spent_behind t kept kept' h.1
 answer_makes at t a token answer old new kept kept' outcome table h = absurd h
 
 -- A step that is performed makes the SDP that says the rows of its side.

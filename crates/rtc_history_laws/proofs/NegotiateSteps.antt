@@ -1,18 +1,15 @@
 -- A step that negotiates is sound, and its entry says what it leaves.
 use Rattle.rtc_history.specs.Views.{Stances}
 use Rattle.std.specs.Prelude.{is_some}
-use Rattle.std.proofs.Common.{◌≡◌, ◌≤◌, ◌<◌, ◌+◌, ◌^◌, ◌==◌, ℕ, List, [], ◌∷◌, ◌++◌, map, length, Bool, true, false, not, ◌&&◌, cond, Option, Some, None, refl, sym, ◌∙◌, ap, subst, arith, length-append, append-nil}
+use Rattle.std.proofs.Common.{◌≡◌, ◌≤◌, ◌<◌, ◌+◌, ◌^◌, ◌==◌, ℕ, List, [], ◌∷◌, ◌++◌, map, length, Bool, true, false, not, ◌&&◌, cond, Option, Some, None, refl, sym, ◌∙◌, ap, subst, arith, append-nil}
 use Rattle.std.proofs.lemmas.Bool.{and_left, and_right, or_parts}
-use Rattle.std.proofs.lemmas.List.{length-map}
 use Rattle.rtc_sdp_values.specs.declared.line_row.LineRow.{LineRow}
 use Rattle.rtc_sdp_values.specs.LineRow.{row_mid}
 use Rattle.rtc_change.specs.declared.change.Change.{Change}
-use Rattle.rtc_change.specs.PendingOffer.{added_mids, added_rows, do_offer, staged_restart}
+use Rattle.rtc_change.specs.PendingOffer.{added_rows, do_offer, staged_restart}
 use Rattle.rtc_tables.specs.Table.{IsTable, has_mid}
-use Rattle.rtc_change.proofs.AddedLemmas.{length-added_rows}
 use Rattle.rtc_peer_state.specs.Stance.{Stance}
 use Rattle.rtc_peer_state.specs.Calls.{raised, fitting_channels}
-use Rattle.rtc_peer_state.specs.MadeSdp.{offer_sdp, offered_rows, row_line, offer_head}
 use Rattle.rtc_history.specs.declared.side.Side.{Side}
 use Rattle.rtc_history.specs.declared.op.Op.{Op}
 use Rattle.rtc_history.specs.declared.op_answer.OpAnswer.{OpAnswer}
@@ -32,7 +29,6 @@ use Rattle.rtc_history.specs.Performs.{kept_offer}
 use Rattle.rtc_channels.specs.Channels.{Channels}
 use Rattle.rtc_history_laws.proofs.AddedRows.{among_mids}
 use Rattle.rtc_history_laws.proofs.NumberedChannels.{AreNumbered, same_numbers, numbered_on, all_confirmed_numbered}
-use Rattle.rtc_history_laws.proofs.SaidSdps.{length-with}
 use Rattle.rtc_history_laws.proofs.OfferApps.{behind, app_is_told}
 use Rattle.rtc_history_laws.proofs.AnsweredOps.{midway, ops_answered}
 use Rattle.rtc_history_laws.proofs.StagedChanges.{are_some}
@@ -126,12 +122,6 @@ negotiate_reply fresh between past at ops apply old new kept kept' (Negotiated a
     )
 negotiate_reply fresh between past at ops apply old new kept kept' outcome table is rows tell table_before next h = absurd h
 
-length-offer : (p : Stance) → length (offer_sdp p).lines ≡ length p.lines + length (added_mids p.staged)
-unfolding offer_sdp
-length-offer p =
-    length-with (offer_head p).candidates (map (row_line (offer_head p)) (offered_rows p)) ∙ length-map (offered_rows p) (row_line (offer_head p)) ∙ length-append p.lines (added_rows (length p.lines) p.staged)
-    ∙ ap (λ n. length p.lines + n) (length-added_rows (length p.lines) p.staged)
-
 -- ---- what the entry leaves
 
 -- what a past says of channels after ops
@@ -150,7 +140,7 @@ unoffered_tells : {E : Type 0} → (moved : Bool) (past : List (Entry E)) (at : 
     → LeavesChannels p (new.sides at) → new.sdps ≡ old.sdps → Stages (lent (old.sides at)) ops answers p → StanceShows table (new.sides at)
     → Around (Negotiate at ops apply) made old new → Tells past old → Tells (entry (Negotiate at ops apply) (Negotiated answers what) (Some table) made ∷ past) new
 unoffered_tells moved past at ops apply answers what table made p old new applied unnumbered lines counter leaves kept staged shows around tells =
-    quiet_tells moved past (Negotiate at ops apply) (Negotiated answers what) (Some table) made old new (ap length lines ∙ staged.rows) kept (sym shows.lines)
+    quiet_tells moved past (Negotiate at ops apply) (Negotiated answers what) (Some table) made old new kept (sym shows.lines)
     (ops_next past at ops apply answers what table made (old.sides at) p (new.sides at) staged leaves shows (tells.sides at).channels) counter
     (here_is at (is_applied answers what) moved applied) (and_left (same_side at (other_side at)) (is_applied answers what) (same_side-other at)) (λ t. refl) unnumbered around tells
 
@@ -178,12 +168,6 @@ applied_tells past at ops apply true answers MadeAlloc table made p old new stag
     (made_channels true at p (new.sides at) old.sdps new.sdps MadeAlloc h) h.1 staged shows around tells
 applied_tells past at ops apply true answers (Offer k) table made p old new staged h shows made_is around tells =
     let small : old.size < 2 ^ 32 = omega (arith, around.size, around.small) in
-    let few : length (old.sides at).lines ≤ old.size = (tells.sides at).few in
-    let count : length (added_mids p.staged) ≤ 0 + length ops = staged.count in
-    let lines : length p.lines ≡ length (old.sides at).lines = staged.rows in
-    let new_lines : length (new.sides at).lines ≡ length p.lines = ap (λ r. length r.lines) h.1.3 in
-    let said : length h.0.0.lines ≡ length p.lines + length (added_mids p.staged) = ap (λ o. length o.lines) h.1.1 ∙ length-offer p in
-    let changes : length (added_mids h.0.1.changes) ≡ length (added_mids p.staged) = ap (λ token. length (added_mids token.changes)) h.1.2 in
     let left : table.lines ≡ p.lines = shows.lines ∙ ap (λ r. r.lines) h.1.3 in
     let app_told = app_is_told true at (lent (old.sides at)) p (new.sides at) old.sdps new.sdps (Offer k) table.lines h left staged.app refl in
     let app : Option (List ℕ) = new_app table.lines (behind old.sdps new.sdps) in
@@ -193,11 +177,11 @@ applied_tells past at ops apply true answers (Offer k) table made p old new stag
     (goes_on true past (Negotiate at ops apply) (Negotiated answers (Offer k)) (Some table) made old new (sym shows.lines)
     (ops_next past at ops apply answers (Offer k) table made (old.sides at) p (new.sides at) staged (made_channels true at p (new.sides at) old.sdps new.sdps (Offer k) h) shows (tells.sides at).channels)
     (ap (λ r. r.counter) h.1.3 ∙ ap raised staged.counter ∙ raised-small (old.sides at).counter old.size (tells.sides at).counts small)
-    (ap (λ b. b && true) (same_side-self at)) (and_left (same_side at (other_side at)) true (same_side-other at)) (omega (arith, few, lines, new_lines, around.size)) around)
+    (ap (λ b. b && true) (same_side-self at)) (and_left (same_side at (other_side at)) true (same_side-other at)) around)
     refl refl refl (ap (λ token. token.id) h.1.2 ∙ staged.counter)
     (λ place. ap (λ said. added (new_app table.lines said) place ops answers) made_is ∙ sym (ap (λ token. added_rows place token.changes) h.1.2 ∙ adds place))
     (sym (ap (λ token. is_some (staged_restart token.changes)) h.1.2 ∙ staged.restarts))
-    (omega (arith, few, lines, said, count, around.size)) (omega (arith, few, lines, new_lines, changes, count, around.size)) h.2 (λ t. refl) (λ t. ap (λ n. n == t) h.3) tells
+    h.2 (λ t. refl) (λ t. ap (λ n. n == t) h.3) tells
 applied_tells past at ops apply asked answers what table made p old new staged h shows made_is around tells = absurd h
 
 -- A step that negotiates.
@@ -205,7 +189,7 @@ pub negotiate_tells : {E : Type 0} → (past : List (Entry E)) (at : Side) (ops 
     → StanceNegotiates at ops apply (old.sides at) old.sdps outcome table (new.sides at) new.sdps
     → Around (Negotiate at ops apply) made old new → Tells past old → Tells (entry (Negotiate at ops apply) outcome table made ∷ past) new
 negotiate_tells past at ops apply old new Alloc None made h around tells =
-    quiet_tells false past (Negotiate at ops apply) Alloc None made old new (ap (λ p. length p.lines) h.peer) h.sdps_kept (ap (λ p. p.lines) h.peer ∙ (tells.sides at).rows)
+    quiet_tells false past (Negotiate at ops apply) Alloc None made old new h.sdps_kept (ap (λ p. p.lines) h.peer ∙ (tells.sides at).rows)
     (channels_next past (Negotiate at ops apply) Alloc None made (old.sides at) (new.sides at) (same_numbers (old.sides at).channels (new.sides at).channels (ap (λ p. p.channels) h.peer))
     (sym (tells.sides at).channels.shown ∙ ap (λ p. p.rows) (sym h.peer)) (tells.sides at).channels)
     (ap (λ p. p.counter) h.peer) (and_right (same_side at at) false refl) (and_right (same_side at (other_side at)) false refl) (λ t. refl) (λ t. refl) around tells

@@ -10,7 +10,9 @@ use Rattle.rtc_change.specs.PendingOffer.{added_rows}
 use Rattle.rtc_tables.specs.ParsedLines.{parsed_line, parsed_lines}
 use Rattle.rtc_peer_state.specs.declared.sdp_head.SdpHead.{SdpHead}
 use Rattle.rtc_peer_state.specs.Stance.{Stance}
-use Rattle.rtc_peer_state.specs.MadeSdp.{row_line, live_mids, offer_sdp, offer_head, offered_rows}
+use Rattle.rtc_peer_state.specs.declared.told_row.ToldRow.{ToldRow}
+use Rattle.rtc_peer_state.specs.MadeSdp.{row_line, told_line, row_told, live_mids, offer_sdp, offer_head, offered_told}
+use Rattle.rtc_peer_state.proofs.ToldRows.{rows_of_offered}
 use Rattle.rtc_history.specs.declared.side.Side.{Side}
 use Rattle.rtc_history.specs.declared.made.Made.{Made}
 use Rattle.rtc_history.specs.declared.made.Made.TheVariants.{NotAsked, Nothing, Offer, Alloc as MadeAlloc}
@@ -41,11 +43,16 @@ app_row_mid [] = []
 app_row_mid (Media place mid kind dir stopped remote_created ∷ rows) = app_row_mid rows
 app_row_mid (App place mid ∷ rows) = mid
 
-lines_mid : (head : SdpHead) (groups : List (List (List ℕ))) (rows : List LineRow) → app_line_mid (map (parsed_line groups) (map (row_line head) rows)) ≡ app_row_mid rows
+lines_mid : (head : SdpHead) (groups : List (List (List ℕ))) (told : List ToldRow)
+    → app_line_mid (map (parsed_line groups) (map (told_line head) told)) ≡ app_row_mid (map row_told told)
 lines_mid head groups [] = refl
-lines_mid head groups (Media place mid Audio dir stopped remote_created ∷ rows) = lines_mid head groups rows
-lines_mid head groups (Media place mid Video dir stopped remote_created ∷ rows) = lines_mid head groups rows
-lines_mid head groups (App place mid ∷ rows) = refl
+lines_mid head groups (one ∷ told) = by one.row (lines_mid head groups told)
+  where
+    by : (row : LineRow) → app_line_mid (map (parsed_line groups) (map (told_line head) told)) ≡ app_row_mid (map row_told told)
+        → app_line_mid (parsed_line groups (row_line head one.media row) ∷ map (parsed_line groups) (map (told_line head) told)) ≡ app_row_mid (row ∷ map row_told told)
+    by (Media place mid Audio dir stopped remote_created) rest = rest
+    by (Media place mid Video dir stopped remote_created) rest = rest
+    by (App place mid) rest = refl
 
 mid_behind : (rows more : List LineRow) → has_app_row rows ≡ false → app_row_mid (rows ++ more) ≡ app_row_mid more
 mid_behind [] more none = refl
@@ -64,8 +71,8 @@ staged_mid_is place (Restarting creds keeps ∷ staged) own is = staged_mid_is p
 offer_mid : (p : Stance) (own : List ℕ) → has_app_row p.lines ≡ false → staged_app p.staged ≡ Some own → app_line_mid (parsed_lines (offer_sdp p)) ≡ own
 unfolding offer_sdp
 offer_mid p own none is =
-    ap app_line_mid (parsed_with (live_mids (offered_rows p) ∷ []) (offer_head p).candidates (map (row_line (offer_head p)) (offered_rows p)))
-    ∙ lines_mid (offer_head p) (live_mids (p.lines ++ added_rows (length p.lines) p.staged) ∷ []) (p.lines ++ added_rows (length p.lines) p.staged) ∙ mid_behind p.lines (added_rows (length p.lines) p.staged) none ∙ staged_mid_is (length p.lines) p.staged own is
+    ap app_line_mid (parsed_with (live_mids (map row_told (offered_told p)) ∷ []) (offer_head p).candidates (map (told_line (offer_head p)) (offered_told p)))
+    ∙ lines_mid (offer_head p) (live_mids (map row_told (offered_told p)) ∷ []) (offered_told p) ∙ ap app_row_mid (rows_of_offered p) ∙ mid_behind p.lines (added_rows (length p.lines) p.staged) none ∙ staged_mid_is (length p.lines) p.staged own is
 
 -- ---- what the SDP of a step tells of the line that it stages
 

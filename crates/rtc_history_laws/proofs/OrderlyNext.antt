@@ -8,6 +8,7 @@ use Rattle.rtc_tables.specs.ParsedLines.{parsed_line, parsed_lines}
 use Rattle.rtc_change.specs.PendingOffer.{PendingOffer}
 use Rattle.rtc_peer_state.specs.Stance.{Stance}
 use Rattle.rtc_peer_state.proofs.StanceCalls.{StanceApplies, StandsOffer, StandsAnswer}
+use Rattle.rtc_history.specs.Signalled.{Signalled, NotMade, Unreadable, Readable}
 use Rattle.rtc_history.specs.declared.side.Side.{Side}
 use Rattle.rtc_history.specs.declared.side.Side.TheVariants.{Left, Right}
 use Rattle.rtc_history.specs.declared.kept.Kept.{Kept}
@@ -28,6 +29,9 @@ use Rattle.rtc_history.specs.Orderly.{Phase, Idle, AwaitsAnswer, AwaitsEnd, Cour
 use Rattle.rtc_history.specs.Performs.{kept_offer, kept_answer}
 use Rattle.rtc_history.specs.PairState.{made_sdp, kept_remote_sdp, held_token}
 use Rattle.rtc_history.proofs.BothSides.{both_sides}
+use Rattle.rtc_sdp_writer.specs.AsRead.{as_read}
+use Rattle.rtc_history.specs.Signalled.{ReadsBack}
+use Rattle.rtc_history.specs.SoundEntry.{AreReadBack}
 use Rattle.rtc_history_laws.proofs.StanceSteps.{PairStance, StanceMakesOf, StanceNegotiates, StanceStepAcceptsOffer, StanceStepAcceptsAnswer, StancePerforms, lent}
 use Rattle.rtc_history_laws.proofs.Tells.{Tells}
 use Rattle.rtc_history_laws.proofs.Entries.{said_at}
@@ -41,7 +45,7 @@ use Rattle.rtc_history_laws.proofs.SideRounds.{InRound, IsOfferOut, IsAnswerOut,
 use Rattle.rtc_history_laws.proofs.SideRoundSteps.{other_twice, offered_round, accepted_round, ended_round}
 use Rattle.rtc_history_laws.proofs.PastOffers.{next_there}
 use Rattle.rtc_history.specs.Views.{Stances}
-use Rattle.rtc_history_laws.proofs.OrderlyRuns.{IsOnCourse, delivered_at, token_held}
+use Rattle.rtc_history_laws.proofs.OrderlyRuns.{IsOnCourse, delivered_at, kept_read, token_held}
 
 -- ---- what a course says of the pair
 
@@ -149,38 +153,41 @@ ops_next {E} past e old new at ops apply outcome table course course' tells tell
 -- ---- an offer is accepted
 
 -- what an offer that is answered leaves
-pub record IsAnsweredBy (s : Stance) (sdps' sdps : List Kept) (at : Side) (offer : Option Sdp) (t : Stance) : Type 0 where
+pub record IsAnsweredBy (s : Stance) (sdps' sdps : List Kept) (at : Side) (offer : Signalled) (t : Stance) : Type 0 where
   pub sdp : Sdp
   pub answer : Sdp
-  pub is : offer ≡ Some sdp
+  pub is : offer ≡ Readable sdp
   pub stands : StandsOffer (lent s) sdp answer t
   pub pushed : sdps' ≡ sdps ++ kept_answer at answer ∷ []
 
-answered_by : {E : Type 0} → (at : Side) (offer : Option Sdp) (s t : Stance) (kept kept' : List Kept) (outcome : Outcome E) (table : Option Table) → StanceStepAcceptsOffer at offer s kept outcome table t kept' → is_ok outcome ≡ true → IsAnsweredBy s kept' kept at offer t
-answered_by at None s t kept kept' Alloc None h ok = absurd (cc)
-answered_by at (Some sdp) s t kept kept' Alloc None h ok = absurd (cc)
-answered_by at None s t kept kept' NoSuch (Some table) h ok = absurd (cc)
-answered_by at (Some sdp) s t kept kept' (Answered k) (Some table) h ok = record { sdp = sdp; answer = h.0; is = refl; stands = h.1; pushed = h.2 }
-answered_by at (Some sdp) s t kept kept' (Refused error) (Some table) h ok = absurd (cc)
+answered_by : {E : Type 0} → (at : Side) (offer : Signalled) (s t : Stance) (kept kept' : List Kept) (outcome : Outcome E) (table : Option Table) → StanceStepAcceptsOffer at offer s kept outcome table t kept' → is_ok outcome ≡ true → IsAnsweredBy s kept' kept at offer t
+answered_by at NotMade s t kept kept' Alloc None h ok = absurd (cc)
+answered_by at (Unreadable line) s t kept kept' Alloc None h ok = absurd (cc)
+answered_by at (Readable sdp) s t kept kept' Alloc None h ok = absurd (cc)
+answered_by at NotMade s t kept kept' NoSuch (Some table) h ok = absurd (cc)
+answered_by at (Unreadable line) s t kept kept' (Refused error) (Some table) h ok = absurd (cc)
+answered_by at (Readable sdp) s t kept kept' (Answered k) (Some table) h ok = record { sdp = sdp; answer = h.0; is = refl; stands = h.1; pushed = h.2 }
+answered_by at (Readable sdp) s t kept kept' (Refused error) (Some table) h ok = absurd (cc)
 answered_by at offer s t kept kept' outcome table h ok = absurd h
 
 answer_in_phase : {E : Type 0} → (past : List (Entry E)) (at side : Side) (k : ℕ) (course : Course) (rows : List LineRow) → InCourse (moved_on at course rows (course.sdps + 1) (AwaitsEnd side k course.sdps rows)) past → IsAnswered side k course.sdps rows past
 answer_in_phase past at side k course rows on = subst (λ (phase : Phase). InPhase phase past) (moved_phase at course rows (course.sdps + 1) (AwaitsEnd side k course.sdps rows)) on.phase
 
-accept_next : {E : Type 0} → (past : List (Entry E)) (e : Entry E) (old new : PairStance) (side : Side) (k : ℕ) (outcome : Outcome E) (table : Option Table) (course : Course) (rows : List LineRow) → Tells past old → Tells (e ∷ past) new → InCourse course past → IsOfferOut side k old
+accept_next : {E : Type 0} → (past : List (Entry E)) (e : Entry E) (old new : PairStance) (side : Side) (k : ℕ) (outcome : Outcome E) (table : Option Table) (course : Course) (rows : List LineRow) → Tells past old → AreReadBack (sdps past) → Tells (e ∷ past) new → InCourse course past → IsOfferOut side k old
     → StanceStepAcceptsOffer (other_side side) (kept_remote_sdp true old.sdps (other_side side) k) (old.sides (other_side side)) old.sdps outcome table (new.sides (other_side side)) new.sdps → new.sides side ≡ old.sides side → is_ok outcome ≡ true
     → InCourse (moved_on (other_side side) course rows (course.sdps + 1) (AwaitsEnd side k course.sdps rows)) (e ∷ past)
     → InRound (moved_on (other_side side) course rows (course.sdps + 1) (AwaitsEnd side k course.sdps rows)).phase new
-accept_next past e old new side k outcome table course rows tells tells' on out h other ok next =
+accept_next past e old new side k outcome table course rows tells read tells' on out h other ok next =
     let it = answered_by (other_side side) _ (old.sides (other_side side)) (new.sides (other_side side)) old.sdps new.sdps outcome table h ok in
-    let same : out.offer.kept.sdp ≡ it.sdp = delivered_at old true (other_side side) k out.offer.kept it.sdp out.offer.there it.is in
+    let reads : ReadsBack out.offer.kept.sdp = kept_read past old k out.offer.kept tells read out.offer.there in
+    let same : as_read out.offer.kept.sdp ≡ it.sdp = delivered_at old true (other_side side) k out.offer.kept it.sdp reads out.offer.there it.is in
     let count : course.sdps ≡ length old.sdps = sym (count_is past old course tells on) in
     let outstanding : IsAnswered side k course.sdps rows (e ∷ past) = answer_in_phase (e ∷ past) (other_side side) side k course rows next in
     let there : slice_get new.sdps course.sdps ≡ Some (kept_answer (other_side side) it.answer) =
     ap (λ list. slice_get list course.sdps) it.pushed ∙ next_there old.sdps (kept_answer (other_side side) it.answer) course.sdps count in
     let text : outstanding.answer.sdp ≡ it.answer = same_made (e ∷ past) new course.sdps (kept_answer (other_side side) it.answer) _ tells' there outstanding.answered.there in
     let lines : length it.answer.lines ≢ 0 = subst (λ (sdp : Sdp). length sdp.lines ≢ 0) text (some_lines outstanding.answer.sdp outstanding.answer.rows outstanding.answer.says outstanding.answer.live) in
-    let stands : StandsOffer (lent (old.sides (other_side side))) out.offer.kept.sdp it.answer (new.sides (other_side side)) =
+    let stands : StandsOffer (lent (old.sides (other_side side))) (as_read out.offer.kept.sdp) it.answer (new.sides (other_side side)) =
     subst (λ (sdp : Sdp). StandsOffer (lent (old.sides (other_side side))) sdp it.answer (new.sides (other_side side))) (sym same) it.stands in
     subst (λ (phase : Phase). InRound phase new) (sym (moved_phase (other_side side) course rows (course.sdps + 1) (AwaitsEnd side k course.sdps rows)))
     (accepted_round old new side k course.sdps it.answer out stands other it.pushed count lines)
@@ -188,31 +195,36 @@ accept_next past e old new side k outcome table course rows tells tells' on out 
 -- ---- an answer is accepted
 
 -- what an answer that is accepted leaves
-pub record EndsBy (s : Stance) (token : Option PendingOffer) (answer : Option Sdp) (t : Stance) : Type 0 where
+pub record EndsBy (s : Stance) (token : Option PendingOffer) (answer : Signalled) (t : Stance) : Type 0 where
   pub its : PendingOffer
   pub sdp : Sdp
   pub token_is : token ≡ Some its
-  pub is : answer ≡ Some sdp
+  pub is : answer ≡ Readable sdp
   pub stands : StandsAnswer (lent s) its sdp t
 
-ends_by : {E : Type 0} → (k : ℕ) (token : Option PendingOffer) (answer : Option Sdp) (s t : Stance) (kept kept' : List Kept) (outcome : Outcome E) (table : Option Table) → StanceStepAcceptsAnswer k token answer s kept outcome table t kept' → is_ok outcome ≡ true → EndsBy s token answer t
-ends_by k None None s t kept kept' Alloc None h ok = absurd (cc)
-ends_by k None (Some sdp) s t kept kept' Alloc None h ok = absurd (cc)
-ends_by k (Some token) None s t kept kept' Alloc None h ok = absurd (cc)
-ends_by k (Some token) (Some sdp) s t kept kept' Alloc None h ok = absurd (cc)
-ends_by k None None s t kept kept' NoSuch (Some table) h ok = absurd (cc)
-ends_by k None (Some sdp) s t kept kept' NoSuch (Some table) h ok = absurd (cc)
-ends_by k (Some token) None s t kept kept' NoSuch (Some table) h ok = absurd (cc)
-ends_by k (Some token) (Some sdp) s t kept kept' Finished (Some table) h ok = record { its = token; sdp = sdp; token_is = refl; is = refl; stands = h.0 }
-ends_by k (Some token) (Some sdp) s t kept kept' (Refused error) (Some table) h ok = absurd (cc)
+ends_by : {E : Type 0} → (k : ℕ) (token : Option PendingOffer) (answer : Signalled) (s t : Stance) (kept kept' : List Kept) (outcome : Outcome E) (table : Option Table) → StanceStepAcceptsAnswer k token answer s kept outcome table t kept' → is_ok outcome ≡ true → EndsBy s token answer t
+ends_by k None NotMade s t kept kept' Alloc None h ok = absurd (cc)
+ends_by k None (Unreadable line) s t kept kept' Alloc None h ok = absurd (cc)
+ends_by k None (Readable sdp) s t kept kept' Alloc None h ok = absurd (cc)
+ends_by k (Some token) NotMade s t kept kept' Alloc None h ok = absurd (cc)
+ends_by k (Some token) (Unreadable line) s t kept kept' Alloc None h ok = absurd (cc)
+ends_by k (Some token) (Readable sdp) s t kept kept' Alloc None h ok = absurd (cc)
+ends_by k None NotMade s t kept kept' NoSuch (Some table) h ok = absurd (cc)
+ends_by k None (Unreadable line) s t kept kept' NoSuch (Some table) h ok = absurd (cc)
+ends_by k None (Readable sdp) s t kept kept' NoSuch (Some table) h ok = absurd (cc)
+ends_by k (Some token) NotMade s t kept kept' NoSuch (Some table) h ok = absurd (cc)
+ends_by k (Some token) (Unreadable line) s t kept kept' (Refused error) (Some table) h ok = absurd (cc)
+ends_by k (Some token) (Readable sdp) s t kept kept' Finished (Some table) h ok = record { its = token; sdp = sdp; token_is = refl; is = refl; stands = h.0 }
+ends_by k (Some token) (Readable sdp) s t kept kept' (Refused error) (Some table) h ok = absurd (cc)
 ends_by k token answer s t kept kept' outcome table h ok = absurd h
 
-end_next : {E : Type 0} → (old new : PairStance) (at : Side) (t a : ℕ) (outcome : Outcome E) (table : Option Table) → IsAnswerOut at t a old
+end_next : {E : Type 0} → (past : List (Entry E)) (old new : PairStance) (at : Side) (t a : ℕ) (outcome : Outcome E) (table : Option Table) → Tells past old → AreReadBack (sdps past) → IsAnswerOut at t a old
     → StanceStepAcceptsAnswer t (held_token old.sdps at t) (kept_remote_sdp false old.sdps at a) (old.sides at) old.sdps outcome table (new.sides at) new.sdps → new.sides (other_side at) ≡ old.sides (other_side at) → is_ok outcome ≡ true
     → InRound Idle new
-end_next old new at t a outcome table out h other ok =
+end_next past old new at t a outcome table tells read out h other ok =
     let it = ends_by t _ _ (old.sides at) (new.sides at) old.sdps new.sdps outcome table h ok in
-    let same : out.answer.sdp ≡ it.sdp = delivered_at old false at a out.answer it.sdp out.there it.is in
+    let reads : ReadsBack out.answer.sdp = kept_read past old a out.answer tells read out.there in
+    let same : as_read out.answer.sdp ≡ it.sdp = delivered_at old false at a out.answer it.sdp reads out.there it.is in
     let both : Some out.offer.token ≡ Some it.its = sym (token_held at t old out.offer) ∙ it.token_is in
     let token : out.offer.token ≡ it.its = cc in
     ended_round old new at t a out
@@ -249,7 +261,7 @@ round_next {E} fresh past old new (AcceptOffer at k) outcome table made course c
     subst (λ (c : Course). InCourse c (e ∷ past) → InRound c.phase new) it.course_is
     (subst (λ (one : Side). StanceStepAcceptsOffer one (kept_remote_sdp true old.sdps one k) (old.sides one) old.sdps outcome table (new.sides one) new.sdps → new.sides (other_side one) ≡ old.sides (other_side one)
     → InCourse (moved_on one course (rows one) (course.sdps + 1) (AwaitsEnd it.side k course.sdps (rows one))) (e ∷ past) → InRound (moved_on one course (rows one) (course.sdps + 1) (AwaitsEnd it.side k course.sdps (rows one))).phase new) it.at_is
-    (λ acts other next. accept_next past e old new it.side k outcome table course (rows (other_side it.side)) on.tells tells' on.course_is out acts
+    (λ acts other next. accept_next past e old new it.side k outcome table course (rows (other_side it.side)) on.tells on.read tells' on.course_is out acts
     (subst (λ (one : Side). new.sides one ≡ old.sides one) (other_twice it.side) other) (enough_ok outcome (either refl) enough) next)
     performs.acts performs.other) next
 round_next fresh past old new (AcceptAnswer at t a) outcome table made course course' on tells' performs after either enough next =
@@ -257,7 +269,7 @@ round_next fresh past old new (AcceptAnswer at t a) outcome table made course co
     let out : IsAnswerOut at t a old = subst (λ (phase : Phase). InRound phase old) it.phase_is on.round in
     subst (λ (c : Course). InRound c.phase new) it.course_is
     (subst (λ (phase : Phase). InRound phase new) (sym (moved_phase at course (course_rows_after false 0 (course_rows at course) it.said) course.sdps Idle))
-    (end_next old new at t a outcome table out performs.acts performs.other (enough_ok outcome (either refl) enough)))
+    (end_next past old new at t a outcome table on.tells on.read out performs.acts performs.other (enough_ok outcome (either refl) enough)))
 round_next fresh past old new (Time at now) outcome table made course course' on tells' performs after either enough next =
     rest_round old new at course course' after (ap (λ (s : Stance). s.ice) performs.acts.peer) performs.other performs.acts.sdps_kept on.round
 round_next fresh past old new (Datagram at packet now) outcome table made course course' on tells' performs after either enough next =

@@ -9,12 +9,13 @@ use Rattle.rtc_history.specs.declared.step.Step.TheVariants.{Negotiate, AcceptOf
 use Rattle.rtc_history.specs.declared.outcome.Outcome.{Outcome}
 use Rattle.rtc_history.specs.declared.table.Table.{Table}
 use Rattle.rtc_history.specs.Sides.{side_of}
-use Rattle.rtc_history.specs.Past.{Entry, MadeSdp, before, numbers_in}
+use Rattle.rtc_history.specs.Past.{Entry, MadeSdp, before, numbers_in, sdps}
 use Rattle.rtc_history.specs.Sound.{IsSound}
 use Rattle.rtc_history.specs.Finished.{AreSameLine, Equal}
 use Rattle.rtc_history.specs.SaidRows.{MakesSdp}
 use Rattle.rtc_history.specs.CourseRows.{course_rows_after}
 use Rattle.rtc_history.specs.Orderly.{Phase, Idle, AwaitsAnswer, AwaitsEnd, Course, course_rows, moved_on, after_step, follow, course_of, IsIdle, AreInStep, AreCurrent, negotiates}
+use Rattle.rtc_history.specs.SoundEntry.{AreReadBack}
 use Rattle.rtc_history_laws.proofs.SoundPasts.{Sound}
 use Rattle.rtc_history_laws.proofs.Around.{entry}
 use Rattle.rtc_history_laws.proofs.RowNames.{SameName, Aligned, app_mid-aligned}
@@ -27,38 +28,38 @@ use Rattle.rtc_history_laws.proofs.OrderlyOps.{negotiated_goes_on}
 use Rattle.rtc_history.specs.Views.{Stances}
 
 -- A step in order gives its Ok or tells a want of memory, and where none is told, the course goes on.
-pub step_goes_on : {E : Type 0} → (fresh between : Stances) (past : List (Entry E)) (step : Step) (outcome : Outcome E) (table : Option Table) (made : List MadeSdp) (course course' : Course) → Sound fresh past → InCourse course past → SidePasses fresh between past step
+pub step_goes_on : {E : Type 0} → (fresh between : Stances) (past : List (Entry E)) (step : Step) (outcome : Outcome E) (table : Option Table) (made : List MadeSdp) (course course' : Course) → AreReadBack (sdps past) → Sound fresh past → InCourse course past → SidePasses fresh between past step
     → (between (side_of step)).channels.given + length (numbers_in outcome) < 2 ^ 64 - 1 → IsSound fresh past between step outcome table made → MakesSdp step outcome table made → after_step course step ≡ Some course' → GoesOn (negotiates step) outcome course' (entry step outcome table made ∷ past)
-step_goes_on fresh between past (Negotiate at ops apply) outcome table made course course' sound is side few replied says after = record {
+step_goes_on fresh between past (Negotiate at ops apply) outcome table made course course' read sound is side few replied says after = record {
   ok = λ negotiating. negotiated_ok fresh between past at ops apply outcome table made course course' _ few after replied;
   next = λ enough. negotiated_goes_on fresh between past at ops apply outcome table made course course' sound is few replied says after enough;
 }
-step_goes_on fresh between past (AcceptOffer at k) outcome table made course course' sound is side few replied says after =
+step_goes_on fresh between past (AcceptOffer at k) outcome table made course course' read sound is side few replied says after =
     let it = accept_course at k course course.phase course' after in
     let out : IsOffered it.side k it.said past = subst (λ (phase : Phase). InPhase phase past) it.phase_is is.phase in
     subst (λ (c : Course). GoesOn true outcome c (entry (AcceptOffer at k) outcome table made ∷ past)) it.course_is
     (subst (λ (one : Side). SidePasses fresh between past (AcceptOffer one k) → IsSound fresh past between (AcceptOffer one k) outcome table made → MakesSdp (AcceptOffer one k) outcome table made
     → GoesOn true outcome (moved_on one course (course_rows_after true 0 (course_rows one course) it.said) (course.sdps + 1) (AwaitsEnd it.side k course.sdps (course_rows_after true 0 (course_rows one course) it.said)))
     (entry (AcceptOffer one k) outcome table made ∷ past)) it.at_is
-    (λ side replied says. accept_goes_on fresh between past it.side k it.said course outcome table made sound is out side replied says) side replied says)
-step_goes_on fresh between past (AcceptAnswer at t a) outcome table made course course' sound is side few replied says after =
+    (λ side replied says. accept_goes_on fresh between past it.side k it.said course outcome table made read sound is out side replied says) side replied says)
+step_goes_on fresh between past (AcceptAnswer at t a) outcome table made course course' read sound is side few replied says after =
     let it = end_course at t a course course.phase course' after in
     let out : IsAnswered at t a it.said past = subst (λ (phase : Phase). InPhase phase past) it.phase_is is.phase in
     subst (λ (c : Course). GoesOn true outcome c (entry (AcceptAnswer at t a) outcome table made ∷ past)) it.course_is
-    (end_goes_on fresh between past at t a it.said course outcome table made sound is out side replied says)
-step_goes_on fresh between past (Time at now) outcome table made course course' sound is side few replied says after =
+    (end_goes_on fresh between past at t a it.said course outcome table made read sound is out side replied says)
+step_goes_on fresh between past (Time at now) outcome table made course course' read sound is side few replied says after =
     rest_goes_on fresh between past (Time at now) outcome table made course course' tt after is replied says
-step_goes_on fresh between past (Datagram at packet now) outcome table made course course' sound is side few replied says after =
+step_goes_on fresh between past (Datagram at packet now) outcome table made course course' read sound is side few replied says after =
     rest_goes_on fresh between past (Datagram at packet now) outcome table made course course' tt after is replied says
-step_goes_on fresh between past (Poll at) outcome table made course course' sound is side few replied says after =
+step_goes_on fresh between past (Poll at) outcome table made course course' read sound is side few replied says after =
     rest_goes_on fresh between past (Poll at) outcome table made course course' tt after is replied says
-step_goes_on fresh between past (Drain at) outcome table made course course' sound is side few replied says after =
+step_goes_on fresh between past (Drain at) outcome table made course course' read sound is side few replied says after =
     rest_goes_on fresh between past (Drain at) outcome table made course course' tt after is replied says
-step_goes_on fresh between past (Write at channel binary bytes) outcome table made course course' sound is side few replied says after =
+step_goes_on fresh between past (Write at channel binary bytes) outcome table made course course' read sound is side few replied says after =
     rest_goes_on fresh between past (Write at channel binary bytes) outcome table made course course' tt after is replied says
-step_goes_on fresh between past (CloseChannel at channel) outcome table made course course' sound is side few replied says after =
+step_goes_on fresh between past (CloseChannel at channel) outcome table made course course' read sound is side few replied says after =
     rest_goes_on fresh between past (CloseChannel at channel) outcome table made course course' tt after is replied says
-step_goes_on fresh between past (Close at) outcome table made course course' sound is side few replied says after =
+step_goes_on fresh between past (Close at) outcome table made course course' read sound is side few replied says after =
     rest_goes_on fresh between past (Close at) outcome table made course course' tt after is replied says
 
 -- ---- pasts

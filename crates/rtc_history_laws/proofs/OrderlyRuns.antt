@@ -5,13 +5,17 @@ use Rattle.std.specs.Prelude.{is_some, slice_get, option_map}
 use Rattle.rtc_sdp_values.specs.declared.sdp.Sdp.{Sdp}
 use Rattle.rtc_change.specs.PendingOffer.{staged_restart}
 use Rattle.rtc_peer_state.specs.Stance.{Stance, held_by}
+use Rattle.rtc_history.specs.Signalled.{Readable, signalled_if, ReadsBack}
 use Rattle.rtc_history.specs.declared.side.Side.{Side}
 use Rattle.rtc_history.specs.declared.side.Side.TheVariants.{Left, Right}
 use Rattle.rtc_history.specs.declared.kept.Kept.{Kept}
 use Rattle.rtc_history.specs.declared.step.Step.{Step}
 use Rattle.rtc_history.specs.declared.step.Step.TheVariants.{Negotiate, AcceptOffer, AcceptAnswer, Time, Datagram, Poll, Drain, Write, CloseChannel, Close}
 use Rattle.rtc_history.specs.Sides.{same_side, other_side}
-use Rattle.rtc_history.specs.Past.{Entry, sdp_for, remote_sdp, restarts_by}
+use Rattle.rtc_history.specs.Past.{Entry, sdps, sdp_for, remote_sdp, restarts_by}
+use Rattle.rtc_sdp_writer.specs.AsRead.{as_read}
+use Rattle.rtc_history.specs.SoundEntry.{AreReadBack}
+use Rattle.rtc_history_laws.proofs.ReadPasts.{read_at}
 use Rattle.rtc_history.specs.Orderly.{Phase, Course, after_step, can_connect}
 use Rattle.rtc_history.specs.PairState.{made_sdp, kept_remote_sdp, held_token, token_for}
 use Rattle.rtc_history.specs.Views.{Stances}
@@ -22,21 +26,29 @@ use Rattle.rtc_history_laws.proofs.SeenSides.{SideSees, view_is}
 use Rattle.rtc_history_laws.proofs.Courses.{InCourse}
 use Rattle.rtc_history_laws.proofs.CourseSteps.{accept_course, end_course}
 use Rattle.rtc_history_laws.proofs.OrderlySteps.{SidePasses}
-use Rattle.rtc_history_laws.proofs.SideRounds.{side_passes, InRound, HasMade, IsOfferOut, IsAnswerOut}
+use Rattle.rtc_history_laws.proofs.SideRounds.{side_passes, InRound, HasMade, IsOfferOut, IsAnswerOut, told_as_read}
 use Rattle.rtc_history_laws.proofs.SideRoundSteps.{other_twice}
 
 -- ---- what is delivered in a round
 
--- an SDP that is delivered is the one that was made
-delivered : (offer : Bool) (at : Side) (kept : Kept) (sdp : Sdp) → sdp_for offer at (Some (made_sdp kept)) ≡ Some sdp → kept.sdp ≡ sdp
-delivered offer at kept sdp is = by (cond offer kept.offer (not kept.offer) && not (same_side kept.at at)) is
+-- an SDP that is read is the one that was made, but for its sources
+delivered : (offer : Bool) (at : Side) (kept : Kept) (sdp : Sdp) → ReadsBack kept.sdp → signalled_if (sdp_for offer at (Some (made_sdp kept))) ≡ Readable sdp
+    → as_read kept.sdp ≡ sdp
+delivered offer at kept sdp read is = by (cond offer kept.offer (not kept.offer) && not (same_side kept.at at)) is
   where
-    by : (b : Bool) → cond b (Some kept.sdp) None ≡ Some sdp → kept.sdp ≡ sdp
-    by true is = cc
-    by false is = absurd (let e : None ≡ Some sdp = is in cc)
+    by : (b : Bool) → signalled_if (cond b (Some kept.sdp) None) ≡ Readable sdp → as_read kept.sdp ≡ sdp
+    by true is = let both : Readable (as_read kept.sdp) ≡ Readable sdp = sym read ∙ is in cc
+    by false is = absurd (cc)
 
-pub delivered_at : (pair : PairStance) (offer : Bool) (at : Side) (n : ℕ) (kept : Kept) (sdp : Sdp) → slice_get pair.sdps n ≡ Some kept → kept_remote_sdp offer pair.sdps at n ≡ Some sdp → kept.sdp ≡ sdp
-delivered_at pair offer at n kept sdp there is = delivered offer at kept sdp (sym (ap (λ found. sdp_for offer at (option_map made_sdp found)) there) ∙ is)
+-- each that is kept is read back where each of the past is
+pub kept_read : {E : Type 0} → (past : List (Entry E)) (pair : PairStance) (n : ℕ) (kept : Kept) → Tells past pair → AreReadBack (sdps past)
+    → slice_get pair.sdps n ≡ Some kept → ReadsBack kept.sdp
+kept_read past pair n kept tells read there = read_at past n (made_sdp kept) read (said_at past pair n tells.says ∙ ap (option_map made_sdp) there)
+
+pub delivered_at : (pair : PairStance) (offer : Bool) (at : Side) (n : ℕ) (kept : Kept) (sdp : Sdp) → ReadsBack kept.sdp → slice_get pair.sdps n ≡ Some kept
+    → kept_remote_sdp offer pair.sdps at n ≡ Readable sdp → as_read kept.sdp ≡ sdp
+delivered_at pair offer at n kept sdp read there is =
+    delivered offer at kept sdp read (sym (ap (λ found. signalled_if (sdp_for offer at (option_map made_sdp found))) there) ∙ is)
 
 pub token_held : (at : Side) (n : ℕ) (pair : PairStance) (made : HasMade at n pair) → held_token pair.sdps at n ≡ Some made.token
 token_held at n pair made = ap (token_for at) made.there ∙ ap (λ b. cond b made.kept.token None) (ap (λ side. same_side side at) made.mine ∙ same_side-self at) ∙ made.has
@@ -63,37 +75,40 @@ lites_apart fresh connect Right = by (fresh Left).ice.lite (fresh Right).ice.lit
 -- what is known before a step of orderly steps
 pub record IsOnCourse {E : Type 0} (fresh : Stances) (past : List (Entry E)) (pair : PairStance) (course : Course) : Type 0 where
   pub tells : Tells past pair
+  pub read : AreReadBack (sdps past)
   pub sees : (at : Side) → SideSees fresh past at (pair.sides at)
   pub course_is : InCourse course past
   pub round : InRound course.phase pair
 
-offer_side : {E : Type 0} → (fresh : Stances) (past : List (Entry E)) (pair : PairStance) (side : Side) (k : ℕ) → can_connect fresh ≡ true → Tells past pair → ((at : Side) → SideSees fresh past at (pair.sides at)) → IsOfferOut side k pair
+offer_side : {E : Type 0} → (fresh : Stances) (past : List (Entry E)) (pair : PairStance) (side : Side) (k : ℕ) → can_connect fresh ≡ true → Tells past pair → AreReadBack (sdps past) → ((at : Side) → SideSees fresh past at (pair.sides at)) → IsOfferOut side k pair
     → SidePasses fresh pair.sides past (AcceptOffer (other_side side) k)
-offer_side fresh past pair side k connect tells sees out =
+offer_side fresh past pair side k connect tells read sees out =
     λ sdp is.
-    let same : out.offer.kept.sdp ≡ sdp = delivered_at pair true (other_side side) k out.offer.kept sdp out.offer.there (sym (remote_told sdp is)) in
+    let reads : ReadsBack out.offer.kept.sdp = kept_read past pair k out.offer.kept tells read out.offer.there in
+    let same : as_read out.offer.kept.sdp ≡ sdp = delivered_at pair true (other_side side) k out.offer.kept sdp reads out.offer.there (sym (remote_told sdp is)) in
     let mine : Stance = pair.sides (other_side side) in
     let apart : (mine.ice.lite && (pair.sides side).ice.lite) ≡ false = rw ((sees (other_side side)).lite, (sees side).lite) (lites_apart fresh connect side) in
     rw (view_is fresh past (other_side side) mine (tells.sides (other_side side)).rows (sees (other_side side)))
-    (rw (← same) (side_passes (held_by mine) true out.offer.kept.sdp _ _ out.offer.tells apart (λ may. absurd (let e : true ≡ false = may in cc))))
+    (rw (← same) (side_passes (held_by mine) true (as_read out.offer.kept.sdp) _ _ (told_as_read _ _ _ out.offer.tells) apart (λ may. absurd (let e : true ≡ false = may in cc))))
   where
-    remote_told : (sdp : Sdp) → remote_sdp true (other_side side) k past ≡ Some sdp → Some sdp ≡ kept_remote_sdp true pair.sdps (other_side side) k
-    remote_told sdp is = sym is ∙ ap (sdp_for true (other_side side)) (said_at past pair k tells.says)
+    remote_told : (sdp : Sdp) → remote_sdp true (other_side side) k past ≡ Readable sdp → Readable sdp ≡ kept_remote_sdp true pair.sdps (other_side side) k
+    remote_told sdp is = sym is ∙ ap (λ said. signalled_if (sdp_for true (other_side side) said)) (said_at past pair k tells.says)
 
-answer_side : {E : Type 0} → (fresh : Stances) (past : List (Entry E)) (pair : PairStance) (at : Side) (t a : ℕ) → can_connect fresh ≡ true → Tells past pair → ((side : Side) → SideSees fresh past side (pair.sides side)) → IsAnswerOut at t a pair
+answer_side : {E : Type 0} → (fresh : Stances) (past : List (Entry E)) (pair : PairStance) (at : Side) (t a : ℕ) → can_connect fresh ≡ true → Tells past pair → AreReadBack (sdps past) → ((side : Side) → SideSees fresh past side (pair.sides side)) → IsAnswerOut at t a pair
     → SidePasses fresh pair.sides past (AcceptAnswer at t a)
-answer_side fresh past pair at t a connect tells sees out =
+answer_side fresh past pair at t a connect tells read sees out =
     λ sdp is.
-    let same : out.answer.sdp ≡ sdp = delivered_at pair false at a out.answer sdp out.there (sym (remote_told sdp is)) in
+    let reads : ReadsBack out.answer.sdp = kept_read past pair a out.answer tells read out.there in
+    let same : as_read out.answer.sdp ≡ sdp = delivered_at pair false at a out.answer sdp reads out.there (sym (remote_told sdp is)) in
     let mine : Stance = pair.sides at in
     let apart : (mine.ice.lite && (pair.sides (other_side at)).ice.lite) ≡ false =
     rw ((sees at).lite, (sees (other_side at)).lite) (subst (λ (side : Side). ((fresh side).ice.lite && (fresh (other_side at)).ice.lite) ≡ false) (other_twice at) (lites_apart fresh connect (other_side at))) in
     let restarts : is_some (staged_restart out.offer.token.changes) ≡ restarts_by t past = ((tells.sides at).tokens t).restarts out.offer.token (token_held at t pair out.offer) in
     rw (view_is fresh past at mine (tells.sides at).rows (sees at))
-    (rw (← same) (side_passes (held_by mine) (restarts_by t past) out.answer.sdp _ _ out.tells apart (λ may. out.known (restarts ∙ may))))
+    (rw (← same) (side_passes (held_by mine) (restarts_by t past) (as_read out.answer.sdp) _ _ (told_as_read _ _ _ out.tells) apart (λ may. out.known (restarts ∙ may))))
   where
-    remote_told : (sdp : Sdp) → remote_sdp false at a past ≡ Some sdp → Some sdp ≡ kept_remote_sdp false pair.sdps at a
-    remote_told sdp is = sym is ∙ ap (sdp_for false at) (said_at past pair a tells.says)
+    remote_told : (sdp : Sdp) → remote_sdp false at a past ≡ Readable sdp → Readable sdp ≡ kept_remote_sdp false pair.sdps at a
+    remote_told sdp is = sym is ∙ ap (λ said. signalled_if (sdp_for false at said)) (said_at past pair a tells.says)
 
 pub step_side : {E : Type 0} → (fresh : Stances) (past : List (Entry E)) (pair : PairStance) (step : Step) (course course' : Course) → can_connect fresh ≡ true → IsOnCourse fresh past pair course → after_step course step ≡ Some course'
     → SidePasses fresh pair.sides past step
@@ -101,10 +116,10 @@ step_side fresh past pair (Negotiate at ops apply) course course' connect on aft
 step_side fresh past pair (AcceptOffer at k) course course' connect on after =
     let it = accept_course at k course course.phase course' after in
     let out : IsOfferOut it.side k pair = subst (λ (phase : Phase). InRound phase pair) it.phase_is on.round in
-    subst (λ (one : Side). SidePasses fresh pair.sides past (AcceptOffer one k)) it.at_is (offer_side fresh past pair it.side k connect on.tells on.sees out)
+    subst (λ (one : Side). SidePasses fresh pair.sides past (AcceptOffer one k)) it.at_is (offer_side fresh past pair it.side k connect on.tells on.read on.sees out)
 step_side fresh past pair (AcceptAnswer at t a) course course' connect on after =
     let it = end_course at t a course course.phase course' after in
-    answer_side fresh past pair at t a connect on.tells on.sees (subst (λ (phase : Phase). InRound phase pair) it.phase_is on.round)
+    answer_side fresh past pair at t a connect on.tells on.read on.sees (subst (λ (phase : Phase). InRound phase pair) it.phase_is on.round)
 step_side fresh past pair (Time at now) course course' connect on after = tt
 step_side fresh past pair (Datagram at packet now) course course' connect on after = tt
 step_side fresh past pair (Poll at) course course' connect on after = tt

@@ -11,10 +11,13 @@ use Rattle.rtc_history.specs.declared.table.Table.{Table}
 use Rattle.rtc_history.specs.Memory.{fails}
 use Rattle.rtc_history.specs.Sides.{side_of}
 use Rattle.rtc_history.specs.Sizes.{step_size}
-use Rattle.rtc_history.specs.Past.{Entry, MadeSdp, before, numbers_in, numbers_told, steps_of}
+use Rattle.rtc_history.specs.Past.{Entry, MadeSdp, before, numbers_in, numbers_told, sdps, steps_of}
 use Rattle.rtc_history.specs.Sound.{IsSound}
 use Rattle.rtc_history.specs.SaidRows.{MakesSdp}
-use Rattle.rtc_history.specs.SoundEntry.{IsSoundEntry}
+use Rattle.rtc_history.specs.SoundEntry.{IsSoundEntry, AreReadBack}
+use Rattle.rtc_history.specs.Views.{AreFormed}
+use Rattle.rtc_history_laws.proofs.FormedSteps.{makes_read_back}
+use Rattle.rtc_history_laws.proofs.ReadPasts.{past_read}
 use Rattle.rtc_history.specs.Orderly.{Phase, Idle, AwaitsAnswer, AwaitsEnd, Course, course_of, after_step, has_failed, can_connect, IsIdle, AreCurrent, AreNumbersLeft, OkWhereOrderly, InStepWhereOrderly, negotiates}
 use Rattle.rtc_history_laws.proofs.StanceSteps.{PairStance, StancePerforms, StanceEnters, made_by}
 use Rattle.rtc_history_laws.proofs.StanceRuns.{IsFreshStance, StanceReached, StanceRan, ran_reached, ran_sound}
@@ -53,8 +56,10 @@ pub record IsStep {E : Type 0} (start : PairStance) (past : List (Entry E)) (old
   pub replied : IsSound start.sides past old.sides step outcome table made
   pub says : MakesSdp step outcome table made
 
-on_course : {E : Type 0} → (start old : PairStance) (past : List (Entry E)) (course : Course) → IsFreshStance start → StanceReached start past old → old.size < 2 ^ 32 → IsOrderly past old course → IsOnCourse start.sides past old course
-on_course start old past course fresh reached small is = record {
+on_course : {E : Type 0} → (start old : PairStance) (past : List (Entry E)) (course : Course) → IsFreshStance start → AreReadBack (sdps past) → StanceReached start past old
+    → old.size < 2 ^ 32 → IsOrderly past old course → IsOnCourse start.sides past old course
+on_course start old past course fresh read reached small is = record {
+  read = read;
   tells = reached_tells start old past fresh reached small;
   sees = reached_sees start old past fresh reached small;
   course_is = is.course_is;
@@ -62,25 +67,27 @@ on_course start old past course fresh reached small is = record {
 }
 
 -- a step that is in order goes on in the course
-step_goes : {E : Type 0} → (start old new : PairStance) (past : List (Entry E)) (step : Step) (outcome : Outcome E) (table : Option Table) (made : List MadeSdp) (course course' : Course) → IsFreshStance start → can_connect start.sides ≡ true → StanceRan start past old
+step_goes : {E : Type 0} → (start old new : PairStance) (past : List (Entry E)) (step : Step) (outcome : Outcome E) (table : Option Table) (made : List MadeSdp) (course course' : Course) → IsFreshStance start → AreFormed start.sides → can_connect start.sides ≡ true → StanceRan start past old
     → IsStep start past old new step outcome table made → (old.sides (side_of step)).channels.given + length (numbers_in outcome) < 2 ^ 64 - 1 → IsOrderly past old course → after_step course step ≡ Some course' → GoesOn (negotiates step) outcome course' (entry step outcome table made ∷ past)
-step_goes start old new past step outcome table made course course' fresh connect ran is few orderly after =
+step_goes start old new past step outcome table made course course' fresh formed connect ran is few orderly after =
     let reached : StanceReached start past old = ran_reached start past old ran in
     let around : Around step made old new = around_of old new step outcome table made is.performs is.made_is is.small in
     let small : old.size < 2 ^ 32 = omega (arith, size_grows step made old new around, is.small) in
-    let on : IsOnCourse start.sides past old course = on_course start old past course fresh reached small orderly in
-    step_goes_on start.sides old.sides past step outcome table made course course' (ran_sound start past old ran) orderly.course_is
+    let read : AreReadBack (sdps past) = past_read start.sides past formed (ran_sound start past old ran) in
+    let on : IsOnCourse start.sides past old course = on_course start old past course fresh read reached small orderly in
+    step_goes_on start.sides old.sides past step outcome table made course course' read (ran_sound start past old ran) orderly.course_is
     (step_side start.sides past old step course course' connect on after) few is.replied is.says after
 
 -- and its pair in the round
-step_orderly : {E : Type 0} → (start old new : PairStance) (past : List (Entry E)) (step : Step) (outcome : Outcome E) (table : Option Table) (made : List MadeSdp) (course course' : Course) → IsFreshStance start → can_connect start.sides ≡ true → StanceRan start past old
+step_orderly : {E : Type 0} → (start old new : PairStance) (past : List (Entry E)) (step : Step) (outcome : Outcome E) (table : Option Table) (made : List MadeSdp) (course course' : Course) → IsFreshStance start → AreFormed start.sides → can_connect start.sides ≡ true → StanceRan start past old
     → IsStep start past old new step outcome table made → (old.sides (side_of step)).channels.given + length (numbers_in outcome) < 2 ^ 64 - 1 → IsOrderly past old course → after_step course step ≡ Some course' → fails outcome ≡ false → IsOrderly (entry step outcome table made ∷ past) new course'
-step_orderly start old new past step outcome table made course course' fresh connect ran is few orderly after enough =
+step_orderly start old new past step outcome table made course course' fresh formed connect ran is few orderly after enough =
     let reached : StanceReached start past old = ran_reached start past old ran in
     let around : Around step made old new = around_of old new step outcome table made is.performs is.made_is is.small in
     let small : old.size < 2 ^ 32 = omega (arith, size_grows step made old new around, is.small) in
-    let on : IsOnCourse start.sides past old course = on_course start old past course fresh reached small orderly in
-    let goes = step_goes start old new past step outcome table made course course' fresh connect ran is few orderly after in
+    let read : AreReadBack (sdps past) = past_read start.sides past formed (ran_sound start past old ran) in
+    let on : IsOnCourse start.sides past old course = on_course start old past course fresh read reached small orderly in
+    let goes = step_goes start old new past step outcome table made course course' fresh formed connect ran is few orderly after in
     let next : InCourse course' (entry step outcome table made ∷ past) = goes.next enough in
     record {
       course_is = next;
@@ -95,39 +102,39 @@ given_few start old past last fresh ran small left =
     few_left last past (old.sides (side_of last.step)).channels.given (tells.sides (side_of last.step)).channels.few left
 
 -- the same of a past with one more entry
-last_orderly : {E : Type 0} → (start old new : PairStance) (past : List (Entry E)) (last : Entry E) (course : Course) → IsFreshStance start → can_connect start.sides ≡ true → StanceRan start past old
+last_orderly : {E : Type 0} → (start old new : PairStance) (past : List (Entry E)) (last : Entry E) (course : Course) → IsFreshStance start → AreFormed start.sides → can_connect start.sides ≡ true → StanceRan start past old
     → IsStep start past old new last.step last.outcome last.table last.made → ((c : Course) → course_of (steps_of past) ≡ Some c → IsOrderly past old c) → fails last.outcome ≡ false
     → (old.sides (side_of last.step)).channels.given + length (numbers_in last.outcome) < 2 ^ 64 - 1 → course_of (steps_of (last ∷ past)) ≡ Some course → IsOrderly (last ∷ past) new course
-last_orderly start old new past last course fresh connect ran is earlier enough few orderly =
+last_orderly start old new past last course fresh formed connect ran is earlier enough few orderly =
     by (course_of (steps_of past)) refl (sym (follow_last (Some start_course) (steps_of past) last.step) ∙ orderly)
   where
     by : (found : Option Course) → course_of (steps_of past) ≡ found → next_of found last.step ≡ Some course → IsOrderly (last ∷ past) new course
     by None before_it after = absurd (cc)
-    by (Some c) before_it after = step_orderly start old new past last.step last.outcome last.table last.made c course fresh connect ran is few (earlier c before_it) after enough
+    by (Some c) before_it after = step_orderly start old new past last.step last.outcome last.table last.made c course fresh formed connect ran is few (earlier c before_it) after enough
 
 -- Every past of orderly steps, where nothing failed, is in its course, and its pair in its round.
-pub ran_orderly : {E : Type 0} → (start pair : PairStance) (past : List (Entry E)) (course : Course) → IsFreshStance start → can_connect start.sides ≡ true → StanceRan start past pair → pair.size < 2 ^ 32 → has_failed past ≡ false
+pub ran_orderly : {E : Type 0} → (start pair : PairStance) (past : List (Entry E)) (course : Course) → IsFreshStance start → AreFormed start.sides → can_connect start.sides ≡ true → StanceRan start past pair → pair.size < 2 ^ 32 → has_failed past ≡ false
     → AreNumbersLeft 1 past → course_of (steps_of past) ≡ Some course → IsOrderly past pair course
-ran_orderly {E} start pair [] course fresh connect ran small enough left is =
+ran_orderly {E} start pair [] course fresh formed connect ran small enough left is =
     let none = none_in_course E course is in
     let same : pair ≡ start = ran in
     record {
       course_is = none.0;
       round = subst (λ (phase : Phase). InRound phase pair) (sym none.1) (rw same (fresh_current start fresh));
     }
-ran_orderly {E} start pair (last ∷ past) course fresh connect ran small enough left is =
+ran_orderly {E} start pair (last ∷ past) course fresh formed connect ran small enough left is =
     let parts = or_parts (fails last.outcome) (has_failed past) enough in
     let enters : StanceEnters ran.0 last pair = ran.2.0 in
     let sound : IsSoundEntry start.sides past ran.0.sides last pair.sides = ran.2.1 in
     let fewer : ran.0.size < 2 ^ 32 = small_before ran.0 pair last enters small in
-    last_orderly start ran.0 pair past last course fresh connect ran.1
+    last_orderly start ran.0 pair past last course fresh formed connect ran.1
     (record { performs = enters.performs; made_is = enters.made; small = small; replied = sound.replied; says = sound.made })
-    (λ c before_it. ran_orderly start ran.0 past c fresh connect ran.1 fewer parts.1 (left_before last past 1 left) before_it) parts.0 (given_few start ran.0 past last fresh ran.1 fewer left) is
+    (λ c before_it. ran_orderly start ran.0 past c fresh formed connect ran.1 fewer parts.1 (left_before last past 1 left) before_it) parts.0 (given_few start ran.0 past last fresh ran.1 fewer left) is
 
 -- Orderly steps give their Ok up to the first failure.
-ok_where_orderly : {E : Type 0} → (start old new : PairStance) (past : List (Entry E)) (step : Step) (outcome : Outcome E) (table : Option Table) (made : List MadeSdp) → IsFreshStance start → StanceRan start past old → old.size < 2 ^ 32
+ok_where_orderly : {E : Type 0} → (start old new : PairStance) (past : List (Entry E)) (step : Step) (outcome : Outcome E) (table : Option Table) (made : List MadeSdp) → IsFreshStance start → AreFormed start.sides → StanceRan start past old → old.size < 2 ^ 32
     → IsStep start past old new step outcome table made → OkWhereOrderly start.sides past step outcome
-ok_where_orderly start old new past step outcome table made fresh ran small is =
+ok_where_orderly start old new past step outcome table made fresh formed ran small is =
     λ negotiating connect orderly enough left.
     by negotiating connect enough left (course_of (steps_of past)) refl (ap is_some (sym (follow_last (Some start_course) (steps_of past) step)) ∙ orderly)
   where
@@ -139,12 +146,12 @@ ok_where_orderly start old new past step outcome table made fresh ran small is =
 
     of_step : negotiates step ≡ true → can_connect start.sides ≡ true → AreNumbersLeft (step_size step) past → (c : Course) → IsOrderly past old c → (found : Option Course) → after_step c step ≡ found → is_some found ≡ true → IsOkOrFails outcome
     of_step negotiating connect left c on None after some = absurd (cc)
-    of_step negotiating connect left c on (Some course) after some = (step_goes start old new past step outcome table made c course fresh connect ran is (given negotiating left) on after).ok negotiating
+    of_step negotiating connect left c on (Some course) after some = (step_goes start old new past step outcome table made c course fresh formed connect ran is (given negotiating left) on after).ok negotiating
 
     by : negotiates step ≡ true → can_connect start.sides ≡ true → has_failed past ≡ false → AreNumbersLeft (step_size step) past → (found : Option Course) → course_of (steps_of past) ≡ found → is_some (next_of found step) ≡ true → IsOkOrFails outcome
     by negotiating connect enough left None before_it some = absurd (cc)
     by negotiating connect enough left (Some c) before_it some =
-        of_step negotiating connect left c (ran_orderly start old past c fresh connect ran small enough (left_fewer past (step_size step) (one_at_least step) left) before_it) (after_step c step) refl some
+        of_step negotiating connect left c (ran_orderly start old past c fresh formed connect ran small enough (left_fewer past (step_size step) (one_at_least step) left) before_it) (after_step c step) refl some
 
 idle_current : (phase : Phase) (pair : PairStance) → IsIdle phase → InRound phase pair → (at : Side) → AreCurrent pair.sides at
 idle_current Idle pair idle out = out
@@ -152,12 +159,12 @@ idle_current (AwaitsAnswer side n said) pair idle out = absurd idle
 idle_current (AwaitsEnd side n m said) pair idle out = absurd idle
 
 -- Where nothing is outstanding after orderly steps, the sides are in step.
-in_step_where_orderly : {E : Type 0} → (start old new : PairStance) (past : List (Entry E)) (last : Entry E) → IsFreshStance start → StanceRan start past old → old.size < 2 ^ 32
+in_step_where_orderly : {E : Type 0} → (start old new : PairStance) (past : List (Entry E)) (last : Entry E) → IsFreshStance start → AreFormed start.sides → StanceRan start past old → old.size < 2 ^ 32
     → IsStep start past old new last.step last.outcome last.table last.made → InStepWhereOrderly start.sides (last ∷ past) new.sides
-in_step_where_orderly start old new past last fresh ran small is =
+in_step_where_orderly start old new past last fresh formed ran small is =
     λ course connect orderly idle enough left.
     let parts = or_parts (fails last.outcome) (has_failed past) enough in
-    let on : IsOrderly (last ∷ past) new course = last_orderly start old new past last course fresh connect ran is (λ c before_it. ran_orderly start old past c fresh connect ran small parts.1 (left_before last past 1 left) before_it) parts.0 (given_few start old past last fresh ran small left) orderly in
+    let on : IsOrderly (last ∷ past) new course = last_orderly start old new past last course fresh formed connect ran is (λ c before_it. ran_orderly start old past c fresh formed connect ran small parts.1 (left_before last past 1 left) before_it) parts.0 (given_few start old past last fresh ran small left) orderly in
     in_step (before Left (last ∷ past)) (before Right (last ∷ past)) new.sides (idle_aligned course.phase (last ∷ past) idle on.course_is.phase) (idle_current course.phase new idle on.round)
 
 -- The entry of a step of a pair that soundly ran is sound.
@@ -177,7 +184,8 @@ sound_next start old new past step outcome table fresh ran performs small =
     record {
       replied = replied;
       made = says;
-      finished = finishes_round start.sides old.sides past step outcome table (made_by old new) sound replied;
-      orderly = ok_where_orderly start old new past step outcome table (made_by old new) fresh ran small_old is;
-      in_step = in_step_where_orderly start old new past (entry step outcome table (made_by old new)) fresh ran small_old is;
+      read_back = λ formed. makes_read_back start old new past step outcome table fresh.sdps formed reached performs;
+      finished = λ formed. finishes_round start.sides old.sides past step outcome table (made_by old new) formed sound replied;
+      orderly = λ formed. ok_where_orderly start old new past step outcome table (made_by old new) fresh formed ran small_old is;
+      in_step = λ formed. in_step_where_orderly start old new past (entry step outcome table (made_by old new)) fresh formed ran small_old is;
     }

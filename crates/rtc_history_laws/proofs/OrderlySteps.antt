@@ -1,4 +1,5 @@
 -- Orderly steps give their Ok, up to the first want of memory or fault.
+use Rattle.rtc_history.specs.Signalled.{Signalled, NotMade, Unreadable, Readable}
 use Rattle.rtc_history.specs.declared.step.Step.{Step}
 use Rattle.std.proofs.Common.{◌≡◌, ◌<◌, ◌+◌, ◌-◌, ◌^◌, ℕ, Bool, true, false, ◌||◌, List, ◌∷◌, ◌++◌, length, Option, Some, None, refl, sym, ◌∙◌, ap, subst, length-append, append-nil}
 use Rattle.rtc_sdp_values.specs.declared.line_row.LineRow.{LineRow}
@@ -19,6 +20,8 @@ use Rattle.rtc_history.specs.Sound.{RepliesToOffer, RepliesToAnswer, IsSound, as
 use Rattle.rtc_history.specs.SaidRows.{MakesSdp}
 use Rattle.rtc_history.specs.CourseRows.{course_rows_after}
 use Rattle.rtc_history.specs.Orderly.{Idle, AwaitsEnd, Course, course_rows, moved_on, after_ops, is_ok}
+use Rattle.rtc_sdp_writer.specs.AsRead.{as_read}
+use Rattle.rtc_history.specs.SoundEntry.{AreReadBack}
 use Rattle.rtc_history_laws.proofs.SoundPasts.{Sound}
 use Rattle.rtc_history_laws.proofs.Around.{entry}
 use Rattle.rtc_history_laws.proofs.Takings.{offer_taking, answer_taking}
@@ -44,30 +47,32 @@ negotiated_ok fresh between past at ops apply (Negotiated answers what) (Some ta
 negotiated_ok fresh between past at ops apply outcome table made course course' rows few after replied = absurd replied
 
 -- an offer that is not refused is answered, where nothing fails
-offer_answers : {E : Type 0} → (sdp : Option Sdp) (said : Sdp) (view : Held) (next : ℕ) (outcome : Outcome E) (after : List LineRow) → sdp ≡ Some said → verdict view None said ≡ None → RepliesToOffer sdp view next outcome after
+offer_answers : {E : Type 0} → (sdp : Signalled) (said : Sdp) (view : Held) (next : ℕ) (outcome : Outcome E) (after : List LineRow) → sdp ≡ Readable said → verdict view None said ≡ None → RepliesToOffer sdp view next outcome after
     → fails outcome ≡ false → (j : ℕ) × (outcome ≡ Answered j)
-offer_answers None said view next outcome after is passes takes enough = absurd (cc)
-offer_answers (Some sdp) said view next (Answered k) after is passes takes enough = (k, refl)
-offer_answers (Some sdp) said view next (Refused (RemoteSdp why)) after is passes takes enough = absurd (let same : sdp ≡ said = cc in let e = rw same at takes.0 in cc)
-offer_answers (Some sdp) said view next (Refused (SdpRefused error)) after is passes takes enough = absurd (let same : sdp ≡ said = cc in let e = rw same at takes.0 in cc)
-offer_answers (Some sdp) said view next (Refused (Dtls error)) after is passes takes enough = absurd (cc)
-offer_answers (Some sdp) said view next (Refused (Sctp error)) after is passes takes enough = absurd (let e = rw takes.0 at enough in cc)
-offer_answers (Some sdp) said view next (Refused PeerAlloc) after is passes takes enough = absurd (cc)
-offer_answers (Some sdp) said view next outcome after is passes takes enough = absurd takes
+offer_answers NotMade said view next outcome after is passes takes enough = absurd (cc)
+offer_answers (Unreadable line) said view next outcome after is passes takes enough = absurd (cc)
+offer_answers (Readable sdp) said view next (Answered k) after is passes takes enough = (k, refl)
+offer_answers (Readable sdp) said view next (Refused (RemoteSdp why)) after is passes takes enough = absurd (let same : sdp ≡ said = cc in let e = rw same at takes.0 in cc)
+offer_answers (Readable sdp) said view next (Refused (SdpRefused error)) after is passes takes enough = absurd (let same : sdp ≡ said = cc in let e = rw same at takes.0 in cc)
+offer_answers (Readable sdp) said view next (Refused (Dtls error)) after is passes takes enough = absurd (cc)
+offer_answers (Readable sdp) said view next (Refused (Sctp error)) after is passes takes enough = absurd (let e = rw takes.0 at enough in cc)
+offer_answers (Readable sdp) said view next (Refused PeerAlloc) after is passes takes enough = absurd (cc)
+offer_answers (Readable sdp) said view next outcome after is passes takes enough = absurd takes
 
 -- an answer that is not refused finishes, where nothing fails
-answer_finishes : {E : Type 0} → (held right : Bool) (asked : Asked) (sdp : Option Sdp) (said : Sdp) (view : Held) (outcome : Outcome E) (after : List LineRow) → held ≡ true → right ≡ true → sdp ≡ Some said
+answer_finishes : {E : Type 0} → (held right : Bool) (asked : Asked) (sdp : Signalled) (said : Sdp) (view : Held) (outcome : Outcome E) (after : List LineRow) → held ≡ true → right ≡ true → sdp ≡ Readable said
     → verdict view (Some asked) said ≡ None → RepliesToAnswer held right asked sdp view outcome after → fails outcome ≡ false → outcome ≡ Finished
 answer_finishes false right asked sdp said view outcome after held_is right_is is passes takes enough = absurd (cc)
 answer_finishes true false asked sdp said view outcome after held_is right_is is passes takes enough = absurd (cc)
-answer_finishes true true asked None said view outcome after held_is right_is is passes takes enough = absurd (cc)
-answer_finishes true true asked (Some sdp) said view Finished after held_is right_is is passes takes enough = refl
-answer_finishes true true asked (Some sdp) said view (Refused (RemoteSdp why)) after held_is right_is is passes takes enough = absurd (let same : sdp ≡ said = cc in let e = rw same at takes.0 in cc)
-answer_finishes true true asked (Some sdp) said view (Refused (SdpRefused error)) after held_is right_is is passes takes enough = absurd (let same : sdp ≡ said = cc in let e = rw same at takes.0 in cc)
-answer_finishes true true asked (Some sdp) said view (Refused (Dtls error)) after held_is right_is is passes takes enough = absurd (cc)
-answer_finishes true true asked (Some sdp) said view (Refused (Sctp error)) after held_is right_is is passes takes enough = absurd (let e = rw takes.0 at enough in cc)
-answer_finishes true true asked (Some sdp) said view (Refused PeerAlloc) after held_is right_is is passes takes enough = absurd (cc)
-answer_finishes true true asked (Some sdp) said view outcome after held_is right_is is passes takes enough = absurd takes
+answer_finishes true true asked NotMade said view outcome after held_is right_is is passes takes enough = absurd (cc)
+answer_finishes true true asked (Unreadable line) said view outcome after held_is right_is is passes takes enough = absurd (cc)
+answer_finishes true true asked (Readable sdp) said view Finished after held_is right_is is passes takes enough = refl
+answer_finishes true true asked (Readable sdp) said view (Refused (RemoteSdp why)) after held_is right_is is passes takes enough = absurd (let same : sdp ≡ said = cc in let e = rw same at takes.0 in cc)
+answer_finishes true true asked (Readable sdp) said view (Refused (SdpRefused error)) after held_is right_is is passes takes enough = absurd (let same : sdp ≡ said = cc in let e = rw same at takes.0 in cc)
+answer_finishes true true asked (Readable sdp) said view (Refused (Dtls error)) after held_is right_is is passes takes enough = absurd (cc)
+answer_finishes true true asked (Readable sdp) said view (Refused (Sctp error)) after held_is right_is is passes takes enough = absurd (let e = rw takes.0 at enough in cc)
+answer_finishes true true asked (Readable sdp) said view (Refused PeerAlloc) after held_is right_is is passes takes enough = absurd (cc)
+answer_finishes true true asked (Readable sdp) said view outcome after held_is right_is is passes takes enough = absurd takes
 
 -- a step that gives its Ok where nothing fails gives it or tells what failed
 ok_or_fails : {E : Type 0} → (outcome : Outcome E) → (fails outcome ≡ false → is_ok outcome ≡ true) → IsOkOrFails outcome
@@ -92,9 +97,9 @@ pub record GoesOn {E : Type 0} (negotiating : Bool) (outcome : Outcome E) (cours
 abbrev pub SidePasses : {E : Type 0} → Stances → Stances → List (Entry E) → Step → Type 0
 SidePasses fresh between past (Negotiate at ops apply) = Unit {0}
 SidePasses fresh between past (AcceptOffer at k) =
-    (sdp : Sdp) → remote_sdp true at k past ≡ Some sdp → side_verdict (view_in fresh at past (held_by (between at))) true sdp ≡ None
+    (sdp : Sdp) → remote_sdp true at k past ≡ Readable sdp → side_verdict (view_in fresh at past (held_by (between at))) true sdp ≡ None
 SidePasses fresh between past (AcceptAnswer at t a) =
-    (sdp : Sdp) → remote_sdp false at a past ≡ Some sdp → side_verdict (view_in fresh at past (held_by (between at))) (restarts_by t past) sdp ≡ None
+    (sdp : Sdp) → remote_sdp false at a past ≡ Readable sdp → side_verdict (view_in fresh at past (held_by (between at))) (restarts_by t past) sdp ≡ None
 SidePasses fresh between past (Time at now) = Unit {0}
 SidePasses fresh between past (Datagram at packet now) = Unit {0}
 SidePasses fresh between past (Poll at) = Unit {0}
@@ -107,16 +112,16 @@ SidePasses fresh between past (Close at) = Unit {0}
 abbrev pub accepted_course : Side → ℕ → List LineRow → Course → Course
 accepted_course at n rows course = moved_on (other_side at) course rows (course.sdps + 1) (AwaitsEnd at n course.sdps rows)
 
-pub accept_goes_on : {E : Type 0} → (fresh between : Stances) (past : List (Entry E)) (at : Side) (n : ℕ) (said : List LineRow) (course : Course) (outcome : Outcome E) (table : Option Table) (made : List MadeSdp) → Sound fresh past → InCourse course past → IsOffered at n said past → SidePasses fresh between past (AcceptOffer (other_side at) n)
+pub accept_goes_on : {E : Type 0} → (fresh between : Stances) (past : List (Entry E)) (at : Side) (n : ℕ) (said : List LineRow) (course : Course) (outcome : Outcome E) (table : Option Table) (made : List MadeSdp) → AreReadBack (sdps past) → Sound fresh past → InCourse course past → IsOffered at n said past → SidePasses fresh between past (AcceptOffer (other_side at) n)
     → IsSound fresh past between (AcceptOffer (other_side at) n) outcome table made → MakesSdp (AcceptOffer (other_side at) n) outcome table made
     → GoesOn true outcome (accepted_course at n (course_rows_after true 0 (course_rows (other_side at) course) said) course) (entry (AcceptOffer (other_side at) n) outcome table made ∷ past)
-accept_goes_on fresh between past at n said course Alloc None made sound is out side replied says = record { ok = λ negotiating. refl; next = λ enough. absurd (cc) }
-accept_goes_on {E} fresh between past at n said course outcome (Some table) made sound is out side replied says =
-    let may : MayAccept out.offer at n past = may_accept fresh at n said past sound out in
-    let passes = accept_passes fresh at n said past (view_in fresh (other_side at) past (held_by (between (other_side at)))) sound out refl (side out.offer.sdp may.remote_is) in
+accept_goes_on fresh between past at n said course Alloc None made read sound is out side replied says = record { ok = λ negotiating. refl; next = λ enough. absurd (cc) }
+accept_goes_on {E} fresh between past at n said course outcome (Some table) made read sound is out side replied says =
+    let may : MayAccept out.offer at n past = may_accept fresh at n said past read sound out in
+    let passes = accept_passes fresh at n said past (view_in fresh (other_side at) past (held_by (between (other_side at)))) sound out refl (side (as_read out.offer.sdp) may.remote_is) in
     let takes = offer_taking fresh between past (other_side at) n outcome table made replied in
     let comes : fails outcome ≡ false → (j : ℕ) × (outcome ≡ Answered j) =
-    offer_answers (remote_sdp true (other_side at) n past) out.offer.sdp (view_in fresh (other_side at) past (held_by (between (other_side at)))) (length (sdps past)) outcome table.lines may.remote_is passes takes in
+    offer_answers (remote_sdp true (other_side at) n past) (as_read out.offer.sdp) (view_in fresh (other_side at) past (held_by (between (other_side at)))) (length (sdps past)) outcome table.lines may.remote_is passes takes in
     record { ok = λ negotiating. ok_or_fails outcome (λ enough. ap is_ok (comes enough).1); next = λ enough. by (comes enough).0 outcome (comes enough).1 replied says }
   where
     rows : List LineRow
@@ -128,21 +133,21 @@ accept_goes_on {E} fresh between past at n said course outcome (Some table) made
         subst (λ (o : Outcome E). IsSound fresh past between (AcceptOffer (other_side at) n) o (Some table) made → MakesSdp (AcceptOffer (other_side at) n) o (Some table) made
         → InCourse (accepted_course at n rows course) (entry (AcceptOffer (other_side at) n) o (Some table) made ∷ past)) (sym same)
         (λ replied says.
-        let next = accepted_next fresh between at n course.sdps said (course_rows (other_side at) course) past j table made sound out (is.sides (other_side at)) (sym is.count) replied says in
+        let next = accepted_next fresh between at n course.sdps said (course_rows (other_side at) course) past j table made read sound out (is.sides (other_side at)) (sym is.count) replied says in
         moved_in (other_side at) course rows (course.sdps + 1) (AwaitsEnd at n course.sdps rows) (AcceptOffer (other_side at) n) (Answered j) table made past refl next.side is
         (length-append (sdps past) made ∙ ap (λ (k : ℕ). length (sdps past) + k) (ap length says.one) ∙ ap (λ (k : ℕ). k + 1) is.count) next.phase)
-accept_goes_on fresh between past at n said course outcome table made sound is out side replied says = absurd replied
+accept_goes_on fresh between past at n said course outcome table made read sound is out side replied says = absurd replied
 
-pub end_goes_on : {E : Type 0} → (fresh between : Stances) (past : List (Entry E)) (at : Side) (n m : ℕ) (said : List LineRow) (course : Course) (outcome : Outcome E) (table : Option Table) (made : List MadeSdp) → Sound fresh past → InCourse course past → IsAnswered at n m said past → SidePasses fresh between past (AcceptAnswer at n m)
+pub end_goes_on : {E : Type 0} → (fresh between : Stances) (past : List (Entry E)) (at : Side) (n m : ℕ) (said : List LineRow) (course : Course) (outcome : Outcome E) (table : Option Table) (made : List MadeSdp) → AreReadBack (sdps past) → Sound fresh past → InCourse course past → IsAnswered at n m said past → SidePasses fresh between past (AcceptAnswer at n m)
     → IsSound fresh past between (AcceptAnswer at n m) outcome table made → MakesSdp (AcceptAnswer at n m) outcome table made
     → GoesOn true outcome (moved_on at course (course_rows_after false 0 (course_rows at course) said) course.sdps Idle) (entry (AcceptAnswer at n m) outcome table made ∷ past)
-end_goes_on fresh between past at n m said course Alloc None made sound is out side replied says = record { ok = λ negotiating. refl; next = λ enough. absurd (cc) }
-end_goes_on {E} fresh between past at n m said course outcome (Some table) made sound is out side replied says =
-    let may : MayEnd out.answer at n m past = may_end fresh at n m said past sound out in
-    let passes = end_passes fresh at n m said past (view_in fresh at past (held_by (between at))) sound out refl (side out.answer.sdp may.remote_is) in
+end_goes_on fresh between past at n m said course Alloc None made read sound is out side replied says = record { ok = λ negotiating. refl; next = λ enough. absurd (cc) }
+end_goes_on {E} fresh between past at n m said course outcome (Some table) made read sound is out side replied says =
+    let may : MayEnd out.answer at n m past = may_end fresh at n m said past read sound out in
+    let passes = end_passes fresh at n m said past (view_in fresh at past (held_by (between at))) sound out refl (side (as_read out.answer.sdp) may.remote_is) in
     let takes = answer_taking fresh between past at n m outcome table made replied in
     let comes : fails outcome ≡ false → outcome ≡ Finished =
-    answer_finishes _ _ (asked_in at n past) _ out.answer.sdp (view_in fresh at past (held_by (between at))) outcome table.lines may.held may.right may.remote_is passes takes in
+    answer_finishes _ _ (asked_in at n past) _ (as_read out.answer.sdp) (view_in fresh at past (held_by (between at))) outcome table.lines may.held may.right may.remote_is passes takes in
     record { ok = λ negotiating. ok_or_fails outcome (λ enough. ap is_ok (comes enough)); next = λ enough. by outcome (comes enough) replied says }
   where
     rows : List LineRow
@@ -154,7 +159,7 @@ end_goes_on {E} fresh between past at n m said course outcome (Some table) made 
         subst (λ (o : Outcome E). IsSound fresh past between (AcceptAnswer at n m) o (Some table) made → MakesSdp (AcceptAnswer at n m) o (Some table) made
         → InCourse (moved_on at course rows course.sdps Idle) (entry (AcceptAnswer at n m) o (Some table) made ∷ past)) (sym same)
         (λ replied says.
-        let next = ended_next fresh between at n m said (course_rows at course) past table made sound out (is.sides at) replied in
+        let next = ended_next fresh between at n m said (course_rows at course) past table made read sound out (is.sides at) replied in
         moved_in at course rows course.sdps Idle (AcceptAnswer at n m) Finished table made past refl next.side is
         (ap (λ more. length (sdps past ++ more)) says ∙ ap length (append-nil (sdps past)) ∙ is.count) next.phase)
-end_goes_on fresh between past at n m said course outcome table made sound is out side replied says = absurd replied
+end_goes_on fresh between past at n m said course outcome table made read sound is out side replied says = absurd replied

@@ -8,6 +8,7 @@ use Rattle.rtc_sdp_values.specs.declared.sdp.Sdp.{Sdp}
 use Rattle.rtc_tables.specs.ParsedLines.{parsed_lines}
 use Rattle.rtc_change.specs.TableAfter.{table_after}
 use Rattle.rtc_change.specs.Plans.{verdict}
+use Rattle.rtc_history.specs.Signalled.{Signalled, NotMade, Unreadable, Readable, signalled_if}
 use Rattle.rtc_history.specs.declared.side.Side.{Side}
 use Rattle.rtc_history.specs.declared.side.Side.TheVariants.{Left, Right}
 use Rattle.rtc_history.specs.declared.step.Step.{Step}
@@ -31,11 +32,11 @@ pub record TookOffer (rows after : List LineRow) (offer sdp : Sdp) : Type 0 wher
   pub leaves : after ≡ table_after rows (parsed_lines offer) true
   pub says : parsed_lines sdp ≡ map row_said after
 
--- What a past says of the answer of a number to the offer of a number, by the other side than this one.
+-- What a past says of the answer of a number to the offer of a number, as the other side than this one read it.
 pub record PastAnswer {E : Type 0} (at : Side) (t a : ℕ) (past : List (Entry E)) : Type 0 where
   pub offer : Sdp
   pub sdp : Sdp
-  pub offered : sdp_for true (other_side at) (slice_get (sdps past) t) ≡ Some offer
+  pub offered : signalled_if (sdp_for true (other_side at) (slice_get (sdps past) t)) ≡ Readable offer
   pub there : slice_get (sdps past) a ≡ Some (record { at = other_side at; offer = false; sdp = sdp })
   pub took : TookOffer (before (other_side at) (before_last (makes_answer at t a) past)) (before (other_side at) (through_last (makes_answer at t a) past)) offer sdp
 
@@ -49,22 +50,23 @@ another Right Right other = absurd (cc)
 record AnswerEntry {E : Type 0} (past : List (Entry E)) (entry : Entry E) (side : Side) (t a : ℕ) : Type 0 where
   offer : Sdp
   sdp : Sdp
-  offered : remote_sdp true side t past ≡ Some offer
+  offered : remote_sdp true side t past ≡ Readable offer
   count : a ≡ length (sdps past)
   one : entry.made ≡ record { at = side; offer = false; sdp = sdp } ∷ []
   took : TookOffer (before side past) (before side (entry ∷ past)) offer sdp
 
 -- an offer that was answered
-pub record Answers (sdp : Option Sdp) (view : Held) (next k : ℕ) (after : List LineRow) : Type 0 where
+pub record Answers (sdp : Signalled) (view : Held) (next k : ℕ) (after : List LineRow) : Type 0 where
   pub offer : Sdp
-  pub is : sdp ≡ Some offer
+  pub is : sdp ≡ Readable offer
   pub passes : verdict view None offer ≡ None
   pub leaves : after ≡ table_after view.lines (parsed_lines offer) true
   pub count : k ≡ next
 
-pub answered : (E : Type 0) (sdp : Option Sdp) (view : Held) (next k : ℕ) (after : List LineRow) → RepliesToOffer {E = E} sdp view next (Answered k) after → Answers sdp view next k after
-answered E None view next k after takes = absurd takes
-answered E (Some sdp) view next k after takes = record { offer = sdp; is = refl; passes = takes.0; leaves = takes.1; count = takes.2 }
+pub answered : (E : Type 0) (sdp : Signalled) (view : Held) (next k : ℕ) (after : List LineRow) → RepliesToOffer {E = E} sdp view next (Answered k) after → Answers sdp view next k after
+answered E NotMade view next k after takes = absurd takes
+answered E (Unreadable line) view next k after takes = absurd takes
+answered E (Readable sdp) view next k after takes = record { offer = sdp; is = refl; passes = takes.0; leaves = takes.1; count = takes.2 }
 
 answer_entry : {E : Type 0} → (fresh : Stances) (past : List (Entry E)) (entry : Entry E) (at : Side) (t a : ℕ) → IsSoundIn fresh past entry → makes_answer at t a entry ≡ true → AnswerEntry past entry (other_side at) t a
 answer_entry {E} fresh past entry at t a sound makes_it = by sound.between entry.step entry.outcome entry.table entry.made sound.sound.replied sound.sound.made makes_it
@@ -94,10 +96,10 @@ answer_entry {E} fresh past entry at t a sound makes_it = by sound.between entry
         (subst (λ (n : ℕ). entry_of side offer n) (eqb-true k a numbers.1) (here between side offer k table made replied sdp)))
     by between step outcome table made replied sdp makes_it = absurd (let e : false ≡ true = makes_it in cc)
 
-remote_stays : (at : Side) (found : List MadeSdp) (more : List MadeSdp) (t : ℕ) (offer : Sdp) → sdp_for true at (slice_get found t) ≡ Some offer → sdp_for true at (slice_get (found ++ more) t) ≡ Some offer
+remote_stays : (at : Side) (found : List MadeSdp) (more : List MadeSdp) (t : ℕ) (offer : Sdp) → signalled_if (sdp_for true at (slice_get found t)) ≡ Readable offer → signalled_if (sdp_for true at (slice_get (found ++ more) t)) ≡ Readable offer
 remote_stays at found more t offer there = by (slice_get found t) refl there
   where
-    by : (said : Option MadeSdp) → slice_get found t ≡ said → sdp_for true at said ≡ Some offer → sdp_for true at (slice_get (found ++ more) t) ≡ Some offer
+    by : (said : Option MadeSdp) → slice_get found t ≡ said → signalled_if (sdp_for true at said) ≡ Readable offer → signalled_if (sdp_for true at (slice_get (found ++ more) t)) ≡ Readable offer
     by None is there = absurd (cc)
     by (Some said) is there = rw (stays_there found more t said is) there
 

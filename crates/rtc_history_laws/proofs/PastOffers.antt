@@ -7,6 +7,7 @@ use Rattle.rtc_sdp_values.specs.declared.line_row.LineRow.{LineRow}
 use Rattle.rtc_sdp_values.specs.declared.sdp.Sdp.{Sdp}
 use Rattle.rtc_change.specs.Held.{Asked}
 use Rattle.rtc_tables.specs.ParsedLines.{parsed_lines}
+use Rattle.rtc_history.specs.Signalled.{Signalled, NotMade, Unreadable, Readable}
 use Rattle.rtc_history.specs.declared.side.Side.{Side}
 use Rattle.rtc_history.specs.declared.op_answer.OpAnswer.{OpAnswer}
 use Rattle.rtc_history.specs.declared.made.Made.{Made}
@@ -71,15 +72,17 @@ offer_count true true k next made = made
 offer_count true false k next made = absurd made
 offer_count false offers k next made = absurd made
 
-no_offer : {E : Type 0} → (fresh between : Stances) (sdp : Option Sdp) (past : List (Entry E)) (at : Side) (next : ℕ) (answers : List OpAnswer) (made : Made) (after : List LineRow) → RepliesToOffer {E = E} sdp (view_in fresh at past (held_by (between at))) next (Negotiated answers made) after → ⊥
-no_offer fresh between None past at next answers made after takes = takes
-no_offer fresh between (Some sdp) past at next answers made after takes = takes
+no_offer : {E : Type 0} → (fresh between : Stances) (sdp : Signalled) (past : List (Entry E)) (at : Side) (next : ℕ) (answers : List OpAnswer) (made : Made) (after : List LineRow) → RepliesToOffer {E = E} sdp (view_in fresh at past (held_by (between at))) next (Negotiated answers made) after → ⊥
+no_offer fresh between NotMade past at next answers made after takes = takes
+no_offer fresh between (Unreadable line) past at next answers made after takes = takes
+no_offer fresh between (Readable sdp) past at next answers made after takes = takes
 
-no_answer : {E : Type 0} → (fresh between : Stances) (held right : Bool) (asked : Asked) (sdp : Option Sdp) (past : List (Entry E)) (at : Side) (answers : List OpAnswer) (made : Made) (after : List LineRow) → RepliesToAnswer {E = E} held right asked sdp (view_in fresh at past (held_by (between at))) (Negotiated answers made) after → ⊥
+no_answer : {E : Type 0} → (fresh between : Stances) (held right : Bool) (asked : Asked) (sdp : Signalled) (past : List (Entry E)) (at : Side) (answers : List OpAnswer) (made : Made) (after : List LineRow) → RepliesToAnswer {E = E} held right asked sdp (view_in fresh at past (held_by (between at))) (Negotiated answers made) after → ⊥
 no_answer fresh between false right asked sdp past at answers made after takes = takes
-no_answer fresh between true right asked None past at answers made after takes = takes
-no_answer fresh between true false asked (Some sdp) past at answers made after takes = takes
-no_answer fresh between true true asked (Some sdp) past at answers made after takes = takes
+no_answer fresh between true right asked NotMade past at answers made after takes = takes
+no_answer fresh between true right asked (Unreadable line) past at answers made after takes = takes
+no_answer fresh between true false asked (Readable sdp) past at answers made after takes = takes
+no_answer fresh between true true asked (Readable sdp) past at answers made after takes = takes
 
 pub offer_entry : {E : Type 0} → (fresh : Stances) (past : List (Entry E)) (entry : Entry E) (t : ℕ) → IsSoundIn fresh past entry → makes_offer t entry ≡ true → OfferEntry past entry t
 offer_entry {E} fresh past entry t sound makes_it = by sound.between entry.step entry.outcome entry.table entry.made sound.sound.replied sound.sound.made makes_it

@@ -4,9 +4,9 @@ use Rattle.std.proofs.Common.{◌≡◌, ℕ, Bool, true, false, not, List, [], 
 use Rattle.std.specs.Prelude.{slice_get}
 use Rattle.std.proofs.lemmas.Bool.{eq-eqb, both_ways, or_parts, and_parts}
 use Rattle.rtc_sdp_values.specs.declared.line_row.LineRow.{LineRow}
-use Rattle.rtc_sdp_values.specs.declared.sdp.Sdp.{Sdp}
 use Rattle.rtc_change.specs.Held.{Asked}
 use Rattle.rtc_peer_state.specs.declared.rtc_error.RtcError.TheVariants.{RemoteSdp, Sdp as SdpRefused, ChangesOutOfOrder, Alloc as PeerAlloc, Dtls, Sctp}
+use Rattle.rtc_history.specs.Signalled.{Signalled, NotMade, Unreadable, Readable}
 use Rattle.rtc_history.specs.declared.side.Side.{Side}
 use Rattle.rtc_history.specs.declared.step.Step.{Step}
 use Rattle.rtc_history.specs.declared.step.Step.TheVariants.{Negotiate, AcceptOffer, AcceptAnswer, Time, Datagram, Poll, Drain, Write, CloseChannel, Close}
@@ -58,25 +58,31 @@ one_right fresh (entry ∷ past) at t u sound right right' mine mine' =
 -- ---- rows
 
 -- an offer that was not delivered to a peer left its rows
-uncalled_rows : {E : Type 0} → (fresh between : Stances) (past : List (Entry E)) (at : Side) (sdp : Option Sdp) (next : ℕ) (outcome : Outcome E) (after : List LineRow)
+uncalled_rows : {E : Type 0} → (fresh between : Stances) (past : List (Entry E)) (at : Side) (sdp : Signalled) (next : ℕ) (outcome : Outcome E) (after : List LineRow)
     → RepliesToOffer sdp (view_in fresh at past (held_by (between at))) next outcome after → was_called outcome ≡ false → after ≡ before at past
-uncalled_rows fresh between past at None next NoSuch after takes uncalled = takes
-uncalled_rows fresh between past at (Some sdp) next (Answered k) after takes uncalled = absurd (cc)
-uncalled_rows fresh between past at (Some sdp) next (Refused error) after takes uncalled = absurd (cc)
+uncalled_rows fresh between past at NotMade next NoSuch after takes uncalled = takes
+uncalled_rows fresh between past at (Unreadable line) next (Refused error) after takes uncalled = takes.1
+uncalled_rows fresh between past at (Readable sdp) next (Answered k) after takes uncalled = absurd (cc)
+uncalled_rows fresh between past at (Readable sdp) next (Refused (RemoteSdp why)) after takes uncalled = takes.1
+uncalled_rows fresh between past at (Readable sdp) next (Refused (SdpRefused error)) after takes uncalled = takes.1
+uncalled_rows fresh between past at (Readable sdp) next (Refused (Dtls Fault)) after takes uncalled = takes.1
+uncalled_rows fresh between past at (Readable sdp) next (Refused (Sctp error)) after takes uncalled = takes.2
+uncalled_rows fresh between past at (Readable sdp) next (Refused PeerAlloc) after takes uncalled = takes
 uncalled_rows fresh between past at sdp next outcome after takes uncalled = absurd takes
 
 -- an answer left the rows of a peer, or it was delivered with a token that was held and right
-answer_rows : {E : Type 0} → (fresh between : Stances) (past : List (Entry E)) (at : Side) (held right : Bool) (asked : Asked) (sdp : Option Sdp) (outcome : Outcome E) (after : List LineRow)
+answer_rows : {E : Type 0} → (fresh between : Stances) (past : List (Entry E)) (at : Side) (held right : Bool) (asked : Asked) (sdp : Signalled) (outcome : Outcome E) (after : List LineRow)
     → RepliesToAnswer held right asked sdp (view_in fresh at past (held_by (between at))) outcome after → (after ≡ before at past) ⊎ ((was_called outcome ≡ true) × (held ≡ true) × (right ≡ true))
 answer_rows fresh between past at false right asked sdp NoSuch after takes = inl takes
-answer_rows fresh between past at true right asked None NoSuch after takes = inl takes
-answer_rows fresh between past at true false asked (Some sdp) (Refused ChangesOutOfOrder) after takes = inl takes
-answer_rows fresh between past at true true asked (Some sdp) Finished after takes = inr (refl, refl, refl)
-answer_rows fresh between past at true true asked (Some sdp) (Refused (RemoteSdp why)) after takes = inl takes.1
-answer_rows fresh between past at true true asked (Some sdp) (Refused (SdpRefused error)) after takes = inl takes.1
-answer_rows fresh between past at true true asked (Some sdp) (Refused (Dtls Fault)) after takes = inl takes.1
-answer_rows fresh between past at true true asked (Some sdp) (Refused (Sctp error)) after takes = inl takes.2
-answer_rows fresh between past at true true asked (Some sdp) (Refused PeerAlloc) after takes = inl takes
+answer_rows fresh between past at true right asked NotMade NoSuch after takes = inl takes
+answer_rows fresh between past at true right asked (Unreadable line) (Refused error) after takes = inl takes.1
+answer_rows fresh between past at true false asked (Readable sdp) (Refused ChangesOutOfOrder) after takes = inl takes
+answer_rows fresh between past at true true asked (Readable sdp) Finished after takes = inr (refl, refl, refl)
+answer_rows fresh between past at true true asked (Readable sdp) (Refused (RemoteSdp why)) after takes = inl takes.1
+answer_rows fresh between past at true true asked (Readable sdp) (Refused (SdpRefused error)) after takes = inl takes.1
+answer_rows fresh between past at true true asked (Readable sdp) (Refused (Dtls Fault)) after takes = inl takes.1
+answer_rows fresh between past at true true asked (Readable sdp) (Refused (Sctp error)) after takes = inl takes.2
+answer_rows fresh between past at true true asked (Readable sdp) (Refused PeerAlloc) after takes = inl takes
 answer_rows fresh between past at held right asked sdp outcome after takes = absurd takes
 
 -- a step of a side whose token is right, that moves nothing and does not spend it, leaves the rows

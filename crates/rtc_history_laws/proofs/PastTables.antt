@@ -2,11 +2,11 @@
 use Rattle.rtc_dtls.specs.declared.dtls_error.DtlsError.TheVariants.{Fault}
 use Rattle.std.proofs.Common.{◌≡◌, ℕ, Bool, true, false, List, [], ◌∷◌, Option, Some, None, refl, sym, subst}
 use Rattle.rtc_sdp_values.specs.declared.line_row.LineRow.{LineRow}
-use Rattle.rtc_sdp_values.specs.declared.sdp.Sdp.{Sdp}
 use Rattle.rtc_change.specs.Held.{Held, Asked}
 use Rattle.rtc_tables.specs.Table.{IsTable}
 use Rattle.rtc_change.proofs.VerdictLemmas.{unrefused_table}
 use Rattle.rtc_peer_state.specs.declared.rtc_error.RtcError.TheVariants.{RemoteSdp, Sdp as SdpRefused, ChangesOutOfOrder, Alloc as PeerAlloc, Dtls, Sctp}
+use Rattle.rtc_history.specs.Signalled.{Signalled, NotMade, Unreadable, Readable}
 use Rattle.rtc_history.specs.declared.side.Side.{Side}
 use Rattle.rtc_history.specs.declared.step.Step.{Step}
 use Rattle.rtc_history.specs.declared.step.Step.TheVariants.{Negotiate, AcceptOffer, AcceptAnswer, Time, Datagram, Poll, Drain, Write, CloseChannel, Close}
@@ -26,27 +26,29 @@ use Rattle.rtc_peer_state.specs.Stance.{held_by}
 same_table : (rows after : List LineRow) → after ≡ rows → IsTable rows → IsTable after
 same_table rows after same table = subst IsTable (sym same) table
 
-taken_table : {E : Type 0} → (sdp : Option Sdp) (view : Held) (next : ℕ) (outcome : Outcome E) (after : List LineRow) → RepliesToOffer sdp view next outcome after → IsTable view.lines → IsTable after
-taken_table None view next NoSuch after takes table = same_table view.lines after takes table
-taken_table (Some sdp) view next (Answered k) after takes table = same_table _ after takes.1 (unrefused_table view None sdp table takes.0)
-taken_table (Some sdp) view next (Refused (RemoteSdp why)) after takes table = same_table view.lines after takes.1 table
-taken_table (Some sdp) view next (Refused (SdpRefused error)) after takes table = same_table view.lines after takes.1 table
-taken_table (Some sdp) view next (Refused (Dtls Fault)) after takes table = same_table view.lines after takes.1 table
-taken_table (Some sdp) view next (Refused (Sctp error)) after takes table = same_table view.lines after takes.2 table
-taken_table (Some sdp) view next (Refused PeerAlloc) after takes table = same_table view.lines after takes table
+taken_table : {E : Type 0} → (sdp : Signalled) (view : Held) (next : ℕ) (outcome : Outcome E) (after : List LineRow) → RepliesToOffer sdp view next outcome after → IsTable view.lines → IsTable after
+taken_table NotMade view next NoSuch after takes table = same_table view.lines after takes table
+taken_table (Unreadable line) view next (Refused error) after takes table = same_table view.lines after takes.1 table
+taken_table (Readable sdp) view next (Answered k) after takes table = same_table _ after takes.1 (unrefused_table view None sdp table takes.0)
+taken_table (Readable sdp) view next (Refused (RemoteSdp why)) after takes table = same_table view.lines after takes.1 table
+taken_table (Readable sdp) view next (Refused (SdpRefused error)) after takes table = same_table view.lines after takes.1 table
+taken_table (Readable sdp) view next (Refused (Dtls Fault)) after takes table = same_table view.lines after takes.1 table
+taken_table (Readable sdp) view next (Refused (Sctp error)) after takes table = same_table view.lines after takes.2 table
+taken_table (Readable sdp) view next (Refused PeerAlloc) after takes table = same_table view.lines after takes table
 taken_table sdp view next outcome after takes table = absurd takes
 
-answer_table : {E : Type 0} → (held right : Bool) (asked : Asked) (sdp : Option Sdp) (view : Held) (outcome : Outcome E) (after : List LineRow)
+answer_table : {E : Type 0} → (held right : Bool) (asked : Asked) (sdp : Signalled) (view : Held) (outcome : Outcome E) (after : List LineRow)
     → RepliesToAnswer held right asked sdp view outcome after → IsTable view.lines → IsTable after
 answer_table false right asked sdp view NoSuch after takes table = same_table view.lines after takes table
-answer_table true right asked None view NoSuch after takes table = same_table view.lines after takes table
-answer_table true false asked (Some sdp) view (Refused ChangesOutOfOrder) after takes table = same_table view.lines after takes table
-answer_table true true asked (Some sdp) view Finished after takes table = same_table _ after takes.1 (unrefused_table view (Some asked) sdp table takes.0)
-answer_table true true asked (Some sdp) view (Refused (RemoteSdp why)) after takes table = same_table view.lines after takes.1 table
-answer_table true true asked (Some sdp) view (Refused (SdpRefused error)) after takes table = same_table view.lines after takes.1 table
-answer_table true true asked (Some sdp) view (Refused (Dtls Fault)) after takes table = same_table view.lines after takes.1 table
-answer_table true true asked (Some sdp) view (Refused (Sctp error)) after takes table = same_table view.lines after takes.2 table
-answer_table true true asked (Some sdp) view (Refused PeerAlloc) after takes table = same_table view.lines after takes table
+answer_table true right asked NotMade view NoSuch after takes table = same_table view.lines after takes table
+answer_table true right asked (Unreadable line) view (Refused error) after takes table = same_table view.lines after takes.1 table
+answer_table true false asked (Readable sdp) view (Refused ChangesOutOfOrder) after takes table = same_table view.lines after takes table
+answer_table true true asked (Readable sdp) view Finished after takes table = same_table _ after takes.1 (unrefused_table view (Some asked) sdp table takes.0)
+answer_table true true asked (Readable sdp) view (Refused (RemoteSdp why)) after takes table = same_table view.lines after takes.1 table
+answer_table true true asked (Readable sdp) view (Refused (SdpRefused error)) after takes table = same_table view.lines after takes.1 table
+answer_table true true asked (Readable sdp) view (Refused (Dtls Fault)) after takes table = same_table view.lines after takes.1 table
+answer_table true true asked (Readable sdp) view (Refused (Sctp error)) after takes table = same_table view.lines after takes.2 table
+answer_table true true asked (Readable sdp) view (Refused PeerAlloc) after takes table = same_table view.lines after takes table
 answer_table held right asked sdp view outcome after takes table = absurd takes
 
 -- a reply that is sound leaves a table of a table

@@ -1,5 +1,5 @@
 -- What a poll does to the counts of faults: none falls, and an error that tells a fault of a part comes only where that part's count rose.
-use Rattle.std.proofs.Common.{◌≡◌, ◌≤◌, inr, if◌then◌else◌, ◌∙◌, ℕ, Bool, true, false, Option, Some, None, Result, Ok, Err, refl, sym, ap, subst}
+use Rattle.std.proofs.Common.{◌≡◌, ◌≤◌, inr, if◌then◌else◌, ◌∙◌, ℕ, Bool, true, false, List, [], ◌∷◌, Option, Some, None, Result, Ok, Err, refl, sym, ap, subst}
 use Rattle.rtc_parts_values.specs.Why.{Other}
 use Rattle.rtc_media.specs.MediaActs.{MediaTaken, MediaStirred, EventTold, FallibleTold, FeedbackCleared}
 use Rattle.rtc_media.specs.declared.media_error.MediaError.{MediaError}
@@ -19,6 +19,10 @@ use Rattle.rtc_polling.specs.Closing.{is_closing_complete}
 use Rattle.rtc_polling.specs.DtlsStages.{is_dtls_due}
 use Rattle.rtc_polling.specs.MediaStages.{TellsMedia, TellsFallibleMedia}
 use Rattle.rtc_polling.specs.SendStages.{SendsChecks, SendsDtlsPacket, SendsMediaDatagram, SendsBy, SendsByPair}
+use Rattle.rtc_media.specs.declared.stats_event.StatsEvent.{StatsEvent}
+use Rattle.rtc_media.specs.declared.stats_event.StatsEvent.TheVariants as reports
+use Rattle.rtc_statistics.specs.Stats.{Reporting}
+use Rattle.rtc_polling.specs.Statistics.{TellsReport, TellsReportOf, TellsStatistics}
 use Rattle.rtc_polling.specs.StreamStages.{TellsStreams}
 use Rattle.rtc_polling.specs.Walk.{StartsOverWhenDue, TellsConnection, TellsArrivals, SendsDatagrams, VisitsParts, WaitsIf, AnswersMet, Walks, PollsPeerFrom, PollsPeer}
 use Rattle.rtc_history.specs.Memory.{CountedPart}
@@ -63,9 +67,31 @@ module _ {I D S M E X T W N : Type 0} (m : Meanings I D S M E X T W N) (laws : P
       (grows_quiet (m.media.faults p.core.media) (m.media.faults q.core.media) false refl (fallible_later p.core.media q.core.media p.core.greatest (Err MediaAlloc) h.0))
   fallible_told_counts p _ q h = absurd h
 
+  -- statistics
+  report_counts : (events : List StatsEvent) (stats : Reporting) (p : PolledPeer I D S M N) (r : Met E) (q : PolledPeer I D S M N)
+      → TellsReport events stats p r q → Counts m p (met_tells r) q
+  report_counts [] stats p r q h = still m p p Nothing r q (λ part. refl) h.0 h.1 (record { dtls = refl; media = refl; association = refl })
+  report_counts (reports.Peer report ∷ events) stats p r q h =
+      still m p _ (MetEvent (told.PeerStats report)) r q (λ part. refl) h.0 h.1 (record { dtls = refl; media = refl; association = refl })
+  report_counts (reports.MediaIngress report ∷ events) stats p r q h =
+      still m p _ (MetEvent (told.MediaIngressStats report)) r q (λ part. refl) h.0 h.1 (record { dtls = refl; media = refl; association = refl })
+  report_counts (reports.MediaEgress report ∷ events) stats p r q h =
+      still m p _ (MetEvent (told.MediaEgressStats report)) r q (λ part. refl) h.0 h.1 (record { dtls = refl; media = refl; association = refl })
+
+  report_counts_of : (stats : Option Reporting) (p : PolledPeer I D S M N) (r : Met E) (q : PolledPeer I D S M N)
+      → TellsReportOf stats p r q → Counts m p (met_tells r) q
+  report_counts_of None p r q h = still m p p Nothing r q (λ part. refl) h.0 h.1 (record { dtls = refl; media = refl; association = refl })
+  report_counts_of (Some stats) p r q h = report_counts stats.events stats p r q h
+
+  statistics_told_count : CountsStage m (TellsStatistics {I = I} {D = D} {S = S} {M = M} {E = E} {N = N})
+  unfolding TellsStatistics
+  statistics_told_count p r q h = report_counts_of p.transport.stats p r q h
+
   arrivals_count : CountsStage m (TellsArrivals m)
   unfolding TellsArrivals
-  arrivals_count = else_counts m (TellsMedia m) (TellsFallibleMedia m) media_told_counts fallible_told_counts
+  arrivals_count =
+      else_counts m (TellsMedia m) _ media_told_counts
+      (else_counts m (TellsFallibleMedia m) TellsStatistics fallible_told_counts statistics_told_count)
 
   -- ---- datagrams
 

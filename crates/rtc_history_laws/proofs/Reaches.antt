@@ -23,7 +23,7 @@ use Rattle.rtc_history_laws.proofs.StanceRuns.{IsFreshStance, StanceReached}
 use Rattle.rtc_history_laws.proofs.Bounds.{IsWithin}
 use Rattle.rtc_history_laws.proofs.ChannelCounts.{steps_size-append}
 use Rattle.rtc_history_laws.proofs.Tells.{Tells, SideTells, ChannelsTell, within}
-use Rattle.rtc_history_laws.proofs.Around.{Around, entry, size_grows, remote_sdp-told, length-told, sdp_within}
+use Rattle.rtc_history_laws.proofs.Around.{Around, entry, size_grows, remote_sdp-told, length-told}
 use Rattle.rtc_history_laws.proofs.SeenSides.{SideSees, view_is}
 use Rattle.rtc_history_laws.proofs.SeenSteps.{step_sees}
 use Rattle.rtc_history_laws.proofs.NegotiateSteps.{negotiate_reply, negotiate_tells}
@@ -69,9 +69,9 @@ pub step_tells : {E : Type 0} → (past : List (Entry E)) (old new : PairStance)
 step_tells past old new (Negotiate at ops apply) outcome table made tells performs around =
     negotiate_tells past at ops apply old new outcome table made performs.acts around tells
 step_tells past old new (AcceptOffer at k) outcome table made tells performs around =
-    offer_tells past at k (kept_remote_sdp true old.sdps at k) old new outcome table made (λ sdp. sdp_within past old true at k sdp tells) performs.acts around tells
+    offer_tells past at k (kept_remote_sdp true old.sdps at k) old new outcome table made performs.acts around tells
 step_tells past old new (AcceptAnswer at t a) outcome table made tells performs around =
-    answer_tells past at t a (held_token old.sdps at t) (kept_remote_sdp false old.sdps at a) old new outcome table made (λ sdp. sdp_within past old false at a sdp tells) refl performs.acts around tells
+    answer_tells past at t a (held_token old.sdps at t) (kept_remote_sdp false old.sdps at a) old new outcome table made refl performs.acts around tells
 step_tells past old new (Time at now) outcome table made tells performs around = rest_tells past (Time at now) outcome table made old new _ tt (told_rests _ (old.sides at) outcome table (new.sides at) handled_rests performs.acts.told) performs.acts around tells
 step_tells past old new (Datagram at packet now) outcome table made tells performs around = rest_tells past (Datagram at packet now) outcome table made old new _ tt (told_rests _ (old.sides at) outcome table (new.sides at) heard_rests performs.acts.told) performs.acts around tells
 step_tells past old new (Poll at) outcome table made tells performs around = rest_tells past (Poll at) outcome table made old new _ tt (told_rests _ (old.sides at) outcome table (new.sides at) polled_rests performs.acts.told) performs.acts around tells
@@ -93,7 +93,6 @@ fresh_channels E at s none no_rows = record {
 fresh_side : (E : Type 0) (at : Side) (s : Stance) (kept : List Kept) (size : ℕ) → IsJustBuilt s → s.rows ≡ [] → kept ≡ [] → SideTells {E = E} [] at s kept size
 fresh_side E at s kept size built no_rows none =
     let counter : s.counter ≡ 0 = built.counter in
-    let rows : length s.lines ≡ 0 = ap length built.lines in
     rw none (record {
       rows = built.lines;
       tokens = λ t. record {
@@ -104,9 +103,7 @@ fresh_side E at s kept size built no_rows none =
         restarts = λ token is. absurd (let e : None ≡ Some token = is in cc);
       };
       counts = omega arith;
-      few = omega arith;
       one_each = λ t u token other is. absurd (let e : None ≡ Some token = is in cc);
-      fits = λ t token is. absurd (let e : None ≡ Some token = is in cc);
       channels = fresh_channels E at s built.channels no_rows;
     })
 
@@ -118,7 +115,6 @@ fresh_tells E start fresh =
       says = rw none refl;
       later = λ t most. refl;
       count = rw none (omega arith);
-      each = rw none (λ k d below. absurd (omega arith));
     }
 
 fresh_sees : (E : Type 0) (start : PairStance) → IsFreshStance start → (at : Side) → SideSees {E = E} start.sides [] at (start.sides at)

@@ -1,5 +1,5 @@
 -- Steps that negotiate nothing: inputs, polls, writes and closes. They leave what negotiation reads of both sides.
-use Rattle.std.proofs.Common.{◌≡◌, ◌∙◌, ℕ, Bool, true, false, List, [], ◌∷◌, length, Option, Some, None, refl, sym, ap}
+use Rattle.std.proofs.Common.{◌≡◌, ◌∙◌, ℕ, Bool, true, false, List, [], ◌∷◌, Option, Some, None, refl, sym, ap}
 use Rattle.rtc_sdp_values.specs.declared.line_row.LineRow.{LineRow}
 use Rattle.rtc_channels.specs.declared.channel_row.ChannelRow.{ChannelRow}
 use Rattle.rtc_peer_state.specs.Stance.{Stance}
@@ -160,7 +160,7 @@ pub rest_tells : {E : Type 0} → (past : List (Entry E)) (step : Step) (outcome
     → Tells (entry step outcome table made ∷ past) new
 rest_tells past step outcome table made old new may rest quiet does around tells =
     let at = side_of step in
-    quiet_tells false past step outcome table made old new (ap (λ (p : Stance). length p.lines) does.peer) does.sdps_kept
+    quiet_tells false past step outcome table made old new does.sdps_kept
     (rest_rows may outcome table (old.sides at) (new.sides at) (before at past) (tells.sides at).rows does.told)
     (channels_next past step outcome table made (old.sides at) (new.sides at) does.numbered
     (rest_channels may outcome table (old.sides at) (new.sides at) (channels_shown at past) (sym (tells.sides at).channels.shown) does.told) (tells.sides at).channels)

@@ -15,8 +15,11 @@ use Rattle.rtc_sdp_values.specs.declared.media_line.MediaLine.{MediaLine}
 use Rattle.rtc_sdp_values.specs.Mids.{is_among, are_distinct}
 use Rattle.rtc_tables.specs.ParsedLines.{parsed_line, parsed_lines}
 use Rattle.rtc_tables.specs.Table.{Distinct, is_of, has_mid}
+use Rattle.rtc_peer_state.specs.declared.line_media.LineMedia.{LineMedia}
 use Rattle.rtc_peer_state.specs.declared.sdp_head.SdpHead.{SdpHead}
-use Rattle.rtc_peer_state.specs.MadeSdp.{is_stopped, row_line, live_mids, with_candidates, sdp_of_rows}
+use Rattle.rtc_peer_state.specs.declared.told_row.ToldRow.{ToldRow}
+use Rattle.rtc_peer_state.specs.MadeSdp.{is_stopped, row_line, told_line, row_told, live_mids, with_candidates, sdp_of_rows}
+use Rattle.rtc_peer_state.proofs.ToldRows.{mid_of_line}
 use Rattle.rtc_history.specs.SaidRows.{row_said, are_live}
 use Rattle.rtc_history_laws.proofs.AddedRows.{among_mids}
 
@@ -64,18 +67,21 @@ stopped_unnamed front row rest distinct stopped =
     (or_from _ _ (unnamed front (row_mid row) parts.0) (unnamed rest (row_mid row) parts.1))
 
 -- the line of a row says it, where no group names the row if it is stopped
-line_says : (head : SdpHead) (group : List (List ℕ)) (row : LineRow) → (is_stopped row ≡ true → is_among group (row_mid row) ≡ false) → parsed_line (group ∷ []) (row_line head row) ≡ row_said row
-line_says head group (App place mid) unnamed = refl
-line_says head group (Media place mid kind dir false remote_created) unnamed = refl
-line_says head group (Media place mid kind dir true remote_created) unnamed = rw (unnamed refl) refl
+line_says : (head : SdpHead) (group : List (List ℕ)) (media : LineMedia) (row : LineRow) → (is_stopped row ≡ true → is_among group (row_mid row) ≡ false)
+    → parsed_line (group ∷ []) (row_line head media row) ≡ row_said row
+line_says head group media (App place mid) unnamed = refl
+line_says head group media (Media place mid kind dir false remote_created) unnamed = refl
+line_says head group media (Media place mid kind dir true remote_created) unnamed = rw (unnamed refl) refl
 
-rows_say : (head : SdpHead) (all front rows : List LineRow) → all ≡ front ++ rows → Distinct all
-    → map (parsed_line (live_mids all ∷ [])) (map (row_line head) rows) ≡ map row_said rows
+rows_say : (head : SdpHead) (all front : List LineRow) (told : List ToldRow) → all ≡ front ++ map row_told told → Distinct all
+    → map (parsed_line (live_mids all ∷ [])) (map (told_line head) told) ≡ map row_said (map row_told told)
 rows_say head all front [] is distinct = refl
-rows_say head all front (row ∷ rows) is distinct =
-    let first : parsed_line (live_mids all ∷ []) (row_line head row) ≡ row_said row =
-    line_says head (live_mids all) row (λ stopped. rw is (stopped_unnamed front row rows (subst Distinct is distinct) stopped)) in
-    let rest = rows_say head all (front ++ row ∷ []) rows (is ∙ sym (append_assoc front (row ∷ []) rows)) distinct in
+rows_say head all front (one ∷ told) is distinct =
+    let row : LineRow = one.row in
+    let rows : List LineRow = map row_told told in
+    let first : parsed_line (live_mids all ∷ []) (row_line head one.media row) ≡ row_said row =
+    line_says head (live_mids all) one.media row (λ stopped. rw is (stopped_unnamed front row rows (subst Distinct is distinct) stopped)) in
+    let rest = rows_say head all (front ++ row ∷ []) told (is ∙ sym (append_assoc front (row ∷ []) rows)) distinct in
     cons_same first rest
   where
     cons_same : {A : Type 0} {x y : A} {xs ys : List A} → x ≡ y → xs ≡ ys → x ∷ xs ≡ y ∷ ys
@@ -99,16 +105,19 @@ grouped_with group candidates [] = refl
 grouped_with group candidates (line ∷ lines) = refl
 
 -- the SDP of rows with distinct mids says them
-pub sdp_says : (head : SdpHead) (rows : List LineRow) → Distinct rows → parsed_lines (sdp_of_rows head rows) ≡ map row_said rows
-sdp_says head rows distinct = parsed_with (live_mids rows ∷ []) head.candidates (map (row_line head) rows) ∙ rows_say head rows [] rows refl distinct
+pub sdp_says : (head : SdpHead) (told : List ToldRow) → Distinct (map row_told told) → parsed_lines (sdp_of_rows head told) ≡ map row_said (map row_told told)
+sdp_says head told distinct =
+    parsed_with (live_mids (map row_told told) ∷ []) head.candidates (map (told_line head) told)
+    ∙ rows_say head (map row_told told) [] told refl distinct
 
 -- ---- an SDP fits together
 
 -- the mids of the lines of rows are the rows'
-mids_of_rows : (head : SdpHead) (rows : List LineRow) → mids_of (map (row_line head) rows) ≡ map row_mid rows
+mids_of_rows : (head : SdpHead) (told : List ToldRow) → mids_of (map (told_line head) told) ≡ map row_mid (map row_told told)
 mids_of_rows head [] = refl
-mids_of_rows head (Media place mid kind dir stopped remote_created ∷ rows) = ap (λ mids. mid ∷ mids) (mids_of_rows head rows)
-mids_of_rows head (App place mid ∷ rows) = ap (λ mids. mid ∷ mids) (mids_of_rows head rows)
+mids_of_rows head (one ∷ told) =
+    ap (λ (mid : List ℕ). mid ∷ mids_of (map (told_line head) told)) (mid_of_line head one.media one.row)
+    ∙ ap (λ (mids : List (List ℕ)). row_mid one.row ∷ mids) (mids_of_rows head told)
 
 distinct_mids : (rows : List LineRow) → Distinct rows → are_distinct (map row_mid rows) ≡ true
 distinct_mids [] distinct = refl
@@ -175,13 +184,18 @@ rows_grouped (row ∷ rows) = by (is_stopped row) (rows_grouped rows)
     by true rest = (refl, rest)
     by false rest = (among_itself (live_mids rows) (row_mid row), grouped_more (live_mids rows) (row_mid row) rows rest)
 
-lines_grouped : (head : SdpHead) (group : List (List ℕ)) (rows : List LineRow) → AreGrouped group rows → are_grouped group (map (row_line head) rows) ≡ true
+disabled_of_line : (head : SdpHead) (media : LineMedia) (row : LineRow) → (row_line head media row).disabled ≡ is_stopped row
+disabled_of_line head media (Media place mid kind dir stopped remote_created) = refl
+disabled_of_line head media (App place mid) = refl
+
+lines_grouped : (head : SdpHead) (group : List (List ℕ)) (told : List ToldRow) → AreGrouped group (map row_told told) → are_grouped group (map (told_line head) told) ≡ true
 lines_grouped head group [] grouped = refl
-lines_grouped head group (Media place mid kind dir stopped remote_created ∷ rows) grouped = rw (grouped.0, lines_grouped head group rows grouped.1) refl
-lines_grouped head group (App place mid ∷ rows) grouped = rw (grouped.0, lines_grouped head group rows grouped.1) refl
+lines_grouped head group (one ∷ told) grouped =
+    rw (disabled_of_line head one.media one.row, mid_of_line head one.media one.row, grouped.0, lines_grouped head group told grouped.1) refl
 
 -- the SDP of rows with distinct mids, one of which is live, fits together
-pub sdp_fits : (head : SdpHead) (rows : List LineRow) → Distinct rows → are_live rows ≡ true → inconsistency (sdp_of_rows head rows) ≡ None
+pub sdp_fits : (head : SdpHead) (told : List ToldRow) → Distinct (map row_told told) → are_live (map row_told told) ≡ true → inconsistency (sdp_of_rows head told) ≡ None
 unfolding inconsistency
-sdp_fits head rows distinct live =
-    rw (some_live rows live, mids_with head.candidates (map (row_line head) rows), grouped_with (live_mids rows) head.candidates (map (row_line head) rows), mids_of_rows head rows, live_known rows, lines_grouped head (live_mids rows) rows (rows_grouped rows), distinct_mids rows distinct) refl
+sdp_fits head told distinct live =
+    let rows : List LineRow = map row_told told in
+    rw (some_live rows live, mids_with head.candidates (map (told_line head) told), grouped_with (live_mids rows) head.candidates (map (told_line head) told), mids_of_rows head told, live_known rows, lines_grouped head (live_mids rows) told (rows_grouped rows), distinct_mids rows distinct) refl

@@ -10,6 +10,7 @@ use Rattle.rtc_sdp_values.specs.declared.line_row.LineRow.{LineRow}
 use Rattle.rtc_sdp_values.specs.declared.sdp.Sdp.{Sdp}
 use Rattle.rtc_change.specs.Plans.{no_fingerprint}
 use Rattle.rtc_peer_state.specs.Stance.{Stance, held_by}
+use Rattle.rtc_history.specs.Signalled.{sdp_read}
 use Rattle.rtc_history.specs.declared.side.Side.{Side}
 use Rattle.rtc_history.specs.declared.step.Step.{Step}
 use Rattle.rtc_history.specs.declared.step.Step.TheVariants.{Negotiate, AcceptOffer, AcceptAnswer, Time, Datagram, Poll, Drain, Write, CloseChannel, Close}
@@ -83,8 +84,8 @@ other_sees {E} fresh past e at s t another same sees = sees_still fresh past e a
     none_there sdp b is = rw is refl
 
     by : (step : Step) (outcome : Outcome E) → same_side (side_of step) at ≡ false → accepted_by at step outcome past ≡ None
-    by (AcceptOffer side k) (Answered n) another = none_there (remote_sdp true at k past) (same_side side at) another
-    by (AcceptAnswer side t a) Finished another = none_there (remote_sdp false at a past) (same_side side at) another
+    by (AcceptOffer side k) (Answered n) another = none_there (sdp_read (remote_sdp true at k past)) (same_side side at) another
+    by (AcceptAnswer side t a) Finished another = none_there (sdp_read (remote_sdp false at a past)) (same_side side at) another
     by (Negotiate side ops apply) outcome another = refl
     by (AcceptOffer side k) (Negotiated answers what) another = refl
     by (AcceptOffer side k) Finished another = refl

@@ -1,7 +1,6 @@
 -- What a side knows of the other one after a step.
 use Rattle.std.proofs.Common.{◌≡◌, Bool, true, false, not, ◌&&◌, List, [], ◌∷◌, Option, Some, None, refl, ◌∙◌, ap, cond, ℕ}
 use Rattle.std.specs.Prelude.{is_some, Ok}
-use Rattle.rtc_sdp_values.specs.declared.sdp.Sdp.{Sdp}
 use Rattle.rtc_dtls.specs.declared.dtls_error.DtlsError.TheVariants.{Fault, WouldBlock, Alloc as DtlsAlloc}
 use Rattle.rtc_change.specs.Plans.{asked_by}
 use Rattle.rtc_change.specs.PendingOffer.{PendingOffer}
@@ -16,6 +15,7 @@ use Rattle.rtc_sctp_values.specs.declared.sctp_error.SctpError.TheVariants.{Prot
 use Rattle.rtc_peer_state.specs.declared.rtc_error.RtcError.TheVariants.{Net, Media as MediaFailed}
 use Rattle.rtc_peer_state.specs.declared.rtc_error.RtcError.TheVariants.{RemoteSdp, Sdp as SdpRefused, Dtls, Sctp, ChangesOutOfOrder, BadChannel, Alloc as PeerAlloc}
 use Rattle.rtc_peer_state.proofs.StanceCalls.{StanceChangesLine, stance_alone}
+use Rattle.rtc_history.specs.Signalled.{Signalled, NotMade, Unreadable, Readable, sdp_read}
 use Rattle.rtc_history.specs.declared.side.Side.{Side}
 use Rattle.rtc_history.specs.declared.kept.Kept.{Kept}
 use Rattle.rtc_history.specs.declared.op.Op.{Op}
@@ -106,52 +106,60 @@ here_breaks at b is = rw (same_side-self at, is) refl
 fault_breaks : (error : SctpError) → error ≡ Proto AssociationFault → is_fault (Sctp error) ≡ true
 fault_breaks error is = rw is refl
 
-offer_sees : {E : Type 0} → (fresh : Stances) (past : List (Entry E)) (at : Side) (k : ℕ) (offer : Option Sdp) (old new : Stance) (kept kept' : List Kept) (outcome : Outcome E) (table : Option Table) (made : List MadeSdp) → remote_sdp true at k past ≡ offer
+offer_sees : {E : Type 0} → (fresh : Stances) (past : List (Entry E)) (at : Side) (k : ℕ) (offer : Signalled) (old new : Stance) (kept kept' : List Kept) (outcome : Outcome E) (table : Option Table) (made : List MadeSdp) → remote_sdp true at k past ≡ offer
     → StanceStepAcceptsOffer at offer old kept outcome table new kept' → SideSees fresh past at old → SideSees fresh (entry (AcceptOffer at k) outcome table made ∷ past) at new
-offer_sees fresh past at k None old new kept kept' Alloc None made said h sees = sees_still fresh past _ at old new (ap (λ s. s.ice) h.peer) (ap (λ s. s.fingerprint) h.peer) refl sees
-offer_sees fresh past at k (Some sdp) old new kept kept' Alloc None made said h sees = sees_still fresh past _ at old new (ap (λ s. s.ice) h.peer) (ap (λ s. s.fingerprint) h.peer) refl sees
-offer_sees fresh past at k None old new kept kept' NoSuch (Some table) made said h sees = sees_still fresh past _ at old new (ap (λ s. s.ice) h.0.peer) (ap (λ s. s.fingerprint) h.0.peer) refl sees
-offer_sees fresh past at k (Some sdp) old new kept kept' (Answered n) (Some table) made said h sees =
+offer_sees fresh past at k NotMade old new kept kept' Alloc None made said h sees = sees_still fresh past _ at old new (ap (λ s. s.ice) h.peer) (ap (λ s. s.fingerprint) h.peer) refl sees
+offer_sees fresh past at k (Unreadable line) old new kept kept' Alloc None made said h sees = sees_still fresh past _ at old new (ap (λ s. s.ice) h.peer) (ap (λ s. s.fingerprint) h.peer) refl sees
+offer_sees fresh past at k (Readable sdp) old new kept kept' Alloc None made said h sees = sees_still fresh past _ at old new (ap (λ s. s.ice) h.peer) (ap (λ s. s.fingerprint) h.peer) refl sees
+offer_sees fresh past at k NotMade old new kept kept' NoSuch (Some table) made said h sees = sees_still fresh past _ at old new (ap (λ s. s.ice) h.0.peer) (ap (λ s. s.fingerprint) h.0.peer) refl sees
+offer_sees fresh past at k (Unreadable line) old new kept kept' (Refused error) (Some table) made said h sees =
+    sees_still fresh past _ at old new (ap (λ s. s.ice) h.1.peer) (ap (λ s. s.fingerprint) h.1.peer) refl sees
+offer_sees fresh past at k (Readable sdp) old new kept kept' (Answered n) (Some table) made said h sees =
     sees_accepted fresh past _ at old new sdp (ap (λ s. s.ice.lite) h.1.rest) (ap (λ s. s.ice.remote) h.1.rest)
     (ap (λ s. is_some s.fingerprint) h.1.rest ∙ known_after old.fingerprint _ (unrefused (held_by old) None sdp h.1.passes).known)
-    (here_is at (remote_sdp true at k past) ∙ said) sees
-offer_sees fresh past at k (Some sdp) old new kept kept' (Refused (RemoteSdp why)) (Some table) made said h sees = sees_still fresh past _ at old new (ap (λ s. s.ice) h.0.1) (ap (λ s. s.fingerprint) h.0.1) refl sees
-offer_sees fresh past at k (Some sdp) old new kept kept' (Refused (SdpRefused error)) (Some table) made said h sees = sees_still fresh past _ at old new (ap (λ s. s.ice) h.0.1) (ap (λ s. s.fingerprint) h.0.1) refl sees
-offer_sees fresh past at k (Some sdp) old new kept kept' (Refused (Dtls Fault)) (Some table) made said h sees = sees_broken fresh past _ at old new h.0.1.breaks.lite (here_breaks at true refl) sees
-offer_sees fresh past at k (Some sdp) old new kept kept' (Refused (Sctp error)) (Some table) made said h sees = sees_broken fresh past _ at old new h.0.2.breaks.lite (here_breaks at (is_fault (Sctp error)) (fault_breaks error h.0.0)) sees
-offer_sees fresh past at k (Some sdp) old new kept kept' (Refused PeerAlloc) (Some table) made said h sees = sees_broken fresh past _ at old new h.0.breaks.lite (here_breaks at true refl) sees
-offer_sees fresh past at k (Some sdp) old new kept kept' (Refused (Dtls WouldBlock)) (Some table) made said h sees = absurd h.0
-offer_sees fresh past at k (Some sdp) old new kept kept' (Refused (Dtls DtlsAlloc)) (Some table) made said h sees = absurd h.0
-offer_sees fresh past at k (Some sdp) old new kept kept' (Refused ChangesOutOfOrder) (Some table) made said h sees = absurd h.0
-offer_sees fresh past at k (Some sdp) old new kept kept' (Refused (Net cause)) (Some table) made said h sees = absurd h.0
-offer_sees fresh past at k (Some sdp) old new kept kept' (Refused (MediaFailed cause)) (Some table) made said h sees = absurd h.0
-offer_sees fresh past at k (Some sdp) old new kept kept' (Refused BadChannel) (Some table) made said h sees = absurd h.0
+    (here_is at (sdp_read (remote_sdp true at k past)) ∙ ap sdp_read said) sees
+offer_sees fresh past at k (Readable sdp) old new kept kept' (Refused (RemoteSdp why)) (Some table) made said h sees = sees_still fresh past _ at old new (ap (λ s. s.ice) h.0.1) (ap (λ s. s.fingerprint) h.0.1) refl sees
+offer_sees fresh past at k (Readable sdp) old new kept kept' (Refused (SdpRefused error)) (Some table) made said h sees = sees_still fresh past _ at old new (ap (λ s. s.ice) h.0.1) (ap (λ s. s.fingerprint) h.0.1) refl sees
+offer_sees fresh past at k (Readable sdp) old new kept kept' (Refused (Dtls Fault)) (Some table) made said h sees = sees_broken fresh past _ at old new h.0.1.breaks.lite (here_breaks at true refl) sees
+offer_sees fresh past at k (Readable sdp) old new kept kept' (Refused (Sctp error)) (Some table) made said h sees = sees_broken fresh past _ at old new h.0.2.breaks.lite (here_breaks at (is_fault (Sctp error)) (fault_breaks error h.0.0)) sees
+offer_sees fresh past at k (Readable sdp) old new kept kept' (Refused PeerAlloc) (Some table) made said h sees = sees_broken fresh past _ at old new h.0.breaks.lite (here_breaks at true refl) sees
+offer_sees fresh past at k (Readable sdp) old new kept kept' (Refused (Dtls WouldBlock)) (Some table) made said h sees = absurd h.0
+offer_sees fresh past at k (Readable sdp) old new kept kept' (Refused (Dtls DtlsAlloc)) (Some table) made said h sees = absurd h.0
+offer_sees fresh past at k (Readable sdp) old new kept kept' (Refused ChangesOutOfOrder) (Some table) made said h sees = absurd h.0
+offer_sees fresh past at k (Readable sdp) old new kept kept' (Refused (Net cause)) (Some table) made said h sees = absurd h.0
+offer_sees fresh past at k (Readable sdp) old new kept kept' (Refused (MediaFailed cause)) (Some table) made said h sees = absurd h.0
+offer_sees fresh past at k (Readable sdp) old new kept kept' (Refused BadChannel) (Some table) made said h sees = absurd h.0
 offer_sees fresh past at k offer old new kept kept' outcome table made said h sees = absurd h
 
-answer_sees : {E : Type 0} → (fresh : Stances) (past : List (Entry E)) (at : Side) (t a : ℕ) (token : Option PendingOffer) (sdp : Option Sdp) (old new : Stance) (kept kept' : List Kept) (outcome : Outcome E) (table : Option Table) (made : List MadeSdp)
+answer_sees : {E : Type 0} → (fresh : Stances) (past : List (Entry E)) (at : Side) (t a : ℕ) (token : Option PendingOffer) (sdp : Signalled) (old new : Stance) (kept kept' : List Kept) (outcome : Outcome E) (table : Option Table) (made : List MadeSdp)
     → remote_sdp false at a past ≡ sdp → StanceStepAcceptsAnswer t token sdp old kept outcome table new kept' → SideSees fresh past at old → SideSees fresh (entry (AcceptAnswer at t a) outcome table made ∷ past) at new
-answer_sees fresh past at t a None None old new kept kept' Alloc None made said h sees = sees_still fresh past _ at old new (ap (λ s. s.ice) h.peer) (ap (λ s. s.fingerprint) h.peer) refl sees
-answer_sees fresh past at t a None (Some sdp) old new kept kept' Alloc None made said h sees = sees_still fresh past _ at old new (ap (λ s. s.ice) h.peer) (ap (λ s. s.fingerprint) h.peer) refl sees
-answer_sees fresh past at t a (Some token) None old new kept kept' Alloc None made said h sees = sees_still fresh past _ at old new (ap (λ s. s.ice) h.peer) (ap (λ s. s.fingerprint) h.peer) refl sees
-answer_sees fresh past at t a (Some token) (Some sdp) old new kept kept' Alloc None made said h sees = sees_still fresh past _ at old new (ap (λ s. s.ice) h.peer) (ap (λ s. s.fingerprint) h.peer) refl sees
-answer_sees fresh past at t a None None old new kept kept' NoSuch (Some table) made said h sees = sees_still fresh past _ at old new (ap (λ s. s.ice) h.0.peer) (ap (λ s. s.fingerprint) h.0.peer) refl sees
-answer_sees fresh past at t a None (Some sdp) old new kept kept' NoSuch (Some table) made said h sees = sees_still fresh past _ at old new (ap (λ s. s.ice) h.0.peer) (ap (λ s. s.fingerprint) h.0.peer) refl sees
-answer_sees fresh past at t a (Some token) None old new kept kept' NoSuch (Some table) made said h sees = sees_still fresh past _ at old new (ap (λ s. s.ice) h.0.peer) (ap (λ s. s.fingerprint) h.0.peer) refl sees
-answer_sees fresh past at t a (Some token) (Some sdp) old new kept kept' Finished (Some table) made said h sees =
+answer_sees fresh past at t a None NotMade old new kept kept' Alloc None made said h sees = sees_still fresh past _ at old new (ap (λ s. s.ice) h.peer) (ap (λ s. s.fingerprint) h.peer) refl sees
+answer_sees fresh past at t a None (Unreadable line) old new kept kept' Alloc None made said h sees = sees_still fresh past _ at old new (ap (λ s. s.ice) h.peer) (ap (λ s. s.fingerprint) h.peer) refl sees
+answer_sees fresh past at t a None (Readable sdp) old new kept kept' Alloc None made said h sees = sees_still fresh past _ at old new (ap (λ s. s.ice) h.peer) (ap (λ s. s.fingerprint) h.peer) refl sees
+answer_sees fresh past at t a (Some token) NotMade old new kept kept' Alloc None made said h sees = sees_still fresh past _ at old new (ap (λ s. s.ice) h.peer) (ap (λ s. s.fingerprint) h.peer) refl sees
+answer_sees fresh past at t a (Some token) (Unreadable line) old new kept kept' Alloc None made said h sees = sees_still fresh past _ at old new (ap (λ s. s.ice) h.peer) (ap (λ s. s.fingerprint) h.peer) refl sees
+answer_sees fresh past at t a (Some token) (Readable sdp) old new kept kept' Alloc None made said h sees = sees_still fresh past _ at old new (ap (λ s. s.ice) h.peer) (ap (λ s. s.fingerprint) h.peer) refl sees
+answer_sees fresh past at t a None NotMade old new kept kept' NoSuch (Some table) made said h sees = sees_still fresh past _ at old new (ap (λ s. s.ice) h.0.peer) (ap (λ s. s.fingerprint) h.0.peer) refl sees
+answer_sees fresh past at t a None (Unreadable line) old new kept kept' NoSuch (Some table) made said h sees = sees_still fresh past _ at old new (ap (λ s. s.ice) h.0.peer) (ap (λ s. s.fingerprint) h.0.peer) refl sees
+answer_sees fresh past at t a None (Readable sdp) old new kept kept' NoSuch (Some table) made said h sees = sees_still fresh past _ at old new (ap (λ s. s.ice) h.0.peer) (ap (λ s. s.fingerprint) h.0.peer) refl sees
+answer_sees fresh past at t a (Some token) NotMade old new kept kept' NoSuch (Some table) made said h sees = sees_still fresh past _ at old new (ap (λ s. s.ice) h.0.peer) (ap (λ s. s.fingerprint) h.0.peer) refl sees
+answer_sees fresh past at t a (Some token) (Unreadable line) old new kept kept' (Refused error) (Some table) made said h sees =
+    sees_still fresh past _ at old new (ap (λ s. s.ice) h.1.peer) (ap (λ s. s.fingerprint) h.1.peer) refl sees
+answer_sees fresh past at t a (Some token) (Readable sdp) old new kept kept' Finished (Some table) made said h sees =
     sees_accepted fresh past _ at old new sdp (ap (λ s. s.ice.lite) h.0.rest) (ap (λ s. s.ice.remote) h.0.rest)
     (ap (λ s. is_some s.fingerprint) h.0.rest ∙ known_after old.fingerprint _ (unrefused (held_by old) (Some (asked_by old.lines token)) sdp h.0.passes).known)
-    (here_is at (remote_sdp false at a past) ∙ said) sees
-answer_sees fresh past at t a (Some token) (Some sdp) old new kept kept' (Refused ChangesOutOfOrder) (Some table) made said h sees = sees_still fresh past _ at old new (ap (λ s. s.ice) h.0.1) (ap (λ s. s.fingerprint) h.0.1) refl sees
-answer_sees fresh past at t a (Some token) (Some sdp) old new kept kept' (Refused (RemoteSdp why)) (Some table) made said h sees = sees_still fresh past _ at old new (ap (λ s. s.ice) h.0.1.1) (ap (λ s. s.fingerprint) h.0.1.1) refl sees
-answer_sees fresh past at t a (Some token) (Some sdp) old new kept kept' (Refused (SdpRefused error)) (Some table) made said h sees = sees_still fresh past _ at old new (ap (λ s. s.ice) h.0.1.1) (ap (λ s. s.fingerprint) h.0.1.1) refl sees
-answer_sees fresh past at t a (Some token) (Some sdp) old new kept kept' (Refused (Dtls Fault)) (Some table) made said h sees = sees_broken fresh past _ at old new h.0.2.lite (here_breaks at true refl) sees
-answer_sees fresh past at t a (Some token) (Some sdp) old new kept kept' (Refused (Sctp error)) (Some table) made said h sees = sees_broken fresh past _ at old new h.0.3.lite (here_breaks at (is_fault (Sctp error)) (fault_breaks error h.0.1)) sees
-answer_sees fresh past at t a (Some token) (Some sdp) old new kept kept' (Refused PeerAlloc) (Some table) made said h sees = sees_broken fresh past _ at old new h.0.1.lite (here_breaks at true refl) sees
-answer_sees fresh past at t a (Some token) (Some sdp) old new kept kept' (Refused (Dtls WouldBlock)) (Some table) made said h sees = absurd h.0
-answer_sees fresh past at t a (Some token) (Some sdp) old new kept kept' (Refused (Dtls DtlsAlloc)) (Some table) made said h sees = absurd h.0
-answer_sees fresh past at t a (Some token) (Some sdp) old new kept kept' (Refused (Net cause)) (Some table) made said h sees = absurd h.0
-answer_sees fresh past at t a (Some token) (Some sdp) old new kept kept' (Refused (MediaFailed cause)) (Some table) made said h sees = absurd h.0
-answer_sees fresh past at t a (Some token) (Some sdp) old new kept kept' (Refused BadChannel) (Some table) made said h sees = absurd h.0
+    (here_is at (sdp_read (remote_sdp false at a past)) ∙ ap sdp_read said) sees
+answer_sees fresh past at t a (Some token) (Readable sdp) old new kept kept' (Refused ChangesOutOfOrder) (Some table) made said h sees = sees_still fresh past _ at old new (ap (λ s. s.ice) h.0.1) (ap (λ s. s.fingerprint) h.0.1) refl sees
+answer_sees fresh past at t a (Some token) (Readable sdp) old new kept kept' (Refused (RemoteSdp why)) (Some table) made said h sees = sees_still fresh past _ at old new (ap (λ s. s.ice) h.0.1.1) (ap (λ s. s.fingerprint) h.0.1.1) refl sees
+answer_sees fresh past at t a (Some token) (Readable sdp) old new kept kept' (Refused (SdpRefused error)) (Some table) made said h sees = sees_still fresh past _ at old new (ap (λ s. s.ice) h.0.1.1) (ap (λ s. s.fingerprint) h.0.1.1) refl sees
+answer_sees fresh past at t a (Some token) (Readable sdp) old new kept kept' (Refused (Dtls Fault)) (Some table) made said h sees = sees_broken fresh past _ at old new h.0.2.lite (here_breaks at true refl) sees
+answer_sees fresh past at t a (Some token) (Readable sdp) old new kept kept' (Refused (Sctp error)) (Some table) made said h sees = sees_broken fresh past _ at old new h.0.3.lite (here_breaks at (is_fault (Sctp error)) (fault_breaks error h.0.1)) sees
+answer_sees fresh past at t a (Some token) (Readable sdp) old new kept kept' (Refused PeerAlloc) (Some table) made said h sees = sees_broken fresh past _ at old new h.0.1.lite (here_breaks at true refl) sees
+answer_sees fresh past at t a (Some token) (Readable sdp) old new kept kept' (Refused (Dtls WouldBlock)) (Some table) made said h sees = absurd h.0
+answer_sees fresh past at t a (Some token) (Readable sdp) old new kept kept' (Refused (Dtls DtlsAlloc)) (Some table) made said h sees = absurd h.0
+answer_sees fresh past at t a (Some token) (Readable sdp) old new kept kept' (Refused (Net cause)) (Some table) made said h sees = absurd h.0
+answer_sees fresh past at t a (Some token) (Readable sdp) old new kept kept' (Refused (MediaFailed cause)) (Some table) made said h sees = absurd h.0
+answer_sees fresh past at t a (Some token) (Readable sdp) old new kept kept' (Refused BadChannel) (Some table) made said h sees = absurd h.0
 answer_sees fresh past at t a token sdp old new kept kept' outcome table made said h sees = absurd h
 
 acts_see : {E : Type 0} → (fresh : Stances) (past : List (Entry E)) (old new : PairStance) (step : Step) (outcome : Outcome E) (table : Option Table) (made : List MadeSdp) → Tells past old

@@ -1,7 +1,6 @@
 -- The datagrams that a pair keeps are those that the replies show, in order.
 use Rattle.std.proofs.Common.{◌≡◌, ◌∙◌, ℕ, Bool, true, false, List, [], ◌∷◌, ◌++◌, map, Option, Some, None, refl, sym, ap, append-nil, append_assoc}
 use Rattle.std.proofs.lemmas.List.{map-append}
-use Rattle.rtc_sdp_values.specs.declared.sdp.Sdp.{Sdp}
 use Rattle.rtc_wire.specs.DatagramRecv.{kind_by}
 use Rattle.rtc_wire.specs.declared.transmit.Transmit.{Transmit}
 use Rattle.rtc_change.specs.PendingOffer.{PendingOffer}
@@ -12,6 +11,7 @@ use Rattle.rtc_polling.specs.declared.polled_peer.PolledPeer.{PolledPeer}
 use Rattle.rtc_polling.specs.ChannelCalls.{open_stream_under}
 use Rattle.rtc_polling.specs.Closing.{ClosesPeer}
 use Rattle.rtc_polling.specs.Inputs.{HandlesInput}
+use Rattle.rtc_history.specs.Signalled.{Signalled, NotMade, Unreadable, Readable}
 use Rattle.rtc_history.specs.declared.side.Side.{Side}
 use Rattle.rtc_history.specs.declared.op.Op.{Op}
 use Rattle.rtc_history.specs.declared.step.Step.{Step}
@@ -40,26 +40,32 @@ module _ {I D S M E X T W N : Type 0} (m : Meanings I D S M E X T W N) where
   negotiates_quiet at ops apply old sdps (Negotiated answers made) (Some table) new sdps' h = refl
   negotiates_quiet at ops apply old sdps outcome table new sdps' h = absurd h
 
-  offer_quiet : (at : Side) (offer : Option Sdp) (old : Peer I D S M N) (sdps : List Kept) (outcome : Outcome E) (table : Option Table) (new : Peer I D S M N) (sdps' : List Kept)
+  offer_quiet : (at : Side) (offer : Signalled) (old : Peer I D S M N) (sdps : List Kept) (outcome : Outcome E) (table : Option Table) (new : Peer I D S M N) (sdps' : List Kept)
       → StepAcceptsOffer m at offer old sdps outcome table new sdps' → packets_told at outcome ≡ []
-  offer_quiet at None old sdps Alloc None new sdps' h = refl
-  offer_quiet at (Some sdp) old sdps Alloc None new sdps' h = refl
-  offer_quiet at None old sdps NoSuch (Some table) new sdps' h = refl
-  offer_quiet at (Some sdp) old sdps (Answered k) (Some table) new sdps' h = refl
-  offer_quiet at (Some sdp) old sdps (Refused error) (Some table) new sdps' h = refl
+  offer_quiet at NotMade old sdps Alloc None new sdps' h = refl
+  offer_quiet at (Unreadable line) old sdps Alloc None new sdps' h = refl
+  offer_quiet at (Readable sdp) old sdps Alloc None new sdps' h = refl
+  offer_quiet at NotMade old sdps NoSuch (Some table) new sdps' h = refl
+  offer_quiet at (Unreadable line) old sdps (Refused error) (Some table) new sdps' h = refl
+  offer_quiet at (Readable sdp) old sdps (Answered k) (Some table) new sdps' h = refl
+  offer_quiet at (Readable sdp) old sdps (Refused error) (Some table) new sdps' h = refl
   offer_quiet at offer old sdps outcome table new sdps' h = absurd h
 
-  answer_quiet : (at : Side) (t : ℕ) (token : Option PendingOffer) (answer : Option Sdp) (old : Peer I D S M N) (sdps : List Kept) (outcome : Outcome E) (table : Option Table) (new : Peer I D S M N)
+  answer_quiet : (at : Side) (t : ℕ) (token : Option PendingOffer) (answer : Signalled) (old : Peer I D S M N) (sdps : List Kept) (outcome : Outcome E) (table : Option Table) (new : Peer I D S M N)
       (sdps' : List Kept) → StepAcceptsAnswer m t token answer old sdps outcome table new sdps' → packets_told at outcome ≡ []
-  answer_quiet at t None None old sdps Alloc None new sdps' h = refl
-  answer_quiet at t None (Some sdp) old sdps Alloc None new sdps' h = refl
-  answer_quiet at t (Some token) None old sdps Alloc None new sdps' h = refl
-  answer_quiet at t (Some token) (Some sdp) old sdps Alloc None new sdps' h = refl
-  answer_quiet at t None None old sdps NoSuch (Some table) new sdps' h = refl
-  answer_quiet at t None (Some sdp) old sdps NoSuch (Some table) new sdps' h = refl
-  answer_quiet at t (Some token) None old sdps NoSuch (Some table) new sdps' h = refl
-  answer_quiet at t (Some token) (Some sdp) old sdps Finished (Some table) new sdps' h = refl
-  answer_quiet at t (Some token) (Some sdp) old sdps (Refused error) (Some table) new sdps' h = refl
+  answer_quiet at t None NotMade old sdps Alloc None new sdps' h = refl
+  answer_quiet at t None (Unreadable line) old sdps Alloc None new sdps' h = refl
+  answer_quiet at t None (Readable sdp) old sdps Alloc None new sdps' h = refl
+  answer_quiet at t (Some token) NotMade old sdps Alloc None new sdps' h = refl
+  answer_quiet at t (Some token) (Unreadable line) old sdps Alloc None new sdps' h = refl
+  answer_quiet at t (Some token) (Readable sdp) old sdps Alloc None new sdps' h = refl
+  answer_quiet at t None NotMade old sdps NoSuch (Some table) new sdps' h = refl
+  answer_quiet at t None (Unreadable line) old sdps NoSuch (Some table) new sdps' h = refl
+  answer_quiet at t None (Readable sdp) old sdps NoSuch (Some table) new sdps' h = refl
+  answer_quiet at t (Some token) NotMade old sdps NoSuch (Some table) new sdps' h = refl
+  answer_quiet at t (Some token) (Unreadable line) old sdps (Refused error) (Some table) new sdps' h = refl
+  answer_quiet at t (Some token) (Readable sdp) old sdps Finished (Some table) new sdps' h = refl
+  answer_quiet at t (Some token) (Readable sdp) old sdps (Refused error) (Some table) new sdps' h = refl
   answer_quiet at t token answer old sdps outcome table new sdps' h = absurd h
 
   calls_quiet : (at : Side) (call : PolledPeer I D S M N → _ → PolledPeer I D S M N → Type 0) (old : PolledPeer I D S M N) (outcome : Outcome E) (table : Option Table) (new : PolledPeer I D S M N)

@@ -5,17 +5,19 @@ use Rattle.std.proofs.lemmas.Slice.Eq.{bytes_eq-Decides}
 use Rattle.rtc_sdp_values.specs.Sdp.{creds_of, sdp_fingerprint}
 use Rattle.rtc_sdp_values.specs.declared.fingerprint.Fingerprint.{Fingerprint}
 use Rattle.rtc_sdp_values.specs.declared.ice_creds.IceCreds.{IceCreds}
-use Rattle.rtc_sdp_values.specs.declared.line_row.LineRow.{LineRow}
 use Rattle.rtc_sdp_values.specs.declared.sdp.Sdp.{Sdp}
 use Rattle.rtc_change.specs.Held.{Held}
 use Rattle.rtc_change.specs.PendingOffer.{PendingOffer, staged_restart}
 use Rattle.rtc_change.specs.Plans.{side_verdict, same_creds, is_restart, unasked_restart, no_fingerprint, both_lite}
 use Rattle.rtc_peer_state.specs.MadeSdp.{creds_in_use, sdp_of_rows}
 use Rattle.rtc_peer_state.specs.declared.sdp_head.SdpHead.{SdpHead}
+use Rattle.rtc_peer_state.specs.declared.told_row.ToldRow.{ToldRow}
 use Rattle.rtc_history.specs.declared.side.Side.{Side}
 use Rattle.rtc_history.specs.declared.kept.Kept.{Kept}
 use Rattle.rtc_history.specs.Sides.{other_side}
 use Rattle.rtc_history.specs.Orderly.{Phase, Idle, AwaitsAnswer, AwaitsEnd, AreCurrent}
+use Rattle.rtc_sdp_writer.specs.AsRead.{as_read}
+use Rattle.rtc_history_laws.proofs.AsReadSdps.{creds_as_read, fingerprint_as_read}
 use Rattle.rtc_history_laws.proofs.StanceSteps.{PairStance}
 
 -- ---- what a session description tells of its side
@@ -27,12 +29,20 @@ pub record TellsSide (sdp : Sdp) (creds : IceCreds) (lite : Bool) : Type 0 where
   pub lite_is : sdp.ice_lite ≡ lite
 
 -- one of at least one line, made of rows
-pub head_told : (sdp : Sdp) (head : SdpHead) (rows : List LineRow) → sdp ≡ sdp_of_rows head rows → length sdp.lines ≢ 0 → TellsSide sdp head.creds head.lite
+pub head_told : (sdp : Sdp) (head : SdpHead) (told : List ToldRow) → sdp ≡ sdp_of_rows head told → length sdp.lines ≢ 0 → TellsSide sdp head.creds head.lite
 head_told sdp head [] is some = absurd (some (ap (λ s. length s.lines) is))
-head_told sdp head (row ∷ rows) is some = record {
+head_told sdp head (one ∷ told) is some = record {
   creds_are = ap creds_of is;
   fingerprint = ap (λ s. is_some (sdp_fingerprint s)) is;
   lite_is = ap (λ s. s.ice_lite) is;
+}
+
+-- so does what is read of it
+pub told_as_read : (sdp : Sdp) (creds : IceCreds) (lite : Bool) → TellsSide sdp creds lite → TellsSide (as_read sdp) creds lite
+told_as_read sdp creds lite told = record {
+  creds_are = creds_as_read sdp ∙ told.creds_are;
+  fingerprint = ap is_some (fingerprint_as_read sdp) ∙ told.fingerprint;
+  lite_is = told.lite_is;
 }
 
 -- ---- credentials

@@ -1,6 +1,6 @@
 -- What an acting peer tells of its parts: of the faults that its DTLS part, its association and its media part count, and of the lines
 -- of its media part.
-use Rattle.std.proofs.Common.{◌≡◌, ◌≤◌, ◌∙◌, ◌⊎◌, ℕ, List, Bool, true, false, not, ◌&&◌, Option, Some, None, Result, Ok, Err, refl, ap, arith}
+use Rattle.std.proofs.Common.{subst, ◌≡◌, ◌≤◌, ◌∙◌, ◌⊎◌, ℕ, List, Bool, true, false, not, ◌&&◌, Option, Some, None, Result, Ok, Err, refl, sym, ap, arith}
 use Rattle.rtc_io.specs.Faults.{Rose}
 use Rattle.rtc_dtls.specs.declared.dtls_error.DtlsError.TheVariants.{WouldBlock, Fault, Alloc as DtlsAlloc}
 use Rattle.rtc_dtls.specs.DtlsState.{DtlsState}
@@ -25,6 +25,8 @@ use Rattle.rtc_peer_state.specs.Calls.{raised}
 use Rattle.rtc_peer_state.specs.Meanings.{Meanings, PartsLaws}
 use Rattle.rtc_polling.specs.declared.polled_peer.PolledPeer.{PolledPeer}
 use Rattle.rtc_polling.specs.ChannelCalls.{open_stream_under}
+use Rattle.rtc_sdp_values.specs.declared.sdp_error.SdpError.TheVariants.{Parse}
+use Rattle.rtc_history.specs.Signalled.{Signalled, NotMade, Unreadable, Readable}
 use Rattle.rtc_history.specs.declared.side.Side.{Side}
 use Rattle.rtc_history.specs.declared.op.Op.{Op}
 use Rattle.rtc_history.specs.declared.step.Step.{Step}
@@ -201,6 +203,12 @@ module _ {I D S M E X T W N : Type 0} (m : Meanings I D S M E X T W N) (laws : P
     media = h.media;
   }
 
+  -- what could not be read did not reach the peer
+  unread_side : (old new : Peer I D S M N) (line : ℕ) (error : RtcError) → error ≡ SdpRefused (Parse line) → counting_parts new ≡ counting_parts old
+      → IsSoundOfSide old true (Refused error) new
+  unread_side old new line error is same =
+      subst (λ (e : RtcError). IsSoundOfSide old true (Refused e) new) (sym is) (refused old new (SdpRefused (Parse line)) (λ part. refl) same)
+
   negotiate_side : (at : Side) (ops : List Op) (apply : Bool) (old : Peer I D S M N) (sdps : List Kept) (outcome : Outcome E) (table : Option Table) (new : Peer I D S M N) (sdps' : List Kept)
       → Negotiates m at ops apply old sdps outcome table new sdps' → IsSoundOfSide old false outcome new
   negotiate_side at ops apply old sdps Alloc None new sdps' h = unmoved old new Alloc (λ part. refl) (ap counting_parts h.peer)
@@ -208,26 +216,32 @@ module _ {I D S M E X T W N : Type 0} (m : Meanings I D S M E X T W N) (laws : P
       unmoved old new (Negotiated answers made) (λ part. refl) (makes_counting m (apply && not (answers_lack answers)) at h.0 sdps made new sdps' h.2 ∙ ops_counting m _ ops answers h.0 h.1)
   negotiate_side at ops apply old sdps outcome table new sdps' h = absurd h
 
-  offer_side : (at : Side) (offer : Option Sdp) (old : Peer I D S M N) (sdps : List Kept) (outcome : Outcome E) (table : Option Table) (new : Peer I D S M N) (sdps' : List Kept)
+  offer_side : (at : Side) (offer : Signalled) (old : Peer I D S M N) (sdps : List Kept) (outcome : Outcome E) (table : Option Table) (new : Peer I D S M N) (sdps' : List Kept)
       → StepAcceptsOffer m at offer old sdps outcome table new sdps' → IsSoundOfSide old (tells_refusal outcome) outcome new
-  offer_side at None old sdps Alloc None new sdps' h = unmoved old new Alloc (λ part. refl) (ap counting_parts h.peer)
-  offer_side at (Some sdp) old sdps Alloc None new sdps' h = unmoved old new Alloc (λ part. refl) (ap counting_parts h.peer)
-  offer_side at None old sdps NoSuch (Some table) new sdps' h = unmoved old new NoSuch (λ part. refl) (ap counting_parts h.0.peer)
-  offer_side at (Some sdp) old sdps (Answered k) (Some table) new sdps' h = lends old new false (Answered k) (offer_accepted (lent old) new k sdp h.0 h.1)
-  offer_side at (Some sdp) old sdps (Refused error) (Some table) new sdps' h = lends old new true (Refused error) (offer_refused (lent old) new sdp error h.0)
+  offer_side at NotMade old sdps Alloc None new sdps' h = unmoved old new Alloc (λ part. refl) (ap counting_parts h.peer)
+  offer_side at (Unreadable line) old sdps Alloc None new sdps' h = unmoved old new Alloc (λ part. refl) (ap counting_parts h.peer)
+  offer_side at (Readable sdp) old sdps Alloc None new sdps' h = unmoved old new Alloc (λ part. refl) (ap counting_parts h.peer)
+  offer_side at NotMade old sdps NoSuch (Some table) new sdps' h = unmoved old new NoSuch (λ part. refl) (ap counting_parts h.0.peer)
+  offer_side at (Unreadable line) old sdps (Refused error) (Some table) new sdps' h = unread_side old new line error h.0 (ap counting_parts h.1.peer)
+  offer_side at (Readable sdp) old sdps (Answered k) (Some table) new sdps' h = lends old new false (Answered k) (offer_accepted (lent old) new k sdp h.0 h.1)
+  offer_side at (Readable sdp) old sdps (Refused error) (Some table) new sdps' h = lends old new true (Refused error) (offer_refused (lent old) new sdp error h.0)
   offer_side at offer old sdps outcome table new sdps' h = absurd h
 
-  answer_side : (t : ℕ) (token : Option PendingOffer) (answer : Option Sdp) (old : Peer I D S M N) (sdps : List Kept) (outcome : Outcome E) (table : Option Table) (new : Peer I D S M N) (sdps' : List Kept)
+  answer_side : (t : ℕ) (token : Option PendingOffer) (answer : Signalled) (old : Peer I D S M N) (sdps : List Kept) (outcome : Outcome E) (table : Option Table) (new : Peer I D S M N) (sdps' : List Kept)
       → StepAcceptsAnswer m t token answer old sdps outcome table new sdps' → IsSoundOfSide old (tells_refusal outcome) outcome new
-  answer_side t None None old sdps Alloc None new sdps' h = unmoved old new Alloc (λ part. refl) (ap counting_parts h.peer)
-  answer_side t None (Some sdp) old sdps Alloc None new sdps' h = unmoved old new Alloc (λ part. refl) (ap counting_parts h.peer)
-  answer_side t (Some token) None old sdps Alloc None new sdps' h = unmoved old new Alloc (λ part. refl) (ap counting_parts h.peer)
-  answer_side t (Some token) (Some sdp) old sdps Alloc None new sdps' h = unmoved old new Alloc (λ part. refl) (ap counting_parts h.peer)
-  answer_side t None None old sdps NoSuch (Some table) new sdps' h = unmoved old new NoSuch (λ part. refl) (ap counting_parts h.0.peer)
-  answer_side t None (Some sdp) old sdps NoSuch (Some table) new sdps' h = unmoved old new NoSuch (λ part. refl) (ap counting_parts h.0.peer)
-  answer_side t (Some token) None old sdps NoSuch (Some table) new sdps' h = unmoved old new NoSuch (λ part. refl) (ap counting_parts h.0.peer)
-  answer_side t (Some token) (Some sdp) old sdps Finished (Some table) new sdps' h = lends old new false Finished (answer_accepted (lent old) new token sdp h.0)
-  answer_side t (Some token) (Some sdp) old sdps (Refused error) (Some table) new sdps' h = lends old new true (Refused error) (answer_refused (lent old) new token sdp error h.0)
+  answer_side t None NotMade old sdps Alloc None new sdps' h = unmoved old new Alloc (λ part. refl) (ap counting_parts h.peer)
+  answer_side t None (Unreadable line) old sdps Alloc None new sdps' h = unmoved old new Alloc (λ part. refl) (ap counting_parts h.peer)
+  answer_side t None (Readable sdp) old sdps Alloc None new sdps' h = unmoved old new Alloc (λ part. refl) (ap counting_parts h.peer)
+  answer_side t (Some token) NotMade old sdps Alloc None new sdps' h = unmoved old new Alloc (λ part. refl) (ap counting_parts h.peer)
+  answer_side t (Some token) (Unreadable line) old sdps Alloc None new sdps' h = unmoved old new Alloc (λ part. refl) (ap counting_parts h.peer)
+  answer_side t (Some token) (Readable sdp) old sdps Alloc None new sdps' h = unmoved old new Alloc (λ part. refl) (ap counting_parts h.peer)
+  answer_side t None NotMade old sdps NoSuch (Some table) new sdps' h = unmoved old new NoSuch (λ part. refl) (ap counting_parts h.0.peer)
+  answer_side t None (Unreadable line) old sdps NoSuch (Some table) new sdps' h = unmoved old new NoSuch (λ part. refl) (ap counting_parts h.0.peer)
+  answer_side t None (Readable sdp) old sdps NoSuch (Some table) new sdps' h = unmoved old new NoSuch (λ part. refl) (ap counting_parts h.0.peer)
+  answer_side t (Some token) NotMade old sdps NoSuch (Some table) new sdps' h = unmoved old new NoSuch (λ part. refl) (ap counting_parts h.0.peer)
+  answer_side t (Some token) (Unreadable line) old sdps (Refused error) (Some table) new sdps' h = unread_side old new line error h.0 (ap counting_parts h.1.peer)
+  answer_side t (Some token) (Readable sdp) old sdps Finished (Some table) new sdps' h = lends old new false Finished (answer_accepted (lent old) new token sdp h.0)
+  answer_side t (Some token) (Readable sdp) old sdps (Refused error) (Some table) new sdps' h = lends old new true (Refused error) (answer_refused (lent old) new token sdp error h.0)
   answer_side t token answer old sdps outcome table new sdps' h = absurd h
 
   -- a step that negotiates nothing

@@ -4,7 +4,7 @@ use Rattle.std.specs.Prelude.{None, Ok, Err, length, alloc_error, slice_get}
 use Rattle.rtc_sdp_values.specs.declared.sdp.Sdp.{Sdp}
 use Rattle.rtc_change.specs.PendingOffer.{PendingOffer}
 use Rattle.rtc_tables.specs.RowChanges.{media_mid}
-use Rattle.rtc_peer_state.specs.declared.rtc_error.RtcError.TheVariants.{BadChannel, Alloc as PeerAlloc}
+use Rattle.rtc_peer_state.specs.declared.rtc_error.RtcError.TheVariants.{Sdp as SdpRefused, BadChannel, Alloc as PeerAlloc}
 use Rattle.rtc_peer_state.specs.Meanings.{Meanings}
 use Rattle.rtc_peer_state.specs.Stance.{Stance}
 use Rattle.rtc_peer_state.specs.Staging.{lacks_app}
@@ -18,6 +18,8 @@ use Rattle.rtc_peer_state.proofs.StanceCalls.{
   StanceStagesRestart,
   StanceApplies,
 }
+use Rattle.rtc_history.specs.Signalled.{Signalled, NotMade, Unreadable, Readable}
+use Rattle.rtc_sdp_values.specs.declared.sdp_error.SdpError.TheVariants.{Parse}
 use Rattle.rtc_history.specs.declared.side.Side.{Side}
 use Rattle.rtc_history.specs.declared.op.Op.{Op}
 use Rattle.rtc_history.specs.declared.op.Op.TheVariants.{AddMedia, SetDirection, StopMedia, AddChannel, IceRestart}
@@ -113,31 +115,35 @@ StanceNegotiates at ops apply old sdps (Negotiated answers made) (Some table) ne
     × StanceShows table new
 StanceNegotiates at ops apply old sdps outcome table new sdps' = ⊥
 
-abbrev pub StanceStepAcceptsOffer : {E : Type 0} → Side → Option Sdp → Stance → List Kept → Outcome E → Option Table → Stance → List Kept → Type 0
+abbrev pub StanceStepAcceptsOffer : {E : Type 0} → Side → Signalled → Stance → List Kept → Outcome E → Option Table → Stance → List Kept → Type 0
 StanceStepAcceptsOffer at offer old sdps Alloc None new sdps' = StanceStays old sdps new sdps'
-StanceStepAcceptsOffer at None old sdps NoSuch (Some table) new sdps' = StanceStays old sdps new sdps' × StanceShows table old
-StanceStepAcceptsOffer at (Some sdp) old sdps (Answered k) (Some table) new sdps' =
+StanceStepAcceptsOffer at NotMade old sdps NoSuch (Some table) new sdps' = StanceStays old sdps new sdps' × StanceShows table old
+StanceStepAcceptsOffer at (Unreadable line) old sdps (Refused error) (Some table) new sdps' =
+    (error ≡ SdpRefused (Parse line)) × StanceStays old sdps new sdps' × StanceShows table old
+StanceStepAcceptsOffer at (Readable sdp) old sdps (Answered k) (Some table) new sdps' =
     (answer : Sdp)
     × StanceAcceptsOffer (lent old) sdp (Ok answer) new
     × (sdps' ≡ sdps ++ kept_answer at answer ∷ [])
     × (k ≡ length sdps)
     × StanceShows table new
-StanceStepAcceptsOffer at (Some sdp) old sdps (Refused error) (Some table) new sdps' =
+StanceStepAcceptsOffer at (Readable sdp) old sdps (Refused error) (Some table) new sdps' =
     StanceAcceptsOffer (lent old) sdp (Err error) new
     × (sdps' ≡ sdps)
     × StanceShows table new
 StanceStepAcceptsOffer at offer old sdps outcome table new sdps' = ⊥
 
-abbrev pub StanceStepAcceptsAnswer : {E : Type 0} → ℕ → Option PendingOffer → Option Sdp → Stance → List Kept → Outcome E → Option Table → Stance
+abbrev pub StanceStepAcceptsAnswer : {E : Type 0} → ℕ → Option PendingOffer → Signalled → Stance → List Kept → Outcome E → Option Table → Stance
     → List Kept → Type 0
 StanceStepAcceptsAnswer t token answer old sdps Alloc None new sdps' = StanceStays old sdps new sdps'
 StanceStepAcceptsAnswer t None answer old sdps NoSuch (Some table) new sdps' = StanceStays old sdps new sdps' × StanceShows table old
-StanceStepAcceptsAnswer t (Some token) None old sdps NoSuch (Some table) new sdps' = StanceStays old sdps new sdps' × StanceShows table old
-StanceStepAcceptsAnswer t (Some token) (Some sdp) old sdps Finished (Some table) new sdps' =
+StanceStepAcceptsAnswer t (Some token) NotMade old sdps NoSuch (Some table) new sdps' = StanceStays old sdps new sdps' × StanceShows table old
+StanceStepAcceptsAnswer t (Some token) (Unreadable line) old sdps (Refused error) (Some table) new sdps' =
+    (error ≡ SdpRefused (Parse line)) × StanceStays old sdps new sdps' × StanceShows table old
+StanceStepAcceptsAnswer t (Some token) (Readable sdp) old sdps Finished (Some table) new sdps' =
     StanceAcceptsAnswer (lent old) token sdp (Ok tt) new
     × (sdps' ≡ spent t sdps)
     × StanceShows table new
-StanceStepAcceptsAnswer t (Some token) (Some sdp) old sdps (Refused error) (Some table) new sdps' =
+StanceStepAcceptsAnswer t (Some token) (Readable sdp) old sdps (Refused error) (Some table) new sdps' =
     StanceAcceptsAnswer (lent old) token sdp (Err error) new
     × (sdps' ≡ spent t sdps)
     × StanceShows table new

@@ -43,7 +43,7 @@ module _ {I D S M E X T W N : Type 0} (m : Meanings I D S M E X T W N) (laws : P
   -- only the streams change
   streams_move : (p q : PolledPeer I D S M N) → q ≡ with_sctp q.core.sctp p → SameSize p.core.sctp q.core.sctp → Moves m laws [] p q
   streams_move p q is size = record {
-    peer = stance_by m p q (keeps_by p (with_sctp q.core.sctp p) q is refl) (stands_by m p (with_sctp q.core.sctp p) q is (refl, refl, refl, size));
+    peer = stance_by m p q (keeps_by p (with_sctp q.core.sctp p) q is refl) (stands_by m p (with_sctp q.core.sctp p) q is (refl, refl, refl, size, refl));
     numbered = same_numbers p.core.channels q.core.channels (ap (λ (x : PolledPeer I D S M N). x.core.channels) is);
   }
 

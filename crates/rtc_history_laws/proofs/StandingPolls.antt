@@ -116,19 +116,19 @@ module _ {I D S M E X T W N : Type 0} (m : Meanings I D S M E X T W N) (laws : P
 
   poll_moves : (p : PolledPeer I D S M N) (answer : Result (Output E) RtcError) (q : PolledPeer I D S M N) → PollsPeer m p answer q → Moves (numbers_of (number_told answer)) p q
   poll_moves p answer q h = record {
-    peer = stance_by m p q (poll_keeps m p answer q h) (poll_stands m laws.ice p answer q h);
+    peer = stance_by m p q (poll_keeps m p answer q h) (poll_stands m laws.ice laws.media p answer q h);
     numbered = numbered_by (number_told answer) p.core.channels q.core.channels (poll_numbers m p answer q h);
   }
 
   pub input_moves : (input : Input) (p : PolledPeer I D S M N) (r : Result (Unit {0}) RtcError) (q : PolledPeer I D S M N) → HandlesInput m input p r q → Moves [] p q
   input_moves input p r q h = record {
-    peer = stance_by m p q (input_keeps m input p r q h) (input_stands m laws.ice input p r q h);
+    peer = stance_by m p q (input_keeps m input p r q h) (input_stands m laws.ice laws.media input p r q h);
     numbered = numbered_by None p.core.channels q.core.channels (input_numbers m input p r q h);
   }
 
   pub close_moves : (p : PolledPeer I D S M N) (r : Result (Unit {0}) RtcError) (q : PolledPeer I D S M N) → ClosesPeer m p r q → Moves [] p q
   close_moves p r q h = record {
-    peer = stance_by m p q (close_keeps m p r q h) (close_stands m p r q h);
+    peer = stance_by m p q (close_keeps m p r q h) (close_stands m laws.media p r q h);
     numbered = numbered_by None p.core.channels q.core.channels (close_numbers m p r q h);
   }
 

@@ -2,7 +2,6 @@
 use Rattle.std.proofs.Common.{ℕ, List, [], ◌∷◌, Bool, true, false, not, ◌&&◌, Option, Some, None, ap}
 use Rattle.std.specs.Prelude.{Ok, Err, alloc_error}
 use Rattle.rtc_sdp_values.specs.declared.direction.Direction.TheVariants.{Inactive}
-use Rattle.rtc_sdp_values.specs.declared.sdp.Sdp.{Sdp}
 use Rattle.rtc_change.specs.PendingOffer.{PendingOffer}
 use Rattle.rtc_tables.specs.RowChanges.{directed_row, stopped_row}
 use Rattle.rtc_peer_state.specs.declared.peer.Peer.{Peer}
@@ -24,6 +23,7 @@ use Rattle.rtc_polling.specs.Closing.{ClosesPeer}
 use Rattle.rtc_polling.specs.Inputs.{HandlesInput}
 use Rattle.rtc_history_laws.proofs.StandingChannels.{write_rest, close_channel_rest}
 use Rattle.rtc_history_laws.proofs.StandingPolls.{shows_stands, calls_rest, hears_rest, polls_rest, input_moves, close_moves, once_moves, drains_moves}
+use Rattle.rtc_history.specs.Signalled.{Signalled, NotMade, Unreadable, Readable}
 use Rattle.rtc_history.specs.declared.side.Side.{Side}
 use Rattle.rtc_history.specs.declared.op.Op.{Op}
 use Rattle.rtc_history.specs.declared.op.Op.TheVariants.{AddMedia, SetDirection, StopMedia, AddChannel, IceRestart}
@@ -97,29 +97,37 @@ module _ {I D S M E X T W N : Type 0} (m : Meanings I D S M E X T W N) (laws : P
       (stance_of m h.0, ops_stand _ ops answers h.0 h.1, makes_stand (apply && not (answers_lack answers)) at h.0 sdps made new sdps' h.2, shows_stands m laws table new h.3)
   negotiates_stands at ops apply old sdps outcome table new sdps' h = absurd h
 
-  step_offer_stands : (at : Side) (offer : Option Sdp) (old : Peer I D S M N) (sdps : List Kept) (outcome : Outcome E) (table : Option Table) (new : Peer I D S M N) (sdps' : List Kept)
+  step_offer_stands : (at : Side) (offer : Signalled) (old : Peer I D S M N) (sdps : List Kept) (outcome : Outcome E) (table : Option Table) (new : Peer I D S M N) (sdps' : List Kept)
       → StepAcceptsOffer m at offer old sdps outcome table new sdps' → StanceStepAcceptsOffer at offer (stance_of m old) sdps outcome table (stance_of m new) sdps'
-  step_offer_stands at None old sdps Alloc None new sdps' h = stays_stands old new sdps sdps' h
-  step_offer_stands at (Some sdp) old sdps Alloc None new sdps' h = stays_stands old new sdps sdps' h
-  step_offer_stands at None old sdps NoSuch (Some table) new sdps' h = (stays_stands old new sdps sdps' h.0, shows_stands m laws table old h.1)
-  step_offer_stands at (Some sdp) old sdps (Answered k) (Some table) new sdps' h =
+  step_offer_stands at NotMade old sdps Alloc None new sdps' h = stays_stands old new sdps sdps' h
+  step_offer_stands at (Unreadable line) old sdps Alloc None new sdps' h = stays_stands old new sdps sdps' h
+  step_offer_stands at (Readable sdp) old sdps Alloc None new sdps' h = stays_stands old new sdps sdps' h
+  step_offer_stands at NotMade old sdps NoSuch (Some table) new sdps' h = (stays_stands old new sdps sdps' h.0, shows_stands m laws table old h.1)
+  step_offer_stands at (Unreadable line) old sdps (Refused error) (Some table) new sdps' h =
+      (h.0, stays_stands old new sdps sdps' h.1, shows_stands m laws table old h.2)
+  step_offer_stands at (Readable sdp) old sdps (Answered k) (Some table) new sdps' h =
       (h.0, accepts_offer_stands m laws _ sdp (Ok h.0) new h.1, h.2, h.3, shows_stands m laws table new h.4)
-  step_offer_stands at (Some sdp) old sdps (Refused error) (Some table) new sdps' h =
+  step_offer_stands at (Readable sdp) old sdps (Refused error) (Some table) new sdps' h =
       (accepts_offer_stands m laws _ sdp (Err error) new h.0, h.1, shows_stands m laws table new h.2)
   step_offer_stands at offer old sdps outcome table new sdps' h = absurd h
 
-  step_answer_stands : (t : ℕ) (token : Option PendingOffer) (answer : Option Sdp) (old : Peer I D S M N) (sdps : List Kept) (outcome : Outcome E) (table : Option Table) (new : Peer I D S M N) (sdps' : List Kept)
+  step_answer_stands : (t : ℕ) (token : Option PendingOffer) (answer : Signalled) (old : Peer I D S M N) (sdps : List Kept) (outcome : Outcome E) (table : Option Table) (new : Peer I D S M N) (sdps' : List Kept)
       → StepAcceptsAnswer m t token answer old sdps outcome table new sdps' → StanceStepAcceptsAnswer t token answer (stance_of m old) sdps outcome table (stance_of m new) sdps'
-  step_answer_stands t None None old sdps Alloc None new sdps' h = stays_stands old new sdps sdps' h
-  step_answer_stands t None (Some sdp) old sdps Alloc None new sdps' h = stays_stands old new sdps sdps' h
-  step_answer_stands t (Some token) None old sdps Alloc None new sdps' h = stays_stands old new sdps sdps' h
-  step_answer_stands t (Some token) (Some sdp) old sdps Alloc None new sdps' h = stays_stands old new sdps sdps' h
-  step_answer_stands t None None old sdps NoSuch (Some table) new sdps' h = (stays_stands old new sdps sdps' h.0, shows_stands m laws table old h.1)
-  step_answer_stands t None (Some sdp) old sdps NoSuch (Some table) new sdps' h = (stays_stands old new sdps sdps' h.0, shows_stands m laws table old h.1)
-  step_answer_stands t (Some token) None old sdps NoSuch (Some table) new sdps' h = (stays_stands old new sdps sdps' h.0, shows_stands m laws table old h.1)
-  step_answer_stands t (Some token) (Some sdp) old sdps Finished (Some table) new sdps' h =
+  step_answer_stands t None NotMade old sdps Alloc None new sdps' h = stays_stands old new sdps sdps' h
+  step_answer_stands t None (Unreadable line) old sdps Alloc None new sdps' h = stays_stands old new sdps sdps' h
+  step_answer_stands t None (Readable sdp) old sdps Alloc None new sdps' h = stays_stands old new sdps sdps' h
+  step_answer_stands t (Some token) NotMade old sdps Alloc None new sdps' h = stays_stands old new sdps sdps' h
+  step_answer_stands t (Some token) (Unreadable line) old sdps Alloc None new sdps' h = stays_stands old new sdps sdps' h
+  step_answer_stands t (Some token) (Readable sdp) old sdps Alloc None new sdps' h = stays_stands old new sdps sdps' h
+  step_answer_stands t None NotMade old sdps NoSuch (Some table) new sdps' h = (stays_stands old new sdps sdps' h.0, shows_stands m laws table old h.1)
+  step_answer_stands t None (Unreadable line) old sdps NoSuch (Some table) new sdps' h = (stays_stands old new sdps sdps' h.0, shows_stands m laws table old h.1)
+  step_answer_stands t None (Readable sdp) old sdps NoSuch (Some table) new sdps' h = (stays_stands old new sdps sdps' h.0, shows_stands m laws table old h.1)
+  step_answer_stands t (Some token) NotMade old sdps NoSuch (Some table) new sdps' h = (stays_stands old new sdps sdps' h.0, shows_stands m laws table old h.1)
+  step_answer_stands t (Some token) (Unreadable line) old sdps (Refused error) (Some table) new sdps' h =
+      (h.0, stays_stands old new sdps sdps' h.1, shows_stands m laws table old h.2)
+  step_answer_stands t (Some token) (Readable sdp) old sdps Finished (Some table) new sdps' h =
       (accepts_answer_stands m laws _ token sdp (Ok tt) new h.0, h.1, shows_stands m laws table new h.2)
-  step_answer_stands t (Some token) (Some sdp) old sdps (Refused error) (Some table) new sdps' h =
+  step_answer_stands t (Some token) (Readable sdp) old sdps (Refused error) (Some table) new sdps' h =
       (accepts_answer_stands m laws _ token sdp (Err error) new h.0, h.1, shows_stands m laws table new h.2)
   step_answer_stands t token answer old sdps outcome table new sdps' h = absurd h
 

@@ -16,7 +16,7 @@ use Rattle.rtc_sctp_entries.specs.declared.sctp_event.SctpEvent.{SctpEvent}
 use Rattle.rtc_sctp_values.specs.declared.proto_error.ProtoError.TheVariants as proto
 use Rattle.rtc_sctp_values.specs.declared.sctp_error.SctpError.{SctpError}
 use Rattle.rtc_sctp_values.specs.declared.sctp_error.SctpError.TheVariants as sctp
-use Rattle.rtc_sctp.specs.Calls.{Shuts, ShutBy, TakesInput, WritesStream, WrittenIf, can_write, is_ended, is_nil, write_answer, written_ppi}
+use Rattle.rtc_sctp.specs.Calls.{Shuts, ShutBy, TakesInput, WritesStream, WrittenIf, can_write, is_current, is_ended, is_nil, write_answer, written_ppi}
 use Rattle.rtc_sctp.specs.Polls.{PollsStreams}
 use Rattle.rtc_sctp.specs.Streams.{SctpStreams}
 use Rattle.rtc_sctp_laws.specs.StreamActs.{CallDid, given_packet}
@@ -135,17 +135,18 @@ module _ {S : Type 0} (m : AssociationMeaning S) (laws : AssociationLaws m) wher
   closes_later None p r q h = streams_self p q h.1
   closes_later (Some stream) p r q h = call_later [] p q (closes_did m stream p r q h)
 
-  write_fault : (can : Bool) (id : ℕ) (binary : Bool) (bytes : List ℕ) (p : SctpStreams S) (cause : SctpError) (q : SctpStreams S) → WrittenIf m can id binary bytes p (Err cause) q
+  write_fault : (can current : Bool) (id : ℕ) (binary : Bool) (bytes : List ℕ) (p : SctpStreams S) (cause : SctpError) (q : SctpStreams S) → WrittenIf m can current id binary bytes p (Err cause) q
       → is_sctp_fault cause ≡ true → Rose (m.faults p.association) (m.faults q.association)
-  write_fault false id binary bytes p cause q h told = absurd (let e : is_sctp_fault cause ≡ false = ap does_write_fault h.0 in cc)
-  write_fault true id binary bytes p cause q h told =
+  write_fault false current id binary bytes p cause q h told = absurd (let e : is_sctp_fault cause ≡ false = ap does_write_fault h.0 in cc)
+  write_fault true false id binary bytes p cause q h told = absurd (let e : is_sctp_fault cause ≡ false = ap does_write_fault h.0 in cc)
+  write_fault true true id binary bytes p cause q h told =
       refused_write (not (m.has_stream p.association id) || m.closed_here p.association id) (nat_lt (m.max_send p.association) (length bytes)) (m.closing p.association || m.closed p.association)
       (m.faults p.association) (m.faults q.association) id (length bytes) p.remote_max h.0
       (laws.write_answer p.association q.association id (written_ppi binary (is_nil bytes)) bytes h.0 h.1) (ap does_write_fault (sym h.2) ∙ told)
 
   pub writes_fault : (id : ℕ) (binary : Bool) (bytes : List ℕ) (p : SctpStreams S) (cause : SctpError) (q : SctpStreams S) → WritesStream m id binary bytes p (Err cause) q
       → is_sctp_fault cause ≡ true → Rose (m.faults p.association) (m.faults q.association)
-  writes_fault id binary bytes p cause q h told = write_fault (can_write m id p) id binary bytes p cause q h told
+  writes_fault id binary bytes p cause q h told = write_fault (can_write m id p) (is_current m id p) id binary bytes p cause q h told
 
   -- ---- shutting down
 

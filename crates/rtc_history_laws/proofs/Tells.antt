@@ -1,8 +1,8 @@
 -- What a past says of a pair, and what a new entry says of each side.
-use Rattle.std.proofs.Common.{◌≡◌, ◌≤◌, ◌<◌, ◌+◌, ◌^◌, ◌==◌, ℕ, List, ◌∷◌, map, length, All, Bool, true, false, Option, Some, None, refl, sym, ◌∙◌, ap, arith, cond, ◌⊎◌, inl, inr}
+use Rattle.std.proofs.Common.{◌≡◌, ◌≤◌, ◌<◌, ◌+◌, ◌^◌, ◌==◌, ℕ, List, ◌∷◌, map, length, Bool, true, false, Option, Some, None, refl, sym, ◌∙◌, ap, arith, cond, ◌⊎◌, inl, inr}
 use Rattle.std.specs.Prelude.{slice_get, is_some}
 use Rattle.std.proofs.lemmas.Bool.{ne_eqb}
-use Rattle.rtc_change.specs.PendingOffer.{PendingOffer, added_mids, added_rows, staged_restart}
+use Rattle.rtc_change.specs.PendingOffer.{PendingOffer, added_rows, staged_restart}
 use Rattle.rtc_channels.specs.Channels.{AreBelow}
 use Rattle.rtc_peer_state.specs.Stance.{Stance}
 use Rattle.rtc_peer_state.specs.Calls.{raised}
@@ -24,10 +24,6 @@ pub record TokenTells {E : Type 0} (past : List (Entry E)) (at : Side) (counter 
   pub changes : (token : PendingOffer) → token_for at kept ≡ Some token → (place : ℕ) → added_rows place token.changes ≡ added_by place t past
   pub restarts : (token : PendingOffer) → token_for at kept ≡ Some token → is_some (staged_restart token.changes) ≡ restarts_by t past
 
--- the rows of a side with those that its right token adds are at most so many
-abbrev pub Fits : Side → Stance → List Kept → ℕ → Type 0
-Fits at peer kept size = (t : ℕ) (token : PendingOffer) → held_token kept at t ≡ Some token → peer.counter ≡ raised token.id → length peer.lines + length (added_mids token.changes) ≤ size
-
 -- What a past says of the channels of a side: their rows, and that its numbers were given and tell how many were given at most.
 pub record ChannelsTell {E : Type 0} (past : List (Entry E)) (at : Side) (s : Stance) : Type 0 where
   pub shown : s.rows ≡ channels_shown at past
@@ -40,10 +36,8 @@ pub record SideTells {E : Type 0} (past : List (Entry E)) (at : Side) (peer : St
   pub rows : peer.lines ≡ before at past
   pub tokens : (t : ℕ) → TokenTells past at peer.counter t (slice_get kept t)
   pub counts : peer.counter ≤ size
-  pub few : length peer.lines ≤ size
   -- no two tokens have one id
   pub one_each : (t u : ℕ) (token other : PendingOffer) → held_token kept at t ≡ Some token → held_token kept at u ≡ Some other → token.id ≡ other.id → t ≡ u
-  pub fits : Fits at peer kept size
   pub channels : ChannelsTell past at peer
 
 pub record Tells {E : Type 0} (past : List (Entry E)) (pair : PairStance) : Type 0 where
@@ -52,15 +46,9 @@ pub record Tells {E : Type 0} (past : List (Entry E)) (pair : PairStance) : Type
   -- no token past the SDPs is spent
   pub later : (t : ℕ) → length (sdps past) ≤ t → is_spent t past ≡ false
   pub count : length pair.sdps ≤ pair.size
-  pub each : All (λ kept. length kept.sdp.lines ≤ pair.size) pair.sdps
 
 pub within : {E : Type 0} → (past : List (Entry E)) (pair : PairStance) → Tells past pair → IsWithin pair
-within past pair tells = record {
-  rows = λ at. (tells.sides at).few;
-  sdps = tells.count;
-  each = tells.each;
-  fits = λ at. (tells.sides at).fits;
-}
+within past pair tells = record { sdps = tells.count }
 
 -- ---- sides
 
@@ -147,37 +135,20 @@ held_before at kept kept' place t token is = elim (place t) [
   | inr none ↦ absurd (let e : None ≡ Some token = sym none ∙ is in cc)
 ]
 
--- a token from before an entry that moves its side is not right
-pub fits_moved : {E : Type 0} → (past : List (Entry E)) (at : Side) (old new : Stance) (kept kept' : List Kept) (size size' : ℕ)
-    → new.counter ≡ old.counter + 1 → size < 2 ^ 32 → HeldBefore at kept kept' → SideTells past at old kept size → Fits at new kept' size'
-fits_moved past at old new kept kept' size size' counter small was told t token is right =
-    let older : token.id + 1 ≤ old.counter = (told.tokens t).older token (was t token is) in
-    let counts : old.counter ≤ size = told.counts in
-    let next : raised token.id ≡ token.id + 1 = raised-small token.id size (omega arith) small in
-    absurd (omega (arith, counter, right, next))
-
-pub fits_same : {E : Type 0} → (past : List (Entry E)) (at : Side) (old new : Stance) (kept kept' : List Kept) (size size' : ℕ)
-    → new.counter ≡ old.counter → length new.lines ≡ length old.lines → size ≤ size' → HeldBefore at kept kept' → SideTells past at old kept size → Fits at new kept' size'
-fits_same past at old new kept kept' size size' counter lines grows was told t token is right =
-    let fit : length old.lines + length (added_mids token.changes) ≤ size = told.fits t token (was t token is) (sym counter ∙ right) in
-    omega (arith, fit, lines, grows)
-
 at_most_one : (moved : Bool) (counter size size' : ℕ) → counter ≤ size → size + 1 ≤ size' → cond moved (counter + 1) counter ≤ size'
 at_most_one true counter size size' low grows = omega arith
 at_most_one false counter size size' low grows = omega arith
 
 -- a side with no token that it had not
 pub side_next : {E : Type 0} → (moved : Bool) (past : List (Entry E)) (e : Entry E) (at : Side) (old new : Stance) (kept kept' : List Kept) (size size' : ℕ)
-    → new.lines ≡ before at (e ∷ past) → new.counter ≡ cond moved (old.counter + 1) old.counter → size + 1 ≤ size' → length new.lines ≤ size'
+    → new.lines ≡ before at (e ∷ past) → new.counter ≡ cond moved (old.counter + 1) old.counter → size + 1 ≤ size'
     → HeldBefore at kept kept' → ((t : ℕ) → TokenTells (e ∷ past) at (cond moved (old.counter + 1) old.counter) t (slice_get kept' t))
-    → Fits at new kept' size' → ChannelsTell (e ∷ past) at new → SideTells past at old kept size → SideTells (e ∷ past) at new kept' size'
-side_next moved past e at old new kept kept' size size' rows counter grows few was tokens fits channels told_it = record {
+    → ChannelsTell (e ∷ past) at new → SideTells past at old kept size → SideTells (e ∷ past) at new kept' size'
+side_next moved past e at old new kept kept' size size' rows counter grows was tokens channels told_it = record {
   rows = rows;
   tokens = λ t. rw counter (tokens t);
   counts = rw counter (at_most_one moved old.counter size size' told_it.counts grows);
-  few = few;
   one_each = λ t u token other is is'. told_it.one_each t u token other (was t token is) (was u other is');
-  fits = fits;
   channels = channels;
 }
 
@@ -197,6 +168,5 @@ pub side_stays : {E : Type 0} → (past : List (Entry E)) (e : Entry E) (at : Si
     → same_side (side_of e.step) at ≡ false → size + 1 ≤ size' → HeldBefore at kept kept'
     → ((t : ℕ) → TokenTells (e ∷ past) at peer.counter t (slice_get kept' t)) → SideTells past at peer kept size → SideTells (e ∷ past) at peer kept' size'
 side_stays past e at peer kept kept' size size' another grows was tokens told_it =
-    let few : length peer.lines ≤ size = told_it.few in
-    side_next false past e at peer peer kept kept' size size' (told_it.rows ∙ sym (ap (λ b. rows_or b e.table (before at past)) another)) refl grows (omega arith) was tokens
-    (fits_same past at peer peer kept kept' size size' refl refl (omega arith) was told_it) (channels_stay past e at peer another told_it.channels) told_it
+    side_next false past e at peer peer kept kept' size size' (told_it.rows ∙ sym (ap (λ b. rows_or b e.table (before at past)) another)) refl grows was tokens
+    (channels_stay past e at peer another told_it.channels) told_it

@@ -1,21 +1,19 @@
 -- What a past says of a pair after an entry that spends a token, or makes an offer.
-use Rattle.std.proofs.Common.{◌≡◌, ◌≤◌, ◌<◌, ◌+◌, ◌^◌, ◌==◌, ℕ, List, [], ◌∷◌, ◌++◌, map, length, All, true, false, Some, None, refl, sym, ◌∙◌, ap, arith, cond, append-nil, length-set, ◌⊎◌, inl, inr}
+use Rattle.std.proofs.Common.{◌≡◌, ◌≤◌, ◌<◌, ◌+◌, ◌==◌, ℕ, List, [], ◌∷◌, ◌++◌, map, length, true, false, Some, None, refl, sym, ◌∙◌, ap, arith, cond, append-nil, length-set, ◌⊎◌, inl, inr}
 use Rattle.std.specs.Prelude.{slice_get, slice_set, option_map, is_some}
-use Rattle.std.proofs.lemmas.Bool.{eq-eqb, and_right, both_ways}
+use Rattle.std.proofs.lemmas.Bool.{eq-eqb, and_right}
 use Rattle.std.proofs.lemmas.List.{length-map, drop_all}
-use Rattle.std.proofs.lemmas.List.Elements.{All-set, All-get_or}
-use Rattle.std.proofs.lemmas.Option.{slice_get_within, get_or_from_slice_get}
-use Rattle.rtc_change.specs.PendingOffer.{PendingOffer, added_mids, added_rows, staged_restart}
+use Rattle.std.proofs.lemmas.Option.{slice_get_within}
+use Rattle.rtc_change.specs.PendingOffer.{PendingOffer, added_rows, staged_restart}
 use Rattle.rtc_peer_state.specs.Stance.{Stance}
-use Rattle.rtc_peer_state.specs.Calls.{raised}
 use Rattle.rtc_history.specs.declared.side.Side.{Side}
 use Rattle.rtc_history.specs.Sides.{same_side, other_side, side_of}
 use Rattle.rtc_history.specs.Past.{Entry, sdps, spends, is_spent, is_offer_of, holds_token, makes, added_in, restarts_in}
 use Rattle.rtc_history.specs.declared.kept.Kept.{Kept}
 use Rattle.rtc_history.specs.PairState.{made_sdp, token_for, held_token}
 use Rattle.rtc_history_laws.proofs.PushedLists.{push_places, set_places, map-slice_set}
-use Rattle.rtc_history_laws.proofs.Tells.{TokenTells, SideTells, Tells, IsUntold, Fits, HeldBefore, same_side-self, same_side-other, raised-small, token_next, no_token, held_before, fits_moved, fits_same, side_next}
-use Rattle.rtc_history_laws.proofs.Entries.{Goes, rows_told, tells_next, each_grown, said_at, same_offer, says_pushed, texts_pushed, no_choice, unheld}
+use Rattle.rtc_history_laws.proofs.Tells.{TokenTells, SideTells, Tells, IsUntold, HeldBefore, same_side-self, same_side-other, token_next, no_token, held_before, side_next}
+use Rattle.rtc_history_laws.proofs.Entries.{Goes, rows_told, tells_next, said_at, same_offer, says_pushed, texts_pushed, no_choice, unheld}
 use Rattle.rtc_history_laws.proofs.StanceSteps.{PairStance}
 
 -- ---- an entry that spends a token
@@ -24,42 +22,11 @@ use Rattle.rtc_history_laws.proofs.StanceSteps.{PairStance}
 abbrev pub bare : Kept → Kept
 bare kept = record kept { token = None }
 
--- the SDP at a place is one of the SDPs
-pub All-slice_get : {A : Type 0} (P : A → Type 0) (xs : List A) (k : ℕ) (x : A) → slice_get xs k ≡ Some x → All P xs → P x
-All-slice_get P xs k x there each = let e = get_or_from_slice_get xs k x x there in rw (← e) (All-get_or P xs k x (slice_get_within xs k x there) each)
-
--- only the token that is spent was right
-fits_spent : {E : Type 0} → (past : List (Entry E)) (at : Side) (old new : Stance) (kept kept' : List Kept) (size size' k : ℕ) (token : PendingOffer)
-    → new.counter ≡ old.counter → size < 2 ^ 32 → held_token kept at k ≡ Some token → held_token kept' at k ≡ None → old.counter ≡ raised token.id
-    → HeldBefore at kept kept' → SideTells past at old kept size → Fits at new kept' size'
-fits_spent past at old new kept kept' size size' k token counter small held spent right was told t other is right' =
-    let counts : old.counter ≤ size = told.counts in
-    let older : token.id + 1 ≤ old.counter = (told.tokens k).older token held in
-    let older' : other.id + 1 ≤ old.counter = (told.tokens t).older other (was t other is) in
-    let next : raised token.id ≡ token.id + 1 = raised-small token.id size (omega arith) small in
-    let next' : raised other.id ≡ other.id + 1 = raised-small other.id size (omega arith) small in
-    let same : token.id ≡ other.id = omega (arith, counter, right, right', next, next') in
-    let here : k ≡ t = told.one_each k t token other held (was t other is) same in
-    absurd (let e : None ≡ Some other = sym spent ∙ ap (held_token kept' at) here ∙ is in cc)
-
--- there are as many rows, or the token that is spent was right
-abbrev pub StaysOrRight : Side → Stance → List Kept → ℕ → Stance → Type 0
-StaysOrRight at old kept k new = (length new.lines ≡ length old.lines) ⊎ ((token : PendingOffer) × (held_token kept at k ≡ Some token) × (old.counter ≡ raised token.id))
-
-fits_either : {E : Type 0} → (past : List (Entry E)) (at : Side) (old new : Stance) (kept kept' : List Kept) (size size' k : ℕ) → StaysOrRight at old kept k new
-    → new.counter ≡ old.counter → size < 2 ^ 32 → size ≤ size' → held_token kept' at k ≡ None → HeldBefore at kept kept' → SideTells past at old kept size → Fits at new kept' size'
-fits_either past at old new kept kept' size size' k (inl lines) counter small grows spent was told = fits_same past at old new kept kept' size size' counter lines grows was told
-fits_either past at old new kept kept' size size' k (inr right) counter small grows spent was told =
-    fits_spent past at old new kept kept' size size' k right.0 counter small right.1 spent right.2 was told
-
 pub spent_tells : {E : Type 0} → (past : List (Entry E)) (e : Entry E) (old new : PairStance) (k : ℕ) (kept : Kept) → Goes false past e old new
-    → StaysOrRight (side_of e.step) (old.sides (side_of e.step)) old.sdps k (new.sides (side_of e.step))
     → slice_get old.sdps k ≡ Some kept → new.sdps ≡ slice_set old.sdps k (bare kept)
     → ((t : ℕ) → spends t e.step e.outcome ≡ (k == t)) → ((t : ℕ) → makes t e.outcome ≡ false) → Tells past old → Tells (e ∷ past) new
-spent_tells past e old new k kept goes right there changed spends_k unmade tells =
+spent_tells past e old new k kept goes there changed spends_k unmade tells =
     let at = side_of e.step in
-    let size : old.size ≤ new.size = omega (arith, goes.grows) in
-    let small : old.size < 2 ^ 32 = omega (arith, goes.grows, goes.small) in
     let count : length new.sdps ≡ length old.sdps = ap length changed ∙ length-set old.sdps k (bare kept) in
     let none : e.made ≡ [] = goes.made ∙ ap (map made_sdp) (drop_all (length old.sdps) new.sdps (omega arith)) in
     let same_said : sdps (e ∷ past) ≡ sdps past = ap (λ made. sdps past ++ made) none ∙ append-nil (sdps past) in
@@ -68,10 +35,6 @@ spent_tells past e old new k kept goes right there changed spends_k unmade tells
     let lost : (side : Side) → token_for side (Some (bare kept)) ≡ None = λ side. no_choice (same_side kept.at side) in
     let was : (side : Side) → HeldBefore side old.sdps new.sdps = λ side. held_before side old.sdps new.sdps
     (λ t. elim (place t) [ inl h ↦ inl h.1 | inr h ↦ inr (ap (token_for side) h.2 ∙ lost side) ]) in
-    let spent : (side : Side) → held_token new.sdps side k ≡ None = λ side. elim (place k) [
-      | inl h ↦ absurd (both_ways (k == k) h.0 (eq-eqb k k refl))
-      | inr h ↦ ap (token_for side) h.2 ∙ lost side
-    ] in
     let untold : (side : Side) (t : ℕ) → (k == t) ≡ false → IsUntold past e side t = λ side t other. record { same = ap (λ said. is_offer_of side (slice_get said t)) same_said; unspent = spends_k t ∙ other; unmade = unmade t } in
     let gone : (side : Side) (counter t : ℕ) → (k == t) ≡ true → TokenTells (e ∷ past) side counter t (Some (bare kept)) = λ side counter t here.
     no_token (e ∷ past) side counter t (Some (bare kept)) (lost side) (unheld_spent side t (spends_k t ∙ here)) in
@@ -86,16 +49,12 @@ spent_tells past e old new k kept goes right there changed spends_k unmade tells
             omega (arith, h.0))
       ];
       count = omega arith;
-      each = rw changed (All-set (λ (one : Kept). length one.sdp.lines ≤ new.size) old.sdps k (bare kept)
-          (All-slice_get (λ (one : Kept). length one.sdp.lines ≤ new.size) old.sdps k kept there (each_grown old.sdps old.size new.size size tells.each))
-          (each_grown old.sdps old.size new.size size tells.each));
     })
-    (side_next false past e at (old.sides at) (new.sides at) old.sdps new.sdps old.size new.size (rows_told false past e old new goes) goes.counter goes.grows goes.few (was at)
+    (side_next false past e at (old.sides at) (new.sides at) old.sdps new.sdps old.size new.size (rows_told false past e old new goes) goes.counter goes.grows (was at)
     (λ t. elim (place t) [
       | inl h ↦ rw h.1 (token_next false past e at _ t _ (untold at t h.0) goes.mine ((tells.sides at).tokens t))
       | inr h ↦ rw h.2 (gone at _ t h.1)
     ])
-    (fits_either past at (old.sides at) (new.sides at) old.sdps new.sdps old.size new.size k right goes.counter small size (spent at) (was at) (tells.sides at))
     goes.channels (tells.sides at))
     (was (other_side at))
     (λ t. elim (place t) [
@@ -139,24 +98,14 @@ one_each_offered past at old kept size token id told t u one other (inr new) (in
     absurd (omega (arith, same, id, ap (λ k. k.id) new.1))
 one_each_offered past at old kept size token id told t u one other (inr new) (inr new') same = new.0 ∙ sym new'.0
 
-fits_offered : {E : Type 0} → (past : List (Entry E)) (at : Side) (old new : Stance) (kept : List Kept) (size size' : ℕ) (token : PendingOffer) → new.counter ≡ old.counter + 1 → size < 2 ^ 32
-    → length new.lines + length (added_mids token.changes) ≤ size' → SideTells past at old kept size
-    → (t : ℕ) (other : PendingOffer) → Origin at kept token t other → new.counter ≡ raised other.id → length new.lines + length (added_mids other.changes) ≤ size'
-fits_offered past at old new kept size size' token counter small fit told t other (inl is) right =
-    fits_moved past at old new kept kept size size' counter small (λ u one held. held) told t other is right
-fits_offered past at old new kept size size' token counter small fit told t other (inr made) right =
-    let n : length (added_mids token.changes) ≡ length (added_mids other.changes) = ap (λ k. length (added_mids k.changes)) made.1 in omega arith
-
 pub offered_tells : {E : Type 0} → (past : List (Entry E)) (e : Entry E) (old new : PairStance) (kept : Kept) (token : PendingOffer) → Goes true past e old new
     → kept.at ≡ side_of e.step → kept.offer ≡ true → kept.token ≡ Some token → token.id ≡ (old.sides (side_of e.step)).counter
     → ((place : ℕ) → added_in place e.step e.outcome e.table e.made ≡ added_rows place token.changes)
     → restarts_in e.outcome ≡ is_some (staged_restart token.changes)
-    → length kept.sdp.lines ≤ new.size → length (new.sides (side_of e.step)).lines + length (added_mids token.changes) ≤ new.size → new.sdps ≡ old.sdps ++ kept ∷ []
+    → new.sdps ≡ old.sdps ++ kept ∷ []
     → ((t : ℕ) → spends t e.step e.outcome ≡ false) → ((t : ℕ) → makes t e.outcome ≡ (length old.sdps == t)) → Tells past old → Tells (e ∷ past) new
-offered_tells past e old new kept token goes by offer has id adds restarts few fit pushed unspent makes_it tells =
+offered_tells past e old new kept token goes by offer has id adds restarts pushed unspent makes_it tells =
     let at = side_of e.step in
-    let size : old.size ≤ new.size = omega (arith, goes.grows) in
-    let small : old.size < 2 ^ 32 = omega (arith, goes.grows, goes.small) in
     let says : map made_sdp new.sdps ≡ sdps (e ∷ past) = says_pushed past e old new kept goes.made pushed tells.says in
     let said_count : length (sdps past) ≡ length old.sdps = ap length (sym tells.says) ∙ length-map old.sdps made_sdp in
     let mine : same_side kept.at at ≡ true = ap (λ side. same_side side at) by ∙ same_side-self at in
@@ -172,7 +121,7 @@ offered_tells past e old new kept token goes by offer has id adds restarts few f
       | inl h ↦ inl (ap (token_for at) (sym h.1) ∙ is)
       | inr h ↦ inr (h.0, let same : Some token ≡ Some other = sym found ∙ sym (ap (token_for at) h.2) ∙ is in cc)
     ] in
-    tells_next true past e old new goes (texts_pushed past e old new kept goes.made pushed size few unspent tells)
+    tells_next true past e old new goes (texts_pushed past e old new kept goes.made pushed unspent tells)
     (record {
       rows = rows_told true past e old new goes;
       tokens = λ t. rw goes.counter (elim (place t) [
@@ -180,9 +129,7 @@ offered_tells past e old new kept token goes by offer has id adds restarts few f
         | inr h ↦ rw h.2 (offer_token past e at _ t kept token mine offer found id adds restarts (last t h.2) (unspent t) (tells.later t (omega (arith, said_count, h.0))) (makes_it t ∙ h.1))
       ]);
       counts = let c : (old.sides at).counter ≤ old.size = (tells.sides at).counts in omega (arith, goes.counter, goes.grows);
-      few = goes.few;
       one_each = λ t u one other is is'. one_each_offered past at (old.sides at) old.sdps old.size token id (tells.sides at) t u one other (origin t one is) (origin u other is');
-      fits = λ t other is. fits_offered past at (old.sides at) (new.sides at) old.sdps old.size new.size token goes.counter small fit (tells.sides at) t other (origin t other is);
       channels = goes.channels;
     })
     (held_before (other_side at) old.sdps new.sdps (λ t. elim (place t) [ inl h ↦ inl h.1 | inr h ↦ inr (ap (token_for (other_side at)) h.2 ∙ none) ]))

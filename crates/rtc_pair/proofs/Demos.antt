@@ -50,7 +50,7 @@ connects alloc left_settings right_settings pair full made = by (stance_of plain
 
 ran_finishes : (alloc : Global) (rounds seed : ℕ) (replies : List (Reply PlainMediaEvent)) (pair : PlainPairState) → rounds ≤ 100 → RanScript alloc (demo_script rounds seed) replies pair → lack_memory replies ≡ false → count_finished replies ≡ rounds
 ran_finishes alloc rounds seed replies pair few ran enough =
-    demo_finishes plain_parts is_ice_message ran.start rounds seed replies pair few (connects alloc (peer_settings Left []) (peer_settings Right []) ran.start refl ran.program) ran.runs enough ran.no_fault
+    demo_finishes plain_parts is_ice_message ran.start rounds seed replies pair few ran.formed (connects alloc (peer_settings Left []) (peer_settings Right []) ran.start refl ran.program) ran.runs enough ran.no_fault
 
 pub performs_demo : (alloc : Global) (rounds seed : ℕ) (script : Script) (replies : List (Reply PlainMediaEvent)) (pair : PlainPairState) (written written' : Option (List ℕ)) (last : Option PlainPairState)
     → rounds ≤ 100 → script ≡ demo_script rounds seed → RanScript alloc script replies pair → TellsCounts rounds script.steps replies pair written written' last → PerformsDemo alloc rounds seed written written' last

@@ -1,3 +1,4 @@
+mod NewPairs
 pub mod Scripts
 pub mod Words
 pub mod Completes

@@ -2,8 +2,9 @@
 use Rattle.std.proofs.Common.{◌≡◌, ◌≤◌, ◌^◌, ◌⊎◌, inl, inr, ℕ, Bool, true, List, length, Option, Result, Ok, Err, IfOk, subst}
 use Rattle.std.specs.declared.alloc.Global.{Global}
 use Rattle.std.specs.Io.KnownBytes.{Consumes, IsAtEnd}
+use Rattle.rtc_channel_runs.proofs.RunsTold.{run_hands_out}
 use Rattle.rtc_run.proofs.PlainFaults.{plain_unfaulted}
-use Rattle.rtc_run.specs.ProgramPair.{plain_parts, PlainPairState}
+use Rattle.rtc_run.specs.ProgramPair.{counting, plain_parts, PlainPairState}
 use Rattle.rtc_io.proofs.Told.{reads_input}
 use Rattle.rtc_io.specs.Programs.{ReadsInput}
 use Rattle.rtc_script.specs.Script.{IsScript, IsRefused}
@@ -16,8 +17,10 @@ use Rattle.rtc_plain_media.specs.declared.plain_media_event.PlainMediaEvent.{Pla
 use Rattle.rtc_io.proofs.Told.{breaks_off_as}
 use Rattle.rtc_io.specs.Saying.{BreaksOff}
 use Rattle.rtc_script.specs.Report.{report}
-use Rattle.rtc_delivery.specs.Delivered.{AllReadBack}
+use Rattle.rtc_history.specs.Fresh.{ArePeersFormed}
 use Rattle.rtc_history.specs.Runs.{Runs}
+use Rattle.rtc_history.specs.Signalled.{AllReadBack}
+use Rattle.rtc_pair.proofs.NewPairs.{program_new}
 use Rattle.rtc_pair.specs.Answers.{IsPairOf, IsReport, RanScript, KeepsReport, PerformsScript, RunsScript}
 
 pub reads_script : (a b : Option (List ℕ)) (bytes slice : List ℕ) (script : Script)
@@ -43,9 +46,9 @@ runs_or alloc a b written written' last script R read (inr rest) = inr rest
 -- replies that are joined with the pair are those of the run
 pub ran_joined : {E : Type 0} (alloc : Global) (script : Script) (start pair : PlainPairState) (replies : Result (List (Reply PlainMediaEvent)) E)
     (result : Result (PlainPairState × List (Reply PlainMediaEvent)) E) → IfOk result (λ joined. (joined.0 ≡ pair) × (replies ≡ Ok joined.1))
-    → IsPairOf alloc script start → IfOk replies (λ told. Runs plain_parts is_ice_message start script.steps told pair)
+    → IsPairOf alloc script start → ArePeersFormed plain_parts start → IfOk replies (λ told. Runs plain_parts is_ice_message start script.steps told pair)
     → IfOk replies (λ told. AllReadBack pair.sdps) → IfOk result (λ ran. RanScript alloc script ran.1 ran.0)
-ran_joined {E = E} alloc script start pair replies (Ok (kept, told)) (kept_is, told_is) program runs read_back =
+ran_joined {E = E} alloc script start pair replies (Ok (kept, told)) (kept_is, told_is) program formed runs read_back =
     let Q : Result (List (Reply PlainMediaEvent)) E → Type 0 = λ (r : Result (List (Reply PlainMediaEvent)) E). IfOk r (λ told. Runs plain_parts is_ice_message start script.steps told pair) in
     let U : Result (List (Reply PlainMediaEvent)) E → Type 0 = λ (r : Result (List (Reply PlainMediaEvent)) E). IfOk r (λ told. AllReadBack pair.sdps) in
     let ran : Runs plain_parts is_ice_message start script.steps told pair = subst Q told_is runs in
@@ -53,11 +56,13 @@ ran_joined {E = E} alloc script start pair replies (Ok (kept, told)) (kept_is, t
     record {
       start = start;
       program = program;
+      formed = formed;
       runs = rw kept_is ran;
       read_back = rw kept_is read;
       no_fault = plain_unfaulted start pair script.steps told ran;
+      channels = rw kept_is (run_hands_out counting is_ice_message start pair script.steps told (program_new alloc _ _ start program) ran);
     }
-ran_joined alloc script start pair replies (Err error) joined program runs read_back = tt
+ran_joined alloc script start pair replies (Err error) joined program formed runs read_back = tt
 
 -- a script was run, and its report was written
 pub performs : (alloc : Global) (lacking : Bool) (script : Script) (replies : List (Reply PlainMediaEvent)) (pair : PlainPairState) (written written' : Option (List ℕ))

@@ -2,9 +2,8 @@
 ghost use Rattle.std.specs.Prelude.{◌≡◌, ◌≢◌, ◌<◌, ◌≤◌, ◌^◌, ◌⊎◌, true, false, Some, None, IfOk, length};
 ghost use Rattle.rtc_io.specs.Saying.{BreaksOff};
 ghost use Rattle.rtc_io.specs.Programs.{RefusesInput};
-ghost use Rattle.rtc_history.specs.Fresh.{IsFresh};
+ghost use Rattle.rtc_history.specs.Fresh.{ArePeersFormed, IsFresh};
 ghost use Rattle.rtc_history.specs.Sizes.{steps_size};
-ghost use Rattle.rtc_delivery.specs.Delivered.{ArePeersFormed};
 ghost use Rattle.rtc_run.specs.ProgramPair.{plain_parts};
 ghost use Rattle.rtc_script.specs.Report.{report};
 ghost use Rattle.rtc_pair.specs.Answers.{
@@ -51,6 +50,7 @@ fn settings_of(script: &Script, at: Side) -> PeerSettings
         lite: script.sets_lite(at),
         max_buffered: script.buffer_set(at),
         max_message_size: script.max_message_set(at),
+        stats_interval: script.interval_set(at),
     }
 }
 

@@ -14,6 +14,7 @@ use Rattle.rtc_history.specs.declared.outcome.Outcome.{Outcome}
 use Rattle.rtc_history.specs.declared.outcome.Outcome.TheVariants.{Negotiated, Answered, Finished, Done, Wrote, Polled, Refused, NoSuch, Alloc}
 use Rattle.rtc_history.specs.declared.table.Table.{Table}
 use Rattle.rtc_history.specs.Past.{Entry, sdps, remote_sdp, holds_token, is_right}
+use Rattle.rtc_history.specs.Signalled.{Signalled, Readable}
 use Rattle.rtc_history.specs.Sound.{RepliesToOffer, RepliesToAnswer, asked_in}
 use Rattle.rtc_history.specs.Views.{Stances, view_in}
 use Rattle.rtc_peer_state.specs.Stance.{held_by}
@@ -23,7 +24,7 @@ use Rattle.rtc_run.specs.Completeness.{SucceedsOrFails, IsFaultlessOffer, IsFaul
 no_cause : {R : Type 0} (found : Option Refusal) (why : Refusal) → found ≡ Some why → found ≡ None → R
 no_cause {R} found why is none = absurd (let bad : Some why ≡ None = sym is ∙ none in cc)
 
-offer_passes : {E : Type 0} → (sdp : Sdp) (view : Held) (next : ℕ) (outcome : Outcome E) (after : List LineRow) → RepliesToOffer (Some sdp) view next outcome after
+offer_passes : {E : Type 0} → (sdp : Sdp) (view : Held) (next : ℕ) (outcome : Outcome E) (after : List LineRow) → RepliesToOffer (Readable sdp) view next outcome after
     → verdict view None sdp ≡ None → SucceedsOrFails outcome
 offer_passes sdp view next (Answered k) after replies passes = refl
 offer_passes sdp view next (Refused (RemoteSdp why)) after replies passes = no_cause (verdict view None sdp) (RefusedSdp why) replies.0 passes
@@ -48,7 +49,7 @@ offer_passes sdp view next Alloc after replies passes = absurd replies
 offer_taken : {E : Type 0} → (fresh : Stances) (past : List (Entry E)) (between : Stances) (at : Side) (k : ℕ) (outcome : Outcome E) (table : Table) → IsFaultlessOffer fresh past between at k
     → RepliesToOffer (remote_sdp true at k past) (view_in fresh at past (held_by (between at))) (length (sdps past)) outcome table.lines → SucceedsOrFails outcome
 offer_taken fresh past between at k outcome table faultless replies =
-    let P : Option Sdp → Type 0 = λ (found : Option Sdp). RepliesToOffer found (view_in fresh at past (held_by (between at))) (length (sdps past)) outcome table.lines in
+    let P : Signalled → Type 0 = λ (found : Signalled). RepliesToOffer found (view_in fresh at past (held_by (between at))) (length (sdps past)) outcome table.lines in
     offer_passes faultless.offer (view_in fresh at past (held_by (between at))) (length (sdps past)) outcome table.lines (subst P faultless.there replies) faultless.passes
 
 pub faultless_offers : {E : Type 0} → FaultlessOffersPass E
@@ -63,7 +64,7 @@ faultless_offers fresh past between at k NoSuch (Some table) made sound faultles
 faultless_offers fresh past between at k Alloc table made sound faultless = refl
 faultless_offers fresh past between at k outcome None made sound faultless = absurd sound
 
-answer_passes : {E : Type 0} → (asked : Asked) (sdp : Sdp) (view : Held) (outcome : Outcome E) (after : List LineRow) → RepliesToAnswer true true asked (Some sdp) view outcome after
+answer_passes : {E : Type 0} → (asked : Asked) (sdp : Sdp) (view : Held) (outcome : Outcome E) (after : List LineRow) → RepliesToAnswer true true asked (Readable sdp) view outcome after
     → verdict view (Some asked) sdp ≡ None → SucceedsOrFails outcome
 answer_passes asked sdp view Finished after replies passes = refl
 answer_passes asked sdp view (Refused (RemoteSdp why)) after replies passes = no_cause (verdict view (Some asked) sdp) (RefusedSdp why) replies.0 passes
@@ -90,7 +91,7 @@ answer_taken : {E : Type 0} → (fresh : Stances) (past : List (Entry E)) (betwe
 answer_taken fresh past between at t a outcome table faultless replies =
     let P : Bool → Type 0 = λ (held : Bool). RepliesToAnswer held (is_right at t past) (asked_in at t past) (remote_sdp false at a past) (view_in fresh at past (held_by (between at))) outcome table.lines in
     let Q : Bool → Type 0 = λ (right : Bool). RepliesToAnswer true right (asked_in at t past) (remote_sdp false at a past) (view_in fresh at past (held_by (between at))) outcome table.lines in
-    let F : Option Sdp → Type 0 = λ (found : Option Sdp). RepliesToAnswer true true (asked_in at t past) found (view_in fresh at past (held_by (between at))) outcome table.lines in
+    let F : Signalled → Type 0 = λ (found : Signalled). RepliesToAnswer true true (asked_in at t past) found (view_in fresh at past (held_by (between at))) outcome table.lines in
     answer_passes (asked_in at t past) faultless.answer (view_in fresh at past (held_by (between at))) outcome table.lines
     (subst F faultless.there (subst Q faultless.right (subst P faultless.held replies))) faultless.passes
 

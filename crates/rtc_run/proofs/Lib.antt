@@ -13,3 +13,4 @@ pub mod Drained
 pub mod PollsKeep
 pub mod Answered
 pub mod AnsweredWrites
+pub mod AnsweredOffers

@@ -13,6 +13,7 @@ use Rattle.rtc_assoc_state.specs.Contents.{fresh_contents}
 use Rattle.rtc_plain_media.specs.MediaContents.{fresh_media}
 use Rattle.rtc_peer_state.specs.Built.{Builds}
 use Rattle.rtc_peer_state.specs.Config.{Config}
+use Rattle.rtc_peer_state.specs.Formats.{AreFormedFormats}
 use Rattle.rtc_peer_state.specs.Formed.{AreSdpCreds, IsFormed, IsHostCandidate}
 use Rattle.rtc_peer_state.specs.Stance.{stance_of}
 use Rattle.rtc_history.specs.declared.side.Side.{Side}
@@ -82,10 +83,10 @@ program_fresh alloc settings cert first addr config built p h = record {
 }
 
 pub program_formed : (alloc : Global) (settings : PeerSettings) (cert : List ℕ) (first : ℕ) (addr : Addr) (config : Config) (built p : PlainPeer)
-    → Makes alloc settings cert first addr config built p → (config.creds ≡ None → IsFormed (stance_of plain_parts built)) → IsHostCandidate (host_at addr)
-    → IsFormed (stance_of plain_parts p)
-program_formed alloc settings cert first addr config built p h formed host =
-    let was : IsFormed (stance_of plain_parts built) = formed (ap (λ (c : Config). c.creds) h.config_is) in
+    → Makes alloc settings cert first addr config built p → (config.creds ≡ None → AreFormedFormats config.formats → IsFormed (stance_of plain_parts built))
+    → AreFormedFormats config.formats → IsHostCandidate (host_at addr) → IsFormed (stance_of plain_parts p)
+program_formed alloc settings cert first addr config built p h formed formats host =
+    let was : IsFormed (stance_of plain_parts built) = formed (ap (λ (c : Config). c.creds) h.config_is) formats in
     let candidates : p.ice.settings.candidates ≡ host_at addr ∷ [] =
     ap (λ (ice : IceContents). ice.settings.candidates) h.added.1 ∙ added_candidates (host_at addr) built.ice
     ∙ ap (λ (list : List Candidate). list ++ host_at addr ∷ []) (built_bare alloc config first built h.builds) in
@@ -98,8 +99,10 @@ program_formed alloc settings cert first addr config built p h formed host =
       fingerprint = rw (ap (λ (q : PlainPeer). q.dtls) h.rest) was.fingerprint;
       rows = rw (ap (λ (q : PlainPeer). q.lines) h.rest) was.rows;
       staged = rw (ap (λ (q : PlainPeer). q.staged) h.rest) was.staged;
-      restarts = rw (ap (λ (q : PlainPeer). q.staged) h.rest) was.restarts;
       size = rw (ap (λ (q : PlainPeer). q.sctp) h.rest) was.size;
+      changes = rw (ap (λ (q : PlainPeer). q.staged) h.rest) was.changes;
+      formats = rw (ap (λ (q : PlainPeer). q.formats) h.rest) was.formats;
+      media = rw (ap (λ (q : PlainPeer). q.media) h.rest) was.media;
     }
 
 pub left_host : IsHostCandidate (host_at left_address)

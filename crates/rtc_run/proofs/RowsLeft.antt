@@ -1,9 +1,10 @@
 -- How many rows an SDP leaves.
 use Rattle.std.proofs.Common.{◌≡◌, ◌≤◌, ◌+◌, List, length, Bool, true, false, Ok, Err, Result, ap, arith}
+use Rattle.std.proofs.lemmas.List.{length-map}
 use Rattle.rtc_sdp_values.specs.declared.line_row.LineRow.{LineRow}
 use Rattle.rtc_sdp_values.specs.declared.sdp.Sdp.{Sdp}
 use Rattle.rtc_change.specs.PendingOffer.{PendingOffer}
-use Rattle.rtc_tables.specs.ParsedLines.{parsed_lines}
+use Rattle.rtc_tables.specs.ParsedLines.{parsed_line, parsed_lines}
 use Rattle.rtc_change.specs.TableAfter.{table_after}
 use Rattle.rtc_peer_state.specs.declared.peer.Peer.{Peer}
 use Rattle.rtc_peer_state.specs.declared.rtc_error.RtcError.{RtcError}
@@ -11,11 +12,11 @@ use Rattle.rtc_peer_state.specs.declared.rtc_error.RtcError.TheVariants.{Net, Me
 use Rattle.rtc_peer_state.specs.declared.rtc_error.RtcError.TheVariants.{RemoteSdp, Sdp as SdpRefused, Dtls, Sctp, ChangesOutOfOrder, BadChannel, Alloc as PeerAlloc}
 use Rattle.rtc_dtls.specs.declared.dtls_error.DtlsError.TheVariants.{WouldBlock, Fault, Alloc as DtlsAlloc}
 use Rattle.rtc_peer_state.specs.Acceptances.{AcceptsOffer, AcceptsAnswer}
-use Rattle.rtc_history_laws.proofs.OfferSteps.{taken_within}
+use Rattle.rtc_change.proofs.TableAfterLemmas.{length_table_after}
 use Rattle.rtc_peer_state.specs.Meanings.{Meanings}
 
 rows_of_taken : (rows : List LineRow) (sdp : Sdp) (offer : Bool) → length (table_after rows (parsed_lines sdp) offer) ≤ length rows + length sdp.lines
-rows_of_taken rows sdp offer = taken_within rows sdp offer (length rows + length sdp.lines) (omega arith) (omega arith)
+rows_of_taken rows sdp offer = omega (arith, length_table_after rows (parsed_lines sdp) offer, length-map sdp.lines (parsed_line sdp.groups))
 
 module _ {I D S M E X T W N : Type 0} (m : Meanings I D S M E X T W N) where
   same_rows : (p q : Peer I D S M N) (sdp : Sdp) → q.lines ≡ p.lines → length q.lines ≤ length p.lines + length sdp.lines

@@ -16,6 +16,7 @@ use Rattle.rtc_history.specs.Orderly.{is_ok}
 use Rattle.rtc_history.specs.PairState.{PairState}
 use Rattle.rtc_history.specs.Past.{Entry, MadeSdp, remote_sdp, holds_token, is_right}
 use Rattle.rtc_history.specs.Runs.{Runs}
+use Rattle.rtc_history.specs.Signalled.{Readable}
 use Rattle.rtc_history.specs.Sound.{IsSound, asked_in}
 use Rattle.rtc_history.specs.SoundParts.{CountsFault}
 use Rattle.rtc_history.specs.Views.{Stances, view_in}
@@ -24,16 +25,16 @@ use Rattle.rtc_history.specs.Views.{Stances, view_in}
 abbrev pub SucceedsOrFails : {E : Type 0} → Outcome E → Type 0
 SucceedsOrFails outcome = (is_ok outcome || fails outcome) ≡ true
 
--- an offer of the other side for which no cause holds
+-- an offer of the other side that can be read, and for which no cause holds
 pub record IsFaultlessOffer {E : Type 0} (fresh : Stances) (past : List (Entry E)) (between : Stances) (at : Side) (k : ℕ) : Type 0 where
   pub offer : Sdp
-  pub there : remote_sdp true at k past ≡ Some offer
+  pub there : remote_sdp true at k past ≡ Readable offer
   pub passes : verdict (view_in fresh at past (held_by (between at))) None offer ≡ None
 
--- an answer of the other side for which no cause holds, with a token of this side that is held and right
+-- an answer of the other side that can be read, and for which no cause holds, with a token of this side that is held and right
 pub record IsFaultlessAnswer {E : Type 0} (fresh : Stances) (past : List (Entry E)) (between : Stances) (at : Side) (t a : ℕ) : Type 0 where
   pub answer : Sdp
-  pub there : remote_sdp false at a past ≡ Some answer
+  pub there : remote_sdp false at a past ≡ Readable answer
   pub held : holds_token at t past ≡ true
   pub right : is_right at t past ≡ true
   pub passes : verdict (view_in fresh at past (held_by (between at))) (Some (asked_in at t past)) answer ≡ None

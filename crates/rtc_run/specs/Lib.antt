@@ -1,3 +1,4 @@
+pub mod Brings
 pub mod Completeness
 pub mod NoSuch
 pub mod OutcomeOf

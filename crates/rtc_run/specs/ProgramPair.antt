@@ -17,9 +17,11 @@ use Rattle.rtc_plain_media.specs.PlainMediaMeaning.{plain_media_meaning}
 use Rattle.rtc_plain_media.specs.declared.plain_media_event.PlainMediaEvent.{PlainMediaEvent}
 use Rattle.rtc_plain_media.specs.declared.plain_mark.PlainMark.{PlainMark}
 use Rattle.rtc_peer_state.specs.declared.peer.Peer.{Peer}
+use Rattle.rtc_peer_state.specs.Formats.{default_formats}
 use Rattle.rtc_peer_state.specs.Built.{Builds}
 use Rattle.rtc_peer_state.specs.Config.{Config}
 use Rattle.rtc_peer_state.specs.Meanings.{Meanings, meanings}
+use Rattle.rtc_polling.specs.Connection.{no_transport}
 use Rattle.rtc_history.specs.PairState.{PairState}
 use Rattle.rtc_run.specs.declared.peer_settings.PeerSettings.{PeerSettings}
 
@@ -54,8 +56,10 @@ program_config settings cert = record {
   ice_lite = settings.lite;
   creds = None;
   cert = Some cert;
+  formats = default_formats;
   max_buffered = settings.max_buffered;
   max_message_size = settings.max_message_size;
+  stats_interval = settings.stats_interval;
 }
 
 -- A peer of the program: built at moment 0 over fresh parts with a certificate, drawing numbers that count up from one, and then
@@ -74,10 +78,12 @@ abbrev pub right_address : Addr
 right_address = record { ip = 2 ∷ 2 ∷ 2 ∷ 2 ∷ []; port = 2000 }
 
 -- The pair of the program, where each peer is set to this: the left peer draws from 1 and has the certificate abc, the right one from
--- 1000001 and def.
+-- 1000001 and def. Neither has met the other side, and each checks its certificate.
 pub record IsProgramPair (alloc : Global) (left_settings right_settings : PeerSettings) (pair : PlainPairState) : Type 0 where
   pub left : IsProgramPeer alloc left_settings (codes "abc") 1 left_address pair.left.core
   pub right : IsProgramPeer alloc right_settings (codes "def") 1000001 right_address pair.right.core
+  pub left_transport : pair.left.transport ≡ no_transport true left_settings.stats_interval
+  pub right_transport : pair.right.transport ≡ no_transport true right_settings.stats_interval
   pub left_addr : pair.left_addr ≡ left_address
   pub right_addr : pair.right_addr ≡ right_address
   pub sdps : pair.sdps ≡ []

@@ -4,19 +4,23 @@ ghost use Rattle.std.specs.Prelude.{IsTrue, IsSome, IfSome, IfNone, OnSome, is_s
 ghost use Rattle.std.specs.Option.{option_copied};
 ghost use Rattle.rtc_peer_state.specs.Acceptances.{AcceptsAnswer, AcceptsOffer};
 ghost use Rattle.rtc_peer.specs.Described.{sdp_of_answer};
-ghost use Rattle.rtc_delivery.specs.Delivered.{AllReadBack};
 ghost use Rattle.rtc_history.specs.Sides.{same_side};
-ghost use Rattle.rtc_history.specs.PairState.{kept_remote_sdp, held_token, spent};
+ghost use Rattle.rtc_history.specs.PairState.{sent_sdp, kept_remote_sdp, held_token, spent};
 ghost use Rattle.rtc_history.specs.Performs.{StepAcceptsAnswer, StepAcceptsOffer, kept_answer, lent};
+ghost use Rattle.rtc_history.specs.Signalled.{signalled};
 ghost use Rattle.rtc_peer_state.specs.Meanings.{meanings};
+ghost use Rattle.rtc_run.specs.Brings.{Brings};
 
-use crate::replying::{make_room, reply_no_memory, reply_no_such, reply_with, room_for};
+use crate::brought::Brought;
+use crate::replying::{
+    make_room, reply_no_memory, reply_no_such, reply_unread, reply_with, room_for,
+};
 use rtc_change::SdpPendingOffer;
-use rtc_delivery::{deliver_kept_answer, deliver_kept_offer};
+use rtc_delivery::deliver;
 use rtc_history::{Kept, Outcome, Reply, Side};
 use rtc_lines::{SdpAnswer, SdpOffer};
 use rtc_peer::{Association, DtlsInstance, IceAgent, Ids, MediaSession, Rtc, RtcError};
-use rtc_sdp_values::Sdp;
+use rtc_sdp_values::{Sdp, SdpError};
 use std::alloc::Global;
 
 /// Whether two sides are the same.
@@ -28,7 +32,7 @@ pub fn is_same_side(a: Side, b: Side) -> bool
 
 // The offer (or answer) of a number, if the other side made it.
 fn find_sdp(sdps: &[Kept], offer: bool, at: Side, number: u32) -> Option<&Sdp>
-    ensures { option_copied result ≡ kept_remote_sdp offer sdps.now at number }
+    ensures { option_copied result ≡ sent_sdp offer sdps.now at number }
 {
     match sdps.get(number as usize) {
         None => None,
@@ -39,6 +43,29 @@ fn find_sdp(sdps: &[Kept], offer: bool, at: Side, number: u32) -> Option<&Sdp>
                 None
             }
         }
+    }
+}
+
+// What arrives of a session description that is sent.
+#[tactic(auto, unfolding(rtc_history::specs::Signalled::signalled))]
+fn bring_sent(alloc: Global, sdp: &Sdp) -> Brought
+    ensures { Brings result (signalled sdp.now) }
+{
+    match deliver(alloc, sdp) {
+        Ok(delivered) => Brought::Readable(delivered),
+        Err(SdpError::Parse(line)) => Brought::Unreadable(line),
+        Err(SdpError::Inconsistent(_)) => Brought::Alloc,
+        Err(SdpError::Alloc) => Brought::Alloc,
+    }
+}
+
+// What signalling brings of the offer (or answer) of a number.
+fn bring(alloc: Global, sdps: &[Kept], offer: bool, at: Side, number: u32) -> Brought
+    ensures { Brings result (kept_remote_sdp offer sdps.now at number) }
+{
+    match find_sdp(sdps, offer, at, number) {
+        None => Brought::NotMade,
+        Some(sdp) => bring_sent(alloc, sdp),
     }
 }
 
@@ -67,7 +94,7 @@ fn accept_offer<I: IceAgent, D: DtlsInstance, S: Association, M: MediaSession, N
     rtc.sdp_api().accept_offer(offer)
 }
 
-/// Delivers the offer of a number to a peer, which accepts or refuses it.
+/// Delivers the offer of a number to a peer, which accepts or refuses it. What cannot be read does not reach the peer.
 pub fn deliver_and_accept_offer<
     I: IceAgent,
     D: DtlsInstance,
@@ -82,23 +109,21 @@ pub fn deliver_and_accept_offer<
     offer: u32,
 ) -> Reply<M::E>
     requires count { length sdps.old.items < 2 ^ 32 }
-    requires read_back { AllReadBack sdps.old.items }
     ensures connection { rtc.new.transport ≡ rtc.old.transport }
     ensures accepts { StepAcceptsOffer (meanings I.ice D.dtls S.association M.media N.ids)
         at (kept_remote_sdp true sdps.old.items at offer) rtc.old.core sdps.old.items
         result.outcome result.table rtc.new.core sdps.new.items }
 {
-    let delivered = match find_sdp(sdps, true, at, offer) {
-        None => return reply_no_such(alloc, rtc),
-        Some(sdp) => match deliver_kept_offer(alloc, sdp) {
-            Ok(delivered) => delivered,
-            Err(_) => return reply_no_memory(),
-        },
+    let delivered = match bring(alloc, sdps.as_slice(), true, at, offer) {
+        Brought::NotMade => return reply_no_such(alloc, rtc),
+        Brought::Unreadable(line) => return reply_unread(alloc, rtc, line),
+        Brought::Readable(delivered) => delivered,
+        Brought::Alloc => return reply_no_memory(),
     };
-    let Ok(room) = make_room(alloc, rtc, delivered.0.lines.len(), 0, sdps) else {
+    let Ok(room) = make_room(alloc, rtc, delivered.lines.len(), 0, sdps) else {
         return reply_no_memory();
     };
-    match accept_offer(rtc, delivered) {
+    match accept_offer(rtc, SdpOffer(delivered)) {
         Ok(answer) => {
             let text = sdps.len() as u32;
             sdps.push_reserved(keep_answer(at, answer));
@@ -147,7 +172,8 @@ fn accept_answer<I: IceAgent, D: DtlsInstance, S: Association, M: MediaSession, 
     rtc.sdp_api().accept_answer(pending, answer)
 }
 
-/// Delivers the answer of a number to a peer, which accepts or refuses it with the token of a number.
+/// Delivers the answer of a number to a peer, which accepts or refuses it with the token of a number. What cannot be read does not
+/// reach the peer, and the token stays.
 pub fn deliver_and_accept_answer<
     I: IceAgent,
     D: DtlsInstance,
@@ -162,26 +188,27 @@ pub fn deliver_and_accept_answer<
     token: u32,
     answer: u32,
 ) -> Reply<M::E>
-    requires read_back { AllReadBack sdps.old.items }
     ensures connection { rtc.new.transport ≡ rtc.old.transport }
     ensures accepts { StepAcceptsAnswer (meanings I.ice D.dtls S.association M.media N.ids)
         token (held_token sdps.old.items at token) (kept_remote_sdp false sdps.old.items at answer)
         rtc.old.core sdps.old.items result.outcome result.table rtc.new.core sdps.new.items }
 {
-    let delivered = match find_sdp(sdps, false, at, answer) {
-        None => return reply_no_such(alloc, rtc),
-        Some(sdp) => match deliver_kept_answer(alloc, sdp) {
-            Ok(delivered) => delivered,
-            Err(_) => return reply_no_memory(),
-        },
+    if !has_token(sdps.as_slice(), at, token) {
+        return reply_no_such(alloc, rtc);
+    }
+    let delivered = match bring(alloc, sdps.as_slice(), false, at, answer) {
+        Brought::NotMade => return reply_no_such(alloc, rtc),
+        Brought::Unreadable(line) => return reply_unread(alloc, rtc, line),
+        Brought::Readable(delivered) => delivered,
+        Brought::Alloc => return reply_no_memory(),
     };
-    let Ok(room) = room_for(alloc, rtc, delivered.0.lines.len(), 0) else {
+    let Ok(room) = room_for(alloc, rtc, delivered.lines.len(), 0) else {
         return reply_no_memory();
     };
     let Some(pending) = take_token(sdps, at, token) else {
         return reply_with(Outcome::NoSuch, room, rtc);
     };
-    match accept_answer(rtc, pending, delivered) {
+    match accept_answer(rtc, pending, SdpAnswer(delivered)) {
         Ok(()) => reply_with(Outcome::Finished, room, rtc),
         Err(error) => reply_with(Outcome::Refused(error), room, rtc),
     }

@@ -3,6 +3,7 @@
 
 mod accepting;
 mod applied;
+mod brought;
 mod channels;
 mod hearing;
 mod laws;

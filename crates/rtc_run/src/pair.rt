@@ -63,7 +63,6 @@ impl<I: IceAgent, D: DtlsInstance, S: Association, M: MediaSession, N: Ids> Mode
 impl<I: IceAgent, D: DtlsInstance, S: Association, M: MediaSession, N: Ids> Pair<I, D, S, M, N> {
     ghost use Rattle.rtc_history.specs.PairState.{PairState};
     ghost use Rattle.rtc_history.specs.Performs.{Performs};
-    ghost use Rattle.rtc_delivery.specs.Delivered.{AllReadBack};
     ghost use Rattle.rtc_history.specs.Sizes.{step_size};
 
     /// A pair of peers that made no session description and sent no datagram yet.
@@ -120,7 +119,6 @@ impl<I: IceAgent, D: DtlsInstance, S: Association, M: MediaSession, N: Ids> Pair
     /// Performs one step.
     pub(crate) fn perform(&mut self, step: &Step) -> Reply<M::E>
         requires count { length self.old.sdps < 2 ^ 32 }
-        requires read_back { AllReadBack self.old.sdps }
         requires size { self.old.size + step_size step.now < 2 ^ 32 }
         ensures { Performs (meanings I.ice D.dtls S.association M.media N.ids) I.stun
             self.old step.now result.outcome result.table self.new }

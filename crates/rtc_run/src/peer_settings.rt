@@ -1,5 +1,7 @@
 //! Settings of the peers of the program.
 
+use rtc_wire::Span;
+
 /// What a peer of the program's pair is set to before it is built.
 #[derive(Clone, Copy, Debug, PartialEq, Eq)]
 pub struct PeerSettings {
@@ -9,4 +11,6 @@ pub struct PeerSettings {
     pub max_buffered: usize,
     /// The longest message that it takes, in bytes, which its session descriptions tell (RFC 8841, section 6.1).
     pub max_message_size: u32,
+    /// The time between two rounds of statistics, where they are reported.
+    pub stats_interval: Option<Span>,
 }

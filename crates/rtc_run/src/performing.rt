@@ -1,6 +1,5 @@
 //! Steps at the peer that acts.
 ghost use Rattle.std.specs.Prelude.{◌<◌, ◌^◌, length};
-ghost use Rattle.rtc_delivery.specs.Delivered.{AllReadBack};
 ghost use Rattle.rtc_history.specs.Performs.{Acts};
 ghost use Rattle.rtc_peer_state.specs.Meanings.{meanings};
 
@@ -22,7 +21,6 @@ pub fn perform_step<I: IceAgent, D: DtlsInstance, S: Association, M: MediaSessio
     step: &Step,
 ) -> Reply<M::E>
     requires count { length sdps.old.items < 2 ^ 32 }
-    requires read_back { AllReadBack sdps.old.items }
     ensures { Acts (meanings I.ice D.dtls S.association M.media N.ids) I.stun step.now rtc.old sdps.old.items packets.old.items
         result.outcome result.table rtc.new sdps.new.items packets.new.items }
 {

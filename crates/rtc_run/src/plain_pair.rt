@@ -6,10 +6,12 @@ ghost use Rattle.rtc_plain_dtls.specs.Contents.{fresh_dtls};
 ghost use Rattle.rtc_assoc_state.specs.Contents.{fresh_contents};
 ghost use Rattle.rtc_plain_media.specs.MediaContents.{fresh_media};
 ghost use Rattle.rtc_peer_state.specs.Built.{Builds};
+ghost use Rattle.rtc_peer_state.specs.Formats.{AreFormedFormats};
 ghost use Rattle.rtc_peer_state.specs.Formed.{IsFormed, IsHostCandidate};
 ghost use Rattle.rtc_peer_state.specs.Stance.{stance_of};
-ghost use Rattle.rtc_delivery.specs.Delivered.{ArePeersFormed};
+ghost use Rattle.rtc_history.specs.Fresh.{ArePeersFormed};
 ghost use Rattle.rtc_history.specs.Fresh.{IsFresh, IsJustBuilt};
+ghost use Rattle.rtc_polling.specs.Connection.{no_transport};
 ghost use Rattle.rtc_run.specs.ProgramPair.{plain_parts, host_at, program_config, IsProgramPeer, IsProgramPair};
 
 use crate::{Pair, PeerSettings};
@@ -27,7 +29,8 @@ pub type PlainPair = Pair<PlainIce, PlainDtls, PlainAssociation, PlainMedia, Cou
 
 fn make_config(alloc: Global, settings: PeerSettings, name: &str) -> Result<RtcConfig, AllocError>
     requires { length name.now ≤ 1900 }
-    ensures { IfOk result (λ config. config ≡ program_config settings name.now) }
+    ensures value { IfOk result (λ config. config ≡ program_config settings name.now) }
+    ensures formed { IfOk result (λ config. AreFormedFormats config.formats) }
 {
     let mut cert = Vec::new(alloc);
     cert.extend_from_slice(name.as_bytes())?;
@@ -37,13 +40,16 @@ fn make_config(alloc: Global, settings: PeerSettings, name: &str) -> Result<RtcC
             .set_ice_lite(settings.lite)
             .set_dtls_cert(cert)
             .set_sctp_max_buffered_amount(settings.max_buffered)
-            .set_sctp_max_message_size(settings.max_message_size),
+            .set_sctp_max_message_size(settings.max_message_size)
+            .set_stats_interval(settings.stats_interval),
     )
 }
 
 fn build_peer(alloc: Global, config: RtcConfig, first: u64) -> Result<PlainPeer, AllocError>
     ensures built { IfOk result (λ rtc. Builds plain_parts alloc config 0 fresh_ice fresh_dtls fresh_contents fresh_media first rtc.core) }
-    ensures formed { IfOk result (λ rtc. config.creds ≡ None → IsFormed (stance_of plain_parts rtc.core)) }
+    ensures unconnected { IfOk result (λ rtc. rtc.transport ≡ no_transport true config.stats_interval) }
+    ensures formed { IfOk result (λ rtc. config.creds ≡ None → AreFormedFormats config.formats
+        → IsFormed (stance_of plain_parts rtc.core)) }
 {
     Rtc::build(
         alloc,
@@ -62,6 +68,7 @@ fn add_address(alloc: Global, rtc: &mut PlainPeer, addr: Addr) -> Result<(), All
     requires { rtc.old.core.ice.settings.candidates ≡ [] }
     ensures added { OnOk result (plain_ice.local_added rtc.old.core.ice (host_at addr) (Ok true) rtc.new.core.ice) }
     ensures others { rtc.new.core ≡ record rtc.old.core { ice = rtc.new.core.ice } }
+    ensures connection { rtc.new.transport ≡ rtc.old.transport }
 {
     let candidate = Candidate::host(alloc, addr, Protocol::Udp)?;
     rtc.add_local_candidate(candidate)?;
@@ -78,6 +85,7 @@ fn make_peer(
 ) -> Result<PlainPeer, AllocError>
     requires { length name.now ≤ 1900 }
     ensures peer { IfOk result (λ rtc. IsProgramPeer alloc settings name.now first addr rtc.core) }
+    ensures unconnected { IfOk result (λ rtc. rtc.transport ≡ no_transport true settings.stats_interval) }
     ensures fresh { IfOk result (λ rtc. IsJustBuilt (stance_of plain_parts rtc.core)) }
     ensures formed { IfOk result (λ rtc. IsHostCandidate (host_at addr) → IsFormed (stance_of plain_parts rtc.core)) }
 {

@@ -3,13 +3,13 @@ ghost use Rattle.std.specs.Prelude.{◌≡◌, ◌≤◌, ◌<◌, ◌+◌, ◌^
 ghost use Rattle.rtc_history.specs.declared.outcome.Outcome.TheVariants.{Alloc};
 ghost use Rattle.rtc_peer_state.specs.ChannelRows.{channel_rows};
 ghost use Rattle.rtc_peer_state.specs.Meanings.{meanings};
-ghost use Rattle.rtc_run.specs.NoSuch.{IsNoSuch};
+ghost use Rattle.rtc_run.specs.NoSuch.{IsNoSuch, IsUnread};
 ghost use Rattle.rtc_run.specs.ShownTable.{shown_table};
 
 use rtc_channels::ChannelRow;
 use rtc_history::{Kept, Outcome, Reply, Table};
-use rtc_peer::{Association, DtlsInstance, IceAgent, Ids, MediaSession, Rtc};
-use rtc_sdp_values::LineRow;
+use rtc_peer::{Association, DtlsInstance, IceAgent, Ids, MediaSession, Rtc, RtcError};
+use rtc_sdp_values::{LineRow, SdpError};
 use rtc_wire::Seq;
 use std::alloc::{AllocError, Global};
 
@@ -171,6 +171,24 @@ pub fn reply_no_such<I: IceAgent, D: DtlsInstance, S: Association, M: MediaSessi
 {
     match room_for(alloc, rtc, 0, 0) {
         Ok(room) => reply_with(Outcome::NoSuch, room, rtc),
+        Err(_) => reply_no_memory(),
+    }
+}
+
+/// The reply to a step whose session description cannot be read from this line on.
+pub fn reply_unread<I: IceAgent, D: DtlsInstance, S: Association, M: MediaSession, N: Ids>(
+    alloc: Global,
+    rtc: &Rtc<I, D, S, M, N>,
+    line: u32,
+) -> Reply<M::E>
+    ensures { IsUnread (meanings I.ice D.dtls S.association M.media N.ids) line rtc.now.core result.outcome result.table }
+{
+    match room_for(alloc, rtc, 0, 0) {
+        Ok(room) => reply_with(
+            Outcome::Refused(RtcError::Sdp(SdpError::Parse(line))),
+            room,
+            rtc,
+        ),
         Err(_) => reply_no_memory(),
     }
 }

@@ -1,9 +1,9 @@
 //! Runs of pairs.
 ghost use Rattle.std.specs.Prelude.{◌≡◌, ◌+◌, ◌<◌, ◌≤◌, ◌^◌, ◌-◌, [], length, IfOk, OnErr, vec_capacity};
 ghost use Rattle.rtc_history.specs.Sizes.{steps_size};
-ghost use Rattle.rtc_delivery.specs.Delivered.{AllReadBack, ArePeersFormed};
-ghost use Rattle.rtc_history.specs.Fresh.{IsFresh};
+ghost use Rattle.rtc_history.specs.Fresh.{ArePeersFormed, IsFresh};
 ghost use Rattle.rtc_history.specs.Runs.{Runs};
+ghost use Rattle.rtc_history.specs.Signalled.{AllReadBack};
 ghost use Rattle.rtc_peer_state.specs.Meanings.{meanings};
 
 use crate::Pair;
@@ -22,11 +22,11 @@ pub fn run_pair<I: IceAgent, D: DtlsInstance, S: Association, M: MediaSession, N
     steps: &[Step],
 ) -> Result<Seq<Reply<M::E>>, AllocError>
     requires fresh { IsFresh (meanings I.ice D.dtls S.association M.media N.ids) pair.old }
-    requires formed { ArePeersFormed (meanings I.ice D.dtls S.association M.media N.ids) pair.old }
     requires sizes { steps_size steps.now < 2 ^ 32 }
     ensures runs { IfOk result (λ replies. Runs (meanings I.ice D.dtls S.association M.media N.ids) I.stun
         pair.old steps.now replies pair.new) }
-    ensures read_back { IfOk result (λ replies. AllReadBack pair.new.sdps) }
+    ensures read_back { ArePeersFormed (meanings I.ice D.dtls S.association M.media N.ids) pair.old
+        → IfOk result (λ replies. AllReadBack pair.new.sdps) }
     ensures untouched { OnErr result (pair.new ≡ pair.old) }
 {
     let mut replies = Vec::with_capacity(alloc, steps.len())?;

@@ -14,7 +14,7 @@ use Rattle.rtc_history.specs.declared.step.Step.TheVariants.{Write, CloseChannel
 use Rattle.rtc_script.specs.ChannelParts.{AreChannelParts}
 use Rattle.rtc_script.specs.Words.{side_text, kind_text, direction_text, hex_word, keep_text, message_kind_text, setting_words}
 use Rattle.rtc_script.specs.declared.setting.Setting.{Setting}
-use Rattle.rtc_script.specs.declared.setting.Setting.TheVariants.{Lite, Buffer, MaxMessage}
+use Rattle.rtc_script.specs.declared.setting.Setting.TheVariants.{Lite, Buffer, MaxMessage, Stats}
 
 -- the parts of an op's word
 abbrev pub AreOpParts : List (List ℕ) → Op → Type 0
@@ -91,11 +91,13 @@ AreStepWords (side ∷ verb ∷ rest) step = (side ≡ side_text (side_of step))
 abbrev pub IsLine : List ℕ → Step → Type 0
 IsLine line step = AreStepWords (words line) step
 
--- a setting may say this: a buffer has at most 1000000000 bytes, and the length of a message has 32 bits
+-- a setting may say this: a buffer has at most 1000000000 bytes, the length of a message has 32 bits, and 1 to 1000000000 milliseconds are
+-- between rounds of statistics
 abbrev pub IsAllowed : Setting → Type 0
 IsAllowed Lite = Unit {0}
 IsAllowed (Buffer size) = size ≤ 1000000000
 IsAllowed (MaxMessage size) = size < 2 ^ 32
+IsAllowed (Stats millis) = (1 ≤ millis) × (millis ≤ 1000000000)
 
 -- the words of a setting that is allowed
 abbrev pub AreValueWords : List (List ℕ) → Setting → Type 0

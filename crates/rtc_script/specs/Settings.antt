@@ -1,15 +1,16 @@
 -- What the settings of a script say of each side.
-use Rattle.std.specs.Prelude.{◌&&◌, if◌then◌else◌, ℕ, Bool, true, false, List, [], ◌∷◌}
+use Rattle.std.specs.Prelude.{◌&&◌, ◌*◌, if◌then◌else◌, ℕ, Bool, true, false, List, [], ◌∷◌, Option, Some, None}
 use Rattle.std.specs.List.{list_any}
 use Rattle.rtc_history.specs.declared.side.Side.{Side}
 use Rattle.rtc_history.specs.Sides.{same_side}
 use Rattle.rtc_script.specs.declared.setting.Setting.{Setting}
-use Rattle.rtc_script.specs.declared.setting.Setting.TheVariants.{Lite, Buffer, MaxMessage}
+use Rattle.rtc_script.specs.declared.setting.Setting.TheVariants.{Lite, Buffer, MaxMessage, Stats}
 
 abbrev pub is_lite_setting : Setting → Bool
 is_lite_setting Lite = true
 is_lite_setting (Buffer size) = false
 is_lite_setting (MaxMessage size) = false
+is_lite_setting (Stats millis) = false
 
 abbrev pub makes_lite : Side → Side × Setting → Bool
 makes_lite at setting = same_side setting.0 at && is_lite_setting setting.1
@@ -31,6 +32,7 @@ abbrev pub buffer_by : Setting → ℕ → ℕ
 buffer_by Lite size = size
 buffer_by (Buffer set) size = set
 buffer_by (MaxMessage set) size = size
+buffer_by (Stats millis) size = size
 
 -- how many bytes a side may buffer by the settings, 131072 where none says so
 abbrev pub buffer_set : Side → List (Side × Setting) → ℕ
@@ -41,7 +43,26 @@ abbrev pub max_message_by : Setting → ℕ → ℕ
 max_message_by Lite size = size
 max_message_by (Buffer set) size = size
 max_message_by (MaxMessage set) size = set
+max_message_by (Stats millis) size = size
 
 -- the longest message that a side takes by the settings, 262144 bytes where none says so
 abbrev pub max_message_set : Side → List (Side × Setting) → ℕ
 max_message_set at settings = number_from max_message_by at settings 262144
+
+-- the nanoseconds between two rounds of statistics by a setting, or else as before
+abbrev pub interval_by : Setting → Option ℕ → Option ℕ
+interval_by Lite interval = interval
+interval_by (Buffer size) interval = interval
+interval_by (MaxMessage size) interval = interval
+interval_by (Stats millis) interval = Some (millis * 1000000)
+
+abbrev pub interval_after : Side → Side × Setting → Option ℕ → Option ℕ
+interval_after at setting interval = if same_side setting.0 at then interval_by setting.1 interval else interval
+
+abbrev pub interval_from : Side → List (Side × Setting) → Option ℕ → Option ℕ
+interval_from at [] interval = interval
+interval_from at (setting ∷ settings) interval = interval_from at settings (interval_after at setting interval)
+
+-- the nanoseconds between two rounds of statistics of a side by the settings; none are reported where none says so
+abbrev pub interval_set : Side → List (Side × Setting) → Option ℕ
+interval_set at settings = interval_from at settings None

@@ -1,10 +1,11 @@
 //! What a script says.
 ghost use Rattle.std.specs.Prelude.{◌≡◌};
 ghost use Rattle.rtc_script.specs.Settings.{makes_lite, sets_lite, buffer_by, buffer_set, max_message_by, max_message_set, number_after};
+ghost use Rattle.rtc_script.specs.Settings.{interval_after, interval_by, interval_set};
 
 use crate::Setting;
 use rtc_history::{Side, Step};
-use rtc_wire::{DEFAULT_MAX_BUFFERED_AMOUNT, LOCAL_MAX_MESSAGE_SIZE, Seq};
+use rtc_wire::{DEFAULT_MAX_BUFFERED_AMOUNT, LOCAL_MAX_MESSAGE_SIZE, Seq, Span};
 
 /// A script that was read.
 #[derive(Debug, PartialEq, Eq, Drop)]
@@ -19,7 +20,9 @@ fn makes_lite(setting: &(Side, Setting), at: Side) -> bool
     match (setting.0, at) {
         (Side::Left, Side::Left) | (Side::Right, Side::Right) => match setting.1 {
             Setting::Lite => true,
-            Setting::Buffer { size: _ } | Setting::MaxMessage { size: _ } => false,
+            Setting::Buffer { size: _ }
+            | Setting::MaxMessage { size: _ }
+            | Setting::Stats { millis: _ } => false,
         },
         (Side::Left, Side::Right) | (Side::Right, Side::Left) => false,
     }
@@ -41,7 +44,7 @@ fn buffer_by(setting: Setting, size: usize) -> usize
     ensures { result ≡ buffer_by setting size }
 {
     match setting {
-        Setting::Lite | Setting::MaxMessage { size: _ } => size,
+        Setting::Lite | Setting::MaxMessage { size: _ } | Setting::Stats { millis: _ } => size,
         Setting::Buffer { size: set } => set as usize,
     }
 }
@@ -70,7 +73,7 @@ fn max_message_by(setting: Setting, size: u32) -> u32
     ensures { result ≡ max_message_by setting size }
 {
     match setting {
-        Setting::Lite | Setting::Buffer { size: _ } => size,
+        Setting::Lite | Setting::Buffer { size: _ } | Setting::Stats { millis: _ } => size,
         Setting::MaxMessage { size: set } => set,
     }
 }
@@ -94,6 +97,35 @@ fn max_message_set(settings: &[(Side, Setting)], at: Side) -> u32
     size
 }
 
+// The time between two rounds of statistics by a setting, or else as before.
+fn interval_by(setting: Setting, interval: Option<Span>) -> Option<Span>
+    ensures { result ≡ interval_by setting interval }
+{
+    match setting {
+        Setting::Lite | Setting::Buffer { size: _ } | Setting::MaxMessage { size: _ } => interval,
+        Setting::Stats { millis } => Some(Span::from_nanos(millis as u64 * 1_000_000)),
+    }
+}
+
+fn interval_after(setting: &(Side, Setting), at: Side, interval: Option<Span>) -> Option<Span>
+    ensures { result ≡ interval_after at setting.now interval }
+{
+    match (setting.0, at) {
+        (Side::Left, Side::Left) | (Side::Right, Side::Right) => interval_by(setting.1, interval),
+        (Side::Left, Side::Right) | (Side::Right, Side::Left) => interval,
+    }
+}
+
+fn interval_set(settings: &[(Side, Setting)], at: Side) -> Option<Span>
+    ensures { result ≡ interval_set at settings.now }
+{
+    let mut interval = None;
+    for setting in settings {
+        interval = interval_after(setting, at, interval);
+    }
+    interval
+}
+
 impl Script {
     /// Whether its settings make the ICE agent of a side lite.
     pub fn sets_lite(&self, at: Side) -> bool
@@ -114,5 +146,12 @@ impl Script {
         ensures { result ≡ max_message_set at self.now.settings }
     {
         max_message_set(self.settings.as_slice(), at)
+    }
+
+    /// The time between two rounds of statistics of a side, where its settings ask for them.
+    pub fn interval_set(&self, at: Side) -> Option<Span>
+        ensures { result ≡ interval_set at self.now.settings }
+    {
+        interval_set(self.settings.as_slice(), at)
     }
 }

@@ -9,4 +9,6 @@ pub enum Setting {
     Buffer { size: u32 },
     /// The longest message that it takes, in bytes, which its session descriptions tell (RFC 8841, section 6.1).
     MaxMessage { size: u32 },
+    /// The time between two rounds of statistics in milliseconds, 1 to 1000000000.
+    Stats { millis: u32 },
 }

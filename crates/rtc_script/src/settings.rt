@@ -27,7 +27,7 @@ fn read_one_word(word: &[u8]) -> Option<Setting>
     }
 }
 
-// The number of bytes of a buffer, at most 1000000000.
+// A number that is at most 1000000000.
 fn read_size(word: &[u8]) -> Option<u32>
     ensures some { IfSome result (λ size. (word.now ≡ decimal size) × (size ≤ 1000000000)) }
     ensures none { IfNone result ((size : ℕ) → size ≤ 1000000000 → word.now ≢ decimal size) }
@@ -60,6 +60,25 @@ fn read_max_message(number: &[u8]) -> Option<Setting>
     Some(Setting::MaxMessage { size })
 }
 
+// The milliseconds between two rounds of statistics, 1 to 1000000000.
+fn read_millis(word: &[u8]) -> Option<u32>
+    ensures some { IfSome result (λ millis. (word.now ≡ decimal millis) × ((1 ≤ millis) × (millis ≤ 1000000000))) }
+    ensures none { IfNone result ((millis : ℕ) → 1 ≤ millis → millis ≤ 1000000000 → word.now ≢ decimal millis) }
+{
+    let millis = read_size(word)?;
+    if 1 <= millis { Some(millis) } else { None }
+}
+
+// The setting `stats`, whose number is this.
+#[tactic(auto, using(crate::proofs::SettingWords::no_stats))]
+fn read_stats(number: &[u8]) -> Option<Setting>
+    ensures some { IfSome result (λ setting. AreValueWords (codes "stats" ∷ number.now ∷ []) setting) }
+    ensures none { IfNone result ((setting : Setting) → AreValueWords (codes "stats" ∷ number.now ∷ []) setting → ⊥) }
+{
+    let millis = read_millis(number)?;
+    Some(Setting::Stats { millis })
+}
+
 // A setting of two words.
 #[tactic(auto, using(crate::proofs::SettingWords::no_two_words))]
 fn read_two_words(word: &[u8], number: &[u8]) -> Option<Setting>
@@ -70,6 +89,8 @@ fn read_two_words(word: &[u8], number: &[u8]) -> Option<Setting>
         read_buffer(number)
     } else if word == b"maxmsg".as_slice() {
         read_max_message(number)
+    } else if word == b"stats".as_slice() {
+        read_stats(number)
     } else {
         None
     }

@@ -57,6 +57,7 @@ fn settings_of(script: &Script, at: Side) -> PeerSettings {
         lite: script.sets_lite(at),
         max_buffered: script.buffer_set(at),
         max_message_size: script.max_message_set(at),
+        stats_interval: script.interval_set(at),
     }
 }
 

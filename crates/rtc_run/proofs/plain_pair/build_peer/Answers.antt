@@ -1,3 +1,4 @@
+use Rattle.rtc_peer_state.specs.Formats.{AreFormedFormats}
 use Rattle.rtc_peer_state.specs.Formed.{IsFormed}
 use Rattle.rtc_peer_state.specs.Stance.{stance_of}
 use Rattle.rtc_run.specs.ProgramPair.{plain_parts}
@@ -5,4 +6,4 @@ use Rattle.rtc_run.proofs.PlainPeers.{formed_without_creds}
 use Rattle.rtc_run.proofs.plain_pair.build_peer.Goals as goal
 
 pub returns-clause-formed : goal.returns-clause-formed
-returns-clause-formed c = formed_without_creds c.args.config.creds c.build.result (λ rtc. IsFormed (stance_of plain_parts rtc.core)) c.build.ensures.formed
+returns-clause-formed c = formed_without_creds c.args.config.creds c.build.result (λ rtc. AreFormedFormats c.args.config.formats → IsFormed (stance_of plain_parts rtc.core)) c.build.ensures.formed

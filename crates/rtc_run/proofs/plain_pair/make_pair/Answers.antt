@@ -13,6 +13,8 @@ returns-clause-state c =
     rw c.new.ensures (record {
       left = c.in_ok-left.ensures.peer;
       right = c.in_ok-right.ensures.peer;
+      left_transport = c.in_ok-left.ensures.unconnected;
+      right_transport = c.in_ok-right.ensures.unconnected;
       left_addr = refl;
       right_addr = refl;
       sdps = refl;

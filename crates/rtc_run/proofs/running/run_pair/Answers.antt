@@ -1,5 +1,5 @@
 use Rattle.std.proofs.Common.{rules}
-use Rattle.rtc_delivery.proofs.FormedSteps.{runs_read_back}
+use Rattle.rtc_history_laws.proofs.FormedSteps.{runs_read_back}
 use Rattle.rtc_run.proofs.Sized.{run_begins, run_has_room, run_goes_on}
 use Rattle.rtc_peer_state.specs.Meanings.{meanings}
 use Rattle.rtc_run.proofs.running.run_pair.Goals as goal
@@ -26,8 +26,5 @@ loop-step-preserved g c =
       room = search rules;
     }
 
-pub perform-reply-requires-clause-read_back : goal.perform-reply-requires-clause-read_back
-perform-reply-requires-clause-read_back g c = runs_read_back (meanings g.I.IceAgent.ice g.D.DtlsInstance.dtls g.S.Association.association g.M.MediaSession.media g.N.Ids.ids) g.I.StunReader.stun (record { ice = g.met.I.IceAgent.laws; dtls = g.met.D.DtlsInstance.laws; association = g.met.S.Association.laws; media = g.met.M.MediaSession.laws }) _ _ _ _ c.requires.fresh c.requires.formed c.loop-step.invariant.runs
-
 pub returns-clause-read_back : goal.returns-clause-read_back
-returns-clause-read_back g c = runs_read_back (meanings g.I.IceAgent.ice g.D.DtlsInstance.dtls g.S.Association.association g.M.MediaSession.media g.N.Ids.ids) g.I.StunReader.stun (record { ice = g.met.I.IceAgent.laws; dtls = g.met.D.DtlsInstance.laws; association = g.met.S.Association.laws; media = g.met.M.MediaSession.laws }) _ _ _ _ c.requires.fresh c.requires.formed c.loop-step.invariant.runs
+returns-clause-read_back g c = λ formed. runs_read_back (meanings g.I.IceAgent.ice g.D.DtlsInstance.dtls g.S.Association.association g.M.MediaSession.media g.N.Ids.ids) g.I.StunReader.stun (record { ice = g.met.I.IceAgent.laws; dtls = g.met.D.DtlsInstance.laws; association = g.met.S.Association.laws; media = g.met.M.MediaSession.laws }) _ _ _ _ c.requires.fresh formed c.loop-step.invariant.runs

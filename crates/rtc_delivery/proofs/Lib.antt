@@ -1,2 +1,0 @@
-pub mod PlainSdps
-pub mod FormedSteps
