@@ -113,7 +113,8 @@ def items_of(path):
     lines = read(path).split("\n")
     owner, inside = None, None
     for at, line in enumerate(lines):
-        block = re.match(r"(?:impl(?:<.*?>)? (?:[\w:]+(?:<[^{]*?>)? for )?|pub trait )(\w+)", line)
+        # An impl whose parameters take several lines names its type behind them.
+        block = re.match(r"(?:(?:impl(?:<.*?>)?|>) (?:[\w:]+(?:<[^{]*?>)? for )?|pub trait )(\w+)", line)
         if block:
             owner, inside = block[1], "trait" if line.startswith("pub trait") else ("impl" if " for " not in line else "other")
         elif line.startswith("}"):

@@ -14,7 +14,7 @@ import sys
 
 TOP = os.path.dirname(os.path.dirname(os.path.abspath(__file__)))
 # Under which word a program is given an example, by the endings of its file and of the one with what it expects.
-ENDINGS = {("script", "report"): "script", ("sdp", "expected"): "description"}
+ENDINGS = {("script", "report"): "script", ("sdp", "expected"): "description", ("offer", "answer"): "answer"}
 
 
 def read(path):

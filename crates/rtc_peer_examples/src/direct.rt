@@ -1,0 +1,49 @@
+//! Calls without session descriptions.
+use crate::peers::{is_true, succeeds};
+use rtc_peer::{
+    Association, DirectApi, DtlsInstance, IceAgent, Ids, MediaKind, MediaSession, Mid, Ssrc,
+};
+use rtc_wire::ChannelConfig;
+use std::alloc::{AllocError, Global};
+
+fn declares<I: IceAgent, D: DtlsInstance, S: Association, M: MediaSession, N: Ids>(
+    api: &mut DirectApi<'_, I, D, S, M, N>,
+) -> bool {
+    match Mid::read("a") {
+        Some(mid) => is_true(api.declare_media(mid, MediaKind::Audio)),
+        None => false,
+    }
+}
+
+fn closes_channel<I: IceAgent, D: DtlsInstance, S: Association, M: MediaSession, N: Ids>(
+    alloc: Global,
+    api: &mut DirectApi<'_, I, D, S, M, N>,
+) -> bool {
+    match api.create_data_channel(ChannelConfig::new(alloc)) {
+        Ok(id) => succeeds(api.close_data_channel(id)),
+        Err(_) => false,
+    }
+}
+
+/// Whether a call without session descriptions succeeds.
+pub fn does_succeed<I: IceAgent, D: DtlsInstance, S: Association, M: MediaSession, N: Ids>(
+    alloc: Global,
+    api: &mut DirectApi<'_, I, D, S, M, N>,
+    call: &str,
+) -> Result<bool, AllocError> {
+    match call {
+        "local_ice_credentials" => Ok(succeeds(api.local_ice_credentials())),
+        "start_dtls" => Ok(succeeds(api.start_dtls(true))),
+        "start_sctp" => Ok(succeeds(api.start_sctp(true))),
+        "create_data_channel" => {
+            Ok(succeeds(api.create_data_channel(ChannelConfig::new(alloc))))
+        }
+        "close_data_channel" => Ok(closes_channel(alloc, api)),
+        "declare_media" => Ok(declares(api)),
+        "send_app_specific_feedback" => {
+            Ok(succeeds(api.send_app_specific_feedback(Ssrc(1), Ssrc(2), b"\x05")))
+        }
+        "send_pli_feedback" => Ok(succeeds(api.send_pli_feedback(Ssrc(1), Ssrc(2)))),
+        _ => Ok(false),
+    }
+}

@@ -1,0 +1,67 @@
+//! Runs stored examples of offers of other stacks, as a signalling server hands them over, and of what a peer answers.
+//!
+//! Each line of the input names an example, and is printed again behind `agrees` or `differs`: `answer PATH` gives a fresh peer the
+//! offer `PATH.offer`, whose answer has the lines of `PATH.answer`; `codecs NAME` and `layers NAME` are calls.
+#![tactic(auto)]
+
+mod answers;
+mod codecs;
+mod layers;
+mod lines;
+mod peers;
+
+use rtc_plain::CountIds;
+use std::process::ExitCode;
+use std::rt::Files;
+use std::{fs, io, str};
+
+fn read<R: Files + AllocGlobal>(rt: &R, path: &str, ending: &str) -> io::Result<Vec<u8>> {
+    let path = format!(in rt.alloc(); "{path}.{ending}")?;
+    fs::read(rt, path.as_str())
+}
+
+fn is_answered<R: Files + AllocGlobal>(rt: &R, path: &str) -> io::Result<bool> {
+    let offer = read(rt, path, "offer")?;
+    let expected = read(rt, path, "answer")?;
+    let Ok(offer) = str::from_utf8(offer.as_slice()) else {
+        return Ok(false);
+    };
+    let told = answers::answer_to(rt.alloc(), CountIds::starting(1), offer)?;
+    Ok(told.as_bytes() == expected.as_slice())
+}
+
+// Whether a peer chooses among codecs as is expected.
+fn is_chosen<R: Files + AllocGlobal>(rt: &R, example: &str) -> io::Result<bool> {
+    let offer = read(rt, "h264_vp8_vp9", "text")?;
+    match str::from_utf8(offer.as_slice()) {
+        Ok(offer) => Ok(codecs::does_agree(rt.alloc(), example, offer)?),
+        Err(_) => Ok(false),
+    }
+}
+
+fn does_agree<R: Files + AllocGlobal>(rt: &R, subject: &str, name: &str) -> io::Result<bool> {
+    match subject {
+        "answer" => is_answered(rt, name),
+        "codecs" => is_chosen(rt, name),
+        "layers" => Ok(layers::does_agree(rt.alloc(), name)?),
+        _ => Ok(false),
+    }
+}
+
+fn main(rt: HostRuntime) -> io::Result<ExitCode> {
+    let mut status = 0;
+    for line in rt.lines(rt.alloc()) {
+        let line = line?;
+        let agrees = match line.as_str().split_once(' ') {
+            Some((subject, name)) => does_agree(&rt, subject, name)?,
+            None => false,
+        };
+        if agrees {
+            println!(rt; "agrees {line}")?;
+        } else {
+            println!(rt; "differs {line}")?;
+            status = 1;
+        }
+    }
+    Ok(ExitCode::from(status))
+}
