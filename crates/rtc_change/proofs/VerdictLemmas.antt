@@ -17,6 +17,7 @@ use Rattle.rtc_change.specs.Plans.{
   no_credentials,
   unasked_restart,
   no_fingerprint,
+  init_refusal,
   inconsistent,
   wrong_news,
   remote_refusal,
@@ -24,7 +25,7 @@ use Rattle.rtc_change.specs.Plans.{
   head_verdict,
   verdict,
 }
-use Rattle.rtc_sdp_values.specs.Sdp.{creds_of, sdp_fingerprint}
+use Rattle.rtc_sdp_values.specs.Sdp.{creds_of, sdp_fingerprint, sdp_sctp_init}
 use Rattle.rtc_change.proofs.ConsistentMids.{distinct_parsed}
 use Rattle.rtc_change.proofs.TableAfterLemmas.{table_after_is_table}
 
@@ -35,6 +36,7 @@ pub record Unrefused (held : Held) (asked : Option Asked) (text : Sdp) : Type 0 
   pub creds : no_credentials (creds_of text) ≡ None
   pub restart : unasked_restart (may_restart asked) held.remote_creds (creds_of text) ≡ None
   pub known : no_fingerprint held.has_fingerprint (sdp_fingerprint text) ≡ None
+  pub init : init_refusal held.sctp_inited held.sctp_kept (sdp_sctp_init text) ≡ None
   pub fits : inconsistent text ≡ None
   pub allowed : first_refusal held.lines (is_offer asked) false 0 (parsed_lines text) ≡ None
   pub news : wrong_news held.lines asked (parsed_lines text) ≡ None
@@ -54,6 +56,7 @@ unrefused held asked text none =
     let head = neither _ _ all.0 in
     let body = neither _ _ all.1 in
     let behind = neither _ _ head.1 in
+    let kept = neither _ _ behind.1 in
     let lite = neither _ _ behind.0 in
     let creds = neither _ _ lite.1 in
     let restart = neither _ _ creds.1 in
@@ -63,7 +66,8 @@ unrefused held asked text none =
       creds = creds.0;
       restart = restart.0;
       known = (neither _ _ restart.1).0;
-      fits = (neither _ _ behind.1).0;
+      init = kept.0;
+      fits = (neither _ _ kept.1).0;
       allowed = untold _ body.0;
       news = (neither _ _ body.1).0;
     }

@@ -1,5 +1,5 @@
 -- What a peer holds that an offer or an answer is judged by.
-use Rattle.std.specs.Prelude.{Bool, List, Option}
+use Rattle.std.specs.Prelude.{ℕ, Bool, List, Option}
 use Rattle.rtc_sdp_values.specs.declared.ice_creds.IceCreds.{IceCreds}
 use Rattle.rtc_sdp_values.specs.declared.line_row.LineRow.{LineRow}
 
@@ -11,8 +11,13 @@ pub record Held : Type 0 where
   pub remote_creds : Option IceCreds
   -- whether a fingerprint of the other side is known
   pub has_fingerprint : Bool
+  -- whether the association is started, and the text of the other side's chunk where it was started by the chunks of both sides
+  -- (draft-hancke-tsvwg-snap)
+  pub sctp_inited : Bool
+  pub sctp_kept : Option (List ℕ)
 
--- what an answer comes with: the rows that its offer added, and whether its offer restarted ICE
+-- what an answer comes with: the rows that its offer added, whether its offer restarted ICE, and whether it had an `a=sctp-init`
 pub record Asked : Type 0 where
   pub added : List LineRow
   pub restarts : Bool
+  pub says_init : Bool

@@ -10,10 +10,11 @@ use Rattle.rtc_sdp_values.specs.Mids.{is_among}
 use Rattle.rtc_change.specs.declared.change.Change.{Change}
 use Rattle.rtc_change.specs.declared.change.Change.TheVariants.{AddMedia, AddApp, AddChannel, Direction, IceRestart}
 
--- the counter as the offer was applied, and what the offer changed
+-- the counter as the offer was applied, what the offer changed, and whether it had an `a=sctp-init`
 pub record PendingOffer : Type 0 where
   pub id : ℕ
   pub changes : List Change
+  pub says_init : Bool
 
 -- the mid of the line that a change adds, if it adds one
 abbrev pub new_mid : Change → Option (List ℕ)

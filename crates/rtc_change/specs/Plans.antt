@@ -1,5 +1,5 @@
 -- What an offer or an answer does to the rows of a peer, or the first cause for which it is refused.
-use Rattle.std.specs.Prelude.{◌≡◌, ◌&&◌, ◌||◌, not, Bool, true, false, List, [], ◌∷◌, length, if◌then◌else◌}
+use Rattle.std.specs.Prelude.{ℕ, ◌≡◌, ◌&&◌, ◌||◌, not, Bool, true, false, List, [], ◌∷◌, length, if◌then◌else◌}
 use Rattle.std.specs.Prelude.{Option, Some, None, option_map, is_some, Result, Ok, Err}
 use Rattle.std.specs.Str.{bytes_eq}
 use Rattle.rtc_sdp_values.specs.declared.fingerprint.Fingerprint.{Fingerprint}
@@ -7,11 +7,12 @@ use Rattle.rtc_sdp_values.specs.declared.ice_creds.IceCreds.{IceCreds}
 use Rattle.rtc_sdp_values.specs.declared.line_row.LineRow.{LineRow}
 use Rattle.rtc_sdp_values.specs.declared.sdp.Sdp.{Sdp}
 use Rattle.rtc_sdp_values.specs.declared.sdp_error.SdpError.TheVariants.{Inconsistent as NotConsistent}
-use Rattle.rtc_sdp_values.specs.Sdp.{inconsistency, creds_of, sdp_fingerprint}
+use Rattle.rtc_sdp_values.specs.Sdp.{inconsistency, creds_of, sdp_fingerprint, sdp_sctp_init}
 use Rattle.rtc_tables.specs.declared.parsed_line.ParsedLine.{ParsedLine}
 use Rattle.rtc_tables.specs.declared.plan.Plan.{Plan}
 use Rattle.rtc_tables.specs.declared.why.Why.{Why}
-use Rattle.rtc_tables.specs.declared.why.Why.TheVariants.{NoLines, BothLite, NoCredentials, UnaskedRestart, NoFingerprint, WrongNewLines}
+use Rattle.rtc_tables.specs.declared.why.Why.TheVariants.{NoLines, BothLite, NoCredentials, UnaskedRestart, NoFingerprint}
+use Rattle.rtc_tables.specs.declared.why.Why.TheVariants.{SctpInitChanged, SctpInitMissing, WrongNewLines}
 use Rattle.rtc_change.specs.declared.refusal.Refusal.{Refusal}
 use Rattle.rtc_change.specs.declared.refusal.Refusal.TheVariants.{RemoteSdp, Sdp as SdpRefused, Alloc}
 use Rattle.rtc_change.specs.PendingOffer.{PendingOffer, added_rows, staged_restart}
@@ -78,6 +79,24 @@ no_fingerprint false None = Some (RemoteSdp NoFingerprint)
 no_fingerprint false (Some fingerprint) = None
 no_fingerprint true told = None
 
+-- a chunk that is told once the association was started by those of both sides is the one that was kept (draft-hancke-tsvwg-snap)
+abbrev pub changed_init : List ℕ → Option (List ℕ) → Option Refusal
+changed_init kept None = Some (RemoteSdp (SctpInitMissing kept))
+changed_init kept (Some got) = if bytes_eq kept got then None else Some (RemoteSdp (SctpInitChanged kept got))
+
+abbrev pub init_refusal : Bool → Option (List ℕ) → Option (List ℕ) → Option Refusal
+init_refusal true (Some kept) told = changed_init kept told
+init_refusal true None told = None
+init_refusal false kept told = None
+
+-- whether the chunk that is told may start the association: it is not started, and an answer's offer told one too
+abbrev pub may_take_init : Option Asked → Bool
+may_take_init None = true
+may_take_init (Some asked) = asked.says_init
+
+abbrev pub takes_init : (inited may : Bool) → Option (List ℕ) → Bool
+takes_init inited may told = not inited && (may && is_some told)
+
 -- the refusal of what a session description tells of its side: how it is reached and known
 unfoldable pub side_verdict : Held → Bool → Sdp → Option Refusal
 side_verdict held may sdp =
@@ -92,7 +111,13 @@ side_verdict held may sdp =
 -- the refusal of the head, before the lines are read
 unfoldable pub head_verdict : Held → Option Asked → Sdp → Option Refusal
 head_verdict held asked sdp =
-    first_of (no_lines asked (parsed_lines sdp) ∷ side_verdict held (may_restart asked) sdp ∷ inconsistent sdp ∷ [])
+    first_of (
+    no_lines asked (parsed_lines sdp)
+    ∷ side_verdict held (may_restart asked) sdp
+    ∷ init_refusal held.sctp_inited held.sctp_kept (sdp_sctp_init sdp)
+    ∷ inconsistent sdp
+    ∷ []
+    )
 
 -- why an offer or an answer is refused: the first cause that holds, in this order
 unfoldable pub verdict : Held → Option Asked → Sdp → Option Refusal
@@ -105,12 +130,13 @@ verdict held asked sdp =
     )
 
 -- what an offer or an answer does where it is accepted
-abbrev pub plan_of : Held → Bool → Sdp → Plan
-plan_of held offer sdp = record {
+abbrev pub plan_of : Held → (offer may : Bool) → Sdp → Plan
+plan_of held offer may sdp = record {
   rows = table_after held.lines (parsed_lines sdp) offer;
   removed = removed_mids held.lines 0 (parsed_lines sdp);
   added = new_places held.lines 0 (parsed_lines sdp);
   restart = is_restart held.remote_creds (creds_of sdp);
+  snap = takes_init held.sctp_inited may (sdp_sctp_init sdp);
 }
 
 -- what a token asks of an answer at these rows
@@ -118,12 +144,13 @@ abbrev pub asked_by : List LineRow → PendingOffer → Asked
 asked_by rows token = record {
   added = added_rows (length rows) token.changes;
   restarts = is_some (staged_restart token.changes);
+  says_init = token.says_init;
 }
 
 -- the plan, or the verdict, or there is no memory
 abbrev pub PlansSdp : Held → Option Asked → Sdp → Result Plan Refusal → Type 0
 PlansSdp held asked sdp (Ok plan) =
-    (verdict held asked sdp ≡ None) × (plan ≡ plan_of held (is_offer asked) sdp)
+    (verdict held asked sdp ≡ None) × (plan ≡ plan_of held (is_offer asked) (may_take_init asked) sdp)
 PlansSdp held asked sdp (Err (RemoteSdp why)) = verdict held asked sdp ≡ Some (RemoteSdp why)
 PlansSdp held asked sdp (Err (SdpRefused error)) = verdict held asked sdp ≡ Some (SdpRefused error)
 PlansSdp held asked sdp (Err Alloc) = Unit {0}

@@ -1,14 +1,15 @@
 //! Why what a session description tells of its side is refused.
-ghost use Rattle.std.specs.Prelude.{◌≡◌, ◌&&◌, not, IfOk, Option, Some, None};
+ghost use Rattle.std.specs.Prelude.{◌≡◌, ◌&&◌, not, IfOk, Option, Some, None, option_map};
 ghost use Rattle.std.specs.Option.{option_copied};
 ghost use Rattle.rtc_sdp_values.specs.Sdp.{creds_of, sdp_fingerprint};
 ghost use Rattle.rtc_change.specs.Plans.{same_creds, is_restart as IsRestart, unasked_restart as UnaskedRestart, side_verdict};
+ghost use Rattle.rtc_change.specs.Plans.{changed_init, init_refusal};
 
 use crate::{Refusal, View};
 use rtc_sdp_values::{IceCreds, Sdp};
 use rtc_tables::Why;
-use rtc_wire::TryCopy;
-use std::alloc::AllocError;
+use rtc_wire::{Text, TryCopy};
+use std::alloc::{AllocError, Global};
 
 fn are_same(a: &IceCreds, b: &IceCreds) -> bool
     ensures { result ≡ same_creds a.now b.now }
@@ -73,4 +74,42 @@ pub fn judge_side(view: &View<'_>, may: bool, sdp: &Sdp) -> Result<Option<Refusa
         return Ok(Some(Refusal::RemoteSdp(Why::NoFingerprint)));
     }
     Ok(None)
+}
+
+// Why a chunk is refused, where another one was kept.
+fn find_changed_init(
+    alloc: Global,
+    kept: &str,
+    told: Option<&str>,
+) -> Result<Option<Refusal>, AllocError>
+    ensures { IfOk result (λ refusal. refusal ≡ changed_init kept.now (option_map (λ text. text.now) told.entry)) }
+{
+    let Some(got) = told else {
+        let kept = Text::from_str(alloc, kept)?;
+        return Ok(Some(Refusal::RemoteSdp(Why::SctpInitMissing { kept })));
+    };
+    if kept == got {
+        return Ok(None);
+    }
+    let kept = Text::from_str(alloc, kept)?;
+    let got = Text::from_str(alloc, got)?;
+    Ok(Some(Refusal::RemoteSdp(Why::SctpInitChanged { kept, got })))
+}
+
+/// Why the chunk that a session description tells is refused: the association was started with another one.
+pub fn judge_init(
+    alloc: Global,
+    view: &View<'_>,
+    told: Option<&str>,
+) -> Result<Option<Refusal>, AllocError>
+    ensures { IfOk result (λ refusal. refusal
+        ≡ init_refusal view.now.sctp_inited view.now.sctp_kept (option_map (λ text. text.now) told.entry)) }
+{
+    if !view.sctp_inited {
+        return Ok(None);
+    }
+    let Some(kept) = view.sctp_kept else {
+        return Ok(None);
+    };
+    find_changed_init(alloc, kept, told)
 }

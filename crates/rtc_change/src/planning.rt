@@ -1,14 +1,17 @@
 //! Plans of offers and answers.
-ghost use Rattle.std.specs.Prelude.{◌≡◌, ◌+◌, ◌<◌, ◌≤◌, ◌^◌, ◌-◌, Bool, true, false, length, List, IfOk, Option, Some, None, IfNone, map};
+ghost use Rattle.std.specs.Prelude.{◌≡◌, ◌+◌, ◌<◌, ◌≤◌, ◌^◌, ◌-◌, Bool, true, false, length, List, [], ◌∷◌, IfOk, map};
+ghost use Rattle.std.specs.Prelude.{Option, Some, None, IfNone};
 ghost use Rattle.rtc_sdp_values.specs.declared.line_row.LineRow.{LineRow};
 ghost use Rattle.rtc_change.specs.PendingOffer.{added_mids};
-ghost use Rattle.rtc_change.specs.Plans.{PlansSdp, plan_of, inconsistent, asked_by};
+ghost use Rattle.rtc_change.specs.Plans.{PlansSdp, plan_of, side_verdict, init_refusal, inconsistent, head_verdict, asked_by};
+ghost use Rattle.rtc_change.specs.Plans.{takes_init as TakesInit};
 ghost use Rattle.rtc_tables.specs.ParsedLines.{parsed_lines};
 ghost use Rattle.rtc_sdp_values.specs.Mids.{AreDistinct};
-ghost use Rattle.rtc_tables.specs.Verdict.{first_refusal};
+ghost use Rattle.rtc_sdp_values.specs.Sdp.{sdp_sctp_init};
+ghost use Rattle.rtc_tables.specs.Verdict.{first_of, first_refusal};
 ghost use Rattle.rtc_tables.specs.Table.{IsTable};
 
-use crate::judging_sides::{is_restart, judge_side};
+use crate::judging_sides::{is_restart, judge_init, judge_side};
 use crate::table_after::{find_new_places, find_removed, list_rows_after};
 use crate::wrong_lines::judge_new_lines;
 use crate::{Refusal, SdpPendingOffer, View};
@@ -28,11 +31,60 @@ fn find_inconsistency(sdp: &Sdp) -> Option<Refusal>
     }
 }
 
+// Whether the chunk that a session description tells may start the association.
+fn takes_init(view: &View<'_>, may_take: bool, sdp: &Sdp) -> bool
+    ensures { result ≡ TakesInit view.now.sctp_inited may_take (sdp_sctp_init sdp.now) }
+{
+    if view.sctp_inited || !may_take {
+        return false;
+    }
+    sdp.sctp_init().is_some()
+}
+
+// Why what is told besides the lines is refused. What is not refused has distinct mids.
+fn judge_head(
+    alloc: Global,
+    view: &View<'_>,
+    may: bool,
+    sdp: &Sdp,
+) -> Result<Option<Refusal>, AllocError>
+    ensures cause { IfOk result (λ refusal. refusal ≡ first_of (side_verdict view.now may sdp.now
+        ∷ init_refusal view.now.sctp_inited view.now.sctp_kept (sdp_sctp_init sdp.now) ∷ inconsistent sdp.now ∷ [])) }
+    ensures distinct { IfOk result (λ refusal. IfNone refusal (AreDistinct (map (λ line. line.mid) (parsed_lines sdp.now)))) }
+{
+    let side = judge_side(view, may, sdp)?;
+    if side.is_some() {
+        return Ok(side);
+    }
+    let init = judge_init(alloc, view, sdp.sctp_init())?;
+    if init.is_some() {
+        return Ok(init);
+    }
+    Ok(find_inconsistency(sdp))
+}
+
+// Why what an offer tells besides the lines is refused, or that it has none.
+#[tactic(auto, unfolding(crate::specs::Plans::head_verdict))]
+fn judge_offer_head(
+    alloc: Global,
+    view: &View<'_>,
+    offer: &Sdp,
+) -> Result<Option<Refusal>, AllocError>
+    ensures cause { IfOk result (λ refusal. refusal ≡ head_verdict view.now None offer.now) }
+    ensures distinct { IfOk result (λ refusal. IfNone refusal (AreDistinct (map (λ line. line.mid) (parsed_lines offer.now)))) }
+{
+    match offer.lines.as_slice() {
+        [] => Ok(Some(Refusal::RemoteSdp(Why::NoLines))),
+        [_, ..] => judge_head(alloc, view, true, offer),
+    }
+}
+
 fn make_plan(
     alloc: Global,
     view: &View<'_>,
     rows: &MidIndex<'_>,
     offer: bool,
+    may_take: bool,
     sdp: &Sdp,
     lines: &[ParsedLine],
 ) -> Result<Plan, AllocError>
@@ -42,7 +94,7 @@ fn make_plan(
     requires table { IsTable rows.now }
     requires allowed { first_refusal rows.now offer false 0 lines.now ≡ None }
     requires distinct { AreDistinct (map (λ line. line.mid) lines.now) }
-    ensures plan { IfOk result (λ plan. plan ≡ plan_of view.now offer sdp.now) }
+    ensures plan { IfOk result (λ plan. plan ≡ plan_of view.now offer may_take sdp.now) }
     ensures table { IfOk result (λ plan. IsTable plan.rows) }
 {
     let after = list_rows_after(alloc, rows, offer, lines)?;
@@ -53,11 +105,12 @@ fn make_plan(
         removed,
         added,
         restart: is_restart(view.remote_creds, sdp.ice_creds()),
+        snap: takes_init(view, may_take, sdp),
     })
 }
 
 /// What an offer does, or why it is refused (RFC 8829, section 5.10).
-#[tactic(auto, unfolding(crate::specs::Plans::verdict, crate::specs::Plans::head_verdict))]
+#[tactic(auto, unfolding(crate::specs::Plans::verdict))]
 pub fn plan_offer(alloc: Global, view: &View<'_>, offer: &Sdp) -> Result<Plan, Refusal>
     requires rows { length view.now.lines < 2 ^ 32 - 1 }
     requires lines { length offer.now.lines < 2 ^ 32 - 1 }
@@ -65,20 +118,14 @@ pub fn plan_offer(alloc: Global, view: &View<'_>, offer: &Sdp) -> Result<Plan, R
     ensures table { IfOk result (λ plan. IsTable plan.rows) }
 {
     let lines = ParsedLine::all_of(alloc, offer)?;
-    if lines.is_empty() {
-        return Err(Refusal::RemoteSdp(Why::NoLines));
-    }
-    if let Some(refusal) = judge_side(view, true, offer)? {
-        return Err(refusal);
-    }
-    if let Some(refusal) = find_inconsistency(offer) {
+    if let Some(refusal) = judge_offer_head(alloc, view, offer)? {
         return Err(refusal);
     }
     let rows = MidIndex::for_lines(alloc, view.lines.rows(), lines.as_slice())?;
     if let Some(why) = judge_lines(&rows, true, lines.as_slice()) {
         return Err(Refusal::RemoteSdp(why));
     }
-    let plan = make_plan(alloc, view, &rows, true, offer, lines.as_slice())?;
+    let plan = make_plan(alloc, view, &rows, true, true, offer, lines.as_slice())?;
     Ok(plan)
 }
 
@@ -96,10 +143,7 @@ pub fn plan_answer(
     ensures table { IfOk result (λ plan. IsTable plan.rows) }
 {
     let lines = ParsedLine::all_of(alloc, answer)?;
-    if let Some(refusal) = judge_side(view, token.changes().restart().is_some(), answer)? {
-        return Err(refusal);
-    }
-    if let Some(refusal) = find_inconsistency(answer) {
+    if let Some(refusal) = judge_head(alloc, view, token.changes().restart().is_some(), answer)? {
         return Err(refusal);
     }
     let rows = MidIndex::for_lines(alloc, view.lines.rows(), lines.as_slice())?;
@@ -112,6 +156,15 @@ pub fn plan_answer(
     if let Some(wrong) = judge_new_lines(&rows, &added, new.as_slice(), lines.as_slice()) {
         return Err(Refusal::RemoteSdp(Why::WrongNewLines(wrong)));
     }
-    let plan = make_plan(alloc, view, &rows, false, answer, lines.as_slice())?;
+    let may_take = token.has_sctp_init();
+    let plan = make_plan(
+        alloc,
+        view,
+        &rows,
+        false,
+        may_take,
+        answer,
+        lines.as_slice(),
+    )?;
     Ok(plan)
 }

@@ -11,6 +11,7 @@ use std::marker::Model;
 pub struct SdpPendingOffer {
     change_id: u64,
     changes: Changes,
+    sctp_init: bool,
 }
 
 impl Model for SdpPendingOffer {
@@ -18,17 +19,18 @@ impl Model for SdpPendingOffer {
 
     ghost Value = { PendingOffer };
 
-    ghost view = { λ token. record { id = token.change_id; changes = token.changes.0 } };
+    ghost view = { λ token. record { id = token.change_id; changes = token.changes.0; says_init = token.sctp_init } };
 }
 
 impl SdpPendingOffer {
-    /// The token of an offer: the counter as it was applied, and its changes.
-    pub fn new(id: u64, changes: Changes) -> SdpPendingOffer
-        ensures { result ≡ record { id = id; changes = changes.0 } }
+    /// The token of an offer: the counter as it was applied, its changes, and whether it had an `a=sctp-init`.
+    pub fn new(id: u64, changes: Changes, sctp_init: bool) -> SdpPendingOffer
+        ensures { result ≡ record { id = id; changes = changes.0; says_init = sctp_init } }
     {
         SdpPendingOffer {
             change_id: id,
             changes,
+            sctp_init,
         }
     }
 
@@ -42,6 +44,13 @@ impl SdpPendingOffer {
         ensures { result.now.0 ≡ self.now.changes }
     {
         &self.changes
+    }
+
+    /// Whether its offer had an `a=sctp-init` (draft-hancke-tsvwg-snap).
+    pub fn has_sctp_init(&self) -> bool
+        ensures { result ≡ self.now.says_init }
+    {
+        self.sctp_init
     }
 
     /// The changes, without a copy. The token is spent.

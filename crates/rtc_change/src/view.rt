@@ -13,9 +13,15 @@ pub struct View<'a> {
     pub remote_creds: Option<&'a IceCreds>,
     /// Whether a fingerprint of the other side is known.
     pub has_fingerprint: bool,
+    /// Whether the association is started.
+    pub sctp_inited: bool,
+    /// The text of the other side's chunk, where the association was started by the chunks of both sides
+    /// (draft-hancke-tsvwg-snap).
+    pub sctp_kept: Option<&'a str>,
 }
 
 impl<'a> Model for View<'a> {
+    ghost use Rattle.std.specs.Prelude.{option_map};
     ghost use Rattle.std.specs.Option.{option_copied};
     ghost use Rattle.rtc_change.specs.Held.{Held};
 
@@ -26,5 +32,7 @@ impl<'a> Model for View<'a> {
       lite = view.lite;
       remote_creds = option_copied view.remote_creds;
       has_fingerprint = view.has_fingerprint;
+      sctp_inited = view.sctp_inited;
+      sctp_kept = option_map (λ text. text.now) view.sctp_kept;
     } };
 }

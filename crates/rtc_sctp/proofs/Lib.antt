@@ -5,3 +5,4 @@ pub mod PassLemmas
 pub mod StepLemmas
 pub mod OrderKept
 pub mod StartLemmas
+pub mod BegunLemmas

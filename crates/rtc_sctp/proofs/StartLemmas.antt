@@ -67,7 +67,7 @@ module _ {S : Type 0} (m : AssociationMeaning S) (w : AssociationLaws m) where
   asked_unstarted false p q now max answer refused fresh h =
       left_unstarted max h.result q (λ done. refused (sym h.is ∙ done)) (w.accept_starts p q now max h.result fresh h.called)
 
-  init_unstarted : (snap : Option InitHalves) (client : Bool) (p q : S) (now max : ℕ) (answer : Asked) → (answer ≡ did.Done → ⊥)
+  pub init_unstarted : (snap : Option InitHalves) (client : Bool) (p q : S) (now max : ℕ) (answer : Asked) → (answer ≡ did.Done → ⊥)
       → m.started p ≡ false → AsksInit m snap client p now max answer q → m.started q ≡ false
   init_unstarted None client p q now max answer refused fresh h = asked_unstarted client p q now max answer refused fresh h
   init_unstarted (Some halves) client p q now max answer refused fresh h =

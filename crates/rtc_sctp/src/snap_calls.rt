@@ -1,6 +1,7 @@
 //! The halves of a start by session descriptions (draft-hancke-tsvwg-snap).
-ghost use Rattle.std.specs.Prelude.{◌≡◌, false, true, Ok, is_some, IfOk, option_map, string_bytes};
-ghost use Rattle.rtc_sctp_values.specs.InitHalves.{remote_text};
+ghost use Rattle.std.specs.Prelude.{◌≡◌, false, true, Ok, Some, is_some, IfOk, OnOk, OnErr, option_map, string_bytes};
+ghost use Rattle.std.specs.Option.{option_copied};
+ghost use Rattle.rtc_sctp_values.specs.InitHalves.{remote_text, with_local, after_half};
 ghost use Rattle.rtc_sctp_values.specs.SnapHalves.{
   enabled_halves,
   without_pending,
@@ -8,7 +9,11 @@ ghost use Rattle.rtc_sctp_values.specs.SnapHalves.{
   shown_remote,
   text_in,
   whole_halves,
+  halves_or_none,
+  halves_of,
+  after_halves_of,
 };
+ghost use Rattle.rtc_sctp_values.specs.InitChunk.{chunk_of_text};
 ghost use Rattle.rtc_sctp.specs.SnapCalls.{EnsuresLocalHalf, TakesRemoteHalf};
 
 use crate::SctpInitData;
@@ -76,6 +81,48 @@ impl<S: Association> RtcSctp<S> {
         ensures { IfOk result (λ halves. halves ≡ whole_halves self.now.snap.pending) }
     {
         self.snap.build()
+    }
+
+    /// The halves of an end that tells its own: the pending ones, with its half, which is drawn where it is not there. What is pending
+    /// stays.
+    pub fn draw_snap_init_data<N: Ids>(&self, ids: &mut N) -> Result<SctpInitData, AllocError>
+        ensures halves { IfOk result (λ halves. halves
+            ≡ with_local N.ids (halves_or_none self.now.local_max self.now.snap.pending) ids.old) }
+        ensures after { OnOk result (ids.new
+            ≡ after_half N.ids (halves_or_none self.now.local_max self.now.snap.pending).local ids.old) }
+        ensures err { OnErr result (ids.new ≡ ids.old) }
+    {
+        self.snap.draw(self.local_max, ids)
+    }
+
+    /// Keeps halves as the pending ones.
+    pub fn keep_snap_init_data(&mut self, halves: SctpInitData)
+        ensures { self.new ≡ record self.old { snap = record self.old.snap { pending = Some halves } } }
+    {
+        self.snap.keep(halves);
+    }
+
+    /// The halves that the association was started with.
+    pub fn begun_snap_init_data(&self) -> Option<&SctpInitData>
+        ensures { option_copied result ≡ self.now.snap.started }
+    {
+        self.snap.begun()
+    }
+
+    /// The halves of a start with the text of the other end's half: the pending ones, with a half of this end that is drawn where it
+    /// is not there. None where the text is no base64 with its padding. What is pending stays.
+    pub fn join_snap_init_data<N: Ids>(
+        &self,
+        v: &str,
+        ids: &mut N,
+    ) -> Result<Option<SctpInitData>, AllocError>
+        ensures halves { IfOk result (λ halves. halves
+            ≡ halves_of N.ids self.now.local_max self.now.snap (chunk_of_text v.now) ids.old) }
+        ensures after { OnOk result (ids.new
+            ≡ after_halves_of N.ids self.now.local_max self.now.snap (chunk_of_text v.now) ids.old) }
+        ensures err { OnErr result (ids.new ≡ ids.old) }
+    {
+        self.snap.join(self.local_max, v, ids)
     }
 
     /// Takes the text of the other end's half into the pending ones. One that is no base64 with its padding

@@ -84,3 +84,20 @@ module _ {N : Type 0} (draws : Draws N) where
 
   abbrev pub EnsuresLocal : (limit : ℕ) → KeptHalves → N → Result (Unit {0}) AllocError → KeptHalves → N → Type 0
   EnsuresLocal limit kept ids r kept' ids' = EnsuresBy (is_some kept.started) limit kept ids r kept' ids'
+
+  -- the halves of a start with this chunk of the other end: the pending ones, or else empty ones, with a half of this end that is drawn
+  -- where it is not there
+  abbrev pub joined_halves : (limit : ℕ) → KeptHalves → List ℕ → N → InitHalves
+  joined_halves limit kept chunk ids = with_local draws (with_remote chunk (halves_or_none limit kept.pending)) ids
+
+  abbrev pub after_joined : (limit : ℕ) → KeptHalves → N → N
+  after_joined limit kept ids = after_half draws (halves_or_none limit kept.pending).local ids
+
+  -- the same where there is such a chunk
+  abbrev pub halves_of : (limit : ℕ) → KeptHalves → Option (List ℕ) → N → Option InitHalves
+  halves_of limit kept None ids = None
+  halves_of limit kept (Some chunk) ids = Some (joined_halves limit kept chunk ids)
+
+  abbrev pub after_halves_of : (limit : ℕ) → KeptHalves → Option (List ℕ) → N → N
+  after_halves_of limit kept None ids = ids
+  after_halves_of limit kept (Some chunk) ids = after_joined limit kept ids

@@ -1,7 +1,8 @@
 //! What an end keeps of starts by session descriptions.
-ghost use Rattle.std.specs.Prelude.{◌≡◌, true, Some, Ok, is_some, IfOk, option_map, string_bytes};
+ghost use Rattle.std.specs.Prelude.{◌≡◌, true, Some, Ok, is_some, IfOk, OnOk, OnErr, option_map, string_bytes};
 ghost use Rattle.std.specs.Option.{option_copied};
-ghost use Rattle.rtc_sctp_values.specs.InitHalves.{with_remote, remote_text};
+ghost use Rattle.rtc_sctp_values.specs.InitChunk.{chunk_of_text};
+ghost use Rattle.rtc_sctp_values.specs.InitHalves.{with_remote, remote_text, with_local, after_half};
 ghost use Rattle.rtc_sctp_values.specs.SnapHalves.{
   nothing_kept,
   enabled_halves,
@@ -13,6 +14,8 @@ ghost use Rattle.rtc_sctp_values.specs.SnapHalves.{
   shown_local,
   shown_remote,
   whole_halves,
+  halves_of,
+  after_halves_of,
   KeepsRemote,
   DrawsPending,
   EnsuresLocal,
@@ -154,6 +157,62 @@ impl SnapHalves {
                 Ok(false)
             }
         }
+    }
+
+    // A copy of the pending halves, or else empty ones.
+    fn copy_pending(&self, limit: u32) -> Result<SctpInitData, AllocError>
+        ensures { IfOk result (λ halves. halves ≡ halves_or_none limit self.now.pending) }
+    {
+        match &self.pending {
+            None => Ok(SctpInitData::with_limit(self.alloc, limit)),
+            Some(halves) => halves.copy(),
+        }
+    }
+
+    /// The halves of an end that tells its own: the pending ones, with its half, which is drawn where it is not there. Where memory
+    /// runs out, nothing is drawn.
+    pub fn draw<N: Ids>(&self, limit: u32, ids: &mut N) -> Result<SctpInitData, AllocError>
+        ensures halves { IfOk result (λ halves. halves ≡ with_local N.ids (halves_or_none limit self.now.pending) ids.old) }
+        ensures after { OnOk result (ids.new ≡ after_half N.ids (halves_or_none limit self.now.pending).local ids.old) }
+        ensures err { OnErr result (ids.new ≡ ids.old) }
+    {
+        let mut halves = self.copy_pending(limit)?;
+        halves.ensure_local_init_chunk(ids)?;
+        Ok(halves)
+    }
+
+    /// Keeps halves as the pending ones.
+    pub fn keep(&mut self, halves: SctpInitData)
+        ensures { self.new ≡ record self.old { pending = Some halves } }
+    {
+        self.pending = Some(halves);
+    }
+
+    /// The halves that the association was started with.
+    pub fn begun(&self) -> Option<&SctpInitData>
+        ensures { option_copied result ≡ self.now.started }
+    {
+        self.started.as_ref()
+    }
+
+    /// The halves of a start with the text of the other end's half: the pending ones, with a half of this end that is drawn where it
+    /// is not there. None where the text is no base64 with its padding. Where memory runs out, nothing is drawn.
+    pub fn join<N: Ids>(
+        &self,
+        limit: u32,
+        value: &str,
+        ids: &mut N,
+    ) -> Result<Option<SctpInitData>, AllocError>
+        ensures halves { IfOk result (λ halves. halves ≡ halves_of N.ids limit self.now (chunk_of_text value.now) ids.old) }
+        ensures after { OnOk result (ids.new ≡ after_halves_of N.ids limit self.now (chunk_of_text value.now) ids.old) }
+        ensures err { OnErr result (ids.new ≡ ids.old) }
+    {
+        let Some(chunk) = read_chunk(self.alloc, value)? else {
+            return Ok(None);
+        };
+        let mut halves = self.draw(limit, ids)?;
+        halves.set_remote_init_chunk(chunk);
+        Ok(Some(halves))
     }
 
     /// The text of this end's half: of those that the association was started with, or else of the pending ones.

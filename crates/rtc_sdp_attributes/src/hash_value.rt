@@ -1,5 +1,6 @@
 //! Hashes as pairs of hex digits with colons between.
-ghost use Rattle.std.specs.Prelude.{◌≡◌, ◌≤◌, ◌<◌, ◌+◌, ◌++◌, ◌∷◌, [], IfOk, OnOk, length, string_bytes, option_map, if◌then◌else◌, nat_lt, Some, None};
+ghost use Rattle.std.specs.Prelude.{◌≡◌, ◌≤◌, ◌<◌, ◌+◌, ◌++◌, ◌∷◌, [], IfOk, OnOk, length, string_bytes, option_map};
+ghost use Rattle.std.specs.Prelude.{if◌then◌else◌, nat_lt, Some, None};
 ghost use Rattle.std.specs.Str.{IsAscii};
 ghost use Rattle.arrayvec.specs.ArrayVec.{array_vec_len};
 ghost use Rattle.rtc_fields.specs.Hex as spec;

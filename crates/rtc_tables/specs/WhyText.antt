@@ -12,6 +12,8 @@ use Rattle.rtc_tables.specs.declared.why.Why.TheVariants.{
   NoCredentials,
   UnaskedRestart,
   NoFingerprint,
+  SctpInitChanged,
+  SctpInitMissing,
   MovedLine,
   PlaceTaken,
   AnswerRecycles,
@@ -48,6 +50,8 @@ why_text BothLite = codes "Both peers being ICE-Lite not supported"
 why_text NoCredentials = codes "missing a=ice-ufrag/pwd"
 why_text (UnaskedRestart kept got) = codes "Ice restart in answer without one in the preceeding offer"
 why_text NoFingerprint = codes "missing a=fingerprint"
+why_text (SctpInitChanged kept got) = codes "Changed a=sctp-init for existing SCTP association"
+why_text (SctpInitMissing kept) = codes "Missing a=sctp-init for established SNAP SCTP association"
 why_text (MovedLine mid) = moved_text mid
 why_text (PlaceTaken mid) = moved_text mid
 why_text (AnswerRecycles mid) =

@@ -13,4 +13,7 @@ pub struct Plan {
     pub added: Seq<u32>,
     /// Whether the other side restarts ICE: its credentials are known and differ.
     pub restart: bool,
+    /// Whether the `a=sctp-init` of the other side may start the association: it is not started, there is one, and an answer's
+    /// offer had one.
+    pub snap: bool,
 }

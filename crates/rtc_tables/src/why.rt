@@ -24,6 +24,15 @@ pub enum Why {
     },
     /// No fingerprint is known, and there is none. The peer is then closed.
     NoFingerprint,
+    /// The association was started with an `a=sctp-init` of the other side, and this one is another.
+    SctpInitChanged {
+        kept: Text,
+        got: Text,
+    },
+    /// The association was started with an `a=sctp-init` of the other side, and now there is none.
+    SctpInitMissing {
+        kept: Text,
+    },
     /// A line is at another place than its row, or of a kind that its row or its place does not allow.
     MovedLine(Mid),
     /// A new line of an offer is at the place of a live row.
@@ -55,6 +64,12 @@ impl fmt::Display for Why {
                 f.write_str("Ice restart in answer without one in the preceeding offer")
             }
             Why::NoFingerprint => f.write_str("missing a=fingerprint"),
+            Why::SctpInitChanged { .. } => {
+                f.write_str("Changed a=sctp-init for existing SCTP association")
+            }
+            Why::SctpInitMissing { .. } => {
+                f.write_str("Missing a=sctp-init for established SNAP SCTP association")
+            }
             Why::MovedLine(mid) | Why::PlaceTaken(mid) => {
                 let mid = mid.as_str();
                 write!(f, "Changed order for m-line with mid: {mid}")
