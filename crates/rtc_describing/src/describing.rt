@@ -6,6 +6,7 @@ ghost use Rattle.rtc_peer_state.specs.MadeSdp.{
   shown_ssrcs as ShownSsrcs,
   name_of_sources as NameOfSources,
   bare_row_line as BareRowLine,
+  init_of_row as InitOfRow,
   told_line,
   row_told,
   line_kind,
@@ -41,15 +42,23 @@ pub fn is_stopped_row(row: &LineRow) -> bool
     }
 }
 
-// An m-line with the credentials, the fingerprint and the role of its peer.
-fn peer_line(creds: IceCreds, fingerprint: Fingerprint, setup: Setup, line: MediaLine) -> MediaLine
+// An m-line with the credentials, the fingerprint, the role and the start of its peer.
+fn peer_line(
+    creds: IceCreds,
+    fingerprint: Fingerprint,
+    setup: Setup,
+    sctp_init: Option<Text>,
+    line: MediaLine,
+) -> MediaLine
     ensures { result ≡ record line {
+      sctp_init = sctp_init;
       creds = Some creds;
       fingerprint = Some fingerprint;
       setup = Some setup;
     } }
 {
     let mut line = line;
+    line.sctp_init = sctp_init;
     line.creds = Some(creds);
     line.fingerprint = Some(fingerprint);
     line.setup = Some(setup);
@@ -139,14 +148,25 @@ fn bare_row_line(alloc: Global, most: u32, media: LineMedia, row: &LineRow) -> M
     }
 }
 
+// What the line of a row tells of the start of the association: only that of the data channels tells it.
+fn init_of_row(told: &Option<Text>, row: &LineRow) -> Result<Option<Text>, AllocError>
+    ensures { IfOk result (λ init. init ≡ InitOfRow told.now row.now) }
+{
+    match row {
+        LineRow::Media { .. } => Ok(None),
+        LineRow::App { .. } => told.copy(),
+    }
+}
+
 // The m-line of a row.
 fn line_of_row(alloc: Global, head: &SdpHead, told: ToldRow) -> Result<MediaLine, AllocError>
     ensures { IfOk result (λ line. line ≡ told_line head.now told) }
 {
     let creds = head.creds.copy()?;
     let fingerprint = head.fingerprint.copy()?;
+    let sctp_init = init_of_row(&head.sctp_init, &told.row)?;
     let line = bare_row_line(alloc, head.max_message_size, told.media, &told.row);
-    Ok(peer_line(creds, fingerprint, head.setup, line))
+    Ok(peer_line(creds, fingerprint, head.setup, sctp_init, line))
 }
 
 fn list_lines(

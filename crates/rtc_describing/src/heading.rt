@@ -13,7 +13,7 @@ use rtc_dtls::{Dtls, DtlsInstance};
 use rtc_ice::IceAgent;
 use rtc_peer_state::SdpHead;
 use rtc_sdp_values::{Candidate, IceCreds, Setup};
-use rtc_wire::{Seq, TryCopy};
+use rtc_wire::{Seq, Text, TryCopy};
 use std::alloc::{AllocError, Global};
 
 // The credentials of a restart that is asked for, or else those that are in use.
@@ -96,6 +96,7 @@ pub fn make_head<I: IceAgent, D: DtlsInstance>(
     setup: Setup,
     restart: Option<(&IceCreds, bool)>,
     max_message_size: u32,
+    sctp_init: Option<Text>,
 ) -> Result<SdpHead, AllocError>
     ensures { IfOk result (λ head. head ≡ record {
       session = session;
@@ -105,6 +106,7 @@ pub fn make_head<I: IceAgent, D: DtlsInstance>(
       setup = setup;
       candidates = CandidatesInUse (option_map (λ asked. (asked.0.now, asked.1)) restart.entry) (I.ice.settings ice.now);
       max_message_size = max_message_size;
+      sctp_init = sctp_init;
     }) }
 {
     let creds = creds_in_use(ice, restart)?;
@@ -118,5 +120,6 @@ pub fn make_head<I: IceAgent, D: DtlsInstance>(
         setup,
         candidates,
         max_message_size,
+        sctp_init,
     })
 }

@@ -40,10 +40,11 @@ fn sending_of_update(update: &MediaUpdate) -> Result<Sending, AllocError>
     })
 }
 
+// Layers that were staged are offered, and stand for nothing until the other side names the line.
 fn sending_of_media(media: &AddMedia) -> Result<Sending, AllocError>
     ensures { IfOk result (λ sending. sending ≡ sending_of None (Some media.now) []) }
 {
-    let simulcast = media.simulcast.copy()?;
+    let simulcast: Option<Simulcast> = None;
     let msid = media.msid.copy()?;
     let cname = media.cname.copy()?;
     let ssrcs = media.ssrcs.copy()?;
@@ -73,7 +74,7 @@ fn bare_sending(alloc: Global, mid: Mid) -> Result<Sending, AllocError>
     })
 }
 
-// What is sent on a line: what the media part has of it, or else what was staged with it.
+// What is sent on a line: what the media part has of it, or else what was staged with it, without layers.
 fn find_sending<M: MediaSession>(
     alloc: Global,
     media: &M,

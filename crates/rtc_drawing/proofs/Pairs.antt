@@ -31,6 +31,9 @@ one_more_pair first earlier done pair is =
 
 -- ---- how many numbers are drawn at most
 
+-- none, one or two
+pub ruleset few_draws = (later_none, later_once, later_twice)
+
 -- nothing is drawn between equal sources of numbers
 pub later_same : {N : Type 0} (draws : Draws N) (ids ids' : N) → ids ≡ ids' → Later draws ids ids'
 later_same {N} draws ids ids' is = subst (λ (x : N). Later draws ids x) is (later_none draws ids)

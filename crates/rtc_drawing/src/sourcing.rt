@@ -58,7 +58,7 @@ pub fn draw_source<M: MediaSession, N: Ids>(
 }
 
 // A source for a line of a kind, with that of its retransmissions; its numbers are passed over from then on.
-#[tactic(auto, using(rtc_ids::proofs::LaterLemmas::later_none, rtc_ids::proofs::LaterLemmas::later_once, rtc_ids::proofs::LaterLemmas::later_twice))]
+#[tactic(auto, using(crate::proofs::Pairs::few_draws))]
 fn draw_pair<M: MediaSession, N: Ids>(
     ids: &mut N,
     media: &M,

@@ -1,5 +1,5 @@
 -- An offer that is accepted or refused, put together from the steps of the call.
-use Rattle.std.proofs.Common.{◌≡◌, ◌∙◌, Bool, true, List, [], Option, Some, None, Result, Ok, Err, refl, sym, ap, subst}
+use Rattle.std.proofs.Common.{◌≡◌, ◌∙◌, ℕ, Bool, false, true, List, [], Option, Some, None, Result, Ok, Err, refl, sym, ap, subst}
 use Rattle.std.specs.Option.{option_or}
 use Rattle.rtc_sdp_values.specs.Sdp.{sdp_fingerprint}
 use Rattle.rtc_sdp_values.specs.declared.ice_creds.IceCreds.{IceCreds}
@@ -29,7 +29,7 @@ use Rattle.rtc_peer_state.specs.declared.rtc_error.RtcError.TheVariants.{
   Alloc,
 }
 use Rattle.rtc_peer_state.specs.Acceptances.{AcceptsOffer, OfferAccepted, OfferStopped, refused_phase}
-use Rattle.rtc_peer_state.specs.Acceptances.{followed_restart, answer_ids, updates_for, ids_after_updates}
+use Rattle.rtc_peer_state.specs.Acceptances.{followed_restart, answer_ids, updates_for, halves_for, ids_after_halves, init_answered}
 use Rattle.rtc_peer_state.specs.Calls.{raised, control_for}
 use Rattle.rtc_peer_state.specs.MadeSdp.{answer_sdp}
 use Rattle.rtc_peer_state.specs.Meanings.{Meanings}
@@ -39,6 +39,7 @@ use Rattle.rtc_peer_state.specs.StoppedAcceptances.{StopsPreparing, StopsAccepti
 use Rattle.rtc_peer_state.proofs.StoppedPeers.{preparing_rest}
 use Rattle.rtc_negotiation.specs.declared.following.Following.{Following}
 use Rattle.rtc_negotiation.specs.declared.growth.Growth.{Growth}
+use Rattle.rtc_negotiation.specs.declared.starting.Starting.{Starting}
 use Rattle.rtc_negotiation.specs.Growths.{following_of, GrowsOffer}
 use Rattle.rtc_negotiation.specs.Moves.{MovesParts}
 
@@ -48,10 +49,10 @@ module _ {I D S M E X T W N : Type 0} (m : Meanings I D S M E X T W N) where
   counted p = record p { counter = raised p.counter }
 
   -- the answer is not a matter of the counter
-  same_answer : (p : Peer I D S M N) (restart : Option (IceCreds × Bool)) (updates : List MediaUpdate) (offer : Sdp)
-      → answer_sdp (stance_of m (counted p)) restart updates offer ≡ answer_sdp (stance_of m p) restart updates offer
+  same_answer : (p : Peer I D S M N) (restart : Option (IceCreds × Bool)) (updates : List MediaUpdate) (init : Option (List ℕ)) (offer : Sdp)
+      → answer_sdp (stance_of m (counted p)) restart updates init offer ≡ answer_sdp (stance_of m p) restart updates init offer
   unfolding answer_sdp
-  same_answer p restart updates offer = refl
+  same_answer p restart updates init offer = refl
 
   -- memory lacked, which leaves rows, channels and fingerprint wherever it stopped
   stopped_at : (p q : Peer I D S M N) (offer : Sdp)
@@ -65,10 +66,10 @@ module _ {I D S M E X T W N : Type 0} (m : Meanings I D S M E X T W N) where
 
   -- it lacked as what the acceptance needs was prepared
   pub offer_unprepared : (p q : Peer I D S M N) (offer : Sdp) → verdict (held_by (stance_of m p)) None offer ≡ None
-      → StopsPreparing m (counted p) true [] offer (answer_ids m (counted p) offer) q → OfferStopped m p offer q
+      → StopsPreparing m (counted p) true true [] offer (answer_ids m (counted p) offer) q → OfferStopped m p offer q
   offer_unprepared p q offer passes stops =
       stopped_at p q offer (AtPreparing passes stops)
-      (ap (λ (x : Peer I D S M N). record x { ice = q.ice; dtls = q.dtls; sctp = q.sctp }) (preparing_rest m (counted p) true [] offer (answer_ids m p offer) q stops))
+      (ap (λ (x : Peer I D S M N). record x { ice = q.ice; dtls = q.dtls; sctp = q.sctp }) (preparing_rest m (counted p) true true [] offer (answer_ids m p offer) q stops))
 
   -- the offer is refused as it is judged
   judged : (p : Peer I D S M N) (offer : Sdp) (refusal : Refusal) → PlansSdp (held_by (stance_of m p)) None offer (Err refusal)
@@ -88,26 +89,30 @@ module _ {I D S M E X T W N : Type 0} (m : Meanings I D S M E X T W N) where
   abbrev pub offered : Peer I D S M N → Sdp → Following
   offered p offer = following_of (followed_restart m p offer) offer (control_for p.dtls.active offer.ice_lite)
 
+  abbrev pub begun : Peer I D S M N → Sdp → Starting
+  begun p offer = record { halves = halves_for m p true true [] offer (answer_ids m p offer); drops = false }
+
   -- the parts of a peer follow an offer
   abbrev pub OfferMoves : Peer I D S M N → Sdp → Result (Unit {0}) RtcError → I → DtlsState D → SctpStreams S → Type 0
   OfferMoves p offer r ice dtls sctp =
-      MovesParts m.ice m.dtls m.association p.ice p.dtls p.sctp (offered p offer) offer (table_after p.lines (parsed_lines offer) true) p.greatest r ice dtls sctp
+      MovesParts m.ice m.dtls m.association p.ice p.dtls p.sctp (offered p offer) (begun p offer) offer
+      (table_after p.lines (parsed_lines offer) true) p.greatest r ice dtls sctp
 
   -- what is made ready leaves the parts that follow it
   pub offer_moves : (p q : Peer I D S M N) (offer : Sdp) (growth : Growth) (rows : List LineRow) (r : Result (Unit {0}) RtcError) (ice : I) (dtls : DtlsState D)
       (sctp : SctpStreams S) → GrowsOffer m (counted p) offer (Ok growth) q → rows ≡ table_after p.lines (parsed_lines offer) true
-      → MovesParts m.ice m.dtls m.association q.ice q.dtls q.sctp growth.following offer rows q.greatest r ice dtls sctp → OfferMoves p offer r ice dtls sctp
+      → MovesParts m.ice m.dtls m.association q.ice q.dtls q.sctp growth.following growth.starting offer rows q.greatest r ice dtls sctp
+      → OfferMoves p offer r ice dtls sctp
   offer_moves p q offer growth rows r ice dtls sctp grown rows_are moves =
-      subst (λ (xs : List LineRow). MovesParts m.ice m.dtls m.association p.ice p.dtls p.sctp (offered p offer) offer xs p.greatest r ice dtls sctp) rows_are
-      (subst (λ (f : Following). MovesParts m.ice m.dtls m.association p.ice p.dtls p.sctp f offer rows p.greatest r ice dtls sctp)
-      (ap (λ (x : Growth). x.following) grown.0)
-      (subst (λ (x : Peer I D S M N). MovesParts m.ice m.dtls m.association x.ice x.dtls x.sctp growth.following offer rows x.greatest r ice dtls sctp) grown.2 moves))
+      subst (λ (xs : List LineRow). MovesParts m.ice m.dtls m.association p.ice p.dtls p.sctp (offered p offer) (begun p offer) offer xs p.greatest r ice dtls sctp) rows_are
+      (subst (λ (g : Growth). MovesParts m.ice m.dtls m.association p.ice p.dtls p.sctp g.following g.starting offer rows p.greatest r ice dtls sctp) grown.0
+      (subst (λ (x : Peer I D S M N). MovesParts m.ice m.dtls m.association x.ice x.dtls x.sctp growth.following growth.starting offer rows x.greatest r ice dtls sctp) grown.2 moves))
 
   -- the peer once parts have moved
   moved : (p q : Peer I D S M N) (offer : Sdp) (growth : Growth) (ice : I) (dtls : DtlsState D) (sctp : SctpStreams S) → GrowsOffer m (counted p) offer (Ok growth) q
       → record q { ice = ice; dtls = dtls; sctp = sctp } ≡ record p {
         counter = raised p.counter;
-        ids = ids_after_updates m p true [] offer (answer_ids m p offer);
+        ids = ids_after_halves m p true true [] offer (answer_ids m p offer);
         ice = ice;
         dtls = dtls;
         sctp = sctp;
@@ -116,24 +121,24 @@ module _ {I D S M E X T W N : Type 0} (m : Meanings I D S M E X T W N) where
   moved p q offer growth ice dtls sctp grown = ap (λ (x : Peer I D S M N). record x { ice = ice; dtls = dtls; sctp = sctp }) grown.2
 
   -- a part failed, or memory lacked
-  pub offer_fails : (p q : Peer I D S M N) (offer : Sdp) (growth : Growth) (error : RtcError) (ice : I) (dtls : DtlsState D) (sctp : SctpStreams S)
+  fails_by : (p q : Peer I D S M N) (offer : Sdp) (growth : Growth) (error : RtcError) (ice : I) (dtls : DtlsState D) (sctp : SctpStreams S)
       → GrowsOffer m (counted p) offer (Ok growth) q → verdict (held_by (stance_of m p)) None offer ≡ None
       → OfferMoves p offer (Err error) ice dtls sctp → AcceptsOffer m p offer (Err error) (record q { ice = ice; dtls = dtls; sctp = sctp })
-  offer_fails p q offer growth (Dtls Fault) ice dtls sctp grown passes moves = record {
+  fails_by p q offer growth (Dtls Fault) ice dtls sctp grown passes moves = record {
     passes = passes;
     ice_follows = moves.0;
     dtls_fails = moves.1;
     media_prepared = grown.1;
     rest = moved p q offer growth ice dtls sctp grown ∙ ap (λ (s : SctpStreams S). record p {
       counter = raised p.counter;
-      ids = ids_after_updates m p true [] offer (answer_ids m p offer);
+      ids = ids_after_halves m p true true [] offer (answer_ids m p offer);
       ice = ice;
       dtls = dtls;
       sctp = s;
       media = q.media;
     }) moves.2;
   }
-  offer_fails p q offer growth (Sctp error) ice dtls sctp grown passes moves = (
+  fails_by p q offer growth (Sctp error) ice dtls sctp grown passes moves = (
     moves.0,
     record {
       passes = passes;
@@ -144,27 +149,35 @@ module _ {I D S M E X T W N : Type 0} (m : Meanings I D S M E X T W N) where
       rest = moved p q offer growth ice dtls sctp grown;
     },
   )
-  offer_fails p q offer growth Alloc ice dtls sctp grown passes moves =
+  fails_by p q offer growth Alloc ice dtls sctp grown passes moves =
       stopped_at p (record q { ice = ice; dtls = dtls; sctp = sctp }) offer (AtParts passes (ap (λ (x : Peer I D S M N). x.ids) grown.2) grown.1 moves)
       (ap (λ (x : Peer I D S M N). record x { ids = q.ids; ice = ice; dtls = dtls; sctp = sctp; media = q.media }) grown.2)
-  offer_fails p q offer growth (Dtls WouldBlock) ice dtls sctp grown passes moves = absurd moves
-  offer_fails p q offer growth (Dtls DtlsAlloc) ice dtls sctp grown passes moves = absurd moves
-  offer_fails p q offer growth (RemoteSdp why) ice dtls sctp grown passes moves = absurd moves
-  offer_fails p q offer growth (SdpRefused error) ice dtls sctp grown passes moves = absurd moves
-  offer_fails p q offer growth ChangesOutOfOrder ice dtls sctp grown passes moves = absurd moves
-  offer_fails p q offer growth (Net cause) ice dtls sctp grown passes moves = absurd moves
-  offer_fails p q offer growth (MediaFailed cause) ice dtls sctp grown passes moves = absurd moves
-  offer_fails p q offer growth BadChannel ice dtls sctp grown passes moves = absurd moves
+  fails_by p q offer growth (Dtls WouldBlock) ice dtls sctp grown passes moves = absurd moves
+  fails_by p q offer growth (Dtls DtlsAlloc) ice dtls sctp grown passes moves = absurd moves
+  fails_by p q offer growth (RemoteSdp why) ice dtls sctp grown passes moves = absurd moves
+  fails_by p q offer growth (SdpRefused error) ice dtls sctp grown passes moves = absurd moves
+  fails_by p q offer growth ChangesOutOfOrder ice dtls sctp grown passes moves = absurd moves
+  fails_by p q offer growth (Net cause) ice dtls sctp grown passes moves = absurd moves
+  fails_by p q offer growth (MediaFailed cause) ice dtls sctp grown passes moves = absurd moves
+  fails_by p q offer growth BadChannel ice dtls sctp grown passes moves = absurd moves
+
+  pub offer_fails : (p q r : Peer I D S M N) (offer : Sdp) (growth : Growth) (error : RtcError) → GrowsOffer m (counted p) offer (Ok growth) q
+      → verdict (held_by (stance_of m p)) None offer ≡ None → OfferMoves p offer (Err error) r.ice r.dtls r.sctp
+      → r ≡ record q { ice = r.ice; dtls = r.dtls; sctp = r.sctp } → AcceptsOffer m p offer (Err error) r
+  offer_fails p q r offer growth error grown passes moves rest =
+      subst (λ (x : Peer I D S M N). AcceptsOffer m p offer (Err error) x) (sym rest)
+      (fails_by p q offer growth error r.ice r.dtls r.sctp grown passes moves)
 
   -- the offer is accepted
-  pub offer_accepted : (p q : Peer I D S M N) (offer answer : Sdp) (growth : Growth) (ice : I) (dtls : DtlsState D) (sctp : SctpStreams S) (media : M) (lines : List LineRow)
+  accepted_by : (p q : Peer I D S M N) (offer answer : Sdp) (growth : Growth) (ice : I) (dtls : DtlsState D) (sctp : SctpStreams S) (media : M) (lines : List LineRow)
       → GrowsOffer m (counted p) offer (Ok growth) q → growth.answer ≡ Some answer → verdict (held_by (stance_of m p)) None offer ≡ None
       → OfferMoves p offer (Ok tt) ice dtls sctp → m.media.committed q.media media → lines ≡ table_after p.lines (parsed_lines offer) true
       → OfferAccepted m p offer answer (record q { ice = ice; dtls = dtls; sctp = sctp; fingerprint = growth.fingerprint; media = media; lines = lines })
-  offer_accepted p q offer answer growth ice dtls sctp media lines grown made passes moves committed lines_are =
+  accepted_by p q offer answer growth ice dtls sctp media lines grown made passes moves committed lines_are =
       let updates : List MediaUpdate = updates_for m p true [] offer (answer_ids m p offer) in
-      let shown : Some answer ≡ Some (answer_sdp (stance_of m p) (followed_restart m p offer) updates offer) =
-      sym made ∙ ap (λ (x : Growth). x.answer) grown.0 ∙ ap Some (same_answer p (followed_restart m p offer) updates offer) in
+      let shown : Some answer ≡ Some (answer_sdp (stance_of m p) (followed_restart m p offer) updates (init_answered m p offer) offer) =
+      sym made ∙ ap (λ (x : Growth). x.answer) grown.0
+      ∙ ap Some (same_answer p (followed_restart m p offer) updates (init_answered m p offer) offer) in
       let told : growth.fingerprint ≡ option_or p.fingerprint (sdp_fingerprint offer) = ap (λ (x : Growth). x.fingerprint) grown.0 in
       record {
         passes = passes;
@@ -182,3 +195,14 @@ module _ {I D S M E X T W N : Type 0} (m : Meanings I D S M E X T W N) where
           lines = table_after p.lines (parsed_lines offer) true;
         }) grown.2);
       }
+
+  pub offer_accepted : (p q r : Peer I D S M N) (offer answer : Sdp) (growth : Growth) (media : M) (lines : List LineRow)
+      → GrowsOffer m (counted p) offer (Ok growth) q → growth.answer ≡ Some answer → verdict (held_by (stance_of m p)) None offer ≡ None
+      → OfferMoves p offer (Ok tt) r.ice r.dtls r.sctp → r ≡ record q { ice = r.ice; dtls = r.dtls; sctp = r.sctp }
+      → m.media.committed r.media media → lines ≡ table_after p.lines (parsed_lines offer) true
+      → OfferAccepted m p offer answer (record r { fingerprint = growth.fingerprint; media = media; lines = lines })
+  offer_accepted p q r offer answer growth media lines grown made passes moves rest committed lines_are =
+      subst (λ (x : Peer I D S M N). OfferAccepted m p offer answer (record x { fingerprint = growth.fingerprint; media = media; lines = lines }))
+      (sym rest)
+      (accepted_by p q offer answer growth r.ice r.dtls r.sctp media lines grown made passes moves
+      (subst (λ (part : M). m.media.committed part media) (ap (λ (x : Peer I D S M N). x.media) rest) committed) lines_are)

@@ -1,5 +1,5 @@
 -- An answer that is accepted or refused, put together from the steps of the call.
-use Rattle.std.proofs.Common.{◌≡◌, ◌∙◌, false, List, Some, None, Result, Ok, Err, refl, sym, ap, subst}
+use Rattle.std.proofs.Common.{◌≡◌, ◌∙◌, Bool, true, false, List, Some, None, Result, Ok, Err, refl, sym, ap, subst}
 use Rattle.std.specs.Option.{option_or}
 use Rattle.rtc_sdp_values.specs.Sdp.{sdp_fingerprint}
 use Rattle.rtc_sdp_values.specs.declared.line_row.LineRow.{LineRow}
@@ -29,7 +29,7 @@ use Rattle.rtc_peer_state.specs.declared.rtc_error.RtcError.TheVariants.{
   BadChannel,
   Alloc,
 }
-use Rattle.rtc_peer_state.specs.Acceptances.{AcceptsAnswer, AnswerAccepted, AnswerStopped, refused_phase, ids_after_updates}
+use Rattle.rtc_peer_state.specs.Acceptances.{AcceptsAnswer, AnswerAccepted, AnswerStopped, refused_phase, halves_for, ids_after_halves}
 use Rattle.rtc_peer_state.specs.Calls.{raised, fitting_channels}
 use Rattle.rtc_peer_state.specs.Meanings.{Meanings}
 use Rattle.rtc_peer_state.specs.RtcErrors.{error_of_refusal}
@@ -38,6 +38,7 @@ use Rattle.rtc_peer_state.specs.StoppedAcceptances.{StopsPreparing, StopsAccepti
 use Rattle.rtc_peer_state.proofs.StoppedPeers.{preparing_rest}
 use Rattle.rtc_negotiation.specs.declared.following.Following.{Following}
 use Rattle.rtc_negotiation.specs.declared.growth.Growth.{Growth}
+use Rattle.rtc_negotiation.specs.declared.starting.Starting.{Starting}
 use Rattle.rtc_negotiation.specs.Growths.{following_of, GrowsAnswer}
 use Rattle.rtc_negotiation.specs.Moves.{MovesParts}
 
@@ -54,11 +55,11 @@ module _ {I D S M E X T W N : Type 0} (m : Meanings I D S M E X T W N) where
 
   -- it lacked as what the acceptance needs was prepared
   pub answer_unprepared : (p q : Peer I D S M N) (token : PendingOffer) (answer : Sdp) → p.counter ≡ raised token.id
-      → verdict (held_by (stance_of m p)) (Some (asked_by p.lines token)) answer ≡ None → StopsPreparing m p false token.changes answer p.ids q
+      → verdict (held_by (stance_of m p)) (Some (asked_by p.lines token)) answer ≡ None → StopsPreparing m p false token.says_init token.changes answer p.ids q
       → AnswerStopped m p token answer q
   answer_unprepared p q token answer right passes stops =
       stopped_at p q token answer right (AtPreparing passes stops)
-      (ap (λ (x : Peer I D S M N). record x { ice = q.ice; dtls = q.dtls; sctp = q.sctp }) (preparing_rest m p false token.changes answer p.ids q stops))
+      (ap (λ (x : Peer I D S M N). record x { ice = q.ice; dtls = q.dtls; sctp = q.sctp }) (preparing_rest m p false token.says_init token.changes answer p.ids q stops))
 
   -- the answer is refused as it is judged
   judged : (p : Peer I D S M N) (token : PendingOffer) (answer : Sdp) (refusal : Refusal) → p.counter ≡ raised token.id
@@ -80,52 +81,57 @@ module _ {I D S M E X T W N : Type 0} (m : Meanings I D S M E X T W N) where
   abbrev pub answered : List Change → Sdp → Following
   answered changes answer = following_of (staged_restart changes) answer None
 
+  abbrev pub begun : Peer I D S M N → (may : Bool) → List Change → Sdp → Starting
+  begun p may changes answer = record { halves = halves_for m p false may changes answer p.ids; drops = true }
+
   -- the parts of a peer follow an answer
-  abbrev pub AnswerMoves : Peer I D S M N → List Change → Sdp → Result (Unit {0}) RtcError → I → DtlsState D → SctpStreams S → Type 0
-  AnswerMoves p changes answer r ice dtls sctp =
-      MovesParts m.ice m.dtls m.association p.ice p.dtls p.sctp (answered changes answer) answer (table_after p.lines (parsed_lines answer) false) p.greatest r ice dtls sctp
+  abbrev pub AnswerMoves : Peer I D S M N → (may : Bool) → List Change → Sdp → Result (Unit {0}) RtcError → I → DtlsState D → SctpStreams S → Type 0
+  AnswerMoves p may changes answer r ice dtls sctp =
+      MovesParts m.ice m.dtls m.association p.ice p.dtls p.sctp (answered changes answer) (begun p may changes answer) answer
+      (table_after p.lines (parsed_lines answer) false) p.greatest r ice dtls sctp
 
   -- what is made ready leaves the parts that follow it
-  pub answer_moves : (p q : Peer I D S M N) (changes : List Change) (answer : Sdp) (growth : Growth) (rows : List LineRow) (r : Result (Unit {0}) RtcError) (ice : I)
-      (dtls : DtlsState D) (sctp : SctpStreams S) → GrowsAnswer m p changes answer (Ok growth) q → rows ≡ table_after p.lines (parsed_lines answer) false
-      → MovesParts m.ice m.dtls m.association q.ice q.dtls q.sctp growth.following answer rows q.greatest r ice dtls sctp → AnswerMoves p changes answer r ice dtls sctp
-  answer_moves p q changes answer growth rows r ice dtls sctp grown rows_are moves =
-      subst (λ (xs : List LineRow). MovesParts m.ice m.dtls m.association p.ice p.dtls p.sctp (answered changes answer) answer xs p.greatest r ice dtls sctp) rows_are
-      (subst (λ (f : Following). MovesParts m.ice m.dtls m.association p.ice p.dtls p.sctp f answer rows p.greatest r ice dtls sctp)
-      (ap (λ (x : Growth). x.following) grown.0)
-      (subst (λ (x : Peer I D S M N). MovesParts m.ice m.dtls m.association x.ice x.dtls x.sctp growth.following answer rows x.greatest r ice dtls sctp) grown.2 moves))
+  pub answer_moves : (p q : Peer I D S M N) (may : Bool) (changes : List Change) (answer : Sdp) (growth : Growth) (rows : List LineRow) (r : Result (Unit {0}) RtcError) (ice : I)
+      (dtls : DtlsState D) (sctp : SctpStreams S) → GrowsAnswer m p may changes answer (Ok growth) q → rows ≡ table_after p.lines (parsed_lines answer) false
+      → MovesParts m.ice m.dtls m.association q.ice q.dtls q.sctp growth.following growth.starting answer rows q.greatest r ice dtls sctp
+      → AnswerMoves p may changes answer r ice dtls sctp
+  answer_moves p q may changes answer growth rows r ice dtls sctp grown rows_are moves =
+      subst (λ (xs : List LineRow). MovesParts m.ice m.dtls m.association p.ice p.dtls p.sctp (answered changes answer) (begun p may changes answer) answer xs p.greatest r ice dtls sctp)
+      rows_are
+      (subst (λ (g : Growth). MovesParts m.ice m.dtls m.association p.ice p.dtls p.sctp g.following g.starting answer rows p.greatest r ice dtls sctp) grown.0
+      (subst (λ (x : Peer I D S M N). MovesParts m.ice m.dtls m.association x.ice x.dtls x.sctp growth.following growth.starting answer rows x.greatest r ice dtls sctp) grown.2 moves))
 
   -- the peer once parts have moved
-  moved : (p q : Peer I D S M N) (changes : List Change) (answer : Sdp) (growth : Growth) (ice : I) (dtls : DtlsState D) (sctp : SctpStreams S)
-      → GrowsAnswer m p changes answer (Ok growth) q → record q { ice = ice; dtls = dtls; sctp = sctp } ≡ record p {
-        ids = ids_after_updates m p false changes answer p.ids;
+  moved : (p q : Peer I D S M N) (may : Bool) (changes : List Change) (answer : Sdp) (growth : Growth) (ice : I) (dtls : DtlsState D) (sctp : SctpStreams S)
+      → GrowsAnswer m p may changes answer (Ok growth) q → record q { ice = ice; dtls = dtls; sctp = sctp } ≡ record p {
+        ids = ids_after_halves m p false may changes answer p.ids;
         ice = ice;
         dtls = dtls;
         sctp = sctp;
         media = q.media;
       }
-  moved p q changes answer growth ice dtls sctp grown = ap (λ (x : Peer I D S M N). record x { ice = ice; dtls = dtls; sctp = sctp }) grown.2
+  moved p q may changes answer growth ice dtls sctp grown = ap (λ (x : Peer I D S M N). record x { ice = ice; dtls = dtls; sctp = sctp }) grown.2
 
   -- a part failed, or memory lacked
-  pub answer_fails : (p q : Peer I D S M N) (token : PendingOffer) (answer : Sdp) (growth : Growth) (error : RtcError) (ice : I) (dtls : DtlsState D)
-      (sctp : SctpStreams S) → p.counter ≡ raised token.id → GrowsAnswer m p token.changes answer (Ok growth) q
-      → verdict (held_by (stance_of m p)) (Some (asked_by p.lines token)) answer ≡ None → AnswerMoves p token.changes answer (Err error) ice dtls sctp
+  fails_by : (p q : Peer I D S M N) (token : PendingOffer) (answer : Sdp) (growth : Growth) (error : RtcError) (ice : I) (dtls : DtlsState D)
+      (sctp : SctpStreams S) → p.counter ≡ raised token.id → GrowsAnswer m p token.says_init token.changes answer (Ok growth) q
+      → verdict (held_by (stance_of m p)) (Some (asked_by p.lines token)) answer ≡ None → AnswerMoves p token.says_init token.changes answer (Err error) ice dtls sctp
       → AcceptsAnswer m p token answer (Err error) (record q { ice = ice; dtls = dtls; sctp = sctp })
-  answer_fails p q token answer growth (Dtls Fault) ice dtls sctp right grown passes moves = record {
+  fails_by p q token answer growth (Dtls Fault) ice dtls sctp right grown passes moves = record {
     right = right;
     passes = passes;
     ice_follows = moves.0;
     dtls_fails = moves.1;
     media_prepared = grown.1;
-    rest = moved p q token.changes answer growth ice dtls sctp grown ∙ ap (λ (s : SctpStreams S). record p {
-      ids = ids_after_updates m p false token.changes answer p.ids;
+    rest = moved p q token.says_init token.changes answer growth ice dtls sctp grown ∙ ap (λ (s : SctpStreams S). record p {
+      ids = ids_after_halves m p false token.says_init token.changes answer p.ids;
       ice = ice;
       dtls = dtls;
       sctp = s;
       media = q.media;
     }) moves.2;
   }
-  answer_fails p q token answer growth (Sctp error) ice dtls sctp right grown passes moves = (
+  fails_by p q token answer growth (Sctp error) ice dtls sctp right grown passes moves = (
     moves.0,
     record {
       right = right;
@@ -134,30 +140,39 @@ module _ {I D S M E X T W N : Type 0} (m : Meanings I D S M E X T W N) where
       dtls_starts = moves.2;
       sctp_fails = moves.3;
       media_prepared = grown.1;
-      rest = moved p q token.changes answer growth ice dtls sctp grown;
+      rest = moved p q token.says_init token.changes answer growth ice dtls sctp grown;
     },
   )
-  answer_fails p q token answer growth Alloc ice dtls sctp right grown passes moves =
+  fails_by p q token answer growth Alloc ice dtls sctp right grown passes moves =
       stopped_at p (record q { ice = ice; dtls = dtls; sctp = sctp }) token answer right
       (AtParts passes (ap (λ (x : Peer I D S M N). x.ids) grown.2) grown.1 moves)
       (ap (λ (x : Peer I D S M N). record x { ids = q.ids; ice = ice; dtls = dtls; sctp = sctp; media = q.media }) grown.2)
-  answer_fails p q token answer growth (Dtls WouldBlock) ice dtls sctp right grown passes moves = absurd moves
-  answer_fails p q token answer growth (Dtls DtlsAlloc) ice dtls sctp right grown passes moves = absurd moves
-  answer_fails p q token answer growth (RemoteSdp why) ice dtls sctp right grown passes moves = absurd moves
-  answer_fails p q token answer growth (SdpRefused error) ice dtls sctp right grown passes moves = absurd moves
-  answer_fails p q token answer growth ChangesOutOfOrder ice dtls sctp right grown passes moves = absurd moves
-  answer_fails p q token answer growth (Net cause) ice dtls sctp right grown passes moves = absurd moves
-  answer_fails p q token answer growth (MediaFailed cause) ice dtls sctp right grown passes moves = absurd moves
-  answer_fails p q token answer growth BadChannel ice dtls sctp right grown passes moves = absurd moves
+  fails_by p q token answer growth (Dtls WouldBlock) ice dtls sctp right grown passes moves = absurd moves
+  fails_by p q token answer growth (Dtls DtlsAlloc) ice dtls sctp right grown passes moves = absurd moves
+  fails_by p q token answer growth (RemoteSdp why) ice dtls sctp right grown passes moves = absurd moves
+  fails_by p q token answer growth (SdpRefused error) ice dtls sctp right grown passes moves = absurd moves
+  fails_by p q token answer growth ChangesOutOfOrder ice dtls sctp right grown passes moves = absurd moves
+  fails_by p q token answer growth (Net cause) ice dtls sctp right grown passes moves = absurd moves
+  fails_by p q token answer growth (MediaFailed cause) ice dtls sctp right grown passes moves = absurd moves
+  fails_by p q token answer growth BadChannel ice dtls sctp right grown passes moves = absurd moves
+
+  pub answer_fails : (p q r : Peer I D S M N) (token : PendingOffer) (answer : Sdp) (growth : Growth) (error : RtcError) → p.counter ≡ raised token.id
+      → GrowsAnswer m p token.says_init token.changes answer (Ok growth) q
+      → verdict (held_by (stance_of m p)) (Some (asked_by p.lines token)) answer ≡ None
+      → AnswerMoves p token.says_init token.changes answer (Err error) r.ice r.dtls r.sctp
+      → r ≡ record q { ice = r.ice; dtls = r.dtls; sctp = r.sctp } → AcceptsAnswer m p token answer (Err error) r
+  answer_fails p q r token answer growth error right grown passes moves rest =
+      subst (λ (x : Peer I D S M N). AcceptsAnswer m p token answer (Err error) x) (sym rest)
+      (fails_by p q token answer growth error r.ice r.dtls r.sctp right grown passes moves)
 
   -- the answer is accepted
-  pub answer_accepted : (p q : Peer I D S M N) (token : PendingOffer) (answer : Sdp) (growth : Growth) (ice : I) (dtls : DtlsState D) (sctp : SctpStreams S) (media : M)
-      (lines : List LineRow) (channels : Channels) → p.counter ≡ raised token.id → GrowsAnswer m p token.changes answer (Ok growth) q
-      → verdict (held_by (stance_of m p)) (Some (asked_by p.lines token)) answer ≡ None → AnswerMoves p token.changes answer (Ok tt) ice dtls sctp
+  accepted_by : (p q : Peer I D S M N) (token : PendingOffer) (answer : Sdp) (growth : Growth) (ice : I) (dtls : DtlsState D) (sctp : SctpStreams S) (media : M)
+      (lines : List LineRow) (channels : Channels) → p.counter ≡ raised token.id → GrowsAnswer m p token.says_init token.changes answer (Ok growth) q
+      → verdict (held_by (stance_of m p)) (Some (asked_by p.lines token)) answer ≡ None → AnswerMoves p token.says_init token.changes answer (Ok tt) ice dtls sctp
       → m.media.committed q.media media → lines ≡ table_after p.lines (parsed_lines answer) false → channels ≡ all_confirmed (fitting_channels token.changes) q.channels
       → AnswerAccepted m p token answer
       (record q { ice = ice; dtls = dtls; sctp = sctp; fingerprint = growth.fingerprint; media = media; lines = lines; channels = channels })
-  answer_accepted p q token answer growth ice dtls sctp media lines channels right grown passes moves committed lines_are confirmed =
+  accepted_by p q token answer growth ice dtls sctp media lines channels right grown passes moves committed lines_are confirmed =
       let told : growth.fingerprint ≡ option_or p.fingerprint (sdp_fingerprint answer) = ap (λ (x : Growth). x.fingerprint) grown.0 in
       let now : channels ≡ all_confirmed (fitting_channels token.changes) p.channels =
       confirmed ∙ ap (λ (x : Peer I D S M N). all_confirmed (fitting_channels token.changes) x.channels) grown.2 in
@@ -178,3 +193,17 @@ module _ {I D S M E X T W N : Type 0} (m : Meanings I D S M E X T W N) where
           channels = all_confirmed (fitting_channels token.changes) p.channels;
         }) grown.2);
       }
+
+  pub answer_accepted : (p q r : Peer I D S M N) (token : PendingOffer) (answer : Sdp) (growth : Growth) (media : M) (lines : List LineRow) (channels : Channels)
+      → p.counter ≡ raised token.id → GrowsAnswer m p token.says_init token.changes answer (Ok growth) q
+      → verdict (held_by (stance_of m p)) (Some (asked_by p.lines token)) answer ≡ None
+      → AnswerMoves p token.says_init token.changes answer (Ok tt) r.ice r.dtls r.sctp → r ≡ record q { ice = r.ice; dtls = r.dtls; sctp = r.sctp }
+      → m.media.committed r.media media → lines ≡ table_after p.lines (parsed_lines answer) false
+      → channels ≡ all_confirmed (fitting_channels token.changes) r.channels
+      → AnswerAccepted m p token answer (record r { fingerprint = growth.fingerprint; media = media; lines = lines; channels = channels })
+  answer_accepted p q r token answer growth media lines channels right grown passes moves rest committed lines_are confirmed =
+      subst (λ (x : Peer I D S M N).
+      AnswerAccepted m p token answer (record x { fingerprint = growth.fingerprint; media = media; lines = lines; channels = channels })) (sym rest)
+      (accepted_by p q token answer growth r.ice r.dtls r.sctp media lines channels right grown passes moves
+      (subst (λ (part : M). m.media.committed part media) (ap (λ (x : Peer I D S M N). x.media) rest) committed) lines_are
+      (confirmed ∙ ap (λ (x : Peer I D S M N). all_confirmed (fitting_channels token.changes) x.channels) rest))

@@ -8,8 +8,7 @@ use Rattle.rtc_change.specs.declared.change.Change.{Change}
 use Rattle.rtc_change.specs.declared.change.Change.TheVariants.{AddMedia, AddApp, AddChannel, Direction, IceRestart}
 use Rattle.rtc_change.specs.PendingOffer.{new_channels}
 use Rattle.rtc_channels.specs.Channels.{Channel, Channels, is_overlong, has_id, has_channel, confirmed, all_confirmed, rows_confirmed}
-use Rattle.rtc_peer_state.specs.Calls.{fits_open, fitting_channels, after_channels_alone, raised}
-use Rattle.rtc_peer_state.specs.declared.peer.Peer.{Peer}
+use Rattle.rtc_peer_state.specs.Calls.{fits_open, fitting_channels}
 
 -- where a number is no row's, nothing is confirmed
 rows_missed : (id : ℕ) (config : ChannelConfig) (rows : List Channel) → has_channel id rows ≡ false → rows_confirmed id config rows ≡ rows
@@ -64,9 +63,3 @@ label_fits config room = no_longer (length config.label) (neither (is_overlong c
 
 pub protocol_fits : (config : ChannelConfig) → fits_open config ≡ true → length config.protocol ≤ 65535
 protocol_fits config room = no_longer (length config.protocol) (neither (is_overlong config.label) (is_overlong config.protocol) room).1
-
--- channels alone are applied, where there are some
-pub alone_applied : {I D S M N : Type 0} (p : Peer I D S M N) (changes : List Change) → (changes ≡ [] → ⊥) → after_channels_alone changes p
-    ≡ record p { staged = []; counter = raised p.counter; channels = all_confirmed (fitting_channels changes) p.channels }
-alone_applied p [] some = absurd (some refl)
-alone_applied p (change ∷ changes) some = refl

@@ -1,7 +1,6 @@
 pub mod Counts
 pub mod ConfirmLemmas
 pub mod FollowLemmas
-pub mod MediaLemmas
 pub mod GrowthLemmas
 pub mod MoveLemmas
 pub mod AcceptanceLemmas

@@ -28,6 +28,7 @@ use Rattle.rtc_peer_state.specs.declared.rtc_error.RtcError.TheVariants.{
 use Rattle.rtc_peer_state.specs.MadeSdp.{role_for, role_after}
 use Rattle.rtc_peer_state.specs.PartMoves.{FollowsSdp, StartsDtls, StartsSctp, StopsMoving, remote_limit}
 use Rattle.rtc_negotiation.specs.declared.following.Following.{Following}
+use Rattle.rtc_negotiation.specs.declared.starting.Starting.{Starting}
 
 module _ {I : Type 0} (ice : IceMeaning I) where
   -- the agent follows what was made ready
@@ -39,29 +40,32 @@ module _ {I D S : Type 0} (ice : IceMeaning I) (dtls : DtlsMeaning D) (associati
   abbrev pub DtlsMoves : DtlsState D → Sdp → ℕ → Result (Unit {0}) DtlsError → DtlsState D → Type 0
   DtlsMoves d sdp now r e = StartsDtls dtls d d.active (role_for (sdp_setup sdp)) now r e
 
-  abbrev pub SctpMoves : DtlsState D → SctpStreams S → Sdp → List LineRow → ℕ → Result (Unit {0}) SctpError → SctpStreams S → Type 0
-  SctpMoves d s sdp rows now r t =
-      StartsSctp association s rows (role_after d.active (sdp_setup sdp)) now (remote_limit (max_message_size_of sdp)) r t
+  abbrev pub SctpMoves : DtlsState D → SctpStreams S → Starting → Sdp → List LineRow → ℕ → Result (Unit {0}) SctpError → SctpStreams S
+      → Type 0
+  SctpMoves d s starting sdp rows now r t =
+      StartsSctp association s rows (role_after d.active (sdp_setup sdp)) now (remote_limit (max_message_size_of sdp)) starting.halves
+      starting.drops r t
 
-  abbrev pub MovesParts : I → DtlsState D → SctpStreams S → Following → Sdp → List LineRow → ℕ → Result (Unit {0}) RtcError → I
+  abbrev pub MovesParts : I → DtlsState D → SctpStreams S → Following → Starting → Sdp → List LineRow → ℕ → Result (Unit {0}) RtcError → I
       → DtlsState D → SctpStreams S → Type 0
-  MovesParts i d s following sdp rows now (Ok done) j e t =
-      FollowsReady ice i following j × DtlsMoves d sdp now (Ok tt) e × SctpMoves d s sdp rows now (Ok tt) t
-  MovesParts i d s following sdp rows now (Err (Dtls Fault)) j e t =
+  MovesParts i d s following starting sdp rows now (Ok done) j e t =
+      FollowsReady ice i following j × DtlsMoves d sdp now (Ok tt) e × SctpMoves d s starting sdp rows now (Ok tt) t
+  MovesParts i d s following starting sdp rows now (Err (Dtls Fault)) j e t =
       FollowsReady ice i following j × DtlsMoves d sdp now (Err Fault) e × (t ≡ s)
-  MovesParts i d s following sdp rows now (Err (Sctp error)) j e t =
+  MovesParts i d s following starting sdp rows now (Err (Sctp error)) j e t =
       (error ≡ Proto AssociationFault)
       × FollowsReady ice i following j
       × DtlsMoves d sdp now (Ok tt) e
-      × SctpMoves d s sdp rows now (Err (Proto AssociationFault)) t
-  MovesParts i d s following sdp rows now (Err Alloc) j e t =
+      × SctpMoves d s starting sdp rows now (Err (Proto AssociationFault)) t
+  MovesParts i d s following starting sdp rows now (Err Alloc) j e t =
       StopsMoving ice dtls association i d s following.restart following.creds following.candidates following.control
-      (role_for (sdp_setup sdp)) rows (role_after d.active (sdp_setup sdp)) now (remote_limit (max_message_size_of sdp)) j e t
-  MovesParts i d s following sdp rows now (Err (Dtls WouldBlock)) j e t = ⊥
-  MovesParts i d s following sdp rows now (Err (Dtls DtlsAlloc)) j e t = ⊥
-  MovesParts i d s following sdp rows now (Err (RemoteSdp why)) j e t = ⊥
-  MovesParts i d s following sdp rows now (Err (SdpRefused error)) j e t = ⊥
-  MovesParts i d s following sdp rows now (Err ChangesOutOfOrder) j e t = ⊥
-  MovesParts i d s following sdp rows now (Err (Net cause)) j e t = ⊥
-  MovesParts i d s following sdp rows now (Err (MediaFailed cause)) j e t = ⊥
-  MovesParts i d s following sdp rows now (Err BadChannel) j e t = ⊥
+      (role_for (sdp_setup sdp)) rows (role_after d.active (sdp_setup sdp)) now (remote_limit (max_message_size_of sdp))
+      starting.halves starting.drops j e t
+  MovesParts i d s following starting sdp rows now (Err (Dtls WouldBlock)) j e t = ⊥
+  MovesParts i d s following starting sdp rows now (Err (Dtls DtlsAlloc)) j e t = ⊥
+  MovesParts i d s following starting sdp rows now (Err (RemoteSdp why)) j e t = ⊥
+  MovesParts i d s following starting sdp rows now (Err (SdpRefused error)) j e t = ⊥
+  MovesParts i d s following starting sdp rows now (Err ChangesOutOfOrder) j e t = ⊥
+  MovesParts i d s following starting sdp rows now (Err (Net cause)) j e t = ⊥
+  MovesParts i d s following starting sdp rows now (Err (MediaFailed cause)) j e t = ⊥
+  MovesParts i d s following starting sdp rows now (Err BadChannel) j e t = ⊥

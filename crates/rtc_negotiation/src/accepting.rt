@@ -1,17 +1,17 @@
 //! Offers and answers of the other side.
-ghost use Rattle.std.specs.Prelude.{◌≡◌, ◌≤◌, length, is_some, IfOk, None, Some};
+ghost use Rattle.std.specs.Prelude.{◌≡◌, ◌≤◌, length, is_some, IfOk, None, Some, option_map, string_bytes};
 ghost use Rattle.std.specs.Option.{option_copied};
 ghost use Rattle.rtc_change.specs.Plans.{PlansSdp, asked_by};
 ghost use Rattle.rtc_tables.specs.Table.{IsTable};
 ghost use Rattle.rtc_peer_state.specs.Acceptances.{AcceptsOffer, AcceptsAnswer, phase_after, refused_phase};
 ghost use Rattle.rtc_peer_state.specs.Meanings.{meanings};
 ghost use Rattle.rtc_peer_state.specs.RtcErrors.{error_of_refusal};
-ghost use Rattle.rtc_peer_state.specs.Stance.{stance_of, held_by};
+ghost use Rattle.rtc_peer_state.specs.Stance.{stance_of, held_by, kept_init as KeptInit};
 
 use crate::confirming::confirm_channels;
 use crate::growing::{grow_answer, grow_offer};
 use crate::growth::Growth;
-use crate::moving::move_parts;
+use crate::moving::move_peer;
 use rtc_association::Association;
 use rtc_change::{Plan, Refusal, SdpPendingOffer, View, Why, count_added, plan_answer, plan_offer};
 use rtc_dtls::DtlsInstance;
@@ -19,7 +19,9 @@ use rtc_ice::IceAgent;
 use rtc_ids::Ids;
 use rtc_media::MediaSession;
 use rtc_peer_state::{Peer, Phase, RtcError, count_lines};
+use rtc_sctp::RtcSctp;
 use rtc_sdp_values::{IceCreds, Sdp};
+use std::alloc::AllocError;
 
 // A table has fewer rows than this.
 const MOST_LINES: usize = 4_294_967_295;
@@ -30,6 +32,26 @@ fn known_creds<I: IceAgent>(ice: &I) -> Option<&IceCreds>
 {
     match ice.remote_credentials() {
         Some(creds) => Some(creds),
+        None => None,
+    }
+}
+
+// The text of the other side's chunk, where the association was started by the chunks of both sides.
+fn kept_init<S: Association>(sctp: &RtcSctp<S>) -> Result<Option<String>, AllocError>
+    ensures { IfOk result (λ kept. option_map (λ text. string_bytes text) kept ≡ KeptInit sctp.now.snap) }
+{
+    match sctp.begun_snap_init_data() {
+        Some(halves) => halves.remote_init_string(),
+        None => Ok(None),
+    }
+}
+
+// A text, lent.
+fn lend_text(text: &Option<String>) -> Option<&str>
+    ensures { option_map (λ lent. lent.now) result ≡ option_map (λ owned. string_bytes owned) text.now }
+{
+    match text {
+        Some(text) => Some(text.as_str()),
         None => None,
     }
 }
@@ -45,11 +67,14 @@ fn judge_offer<I: IceAgent, D: DtlsInstance, S: Association, M: MediaSession, N:
     if peer.lines.rows().len() >= MOST_LINES || offer.lines.len() >= MOST_LINES {
         return Err(Refusal::Alloc);
     }
+    let kept = kept_init(&peer.sctp)?;
     let view = View {
         lines: &peer.lines,
         lite: peer.ice.ice_lite(),
         remote_creds: known_creds(&peer.ice),
         has_fingerprint: peer.fingerprint.is_some(),
+        sctp_inited: peer.sctp.is_inited(),
+        sctp_kept: lend_text(&kept),
     };
     plan_offer(peer.alloc, &view, offer)
 }
@@ -68,11 +93,14 @@ fn judge_answer<I: IceAgent, D: DtlsInstance, S: Association, M: MediaSession, N
     if answer.lines.len() >= MOST_LINES {
         return Err(Refusal::Alloc);
     }
+    let kept = kept_init(&peer.sctp)?;
     let view = View {
         lines: &peer.lines,
         lite: peer.ice.ice_lite(),
         remote_creds: known_creds(&peer.ice),
         has_fingerprint: peer.fingerprint.is_some(),
+        sctp_inited: peer.sctp.is_inited(),
+        sctp_kept: lend_text(&kept),
     };
     plan_answer(peer.alloc, &view, token, answer)
 }
@@ -88,6 +116,8 @@ fn close_unknown(phase: Phase, why: &Why) -> Phase
         | Why::BothLite
         | Why::NoCredentials
         | Why::UnaskedRestart { .. }
+        | Why::SctpInitChanged { .. }
+        | Why::SctpInitMissing { .. }
         | Why::MovedLine(_)
         | Why::PlaceTaken(_)
         | Why::AnswerRecycles(_)
@@ -140,18 +170,11 @@ pub fn accept_offer<I: IceAgent, D: DtlsInstance, S: Association, M: MediaSessio
     let Growth {
         answer,
         following,
+        starting,
         fingerprint,
     } = growth;
     let Some(answer) = answer else { unreachable!() };
-    match move_parts(
-        &mut peer.ice,
-        &mut peer.dtls,
-        &mut peer.sctp,
-        following,
-        &offer,
-        plan.rows.as_slice(),
-        peer.greatest,
-    ) {
+    match move_peer(peer, following, starting, &offer, plan.rows.as_slice()) {
         Ok(()) => {}
         Err(error) => return Err(error),
     }
@@ -176,22 +199,19 @@ pub fn accept_answer<I: IceAgent, D: DtlsInstance, S: Association, M: MediaSessi
         Ok(plan) => plan,
         Err(refusal) => return Err(refuse(peer, refusal)),
     };
+    let may = token.has_sctp_init();
     let changes = token.into_changes();
-    let growth = match grow_answer(peer, &changes, &answer, &plan) {
+    let growth = match grow_answer(peer, may, &changes, &answer, &plan) {
         Ok(growth) => growth,
         Err(_) => return Err(RtcError::Alloc),
     };
-    let following = growth.following;
-    let fingerprint = growth.fingerprint;
-    match move_parts(
-        &mut peer.ice,
-        &mut peer.dtls,
-        &mut peer.sctp,
+    let Growth {
+        answer: _,
         following,
-        &answer,
-        plan.rows.as_slice(),
-        peer.greatest,
-    ) {
+        starting,
+        fingerprint,
+    } = growth;
+    match move_peer(peer, following, starting, &answer, plan.rows.as_slice()) {
         Ok(()) => {}
         Err(error) => return Err(error),
     }

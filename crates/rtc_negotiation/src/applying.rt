@@ -1,13 +1,17 @@
 //! Staged changes that are applied.
-ghost use Rattle.std.specs.Prelude.{◌≡◌, ◌+◌, ◌<◌, ◌^◌, ◌-◌, not, IfOk, length};
+ghost use Rattle.std.specs.Prelude.{◌≡◌, ◌+◌, ◌<◌, ◌^◌, ◌-◌, not, IfOk, OnOk, OnErr, length};
 ghost use Rattle.rtc_change.specs.PendingOffer.{added_mids, do_offer};
-ghost use Rattle.rtc_peer_state.specs.Calls.{Applies, after_channels_alone, control_for};
+ghost use Rattle.rtc_peer_state.specs.Calls.{Applies, after_channels_alone, control_for, ids_after_offer};
+ghost use Rattle.rtc_peer_state.specs.SdpHalves.{tells_half as TellsHalf};
+ghost use Rattle.rtc_negotiation.specs.ToldHalves.{halves_told, init_of_told, snap_of_told};
 ghost use Rattle.rtc_peer_state.specs.MadeSdp.{offer_head, offer_sdp};
 ghost use Rattle.rtc_peer_state.specs.Meanings.{meanings};
 ghost use Rattle.rtc_peer_state.specs.Stance.{stance_of};
 
 use crate::confirming::confirm_channels;
 use crate::following::take_control;
+use crate::starting_sctp::has_app;
+use crate::telling_init::local_init;
 use rtc_association::Association;
 use rtc_change::{Change, SdpPendingOffer, find_restart};
 use rtc_describing::{make_head, make_sdp, tell_offered};
@@ -16,7 +20,10 @@ use rtc_ice::IceAgent;
 use rtc_ids::Ids;
 use rtc_media::MediaSession;
 use rtc_peer_state::{Peer, SdpHead, count_lines};
+use rtc_sctp::RtcSctp;
+use rtc_sctp_values::SctpInitData;
 use rtc_sdp_values::{Sdp, Setup};
+use rtc_wire::Text;
 use std::alloc::AllocError;
 
 // Whether changes make an offer.
@@ -46,8 +53,9 @@ fn apply_channels<I, D, S, M, N>(peer: &mut Peer<I, D, S, M, N>)
 // What the offer of a peer tells of it.
 fn make_offer_head<I: IceAgent, D: DtlsInstance, S: Association, M: MediaSession, N: Ids>(
     peer: &Peer<I, D, S, M, N>,
+    init: Option<Text>,
 ) -> Result<SdpHead, AllocError>
-    ensures { IfOk result (λ head. head ≡ offer_head (stance_of (meanings I.ice D.dtls S.association M.media N.ids) peer.now)) }
+    ensures { IfOk result (λ head. head ≡ offer_head (stance_of (meanings I.ice D.dtls S.association M.media N.ids) peer.now) init) }
 {
     make_head(
         peer.alloc,
@@ -57,14 +65,16 @@ fn make_offer_head<I: IceAgent, D: DtlsInstance, S: Association, M: MediaSession
         Setup::ActPass,
         find_restart(peer.staged.as_slice()),
         peer.sctp.local_max_message_size(),
+        init,
     )
 }
 
-// The offer of what is staged.
+// The offer of what is staged, with this text of a chunk for the start of the association.
 fn make_offer<I: IceAgent, D: DtlsInstance, S: Association, M: MediaSession, N: Ids>(
     peer: &Peer<I, D, S, M, N>,
+    init: Option<Text>,
 ) -> Result<Sdp, AllocError>
-    ensures { IfOk result (λ offer. offer ≡ offer_sdp (stance_of (meanings I.ice D.dtls S.association M.media N.ids) peer.now)) }
+    ensures { IfOk result (λ offer. offer ≡ offer_sdp (stance_of (meanings I.ice D.dtls S.association M.media N.ids) peer.now) init) }
 {
     count_lines(&peer.lines, peer.staged.count_added())?;
     let told = tell_offered(
@@ -74,7 +84,7 @@ fn make_offer<I: IceAgent, D: DtlsInstance, S: Association, M: MediaSession, N: 
         peer.lines.rows(),
         peer.staged.as_slice(),
     )?;
-    let head = make_offer_head(peer)?;
+    let head = make_offer_head(peer, init)?;
     make_sdp(peer.alloc, head, told)
 }
 
@@ -85,6 +95,60 @@ fn control_of_offer<I: IceAgent, D: DtlsInstance>(ice: &I, dtls: &Dtls<D>) -> Op
     match dtls.is_active() {
         None => Some(!ice.ice_lite()),
         Some(_) => None,
+    }
+}
+
+// Whether the offer of what is staged tells this side's half of a start by session descriptions.
+fn tells_half<I: IceAgent, D: DtlsInstance, S: Association, M: MediaSession, N: Ids>(
+    peer: &Peer<I, D, S, M, N>,
+) -> bool
+    ensures { result ≡ TellsHalf (stance_of (meanings I.ice D.dtls S.association M.media N.ids) peer.now) }
+{
+    if peer.sctp.is_inited() || !peer.sctp.snap_enabled() {
+        return false;
+    }
+    has_app(peer.lines.rows()) || peer.staged.contains_add_app()
+}
+
+// The halves that the offer of what is staged tells this side's half of, where it tells one. The half is drawn where it is not there.
+fn draw_half<I: IceAgent, D: DtlsInstance, S: Association, M: MediaSession, N: Ids>(
+    peer: &mut Peer<I, D, S, M, N>,
+) -> Result<Option<SctpInitData>, AllocError>
+    ensures halves { IfOk result (λ halves. halves
+        ≡ halves_told (meanings I.ice D.dtls S.association M.media N.ids) peer.old) }
+    ensures after { OnOk result (peer.new.ids ≡ ids_after_offer (meanings I.ice D.dtls S.association M.media N.ids) peer.old) }
+    ensures err { OnErr result (peer.new.ids ≡ peer.old.ids) }
+    ensures others { peer.new ≡ record peer.old { ids = peer.new.ids } }
+{
+    if !tells_half(peer) {
+        return Ok(None);
+    }
+    match peer.sctp.draw_snap_init_data(&mut peer.ids) {
+        Ok(halves) => Ok(Some(halves)),
+        Err(error) => Err(error),
+    }
+}
+
+// The text that the offer tells: that of this side's half, or once the association was started by the chunks of both sides, that of its
+// own.
+fn tell_offered_init<S: Association>(
+    sctp: &RtcSctp<S>,
+    told: &Option<SctpInitData>,
+) -> Result<Option<Text>, AllocError>
+    ensures { IfOk result (λ init. init ≡ init_of_told sctp.now.snap told.now) }
+{
+    match told {
+        Some(halves) => local_init(Some(halves)),
+        None => local_init(sctp.begun_snap_init_data()),
+    }
+}
+
+// Keeps the half that was told.
+fn keep_told<S: Association>(sctp: &mut RtcSctp<S>, told: Option<SctpInitData>)
+    ensures { sctp.new ≡ record sctp.old { snap = snap_of_told sctp.old.snap told } }
+{
+    if let Some(halves) = told {
+        sctp.keep_snap_init_data(halves);
     }
 }
 
@@ -100,11 +164,24 @@ pub fn apply_staged<I: IceAgent, D: DtlsInstance, S: Association, M: MediaSessio
         apply_channels(peer);
         return Ok(None);
     }
-    let offer = make_offer(peer)?;
+    let told = match draw_half(peer) {
+        Ok(told) => told,
+        Err(error) => return Err(error),
+    };
+    let init = match tell_offered_init(&peer.sctp, &told) {
+        Ok(init) => init,
+        Err(error) => return Err(error),
+    };
+    let offer = match make_offer(peer, init) {
+        Ok(offer) => offer,
+        Err(error) => return Err(error),
+    };
+    keep_told(&mut peer.sctp, told);
     let control = control_of_offer(&peer.ice, &peer.dtls);
     take_control(&mut peer.ice, control);
     let id = peer.counter;
     let changes = peer.staged.take(peer.alloc);
     peer.counter = id.wrapping_add(1);
-    Ok(Some((offer, SdpPendingOffer::new(id, changes))))
+    let says_init = offer.sctp_init().is_some();
+    Ok(Some((offer, SdpPendingOffer::new(id, changes, says_init))))
 }

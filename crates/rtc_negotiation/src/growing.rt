@@ -2,31 +2,36 @@
 ghost use Rattle.std.specs.Prelude.{◌≡◌, ◌≤◌, length, take, IfOk, OnOk, Some, None, true, false, [], option_map};
 ghost use Rattle.std.specs.Option.{option_or, option_copied};
 ghost use Rattle.rtc_sdp_values.specs.Sdp.{creds_of, candidates_of, sdp_fingerprint};
-ghost use Rattle.rtc_ids.specs.Draws.{Later};
 ghost use Rattle.rtc_change.specs.PendingOffer.{staged_restart};
 ghost use Rattle.rtc_change.specs.Plans.{is_restart};
 ghost use Rattle.rtc_change.specs.TableAfter.{table_after};
 ghost use Rattle.rtc_tables.specs.ParsedLines.{parsed_lines};
-ghost use Rattle.rtc_peer_state.specs.Acceptances.{updates_for, ids_after_updates};
 ghost use Rattle.rtc_peer_state.specs.Calls.{control_for as ControlFor};
 ghost use Rattle.rtc_peer_state.specs.Creds.{new_creds, after_new_creds};
 ghost use Rattle.rtc_peer_state.specs.MadeSdp.{answer_head, answer_sdp};
 ghost use Rattle.rtc_peer_state.specs.Meanings.{meanings};
+ghost use Rattle.rtc_peer_state.specs.SdpHalves.{answer_init};
 ghost use Rattle.rtc_peer_state.specs.Stance.{stance_of};
+ghost use Rattle.rtc_sctp.specs.Calls.{are_whole};
 ghost use Rattle.rtc_negotiation.specs.Growths.{following_of, GrowsOffer, GrowsAnswer};
 
 use crate::copying::{copy_restart, first_fingerprint, lend_restart, make_following};
+use crate::draws::{Drawn, draw_along};
 use crate::growth::Growth;
+use crate::starting::Starting;
+use crate::telling_init::tell_init;
 use rtc_association::Association;
-use rtc_change::{Change, Changes, Plan};
-use rtc_describing::{list_updates, make_head, make_sdp, role_after, setup_of_role, tell_rows};
+use rtc_change::{Changes, Plan};
+use rtc_describing::{make_head, make_sdp, role_after, setup_of_role, tell_rows};
 use rtc_drawing::make_creds;
 use rtc_dtls::{Dtls, DtlsInstance};
 use rtc_ice::IceAgent;
 use rtc_ids::Ids;
 use rtc_media::{MediaSession, MediaUpdate};
 use rtc_peer_state::{Peer, SdpHead};
+use rtc_sctp_values::SctpInitData;
 use rtc_sdp_values::{Fingerprint, IceCreds, LineRow, Sdp};
+use rtc_wire::Text;
 use std::alloc::{AllocError, Global};
 
 // The restart by which a restart of the other side is followed: with drawn credentials, and the candidates kept.
@@ -60,10 +65,11 @@ fn control_for<D: DtlsInstance>(dtls: &Dtls<D>, on: bool) -> Option<bool>
 fn make_answer_head<I: IceAgent, D: DtlsInstance, S: Association, M: MediaSession, N: Ids>(
     peer: &Peer<I, D, S, M, N>,
     restart: &Option<(IceCreds, bool)>,
+    init: Option<Text>,
     offer: &Sdp,
 ) -> Result<SdpHead, AllocError>
     ensures { IfOk result (λ head. head
-        ≡ answer_head (stance_of (meanings I.ice D.dtls S.association M.media N.ids) peer.now) restart.now offer.now) }
+        ≡ answer_head (stance_of (meanings I.ice D.dtls S.association M.media N.ids) peer.now) restart.now init offer.now) }
 {
     let active = role_after(peer.dtls.is_active(), offer.setup());
     make_head(
@@ -74,6 +80,7 @@ fn make_answer_head<I: IceAgent, D: DtlsInstance, S: Association, M: MediaSessio
         setup_of_role(active),
         lend_restart(restart),
         peer.sctp.local_max_message_size(),
+        init,
     )
 }
 
@@ -85,48 +92,15 @@ fn make_answer<I: IceAgent, D: DtlsInstance, S: Association, M: MediaSession, N:
     offer: &Sdp,
     rows: &[LineRow],
     updates: &[MediaUpdate],
+    init: Option<Text>,
 ) -> Result<Sdp, AllocError>
     requires { rows.now ≡ table_after peer.now.lines (parsed_lines offer.now) true }
     ensures { IfOk result (λ answer. answer
-        ≡ answer_sdp (stance_of (meanings I.ice D.dtls S.association M.media N.ids) peer.now) restart.now updates.now offer.now) }
+        ≡ answer_sdp (stance_of (meanings I.ice D.dtls S.association M.media N.ids) peer.now) restart.now updates.now init offer.now) }
 {
-    let head = make_answer_head(peer, restart, offer)?;
+    let head = make_answer_head(peer, restart, init, offer)?;
     let told = tell_rows(peer.alloc, &peer.media, updates, rows)?;
     make_sdp(peer.alloc, head, told)
-}
-
-// What the media part is told, by the rows that the lines leave. Numbers are drawn for sources.
-fn list_line_updates<I: IceAgent, D: DtlsInstance, S: Association, M: MediaSession, N: Ids>(
-    peer: &mut Peer<I, D, S, M, N>,
-    offer: bool,
-    changes: &[Change],
-    sdp: &Sdp,
-    rows: &[LineRow],
-) -> Result<Vec<MediaUpdate>, AllocError>
-    requires rows { rows.now ≡ table_after peer.old.lines (parsed_lines sdp.now) offer }
-    requires count { length sdp.now.lines ≤ length rows.now }
-    ensures updates { IfOk result (λ updates. updates.items
-        ≡ updates_for (meanings I.ice D.dtls S.association M.media N.ids) peer.old offer changes.now sdp.now peer.old.ids) }
-    ensures after { OnOk result (peer.new.ids
-        ≡ ids_after_updates (meanings I.ice D.dtls S.association M.media N.ids) peer.old offer changes.now sdp.now peer.old.ids) }
-    ensures later { Later N.ids peer.old.ids peer.new.ids }
-    ensures most { Later N.ids peer.new.ids
-        (ids_after_updates (meanings I.ice D.dtls S.association M.media N.ids) peer.old offer changes.now sdp.now peer.old.ids) }
-    ensures others { peer.new ≡ record peer.old { ids = peer.new.ids } }
-    ensures lines { peer.new.lines ≡ peer.old.lines }
-{
-    let updates = list_updates(
-        peer.alloc,
-        &mut peer.ids,
-        &peer.media,
-        &peer.formats,
-        changes,
-        offer,
-        peer.lines.rows(),
-        &rows[..sdp.lines.len()],
-        sdp.lines.as_slice(),
-    )?;
-    Ok(updates)
 }
 
 // Makes the updates ready.
@@ -146,26 +120,35 @@ fn grow_followed<I: IceAgent, D: DtlsInstance, S: Association, M: MediaSession, 
     rows: &[LineRow],
     restart: Option<(IceCreds, bool)>,
     updates: &[MediaUpdate],
+    halves: Option<SctpInitData>,
 ) -> Result<Growth, AllocError>
     requires { rows.now ≡ table_after peer.now.lines (parsed_lines offer.now) true }
     ensures { IfOk result (λ growth. growth ≡ record {
-      answer = Some (answer_sdp (stance_of (meanings I.ice D.dtls S.association M.media N.ids) peer.now) restart updates.now offer.now);
+      answer = Some (answer_sdp (stance_of (meanings I.ice D.dtls S.association M.media N.ids) peer.now) restart updates.now
+          (answer_init (S.association.started peer.now.sctp.association) peer.now.sctp.snap halves) offer.now);
       following = following_of restart offer.now (ControlFor peer.now.dtls.active offer.now.ice_lite);
+      starting = record { halves = halves; drops = false };
       fingerprint = option_or peer.now.fingerprint (sdp_fingerprint offer.now);
     }) }
 {
-    let answer = make_answer(peer, &restart, offer, rows, updates)?;
+    let init = tell_init(&peer.sctp, &halves)?;
+    let answer = make_answer(peer, &restart, offer, rows, updates, init)?;
     let control = control_for(&peer.dtls, offer.ice_lite);
     let following = make_following(restart, offer, control)?;
     let fingerprint = first_fingerprint(&peer.fingerprint, offer)?;
     Ok(Growth {
         answer: Some(answer),
         following,
+        starting: Starting {
+            halves,
+            drops: false,
+        },
         fingerprint,
     })
 }
 
-/// Makes ready what the acceptance of an offer needs: credentials are drawn before sources, and the answer tells of both.
+/// Makes ready what the acceptance of an offer needs: credentials are drawn before sources and these before this side's half of a start
+/// by session descriptions, and the answer tells of all.
 pub fn grow_offer<I: IceAgent, D: DtlsInstance, S: Association, M: MediaSession, N: Ids>(
     peer: &mut Peer<I, D, S, M, N>,
     offer: &Sdp,
@@ -174,22 +157,25 @@ pub fn grow_offer<I: IceAgent, D: DtlsInstance, S: Association, M: MediaSession,
     requires rows { plan.now.rows ≡ table_after peer.old.lines (parsed_lines offer.now) true }
     requires restart { plan.now.restart ≡ is_restart (I.ice.settings peer.old.ice).remote (creds_of offer.now) }
     requires count { length offer.now.lines ≤ length plan.now.rows }
-    ensures { GrowsOffer (meanings I.ice D.dtls S.association M.media N.ids) peer.old offer.now result peer.new }
+    ensures grows { GrowsOffer (meanings I.ice D.dtls S.association M.media N.ids) peer.old offer.now result peer.new }
+    ensures whole { IfOk result (λ growth. are_whole growth.starting.halves ≡ true) }
 {
     let restart = match draw_restart(peer.alloc, &mut peer.ids, plan.restart) {
         Ok(restart) => restart,
         Err(error) => return Err(error),
     };
-    let updates = match list_line_updates(peer, true, &[], offer, plan.rows.as_slice()) {
-        Ok(updates) => updates,
+    let drawn = match draw_along(peer, true, true, &[], offer, plan.rows.as_slice()) {
+        Ok(drawn) => drawn,
         Err(error) => return Err(error),
     };
+    let Drawn { updates, halves } = drawn;
     let growth = match grow_followed(
         peer,
         offer,
         plan.rows.as_slice(),
         restart,
         updates.as_slice(),
+        halves,
     ) {
         Ok(growth) => growth,
         Err(error) => return Err(error),
@@ -205,10 +191,12 @@ fn grow_answered(
     changes: &Changes,
     answer: &Sdp,
     known: &Option<Fingerprint>,
+    halves: Option<SctpInitData>,
 ) -> Result<Growth, AllocError>
     ensures { IfOk result (λ growth. growth ≡ record {
       answer = None;
       following = following_of (staged_restart changes.now.0) answer.now None;
+      starting = record { halves = halves; drops = true };
       fingerprint = option_or known.now (sdp_fingerprint answer.now);
     }) }
 {
@@ -218,6 +206,10 @@ fn grow_answered(
     Ok(Growth {
         answer: None,
         following,
+        starting: Starting {
+            halves,
+            drops: true,
+        },
         fingerprint,
     })
 }
@@ -225,26 +217,30 @@ fn grow_answered(
 /// Makes ready what the acceptance of an answer needs.
 pub fn grow_answer<I: IceAgent, D: DtlsInstance, S: Association, M: MediaSession, N: Ids>(
     peer: &mut Peer<I, D, S, M, N>,
+    may: bool,
     changes: &Changes,
     answer: &Sdp,
     plan: &Plan,
 ) -> Result<Growth, AllocError>
     requires rows { plan.now.rows ≡ table_after peer.old.lines (parsed_lines answer.now) false }
     requires count { length answer.now.lines ≤ length plan.now.rows }
-    ensures { GrowsAnswer (meanings I.ice D.dtls S.association M.media N.ids) peer.old changes.now.0 answer.now result peer.new }
+    ensures grows { GrowsAnswer (meanings I.ice D.dtls S.association M.media N.ids) peer.old may changes.now.0 answer.now result peer.new }
+    ensures whole { IfOk result (λ growth. are_whole growth.starting.halves ≡ true) }
 {
-    let growth = match grow_answered(changes, answer, &peer.fingerprint) {
-        Ok(growth) => growth,
-        Err(error) => return Err(error),
-    };
-    let updates = match list_line_updates(
+    let drawn = match draw_along(
         peer,
         false,
+        may,
         changes.0.as_slice(),
         answer,
         plan.rows.as_slice(),
     ) {
-        Ok(updates) => updates,
+        Ok(drawn) => drawn,
+        Err(error) => return Err(error),
+    };
+    let Drawn { updates, halves } = drawn;
+    let growth = match grow_answered(changes, answer, &peer.fingerprint, halves) {
+        Ok(growth) => growth,
         Err(error) => return Err(error),
     };
     match prepare_media(&mut peer.media, updates.as_slice()) {

@@ -1,5 +1,6 @@
 //! What is made ready before parts are touched.
 use crate::following::Following;
+use crate::starting::Starting;
 use rtc_sdp_values::{Fingerprint, Sdp};
 
 /// What an acceptance makes ready before the ICE agent and the DTLS part are touched: all that takes memory.
@@ -8,6 +9,7 @@ pub struct Growth {
     /// The answer to an offer.
     pub answer: Option<Sdp>,
     pub following: Following,
+    pub starting: Starting,
     /// The fingerprint that was told first.
     pub fingerprint: Option<Fingerprint>,
 }

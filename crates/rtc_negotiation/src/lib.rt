@@ -5,11 +5,14 @@ mod accepting;
 mod applying;
 mod confirming;
 mod copying;
+mod draws;
 mod following;
 mod growing;
 mod growth;
 mod moving;
+mod starting;
 mod starting_sctp;
+mod telling_init;
 
 pub use accepting::{accept_answer, accept_offer};
 pub use applying::apply_staged;

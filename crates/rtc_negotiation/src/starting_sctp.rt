@@ -3,8 +3,9 @@ ghost use Rattle.std.specs.Prelude.{◌≡◌, is_some};
 ghost use Rattle.rtc_sdp_values.specs.Sdp.{max_message_size_of};
 ghost use Rattle.rtc_tables.specs.Table.{app_of};
 ghost use Rattle.rtc_sctp.specs.Calls.{limit_or_default};
-ghost use Rattle.rtc_peer_state.specs.PartMoves.{StartsSctp, remote_limit, needs_start as NeedsStart};
+ghost use Rattle.rtc_peer_state.specs.PartMoves.{StartsSctp, remote_limit, dropped_halves, needs_start as NeedsStart};
 
+use crate::starting::Starting;
 use rtc_association::Association;
 use rtc_sctp::{RtcSctp, SctpError};
 use rtc_sdp_values::{LineRow, Sdp};
@@ -26,8 +27,8 @@ fn told_limit(size: Option<u64>) -> Option<u32>
     }
 }
 
-// Whether a row is that of the data channels.
-fn has_app(rows: &[LineRow]) -> bool
+/// Whether a row is that of the data channels.
+pub fn has_app(rows: &[LineRow]) -> bool
     ensures { result ≡ is_some (app_of rows.now) }
 {
     match find_app(rows) {
@@ -43,6 +44,15 @@ fn needs_start<S: Association>(sctp: &RtcSctp<S>, rows: &[LineRow]) -> bool
     has_app(rows) && !sctp.is_inited()
 }
 
+// Lets go what is pending for a start by session descriptions, or keeps it.
+fn drop_pending<S: Association>(sctp: &mut RtcSctp<S>, drops: bool)
+    ensures { sctp.new ≡ record sctp.old { snap = dropped_halves drops sctp.old.snap } }
+{
+    if drops {
+        sctp.disable_pending_snap();
+    }
+}
+
 /// Starts the association, where these rows are the first with a line for data channels.
 pub fn start_sctp<S: Association>(
     sctp: &mut RtcSctp<S>,
@@ -50,14 +60,17 @@ pub fn start_sctp<S: Association>(
     client: bool,
     now: Moment,
     sdp: &Sdp,
+    starting: Starting,
 ) -> Result<(), SctpError>
-    ensures { StartsSctp S.association sctp.old rows.now client now (remote_limit (max_message_size_of sdp.now)) result sctp.new }
+    ensures { StartsSctp S.association sctp.old rows.now client now (remote_limit (max_message_size_of sdp.now)) starting.halves
+        starting.drops result sctp.new }
 {
     if !needs_start(sctp, rows) {
+        drop_pending(sctp, starting.drops);
         return Ok(());
     }
     let limit = told_limit(sdp.max_message_size());
-    match sctp.init(client, now, None, limit) {
+    match sctp.init(client, now, starting.halves, limit) {
         Ok(()) => Ok(()),
         Err(error) => Err(error),
     }

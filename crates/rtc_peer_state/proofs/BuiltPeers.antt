@@ -70,7 +70,7 @@ byte_at_small : (k n : ℕ) → byte_at k n < 256
 byte_at_small zero n = omega arith
 byte_at_small (suc k) n = omega arith
 
-high_first_small : (k n : ℕ) → AllByRecursion (λ byte. byte < 256) (bytes_high_first k n)
+pub high_first_small : (k n : ℕ) → AllByRecursion (λ byte. byte < 256) (bytes_high_first k n)
 high_first_small zero n = tt
 high_first_small (suc k) n = (byte_at_small k n, high_first_small k n)
 

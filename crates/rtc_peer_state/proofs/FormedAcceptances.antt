@@ -10,6 +10,7 @@ use Rattle.rtc_change.specs.declared.change.Change.{Change}
 use Rattle.rtc_change.specs.declared.refusal.Refusal.{Refusal}
 use Rattle.rtc_change.specs.declared.refusal.Refusal.TheVariants.{RemoteSdp as RefusedSdp, Sdp as RefusedText}
 use Rattle.rtc_change.specs.Held.{Asked}
+use Rattle.rtc_sctp_values.specs.InitHalves.{InitHalves}
 use Rattle.rtc_channels.specs.Channels.{all_confirmed}
 use Rattle.rtc_change.specs.PendingOffer.{PendingOffer, staged_restart}
 use Rattle.rtc_tables.specs.ParsedLines.{parsed_lines}
@@ -34,10 +35,11 @@ told_formed : (s : Stance) (changes : List Change) (sdp : Sdp) (told : List Medi
 told_formed s changes sdp told t tells staged names taken formed = λ mid.
     rw (tells.lines mid) (line_after_formed told mid (s.line mid) (tells.formed formed staged names taken) (formed.media mid))
 
-followed_formed : (s : Stance) (restart : Option (IceCreds × Bool)) (sdp : Sdp) (offer : Bool) (line : List ℕ → Option MediaUpdate)
+followed_formed : (s : Stance) (restart : Option (IceCreds × Bool)) (sdp : Sdp) (offer : Bool) (halves : Option InitHalves)
+    (line : List ℕ → Option MediaUpdate)
     → IfSome restart (λ r. AreSdpCreds r.0) → NameTokens (parsed_lines sdp) → ((mid : List ℕ) → IfSome (line mid) IsFormedUpdate) → IsFormed s
-    → IsFormed (record (followed_by s restart sdp offer) { line = line })
-followed_formed s restart sdp offer line tokens names media formed = record {
+    → IsFormed (record (followed_by s restart sdp offer halves) { line = line })
+followed_formed s restart sdp offer halves line tokens names media formed = record {
   session = formed.session;
   creds = creds_in_use_words restart s.ice tokens formed.creds;
   candidates = candidates_in_use_hosts restart s.ice formed.candidates;
@@ -83,8 +85,8 @@ pub offered_formed : (s : Stance) (offer : Sdp) (result : Result Sdp RtcError) (
     → NameTokens (parsed_lines offer) → AllByRecursion IsTakenLine offer.lines → IsFormed s → IsFormed t
 offered_formed s offer (Ok answer) t accepts names taken formed =
     let media = told_formed s [] offer accepts.told t accepts.tells tt names taken formed in
-    rw accepts.rest (counted_formed (record (followed_by s accepts.restart offer true) { line = t.line }) (raised s.counter) s.channels s.rows
-    (followed_formed s accepts.restart offer true t.line accepts.followed.tokens names media formed))
+    rw accepts.rest (counted_formed (record (followed_by s accepts.restart offer true accepts.halves) { line = t.line }) (raised s.counter)
+    s.channels s.rows (followed_formed s accepts.restart offer true accepts.halves t.line accepts.followed.tokens names media formed))
 offered_formed s offer (Err (RemoteSdp why)) t accepts names taken formed = refused_formed s None offer (RefusedSdp why) t accepts formed
 offered_formed s offer (Err (SdpRefused error)) t accepts names taken formed = refused_formed s None offer (RefusedText error) t accepts formed
 offered_formed s offer (Err (Dtls Fault)) t accepts names taken formed =
@@ -106,9 +108,11 @@ pub answered_formed : (s : Stance) (token : PendingOffer) (answer : Sdp) (result
     → AllByRecursion IsTakenLine answer.lines → IsFormed s → IsFormed t
 answered_formed s token answer (Ok done) t accepts changes names taken formed =
     let media = told_formed s token.changes answer accepts.told t accepts.tells changes names taken formed in
-    rw accepts.rest (counted_formed (record (followed_by s (staged_restart token.changes) answer false) { line = t.line }) s.counter
+    rw accepts.rest (counted_formed (record (followed_by s (staged_restart token.changes) answer false accepts.halves) { line = t.line })
+    s.counter
     (all_confirmed (fitting_channels token.changes) s.channels) s.rows
-    (followed_formed s (staged_restart token.changes) answer false t.line (restart_words token.changes changes) names media formed))
+    (followed_formed s (staged_restart token.changes) answer false accepts.halves t.line (restart_words token.changes changes) names media
+    formed))
 answered_formed s token answer (Err (Net cause)) t accepts changes names taken formed = absurd accepts
 answered_formed s token answer (Err (MediaFailed cause)) t accepts changes names taken formed = absurd accepts
 answered_formed s token answer (Err BadChannel) t accepts changes names taken formed = absurd accepts

@@ -9,6 +9,7 @@ use Rattle.rtc_sdp_values.specs.declared.ice_creds.IceCreds.{IceCreds}
 use Rattle.rtc_sdp_values.specs.declared.line_row.LineRow.{LineRow}
 use Rattle.rtc_sdp_values.specs.declared.sdp.Sdp.{Sdp}
 use Rattle.rtc_change.specs.declared.change.Change.{Change}
+use Rattle.rtc_sctp_values.specs.SnapHalves.{KeptHalves}
 use Rattle.rtc_channels.specs.Channels.{Channels, with_channel, all_confirmed}
 use Rattle.rtc_channels.specs.declared.channel_row.ChannelRow.{ChannelRow}
 use Rattle.rtc_change.specs.declared.change.Change.TheVariants.{AddMedia, AddApp, AddChannel, Direction as SetDirection, IceRestart}
@@ -22,6 +23,7 @@ use Rattle.rtc_peer_state.specs.Calls.{Wanted, raised, fitting_channels}
 use Rattle.rtc_peer_state.specs.Formed.{HaveTokens, AddTokens, AreFormedChanges, IsFormedChange, IsFormedSimulcast, IsFormed}
 use Rattle.rtc_peer_state.specs.LineUpdates.{media_of_change}
 use Rattle.rtc_peer_state.specs.Staging.{lacks_app, is_kept_by_restart}
+use Rattle.rtc_peer_state.specs.SdpHalves.{offered_snap}
 use Rattle.rtc_peer_state.specs.Stance.{Stance}
 use Rattle.rtc_peer_state.proofs.Alls.{all-append}
 use Rattle.rtc_peer_state.proofs.StanceCalls.{StanceAddsMedia, StanceChangesLine, StanceAddsChannel, StanceStagesRestart, StanceApplies, IsAppFor, stance_alone}
@@ -29,8 +31,8 @@ use Rattle.rtc_peer_state.proofs.StanceCalls.{StanceAddsMedia, StanceChangesLine
 -- ---- staged changes
 
 -- what was staged is dropped
-pub lent_formed : (s : Stance) → IsFormed s → IsFormed (record s { staged = [] })
-lent_formed s formed = record {
+pub lent_formed : (s : Stance) (snap : KeptHalves) → IsFormed s → IsFormed (record s { staged = []; snap = snap })
+lent_formed s snap formed = record {
   session = formed.session;
   creds = formed.creds;
   candidates = formed.candidates;
@@ -190,16 +192,17 @@ alone_formed : (s : Stance) (changes : List Change) → IsFormed s → IsFormed 
 alone_formed s [] formed = formed
 alone_formed s (change ∷ changes) formed =
     counted_formed (record s { staged = [] }) (raised s.counter) (all_confirmed (fitting_channels (change ∷ changes)) s.channels)
-    s.rows (lent_formed s formed)
+    s.rows (lent_formed s s.snap formed)
 
 pub applies_formed : (s : Stance) (result : Result (Option (Sdp × PendingOffer)) AllocError) (t : Stance) → StanceApplies s result t
     → IsFormed s → IsFormed t
 applies_formed s (Ok None) t applies formed = rw applies.1 (alone_formed s s.staged formed)
 applies_formed s (Ok (Some made)) t applies formed =
-    rw applies.3 (counted_formed (record s { staged = [] }) (raised s.counter) s.channels s.rows (lent_formed s formed))
+    let snap : KeptHalves = offered_snap s applies.half in
+    rw applies.rest (counted_formed (record s { staged = []; snap = snap }) (raised s.counter) s.channels s.rows (lent_formed s snap formed))
 applies_formed s (Err error) t applies formed = rw applies formed
 
 -- the changes of an offer are formed
 pub made_changes : (s : Stance) (made : Sdp × PendingOffer) (t : Stance) → StanceApplies s (Ok (Some made)) t → IsFormed s
     → AreFormedChanges made.1.changes
-made_changes s made t applies formed = rw applies.2 formed.changes
+made_changes s made t applies formed = rw applies.token formed.changes

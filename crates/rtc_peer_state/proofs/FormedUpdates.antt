@@ -82,7 +82,7 @@ sending_formed (Some update) added mid held staged token = record {
   ssrcs = held.carried.ssrcs;
 }
 sending_formed None (Some media) mid held staged token = record {
-  simulcast = staged.simulcast;
+  simulcast = tt;
   msid = staged.msid;
   has_msid = refl;
   cname = staged.cname;

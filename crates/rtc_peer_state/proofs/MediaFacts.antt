@@ -18,8 +18,9 @@ use Rattle.rtc_codecs.specs.Codec.{table_row, full_row}
 use Rattle.rtc_codecs.specs.declared.codec.Codec.TheVariants.{Vp8, H264, Vp9}
 use Rattle.rtc_ids.specs.Draws.{Draws}
 use Rattle.rtc_media.specs.declared.media_update.MediaUpdate.{MediaUpdate}
+use Rattle.rtc_change.specs.declared.add_media.AddMedia.{AddMedia as AddedMedia}
 use Rattle.rtc_peer_state.specs.declared.formats.Formats.{Formats}
-use Rattle.rtc_peer_state.specs.LineUpdates.{bare_sending, layered, row_update}
+use Rattle.rtc_peer_state.specs.LineUpdates.{bare_sending, sending_of, layered, row_update}
 use Rattle.rtc_peer_state.specs.MadeSdp.{bare_row_line, media_of_update}
 use Rattle.rtc_peer_state.specs.Sources.{next_pair, after_pair, next_pairs, pair_numbers, pair_count}
 
@@ -95,6 +96,50 @@ stopped_cname = refl
 stopped_sources : (answered_line true).ssrcs ≡ []
 unfolding answered_line told own_formats offered_line layer video_row
 stopped_sources = refl
+
+-- ---- the layers of a line are the first ones that the other side tells
+-- an answer that receives these layers
+receiving : List SimulcastLayer → MediaLine
+receiving layers = record (bare_line VideoLine (codes "0") SendRecv) { simulcast = Some (record { send = []; recv = layers }) }
+
+-- an answer without layers
+without_layers : MediaLine
+without_layers = bare_line VideoLine (codes "0") SendRecv
+
+-- a line that was staged with two layers to send
+staged_line : AddedMedia
+staged_line = record {
+  mid = codes "0";
+  cname = codes "t";
+  msid = record { stream_id = codes "s"; track_id = codes "t" };
+  kind = Video;
+  dir = SendRecv;
+  ssrcs = (record { 0 = 7 }, None) ∷ (record { 0 = 8 }, None) ∷ [];
+  simulcast = Some (record { send = layer (codes "h") ∷ layer (codes "l") ∷ []; recv = [] });
+}
+
+-- where the answer takes one of them, the line has this one
+narrowed_layers : (layered (receiving (layer (codes "l") ∷ [])) (sending_of None (Some staged_line) (codes "0"))).simulcast
+    ≡ Some (record { send = layer (codes "l") ∷ []; recv = [] })
+unfolding receiving staged_line layer
+narrowed_layers = refl
+
+-- where it takes none, the line has no layers
+refused_layers : (layered without_layers (sending_of None (Some staged_line) (codes "0"))).simulcast ≡ None
+unfolding without_layers staged_line layer
+refused_layers = refl
+
+-- its sources stay
+kept_sources : (layered (receiving (layer (codes "l") ∷ [])) (sending_of None (Some staged_line) (codes "0"))).ssrcs
+    ≡ (record { 0 = 7 }, None) ∷ (record { 0 = 8 }, None) ∷ []
+unfolding receiving staged_line layer
+kept_sources = refl
+
+-- a later description with other layers changes none
+later_layers : (layered (receiving (layer (codes "l") ∷ [])) (sending_of (Some (told false)) None (codes "0"))).simulcast
+    ≡ (told false).simulcast
+unfolding receiving told own_formats offered_line layer video_row
+later_layers = refl
 
 -- ---- a line with layers has a source for each that is sent, and where it is one of video, each with one of retransmissions
 module _ {N : Type 0} (draws : Draws N) (used : ℕ → Bool) where

@@ -12,6 +12,7 @@ use Rattle.rtc_dtls.specs.declared.dtls_error.DtlsError.TheVariants.{Alloc as Dt
 use Rattle.rtc_dtls.specs.DtlsMeaning.{DtlsMeaning}
 use Rattle.rtc_dtls.specs.DtlsState.{DtlsState}
 use Rattle.rtc_association.specs.AssociationMeaning.{AssociationMeaning}
+use Rattle.rtc_sctp_values.specs.InitHalves.{InitHalves}
 use Rattle.rtc_sctp.specs.Streams.{SctpStreams}
 use Rattle.rtc_sctp_values.specs.declared.sctp_error.SctpError.{SctpError}
 use Rattle.rtc_sctp_values.specs.declared.sctp_error.SctpError.TheVariants.{Alloc as SctpAlloc}
@@ -166,35 +167,35 @@ start_keeps_local dtls p q (Some role) active now r h = ap (λ d. d.local) h.1
 module _ {I D S : Type 0} (ice : IceMeaning I) (dtls : DtlsMeaning D) (association : AssociationMeaning S) where
   pub left_stopped : IceLaws ice → (i j : I) (d e : DtlsState D) (s t : SctpStreams S) (restart : Option (IceCreds × Bool))
       (creds : Option IceCreds) (candidates : List Candidate) (control : Option Bool) (active : Bool) (rows : List LineRow)
-      (client : Bool) (now max : ℕ)
-      → StopsMoving ice dtls association i d s restart creds candidates control active rows client now max j e t
+      (client : Bool) (now max : ℕ) (halves : Option InitHalves) (drops : Bool)
+      → StopsMoving ice dtls association i d s restart creds candidates control active rows client now max halves drops j e t
       → AreLeft (ice.settings i) restart (ice.settings j)
-  left_stopped laws i j d e s t restart creds candidates control active rows client now max (AtAgent stops same unstarted) =
+  left_stopped laws i j d e s t restart creds candidates control active rows client now max halves drops (AtAgent stops same unstarted) =
       stopped_settings ice laws i j restart creds candidates stops
-  left_stopped laws i j d e s t restart creds candidates control active rows client now max (AtRole follows lacks unstarted) =
+  left_stopped laws i j d e s t restart creds candidates control active rows client now max halves drops (AtRole follows lacks unstarted) =
       left_after ice laws i j restart creds candidates control follows
-  left_stopped laws i j d e s t restart creds candidates control active rows client now max (AtStart follows starts lacks) =
+  left_stopped laws i j d e s t restart creds candidates control active rows client now max halves drops (AtStart follows starts lacks) =
       left_after ice laws i j restart creds candidates control follows
 
   -- the DTLS part stays, or was started with one answer or another
   pub dtls_stopped : (i j : I) (d e : DtlsState D) (s t : SctpStreams S) (restart : Option (IceCreds × Bool))
       (creds : Option IceCreds) (candidates : List Candidate) (control : Option Bool) (active : Bool) (rows : List LineRow)
-      (client : Bool) (now max : ℕ)
-      → StopsMoving ice dtls association i d s restart creds candidates control active rows client now max j e t
+      (client : Bool) (now max : ℕ) (halves : Option InitHalves) (drops : Bool)
+      → StopsMoving ice dtls association i d s restart creds candidates control active rows client now max halves drops j e t
       → (e ≡ d) ⊎ ((r : Result (Unit {0}) DtlsError) × StartsDtls dtls d d.active active now r e)
-  dtls_stopped i j d e s t restart creds candidates control active rows client now max (AtAgent stops same unstarted) = inl same
-  dtls_stopped i j d e s t restart creds candidates control active rows client now max (AtRole follows lacks unstarted) =
+  dtls_stopped i j d e s t restart creds candidates control active rows client now max halves drops (AtAgent stops same unstarted) = inl same
+  dtls_stopped i j d e s t restart creds candidates control active rows client now max halves drops (AtRole follows lacks unstarted) =
       inr (Err DtlsAlloc, lacks)
-  dtls_stopped i j d e s t restart creds candidates control active rows client now max (AtStart follows starts lacks) =
+  dtls_stopped i j d e s t restart creds candidates control active rows client now max halves drops (AtStart follows starts lacks) =
       inr (Ok tt, starts)
 
-  -- the association stays, or was started with one answer or another
+  -- the association stays, or its start was refused
   pub sctp_stopped : (i j : I) (d e : DtlsState D) (s t : SctpStreams S) (restart : Option (IceCreds × Bool))
       (creds : Option IceCreds) (candidates : List Candidate) (control : Option Bool) (active : Bool) (rows : List LineRow)
-      (client : Bool) (now max : ℕ)
-      → StopsMoving ice dtls association i d s restart creds candidates control active rows client now max j e t
-      → (t ≡ s) ⊎ ((r : Result (Unit {0}) SctpError) × StartsSctp association s rows client now max r t)
-  sctp_stopped i j d e s t restart creds candidates control active rows client now max (AtAgent stops same unstarted) = inl unstarted
-  sctp_stopped i j d e s t restart creds candidates control active rows client now max (AtRole follows lacks unstarted) = inl unstarted
-  sctp_stopped i j d e s t restart creds candidates control active rows client now max (AtStart follows starts lacks) =
-      inr (Err SctpAlloc, lacks)
+      (client : Bool) (now max : ℕ) (halves : Option InitHalves) (drops : Bool)
+      → StopsMoving ice dtls association i d s restart creds candidates control active rows client now max halves drops j e t
+      → (t ≡ s) ⊎ ((error : SctpError) × StartsSctp association s rows client now max halves drops (Err error) t)
+  sctp_stopped i j d e s t restart creds candidates control active rows client now max halves drops (AtAgent stops same unstarted) = inl unstarted
+  sctp_stopped i j d e s t restart creds candidates control active rows client now max halves drops (AtRole follows lacks unstarted) = inl unstarted
+  sctp_stopped i j d e s t restart creds candidates control active rows client now max halves drops (AtStart follows starts lacks) =
+      inr (SctpAlloc, lacks)

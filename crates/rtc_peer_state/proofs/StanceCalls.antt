@@ -11,6 +11,9 @@ use Rattle.std.specs.Prelude.{
   [],
   ◌∷◌,
   ◌++◌,
+  ◌&&◌,
+  ◌||◌,
+  not,
   is_some,
   Option,
   Some,
@@ -25,17 +28,21 @@ use Rattle.std.specs.List.{AllByRecursion}
 use Rattle.std.specs.declared.alloc.AllocError.{AllocError}
 use Rattle.rtc_wire.specs.declared.channel_config.ChannelConfig.{ChannelConfig}
 use Rattle.rtc_fields.specs.Tokens.{is_short_token}
-use Rattle.rtc_sdp_values.specs.Sdp.{creds_of, sdp_fingerprint, sdp_setup}
+use Rattle.rtc_sdp_values.specs.Sdp.{creds_of, sdp_fingerprint, sdp_setup, sdp_sctp_init}
+use Rattle.rtc_sdp_values.specs.declared.line_row.LineRow.{LineRow}
 use Rattle.rtc_sdp_values.specs.declared.direction.Direction.{Direction}
 use Rattle.rtc_sdp_values.specs.declared.direction.Direction.TheVariants.{Inactive}
 use Rattle.rtc_sdp_values.specs.declared.ice_creds.IceCreds.{IceCreds}
 use Rattle.rtc_sdp_values.specs.declared.sdp.Sdp.{Sdp}
+use Rattle.rtc_sctp_values.specs.InitChunk.{chunk_text, chunk_of_text}
 use Rattle.rtc_channels.specs.Channels.{is_bad_channel, with_channel, all_confirmed}
 use Rattle.rtc_dtls.specs.declared.dtls_error.DtlsError.TheVariants.{WouldBlock, Fault, Alloc as DtlsAlloc}
 use Rattle.rtc_media.specs.declared.media_update.MediaUpdate.{MediaUpdate}
 use Rattle.rtc_media.specs.MediaUpdates.{line_after}
 use Rattle.rtc_sctp_values.specs.declared.proto_error.ProtoError.TheVariants.{Fault as AssociationFault}
 use Rattle.rtc_sctp_values.specs.declared.sctp_error.SctpError.TheVariants.{Proto}
+use Rattle.rtc_sctp_values.specs.InitHalves.{InitHalves}
+use Rattle.rtc_sctp_values.specs.SnapHalves.{KeptHalves, begun_halves}
 use Rattle.rtc_change.specs.declared.add_media.AddMedia.{AddMedia as Media}
 use Rattle.rtc_change.specs.declared.change.Change.{Change}
 use Rattle.rtc_change.specs.declared.change.Change.TheVariants.{AddMedia, AddApp, AddChannel, Direction as SetDirection}
@@ -46,7 +53,7 @@ use Rattle.rtc_tables.specs.ParsedLines.{parsed_lines}
 use Rattle.rtc_change.specs.PendingOffer.{PendingOffer, do_offer, staged_restart}
 use Rattle.rtc_change.specs.Plans.{verdict, asked_by, is_restart}
 use Rattle.rtc_tables.specs.RowChanges.{RowChange, directed_row, stopped_row, is_changed, changed_of}
-use Rattle.rtc_tables.specs.Table.{row_of}
+use Rattle.rtc_tables.specs.Table.{row_of, app_of}
 use Rattle.rtc_change.specs.TableAfter.{table_after}
 use Rattle.rtc_peer_state.specs.declared.rtc_error.RtcError.{RtcError}
 use Rattle.rtc_peer_state.specs.declared.rtc_error.RtcError.TheVariants.{
@@ -73,6 +80,8 @@ use Rattle.rtc_peer_state.specs.Formed.{
 }
 use Rattle.rtc_peer_state.specs.MadeSdp.{creds_in_use, candidates_in_use, offer_sdp, answer_sdp, role_after}
 use Rattle.rtc_peer_state.specs.Names.{is_held}
+use Rattle.rtc_peer_state.specs.PartMoves.{dropped_halves}
+use Rattle.rtc_peer_state.specs.SdpHalves.{offer_init, offered_snap, told_chunk, joined_by, answer_init}
 use Rattle.rtc_peer_state.specs.Staging.{lacks_app, with_restart}
 use Rattle.rtc_peer_state.specs.Stance.{Stance, held_by}
 use Rattle.rtc_peer_state.proofs.TokenTables.{NameTokens}
@@ -149,13 +158,22 @@ stance_alone (change ∷ changes) s = record s {
   channels = all_confirmed (fitting_channels (change ∷ changes)) s.channels;
 }
 
+-- the text of a chunk gives this chunk to who reads it
+abbrev pub IsReadBack : List ℕ → Type 0
+IsReadBack chunk = chunk_of_text (chunk_text chunk) ≡ Some chunk
+
+-- what is staged is offered; a half of a start by session descriptions that the offer tells may be drawn for it
+pub record StandsApplied (s : Stance) (made : Sdp × PendingOffer) (t : Stance) : Type 0 where
+  pub offers : do_offer s.staged ≡ true
+  pub half : List ℕ
+  pub reads : IsReadBack half
+  pub offered : made.0 ≡ offer_sdp s (offer_init s half)
+  pub token : made.1 ≡ record { id = s.counter; changes = s.staged; says_init = is_some (sdp_sctp_init made.0) }
+  pub rest : t ≡ record s { staged = []; counter = raised s.counter; snap = offered_snap s half }
+
 abbrev pub StanceApplies : Stance → Result (Option (Sdp × PendingOffer)) AllocError → Stance → Type 0
 StanceApplies s (Ok None) t = (do_offer s.staged ≡ false) × (t ≡ stance_alone s.staged s)
-StanceApplies s (Ok (Some made)) t =
-    (do_offer s.staged ≡ true)
-    × (made.0 ≡ offer_sdp s)
-    × (made.1 ≡ record { id = s.counter; changes = s.staged })
-    × (t ≡ record s { staged = []; counter = raised s.counter })
+StanceApplies s (Ok (Some made)) t = StandsApplied s made t
 StanceApplies s (Err error) t = t ≡ s
 
 abbrev pub StanceRefuses : Stance → Option Asked → Sdp → Refusal → Stance → Type 0
@@ -168,9 +186,21 @@ pub record IsFollowed (s : Stance) (offer : Sdp) (restart : Option (IceCreds × 
   pub keeps : IfSome restart (λ r. r.1 ≡ true)
   pub tokens : IfSome restart (λ r. AreSdpCreds r.0)
 
+-- whether the association is started once rows are there
+abbrev pub inited_after : (inited : Bool) → List LineRow → Bool
+inited_after inited rows = inited || is_some (app_of rows)
+
+-- what is then kept of starts by session descriptions, where the association was started or was not
+abbrev pub begun_by : (needed : Bool) → Option InitHalves → (drops : Bool) → KeptHalves → KeptHalves
+begun_by true halves drops kept = begun_halves halves kept
+begun_by false halves drops kept = dropped_halves drops kept
+
+abbrev pub snap_after : Stance → List LineRow → Option InitHalves → (drops : Bool) → KeptHalves
+snap_after s rows halves drops = begun_by (is_some (app_of rows) && not s.inited) halves drops s.snap
+
 -- what is left once an offer or an answer was followed
-abbrev pub followed_by : Stance → Option (IceCreds × Bool) → Sdp → Bool → Stance
-followed_by s restart sdp offer = record s {
+abbrev pub followed_by : Stance → Option (IceCreds × Bool) → Sdp → Bool → Option InitHalves → Stance
+followed_by s restart sdp offer halves = record s {
   lines = table_after s.lines (parsed_lines sdp) offer;
   ice = record s.ice {
     local = creds_in_use restart s.ice;
@@ -179,7 +209,15 @@ followed_by s restart sdp offer = record s {
   };
   fingerprint = option_or s.fingerprint (sdp_fingerprint sdp);
   role = Some (role_after s.role (sdp_setup sdp));
+  inited = inited_after s.inited (table_after s.lines (parsed_lines sdp) offer);
+  snap = snap_after s (table_after s.lines (parsed_lines sdp) offer) halves (not offer);
 }
+
+-- the halves of a start by session descriptions that a description gives, for which this side's half may be drawn
+pub record Joins (s : Stance) (may : Bool) (sdp : Sdp) (halves : Option InitHalves) : Type 0 where
+  pub half : List ℕ
+  pub reads : IsReadBack half
+  pub joined : halves ≡ joined_by s half (told_chunk s.inited may (sdp_sctp_init sdp))
 
 -- what the media part is told of a description, and what it then has of lines: what is told is formed, where the lines can be taken
 pub record TellsMedia (s : Stance) (changes : List Change) (sdp : Sdp) (told : List MediaUpdate) (t : Stance) : Type 0 where
@@ -200,8 +238,10 @@ pub record StandsOffer (s : Stance) (offer answer : Sdp) (t : Stance) : Type 0 w
   pub followed : IsFollowed s offer restart
   pub told : List MediaUpdate
   pub tells : TellsMedia s [] offer told t
-  pub answered : answer ≡ answer_sdp s restart told offer
-  pub rest : t ≡ record (followed_by s restart offer true) { counter = raised s.counter; line = t.line }
+  pub halves : Option InitHalves
+  pub joins : Joins s true offer halves
+  pub answered : answer ≡ answer_sdp s restart told (answer_init s.inited s.snap halves) offer
+  pub rest : t ≡ record (followed_by s restart offer true halves) { counter = raised s.counter; line = t.line }
 
 pub record BreaksOffer (s : Stance) (offer : Sdp) (t : Stance) : Type 0 where
   pub restart : Option (IceCreds × Bool)
@@ -228,7 +268,9 @@ pub record StandsAnswer (s : Stance) (token : PendingOffer) (answer : Sdp) (t : 
   pub passes : verdict (held_by s) (Some (asked_by s.lines token)) answer ≡ None
   pub told : List MediaUpdate
   pub tells : TellsMedia s token.changes answer told t
-  pub rest : t ≡ record (followed_by s (staged_restart token.changes) answer false) {
+  pub halves : Option InitHalves
+  pub joins : Joins s token.says_init answer halves
+  pub rest : t ≡ record (followed_by s (staged_restart token.changes) answer false halves) {
     channels = all_confirmed (fitting_channels token.changes) s.channels;
     line = t.line;
   }

@@ -9,6 +9,7 @@ use Rattle.rtc_sdp_values.specs.declared.fingerprint.Fingerprint.{Fingerprint}
 use Rattle.rtc_sdp_values.specs.declared.ice_creds.IceCreds.{IceCreds}
 use Rattle.rtc_sdp_values.specs.declared.sdp.Sdp.{Sdp}
 use Rattle.rtc_ice.specs.IceMeaning.{IceSettings}
+use Rattle.rtc_sctp_values.specs.SnapHalves.{KeptHalves}
 use Rattle.rtc_channels.specs.Channels.{with_channel, all_confirmed}
 use Rattle.rtc_channels.specs.declared.channel_row.ChannelRow.{ChannelRow}
 use Rattle.rtc_change.specs.declared.change.Change.{Change}
@@ -29,15 +30,18 @@ use Rattle.rtc_peer_state.specs.declared.rtc_error.RtcError.TheVariants.{
   Alloc,
 }
 use Rattle.rtc_peer_state.specs.Calls.{Wanted, raised, needs_app, after_channels_alone, staged_mid, staged_media, app_changes, AddsMedia}
-use Rattle.rtc_peer_state.specs.Calls.{ChangesLine, AddsChannel, StagesRestart, Applies, fitting_channels}
+use Rattle.rtc_peer_state.specs.Calls.{ChangesLine, AddsChannel, StagesRestart, LacksOffer, Applies, halves_pending, half_drawn}
+use Rattle.rtc_peer_state.specs.Calls.{fitting_channels}
+use Rattle.rtc_peer_state.specs.SdpHalves.{offered_snap, draws_half}
 use Rattle.rtc_peer_state.specs.ChannelRows.{channel_rows}
 use Rattle.rtc_peer_state.specs.Meanings.{Meanings, PartsLaws}
 use Rattle.rtc_peer_state.specs.Names.{is_held}
 use Rattle.rtc_peer_state.specs.Stance.{Stance, stance_of}
 use Rattle.rtc_peer_state.proofs.BuiltPeers.{drawn_creds_words}
-use Rattle.rtc_peer_state.proofs.ChannelRowLemmas.{added_rows, confirmed_rows}
+use Rattle.rtc_peer_state.proofs.ChannelRowLemmas.{added_rows, confirmed_rows, kept_rows}
 use Rattle.rtc_peer_state.proofs.DrawnMids.{free_mid_token}
 use Rattle.rtc_peer_state.proofs.FormedNames.{staged_media_formed}
+use Rattle.rtc_peer_state.proofs.HalfLemmas.{drawn_read_back}
 use Rattle.rtc_peer_state.proofs.PartMovesLemmas.{control_settings}
 use Rattle.rtc_peer_state.proofs.StanceCalls.{StanceAddsMedia, StanceChangesLine, StanceAddsChannel, StanceStagesRestart, StanceApplies}
 use Rattle.rtc_peer_state.proofs.StanceCalls.{IsAppFor, stance_alone}
@@ -134,23 +138,38 @@ alone_stands m p (change ∷ changes) = ap (λ (rows : List ChannelRow). record 
   rows = rows;
 }) (confirmed_rows m.association p.sctp (fitting_channels (change ∷ changes)) p.channels)
 
--- the parts that an acceptance moves are read by their settings, their fingerprint, their role and the rows over them
-pub parts_stand : (s : Stance) (ice ice' : IceSettings) (own own' : Fingerprint) (role role' : Option Bool) (rows rows' : List ChannelRow) (most most' : ℕ)
-    → ice ≡ ice' → own ≡ own' → role ≡ role' → rows ≡ rows' → most ≡ most'
-    → record s { ice = ice; own_fingerprint = own; role = role; rows = rows; max_message_size = most }
-    ≡ record s { ice = ice'; own_fingerprint = own'; role = role'; rows = rows'; max_message_size = most' }
-parts_stand s ice ice' own own' role role' rows rows' most most' a b c d e = rw (a, b, c, d, e) refl
+-- the parts that an acceptance moves are read by their settings, their fingerprint, their role, the rows over them, and the start of the
+-- association
+pub parts_stand : (s : Stance) (ice ice' : IceSettings) (own own' : Fingerprint) (role role' : Option Bool) (rows rows' : List ChannelRow)
+    (most most' : ℕ) (inited inited' : Bool) (snap snap' : KeptHalves) → ice ≡ ice' → own ≡ own' → role ≡ role' → rows ≡ rows' → most ≡ most'
+    → inited ≡ inited' → snap ≡ snap'
+    → record s { ice = ice; own_fingerprint = own; role = role; rows = rows; max_message_size = most; inited = inited; snap = snap }
+    ≡ record s { ice = ice'; own_fingerprint = own'; role = role'; rows = rows'; max_message_size = most'; inited = inited'; snap = snap' }
+parts_stand s ice ice' own own' role role' rows rows' most most' inited inited' snap snap' a b c d e f g = rw (a, b, c, d, e, f, g) refl
+
+-- numbers that may have been drawn for an offer are not read
+lacks_stands : {I D S M E X T W N : Type 0} (m : Meanings I D S M E X T W N) (draws : Bool) (p q : Peer I D S M N)
+    → LacksOffer m draws p q → stance_of m q ≡ stance_of m p
+lacks_stands m true p q h = ap (stance_of m) h.1
+lacks_stands m false p q h = ap (stance_of m) h
 
 pub applies_stands : {I D S M E X T W N : Type 0} (m : Meanings I D S M E X T W N) → PartsLaws m → (p : Peer I D S M N)
     (result : Result (Option (Sdp × PendingOffer)) AllocError) (q : Peer I D S M N) → Applies m p result q
     → StanceApplies (stance_of m p) result (stance_of m q)
 applies_stands m laws p (Ok None) q h = (h.0, ap (stance_of m) h.1 ∙ alone_stands m p p.staged)
-applies_stands m laws p (Ok (Some made)) q h = (
-  h.0,
-  h.1,
-  h.2,
-  ap (stance_of m) h.4
-      ∙ parts_stand (record (stance_of m p) { staged = []; counter = raised p.counter }) _ _ _ _ _ _ _ _ _ _
-      (control_settings m.ice laws.ice p.ice q.ice _ h.3) refl refl refl refl,
-)
-applies_stands m laws p (Err error) q h = ap (stance_of m) h
+applies_stands m laws p (Ok (Some made)) q h = record {
+  offers = h.0;
+  half = half_drawn m p;
+  reads = drawn_read_back m.ids (halves_pending m p).limit p.ids;
+  offered = h.1;
+  token = h.2;
+  rest = ap (stance_of m) h.4
+      ∙ parts_stand (record (stance_of m p) {
+        staged = [];
+        counter = raised p.counter;
+        snap = offered_snap (stance_of m p) (half_drawn m p);
+      }) _ _ _ _ _ _ _ _ _ _ _ _ _ _
+      (control_settings m.ice laws.ice p.ice q.ice _ h.3) refl refl
+      (kept_rows m.association p.sctp (offered_snap (stance_of m p) (half_drawn m p)) p.channels) refl refl refl;
+}
+applies_stands m laws p (Err error) q h = lacks_stands m (draws_half (stance_of m p)) p q h

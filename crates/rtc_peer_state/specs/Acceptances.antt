@@ -16,6 +16,8 @@ use Rattle.rtc_tables.specs.declared.why.Why.TheVariants.{
   NoCredentials,
   UnaskedRestart,
   NoFingerprint,
+  SctpInitChanged,
+  SctpInitMissing,
   MovedLine,
   PlaceTaken,
   AnswerRecycles,
@@ -52,6 +54,9 @@ pub use Rattle.rtc_peer_state.specs.SdpMoves.{
   StartsBySdp,
   updates_for,
   ids_after_updates,
+  halves_for,
+  ids_after_halves,
+  init_answered,
   UpdatesMedia,
   followed_restart,
   answer_ids,
@@ -68,6 +73,8 @@ phase_after NoLines phase = phase
 phase_after BothLite phase = phase
 phase_after NoCredentials phase = phase
 phase_after (UnaskedRestart kept got) phase = phase
+phase_after (SctpInitChanged kept got) phase = phase
+phase_after (SctpInitMissing kept) phase = phase
 phase_after (MovedLine mid) phase = phase
 phase_after (PlaceTaken mid) phase = phase
 phase_after (AnswerRecycles mid) phase = phase
@@ -99,16 +106,17 @@ module _ {I D S M E X T W N : Type 0} (m : Meanings I D S M E X T W N) where
   pub record OfferAccepted (p : Peer I D S M N) (offer answer : Sdp) (q : Peer I D S M N) : Type 0 where
     pub passes : verdict (held_by (stance_of m p)) None offer ≡ None
     pub answered : answer
-        ≡ answer_sdp (stance_of m p) (followed_restart m p offer) (updates_for m p true [] offer (answer_ids m p offer)) offer
+        ≡ answer_sdp (stance_of m p) (followed_restart m p offer) (updates_for m p true [] offer (answer_ids m p offer))
+        (init_answered m p offer) offer
     pub ice_follows : FollowsOffer m p offer q
     pub dtls_starts : StartsDtls m.dtls p.dtls p.dtls.active (role_for (sdp_setup offer)) p.greatest (Ok tt) q.dtls
-    pub sctp_starts : StartsBySdp m p true offer (Ok tt) q.sctp
+    pub sctp_starts : StartsBySdp m p true offer (halves_for m p true true [] offer (answer_ids m p offer)) (Ok tt) q.sctp
     pub media_updated : UpdatesMedia m p.media (updates_for m p true [] offer (answer_ids m p offer)) q.media
     pub rest : q ≡ record p {
       counter = raised p.counter;
       lines = table_after p.lines (parsed_lines offer) true;
       fingerprint = option_or p.fingerprint (sdp_fingerprint offer);
-      ids = ids_after_updates m p true [] offer (answer_ids m p offer);
+      ids = ids_after_halves m p true true [] offer (answer_ids m p offer);
       ice = q.ice;
       dtls = q.dtls;
       sctp = q.sctp;
@@ -123,7 +131,7 @@ module _ {I D S M E X T W N : Type 0} (m : Meanings I D S M E X T W N) where
     pub media_prepared : m.media.prepared p.media (updates_for m p true [] offer (answer_ids m p offer)) (Ok tt) q.media
     pub rest : q ≡ record p {
       counter = raised p.counter;
-      ids = ids_after_updates m p true [] offer (answer_ids m p offer);
+      ids = ids_after_halves m p true true [] offer (answer_ids m p offer);
       ice = q.ice;
       dtls = q.dtls;
       media = q.media;
@@ -134,11 +142,12 @@ module _ {I D S M E X T W N : Type 0} (m : Meanings I D S M E X T W N) where
     pub passes : verdict (held_by (stance_of m p)) None offer ≡ None
     pub ice_follows : FollowsOffer m p offer q
     pub dtls_starts : StartsDtls m.dtls p.dtls p.dtls.active (role_for (sdp_setup offer)) p.greatest (Ok tt) q.dtls
-    pub sctp_fails : StartsBySdp m p true offer (Err (Proto AssociationFault)) q.sctp
+    pub sctp_fails : StartsBySdp m p true offer (halves_for m p true true [] offer (answer_ids m p offer)) (Err (Proto AssociationFault))
+        q.sctp
     pub media_prepared : m.media.prepared p.media (updates_for m p true [] offer (answer_ids m p offer)) (Ok tt) q.media
     pub rest : q ≡ record p {
       counter = raised p.counter;
-      ids = ids_after_updates m p true [] offer (answer_ids m p offer);
+      ids = ids_after_halves m p true true [] offer (answer_ids m p offer);
       ice = q.ice;
       dtls = q.dtls;
       sctp = q.sctp;
@@ -179,13 +188,13 @@ module _ {I D S M E X T W N : Type 0} (m : Meanings I D S M E X T W N) where
     pub passes : verdict (held_by (stance_of m p)) (Some (asked_by p.lines token)) answer ≡ None
     pub ice_follows : FollowsAnswer m p token answer q
     pub dtls_starts : StartsDtls m.dtls p.dtls p.dtls.active (role_for (sdp_setup answer)) p.greatest (Ok tt) q.dtls
-    pub sctp_starts : StartsBySdp m p false answer (Ok tt) q.sctp
+    pub sctp_starts : StartsBySdp m p false answer (halves_for m p false token.says_init token.changes answer p.ids) (Ok tt) q.sctp
     pub media_updated : UpdatesMedia m p.media (updates_for m p false token.changes answer p.ids) q.media
     pub rest : q ≡ record p {
       lines = table_after p.lines (parsed_lines answer) false;
       channels = all_confirmed (fitting_channels token.changes) p.channels;
       fingerprint = option_or p.fingerprint (sdp_fingerprint answer);
-      ids = ids_after_updates m p false token.changes answer p.ids;
+      ids = ids_after_halves m p false token.says_init token.changes answer p.ids;
       ice = q.ice;
       dtls = q.dtls;
       sctp = q.sctp;
@@ -199,7 +208,7 @@ module _ {I D S M E X T W N : Type 0} (m : Meanings I D S M E X T W N) where
     pub dtls_fails : StartsDtls m.dtls p.dtls p.dtls.active (role_for (sdp_setup answer)) p.greatest (Err Fault) q.dtls
     pub media_prepared : m.media.prepared p.media (updates_for m p false token.changes answer p.ids) (Ok tt) q.media
     pub rest : q ≡ record p {
-      ids = ids_after_updates m p false token.changes answer p.ids;
+      ids = ids_after_halves m p false token.says_init token.changes answer p.ids;
       ice = q.ice;
       dtls = q.dtls;
       media = q.media;
@@ -210,10 +219,11 @@ module _ {I D S M E X T W N : Type 0} (m : Meanings I D S M E X T W N) where
     pub passes : verdict (held_by (stance_of m p)) (Some (asked_by p.lines token)) answer ≡ None
     pub ice_follows : FollowsAnswer m p token answer q
     pub dtls_starts : StartsDtls m.dtls p.dtls p.dtls.active (role_for (sdp_setup answer)) p.greatest (Ok tt) q.dtls
-    pub sctp_fails : StartsBySdp m p false answer (Err (Proto AssociationFault)) q.sctp
+    pub sctp_fails : StartsBySdp m p false answer (halves_for m p false token.says_init token.changes answer p.ids)
+        (Err (Proto AssociationFault)) q.sctp
     pub media_prepared : m.media.prepared p.media (updates_for m p false token.changes answer p.ids) (Ok tt) q.media
     pub rest : q ≡ record p {
-      ids = ids_after_updates m p false token.changes answer p.ids;
+      ids = ids_after_halves m p false token.says_init token.changes answer p.ids;
       ice = q.ice;
       dtls = q.dtls;
       sctp = q.sctp;

@@ -1,10 +1,11 @@
 -- The peer that is built.
 use Rattle.rtc_channels.specs.Channels.{no_channels}
-use Rattle.std.specs.Prelude.{◌≡◌, ℕ, List, [], Option, Some, None}
+use Rattle.std.specs.Prelude.{◌≡◌, ℕ, Bool, true, false, List, [], Option, Some, None}
 use Rattle.std.specs.Int.{to_be_bytes, w64}
 use Rattle.std.specs.declared.alloc.Global.{Global}
 use Rattle.rtc_sdp_values.specs.declared.ice_creds.IceCreds.{IceCreds}
 use Rattle.rtc_dtls.specs.DtlsState.{DtlsState, BeginsDtls}
+use Rattle.rtc_sctp_values.specs.SnapHalves.{KeptHalves, nothing_kept, enabled_halves}
 use Rattle.rtc_sctp.specs.Streams.{SctpStreams, no_streams}
 use Rattle.rtc_peer_state.specs.declared.peer.Peer.{Peer}
 use Rattle.rtc_peer_state.specs.declared.formats.Formats.{Formats}
@@ -64,10 +65,20 @@ empty_peer alloc formats session start ice dtls sctp media ids = record {
   ids = ids;
 }
 
--- the streams of a peer of a config: messages may be as long, and as many bytes may be buffered, as the config says
+-- streams with the limits of a config: messages may be as long, and as many bytes may be buffered, as it says
+abbrev pub limited_streams : {S : Type 0} → Config → (start : ℕ) → S → SctpStreams S
+limited_streams config start association =
+    record (no_streams 1150 config.max_message_size start association) { max_buffered = config.max_buffered }
+
+-- a start by session descriptions may be allowed, before the association is started
+abbrev pub allowed_halves : (allowed : Bool) → (limit : ℕ) → KeptHalves → KeptHalves
+allowed_halves true limit kept = enabled_halves false limit kept
+allowed_halves false limit kept = kept
+
+-- the streams of a peer of a config
 abbrev pub streams_of_config : {S : Type 0} → Config → (start : ℕ) → S → SctpStreams S
 streams_of_config config start association =
-    record (no_streams 1150 config.max_message_size start association) { max_buffered = config.max_buffered }
+    record (limited_streams config start association) { snap = allowed_halves config.snap config.max_message_size nothing_kept }
 
 module _ {I D S M E X T W N : Type 0} (m : Meanings I D S M E X T W N) where
   -- parts that are as they were made

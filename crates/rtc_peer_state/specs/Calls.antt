@@ -18,6 +18,7 @@ use Rattle.std.specs.Prelude.{
   codes,
   filter,
   not,
+  is_some,
   Option,
   Some,
   None,
@@ -41,6 +42,10 @@ use Rattle.rtc_change.specs.PendingOffer.{PendingOffer, do_offer, new_channels}
 use Rattle.rtc_tables.specs.RowChanges.{RowChange, directed_row, stopped_row, is_changed, changed_of}
 use Rattle.rtc_tables.specs.Table.{row_of}
 use Rattle.rtc_ids.specs.Draws.{Later}
+use Rattle.rtc_sdp_values.specs.Sdp.{sdp_sctp_init}
+use Rattle.rtc_sctp_values.specs.InitChunk.{drawn_chunk}
+use Rattle.rtc_sctp_values.specs.InitHalves.{InitHalves, after_half}
+use Rattle.rtc_sctp_values.specs.SnapHalves.{halves_or_none}
 use Rattle.rtc_peer_state.specs.declared.peer.Peer.{Peer}
 use Rattle.rtc_peer_state.specs.declared.rtc_error.RtcError.{RtcError}
 use Rattle.rtc_peer_state.specs.declared.rtc_error.RtcError.TheVariants.{
@@ -57,6 +62,7 @@ use Rattle.rtc_peer_state.specs.declared.rtc_error.RtcError.TheVariants.{
 use Rattle.rtc_peer_state.specs.Creds.{drawn_creds}
 use Rattle.rtc_peer_state.specs.Meanings.{Meanings}
 use Rattle.rtc_peer_state.specs.MadeSdp.{offer_sdp}
+use Rattle.rtc_peer_state.specs.SdpHalves.{tells_half, draws_half, offer_init, offered_snap}
 use Rattle.rtc_peer_state.specs.Stance.{stance_of}
 use Rattle.rtc_peer_state.specs.Names.{is_held, next_mid, kept_name, name_of, after_name}
 use Rattle.rtc_peer_state.specs.PartMoves.{TakesControl}
@@ -202,14 +208,41 @@ module _ {I D S M E X T W N : Type 0} (m : Meanings I D S M E X T W N) where
       × (q ≡ record p { staged = with_restart creds keeps p.staged; ids = m.ids.after p.ids })
   StagesRestart p keeps (Err error) q = LacksMemory p q
 
-  -- What is staged is applied: it is offered, unless it is channels alone. While there is no DTLS role, the side that offers is
+  -- the halves that are pending for a start by session descriptions, or else empty ones
+  abbrev pub halves_pending : Peer I D S M N → InitHalves
+  halves_pending p = halves_or_none p.sctp.local_max p.sctp.snap.pending
+
+  -- the half of this side that an offer tells, where it is drawn for it
+  abbrev pub half_drawn : Peer I D S M N → List ℕ
+  half_drawn p = drawn_chunk m.ids (halves_pending p).limit p.ids
+
+  abbrev pub ids_after_told : Bool → Peer I D S M N → N
+  ids_after_told true p = after_half m.ids (halves_pending p).local p.ids
+  ids_after_told false p = p.ids
+
+  abbrev pub ids_after_offer : Peer I D S M N → N
+  ids_after_offer p = ids_after_told (tells_half (stance_of m p)) p
+
+  -- Memory ran out as an offer was made: numbers may have been drawn where it draws a half, and nothing else has changed.
+  abbrev pub LacksOffer : Bool → Peer I D S M N → Peer I D S M N → Type 0
+  LacksOffer true p q = LacksMemory p q
+  LacksOffer false p q = q ≡ p
+
+  -- What is staged is applied: it is offered, unless it is channels alone. The half of a start by session descriptions that the offer
+  -- tells is then pending (draft-hancke-tsvwg-snap). While there is no DTLS role, the side that offers is
   -- controlling, unless it is lite (RFC 8445, section 6.1.1).
   abbrev pub Applies : Peer I D S M N → Result (Option (Sdp × PendingOffer)) AllocError → Peer I D S M N → Type 0
   Applies p (Ok None) q = (do_offer p.staged ≡ false) × (q ≡ after_channels_alone p.staged p)
   Applies p (Ok (Some made)) q =
       (do_offer p.staged ≡ true)
-      × (made.0 ≡ offer_sdp (stance_of m p))
-      × (made.1 ≡ record { id = p.counter; changes = p.staged })
+      × (made.0 ≡ offer_sdp (stance_of m p) (offer_init (stance_of m p) (half_drawn p)))
+      × (made.1 ≡ record { id = p.counter; changes = p.staged; says_init = is_some (sdp_sctp_init made.0) })
       × TakesControl m.ice p.ice (control_for p.dtls.active (not (m.ice.settings p.ice).lite)) q.ice
-      × (q ≡ record p { staged = []; counter = raised p.counter; ice = q.ice })
-  Applies p (Err error) q = q ≡ p
+      × (q ≡ record p {
+        staged = [];
+        counter = raised p.counter;
+        ice = q.ice;
+        sctp = record p.sctp { snap = offered_snap (stance_of m p) (half_drawn p) };
+        ids = ids_after_offer p;
+      })
+  Applies p (Err error) q = LacksOffer (draws_half (stance_of m p)) p q

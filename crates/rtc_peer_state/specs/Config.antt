@@ -8,6 +8,8 @@ pub record Config : Type 0 where
   pub creds : Option IceCreds
   pub cert : Option (List ℕ)
   pub formats : Formats
+  -- whether the association may be started by session descriptions (draft-hancke-tsvwg-snap)
+  pub snap : Bool
   -- how many bytes of data channels may be buffered before nothing is available
   pub max_buffered : ℕ
   -- the longest messages that this side takes, as its session descriptions tell

@@ -87,13 +87,14 @@ pub record IsFormedLayer (layer : SimulcastLayer) : Type 0 where
   pub name : is_layer_name layer.rid ≡ true
   pub pairs : AllByRecursion IsFormedPair layer.attributes
 
-abbrev pub same_layer : SimulcastLayer → SimulcastLayer → Bool
-same_layer a b = bytes_eq a.rid b.rid
+-- two layers have one name
+abbrev pub shares_rid : SimulcastLayer → SimulcastLayer → Bool
+shares_rid a b = bytes_eq a.rid b.rid
 
 -- layers of one direction, each with a name of its own
 pub record AreFormedLayers (layers : List SimulcastLayer) : Type 0 where
   pub each : AllByRecursion IsFormedLayer layers
-  pub apart : IsApart same_layer layers
+  pub apart : IsApart shares_rid layers
 
 -- at least one layer
 pub record IsFormedSimulcast (simulcast : Simulcast) : Type 0 where

@@ -4,6 +4,7 @@ pub mod Creds
 pub mod Meanings
 pub mod ChannelRows
 pub mod Stance
+pub mod SdpHalves
 pub mod Names
 pub mod StagedIndex
 pub mod Staging
@@ -17,5 +18,6 @@ pub mod StoppedAcceptances
 pub mod Acceptances
 pub mod Built
 pub mod Formed
+pub mod DrawnSources
 pub mod RtcErrorText
 pub mod RtcErrors

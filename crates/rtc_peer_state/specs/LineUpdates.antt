@@ -52,7 +52,8 @@ bare_sending mid = record {
   ssrcs = [];
 }
 
--- what is sent on a line is what the media part has of it, or else what was staged with it
+-- What is sent on a line is what the media part has of it, or else what was staged with it. Layers that were staged are offered, and the
+-- line has none until the other side names it (RFC 8853, section 5.3.3).
 abbrev pub sending_of : Option MediaUpdate → Option AddedMedia → List ℕ → Sending
 sending_of (Some update) added mid = record {
   simulcast = update.simulcast;
@@ -61,7 +62,7 @@ sending_of (Some update) added mid = record {
   ssrcs = update.ssrcs_tx;
 }
 sending_of None (Some media) mid = record {
-  simulcast = media.simulcast;
+  simulcast = None;
   msid = Some media.msid;
   cname = Some media.cname;
   ssrcs = media.ssrcs;

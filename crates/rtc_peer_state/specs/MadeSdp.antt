@@ -101,9 +101,15 @@ bare_row_line most media (Media place mid kind dir stopped remote_created) = rec
 }
 bare_row_line most media (App place mid) = record (bare_line Application mid SendRecv) { max_message_size = Some most }
 
--- the m-line of a row, with the credentials, the fingerprint, the role and the longest message of its peer
+-- what the line of the data channels tells of the start of the association
+abbrev pub init_of_row : Option (List ℕ) → LineRow → Option (List ℕ)
+init_of_row told (Media place mid kind dir stopped remote_created) = None
+init_of_row told (App place mid) = told
+
+-- the m-line of a row, with the credentials, the fingerprint, the role, the longest message and the start of its peer
 abbrev pub row_line : SdpHead → LineMedia → LineRow → MediaLine
 row_line head media row = record (bare_row_line head.max_message_size media row) {
+  sctp_init = init_of_row head.sctp_init row;
   creds = Some head.creds;
   fingerprint = Some head.fingerprint;
   setup = Some head.setup;
@@ -203,8 +209,8 @@ setup_of_role true = Active
 setup_of_role false = Passive
 
 -- what an offer tells of its side: either side may take either DTLS role (RFC 8842, section 5.2)
-abbrev pub offer_head : Stance → SdpHead
-offer_head s = record {
+abbrev pub offer_head : Stance → Option (List ℕ) → SdpHead
+offer_head s init = record {
   session = s.session;
   lite = s.ice.lite;
   creds = creds_in_use (staged_restart s.staged) s.ice;
@@ -212,6 +218,7 @@ offer_head s = record {
   setup = ActPass;
   candidates = candidates_in_use (staged_restart s.staged) s.ice;
   max_message_size = s.max_message_size;
+  sctp_init = init;
 }
 
 -- the rows of an offer: those that are there, then those that it adds
@@ -222,13 +229,13 @@ offered_rows s = s.lines ++ added_rows (length s.lines) s.staged
 abbrev pub offered_told : Stance → List ToldRow
 offered_told s = told_rows s.line [] s.lines ++ added_told s.formats (length s.lines) s.staged
 
--- the offer of what is staged
-unfoldable pub offer_sdp : Stance → Sdp
-offer_sdp s = sdp_of_rows (offer_head s) (offered_told s)
+-- the offer of what is staged, with this text of a chunk for the start of the association
+unfoldable pub offer_sdp : Stance → Option (List ℕ) → Sdp
+offer_sdp s init = sdp_of_rows (offer_head s init) (offered_told s)
 
 -- what an answer tells of its side, where it follows a restart with these credentials or follows none
-abbrev pub answer_head : Stance → Option (IceCreds × Bool) → Sdp → SdpHead
-answer_head s restart offer = record {
+abbrev pub answer_head : Stance → Option (IceCreds × Bool) → Option (List ℕ) → Sdp → SdpHead
+answer_head s restart init offer = record {
   session = s.session;
   lite = s.ice.lite;
   creds = creds_in_use restart s.ice;
@@ -236,12 +243,13 @@ answer_head s restart offer = record {
   setup = setup_of_role (role_after s.role (sdp_setup offer));
   candidates = candidates_in_use restart s.ice;
   max_message_size = s.max_message_size;
+  sctp_init = init;
 }
 
 -- the rows that an offer leaves, with what the lines carry once a media part was told these updates
 abbrev pub answered_told : Stance → List MediaUpdate → Sdp → List ToldRow
 answered_told s updates offer = told_rows s.line updates (table_after s.lines (parsed_lines offer) true)
 
--- the answer to an offer of whose lines the media part is told this
-unfoldable pub answer_sdp : Stance → Option (IceCreds × Bool) → List MediaUpdate → Sdp → Sdp
-answer_sdp s restart updates offer = sdp_of_rows (answer_head s restart offer) (answered_told s updates offer)
+-- the answer to an offer of whose lines the media part is told this, with this text of a chunk for the start of the association
+unfoldable pub answer_sdp : Stance → Option (IceCreds × Bool) → List MediaUpdate → Option (List ℕ) → Sdp → Sdp
+answer_sdp s restart updates init offer = sdp_of_rows (answer_head s restart init offer) (answered_told s updates offer)

@@ -14,6 +14,8 @@ use Rattle.rtc_dtls.specs.DtlsState.{DtlsState}
 use Rattle.rtc_association.specs.AssociationMeaning.{AssociationMeaning}
 use Rattle.rtc_sctp.specs.Calls.{Inits}
 use Rattle.rtc_sctp.specs.Streams.{SctpStreams}
+use Rattle.rtc_sctp_values.specs.InitHalves.{InitHalves}
+use Rattle.rtc_sctp_values.specs.SnapHalves.{KeptHalves, without_pending}
 use Rattle.rtc_sctp_values.specs.declared.sctp_error.SctpError.{SctpError}
 use Rattle.rtc_sctp_values.specs.declared.sctp_error.SctpError.TheVariants.{Alloc as SctpAlloc}
 
@@ -100,32 +102,39 @@ abbrev pub remote_limit : Option ℕ → ℕ
 remote_limit None = 65536
 remote_limit (Some size) = if (size == 0) || nat_lt 4294967295 size then 4294967295 else size
 
+-- the halves that are pending for a start by session descriptions may go
+abbrev pub dropped_halves : Bool → KeptHalves → KeptHalves
+dropped_halves true kept = without_pending kept
+dropped_halves false kept = kept
+
 module _ {S : Type 0} (association : AssociationMeaning S) where
   -- whether these rows start the association: one is the line of the data channels, and nothing started it before
   abbrev pub needs_start : List LineRow → SctpStreams S → Bool
   needs_start rows p = is_some (app_of rows) && not (association.started p.association)
 
-  -- it is started as client or as server, where it is to be
-  abbrev pub StartsWhere : Bool → SctpStreams S → (client : Bool) → (now max : ℕ) → Result (Unit {0}) SctpError → SctpStreams S → Type 0
-  StartsWhere false p client now max r q = (r ≡ Ok tt) × (q ≡ p)
-  StartsWhere true p client now max r q = Inits association client now max None p r q
+  -- it is started as client or as server, by the chunks of both sides where they are there; what is pending for such a start may go
+  -- where it is not started
+  abbrev pub StartsWhere : Bool → SctpStreams S → (client : Bool) → (now max : ℕ) → Option InitHalves → (drops : Bool)
+      → Result (Unit {0}) SctpError → SctpStreams S → Type 0
+  StartsWhere false p client now max halves drops r q = (r ≡ Ok tt) × (q ≡ record p { snap = dropped_halves drops p.snap })
+  StartsWhere true p client now max halves drops r q = Inits association client now max halves p r q
 
   -- The first rows with a line of the data channels start the association.
-  abbrev pub StartsSctp : SctpStreams S → List LineRow → (client : Bool) → (now max : ℕ) → Result (Unit {0}) SctpError → SctpStreams S
-      → Type 0
-  StartsSctp p rows client now max r q = StartsWhere (needs_start rows p) p client now max r q
+  abbrev pub StartsSctp : SctpStreams S → List LineRow → (client : Bool) → (now max : ℕ) → Option InitHalves → (drops : Bool)
+      → Result (Unit {0}) SctpError → SctpStreams S → Type 0
+  StartsSctp p rows client now max halves drops r q = StartsWhere (needs_start rows p) p client now max halves drops r q
 
 -- the three parts that follow a session description
 module _ {I D S : Type 0} (ice : IceMeaning I) (dtls : DtlsMeaning D) (association : AssociationMeaning S) where
   -- Memory runs out at one of the parts, which follow in this order: the agent, the DTLS part (at the timer, or at the packet of no bytes),
   -- the association. Those before it have followed, and those behind it are as they were.
   pub data StopsMoving (i : I) (d : DtlsState D) (s : SctpStreams S) (restart : Option (IceCreds × Bool)) (creds : Option IceCreds)
-      (candidates : List Candidate) (control : Option Bool) (active : Bool) (rows : List LineRow) (client : Bool) (now max : ℕ) (j : I)
-      (e : DtlsState D) (t : SctpStreams S) : Type 0 where
+      (candidates : List Candidate) (control : Option Bool) (active : Bool) (rows : List LineRow) (client : Bool) (now max : ℕ)
+      (halves : Option InitHalves) (drops : Bool) (j : I) (e : DtlsState D) (t : SctpStreams S) : Type 0 where
     AtAgent : StopsFollowing ice i restart creds candidates j → e ≡ d → t ≡ s
-        → StopsMoving i d s restart creds candidates control active rows client now max j e t
+        → StopsMoving i d s restart creds candidates control active rows client now max halves drops j e t
     AtRole : FollowsSdp ice i restart creds candidates control j → StartsDtls dtls d d.active active now (Err DtlsAlloc) e → t ≡ s
-        → StopsMoving i d s restart creds candidates control active rows client now max j e t
+        → StopsMoving i d s restart creds candidates control active rows client now max halves drops j e t
     AtStart : FollowsSdp ice i restart creds candidates control j → StartsDtls dtls d d.active active now (Ok tt) e
-        → StartsSctp association s rows client now max (Err SctpAlloc) t
-        → StopsMoving i d s restart creds candidates control active rows client now max j e t
+        → StartsSctp association s rows client now max halves drops (Err SctpAlloc) t
+        → StopsMoving i d s restart creds candidates control active rows client now max halves drops j e t

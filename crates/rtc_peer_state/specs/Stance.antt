@@ -3,6 +3,8 @@ use Rattle.std.specs.Prelude.{ℕ, Bool, List, Option, is_some}
 use Rattle.rtc_sdp_values.specs.declared.fingerprint.Fingerprint.{Fingerprint}
 use Rattle.rtc_sdp_values.specs.declared.line_row.LineRow.{LineRow}
 use Rattle.rtc_ice.specs.IceMeaning.{IceSettings}
+use Rattle.rtc_sctp_values.specs.InitHalves.{remote_text}
+use Rattle.rtc_sctp_values.specs.SnapHalves.{KeptHalves, text_in}
 use Rattle.rtc_channels.specs.Channels.{Channels}
 use Rattle.rtc_channels.specs.declared.channel_row.ChannelRow.{ChannelRow}
 use Rattle.rtc_change.specs.declared.change.Change.{Change}
@@ -32,6 +34,9 @@ pub record Stance : Type 0 where
   pub role : Option Bool
   -- the longest message that this side takes, in bytes
   pub max_message_size : ℕ
+  -- whether the association is started, and what is kept of starts by session descriptions
+  pub inited : Bool
+  pub snap : KeptHalves
   -- what the media part has of the line of a mid
   pub line : List ℕ → Option MediaUpdate
 
@@ -49,8 +54,14 @@ stance_of m p = record {
   fingerprint = p.fingerprint;
   role = p.dtls.active;
   max_message_size = p.sctp.local_max;
+  inited = m.association.started p.sctp.association;
+  snap = p.sctp.snap;
   line = m.media.line p.media;
 }
+
+-- the text of the other side's chunk, where the association was started by the chunks of both sides
+abbrev pub kept_init : KeptHalves → Option (List ℕ)
+kept_init kept = text_in remote_text kept.started
 
 -- what an offer or an answer is judged by
 abbrev pub held_by : Stance → Held
@@ -59,4 +70,6 @@ held_by s = record {
   lite = s.ice.lite;
   remote_creds = s.ice.remote;
   has_fingerprint = is_some s.fingerprint;
+  sctp_inited = s.inited;
+  sctp_kept = kept_init s.snap;
 }

@@ -17,6 +17,7 @@ pub struct RtcConfig {
     creds: Option<IceCreds>,
     cert: Option<Bytes>,
     formats: Formats,
+    snap: bool,
     max_buffered: usize,
     max_message_size: u32,
     stats_interval: Option<Span>,
@@ -32,6 +33,7 @@ impl Model for RtcConfig {
       creds = config.creds;
       cert = config.cert;
       formats = config.formats;
+      snap = config.snap;
       max_buffered = config.max_buffered;
       max_message_size = config.max_message_size;
       stats_interval = config.stats_interval;
@@ -42,13 +44,15 @@ impl Model for RtcConfig {
 
 impl RtcConfig {
     /// The default: an agent that makes checks, a peer that draws its credentials and its certificate, with the codecs and header
-    /// extensions that are enabled by default, 131072 bytes that may be buffered, messages of up to 262144 bytes, and no statistics.
+    /// extensions that are enabled by default, 131072 bytes that may be buffered, messages of up to 262144 bytes, no statistics, and no
+    /// start of the association by session descriptions.
     pub fn new(alloc: Global) -> Result<RtcConfig, AllocError>
         ensures value { IfOk result (λ config. config ≡ record {
           ice_lite = false;
           creds = None;
           cert = None;
           formats = default_formats;
+          snap = false;
           max_buffered = 131072;
           max_message_size = 262144;
           stats_interval = None;
@@ -61,6 +65,7 @@ impl RtcConfig {
             creds: None,
             cert: None,
             formats,
+            snap: false,
             max_buffered: DEFAULT_MAX_BUFFERED_AMOUNT,
             max_message_size: LOCAL_MAX_MESSAGE_SIZE,
             stats_interval: None,
@@ -91,6 +96,7 @@ impl RtcConfig {
             creds: _,
             cert,
             formats,
+            snap,
             max_buffered,
             max_message_size,
             stats_interval,
@@ -100,6 +106,7 @@ impl RtcConfig {
             creds: Some(creds),
             cert,
             formats,
+            snap,
             max_buffered,
             max_message_size,
             stats_interval,
@@ -123,6 +130,7 @@ impl RtcConfig {
             creds,
             cert: _,
             formats,
+            snap,
             max_buffered,
             max_message_size,
             stats_interval,
@@ -132,6 +140,7 @@ impl RtcConfig {
             creds,
             cert: Some(Bytes::new(cert)),
             formats,
+            snap,
             max_buffered,
             max_message_size,
             stats_interval,
@@ -158,6 +167,7 @@ impl RtcConfig {
             creds,
             cert,
             formats,
+            snap,
             max_buffered,
             max_message_size,
             stats_interval,
@@ -171,6 +181,7 @@ impl RtcConfig {
             creds,
             cert,
             formats: Formats { codecs, extensions },
+            snap,
             max_buffered,
             max_message_size,
             stats_interval,
@@ -186,6 +197,7 @@ impl RtcConfig {
             creds,
             cert,
             formats,
+            snap,
             max_buffered,
             max_message_size,
             stats_interval,
@@ -199,6 +211,7 @@ impl RtcConfig {
             creds,
             cert,
             formats: Formats { codecs, extensions },
+            snap,
             max_buffered,
             max_message_size,
             stats_interval,
@@ -214,11 +227,27 @@ impl RtcConfig {
             creds: _,
             cert: _,
             formats,
+            snap: _,
             max_buffered: _,
             max_message_size: _,
             stats_interval: _,
         } = self;
         formats
+    }
+
+    /// Sets whether the association may be started by session descriptions (draft-hancke-tsvwg-snap).
+    pub fn set_snap_enabled(mut self, enabled: bool) -> RtcConfig
+        ensures { result ≡ record self { snap = enabled } }
+    {
+        self.snap = enabled;
+        self
+    }
+
+    /// Whether the association may be started by session descriptions.
+    pub fn snap_enabled(&self) -> bool
+        ensures { result ≡ self.now.snap }
+    {
+        self.snap
     }
 
     /// Sets how many bytes of data channels may be buffered before nothing is available.

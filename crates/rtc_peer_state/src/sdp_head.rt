@@ -1,6 +1,6 @@
 //! What a peer tells of itself.
 use rtc_sdp_values::{Candidate, Fingerprint, IceCreds, Setup};
-use rtc_wire::Seq;
+use rtc_wire::{Seq, Text};
 
 /// What an offer or an answer tells of its side, besides the lines.
 #[derive(Debug, PartialEq, Eq, Drop)]
@@ -19,4 +19,6 @@ pub struct SdpHead {
     pub candidates: Seq<Candidate>,
     /// The longest message that this side takes, in bytes, which the line of the data channels tells (RFC 8841, section 6.1).
     pub max_message_size: u32,
+    /// The text of the chunk that starts the association, which the line of the data channels tells (draft-hancke-tsvwg-snap).
+    pub sctp_init: Option<Text>,
 }

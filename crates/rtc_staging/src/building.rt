@@ -1,8 +1,8 @@
 //! Peers that are built.
-ghost use Rattle.std.specs.Prelude.{◌≡◌, ◌≤◌, ◌<◌, ◌^◌, IfOk, OnOk, length, ℕ};
+ghost use Rattle.std.specs.Prelude.{◌≡◌, ◌≤◌, ◌<◌, ◌^◌, false, IfOk, OnOk, length, ℕ};
 ghost use Rattle.std.specs.Option.{option_copied};
 ghost use Rattle.rtc_peer_state.specs.Built.{Builds, creds_or, after_creds, cert_or, after_cert};
-ghost use Rattle.rtc_peer_state.specs.Built.{empty_peer as EmptyPeer, streams_of_config};
+ghost use Rattle.rtc_peer_state.specs.Built.{empty_peer as EmptyPeer, limited_streams, allowed_halves, streams_of_config};
 ghost use Rattle.rtc_peer_state.specs.Meanings.{meanings};
 
 use rtc_association::Association;
@@ -58,7 +58,35 @@ fn make_cert<N: Ids>(alloc: Global, ids: &mut N, given: Option<&[u8]>) -> Result
     }
 }
 
-// The streams of a peer over a fresh association, with the limits that its config says.
+// Streams over a fresh association, with the limits that a config says.
+fn limit_streams<S: Association>(
+    alloc: Global,
+    config: &RtcConfig,
+    start: Moment,
+    association: S,
+) -> RtcSctp<S>
+    requires { S.association.fresh association }
+    ensures limits { S.association.limits_set association 1062 config.now.max_message_size result.association }
+    ensures made { result ≡ limited_streams config.now start result.association }
+    ensures unstarted { S.association.started result.association ≡ false }
+{
+    let size = config.sctp_max_message_size();
+    let mut sctp = RtcSctp::new(alloc, MTU.0, size, start, association);
+    sctp.set_max_buffered_amount(config.sctp_max_buffered_amount());
+    sctp
+}
+
+// Allows a start by session descriptions, or does not.
+fn allow_snap<S: Association>(sctp: &mut RtcSctp<S>, allowed: bool)
+    requires { S.association.started sctp.old.association ≡ false }
+    ensures { sctp.new ≡ record sctp.old { snap = allowed_halves allowed sctp.old.local_max sctp.old.snap } }
+{
+    if allowed {
+        sctp.enable_snap();
+    }
+}
+
+// The streams of a peer over a fresh association, as its config says.
 fn make_streams<S: Association>(
     alloc: Global,
     config: &RtcConfig,
@@ -69,9 +97,8 @@ fn make_streams<S: Association>(
     ensures limits { S.association.limits_set association 1062 config.now.max_message_size result.association }
     ensures made { result ≡ streams_of_config config.now start result.association }
 {
-    let size = config.sctp_max_message_size();
-    let mut sctp = RtcSctp::new(alloc, MTU.0, size, start, association);
-    sctp.set_max_buffered_amount(config.sctp_max_buffered_amount());
+    let mut sctp = limit_streams(alloc, config, start, association);
+    allow_snap(&mut sctp, config.snap_enabled());
     sctp
 }
 

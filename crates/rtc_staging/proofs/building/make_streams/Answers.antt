@@ -1,15 +1,12 @@
-use Rattle.std.proofs.Common.{ap, ◌∙◌}
-use Rattle.rtc_staging.proofs.BuildLemmas.{limited, limits_kept}
+use Rattle.rtc_staging.proofs.BuildLemmas.{allowed, allowed_limits}
 use Rattle.rtc_staging.proofs.building.make_streams.Goals as goal
 
 pub returns-clause-limits : goal.returns-clause-limits
 returns-clause-limits g c =
-    limits_kept g.S.Association.association c.args.config.now c.args.association c.args.start c.sctp_max_message_size-size.result
-    c.sctp_max_buffered_amount.result c.new-sctp.result c.set_max_buffered_amount.new.self c.sctp_max_message_size-size.ensures c.new-sctp.ensures.made
-    c.set_max_buffered_amount.ensures c.new-sctp.ensures.limits
+    allowed_limits g.S.Association.association c.args.association c.args.config.now.max_message_size _ c.limit_streams-sctp.result
+    c.allow_snap.new.sctp c.allow_snap.ensures c.limit_streams-sctp.ensures.limits
 
 pub returns-clause-made : goal.returns-clause-made
 returns-clause-made g c =
-    limited c.args.config.now c.args.start c.sctp_max_message_size-size.result c.new-sctp.result c.set_max_buffered_amount.new.self
-    c.sctp_max_message_size-size.ensures c.new-sctp.ensures.made
-    (c.set_max_buffered_amount.ensures ∙ ap (λ n. record c.new-sctp.result { max_buffered = n }) c.sctp_max_buffered_amount.ensures)
+    allowed c.args.config.now c.args.start c.snap_enabled.result c.limit_streams-sctp.result c.allow_snap.new.sctp c.snap_enabled.ensures
+    c.limit_streams-sctp.ensures.made c.allow_snap.ensures
