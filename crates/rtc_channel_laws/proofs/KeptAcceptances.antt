@@ -1,5 +1,5 @@
 -- Offers and answers that are accepted, refused or stopped keep the use of each stream, and live channels.
-use Rattle.std.proofs.Common.{◌≡◌, ℕ, Bool, true, false, List, [], Option, Some, None, Result, Ok, Err, refl, sym, ap, subst, ◌∙◌}
+use Rattle.std.proofs.Common.{◌≡◌, ℕ, Bool, true, false, not, List, [], Option, Some, None, Result, Ok, Err, refl, sym, ap, subst, ◌∙◌}
 use Rattle.rtc_association.specs.AssociationLaws.{AssociationLaws}
 use Rattle.rtc_dtls.specs.declared.dtls_error.DtlsError.TheVariants.{WouldBlock, Fault, Alloc as DtlsAlloc}
 use Rattle.rtc_sdp_values.specs.declared.candidate.Candidate.{Candidate}
@@ -14,6 +14,8 @@ use Rattle.rtc_tables.specs.declared.why.Why.TheVariants.{
   NoCredentials,
   UnaskedRestart,
   NoFingerprint,
+  SctpInitChanged,
+  SctpInitMissing,
   MovedLine,
   PlaceTaken,
   AnswerRecycles,
@@ -24,10 +26,11 @@ use Rattle.rtc_tables.specs.declared.why.Why.TheVariants.{
 }
 use Rattle.rtc_tables.specs.ParsedLines.{parsed_lines}
 use Rattle.rtc_change.specs.TableAfter.{table_after}
-use Rattle.rtc_change.specs.Plans.{is_offer, asked_by}
+use Rattle.rtc_change.specs.Plans.{is_offer, asked_by, may_take_init}
 use Rattle.rtc_change.specs.declared.change.Change.{Change}
 use Rattle.rtc_change.specs.Held.{Asked}
 use Rattle.rtc_change.specs.PendingOffer.{PendingOffer, staged_restart}
+use Rattle.rtc_sctp_values.specs.InitHalves.{InitHalves}
 use Rattle.rtc_sctp_values.specs.declared.proto_error.ProtoError.TheVariants.{Fault as AssociationFault}
 use Rattle.rtc_sctp_values.specs.declared.sctp_error.SctpError.{SctpError}
 use Rattle.rtc_sctp_values.specs.declared.sctp_error.SctpError.TheVariants.{Proto, Alloc as SctpAlloc}
@@ -42,9 +45,9 @@ use Rattle.rtc_peer_state.specs.declared.rtc_error.RtcError.TheVariants.{RemoteS
 use Rattle.rtc_peer_state.specs.Meanings.{Meanings}
 use Rattle.rtc_peer_state.specs.Calls.{raised, control_for, fitting_channels}
 use Rattle.rtc_peer_state.specs.MadeSdp.{role_for, role_after}
-use Rattle.rtc_peer_state.specs.SdpMoves.{followed_restart, answer_ids}
+use Rattle.rtc_peer_state.specs.SdpMoves.{followed_restart, answer_ids, halves_for}
 use Rattle.rtc_peer_state.specs.PartMoves.{needs_start, StartsWhere, StartsSctp, remote_limit, StopsMoving, AtAgent, AtRole, AtStart}
-use Rattle.rtc_peer_state.specs.StoppedAcceptances.{StopsPreparing, BeforeSources, AmongSources, AtUpdates, StopsAccepting, AtVerdict, AtPreparing, AtParts}
+use Rattle.rtc_peer_state.specs.StoppedAcceptances.{StopsPreparing, BeforeSources, AmongDraws, AtUpdates, StopsAccepting, AtVerdict, AtPreparing, AtParts}
 use Rattle.rtc_peer_state.specs.Acceptances.{AcceptsOffer, AcceptsAnswer, phase_after}
 use Rattle.rtc_polling.specs.declared.polled_peer.PolledPeer.{PolledPeer}
 use Rattle.rtc_polling.specs.StreamStages.{channel_over}
@@ -63,6 +66,8 @@ stays_closed NoLines phase h = h
 stays_closed BothLite phase h = h
 stays_closed NoCredentials phase h = h
 stays_closed (UnaskedRestart kept got) phase h = h
+stays_closed (SctpInitChanged kept got) phase h = h
+stays_closed (SctpInitMissing kept) phase h = h
 stays_closed (MovedLine mid) phase h = h
 stays_closed (PlaceTaken mid) phase h = h
 stays_closed (AnswerRecycles mid) phase h = h
@@ -73,39 +78,44 @@ stays_closed NoneAnnounced phase h = refl
 
 module _ {I D S M E X T W N : Type 0} (m : Meanings I D S M E X T W N) where
   -- the streams are started where they are to be; their entries stay
-  started_entries : (b : Bool) (client : Bool) (now max : ℕ) (p : SctpStreams S) (r : Result (Unit {0}) SctpError) (q : SctpStreams S)
-      → StartsWhere m.association b p client now max r q → q.entries ≡ p.entries
-  started_entries false client now max p r q h = ap (λ (s : SctpStreams S). s.entries) h.1
-  started_entries true client now max p r q h = inits_entries m.association client now max None p r q h
+  started_entries : (b : Bool) (client : Bool) (now max : ℕ) (halves : Option InitHalves) (drops : Bool) (p : SctpStreams S)
+      (r : Result (Unit {0}) SctpError) (q : SctpStreams S) → StartsWhere m.association b p client now max halves drops r q
+      → q.entries ≡ p.entries
+  started_entries false client now max halves drops p r q h = ap (λ (s : SctpStreams S). s.entries) h.1
+  started_entries true client now max halves drops p r q h = inits_entries m.association client now max halves p r q h
 
-  sctp_entries : (rows : List LineRow) (client : Bool) (now max : ℕ) (p : SctpStreams S) (r : Result (Unit {0}) SctpError) (q : SctpStreams S)
-      → StartsSctp m.association p rows client now max r q → q.entries ≡ p.entries
-  sctp_entries rows client now max p r q h = started_entries (needs_start m.association rows p) client now max p r q h
+  sctp_entries : (rows : List LineRow) (client : Bool) (now max : ℕ) (halves : Option InitHalves) (drops : Bool) (p : SctpStreams S)
+      (r : Result (Unit {0}) SctpError) (q : SctpStreams S) → StartsSctp m.association p rows client now max halves drops r q
+      → q.entries ≡ p.entries
+  sctp_entries rows client now max halves drops p r q h =
+      started_entries (needs_start m.association rows p) client now max halves drops p r q h
 
-  preparing_entries : (o : Peer I D S M N) (offer : Bool) (changes : List Change) (sdp : Sdp) (drawn : N) (c : Peer I D S M N)
-      → StopsPreparing m o offer changes sdp drawn c → c.sctp.entries ≡ o.sctp.entries
-  preparing_entries o offer changes sdp drawn c (BeforeSources is) = ap (λ (x : Peer I D S M N). x.sctp.entries) is
-  preparing_entries o offer changes sdp drawn c (AmongSources later more is) = ap (λ (x : Peer I D S M N). x.sctp.entries) is
-  preparing_entries o offer changes sdp drawn c (AtUpdates error prepared is) = ap (λ (x : Peer I D S M N). x.sctp.entries) is
+  preparing_entries : (o : Peer I D S M N) (offer may : Bool) (changes : List Change) (sdp : Sdp) (drawn : N) (c : Peer I D S M N)
+      → StopsPreparing m o offer may changes sdp drawn c → c.sctp.entries ≡ o.sctp.entries
+  preparing_entries o offer may changes sdp drawn c (BeforeSources is) = ap (λ (x : Peer I D S M N). x.sctp.entries) is
+  preparing_entries o offer may changes sdp drawn c (AmongDraws later more is) = ap (λ (x : Peer I D S M N). x.sctp.entries) is
+  preparing_entries o offer may changes sdp drawn c (AtUpdates error prepared is) = ap (λ (x : Peer I D S M N). x.sctp.entries) is
 
   moving_entries : (p : Peer I D S M N) (c : Peer I D S M N) (restart : Option (IceCreds × Bool)) (creds : Option IceCreds) (candidates : List Candidate)
-      (control : Option Bool) (active : Bool) (rows : List LineRow) (client : Bool) (max : ℕ)
-      → StopsMoving m.ice m.dtls m.association p.ice p.dtls p.sctp restart creds candidates control active rows client p.greatest max c.ice c.dtls c.sctp
+      (control : Option Bool) (active : Bool) (rows : List LineRow) (client : Bool) (max : ℕ) (halves : Option InitHalves) (drops : Bool)
+      → StopsMoving m.ice m.dtls m.association p.ice p.dtls p.sctp restart creds candidates control active rows client p.greatest max halves drops c.ice
+      c.dtls c.sctp
       → c.sctp.entries ≡ p.sctp.entries
-  moving_entries p c restart creds candidates control active rows client max (AtAgent stops dtls sctp) = ap (λ (s : SctpStreams S). s.entries) sctp
-  moving_entries p c restart creds candidates control active rows client max (AtRole follows starts sctp) = ap (λ (s : SctpStreams S). s.entries) sctp
-  moving_entries p c restart creds candidates control active rows client max (AtStart follows starts started) =
-      sctp_entries rows client p.greatest max p.sctp (Err SctpAlloc) c.sctp started
+  moving_entries p c restart creds candidates control active rows client max halves drops (AtAgent stops dtls sctp) = ap (λ (s : SctpStreams S). s.entries) sctp
+  moving_entries p c restart creds candidates control active rows client max halves drops (AtRole follows starts sctp) = ap (λ (s : SctpStreams S). s.entries) sctp
+  moving_entries p c restart creds candidates control active rows client max halves drops (AtStart follows starts started) =
+      sctp_entries rows client p.greatest max halves drops p.sctp (Err SctpAlloc) c.sctp started
 
   stops_entries : (p : Peer I D S M N) (count : ℕ) (asked : Option Asked) (changes : List Change) (sdp : Sdp) (restart : Option (IceCreds × Bool))
       (control : Option Bool) (drawn : N) (c : Peer I D S M N) → StopsAccepting m (record p { counter = count }) asked changes sdp restart control drawn c
       → c.sctp.entries ≡ p.sctp.entries
   stops_entries p count asked changes sdp restart control drawn c (AtVerdict is) = ap (λ (x : Peer I D S M N). x.sctp.entries) is
   stops_entries p count asked changes sdp restart control drawn c (AtPreparing passes stops) =
-      preparing_entries (record p { counter = count }) (is_offer asked) changes sdp drawn c stops
+      preparing_entries (record p { counter = count }) (is_offer asked) (may_take_init asked) changes sdp drawn c stops
   stops_entries p count asked changes sdp restart control drawn c (AtParts passes ids prepared moving) =
       moving_entries p c restart (creds_of sdp) (candidates_of sdp) control (role_for (sdp_setup sdp)) (table_after p.lines (parsed_lines sdp) (is_offer asked))
-      (role_after p.dtls.active (sdp_setup sdp)) (remote_limit (max_message_size_of sdp)) moving
+      (role_after p.dtls.active (sdp_setup sdp)) (remote_limit (max_message_size_of sdp))
+      (halves_for m (record p { counter = count }) (is_offer asked) (may_take_init asked) changes sdp drawn) (not (is_offer asked)) moving
 
   -- acts on the association, where entries and channels stay
   acted_keeps : AssociationLaws m.association → (p : PolledPeer I D S M N) (c : Peer I D S M N) → NegotiationActs m p (with_core c p)
@@ -143,7 +153,7 @@ module _ {I D S M E X T W N : Type 0} (m : Meanings I D S M E X T W N) where
   offer_by w p offer (Ok answer) c did h =
       still_keeps w p c did
       (sctp_entries (table_after p.core.lines (parsed_lines offer) true) (role_after p.core.dtls.active (sdp_setup offer)) p.core.greatest
-      (remote_limit (max_message_size_of offer)) p.core.sctp (Ok tt) c.sctp h.sctp_starts) (ap (λ (x : Peer I D S M N). x.channels) h.rest)
+      (remote_limit (max_message_size_of offer)) (halves_for m p.core true true [] offer (answer_ids m p.core offer)) false p.core.sctp (Ok tt) c.sctp h.sctp_starts) (ap (λ (x : Peer I D S M N). x.channels) h.rest)
       (λ k. ap (λ (x : Peer I D S M N). x.phase) h.rest ∙ k)
   offer_by w p offer (Err (RemoteSdp why)) c did h = refused_keeps w p _ c did h.1 refl refl (λ k. stays_closed why p.core.phase k)
   offer_by w p offer (Err (SdpRefused error)) c did h = refused_keeps w p _ c did h.1 refl refl (λ k. k)
@@ -153,7 +163,7 @@ module _ {I D S M E X T W N : Type 0} (m : Meanings I D S M E X T W N) where
   offer_by w p offer (Err (Sctp error)) c did h =
       still_keeps w p c did
       (sctp_entries (table_after p.core.lines (parsed_lines offer) true) (role_after p.core.dtls.active (sdp_setup offer)) p.core.greatest
-      (remote_limit (max_message_size_of offer)) p.core.sctp (Err (Proto AssociationFault)) c.sctp h.1.sctp_fails)
+      (remote_limit (max_message_size_of offer)) (halves_for m p.core true true [] offer (answer_ids m p.core offer)) false p.core.sctp (Err (Proto AssociationFault)) c.sctp h.1.sctp_fails)
       (ap (λ (x : Peer I D S M N). x.channels) h.1.rest)
       (λ k. ap (λ (x : Peer I D S M N). x.phase) h.1.rest ∙ k)
   offer_by w p offer (Err ChangesOutOfOrder) c did h = absurd h
@@ -176,7 +186,7 @@ module _ {I D S M E X T W N : Type 0} (m : Meanings I D S M E X T W N) where
       let is = ap (λ (x : Peer I D S M N). x.channels) h.rest in
       acted_keeps w p c did
       (sctp_entries (table_after p.core.lines (parsed_lines answer) false) (role_after p.core.dtls.active (sdp_setup answer)) p.core.greatest
-      (remote_limit (max_message_size_of answer)) p.core.sctp (Ok tt) c.sctp h.sctp_starts)
+      (remote_limit (max_message_size_of answer)) (halves_for m p.core false token.says_init token.changes answer p.core.ids) true p.core.sctp (Ok tt) c.sctp h.sctp_starts)
       (λ s k e. ap (λ (x : Channels). channel_over s x) is ∙ (all_confirmed_over s (fitting_channels token.changes) p.core.channels ∙ e))
       (λ e. subst (λ (x : Channels). AreNumberedChannels x) (sym is) (all_confirmed_numbers (fitting_channels token.changes) p.core.channels e))
       (λ k e. subst (λ (x : Channels). IsGone k x) (sym is) (all_confirmed_gone k (fitting_channels token.changes) p.core.channels e))
@@ -193,7 +203,7 @@ module _ {I D S M E X T W N : Type 0} (m : Meanings I D S M E X T W N) where
   answer_by w p token answer (Err (Sctp error)) c did h =
       still_keeps w p c did
       (sctp_entries (table_after p.core.lines (parsed_lines answer) false) (role_after p.core.dtls.active (sdp_setup answer)) p.core.greatest
-      (remote_limit (max_message_size_of answer)) p.core.sctp (Err (Proto AssociationFault)) c.sctp h.1.sctp_fails)
+      (remote_limit (max_message_size_of answer)) (halves_for m p.core false token.says_init token.changes answer p.core.ids) true p.core.sctp (Err (Proto AssociationFault)) c.sctp h.1.sctp_fails)
       (ap (λ (x : Peer I D S M N). x.channels) h.1.rest)
       (λ k. ap (λ (x : Peer I D S M N). x.phase) h.1.rest ∙ k)
   answer_by w p token answer (Err Alloc) c did h =

@@ -9,6 +9,7 @@ use Rattle.rtc_association.specs.AssociationMeaning.{AssociationMeaning}
 use Rattle.rtc_sctp_entries.specs.Entries.{entry_place}
 use Rattle.rtc_sctp_entries.specs.declared.stream_entry.StreamEntry.{StreamEntry}
 use Rattle.rtc_sctp_values.specs.declared.sctp_error.SctpError.{SctpError}
+use Rattle.rtc_sctp_values.specs.SnapHalves.{KeptHalves}
 use Rattle.rtc_sctp.specs.Streams.{SctpStreams}
 use Rattle.rtc_sctp.specs.Calls.{WritesStream, TakesTimeout}
 use Rattle.rtc_sctp.specs.StreamCalls.{SetsThreshold}
@@ -44,6 +45,12 @@ module _ {S : Type 0} (m : AssociationMeaning S) where
 
   pub kept_same : (a b : SctpStreams S) → b ≡ a → StreamsKept a [] b
   kept_same a b is = kept_plainly a b (λ v s ws hs h. subst (λ (x : SctpStreams S). IsUsedOver m s ws hs x) (sym is) h) (λ s g h. subst (λ (x : SctpStreams S). IsLive s g x.entries) (sym is) h)
+
+  -- where only what is kept of starts by session descriptions is another
+  pub kept_snap : (kept : KeptHalves) (a b : SctpStreams S) → b ≡ record a { snap = kept } → StreamsKept a [] b
+  kept_snap kept a b is =
+      kept_plainly a b (λ v s ws hs h. subst (λ (x : SctpStreams S). IsUsedOver m s ws hs x) (sym is) h)
+      (λ s g h. subst (λ (x : SctpStreams S). IsLive s g x.entries) (sym is) h)
 
   pub kept_on : (a b c : SctpStreams S) → StreamsKept a [] b → StreamsKept b [] c → StreamsKept a [] c
   kept_on a b c x y = kept_plainly a c

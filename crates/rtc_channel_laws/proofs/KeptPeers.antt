@@ -57,7 +57,7 @@ written_is stream generation binary bytes (Ok count) = refl
 written_is stream generation binary bytes (Err error) = refl
 
 module _ {I D S M E X T W N : Type 0} (m : Meanings I D S M E X T W N) where
-  over_streams : (p q : PolledPeer I D S M N) (wrote : List StreamMessage) → StreamsKept m.association p.core.sctp wrote q.core.sctp
+  pub over_streams : (p q : PolledPeer I D S M N) (wrote : List StreamMessage) → StreamsKept m.association p.core.sctp wrote q.core.sctp
       → q.core.channels ≡ p.core.channels → (p.core.phase ≡ Closed → q.core.phase ≡ Closed) → CallKeepsStreams m p wrote q
   over_streams p q wrote h is closed = record {
     uses = h.uses;

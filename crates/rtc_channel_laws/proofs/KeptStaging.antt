@@ -1,5 +1,5 @@
 -- What is staged and applied keeps the use of each stream, and live channels.
-use Rattle.std.proofs.Common.{◌≡◌, ◌∷◌, ℕ, List, [], Option, Some, None, Result, Ok, Err, refl, sym, ap, subst, ◌∙◌}
+use Rattle.std.proofs.Common.{◌≡◌, ◌∷◌, ℕ, Bool, true, false, List, [], Option, Some, None, Result, Ok, Err, refl, sym, ap, subst, ◌∙◌}
 use Rattle.std.specs.declared.alloc.AllocError.{AllocError}
 use Rattle.rtc_wire.specs.declared.channel_config.ChannelConfig.{ChannelConfig}
 use Rattle.rtc_sdp_values.specs.declared.sdp.Sdp.{Sdp}
@@ -9,8 +9,11 @@ use Rattle.rtc_channels.specs.Channels.{Channels}
 use Rattle.rtc_peer_state.specs.declared.peer.Peer.{Peer}
 use Rattle.rtc_peer_state.specs.declared.rtc_error.RtcError.{RtcError}
 use Rattle.rtc_peer_state.specs.declared.rtc_error.RtcError.TheVariants.{RemoteSdp, Sdp as SdpRefused, Dtls, Sctp, Net, Media as MediaFailed, ChangesOutOfOrder, BadChannel, Alloc}
-use Rattle.rtc_peer_state.specs.Calls.{AddsChannel, Applies, after_channels_alone, fitting_channels}
+use Rattle.rtc_peer_state.specs.Calls.{AddsChannel, Applies, LacksOffer, after_channels_alone, fitting_channels, half_drawn}
 use Rattle.rtc_peer_state.specs.Meanings.{Meanings}
+use Rattle.rtc_peer_state.specs.SdpHalves.{draws_half, offered_snap}
+use Rattle.rtc_peer_state.specs.Stance.{stance_of}
+use Rattle.rtc_sctp_values.specs.SnapHalves.{KeptHalves}
 use Rattle.rtc_polling.specs.declared.polled_peer.PolledPeer.{PolledPeer}
 use Rattle.rtc_polling.specs.StreamStages.{channel_over}
 use Rattle.rtc_polling_laws.specs.Acts.{with_core}
@@ -18,8 +21,8 @@ use Rattle.rtc_polling_laws.specs.ChannelStreams.{AreNumberedChannels, IsGone}
 use Rattle.rtc_channel_laws.specs.KeptChannels.{CallKeepsStreams}
 use Rattle.rtc_channel_laws.proofs.ConfirmedChannels.{all_confirmed_over, all_confirmed_numbers, made_over, made_numbers}
 use Rattle.rtc_channel_laws.proofs.GoneChannels.{all_confirmed_gone, made_gone}
-use Rattle.rtc_channel_laws.proofs.KeptCalls.{kept_same}
-use Rattle.rtc_channel_laws.proofs.KeptPeers.{same_kept, over_channels}
+use Rattle.rtc_channel_laws.proofs.KeptCalls.{kept_same, kept_snap}
+use Rattle.rtc_channel_laws.proofs.KeptPeers.{same_kept, over_streams, over_channels}
 
 module _ {I D S M E X T W N : Type 0} (m : Meanings I D S M E X T W N) where
   -- streams and channels are those of another peer
@@ -27,6 +30,14 @@ module _ {I D S M E X T W N : Type 0} (m : Meanings I D S M E X T W N) where
       → n.phase ≡ p.core.phase → CallKeepsStreams m p [] (with_core c p)
   core_kept p n c is sctp channels phase =
       same_kept m p (with_core c p) (ap (λ (x : Peer I D S M N). x.sctp) is ∙ sctp, ap (λ (x : Peer I D S M N). x.channels) is ∙ channels, λ k. ap (λ (x : Peer I D S M N). x.phase) is ∙ phase ∙ k)
+
+  -- the streams too, but for what is kept of starts by session descriptions
+  snap_kept : (p : PolledPeer I D S M N) (kept : KeptHalves) (n c : Peer I D S M N) → c ≡ n → n.sctp ≡ record p.core.sctp { snap = kept }
+      → n.channels ≡ p.core.channels → n.phase ≡ p.core.phase → CallKeepsStreams m p [] (with_core c p)
+  snap_kept p kept n c is sctp channels phase =
+      over_streams m p (with_core c p) []
+      (kept_snap m.association kept p.core.sctp c.sctp (ap (λ (x : Peer I D S M N). x.sctp) is ∙ sctp))
+      (ap (λ (x : Peer I D S M N). x.channels) is ∙ channels) (λ k. ap (λ (x : Peer I D S M N). x.phase) is ∙ phase ∙ k)
 
   -- and these channels, over the streams as they were
   held_kept : (p : PolledPeer I D S M N) (c : Peer I D S M N) (held : Channels) → c.sctp ≡ p.core.sctp → c.channels ≡ held
@@ -65,8 +76,14 @@ module _ {I D S M E X T W N : Type 0} (m : Meanings I D S M E X T W N) where
       (λ numbered. all_confirmed_numbers (fitting_channels (change ∷ changes)) p.core.channels numbered)
       (λ k x. all_confirmed_gone k (fitting_channels (change ∷ changes)) p.core.channels x) (ap (λ (x : Peer I D S M N). x.phase) h)
 
+  -- memory ran out as an offer was made
+  lacking_kept : (draws : Bool) (p : PolledPeer I D S M N) (c : Peer I D S M N) → LacksOffer m draws p.core c
+      → CallKeepsStreams m p [] (with_core c p)
+  lacking_kept true p c h = core_kept p _ c h.1 refl refl refl
+  lacking_kept false p c h = core_kept p p.core c h refl refl refl
+
   pub applied : (p : PolledPeer I D S M N) (r : Result (Option (Sdp × PendingOffer)) AllocError) (c : Peer I D S M N) → Applies m p.core r c
       → CallKeepsStreams m p [] (with_core c p)
   applied p (Ok None) c h = alone_kept p.core.staged p c h.1
-  applied p (Ok (Some made)) c h = core_kept p _ c h.4 refl refl refl
-  applied p (Err error) c h = core_kept p p.core c h refl refl refl
+  applied p (Ok (Some made)) c h = snap_kept p (offered_snap (stance_of m p.core) (half_drawn m p.core)) _ c h.4 refl refl refl
+  applied p (Err error) c h = lacking_kept (draws_half (stance_of m p.core)) p c h

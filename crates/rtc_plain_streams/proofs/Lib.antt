@@ -1,3 +1,4 @@
 pub mod RowsGo
+pub mod GoingEnds
 pub mod PlainGenerations
 pub mod PlainReadings

@@ -1,5 +1,5 @@
 -- The plain association reads identifiers by their names.
-use Rattle.std.proofs.Common.{◌≡◌, ◌==◌, cond, ℕ, Bool, true, false, List, Option, Some, None, Ok, refl, sym, ap, ◌∙◌}
+use Rattle.std.proofs.Common.{◌≡◌, ◌==◌, cond, ℕ, Bool, true, false, List, Option, Some, None, refl, sym, ap, ◌∙◌}
 use Rattle.std.proofs.lemmas.Bool.{eqb-true}
 use Rattle.rtc_association.specs.declared.ppi.Ppi.{Ppi}
 use Rattle.rtc_association.specs.declared.ppi.Ppi.TheVariants as ppi
@@ -8,7 +8,7 @@ use Rattle.rtc_assoc_state.specs.declared.message.Message.{Message}
 use Rattle.rtc_assoc_state.specs.Calls.{next_message}
 use Rattle.rtc_assoc_state.specs.Contents.{Contents}
 use Rattle.rtc_assoc_state.specs.PlainMeaning.{plain_meaning, Reads}
-use Rattle.rtc_sctp_laws.specs.StreamMessages.{IsNamed, NamesReadings}
+use Rattle.rtc_sctp_laws.specs.StreamMessages.{IsNamedPpi, NamesReadings}
 
 -- the identifier of a number has this number
 number_of_ppi : (n : ℕ) → ppi_number (ppi_of n) ≡ n
@@ -21,10 +21,10 @@ number_of_ppi n =
     first k i true e rest = sym (eqb-true n (ppi_number k) e)
     first k i false e rest = rest
 
-named_of : (n : ℕ) → IsNamed (ppi_of n)
+named_of : (n : ℕ) → IsNamedPpi (ppi_of n)
 named_of n = ap ppi_of (number_of_ppi n)
 
-shown_named : (o : Option Message) (id : ℕ) (p : Contents) (i : Ppi) (bytes : List ℕ) (q : Contents) → Reads o id p (Some (i, bytes)) q → IsNamed i
+shown_named : (o : Option Message) (id : ℕ) (p : Contents) (i : Ppi) (bytes : List ℕ) (q : Contents) → Reads o id p (Some (i, bytes)) q → IsNamedPpi i
 shown_named None id p i bytes q h = absurd h
 shown_named (Some message) id p i bytes q h =
     let is : i ≡ ppi_of message.identifier = ap (λ (x : Ppi × List ℕ). x.0) h.0 in

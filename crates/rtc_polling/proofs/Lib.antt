@@ -17,6 +17,7 @@ pub mod Keeping
 pub mod KeptInputs
 pub mod DtlsRoles
 pub mod StreamSizes
+pub mod StreamStarts
 pub mod StandingCalls
 pub mod StandingStreams
 pub mod Standing

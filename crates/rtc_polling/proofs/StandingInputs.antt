@@ -1,5 +1,4 @@
--- Inputs leave the settings of the ICE agent, the DTLS role, the fingerprint of this side, the longest message that it takes and the lines
--- of the media part.
+-- Inputs leave what negotiation reads of the parts of a peer.
 use Rattle.std.proofs.Common.{◌≡◌, inl, inr, ℕ, Bool, true, false, List, Option, Result, Ok, Err, alloc_error, refl, ap, ◌∙◌}
 use Rattle.std.specs.declared.alloc.AllocError.{AllocError}
 use Rattle.rtc_wire.specs.declared.datagram_recv.DatagramRecv.{DatagramRecv}
@@ -30,54 +29,57 @@ use Rattle.rtc_polling.proofs.DtlsRoles.{hands_on_role}
 use Rattle.rtc_polling.proofs.StreamSizes.{timed_size, moment_size}
 use Rattle.rtc_polling.specs.Statistics.{TimesStatistics}
 use Rattle.rtc_polling.proofs.StatisticsTurns.{VisitedOnce, statistics_timed}
+use Rattle.rtc_polling.proofs.StreamStarts.{start_self, started_same, timed_start, moment_start}
+use Rattle.rtc_sctp_values.specs.SnapHalves.{KeptHalves}
+use Rattle.rtc_association.specs.AssociationLaws.{AssociationLaws}
 use Rattle.rtc_polling.proofs.StandingCalls.{CallStands, stands_on, stands_by, dtls_stand, turn_stands, lines_same}
 
-module _ {I D S M E X T W N : Type 0} (m : Meanings I D S M E X T W N) (laws : IceLaws m.ice) (media : MediaLaws m.media) where
+module _ {I D S M E X T W N : Type 0} (m : Meanings I D S M E X T W N) (laws : IceLaws m.ice) (media : MediaLaws m.media) (streams : AssociationLaws m.association) where
   ice_timed_stands : (now : ℕ) → CallStands m (TimesIce m now)
   unfolding TimesIce
-  ice_timed_stands now p (Ok done) q h = stands_by m p _ q h.1 (laws.timed_settings p.core.ice q.core.ice now (Ok tt) h.0, refl, refl, refl, refl)
-  ice_timed_stands now p (Err Alloc) q h = stands_by m p _ q h.1 (laws.timed_settings p.core.ice q.core.ice now (Err alloc_error) h.0, refl, refl, refl, refl)
+  ice_timed_stands now p (Ok done) q h = stands_by m p _ q h.1 (laws.timed_settings p.core.ice q.core.ice now (Ok tt) h.0, refl, refl, refl, refl, start_self m.association p.core.sctp)
+  ice_timed_stands now p (Err Alloc) q h = stands_by m p _ q h.1 (laws.timed_settings p.core.ice q.core.ice now (Err alloc_error) h.0, refl, refl, refl, refl, start_self m.association p.core.sctp)
   ice_timed_stands now p (Err _) q h = absurd h
 
   streams_timed_stand : (now : ℕ) → CallStands m (TimesStreams m now)
   unfolding TimesStreams
   streams_timed_stand now p (Ok done) q h =
-      stands_by m p _ q h.1 (refl, refl, refl, timed_size m.association p.core.sctp.state now p.core.sctp both (Ok tt) q.core.sctp h.0.0 h.0.1, refl)
+      stands_by m p _ q h.1 (refl, refl, refl, timed_size m.association p.core.sctp.state now p.core.sctp both (Ok tt) q.core.sctp h.0.0 h.0.1, refl, timed_start m.association streams p.core.sctp.state now p.core.sctp both (Ok tt) q.core.sctp h.0.0 h.0.1)
   streams_timed_stand now p (Err Alloc) q h =
       stands_by m p _ q h.1
-      (refl, refl, refl, timed_size m.association p.core.sctp.state now p.core.sctp both (Err alloc_error) q.core.sctp h.0.0 h.0.1, refl)
+      (refl, refl, refl, timed_size m.association p.core.sctp.state now p.core.sctp both (Err alloc_error) q.core.sctp h.0.0 h.0.1, refl, timed_start m.association streams p.core.sctp.state now p.core.sctp both (Err alloc_error) q.core.sctp h.0.0 h.0.1)
   streams_timed_stand now p (Err _) q h = absurd h
 
   channels_timed_stand : CallStands m (TimesChannels m)
   unfolding TimesChannels
   channels_timed_stand p (Ok done) q h =
       stands_by m p _ q h.1
-      (refl, refl, refl, moment_size m.association _ p.core.channels p.core.sctp both (Ok tt) q.core.channels q.core.sctp h.0.0 h.0.1, refl)
+      (refl, refl, refl, moment_size m.association _ p.core.channels p.core.sctp both (Ok tt) q.core.channels q.core.sctp h.0.0 h.0.1, refl, moment_start m.association streams p.core.channels p.core.sctp both (Ok tt) q.core.channels q.core.sctp h.0.0 h.0.1)
   channels_timed_stand p (Err Alloc) q h =
       stands_by m p _ q h.1
-      (refl, refl, refl, moment_size m.association _ p.core.channels p.core.sctp both (Err alloc_error) q.core.channels q.core.sctp h.0.0 h.0.1, refl)
+      (refl, refl, refl, moment_size m.association _ p.core.channels p.core.sctp both (Err alloc_error) q.core.channels q.core.sctp h.0.0 h.0.1, refl, moment_start m.association streams p.core.channels p.core.sctp both (Err alloc_error) q.core.channels q.core.sctp h.0.0 h.0.1)
   channels_timed_stand p (Err _) q h = absurd h
 
   media_timed_stands : (now : ℕ) → CallStands m (TimesMedia m now)
   unfolding TimesMedia
-  media_timed_stands now p (Ok done) q h = stands_by m p _ q h.1 (refl, refl, refl, refl, lines_same m media p.core.media q.core.media (ByTime now (Ok tt, h.0)))
-  media_timed_stands now p (Err (Media cause)) q h = stands_by m p _ q h.2 (refl, refl, refl, refl, lines_same m media p.core.media q.core.media (ByTime now (Err cause, h.1)))
-  media_timed_stands now p (Err Alloc) q h = stands_by m p _ q h.1 (refl, refl, refl, refl, lines_same m media p.core.media q.core.media (ByTime now (Err MediaAlloc, h.0)))
+  media_timed_stands now p (Ok done) q h = stands_by m p _ q h.1 (refl, refl, refl, refl, lines_same m media streams p.core.media q.core.media (ByTime now (Ok tt, h.0)), start_self m.association p.core.sctp)
+  media_timed_stands now p (Err (Media cause)) q h = stands_by m p _ q h.2 (refl, refl, refl, refl, lines_same m media streams p.core.media q.core.media (ByTime now (Err cause, h.1)), start_self m.association p.core.sctp)
+  media_timed_stands now p (Err Alloc) q h = stands_by m p _ q h.1 (refl, refl, refl, refl, lines_same m media streams p.core.media q.core.media (ByTime now (Err MediaAlloc, h.0)), start_self m.association p.core.sctp)
   media_timed_stands now p (Err _) q h = absurd h
 
   visited_lines : (now : ℕ) (p q : M) → VisitedOnce m now p q → m.media.line q ≡ m.media.line p
   visited_lines now p q (inl same) = ap (λ (x : M). m.media.line x) same
   visited_lines now p q (inr visited) =
-      lines_same m media p q (ByOther (StatsVisited now visited.0 visited.1.0 visited.1.1.0 visited.1.1.1))
+      lines_same m media streams p q (ByOther (StatsVisited now visited.0 visited.1.0 visited.1.1.0 visited.1.1.1))
 
   statistics_timed_stand : (now : ℕ) → CallStands m (TimesStatistics m now)
   statistics_timed_stand now p r q h =
       let timed = statistics_timed m now p r q h in
-      stands_by m p _ q timed.kept (refl, refl, refl, refl, visited_lines now p.core.media q.core.media timed.media)
+      stands_by m p _ q timed.kept (refl, refl, refl, refl, visited_lines now p.core.media q.core.media timed.media, start_self m.association p.core.sctp)
 
   time_given_stands : (now : ℕ) → CallStands m (GivesTime m now)
   time_given_stands now p r q h =
-      stands_on m p (with_moment now p) q (refl, refl, refl, refl, refl)
+      stands_on m p (with_moment now p) q (refl, refl, refl, refl, refl, start_self m.association p.core.sctp)
       (turn_stands m (TimesIce m now) _ (ice_timed_stands now)
       (turn_stands m (TimesStreams m now) _ (streams_timed_stand now)
       (turn_stands m (TimesChannels m) _ channels_timed_stand
@@ -86,14 +88,14 @@ module _ {I D S M E X T W N : Type 0} (m : Meanings I D S M E X T W N) (laws : I
 
   time_stands : (earlier : Bool) (now : ℕ) (p : PolledPeer I D S M N) (r : Result (Unit {0}) RtcError) (q : PolledPeer I D S M N)
       → TakesTimeIf m earlier now p r q → KeepsParts m p q
-  time_stands true now p r q h = stands_by m p p q h.1 (refl, refl, refl, refl, refl)
+  time_stands true now p r q h = stands_by m p p q h.1 (refl, refl, refl, refl, refl, start_self m.association p.core.sctp)
   time_stands false now p r q h = time_given_stands now p r q h
 
   stun_stands : (now : ℕ) (datagram : Receive) (bytes : List ℕ) (p : PolledPeer I D S M N) (r : Result (Unit {0}) RtcError)
       (q : PolledPeer I D S M N) → HearsStun m now datagram bytes p r q → KeepsParts m p q
   unfolding HearsStun
-  stun_stands now datagram bytes p (Ok done) q h = stands_by m p _ q h.1 (laws.given_settings p.core.ice q.core.ice now datagram.proto datagram.source datagram.destination bytes (Ok tt) h.0, refl, refl, refl, refl)
-  stun_stands now datagram bytes p (Err Alloc) q h = stands_by m p _ q h.1 (laws.given_settings p.core.ice q.core.ice now datagram.proto datagram.source datagram.destination bytes (Err alloc_error) h.0, refl, refl, refl, refl)
+  stun_stands now datagram bytes p (Ok done) q h = stands_by m p _ q h.1 (laws.given_settings p.core.ice q.core.ice now datagram.proto datagram.source datagram.destination bytes (Ok tt) h.0, refl, refl, refl, refl, start_self m.association p.core.sctp)
+  stun_stands now datagram bytes p (Err Alloc) q h = stands_by m p _ q h.1 (laws.given_settings p.core.ice q.core.ice now datagram.proto datagram.source datagram.destination bytes (Err alloc_error) h.0, refl, refl, refl, refl, start_self m.association p.core.sctp)
   stun_stands now datagram bytes p (Err _) q h = absurd h
 
   dtls_stands : (bytes : List ℕ) (p : PolledPeer I D S M N) (r : Result (Unit {0}) RtcError) (q : PolledPeer I D S M N) → HearsDtls m bytes p r q
@@ -109,9 +111,9 @@ module _ {I D S M E X T W N : Type 0} (m : Meanings I D S M E X T W N) (laws : I
       (r : Result (Unit {0}) RtcError) (q : PolledPeer I D S M N) → HearsMedia m given bytes p r q → KeepsParts m p q
   unfolding HearsMedia
   media_stands given keeps bytes p (Ok done) q h =
-      stands_by m p _ q h.1 (refl, refl, refl, refl, lines_same m media p.core.media q.core.media (keeps p.core.media q.core.media (Ok tt) h.0))
+      stands_by m p _ q h.1 (refl, refl, refl, refl, lines_same m media streams p.core.media q.core.media (keeps p.core.media q.core.media (Ok tt) h.0), start_self m.association p.core.sctp)
   media_stands given keeps bytes p (Err Alloc) q h =
-      stands_by m p _ q h.1 (refl, refl, refl, refl, lines_same m media p.core.media q.core.media (keeps p.core.media q.core.media (Err alloc_error) h.0))
+      stands_by m p _ q h.1 (refl, refl, refl, refl, lines_same m media streams p.core.media q.core.media (keeps p.core.media q.core.media (Err alloc_error) h.0), start_self m.association p.core.sctp)
   media_stands given keeps bytes p (Err _) q h = absurd h
 
   kind_stands : (now : ℕ) (datagram : Receive) (contents : DatagramRecv) (p : PolledPeer I D S M N) (r : Result (Unit {0}) RtcError)
@@ -138,7 +140,7 @@ module _ {I D S M E X T W N : Type 0} (m : Meanings I D S M E X T W N) (laws : I
       → HandlesInputIn m phase input p r q → KeepsParts m p q
   input_in_stands Alive input p r q h = input_by_stands input p r q h
   input_in_stands Closing input p r q h = input_by_stands input p r q h
-  input_in_stands Closed input p r q h = stands_by m p p q h.1 (refl, refl, refl, refl, refl)
+  input_in_stands Closed input p r q h = stands_by m p p q h.1 (refl, refl, refl, refl, refl, start_self m.association p.core.sctp)
 
   -- an input leaves them
   pub input_stands : (input : Input) (p : PolledPeer I D S M N) (r : Result (Unit {0}) RtcError) (q : PolledPeer I D S M N) → HandlesInput m input p r q
@@ -160,18 +162,31 @@ stance_by m p q kept parts =
       own_fingerprint = q.core.dtls.local;
       role = q.core.dtls.active;
       max_message_size = q.core.sctp.local_max;
+      inited = m.association.started q.core.sctp.association;
+      snap = q.core.sctp.snap;
       line = m.media.line q.core.media;
     }) parts.0
     ∙ ap (λ (f : Fingerprint). record after {
       own_fingerprint = f;
       role = q.core.dtls.active;
       max_message_size = q.core.sctp.local_max;
+      inited = m.association.started q.core.sctp.association;
+      snap = q.core.sctp.snap;
       line = m.media.line q.core.media;
     }) parts.2
     ∙ ap (λ (o : Option Bool). record after {
       role = o;
       max_message_size = q.core.sctp.local_max;
+      inited = m.association.started q.core.sctp.association;
+      snap = q.core.sctp.snap;
       line = m.media.line q.core.media;
     }) parts.1
-    ∙ ap (λ (n : ℕ). record after { max_message_size = n; line = m.media.line q.core.media }) parts.3
+    ∙ ap (λ (told : ℕ × KeptHalves). record after {
+      max_message_size = told.0;
+      inited = m.association.started q.core.sctp.association;
+      snap = told.1;
+      line = m.media.line q.core.media;
+    }) parts.3
+    ∙ ap (λ (b : Bool). record after { inited = b; line = m.media.line q.core.media })
+    (started_same m.association p.core.sctp q.core.sctp parts.5)
     ∙ ap (λ (line : List ℕ → Option MediaUpdate). record after { line = line }) parts.4

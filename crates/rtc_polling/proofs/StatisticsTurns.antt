@@ -2,7 +2,6 @@
 use Rattle.std.proofs.Common.{◌≡◌, ◌⊎◌, inl, inr, ℕ, Bool, true, false, List, [], ◌∷◌, Option, Some, None, Result, Ok, Err, alloc_error, refl, sym, ap, subst, ◌∙◌}
 use Rattle.std.specs.declared.alloc.AllocError.{AllocError}
 use Rattle.rtc_media.specs.declared.stats_event.StatsEvent.{StatsEvent}
-use Rattle.rtc_media.specs.declared.stats_event.StatsEvent.TheVariants as reports
 use Rattle.rtc_media.specs.MediaMeaning.{MediaMeaning}
 use Rattle.rtc_media.specs.declared.stats_snapshot.StatsSnapshot.{StatsSnapshot}
 use Rattle.rtc_statistics.specs.Stats.{Reporting, is_round_due, since}

@@ -1,4 +1,5 @@
--- What calls on the streams and polls of them leave of the longest message that this side takes: it stays.
+-- What calls on the streams and polls of them leave of what session descriptions tell of them, the longest message that this side takes
+-- and what is kept of their start: it stays.
 use Rattle.std.proofs.Common.{◌≡◌, ◌∙◌, ℕ, zero, suc, Bool, true, false, List, [], ◌∷◌, Option, Some, None, Result, Ok, Err, refl, ap}
 use Rattle.std.specs.declared.alloc.AllocError.{AllocError}
 use Rattle.rtc_ready.specs.Signals.{Signals}
@@ -17,14 +18,15 @@ use Rattle.rtc_sctp.specs.declared.rtc_sctp_state.RtcSctpState.TheVariants.{Unin
 use Rattle.rtc_sctp.specs.declared.rtc_sctp_state.RtcSctpState.TheVariants.{AwaitAssociationEstablished, Established}
 use Rattle.rtc_wire.specs.declared.channel_config.ChannelConfig.{ChannelConfig}
 use Rattle.rtc_channels.specs.Channels.{Channel, Channels}
+use Rattle.rtc_polling.specs.Kept.{told_of_streams}
 use Rattle.rtc_channels.specs.Openings.{OpensChannel, OpensAll, Following, MeetsMoment, ClosesChannel}
 
--- the longest message that this side takes is the same
+-- what session descriptions tell of the streams is the same
 abbrev pub SameSize : {S : Type 0} → SctpStreams S → SctpStreams S → Type 0
-SameSize p q = q.local_max ≡ p.local_max
+SameSize p q = told_of_streams q ≡ told_of_streams p
 
 same_size : {S : Type 0} (p n q : SctpStreams S) → q ≡ n → SameSize p n → SameSize p q
-same_size {S} p n q is same = ap (λ (s : SctpStreams S). s.local_max) is ∙ same
+same_size {S} p n q is same = ap (λ (s : SctpStreams S). told_of_streams s) is ∙ same
 
 module _ {S : Type 0} (m : AssociationMeaning S) where
   -- ---- calls

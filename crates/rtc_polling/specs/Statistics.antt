@@ -9,11 +9,9 @@ use Rattle.rtc_media.specs.declared.stats_snapshot.StatsSnapshot.{StatsSnapshot}
 use Rattle.rtc_media.specs.MediaMeaning.{MediaMeaning}
 use Rattle.rtc_statistics.specs.Stats.{Reporting, is_round_due, next_round, reported, since}
 use Rattle.rtc_peer_state.specs.Meanings.{Meanings}
-use Rattle.rtc_peer_state.specs.declared.rtc_error.RtcError.{RtcError}
 use Rattle.rtc_peer_state.specs.declared.rtc_error.RtcError.TheVariants.{Alloc}
 use Rattle.rtc_polling.specs.declared.event.Event.{Event}
 use Rattle.rtc_polling.specs.declared.event.Event.TheVariants.{PeerStats, MediaIngressStats, MediaEgressStats}
-use Rattle.rtc_polling.specs.declared.met.Met.{Met}
 use Rattle.rtc_polling.specs.declared.met.Met.TheVariants.{Nothing, Event as MetEvent}
 use Rattle.rtc_polling.specs.declared.polled_peer.PolledPeer.{PolledPeer}
 use Rattle.rtc_polling.specs.declared.send_addr.SendAddr.{SendAddr}

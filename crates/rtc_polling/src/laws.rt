@@ -9,7 +9,7 @@ ghost use Rattle.rtc_polling.specs.declared.polled_peer.PolledPeer.{PolledPeer a
 ghost use Rattle.rtc_peer_state.specs.declared.rtc_error.RtcError.TheVariants.{Alloc};
 ghost use Rattle.rtc_polling.specs.Closing.{ClosesPeer};
 ghost use Rattle.rtc_polling.specs.Inputs.{HandlesInput};
-ghost use Rattle.rtc_polling.specs.Kept.{KeepsNegotiation};
+ghost use Rattle.rtc_polling.specs.Kept.{KeepsNegotiation, KeepsStart};
 ghost use Rattle.rtc_polling.specs.Numbers.{ChannelNumbers, number_told};
 ghost use Rattle.rtc_polling.specs.Walk.{PollsPeer};
 
@@ -31,7 +31,8 @@ pub fn negotiation_is_kept<I: IceAgent, D: DtlsInstance, S: Association, M: Medi
 {}
 
 /// Polls, inputs and closing leave all that negotiation reads of a peer but for the channels: beside what it keeps, the settings
-/// of the ICE agent, the DTLS role, the fingerprint of this side and the longest message that it takes.
+/// of the ICE agent, the DTLS role, the fingerprint of this side, the longest message that it takes, whether the association is
+/// started, and what is kept of starts by session descriptions.
 pub fn stance_is_kept<I: IceAgent, D: DtlsInstance, S: Association, M: MediaSession, N: Ids>()
     ensures polls { (p q : Polled I D S M N) (answer : _)
         → PollsPeer (meanings I.ice D.dtls S.association M.media N.ids) p answer q
@@ -48,6 +49,19 @@ pub fn stance_is_kept<I: IceAgent, D: DtlsInstance, S: Association, M: MediaSess
         → stance_of (meanings I.ice D.dtls S.association M.media N.ids) q.core
         ≡ record (stance_of (meanings I.ice D.dtls S.association M.media N.ids) p.core)
         { channels = q.core.channels; rows = channel_rows S.association q.core.sctp q.core.channels } }
+{}
+
+/// Polls, inputs and closing leave whether the association is started. Before it is started they bring no stream into use.
+pub fn starts_are_kept<I: IceAgent, D: DtlsInstance, S: Association, M: MediaSession, N: Ids>()
+    ensures polls { (p q : Polled I D S M N) (answer : _)
+        → PollsPeer (meanings I.ice D.dtls S.association M.media N.ids) p answer q
+        → KeepsStart S.association p.core.sctp q.core.sctp }
+    ensures inputs { (p q : Polled I D S M N) (input : Given) (answer : _)
+        → HandlesInput (meanings I.ice D.dtls S.association M.media N.ids) input p answer q
+        → KeepsStart S.association p.core.sctp q.core.sctp }
+    ensures closes { (p q : Polled I D S M N) (answer : _)
+        → ClosesPeer (meanings I.ice D.dtls S.association M.media N.ids) p answer q
+        → KeepsStart S.association p.core.sctp q.core.sctp }
 {}
 
 /// Running out of memory in a poll, an input or a close leaves the peer closed.

@@ -44,15 +44,15 @@ module _ {I D S M E X T W N : Type 0} (m : Meanings I D S M E X T W N) where
   same_among : (xs ys : List (List ℕ)) → xs ≡ ys → Among xs ys
   same_among xs ys is = subst (λ (l : List (List ℕ)). Among l ys) (sym is) (among_self ys)
 
-  -- acts of the agent
-  pub ice_did : (came : Came) (moments : List ℕ) (shown : List (List ℕ)) (p q : PolledPeer I D S M N) (acts : List IceAct)
+  -- acts of the agent, where of the streams the association stays, and what is to be sent first
+  pub agent_acts_did : (came : Came) (moments : List ℕ) (shown : List (List ℕ)) (p q : PolledPeer I D S M N) (acts : List IceAct)
       → IceMoved m.ice p.core.ice acts q.core.ice → Among (ice_given acts) came.ice → Among (ice_moments acts) moments
       → Among shown (map (λ (transmit : Transmit). transmit.contents) (ice_taken acts)) → q.core.dtls.instance ≡ p.core.dtls.instance
-      → q.core.dtls.packets ≡ p.core.dtls.packets → q.core.sctp ≡ p.core.sctp → q.core.media ≡ p.core.media
-      → PeerDid m came moments shown [] [] p q
-  ice_did came moments shown p q acts went came_is timed shows dtls packets sctp media = record {
+      → q.core.dtls.packets ≡ p.core.dtls.packets → q.core.sctp.association ≡ p.core.sctp.association → q.core.sctp.pushed ≡ p.core.sctp.pushed
+      → q.core.media ≡ p.core.media → PeerDid m came moments shown [] [] p q
+  agent_acts_did came moments shown p q acts went came_is timed shows dtls packets association pushed media = record {
     acts = peer_acts acts [] [] [];
-    went = record { ice = went; dtls = dtls; association = ap (λ s. s.association) sctp; media = media };
+    went = record { ice = went; dtls = dtls; association = association; media = media };
     given_ice = came_is;
     given_dtls = among_none came.dtls;
     given_media = among_none came.media;
@@ -62,7 +62,7 @@ module _ {I D S M E X T W N : Type 0} (m : Meanings I D S M E X T W N) where
     sent = shown_of;
     handed = among_none [];
     all_handed = λ started. refl;
-    relayed = same_among _ _ (ap (λ s. pushed_packets s.pushed) sctp);
+    relayed = same_among _ _ (ap pushed_packets pushed);
     wrote_is = refl;
     heard_is = refl;
     named = λ n. tt;
@@ -79,6 +79,15 @@ module _ {I D S M E X T W N : Type 0} (m : Meanings I D S M E X T W N) where
               (subst (λ (l : List (List ℕ)). Member x l) packets n)
         ];
       }
+
+  -- acts of the agent
+  pub ice_did : (came : Came) (moments : List ℕ) (shown : List (List ℕ)) (p q : PolledPeer I D S M N) (acts : List IceAct)
+      → IceMoved m.ice p.core.ice acts q.core.ice → Among (ice_given acts) came.ice → Among (ice_moments acts) moments
+      → Among shown (map (λ (transmit : Transmit). transmit.contents) (ice_taken acts)) → q.core.dtls.instance ≡ p.core.dtls.instance
+      → q.core.dtls.packets ≡ p.core.dtls.packets → q.core.sctp ≡ p.core.sctp → q.core.media ≡ p.core.media
+      → PeerDid m came moments shown [] [] p q
+  ice_did came moments shown p q acts went came_is timed shows dtls packets sctp media =
+      agent_acts_did came moments shown p q acts went came_is timed shows dtls packets (ap (λ s. s.association) sctp) (ap (λ s. s.pushed) sctp) media
 
   -- acts of the DTLS part by which nothing was sent or got; packets that were taken from it stand to be shown
   pub dtls_did : (came : Came) (moments : List ℕ) (p q : PolledPeer I D S M N) (acts : List DtlsAct)

@@ -1,5 +1,5 @@
 -- What accepting an offer or an answer does to the parts of a peer.
-use Rattle.std.proofs.Common.{◌≡◌, ◌++◌, ◌∷◌, ℕ, Bool, true, false, List, [], Option, Some, None, Result, Ok, Err, refl, sym, ap, subst, ◌∙◌}
+use Rattle.std.proofs.Common.{◌≡◌, ◌++◌, ◌∷◌, ℕ, Bool, true, false, not, List, [], Option, Some, None, Result, Ok, Err, refl, sym, ap, subst, ◌∙◌}
 use Rattle.rtc_parts_values.specs.Among.{Among}
 use Rattle.rtc_association.proofs.AmongLemmas.{member-right, among_none}
 use Rattle.rtc_association.specs.AssociationWords.{given, taken}
@@ -11,10 +11,11 @@ use Rattle.rtc_sdp_values.specs.declared.sdp.Sdp.{Sdp}
 use Rattle.rtc_sdp_values.specs.Sdp.{creds_of, candidates_of, sdp_setup, max_message_size_of}
 use Rattle.rtc_tables.specs.ParsedLines.{parsed_lines}
 use Rattle.rtc_change.specs.TableAfter.{table_after}
-use Rattle.rtc_change.specs.Plans.{is_offer, asked_by}
+use Rattle.rtc_change.specs.Plans.{is_offer, asked_by, may_take_init}
 use Rattle.rtc_change.specs.declared.change.Change.{Change}
 use Rattle.rtc_change.specs.Held.{Asked}
 use Rattle.rtc_change.specs.PendingOffer.{PendingOffer, staged_restart}
+use Rattle.rtc_sctp_values.specs.InitHalves.{InitHalves}
 use Rattle.rtc_sctp_values.specs.declared.proto_error.ProtoError.TheVariants.{Fault as AssociationFault}
 use Rattle.rtc_sctp_values.specs.declared.sctp_error.SctpError.{SctpError}
 use Rattle.rtc_sctp_values.specs.declared.sctp_error.SctpError.TheVariants.{Proto, Alloc as SctpAlloc}
@@ -27,9 +28,9 @@ use Rattle.rtc_peer_state.specs.declared.rtc_error.RtcError.TheVariants.{RemoteS
 use Rattle.rtc_peer_state.specs.Meanings.{Meanings}
 use Rattle.rtc_peer_state.specs.Calls.{raised, control_for}
 use Rattle.rtc_peer_state.specs.MadeSdp.{role_for, role_after}
-use Rattle.rtc_peer_state.specs.SdpMoves.{followed_restart, answer_ids}
+use Rattle.rtc_peer_state.specs.SdpMoves.{followed_restart, answer_ids, halves_for}
 use Rattle.rtc_peer_state.specs.PartMoves.{needs_start, StartsSctp, remote_limit, StopsMoving, AtAgent, AtRole, AtStart}
-use Rattle.rtc_peer_state.specs.StoppedAcceptances.{StopsPreparing, BeforeSources, AmongSources, AtUpdates, StopsAccepting, AtVerdict, AtPreparing, AtParts}
+use Rattle.rtc_peer_state.specs.StoppedAcceptances.{StopsPreparing, BeforeSources, AmongDraws, AtUpdates, StopsAccepting, AtVerdict, AtPreparing, AtParts}
 use Rattle.rtc_peer_state.specs.Acceptances.{AcceptsOffer, AcceptsAnswer}
 use Rattle.rtc_polling.specs.declared.polled_peer.PolledPeer.{PolledPeer}
 use Rattle.rtc_polling_laws.specs.PeerActs.{peer_acts, contents_taken}
@@ -84,38 +85,41 @@ module _ {I D S M E X T W N : Type 0} (m : Meanings I D S M E X T W N) where
       (ap (λ (x : Peer I D S M N). x.sctp) is ∙ sctp) (ap (λ (x : Peer I D S M N). x.media) is ∙ media)
 
   -- memory ran out before another part than media was touched
-  preparing_did : (p : PolledPeer I D S M N) (o : Peer I D S M N) (offer : Bool) (changes : List Change) (sdp : Sdp) (drawn : N) (c : Peer I D S M N)
-      → o.ice ≡ p.core.ice → o.dtls ≡ p.core.dtls → o.sctp ≡ p.core.sctp → o.media ≡ p.core.media → StopsPreparing m o offer changes sdp drawn c
+  preparing_did : (p : PolledPeer I D S M N) (o : Peer I D S M N) (offer may : Bool) (changes : List Change) (sdp : Sdp) (drawn : N)
+      (c : Peer I D S M N) → o.ice ≡ p.core.ice → o.dtls ≡ p.core.dtls → o.sctp ≡ p.core.sctp → o.media ≡ p.core.media → StopsPreparing m o offer may changes sdp drawn c
       → NegotiationActs m p (with_core c p)
-  preparing_did p o offer changes sdp drawn c ice dtls sctp media (BeforeSources is) = core_did p _ c is ice dtls sctp media
-  preparing_did p o offer changes sdp drawn c ice dtls sctp media (AmongSources later more is) = core_did p _ c is ice dtls sctp media
-  preparing_did p o offer changes sdp drawn c ice dtls sctp media (AtUpdates error prepared is) =
+  preparing_did p o offer may changes sdp drawn c ice dtls sctp media (BeforeSources is) = core_did p _ c is ice dtls sctp media
+  preparing_did p o offer may changes sdp drawn c ice dtls sctp media (AmongDraws later more is) = core_did p _ c is ice dtls sctp media
+  preparing_did p o offer may changes sdp drawn c ice dtls sctp media (AtUpdates error prepared is) =
       parts_did p c (agent_none m.ice p.core.ice c.ice (ap (λ (x : Peer I D S M N). x.ice) is ∙ ice))
       (connection_none m.dtls p.core.greatest p.core.dtls c.dtls (ap (λ (x : Peer I D S M N). x.dtls) is ∙ dtls))
       (call_none m.association p.core.sctp c.sctp (ap (λ (x : Peer I D S M N). x.sctp) is ∙ sctp))
       (subst (λ (a : M). MediaTold m.media a c.media) media (media_prepared m.media _ (Err error) o.media c.media prepared))
 
   -- the streams are started where they are to be
-  sctp_did : (rows : List LineRow) (client : Bool) (now max : ℕ) (p : SctpStreams S) (r : Result (Unit {0}) SctpError) (q : SctpStreams S)
-      → StartsSctp m.association p rows client now max r q → CallDid m.association [] [] p q
-  sctp_did rows client now max p r q h = started_told m.association (needs_start m.association rows p) client now max p r q h
+  sctp_did : (rows : List LineRow) (client : Bool) (now max : ℕ) (halves : Option InitHalves) (drops : Bool) (p : SctpStreams S)
+      (r : Result (Unit {0}) SctpError) (q : SctpStreams S) → StartsSctp m.association p rows client now max halves drops r q
+      → CallDid m.association [] [] p q
+  sctp_did rows client now max halves drops p r q h =
+      started_told m.association (needs_start m.association rows p) client now max halves drops p r q h
 
   -- the parts that follow, up to that at which memory ran out
   moving_did : (p : PolledPeer I D S M N) (c : Peer I D S M N) (restart : Option (IceCreds × Bool)) (creds : Option IceCreds) (candidates : List Candidate)
-      (control : Option Bool) (active : Bool) (rows : List LineRow) (client : Bool) (max : ℕ) → MediaTold m.media p.core.media c.media
-      → StopsMoving m.ice m.dtls m.association p.core.ice p.core.dtls p.core.sctp restart creds candidates control active rows client p.core.greatest max c.ice
-      c.dtls c.sctp → NegotiationActs m p (with_core c p)
-  moving_did p c restart creds candidates control active rows client max media (AtAgent stops dtls sctp) =
+      (control : Option Bool) (active : Bool) (rows : List LineRow) (client : Bool) (max : ℕ) (halves : Option InitHalves) (drops : Bool)
+      → MediaTold m.media p.core.media c.media
+      → StopsMoving m.ice m.dtls m.association p.core.ice p.core.dtls p.core.sctp restart creds candidates control active rows client p.core.greatest max
+      halves drops c.ice c.dtls c.sctp → NegotiationActs m p (with_core c p)
+  moving_did p c restart creds candidates control active rows client max halves drops media (AtAgent stops dtls sctp) =
       parts_did p c (stops_told m.ice p.core.ice restart creds candidates c.ice stops)
       (connection_none m.dtls p.core.greatest p.core.dtls c.dtls dtls) (call_none m.association p.core.sctp c.sctp sctp) media
-  moving_did p c restart creds candidates control active rows client max media (AtRole follows starts sctp) =
+  moving_did p c restart creds candidates control active rows client max halves drops media (AtRole follows starts sctp) =
       parts_did p c (follows_told m.ice p.core.ice restart creds candidates control c.ice follows)
       (starts_told m.dtls p.core.dtls.active active p.core.greatest (Err DtlsAlloc) p.core.dtls c.dtls starts)
       (call_none m.association p.core.sctp c.sctp sctp) media
-  moving_did p c restart creds candidates control active rows client max media (AtStart follows starts started) =
+  moving_did p c restart creds candidates control active rows client max halves drops media (AtStart follows starts started) =
       parts_did p c (follows_told m.ice p.core.ice restart creds candidates control c.ice follows)
       (starts_told m.dtls p.core.dtls.active active p.core.greatest (Ok tt) p.core.dtls c.dtls starts)
-      (sctp_did rows client p.core.greatest max p.core.sctp (Err SctpAlloc) c.sctp started) media
+      (sctp_did rows client p.core.greatest max halves drops p.core.sctp (Err SctpAlloc) c.sctp started) media
 
   stops_did : (p : PolledPeer I D S M N) (count : ℕ) (asked : Option Asked) (changes : List Change) (sdp : Sdp) (restart : Option (IceCreds × Bool))
       (control : Option Bool) (drawn : N) (c : Peer I D S M N)
@@ -123,10 +127,11 @@ module _ {I D S M E X T W N : Type 0} (m : Meanings I D S M E X T W N) where
   stops_did p count asked changes sdp restart control drawn c (AtVerdict is) =
       core_did p (record p.core { counter = count }) c is refl refl refl refl
   stops_did p count asked changes sdp restart control drawn c (AtPreparing passes stops) =
-      preparing_did p (record p.core { counter = count }) (is_offer asked) changes sdp drawn c refl refl refl refl stops
+      preparing_did p (record p.core { counter = count }) (is_offer asked) (may_take_init asked) changes sdp drawn c refl refl refl refl stops
   stops_did p count asked changes sdp restart control drawn c (AtParts passes ids prepared moving) =
       moving_did p c restart (creds_of sdp) (candidates_of sdp) control (role_for (sdp_setup sdp))
       (table_after p.core.lines (parsed_lines sdp) (is_offer asked)) (role_after p.core.dtls.active (sdp_setup sdp)) (remote_limit (max_message_size_of sdp))
+      (halves_for m (record p.core { counter = count }) (is_offer asked) (may_take_init asked) changes sdp drawn) (not (is_offer asked))
       (media_prepared m.media _ (Ok tt) p.core.media c.media prepared) moving
 
   pub offer_did : (p : PolledPeer I D S M N) (offer : Sdp) (r : Result Sdp RtcError) (c : Peer I D S M N) → AcceptsOffer m p.core offer r c
@@ -135,7 +140,7 @@ module _ {I D S M E X T W N : Type 0} (m : Meanings I D S M E X T W N) where
       parts_did p c (follows_told m.ice p.core.ice _ _ _ _ c.ice h.ice_follows)
       (starts_told m.dtls p.core.dtls.active (role_for (sdp_setup offer)) p.core.greatest (Ok tt) p.core.dtls c.dtls h.dtls_starts)
       (sctp_did (table_after p.core.lines (parsed_lines offer) true) (role_after p.core.dtls.active (sdp_setup offer)) p.core.greatest
-      (remote_limit (max_message_size_of offer)) p.core.sctp (Ok tt) c.sctp h.sctp_starts)
+      (remote_limit (max_message_size_of offer)) (halves_for m p.core true true [] offer (answer_ids m p.core offer)) false p.core.sctp (Ok tt) c.sctp h.sctp_starts)
       (media_updated m.media _ p.core.media h.media_updated.prepared c.media h.media_updated.by_prepare h.media_updated.by_commit)
   offer_did p offer (Err (RemoteSdp why)) c h = core_did p _ c h.1 refl refl refl refl
   offer_did p offer (Err (SdpRefused error)) c h = core_did p _ c h.1 refl refl refl refl
@@ -150,7 +155,7 @@ module _ {I D S M E X T W N : Type 0} (m : Meanings I D S M E X T W N) where
       parts_did p c (follows_told m.ice p.core.ice _ _ _ _ c.ice h.1.ice_follows)
       (starts_told m.dtls p.core.dtls.active (role_for (sdp_setup offer)) p.core.greatest (Ok tt) p.core.dtls c.dtls h.1.dtls_starts)
       (sctp_did (table_after p.core.lines (parsed_lines offer) true) (role_after p.core.dtls.active (sdp_setup offer)) p.core.greatest
-      (remote_limit (max_message_size_of offer)) p.core.sctp (Err (Proto AssociationFault)) c.sctp h.1.sctp_fails)
+      (remote_limit (max_message_size_of offer)) (halves_for m p.core true true [] offer (answer_ids m p.core offer)) false p.core.sctp (Err (Proto AssociationFault)) c.sctp h.1.sctp_fails)
       (media_prepared m.media _ (Ok tt) p.core.media c.media h.1.media_prepared)
   offer_did p offer (Err ChangesOutOfOrder) c h = absurd h
   offer_did p offer (Err (Net cause)) c h = absurd h
@@ -166,7 +171,7 @@ module _ {I D S M E X T W N : Type 0} (m : Meanings I D S M E X T W N) where
       parts_did p c (follows_told m.ice p.core.ice _ _ _ _ c.ice h.ice_follows)
       (starts_told m.dtls p.core.dtls.active (role_for (sdp_setup answer)) p.core.greatest (Ok tt) p.core.dtls c.dtls h.dtls_starts)
       (sctp_did (table_after p.core.lines (parsed_lines answer) false) (role_after p.core.dtls.active (sdp_setup answer)) p.core.greatest
-      (remote_limit (max_message_size_of answer)) p.core.sctp (Ok tt) c.sctp h.sctp_starts)
+      (remote_limit (max_message_size_of answer)) (halves_for m p.core false token.says_init token.changes answer p.core.ids) true p.core.sctp (Ok tt) c.sctp h.sctp_starts)
       (media_updated m.media _ p.core.media h.media_updated.prepared c.media h.media_updated.by_prepare h.media_updated.by_commit)
   answer_did p token answer (Err (Net cause)) c h = absurd h
   answer_did p token answer (Err (MediaFailed cause)) c h = absurd h
@@ -185,7 +190,7 @@ module _ {I D S M E X T W N : Type 0} (m : Meanings I D S M E X T W N) where
       parts_did p c (follows_told m.ice p.core.ice _ _ _ _ c.ice h.1.ice_follows)
       (starts_told m.dtls p.core.dtls.active (role_for (sdp_setup answer)) p.core.greatest (Ok tt) p.core.dtls c.dtls h.1.dtls_starts)
       (sctp_did (table_after p.core.lines (parsed_lines answer) false) (role_after p.core.dtls.active (sdp_setup answer)) p.core.greatest
-      (remote_limit (max_message_size_of answer)) p.core.sctp (Err (Proto AssociationFault)) c.sctp h.1.sctp_fails)
+      (remote_limit (max_message_size_of answer)) (halves_for m p.core false token.says_init token.changes answer p.core.ids) true p.core.sctp (Err (Proto AssociationFault)) c.sctp h.1.sctp_fails)
       (media_prepared m.media _ (Ok tt) p.core.media c.media h.1.media_prepared)
   answer_did p token answer (Err Alloc) c h =
       stops_did p p.core.counter (Some (asked_by p.core.lines token)) token.changes answer (staged_restart token.changes) None p.core.ids c h.stops

@@ -20,14 +20,15 @@ use Rattle.rtc_media.specs.declared.media_update.MediaUpdate.{MediaUpdate}
 use Rattle.rtc_media.specs.MediaMeaning.{MediaMeaning}
 use Rattle.rtc_media.specs.MediaActs.{MediaAct, MediaMoved, MediaStirred, Committed, Prepared, media_moved-one}
 use Rattle.rtc_sctp_values.specs.declared.sctp_error.SctpError.{SctpError}
+use Rattle.rtc_sctp_values.specs.InitHalves.{InitHalves}
 use Rattle.rtc_sctp.specs.Streams.{SctpStreams}
 use Rattle.rtc_sctp_laws.specs.StreamActs.{CallDid}
 use Rattle.rtc_sctp_laws.proofs.CallActs.{inits_did}
 use Rattle.rtc_peer_state.specs.PartMoves.{RestartsIce, TakesCreds, TakesCandidates, TakesControl, FollowsSdp, StopsFollowing, AtRestart, AtCandidate}
-use Rattle.rtc_peer_state.specs.PartMoves.{BeginsHandshake, BeginsTimed, StartsDtls, StartsWhere}
+use Rattle.rtc_peer_state.specs.PartMoves.{BeginsHandshake, BeginsTimed, StartsDtls, StartsWhere, dropped_halves}
 use Rattle.rtc_polling_laws.specs.PeerActs.{media_given, media_taken, ice_moments, dtls_moments, media_moments}
 use Rattle.rtc_polling_laws.proofs.ActWords.{ice_moments-append}
-use Rattle.rtc_polling_laws.proofs.StreamCallActs.{call_none}
+use Rattle.rtc_polling_laws.proofs.StreamCallActs.{snap_did}
 
 -- the agent was told something, and gave and took nothing
 pub record AgentTold {I : Type 0} (m : IceMeaning I) (i j : I) : Type 0 where
@@ -159,10 +160,11 @@ module _ {D : Type 0} (m : DtlsMeaning D) where
   starts_told (Some first) active now r d e h = connection_none now d e h.1
 
 -- the streams were started, or not
-pub started_told : {S : Type 0} (m : AssociationMeaning S) (b client : Bool) (now max : ℕ) (p : SctpStreams S) (r : Result (Unit {0}) SctpError)
-    (q : SctpStreams S) → StartsWhere m b p client now max r q → CallDid m [] [] p q
-started_told m false client now max p r q h = call_none m p q h.1
-started_told m true client now max p r q h = inits_did m client now max None p r q h
+pub started_told : {S : Type 0} (m : AssociationMeaning S) (b client : Bool) (now max : ℕ) (halves : Option InitHalves) (drops : Bool)
+    (p : SctpStreams S) (r : Result (Unit {0}) SctpError) (q : SctpStreams S) → StartsWhere m b p client now max halves drops r q
+    → CallDid m [] [] p q
+started_told m false client now max halves drops p r q h = snap_did m (dropped_halves drops p.snap) p q h.1
+started_told m true client now max halves drops p r q h = inits_did m client now max halves p r q h
 
 -- the media part was told something
 pub record MediaTold {M E X T W : Type 0} (m : MediaMeaning M E X T W) (a b : M) : Type 0 where

@@ -23,6 +23,7 @@ pub mod ActedTransport
 pub mod ActedConnection
 pub mod ActedPackets
 pub mod ActedStreams
+pub mod ActedVisits
 pub mod ActedPolls
 pub mod RelayedCalls
 pub mod HeardStreams

@@ -4,6 +4,7 @@ use Rattle.std.specs.declared.alloc.AllocError.{AllocError}
 use Rattle.rtc_wire.specs.declared.channel_config.ChannelConfig.{ChannelConfig}
 use Rattle.rtc_ready.specs.Signals.{Signals}
 use Rattle.rtc_sctp_entries.specs.Entries.{entry_place}
+use Rattle.rtc_sctp_values.specs.SnapHalves.{KeptHalves}
 use Rattle.rtc_sctp.specs.Streams.{SctpStreams}
 use Rattle.rtc_sctp.specs.StreamCalls.{SetsThreshold}
 use Rattle.rtc_sctp_laws.specs.StreamActs.{CallDid}
@@ -18,6 +19,11 @@ module _ {S : Type 0} (m : AssociationMeaning S) where
   -- nothing was done to the streams, or something and then more
   pub call_none : (p q : SctpStreams S) → q ≡ p → CallDid m [] [] p q
   call_none p q is = subst (λ (x : SctpStreams S). CallDid m [] [] p x) (sym is)
+      (record { did = did_none m p.association; pushed_is = refl; completed_is = refl })
+
+  -- only what is kept of starts by session descriptions is another
+  pub snap_did : (kept : KeptHalves) (p q : SctpStreams S) → q ≡ record p { snap = kept } → CallDid m [] [] p q
+  snap_did kept p q is = subst (λ (x : SctpStreams S). CallDid m [] [] p x) (sym is)
       (record { did = did_none m p.association; pushed_is = refl; completed_is = refl })
 
   call_on : (p q r : SctpStreams S) → CallDid m [] [] p q → CallDid m [] [] q r → CallDid m [] [] p r

@@ -1,5 +1,5 @@
 -- What stages of a poll leave of streams and live channels, one after the other.
-use Rattle.std.proofs.Common.{◌≡◌, ◌++◌, ◌⊎◌, inl, inr, ℕ, true, List, [], map, append-nil, append_assoc, Some, Result, Ok, Err, refl, sym, ap, subst, ◌∙◌}
+use Rattle.std.proofs.Common.{◌≡◌, ◌++◌, inl, ℕ, List, [], append-nil, append_assoc, Result, Ok, Err, refl, sym, ap, subst, ◌∙◌}
 use Rattle.rtc_association.specs.AssociationActs.{AssociationAct, Moved}
 use Rattle.rtc_association.specs.AssociationLaws.{AssociationLaws}
 use Rattle.rtc_sctp_entries.specs.declared.stream_entry.StreamEntry.{StreamEntry}
@@ -22,7 +22,7 @@ use Rattle.rtc_polling.specs.declared.polled_peer.PolledPeer.{PolledPeer}
 use Rattle.rtc_polling.specs.StreamStages.{channel_over}
 use Rattle.rtc_polling_laws.proofs.UnsharedRows.{AreApart}
 use Rattle.rtc_polling_laws.proofs.ActedClosing.{BesideIce, BesideDtls, BesideMedia}
-use Rattle.rtc_polling_laws.specs.ChannelStreams.{IsGone, IsLiveChannel, LeavesLiveBy, LeavesLiveChannel, UnlessLacking, IsUsedStream, OpensStreamOf, OpensBy, OpensByAnswer, StreamsWent}
+use Rattle.rtc_polling_laws.specs.ChannelStreams.{IsGone, IsLiveChannel, LeavesLiveBy, LeavesLiveChannel, UnlessLacking, IsUsedStream, OpensByAnswer, StreamsWent}
 
 -- what is met, as a poll answers it
 abbrev pub answer_met : {E : Type 0} → Met E → Result (Output E) RtcError

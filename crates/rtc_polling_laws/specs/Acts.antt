@@ -8,7 +8,7 @@ use Rattle.rtc_sctp_entries.specs.declared.sctp_event.SctpEvent.{SctpEvent}
 use Rattle.rtc_sctp_entries.specs.declared.sctp_event.SctpEvent.TheVariants as event
 use Rattle.rtc_sctp.specs.Calls.{written_ppi, is_nil}
 use Rattle.rtc_sctp_laws.specs.StreamMessages.{StreamMessage, stream_message, write_act, read_act, writes_of, reads_of}
-use Rattle.rtc_sctp_laws.specs.StreamMessages.{AreNamed, NamesReadings, are_dcep, shown_messages, pushed_packets}
+use Rattle.rtc_sctp_laws.specs.StreamMessages.{HaveNamedPpis, NamesReadings, are_dcep, shown_messages, pushed_packets}
 use Rattle.rtc_channels.specs.Channels.{Channels}
 use Rattle.rtc_peer_state.specs.declared.peer.Peer.{Peer}
 use Rattle.rtc_peer_state.specs.declared.rtc_error.RtcError.{RtcError}
@@ -46,7 +46,7 @@ pub record PeerDid {I D S M E X T W N : Type 0} (m : Meanings I D S M E X T W N)
       (taken acts.association ++ pushed_packets p.core.sctp.pushed)
   pub wrote_is : writes_of acts.association ≡ map write_act wrote
   pub heard_is : reads_of acts.association ≡ map read_act heard
-  pub named : NamesReadings m.association → AreNamed heard
+  pub named : NamesReadings m.association → HaveNamedPpis heard
 
 -- the contents of the datagram that an answer shows
 abbrev pub contents_shown : {E : Type 0} → Result (Output E) RtcError → List (List ℕ)

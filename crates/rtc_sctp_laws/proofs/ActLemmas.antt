@@ -16,7 +16,7 @@ use Rattle.rtc_association.specs.AssociationWords.{given, taken, told}
 use Rattle.rtc_association.proofs.AssociationLemmas.{given-append, taken-append, told-append}
 use Rattle.rtc_parts_values.specs.Why.{Timed, Shut, Other}
 use Rattle.rtc_sctp_entries.specs.Part.{StartedAs}
-use Rattle.rtc_sctp_laws.specs.StreamMessages.{StreamMessage, stream_message, write_act, read_act, writes_of, reads_of, are_dcep, AreNamed, NamesReadings}
+use Rattle.rtc_sctp_laws.specs.StreamMessages.{StreamMessage, stream_message, write_act, read_act, writes_of, reads_of, are_dcep, HaveNamedPpis, NamesReadings}
 use Rattle.rtc_sctp_laws.specs.StreamActs.{AssociationDid}
 
 writes_of-append : (xs ys : List AssociationAct) → writes_of (xs ++ ys) ≡ writes_of xs ++ writes_of ys
@@ -29,7 +29,7 @@ reads_of-append [] ys = refl
 reads_of-append (Read s g i b ∷ xs) ys = ap (λ l. Read s g i b ∷ l) (reads_of-append xs ys)
 reads_of-append (_ ∷ xs) ys = reads_of-append xs ys
 
-pub named-append : (xs ys : List StreamMessage) → AreNamed xs → AreNamed ys → AreNamed (xs ++ ys)
+pub named-append : (xs ys : List StreamMessage) → HaveNamedPpis xs → HaveNamedPpis ys → HaveNamedPpis (xs ++ ys)
 named-append [] ys h k = k
 named-append (x ∷ xs) ys h k = (h.0, named-append xs ys h.1 k)
 
@@ -74,7 +74,7 @@ module _ {S : Type 0} (m : AssociationMeaning S) where
   -- one act
   did_one : (act : AssociationAct) (ins outs : List (List ℕ)) (tells : List AssocEvent) (wrote heard : List StreamMessage) (a b : S)
       → given (act ∷ []) ≡ ins → taken (act ∷ []) ≡ outs → told (act ∷ []) ≡ tells → writes_of (act ∷ []) ≡ map write_act wrote
-      → reads_of (act ∷ []) ≡ map read_act heard → (NamesReadings m → AreNamed heard) → Acted m a act b → AssociationDid m ins outs tells wrote heard a b
+      → reads_of (act ∷ []) ≡ map read_act heard → (NamesReadings m → HaveNamedPpis heard) → Acted m a act b → AssociationDid m ins outs tells wrote heard a b
   did_one act ins outs tells wrote heard a b gi ta to wr he named h =
       record { acts = act ∷ []; went = (b, (h, refl)); given_is = gi; taken_is = ta; told_is = to; wrote_is = wr; heard_is = he; named = named }
 

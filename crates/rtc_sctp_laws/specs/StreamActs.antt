@@ -10,7 +10,8 @@ use Rattle.rtc_sctp_values.specs.declared.sctp_error.SctpError.{SctpError}
 use Rattle.rtc_sctp.specs.Streams.{SctpStreams}
 use Rattle.rtc_sctp.specs.Calls.{written_ppi, is_nil}
 use Rattle.rtc_sctp_laws.specs.StreamMessages.{StreamMessage, stream_message, write_act, read_act, writes_of, reads_of}
-use Rattle.rtc_sctp_laws.specs.StreamMessages.{AreNamed, NamesReadings, are_dcep, shown_messages, data_met, packets_met, resets_met, pushed_packets}
+use Rattle.rtc_sctp_laws.specs.StreamMessages.{HaveNamedPpis, NamesReadings, are_dcep, shown_messages}
+use Rattle.rtc_sctp_laws.specs.StreamMessages.{data_met, packets_met, resets_met, pushed_packets}
 
 -- Acts in order took an association from a to b. They gave it the packets `ins` and no others, took the packets `outs`,
 -- were told the events `tells`, and wrote and read these messages; the identifiers read have their names where readings do.
@@ -23,7 +24,7 @@ pub record AssociationDid {S : Type 0} (m : AssociationMeaning S) (ins outs : Li
   pub told_is : told acts ≡ tells
   pub wrote_is : writes_of acts ≡ map write_act wrote
   pub heard_is : reads_of acts ≡ map read_act heard
-  pub named : NamesReadings m → AreNamed heard
+  pub named : NamesReadings m → HaveNamedPpis heard
 
 -- What a visit of a stream, or several of them, did: it wrote messages that open channels alone, what it answered of data
 -- is what it read, and it sent nothing and answered no completed reset.

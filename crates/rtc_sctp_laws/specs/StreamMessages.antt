@@ -22,17 +22,18 @@ pub record StreamMessage : Type 0 where
 abbrev pub stream_message : (stream generation : ℕ) → Ppi → List ℕ → StreamMessage
 stream_message stream generation ppi bytes = record { stream = stream; generation = generation; ppi = ppi; bytes = bytes }
 
--- whether an identifier has its name, where its number has one (RFC 8831, section 8)
-abbrev pub IsNamed : Ppi → Type 0
-IsNamed i = ppi_of (ppi_number i) ≡ i
+-- an identifier has its name, where its number has one (RFC 8831, section 8)
+abbrev pub IsNamedPpi : Ppi → Type 0
+IsNamedPpi i = ppi_of (ppi_number i) ≡ i
 
-abbrev pub AreNamed : List StreamMessage → Type 0
-AreNamed [] = Unit {0}
-AreNamed (x ∷ messages) = IsNamed x.ppi × AreNamed messages
+-- the identifiers of messages have their names
+abbrev pub HaveNamedPpis : List StreamMessage → Type 0
+HaveNamedPpis [] = Unit {0}
+HaveNamedPpis (x ∷ messages) = IsNamedPpi x.ppi × HaveNamedPpis messages
 
 -- What holds of an association whose readings answer identifiers by their names.
 abbrev pub NamesReadings : {S : Type 0} → AssociationMeaning S → Type 0
-NamesReadings {S} m = (a b : S) (id : ℕ) (i : Ppi) (bytes : List ℕ) → m.read a id (Ok (Some (i, bytes))) b → IsNamed i
+NamesReadings {S} m = (a b : S) (id : ℕ) (i : Ppi) (bytes : List ℕ) → m.read a id (Ok (Some (i, bytes))) b → IsNamedPpi i
 
 -- the act that writes a message, and the one that reads it
 abbrev pub write_act : StreamMessage → AssociationAct

@@ -2,14 +2,14 @@
 use Rattle.std.proofs.Common.{◌≡◌, ℕ, ◌==◌, ◌&&◌, ◌||◌, not, cond, Bool, true, false, true≢false, List, [], ◌∷◌, ◌++◌, map, append_assoc, Result, Ok, Err, refl, sym, ap, ◌∙◌}
 use Rattle.rtc_association.specs.declared.ppi.Ppi.{Ppi}
 use Rattle.rtc_association.specs.declared.ppi.Ppi.TheVariants as ppi
-use Rattle.rtc_association.specs.Ppi.{ppi_number, ppi_of}
+use Rattle.rtc_association.specs.Ppi.{ppi_of}
 use Rattle.rtc_association.specs.AssociationActs.{AssociationAct, Wrote, Read}
 use Rattle.rtc_association.specs.AssociationWords.{AssociationMessage, written, read}
 use Rattle.rtc_sctp_entries.specs.declared.sctp_event.SctpEvent.{SctpEvent}
 use Rattle.rtc_sctp_values.specs.declared.sctp_error.SctpError.{SctpError}
 use Rattle.rtc_sctp.specs.Calls.{written_ppi, is_nil}
 use Rattle.rtc_sctp_laws.specs.StreamActs.{written_message}
-use Rattle.rtc_sctp_laws.specs.StreamMessages.{StreamMessage, IsNamed, AreNamed, write_act, read_act, writes_of, reads_of, is_dcep, are_dcep, shown_message, shown_messages}
+use Rattle.rtc_sctp_laws.specs.StreamMessages.{StreamMessage, IsNamedPpi, HaveNamedPpis, write_act, read_act, writes_of, reads_of, is_dcep, are_dcep, shown_message, shown_messages}
 use Rattle.rtc_stream_uses.specs.StreamUses.{is_of_generation, messages_of, are_of_generation}
 use Rattle.rtc_stream_contents.specs.Contents.{content_of, contents_of, contents_by, numbered_message, data_of}
 
@@ -102,28 +102,28 @@ contents_by-append (x ∷ xs) ys =
     ap (λ l. content_of (ppi_of x.identifier) x.bytes ++ l) (contents_by-append xs ys)
     ∙ sym (append_assoc (content_of (ppi_of x.identifier) x.bytes) (contents_by xs) (contents_by ys))
 
-pub named_contents : (l : List StreamMessage) → AreNamed l → contents_by (map numbered_message l) ≡ contents_of l
+pub named_contents : (l : List StreamMessage) → HaveNamedPpis l → contents_by (map numbered_message l) ≡ contents_of l
 named_contents [] h = refl
 named_contents (x ∷ l) h =
     ap (λ (i : Ppi). content_of i x.bytes ++ contents_by (map numbered_message l)) h.0
     ∙ ap (λ k. content_of x.ppi x.bytes ++ k) (named_contents l h.1)
 
-named_of : (s g : ℕ) (l : List StreamMessage) → AreNamed l → AreNamed (messages_of s g l)
+named_of : (s g : ℕ) (l : List StreamMessage) → HaveNamedPpis l → HaveNamedPpis (messages_of s g l)
 named_of s g [] h = tt
 named_of s g (x ∷ l) h = by (is_of_generation s g x) (named_of s g l h.1)
   where
-    by : (b : Bool) → AreNamed (messages_of s g l) → AreNamed (cond b (x ∷ messages_of s g l) (messages_of s g l))
+    by : (b : Bool) → HaveNamedPpis (messages_of s g l) → HaveNamedPpis (cond b (x ∷ messages_of s g l) (messages_of s g l))
     by true rest = (h.0, rest)
     by false rest = rest
 
-pub written_contents : (s g : ℕ) (acts : List AssociationAct) (wrote : List StreamMessage) → writes_of acts ≡ map write_act wrote → AreNamed wrote → contents_by (written s g acts) ≡ contents_of (messages_of s g wrote)
+pub written_contents : (s g : ℕ) (acts : List AssociationAct) (wrote : List StreamMessage) → writes_of acts ≡ map write_act wrote → HaveNamedPpis wrote → contents_by (written s g acts) ≡ contents_of (messages_of s g wrote)
 written_contents s g acts wrote h named = ap contents_by (written_are s g acts wrote h) ∙ named_contents (messages_of s g wrote) (named_of s g wrote named)
 
-pub read_contents : (s g : ℕ) (acts : List AssociationAct) (heard : List StreamMessage) → reads_of acts ≡ map read_act heard → AreNamed heard → contents_by (read s g acts) ≡ contents_of (messages_of s g heard)
+pub read_contents : (s g : ℕ) (acts : List AssociationAct) (heard : List StreamMessage) → reads_of acts ≡ map read_act heard → HaveNamedPpis heard → contents_by (read s g acts) ≡ contents_of (messages_of s g heard)
 read_contents s g acts heard h named = ap contents_by (read_are s g acts heard h) ∙ named_contents (messages_of s g heard) (named_of s g heard named)
 
 -- messages that open channels have their name, and so have those that writes of users make
-dcep_is_named : (i : Ppi) → is_dcep i ≡ true → IsNamed i
+dcep_is_named : (i : Ppi) → is_dcep i ≡ true → IsNamedPpi i
 dcep_is_named ppi.Dcep h = refl
 dcep_is_named ppi.Text h = refl
 dcep_is_named ppi.Binary h = refl
@@ -131,20 +131,20 @@ dcep_is_named ppi.EmptyText h = refl
 dcep_is_named ppi.EmptyBinary h = refl
 dcep_is_named (ppi.Other n) h = absurd (true≢false (sym h))
 
-pub dcep_are_named : (l : List StreamMessage) → are_dcep l ≡ true → AreNamed l
+pub dcep_are_named : (l : List StreamMessage) → are_dcep l ≡ true → HaveNamedPpis l
 dcep_are_named [] h = tt
 dcep_are_named (x ∷ l) h = by (is_dcep x.ppi) refl h (dcep_are_named l)
   where
-    by : (b : Bool) → is_dcep x.ppi ≡ b → (b && are_dcep l) ≡ true → (are_dcep l ≡ true → AreNamed l) → AreNamed (x ∷ l)
+    by : (b : Bool) → is_dcep x.ppi ≡ b → (b && are_dcep l) ≡ true → (are_dcep l ≡ true → HaveNamedPpis l) → HaveNamedPpis (x ∷ l)
     by true e k rest = (dcep_is_named x.ppi e, rest k)
     by false e k rest = absurd (true≢false (sym k))
 
-ppi_named : (binary empty : Bool) → IsNamed (written_ppi binary empty)
+ppi_named : (binary empty : Bool) → IsNamedPpi (written_ppi binary empty)
 ppi_named true true = refl
 ppi_named true false = refl
 ppi_named false true = refl
 ppi_named false false = refl
 
-pub write_named : (stream generation : ℕ) (binary : Bool) (bytes : List ℕ) (r : Result ℕ SctpError) → AreNamed (written_message stream generation binary bytes r)
+pub write_named : (stream generation : ℕ) (binary : Bool) (bytes : List ℕ) (r : Result ℕ SctpError) → HaveNamedPpis (written_message stream generation binary bytes r)
 write_named stream generation binary bytes (Ok n) = (ppi_named binary (is_nil bytes), tt)
 write_named stream generation binary bytes (Err e) = tt

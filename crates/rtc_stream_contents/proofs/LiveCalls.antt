@@ -1,5 +1,5 @@
 -- A live stream stays so by every call but the polls, and what is written to it is of its generation.
-use Rattle.std.proofs.Common.{◌≡◌, ℕ, ◌==◌, ◌&&◌, not, Bool, true, false, true≢false, List, [], ◌∷◌, Option, Some, None, Result, Ok, Err, refl, sym, ap, subst, ◌∙◌}
+use Rattle.std.proofs.Common.{◌≡◌, ℕ, ◌==◌, Bool, true, false, List, [], ◌∷◌, Option, Some, None, Result, Ok, Err, refl, sym, ap, subst, ◌∙◌}
 use Rattle.std.specs.Prelude.{slice_set, if◌then◌else◌, is_some}
 use Rattle.std.specs.declared.alloc.AllocError.{AllocError}
 use Rattle.std.proofs.lemmas.Bool.{eqb-true}
@@ -19,7 +19,7 @@ use Rattle.rtc_sctp_values.specs.InitHalves.{InitHalves}
 use Rattle.rtc_sctp.specs.Streams.{SctpStreams}
 use Rattle.rtc_sctp.specs.Calls.{Inits, Shuts, is_ended, WrittenIf, WritesStream, can_write, is_current, InputIf, TakesInput, TimedBy, TakesTimeout}
 use Rattle.rtc_sctp.specs.StreamCalls.{ConfigBy, TakesConfig, Declined, Answered, OpensAwaiting, OpensOver, OpensAt, OpensStream, ClosesAt, ClosesDataStream, SetsThreshold}
-use Rattle.rtc_stream_uses.specs.StreamUses.{entries_of, IsLiveIn, IsLive}
+use Rattle.rtc_stream_uses.specs.StreamUses.{IsLiveIn, IsLive}
 use Rattle.rtc_stream_uses.proofs.OneEntry.{one_set, one_insert}
 use Rattle.rtc_stream_uses.proofs.EntriesOf.{none_placed}
 use Rattle.rtc_stream_uses.proofs.LivingEntries.{live_is, live_unclosed, first_live, others_live}

@@ -2,7 +2,7 @@
 use Rattle.std.proofs.Common.{◌≡◌, true, false, [], ◌∷◌, refl}
 use Rattle.rtc_association.specs.declared.ppi.Ppi.TheVariants as ppi
 use Rattle.rtc_sctp_entries.specs.declared.sctp_event.SctpEvent.TheVariants as event
-use Rattle.rtc_sctp_laws.specs.StreamMessages.{stream_message, shown_messages}
+use Rattle.rtc_sctp_laws.specs.StreamMessages.{stream_message}
 use Rattle.rtc_stream_uses.specs.StreamUses.{messages_of}
 use Rattle.rtc_stream_contents.specs.Contents.{contents_of, contents_by, data_of}
 

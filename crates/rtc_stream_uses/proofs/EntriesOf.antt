@@ -1,18 +1,15 @@
 -- The entry of a stream, where entries are set, put in and dropped.
-use Rattle.std.proofs.Common.{◌≡◌, ℕ, zero, suc, ◌<◌, ◌==◌, ◌||◌, ◌&&◌, not, cond, Bool, true, false, true≢false, List, [], ◌∷◌, ◌++◌, length, get_or, take, drop, insert, Some, None, refl, sym, ap, subst, ◌∙◌, arith}
+use Rattle.std.proofs.Common.{◌≡◌, ℕ, zero, suc, ◌<◌, ◌==◌, ◌||◌, ◌&&◌, not, cond, Bool, true, false, true≢false, List, [], ◌∷◌, length, get_or, Some, None, refl, sym, ap, subst, ◌∙◌, arith}
 use Rattle.std.specs.Prelude.{slice_get, slice_set}
-use Rattle.std.proofs.lemmas.Bool.{eqb-true, ne_eqb}
-use Rattle.std.proofs.lemmas.List.{take-append-drop}
-use Rattle.std.proofs.lemmas.List.Elements.{filter-append}
+use Rattle.std.proofs.lemmas.Bool.{ne_eqb}
 use Rattle.std.proofs.lemmas.Option.{same_Some}
 use Rattle.rtc_association.specs.AssociationMeaning.{AssociationMeaning}
 use Rattle.rtc_sctp_entries.specs.declared.stream_entry_state.StreamEntryState.{StreamEntryState}
 use Rattle.rtc_sctp_entries.specs.declared.stream_entry_state.StreamEntryState.TheVariants.{AwaitOpen, AwaitConfig, AwaitDcepAck, Open, Closed}
 use Rattle.rtc_sctp_entries.specs.declared.stream_entry.StreamEntry.{StreamEntry}
-use Rattle.rtc_sctp_entries.specs.Entries.{is_entry_of, entry_place, is_closed_state, is_open_state, unclosed, has_open}
+use Rattle.rtc_sctp_entries.specs.Entries.{entry_place, is_closed_state, is_open_state, unclosed, has_open}
 use Rattle.rtc_sctp_entries.proofs.OrderLemmas.{none_missing}
 use Rattle.rtc_sctp_laws.specs.StreamMessages.{StreamMessage}
-use Rattle.rtc_sctp_laws.specs.StreamRuns.{is_past_opening}
 use Rattle.rtc_stream_uses.specs.StreamUses.{entries_of, IsUsedIn, IsUsedBy, AreUsedIn}
 
 pub no_entries : (e : StreamEntry) (es : List StreamEntry) → e ∷ es ≡ [] → ⊥

@@ -1,8 +1,9 @@
 -- What answers of an association tell of a stream, and messages of the generation that it has.
 use Rattle.std.proofs.Common.{◌≡◌, ◌⊎◌, inl, inr, ℕ, ◌||◌, not, Bool, true, false, true≢false, List, [], ◌∷◌, ◌++◌, Option, Some, None, Result, Ok, Err, refl, sym, ap, ◌∙◌}
-use Rattle.std.specs.Prelude.{◌==◌, is_some}
+use Rattle.std.specs.Prelude.{is_some}
 use Rattle.std.proofs.lemmas.Bool.{eqb-true}
-use Rattle.rtc_sctp_entries.specs.Entries.{fits_generation}
+use Rattle.rtc_sctp_entries.specs.declared.stream_entry.StreamEntry.{StreamEntry}
+use Rattle.rtc_sctp_entries.specs.Entries.{fits_generation, is_out_of_band}
 use Rattle.rtc_association.specs.declared.assoc_error.AssocError.{AssocError}
 use Rattle.rtc_association.specs.declared.assoc_error.AssocError.TheVariants.{StreamExists, ResetPending, NoStream, TooLong, Closing, Fault, Alloc}
 use Rattle.rtc_association.specs.declared.ppi.Ppi.{Ppi}
@@ -18,7 +19,7 @@ use Rattle.rtc_sctp_laws.specs.StreamMessages.{StreamMessage, stream_message, is
 use Rattle.rtc_sctp_laws.specs.StreamRuns.{is_past_opening}
 use Rattle.rtc_sctp_laws.proofs.MessageLemmas.{dcep_join}
 use Rattle.rtc_stream_uses.specs.GenerationLaws.{KeepsGeneration, GenerationLaws}
-use Rattle.rtc_stream_uses.specs.StreamUses.{messages_of, any_dcep, IsUnopened, IsAnnounced, IsOpened, is_spent_stream, IsUnused, IsIdleStream, IsUsedIn, spoken_generation, IsReached}
+use Rattle.rtc_stream_uses.specs.StreamUses.{messages_of, any_dcep, IsUnopened, IsAnnounced, IsOpened, IsOpenedIn, is_spent_stream, IsUnused, IsIdleStream, IsUsedIn, spoken_generation, IsReached}
 use Rattle.rtc_stream_uses.proofs.GenerationMessages.{messages-append, messages_one, none_data, begins_dcep}
 
 no_cause : (e : AssocError) → Some e ≡ None → ⊥
@@ -127,6 +128,14 @@ opened_by_answer ws hs before y h l e = record {
   heard_is = e;
   none_before = h.2;
 }
+
+-- what is known of an entry that is about to be open
+abbrev pub MayOpenIn : StreamEntry → (generation : ℕ) → (written heard : List StreamMessage) → Type 0
+MayOpenIn e g ws hs = (is_out_of_band e ≡ true) ⊎ (IsOpened ws hs × (e.generation ≡ Some g))
+
+pub open_now : (e : StreamEntry) (g : ℕ) (ws hs : List StreamMessage) → MayOpenIn e g ws hs → IsOpenedIn (record e { state = Open }) g ws hs
+open_now e g ws hs (inl h) = inl h
+open_now e g ws hs (inr h) = inr (h.0, (refl, h.1))
 
 module _ {S : Type 0} (m : AssociationMeaning S) where
   -- the messages of the generation that a stream has

@@ -5,6 +5,7 @@ pub mod KnownUses
 pub mod UsedVisits
 pub mod LivingEntries
 pub mod LivingVisits
+pub mod UsedOpenings
 pub mod UsedReadings
 pub mod EntriesOf
 pub mod UsedTours

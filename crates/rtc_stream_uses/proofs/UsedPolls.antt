@@ -21,7 +21,6 @@ use Rattle.rtc_sctp_laws.specs.StreamActs.{AssociationDid}
 use Rattle.rtc_sctp_laws.proofs.ActLemmas.{did_join, did_same, gave_did, told_did, packet_polled}
 use Rattle.rtc_sctp_laws.proofs.MessageLemmas.{dcep_join, shown-append}
 use Rattle.rtc_sctp_laws.proofs.PollActs.{met_by}
-use Rattle.rtc_stream_uses.specs.GenerationLaws.{GenerationLaws}
 use Rattle.rtc_stream_uses.specs.StreamUses.{entries_of, IsUsedIn, IsUsedBy, EntryUsed, NoneUsed, AreUsedIn, IsUsed, IsLive, LeavesLive, OpensRightly, LeavesUse}
 use Rattle.rtc_stream_uses.specs.UsedCalls.{PollUses}
 use Rattle.rtc_stream_uses.proofs.KeptUses.{did_keeps, unclosed_used}

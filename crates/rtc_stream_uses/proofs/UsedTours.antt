@@ -22,7 +22,7 @@ use Rattle.rtc_stream_uses.proofs.OneEntry.{one_map}
 use Rattle.rtc_stream_uses.proofs.LivingEntries.{OpensOther, other_by, OpenLeft, first_lives, next_lives, first_heard, next_heard, are_join}
 use Rattle.rtc_stream_uses.proofs.LivingVisits.{visit_lives}
 use Rattle.rtc_stream_uses.proofs.EntriesOf.{entries_own, entries_other, same_test, none_head, none_more, only_used, used_is}
-use Rattle.rtc_stream_uses.proofs.UsedVisits.{OpensOwn, TurnOpens, TurnLeaves, UsedTurn}
+use Rattle.rtc_stream_uses.proofs.UsedVisits.{TurnOpens, TurnLeaves, UsedTurn}
 use Rattle.rtc_stream_uses.proofs.UsedReadings.{VisitUses, visit_uses}
 
 module _ {S : Type 0} (m : AssociationMeaning S) where

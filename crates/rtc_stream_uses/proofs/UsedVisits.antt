@@ -23,18 +23,10 @@ use Rattle.rtc_sctp_laws.specs.StreamRuns.{is_past_opening}
 use Rattle.rtc_sctp_laws.proofs.MessageLemmas.{dcep_join}
 use Rattle.rtc_sctp_laws.proofs.ActLemmas.{did_none, did_join, opened_did, ended_did, reliability_did, wrote_did}
 use Rattle.rtc_stream_uses.specs.GenerationLaws.{KeepsGeneration, GenerationLaws}
-use Rattle.rtc_stream_uses.specs.StreamUses.{are_of_stream, any_dcep, begins_with_dcep, IsAnnounced, IsOpened, IsOpenedIn, IsIdleStream, IsUsedBy, IsReached}
+use Rattle.rtc_stream_uses.specs.StreamUses.{are_of_stream, any_dcep, begins_with_dcep, IsAnnounced, IsOpenedIn, IsIdleStream, IsUsedBy, IsReached}
 use Rattle.rtc_stream_uses.proofs.GenerationMessages.{own_join, own_one}
-use Rattle.rtc_stream_uses.proofs.KnownUses.{not_alloc, done_alloc, refused_alloc, used_marked, used_announced, now_of, now_kept, now_more, write_facts, open_absent, end_idle}
+use Rattle.rtc_stream_uses.proofs.KnownUses.{MayOpenIn, open_now, not_alloc, done_alloc, refused_alloc, used_marked, used_announced, now_of, now_kept, now_more, write_facts, open_absent, end_idle}
 use Rattle.rtc_stream_uses.proofs.KeptUses.{did_keeps, used_by_kept, reached_kept, reached_wrote}
-
--- what is known of an entry that is about to be open
-abbrev pub MayOpenIn : StreamEntry → (generation : ℕ) → (written heard : List StreamMessage) → Type 0
-MayOpenIn e g ws hs = (is_out_of_band e ≡ true) ⊎ (IsOpened ws hs × (e.generation ≡ Some g))
-
-open_now : (e : StreamEntry) (g : ℕ) (ws hs : List StreamMessage) → MayOpenIn e g ws hs → IsOpenedIn (record e { state = Open }) g ws hs
-open_now e g ws hs (inl h) = inl h
-open_now e g ws hs (inr h) = inr (h.0, (refl, h.1))
 
 -- what was told of an entry that is open
 abbrev pub TurnOpens : Met → StreamEntry → (generation : ℕ) → (written heard : List StreamMessage) → Type 0

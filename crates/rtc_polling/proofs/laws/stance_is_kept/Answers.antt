@@ -8,10 +8,10 @@ use Rattle.rtc_polling.proofs.StandingInputs.{input_stands, stance_by}
 use Rattle.rtc_polling.proofs.laws.stance_is_kept.Goals as goal
 
 pub returns-clause-polls : goal.returns-clause-polls
-returns-clause-polls g c = λ p q answer h. stance_by (meanings g.I.IceAgent.ice g.D.DtlsInstance.dtls g.S.Association.association g.M.MediaSession.media g.N.Ids.ids) p q (poll_keeps (meanings g.I.IceAgent.ice g.D.DtlsInstance.dtls g.S.Association.association g.M.MediaSession.media g.N.Ids.ids) p answer q h) (poll_stands (meanings g.I.IceAgent.ice g.D.DtlsInstance.dtls g.S.Association.association g.M.MediaSession.media g.N.Ids.ids) g.met.I.IceAgent.laws g.met.M.MediaSession.laws p answer q h)
+returns-clause-polls g c = λ p q answer h. stance_by (meanings g.I.IceAgent.ice g.D.DtlsInstance.dtls g.S.Association.association g.M.MediaSession.media g.N.Ids.ids) p q (poll_keeps (meanings g.I.IceAgent.ice g.D.DtlsInstance.dtls g.S.Association.association g.M.MediaSession.media g.N.Ids.ids) p answer q h) (poll_stands (meanings g.I.IceAgent.ice g.D.DtlsInstance.dtls g.S.Association.association g.M.MediaSession.media g.N.Ids.ids) g.met.I.IceAgent.laws g.met.M.MediaSession.laws g.met.S.Association.laws p answer q h)
 
 pub returns-clause-inputs : goal.returns-clause-inputs
-returns-clause-inputs g c = λ p q input answer h. stance_by (meanings g.I.IceAgent.ice g.D.DtlsInstance.dtls g.S.Association.association g.M.MediaSession.media g.N.Ids.ids) p q (input_keeps (meanings g.I.IceAgent.ice g.D.DtlsInstance.dtls g.S.Association.association g.M.MediaSession.media g.N.Ids.ids) input p answer q h) (input_stands (meanings g.I.IceAgent.ice g.D.DtlsInstance.dtls g.S.Association.association g.M.MediaSession.media g.N.Ids.ids) g.met.I.IceAgent.laws g.met.M.MediaSession.laws input p answer q h)
+returns-clause-inputs g c = λ p q input answer h. stance_by (meanings g.I.IceAgent.ice g.D.DtlsInstance.dtls g.S.Association.association g.M.MediaSession.media g.N.Ids.ids) p q (input_keeps (meanings g.I.IceAgent.ice g.D.DtlsInstance.dtls g.S.Association.association g.M.MediaSession.media g.N.Ids.ids) input p answer q h) (input_stands (meanings g.I.IceAgent.ice g.D.DtlsInstance.dtls g.S.Association.association g.M.MediaSession.media g.N.Ids.ids) g.met.I.IceAgent.laws g.met.M.MediaSession.laws g.met.S.Association.laws input p answer q h)
 
 pub returns-clause-closes : goal.returns-clause-closes
-returns-clause-closes g c = λ p q answer h. stance_by (meanings g.I.IceAgent.ice g.D.DtlsInstance.dtls g.S.Association.association g.M.MediaSession.media g.N.Ids.ids) p q (close_keeps (meanings g.I.IceAgent.ice g.D.DtlsInstance.dtls g.S.Association.association g.M.MediaSession.media g.N.Ids.ids) p answer q h) (close_stands (meanings g.I.IceAgent.ice g.D.DtlsInstance.dtls g.S.Association.association g.M.MediaSession.media g.N.Ids.ids) g.met.M.MediaSession.laws p answer q h)
+returns-clause-closes g c = λ p q answer h. stance_by (meanings g.I.IceAgent.ice g.D.DtlsInstance.dtls g.S.Association.association g.M.MediaSession.media g.N.Ids.ids) p q (close_keeps (meanings g.I.IceAgent.ice g.D.DtlsInstance.dtls g.S.Association.association g.M.MediaSession.media g.N.Ids.ids) p answer q h) (close_stands (meanings g.I.IceAgent.ice g.D.DtlsInstance.dtls g.S.Association.association g.M.MediaSession.media g.N.Ids.ids) g.met.M.MediaSession.laws g.met.S.Association.laws p answer q h)
