@@ -1,8 +1,9 @@
 -- How a user starts the association and makes channels without session descriptions.
-use Rattle.std.specs.Prelude.{◌≡◌, ℕ, Bool, true, false, not, None, Result, Ok, Err}
+use Rattle.std.specs.Prelude.{◌≡◌, ℕ, Bool, true, false, not, Option, None, Result, Ok, Err}
 use Rattle.rtc_wire.specs.declared.channel_config.ChannelConfig.{ChannelConfig}
 use Rattle.rtc_association.specs.AssociationMeaning.{AssociationMeaning}
 use Rattle.rtc_sctp_values.specs.declared.sctp_error.SctpError.{SctpError}
+use Rattle.rtc_sctp_values.specs.InitHalves.{InitHalves}
 use Rattle.rtc_channels.specs.Channels.{Channels, is_bad_channel, with_channel, confirmed}
 use Rattle.rtc_peer_state.specs.declared.rtc_error.RtcError.{RtcError}
 use Rattle.rtc_peer_state.specs.declared.rtc_error.RtcError.TheVariants.{
@@ -26,14 +27,14 @@ abbrev pub start_answer : Result (Unit {0}) SctpError → Result (Unit {0}) RtcE
 start_answer (Ok done) = Ok tt
 start_answer (Err error) = Err (error_of_sctp error)
 
--- The association is started as client or as server, with the greatest moment that was given and the limit of an other side that tells
--- none; where it was started before, it is Ok and nothing changes.
-abbrev pub StartsStreams : {I D S M N : Type 0} → AssociationMeaning S → (client : Bool) → PolledPeer I D S M N
+-- The association is started as client or as server, by the halves of both sides where they are given, with the greatest moment that was
+-- given and the limit of an other side that tells none; where it was started before, it is Ok and nothing changes.
+abbrev pub StartsStreams : {I D S M N : Type 0} → AssociationMeaning S → (client : Bool) → Option InitHalves → PolledPeer I D S M N
     → Result (Unit {0}) RtcError → PolledPeer I D S M N → Type 0
-StartsStreams association client p r q =
+StartsStreams association client halves p r q =
     (answer : Result (Unit {0}) SctpError)
     × StartsWhere association (not (association.started p.core.sctp.association)) p.core.sctp client p.core.greatest (remote_limit None)
-    answer q.core.sctp
+    halves false answer q.core.sctp
     × (r ≡ start_answer answer)
     × (q ≡ with_sctp q.core.sctp p)
 

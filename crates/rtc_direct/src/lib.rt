@@ -12,7 +12,7 @@ mod ice_calls;
 mod media_rows;
 mod streams;
 
-pub use channel_making::{create_data_channel, start_sctp};
+pub use channel_making::{create_data_channel, start_sctp, start_sctp_with_snap};
 pub use dtls_calls::{set_remote_fingerprint, start_dtls};
 pub use feedback::{
     draw_ssrc, enable_twcc_feedback, send_app_specific_feedback, send_pli_feedback, set_red_send,

@@ -8,6 +8,7 @@ mod channels;
 mod lines;
 mod parts;
 mod peers;
+mod starts;
 mod streams;
 
 use std::io;

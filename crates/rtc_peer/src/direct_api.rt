@@ -15,6 +15,7 @@ use rtc_ids::Ids;
 use rtc_lines::{Candidate, Fingerprint, IceCreds};
 use rtc_media::MediaSession;
 use rtc_peer_state::RtcError;
+use rtc_sctp::SctpInitData;
 use rtc_wire::{ChannelConfig, ChannelId};
 use std::alloc::AllocError;
 
@@ -148,9 +149,23 @@ impl<'a, I: IceAgent, D: DtlsInstance, S: Association, M: MediaSession, N: Ids> 
     /// Starts the association as client or as server. Ok, and nothing happens, where it was started before.
     pub fn start_sctp(&mut self, client: bool) -> Result<(), RtcError>
         ensures same_reference { self.new.rtc.ghost_name ≡ self.old.rtc.ghost_name }
-        ensures does { StartsStreams S.association client self.old.rtc.now result self.new.rtc.now }
+        ensures does { StartsStreams S.association client None self.old.rtc.now result self.new.rtc.now }
     {
         self.rtc.start_sctp(client)
+    }
+
+    /// Starts the association by the halves of both sides (draft-hancke-tsvwg-snap): it is established at once, and session
+    /// descriptions tell this side's half. Where a half is not there, `SnapHalf` is answered, and nothing happens. Ok, and nothing
+    /// happens, where it was started before.
+    pub fn start_sctp_with_snap(
+        &mut self,
+        client: bool,
+        halves: SctpInitData,
+    ) -> Result<(), RtcError>
+        ensures same_reference { self.new.rtc.ghost_name ≡ self.old.rtc.ghost_name }
+        ensures does { StartsStreams S.association client (Some halves) self.old.rtc.now result self.new.rtc.now }
+    {
+        self.rtc.start_sctp_with_snap(client, halves)
     }
 
     /// Makes a channel, and answers its number: it is opened once the association is started and it has a stream.

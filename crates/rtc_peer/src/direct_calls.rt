@@ -16,7 +16,7 @@ use rtc_direct::{
     invalidate_candidate, remove_media, remove_stream_rx, remove_stream_tx,
     send_app_specific_feedback, send_pli_feedback, set_ice_controlling, set_ice_lite,
     set_local_credentials, set_red_send, set_remote_credentials, set_remote_fingerprint,
-    start_dtls, start_sctp,
+    start_dtls, start_sctp, start_sctp_with_snap,
 };
 use rtc_dtls::{DtlsInstance, DtlsVersion};
 use rtc_ice::IceAgent;
@@ -24,6 +24,7 @@ use rtc_ids::Ids;
 use rtc_lines::{Candidate, Fingerprint, IceCreds, MediaKind, Mid, Ssrc};
 use rtc_media::MediaSession;
 use rtc_peer_state::RtcError;
+use rtc_sctp::SctpInitData;
 use rtc_wire::{ChannelConfig, ChannelId};
 use std::alloc::AllocError;
 
@@ -79,9 +80,19 @@ impl<I: IceAgent, D: DtlsInstance, S: Association, M: MediaSession, N: Ids> Rtc<
     }
 
     pub(crate) fn start_sctp(&mut self, client: bool) -> Result<(), RtcError>
-        ensures { StartsStreams S.association client self.old result self.new }
+        ensures { StartsStreams S.association client None self.old result self.new }
     {
         start_sctp(&mut self.polled, client)
+    }
+
+    pub(crate) fn start_sctp_with_snap(
+        &mut self,
+        client: bool,
+        halves: SctpInitData,
+    ) -> Result<(), RtcError>
+        ensures { StartsStreams S.association client (Some halves) self.old result self.new }
+    {
+        start_sctp_with_snap(&mut self.polled, client, halves)
     }
 
     pub(crate) fn create_data_channel(

@@ -33,5 +33,5 @@ pub use rtc_media::{MediaError, MediaSession, NoStream};
 pub use rtc_parts_values::Reason;
 pub use rtc_peer_state::{RtcConfig, RtcError};
 pub use rtc_polling::{ChannelData, Event, Input, Output};
-pub use rtc_sctp::{ProtoError, SctpError};
+pub use rtc_sctp::{ProtoError, SctpError, SctpInitData};
 pub use sdp_api::SdpApi;
