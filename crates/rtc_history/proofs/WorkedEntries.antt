@@ -6,6 +6,7 @@ use Rattle.rtc_sdp_values.specs.declared.setup.Setup.TheVariants.{ActPass}
 use Rattle.rtc_sdp_values.specs.declared.ice_creds.IceCreds.{IceCreds}
 use Rattle.rtc_sdp_values.specs.declared.fingerprint.Fingerprint.{Fingerprint}
 use Rattle.rtc_sdp_values.specs.declared.sdp.Sdp.{Sdp}
+use Rattle.rtc_sctp_values.specs.SnapHalves.{nothing_kept}
 use Rattle.rtc_channels.specs.Channels.{no_channels}
 use Rattle.rtc_peer_state.specs.declared.sdp_head.SdpHead.{SdpHead}
 use Rattle.rtc_peer_state.specs.declared.told_row.ToldRow.{ToldRow}
@@ -37,6 +38,7 @@ worked_head = record {
   setup = ActPass;
   candidates = [];
   max_message_size = 262144;
+  sctp_init = None;
 }
 
 -- a row of whose line nothing more is told
@@ -68,6 +70,8 @@ plain at = record {
   fingerprint = None;
   role = None;
   max_message_size = 262144;
+  inited = false;
+  snap = nothing_kept;
   line = λ mid. None;
 }
 

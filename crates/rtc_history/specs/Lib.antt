@@ -18,3 +18,4 @@ pub mod Performs
 pub mod SoundParts
 pub mod Runs
 pub mod Fresh
+pub mod DrawnInRuns

@@ -6,6 +6,7 @@ use Rattle.std.specs.List.{list_any}
 use Rattle.rtc_sdp_values.specs.declared.line_row.LineRow.{LineRow}
 use Rattle.rtc_sdp_values.specs.LineRow.{row_mid}
 use Rattle.rtc_tables.specs.Table.{app_of}
+use Rattle.rtc_sctp_values.specs.InitHalves.{InitHalves, is_whole}
 use Rattle.rtc_history.specs.declared.side.Side.{Side}
 use Rattle.rtc_history.specs.declared.side.Side.TheVariants.{Left, Right}
 use Rattle.rtc_history.specs.declared.op.Op.{Op}
@@ -191,11 +192,21 @@ mid_of_app rows = option_map row_mid (app_of rows)
 abbrev pub AreCurrent : Stances → Side → Type 0
 AreCurrent sides at = IfSome (sides at).ice.remote (λ creds. creds ≡ (sides (other_side at)).ice.local)
 
--- Two sides with the same lines, also by the mid of the line of data channels, and with current credentials of each other.
+-- The associations of both sides were started by the chunks of both, and each side keeps that of the other one; or neither was started
+-- so (draft-hancke-tsvwg-snap).
+abbrev pub AreJoined : Option InitHalves → Option InitHalves → Type 0
+AreJoined None None = Unit {0}
+AreJoined (Some halves) (Some others) =
+    (is_whole halves ≡ true) × (halves.remote ≡ others.local) × (others.remote ≡ halves.local)
+AreJoined halves others = ⊥
+
+-- Two sides with the same lines, also by the mid of the line of data channels, with current credentials of each other, and with the
+-- chunks of each other where the associations were started by these.
 pub record AreInStep (rows others : List LineRow) (sides : Stances) : Type 0 where
   pub equal : Equal rows others
   pub app : mid_of_app others ≡ mid_of_app rows
   pub current : (at : Side) → AreCurrent sides at
+  pub joined : AreJoined (sides Left).snap.started (sides Right).snap.started
 
 -- After orderly steps that leave no round open, both sides are in step, unless memory ran out or a part failed, and while channel numbers
 -- are left at both sides.

@@ -119,7 +119,7 @@ is_unread (Media cause) = false
 is_unread BadChannel = false
 is_unread PeerAlloc = false
 
--- whether a reply says that the peer's accept call was reached
+-- whether a reply says that the peer's accept call was reached: what could not be read was refused before it
 abbrev pub was_called : {E : Type 0} → Outcome E → Bool
 was_called (Negotiated answers made) = false
 was_called (Answered k) = true
@@ -174,7 +174,7 @@ applies (Refused error) = false
 applies NoSuch = false
 applies Alloc = false
 
--- whether a step applied staged changes of a side, or had it accept or refuse an offer
+-- whether a step applied staged changes of a side, or handed it an offer that could be read, which it accepted or refused
 abbrev pub moves : {E : Type 0} → Side → Step → Outcome E → Bool
 moves at (Negotiate side ops apply) outcome = same_side side at && applies outcome
 moves at (AcceptOffer side offer) outcome = same_side side at && was_called outcome
@@ -205,7 +205,7 @@ makes t (Refused error) = false
 makes t NoSuch = false
 makes t Alloc = false
 
--- since the offer of this number, its side applied no staged changes, and neither accepted nor refused an offer
+-- since the offer of this number, its side applied no staged changes, and was handed no offer that could be read
 abbrev pub is_right : {E : Type 0} → Side → ℕ → List (Entry E) → Bool
 is_right at t [] = false
 is_right at t (entry ∷ past) = makes t entry.outcome || (not (moves at entry.step entry.outcome) && is_right at t past)

@@ -43,8 +43,7 @@ use Rattle.rtc_history.specs.declared.sent_packet.SentPacket.{SentPacket}
 use Rattle.rtc_history.specs.declared.shown.Shown.{Shown}
 use Rattle.rtc_history.specs.declared.shown.Shown.TheVariants.{Timeout, Packet, Event}
 use Rattle.rtc_history.specs.declared.outcome.Outcome.{Outcome}
-use Rattle.rtc_history.specs.declared.outcome.Outcome.TheVariants.{Negotiated, Answered, Finished, Polled, Refused}
-use Rattle.rtc_history.specs.declared.outcome.Outcome.TheVariants.{NoSuch, Alloc}
+use Rattle.rtc_history.specs.declared.outcome.Outcome.TheVariants.{Negotiated, Answered, Finished, Polled, Refused, NoSuch, Alloc}
 use Rattle.rtc_history.specs.declared.table.Table.{Table}
 use Rattle.rtc_history.specs.CallReplies.{Shows, StepCalls, StepWrites, StepClosesChannel}
 use Rattle.rtc_history.specs.Memory.{answers_lack}

@@ -51,7 +51,7 @@ use Rattle.rtc_history.specs.Past.{
   added_by,
   restarts_by,
 }
-use Rattle.rtc_history.specs.Views.{Stances, view_in}
+use Rattle.rtc_history.specs.Views.{Stances, init_told_by, view_in}
 
 -- no media row stands at a place
 abbrev pub HasNoLine : ℕ → List LineRow → Type 0
@@ -147,7 +147,8 @@ RepliesToOffer NotMade view next NoSuch after = after ≡ view.lines
 RepliesToOffer (Unreadable line) view next (Refused error) after = (error ≡ SdpRefused (Parse line)) × (after ≡ view.lines)
 RepliesToOffer (Readable sdp) view next (Answered k) after =
     (verdict view None sdp ≡ None) × (after ≡ table_after view.lines (parsed_lines sdp) true) × (k ≡ next)
-RepliesToOffer (Readable sdp) view next (Refused (RemoteSdp why)) after = (verdict view None sdp ≡ Some (RefusedSdp why)) × (after ≡ view.lines)
+RepliesToOffer (Readable sdp) view next (Refused (RemoteSdp why)) after =
+    (verdict view None sdp ≡ Some (RefusedSdp why)) × (after ≡ view.lines)
 RepliesToOffer (Readable sdp) view next (Refused (SdpRefused error)) after =
     (verdict view None sdp ≡ Some (RefusedAsSdp error)) × (after ≡ view.lines)
 RepliesToOffer (Readable sdp) view next (Refused (Dtls Fault)) after = (verdict view None sdp ≡ None) × (after ≡ view.lines)
@@ -169,15 +170,21 @@ RepliesToAnswer true true asked (Readable sdp) view (Refused (RemoteSdp why)) af
     (verdict view (Some asked) sdp ≡ Some (RefusedSdp why)) × (after ≡ view.lines)
 RepliesToAnswer true true asked (Readable sdp) view (Refused (SdpRefused error)) after =
     (verdict view (Some asked) sdp ≡ Some (RefusedAsSdp error)) × (after ≡ view.lines)
-RepliesToAnswer true true asked (Readable sdp) view (Refused (Dtls Fault)) after = (verdict view (Some asked) sdp ≡ None) × (after ≡ view.lines)
+RepliesToAnswer true true asked (Readable sdp) view (Refused (Dtls Fault)) after =
+    (verdict view (Some asked) sdp ≡ None) × (after ≡ view.lines)
 RepliesToAnswer true true asked (Readable sdp) view (Refused (Sctp error)) after =
     (error ≡ Proto AssociationFault) × (verdict view (Some asked) sdp ≡ None) × (after ≡ view.lines)
 RepliesToAnswer true true asked (Readable sdp) view (Refused PeerAlloc) after = after ≡ view.lines
 RepliesToAnswer held right asked sdp view outcome after = ⊥
 
--- what the offer of a token asks of its answer: the rows that it added, placed after the rows of its side, and whether it restarted ICE
+-- what the offer of a token asks of its answer: the rows that it added, placed after the rows of its side, whether it restarted ICE, and
+-- whether it told a chunk for a start of the association
 abbrev pub asked_in : {E : Type 0} → Side → ℕ → List (Entry E) → Asked
-asked_in at t past = record { added = added_by (length (before at past)) t past; restarts = restarts_by t past }
+asked_in at t past = record {
+  added = added_by (length (before at past)) t past;
+  restarts = restarts_by t past;
+  says_init = init_told_by t past;
+}
 
 -- an input was taken, or a close begun, or either was refused
 abbrev pub is_handled : {E : Type 0} → Outcome E → Bool

@@ -3,13 +3,13 @@ use Rattle.rtc_dtls.specs.declared.dtls_error.DtlsError.TheVariants.{Fault, Woul
 use Rattle.rtc_peer_state.specs.Stance.{held_by}
 use Rattle.rtc_history.specs.Signalled.{Signalled, NotMade, Unreadable, Readable}
 use Rattle.rtc_sdp_values.specs.declared.sdp_error.SdpError.TheVariants.{Parse}
-use Rattle.rtc_history.specs.Views.{Stances, view_in}
+use Rattle.rtc_history.specs.Views.{Stances, view_in, tells_init, init_told_by}
 use Rattle.std.proofs.Common.{not, ◌≡◌, ◌≢◌, ◌≤◌, ◌<◌, ◌+◌, ◌^◌, ◌==◌, ℕ, List, [], ◌∷◌, length, Bool, true, false, ◌&&◌, Option, Some, None, refl, sym, ◌∙◌, ap, arith}
-use Rattle.std.specs.Prelude.{slice_get, slice_set, is_some}
+use Rattle.std.specs.Prelude.{slice_get, slice_set, is_some, option_map}
 use Rattle.std.proofs.lemmas.Bool.{and_right, eq-eqb, ne_eqb}
 use Rattle.rtc_sdp_values.specs.declared.line_row.LineRow.{LineRow}
 use Rattle.rtc_change.specs.Held.{Held, Asked}
-use Rattle.rtc_change.specs.PendingOffer.{PendingOffer, added_rows}
+use Rattle.rtc_change.specs.PendingOffer.{PendingOffer, added_rows, staged_restart}
 use Rattle.rtc_change.specs.Plans.{asked_by}
 use Rattle.rtc_peer_state.specs.Stance.{Stance}
 use Rattle.rtc_peer_state.specs.declared.rtc_error.RtcError.{RtcError}
@@ -21,10 +21,10 @@ use Rattle.rtc_history.specs.declared.step.Step.TheVariants.{AcceptAnswer}
 use Rattle.rtc_history.specs.declared.outcome.Outcome.{Outcome}
 use Rattle.rtc_history.specs.declared.outcome.Outcome.TheVariants.{Finished, Refused, NoSuch, Alloc}
 use Rattle.rtc_history.specs.declared.table.Table.{Table}
-use Rattle.rtc_history.specs.Past.{Entry, MadeSdp, before, channels_shown, channel_rows_or, numbers_in, rows_or, remote_sdp, is_right, was_called, is_unread, makes, restarts_by}
+use Rattle.rtc_history.specs.Past.{Entry, MadeSdp, before, channels_shown, channel_rows_or, numbers_in, rows_or, remote_sdp, is_right, was_called, is_unread, makes, restarts_by, sdps}
 use Rattle.rtc_history.specs.Sound.{RepliesToAnswer, IsSound, asked_in}
 use Rattle.rtc_history.specs.declared.kept.Kept.{Kept}
-use Rattle.rtc_history.specs.PairState.{token_for, held_token, spent}
+use Rattle.rtc_history.specs.PairState.{made_sdp, token_for, held_token, spent}
 use Rattle.rtc_wire.specs.declared.channel_config.ChannelConfig.{ChannelConfig}
 use Rattle.rtc_channels.specs.Channels.{Channels, all_confirmed}
 use Rattle.rtc_history_laws.proofs.UnreadSdps.{peer_reads, uncalled_unread}
@@ -61,91 +61,96 @@ not_right counter size id right differs is older low small =
 
 -- what the token asks is what the past says of its offer
 asked_told : {E : Type 0} → (past : List (Entry E)) (at : Side) (counter t : ℕ) (found : Option Kept) (token : PendingOffer) (rows : List LineRow)
-    → TokenTells past at counter t found → token_for at found ≡ Some token → before at past ≡ rows → asked_in at t past ≡ asked_by rows token
-asked_told past at counter t found token rows told is same =
-    let asked : List LineRow → Bool → Asked = λ rows restarts. record { added = rows; restarts = restarts } in
-    rw same (ap (λ rows. asked rows (restarts_by t past)) (sym (told.changes token is (length rows))) ∙ ap (asked (added_rows (length rows) token.changes)) (sym (told.restarts token is)))
+    → TokenTells past at counter t found → slice_get (sdps past) t ≡ option_map made_sdp found → token_for at found ≡ Some token → before at past ≡ rows
+    → asked_in at t past ≡ asked_by rows token
+asked_told past at counter t found token rows told there is same =
+    let asked : List LineRow → Bool → Bool → Asked = λ rows restarts inits. record { added = rows; restarts = restarts; says_init = inits } in
+    rw same (
+    ap (λ rows. asked rows (restarts_by t past) (init_told_by t past)) (sym (told.changes token is (length rows)))
+    ∙ ap (λ restarts. asked (added_rows (length rows) token.changes) restarts (init_told_by t past)) (sym (told.restarts token is))
+    ∙ ap (asked (added_rows (length rows) token.changes) (is_some (staged_restart token.changes))) (ap tells_init there ∙ sym (told.inits token is))
+    )
 
 -- the reply to an answer that is delivered
 pub answer_reply : {E : Type 0} → (fresh between : Stances) (past : List (Entry E)) (at : Side) (t a size : ℕ) (found : Option Kept) (token : Option PendingOffer) (sdp : Signalled) (old new : Stance) (kept kept' : List Kept) (outcome : Outcome E) (table : Option Table) (made : List MadeSdp)
-    → token_for at found ≡ token → TokenTells past at old.counter t found → old.counter ≤ size → size < 2 ^ 32 → remote_sdp false at a past ≡ sdp → view_in fresh at past (held_by (between at)) ≡ held_by old → before at past ≡ old.lines
+    → token_for at found ≡ token → TokenTells past at old.counter t found → slice_get (sdps past) t ≡ option_map made_sdp found → old.counter ≤ size → size < 2 ^ 32 → remote_sdp false at a past ≡ sdp → view_in fresh at past (held_by (between at)) ≡ held_by old → before at past ≡ old.lines
     → channels_shown at past ≡ old.rows → StanceStepAcceptsAnswer t token sdp old kept outcome table new kept' → IsSound fresh past between (AcceptAnswer at t a) outcome table made
-answer_reply {E} fresh between past at t a size found None NotMade old new kept kept' Alloc None made is told_it low small said view rows shown h = tt
-answer_reply {E} fresh between past at t a size found None (Unreadable line) old new kept kept' Alloc None made is told_it low small said view rows shown h = tt
-answer_reply {E} fresh between past at t a size found None (Readable sdp) old new kept kept' Alloc None made is told_it low small said view rows shown h = tt
-answer_reply {E} fresh between past at t a size found (Some token) NotMade old new kept kept' Alloc None made is told_it low small said view rows shown h = tt
-answer_reply {E} fresh between past at t a size found (Some token) (Unreadable line) old new kept kept' Alloc None made is told_it low small said view rows shown h = tt
-answer_reply {E} fresh between past at t a size found (Some token) (Readable sdp) old new kept kept' Alloc None made is told_it low small said view rows shown h = tt
-answer_reply {E} fresh between past at t a size found None NotMade old new kept kept' NoSuch (Some table) made is told_it low small said view rows shown h = (
+answer_reply {E} fresh between past at t a size found None NotMade old new kept kept' Alloc None made is told_it there low small said view rows shown h = tt
+answer_reply {E} fresh between past at t a size found None (Unreadable line) old new kept kept' Alloc None made is told_it there low small said view rows shown h = tt
+answer_reply {E} fresh between past at t a size found None (Readable sdp) old new kept kept' Alloc None made is told_it there low small said view rows shown h = tt
+answer_reply {E} fresh between past at t a size found (Some token) NotMade old new kept kept' Alloc None made is told_it there low small said view rows shown h = tt
+answer_reply {E} fresh between past at t a size found (Some token) (Unreadable line) old new kept kept' Alloc None made is told_it there low small said view rows shown h = tt
+answer_reply {E} fresh between past at t a size found (Some token) (Readable sdp) old new kept kept' Alloc None made is told_it there low small said view rows shown h = tt
+answer_reply {E} fresh between past at t a size found None NotMade old new kept kept' NoSuch (Some table) made is told_it there low small said view rows shown h = (
   answer_by false _ (is_right at t past) _ (asked_in at t past) _ NotMade _ (held_by old) _ NoSuch table.lines (sym told_it.held ∙ ap is_some is) refl refl said view h.1.lines,
   shown_by past at old old table shown refl h.1,
 )
-answer_reply {E} fresh between past at t a size found None (Unreadable line) old new kept kept' NoSuch (Some table) made is told_it low small said view rows shown h = (
+answer_reply {E} fresh between past at t a size found None (Unreadable line) old new kept kept' NoSuch (Some table) made is told_it there low small said view rows shown h = (
   answer_by false _ (is_right at t past) _ (asked_in at t past) _ (Unreadable line) _ (held_by old) _ NoSuch table.lines (sym told_it.held ∙ ap is_some is) refl refl said view h.1.lines,
   shown_by past at old old table shown refl h.1,
 )
-answer_reply {E} fresh between past at t a size found None (Readable sdp) old new kept kept' NoSuch (Some table) made is told_it low small said view rows shown h = (
+answer_reply {E} fresh between past at t a size found None (Readable sdp) old new kept kept' NoSuch (Some table) made is told_it there low small said view rows shown h = (
   answer_by false _ (is_right at t past) _ (asked_in at t past) _ (Readable sdp) _ (held_by old) _ NoSuch table.lines (sym told_it.held ∙ ap is_some is) refl refl said view h.1.lines,
   shown_by past at old old table shown refl h.1,
 )
-answer_reply {E} fresh between past at t a size found (Some token) NotMade old new kept kept' NoSuch (Some table) made is told_it low small said view rows shown h = (
+answer_reply {E} fresh between past at t a size found (Some token) NotMade old new kept kept' NoSuch (Some table) made is told_it there low small said view rows shown h = (
   answer_by true _ (is_right at t past) _ (asked_in at t past) _ NotMade _ (held_by old) _ NoSuch table.lines (sym told_it.held ∙ ap is_some is) refl refl said view
       (no_text E (is_right at t past) (asked_in at t past) (held_by old) table.lines h.1.lines),
   shown_by past at old old table shown refl h.1,
 )
-answer_reply {E} fresh between past at t a size found (Some token) (Unreadable line) old new kept kept' (Refused error) (Some table) made is told_it low small said view rows shown h = (
+answer_reply {E} fresh between past at t a size found (Some token) (Unreadable line) old new kept kept' (Refused error) (Some table) made is told_it there low small said view rows shown h = (
   answer_by true _ (is_right at t past) _ (asked_in at t past) _ (Unreadable line) _ (held_by old) _ (Refused error) table.lines (sym told_it.held ∙ ap is_some is) refl refl said view
       (unread_text E (is_right at t past) (asked_in at t past) line error (held_by old) table.lines h.0 h.2.lines),
   shown_by past at old old table shown refl h.2,
 )
-answer_reply {E} fresh between past at t a size found (Some token) (Readable sdp) old new kept kept' Finished (Some table) made is told_it low small said view rows shown h = (
+answer_reply {E} fresh between past at t a size found (Some token) (Readable sdp) old new kept kept' Finished (Some table) made is told_it there low small said view rows shown h = (
   answer_by true _ true _ (asked_by old.lines token) _ (Readable sdp) _ (held_by old) _ Finished table.lines (sym told_it.held ∙ ap is_some is)
       (now_right old.counter size token.id (is_right at t past) h.0.right (told_it.right token is) (told_it.older token is) low small)
-      (asked_told past at old.counter t found token old.lines told_it is rows) said view (h.0.passes, h.2.lines ∙ ap (λ p. p.lines) h.0.rest),
+      (asked_told past at old.counter t found token old.lines told_it there is rows) said view (h.0.passes, h.2.lines ∙ ap (λ p. p.lines) h.0.rest),
   shown_by past at old new table shown (ap (λ p. p.rows) h.0.rest) h.2,
 )
-answer_reply {E} fresh between past at t a size found (Some token) (Readable sdp) old new kept kept' (Refused (RemoteSdp why)) (Some table) made is told_it low small said view rows shown h = (
+answer_reply {E} fresh between past at t a size found (Some token) (Readable sdp) old new kept kept' (Refused (RemoteSdp why)) (Some table) made is told_it there low small said view rows shown h = (
   answer_by true _ true _ (asked_by old.lines token) _ (Readable sdp) _ (held_by old) _ (Refused (RemoteSdp why)) table.lines (sym told_it.held ∙ ap is_some is)
       (now_right old.counter size token.id (is_right at t past) h.0.0 (told_it.right token is) (told_it.older token is) low small)
-      (asked_told past at old.counter t found token old.lines told_it is rows) said view (h.0.1.0, h.2.lines ∙ ap (λ p. p.lines) h.0.1.1),
+      (asked_told past at old.counter t found token old.lines told_it there is rows) said view (h.0.1.0, h.2.lines ∙ ap (λ p. p.lines) h.0.1.1),
   shown_by past at old new table shown (ap (λ p. p.rows) h.0.1.1) h.2,
 )
-answer_reply {E} fresh between past at t a size found (Some token) (Readable sdp) old new kept kept' (Refused (SdpRefused error)) (Some table) made is told_it low small said view rows shown h = (
+answer_reply {E} fresh between past at t a size found (Some token) (Readable sdp) old new kept kept' (Refused (SdpRefused error)) (Some table) made is told_it there low small said view rows shown h = (
   answer_by true _ true _ (asked_by old.lines token) _ (Readable sdp) _ (held_by old) _ (Refused (SdpRefused error)) table.lines (sym told_it.held ∙ ap is_some is)
       (now_right old.counter size token.id (is_right at t past) h.0.0 (told_it.right token is) (told_it.older token is) low small)
-      (asked_told past at old.counter t found token old.lines told_it is rows) said view (h.0.1.0, h.2.lines ∙ ap (λ p. p.lines) h.0.1.1),
+      (asked_told past at old.counter t found token old.lines told_it there is rows) said view (h.0.1.0, h.2.lines ∙ ap (λ p. p.lines) h.0.1.1),
   shown_by past at old new table shown (ap (λ p. p.rows) h.0.1.1) h.2,
 )
-answer_reply {E} fresh between past at t a size found (Some token) (Readable sdp) old new kept kept' (Refused (Dtls Fault)) (Some table) made is told_it low small said view rows shown h = (
+answer_reply {E} fresh between past at t a size found (Some token) (Readable sdp) old new kept kept' (Refused (Dtls Fault)) (Some table) made is told_it there low small said view rows shown h = (
   answer_by true _ true _ (asked_by old.lines token) _ (Readable sdp) _ (held_by old) _ (Refused (Dtls Fault)) table.lines (sym told_it.held ∙ ap is_some is)
       (now_right old.counter size token.id (is_right at t past) h.0.0 (told_it.right token is) (told_it.older token is) low small)
-      (asked_told past at old.counter t found token old.lines told_it is rows) said view (h.0.1, h.2.lines ∙ ap (λ p. p.lines) h.0.2.rest),
+      (asked_told past at old.counter t found token old.lines told_it there is rows) said view (h.0.1, h.2.lines ∙ ap (λ p. p.lines) h.0.2.rest),
   shown_by past at old new table shown (ap (λ p. p.rows) h.0.2.rest) h.2,
 )
-answer_reply {E} fresh between past at t a size found (Some token) (Readable sdp) old new kept kept' (Refused (Dtls WouldBlock)) (Some table) made is told_it low small said view rows shown h = absurd h.0
-answer_reply {E} fresh between past at t a size found (Some token) (Readable sdp) old new kept kept' (Refused (Dtls DtlsAlloc)) (Some table) made is told_it low small said view rows shown h = absurd h.0
-answer_reply {E} fresh between past at t a size found (Some token) (Readable sdp) old new kept kept' (Refused (Sctp error)) (Some table) made is told_it low small said view rows shown h = (
+answer_reply {E} fresh between past at t a size found (Some token) (Readable sdp) old new kept kept' (Refused (Dtls WouldBlock)) (Some table) made is told_it there low small said view rows shown h = absurd h.0
+answer_reply {E} fresh between past at t a size found (Some token) (Readable sdp) old new kept kept' (Refused (Dtls DtlsAlloc)) (Some table) made is told_it there low small said view rows shown h = absurd h.0
+answer_reply {E} fresh between past at t a size found (Some token) (Readable sdp) old new kept kept' (Refused (Sctp error)) (Some table) made is told_it there low small said view rows shown h = (
   answer_by true _ true _ (asked_by old.lines token) _ (Readable sdp) _ (held_by old) _ (Refused (Sctp error)) table.lines (sym told_it.held ∙ ap is_some is)
       (now_right old.counter size token.id (is_right at t past) h.0.0 (told_it.right token is) (told_it.older token is) low small)
-      (asked_told past at old.counter t found token old.lines told_it is rows) said view (h.0.1, h.0.2, h.2.lines ∙ ap (λ p. p.lines) h.0.3.rest),
+      (asked_told past at old.counter t found token old.lines told_it there is rows) said view (h.0.1, h.0.2, h.2.lines ∙ ap (λ p. p.lines) h.0.3.rest),
   shown_by past at old new table shown (ap (λ p. p.rows) h.0.3.rest) h.2,
 )
-answer_reply {E} fresh between past at t a size found (Some token) (Readable sdp) old new kept kept' (Refused PeerAlloc) (Some table) made is told_it low small said view rows shown h = (
+answer_reply {E} fresh between past at t a size found (Some token) (Readable sdp) old new kept kept' (Refused PeerAlloc) (Some table) made is told_it there low small said view rows shown h = (
   answer_by true _ true _ (asked_in at t past) _ (Readable sdp) _ (held_by old) _ (Refused PeerAlloc) table.lines (sym told_it.held ∙ ap is_some is)
       (now_right old.counter size token.id (is_right at t past) h.0.0 (told_it.right token is) (told_it.older token is) low small)
       refl said view (h.2.lines ∙ ap (λ p. p.lines) h.0.1.rest),
   shown_by past at old new table shown (ap (λ p. p.rows) h.0.1.rest) h.2,
 )
-answer_reply {E} fresh between past at t a size found (Some token) (Readable sdp) old new kept kept' (Refused ChangesOutOfOrder) (Some table) made is told_it low small said view rows shown h = (
+answer_reply {E} fresh between past at t a size found (Some token) (Readable sdp) old new kept kept' (Refused ChangesOutOfOrder) (Some table) made is told_it there low small said view rows shown h = (
   answer_by true _ false _ (asked_in at t past) _ (Readable sdp) _ (held_by old) _ (Refused ChangesOutOfOrder) table.lines (sym told_it.held ∙ ap is_some is)
       (not_right old.counter size token.id (is_right at t past) h.0.0 (told_it.right token is) (told_it.older token is) low small)
       refl said view (h.2.lines ∙ ap (λ p. p.lines) h.0.1),
   shown_by past at old new table shown (ap (λ p. p.rows) h.0.1) h.2,
 )
-answer_reply {E} fresh between past at t a size found (Some token) (Readable sdp) old new kept kept' (Refused (Net cause)) (Some table) made is told_it low small said view rows shown h = absurd h.0
-answer_reply {E} fresh between past at t a size found (Some token) (Readable sdp) old new kept kept' (Refused (MediaFailed cause)) (Some table) made is told_it low small said view rows shown h = absurd h.0
-answer_reply {E} fresh between past at t a size found (Some token) (Readable sdp) old new kept kept' (Refused BadChannel) (Some table) made is told_it low small said view rows shown h = absurd h.0
-answer_reply {E} fresh between past at t a size found token sdp old new kept kept' outcome table made is told_it low small said view rows shown h = absurd h
+answer_reply {E} fresh between past at t a size found (Some token) (Readable sdp) old new kept kept' (Refused (Net cause)) (Some table) made is told_it there low small said view rows shown h = absurd h.0
+answer_reply {E} fresh between past at t a size found (Some token) (Readable sdp) old new kept kept' (Refused (MediaFailed cause)) (Some table) made is told_it there low small said view rows shown h = absurd h.0
+answer_reply {E} fresh between past at t a size found (Some token) (Readable sdp) old new kept kept' (Refused BadChannel) (Some table) made is told_it there low small said view rows shown h = absurd h.0
+answer_reply {E} fresh between past at t a size found token sdp old new kept kept' outcome table made is told_it there low small said view rows shown h = absurd h
 
 -- ---- what the entry leaves
 

@@ -1,12 +1,16 @@
 -- A session description that is read again differs in its sources alone.
-use Rattle.std.proofs.Common.{◌≡◌, ℕ, Bool, not, List, [], ◌∷◌, map, Option, refl, ap, ◌∙◌}
+use Rattle.std.proofs.Common.{◌≡◌, ℕ, Bool, true, false, not, List, [], ◌∷◌, map, Option, refl, ap, ◌∙◌}
 use Rattle.std.specs.List.{list_all}
 use Rattle.std.specs.Option.{option_or}
+use Rattle.std.specs.Prelude.{option_and_then}
 use Rattle.rtc_fields.specs.Fields.{first}
 use Rattle.rtc_sdp_values.specs.Mids.{is_among, are_distinct}
 use Rattle.rtc_sdp_values.specs.Sdp.{
   creds_of,
   sdp_fingerprint,
+  application_line,
+  sdp_sctp_init,
+  is_application,
   inconsistency,
   mids_of,
   are_grouped,
@@ -44,6 +48,23 @@ creds_as_read sdp = ap (λ (found : Option IceCreds). option_or sdp.creds found)
 pub fingerprint_as_read : (sdp : Sdp) → sdp_fingerprint (as_read sdp) ≡ sdp_fingerprint sdp
 fingerprint_as_read sdp =
     ap (λ (found : Option Fingerprint). option_or sdp.fingerprint found) (first_as_read (λ line. line.fingerprint) (λ line. refl) sdp.lines)
+
+pub init_as_read : (sdp : Sdp) → sdp_sctp_init (as_read sdp) ≡ sdp_sctp_init sdp
+init_as_read sdp = by sdp.lines
+  where
+    by : (lines : List MediaLine)
+        → option_and_then (λ (line : MediaLine). line.sctp_init) (application_line (map line_as_read lines))
+        ≡ option_and_then (λ (line : MediaLine). line.sctp_init) (application_line lines)
+    by [] = refl
+    by (line ∷ lines) = here (is_application line.kind) refl (by lines)
+      where
+        here : (found : Bool) → is_application line.kind ≡ found
+            → option_and_then (λ (one : MediaLine). one.sctp_init) (application_line (map line_as_read lines))
+            ≡ option_and_then (λ (one : MediaLine). one.sctp_init) (application_line lines)
+            → option_and_then (λ (one : MediaLine). one.sctp_init) (application_line (map line_as_read (line ∷ lines)))
+            ≡ option_and_then (λ (one : MediaLine). one.sctp_init) (application_line (line ∷ lines))
+        here true is rest = rw is refl
+        here false is rest = rw is rest
 
 mids_as_read : (lines : List MediaLine) → mids_of (map line_as_read lines) ≡ mids_of lines
 mids_as_read lines = map_as_read (λ line. line.mid) (λ line. refl) lines

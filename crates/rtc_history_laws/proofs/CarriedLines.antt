@@ -30,7 +30,7 @@ use Rattle.rtc_codecs.specs.FormedCodecs.{
   AreFormedExtensions,
 }
 use Rattle.rtc_codecs.proofs.AllLemmas.{all_left, all_right}
-use Rattle.rtc_peer_state.specs.Formed.{IsFormedPair, IsFormedLayer, AreFormedLayers, is_layer_name, same_layer, IsFormedSimulcast, IsFormedMsid, IsFormedSource}
+use Rattle.rtc_peer_state.specs.Formed.{IsFormedPair, IsFormedLayer, AreFormedLayers, is_layer_name, shares_rid, IsFormedSimulcast, IsFormedMsid, IsFormedSource}
 use Rattle.rtc_peer_state.proofs.Alls.{all-append}
 
 -- ---- payload rows
@@ -118,12 +118,12 @@ names_listed : (layers : List SimulcastLayer) → AllByRecursion IsFormedLayer l
 names_listed [] formed = tt
 names_listed (layer ∷ layers) formed = (name_listed layer.rid formed.0.name, names_listed layers formed.1)
 
-others_named : (layer : SimulcastLayer) (layers : List SimulcastLayer) → AllByRecursion (λ other. same_layer other layer ≡ false) layers
+others_named : (layer : SimulcastLayer) (layers : List SimulcastLayer) → AllByRecursion (λ other. shares_rid other layer ≡ false) layers
     → AllByRecursion (λ rid. bytes_eq rid layer.rid ≡ false) (rids_in layers)
 others_named layer [] others = tt
 others_named layer (other ∷ layers) others = (others.0, others_named layer layers others.1)
 
-names_apart : (layers : List SimulcastLayer) → IsApart same_layer layers → IsApart bytes_eq (rids_in layers)
+names_apart : (layers : List SimulcastLayer) → IsApart shares_rid layers → IsApart bytes_eq (rids_in layers)
 names_apart [] apart = tt
 names_apart (layer ∷ layers) apart = (others_named layer layers apart.0, names_apart layers apart.1)
 

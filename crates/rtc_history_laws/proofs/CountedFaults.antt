@@ -12,14 +12,17 @@ use Rattle.rtc_sdp_values.specs.declared.line_row.LineRow.{LineRow}
 use Rattle.rtc_parts_values.specs.Why.{Other}
 use Rattle.rtc_association.specs.declared.assoc_error.AssocError.{AssocError}
 use Rattle.rtc_association.specs.declared.assoc_error.AssocError.TheVariants as assoc
-use Rattle.rtc_association.specs.AssociationActs.{Started, Stirred as AssociationStirred, ByConnect, ByAccept, ConnectRefused, AcceptRefused}
+use Rattle.rtc_association.specs.AssociationActs.{Started, Stirred as AssociationStirred, ByConnect, ByAccept, BySnap}
+use Rattle.rtc_association.specs.AssociationActs.{ConnectRefused, AcceptRefused, SnapRefused}
 use Rattle.rtc_association.specs.AssociationLaws.{AssociationLaws}
 use Rattle.rtc_association.specs.AssociationMeaning.{AssociationMeaning}
 use Rattle.rtc_association.specs.AssociationNeeds.{Answered}
+use Rattle.rtc_sctp_entries.specs.declared.asked.Asked.{Asked}
 use Rattle.rtc_sctp_entries.specs.declared.asked.Asked.TheVariants as did
 use Rattle.rtc_sctp_entries.specs.Answers.{asked_of}
 use Rattle.rtc_sctp_entries.specs.Part.{StartedAs}
-use Rattle.rtc_sctp.specs.Calls.{Inits}
+use Rattle.rtc_sctp.specs.Calls.{AsksInit, Inits}
+use Rattle.rtc_sctp_values.specs.InitHalves.{InitHalves, half_bytes}
 use Rattle.rtc_sctp.specs.Streams.{SctpStreams}
 use Rattle.rtc_sctp_values.specs.declared.proto_error.ProtoError.TheVariants as proto
 use Rattle.rtc_sctp_values.specs.declared.sctp_error.SctpError.{SctpError}
@@ -129,42 +132,64 @@ module _ {S : Type 0} (association : AssociationMeaning S) (laws : AssociationLa
   started_fault true p q now max r is h = answered_fault (association.faults p) (association.faults q) r is (laws.connect_answer p q now max r h)
   started_fault false p q now max r is h = answered_fault (association.faults p) (association.faults q) r is (laws.accept_answer p q now max r h)
 
+  snap_later : (p q : S) (now max : ℕ) (local remote : List ℕ) (r : Result (Unit {0}) AssocError) → association.started p ≡ false
+      → association.connected_snap p now max local remote r q → association.faults p ≤ association.faults q
+  snap_later p q now max local remote (Ok done) fresh h = laws.faults_rise p q Started (fresh, BySnap now max local remote h)
+  snap_later p q now max local remote (Err error) fresh h =
+      laws.faults_rise p q (AssociationStirred Other) (SnapRefused now max local remote error fresh h)
+
+  -- a start as client or as server, or by the chunks of both sides
+  asked_later : (halves : Option InitHalves) (client : Bool) (p q : S) (now max : ℕ) (answer : Asked) → association.started p ≡ false
+      → AsksInit association halves client p now max answer q → association.faults p ≤ association.faults q
+  asked_later None client p q now max answer fresh h = started_later client p q now max h.result fresh h.called
+  asked_later (Some halves) client p q now max answer fresh h =
+      snap_later p q now max (half_bytes halves.local) (half_bytes halves.remote) h.1.result fresh h.1.called
+
+  asked_fault : (halves : Option InitHalves) (client : Bool) (p q : S) (now max : ℕ)
+      → AsksInit association halves client p now max did.Refused q → Rose (association.faults p) (association.faults q)
+  asked_fault None client p q now max h = started_fault client p q now max h.result h.is h.called
+  asked_fault (Some halves) client p q now max h =
+      answered_fault (association.faults p) (association.faults q) h.1.result h.1.is
+      (laws.snap_answer p q now max (half_bytes halves.local) (half_bytes halves.remote) h.1.result h.1.called)
+
   same_association : (p q : SctpStreams S) → q ≡ p → association.faults p.association ≤ association.faults q.association
   same_association p q same =
       let e : association.faults q.association ≡ association.faults p.association = ap (λ (s : SctpStreams S). association.faults s.association) same in omega arith
 
-  inits_later : (client : Bool) (now max : ℕ) (p : SctpStreams S) (r : Result (Unit {0}) SctpError) (q : SctpStreams S) → Inits association client now max None p r q
+  inits_later : (client : Bool) (now max : ℕ) (halves : Option InitHalves) (p : SctpStreams S) (r : Result (Unit {0}) SctpError) (q : SctpStreams S)
+      → Inits association client now max halves p r q
       → association.faults p.association ≤ association.faults q.association
-  inits_later client now max p (Ok done) q h = started_later client p.association q.association now max h.1.result h.0 h.1.called
-  inits_later client now max p (Err (sctp.Proto proto.Started)) q h = same_association p q h.1
-  inits_later client now max p (Err (sctp.Proto proto.SnapHalf)) q h = same_association p q h.2
-  inits_later client now max p (Err (sctp.Proto proto.Fault)) q h = started_later client p.association q.association now max h.1.result h.0 h.1.called
-  inits_later client now max p (Err sctp.Alloc) q h = started_later client p.association q.association now max h.1.result h.0 h.1.called
-  inits_later client now max p (Err error) q h = absurd h
+  inits_later client now max halves p (Ok done) q h = asked_later halves client p.association q.association now max did.Done h.0 h.1
+  inits_later client now max halves p (Err (sctp.Proto proto.Started)) q h = same_association p q h.1
+  inits_later client now max halves p (Err (sctp.Proto proto.SnapHalf)) q h = same_association p q h.2
+  inits_later client now max halves p (Err (sctp.Proto proto.Fault)) q h = asked_later halves client p.association q.association now max did.Refused h.0 h.1
+  inits_later client now max halves p (Err sctp.Alloc) q h = asked_later halves client p.association q.association now max did.OutOfMemory h.0 h.1
+  inits_later client now max halves p (Err error) q h = absurd h
 
-  where_later : (needed : Bool) (p : SctpStreams S) (client : Bool) (now max : ℕ) (r : Result (Unit {0}) SctpError) (q : SctpStreams S)
-      → StartsWhere association needed p client now max r q → association.faults p.association ≤ association.faults q.association
-  where_later false p client now max r q h = same_association p q h.1
-  where_later true p client now max r q h = inits_later client now max p r q h
+  where_later : (needed : Bool) (p : SctpStreams S) (client : Bool) (now max : ℕ) (halves : Option InitHalves) (drops : Bool)
+      (r : Result (Unit {0}) SctpError) (q : SctpStreams S) → StartsWhere association needed p client now max halves drops r q → association.faults p.association ≤ association.faults q.association
+  where_later false p client now max halves drops r q h =
+      let e : association.faults q.association ≡ association.faults p.association = ap (λ (s : SctpStreams S). association.faults s.association) h.1 in omega arith
+  where_later true p client now max halves drops r q h = inits_later client now max halves p r q h
 
-  where_fault : (needed : Bool) (p : SctpStreams S) (client : Bool) (now max : ℕ) (q : SctpStreams S)
-      → StartsWhere association needed p client now max (Err (sctp.Proto proto.Fault)) q → Rose (association.faults p.association) (association.faults q.association)
-  where_fault false p client now max q h = absurd (let e = h.0 in cc)
-  where_fault true p client now max q h = started_fault client p.association q.association now max h.1.result h.1.is h.1.called
+  where_fault : (needed : Bool) (p : SctpStreams S) (client : Bool) (now max : ℕ) (halves : Option InitHalves) (drops : Bool) (q : SctpStreams S)
+      → StartsWhere association needed p client now max halves drops (Err (sctp.Proto proto.Fault)) q → Rose (association.faults p.association) (association.faults q.association)
+  where_fault false p client now max halves drops q h = absurd (let e = h.0 in cc)
+  where_fault true p client now max halves drops q h = asked_fault halves client p.association q.association now max h.1
 
   -- the count never falls
-  pub sctp_later : (p q : SctpStreams S) (rows : List LineRow) (client : Bool) (now max : ℕ) (r : Result (Unit {0}) SctpError)
-      → StartsSctp association p rows client now max r q → association.faults p.association ≤ association.faults q.association
-  sctp_later p q rows client now max r h = where_later (needs_start association rows p) p client now max r q h
+  pub sctp_later : (p q : SctpStreams S) (rows : List LineRow) (client : Bool) (now max : ℕ) (halves : Option InitHalves) (drops : Bool)
+      (r : Result (Unit {0}) SctpError) → StartsSctp association p rows client now max halves drops r q → association.faults p.association ≤ association.faults q.association
+  sctp_later p q rows client now max halves drops r h = where_later (needs_start association rows p) p client now max halves drops r q h
 
   -- a fault is told only where the count rose
-  pub sctp_fault : (p q : SctpStreams S) (rows : List LineRow) (client : Bool) (now max : ℕ)
-      → StartsSctp association p rows client now max (Err (sctp.Proto proto.Fault)) q → Rose (association.faults p.association) (association.faults q.association)
-  sctp_fault p q rows client now max h = where_fault (needs_start association rows p) p client now max q h
+  pub sctp_fault : (p q : SctpStreams S) (rows : List LineRow) (client : Bool) (now max : ℕ) (halves : Option InitHalves) (drops : Bool)
+      → StartsSctp association p rows client now max halves drops (Err (sctp.Proto proto.Fault)) q → Rose (association.faults p.association) (association.faults q.association)
+  sctp_fault p q rows client now max halves drops h = where_fault (needs_start association rows p) p client now max halves drops q h
 
   -- the count never falls where memory lacks
-  pub sctp_stop_later : (p q : SctpStreams S) (rows : List LineRow) (client : Bool) (now max : ℕ)
-      → (q ≡ p) ⊎ ((r : Result (Unit {0}) SctpError) × StartsSctp association p rows client now max r q)
+  pub sctp_stop_later : (p q : SctpStreams S) (rows : List LineRow) (client : Bool) (now max : ℕ) (halves : Option InitHalves) (drops : Bool)
+      → (q ≡ p) ⊎ ((error : SctpError) × StartsSctp association p rows client now max halves drops (Err error) q)
       → association.faults p.association ≤ association.faults q.association
-  sctp_stop_later p q rows client now max (inl same) = same_association p q same
-  sctp_stop_later p q rows client now max (inr starts) = sctp_later p q rows client now max starts.0 starts.1
+  sctp_stop_later p q rows client now max halves drops (inl same) = same_association p q same
+  sctp_stop_later p q rows client now max halves drops (inr starts) = sctp_later p q rows client now max halves drops (Err starts.0) starts.1

@@ -8,7 +8,7 @@ use Rattle.rtc_sdp_values.specs.declared.sdp.Sdp.{Sdp}
 use Rattle.rtc_tables.specs.ParsedLines.{parsed_lines}
 use Rattle.rtc_tables.specs.Table.{IsTable}
 use Rattle.rtc_change.specs.TableAfter.{table_after, rows_after}
-use Rattle.rtc_change.specs.Plans.{verdict, side_verdict}
+use Rattle.rtc_change.specs.Plans.{verdict}
 use Rattle.rtc_history.specs.Signalled.{Readable, signalled_if}
 use Rattle.rtc_history.specs.declared.side.Side.{Side}
 use Rattle.rtc_history.specs.declared.side.Side.TheVariants.{Left, Right}
@@ -39,8 +39,8 @@ use Rattle.rtc_history_laws.proofs.RowNames.{Aligned, aligned_sym, aligned_trans
 use Rattle.rtc_history_laws.proofs.RowsFollow.{Follows, added_follow, follows_append, SayApps, follows_say, all_left, after_aligned, answer_follows}
 use Rattle.rtc_history_laws.proofs.LiveRows.{KeepsLive, StartsLive, starts_are_live, starts_keep, text_live}
 use Rattle.rtc_history_laws.proofs.CourseSdps.{sdp_accepted}
-use Rattle.rtc_history_laws.proofs.RoundRows.{OfferSaid, AnswerSaid, HasOffered, IsOffered, IsAnswered, offer_passes, answer_passes}
-use Rattle.rtc_history.specs.Views.{Stances, view_in}
+use Rattle.rtc_history_laws.proofs.RoundRows.{OfferSaid, AnswerSaid, HasOffered, IsOffered, IsAnswered, HeadPasses, offer_passes, answer_passes}
+use Rattle.rtc_history.specs.Views.{Stances, view_in, init_told_by}
 use Rattle.rtc_peer_state.specs.Stance.{held_by}
 
 -- The rows of a side in a course: these without their mids, the first of them live.
@@ -134,14 +134,14 @@ may_accept fresh at n said past read sound it =
       there = there;
     }
 
--- the other side does not refuse the offer, where that tells of its side what it has to
+-- the other side does not refuse the offer, where its head passes
 pub accept_passes : {E : Type 0} → (fresh : Stances) (at : Side) (n : ℕ) (said : List LineRow) (past : List (Entry E)) (view : Held) → Sound fresh past → (it : IsOffered at n said past) → view.lines ≡ before (other_side at) past
-    → side_verdict view true (as_read it.offer.sdp) ≡ None → verdict view None (as_read it.offer.sdp) ≡ None
-accept_passes fresh at n said past view sound it is side =
+    → HeadPasses view true (as_read it.offer.sdp) → verdict view None (as_read it.offer.sdp) ≡ None
+accept_passes fresh at n said past view sound it is head =
     let offer : OfferSaid = it.offer in
     let same : Aligned offer.front view.lines = rw is (aligned_trans offer.front (before at past) (before (other_side at) past) it.has.kept it.same) in
     offer_passes view (offer.front ++ offer.more) (as_read offer.sdp) (subst IsTable (sym is) (past_table fresh past (other_side at) sound)) (offer_follows offer view.lines same) offer.whole.one_app (lines_as_read offer.sdp ∙ offer.says)
-    (fits_as_read offer.sdp ∙ offer.fits) offer.live side
+    (fits_as_read offer.sdp ∙ offer.fits) offer.live head
 
 -- an offer stays outstanding as the other side accepts it
 offer_stays : {E : Type 0} → (offer : OfferSaid) (at : Side) (n : ℕ) (past : List (Entry E)) (k j : ℕ) (table : Option Table) (made : List MadeSdp) → HasOffered offer at n past
@@ -229,18 +229,18 @@ may_end fresh at n m said past read sound it =
           ∙ taken_whole mine (map row_said answer.rows) false (omega (arith, length-aligned (offer.front ++ offer.more) answer.rows it.answered.offered, length-append offer.front offer.more));
     }
 
--- the side that offered does not refuse the answer, where that tells of its side what it has to
+-- the side that offered does not refuse the answer, where its head passes
 pub end_passes : {E : Type 0} → (fresh : Stances) (at : Side) (n m : ℕ) (said : List LineRow) (past : List (Entry E)) (view : Held) → Sound fresh past → (it : IsAnswered at n m said past) → view.lines ≡ before at past
-    → side_verdict view (restarts_by n past) (as_read it.answer.sdp) ≡ None
+    → HeadPasses view (restarts_by n past) (as_read it.answer.sdp)
     → verdict view (Some (asked_in at n past)) (as_read it.answer.sdp) ≡ None
-end_passes fresh at n m said past view sound it is side =
+end_passes fresh at n m said past view sound it is head =
     let offer : OfferSaid = it.offer in
     let answer : AnswerSaid = it.answer in
     let few : length (before at past) ≡ length offer.front = length-aligned offer.front (before at past) it.has.kept in
     let adds : added_by (length (before at past)) n past ≡ offer.more = ap (λ (k : ℕ). added_by k n past) few ∙ it.has.adds in
-    rw adds (answer_passes view (restarts_by n past) offer answer.rows (as_read answer.sdp) (subst IsTable (sym is) (past_table fresh past at sound))
+    rw adds (answer_passes view (restarts_by n past) (init_told_by n past) offer answer.rows (as_read answer.sdp) (subst IsTable (sym is) (past_table fresh past at sound))
     (rw is (it.answered.mine)) answer.table.one_app it.answered.offered (rw is it.has.kept) (lines_as_read answer.sdp ∙ answer.says)
-    (fits_as_read answer.sdp ∙ answer.fits) side)
+    (fits_as_read answer.sdp ∙ answer.fits) head)
 
 -- What the side is left with that offered, and has accepted the answer.
 pub record Ended {E : Type 0} (said : List LineRow) (past : List (Entry E)) (table : Table) : Type 0 where

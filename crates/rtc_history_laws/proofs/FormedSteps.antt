@@ -11,6 +11,8 @@ use Rattle.rtc_peer_state.specs.Stance.{Stance}
 use Rattle.rtc_peer_state.specs.Meanings.{Meanings, PartsLaws}
 use Rattle.rtc_peer_state.specs.declared.rtc_error.RtcError.TheVariants.{BadChannel, Alloc as PeerAlloc}
 use Rattle.rtc_peer_state.specs.Formed.{AreFormedChanges, IsFormed}
+use Rattle.rtc_peer_state.specs.SdpHalves.{answer_init}
+use Rattle.rtc_peer_state.proofs.FormedHeads.{answer_init_text}
 use Rattle.rtc_peer_state.proofs.FormedAcceptances.{offered_formed, answered_formed}
 use Rattle.rtc_peer_state.proofs.FormedStances.{
   lent_formed,
@@ -72,7 +74,7 @@ use Rattle.rtc_history_laws.proofs.StanceSteps.{
   made_by,
   pair_stance,
 }
-use Rattle.rtc_history_laws.proofs.StanceRuns.{StanceReached, StanceRan, ran_stands, ran_reached}
+use Rattle.rtc_history_laws.proofs.StanceRuns.{StanceReached, StanceRan, fresh_unused, ran_stands, ran_reached}
 
 -- ---- what the acting peer does
 
@@ -101,7 +103,7 @@ makes_formed true at p q kept kept' Nothing h formed legible = (applies_formed p
 makes_formed true at p q kept kept' MadeAlloc h formed legible = (rw h.0 formed, rw h.1 legible)
 makes_formed true at p q kept kept' (Offer k) h formed legible = (
   applies_formed p (Ok (Some h.0)) q h.1 formed,
-  push_legible kept kept' (kept_offer at h.0) h.2 (record { legible = subst IsLegible (sym h.1.1) (offer_legible p formed); changes = made_changes p h.0 q h.1 formed }) legible,
+  push_legible kept kept' (kept_offer at h.0) h.2 (record { legible = subst IsLegible (sym h.1.offered) (offer_legible p h.1.half formed); changes = made_changes p h.0 q h.1 formed }) legible,
 )
 makes_formed asked at p q kept kept' made h formed legible = absurd h
 
@@ -109,7 +111,7 @@ negotiates_formed : {E : Type 0} → (at : Side) (ops : List Op) (apply : Bool) 
     → StanceNegotiates at ops apply old kept outcome table new kept' → IsFormed old → AreLegible kept → IsFormed new × AreLegible kept'
 negotiates_formed at ops apply old new kept kept' Alloc None h formed legible = (rw h.peer formed, rw h.sdps_kept legible)
 negotiates_formed at ops apply old new kept kept' (Negotiated answers made) (Some table) h formed legible =
-    makes_formed (apply && not (answers_lack answers)) at h.0 new kept kept' made h.2 (ops_formed (lent old) h.0 ops answers h.1 (lent_formed old formed)) legible
+    makes_formed (apply && not (answers_lack answers)) at h.0 new kept kept' made h.2 (ops_formed (lent old) h.0 ops answers h.1 (lent_formed old old.snap formed)) legible
 negotiates_formed at ops apply old new kept kept' outcome table h formed legible = absurd h
 
 offer_formed : {E : Type 0} → (at : Side) (offer : Signalled) (old new : Stance) (kept kept' : List Kept) (outcome : Outcome E) (table : Option Table)
@@ -123,16 +125,18 @@ offer_formed at (Unreadable line) old new kept kept' (Refused error) (Some table
     (rw h.1.peer formed, rw h.1.sdps_kept legible)
 offer_formed at (Readable sdp) old new kept kept' (Answered n) (Some table) h taken formed legible =
     let its = taken sdp refl in
-    let lent_is : IsFormed (lent old) = lent_formed old formed in
+    let lent_is : IsFormed (lent old) = lent_formed old old.snap formed in
     let updates = h.1.tells.formed lent_is tt its.names its.lines in
     let whole : IsLegible h.0 =
-    subst IsLegible (sym h.1.answered) (answer_legible (lent old) h.1.restart h.1.told sdp h.1.followed.tokens lent_is its.names updates) in (
+    subst IsLegible (sym h.1.answered)
+    (answer_legible (lent old) h.1.restart h.1.told (answer_init old.inited old.snap h.1.halves) sdp h.1.followed.tokens
+    (answer_init_text old.inited old.snap h.1.halves) lent_is its.names updates) in (
       offered_formed (lent old) sdp (Ok h.0) new h.1 its.names its.lines lent_is,
       push_legible kept kept' (kept_answer at h.0) h.2 (record { legible = whole; changes = tt }) legible,
     )
 offer_formed at (Readable sdp) old new kept kept' (Refused error) (Some table) h taken formed legible =
     let its = taken sdp refl in
-    (offered_formed (lent old) sdp (Err error) new h.0 its.names its.lines (lent_formed old formed), rw h.1 legible)
+    (offered_formed (lent old) sdp (Err error) new h.0 its.names its.lines (lent_formed old old.snap formed), rw h.1 legible)
 offer_formed at offer old new kept kept' outcome table h taken formed legible = absurd h
 
 answer_formed : {E : Type 0} → (t : ℕ) (token : Option PendingOffer) (answer : Signalled) (old new : Stance) (kept kept' : List Kept)
@@ -159,12 +163,12 @@ answer_formed t (Some token) (Unreadable line) old new kept kept' (Refused error
     (rw h.1.peer formed, rw h.1.sdps_kept legible)
 answer_formed t (Some token) (Readable sdp) old new kept kept' Finished (Some table) h taken changes formed legible =
     let its = taken sdp refl in (
-      answered_formed (lent old) token sdp (Ok tt) new h.0 changes its.names its.lines (lent_formed old formed),
+      answered_formed (lent old) token sdp (Ok tt) new h.0 changes its.names its.lines (lent_formed old old.snap formed),
       rw h.1 (spent_legible t kept legible),
     )
 answer_formed t (Some token) (Readable sdp) old new kept kept' (Refused error) (Some table) h taken changes formed legible =
     let its = taken sdp refl in (
-      answered_formed (lent old) token sdp (Err error) new h.0 changes its.names its.lines (lent_formed old formed),
+      answered_formed (lent old) token sdp (Err error) new h.0 changes its.names its.lines (lent_formed old old.snap formed),
       rw h.1 (spent_legible t kept legible),
     )
 answer_formed t token answer old new kept kept' outcome table h taken changes formed legible = absurd h
@@ -237,5 +241,5 @@ module _ {I D S M E X T W N : Type 0} (m : Meanings I D S M E X T W N) where
   pub runs_read_back : (stun : List ℕ → Bool) → PartsLaws m → (start pair : PairState I D S M N) (steps : List Step) (replies : List (Reply E))
       → IsFresh m start → ArePeersFormed m start → Runs m stun start steps replies pair → AllReadBack pair.sdps
   runs_read_back stun laws start pair steps replies fresh formed run =
-      let ran : StanceRan (pair_stance m start) run.past (pair_stance m pair) = ran_stands m stun laws start run.past pair run.went in
+      let ran : StanceRan (pair_stance m start) run.past (pair_stance m pair) = ran_stands m stun laws start run.past pair (fresh_unused m laws start fresh) run.went in
       legible_read_back pair.sdps (reached_formed (pair_stance m start) (pair_stance m pair) run.past fresh.sdps formed (ran_reached (pair_stance m start) run.past (pair_stance m pair) ran)).legible

@@ -2,6 +2,8 @@ pub mod NumberedChannels
 pub mod StanceSteps
 pub mod StandingPolls
 pub mod StandingChannels
+pub mod UnusedStreams
+pub mod EmptyStreams
 pub mod StandingSteps
 pub mod RestartChanges
 pub mod Bounds
@@ -53,21 +55,30 @@ pub mod RestCourses
 pub mod CourseSteps
 pub mod OrderlyOps
 pub mod OrderlyPasts
+pub mod KeptApps
+pub mod StartHalves
+pub mod StartedSides
 pub mod SideRounds
 pub mod SideRoundSteps
 pub mod OrderlyRuns
+pub mod OpsNext
 pub mod OrderlyNext
 pub mod OrderlySounds
 pub mod StanceRuns
 pub mod CarriedLines
 pub mod TakenLines
+pub mod ChunkTexts
 pub mod RowLines
 pub mod PlainSdps
 pub mod AsReadSdps
 pub mod ReadPasts
 pub mod LegibleSdps
 pub mod FormedSteps
-mod ReadFacts
+mod SingleSdps
+mod SingleSteps
+pub mod PlainRuns
+pub mod ReadFacts
+mod StartFacts
 pub mod Reaches
 pub mod CountedFaults
 pub mod StreamFaults

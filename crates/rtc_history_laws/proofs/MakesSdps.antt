@@ -13,6 +13,7 @@ use Rattle.rtc_change.specs.TableAfter.{table_after}
 use Rattle.rtc_peer_state.specs.Stance.{Stance}
 use Rattle.rtc_media.specs.declared.media_update.MediaUpdate.{MediaUpdate}
 use Rattle.rtc_peer_state.specs.MadeSdp.{offer_sdp, answer_sdp, row_told, offer_head, offered_told, answer_head, answered_told}
+use Rattle.rtc_peer_state.specs.SdpHalves.{offer_init, answer_init}
 use Rattle.rtc_peer_state.proofs.ToldRows.{rows_of_offered, rows_of_answered}
 use Rattle.rtc_history.specs.Signalled.{Signalled, NotMade, Unreadable, Readable}
 use Rattle.rtc_history.specs.declared.side.Side.{Side}
@@ -45,33 +46,33 @@ use Rattle.rtc_history_laws.proofs.StanceSteps.{PairStance, StanceMakesOf, Stanc
 use Rattle.rtc_history.specs.Views.{Stances}
 
 -- an offer says the rows of its side, then those that it adds
-offer_says : (p : Stance) (more : List LineRow) → Distinct (p.lines ++ more) → added_rows (length p.lines) p.staged ≡ more → parsed_lines (offer_sdp p) ≡ map row_said (p.lines ++ more)
+offer_says : (p : Stance) (init : Option (List ℕ)) (more : List LineRow) → Distinct (p.lines ++ more) → added_rows (length p.lines) p.staged ≡ more → parsed_lines (offer_sdp p init) ≡ map row_said (p.lines ++ more)
 unfolding offer_sdp
-offer_says p more distinct adds =
+offer_says p init more distinct adds =
     let rows : map row_told (offered_told p) ≡ p.lines ++ more = rows_of_offered p ∙ ap (λ (added : List LineRow). p.lines ++ added) adds in
-    sdp_says (offer_head p) (offered_told p) (subst Distinct (sym rows) distinct) ∙ ap (map row_said) rows
+    sdp_says (offer_head p init) (offered_told p) (subst Distinct (sym rows) distinct) ∙ ap (map row_said) rows
 
 -- an offer fits together where one of its rows is live
-offer_fits : (p : Stance) (more : List LineRow) → Distinct (p.lines ++ more) → added_rows (length p.lines) p.staged ≡ more → are_live (p.lines ++ more) ≡ true → inconsistency (offer_sdp p) ≡ None
+offer_fits : (p : Stance) (init : Option (List ℕ)) (more : List LineRow) → Distinct (p.lines ++ more) → added_rows (length p.lines) p.staged ≡ more → are_live (p.lines ++ more) ≡ true → inconsistency (offer_sdp p init) ≡ None
 unfolding offer_sdp
-offer_fits p more distinct adds live =
+offer_fits p init more distinct adds live =
     let rows : map row_told (offered_told p) ≡ p.lines ++ more = rows_of_offered p ∙ ap (λ (added : List LineRow). p.lines ++ added) adds in
-    sdp_fits (offer_head p) (offered_told p) (subst Distinct (sym rows) distinct) (subst (λ (all : List LineRow). are_live all ≡ true) (sym rows) live)
+    sdp_fits (offer_head p init) (offered_told p) (subst Distinct (sym rows) distinct) (subst (λ (all : List LineRow). are_live all ≡ true) (sym rows) live)
 
-answer_fits : (p : Stance) (restart : Option (IceCreds × Bool)) (told : List MediaUpdate) (sdp : Sdp) (rows : List LineRow) → table_after p.lines (parsed_lines sdp) true ≡ rows → IsTable rows → are_live rows ≡ true
-    → inconsistency (answer_sdp p restart told sdp) ≡ None
+answer_fits : (p : Stance) (restart : Option (IceCreds × Bool)) (told : List MediaUpdate) (init : Option (List ℕ)) (sdp : Sdp) (rows : List LineRow) → table_after p.lines (parsed_lines sdp) true ≡ rows → IsTable rows → are_live rows ≡ true
+    → inconsistency (answer_sdp p restart told init sdp) ≡ None
 unfolding answer_sdp
-answer_fits p restart told sdp rows is table live =
+answer_fits p restart told init sdp rows is table live =
     let same : map row_told (answered_told p told sdp) ≡ rows = rows_of_answered p told sdp ∙ is in
-    sdp_fits (answer_head p restart sdp) (answered_told p told sdp) (subst Distinct (sym same) table.distinct) (subst (λ (all : List LineRow). are_live all ≡ true) (sym same) live)
+    sdp_fits (answer_head p restart init sdp) (answered_told p told sdp) (subst Distinct (sym same) table.distinct) (subst (λ (all : List LineRow). are_live all ≡ true) (sym same) live)
 
 -- an answer says the rows that it leaves
-answer_says : (p : Stance) (restart : Option (IceCreds × Bool)) (told : List MediaUpdate) (sdp : Sdp) (rows : List LineRow) → table_after p.lines (parsed_lines sdp) true ≡ rows → IsTable rows
-    → parsed_lines (answer_sdp p restart told sdp) ≡ map row_said rows
+answer_says : (p : Stance) (restart : Option (IceCreds × Bool)) (told : List MediaUpdate) (init : Option (List ℕ)) (sdp : Sdp) (rows : List LineRow) → table_after p.lines (parsed_lines sdp) true ≡ rows → IsTable rows
+    → parsed_lines (answer_sdp p restart told init sdp) ≡ map row_said rows
 unfolding answer_sdp
-answer_says p restart told sdp rows is table =
+answer_says p restart told init sdp rows is table =
     let same : map row_told (answered_told p told sdp) ≡ rows = rows_of_answered p told sdp ∙ is in
-    sdp_says (answer_head p restart sdp) (answered_told p told sdp) (subst Distinct (sym same) table.distinct) ∙ ap (map row_said) same
+    sdp_says (answer_head p restart init sdp) (answered_told p told sdp) (subst Distinct (sym same) table.distinct) ∙ ap (map row_said) same
 
 -- ---- each kind of step
 
@@ -90,8 +91,8 @@ makes_of E at true p q ops answers apply kept kept' (Offer k) table h rows adds 
     record {
       sdp = h.0.0;
       one = one_behind kept kept' (kept_offer at h.0) h.2;
-      says = ap (λ (o : Sdp). parsed_lines o) h.1.1 ∙ offer_says p more apart adds_more ∙ ap (λ (list : List LineRow). map row_said (list ++ more)) (sym rows);
-      fits = λ live. ap (λ (o : Sdp). inconsistency o) h.1.1 ∙ offer_fits p more apart adds_more (subst (λ (list : List LineRow). are_live (list ++ more) ≡ true) rows live);
+      says = ap (λ (o : Sdp). parsed_lines o) h.1.offered ∙ offer_says p (offer_init p h.1.half) more apart adds_more ∙ ap (λ (list : List LineRow). map row_said (list ++ more)) (sym rows);
+      fits = λ live. ap (λ (o : Sdp). inconsistency o) h.1.offered ∙ offer_fits p (offer_init p h.1.half) more apart adds_more (subst (λ (list : List LineRow). are_live (list ++ more) ≡ true) rows live);
     }
 makes_of E at asked p q ops answers apply kept kept' made table h rows adds distinct = absurd h
 
@@ -120,8 +121,8 @@ offer_makes at k (Unreadable line) old new kept kept' (Refused error) (Some tabl
 offer_makes at k (Readable sdp) old new kept kept' (Answered n) (Some table) h is = record {
   sdp = h.0;
   one = one_behind kept kept' (kept_answer at h.0) h.2;
-  says = ap (λ (a : Sdp). parsed_lines a) h.1.answered ∙ answer_says (lent old) h.1.restart h.1.told sdp table.lines (sym (h.4.lines ∙ ap (λ p. p.lines) h.1.rest)) is;
-  fits = λ live. ap (λ (a : Sdp). inconsistency a) h.1.answered ∙ answer_fits (lent old) h.1.restart h.1.told sdp table.lines (sym (h.4.lines ∙ ap (λ p. p.lines) h.1.rest)) is live;
+  says = ap (λ (a : Sdp). parsed_lines a) h.1.answered ∙ answer_says (lent old) h.1.restart h.1.told (answer_init old.inited old.snap h.1.halves) sdp table.lines (sym (h.4.lines ∙ ap (λ p. p.lines) h.1.rest)) is;
+  fits = λ live. ap (λ (a : Sdp). inconsistency a) h.1.answered ∙ answer_fits (lent old) h.1.restart h.1.told (answer_init old.inited old.snap h.1.halves) sdp table.lines (sym (h.4.lines ∙ ap (λ p. p.lines) h.1.rest)) is live;
 }
 offer_makes at k (Readable sdp) old new kept kept' (Refused error) (Some table) h is = none_behind kept kept' h.1
 offer_makes at k offer old new kept kept' outcome table h is = absurd h

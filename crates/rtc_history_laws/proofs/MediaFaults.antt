@@ -15,7 +15,7 @@ use Rattle.rtc_peer_state.specs.SdpMoves.{UpdatesMedia}
 use Rattle.rtc_peer_state.specs.StoppedAcceptances.{
   StopsPreparing,
   BeforeSources,
-  AmongSources,
+  AmongDraws,
   AtUpdates,
   StopsAccepting,
   AtVerdict,
@@ -40,16 +40,16 @@ module _ {I D S M E X T W N : Type 0} (m : Meanings I D S M E X T W N) (laws : M
       let last : m.media.faults h.prepared ≤ m.media.faults q = laws.faults_rise h.prepared q (MediaStirred Other) (inl (Committed h.by_commit)) in
       omega arith
 
-  preparing_later : (p : Peer I D S M N) (offer : Bool) (changes : List Change) (sdp : Sdp) (drawn : N) (q : Peer I D S M N)
-      → StopsPreparing m p offer changes sdp drawn q → m.media.faults p.media ≤ m.media.faults q.media
-  preparing_later p offer changes sdp drawn q (BeforeSources is) = same_count p.media q.media (ap (λ (x : Peer I D S M N). x.media) is)
-  preparing_later p offer changes sdp drawn q (AmongSources some few is) = same_count p.media q.media (ap (λ (x : Peer I D S M N). x.media) is)
-  preparing_later p offer changes sdp drawn q (AtUpdates error lacks is) = prepared_later p.media q.media _ (Err error) lacks
+  preparing_later : (p : Peer I D S M N) (offer may : Bool) (changes : List Change) (sdp : Sdp) (drawn : N) (q : Peer I D S M N)
+      → StopsPreparing m p offer may changes sdp drawn q → m.media.faults p.media ≤ m.media.faults q.media
+  preparing_later p offer may changes sdp drawn q (BeforeSources is) = same_count p.media q.media (ap (λ (x : Peer I D S M N). x.media) is)
+  preparing_later p offer may changes sdp drawn q (AmongDraws some few is) = same_count p.media q.media (ap (λ (x : Peer I D S M N). x.media) is)
+  preparing_later p offer may changes sdp drawn q (AtUpdates error lacks is) = prepared_later p.media q.media _ (Err error) lacks
 
   -- the acceptance ran out of memory, wherever it stopped
   pub stopped_later : (p : Peer I D S M N) (asked : Option Asked) (changes : List Change) (sdp : Sdp) (restart : Option (IceCreds × Bool))
       (control : Option Bool) (drawn : N) (q : Peer I D S M N) → StopsAccepting m p asked changes sdp restart control drawn q
       → m.media.faults p.media ≤ m.media.faults q.media
   stopped_later p asked changes sdp restart control drawn q (AtVerdict is) = same_count p.media q.media (ap (λ (x : Peer I D S M N). x.media) is)
-  stopped_later p asked changes sdp restart control drawn q (AtPreparing passes stops) = preparing_later p _ changes sdp drawn q stops
+  stopped_later p asked changes sdp restart control drawn q (AtPreparing passes stops) = preparing_later p _ _ changes sdp drawn q stops
   stopped_later p asked changes sdp restart control drawn q (AtParts passes ids prepared moves) = prepared_later p.media q.media _ (Ok tt) prepared

@@ -47,7 +47,7 @@ made_of false at p q kept kept' NotAsked offers next some count h = tt
 made_of true at p q kept kept' Nothing false next some count h = tt
 made_of true at p q kept kept' Nothing true next some count h = absurd (let e : true ≡ false = sym some ∙ h.0.0 in cc)
 made_of true at p q kept kept' (Offer k) true next some count h = h.3 ∙ sym count
-made_of true at p q kept kept' (Offer k) false next some count h = absurd (let e : false ≡ true = sym some ∙ h.1.0 in cc)
+made_of true at p q kept kept' (Offer k) false next some count h = absurd (let e : false ≡ true = sym some ∙ h.1.offers in cc)
 made_of true at p q kept kept' MadeAlloc true next some count h = tt
 made_of true at p q kept kept' MadeAlloc false next some count h = tt
 made_of asked at p q kept kept' made offers next some count h = absurd h
@@ -69,7 +69,7 @@ applies_alone p (change ∷ changes) = record { lines = refl; counter = refl; nu
 pub made_lines : (asked : Bool) (at : Side) (p q : Stance) (kept kept' : List Kept) (made : Made) → StanceMakesOf asked at p kept made q kept' → q.lines ≡ p.lines
 made_lines false at p q kept kept' NotAsked h = ap (λ r. r.lines) h.0
 made_lines true at p q kept kept' Nothing h = ap (λ r. r.lines) h.0.1 ∙ (applies_alone p p.staged).lines
-made_lines true at p q kept kept' (Offer k) h = ap (λ r. r.lines) h.1.3
+made_lines true at p q kept kept' (Offer k) h = ap (λ r. r.lines) h.1.rest
 made_lines true at p q kept kept' MadeAlloc h = ap (λ r. r.lines) h.0
 made_lines asked at p q kept kept' made h = absurd h
 
@@ -86,7 +86,7 @@ made_channels false at p q kept kept' NotAsked h = same_channels p q (ap (λ r. 
 made_channels true at p q kept kept' Nothing h =
     let alone = applies_alone p p.staged in
     record { numbered = rw h.0.1 alone.numbered; rows = ap (λ r. r.rows) h.0.1 ∙ alone.rows }
-made_channels true at p q kept kept' (Offer k) h = same_channels p q (ap (λ r. r.channels) h.1.3) (ap (λ r. r.rows) h.1.3)
+made_channels true at p q kept kept' (Offer k) h = same_channels p q (ap (λ r. r.channels) h.1.rest) (ap (λ r. r.rows) h.1.rest)
 made_channels true at p q kept kept' MadeAlloc h = same_channels p q (ap (λ r. r.channels) h.0) (ap (λ r. r.rows) h.0)
 made_channels asked at p q kept kept' made h = absurd h
 
@@ -168,7 +168,7 @@ applied_tells past at ops apply true answers MadeAlloc table made p old new stag
     (made_channels true at p (new.sides at) old.sdps new.sdps MadeAlloc h) h.1 staged shows around tells
 applied_tells past at ops apply true answers (Offer k) table made p old new staged h shows made_is around tells =
     let small : old.size < 2 ^ 32 = omega (arith, around.size, around.small) in
-    let left : table.lines ≡ p.lines = shows.lines ∙ ap (λ r. r.lines) h.1.3 in
+    let left : table.lines ≡ p.lines = shows.lines ∙ ap (λ r. r.lines) h.1.rest in
     let app_told = app_is_told true at (lent (old.sides at)) p (new.sides at) old.sdps new.sdps (Offer k) table.lines h left staged.app refl in
     let app : Option (List ℕ) = new_app table.lines (behind old.sdps new.sdps) in
     let adds : (place : ℕ) → added_rows place p.staged ≡ added app place ops answers =
@@ -176,11 +176,11 @@ applied_tells past at ops apply true answers (Offer k) table made p old new stag
     offered_tells past (entry (Negotiate at ops apply) (Negotiated answers (Offer k)) (Some table) made) old new (kept_offer at h.0) h.0.1
     (goes_on true past (Negotiate at ops apply) (Negotiated answers (Offer k)) (Some table) made old new (sym shows.lines)
     (ops_next past at ops apply answers (Offer k) table made (old.sides at) p (new.sides at) staged (made_channels true at p (new.sides at) old.sdps new.sdps (Offer k) h) shows (tells.sides at).channels)
-    (ap (λ r. r.counter) h.1.3 ∙ ap raised staged.counter ∙ raised-small (old.sides at).counter old.size (tells.sides at).counts small)
+    (ap (λ r. r.counter) h.1.rest ∙ ap raised staged.counter ∙ raised-small (old.sides at).counter old.size (tells.sides at).counts small)
     (ap (λ b. b && true) (same_side-self at)) (and_left (same_side at (other_side at)) true (same_side-other at)) around)
-    refl refl refl (ap (λ token. token.id) h.1.2 ∙ staged.counter)
-    (λ place. ap (λ said. added (new_app table.lines said) place ops answers) made_is ∙ sym (ap (λ token. added_rows place token.changes) h.1.2 ∙ adds place))
-    (sym (ap (λ token. is_some (staged_restart token.changes)) h.1.2 ∙ staged.restarts))
+    refl refl refl (ap (λ token. token.id) h.1.token ∙ staged.counter)
+    (λ place. ap (λ said. added (new_app table.lines said) place ops answers) made_is ∙ sym (ap (λ token. added_rows place token.changes) h.1.token ∙ adds place))
+    (sym (ap (λ token. is_some (staged_restart token.changes)) h.1.token ∙ staged.restarts)) (ap (λ token. token.says_init) h.1.token)
     h.2 (λ t. refl) (λ t. ap (λ n. n == t) h.3) tells
 applied_tells past at ops apply asked answers what table made p old new staged h shows made_is around tells = absurd h
 

@@ -12,6 +12,7 @@ use Rattle.rtc_peer_state.specs.declared.sdp_head.SdpHead.{SdpHead}
 use Rattle.rtc_peer_state.specs.Stance.{Stance}
 use Rattle.rtc_peer_state.specs.declared.told_row.ToldRow.{ToldRow}
 use Rattle.rtc_peer_state.specs.MadeSdp.{row_line, told_line, row_told, live_mids, offer_sdp, offer_head, offered_told}
+use Rattle.rtc_peer_state.specs.SdpHalves.{offer_init}
 use Rattle.rtc_peer_state.proofs.ToldRows.{rows_of_offered}
 use Rattle.rtc_history.specs.declared.side.Side.{Side}
 use Rattle.rtc_history.specs.declared.made.Made.{Made}
@@ -68,11 +69,11 @@ staged_mid_is place (Setting mid dir ∷ staged) own is = staged_mid_is place st
 staged_mid_is place (Restarting creds keeps ∷ staged) own is = staged_mid_is place staged own is
 
 -- the application line of an offer that adds one is the staged one
-offer_mid : (p : Stance) (own : List ℕ) → has_app_row p.lines ≡ false → staged_app p.staged ≡ Some own → app_line_mid (parsed_lines (offer_sdp p)) ≡ own
+offer_mid : (p : Stance) (init : Option (List ℕ)) (own : List ℕ) → has_app_row p.lines ≡ false → staged_app p.staged ≡ Some own → app_line_mid (parsed_lines (offer_sdp p init)) ≡ own
 unfolding offer_sdp
-offer_mid p own none is =
-    ap app_line_mid (parsed_with (live_mids (map row_told (offered_told p)) ∷ []) (offer_head p).candidates (map (told_line (offer_head p)) (offered_told p)))
-    ∙ lines_mid (offer_head p) (live_mids (map row_told (offered_told p)) ∷ []) (offered_told p) ∙ ap app_row_mid (rows_of_offered p) ∙ mid_behind p.lines (added_rows (length p.lines) p.staged) none ∙ staged_mid_is (length p.lines) p.staged own is
+offer_mid p init own none is =
+    ap app_line_mid (parsed_with (live_mids (map row_told (offered_told p)) ∷ []) (offer_head p init).candidates (map (told_line (offer_head p init)) (offered_told p)))
+    ∙ lines_mid (offer_head p init) (live_mids (map row_told (offered_told p)) ∷ []) (offered_told p) ∙ ap app_row_mid (rows_of_offered p) ∙ mid_behind p.lines (added_rows (length p.lines) p.staged) none ∙ staged_mid_is (length p.lines) p.staged own is
 
 -- ---- what the SDP of a step tells of the line that it stages
 
@@ -110,7 +111,7 @@ app_is_told true at old p q kept kept' MadeAlloc rows h same app bare = untold o
 app_is_told true at old p q kept kept' (Offer k) rows h same app bare =
     offer_told old p rows (behind kept kept') (app_line_mid (parsed_lines h.0.0)) (Offer k) (ap app_mid_said (one_behind kept kept' (kept_offer at h.0) h.2)) (ap has_app_row same)
     (λ has is. needed has (sym app ∙ ap has_app_row (sym same) ∙ is))
-    (λ own none there. sym (ap (λ o. app_line_mid (parsed_lines o)) h.1.1 ∙ offer_mid p own none there))
+    (λ own none there. sym (ap (λ o. app_line_mid (parsed_lines o)) h.1.offered ∙ offer_mid p (offer_init p h.1.half) own none there))
   where
     needed : (has : Bool) → has_app_row old.lines ≡ has → needs_app old ≡ cond has false true
     needed true is = rw is refl

@@ -3,14 +3,16 @@ use Rattle.std.proofs.Common.{◌≡◌, ◌∙◌, ℕ, List, [], ◌∷◌, Bo
 use Rattle.std.specs.Prelude.{alloc_error}
 use Rattle.std.specs.declared.alloc.AllocError.{AllocError}
 use Rattle.rtc_dtls.specs.DtlsState.{DtlsState}
-use Rattle.rtc_sctp.specs.Streams.{SctpStreams}
+use Rattle.rtc_sctp_entries.specs.declared.stream_entry.StreamEntry.{StreamEntry}
 use Rattle.rtc_sdp_values.specs.declared.direction.Direction.{Direction}
 use Rattle.rtc_sdp_values.specs.declared.direction.Direction.TheVariants.{Inactive}
 use Rattle.rtc_change.specs.declared.change.Change.{Change}
 use Rattle.rtc_tables.specs.RowChanges.{RowChange, directed_row, stopped_row}
 use Rattle.rtc_peer_state.specs.declared.peer.Peer.{Peer}
-use Rattle.rtc_peer_state.specs.Calls.{ChangesLine, after_channels_alone}
+use Rattle.rtc_peer_state.specs.Calls.{ChangesLine, LacksOffer, after_channels_alone}
 use Rattle.rtc_peer_state.specs.Meanings.{Meanings}
+use Rattle.rtc_peer_state.specs.SdpHalves.{draws_half}
+use Rattle.rtc_peer_state.specs.Stance.{stance_of}
 use Rattle.rtc_history.specs.declared.side.Side.{Side}
 use Rattle.rtc_history.specs.declared.op.Op.{Op}
 use Rattle.rtc_history.specs.declared.op.Op.TheVariants.{AddMedia, SetDirection, StopMedia, AddChannel, IceRestart}
@@ -22,9 +24,9 @@ use Rattle.rtc_history.specs.declared.made.Made.TheVariants.{NotAsked, Nothing, 
 use Rattle.rtc_history.specs.declared.kept.Kept.{Kept}
 use Rattle.rtc_history.specs.Performs.{PerformsOps, MakesOf}
 
--- the parts that count their faults
-abbrev pub counting_parts : {I D S M N : Type 0} → Peer I D S M N → DtlsState D × SctpStreams S × M
-counting_parts p = (p.dtls, p.sctp, p.media)
+-- the parts that count their faults, with the streams that are in use
+abbrev pub counting_parts : {I D S M N : Type 0} → Peer I D S M N → DtlsState D × (S × List StreamEntry) × M
+counting_parts p = (p.dtls, (p.sctp.association, p.sctp.entries), p.media)
 
 module _ {I D S M E X T W N : Type 0} (m : Meanings I D S M E X T W N) where
   line_counting : (change : RowChange) (to : Direction) (p : Peer I D S M N) (mid : List ℕ) (r : Result Bool AllocError) (q : Peer I D S M N) → ChangesLine change to p mid r q → counting_parts q ≡ counting_parts p
@@ -54,10 +56,14 @@ module _ {I D S M E X T W N : Type 0} (m : Meanings I D S M E X T W N) where
   alone_counting [] p = refl
   alone_counting (change ∷ changes) p = refl
 
+  lacks_counting : (draws : Bool) (p q : Peer I D S M N) → LacksOffer m draws p q → counting_parts q ≡ counting_parts p
+  lacks_counting true p q h = ap counting_parts h.1
+  lacks_counting false p q h = ap counting_parts h
+
   -- and so does applying them
   pub makes_counting : (asked : Bool) (at : Side) (p : Peer I D S M N) (sdps : List Kept) (made : Made) (q : Peer I D S M N) (sdps' : List Kept) → MakesOf m asked at p sdps made q sdps' → counting_parts q ≡ counting_parts p
   makes_counting false at p sdps NotAsked q sdps' h = ap counting_parts h.0
   makes_counting true at p sdps Nothing q sdps' h = ap counting_parts h.0.1 ∙ alone_counting p.staged p
   makes_counting true at p sdps (Offer k) q sdps' h = ap counting_parts h.1.4
-  makes_counting true at p sdps MadeAlloc q sdps' h = ap counting_parts h.0
+  makes_counting true at p sdps MadeAlloc q sdps' h = lacks_counting (draws_half (stance_of m p)) p q h.0
   makes_counting asked at p sdps made q sdps' h = absurd h

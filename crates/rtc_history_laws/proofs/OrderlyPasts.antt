@@ -14,7 +14,7 @@ use Rattle.rtc_history.specs.Sound.{IsSound}
 use Rattle.rtc_history.specs.Finished.{AreSameLine, Equal}
 use Rattle.rtc_history.specs.SaidRows.{MakesSdp}
 use Rattle.rtc_history.specs.CourseRows.{course_rows_after}
-use Rattle.rtc_history.specs.Orderly.{Phase, Idle, AwaitsAnswer, AwaitsEnd, Course, course_rows, moved_on, after_step, follow, course_of, IsIdle, AreInStep, AreCurrent, negotiates}
+use Rattle.rtc_history.specs.Orderly.{Phase, Idle, AwaitsAnswer, AwaitsEnd, Course, course_rows, moved_on, after_step, follow, course_of, IsIdle, AreInStep, AreCurrent, AreJoined, negotiates}
 use Rattle.rtc_history.specs.SoundEntry.{AreReadBack}
 use Rattle.rtc_history_laws.proofs.SoundPasts.{Sound}
 use Rattle.rtc_history_laws.proofs.Around.{entry}
@@ -94,8 +94,10 @@ equal_lines (row ∷ rows) (other ∷ others) same = (line row other same.0, equ
     line row other same = absurd same
 equal_lines rows others same = absurd same
 
-pub in_step : (rows others : List LineRow) (sides : Stances) → Aligned rows others → ((at : Side) → AreCurrent sides at) → AreInStep rows others sides
-in_step rows others sides same current = record { equal = equal_lines rows others same; app = app_mid-aligned rows others same; current = current }
+pub in_step : (rows others : List LineRow) (sides : Stances) → Aligned rows others → ((at : Side) → AreCurrent sides at)
+    → AreJoined (sides Left).snap.started (sides Right).snap.started → AreInStep rows others sides
+in_step rows others sides same current joined =
+    record { equal = equal_lines rows others same; app = app_mid-aligned rows others same; current = current; joined = joined }
 
 pub idle_aligned : {E : Type 0} → (phase : Phase) (past : List (Entry E)) → IsIdle phase → InPhase phase past → Aligned (before Left past) (before Right past)
 idle_aligned Idle past idle same = same

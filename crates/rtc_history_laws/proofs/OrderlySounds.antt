@@ -3,13 +3,12 @@ use Rattle.std.proofs.Common.{◌≡◌, ◌≤◌, ◌<◌, ◌+◌, ◌-◌, �
 use Rattle.std.specs.Prelude.{is_some}
 use Rattle.std.proofs.lemmas.Bool.{or_parts}
 use Rattle.rtc_tables.specs.Table.{IsTable}
-use Rattle.rtc_history.specs.declared.side.Side.{Side}
 use Rattle.rtc_history.specs.declared.side.Side.TheVariants.{Left, Right}
 use Rattle.rtc_history.specs.declared.step.Step.{Step}
 use Rattle.rtc_history.specs.declared.outcome.Outcome.{Outcome}
 use Rattle.rtc_history.specs.declared.table.Table.{Table}
 use Rattle.rtc_history.specs.Memory.{fails}
-use Rattle.rtc_history.specs.Sides.{side_of}
+use Rattle.rtc_history.specs.Sides.{side_of, other_side}
 use Rattle.rtc_history.specs.Sizes.{step_size}
 use Rattle.rtc_history.specs.Past.{Entry, MadeSdp, before, numbers_in, numbers_told, sdps, steps_of}
 use Rattle.rtc_history.specs.Sound.{IsSound}
@@ -18,7 +17,7 @@ use Rattle.rtc_history.specs.SoundEntry.{IsSoundEntry, AreReadBack}
 use Rattle.rtc_history.specs.Views.{AreFormed}
 use Rattle.rtc_history_laws.proofs.FormedSteps.{makes_read_back}
 use Rattle.rtc_history_laws.proofs.ReadPasts.{past_read}
-use Rattle.rtc_history.specs.Orderly.{Phase, Idle, AwaitsAnswer, AwaitsEnd, Course, course_of, after_step, has_failed, can_connect, IsIdle, AreCurrent, AreNumbersLeft, OkWhereOrderly, InStepWhereOrderly, negotiates}
+use Rattle.rtc_history.specs.Orderly.{Phase, Idle, AwaitsAnswer, AwaitsEnd, Course, course_of, after_step, has_failed, can_connect, IsIdle, AreNumbersLeft, OkWhereOrderly, InStepWhereOrderly, negotiates}
 use Rattle.rtc_history_laws.proofs.StanceSteps.{PairStance, StancePerforms, StanceEnters, made_by}
 use Rattle.rtc_history_laws.proofs.StanceRuns.{IsFreshStance, StanceReached, StanceRan, ran_reached, ran_sound}
 use Rattle.rtc_history_laws.proofs.SoundPasts.{Sound}
@@ -31,7 +30,8 @@ use Rattle.rtc_history_laws.proofs.FinishedRounds.{finishes_round}
 use Rattle.rtc_history_laws.proofs.Courses.{InCourse}
 use Rattle.rtc_history_laws.proofs.OrderlySteps.{GoesOn, IsOkOrFails}
 use Rattle.rtc_history_laws.proofs.OrderlyPasts.{step_goes_on, next_of, follow_last, none_in_course, in_step, idle_aligned}
-use Rattle.rtc_history_laws.proofs.SideRounds.{InRound}
+use Rattle.rtc_history_laws.proofs.SideRounds.{InRound, AreAgreed}
+use Rattle.rtc_history_laws.proofs.StartedSides.{ran_tables, ran_told, performs_told}
 use Rattle.rtc_history_laws.proofs.OrderlyRuns.{IsOnCourse, step_side}
 use Rattle.rtc_history_laws.proofs.OrderlyNext.{round_next}
 use Rattle.rtc_history_laws.proofs.Reaches.{around_of, step_sound, step_tells, reached_tells, reached_sees, small_before}
@@ -39,9 +39,12 @@ use Rattle.rtc_history_laws.proofs.Reaches.{around_of, step_sound, step_tells, r
 abbrev start_course : Course
 start_course = record { left = []; right = []; sdps = 0; phase = Idle }
 
--- in a fresh pair no side knows credentials of the other one
-fresh_current : (start : PairStance) → IsFreshStance start → (side : Side) → AreCurrent start.sides side
-fresh_current start fresh side = rw (fresh.built side).remote tt
+-- in a fresh pair no side knows credentials of the other one, and no association was started
+fresh_agreed : (start : PairStance) → IsFreshStance start → AreAgreed start
+fresh_agreed start fresh = record {
+  current = λ side. rw (fresh.built side).remote tt;
+  joined = λ side. rw ((fresh.built side).unstarted, (fresh.built (other_side side)).unstarted) tt;
+}
 
 -- a past that is in its course, and its pair in its round
 pub record IsOrderly {E : Type 0} (past : List (Entry E)) (pair : PairStance) (course : Course) : Type 0 where
@@ -56,12 +59,13 @@ pub record IsStep {E : Type 0} (start : PairStance) (past : List (Entry E)) (old
   pub replied : IsSound start.sides past old.sides step outcome table made
   pub says : MakesSdp step outcome table made
 
-on_course : {E : Type 0} → (start old : PairStance) (past : List (Entry E)) (course : Course) → IsFreshStance start → AreReadBack (sdps past) → StanceReached start past old
+on_course : {E : Type 0} → (start old : PairStance) (past : List (Entry E)) (course : Course) → IsFreshStance start → AreReadBack (sdps past) → StanceRan start past old
     → old.size < 2 ^ 32 → IsOrderly past old course → IsOnCourse start.sides past old course
-on_course start old past course fresh read reached small is = record {
+on_course start old past course fresh read ran small is = record {
   read = read;
-  tells = reached_tells start old past fresh reached small;
-  sees = reached_sees start old past fresh reached small;
+  tells = reached_tells start old past fresh (ran_reached start past old ran) small;
+  sees = reached_sees start old past fresh (ran_reached start past old ran) small;
+  starts = ran_told start old past fresh ran small;
   course_is = is.course_is;
   round = is.round;
 }
@@ -74,7 +78,7 @@ step_goes start old new past step outcome table made course course' fresh formed
     let around : Around step made old new = around_of old new step outcome table made is.performs is.made_is is.small in
     let small : old.size < 2 ^ 32 = omega (arith, size_grows step made old new around, is.small) in
     let read : AreReadBack (sdps past) = past_read start.sides past formed (ran_sound start past old ran) in
-    let on : IsOnCourse start.sides past old course = on_course start old past course fresh read reached small orderly in
+    let on : IsOnCourse start.sides past old course = on_course start old past course fresh read ran small orderly in
     step_goes_on start.sides old.sides past step outcome table made course course' read (ran_sound start past old ran) orderly.course_is
     (step_side start.sides past old step course course' connect on after) few is.replied is.says after
 
@@ -86,12 +90,13 @@ step_orderly start old new past step outcome table made course course' fresh for
     let around : Around step made old new = around_of old new step outcome table made is.performs is.made_is is.small in
     let small : old.size < 2 ^ 32 = omega (arith, size_grows step made old new around, is.small) in
     let read : AreReadBack (sdps past) = past_read start.sides past formed (ran_sound start past old ran) in
-    let on : IsOnCourse start.sides past old course = on_course start old past course fresh read reached small orderly in
+    let on : IsOnCourse start.sides past old course = on_course start old past course fresh read ran small orderly in
     let goes = step_goes start old new past step outcome table made course course' fresh formed connect ran is few orderly after in
     let next : InCourse course' (entry step outcome table made ∷ past) = goes.next enough in
     record {
       course_is = next;
-      round = round_next start.sides past old new step outcome table made course course' on (step_tells past old new step outcome table made on.tells is.performs around) is.performs after goes.ok enough next;
+      round = round_next start.sides past old new step outcome table made course course' on (step_tells past old new step outcome table made on.tells is.performs around)
+          (performs_told old new step outcome table is.performs (ran_tables start old past fresh ran small) on.starts) is.performs after goes.ok enough next;
     }
 
 -- what a side was given before a step after which numbers are left
@@ -120,7 +125,7 @@ ran_orderly {E} start pair [] course fresh formed connect ran small enough left 
     let same : pair ≡ start = ran in
     record {
       course_is = none.0;
-      round = subst (λ (phase : Phase). InRound phase pair) (sym none.1) (rw same (fresh_current start fresh));
+      round = subst (λ (phase : Phase). InRound phase pair) (sym none.1) (rw same (fresh_agreed start fresh));
     }
 ran_orderly {E} start pair (last ∷ past) course fresh formed connect ran small enough left is =
     let parts = or_parts (fails last.outcome) (has_failed past) enough in
@@ -153,10 +158,10 @@ ok_where_orderly start old new past step outcome table made fresh formed ran sma
     by negotiating connect enough left (Some c) before_it some =
         of_step negotiating connect left c (ran_orderly start old past c fresh formed connect ran small enough (left_fewer past (step_size step) (one_at_least step) left) before_it) (after_step c step) refl some
 
-idle_current : (phase : Phase) (pair : PairStance) → IsIdle phase → InRound phase pair → (at : Side) → AreCurrent pair.sides at
-idle_current Idle pair idle out = out
-idle_current (AwaitsAnswer side n said) pair idle out = absurd idle
-idle_current (AwaitsEnd side n m said) pair idle out = absurd idle
+idle_agreed : (phase : Phase) (pair : PairStance) → IsIdle phase → InRound phase pair → AreAgreed pair
+idle_agreed Idle pair idle out = out
+idle_agreed (AwaitsAnswer side n said) pair idle out = absurd idle
+idle_agreed (AwaitsEnd side n m said) pair idle out = absurd idle
 
 -- Where nothing is outstanding after orderly steps, the sides are in step.
 in_step_where_orderly : {E : Type 0} → (start old new : PairStance) (past : List (Entry E)) (last : Entry E) → IsFreshStance start → AreFormed start.sides → StanceRan start past old → old.size < 2 ^ 32
@@ -165,7 +170,8 @@ in_step_where_orderly start old new past last fresh formed ran small is =
     λ course connect orderly idle enough left.
     let parts = or_parts (fails last.outcome) (has_failed past) enough in
     let on : IsOrderly (last ∷ past) new course = last_orderly start old new past last course fresh formed connect ran is (λ c before_it. ran_orderly start old past c fresh formed connect ran small parts.1 (left_before last past 1 left) before_it) parts.0 (given_few start old past last fresh ran small left) orderly in
-    in_step (before Left (last ∷ past)) (before Right (last ∷ past)) new.sides (idle_aligned course.phase (last ∷ past) idle on.course_is.phase) (idle_current course.phase new idle on.round)
+    let agreed : AreAgreed new = idle_agreed course.phase new idle on.round in
+    in_step (before Left (last ∷ past)) (before Right (last ∷ past)) new.sides (idle_aligned course.phase (last ∷ past) idle on.course_is.phase) agreed.current (agreed.joined Left)
 
 -- The entry of a step of a pair that soundly ran is sound.
 pub sound_next : {E : Type 0} → (start old new : PairStance) (past : List (Entry E)) (step : Step) (outcome : Outcome E) (table : Option Table)

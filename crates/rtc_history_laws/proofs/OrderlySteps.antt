@@ -5,7 +5,7 @@ use Rattle.std.proofs.Common.{◌≡◌, ◌<◌, ◌+◌, ◌-◌, ◌^◌, ℕ
 use Rattle.rtc_sdp_values.specs.declared.line_row.LineRow.{LineRow}
 use Rattle.rtc_sdp_values.specs.declared.sdp.Sdp.{Sdp}
 use Rattle.rtc_change.specs.Held.{Held, Asked}
-use Rattle.rtc_change.specs.Plans.{verdict, side_verdict}
+use Rattle.rtc_change.specs.Plans.{verdict}
 use Rattle.rtc_peer_state.specs.declared.rtc_error.RtcError.TheVariants.{RemoteSdp, Sdp as SdpRefused, Alloc as PeerAlloc, Dtls, Sctp}
 use Rattle.rtc_history.specs.declared.side.Side.{Side}
 use Rattle.rtc_history.specs.declared.op.Op.{Op}
@@ -28,7 +28,7 @@ use Rattle.rtc_history_laws.proofs.Takings.{offer_taking, answer_taking}
 use Rattle.rtc_history_laws.proofs.ChannelCounts.{ops_fine}
 use Rattle.rtc_history_laws.proofs.CourseOps.{AreFine}
 use Rattle.rtc_history_laws.proofs.CourseSteps.{in_order}
-use Rattle.rtc_history_laws.proofs.RoundRows.{IsOffered, IsAnswered}
+use Rattle.rtc_history_laws.proofs.RoundRows.{IsOffered, IsAnswered, HeadPasses}
 use Rattle.rtc_history_laws.proofs.Courses.{InCourse, moved_in, MayAccept, may_accept, accepted_next, MayEnd, may_end, ended_next, accept_passes, end_passes}
 use Rattle.rtc_history.specs.Views.{Stances, view_in}
 use Rattle.rtc_peer_state.specs.Stance.{held_by}
@@ -93,13 +93,13 @@ pub record GoesOn {E : Type 0} (negotiating : Bool) (outcome : Outcome E) (cours
   pub ok : negotiating ≡ true → IsOkOrFails outcome
   pub next : fails outcome ≡ false → InCourse course past
 
--- The offer or answer that a step delivers tells of its side what it has to.
+-- The head of the offer or answer that a step delivers passes.
 abbrev pub SidePasses : {E : Type 0} → Stances → Stances → List (Entry E) → Step → Type 0
 SidePasses fresh between past (Negotiate at ops apply) = Unit {0}
 SidePasses fresh between past (AcceptOffer at k) =
-    (sdp : Sdp) → remote_sdp true at k past ≡ Readable sdp → side_verdict (view_in fresh at past (held_by (between at))) true sdp ≡ None
+    (sdp : Sdp) → remote_sdp true at k past ≡ Readable sdp → HeadPasses (view_in fresh at past (held_by (between at))) true sdp
 SidePasses fresh between past (AcceptAnswer at t a) =
-    (sdp : Sdp) → remote_sdp false at a past ≡ Readable sdp → side_verdict (view_in fresh at past (held_by (between at))) (restarts_by t past) sdp ≡ None
+    (sdp : Sdp) → remote_sdp false at a past ≡ Readable sdp → HeadPasses (view_in fresh at past (held_by (between at))) (restarts_by t past) sdp
 SidePasses fresh between past (Time at now) = Unit {0}
 SidePasses fresh between past (Datagram at packet now) = Unit {0}
 SidePasses fresh between past (Poll at) = Unit {0}

@@ -1,5 +1,5 @@
 -- What formed peers make is legible: it is read again as it is written, but for sources that stand twice.
-use Rattle.std.proofs.Common.{◌≡◌, Bool, true, false, List, [], ◌∷◌, map, length, Option, refl, sym, ◌∙◌, ap, subst}
+use Rattle.std.proofs.Common.{◌≡◌, ℕ, Bool, true, false, List, [], ◌∷◌, map, length, Option, refl, sym, ◌∙◌, ap, subst}
 use Rattle.std.specs.Prelude.{IfSome}
 use Rattle.std.specs.List.{AllByRecursion}
 use Rattle.rtc_fields.specs.Tokens.{is_short_token}
@@ -17,12 +17,13 @@ use Rattle.rtc_media.specs.declared.media_update.MediaUpdate.{MediaUpdate}
 use Rattle.rtc_change.specs.PendingOffer.{added_rows}
 use Rattle.rtc_tables.specs.ParsedLines.{parsed_line, parsed_lines}
 use Rattle.rtc_peer_state.specs.declared.sdp_head.SdpHead.{SdpHead}
-use Rattle.rtc_peer_state.proofs.FormedHeads.{IsFormedHead, offer_head_formed, answer_head_formed}
+use Rattle.rtc_peer_state.proofs.FormedHeads.{IsInitText, IsFormedHead, offer_head_formed, answer_head_formed}
 use Rattle.rtc_peer_state.specs.Stance.{Stance}
 use Rattle.rtc_peer_state.specs.Formed.{AreSdpCreds, HaveTokens, IsFormedUpdate, IsFormed}
 use Rattle.rtc_peer_state.specs.declared.told_row.ToldRow.{ToldRow}
 use Rattle.rtc_peer_state.specs.MadeSdp.{told_line, row_told, with_candidates, sdp_of_rows}
 use Rattle.rtc_peer_state.specs.MadeSdp.{offer_head, offered_told, answer_head, answered_told, offer_sdp, answer_sdp}
+use Rattle.rtc_peer_state.specs.SdpHalves.{offer_init}
 use Rattle.rtc_peer_state.proofs.ToldRows.{IsToldFormed, rows_of_offered, rows_of_answered, offered_media_formed, answered_media_formed}
 use Rattle.rtc_peer_state.proofs.Alls.{all-append, all-map}
 use Rattle.rtc_peer_state.proofs.TokenTables.{NameTokens, added_tokens, table_after_tokens}
@@ -113,10 +114,10 @@ legible_names_tokens sdp legible =
 -- ---- what a peer makes
 
 -- The offer of a formed peer is legible.
-pub offer_legible : (s : Stance) → IsFormed s → IsLegible (offer_sdp s)
+pub offer_legible : (s : Stance) (half : List ℕ) → IsFormed s → IsLegible (offer_sdp s (offer_init s half))
 unfolding offer_sdp
-offer_legible s formed =
-    sdp_legible (offer_head s) (offered_told s) (offer_head_formed s formed)
+offer_legible s half formed =
+    sdp_legible (offer_head s (offer_init s half)) (offered_told s) (offer_head_formed s half formed)
     (subst HaveTokens (sym (rows_of_offered s))
     (all-append (λ row. is_short_token (row_mid row) ≡ true) s.lines (added_rows (length s.lines) s.staged) formed.rows
     (added_tokens (length s.lines) s.staged formed.staged)))
@@ -124,11 +125,11 @@ offer_legible s formed =
 
 -- The answer of a formed peer to an offer of mids that are short tokens is legible, also where it follows a restart, where what the media
 -- part is told is formed.
-pub answer_legible : (s : Stance) (restart : Option (IceCreds × Bool)) (told : List MediaUpdate) (offer : Sdp)
-    → IfSome restart (λ r. AreSdpCreds r.0) → IsFormed s → NameTokens (parsed_lines offer) → AllByRecursion IsFormedUpdate told
-    → IsLegible (answer_sdp s restart told offer)
+pub answer_legible : (s : Stance) (restart : Option (IceCreds × Bool)) (told : List MediaUpdate) (init : Option (List ℕ)) (offer : Sdp)
+    → IfSome restart (λ r. AreSdpCreds r.0) → IfSome init IsInitText → IsFormed s → NameTokens (parsed_lines offer)
+    → AllByRecursion IsFormedUpdate told → IsLegible (answer_sdp s restart told init offer)
 unfolding answer_sdp
-answer_legible s restart told offer tokens formed names updates =
-    sdp_legible (answer_head s restart offer) (answered_told s told offer) (answer_head_formed s restart offer tokens formed)
+answer_legible s restart told init offer tokens text formed names updates =
+    sdp_legible (answer_head s restart init offer) (answered_told s told offer) (answer_head_formed s restart init offer tokens text formed)
     (subst HaveTokens (sym (rows_of_answered s told offer)) (table_after_tokens s.lines (parsed_lines offer) true formed.rows names))
     (answered_media_formed s told offer formed updates)

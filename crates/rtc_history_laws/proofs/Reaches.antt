@@ -3,6 +3,8 @@ use Rattle.std.proofs.Common.{◌≡◌, ◌<◌, ◌+◌, ◌^◌, ℕ, List, [
 use Rattle.std.specs.Prelude.{slice_get, is_some}
 use Rattle.std.proofs.lemmas.List.Elements.{All-nil}
 use Rattle.rtc_channels.specs.Channels.{no_channels}
+use Rattle.rtc_sctp_values.specs.InitHalves.{remote_text}
+use Rattle.rtc_sctp_values.specs.SnapHalves.{text_in}
 use Rattle.rtc_tables.specs.Table.{IsTable}
 use Rattle.rtc_peer_state.specs.Stance.{Stance}
 use Rattle.rtc_history.specs.declared.side.Side.{Side}
@@ -24,6 +26,7 @@ use Rattle.rtc_history_laws.proofs.Bounds.{IsWithin}
 use Rattle.rtc_history_laws.proofs.ChannelCounts.{steps_size-append}
 use Rattle.rtc_history_laws.proofs.Tells.{Tells, SideTells, ChannelsTell, within}
 use Rattle.rtc_history_laws.proofs.Around.{Around, entry, size_grows, remote_sdp-told, length-told}
+use Rattle.rtc_history_laws.proofs.Entries.{said_at}
 use Rattle.rtc_history_laws.proofs.SeenSides.{SideSees, view_is}
 use Rattle.rtc_history_laws.proofs.SeenSteps.{step_sees}
 use Rattle.rtc_history_laws.proofs.NegotiateSteps.{negotiate_reply, negotiate_tells}
@@ -47,7 +50,7 @@ step_sound fresh past old new (AcceptOffer at k) outcome table tells sees rows p
     (remote_sdp-told past old true at k tells) (view_is fresh past at (old.sides at) (tells.sides at).rows (sees at)) (sym (tells.sides at).channels.shown) (length-told past old tells) performs.acts
 step_sound fresh past old new (AcceptAnswer at t a) outcome table tells sees rows performs small =
     answer_reply fresh old.sides past at t a old.size (slice_get old.sdps t) (held_token old.sdps at t) (kept_remote_sdp false old.sdps at a) (old.sides at) (new.sides at) old.sdps new.sdps outcome table (made_by old new)
-    refl ((tells.sides at).tokens t) (tells.sides at).counts (omega (arith, performs.size)) (remote_sdp-told past old false at a tells) (view_is fresh past at (old.sides at) (tells.sides at).rows (sees at)) (sym (tells.sides at).rows)
+    refl ((tells.sides at).tokens t) (said_at past old t tells.says) (tells.sides at).counts (omega (arith, performs.size)) (remote_sdp-told past old false at a tells) (view_is fresh past at (old.sides at) (tells.sides at).rows (sees at)) (sym (tells.sides at).rows)
     (sym (tells.sides at).channels.shown) performs.acts
 step_sound fresh past old new (Time at now) outcome table tells sees rows performs small =
     time_reply fresh old.sides past at now (old.sides at) (new.sides at) outcome table (made_by old new) (sym (tells.sides at).rows) (lines_stay (old.sides at) (new.sides at) performs.acts.peer) performs.acts.told
@@ -101,6 +104,7 @@ fresh_side E at s kept size built no_rows none =
         older = λ token is. absurd (let e : None ≡ Some token = is in cc);
         changes = λ token is. absurd (let e : None ≡ Some token = is in cc);
         restarts = λ token is. absurd (let e : None ≡ Some token = is in cc);
+        inits = λ token is. absurd (let e : None ≡ Some token = is in cc);
       };
       counts = omega arith;
       one_each = λ t u token other is. absurd (let e : None ≡ Some token = is in cc);
@@ -118,7 +122,13 @@ fresh_tells E start fresh =
     }
 
 fresh_sees : (E : Type 0) (start : PairStance) → IsFreshStance start → (at : Side) → SideSees {E = E} start.sides [] at (start.sides at)
-fresh_sees E start fresh at = record { lite = refl; remote = λ firm. (fresh.built at).remote; known = λ firm. ap is_some (fresh.built at).fingerprint }
+fresh_sees E start fresh at = record {
+  lite = refl;
+  remote = λ firm. (fresh.built at).remote;
+  known = λ firm. ap is_some (fresh.built at).fingerprint;
+  inited = (fresh.built at).uninited;
+  kept = ap (text_in remote_text) (fresh.built at).unstarted;
+}
 
 -- what the past of a pair that is reached says of it
 pub reached_tells : {E : Type 0} → (start pair : PairStance) (past : List (Entry E)) → IsFreshStance start → StanceReached start past pair → pair.size < 2 ^ 32 → Tells past pair

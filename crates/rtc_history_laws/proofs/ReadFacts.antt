@@ -38,7 +38,7 @@ use Rattle.rtc_history_laws.proofs.PlainSdps.{sdp_legible}
 
 -- ---- worked session descriptions are read as they are
 
-worked_words : AreSdpCreds worked_creds
+pub worked_words : AreSdpCreds worked_creds
 worked_words = record {
   ufrag = record { some = omega arith; size = omega arith; space = (refl, (refl, tt)); line = (refl, (refl, tt)) };
   pass = record { some = omega arith; size = omega arith; space = (refl, (refl, tt)); line = (refl, (refl, tt)) };
@@ -50,19 +50,20 @@ other_words = record {
   pass = record { some = omega arith; size = omega arith; space = (refl, (refl, tt)); line = (refl, (refl, tt)) };
 }
 
-head_formed : (creds : IceCreds) (lite : Bool) → AreSdpCreds creds → IsFormedHead (record worked_head { lite = lite; creds = creds })
+pub head_formed : (creds : IceCreds) (lite : Bool) → AreSdpCreds creds → IsFormedHead (record worked_head { lite = lite; creds = creds })
 head_formed creds lite words = record {
   session = omega arith;
   creds = words;
   fingerprint = record { name = refl; size = refl; bytes = all_small };
   candidates = tt;
   size = omega arith;
+  init = tt;
 }
   where
     all_small : AllByRecursion (λ byte. byte < 256) (codes "0123456789abcdef0123456789abcdef")
     all_small = (omega arith, (omega arith, (omega arith, (omega arith, (omega arith, (omega arith, (omega arith, (omega arith, (omega arith, (omega arith, (omega arith, (omega arith, (omega arith, (omega arith, (omega arith, (omega arith, (omega arith, (omega arith, (omega arith, (omega arith, (omega arith, (omega arith, (omega arith, (omega arith, (omega arith, (omega arith, (omega arith, (omega arith, (omega arith, (omega arith, (omega arith, (omega arith, tt))))))))))))))))))))))))))))))))
 
-bare_formed : (rows : List LineRow) → AllByRecursion IsToldFormed (map told_bare rows)
+pub bare_formed : (rows : List LineRow) → AllByRecursion IsToldFormed (map told_bare rows)
 bare_formed [] = tt
 bare_formed (row ∷ rows) = (no_media_formed, bare_formed rows)
 
@@ -76,7 +77,7 @@ bare_apart head (Media place mid kind dir true remote_created ∷ rows) = (tt, b
 bare_apart head (Media place mid kind dir false remote_created ∷ rows) = (tt, bare_apart head rows)
 bare_apart head (App place mid ∷ rows) = (tt, bare_apart head rows)
 
-with_apart : (head : SdpHead) (rows : List LineRow) → AreSourcesApart (with_candidates [] (map (told_line head) (map told_bare rows)))
+pub with_apart : (head : SdpHead) (rows : List LineRow) → AreSourcesApart (with_candidates [] (map (told_line head) (map told_bare rows)))
 with_apart head [] = tt
 with_apart head (Media place mid kind dir true remote_created ∷ rows) = (tt, bare_apart head rows)
 with_apart head (Media place mid kind dir false remote_created ∷ rows) = (tt, bare_apart head rows)

@@ -5,13 +5,13 @@ use Rattle.std.specs.Prelude.{slice_get}
 use Rattle.std.proofs.lemmas.Bool.{eq-eqb}
 use Rattle.std.proofs.lemmas.List.{length-map}
 use Rattle.rtc_sdp_values.specs.LineRow.{row_mid}
-use Rattle.rtc_sdp_values.specs.Sdp.{inconsistency}
+use Rattle.rtc_sdp_values.specs.Sdp.{inconsistency, sdp_sctp_init}
 use Rattle.rtc_sdp_values.specs.declared.line_row.LineRow.{LineRow}
 use Rattle.rtc_sdp_values.specs.declared.sdp.Sdp.{Sdp}
 use Rattle.rtc_tables.specs.ParsedLines.{parsed_lines}
 use Rattle.rtc_tables.specs.Table.{IsTable, OneApp, row_of}
 use Rattle.rtc_change.specs.TableAfter.{new_places}
-use Rattle.rtc_change.specs.Plans.{verdict, head_verdict, side_verdict}
+use Rattle.rtc_change.specs.Plans.{verdict, head_verdict, side_verdict, init_refusal}
 use Rattle.rtc_tables.proofs.TableLemmas.{row_of_its_mid}
 use Rattle.rtc_history.specs.declared.side.Side.{Side}
 use Rattle.rtc_history.specs.Sides.{other_side}
@@ -100,18 +100,24 @@ offer_finds offer rows same =
 
 -- ---- no cause holds
 
--- an offer whose rows go on from those of a table is not refused, where it tells of its side what it has to
-pub offer_passes : (view : Held) (more : List LineRow) (sdp : Sdp) → IsTable view.lines → Follows view.lines view.lines more → OneApp more → parsed_lines sdp ≡ map row_said more → inconsistency sdp ≡ None → StartsLive more
-    → side_verdict view true sdp ≡ None → verdict view None sdp ≡ None
-unfolding verdict head_verdict
-offer_passes view [] sdp table follows one says fits live side = absurd live
-offer_passes view (row ∷ more) sdp table follows one says fits live side = rw (says, side, fits, follows_allowed view.lines true false 0 view.lines (row ∷ more) table (all_left view.lines) follows one tt) refl
+-- a session description tells of its side what it has to, and of the start of the association nothing that it may not
+pub record HeadPasses (view : Held) (may : Bool) (sdp : Sdp) : Type 0 where
+  pub side : side_verdict view may sdp ≡ None
+  pub init : init_refusal view.sctp_inited view.sctp_kept (sdp_sctp_init sdp) ≡ None
 
--- an answer whose rows are those that were offered is not refused, where it tells of its side what it has to
-pub answer_passes : (view : Held) (restarts : Bool) (offer : OfferSaid) (more : List LineRow) (sdp : Sdp) → IsTable view.lines → Follows view.lines view.lines more → OneApp more → Aligned (offer.front ++ offer.more) more → Aligned offer.front view.lines
-    → parsed_lines sdp ≡ map row_said more → inconsistency sdp ≡ None → side_verdict view restarts sdp ≡ None → verdict view (Some (record { added = offer.more; restarts = restarts })) sdp ≡ None
+-- an offer whose rows go on from those of a table is not refused, where its head passes
+pub offer_passes : (view : Held) (more : List LineRow) (sdp : Sdp) → IsTable view.lines → Follows view.lines view.lines more → OneApp more → parsed_lines sdp ≡ map row_said more → inconsistency sdp ≡ None → StartsLive more
+    → HeadPasses view true sdp → verdict view None sdp ≡ None
 unfolding verdict head_verdict
-answer_passes view restarts offer more sdp table follows one same kept says fits side =
+offer_passes view [] sdp table follows one says fits live head = absurd live
+offer_passes view (row ∷ more) sdp table follows one says fits live head = rw (says, head.side, head.init, fits, follows_allowed view.lines true false 0 view.lines (row ∷ more) table (all_left view.lines) follows one tt) refl
+
+-- an answer whose rows are those that were offered is not refused, where its head passes
+pub answer_passes : (view : Held) (restarts says_init : Bool) (offer : OfferSaid) (more : List LineRow) (sdp : Sdp) → IsTable view.lines → Follows view.lines view.lines more → OneApp more → Aligned (offer.front ++ offer.more) more → Aligned offer.front view.lines
+    → parsed_lines sdp ≡ map row_said more → inconsistency sdp ≡ None → HeadPasses view restarts sdp
+    → verdict view (Some (record { added = offer.more; restarts = restarts; says_init = says_init })) sdp ≡ None
+unfolding verdict head_verdict
+answer_passes view restarts says_init offer more sdp table follows one same kept says fits head =
     let rows : List LineRow = view.lines in
     let allowed = follows_allowed rows false false 0 rows more table (all_left rows) follows one tt in
     let count : length (new_places rows 0 (map row_said more)) ≡ (0 + length (map row_said more)) - max 0 (length rows) = new_count rows false 0 (map row_said more) table.rising allowed in
@@ -120,4 +126,4 @@ answer_passes view restarts offer more sdp table follows one same kept says fits
     let both : length (offer.front ++ offer.more) ≡ length offer.front + length offer.more = length-append offer.front offer.more in
     let few : length rows ≡ length offer.front = length-aligned offer.front rows kept in
     let right : (length offer.more == length (new_places rows 0 (map row_said more))) ≡ true = eq-eqb (length offer.more) (length (new_places rows 0 (map row_said more))) (omega arith) in
-    rw (says, side, fits, allowed, right, follows_right rows offer.more 0 rows (offer.front ++ offer.more) more table (all_left rows) follows same offer.whole.rising (offer_finds offer rows kept)) refl
+    rw (says, head.side, head.init, fits, allowed, right, follows_right rows offer.more 0 rows (offer.front ++ offer.more) more table (all_left rows) follows same offer.whole.rising (offer_finds offer rows kept)) refl

@@ -30,6 +30,7 @@ use Rattle.rtc_peer_state.specs.declared.line_media.LineMedia.{LineMedia}
 use Rattle.rtc_peer_state.specs.declared.told_row.ToldRow.{ToldRow}
 use Rattle.rtc_peer_state.specs.MadeSdp.{shown_msid, shown_ssrcs, name_of_sources, row_line, told_line, row_told, live_mids}
 use Rattle.rtc_peer_state.proofs.ToldRows.{IsToldFormed}
+use Rattle.rtc_history_laws.proofs.ChunkTexts.{init_plain}
 use Rattle.rtc_history_laws.proofs.CarriedLines.{rows_plain, rows_apart, extensions_plain, layers_of_line, msid_of_line, name_of_line, sources_of_line}
 
 -- ---- credentials and fingerprints
@@ -164,6 +165,7 @@ channel_line head mid = record (bare_line Application mid SendRecv) {
   fingerprint = Some head.fingerprint;
   setup = Some head.setup;
   max_message_size = Some head.max_message_size;
+  sctp_init = head.sctp_init;
 }
 
 channel_legible : (head : SdpHead) (mid : List ℕ) → IsFormedHead head → is_short_token mid ≡ true → IsLegibleLine (channel_line head mid)
@@ -195,7 +197,7 @@ channel_legible head mid plain token = record {
   cname = tt;
   ssrcs = tt;
   max_message_size = let small = plain.size in let e : head.max_message_size < 2 ^ 64 = omega (arith, small) in e;
-  sctp_init = tt;
+  sctp_init = init_plain head.sctp_init plain.init;
 }
 
 row_legible : (head : SdpHead) → IsFormedHead head → (media : LineMedia) → IsFormedMedia media → (row : LineRow) → is_short_token (row_mid row) ≡ true

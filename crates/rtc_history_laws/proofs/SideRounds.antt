@@ -2,7 +2,9 @@
 use Rattle.std.proofs.Common.{◌≡◌, ◌≢◌, ℕ, Bool, true, false, not, ◌&&◌, ◌||◌, List, [], ◌∷◌, length, Option, Some, None, refl, ◌∙◌, ap}
 use Rattle.std.specs.Prelude.{is_some, slice_get, IfSome}
 use Rattle.std.proofs.lemmas.Slice.Eq.{bytes_eq-Decides}
-use Rattle.rtc_sdp_values.specs.Sdp.{creds_of, sdp_fingerprint}
+use Rattle.rtc_ice.specs.IceMeaning.{IceSettings}
+use Rattle.rtc_sctp_values.specs.SnapHalves.{KeptHalves}
+use Rattle.rtc_sdp_values.specs.Sdp.{creds_of, sdp_fingerprint, sdp_sctp_init}
 use Rattle.rtc_sdp_values.specs.declared.fingerprint.Fingerprint.{Fingerprint}
 use Rattle.rtc_sdp_values.specs.declared.ice_creds.IceCreds.{IceCreds}
 use Rattle.rtc_sdp_values.specs.declared.sdp.Sdp.{Sdp}
@@ -10,15 +12,17 @@ use Rattle.rtc_change.specs.Held.{Held}
 use Rattle.rtc_change.specs.PendingOffer.{PendingOffer, staged_restart}
 use Rattle.rtc_change.specs.Plans.{side_verdict, same_creds, is_restart, unasked_restart, no_fingerprint, both_lite}
 use Rattle.rtc_peer_state.specs.MadeSdp.{creds_in_use, sdp_of_rows}
+use Rattle.rtc_peer_state.specs.Stance.{Stance}
 use Rattle.rtc_peer_state.specs.declared.sdp_head.SdpHead.{SdpHead}
 use Rattle.rtc_peer_state.specs.declared.told_row.ToldRow.{ToldRow}
 use Rattle.rtc_history.specs.declared.side.Side.{Side}
 use Rattle.rtc_history.specs.declared.kept.Kept.{Kept}
 use Rattle.rtc_history.specs.Sides.{other_side}
-use Rattle.rtc_history.specs.Orderly.{Phase, Idle, AwaitsAnswer, AwaitsEnd, AreCurrent}
+use Rattle.rtc_history.specs.Orderly.{Phase, Idle, AwaitsAnswer, AwaitsEnd, AreCurrent, AreJoined}
 use Rattle.rtc_sdp_writer.specs.AsRead.{as_read}
 use Rattle.rtc_history_laws.proofs.AsReadSdps.{creds_as_read, fingerprint_as_read}
 use Rattle.rtc_history_laws.proofs.StanceSteps.{PairStance}
+use Rattle.rtc_history_laws.proofs.StartHalves.{TellsHalf, AnswersHalf}
 
 -- ---- what a session description tells of its side
 
@@ -89,14 +93,21 @@ pub record HasMade (at : Side) (n : ℕ) (pair : PairStance) : Type 0 where
   pub there : slice_get pair.sdps n ≡ Some kept
   pub mine : kept.at ≡ at
   pub has : kept.token ≡ Some token
+  pub says : token.says_init ≡ is_some (sdp_sctp_init kept.sdp)
+  pub half : TellsHalf (pair.sides at).inited (pair.sides at).snap (sdp_sctp_init kept.sdp)
   pub tells : TellsSide kept.sdp (creds_in_use (staged_restart token.changes) (pair.sides at).ice) (pair.sides at).ice.lite
+
+-- each side keeps the chunk of the other one where the associations were started by the chunks of both
+abbrev pub AreJoinedAt : PairStance → Side → Type 0
+AreJoinedAt pair side = AreJoined (pair.sides side).snap.started (pair.sides (other_side side)).snap.started
 
 pub record IsOfferOut (at : Side) (n : ℕ) (pair : PairStance) : Type 0 where
   pub offer : HasMade at n pair
   pub current : (side : Side) → AreCurrent pair.sides side
+  pub joined : (side : Side) → AreJoinedAt pair side
 
--- The answer to an offer: the other side has taken the offer's credentials; what the side that offered knows is current, but where its
--- offer restarts ICE.
+-- The answer to an offer: the other side has taken the offer's credentials, and its half of a start; what the side that offered knows is
+-- current, but where its offer restarts ICE.
 pub record IsAnswerOut (at : Side) (n a : ℕ) (pair : PairStance) : Type 0 where
   pub offer : HasMade at n pair
   pub answer : Kept
@@ -104,44 +115,75 @@ pub record IsAnswerOut (at : Side) (n a : ℕ) (pair : PairStance) : Type 0 wher
   pub tells : TellsSide answer.sdp (pair.sides (other_side at)).ice.local (pair.sides (other_side at)).ice.lite
   pub taken : (pair.sides (other_side at)).ice.remote ≡ creds_of offer.kept.sdp
   pub known : is_some (staged_restart offer.token.changes) ≡ false → AreCurrent pair.sides at
+  pub half : AnswersHalf (pair.sides at).inited (pair.sides at).snap (pair.sides (other_side at)).snap.started offer.token.says_init
+      (sdp_sctp_init answer.sdp)
+
+-- nothing is outstanding, and what the sides have of each other is current
+pub record AreAgreed (pair : PairStance) : Type 0 where
+  pub current : (side : Side) → AreCurrent pair.sides side
+  pub joined : (side : Side) → AreJoinedAt pair side
 
 abbrev pub InRound : Phase → PairStance → Type 0
-InRound Idle pair = (side : Side) → AreCurrent pair.sides side
+InRound Idle pair = AreAgreed pair
 InRound (AwaitsAnswer at n said) pair = IsOfferOut at n pair
 InRound (AwaitsEnd at n a said) pair = IsAnswerOut at n a pair
 
 -- ---- steps that make no session description
 
--- the agents of both sides stay
-abbrev pub SameIce : PairStance → PairStance → Type 0
-SameIce old new = (side : Side) → (new.sides side).ice ≡ (old.sides side).ice
+-- what a round reads of a side
+abbrev pub round_parts : Stance → IceSettings × Bool × KeptHalves
+round_parts s = (s.ice, s.inited, s.snap)
 
-current_stays : (old new : PairStance) → SameIce old new → (side : Side) → AreCurrent old.sides side → AreCurrent new.sides side
+-- it stays at both sides
+abbrev pub SameSides : PairStance → PairStance → Type 0
+SameSides old new = (side : Side) → round_parts (new.sides side) ≡ round_parts (old.sides side)
+
+same_ice : (old new : PairStance) → SameSides old new → (side : Side) → (new.sides side).ice ≡ (old.sides side).ice
+same_ice old new same side = ap (λ (c : IceSettings × Bool × KeptHalves). c.0) (same side)
+
+same_inited : (old new : PairStance) → SameSides old new → (side : Side) → (new.sides side).inited ≡ (old.sides side).inited
+same_inited old new same side = ap (λ (c : IceSettings × Bool × KeptHalves). c.1) (same side)
+
+same_snap : (old new : PairStance) → SameSides old new → (side : Side) → (new.sides side).snap ≡ (old.sides side).snap
+same_snap old new same side = ap (λ (c : IceSettings × Bool × KeptHalves). c.2) (same side)
+
+current_stays : (old new : PairStance) → SameSides old new → (side : Side) → AreCurrent old.sides side → AreCurrent new.sides side
 current_stays old new same side current =
-    rw (same side, same (other_side side)) current
+    rw (same_ice old new same side, same_ice old new same (other_side side)) current
 
-made_stays : (at : Side) (n : ℕ) (old new : PairStance) → SameIce old new → new.sdps ≡ old.sdps → HasMade at n old → HasMade at n new
+joined_stays : (old new : PairStance) → SameSides old new → (side : Side) → AreJoinedAt old side → AreJoinedAt new side
+joined_stays old new same side joined =
+    rw (same_snap old new same side, same_snap old new same (other_side side)) joined
+
+made_stays : (at : Side) (n : ℕ) (old new : PairStance) → SameSides old new → new.sdps ≡ old.sdps → HasMade at n old → HasMade at n new
 made_stays at n old new same kept made = record {
   kept = made.kept;
   token = made.token;
   there = ap (λ sdps. slice_get sdps n) kept ∙ made.there;
   mine = made.mine;
   has = made.has;
-  tells = rw (same at) made.tells;
+  says = made.says;
+  half = rw (same_inited old new same at, same_snap old new same at) made.half;
+  tells = rw (same_ice old new same at) made.tells;
 }
 
-pub round_stays : (phase : Phase) (old new : PairStance) → SameIce old new → new.sdps ≡ old.sdps → InRound phase old → InRound phase new
+pub round_stays : (phase : Phase) (old new : PairStance) → SameSides old new → new.sdps ≡ old.sdps → InRound phase old → InRound phase new
 unfolding made_stays
-round_stays Idle old new same kept current = λ side. current_stays old new same side (current side)
+round_stays Idle old new same kept agreed = record {
+  current = λ side. current_stays old new same side (agreed.current side);
+  joined = λ side. joined_stays old new same side (agreed.joined side);
+}
 round_stays (AwaitsAnswer at n said) old new same kept out = record {
   offer = made_stays at n old new same kept out.offer;
   current = λ side. current_stays old new same side (out.current side);
+  joined = λ side. joined_stays old new same side (out.joined side);
 }
 round_stays (AwaitsEnd at n a said) old new same kept out = record {
   offer = made_stays at n old new same kept out.offer;
   answer = out.answer;
   there = ap (λ sdps. slice_get sdps a) kept ∙ out.there;
-  tells = rw (same (other_side at)) out.tells;
-  taken = ap (λ ice. ice.remote) (same (other_side at)) ∙ out.taken;
+  tells = rw (same_ice old new same (other_side at)) out.tells;
+  taken = ap (λ ice. ice.remote) (same_ice old new same (other_side at)) ∙ out.taken;
   known = λ none. current_stays old new same at (out.known none);
+  half = rw (same_inited old new same at, same_snap old new same at, same_snap old new same (other_side at)) out.half;
 }

@@ -4,6 +4,8 @@ use Rattle.std.proofs.Common.{subst, ◌≡◌, ◌≤◌, ◌∙◌, ◌⊎◌,
 use Rattle.rtc_io.specs.Faults.{Rose}
 use Rattle.rtc_dtls.specs.declared.dtls_error.DtlsError.TheVariants.{WouldBlock, Fault, Alloc as DtlsAlloc}
 use Rattle.rtc_dtls.specs.DtlsState.{DtlsState}
+use Rattle.rtc_sctp_entries.specs.declared.stream_entry.StreamEntry.{StreamEntry}
+use Rattle.rtc_sctp_values.specs.InitHalves.{InitHalves}
 use Rattle.rtc_sctp.specs.Streams.{SctpStreams}
 use Rattle.rtc_sctp_values.specs.declared.proto_error.ProtoError.TheVariants.{Fault as AssociationFault}
 use Rattle.rtc_sctp_values.specs.declared.sctp_error.SctpError.{SctpError}
@@ -43,6 +45,7 @@ use Rattle.rtc_history.specs.SoundParts.{refuses_sdp, tells_refusal, faults_of}
 use Rattle.rtc_peer_state.proofs.StoppedPeers.{stopped_dtls, stopped_sctp, stopped_media}
 use Rattle.rtc_history_laws.proofs.CountedFaults.{by_part, equal_below, start_later, start_fault, stop_later, sctp_later, sctp_fault, sctp_stop_later}
 use Rattle.rtc_history_laws.proofs.MediaFaults.{prepared_later, updated_later, stopped_later}
+use Rattle.rtc_history_laws.proofs.UnusedStreams.{offer_halves, answer_halves}
 use Rattle.rtc_history_laws.proofs.OpParts.{counting_parts, ops_counting, makes_counting}
 use Rattle.rtc_history_laws.proofs.GrowingCounts.{Counts}
 use Rattle.rtc_history_laws.proofs.ChannelFaults.{write_goes, close_channel_goes}
@@ -58,16 +61,16 @@ module _ {I D S M E X T W N : Type 0} (m : Meanings I D S M E X T W N) (laws : P
   same_dtls : (p q : Peer I D S M N) → q.dtls ≡ p.dtls → faults_of m DtlsPart p ≤ faults_of m DtlsPart q
   same_dtls p q same = let e : faults_of m DtlsPart q ≡ faults_of m DtlsPart p = ap (λ (d : DtlsState D). m.dtls.faults d.instance) same in omega arith
 
-  same_sctp : (p q : Peer I D S M N) → q.sctp ≡ p.sctp → faults_of m AssociationPart p ≤ faults_of m AssociationPart q
-  same_sctp p q same = let e : faults_of m AssociationPart q ≡ faults_of m AssociationPart p = ap (λ (s : SctpStreams S). m.association.faults s.association) same in omega arith
+  same_sctp : (p q : Peer I D S M N) → q.sctp.association ≡ p.sctp.association → faults_of m AssociationPart p ≤ faults_of m AssociationPart q
+  same_sctp p q same = let e : faults_of m AssociationPart q ≡ faults_of m AssociationPart p = ap (λ (s : S). m.association.faults s) same in omega arith
 
   same_faults : (p q : Peer I D S M N) → q.media ≡ p.media → faults_of m MediaPart p ≤ faults_of m MediaPart q
   same_faults p q same = equal_below (m.media.faults p.media) (m.media.faults q.media) (ap (λ (r : M). m.media.faults r) same)
 
   same_count : (p q : Peer I D S M N) → counting_parts q ≡ counting_parts p → (part : CountedPart) → faults_of m part p ≤ faults_of m part q
   same_count p q same = by_part (λ part. faults_of m part p ≤ faults_of m part q)
-      (same_dtls p q (ap (λ (c : DtlsState D × SctpStreams S × M). c.0) same)) (same_sctp p q (ap (λ (c : DtlsState D × SctpStreams S × M). c.1) same))
-      (same_faults p q (ap (λ (c : DtlsState D × SctpStreams S × M). c.2) same))
+      (same_dtls p q (ap (λ (c : DtlsState D × (S × List StreamEntry) × M). c.0) same)) (same_sctp p q (ap (λ (c : DtlsState D × (S × List StreamEntry) × M). c.1.0) same))
+      (same_faults p q (ap (λ (c : DtlsState D × (S × List StreamEntry) × M). c.2) same))
 
   same_media : (p q : M) → q ≡ p → SameLines m.media p q
   same_media p q same = record { lines = λ mid. ap (λ (r : M). m.media.line r mid) same; used = λ ssrc. ap (λ (r : M). m.media.used r ssrc) same }
@@ -98,39 +101,40 @@ module _ {I D S M E X T W N : Type 0} (m : Meanings I D S M E X T W N) (laws : P
   refused p q error unfaulted same = record {
     later = same_count p q same;
     fault = λ part told. absurd (untold (is_fault_of error) part (unfaulted part) told);
-    media = λ told. same_media p.media q.media (ap (λ (c : DtlsState D × SctpStreams S × M). c.2) same);
+    media = λ told. same_media p.media q.media (ap (λ (c : DtlsState D × (S × List StreamEntry) × M). c.2) same);
   }
 
   -- ---- acceptances
 
   -- the association as an offer or an answer starts it
-  sdp_later : (p : Peer I D S M N) (offer : Bool) (sdp : Sdp) (r : Result (Unit {0}) SctpError) (s : SctpStreams S) → StartsBySdp m p offer sdp r s
+  sdp_later : (p : Peer I D S M N) (offer : Bool) (sdp : Sdp) (halves : Option InitHalves) (r : Result (Unit {0}) SctpError) (s : SctpStreams S)
+      → StartsBySdp m p offer sdp halves r s
       → m.association.faults p.sctp.association ≤ m.association.faults s.association
-  sdp_later p offer sdp r s h = sctp_later m.association laws.association p.sctp s (table_after p.lines (parsed_lines sdp) offer)
-      (role_after p.dtls.active (sdp_setup sdp)) p.greatest (remote_limit (max_message_size_of sdp)) r h
+  sdp_later p offer sdp halves r s h = sctp_later m.association laws.association p.sctp s (table_after p.lines (parsed_lines sdp) offer)
+      (role_after p.dtls.active (sdp_setup sdp)) p.greatest (remote_limit (max_message_size_of sdp)) halves (not offer) r h
 
-  sdp_fault : (p : Peer I D S M N) (offer : Bool) (sdp : Sdp) (s : SctpStreams S) → StartsBySdp m p offer sdp (Err (Proto AssociationFault)) s
+  sdp_fault : (p : Peer I D S M N) (offer : Bool) (sdp : Sdp) (halves : Option InitHalves) (s : SctpStreams S) → StartsBySdp m p offer sdp halves (Err (Proto AssociationFault)) s
       → Rose (m.association.faults p.sctp.association) (m.association.faults s.association)
-  sdp_fault p offer sdp s h = sctp_fault m.association laws.association p.sctp s (table_after p.lines (parsed_lines sdp) offer)
-      (role_after p.dtls.active (sdp_setup sdp)) p.greatest (remote_limit (max_message_size_of sdp)) h
+  sdp_fault p offer sdp halves s h = sctp_fault m.association laws.association p.sctp s (table_after p.lines (parsed_lines sdp) offer)
+      (role_after p.dtls.active (sdp_setup sdp)) p.greatest (remote_limit (max_message_size_of sdp)) halves (not offer) h
 
-  sdp_stop_later : (p : Peer I D S M N) (offer : Bool) (sdp : Sdp) (s : SctpStreams S)
-      → (s ≡ p.sctp) ⊎ ((r : Result (Unit {0}) SctpError) × StartsBySdp m p offer sdp r s)
+  sdp_stop_later : (p : Peer I D S M N) (offer : Bool) (sdp : Sdp) (halves : Option InitHalves) (s : SctpStreams S)
+      → (s ≡ p.sctp) ⊎ ((error : SctpError) × StartsBySdp m p offer sdp halves (Err error) s)
       → m.association.faults p.sctp.association ≤ m.association.faults s.association
-  sdp_stop_later p offer sdp s h = sctp_stop_later m.association laws.association p.sctp s (table_after p.lines (parsed_lines sdp) offer)
-      (role_after p.dtls.active (sdp_setup sdp)) p.greatest (remote_limit (max_message_size_of sdp)) h
+  sdp_stop_later p offer sdp halves s h = sctp_stop_later m.association laws.association p.sctp s (table_after p.lines (parsed_lines sdp) offer)
+      (role_after p.dtls.active (sdp_setup sdp)) p.greatest (remote_limit (max_message_size_of sdp)) halves (not offer) h
 
   offer_accepted : (p q : Peer I D S M N) (k : ℕ) (offer answer : Sdp) → AcceptsOffer m p offer (Ok answer) q → IsSoundOfSide p false (Answered k) q
   offer_accepted p q k offer answer h = accepted p q (Answered k) (λ part. refl)
       (by_part (λ part. faults_of m part p ≤ faults_of m part q) (start_later m.dtls laws.dtls p.dtls q.dtls _ _ _ _ h.dtls_starts)
-      (sdp_later p true offer (Ok tt) q.sctp h.sctp_starts) (updated_later m laws.media p.media q.media _ h.media_updated))
+      (sdp_later p true offer (offer_halves m p offer) (Ok tt) q.sctp h.sctp_starts) (updated_later m laws.media p.media q.media _ h.media_updated))
 
   offer_refused : (p q : Peer I D S M N) (offer : Sdp) (error : RtcError) → AcceptsOffer m p offer (Err error) q → IsSoundOfSide p true (Refused error) q
   offer_refused p q offer (RemoteSdp why) h = refused p q (RemoteSdp why) (λ part. refl) (ap counting_parts h.1)
   offer_refused p q offer (SdpRefused error) h = refused p q (SdpRefused error) (λ part. refl) (ap counting_parts h.1)
   offer_refused p q offer (Dtls Fault) h = record {
     later = by_part (λ part. faults_of m part p ≤ faults_of m part q) (start_later m.dtls laws.dtls p.dtls q.dtls _ _ _ _ h.dtls_fails)
-        (same_sctp p q (ap (λ (r : Peer I D S M N). r.sctp) h.rest)) (prepared_later m laws.media p.media q.media _ (Ok tt) h.media_prepared);
+        (same_sctp p q (ap (λ (r : Peer I D S M N). r.sctp.association) h.rest)) (prepared_later m laws.media p.media q.media _ (Ok tt) h.media_prepared);
     fault = by_part (λ part. is_fault_of (Dtls Fault) part ≡ true → Rose (faults_of m part p) (faults_of m part q))
         (λ told. start_fault m.dtls laws.dtls p.dtls q.dtls _ _ _ h.dtls_fails) (λ told. absurd (cc)) (λ told. absurd (cc));
     media = λ told. laws.media.prepare_same p.media q.media _ _ h.media_prepared;
@@ -139,9 +143,9 @@ module _ {I D S M E X T W N : Type 0} (m : Meanings I D S M E X T W N) (laws : P
   offer_refused p q offer (Dtls DtlsAlloc) h = absurd h
   offer_refused p q offer (Sctp error) h = record {
     later = by_part (λ part. faults_of m part p ≤ faults_of m part q) (start_later m.dtls laws.dtls p.dtls q.dtls _ _ _ _ h.1.dtls_starts)
-        (sdp_later p true offer (Err (Proto AssociationFault)) q.sctp h.1.sctp_fails) (prepared_later m laws.media p.media q.media _ (Ok tt) h.1.media_prepared);
+        (sdp_later p true offer (offer_halves m p offer) (Err (Proto AssociationFault)) q.sctp h.1.sctp_fails) (prepared_later m laws.media p.media q.media _ (Ok tt) h.1.media_prepared);
     fault = by_part (λ part. is_fault_of (Sctp error) part ≡ true → Rose (faults_of m part p) (faults_of m part q))
-        (λ told. absurd (cc)) (λ told. sdp_fault p true offer q.sctp h.1.sctp_fails) (λ told. absurd (cc));
+        (λ told. absurd (cc)) (λ told. sdp_fault p true offer (offer_halves m p offer) q.sctp h.1.sctp_fails) (λ told. absurd (cc));
     media = λ told. laws.media.prepare_same p.media q.media _ _ h.1.media_prepared;
   }
   offer_refused p q offer ChangesOutOfOrder h = absurd h
@@ -151,7 +155,7 @@ module _ {I D S M E X T W N : Type 0} (m : Meanings I D S M E X T W N) (laws : P
   offer_refused p q offer PeerAlloc h = record {
     later = by_part (λ part. faults_of m part p ≤ faults_of m part q)
         (stop_later m.dtls laws.dtls p.dtls q.dtls _ _ (stopped_dtls m (record p { counter = raised p.counter }) _ _ _ _ _ _ q h.stops))
-        (sdp_stop_later p true offer q.sctp (stopped_sctp m (record p { counter = raised p.counter }) _ _ _ _ _ _ q h.stops))
+        (sdp_stop_later p true offer (offer_halves m p offer) q.sctp (stopped_sctp m (record p { counter = raised p.counter }) _ _ _ _ _ _ q h.stops))
         (stopped_later m laws.media (record p { counter = raised p.counter }) _ _ _ _ _ _ q h.stops);
     fault = λ part told. absurd (cc);
     media = λ told. stopped_media m laws.media (record p { counter = raised p.counter }) _ _ _ _ _ _ q h.stops;
@@ -160,14 +164,14 @@ module _ {I D S M E X T W N : Type 0} (m : Meanings I D S M E X T W N) (laws : P
   answer_accepted : (p q : Peer I D S M N) (token : PendingOffer) (answer : Sdp) → AcceptsAnswer m p token answer (Ok tt) q → IsSoundOfSide p false Finished q
   answer_accepted p q token answer h = accepted p q Finished (λ part. refl)
       (by_part (λ part. faults_of m part p ≤ faults_of m part q) (start_later m.dtls laws.dtls p.dtls q.dtls _ _ _ _ h.dtls_starts)
-      (sdp_later p false answer (Ok tt) q.sctp h.sctp_starts) (updated_later m laws.media p.media q.media _ h.media_updated))
+      (sdp_later p false answer (answer_halves m p token answer) (Ok tt) q.sctp h.sctp_starts) (updated_later m laws.media p.media q.media _ h.media_updated))
 
   answer_refused : (p q : Peer I D S M N) (token : PendingOffer) (answer : Sdp) (error : RtcError) → AcceptsAnswer m p token answer (Err error) q → IsSoundOfSide p true (Refused error) q
   answer_refused p q token answer (RemoteSdp why) h = refused p q (RemoteSdp why) (λ part. refl) (ap counting_parts h.1.1)
   answer_refused p q token answer (SdpRefused error) h = refused p q (SdpRefused error) (λ part. refl) (ap counting_parts h.1.1)
   answer_refused p q token answer (Dtls Fault) h = record {
     later = by_part (λ part. faults_of m part p ≤ faults_of m part q) (start_later m.dtls laws.dtls p.dtls q.dtls _ _ _ _ h.dtls_fails)
-        (same_sctp p q (ap (λ (r : Peer I D S M N). r.sctp) h.rest)) (prepared_later m laws.media p.media q.media _ (Ok tt) h.media_prepared);
+        (same_sctp p q (ap (λ (r : Peer I D S M N). r.sctp.association) h.rest)) (prepared_later m laws.media p.media q.media _ (Ok tt) h.media_prepared);
     fault = by_part (λ part. is_fault_of (Dtls Fault) part ≡ true → Rose (faults_of m part p) (faults_of m part q))
         (λ told. start_fault m.dtls laws.dtls p.dtls q.dtls _ _ _ h.dtls_fails) (λ told. absurd (cc)) (λ told. absurd (cc));
     media = λ told. laws.media.prepare_same p.media q.media _ _ h.media_prepared;
@@ -176,9 +180,9 @@ module _ {I D S M E X T W N : Type 0} (m : Meanings I D S M E X T W N) (laws : P
   answer_refused p q token answer (Dtls DtlsAlloc) h = absurd h
   answer_refused p q token answer (Sctp error) h = record {
     later = by_part (λ part. faults_of m part p ≤ faults_of m part q) (start_later m.dtls laws.dtls p.dtls q.dtls _ _ _ _ h.1.dtls_starts)
-        (sdp_later p false answer (Err (Proto AssociationFault)) q.sctp h.1.sctp_fails) (prepared_later m laws.media p.media q.media _ (Ok tt) h.1.media_prepared);
+        (sdp_later p false answer (answer_halves m p token answer) (Err (Proto AssociationFault)) q.sctp h.1.sctp_fails) (prepared_later m laws.media p.media q.media _ (Ok tt) h.1.media_prepared);
     fault = by_part (λ part. is_fault_of (Sctp error) part ≡ true → Rose (faults_of m part p) (faults_of m part q))
-        (λ told. absurd (cc)) (λ told. sdp_fault p false answer q.sctp h.1.sctp_fails) (λ told. absurd (cc));
+        (λ told. absurd (cc)) (λ told. sdp_fault p false answer (answer_halves m p token answer) q.sctp h.1.sctp_fails) (λ told. absurd (cc));
     media = λ told. laws.media.prepare_same p.media q.media _ _ h.1.media_prepared;
   }
   answer_refused p q token answer ChangesOutOfOrder h = refused p q ChangesOutOfOrder (λ part. refl) (ap counting_parts h.1)
@@ -188,7 +192,7 @@ module _ {I D S M E X T W N : Type 0} (m : Meanings I D S M E X T W N) (laws : P
   answer_refused p q token answer PeerAlloc h = record {
     later = by_part (λ part. faults_of m part p ≤ faults_of m part q)
         (stop_later m.dtls laws.dtls p.dtls q.dtls _ _ (stopped_dtls m p _ _ _ _ _ _ q h.stops))
-        (sdp_stop_later p false answer q.sctp (stopped_sctp m p _ _ _ _ _ _ q h.stops)) (stopped_later m laws.media p _ _ _ _ _ _ q h.stops);
+        (sdp_stop_later p false answer (answer_halves m p token answer) q.sctp (stopped_sctp m p _ _ _ _ _ _ q h.stops)) (stopped_later m laws.media p _ _ _ _ _ _ q h.stops);
     fault = λ part told. absurd (cc);
     media = λ told. stopped_media m laws.media p _ _ _ _ _ _ q h.stops;
   }

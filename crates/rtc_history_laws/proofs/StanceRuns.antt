@@ -11,6 +11,8 @@ use Rattle.rtc_peer_state.specs.declared.peer.Peer.{Peer}
 use Rattle.rtc_peer_state.specs.ChannelRows.{channel_rows}
 use Rattle.rtc_history.specs.Runs.{Went, Reached, EntersSoundly}
 use Rattle.rtc_history_laws.proofs.StanceSteps.{PairStance, StanceEnters, pair_stance}
+use Rattle.rtc_history.specs.Performs.{Enters}
+use Rattle.rtc_history_laws.proofs.EmptyStreams.{AreUnused, went_unused}
 use Rattle.rtc_history_laws.proofs.StandingSteps.{enters_stands}
 use Rattle.rtc_history_laws.proofs.SoundPasts.{Sound}
 
@@ -45,11 +47,29 @@ module _ {I D S M E X T W N : Type 0} (m : Meanings I D S M E X T W N) where
   pub fresh_stands : (pair : PairState I D S M N) → IsFresh m pair → IsFreshStance (pair_stance m pair)
   fresh_stands pair fresh = record { built = fresh.built; rows = λ at. no_rows (peer_at at pair) (fresh.built at).channels; sdps = fresh.sdps; size = fresh.size }
 
-  pub reached_stands : (stun : List ℕ → Bool) → PartsLaws m → (start : PairState I D S M N) (past : List (Entry E)) (pair : PairState I D S M N) → Reached m stun start past pair → StanceReached (pair_stance m start) past (pair_stance m pair)
-  reached_stands stun laws start [] pair reached = ap (pair_stance m) reached
-  reached_stands stun laws start (last ∷ past) pair reached = (pair_stance m reached.0, reached_stands stun laws start past reached.0 reached.1, enters_stands m laws reached.0 last pair reached.2)
+  -- before the association is started no stream is in use
+  pub fresh_unused : (laws : PartsLaws m) (pair : PairState I D S M N) → IsFresh m pair → AreUnused m laws pair
+  fresh_unused laws pair fresh = λ at unstarted. fresh.unused at
 
-  pub ran_stands : (stun : List ℕ → Bool) → PartsLaws m → (start : PairState I D S M N) (past : List (Entry E)) (pair : PairState I D S M N) → Went (EntersSoundly m stun start) (λ fresh. fresh ≡ start) past pair
-      → StanceRan (pair_stance m start) past (pair_stance m pair)
-  ran_stands stun laws start [] pair ran = ap (pair_stance m) ran
-  ran_stands stun laws start (last ∷ past) pair ran = (pair_stance m ran.0, ran_stands stun laws start past ran.0 ran.1, (enters_stands m laws ran.0 last pair ran.2.0, ran.2.1))
+  pub reached_stands : (stun : List ℕ → Bool) (laws : PartsLaws m) (start : PairState I D S M N) (past : List (Entry E)) (pair : PairState I D S M N) → AreUnused m laws start → Reached m stun start past pair → StanceReached (pair_stance m start) past (pair_stance m pair)
+  reached_stands stun laws start [] pair unused reached = ap (pair_stance m) reached
+  reached_stands stun laws start (last ∷ past) pair unused reached = (
+    pair_stance m reached.0,
+    reached_stands stun laws start past reached.0 unused reached.1,
+    enters_stands m laws reached.0 last pair (went_unused m laws (λ earlier between entry after. Enters m stun between entry after) (λ earlier between entry after enters. (stun, enters)) start past reached.0 unused reached.1) reached.2,
+  )
+
+  -- nor does it come into use in a run
+  pub ran_unused : (stun : List ℕ → Bool) (laws : PartsLaws m) (start : PairState I D S M N) (past : List (Entry E)) (pair : PairState I D S M N) → AreUnused m laws start
+      → Went (EntersSoundly m stun start) (λ fresh. fresh ≡ start) past pair → AreUnused m laws pair
+  ran_unused stun laws start past pair unused ran =
+      went_unused m laws (EntersSoundly m stun start) (λ earlier between entry after enters. (stun, enters.0)) start past pair unused ran
+
+  pub ran_stands : (stun : List ℕ → Bool) (laws : PartsLaws m) (start : PairState I D S M N) (past : List (Entry E)) (pair : PairState I D S M N) → AreUnused m laws start
+      → Went (EntersSoundly m stun start) (λ fresh. fresh ≡ start) past pair → StanceRan (pair_stance m start) past (pair_stance m pair)
+  ran_stands stun laws start [] pair unused ran = ap (pair_stance m) ran
+  ran_stands stun laws start (last ∷ past) pair unused ran = (
+    pair_stance m ran.0,
+    ran_stands stun laws start past ran.0 unused ran.1,
+    (enters_stands m laws ran.0 last pair (ran_unused stun laws start past ran.0 unused ran.1) ran.2.0, ran.2.1),
+  )

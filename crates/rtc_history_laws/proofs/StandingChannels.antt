@@ -1,18 +1,24 @@
 -- Writes to channels and closes of them leave what negotiation reads of a peer, but for the rows of its channels, and give no number.
-use Rattle.std.proofs.Common.{◌≡◌, ◌∙◌, ℕ, Bool, true, false, nat_lt, List, [], length, Option, Some, None, Result, Ok, Err, alloc_error, refl, sym, ap, subst}
+use Rattle.std.proofs.Common.{◌≡◌, ◌∙◌, ℕ, Bool, true, false, not, ◌&&◌, ◌||◌, nat_lt, List, [], length, Option, Some, None, Result, Ok, Err, alloc_error, refl, sym, ap, subst}
 use Rattle.rtc_sctp_values.specs.declared.sctp_error.SctpError.{SctpError}
 use Rattle.rtc_sctp_values.specs.declared.sctp_error.SctpError.TheVariants as sctp
+use Rattle.rtc_sctp.specs.Calls.{WritesStream, WrittenIf, can_write, is_current, is_ended, is_open_stream}
+use Rattle.rtc_sctp.specs.Streams.{SctpStreams}
+use Rattle.rtc_sctp_laws.proofs.CallActs.{writes_did}
+use Rattle.rtc_sctp_laws.proofs.ClosingPolls.{started_moved}
 use Rattle.rtc_peer_state.specs.declared.rtc_error.RtcError.{RtcError}
 use Rattle.rtc_peer_state.specs.declared.rtc_error.RtcError.TheVariants.{Alloc as PeerAlloc}
 use Rattle.rtc_peer_state.specs.Meanings.{Meanings, PartsLaws}
 use Rattle.rtc_peer_state.specs.Stance.{Stance, stance_of}
 use Rattle.rtc_polling.specs.declared.polled_peer.PolledPeer.{PolledPeer}
-use Rattle.rtc_polling.specs.ChannelCalls.{WritesChannel, WritesIf, bytes_available, write_taken}
+use Rattle.rtc_polling.specs.ChannelCalls.{WritesChannel, WritesIf, bytes_available, write_taken, stream_under}
 use Rattle.rtc_polling.specs.Connection.{with_sctp}
 use Rattle.rtc_polling.proofs.KeptCalls.{keeps_by}
 use Rattle.rtc_polling.proofs.StandingCalls.{stands_by}
 use Rattle.rtc_polling.proofs.StandingInputs.{stance_by}
+use Rattle.rtc_polling.specs.Kept.{KeepsStart}
 use Rattle.rtc_polling.proofs.StreamSizes.{SameSize, written_size, closed_size}
+use Rattle.rtc_polling.proofs.StreamStarts.{closed_start}
 use Rattle.rtc_history.specs.declared.outcome.Outcome.{Outcome}
 use Rattle.rtc_history.specs.declared.outcome.Outcome.TheVariants.{Done, Wrote, Refused, NoSuch, Alloc}
 use Rattle.rtc_history.specs.declared.table.Table.{Table}
@@ -39,20 +45,43 @@ taken_of_write (Err sctp.DcepBadUtf8) = refl
 taken_of_write (Err sctp.InvalidSnap) = refl
 taken_of_write (Err sctp.Alloc) = refl
 
+and_false : (b : Bool) → (b && false) ≡ false
+and_false true = refl
+and_false false = refl
+
 module _ {I D S M E X T W N : Type 0} (m : Meanings I D S M E X T W N) (laws : PartsLaws m) where
   -- only the streams change
-  streams_move : (p q : PolledPeer I D S M N) → q ≡ with_sctp q.core.sctp p → SameSize p.core.sctp q.core.sctp → Moves m laws [] p q
-  streams_move p q is size = record {
-    peer = stance_by m p q (keeps_by p (with_sctp q.core.sctp p) q is refl) (stands_by m p (with_sctp q.core.sctp p) q is (refl, refl, refl, size, refl));
+  streams_move : (p q : PolledPeer I D S M N) → q ≡ with_sctp q.core.sctp p → SameSize p.core.sctp q.core.sctp
+      → KeepsStart m.association p.core.sctp q.core.sctp → Moves m laws [] p q
+  streams_move p q is size start = record {
+    peer = stance_by m p q (keeps_by p (with_sctp q.core.sctp p) q is refl) (stands_by m p (with_sctp q.core.sctp p) q is (refl, refl, refl, size, refl, start));
     numbered = same_numbers p.core.channels q.core.channels (ap (λ (x : PolledPeer I D S M N). x.core.channels) is);
+    start = start;
   }
+
+  -- a write needs an association that was started
+  written_start : (stream : ℕ) (binary : Bool) (bytes : List ℕ) (p : SctpStreams S) (r : Result ℕ SctpError) (q : SctpStreams S)
+      → WritesStream m.association stream binary bytes p r q → KeepsStart m.association p q
+  written_start stream binary bytes p r q h =
+      let d = writes_did m.association stream binary bytes p r q h in
+      record {
+        started = λ s. started_moved m.association laws.association d.did.acts p.association q.association s d.did.went;
+        unstarted = λ s.
+            let ended : is_ended m.association p.association ≡ true =
+            ap (λ (b : Bool). not b || (m.association.closing p.association || m.association.closed p.association)) s in
+            let closed : can_write m.association stream p ≡ false =
+            ap (λ (b : Bool). is_open_stream stream p && not b) ended ∙ and_false (is_open_stream stream p) in
+            let same : q ≡ p = (subst (λ (b : Bool). WrittenIf m.association b (is_current m.association stream p) stream binary bytes p r q) closed h).1 in
+            (ap (λ (x : SctpStreams S). m.association.started x.association) same ∙ s, λ none. ap (λ (x : SctpStreams S). x.entries) same ∙ none);
+      }
 
   written_moves : (full : Bool) (stream : ℕ) (binary : Bool) (bytes : List ℕ) (p : PolledPeer I D S M N) (r : Result Bool RtcError) (q : PolledPeer I D S M N)
       → WritesIf m full stream binary bytes p r q → Moves m laws [] p q
   written_moves true stream binary bytes p r q h = moves_none m laws p q h.1
   written_moves false stream binary bytes p r q h = streams_move p q h.3 (written_size m.association stream binary bytes p.core.sctp h.0 q.core.sctp h.1)
+      (written_start stream binary bytes p.core.sctp h.0 q.core.sctp h.1)
 
-  write_moves : (stream : ℕ) (binary : Bool) (bytes : List ℕ) (p : PolledPeer I D S M N) (r : Result Bool RtcError) (q : PolledPeer I D S M N)
+  pub write_moves : (stream : ℕ) (binary : Bool) (bytes : List ℕ) (p : PolledPeer I D S M N) (r : Result Bool RtcError) (q : PolledPeer I D S M N)
       → WritesChannel m stream binary bytes p r q → Moves m laws [] p q
   write_moves stream binary bytes p r q h = written_moves (nat_lt (bytes_available m p) (length bytes)) stream binary bytes p r q h
 
@@ -91,9 +120,11 @@ module _ {I D S M E X T W N : Type 0} (m : Meanings I D S M E X T W N) (laws : P
   write_rest None binary bytes old outcome table new sdps sdps' h kept = none_rest is_written refl old outcome table new sdps sdps' h kept
   write_rest (Some stream) binary bytes old outcome table new sdps sdps' h kept = open_write_rest stream binary bytes old outcome table new sdps sdps' h kept
 
-  closes_move : (id : ℕ) (p : PolledPeer I D S M N) (r : Result (Unit {0}) RtcError) (q : PolledPeer I D S M N) → ClosesOpenChannel m id p r q → Moves m laws [] p q
+  pub closes_move : (id : ℕ) (p : PolledPeer I D S M N) (r : Result (Unit {0}) RtcError) (q : PolledPeer I D S M N) → ClosesOpenChannel m id p r q → Moves m laws [] p q
   closes_move id p (Ok done) q h = streams_move p q h.1 (closed_size m.association _ p.core.sctp (Ok tt) q.core.sctp h.0)
+      (closed_start m.association laws.association (stream_under id p.core.channels) p.core.sctp (Ok tt) q.core.sctp h.0)
   closes_move id p (Err PeerAlloc) q h = streams_move p q h.1 (closed_size m.association _ p.core.sctp (Err alloc_error) q.core.sctp h.0)
+      (closed_start m.association laws.association (stream_under id p.core.channels) p.core.sctp (Err alloc_error) q.core.sctp h.0)
   closes_move id p (Err error) q h = absurd h
 
   close_refused : (id : ℕ) (p : PolledPeer I D S M N) (error : RtcError) (q : PolledPeer I D S M N) → ClosesOpenChannel m id p (Err error) q → error_lacks error ≡ true

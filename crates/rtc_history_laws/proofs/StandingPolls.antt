@@ -22,6 +22,8 @@ use Rattle.rtc_polling.specs.Closing.{ClosesPeer}
 use Rattle.rtc_polling.specs.Inputs.{HandlesInput}
 use Rattle.rtc_polling.specs.Walk.{PollsPeer}
 use Rattle.rtc_polling.specs.Numbers.{ChannelNumbers, number_told}
+use Rattle.rtc_polling.specs.Kept.{KeepsParts, KeepsStart}
+use Rattle.rtc_polling.proofs.StreamStarts.{start_self, start_on}
 use Rattle.rtc_polling.proofs.Keeping.{poll_keeps}
 use Rattle.rtc_polling.proofs.KeptCalls.{close_keeps}
 use Rattle.rtc_polling.proofs.KeptInputs.{input_keeps}
@@ -100,37 +102,48 @@ module _ {I D S M E X T W N : Type 0} (m : Meanings I D S M E X T W N) (laws : P
   pub shows_stands : (table : Table) (p : Peer I D S M N) → Shows m table p → StanceShows table (stance_of m p)
   shows_stands table p shows = record { lines = shows.lines; channels = shows.channels }
 
-  -- the stance stays but for the channels, which get numbers that are told
+  -- the stance stays but for the channels, which get numbers that are told, and the association stays started or unstarted
   pub record Moves (numbers : List ℕ) (p q : PolledPeer I D S M N) : Type 0 where
     pub peer : stance_of m q.core ≡ record (stance_of m p.core) { channels = q.core.channels; rows = channel_rows m.association q.core.sctp q.core.channels }
     pub numbered : AreNumbered numbers p.core.channels q.core.channels
+    pub start : KeepsStart m.association p.core.sctp q.core.sctp
 
   pub moves_none : (p q : PolledPeer I D S M N) → q ≡ p → Moves [] p q
-  moves_none p q same = rw same (record { peer = refl; numbered = same_numbers p.core.channels p.core.channels refl })
+  moves_none p q same = rw same (record { peer = refl; numbered = same_numbers p.core.channels p.core.channels refl; start = start_self m.association p.core.sctp })
 
   moves_on : (numbers more : List ℕ) (p between q : PolledPeer I D S M N) → Moves numbers p between → Moves more between q → Moves (numbers ++ more) p q
   moves_on numbers more p between q first rest = record {
     peer = rest.peer ∙ ap (λ (s : Stance). record s { channels = q.core.channels; rows = channel_rows m.association q.core.sctp q.core.channels }) first.peer;
     numbered = numbered_on numbers more p.core.channels between.core.channels q.core.channels first.numbered rest.numbered;
+    start = start_on m.association p.core.sctp between.core.sctp q.core.sctp first.start rest.start;
   }
 
   poll_moves : (p : PolledPeer I D S M N) (answer : Result (Output E) RtcError) (q : PolledPeer I D S M N) → PollsPeer m p answer q → Moves (numbers_of (number_told answer)) p q
-  poll_moves p answer q h = record {
-    peer = stance_by m p q (poll_keeps m p answer q h) (poll_stands m laws.ice laws.media p answer q h);
-    numbered = numbered_by (number_told answer) p.core.channels q.core.channels (poll_numbers m p answer q h);
-  }
+  poll_moves p answer q h =
+      let parts : KeepsParts m p q = poll_stands m laws.ice laws.media laws.association p answer q h in
+      record {
+        peer = stance_by m p q (poll_keeps m p answer q h) parts;
+        numbered = numbered_by (number_told answer) p.core.channels q.core.channels (poll_numbers m p answer q h);
+        start = parts.5;
+      }
 
   pub input_moves : (input : Input) (p : PolledPeer I D S M N) (r : Result (Unit {0}) RtcError) (q : PolledPeer I D S M N) → HandlesInput m input p r q → Moves [] p q
-  input_moves input p r q h = record {
-    peer = stance_by m p q (input_keeps m input p r q h) (input_stands m laws.ice laws.media input p r q h);
-    numbered = numbered_by None p.core.channels q.core.channels (input_numbers m input p r q h);
-  }
+  input_moves input p r q h =
+      let parts : KeepsParts m p q = input_stands m laws.ice laws.media laws.association input p r q h in
+      record {
+        peer = stance_by m p q (input_keeps m input p r q h) parts;
+        numbered = numbered_by None p.core.channels q.core.channels (input_numbers m input p r q h);
+        start = parts.5;
+      }
 
   pub close_moves : (p : PolledPeer I D S M N) (r : Result (Unit {0}) RtcError) (q : PolledPeer I D S M N) → ClosesPeer m p r q → Moves [] p q
-  close_moves p r q h = record {
-    peer = stance_by m p q (close_keeps m p r q h) (close_stands m laws.media p r q h);
-    numbered = numbered_by None p.core.channels q.core.channels (close_numbers m p r q h);
-  }
+  close_moves p r q h =
+      let parts : KeepsParts m p q = close_stands m laws.media laws.association p r q h in
+      record {
+        peer = stance_by m p q (close_keeps m p r q h) parts;
+        numbered = numbered_by None p.core.channels q.core.channels (close_numbers m p r q h);
+        start = parts.5;
+      }
 
   pub rests_by : (may : Outcome E → Bool) (outcome : Outcome E) (table : Option Table) (old new : PolledPeer I D S M N) (sdps sdps' : List Kept) → Moves (numbers_in outcome) old new → sdps' ≡ sdps
       → RestTold may (stance_of m old.core) outcome table (stance_of m new.core) → StanceRests may (stance_of m old.core) sdps outcome table (stance_of m new.core) sdps'
@@ -151,7 +164,7 @@ module _ {I D S M E X T W N : Type 0} (m : Meanings I D S M E X T W N) (laws : P
       rests_by is_handled (Refused error) (Some table) old new sdps sdps' (moves old (Err error) new h.0) kept (refl, shows_stands table new.core h.1)
   calls_rest call moves old outcome table new sdps sdps' h kept = absurd h
 
-  read_moves : (kind : Result MultiplexKind NetError) (transmit : Transmit) (now : ℕ) (p : PolledPeer I D S M N) (r : Result (Unit {0}) RtcError) (q : PolledPeer I D S M N)
+  pub read_moves : (kind : Result MultiplexKind NetError) (transmit : Transmit) (now : ℕ) (p : PolledPeer I D S M N) (r : Result (Unit {0}) RtcError) (q : PolledPeer I D S M N)
       → HandlesRead m kind transmit now p r q → Moves [] p q
   read_moves (Err why) transmit now p r q h = moves_none p q h.1
   read_moves (Ok kind) transmit now p r q h = input_moves (given.Receive now h.0) p r q h.2

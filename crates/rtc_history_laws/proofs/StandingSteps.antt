@@ -21,6 +21,9 @@ use Rattle.rtc_polling.specs.declared.polled_peer.PolledPeer.{PolledPeer}
 use Rattle.rtc_polling.specs.ChannelCalls.{open_stream_under}
 use Rattle.rtc_polling.specs.Closing.{ClosesPeer}
 use Rattle.rtc_polling.specs.Inputs.{HandlesInput}
+use Rattle.rtc_peer_state.proofs.ChannelRowLemmas.{IsShutBefore}
+use Rattle.rtc_polling.proofs.StreamStarts.{empty_shut}
+use Rattle.rtc_history_laws.proofs.EmptyStreams.{AreUnused}
 use Rattle.rtc_history_laws.proofs.StandingChannels.{write_rest, close_channel_rest}
 use Rattle.rtc_history_laws.proofs.StandingPolls.{shows_stands, calls_rest, hears_rest, polls_rest, input_moves, close_moves, once_moves, drains_moves}
 use Rattle.rtc_history.specs.Signalled.{Signalled, NotMade, Unreadable, Readable}
@@ -42,7 +45,7 @@ use Rattle.rtc_history.specs.declared.sent_packet.SentPacket.{SentPacket}
 use Rattle.rtc_history.specs.Memory.{answers_lack}
 use Rattle.rtc_history.specs.Sides.{side_of}
 use Rattle.rtc_history.specs.Past.{Entry}
-use Rattle.rtc_history.specs.PairState.{PairState, rtc_at, kept_remote_sdp, remote_packet, held_token}
+use Rattle.rtc_history.specs.PairState.{PairState, rtc_at, peer_at, kept_remote_sdp, remote_packet, held_token}
 use Rattle.rtc_history.specs.Performs.{Stays, wanted, PerformsOps, MakesOf, Negotiates, StepAcceptsOffer, StepAcceptsAnswer, PollsOnce, DrainsPeer, Acts, Performs, Enters}
 use Rattle.rtc_history_laws.proofs.StanceSteps.{StanceStays, StancePerformsOps, StanceMakesOf, StanceNegotiates, StanceStepAcceptsOffer, StanceStepAcceptsAnswer, StanceActs, StancePerforms, StanceEnters, pair_stance}
 
@@ -98,70 +101,71 @@ module _ {I D S M E X T W N : Type 0} (m : Meanings I D S M E X T W N) (laws : P
   negotiates_stands at ops apply old sdps outcome table new sdps' h = absurd h
 
   step_offer_stands : (at : Side) (offer : Signalled) (old : Peer I D S M N) (sdps : List Kept) (outcome : Outcome E) (table : Option Table) (new : Peer I D S M N) (sdps' : List Kept)
-      → StepAcceptsOffer m at offer old sdps outcome table new sdps' → StanceStepAcceptsOffer at offer (stance_of m old) sdps outcome table (stance_of m new) sdps'
-  step_offer_stands at NotMade old sdps Alloc None new sdps' h = stays_stands old new sdps sdps' h
-  step_offer_stands at (Unreadable line) old sdps Alloc None new sdps' h = stays_stands old new sdps sdps' h
-  step_offer_stands at (Readable sdp) old sdps Alloc None new sdps' h = stays_stands old new sdps sdps' h
-  step_offer_stands at NotMade old sdps NoSuch (Some table) new sdps' h = (stays_stands old new sdps sdps' h.0, shows_stands m laws table old h.1)
-  step_offer_stands at (Unreadable line) old sdps (Refused error) (Some table) new sdps' h =
+      → IsShutBefore m.association old.sctp → StepAcceptsOffer m at offer old sdps outcome table new sdps' → StanceStepAcceptsOffer at offer (stance_of m old) sdps outcome table (stance_of m new) sdps'
+  step_offer_stands at NotMade old sdps Alloc None new sdps' shut h = stays_stands old new sdps sdps' h
+  step_offer_stands at (Unreadable line) old sdps Alloc None new sdps' shut h = stays_stands old new sdps sdps' h
+  step_offer_stands at (Readable sdp) old sdps Alloc None new sdps' shut h = stays_stands old new sdps sdps' h
+  step_offer_stands at NotMade old sdps NoSuch (Some table) new sdps' shut h = (stays_stands old new sdps sdps' h.0, shows_stands m laws table old h.1)
+  step_offer_stands at (Unreadable line) old sdps (Refused error) (Some table) new sdps' shut h =
       (h.0, stays_stands old new sdps sdps' h.1, shows_stands m laws table old h.2)
-  step_offer_stands at (Readable sdp) old sdps (Answered k) (Some table) new sdps' h =
-      (h.0, accepts_offer_stands m laws _ sdp (Ok h.0) new h.1, h.2, h.3, shows_stands m laws table new h.4)
-  step_offer_stands at (Readable sdp) old sdps (Refused error) (Some table) new sdps' h =
-      (accepts_offer_stands m laws _ sdp (Err error) new h.0, h.1, shows_stands m laws table new h.2)
-  step_offer_stands at offer old sdps outcome table new sdps' h = absurd h
+  step_offer_stands at (Readable sdp) old sdps (Answered k) (Some table) new sdps' shut h =
+      (h.0, accepts_offer_stands m laws _ sdp (Ok h.0) new shut h.1, h.2, h.3, shows_stands m laws table new h.4)
+  step_offer_stands at (Readable sdp) old sdps (Refused error) (Some table) new sdps' shut h =
+      (accepts_offer_stands m laws _ sdp (Err error) new shut h.0, h.1, shows_stands m laws table new h.2)
+  step_offer_stands at offer old sdps outcome table new sdps' shut h = absurd h
 
   step_answer_stands : (t : ℕ) (token : Option PendingOffer) (answer : Signalled) (old : Peer I D S M N) (sdps : List Kept) (outcome : Outcome E) (table : Option Table) (new : Peer I D S M N) (sdps' : List Kept)
-      → StepAcceptsAnswer m t token answer old sdps outcome table new sdps' → StanceStepAcceptsAnswer t token answer (stance_of m old) sdps outcome table (stance_of m new) sdps'
-  step_answer_stands t None NotMade old sdps Alloc None new sdps' h = stays_stands old new sdps sdps' h
-  step_answer_stands t None (Unreadable line) old sdps Alloc None new sdps' h = stays_stands old new sdps sdps' h
-  step_answer_stands t None (Readable sdp) old sdps Alloc None new sdps' h = stays_stands old new sdps sdps' h
-  step_answer_stands t (Some token) NotMade old sdps Alloc None new sdps' h = stays_stands old new sdps sdps' h
-  step_answer_stands t (Some token) (Unreadable line) old sdps Alloc None new sdps' h = stays_stands old new sdps sdps' h
-  step_answer_stands t (Some token) (Readable sdp) old sdps Alloc None new sdps' h = stays_stands old new sdps sdps' h
-  step_answer_stands t None NotMade old sdps NoSuch (Some table) new sdps' h = (stays_stands old new sdps sdps' h.0, shows_stands m laws table old h.1)
-  step_answer_stands t None (Unreadable line) old sdps NoSuch (Some table) new sdps' h = (stays_stands old new sdps sdps' h.0, shows_stands m laws table old h.1)
-  step_answer_stands t None (Readable sdp) old sdps NoSuch (Some table) new sdps' h = (stays_stands old new sdps sdps' h.0, shows_stands m laws table old h.1)
-  step_answer_stands t (Some token) NotMade old sdps NoSuch (Some table) new sdps' h = (stays_stands old new sdps sdps' h.0, shows_stands m laws table old h.1)
-  step_answer_stands t (Some token) (Unreadable line) old sdps (Refused error) (Some table) new sdps' h =
+      → IsShutBefore m.association old.sctp → StepAcceptsAnswer m t token answer old sdps outcome table new sdps' → StanceStepAcceptsAnswer t token answer (stance_of m old) sdps outcome table (stance_of m new) sdps'
+  step_answer_stands t None NotMade old sdps Alloc None new sdps' shut h = stays_stands old new sdps sdps' h
+  step_answer_stands t None (Unreadable line) old sdps Alloc None new sdps' shut h = stays_stands old new sdps sdps' h
+  step_answer_stands t None (Readable sdp) old sdps Alloc None new sdps' shut h = stays_stands old new sdps sdps' h
+  step_answer_stands t (Some token) NotMade old sdps Alloc None new sdps' shut h = stays_stands old new sdps sdps' h
+  step_answer_stands t (Some token) (Unreadable line) old sdps Alloc None new sdps' shut h = stays_stands old new sdps sdps' h
+  step_answer_stands t (Some token) (Readable sdp) old sdps Alloc None new sdps' shut h = stays_stands old new sdps sdps' h
+  step_answer_stands t None NotMade old sdps NoSuch (Some table) new sdps' shut h = (stays_stands old new sdps sdps' h.0, shows_stands m laws table old h.1)
+  step_answer_stands t None (Unreadable line) old sdps NoSuch (Some table) new sdps' shut h = (stays_stands old new sdps sdps' h.0, shows_stands m laws table old h.1)
+  step_answer_stands t None (Readable sdp) old sdps NoSuch (Some table) new sdps' shut h = (stays_stands old new sdps sdps' h.0, shows_stands m laws table old h.1)
+  step_answer_stands t (Some token) NotMade old sdps NoSuch (Some table) new sdps' shut h = (stays_stands old new sdps sdps' h.0, shows_stands m laws table old h.1)
+  step_answer_stands t (Some token) (Unreadable line) old sdps (Refused error) (Some table) new sdps' shut h =
       (h.0, stays_stands old new sdps sdps' h.1, shows_stands m laws table old h.2)
-  step_answer_stands t (Some token) (Readable sdp) old sdps Finished (Some table) new sdps' h =
-      (accepts_answer_stands m laws _ token sdp (Ok tt) new h.0, h.1, shows_stands m laws table new h.2)
-  step_answer_stands t (Some token) (Readable sdp) old sdps (Refused error) (Some table) new sdps' h =
-      (accepts_answer_stands m laws _ token sdp (Err error) new h.0, h.1, shows_stands m laws table new h.2)
-  step_answer_stands t token answer old sdps outcome table new sdps' h = absurd h
+  step_answer_stands t (Some token) (Readable sdp) old sdps Finished (Some table) new sdps' shut h =
+      (accepts_answer_stands m laws _ token sdp (Ok tt) new shut h.0, h.1, shows_stands m laws table new h.2)
+  step_answer_stands t (Some token) (Readable sdp) old sdps (Refused error) (Some table) new sdps' shut h =
+      (accepts_answer_stands m laws _ token sdp (Err error) new shut h.0, h.1, shows_stands m laws table new h.2)
+  step_answer_stands t token answer old sdps outcome table new sdps' shut h = absurd h
 
   acts_stand : (stun : List ℕ → Bool) (step : Step) (old : PolledPeer I D S M N) (sdps : List Kept) (packets : List SentPacket) (outcome : Outcome E) (table : Option Table) (new : PolledPeer I D S M N)
-      (sdps' : List Kept) (packets' : List SentPacket) → Acts m stun step old sdps packets outcome table new sdps' packets'
+      (sdps' : List Kept) (packets' : List SentPacket) → IsShutBefore m.association old.core.sctp → Acts m stun step old sdps packets outcome table new sdps' packets'
       → StanceActs step (stance_of m old.core) sdps outcome table (stance_of m new.core) sdps'
-  acts_stand stun (Negotiate at ops apply) old sdps packets outcome table new sdps' packets' h = negotiates_stands at ops apply old.core sdps outcome table new.core sdps' h.0
-  acts_stand stun (AcceptOffer at k) old sdps packets outcome table new sdps' packets' h = step_offer_stands at (kept_remote_sdp true sdps at k) old.core sdps outcome table new.core sdps' h.0
-  acts_stand stun (AcceptAnswer at t a) old sdps packets outcome table new sdps' packets' h =
-      step_answer_stands t (held_token sdps at t) (kept_remote_sdp false sdps at a) old.core sdps outcome table new.core sdps' h.0
-  acts_stand stun (Time at now) old sdps packets outcome table new sdps' packets' h =
+  acts_stand stun (Negotiate at ops apply) old sdps packets outcome table new sdps' packets' shut h = negotiates_stands at ops apply old.core sdps outcome table new.core sdps' h.0
+  acts_stand stun (AcceptOffer at k) old sdps packets outcome table new sdps' packets' shut h = step_offer_stands at (kept_remote_sdp true sdps at k) old.core sdps outcome table new.core sdps' shut h.0
+  acts_stand stun (AcceptAnswer at t a) old sdps packets outcome table new sdps' packets' shut h =
+      step_answer_stands t (held_token sdps at t) (kept_remote_sdp false sdps at a) old.core sdps outcome table new.core sdps' shut h.0
+  acts_stand stun (Time at now) old sdps packets outcome table new sdps' packets' shut h =
       calls_rest m laws (HandlesInput m (given.Timeout now)) (input_moves m laws (given.Timeout now)) old outcome table new sdps sdps' h.0 h.1
-  acts_stand stun (Datagram at packet now) old sdps packets outcome table new sdps' packets' h =
+  acts_stand stun (Datagram at packet now) old sdps packets outcome table new sdps' packets' shut h =
       hears_rest m laws stun (remote_packet packets at packet) now old outcome table new sdps sdps' h.0 h.1
-  acts_stand stun (Poll at) old sdps packets outcome table new sdps' packets' h =
+  acts_stand stun (Poll at) old sdps packets outcome table new sdps' packets' shut h =
       polls_rest m laws (PollsOnce m at old) old (λ before_it outputs end q after. once_moves m laws at old before_it outputs end q after) packets outcome table new packets' sdps sdps' h.0 h.1
-  acts_stand stun (Drain at) old sdps packets outcome table new sdps' packets' h =
+  acts_stand stun (Drain at) old sdps packets outcome table new sdps' packets' shut h =
       polls_rest m laws (DrainsPeer m at old) old (λ before_it outputs end q after. drains_moves m laws at old before_it outputs end q after) packets outcome table new packets' sdps sdps' h.0 h.1
-  acts_stand stun (Write at channel binary bytes) old sdps packets outcome table new sdps' packets' h =
+  acts_stand stun (Write at channel binary bytes) old sdps packets outcome table new sdps' packets' shut h =
       write_rest m laws (open_stream_under channel old) binary bytes old outcome table new sdps sdps' h.0 h.1
-  acts_stand stun (CloseChannel at channel) old sdps packets outcome table new sdps' packets' h =
+  acts_stand stun (CloseChannel at channel) old sdps packets outcome table new sdps' packets' shut h =
       close_channel_rest m laws (open_stream_under channel old) channel old outcome table new sdps sdps' h.0 h.1
-  acts_stand stun (Close at) old sdps packets outcome table new sdps' packets' h =
+  acts_stand stun (Close at) old sdps packets outcome table new sdps' packets' shut h =
       calls_rest m laws (ClosesPeer m) (close_moves m laws) old outcome table new sdps sdps' h.0 h.1
 
-  -- A step of a pair, as negotiation sees it.
+  -- A step of a pair, as negotiation sees it, where no stream is in use before the association of a side is started.
   pub performs_stands : {stun : List ℕ → Bool} → (old : PairState I D S M N) (step : Step) (outcome : Outcome E) (table : Option Table) (new : PairState I D S M N)
-      → Performs m stun old step outcome table new → StancePerforms (pair_stance m old) step outcome table (pair_stance m new)
-  performs_stands {stun} old step outcome table new performs = record {
-    acts = acts_stand stun step (rtc_at (side_of step) old) old.sdps old.packets outcome table (rtc_at (side_of step) new) new.sdps new.packets performs.acts;
+      → AreUnused m laws old → Performs m stun old step outcome table new → StancePerforms (pair_stance m old) step outcome table (pair_stance m new)
+  performs_stands {stun} old step outcome table new unused performs = record {
+    acts = acts_stand stun step (rtc_at (side_of step) old) old.sdps old.packets outcome table (rtc_at (side_of step) new) new.sdps new.packets
+        (empty_shut m.association (peer_at (side_of step) old).sctp (unused (side_of step))) performs.acts;
     other = ap (λ rtc. stance_of m rtc.core) performs.other;
     size = performs.size;
   }
 
-  pub enters_stands : {stun : List ℕ → Bool} → (old : PairState I D S M N) (entry : Entry E) (new : PairState I D S M N) → Enters m stun old entry new
+  pub enters_stands : {stun : List ℕ → Bool} → (old : PairState I D S M N) (entry : Entry E) (new : PairState I D S M N) → AreUnused m laws old → Enters m stun old entry new
       → StanceEnters (pair_stance m old) entry (pair_stance m new)
-  enters_stands old entry new enters = record { performs = performs_stands old entry.step entry.outcome entry.table new enters.performs; made = enters.made }
+  enters_stands old entry new unused enters = record { performs = performs_stands old entry.step entry.outcome entry.table new unused enters.performs; made = enters.made }

@@ -17,7 +17,7 @@ use Rattle.rtc_sdp_reader.specs.PlainPayloads.{IsPayloadType}
 use Rattle.rtc_sdp_writer.specs.Plain.{IsLegible, IsLegibleLine, IsPlainRow, IsPlainExtension, IsPairOfLine, IsPlainLayer, IsPlainSimulcast}
 use Rattle.rtc_codecs.specs.FormedCodecs.{repair_numbers, payload_numbers, all_payload_numbers, AreFormedExtensions}
 use Rattle.rtc_codecs.proofs.AllLemmas.{all_joined}
-use Rattle.rtc_peer_state.specs.Formed.{IsFormedPair, IsFormedLayer, is_layer_name, same_layer, IsFormedSimulcast, IsTakenLine}
+use Rattle.rtc_peer_state.specs.Formed.{IsFormedPair, IsFormedLayer, is_layer_name, shares_rid, IsFormedSimulcast, IsTakenLine}
 use Rattle.rtc_history_laws.proofs.CarriedLines.{formats_same}
 
 repair_small : (pt : Option Pt) → IfSome pt IsPayloadType → AllByRecursion (λ number. number ≤ 127) (repair_numbers pt)
@@ -71,11 +71,11 @@ each_taken (layer ∷ layers) listed plain =
     (record { name = name_taken layer.rid listed.0; pairs = pairs_taken layer.attributes plain.0 }, each_taken layers listed.1 plain.1)
 
 others_taken : (layer : SimulcastLayer) (layers : List SimulcastLayer) → AllByRecursion (λ rid. bytes_eq rid layer.rid ≡ false) (rids_in layers)
-    → AllByRecursion (λ other. same_layer other layer ≡ false) layers
+    → AllByRecursion (λ other. shares_rid other layer ≡ false) layers
 others_taken layer [] others = tt
 others_taken layer (other ∷ layers) others = (others.0, others_taken layer layers others.1)
 
-apart_taken : (layers : List SimulcastLayer) → IsApart bytes_eq (rids_in layers) → IsApart same_layer layers
+apart_taken : (layers : List SimulcastLayer) → IsApart bytes_eq (rids_in layers) → IsApart shares_rid layers
 apart_taken [] apart = tt
 apart_taken (layer ∷ layers) apart = (others_taken layer layers apart.0, apart_taken layers apart.1)
 

@@ -1,6 +1,6 @@
 -- What a past says of a pair, and what a new entry says of each side.
 use Rattle.std.proofs.Common.{◌≡◌, ◌≤◌, ◌<◌, ◌+◌, ◌^◌, ◌==◌, ℕ, List, ◌∷◌, map, length, Bool, true, false, Option, Some, None, refl, sym, ◌∙◌, ap, arith, cond, ◌⊎◌, inl, inr}
-use Rattle.std.specs.Prelude.{slice_get, is_some}
+use Rattle.std.specs.Prelude.{slice_get, is_some, option_map}
 use Rattle.std.proofs.lemmas.Bool.{ne_eqb}
 use Rattle.rtc_change.specs.PendingOffer.{PendingOffer, added_rows, staged_restart}
 use Rattle.rtc_channels.specs.Channels.{AreBelow}
@@ -9,6 +9,7 @@ use Rattle.rtc_peer_state.specs.Calls.{raised}
 use Rattle.rtc_history.specs.declared.side.Side.{Side}
 use Rattle.rtc_history.specs.declared.side.Side.TheVariants.{Left, Right}
 use Rattle.rtc_history.specs.Sides.{same_side, other_side, side_of}
+use Rattle.rtc_history.specs.Views.{tells_init}
 use Rattle.rtc_history.specs.Past.{Entry, before, rows_or, sdps, spends, is_spent, is_offer_of, holds_token, moves, makes, is_right, added_by, channels_shown, channel_rows_or, numbers_told, numbers_or, restarts_by}
 use Rattle.rtc_history.specs.declared.kept.Kept.{Kept}
 use Rattle.rtc_history.specs.PairState.{made_sdp, token_for, held_token}
@@ -23,6 +24,7 @@ pub record TokenTells {E : Type 0} (past : List (Entry E)) (at : Side) (counter 
   pub older : (token : PendingOffer) → token_for at kept ≡ Some token → token.id + 1 ≤ counter
   pub changes : (token : PendingOffer) → token_for at kept ≡ Some token → (place : ℕ) → added_rows place token.changes ≡ added_by place t past
   pub restarts : (token : PendingOffer) → token_for at kept ≡ Some token → is_some (staged_restart token.changes) ≡ restarts_by t past
+  pub inits : (token : PendingOffer) → token_for at kept ≡ Some token → token.says_init ≡ tells_init (option_map made_sdp kept)
 
 -- What a past says of the channels of a side: their rows, and that its numbers were given and tell how many were given at most.
 pub record ChannelsTell {E : Type 0} (past : List (Entry E)) (at : Side) (s : Stance) : Type 0 where
@@ -89,6 +91,7 @@ token_kept past e at counter t kept untold still told =
       older = told.older;
       changes = λ token is place. told.changes token is place ∙ (rw unmade refl);
       restarts = λ token is. told.restarts token is ∙ (rw unmade refl);
+      inits = told.inits;
     }
 
 not_next : (counter id : ℕ) → id + 1 ≤ counter → (counter + 1 == id + 1) ≡ false
@@ -106,6 +109,7 @@ token_moved past e at counter t kept untold moved told =
       older = λ token is. let o : token.id + 1 ≤ counter = told.older token is in omega arith;
       changes = λ token is place. told.changes token is place ∙ (rw unmade refl);
       restarts = λ token is. told.restarts token is ∙ (rw unmade refl);
+      inits = told.inits;
     }
 
 pub token_next : {E : Type 0} → (moved : Bool) (past : List (Entry E)) (e : Entry E) (at : Side) (counter t : ℕ) (kept : Option Kept) → IsUntold past e at t
@@ -121,6 +125,7 @@ no_token past at counter t kept none unheld = record {
   older = λ token is. absurd (let e : None ≡ Some token = sym none ∙ is in cc);
   changes = λ token is. absurd (let e : None ≡ Some token = sym none ∙ is in cc);
   restarts = λ token is. absurd (let e : None ≡ Some token = sym none ∙ is in cc);
+  inits = λ token is. absurd (let e : None ≡ Some token = sym none ∙ is in cc);
 }
 
 -- ---- sides after an entry

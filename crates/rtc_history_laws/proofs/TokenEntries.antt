@@ -4,6 +4,7 @@ use Rattle.std.specs.Prelude.{slice_get, slice_set, option_map, is_some}
 use Rattle.std.proofs.lemmas.Bool.{eq-eqb, and_right}
 use Rattle.std.proofs.lemmas.List.{length-map, drop_all}
 use Rattle.std.proofs.lemmas.Option.{slice_get_within}
+use Rattle.rtc_sdp_values.specs.Sdp.{sdp_sctp_init}
 use Rattle.rtc_change.specs.PendingOffer.{PendingOffer, added_rows, staged_restart}
 use Rattle.rtc_peer_state.specs.Stance.{Stance}
 use Rattle.rtc_history.specs.declared.side.Side.{Side}
@@ -71,9 +72,9 @@ spent_tells past e old new k kept goes there changed spends_k unmade tells =
 -- The token of a new offer, at the side that made it.
 offer_token : {E : Type 0} → (past : List (Entry E)) (e : Entry E) (at : Side) (counter t : ℕ) (kept : Kept) (token : PendingOffer) → same_side kept.at at ≡ true → kept.offer ≡ true
     → token_for at (Some kept) ≡ Some token → token.id ≡ counter → ((place : ℕ) → added_in place e.step e.outcome e.table e.made ≡ added_rows place token.changes)
-    → restarts_in e.outcome ≡ is_some (staged_restart token.changes) → slice_get (sdps (e ∷ past)) t ≡ Some (made_sdp kept) → spends t e.step e.outcome ≡ false → is_spent t past ≡ false → makes t e.outcome ≡ true
+    → restarts_in e.outcome ≡ is_some (staged_restart token.changes) → token.says_init ≡ is_some (sdp_sctp_init kept.sdp) → slice_get (sdps (e ∷ past)) t ≡ Some (made_sdp kept) → spends t e.step e.outcome ≡ false → is_spent t past ≡ false → makes t e.outcome ≡ true
     → TokenTells (e ∷ past) at (counter + 1) t (Some kept)
-offer_token past e at counter t kept token mine offer found id adds restarts said unspent never_spent makes_it =
+offer_token past e at counter t kept token mine offer found id adds restarts inits said unspent never_spent makes_it =
     let it : (other : PendingOffer) → token_for at (Some kept) ≡ Some other → token ≡ other = λ other is. let same : Some token ≡ Some other = sym found ∙ is in cc in
     record {
       held = rw (found, said, offer, mine, unspent, never_spent) refl;
@@ -81,6 +82,7 @@ offer_token past e at counter t kept token mine offer found id adds restarts sai
       older = λ other is. let n : other.id ≡ counter = ap (λ k. k.id) (sym (it other is)) ∙ id in omega (arith, n);
       changes = λ other is place. rw makes_it (ap (λ k. added_rows place k.changes) (sym (it other is)) ∙ sym (adds place));
       restarts = λ other is. rw makes_it (ap (λ k. is_some (staged_restart k.changes)) (sym (it other is)) ∙ sym restarts);
+      inits = λ other is. ap (λ k. k.says_init) (sym (it other is)) ∙ inits;
     }
 
 -- a token from before, or that of the new offer
@@ -102,9 +104,10 @@ pub offered_tells : {E : Type 0} → (past : List (Entry E)) (e : Entry E) (old 
     → kept.at ≡ side_of e.step → kept.offer ≡ true → kept.token ≡ Some token → token.id ≡ (old.sides (side_of e.step)).counter
     → ((place : ℕ) → added_in place e.step e.outcome e.table e.made ≡ added_rows place token.changes)
     → restarts_in e.outcome ≡ is_some (staged_restart token.changes)
+    → token.says_init ≡ is_some (sdp_sctp_init kept.sdp)
     → new.sdps ≡ old.sdps ++ kept ∷ []
     → ((t : ℕ) → spends t e.step e.outcome ≡ false) → ((t : ℕ) → makes t e.outcome ≡ (length old.sdps == t)) → Tells past old → Tells (e ∷ past) new
-offered_tells past e old new kept token goes by offer has id adds restarts pushed unspent makes_it tells =
+offered_tells past e old new kept token goes by offer has id adds restarts inits pushed unspent makes_it tells =
     let at = side_of e.step in
     let says : map made_sdp new.sdps ≡ sdps (e ∷ past) = says_pushed past e old new kept goes.made pushed tells.says in
     let said_count : length (sdps past) ≡ length old.sdps = ap length (sym tells.says) ∙ length-map old.sdps made_sdp in
@@ -126,7 +129,7 @@ offered_tells past e old new kept token goes by offer has id adds restarts pushe
       rows = rows_told true past e old new goes;
       tokens = λ t. rw goes.counter (elim (place t) [
         | inl h ↦ rw h.1 (token_next true past e at _ t _ (untold at t h.0 h.1) goes.mine ((tells.sides at).tokens t))
-        | inr h ↦ rw h.2 (offer_token past e at _ t kept token mine offer found id adds restarts (last t h.2) (unspent t) (tells.later t (omega (arith, said_count, h.0))) (makes_it t ∙ h.1))
+        | inr h ↦ rw h.2 (offer_token past e at _ t kept token mine offer found id adds restarts inits (last t h.2) (unspent t) (tells.later t (omega (arith, said_count, h.0))) (makes_it t ∙ h.1))
       ]);
       counts = let c : (old.sides at).counter ≤ old.size = (tells.sides at).counts in omega (arith, goes.counter, goes.grows);
       one_each = λ t u one other is is'. one_each_offered past at (old.sides at) old.sdps old.size token id (tells.sides at) t u one other (origin t one is) (origin u other is');

@@ -3,7 +3,8 @@ use Rattle.std.proofs.Common.{◌≡◌, ℕ, Bool, true, false, not, ◌&&◌, 
 use Rattle.std.specs.Prelude.{option_map}
 use Rattle.std.specs.List.{AllByRecursion}
 use Rattle.std.specs.Option.{option_or}
-use Rattle.rtc_sdp_values.specs.Sdp.{inconsistency, creds_of, sdp_fingerprint}
+use Rattle.std.specs.Str.{bytes_eq}
+use Rattle.rtc_sdp_values.specs.Sdp.{inconsistency, creds_of, sdp_fingerprint, sdp_sctp_init}
 use Rattle.rtc_sdp_values.specs.declared.fingerprint.Fingerprint.{Fingerprint}
 use Rattle.rtc_sdp_values.specs.declared.ice_creds.IceCreds.{IceCreds}
 use Rattle.rtc_sdp_values.specs.declared.inconsistent.Inconsistent.{Inconsistent}
@@ -13,7 +14,7 @@ use Rattle.rtc_sdp_values.specs.declared.sdp_error.SdpError.{SdpError}
 use Rattle.rtc_sdp_values.specs.declared.sdp_error.SdpError.TheVariants.{Parse, Inconsistent as NotConsistent}
 use Rattle.rtc_tables.specs.declared.parsed_line.ParsedLine.{ParsedLine}
 use Rattle.rtc_tables.specs.declared.why.Why.{Why}
-use Rattle.rtc_tables.specs.declared.why.Why.TheVariants.{BothLite, UnaskedRestart, WrongNewLines}
+use Rattle.rtc_tables.specs.declared.why.Why.TheVariants.{BothLite, UnaskedRestart, SctpInitChanged, WrongNewLines}
 use Rattle.rtc_tables.specs.ParsedLines.{parsed_lines}
 use Rattle.rtc_tables.specs.Verdict.{first_of, first_refusal}
 use Rattle.rtc_change.specs.declared.refusal.Refusal.{Refusal}
@@ -30,6 +31,7 @@ use Rattle.rtc_change.specs.Plans.{
   same_creds,
   unasked_restart,
   no_fingerprint,
+  init_refusal,
   may_restart,
   remote_refusal,
   side_verdict,
@@ -94,6 +96,12 @@ fingerprint_read false None = tt
 fingerprint_read false (Some fingerprint) = tt
 fingerprint_read true told = tt
 
+init_read : (inited : Bool) (kept told : Option (List ℕ)) → IsRead (init_refusal inited kept told)
+init_read true (Some kept) (Some got) = other_read (bytes_eq kept got) (Some (RefusedSdp (SctpInitChanged kept got))) tt
+init_read true (Some kept) None = tt
+init_read true None told = tt
+init_read false kept told = tt
+
 side_read : (held : Held) (may : Bool) (sdp : Sdp) → IsRead (side_verdict held may sdp)
 unfolding side_verdict
 side_read held may sdp =
@@ -111,8 +119,19 @@ side_read held may sdp =
 head_read : (held : Held) (asked : Option Asked) (sdp : Sdp) → IsRead (head_verdict held asked sdp)
 unfolding head_verdict
 head_read held asked sdp =
-    first_read (no_lines asked (parsed_lines sdp) ∷ side_verdict held (may_restart asked) sdp ∷ inconsistent sdp ∷ [])
-    (lines_read asked (parsed_lines sdp), (side_read held (may_restart asked) sdp, (consistent_read (inconsistency sdp), tt)))
+    first_read (
+    no_lines asked (parsed_lines sdp)
+    ∷ side_verdict held (may_restart asked) sdp
+    ∷ init_refusal held.sctp_inited held.sctp_kept (sdp_sctp_init sdp)
+    ∷ inconsistent sdp
+    ∷ []
+    ) (
+      lines_read asked (parsed_lines sdp),
+      (
+        side_read held (may_restart asked) sdp,
+        (init_read held.sctp_inited held.sctp_kept (sdp_sctp_init sdp), (consistent_read (inconsistency sdp), tt)),
+      ),
+    )
 
 verdict_read : (held : Held) (asked : Option Asked) (sdp : Sdp) → IsRead (verdict held asked sdp)
 unfolding verdict
