@@ -1,10 +1,10 @@
 -- What one side got of a channel, the other one sent.
-use Rattle.std.proofs.Common.{◌≡◌, ◌∙◌, ◌++◌, ◌∷◌, ◌&&◌, ◌||◌, if◌then◌else◌, ℕ, Bool, true, false, true≢false, List, [], map, Option, Some, refl, sym, ap, subst}
+use Rattle.std.proofs.Common.{◌≡◌, ◌∙◌, ◌++◌, ◌∷◌, ◌&&◌, ◌||◌, ℕ, Bool, true, false, true≢false, List, [], map, Option, Some, refl, sym, ap, subst}
 use Rattle.rtc_association.specs.AssociationWords.{AssociationMessage, read, written}
 use Rattle.rtc_association.specs.Ppi.{ppi_number, ppi_of}
 use Rattle.rtc_assoc.specs.Unread.{IsPrefix}
 use Rattle.rtc_ids.specs.Draws.{Draws}
-use Rattle.rtc_sctp_laws.specs.StreamMessages.{StreamMessage, AreNamed, IsNamed, is_dcep, is_dcep_message}
+use Rattle.rtc_sctp_laws.specs.StreamMessages.{StreamMessage, HaveNamedPpis, IsNamedPpi, is_dcep, is_dcep_message}
 use Rattle.rtc_stream_uses.specs.StreamUses.{any_dcep, begins_with_dcep, messages_of}
 use Rattle.rtc_stream_contents.specs.Contents.{contents_by, contents_of, numbered_message}
 use Rattle.rtc_stream_contents.proofs.ContentLemmas.{contents-append, named_contents, read_are, written_are}
@@ -25,7 +25,7 @@ first_number x y xs ys h = ap (λ (l : List AssociationMessage). first l) h
     first [] = x.identifier
     first (z ∷ l) = z.identifier
 
-begins_too : (z : StreamMessage) (l ys : List StreamMessage) → IsNamed z.ppi → AreNamed ys
+begins_too : (z : StreamMessage) (l ys : List StreamMessage) → IsNamedPpi z.ppi → HaveNamedPpis ys
     → IsPrefix (map numbered_message (z ∷ l)) (map numbered_message ys) → begins_with_dcep ys ≡ true → is_dcep_message z ≡ true
 begins_too z l [] named others h begun = absurd (true≢false (sym begun))
 begins_too z l (y ∷ ys) named others h begun =
@@ -36,7 +36,7 @@ begins_too z l (y ∷ ys) named others h begun =
 
 -- so that nothing was read before the message that opened the channel
 nothing_before : (before : List StreamMessage) (last : StreamMessage) (rest ws : List StreamMessage)
-    → AreNamed ((before ++ last ∷ []) ++ rest) → AreNamed ws
+    → HaveNamedPpis ((before ++ last ∷ []) ++ rest) → HaveNamedPpis ws
     → IsPrefix (map numbered_message ((before ++ last ∷ []) ++ rest)) (map numbered_message ws) → begins_with_dcep ws ≡ true → any_dcep before ≡ false
     → before ≡ []
 nothing_before [] last rest ws named others h begun none = refl
@@ -72,10 +72,10 @@ module _ {N : Type 0} (draws : Draws N) where
       xs_is : messages_of s g x.read ≡ xs
       xs_is = ap (λ (n : ℕ). messages_of n g x.read) (sym same) ∙ t.read_is
 
-      named_xs : AreNamed xs
-      named_xs = subst AreNamed xs_is (named_kept s g x.read x.told.named_read)
+      named_xs : HaveNamedPpis xs
+      named_xs = subst HaveNamedPpis xs_is (named_kept s g x.read x.told.named_read)
 
-      named_ws : AreNamed ws
+      named_ws : HaveNamedPpis ws
       named_ws = named_kept s g y.written y.told.named_written
 
       read_is : read s g a.association ≡ map numbered_message xs

@@ -1,4 +1,5 @@
 mod WorkedUses
+mod EarlyData
 mod UseLists
 mod RowLemmas
 mod UsesTold
@@ -12,5 +13,8 @@ mod PolledSteps
 mod StepsTold
 mod GotAndSent
 mod AllHanded
-mod DrainedUses
-pub mod RunsTold
+mod QuietActs
+mod HeardSides
+mod DrainedSteps
+mod RunsTold
+pub mod DrainedRuns

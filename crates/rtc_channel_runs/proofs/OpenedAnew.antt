@@ -15,7 +15,7 @@ use Rattle.rtc_polling_laws.specs.ChannelStreams.{AreNumberedChannels}
 use Rattle.rtc_polling_laws.proofs.ChannelsOver.{none_over}
 use Rattle.rtc_channel_laws.proofs.OpenedOnce.{not_again, opened_once}
 use Rattle.rtc_channel_runs.specs.AnnouncedOnce.{AreAnnouncedOnce, AreOthers, IsAnother}
-use Rattle.rtc_channel_runs.specs.ChannelUses.{ChannelUse, announced_use, generation_under, with_got, with_sent}
+use Rattle.rtc_channel_runs.specs.ChannelUses.{ChannelUse, announced_use, generation_under, with_got_message, with_sent_message}
 use Rattle.rtc_channel_runs.proofs.RowLemmas.{closed_stays}
 use Rattle.rtc_channel_runs.proofs.UseLists.{AllUses}
 use Rattle.rtc_channel_runs.proofs.UsesOpened.{opening_placed, settled_out}
@@ -40,7 +40,7 @@ got_another x y l k false true h = h
 got_another x y l k false false h = h
 
 sent_others : (c : ℕ) (message : Bool × List ℕ) (x : ChannelUse) (uses : List ChannelUse) → AreOthers x uses
-    → AreOthers (if x.channel == c then record x { sent = x.sent ++ message ∷ [] } else x) (with_sent c message uses)
+    → AreOthers (if x.channel == c then record x { sent = x.sent ++ message ∷ [] } else x) (with_sent_message c message uses)
 sent_others c message x [] h = tt
 sent_others c message x (y ∷ uses) h = (
   sent_another x y (x.sent ++ message ∷ []) (y.sent ++ message ∷ []) (x.channel == c) (y.channel == c) h.0,
@@ -48,18 +48,18 @@ sent_others c message x (y ∷ uses) h = (
 )
 
 got_others : (c : ℕ) (message : Bool × List ℕ) (x : ChannelUse) (uses : List ChannelUse) → AreOthers x uses
-    → AreOthers (if x.channel == c then record x { got = x.got ++ message ∷ [] } else x) (with_got c message uses)
+    → AreOthers (if x.channel == c then record x { got = x.got ++ message ∷ [] } else x) (with_got_message c message uses)
 got_others c message x [] h = tt
 got_others c message x (y ∷ uses) h = (
   got_another x y (x.got ++ message ∷ []) (y.got ++ message ∷ []) (x.channel == c) (y.channel == c) h.0,
   got_others c message x uses h.1,
 )
 
-pub once_sent : (c : ℕ) (message : Bool × List ℕ) (uses : List ChannelUse) → AreAnnouncedOnce uses → AreAnnouncedOnce (with_sent c message uses)
+pub once_sent : (c : ℕ) (message : Bool × List ℕ) (uses : List ChannelUse) → AreAnnouncedOnce uses → AreAnnouncedOnce (with_sent_message c message uses)
 once_sent c message [] h = tt
 once_sent c message (x ∷ uses) h = (sent_others c message x uses h.0, once_sent c message uses h.1)
 
-pub once_got : (c : ℕ) (message : Bool × List ℕ) (uses : List ChannelUse) → AreAnnouncedOnce uses → AreAnnouncedOnce (with_got c message uses)
+pub once_got : (c : ℕ) (message : Bool × List ℕ) (uses : List ChannelUse) → AreAnnouncedOnce uses → AreAnnouncedOnce (with_got_message c message uses)
 once_got c message [] h = tt
 once_got c message (x ∷ uses) h = (got_others c message x uses h.0, once_got c message uses h.1)
 

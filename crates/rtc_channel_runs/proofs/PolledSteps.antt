@@ -1,9 +1,11 @@
 -- Polls keep what holds of the channels that their side announced.
 use Rattle.std.proofs.Common.{◌≡◌, ◌∷◌, List, [], Option, Some, None, Result, Ok, Err}
-use Rattle.rtc_wire.specs.declared.transmit.Transmit.{Transmit}
 use Rattle.rtc_assoc_state.proofs.PlainLaws.{plain_laws}
 use Rattle.rtc_plain_media.specs.declared.plain_media_event.PlainMediaEvent.{PlainMediaEvent}
 use Rattle.rtc_ids.specs.Draws.{Draws}
+use Rattle.rtc_stream_uses.specs.StreamUses.{messages_of}
+use Rattle.rtc_stream_contents.specs.Contents.{contents_of}
+use Rattle.rtc_stream_contents.proofs.ContentLemmas.{dcep_contents}
 use Rattle.rtc_plain_streams.proofs.PlainGenerations.{plain_generations}
 use Rattle.rtc_plain_streams.proofs.PlainReadings.{plain_named}
 use Rattle.rtc_peer_state.specs.declared.rtc_error.RtcError.{RtcError}
@@ -30,24 +32,25 @@ use Rattle.rtc_joined_runs.specs.SentContents.{contents_sent}
 use Rattle.rtc_joined_runs.proofs.ContentsLemmas.{Shows, shows_none, shows_one}
 use Rattle.rtc_joined_runs.proofs.StepsExchange.{plain_over_laws}
 use Rattle.rtc_channel_runs.specs.ChannelUses.{ChannelUse, uses_shown}
-use Rattle.rtc_channel_runs.specs.UsesOfRuns.{uses_behind, uses_drained, uses_drained_by, uses_drawn, uses_polled}
+use Rattle.rtc_channel_runs.specs.UsesOfRuns.{uses_behind, uses_drained, uses_drained_by, uses_of_drain, uses_polled}
 use Rattle.rtc_channel_runs.proofs.SidesTold.{side_polled, uses_answered}
-use Rattle.rtc_channel_runs.proofs.StandingSides.{Stood, call_stood, same_stood}
+use Rattle.rtc_channel_runs.proofs.StandingSides.{Sent, Stood, call_stood, nothing_sent, same_stood}
 
-module _ {N : Type 0} (draws : Draws N) (at : Side) (b : PeerActs) (q : PlainPolled N) where
+module _ {N : Type 0} (draws : Draws N) (at : Side) (b : PeerActs) (q : PlainPolled N) (sent : Sent) where
   -- polls
   polled_stood : (packets packets' : List SentPacket) (uses : List ChannelUse) (p : PlainPolled N) (answer : Result (Output PlainMediaEvent) RtcError)
       (next : PlainPolled N) → Shows at packets packets' (contents_shown answer) → PollsPeer (plain_over draws) p answer next
-      → Stood draws at packets b q uses p → Stood draws at packets' b q (uses_answered (plain_over draws) answer next uses) next
+      → Stood draws at packets b q uses sent p → Stood draws at packets' b q (uses_answered (plain_over draws) answer next uses) sent next
   polled_stood packets packets' uses p answer next shows h stood =
       let acts = poll_acts (plain_over draws) (plain_over_laws draws) p answer next h in
       call_stood draws at packets packets' b q p next nothing_came (p.core.greatest ∷ []) (contents_shown answer) acts.wrote acts.heard uses
-      (uses_answered (plain_over draws) answer next uses) (none_carries (contents_sent (other_side at) packets)) shows acts.did stood
+      (uses_answered (plain_over draws) answer next uses) sent sent (none_carries (contents_sent (other_side at) packets)) shows acts.did
+      (λ s g. nothing_sent (sent s g) (contents_of (messages_of s g acts.wrote)) (dcep_contents s g acts.wrote acts.dcep)) stood
       (side_polled (plain_over draws) plain_laws plain_generations plain_named p answer next h acts uses stood.side.written stood.side.read stood.side.told)
 
-  shown_stood : (packets : List SentPacket) (shown : Shown PlainMediaEvent) (packets' : List SentPacket) (uses : List ChannelUse) (p next : PlainPolled N)
-      → PollsShown (plain_over draws) at p packets shown next packets' → Stood draws at packets b q uses p
-      → Stood draws at packets' b q (uses_shown (plain_over draws) shown next uses) next
+  pub shown_stood : (packets : List SentPacket) (shown : Shown PlainMediaEvent) (packets' : List SentPacket) (uses : List ChannelUse) (p next : PlainPolled N)
+      → PollsShown (plain_over draws) at p packets shown next packets' → Stood draws at packets b q uses sent p
+      → Stood draws at packets' b q (uses_shown (plain_over draws) shown next uses) sent next
   shown_stood packets (Timeout moment reason) packets' uses p next h stood =
       polled_stood packets packets' uses p (Ok (polled.Timeout moment)) next (shows_none at packets packets' h.2) h.0 stood
   shown_stood packets (Packet number len) packets' uses p next h stood =
@@ -56,24 +59,24 @@ module _ {N : Type 0} (draws : Draws N) (at : Side) (b : PeerActs) (q : PlainPol
       polled_stood packets packets' uses p (Ok (polled.Event event)) next (shows_none at packets packets' h.1) h.0 stood
 
   refused_stood : (packets packets' : List SentPacket) (uses : List ChannelUse) (p : PlainPolled N) (error : RtcError) (next : PlainPolled N)
-      → packets' ≡ packets → PollsPeer (plain_over draws) p (Err error) next → Stood draws at packets b q uses p → Stood draws at packets' b q uses next
+      → packets' ≡ packets → PollsPeer (plain_over draws) p (Err error) next → Stood draws at packets b q uses sent p → Stood draws at packets' b q uses sent next
   refused_stood packets packets' uses p error next kept h stood =
       polled_stood packets packets' uses p (Err error) next (shows_none at packets packets' kept) h stood
 
   once_stood : (p : PlainPolled N) (packets : List SentPacket) (outputs : List (Shown PlainMediaEvent)) (end : PollEnd) (next : PlainPolled N)
       (packets' : List SentPacket) (uses : List ChannelUse) → PollsOnce (plain_over draws) at p packets outputs end next packets'
-      → Stood draws at packets b q uses p → Stood draws at packets' b q (uses_polled (plain_over draws) outputs next uses) next
+      → Stood draws at packets b q uses sent p → Stood draws at packets' b q (uses_polled (plain_over draws) outputs next uses) sent next
   once_stood p packets (shown ∷ []) Ended next packets' uses h stood = shown_stood packets shown packets' uses p next h stood
   once_stood p packets [] (EndRefused error) next packets' uses h stood = refused_stood packets packets' uses p error next h.1 h.0 stood
   once_stood p packets outputs end next packets' uses h stood = absurd h
 
   drains_on_stood : (p : PlainPolled N) (packets : List SentPacket) (outputs : List (Shown PlainMediaEvent)) (end : PollEnd) (next : PlainPolled N)
       (packets' : List SentPacket) (uses : List ChannelUse) (h : DrainsOn (plain_over draws) at p packets outputs end next packets')
-      → Stood draws at packets b q uses p
-      → Stood draws at packets' b q (uses_drained (plain_over draws) at p packets outputs end next packets' h uses) next
+      → Stood draws at packets b q uses sent p
+      → Stood draws at packets' b q (uses_drained (plain_over draws) at p packets outputs end next packets' h uses) sent next
   drains_on_stood p packets [] Ended next packets' uses h stood = absurd h
   drains_on_stood p packets [] (EndRefused error) next packets' uses h stood = refused_stood packets packets' uses p error next h.1 h.0 stood
-  drains_on_stood p packets [] NoRoom next packets' uses h stood = same_stood draws at packets packets' b q p next uses h.0 h.1 stood
+  drains_on_stood p packets [] NoRoom next packets' uses h stood = same_stood draws at packets packets' b q sent p next uses h.0 h.1 stood
   drains_on_stood p packets (Timeout moment reason ∷ []) Ended next packets' uses h stood =
       shown_stood packets (Timeout moment reason) packets' uses p next h stood
   drains_on_stood p packets (Timeout moment reason ∷ outputs) end next packets' uses h stood = absurd h
@@ -85,8 +88,8 @@ module _ {N : Type 0} (draws : Draws N) (at : Side) (b : PeerActs) (q : PlainPol
 
   drawn_stood : (p : PlainPolled N) (packets : List SentPacket) (outputs : List (Shown PlainMediaEvent)) (end : PollEnd) (next : PlainPolled N)
       (packets' : List SentPacket) (uses : List ChannelUse) (h : DrainsPeer (plain_over draws) at p packets outputs end next packets')
-      → Stood draws at packets b q uses p
-      → Stood draws at packets' b q (uses_drawn (plain_over draws) at p packets outputs end next packets' h uses) next
+      → Stood draws at packets b q uses sent p
+      → Stood draws at packets' b q (uses_of_drain (plain_over draws) at p packets outputs end next packets' h uses) sent next
   drawn_stood p packets [] NoRoom next packets' uses h stood = absurd h
   drawn_stood p packets [] Ended next packets' uses h stood = drains_on_stood p packets [] Ended next packets' uses h stood
   drawn_stood p packets [] (EndRefused error) next packets' uses h stood = drains_on_stood p packets [] (EndRefused error) next packets' uses h stood
@@ -94,18 +97,18 @@ module _ {N : Type 0} (draws : Draws N) (at : Side) (b : PeerActs) (q : PlainPol
 
   pub poll_step_stood : (old : PlainPolled N) (packets : List SentPacket) (outcome : Outcome PlainMediaEvent) (table : Option Table) (new : PlainPolled N)
       (packets' : List SentPacket) (uses : List ChannelUse)
-      → StepPollsPeer (plain_over draws) (PollsOnce (plain_over draws) at old) old packets outcome table new packets' → Stood draws at packets b q uses old
-      → Stood draws at packets' b q (uses_behind (plain_over draws) outcome new uses) new
-  poll_step_stood old packets Alloc None new packets' uses h stood = same_stood draws at packets packets' b q old new uses h.0 h.1 stood
+      → StepPollsPeer (plain_over draws) (PollsOnce (plain_over draws) at old) old packets outcome table new packets' → Stood draws at packets b q uses sent old
+      → Stood draws at packets' b q (uses_behind (plain_over draws) outcome new uses) sent new
+  poll_step_stood old packets Alloc None new packets' uses h stood = same_stood draws at packets packets' b q sent old new uses h.0 h.1 stood
   poll_step_stood old packets (Polled outputs end) (Some table) new packets' uses h stood = once_stood old packets outputs end new packets' uses h.0 stood
   poll_step_stood old packets outcome table new packets' uses h stood = absurd h
 
   pub drain_step_stood : (old : PlainPolled N) (packets : List SentPacket) (outcome : Outcome PlainMediaEvent) (table : Option Table) (new : PlainPolled N)
       (packets' : List SentPacket) (uses : List ChannelUse)
       (h : StepPollsPeer (plain_over draws) (DrainsPeer (plain_over draws) at old) old packets outcome table new packets')
-      → Stood draws at packets b q uses old
-      → Stood draws at packets' b q (uses_drained_by (plain_over draws) at old packets outcome table new packets' h uses) new
-  drain_step_stood old packets Alloc None new packets' uses h stood = same_stood draws at packets packets' b q old new uses h.0 h.1 stood
+      → Stood draws at packets b q uses sent old
+      → Stood draws at packets' b q (uses_drained_by (plain_over draws) at old packets outcome table new packets' h uses) sent new
+  drain_step_stood old packets Alloc None new packets' uses h stood = same_stood draws at packets packets' b q sent old new uses h.0 h.1 stood
   drain_step_stood old packets (Polled outputs end) (Some table) new packets' uses h stood =
       drawn_stood old packets outputs end new packets' uses h.0 stood
   drain_step_stood old packets outcome table new packets' uses h stood = absurd h

@@ -1,6 +1,5 @@
 -- Runs keep what holds of the channels that both sides announced, and what one channel hands out was sent over the other.
-use Rattle.std.proofs.Common.{◌≡◌, ◌∙◌, ◌∷◌, if◌then◌else◌, ℕ, Bool, List, [], inr, sym, ap, subst}
-use Rattle.rtc_association.specs.AssociationWords.{read, written}
+use Rattle.std.proofs.Common.{◌≡◌, ◌∙◌, ◌∷◌, if◌then◌else◌, ℕ, Bool, List, [], Some, inr, refl, sym, ap, subst}
 use Rattle.rtc_assoc_state.specs.Contents.{Contents}
 use Rattle.rtc_assoc_state.specs.PlainMeaning.{plain_meaning}
 use Rattle.rtc_plain_dtls.specs.Contents.{DtlsContents}
@@ -10,7 +9,8 @@ use Rattle.rtc_plain_media.specs.declared.plain_media_event.PlainMediaEvent.{Pla
 use Rattle.rtc_ids.specs.Draws.{Draws}
 use Rattle.rtc_sctp_entries.specs.declared.stream_entry.StreamEntry.{StreamEntry}
 use Rattle.rtc_sctp.specs.Streams.{SctpStreams}
-use Rattle.rtc_stream_uses.specs.StreamUses.{IsUsed}
+use Rattle.rtc_stream_uses.specs.StreamUses.{IsUsed, messages_of}
+use Rattle.rtc_stream_contents.specs.Contents.{contents_of}
 use Rattle.rtc_channels.specs.Channels.{Channels, no_channels}
 use Rattle.rtc_peer_state.specs.declared.peer.Peer.{Peer}
 use Rattle.rtc_polling_laws.specs.ChannelStreams.{AreNumberedChannels}
@@ -19,73 +19,77 @@ use Rattle.rtc_channel_laws.proofs.OpenedOnce.{restarted}
 use Rattle.rtc_joined_peers.specs.Exchanging.{PeersExchange, parts_past}
 use Rattle.rtc_joined_peers.specs.JoinedPeers.{packet_parts}
 use Rattle.rtc_joined_peers.proofs.JoinedLemmas.{unused_joined}
-use Rattle.rtc_history.specs.declared.reply.Reply.{Reply}
-use Rattle.rtc_history.specs.declared.step.Step.{Step}
 use Rattle.rtc_history.specs.declared.side.Side.{Side}
 use Rattle.rtc_history.specs.declared.side.Side.TheVariants.{Left, Right}
 use Rattle.rtc_history.specs.PairState.{rtc_at}
 use Rattle.rtc_history.specs.Past.{Entry}
-use Rattle.rtc_history.specs.Runs.{Reached, Runs}
+use Rattle.rtc_history.specs.Runs.{Reached}
 use Rattle.rtc_history.specs.Sides.{other_side, same_side, side_of}
 use Rattle.rtc_joined_runs.specs.NewPairs.{IsNewPair, IsNewPeer}
 use Rattle.rtc_joined_runs.specs.PlainPairs.{PairActs, PairExchanges, PlainPair, PlainPolled, plain_over}
 use Rattle.rtc_joined_runs.specs.SentContents.{contents_sent}
 use Rattle.rtc_joined_runs.proofs.NewPeers.{new_built, nothing_sent}
-use Rattle.rtc_joined_runs.proofs.RunsExchange.{side_all, side_reads, went_reached}
+use Rattle.rtc_joined_runs.proofs.RunsExchange.{side_all, side_reads}
 use Rattle.rtc_channel_runs.specs.AnnouncedOnce.{AreAnnouncedOnce}
 use Rattle.rtc_channel_runs.specs.ChannelUses.{ChannelUse}
-use Rattle.rtc_channel_runs.specs.HandedOut.{AreHandedOut, AreWhollyHandedOut, HandsOut}
+use Rattle.rtc_channel_runs.specs.HandedOut.{AreHandedOut, AreSentWhole, AreWhollyHandedOut}
+use Rattle.rtc_channel_runs.specs.SentMessages.{sent_acted, sent_over}
 use Rattle.rtc_channel_runs.specs.UsesOfRuns.{uses_acted, uses_of}
 use Rattle.rtc_channel_runs.proofs.AllHanded.{all_handed}
 use Rattle.rtc_channel_runs.proofs.GotAndSent.{handed}
 use Rattle.rtc_channel_runs.proofs.SidesTold.{SideTold}
-use Rattle.rtc_channel_runs.proofs.StandingSides.{SideStood, Stood}
+use Rattle.rtc_channel_runs.proofs.UseLists.{all_member}
+use Rattle.rtc_channel_runs.proofs.UsesTold.{InBandTold}
+use Rattle.rtc_channel_runs.proofs.StandingSides.{Sent, SideSent, Stood}
 use Rattle.rtc_channel_runs.proofs.StepsTold.{acts_stood}
 
 module _ {N : Type 0} (draws : Draws N) where
   -- what holds of both sides of a pair
-  pub record PairTold (pair : PlainPair N) (uses : Side → List ChannelUse) : Type 0 where
+  pub record PairTold (pair : PlainPair N) (uses : Side → List ChannelUse) (sent : Side → Sent) : Type 0 where
     pub acts : PairActs
     pub exchange : PairExchanges acts pair
-    pub left : SideStood draws acts.left (uses Left) pair.left
-    pub right : SideStood draws acts.right (uses Right) pair.right
+    pub left : SideSent draws acts.left (uses Left) (sent Left) pair.left
+    pub right : SideSent draws acts.right (uses Right) (sent Right) pair.right
 
   -- the same as the side sees it that acts
-  record StoodIn (at : Side) (pair : PlainPair N) (uses : Side → List ChannelUse) : Type 0 where
+  pub record StoodIn (at : Side) (pair : PlainPair N) (uses : Side → List ChannelUse) (sent : Side → Sent) : Type 0 where
     pub other : PeerActs
-    pub stood : Stood draws at pair.packets other (rtc_at (other_side at) pair) (uses at) (rtc_at at pair)
-    pub rest : SideStood draws other (uses (other_side at)) (rtc_at (other_side at) pair)
+    pub stood : Stood draws at pair.packets other (rtc_at (other_side at) pair) (uses at) (sent at) (rtc_at at pair)
+    pub rest : SideSent draws other (uses (other_side at)) (sent (other_side at)) (rtc_at (other_side at) pair)
 
-  stood_in : (at : Side) (pair : PlainPair N) (uses : Side → List ChannelUse) → PairTold pair uses → StoodIn at pair uses
-  stood_in Left pair uses h = record {
+  pub stood_in : (at : Side) (pair : PlainPair N) (uses : Side → List ChannelUse) (sent : Side → Sent) → PairTold pair uses sent
+      → StoodIn at pair uses sent
+  stood_in Left pair uses sent h = record {
     other = h.acts.right;
-    stood = record { acts = h.acts.left; exchange = h.exchange; side = h.left };
+    stood = record { acts = h.acts.left; exchange = h.exchange; side = h.left.side; sent_is = h.left.sent_is };
     rest = h.right;
   }
-  stood_in Right pair uses h = record {
+  stood_in Right pair uses sent h = record {
     other = h.acts.left;
-    stood = record { acts = h.acts.right; exchange = h.exchange; side = h.right };
+    stood = record { acts = h.acts.right; exchange = h.exchange; side = h.right.side; sent_is = h.right.sent_is };
     rest = h.left;
   }
 
   told_after : (at : Side) (pair : PlainPair N) (other : PeerActs) (q : PlainPolled N) → rtc_at (other_side at) pair ≡ q → (uses : Side → List ChannelUse)
-      (acted : List ChannelUse → List ChannelUse) → Stood draws at pair.packets other q (acted (uses at)) (rtc_at at pair)
-      → SideStood draws other (uses (other_side at)) q → PairTold pair (λ x. if same_side at x then acted (uses x) else uses x)
-  told_after Left pair other q same uses acted stood rest = record {
+      (acted : List ChannelUse → List ChannelUse) (sent : Side → Sent) (sends : ℕ → ℕ → List (Bool × List ℕ) → List (Bool × List ℕ))
+      → Stood draws at pair.packets other q (acted (uses at)) (λ s g. sends s g (sent at s g)) (rtc_at at pair)
+      → SideSent draws other (uses (other_side at)) (sent (other_side at)) q
+      → PairTold pair (λ x. if same_side at x then acted (uses x) else uses x) (λ x s g. if same_side at x then sends s g (sent x s g) else sent x s g)
+  told_after Left pair other q same uses acted sent sends stood rest = record {
     acts = record { left = stood.acts; right = other };
     exchange =
         subst (λ (x : PlainPolled N). PeersExchange stood.acts (contents_sent Left pair.packets) pair.left other (contents_sent Right pair.packets) x) (sym same)
         stood.exchange;
-    left = stood.side;
-    right = subst (λ (x : PlainPolled N). SideStood draws other (uses Right) x) (sym same) rest;
+    left = record { side = stood.side; sent_is = stood.sent_is };
+    right = subst (λ (x : PlainPolled N). SideSent draws other (uses Right) (sent Right) x) (sym same) rest;
   }
-  told_after Right pair other q same uses acted stood rest = record {
+  told_after Right pair other q same uses acted sent sends stood rest = record {
     acts = record { left = other; right = stood.acts };
     exchange =
         subst (λ (x : PlainPolled N). PeersExchange other (contents_sent Left pair.packets) x stood.acts (contents_sent Right pair.packets) pair.right) (sym same)
         stood.exchange;
-    left = subst (λ (x : PlainPolled N). SideStood draws other (uses Left) x) (sym same) rest;
-    right = stood.side;
+    left = subst (λ (x : PlainPolled N). SideSent draws other (uses Left) (sent Left) x) (sym same) rest;
+    right = record { side = stood.side; sent_is = stood.sent_is };
   }
 
   -- a new pair
@@ -110,7 +114,7 @@ module _ {N : Type 0} (draws : Draws N) where
         once = tt;
       }
 
-  pub new_pair_told : (pair : PlainPair N) → IsNewPair draws pair → PairTold pair (λ at. [])
+  pub new_pair_told : (pair : PlainPair N) → IsNewPair draws pair → PairTold pair (λ at. []) (λ at s g. [])
   new_pair_told pair h =
       let a = new_built draws pair.left h.left in
       let b = new_built draws pair.right h.right in
@@ -121,15 +125,22 @@ module _ {N : Type 0} (draws : Draws N) where
           left = nothing_sent draws Left pair.packets a.acts pair.left h.packets a.shown;
           right = nothing_sent draws Right pair.packets b.acts pair.right h.packets b.shown;
         };
-        left = record { written = []; read = []; wrote_is = a.wrote_none; read_is = a.read_none; told = new_told pair.left h.left; went = a.unused.association };
-        right = record { written = []; read = []; wrote_is = b.wrote_none; read_is = b.read_none; told = new_told pair.right h.right; went = b.unused.association };
+        left = record {
+          side = record { written = []; read = []; wrote_is = a.wrote_none; read_is = a.read_none; told = new_told pair.left h.left; went = a.unused.association };
+          sent_is = λ s g. refl;
+        };
+        right = record {
+          side = record { written = []; read = []; wrote_is = b.wrote_none; read_is = b.read_none; told = new_told pair.right h.right; went = b.unused.association };
+          sent_is = λ s g. refl;
+        };
       }
 
   -- steps
   module _ (stun : List ℕ → Bool) (start : PlainPair N) where
     pub reached_told : (past : List (Entry PlainMediaEvent)) (pair : PlainPair N) (ran : Reached (plain_over draws) stun start past pair)
-        → PairTold start (λ at. []) → PairTold pair (λ at. uses_of (plain_over draws) stun start at past pair ran)
-    reached_told [] pair ran h = subst (λ (x : PlainPair N). PairTold x (λ at. [])) (sym ran) h
+        → PairTold start (λ at. []) (λ at s g. [])
+        → PairTold pair (λ at. uses_of (plain_over draws) stun start at past pair ran) (λ at. sent_over (plain_over draws) stun start at past pair ran)
+    reached_told [] pair ran h = subst (λ (x : PlainPair N). PairTold x (λ at. []) (λ at s g. [])) (sym ran) h
     reached_told (entry ∷ past) pair ran h = by (reached_told past ran.0 ran.1 h)
       where
         at : Side
@@ -138,54 +149,62 @@ module _ {N : Type 0} (draws : Draws N) where
         uses : Side → List ChannelUse
         uses x = uses_of (plain_over draws) stun start x past ran.0 ran.1
 
+        sent : Side → Sent
+        sent x = sent_over (plain_over draws) stun start x past ran.0 ran.1
+
         acted : List ChannelUse → List ChannelUse
         acted l =
             uses_acted (plain_over draws) stun entry.step (rtc_at (side_of entry.step) ran.0) ran.0.sdps ran.0.packets entry.outcome entry.table
             (rtc_at (side_of entry.step) pair) pair.sdps pair.packets ran.2.performs.acts l
 
-        by : PairTold ran.0 uses → PairTold pair (λ x. if same_side (side_of entry.step) x then acted (uses x) else uses x)
+        sends : ℕ → ℕ → List (Bool × List ℕ) → List (Bool × List ℕ)
+        sends s g l = sent_acted (plain_over draws) entry.step entry.outcome (rtc_at (side_of entry.step) ran.0) s g l
+
+        by : PairTold ran.0 uses sent
+            → PairTold pair (λ x. if same_side (side_of entry.step) x then acted (uses x) else uses x)
+            (λ x s g. if same_side (side_of entry.step) x then sends s g (sent x s g) else sent x s g)
         by told =
-            let before : StoodIn (side_of entry.step) ran.0 uses = stood_in (side_of entry.step) ran.0 uses told in
-            told_after (side_of entry.step) pair before.other (rtc_at (other_side (side_of entry.step)) ran.0) ran.2.performs.other uses acted
+            let before : StoodIn (side_of entry.step) ran.0 uses sent = stood_in (side_of entry.step) ran.0 uses sent told in
+            told_after (side_of entry.step) pair before.other (rtc_at (other_side (side_of entry.step)) ran.0) ran.2.performs.other uses acted sent sends
             (acts_stood draws before.other (rtc_at (other_side (side_of entry.step)) ran.0) stun entry.step (rtc_at (side_of entry.step) ran.0) ran.0.sdps
             ran.0.packets entry.outcome entry.table (rtc_at (side_of entry.step) pair) pair.sdps pair.packets (uses (side_of entry.step))
-            ran.2.performs.acts before.stood)
+            (sent (side_of entry.step)) ran.2.performs.acts before.stood)
             before.rest
 
 module _ {N : Type 0} (draws : Draws N) where
-  pub pair_handed : (pair : PlainPair N) (uses : Side → List ChannelUse) (at : Side) → PairTold draws pair uses → AreHandedOut (uses at) (uses (other_side at))
-  pair_handed pair uses Left h =
-      handed draws h.acts.left h.acts.right (uses Left) (uses Right) pair.left pair.right h.left h.right
+  pub pair_handed : (pair : PlainPair N) (uses : Side → List ChannelUse) (sent : Side → Sent) (at : Side) → PairTold draws pair uses sent → AreHandedOut (uses at) (uses (other_side at))
+  pair_handed pair uses sent Left h =
+      handed draws h.acts.left h.acts.right (uses Left) (uses Right) pair.left pair.right h.left.side h.right.side
       (λ s g. side_reads h.acts pair Right s g h.exchange)
-  pair_handed pair uses Right h =
-      handed draws h.acts.right h.acts.left (uses Right) (uses Left) pair.right pair.left h.right h.left
+  pair_handed pair uses sent Right h =
+      handed draws h.acts.right h.acts.left (uses Right) (uses Left) pair.right pair.left h.right.side h.left.side
       (λ s g. side_reads h.acts pair Left s g h.exchange)
 
-  pub pair_once : (pair : PlainPair N) (uses : Side → List ChannelUse) (at : Side) → PairTold draws pair uses → AreAnnouncedOnce (uses at)
-  pair_once pair uses Left h = h.left.told.once
-  pair_once pair uses Right h = h.right.told.once
+  pub pair_once : (pair : PlainPair N) (uses : Side → List ChannelUse) (sent : Side → Sent) (at : Side) → PairTold draws pair uses sent → AreAnnouncedOnce (uses at)
+  pair_once pair uses sent Left h = h.left.side.told.once
+  pair_once pair uses sent Right h = h.right.side.told.once
 
-  pub pair_wholly : (pair : PlainPair N) (uses : Side → List ChannelUse) (at : Side) → PairTold draws pair uses
+  pub pair_wholly : (pair : PlainPair N) (uses : Side → List ChannelUse) (sent : Side → Sent) (at : Side) → PairTold draws pair uses sent
       → AreWhollyHandedOut draws (uses at) (rtc_at at pair) (uses (other_side at)) (rtc_at (other_side at) pair)
-  pair_wholly pair uses Left h = λ x y mine theirs joined acknowledged heard.
-      all_handed draws h.acts.left h.acts.right (uses Left) (uses Right) pair.left pair.right h.left h.right x y joined mine theirs
+  pair_wholly pair uses sent Left h = λ x y mine theirs joined acknowledged heard.
+      all_handed draws h.acts.left h.acts.right (uses Left) (uses Right) pair.left pair.right h.left.side h.right.side x y joined mine theirs
       (λ here there none. side_all h.acts pair Right joined.reader.stream x.generation h.exchange here there none) acknowledged heard
-  pair_wholly pair uses Right h = λ x y mine theirs joined acknowledged heard.
-      all_handed draws h.acts.right h.acts.left (uses Right) (uses Left) pair.right pair.left h.right h.left x y joined mine theirs
+  pair_wholly pair uses sent Right h = λ x y mine theirs joined acknowledged heard.
+      all_handed draws h.acts.right h.acts.left (uses Right) (uses Left) pair.right pair.left h.right.side h.left.side x y joined mine theirs
       (λ here there none. side_all h.acts pair Left joined.reader.stream x.generation h.exchange here there none) acknowledged heard
 
-  pub run_hands_out : (stun : List ℕ → Bool) (start pair : PlainPair N) (steps : List Step) (replies : List (Reply PlainMediaEvent)) → IsNewPair draws start
-      → Runs (plain_over draws) stun start steps replies pair → HandsOut draws stun start steps replies pair
-  run_hands_out stun start pair steps replies new run =
-      let ran : Reached (plain_over draws) stun start run.past pair = went_reached draws stun start run.past pair run.went in
-      let told : PairTold draws pair (λ x. uses_of (plain_over draws) stun start x run.past pair ran) =
-      reached_told draws stun start run.past pair ran (new_pair_told draws start new) in
-      record {
-        past = run.past;
-        steps_are = run.steps_are;
-        replies_are = run.replies_are;
-        ran = ran;
-        once = λ at. pair_once pair (λ x. uses_of (plain_over draws) stun start x run.past pair ran) at told;
-        handed = λ at. pair_handed pair (λ x. uses_of (plain_over draws) stun start x run.past pair ran) at told;
-        all = λ at. pair_wholly pair (λ x. uses_of (plain_over draws) stun start x run.past pair ran) at told;
-      }
+  -- what was sent over a channel is all that the side ever sent to the generation
+  side_whole : (acts : PeerActs) (uses : List ChannelUse) (sent : Sent) (p : PlainPolled N) → SideSent draws acts uses sent p → AreSentWhole uses sent
+  side_whole acts uses sent p h = λ x mine band s of.
+      let t = all_member (InBandTold (plain_over draws) h.side.written h.side.read p) uses x h.side.told.each mine band in
+      sym (h.sent_is s x.generation)
+      ∙ ap (λ (n : ℕ). contents_of (messages_of n x.generation h.side.written)) (some_is s t.stream (sym of ∙ t.stream_is))
+      ∙ t.sent_is
+    where
+      some_is : (n k : ℕ) → Some n ≡ Some k → n ≡ k
+      some_is n k e = cc
+
+  pub pair_whole : (pair : PlainPair N) (uses : Side → List ChannelUse) (sent : Side → Sent) (at : Side) → PairTold draws pair uses sent
+      → AreSentWhole (uses at) (sent at)
+  pair_whole pair uses sent Left h = side_whole h.acts.left (uses Left) (sent Left) pair.left h.left
+  pair_whole pair uses sent Right h = side_whole h.acts.right (uses Right) (sent Right) pair.right h.right

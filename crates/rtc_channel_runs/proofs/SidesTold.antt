@@ -2,7 +2,7 @@
 use Rattle.std.proofs.Common.{◌≡◌, ◌++◌, ◌∷◌, ℕ, Bool, true, List, [], append-nil, Some, Result, Ok, Err, inl, inr, refl, sym, subst}
 use Rattle.rtc_association.specs.AssociationLaws.{AssociationLaws}
 use Rattle.rtc_sctp.specs.Calls.{is_nil, written_ppi}
-use Rattle.rtc_sctp_laws.specs.StreamMessages.{StreamMessage, AreNamed, NamesReadings, stream_message}
+use Rattle.rtc_sctp_laws.specs.StreamMessages.{StreamMessage, HaveNamedPpis, NamesReadings, stream_message}
 use Rattle.rtc_stream_uses.specs.GenerationLaws.{GenerationLaws}
 use Rattle.rtc_stream_contents.proofs.ContentLemmas.{dcep_are_named}
 use Rattle.rtc_peer_state.specs.declared.phase.Phase.TheVariants.{Closed}
@@ -10,7 +10,6 @@ use Rattle.rtc_peer_state.specs.declared.rtc_error.RtcError.{RtcError}
 use Rattle.rtc_peer_state.specs.declared.rtc_error.RtcError.TheVariants.{Alloc}
 use Rattle.rtc_peer_state.specs.Meanings.{Meanings}
 use Rattle.rtc_polling.specs.ChannelCalls.{WritesChannel, stream_under}
-use Rattle.rtc_polling.specs.declared.event.Event.{Event}
 use Rattle.rtc_polling.specs.declared.event.Event.TheVariants.{ChannelOpen, ChannelData}
 use Rattle.rtc_polling.specs.declared.output.Output.{Output}
 use Rattle.rtc_polling.specs.declared.output.Output.TheVariants as outputs
@@ -22,7 +21,7 @@ use Rattle.rtc_polling_laws.specs.ChannelStreams.{AreNumberedChannels, IsUsedStr
 use Rattle.rtc_polling_laws.specs.PeerActs.{Came}
 use Rattle.rtc_channel_laws.specs.KeptChannels.{CallKeepsStreams}
 use Rattle.rtc_channel_runs.specs.AnnouncedOnce.{AreAnnouncedOnce, IsAnother}
-use Rattle.rtc_channel_runs.specs.ChannelUses.{ChannelUse, announced_use, uses_told, with_sent}
+use Rattle.rtc_channel_runs.specs.ChannelUses.{ChannelUse, announced_use, uses_told, with_sent_message}
 use Rattle.rtc_channel_runs.proofs.OpenedAnew.{once_got, once_more, once_sent, opening_other}
 use Rattle.rtc_channel_runs.proofs.RowLemmas.{closed_stays}
 use Rattle.rtc_channel_runs.proofs.UseLists.{AllUses, all_got, all_kept, all_more, all_sent, named_join}
@@ -34,8 +33,8 @@ module _ {I D S M E X T W N : Type 0} (m : Meanings I D S M E X T W N) where
   pub record SideTold (uses : List ChannelUse) (written read : List StreamMessage) (p : PolledPeer I D S M N) : Type 0 where
     pub used : UsedUnlessClosed m written read p
     pub numbers : AreNumberedChannels p.core.channels
-    pub named_written : AreNamed written
-    pub named_read : AreNamed read
+    pub named_written : HaveNamedPpis written
+    pub named_read : HaveNamedPpis read
     pub each : AllUses (InBandTold m written read p) uses
     pub once : AreAnnouncedOnce uses
 
@@ -73,8 +72,8 @@ module _ {I D S M E X T W N : Type 0} (m : Meanings I D S M E X T W N) where
         (shown : List (List ℕ)) (p q : PolledPeer I D S M N) (uses : List ChannelUse) (written read : List StreamMessage)
         → stream_under id p.core.channels ≡ Some stream → (p.core.phase ≡ Closed → ⊥) → WritesChannel m stream binary bytes p (Ok true) q
         → wrote ≡ stream_message stream (m.association.generation p.core.sctp.association stream) (written_ppi binary (is_nil bytes)) bytes ∷ []
-        → AreNamed wrote → PeerDid m came moments shown wrote [] p q → CallKeepsStreams m p wrote q → SideTold uses written read p
-        → SideTold (with_sent id (binary, bytes) uses) (written ++ wrote) (read ++ []) q
+        → HaveNamedPpis wrote → PeerDid m came moments shown wrote [] p q → CallKeepsStreams m p wrote q → SideTold uses written read p
+        → SideTold (with_sent_message id (binary, bytes) uses) (written ++ wrote) (read ++ []) q
     side_wrote stream id binary bytes wrote came moments shown p q uses written read placed free writes is named did keeps h = record {
       used = used_called p q written read wrote keeps h.used;
       numbers = keeps.numbers h.numbers;

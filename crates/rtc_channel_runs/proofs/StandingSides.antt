@@ -1,5 +1,5 @@
 -- The side of a pair that acts: what was done to it, its exchange with the other one, and what holds of the channels that it announced.
-use Rattle.std.proofs.Common.{◌≡◌, ◌∙◌, ◌++◌, ℕ, List, [], map, sym, subst, ap}
+use Rattle.std.proofs.Common.{◌≡◌, ◌∙◌, ◌++◌, ℕ, Bool, List, [], append-nil, map, sym, subst, ap}
 use Rattle.std.proofs.lemmas.List.{map-append}
 use Rattle.rtc_association.specs.AssociationActs.{AssociationAct, Moved, moved-append}
 use Rattle.rtc_assoc_state.proofs.PlainLaws.{plain_laws}
@@ -7,6 +7,10 @@ use Rattle.rtc_assoc_state.specs.Contents.{fresh_contents}
 use Rattle.rtc_assoc_state.specs.PlainMeaning.{plain_meaning}
 use Rattle.rtc_ids.specs.Draws.{Draws}
 use Rattle.rtc_sctp_laws.specs.StreamMessages.{StreamMessage, read_act, reads_of, write_act, writes_of}
+use Rattle.rtc_stream_uses.specs.StreamUses.{messages_of}
+use Rattle.rtc_stream_uses.proofs.GenerationMessages.{messages-append}
+use Rattle.rtc_stream_contents.specs.Contents.{contents_of}
+use Rattle.rtc_stream_contents.proofs.ContentLemmas.{contents-append}
 use Rattle.rtc_plain_streams.proofs.PlainGenerations.{plain_generations}
 use Rattle.rtc_polling_laws.specs.Acts.{PeerDid}
 use Rattle.rtc_polling_laws.specs.PeerActs.{Came, PeerActs, acts_with}
@@ -33,6 +37,13 @@ acts_join act all first more xs ys is h k =
     ∙ ap (λ (l : List AssociationAct). map act xs ++ l) k
     ∙ sym (map-append act xs ys)
 
+-- messages, each with whether it is binary, by stream and generation
+abbrev pub Sent : Type 0
+Sent = ℕ → ℕ → List (Bool × List ℕ)
+
+pub nothing_sent : (sent more : List (Bool × List ℕ)) → more ≡ [] → sent ++ more ≡ sent
+nothing_sent sent more none = ap (λ (l : List (Bool × List ℕ)). sent ++ l) none ∙ append-nil sent
+
 module _ {N : Type 0} (draws : Draws N) where
   -- these acts were done to the side: the messages that they wrote and read, and what holds by them
   pub record SideStood (acts : PeerActs) (uses : List ChannelUse) (p : PlainPolled N) : Type 0 where
@@ -43,10 +54,17 @@ module _ {N : Type 0} (draws : Draws N) where
     pub told : SideTold (plain_over draws) uses written read p
     pub went : Moved plain_meaning fresh_contents acts.association p.core.sctp.association
 
-  pub record Stood (at : Side) (packets : List SentPacket) (b : PeerActs) (q : PlainPolled N) (uses : List ChannelUse) (p : PlainPolled N) : Type 0 where
+  -- the same with the messages that were sent to each generation of each stream, over whatever channel
+  pub record SideSent (acts : PeerActs) (uses : List ChannelUse) (sent : Sent) (p : PlainPolled N) : Type 0 where
+    pub side : SideStood acts uses p
+    pub sent_is : (s g : ℕ) → contents_of (messages_of s g side.written) ≡ sent s g
+
+  pub record Stood (at : Side) (packets : List SentPacket) (b : PeerActs) (q : PlainPolled N) (uses : List ChannelUse) (sent : Sent) (p : PlainPolled N)
+      : Type 0 where
     pub acts : PeerActs
     pub exchange : ExchangeBy at acts (contents_sent at packets) p b (contents_sent (other_side at) packets) q
     pub side : SideStood acts uses p
+    pub sent_is : (s g : ℕ) → contents_of (messages_of s g side.written) ≡ sent s g
 
   exchanged_on : (at : Side) (a b : PeerActs) (before after others : List (List ℕ)) (p next q : PlainPolled N) (came : Came) (moments : List ℕ)
       (wrote heard : List StreamMessage) → ExchangeBy at a before p b others q → CarriesData came.dtls others
@@ -59,11 +77,12 @@ module _ {N : Type 0} (draws : Draws N) where
 
   -- a call of the acting peer
   pub call_stood : (at : Side) (packets packets' : List SentPacket) (b : PeerActs) (q p next : PlainPolled N) (came : Came) (moments : List ℕ)
-      (shown : List (List ℕ)) (wrote heard : List StreamMessage) (uses uses' : List ChannelUse)
+      (shown : List (List ℕ)) (wrote heard : List StreamMessage) (uses uses' : List ChannelUse) (sent sent' : Sent)
       → CarriesData came.dtls (contents_sent (other_side at) packets) → Shows at packets packets' shown
-      → PeerDid (plain_over draws) came moments shown wrote heard p next → (h : Stood at packets b q uses p)
-      → SideTold (plain_over draws) uses' (h.side.written ++ wrote) (h.side.read ++ heard) next → Stood at packets' b q uses' next
-  call_stood at packets packets' b q p next came moments shown wrote heard uses uses' carried shows did h told = record {
+      → PeerDid (plain_over draws) came moments shown wrote heard p next
+      → ((s g : ℕ) → sent s g ++ contents_of (messages_of s g wrote) ≡ sent' s g) → (h : Stood at packets b q uses sent p)
+      → SideTold (plain_over draws) uses' (h.side.written ++ wrote) (h.side.read ++ heard) next → Stood at packets' b q uses' sent' next
+  call_stood at packets packets' b q p next came moments shown wrote heard uses uses' sent sent' carried shows did more h told = record {
     acts = acts_with h.acts did.acts;
     exchange =
         subst (λ (l : List (List ℕ)). ExchangeBy at (acts_with h.acts did.acts) (contents_sent at packets') next b l q) (sym shows.other)
@@ -84,20 +103,25 @@ module _ {N : Type 0} (draws : Draws N) where
           moved-append plain_meaning fresh_contents p.core.sctp.association next.core.sctp.association h.acts.association did.acts.association h.side.went
           did.went.association;
     };
+    sent_is = λ s g.
+        ap contents_of (messages-append s g h.side.written wrote)
+        ∙ contents-append (messages_of s g h.side.written) (messages_of s g wrote)
+        ∙ ap (λ (l : List (Bool × List ℕ)). l ++ contents_of (messages_of s g wrote)) (h.sent_is s g)
+        ∙ more s g;
   }
 
   -- one that neither writes nor reads
   pub quiet_stood : (at : Side) (packets packets' : List SentPacket) (b : PeerActs) (q p next : PlainPolled N) (came : Came) (moments : List ℕ)
-      (uses : List ChannelUse) → CarriesData came.dtls (contents_sent (other_side at) packets) → Shows at packets packets' []
-      → PeerDid (plain_over draws) came moments [] [] [] p next → CallKeepsStreams (plain_over draws) p [] next → Stood at packets b q uses p
-      → Stood at packets' b q uses next
-  quiet_stood at packets packets' b q p next came moments uses carried shows did keeps h =
-      call_stood at packets packets' b q p next came moments [] [] [] uses uses carried shows did h
+      (uses : List ChannelUse) (sent : Sent) → CarriesData came.dtls (contents_sent (other_side at) packets) → Shows at packets packets' []
+      → PeerDid (plain_over draws) came moments [] [] [] p next → CallKeepsStreams (plain_over draws) p [] next → Stood at packets b q uses sent p
+      → Stood at packets' b q uses sent next
+  quiet_stood at packets packets' b q p next came moments uses sent carried shows did keeps h =
+      call_stood at packets packets' b q p next came moments [] [] [] uses uses sent sent carried shows did (λ s g. append-nil (sent s g)) h
       (side_called (plain_over draws) plain_laws plain_generations came moments [] p next uses h.side.written h.side.read did keeps h.side.told)
 
   -- the same peer, and the same datagrams
-  pub same_stood : (at : Side) (packets packets' : List SentPacket) (b : PeerActs) (q p next : PlainPolled N) (uses : List ChannelUse) → next ≡ p
-      → packets' ≡ packets → Stood at packets b q uses p → Stood at packets' b q uses next
-  same_stood at packets packets' b q p next uses same kept h =
-      subst (λ (l : List SentPacket). Stood at l b q uses next) (sym kept)
-      (subst (λ (x : PlainPolled N). Stood at packets b q uses x) (sym same) h)
+  pub same_stood : (at : Side) (packets packets' : List SentPacket) (b : PeerActs) (q : PlainPolled N) (sent : Sent) (p next : PlainPolled N)
+      (uses : List ChannelUse) → next ≡ p → packets' ≡ packets → Stood at packets b q uses sent p → Stood at packets' b q uses sent next
+  same_stood at packets packets' b q sent p next uses same kept h =
+      subst (λ (l : List SentPacket). Stood at l b q uses sent next) (sym kept)
+      (subst (λ (x : PlainPolled N). Stood at packets b q uses sent x) (sym same) h)

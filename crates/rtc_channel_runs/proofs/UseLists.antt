@@ -4,11 +4,11 @@ use Rattle.rtc_parts_values.specs.Among.{Member}
 use Rattle.rtc_assoc.specs.Unread.{IsPrefix}
 use Rattle.rtc_association.specs.AssociationWords.{AssociationMessage}
 use Rattle.rtc_sctp.specs.Calls.{is_nil, written_ppi}
-use Rattle.rtc_sctp_laws.specs.StreamMessages.{StreamMessage, AreNamed, stream_message}
+use Rattle.rtc_sctp_laws.specs.StreamMessages.{StreamMessage, HaveNamedPpis, stream_message}
 use Rattle.rtc_stream_uses.specs.StreamUses.{is_of_generation, messages_of}
 use Rattle.rtc_stream_contents.specs.Contents.{contents_by, contents_of, numbered_message}
 use Rattle.rtc_stream_contents.proofs.ContentLemmas.{contents_by-append}
-use Rattle.rtc_channel_runs.specs.ChannelUses.{ChannelUse, with_got, with_sent}
+use Rattle.rtc_channel_runs.specs.ChannelUses.{ChannelUse, with_got_message, with_sent_message}
 
 -- ---- prefixes
 
@@ -36,15 +36,15 @@ none_numbered (x ∷ l) h = absurd (no_cons (numbered_message x) (map numbered_m
     no_cons : (y : AssociationMessage) (ys : List AssociationMessage) → y ∷ ys ≡ [] → ⊥
     no_cons y ys f = cc
 
-pub named_join : (xs ys : List StreamMessage) → AreNamed xs → AreNamed ys → AreNamed (xs ++ ys)
+pub named_join : (xs ys : List StreamMessage) → HaveNamedPpis xs → HaveNamedPpis ys → HaveNamedPpis (xs ++ ys)
 named_join [] ys h k = k
 named_join (x ∷ xs) ys h k = (h.0, named_join xs ys h.1 k)
 
-pub named_kept : (s g : ℕ) (l : List StreamMessage) → AreNamed l → AreNamed (messages_of s g l)
+pub named_kept : (s g : ℕ) (l : List StreamMessage) → HaveNamedPpis l → HaveNamedPpis (messages_of s g l)
 named_kept s g [] h = tt
 named_kept s g (x ∷ l) h = by (is_of_generation s g x) (named_kept s g l h.1)
   where
-    by : (b : Bool) → AreNamed (messages_of s g l) → AreNamed (if b then x ∷ messages_of s g l else messages_of s g l)
+    by : (b : Bool) → HaveNamedPpis (messages_of s g l) → HaveNamedPpis (if b then x ∷ messages_of s g l else messages_of s g l)
     by true rest = (h.0, rest)
     by false rest = rest
 
@@ -77,7 +77,7 @@ all_member P (y ∷ uses) x h (inr there) = all_member P uses x h.1 there
 
 pub all_sent : (P Q : ChannelUse → Type 0) (c : ℕ) (message : Bool × List ℕ) (uses : List ChannelUse)
     → ((x : ChannelUse) → (x.channel == c) ≡ true → P x → Q (record x { sent = x.sent ++ message ∷ [] }))
-    → ((x : ChannelUse) → (x.channel == c) ≡ false → P x → Q x) → AllUses P uses → AllUses Q (with_sent c message uses)
+    → ((x : ChannelUse) → (x.channel == c) ≡ false → P x → Q x) → AllUses P uses → AllUses Q (with_sent_message c message uses)
 all_sent P Q c message [] own other h = tt
 all_sent P Q c message (x ∷ uses) own other h = (by (x.channel == c) refl, all_sent P Q c message uses own other h.1)
   where
@@ -87,7 +87,7 @@ all_sent P Q c message (x ∷ uses) own other h = (by (x.channel == c) refl, all
 
 pub all_got : (P Q : ChannelUse → Type 0) (c : ℕ) (message : Bool × List ℕ) (uses : List ChannelUse)
     → ((x : ChannelUse) → (x.channel == c) ≡ true → P x → Q (record x { got = x.got ++ message ∷ [] }))
-    → ((x : ChannelUse) → (x.channel == c) ≡ false → P x → Q x) → AllUses P uses → AllUses Q (with_got c message uses)
+    → ((x : ChannelUse) → (x.channel == c) ≡ false → P x → Q x) → AllUses P uses → AllUses Q (with_got_message c message uses)
 all_got P Q c message [] own other h = tt
 all_got P Q c message (x ∷ uses) own other h = (by (x.channel == c) refl, all_got P Q c message uses own other h.1)
   where

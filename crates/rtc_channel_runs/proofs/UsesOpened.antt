@@ -9,7 +9,6 @@ use Rattle.rtc_stream_uses.specs.GenerationLaws.{GenerationLaws}
 use Rattle.rtc_stream_uses.specs.StreamUses.{IsOpened, WereOpened, entries_of, messages_of}
 use Rattle.rtc_peer_state.specs.Meanings.{Meanings}
 use Rattle.rtc_polling.specs.ChannelCalls.{config_under, stream_under}
-use Rattle.rtc_polling.specs.declared.event.Event.{Event}
 use Rattle.rtc_polling.specs.declared.event.Event.TheVariants.{ChannelOpen}
 use Rattle.rtc_polling.specs.declared.output.Output.TheVariants as outputs
 use Rattle.rtc_polling.specs.declared.polled_peer.PolledPeer.{PolledPeer}

@@ -2,7 +2,7 @@
 use Rattle.std.proofs.Common.{◌≡◌, ◌<◌, ◌∷◌, ℕ, Bool, true, false, List, [], Some, refl, ap, arith}
 use Rattle.rtc_history.specs.declared.outcome.Outcome.TheVariants.{Wrote, NoSuch}
 use Rattle.rtc_channel_runs.specs.AnnouncedOnce.{AreAnnouncedOnce}
-use Rattle.rtc_channel_runs.specs.ChannelUses.{ChannelUse, with_got}
+use Rattle.rtc_channel_runs.specs.ChannelUses.{ChannelUse, with_got_message}
 use Rattle.rtc_channel_runs.specs.HandedOut.{IsHandedOut}
 use Rattle.rtc_channel_runs.specs.UsesOfRuns.{uses_written}
 
@@ -24,7 +24,7 @@ full_is_not_sent = refl
 closed_is_not_sent : uses_written {E = Unit {0}} 2 true (7 ∷ []) NoSuch worked ≡ worked
 closed_is_not_sent = refl
 
-told_is_got : with_got 5 (true, []) worked ≡ use_of 2 0 ((false, 104 ∷ []) ∷ []) [] ∷ use_of 5 3 [] ((true, []) ∷ []) ∷ []
+told_is_got : with_got_message 5 (true, []) worked ≡ use_of 2 0 ((false, 104 ∷ []) ∷ []) [] ∷ use_of 5 3 [] ((true, []) ∷ []) ∷ []
 told_is_got = refl
 
 -- no channel is announced twice

@@ -1,4 +1,4 @@
--- That a channel is announced once, and a generation of a stream in-band once.
+-- That a channel is announced at most once, and so is a generation of a stream, of those that were opened in-band.
 use Rattle.std.specs.Prelude.{◌≡◌, true, List, [], ◌∷◌}
 use Rattle.rtc_channel_runs.specs.ChannelUses.{ChannelUse}
 
@@ -11,7 +11,7 @@ abbrev pub AreOthers : ChannelUse → List ChannelUse → Type 0
 AreOthers x [] = Unit {0}
 AreOthers x (y ∷ uses) = IsAnother x y × AreOthers x uses
 
--- so it is for each two of these
+-- so it is for each two of these channels, none of which is then announced twice where it was opened in-band
 abbrev pub AreAnnouncedOnce : List ChannelUse → Type 0
 AreAnnouncedOnce [] = Unit {0}
 AreAnnouncedOnce (x ∷ uses) = AreOthers x uses × AreAnnouncedOnce uses

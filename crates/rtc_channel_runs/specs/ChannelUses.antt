@@ -21,16 +21,16 @@ pub record ChannelUse : Type 0 where
   pub got : List (Bool × List ℕ)
 
 -- one message more was sent over a channel
-abbrev pub with_sent : (channel : ℕ) → Bool × List ℕ → List ChannelUse → List ChannelUse
-with_sent channel message [] = []
-with_sent channel message (x ∷ uses) =
-    (if x.channel == channel then record x { sent = x.sent ++ message ∷ [] } else x) ∷ with_sent channel message uses
+abbrev pub with_sent_message : (channel : ℕ) → Bool × List ℕ → List ChannelUse → List ChannelUse
+with_sent_message channel message [] = []
+with_sent_message channel message (x ∷ uses) =
+    (if x.channel == channel then record x { sent = x.sent ++ message ∷ [] } else x) ∷ with_sent_message channel message uses
 
 -- one message more was got
-abbrev pub with_got : (channel : ℕ) → Bool × List ℕ → List ChannelUse → List ChannelUse
-with_got channel message [] = []
-with_got channel message (x ∷ uses) =
-    (if x.channel == channel then record x { got = x.got ++ message ∷ [] } else x) ∷ with_got channel message uses
+abbrev pub with_got_message : (channel : ℕ) → Bool × List ℕ → List ChannelUse → List ChannelUse
+with_got_message channel message [] = []
+with_got_message channel message (x ∷ uses) =
+    (if x.channel == channel then record x { got = x.got ++ message ∷ [] } else x) ∷ with_got_message channel message uses
 
 module _ {I D S M E X T W N : Type 0} (m : Meanings I D S M E X T W N) where
   -- the generation of a stream at a peer; what is no stream has generation 0
@@ -52,7 +52,7 @@ module _ {I D S M E X T W N : Type 0} (m : Meanings I D S M E X T W N) where
   -- the uses behind an event that a poll told, which left the peer so
   abbrev pub uses_told : Event E → PolledPeer I D S M N → List ChannelUse → List ChannelUse
   uses_told (ChannelOpen id label) p uses = uses ++ announced_use id p ∷ []
-  uses_told (ChannelData message) p uses = with_got message.id (message.binary, message.bytes) uses
+  uses_told (ChannelData message) p uses = with_got_message message.id (message.binary, message.bytes) uses
   uses_told event p uses = uses
 
   abbrev pub uses_shown : Shown E → PolledPeer I D S M N → List ChannelUse → List ChannelUse

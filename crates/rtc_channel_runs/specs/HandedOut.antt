@@ -1,5 +1,5 @@
 -- That a channel hands out what the other side sent over it, in order (RFC 8831, section 6.1).
-use Rattle.std.specs.Prelude.{◌≡◌, ℕ, Bool, true, false, List}
+use Rattle.std.specs.Prelude.{◌≡◌, ℕ, Bool, true, false, List, Some}
 use Rattle.rtc_parts_values.specs.Among.{Member}
 use Rattle.rtc_assoc.specs.Unread.{IsPrefix}
 use Rattle.rtc_assoc_state.specs.Contents.{has_unread}
@@ -10,14 +10,15 @@ use Rattle.rtc_history.specs.declared.reply.Reply.{Reply}
 use Rattle.rtc_history.specs.declared.side.Side.{Side}
 use Rattle.rtc_history.specs.declared.step.Step.{Step}
 use Rattle.rtc_history.specs.PairState.{rtc_at}
-use Rattle.rtc_history.specs.Past.{Entry, replies_of, steps_of}
-use Rattle.rtc_history.specs.Runs.{Reached}
+use Rattle.rtc_history.specs.Runs.{Runs}
 use Rattle.rtc_history.specs.Sides.{other_side}
 use Rattle.rtc_joined_runs.specs.PlainPairs.{PlainPair, PlainPolled, plain_over}
 use Rattle.rtc_channel_runs.specs.AnnouncedOnce.{AreAnnouncedOnce}
 use Rattle.rtc_channel_runs.specs.ChannelUses.{ChannelUse}
+use Rattle.rtc_channel_runs.specs.DrainedSides.{IsDrained}
 use Rattle.rtc_channel_runs.specs.OpenUses.{AreJoinedUses}
-use Rattle.rtc_channel_runs.specs.UsesOfRuns.{uses_of}
+use Rattle.rtc_channel_runs.specs.SentMessages.{sent_over}
+use Rattle.rtc_channel_runs.specs.UsesOfRuns.{reached_by, uses_in_run}
 
 -- Where two channels were opened in-band over one generation of one stream, what one got is a prefix of what was sent over the other.
 abbrev pub IsHandedOut : (reader writer : ChannelUse) → Type 0
@@ -28,8 +29,24 @@ IsHandedOut x y =
 abbrev pub AreHandedOut : (readers writers : List ChannelUse) → Type 0
 AreHandedOut readers writers = (x y : ChannelUse) → Member x readers → Member y writers → IsHandedOut x y
 
--- Where two such channels stay open at both sides, the writer has no unacknowledged item of the stream, and at the reader no whole message
--- of the generation stands unread, all was got that was sent.
+-- What was sent over a channel that was opened in-band, since it was announced, is all that its side ever sent to that generation of its
+-- stream: nothing was before.
+abbrev pub AreSentWhole : List ChannelUse → (sent : ℕ → ℕ → List (Bool × List ℕ)) → Type 0
+AreSentWhole uses sent =
+    (x : ChannelUse) → Member x uses → x.in_band ≡ true → (s : ℕ) → x.stream ≡ Some s → sent s x.generation ≡ x.sent
+
+-- Where two such channels stay open at both sides, and the writer has no unacknowledged item of the stream, all was got that was sent.
+abbrev pub AreAllHandedOut : {N : Type 0} → Draws N → (readers : List ChannelUse) → PlainPolled N → (writers : List ChannelUse)
+    → PlainPolled N → Type 0
+AreAllHandedOut draws readers p writers q =
+    (x y : ChannelUse)
+    → Member x readers
+    → Member y writers
+    → (h : AreJoinedUses (plain_over draws) x p y q)
+    → has_unacknowledged h.writer.stream q.core.sctp.association.outbox.items ≡ false
+    → x.got ≡ y.sent
+
+-- The same where, besides, no whole message of the generation stands unread at the reader.
 abbrev pub AreWhollyHandedOut : {N : Type 0} → Draws N → (readers : List ChannelUse) → PlainPolled N → (writers : List ChannelUse)
     → PlainPolled N → Type 0
 AreWhollyHandedOut draws readers p writers q =
@@ -41,18 +58,24 @@ AreWhollyHandedOut draws readers p writers q =
     → has_unread p.core.sctp.association h.reader.stream x.generation ≡ false
     → x.got ≡ y.sent
 
--- A run by these steps with these replies, in which each side announced each of its channels once, each generation of a stream in-band
--- once, and got over each channel a prefix of what the other side sent, and at its end all of it where the channel stays open.
+-- In a run by these steps with these replies, of the channels that were opened in-band, each side announced each at most once, and at most
+-- one over each generation of a stream, to which it sent nothing before. It got over each a prefix of what the other side sent over its
+-- own; at the end of the run all of it, where both stay open and all was delivered, as it was where the side was drained since its last
+-- input and all is acknowledged.
 pub record HandsOut {N : Type 0} (draws : Draws N) (stun : List ℕ → Bool) (start : PlainPair N) (steps : List Step)
-    (replies : List (Reply PlainMediaEvent)) (pair : PlainPair N) : Type 0 where
-  pub past : List (Entry PlainMediaEvent)
-  pub steps_are : steps_of past ≡ steps
-  pub replies_are : replies_of past ≡ replies
-  pub ran : Reached (plain_over draws) stun start past pair
-  pub once : (at : Side) → AreAnnouncedOnce (uses_of (plain_over draws) stun start at past pair ran)
+    (replies : List (Reply PlainMediaEvent)) (pair : PlainPair N) (run : Runs (plain_over draws) stun start steps replies pair)
+    : Type 0 where
+  pub once : (at : Side) → AreAnnouncedOnce (uses_in_run (plain_over draws) stun start steps replies pair run at)
+  pub whole : (at : Side)
+      → AreSentWhole (uses_in_run (plain_over draws) stun start steps replies pair run at)
+      (sent_over (plain_over draws) stun start at run.past pair (reached_by (plain_over draws) stun start run.past pair run.went))
   pub handed : (at : Side)
-      → AreHandedOut (uses_of (plain_over draws) stun start at past pair ran)
-      (uses_of (plain_over draws) stun start (other_side at) past pair ran)
+      → AreHandedOut (uses_in_run (plain_over draws) stun start steps replies pair run at)
+      (uses_in_run (plain_over draws) stun start steps replies pair run (other_side at))
   pub all : (at : Side)
-      → AreWhollyHandedOut draws (uses_of (plain_over draws) stun start at past pair ran) (rtc_at at pair)
-      (uses_of (plain_over draws) stun start (other_side at) past pair ran) (rtc_at (other_side at) pair)
+      → AreWhollyHandedOut draws (uses_in_run (plain_over draws) stun start steps replies pair run at) (rtc_at at pair)
+      (uses_in_run (plain_over draws) stun start steps replies pair run (other_side at)) (rtc_at (other_side at) pair)
+  pub drained : (at : Side)
+      → IsDrained (plain_over draws) stun start at run.past pair (reached_by (plain_over draws) stun start run.past pair run.went)
+      → AreAllHandedOut draws (uses_in_run (plain_over draws) stun start steps replies pair run at) (rtc_at at pair)
+      (uses_in_run (plain_over draws) stun start steps replies pair run (other_side at)) (rtc_at (other_side at) pair)

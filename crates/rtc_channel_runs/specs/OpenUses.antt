@@ -6,7 +6,8 @@ use Rattle.rtc_polling.specs.ChannelCalls.{open_stream_under}
 use Rattle.rtc_polling.specs.declared.polled_peer.PolledPeer.{PolledPeer}
 use Rattle.rtc_channel_runs.specs.ChannelUses.{ChannelUse}
 
--- The channel has its stream, which is open and in the same generation. This end closed neither the stream nor the association.
+-- The channel has its stream, which is open, in the same generation, and not closed by this end. The association is neither closing nor
+-- closed, whichever side closes it.
 pub record StaysOpen {I D S M E X T W N : Type 0} (m : Meanings I D S M E X T W N) (x : ChannelUse) (p : PolledPeer I D S M N)
     : Type 0 where
   pub stream : ℕ

@@ -1,5 +1,5 @@
 -- The channels that a side announced in a run, and what it sent and got over each.
-use Rattle.std.specs.Prelude.{ℕ, Bool, true, if◌then◌else◌, List, [], ◌∷◌, Option, Some}
+use Rattle.std.specs.Prelude.{ℕ, ◌≡◌, Bool, true, if◌then◌else◌, List, [], ◌∷◌, Option, Some}
 use Rattle.rtc_peer_state.specs.Meanings.{Meanings}
 use Rattle.rtc_polling.specs.declared.polled_peer.PolledPeer.{PolledPeer}
 use Rattle.rtc_history.specs.declared.kept.Kept.{Kept}
@@ -9,6 +9,7 @@ use Rattle.rtc_history.specs.declared.poll_end.PollEnd.{PollEnd}
 use Rattle.rtc_history.specs.declared.sent_packet.SentPacket.{SentPacket}
 use Rattle.rtc_history.specs.declared.shown.Shown.{Shown}
 use Rattle.rtc_history.specs.declared.shown.Shown.TheVariants.{Timeout, Packet, Event}
+use Rattle.rtc_history.specs.declared.reply.Reply.{Reply}
 use Rattle.rtc_history.specs.declared.side.Side.{Side}
 use Rattle.rtc_history.specs.declared.step.Step.{Step}
 use Rattle.rtc_history.specs.declared.step.Step.TheVariants.{Poll, Drain, Write}
@@ -16,13 +17,13 @@ use Rattle.rtc_history.specs.declared.table.Table.{Table}
 use Rattle.rtc_history.specs.PairState.{PairState, rtc_at}
 use Rattle.rtc_history.specs.Past.{Entry}
 use Rattle.rtc_history.specs.Performs.{Acts, DrainsOn, DrainsPeer, StepPollsPeer}
-use Rattle.rtc_history.specs.Runs.{Reached}
+use Rattle.rtc_history.specs.Runs.{EntersSoundly, Reached, Runs, Went}
 use Rattle.rtc_history.specs.Sides.{same_side, side_of}
-use Rattle.rtc_channel_runs.specs.ChannelUses.{ChannelUse, uses_shown, with_sent}
+use Rattle.rtc_channel_runs.specs.ChannelUses.{ChannelUse, uses_shown, with_sent_message}
 
 -- behind a step that writes to a channel: its message was sent where it was taken
 abbrev pub uses_written : {E : Type 0} → (channel : ℕ) → (binary : Bool) → List ℕ → Outcome E → List ChannelUse → List ChannelUse
-uses_written channel binary bytes (Wrote true) uses = with_sent channel (binary, bytes) uses
+uses_written channel binary bytes (Wrote true) uses = with_sent_message channel (binary, bytes) uses
 uses_written channel binary bytes outcome uses = uses
 
 module _ {I D S M E X T W N : Type 0} (m : Meanings I D S M E X T W N) where
@@ -41,11 +42,12 @@ module _ {I D S M E X T W N : Type 0} (m : Meanings I D S M E X T W N) where
   uses_drained at p packets (Event event ∷ outputs) end q packets' h uses =
       uses_drained at h.0 h.1 outputs end q packets' h.3 (uses_shown m (Event event) h.0 uses)
 
-  abbrev pub uses_drawn : (at : Side) (p : PolledPeer I D S M N) (packets : List SentPacket) (outputs : List (Shown E)) (end : PollEnd)
+  -- behind a whole drain, by what it told
+  abbrev pub uses_of_drain : (at : Side) (p : PolledPeer I D S M N) (packets : List SentPacket) (outputs : List (Shown E)) (end : PollEnd)
       (q : PolledPeer I D S M N) (packets' : List SentPacket) → DrainsPeer m at p packets outputs end q packets' → List ChannelUse
       → List ChannelUse
-  uses_drawn at p packets [] end q packets' h uses = uses
-  uses_drawn at p packets (shown ∷ outputs) end q packets' h uses = uses_drained at p packets (shown ∷ outputs) end q packets' h uses
+  uses_of_drain at p packets [] end q packets' h uses = uses
+  uses_of_drain at p packets (shown ∷ outputs) end q packets' h uses = uses_drained at p packets (shown ∷ outputs) end q packets' h uses
 
   -- behind a step that polls once
   abbrev pub uses_behind : Outcome E → PolledPeer I D S M N → List ChannelUse → List ChannelUse
@@ -57,7 +59,7 @@ module _ {I D S M E X T W N : Type 0} (m : Meanings I D S M E X T W N) where
       (table : Option Table) (new : PolledPeer I D S M N) (packets' : List SentPacket)
       → StepPollsPeer m (DrainsPeer m at old) old packets outcome table new packets' → List ChannelUse → List ChannelUse
   uses_drained_by at old packets (Polled outputs end) (Some table) new packets' h uses =
-      uses_drawn at old packets outputs end new packets' h.0 uses
+      uses_of_drain at old packets outputs end new packets' h.0 uses
   uses_drained_by at old packets outcome table new packets' h uses = uses
 
   -- behind a step of the side: what was announced, sent and got
@@ -80,3 +82,14 @@ module _ {I D S M E X T W N : Type 0} (m : Meanings I D S M E X T W N) where
       then uses_acted stun entry.step (rtc_at (side_of entry.step) ran.0) ran.0.sdps ran.0.packets entry.outcome entry.table
       (rtc_at (side_of entry.step) pair) pair.sdps pair.packets ran.2.performs.acts (uses_of stun start at past ran.0 ran.1)
       else uses_of stun start at past ran.0 ran.1
+
+  -- a run, by the calls of its steps alone
+  abbrev pub reached_by : (stun : List ℕ → Bool) (start : PairState I D S M N) (past : List (Entry E)) (pair : PairState I D S M N)
+      → Went (EntersSoundly m stun start) (λ fresh. fresh ≡ start) past pair → Reached m stun start past pair
+  reached_by stun start [] pair went = went
+  reached_by stun start (entry ∷ past) pair went = (went.0, reached_by stun start past went.0 went.1, went.2.0)
+
+  -- the channels that a side announced in a run by steps with replies
+  abbrev pub uses_in_run : (stun : List ℕ → Bool) (start : PairState I D S M N) (steps : List Step) (replies : List (Reply E))
+      (pair : PairState I D S M N) → Runs m stun start steps replies pair → Side → List ChannelUse
+  uses_in_run stun start steps replies pair run at = uses_of stun start at run.past pair (reached_by stun start run.past pair run.went)
