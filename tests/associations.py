@@ -16,10 +16,11 @@ class Unwritten(Exception):
     pass
 
 
-# What a side is set to: how many bytes may be buffered, and the longest message that it takes, where 0 stands for any length.
+# What a side is set to: how many bytes may be buffered, the longest message that it takes, where 0 stands for any length, and whether its
+# association may be started by descriptions.
 class Sizes:
-    def __init__(self, buffered=131072, longest=262144):
-        self.buffered, self.longest = buffered, longest
+    def __init__(self, buffered=131072, longest=262144, snap=False):
+        self.buffered, self.longest, self.snap = buffered, longest, snap
 
 
 # A packet of the association: what it says, and how many bytes it has.
@@ -47,6 +48,7 @@ def after(moment, span):
 class Association:
     def __init__(self):
         self.role, self.connected, self.shut, self.lost, self.longest = None, False, False, False, None
+        self.told = False
         self.now, self.hello_sent, self.items_sent = 0, 0, 0
         self.acknowledged, self.items, self.received, self.streams = 0, [], 0, {}
         self.events, self.packets = [], []
@@ -57,10 +59,12 @@ class Association:
     def is_ending(self):
         return self.shut or self.lost
 
-    # `longest` is what the other end told, by which a message is too long for it.
-    def start(self, client, now, longest):
+    # `longest` is what the other end told, by which a message is too long for it. Where descriptions told the chunks of both ends, this end
+    # is connected at once, without an event, and neither says hello nor answers it.
+    def start(self, client, now, longest, told):
         self.role, self.now, self.longest = "client" if client else "server", now, longest or ANY_LENGTH
-        if client:
+        self.told = self.connected = told
+        if client and not told:
             self.say_hello(now)
 
     def say_hello(self, now):
@@ -126,7 +130,7 @@ class Association:
             self.queue(self.acknowledged + 1, self.items)
 
     def take(self, packet, now):
-        if packet.kind == "hello" and self.role == "server":
+        if packet.kind == "hello" and self.role == "server" and not self.told:
             self.events += [] if self.connected else [("connected", None)]
             self.connected = True
             self.packets.append(Packet("welcome", 1))
@@ -196,10 +200,10 @@ class Streams:
         self.most_buffered = most_buffered
         self.entries, self.resets, self.completed, self.returned = {}, [], [], []
 
-    def start(self, client, now, longest):
+    def start(self, client, now, longest, told):
         if self.association.role is None:
-            self.client, self.state = client, "waiting" if client else "unheard"
-            self.association.start(client, now, longest)
+            self.client, self.state = client, "established" if told else "waiting" if client else "unheard"
+            self.association.start(client, now, longest, told)
 
     def close(self):
         if self.association.role and not self.association.is_ending():

@@ -148,12 +148,13 @@ class Connection:
         self.phase, self.handshake, self.greatest, self.dtls_wake, self.paired = "alive", "pending", 0, FAR_FUTURE, False
 
     # Follows a description that is accepted: the fragment of its side, whether this side begins the handshake, whether there is a line of
-    # data channels, with which the association starts, and the longest message that the other side tells.
-    def follow(self, ufrag, active, has_channels, longest):
+    # data channels, with which the association starts, the longest message that the other side tells, and whether the chunks of both sides
+    # were told.
+    def follow(self, ufrag, active, has_channels, longest, told):
         self.ice.remote = ufrag
         self.dtls.begin(active, self.greatest)
         if has_channels:
-            self.streams.start(self.dtls.active, self.greatest, longest)
+            self.streams.start(self.dtls.active, self.greatest, longest, told)
 
     def take_moment(self, now):
         if self.phase != "closed" and now >= self.greatest:

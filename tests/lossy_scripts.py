@@ -180,7 +180,7 @@ def read_report(lines, report):
 
 # Whether an open message may be longer than a side takes, so that its channels are closed and not opened.
 def may_stay_shut(settings):
-    return any(name == "maxmsg" and 0 < int(number) < 100 for _, _, name, number in (line.split(" ") for line in settings))
+    return any(name == "maxmsg" and 0 < int(number[0]) < 100 for _, _, name, *number in (line.split(" ") for line in settings))
 
 
 # What is wrong with the messages and channels that a report tells of.

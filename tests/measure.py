@@ -234,20 +234,19 @@ def frames():
             print(f"| {size:,} | {number} | {how} | {cost - start:,} | {(cost - start) / fed:.1f} | {base - start:,} | {(cost - base) / fed:.1f} |")
 
 
-# Two peers that negotiated n lines. The drain of the answering one tells an event a line; a poll behind it tells a deadline. The
-# expected lines of the program are left empty, so that it ends with status 1.
+# Two peers that negotiated n lines. The drain of the answering one tells an event a line; a poll behind it tells a deadline. Each step
+# reports all lines of its peer, so that as many steps that find no datagram are counted beside them.
 def polls():
     def cost(lines, steps):
         text = "str0m-pair 1\nL offer" + " audio:sendrecv" * lines + "\nR accept 0\nL answer 0 1\n" + steps
-        files = {"measured.script": text.encode(), "measured.polls": b""}
-        return count([program("rtc_polling_examples")], b"measured\n", files, 1)[0]
+        return count([program("rtc_pair"), "run"], text.encode())[0]
 
+    nothing = "R datagram 99 0\n"
     print("| Lines | A drain that tells of all | A line | A poll with nothing to tell |\n|---|---|---|---|")
     for lines in (1, 10, 100, 1_000):
-        start = cost(lines, "")
-        drained = cost(lines, "R drain\n")
-        polled = cost(lines, "R drain\n" + "R poll\n" * 10)
-        print(f"| {lines:,} | {drained - start:,} | {(drained - start) // lines:,} | {(polled - drained) // 10:,} |")
+        drained = cost(lines, "R drain\n") - cost(lines, nothing)
+        polled = cost(lines, "R drain\n" + "R poll\n" * 10) - cost(lines, "R drain\n" + nothing * 10)
+        print(f"| {lines:,} | {drained:,} | {drained // lines:,} | {polled // 10:,} |")
 
 
 # The steps by which two peers connect: a check each way and its response, the hello of DTLS, the certificate and the finish.

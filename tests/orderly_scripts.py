@@ -135,9 +135,10 @@ class Course:
 # How often each op is drawn.
 EVERY = {"add": 2, "dir": 4, "stop": 1, "channel": 2, "keep": 1, "new": 1}
 # Of each script: its rounds, who offers ("LR" is in turn), the lite side, the weights of its ops, the ops of its first offers, how many
-# steps may come between those of a round, of which kinds, how many lines there may be, and whether its last round ends.
-DEFAULTS = ("any", None, EVERY, [["audio:sendrecv", "video:sendrecv"]], 0, ("stage",), 9, True)
-Theme = collections.namedtuple("Theme", "rounds offerers lite ops first between kinds lines ends", defaults=DEFAULTS)
+# steps may come between those of a round, of which kinds, how many lines there may be, whether its last round ends, and the sides whose
+# association may be started by descriptions.
+DEFAULTS = ("any", None, EVERY, [["audio:sendrecv", "video:sendrecv"]], 0, ("stage",), 9, True, "")
+Theme = collections.namedtuple("Theme", "rounds offerers lite ops first between kinds lines ends snap", defaults=DEFAULTS)
 THREE = [
     ["audio:sendrecv", "video:recvonly", "channel:61"],
     ["dir:0:sendonly", "restart:keep", "video:inactive"],
@@ -164,6 +165,8 @@ THEMES = {
     "right_alone": Theme(20, "R", first=[["video:sendrecv"]]),
     "right_lite": Theme(25, lite="R", ops={**EVERY, "keep": 4, "new": 4}),
     "staged_within_rounds": Theme(40, between=3),
+    "starts_by_descriptions": Theme(40, snap="LR", ops={**EVERY, "channel": 4}, between=2, kinds=("channel", "stage")),
+    "starts_told_by_one_side": Theme(20, snap="R", first=[["channel:61"]]),
 }
 
 
@@ -237,6 +240,7 @@ def files():
     for number, (name, theme) in enumerate(sorted(THEMES.items())):
         course = play(Chance(SEED * 1000 + number), theme)
         settings = [f"set {theme.lite} lite"] if theme.lite else []
+        settings += [f"set {at} snap" for at in theme.snap]
         made[f"{name}.orderly"] = "".join(f"{line}\n" for line in ["str0m-pair 1", *settings, *course.lines])
         calls += f"orderly orderly/{name} rounds {course.finished} finished {course.finished}\n"
         words |= {word for line in course.lines for word in line.replace(":", " ").split()}

@@ -29,6 +29,13 @@ def moved(mid):
     return Refused(f"1 remote sdp: Changed order for m-line with mid: {mid}")
 
 
+# The chunks by which the association of a side is started, where descriptions tell both (draft-hancke-tsvwg-snap): its own and the other
+# side's, where they are there. A chunk is known by its two draws.
+class Halves:
+    def __init__(self):
+        self.own, self.other = None, None
+
+
 # The row of the data channels has the kind "app" and no direction; it is never stopped.
 class Row:
     def __init__(self, mid, kind, direction, stopped=False, remote=False):
@@ -45,6 +52,7 @@ class Peer:
         self.draw()  # the number of the session
         self.ufrag = f"u{self.draw():016x}"
         self.connection = Connection(self.ufrag, sizes)
+        self.pending, self.begun = None, None
 
     def draw(self):
         self.next += 1
@@ -99,6 +107,40 @@ class Peer:
         self.staged.append(("direction", None, None))
         return "true"
 
+    def is_started(self):
+        return self.connection.streams.association.role is not None
+
+    # This side's chunk, which is drawn where it is not there, and pending with that of the other side, if one is told.
+    def tell_chunk(self, other=None):
+        self.pending = self.pending or Halves()
+        self.pending.own = self.pending.own or (self.draw(), self.draw())
+        self.pending.other = other or self.pending.other
+        return self.pending.own
+
+    # The chunk that an offer of these lines tells.
+    def offered_chunk(self, text):
+        if self.sizes.snap and not self.is_started() and any(row.kind == "app" for row in text):
+            return self.tell_chunk()
+        return self.begun.own if self.begun else None
+
+    # Once the association was started by the chunks of both sides, the other side tells the same one.
+    def judge_chunk(self, chunk):
+        if self.begun and chunk is None:
+            raise Refused("1 remote sdp: Missing a=sctp-init for established SNAP SCTP association")
+        if self.begun and chunk != self.begun.other:
+            raise Refused("1 remote sdp: Changed a=sctp-init for existing SCTP association")
+
+    # Follows a description of the other side, with the chunk of a start that is taken from it: the first line of data channels starts the
+    # association, and what is pending goes.
+    def follow(self, other, active, chunk):
+        started = self.is_started()
+        if chunk and not started:
+            self.tell_chunk(chunk)
+        told = bool(self.pending and self.pending.own and self.pending.other)
+        self.connection.follow(other.ufrag, active, self.has_channels(), other.sizes.longest, told)
+        if self.is_started() and not started:
+            self.begun, self.pending = self.pending if told else None, None
+
     # Channels alone make no offer, and supersede the token that is outstanding all the same.
     def apply(self):
         if not self.staged:
@@ -111,7 +153,8 @@ class Peer:
             return None
         added = [(row, sources) for what, row, sources in staged if what == "line"]
         text = [row.copy() for row in self.rows] + [row.copy() for row, _ in added]
-        return text, (counter, added, channels)
+        chunk = self.offered_chunk(text)
+        return text, chunk, (counter, added, channels, chunk is not None)
 
     def confirm(self, channels):
         for number, label in channels:
@@ -194,32 +237,38 @@ class Peer:
         self.connection.media.update(list(zip([row.copy() for row in after], before)), offer)
         self.rows = after + self.rows[len(text):]
 
-    # An offer leaves the choice of the role, and this side then waits for the handshake.
-    def accept_offer(self, text, other):
+    # An offer leaves the choice of the role, and this side then waits for the handshake. The answer, and the chunk that it tells.
+    def accept_offer(self, text, chunk, other):
         self.staged, self.counter = [], self.counter + 1
+        self.judge_chunk(chunk)
         new = self.judge(text, True)
         self.take(text, True, new, [])
-        self.connection.follow(other.ufrag, False, self.has_channels(), other.sizes.longest)
-        return [row.copy() for row in self.rows]
+        self.follow(other, False, chunk)
+        return [row.copy() for row in self.rows], self.begun.own if self.begun else None
 
-    def accept_answer(self, token, text, other, active):
+    # A chunk is taken from an answer where its offer told one too; an answer that tells none lets what is pending go.
+    def accept_answer(self, token, text, chunk, other, active):
         self.staged = []
         if self.counter != token[0] + 1:
             raise Refused("7 Changes made out of order")
+        self.judge_chunk(chunk)
         new = self.judge(text, False)
         self.judge_new(text, new, token[1])
         self.take(text, False, new, token[1])
-        self.connection.follow(other.ufrag, active, self.has_channels(), other.sizes.longest)
+        chunk = chunk if token[3] else None
+        if not chunk:
+            self.pending = None
+        self.follow(other, active, chunk)
         self.confirm(token[2])
 
 
 class Pair:
-    # `settings` are words behind a side, of which the last one counts.
+    # `settings` are words behind a side, of which the last one counts; `snap` has no number.
     def __init__(self, settings=()):
         sizes = {"L": Sizes(), "R": Sizes()}
-        for at, name, number in settings:
-            setattr(sizes[at], {"buffer": "buffered", "maxmsg": "longest"}[name], number)
-        self.settings = [f"set {at} {name} {number}" for at, name, number in settings]
+        for at, name, *number in settings:
+            setattr(sizes[at], {"buffer": "buffered", "maxmsg": "longest", "snap": "snap"}[name], number[0] if number else True)
+        self.settings = [" ".join(["set", at, name, *map(str, number)]) for at, name, *number in settings]
         self.peers = {"L": Peer(1, sizes["L"]), "R": Peer(1000001, sizes["R"])}
         self.texts, self.tokens, self.lines, self.report = [], {}, [], ""
         self.datagrams = []
@@ -241,8 +290,8 @@ class Pair:
         number = "-"
         if made:
             number = len(self.texts)
-            self.tokens[number] = (at, made[1])
-            self.texts.append((at, True, made[0], None))
+            text, chunk, self.tokens[number] = made[0], made[1], (at, made[2])
+            self.texts.append((at, True, text, chunk, None))
         return f"ops {','.join(answers) or '-'} text {number}"
 
     def text_for(self, at, offer, number):
@@ -255,16 +304,16 @@ class Pair:
         if text is None:
             return "nosuch"
         peer = self.peers[at]
-        answer = peer.accept_offer(text[0], self.peers[OTHER[at]])
-        self.texts.append((at, False, answer, peer.connection.dtls.active))
+        answer, chunk = peer.accept_offer(text[0], text[1], self.peers[OTHER[at]])
+        self.texts.append((at, False, answer, chunk, peer.connection.dtls.active))
         return f"answered {len(self.texts) - 1}"
 
     def hand_answer(self, at, token, number):
         text = self.text_for(at, False, number)
         if text is None or self.tokens.get(token, (None,))[0] != at:
             return "nosuch"
-        rows, active = text
-        self.peers[at].accept_answer(self.tokens.pop(token)[1], rows, self.peers[OTHER[at]], not active)
+        rows, chunk, active = text
+        self.peers[at].accept_answer(self.tokens.pop(token)[1], rows, chunk, self.peers[OTHER[at]], not active)
         return "finished"
 
     def hand_datagram(self, at, number, now):
@@ -352,11 +401,13 @@ class Pair:
         self.lines.append(line)
 
 
-# None, or some, among them sizes that an open message or its acknowledgement just fits, and the greatest ones.
+# None, or some, among them sizes that an open message or its acknowledgement just fits, and the greatest ones, and starts of the
+# association by descriptions at both sides or at one.
 def random_settings(chance):
     sizes = {"buffer": [0, 1, 13, 100, 5000, 131072, 10**9], "maxmsg": [0, 1, 12, 13, 16, 1034, 1035, 20000, 262144, 2**32 - 1]}
     names = chance.choices(list(sizes), k=chance.choice([0, 0, 1, 1, 2, 3]))
-    return [(chance.choice("LR"), name, chance.choice(sizes[name])) for name in names]
+    told = chance.choice(["", "", "LR", "LR", "L", "R"])
+    return [(chance.choice("LR"), name, chance.choice(sizes[name])) for name in names] + [(at, "snap") for at in told]
 
 
 # A label, now and then the longest one or one that is too long.

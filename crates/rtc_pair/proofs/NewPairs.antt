@@ -1,9 +1,12 @@
 -- The pair of the program is new: its peers were built over fresh plain parts, and given their addresses.
-use Rattle.std.proofs.Common.{◌∷◌, ℕ, List, [], true, Ok, refl}
+use Rattle.std.proofs.Common.{◌≡◌, ◌∷◌, ◌∙◌, ℕ, List, [], true, None, Ok, refl, sym, ap, subst}
 use Rattle.std.specs.declared.alloc.Global.{Global}
 use Rattle.rtc_wire.specs.declared.addr.Addr.{Addr}
+use Rattle.rtc_plain_media.specs.MediaContents.{MediaContents, fresh_media, update_of}
+use Rattle.rtc_history.specs.declared.side.Side.TheVariants.{Left, Right}
+use Rattle.rtc_history.specs.DrawnInRuns.{HaveNoLines}
 use Rattle.rtc_joined_runs.specs.NewPairs.{IsNewPair, IsNewPeer}
-use Rattle.rtc_run.specs.ProgramPair.{IsProgramPair, IsProgramPeer, PlainPairState, PlainPeer, counting, host_at, program_config}
+use Rattle.rtc_run.specs.ProgramPair.{IsProgramPair, IsProgramPeer, PlainPairState, PlainPeer, counting, plain_parts, host_at, program_config}
 use Rattle.rtc_run.specs.declared.peer_settings.PeerSettings.{PeerSettings}
 
 peer_new : (alloc : Global) (settings : PeerSettings) (cert : List ℕ) (first : ℕ) (addr : Addr) (p : PlainPeer)
@@ -26,3 +29,15 @@ program_new alloc left right pair h = record {
   right = peer_new alloc right _ _ _ pair.right.core h.right;
   packets = h.packets;
 }
+
+-- its media parts have no line
+peer_no_lines : (alloc : Global) (settings : PeerSettings) (cert : List ℕ) (first : ℕ) (addr : Addr) (p : PlainPeer)
+    → IsProgramPeer alloc settings cert first addr p → (mid : List ℕ) → update_of p.media mid ≡ None
+peer_no_lines alloc settings cert first addr p h mid =
+    let same : p.media ≡ fresh_media = ap (λ (q : PlainPeer). q.media) h.rest ∙ ap (λ (q : PlainPeer). q.media) h.by_build.rest in
+    subst (λ (media : MediaContents). update_of media mid ≡ None) (sym same) refl
+
+pub program_no_lines : (alloc : Global) (left right : PeerSettings) (pair : PlainPairState) → IsProgramPair alloc left right pair
+    → HaveNoLines plain_parts pair
+program_no_lines alloc left right pair h Left mid = peer_no_lines alloc left _ _ _ pair.left.core h.left mid
+program_no_lines alloc left right pair h Right mid = peer_no_lines alloc right _ _ _ pair.right.core h.right mid

@@ -10,6 +10,7 @@ use Rattle.rtc_history.specs.declared.side.Side.TheVariants.{Left, Right}
 use Rattle.rtc_history.specs.declared.reply.Reply.{Reply}
 use Rattle.rtc_history.specs.declared.step.Step.{Step}
 use Rattle.rtc_history.specs.Memory.{lacks_memory, tell_fault}
+use Rattle.rtc_history.specs.DrawnInRuns.{AllPlain, DrawsUnused}
 use Rattle.rtc_history.specs.Fresh.{ArePeersFormed}
 use Rattle.rtc_history.specs.Runs.{Runs}
 use Rattle.rtc_history.specs.Signalled.{AllReadBack}
@@ -22,7 +23,7 @@ use Rattle.rtc_script.specs.Script.{IsScript, IsRefused}
 use Rattle.rtc_script.specs.declared.script_error.ScriptError.TheVariants.{Line}
 use Rattle.rtc_script.specs.Report.{report}
 use Rattle.rtc_script.specs.declared.script.Script.{Script}
-use Rattle.rtc_script.specs.Settings.{sets_lite, buffer_set, interval_set, max_message_set}
+use Rattle.rtc_script.specs.Settings.{sets_lite, sets_snap, buffer_set, interval_set, max_message_set}
 use Rattle.rtc_script.specs.declared.setting.Setting.{Setting}
 
 -- the words of a run
@@ -37,6 +38,7 @@ lack_memory replies = list_any lacks_memory replies
 abbrev pub peer_settings : Side → List (Side × Setting) → PeerSettings
 peer_settings at settings = record {
   lite = sets_lite at settings;
+  snap = sets_snap at settings;
   max_buffered = buffer_set at settings;
   max_message_size = max_message_set at settings;
   stats_interval = interval_set at settings;
@@ -48,16 +50,17 @@ IsPairOf alloc script pair =
     IsProgramPair alloc (peer_settings Left script.settings) (peer_settings Right script.settings) pair
 
 -- A script was run on the program's pair, which is formed, with these replies, which left this pair, and each description that was made is
--- read back. No reply tells that a part failed: those in memory never do. Channels hand out what the other side sent, and each is announced
--- once.
+-- read back, as it was written where each source was unused when it was drawn. No reply tells that a part failed: those in memory never
+-- do. Channels hand out what the other side sent, and of those that were opened in-band each is announced at most once.
 pub record RanScript (alloc : Global) (script : Script) (replies : List (Reply PlainMediaEvent)) (pair : PlainPairState) : Type 0 where
   pub start : PlainPairState
   pub program : IsPairOf alloc script start
   pub formed : ArePeersFormed plain_parts start
   pub runs : Runs plain_parts is_ice_message start script.steps replies pair
   pub read_back : AllReadBack pair.sdps
+  pub plain : DrawsUnused plain_parts is_ice_message start script.steps replies pair runs → AllPlain pair.sdps
   pub no_fault : tell_fault replies ≡ false
-  pub channels : HandsOut counting is_ice_message start script.steps replies pair
+  pub channels : HandsOut counting is_ice_message start script.steps replies pair runs
 
 -- This text is the report of a run of a script.
 pub record IsReport (alloc : Global) (script : Script) (text : List ℕ) : Type 0 where

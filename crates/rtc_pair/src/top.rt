@@ -48,6 +48,7 @@ fn settings_of(script: &Script, at: Side) -> PeerSettings
 {
     PeerSettings {
         lite: script.sets_lite(at),
+        snap: script.sets_snap(at),
         max_buffered: script.buffer_set(at),
         max_message_size: script.max_message_set(at),
         stats_interval: script.interval_set(at),

@@ -1,5 +1,5 @@
 -- The peers of the program were just built, and make session descriptions that are read back.
-use Rattle.std.proofs.Common.{◌≡◌, ◌∙◌, ℕ, Bool, true, List, [], ◌∷◌, ◌++◌, Option, None, Result, Ok, Err, refl, sym, ap, subst, arith}
+use Rattle.std.proofs.Common.{◌≡◌, ◌∙◌, ℕ, Bool, true, false, List, [], ◌∷◌, ◌++◌, Option, None, Result, Ok, Err, refl, sym, ap, subst, arith}
 use Rattle.std.specs.Prelude.{IfOk, IfSome}
 use Rattle.std.specs.declared.alloc.Global.{Global}
 use Rattle.rtc_wire.specs.declared.addr.Addr.{Addr}
@@ -9,9 +9,12 @@ use Rattle.rtc_plain_ice.specs.Calls.{lite_set, local_set, local_added}
 use Rattle.rtc_plain_ice.specs.Contents.{IceContents, fresh_ice}
 use Rattle.rtc_plain_ice.specs.PlainMeaning.{plain_ice}
 use Rattle.rtc_plain_dtls.specs.Contents.{fresh_dtls}
-use Rattle.rtc_assoc_state.specs.Contents.{fresh_contents}
+use Rattle.rtc_assoc_state.specs.Calls.{limited}
+use Rattle.rtc_assoc_state.specs.Contents.{Contents, fresh_contents, is_started}
 use Rattle.rtc_plain_media.specs.MediaContents.{fresh_media}
-use Rattle.rtc_peer_state.specs.Built.{Builds}
+use Rattle.rtc_sctp.specs.Streams.{SctpStreams}
+use Rattle.rtc_sctp_values.specs.SnapHalves.{KeptHalves, nothing_kept}
+use Rattle.rtc_peer_state.specs.Built.{Builds, allowed_halves}
 use Rattle.rtc_peer_state.specs.Config.{Config}
 use Rattle.rtc_peer_state.specs.Formats.{AreFormedFormats}
 use Rattle.rtc_peer_state.specs.Formed.{AreSdpCreds, IsFormed, IsHostCandidate}
@@ -19,7 +22,7 @@ use Rattle.rtc_peer_state.specs.Stance.{stance_of}
 use Rattle.rtc_history.specs.declared.side.Side.{Side}
 use Rattle.rtc_history.specs.declared.side.Side.TheVariants.{Left, Right}
 use Rattle.rtc_history.specs.Fresh.{IsFresh, IsJustBuilt}
-use Rattle.rtc_history.specs.PairState.{stances_of}
+use Rattle.rtc_history.specs.PairState.{peer_at, stances_of}
 use Rattle.rtc_run.specs.ProgramPair.{PlainPeer, PlainPairState, plain_parts, host_at, left_address, right_address, program_config, IsProgramPeer}
 use Rattle.rtc_run.specs.declared.peer_settings.PeerSettings.{PeerSettings}
 
@@ -55,6 +58,29 @@ built_alone : (alloc : Global) (config : Config) (first : ℕ) (p : PlainPeer) �
 built_alone alloc config first p h =
     ap (λ (ice : IceContents). ice.settings.remote) (h.by_creds ∙ ap (local_set _) h.by_lite) ∙ alone_after config.ice_lite _
 
+-- the association is not started, and of a start by session descriptions no half is there
+unstarted_after : (max : ℕ) → is_started (limited 1062 max fresh_contents) ≡ false
+unfolding limited
+unstarted_after max = refl
+
+built_unstarted : (alloc : Global) (config : Config) (first : ℕ) (p : PlainPeer) → IsBuilt alloc config first p → (stance_of plain_parts p).inited ≡ false
+built_unstarted alloc config first p h = ap is_started h.by_limits ∙ unstarted_after config.max_message_size
+
+none_started : (allowed : Bool) (limit : ℕ) → (allowed_halves allowed limit nothing_kept).started ≡ None
+none_started true limit = refl
+none_started false limit = refl
+
+none_drawn : (allowed : Bool) (limit : ℕ) → IfSome (allowed_halves allowed limit nothing_kept).pending (λ halves. halves.local ≡ None)
+none_drawn true limit = refl
+none_drawn false limit = tt
+
+built_snap : (alloc : Global) (config : Config) (first : ℕ) (p : PlainPeer) → IsBuilt alloc config first p
+    → p.sctp.snap ≡ allowed_halves config.snap config.max_message_size nothing_kept
+built_snap alloc config first p h = ap (λ (s : SctpStreams Contents). s.snap) h.streams
+
+built_unused : (alloc : Global) (config : Config) (first : ℕ) (p : PlainPeer) → IsBuilt alloc config first p → p.sctp.entries ≡ []
+built_unused alloc config first p h = ap (λ (s : SctpStreams Contents). s.entries) h.streams
+
 -- how a peer was built and given its address
 pub record Makes (alloc : Global) (settings : PeerSettings) (cert : List ℕ) (first : ℕ) (addr : Addr) (config : Config) (built p : PlainPeer) : Type 0 where
   pub config_is : config ≡ program_config settings cert
@@ -73,14 +99,27 @@ program_peer alloc settings cert first addr config built p h = record {
 
 pub program_fresh : (alloc : Global) (settings : PeerSettings) (cert : List ℕ) (first : ℕ) (addr : Addr) (config : Config) (built p : PlainPeer)
     → Makes alloc settings cert first addr config built p → IsJustBuilt (stance_of plain_parts p)
-program_fresh alloc settings cert first addr config built p h = record {
-  lines = ap (λ (q : PlainPeer). q.lines) h.rest ∙ ap (λ (q : PlainPeer). q.lines) h.builds.rest;
-  staged = ap (λ (q : PlainPeer). q.staged) h.rest ∙ ap (λ (q : PlainPeer). q.staged) h.builds.rest;
-  channels = ap (λ (q : PlainPeer). q.channels) h.rest ∙ ap (λ (q : PlainPeer). q.channels) h.builds.rest;
-  counter = ap (λ (q : PlainPeer). q.counter) h.rest ∙ ap (λ (q : PlainPeer). q.counter) h.builds.rest;
-  remote = ap (λ (ice : IceContents). ice.settings.remote) h.added.1 ∙ added_remote (host_at addr) built.ice ∙ built_alone alloc config first built h.builds;
-  fingerprint = ap (λ (q : PlainPeer). q.fingerprint) h.rest ∙ ap (λ (q : PlainPeer). q.fingerprint) h.builds.rest;
-}
+program_fresh alloc settings cert first addr config built p h =
+    let streams : p.sctp ≡ built.sctp = ap (λ (q : PlainPeer). q.sctp) h.rest in
+    let snap : p.sctp.snap ≡ allowed_halves config.snap config.max_message_size nothing_kept =
+    ap (λ (s : SctpStreams Contents). s.snap) streams ∙ built_snap alloc config first built h.builds in
+    record {
+      lines = ap (λ (q : PlainPeer). q.lines) h.rest ∙ ap (λ (q : PlainPeer). q.lines) h.builds.rest;
+      staged = ap (λ (q : PlainPeer). q.staged) h.rest ∙ ap (λ (q : PlainPeer). q.staged) h.builds.rest;
+      channels = ap (λ (q : PlainPeer). q.channels) h.rest ∙ ap (λ (q : PlainPeer). q.channels) h.builds.rest;
+      counter = ap (λ (q : PlainPeer). q.counter) h.rest ∙ ap (λ (q : PlainPeer). q.counter) h.builds.rest;
+      remote = ap (λ (ice : IceContents). ice.settings.remote) h.added.1 ∙ added_remote (host_at addr) built.ice ∙ built_alone alloc config first built h.builds;
+      fingerprint = ap (λ (q : PlainPeer). q.fingerprint) h.rest ∙ ap (λ (q : PlainPeer). q.fingerprint) h.builds.rest;
+      uninited = ap (λ (s : SctpStreams Contents). is_started s.association) streams ∙ built_unstarted alloc config first built h.builds;
+      unstarted = ap (λ (kept : KeptHalves). kept.started) snap ∙ none_started config.snap config.max_message_size;
+      undrawn = subst (λ (kept : KeptHalves). IfSome kept.pending (λ halves. halves.local ≡ None)) (sym snap) (none_drawn config.snap config.max_message_size);
+    }
+
+-- no stream is in use
+pub program_unused : (alloc : Global) (settings : PeerSettings) (cert : List ℕ) (first : ℕ) (addr : Addr) (config : Config) (built p : PlainPeer)
+    → Makes alloc settings cert first addr config built p → p.sctp.entries ≡ []
+program_unused alloc settings cert first addr config built p h =
+    ap (λ (q : PlainPeer). q.sctp.entries) h.rest ∙ built_unused alloc config first built h.builds
 
 pub program_formed : (alloc : Global) (settings : PeerSettings) (cert : List ℕ) (first : ℕ) (addr : Addr) (config : Config) (built p : PlainPeer)
     → Makes alloc settings cert first addr config built p → (config.creds ≡ None → AreFormedFormats config.formats → IsFormed (stance_of plain_parts built))
@@ -134,9 +173,19 @@ fresh_at : (pair : PlainPairState) (at : Side) → IsJustBuilt (stance_of plain_
 fresh_at pair Left left right = left
 fresh_at pair Right left right = right
 
+unused_at : (pair : PlainPairState) (at : Side) → pair.left.core.sctp.entries ≡ [] → pair.right.core.sctp.entries ≡ [] → (peer_at at pair).sctp.entries ≡ []
+unused_at pair Left left right = left
+unused_at pair Right left right = right
+
 pub pair_fresh : (pair : PlainPairState) → IsJustBuilt (stance_of plain_parts pair.left.core) → IsJustBuilt (stance_of plain_parts pair.right.core)
-    → pair.sdps ≡ [] → pair.packets ≡ [] → pair.size ≡ 0 → IsFresh plain_parts pair
-pair_fresh pair left right sdps packets size = record { built = λ at. fresh_at pair at left right; sdps = sdps; packets = packets; size = size }
+    → pair.left.core.sctp.entries ≡ [] → pair.right.core.sctp.entries ≡ [] → pair.sdps ≡ [] → pair.packets ≡ [] → pair.size ≡ 0 → IsFresh plain_parts pair
+pair_fresh pair left right left_unused right_unused sdps packets size = record {
+  built = λ at. fresh_at pair at left right;
+  unused = λ at. unused_at pair at left_unused right_unused;
+  sdps = sdps;
+  packets = packets;
+  size = size;
+}
 
 pub pair_formed : (pair : PlainPairState) → IsFormed (stance_of plain_parts pair.left.core) → IsFormed (stance_of plain_parts pair.right.core)
     → (at : Side) → IsFormed (stances_of plain_parts pair at)

@@ -4,7 +4,9 @@ use Rattle.std.specs.declared.alloc.AllocError.{AllocError}
 use Rattle.rtc_lines.specs.declared.sdp_offer.SdpOffer.{SdpOffer}
 use Rattle.rtc_change.specs.PendingOffer.{PendingOffer}
 use Rattle.rtc_peer_state.specs.declared.peer.Peer.{Peer}
-use Rattle.rtc_peer_state.specs.Calls.{Applies}
+use Rattle.rtc_peer_state.specs.Calls.{Applies, LacksOffer}
+use Rattle.rtc_peer_state.specs.SdpHalves.{draws_half}
+use Rattle.rtc_peer_state.specs.Stance.{stance_of}
 use Rattle.rtc_peer.specs.Described.{sdp_of_offer}
 use Rattle.rtc_history.specs.declared.op.Op.{Op}
 use Rattle.rtc_history.specs.declared.op_answer.OpAnswer.{OpAnswer}
@@ -17,12 +19,21 @@ use Rattle.rtc_run.proofs.ChannelCounts.{ops_channels, ops_rows, alone_channels,
 use Rattle.rtc_peer_state.specs.Meanings.{Meanings}
 
 module _ {I D S M E X T W N : Type 0} (m : Meanings I D S M E X T W N) where
+  -- where memory ran out as an offer was made, lines and channels are as they were
+  lacking_rows : (draws : Bool) (p q : Peer I D S M N) → LacksOffer m draws p q → length q.lines ≡ length p.lines
+  lacking_rows true p q h = ap (λ r. length r.lines) h.1
+  lacking_rows false p q h = ap (λ r. length r.lines) h
+
+  lacking_channels : (draws : Bool) (p q : Peer I D S M N) → LacksOffer m draws p q → length q.channels.rows ≡ length p.channels.rows
+  lacking_channels true p q h = ap (λ r. length r.channels.rows) h.1
+  lacking_channels false p q h = ap (λ r. length r.channels.rows) h
+
   -- what is made of staged changes keeps the number of rows
   becomes_rows : (asked : Bool) (p q : Peer I D S M N) (applied : Applied) → Becomes m asked p applied q → length q.lines ≡ length p.lines
   becomes_rows false p q NotAsked h = ap (λ r. length r.lines) h
   becomes_rows true p q Nothing h = ap (λ r. length r.lines) h.1 ∙ ap length (alone_lines p.staged p)
   becomes_rows true p q (Offer offer token) h = ap (λ r. length r.lines) h.4
-  becomes_rows true p q Alloc h = ap (λ r. length r.lines) h
+  becomes_rows true p q Alloc h = lacking_rows (draws_half (stance_of m p)) p q h
   becomes_rows asked p q applied h = absurd h
 
   -- and that of channels
@@ -30,7 +41,7 @@ module _ {I D S M E X T W N : Type 0} (m : Meanings I D S M E X T W N) where
   becomes_channels false p q NotAsked h = ap (λ r. length r.channels.rows) h
   becomes_channels true p q Nothing h = ap (λ r. length r.channels.rows) h.1 ∙ alone_channels p.staged p
   becomes_channels true p q (Offer offer token) h = ap (λ r. length r.channels.rows) h.4
-  becomes_channels true p q Alloc h = ap (λ r. length r.channels.rows) h
+  becomes_channels true p q Alloc h = lacking_channels (draws_half (stance_of m p)) p q h
   becomes_channels asked p q applied h = absurd h
 
   stages : (old p between q : Peer I D S M N) (ops : List Op) (apply asked : Bool) (answers slice : List OpAnswer) (applied : Applied) → p ≡ lent old → PerformsOps m p ops answers between → slice ≡ answers → asked ≡ (apply && not (answers_lack slice)) → Becomes m asked between applied q → Stages m old ops apply answers applied q

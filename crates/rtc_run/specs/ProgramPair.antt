@@ -57,6 +57,7 @@ program_config settings cert = record {
   creds = None;
   cert = Some cert;
   formats = default_formats;
+  snap = settings.snap;
   max_buffered = settings.max_buffered;
   max_message_size = settings.max_message_size;
   stats_interval = settings.stats_interval;

@@ -7,6 +7,8 @@ use rtc_wire::Span;
 pub struct PeerSettings {
     /// Whether its ICE agent only answers checks (RFC 8445, section 2.5).
     pub lite: bool,
+    /// Whether its association may be started by session descriptions (draft-hancke-tsvwg-snap).
+    pub snap: bool,
     /// How many bytes of its data channels may be buffered before nothing is available.
     pub max_buffered: usize,
     /// The longest message that it takes, in bytes, which its session descriptions tell (RFC 8841, section 6.1).

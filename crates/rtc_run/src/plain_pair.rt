@@ -39,6 +39,7 @@ fn make_config(alloc: Global, settings: PeerSettings, name: &str) -> Result<RtcC
         config
             .set_ice_lite(settings.lite)
             .set_dtls_cert(cert)
+            .set_snap_enabled(settings.snap)
             .set_sctp_max_buffered_amount(settings.max_buffered)
             .set_sctp_max_message_size(settings.max_message_size)
             .set_stats_interval(settings.stats_interval),
@@ -87,6 +88,7 @@ fn make_peer(
     ensures peer { IfOk result (λ rtc. IsProgramPeer alloc settings name.now first addr rtc.core) }
     ensures unconnected { IfOk result (λ rtc. rtc.transport ≡ no_transport true settings.stats_interval) }
     ensures fresh { IfOk result (λ rtc. IsJustBuilt (stance_of plain_parts rtc.core)) }
+    ensures unused { IfOk result (λ rtc. rtc.core.sctp.entries ≡ []) }
     ensures formed { IfOk result (λ rtc. IsHostCandidate (host_at addr) → IsFormed (stance_of plain_parts rtc.core)) }
 {
     let config = make_config(alloc, settings, name)?;

@@ -1,5 +1,6 @@
 //! Runs of pairs.
 ghost use Rattle.std.specs.Prelude.{◌≡◌, ◌+◌, ◌<◌, ◌≤◌, ◌^◌, ◌-◌, [], length, IfOk, OnErr, vec_capacity};
+ghost use Rattle.rtc_history.specs.DrawnInRuns.{AllPlain, DrawsUnused, HaveNoLines};
 ghost use Rattle.rtc_history.specs.Sizes.{steps_size};
 ghost use Rattle.rtc_history.specs.Fresh.{ArePeersFormed, IsFresh};
 ghost use Rattle.rtc_history.specs.Runs.{Runs};
@@ -14,8 +15,8 @@ use std::alloc::{AllocError, Global};
 
 /// Performs steps in order, each by the public calls of the acting peer, and gives a reply for each.
 ///
-/// Offers and answers reach the other peer as signalling delivers them: written, and read again. Room for the replies is made first,
-/// so an error leaves both peers as they were.
+/// Offers and answers reach the other peer as signalling delivers them: written, and read again. They are read as they were written
+/// where each source was unused when it was drawn. Room for the replies is made first, so an error leaves both peers as they were.
 pub fn run_pair<I: IceAgent, D: DtlsInstance, S: Association, M: MediaSession, N: Ids>(
     alloc: Global,
     pair: &mut Pair<I, D, S, M, N>,
@@ -27,6 +28,12 @@ pub fn run_pair<I: IceAgent, D: DtlsInstance, S: Association, M: MediaSession, N
         pair.old steps.now replies pair.new) }
     ensures read_back { ArePeersFormed (meanings I.ice D.dtls S.association M.media N.ids) pair.old
         → IfOk result (λ replies. AllReadBack pair.new.sdps) }
+    ensures plain { ArePeersFormed (meanings I.ice D.dtls S.association M.media N.ids) pair.old
+        → HaveNoLines (meanings I.ice D.dtls S.association M.media N.ids) pair.old
+        → IfOk result (λ replies. (run : Runs (meanings I.ice D.dtls S.association M.media N.ids) I.stun
+        pair.old steps.now replies pair.new)
+        → DrawsUnused (meanings I.ice D.dtls S.association M.media N.ids) I.stun pair.old steps.now replies pair.new run
+        → AllPlain pair.new.sdps) }
     ensures untouched { OnErr result (pair.new ≡ pair.old) }
 {
     let mut replies = Vec::with_capacity(alloc, steps.len())?;

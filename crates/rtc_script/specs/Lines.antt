@@ -14,7 +14,7 @@ use Rattle.rtc_history.specs.declared.step.Step.TheVariants.{Write, CloseChannel
 use Rattle.rtc_script.specs.ChannelParts.{AreChannelParts}
 use Rattle.rtc_script.specs.Words.{side_text, kind_text, direction_text, hex_word, keep_text, message_kind_text, setting_words}
 use Rattle.rtc_script.specs.declared.setting.Setting.{Setting}
-use Rattle.rtc_script.specs.declared.setting.Setting.TheVariants.{Lite, Buffer, MaxMessage, Stats}
+use Rattle.rtc_script.specs.declared.setting.Setting.TheVariants.{Lite, Snap, Buffer, MaxMessage, Stats}
 
 -- the parts of an op's word
 abbrev pub AreOpParts : List (List ℕ) → Op → Type 0
@@ -95,6 +95,7 @@ IsLine line step = AreStepWords (words line) step
 -- between rounds of statistics
 abbrev pub IsAllowed : Setting → Type 0
 IsAllowed Lite = Unit {0}
+IsAllowed Snap = Unit {0}
 IsAllowed (Buffer size) = size ≤ 1000000000
 IsAllowed (MaxMessage size) = size < 2 ^ 32
 IsAllowed (Stats millis) = (1 ≤ millis) × (millis ≤ 1000000000)

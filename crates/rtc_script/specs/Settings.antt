@@ -4,10 +4,11 @@ use Rattle.std.specs.List.{list_any}
 use Rattle.rtc_history.specs.declared.side.Side.{Side}
 use Rattle.rtc_history.specs.Sides.{same_side}
 use Rattle.rtc_script.specs.declared.setting.Setting.{Setting}
-use Rattle.rtc_script.specs.declared.setting.Setting.TheVariants.{Lite, Buffer, MaxMessage, Stats}
+use Rattle.rtc_script.specs.declared.setting.Setting.TheVariants.{Lite, Snap, Buffer, MaxMessage, Stats}
 
 abbrev pub is_lite_setting : Setting → Bool
 is_lite_setting Lite = true
+is_lite_setting Snap = false
 is_lite_setting (Buffer size) = false
 is_lite_setting (MaxMessage size) = false
 is_lite_setting (Stats millis) = false
@@ -18,6 +19,20 @@ makes_lite at setting = same_side setting.0 at && is_lite_setting setting.1
 -- whether settings make the agent of a side lite
 abbrev pub sets_lite : Side → List (Side × Setting) → Bool
 sets_lite at settings = list_any (makes_lite at) settings
+
+abbrev pub is_snap_setting : Setting → Bool
+is_snap_setting Lite = false
+is_snap_setting Snap = true
+is_snap_setting (Buffer size) = false
+is_snap_setting (MaxMessage size) = false
+is_snap_setting (Stats millis) = false
+
+abbrev pub allows_snap : Side → Side × Setting → Bool
+allows_snap at setting = same_side setting.0 at && is_snap_setting setting.1
+
+-- whether settings let the association of a side be started by session descriptions
+abbrev pub sets_snap : Side → List (Side × Setting) → Bool
+sets_snap at settings = list_any (allows_snap at) settings
 
 -- a number of a side behind a setting, by what settings make of it, and behind all settings: the last one of the side counts
 abbrev pub number_after : (Setting → ℕ → ℕ) → Side → Side × Setting → ℕ → ℕ
@@ -30,6 +45,7 @@ number_from by at (setting ∷ settings) n = number_from by at settings (number_
 -- how many bytes may be buffered by a setting, or else as before
 abbrev pub buffer_by : Setting → ℕ → ℕ
 buffer_by Lite size = size
+buffer_by Snap size = size
 buffer_by (Buffer set) size = set
 buffer_by (MaxMessage set) size = size
 buffer_by (Stats millis) size = size
@@ -41,6 +57,7 @@ buffer_set at settings = number_from buffer_by at settings 131072
 -- the longest message that is taken by a setting, or else as before
 abbrev pub max_message_by : Setting → ℕ → ℕ
 max_message_by Lite size = size
+max_message_by Snap size = size
 max_message_by (Buffer set) size = size
 max_message_by (MaxMessage set) size = set
 max_message_by (Stats millis) size = size
@@ -52,6 +69,7 @@ max_message_set at settings = number_from max_message_by at settings 262144
 -- the nanoseconds between two rounds of statistics by a setting, or else as before
 abbrev pub interval_by : Setting → Option ℕ → Option ℕ
 interval_by Lite interval = interval
+interval_by Snap interval = interval
 interval_by (Buffer size) interval = interval
 interval_by (MaxMessage size) interval = interval
 interval_by (Stats millis) interval = Some (millis * 1000000)

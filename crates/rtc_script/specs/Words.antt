@@ -9,7 +9,7 @@ use Rattle.rtc_sdp_values.specs.declared.media_kind.MediaKind.TheVariants.{Audio
 use Rattle.rtc_history.specs.declared.side.Side.{Side}
 use Rattle.rtc_history.specs.declared.side.Side.TheVariants.{Left, Right}
 use Rattle.rtc_script.specs.declared.setting.Setting.{Setting}
-use Rattle.rtc_script.specs.declared.setting.Setting.TheVariants.{Lite, Buffer, MaxMessage, Stats}
+use Rattle.rtc_script.specs.declared.setting.Setting.TheVariants.{Lite, Snap, Buffer, MaxMessage, Stats}
 
 -- the letter of a side
 abbrev pub side_text : Side → List ℕ
@@ -46,6 +46,7 @@ keep_text false = codes "new"
 -- the words of a setting
 abbrev pub setting_words : Setting → List (List ℕ)
 setting_words Lite = codes "lite" ∷ []
+setting_words Snap = codes "snap" ∷ []
 setting_words (Buffer size) = codes "buffer" ∷ decimal size ∷ []
 setting_words (MaxMessage size) = codes "maxmsg" ∷ decimal size ∷ []
 setting_words (Stats millis) = codes "stats" ∷ decimal millis ∷ []

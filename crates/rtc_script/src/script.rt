@@ -1,6 +1,7 @@
 //! What a script says.
 ghost use Rattle.std.specs.Prelude.{◌≡◌};
-ghost use Rattle.rtc_script.specs.Settings.{makes_lite, sets_lite, buffer_by, buffer_set, max_message_by, max_message_set, number_after};
+ghost use Rattle.rtc_script.specs.Settings.{makes_lite, sets_lite, allows_snap, sets_snap};
+ghost use Rattle.rtc_script.specs.Settings.{buffer_by, buffer_set, max_message_by, max_message_set, number_after};
 ghost use Rattle.rtc_script.specs.Settings.{interval_after, interval_by, interval_set};
 
 use crate::Setting;
@@ -20,7 +21,8 @@ fn makes_lite(setting: &(Side, Setting), at: Side) -> bool
     match (setting.0, at) {
         (Side::Left, Side::Left) | (Side::Right, Side::Right) => match setting.1 {
             Setting::Lite => true,
-            Setting::Buffer { size: _ }
+            Setting::Snap
+            | Setting::Buffer { size: _ }
             | Setting::MaxMessage { size: _ }
             | Setting::Stats { millis: _ } => false,
         },
@@ -39,12 +41,41 @@ fn sets_lite(settings: &[(Side, Setting)], at: Side) -> bool
     false
 }
 
+fn allows_snap(setting: &(Side, Setting), at: Side) -> bool
+    ensures { result ≡ allows_snap at setting.now }
+{
+    match (setting.0, at) {
+        (Side::Left, Side::Left) | (Side::Right, Side::Right) => match setting.1 {
+            Setting::Snap => true,
+            Setting::Lite
+            | Setting::Buffer { size: _ }
+            | Setting::MaxMessage { size: _ }
+            | Setting::Stats { millis: _ } => false,
+        },
+        (Side::Left, Side::Right) | (Side::Right, Side::Left) => false,
+    }
+}
+
+fn sets_snap(settings: &[(Side, Setting)], at: Side) -> bool
+    ensures { result ≡ sets_snap at settings.now }
+{
+    for setting in settings {
+        if allows_snap(setting, at) {
+            return true;
+        }
+    }
+    false
+}
+
 // How many bytes may be buffered by a setting, or else as before.
 fn buffer_by(setting: Setting, size: usize) -> usize
     ensures { result ≡ buffer_by setting size }
 {
     match setting {
-        Setting::Lite | Setting::MaxMessage { size: _ } | Setting::Stats { millis: _ } => size,
+        Setting::Lite
+        | Setting::Snap
+        | Setting::MaxMessage { size: _ }
+        | Setting::Stats { millis: _ } => size,
         Setting::Buffer { size: set } => set as usize,
     }
 }
@@ -73,7 +104,10 @@ fn max_message_by(setting: Setting, size: u32) -> u32
     ensures { result ≡ max_message_by setting size }
 {
     match setting {
-        Setting::Lite | Setting::Buffer { size: _ } | Setting::Stats { millis: _ } => size,
+        Setting::Lite
+        | Setting::Snap
+        | Setting::Buffer { size: _ }
+        | Setting::Stats { millis: _ } => size,
         Setting::MaxMessage { size: set } => set,
     }
 }
@@ -102,7 +136,10 @@ fn interval_by(setting: Setting, interval: Option<Span>) -> Option<Span>
     ensures { result ≡ interval_by setting interval }
 {
     match setting {
-        Setting::Lite | Setting::Buffer { size: _ } | Setting::MaxMessage { size: _ } => interval,
+        Setting::Lite
+        | Setting::Snap
+        | Setting::Buffer { size: _ }
+        | Setting::MaxMessage { size: _ } => interval,
         Setting::Stats { millis } => Some(Span::from_nanos(millis as u64 * 1_000_000)),
     }
 }
@@ -132,6 +169,13 @@ impl Script {
         ensures { result ≡ sets_lite at self.now.settings }
     {
         sets_lite(self.settings.as_slice(), at)
+    }
+
+    /// Whether its settings let the association of a side be started by session descriptions.
+    pub fn sets_snap(&self, at: Side) -> bool
+        ensures { result ≡ sets_snap at self.now.settings }
+    {
+        sets_snap(self.settings.as_slice(), at)
     }
 
     /// How many bytes of data channels its settings let a side buffer.

@@ -5,6 +5,8 @@
 pub enum Setting {
     /// Its ICE agent only answers checks (RFC 8445, section 2.5).
     Lite,
+    /// Its association may be started by session descriptions (draft-hancke-tsvwg-snap).
+    Snap,
     /// How many bytes of its data channels may be buffered, at most 1000000000.
     Buffer { size: u32 },
     /// The longest message that it takes, in bytes, which its session descriptions tell (RFC 8841, section 6.1).

@@ -22,6 +22,8 @@ fn read_one_word(word: &[u8]) -> Option<Setting>
 {
     if word == b"lite".as_slice() {
         Some(Setting::Lite)
+    } else if word == b"snap".as_slice() {
+        Some(Setting::Snap)
     } else {
         None
     }

@@ -55,6 +55,7 @@ fn tell_rounds(
 fn settings_of(script: &Script, at: Side) -> PeerSettings {
     PeerSettings {
         lite: script.sets_lite(at),
+        snap: script.sets_snap(at),
         max_buffered: script.buffer_set(at),
         max_message_size: script.max_message_set(at),
         stats_interval: script.interval_set(at),

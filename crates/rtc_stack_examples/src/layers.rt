@@ -1,6 +1,6 @@
 //! Layers that are sent.
+use crate::lines::count_line;
 use crate::peers::{Peer, build, release};
-use rtc_fields::lines;
 use rtc_peer::{
     Direction, Ids, MediaKind, MediaLine, Rid, SdpOffer, Simulcast, SimulcastLayer, Ssrc,
 };
@@ -69,18 +69,6 @@ fn offer<N: Ids + Drop>(
         Some((offer, _token)) => Ok(Some(offer)),
         None => Ok(None),
     }
-}
-
-// How often a line stands in a text.
-fn count_line(alloc: Global, text: &str, wanted: &str) -> Result<usize, AllocError> {
-    let mut count = 0usize;
-    let found = lines(alloc, text)?;
-    for line in found.as_slice() {
-        if *line == wanted {
-            count = count.saturating_add(1);
-        }
-    }
-    Ok(count)
 }
 
 fn are_resent(ssrcs: &[(Ssrc, Option<Ssrc>)]) -> bool {

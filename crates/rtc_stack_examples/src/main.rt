@@ -1,7 +1,8 @@
 //! Runs stored examples of offers of other stacks, as a signalling server hands them over, and of what a peer answers.
 //!
 //! Each line of the input names an example, and is printed again behind `agrees` or `differs`: `answer PATH` gives a fresh peer the
-//! offer `PATH.offer`, whose answer has the lines of `PATH.answer`; `codecs NAME` and `layers NAME` are calls.
+//! offer `PATH.offer`, whose answer has the lines of `PATH.answer`; `codecs NAME`, `layers NAME` and
+//! `starts NAME` are calls.
 #![tactic(auto)]
 
 mod answers;
@@ -9,6 +10,7 @@ mod codecs;
 mod layers;
 mod lines;
 mod peers;
+mod starts;
 
 use rtc_plain::CountIds;
 use std::process::ExitCode;
@@ -39,11 +41,34 @@ fn is_chosen<R: Files + AllocGlobal>(rt: &R, example: &str) -> io::Result<bool> 
     }
 }
 
+// The offer beside the first one, which tells another chunk or none.
+fn other_offer(example: &str) -> &'static str {
+    if example == "keep the first chunk" {
+        "starts/other_chunk"
+    } else {
+        "starts/no_chunk"
+    }
+}
+
+// Whether a start by session descriptions goes as is expected.
+fn is_started<R: Files + AllocGlobal>(rt: &R, example: &str) -> io::Result<bool> {
+    let first = read(rt, "starts/first_chunk", "text")?;
+    let other = read(rt, other_offer(example), "text")?;
+    let Ok(first) = str::from_utf8(first.as_slice()) else {
+        return Ok(false);
+    };
+    let Ok(other) = str::from_utf8(other.as_slice()) else {
+        return Ok(false);
+    };
+    Ok(starts::does_agree(rt.alloc(), example, first, other)?)
+}
+
 fn does_agree<R: Files + AllocGlobal>(rt: &R, subject: &str, name: &str) -> io::Result<bool> {
     match subject {
         "answer" => is_answered(rt, name),
         "codecs" => is_chosen(rt, name),
         "layers" => Ok(layers::does_agree(rt.alloc(), name)?),
+        "starts" => is_started(rt, name),
         _ => Ok(false),
     }
 }

@@ -41,6 +41,18 @@ pub fn build_with<N: Ids + Drop>(
     build_of(alloc, config.set_codec_config(codecs), ids)
 }
 
+/// A peer with the certificate `abc`, whose association may be started by session descriptions.
+pub fn build_with_snap<N: Ids + Drop>(alloc: Global, ids: N) -> Result<Peer<N>, AllocError> {
+    let mut cert = Vec::new(alloc);
+    cert.extend_from_slice(b"abc")?;
+    let config = RtcConfig::new(alloc)?;
+    build_of(
+        alloc,
+        config.set_dtls_cert(cert).set_snap_enabled(true),
+        ids,
+    )
+}
+
 /// Gives what was told of something, once that is dropped.
 pub fn release<P: Drop, T>(_done: P, told: T) -> T {
     told

@@ -3,7 +3,7 @@ use Rattle.rtc_run.proofs.PlainPeers.{pair_fresh, pair_formed, left_host, right_
 use Rattle.rtc_run.proofs.plain_pair.make_pair.Goals as goal
 
 pub returns-clause-fresh : goal.returns-clause-fresh
-returns-clause-fresh c = rw c.new.ensures (pair_fresh _ c.in_ok-left.ensures.fresh c.in_ok-right.ensures.fresh refl refl refl)
+returns-clause-fresh c = rw c.new.ensures (pair_fresh _ c.in_ok-left.ensures.fresh c.in_ok-right.ensures.fresh c.in_ok-left.ensures.unused c.in_ok-right.ensures.unused refl refl refl)
 
 pub returns-clause-formed : goal.returns-clause-formed
 returns-clause-formed c = rw c.new.ensures (pair_formed _ (c.in_ok-left.ensures.formed left_host) (c.in_ok-right.ensures.formed right_host))

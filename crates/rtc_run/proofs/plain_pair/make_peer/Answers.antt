@@ -1,7 +1,7 @@
 use Rattle.std.proofs.Common.{true, ◌∙◌, ap}
 use Rattle.rtc_peer_state.specs.Config.{Config}
 use Rattle.rtc_polling.specs.Connection.{no_transport}
-use Rattle.rtc_run.proofs.PlainPeers.{built_bare, program_fresh, program_formed}
+use Rattle.rtc_run.proofs.PlainPeers.{built_bare, program_fresh, program_formed, program_unused}
 use Rattle.rtc_run.proofs.plain_pair.make_peer.Goals as goal
 
 pub add_address-requires : goal.add_address-requires
@@ -10,6 +10,11 @@ add_address-requires c = built_bare c.args.alloc c.in_ok-config.config c.args.fi
 pub returns-clause-fresh : goal.returns-clause-fresh
 returns-clause-fresh c =
     program_fresh c.args.alloc c.args.settings c.args.name.now c.args.first c.args.addr c.in_ok-config.config c.in_ok-rtc.rtc.core c.add_address.new.rtc.core
+    (record { config_is = c.in_ok-config.ensures.value; builds = c.in_ok-rtc.ensures.built; added = c.in_ok-add_address.ensures.added; rest = c.in_ok-add_address.ensures.others })
+
+pub returns-clause-unused : goal.returns-clause-unused
+returns-clause-unused c =
+    program_unused c.args.alloc c.args.settings c.args.name.now c.args.first c.args.addr c.in_ok-config.config c.in_ok-rtc.rtc.core c.add_address.new.rtc.core
     (record { config_is = c.in_ok-config.ensures.value; builds = c.in_ok-rtc.ensures.built; added = c.in_ok-add_address.ensures.added; rest = c.in_ok-add_address.ensures.others })
 
 pub returns-clause-formed : goal.returns-clause-formed

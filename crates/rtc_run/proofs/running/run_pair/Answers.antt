@@ -1,5 +1,6 @@
 use Rattle.std.proofs.Common.{rules}
 use Rattle.rtc_history_laws.proofs.FormedSteps.{runs_read_back}
+use Rattle.rtc_history_laws.proofs.PlainRuns.{runs_plain}
 use Rattle.rtc_run.proofs.Sized.{run_begins, run_has_room, run_goes_on}
 use Rattle.rtc_peer_state.specs.Meanings.{meanings}
 use Rattle.rtc_run.proofs.running.run_pair.Goals as goal
@@ -28,3 +29,6 @@ loop-step-preserved g c =
 
 pub returns-clause-read_back : goal.returns-clause-read_back
 returns-clause-read_back g c = λ formed. runs_read_back (meanings g.I.IceAgent.ice g.D.DtlsInstance.dtls g.S.Association.association g.M.MediaSession.media g.N.Ids.ids) g.I.StunReader.stun (record { ice = g.met.I.IceAgent.laws; dtls = g.met.D.DtlsInstance.laws; association = g.met.S.Association.laws; media = g.met.M.MediaSession.laws }) _ _ _ _ c.requires.fresh formed c.loop-step.invariant.runs
+
+pub returns-clause-plain : goal.returns-clause-plain
+returns-clause-plain g c = λ formed none run drew. runs_plain (meanings g.I.IceAgent.ice g.D.DtlsInstance.dtls g.S.Association.association g.M.MediaSession.media g.N.Ids.ids) g.I.StunReader.stun (record { ice = g.met.I.IceAgent.laws; dtls = g.met.D.DtlsInstance.laws; association = g.met.S.Association.laws; media = g.met.M.MediaSession.laws }) _ _ _ _ c.requires.fresh formed none run drew
