@@ -1,6 +1,6 @@
 //! The calls by their names.
 use crate::peers::{Peer, build, build_of, release, succeeds};
-use crate::{connected, direct, parts, rounds, staging, streams};
+use crate::{direct, parts, staging, streams};
 use rtc_assoc_end::PlainAssociation;
 use rtc_peer::{Ids, Rtc, RtcConfig};
 use rtc_plain::{PlainDtls, PlainIce, PlainMedia};
@@ -33,45 +33,6 @@ fn with_peer<N: Ids + Drop>(
     release(peer, told)
 }
 
-// What two peers are asked.
-fn ask_both<N: Ids + Drop>(
-    alloc: Global,
-    left: &mut Peer<N>,
-    right: &mut Peer<N>,
-    subject: &str,
-    call: &str,
-) -> Result<bool, AllocError> {
-    match subject {
-        "Rounds" => Ok(rounds::does_succeed(left, right, call)),
-        "Connected" => connected::does_succeed(alloc, left, right, call),
-        _ => Ok(false),
-    }
-}
-
-fn with_right<N: Ids + Drop>(
-    alloc: Global,
-    left: &mut Peer<N>,
-    right: N,
-    subject: &str,
-    call: &str,
-) -> Result<bool, AllocError> {
-    let mut right = build(alloc, right)?;
-    let told = ask_both(alloc, left, &mut right, subject, call);
-    release(right, told)
-}
-
-fn with_both<N: Ids + Drop>(
-    alloc: Global,
-    left: N,
-    right: N,
-    subject: &str,
-    call: &str,
-) -> Result<bool, AllocError> {
-    let mut left = build(alloc, left)?;
-    let told = with_right(alloc, &mut left, right, subject, call);
-    release(left, told)
-}
-
 fn is_built<N: Ids + Drop>(alloc: Global, ids: N) -> Result<bool, AllocError> {
     let config = RtcConfig::new(alloc)?;
     Ok(succeeds(build_of(alloc, config, ids)))
@@ -92,19 +53,12 @@ fn make<N: Ids + Drop>(alloc: Global, ids: N, call: &str) -> Result<bool, AllocE
 }
 
 /// Whether a call succeeds: it stands behind its subject.
-pub fn does_succeed<N: Ids + Drop>(
-    alloc: Global,
-    left: N,
-    right: N,
-    name: &str,
-) -> Result<bool, AllocError> {
+pub fn does_succeed<N: Ids + Drop>(alloc: Global, ids: N, name: &str) -> Result<bool, AllocError> {
     let Some((subject, call)) = name.split_once(' ') else {
         return Ok(false);
     };
     match subject {
-        "Built" => make(alloc, left, call),
-        "Rounds" => with_both(alloc, left, right, subject, call),
-        "Connected" => with_both(alloc, left, right, subject, call),
-        _ => with_peer(alloc, left, subject, call),
+        "Built" => make(alloc, ids, call),
+        _ => with_peer(alloc, ids, subject, call),
     }
 }

@@ -1,8 +1,10 @@
 //! Calls without session descriptions.
 use crate::peers::{is_true, succeeds};
 use rtc_peer::{
-    Association, DirectApi, DtlsInstance, IceAgent, Ids, MediaKind, MediaSession, Mid, Ssrc,
+    Association, DirectApi, DtlsInstance, IceAgent, Ids, MediaKind, MediaSession, Mid,
+    SctpInitData, Ssrc,
 };
+use rtc_plain::CountIds;
 use rtc_wire::ChannelConfig;
 use std::alloc::{AllocError, Global};
 
@@ -25,6 +27,17 @@ fn closes_channel<I: IceAgent, D: DtlsInstance, S: Association, M: MediaSession,
     }
 }
 
+fn starts_by_halves<I: IceAgent, D: DtlsInstance, S: Association, M: MediaSession, N: Ids>(
+    alloc: Global,
+    api: &mut DirectApi<'_, I, D, S, M, N>,
+) -> Result<bool, AllocError> {
+    let mut halves = SctpInitData::new(alloc);
+    let mut ids = CountIds::starting(1);
+    halves.ensure_local_init_chunk(&mut ids)?;
+    halves.set_remote_init_chunk(vec![in alloc; 1u8; 20]?);
+    Ok(succeeds(api.start_sctp_with_snap(true, halves)))
+}
+
 /// Whether a call without session descriptions succeeds.
 pub fn does_succeed<I: IceAgent, D: DtlsInstance, S: Association, M: MediaSession, N: Ids>(
     alloc: Global,
@@ -35,6 +48,7 @@ pub fn does_succeed<I: IceAgent, D: DtlsInstance, S: Association, M: MediaSessio
         "local_ice_credentials" => Ok(succeeds(api.local_ice_credentials())),
         "start_dtls" => Ok(succeeds(api.start_dtls(true))),
         "start_sctp" => Ok(succeeds(api.start_sctp(true))),
+        "start_sctp_with_snap" => starts_by_halves(alloc, api),
         "create_data_channel" => {
             Ok(succeeds(api.create_data_channel(ChannelConfig::new(alloc))))
         }

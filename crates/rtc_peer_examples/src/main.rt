@@ -5,11 +5,9 @@
 #![tactic(auto)]
 
 mod calls;
-mod connected;
 mod direct;
 mod parts;
 mod peers;
-mod rounds;
 mod staging;
 mod streams;
 
@@ -22,11 +20,7 @@ fn main(rt: HostRuntime) -> io::Result<ExitCode> {
     for line in rt.lines(rt.alloc()) {
         let line = line?;
         let agrees = match line.as_str().strip_prefix("memory ") {
-            Some(name) => {
-                let left = CountIds::starting(1);
-                let right = CountIds::starting(1_000_001);
-                calls::does_succeed(rt.alloc(), left, right, name)?
-            }
+            Some(name) => { calls::does_succeed(rt.alloc(), CountIds::starting(1), name)? }
             None => false,
         };
         if agrees {

@@ -1,5 +1,5 @@
 //! Calls that stage changes, and offer them.
-use crate::peers::{is_true, succeeds};
+use crate::peers::succeeds;
 use rtc_peer::{
     Association, Direction, DtlsInstance, IceAgent, Ids, MediaKind, MediaSession, Mid, SdpApi,
 };
@@ -35,20 +35,4 @@ pub fn does_succeed<I: IceAgent, D: DtlsInstance, S: Association, M: MediaSessio
         "ice_restart" => Ok(succeeds(api.ice_restart(true))),
         _ => Ok(false),
     }
-}
-
-/// Whether the direction of the line of a mid is set.
-pub fn sets<I: IceAgent, D: DtlsInstance, S: Association, M: MediaSession, N: Ids>(
-    api: &mut SdpApi<'_, I, D, S, M, N>,
-    mid: Mid,
-) -> bool {
-    is_true(api.set_direction(mid, Direction::RecvOnly))
-}
-
-/// Whether the line of a mid is stopped.
-pub fn stops<I: IceAgent, D: DtlsInstance, S: Association, M: MediaSession, N: Ids>(
-    api: &mut SdpApi<'_, I, D, S, M, N>,
-    mid: Mid,
-) -> bool {
-    is_true(api.stop_media(mid))
 }
