@@ -1,5 +1,5 @@
 //! Session descriptions that a peer makes.
-ghost use Rattle.std.specs.Prelude.{◌≡◌, IfOk, map};
+ghost use Rattle.std.specs.Prelude.{◌≡◌, ◌++◌, [], ◌∷◌, IfOk, OnOk, Some, map};
 ghost use Rattle.rtc_peer_state.specs.MadeSdp.{
   is_stopped,
   shown_msid as ShownMsid,
@@ -15,13 +15,14 @@ ghost use Rattle.rtc_peer_state.specs.MadeSdp.{
   sdp_of_rows,
 };
 
+use crate::filling::whole;
 use rtc_peer_state::{LineMedia, SdpHead, ToldRow};
 use rtc_sdp_values::{
-    Candidate, Direction, Fingerprint, IceCreds, LineKind, LineRow, MediaKind, MediaLine, Mid,
-    Msid, Sdp, Setup, Ssrc,
+    Candidate, Direction, LineKind, LineRow, MediaKind, MediaLine, Mid, Msid, Sdp, Ssrc,
 };
 use rtc_wire::{Seq, Text, TryCopy};
 use std::alloc::{AllocError, Global};
+use std::mem;
 
 fn kind_of_line(kind: MediaKind) -> LineKind
     ensures { result ≡ line_kind kind }
@@ -40,29 +41,6 @@ pub fn is_stopped_row(row: &LineRow) -> bool
         LineRow::Media { stopped, .. } => *stopped,
         LineRow::App { .. } => false,
     }
-}
-
-// An m-line with the credentials, the fingerprint, the role and the start of its peer.
-fn peer_line(
-    creds: IceCreds,
-    fingerprint: Fingerprint,
-    setup: Setup,
-    sctp_init: Option<Text>,
-    line: MediaLine,
-) -> MediaLine
-    ensures { result ≡ record line {
-      sctp_init = sctp_init;
-      creds = Some creds;
-      fingerprint = Some fingerprint;
-      setup = Some setup;
-    } }
-{
-    let mut line = line;
-    line.sctp_init = sctp_init;
-    line.creds = Some(creds);
-    line.fingerprint = Some(fingerprint);
-    line.setup = Some(setup);
-    line
 }
 
 // A stopped line tells no stream.
@@ -158,15 +136,30 @@ fn init_of_row(told: &Option<Text>, row: &LineRow) -> Result<Option<Text>, Alloc
     }
 }
 
+// Puts the credentials, the fingerprint, the role and the start of the peer on the line of a row.
+fn put_peer(head: &SdpHead, row: &LineRow, line: &mut MediaLine) -> Result<(), AllocError>
+    ensures { OnOk result (line.new ≡ record line.old {
+      sctp_init = InitOfRow head.now.sctp_init row.now;
+      creds = Some head.now.creds;
+      fingerprint = Some head.now.fingerprint;
+      setup = Some head.now.setup;
+    }) }
+{
+    line.sctp_init = init_of_row(&head.sctp_init, row)?;
+    line.creds = Some(head.creds.copy()?);
+    line.fingerprint = Some(head.fingerprint.copy()?);
+    line.setup = Some(head.setup);
+    Ok(())
+}
+
 // The m-line of a row.
 fn line_of_row(alloc: Global, head: &SdpHead, told: ToldRow) -> Result<MediaLine, AllocError>
     ensures { IfOk result (λ line. line ≡ told_line head.now told) }
 {
-    let creds = head.creds.copy()?;
-    let fingerprint = head.fingerprint.copy()?;
-    let sctp_init = init_of_row(&head.sctp_init, &told.row)?;
-    let line = bare_row_line(alloc, head.max_message_size, told.media, &told.row);
-    Ok(peer_line(creds, fingerprint, head.setup, sctp_init, line))
+    let ToldRow { row, media } = told;
+    let mut line = bare_row_line(alloc, head.max_message_size, media, &row);
+    let put = put_peer(head, &row, &mut line);
+    whole(line, put)
 }
 
 fn list_lines(
@@ -184,15 +177,15 @@ fn list_lines(
     Ok(lines)
 }
 
-// The lines, with the candidates at the first.
-fn put_candidates(lines: Vec<MediaLine>, candidates: Seq<Candidate>) -> Vec<MediaLine>
-    ensures { result.items ≡ with_candidates candidates lines.items }
+// Puts the candidates at the first line.
+fn put_candidates(alloc: Global, candidates: Seq<Candidate>, sdp: &mut Sdp)
+    ensures { sdp.new ≡ record sdp.old { lines = with_candidates candidates sdp.old.lines } }
 {
-    let mut lines = lines;
+    let mut lines = mem::replace(&mut sdp.lines, Seq::empty(alloc)).into_vec();
     if let Some(line) = lines.first_mut() {
         line.candidates = candidates;
     }
-    lines
+    sdp.lines = Seq::new(lines);
 }
 
 // The mids of the rows that are not stopped.
@@ -208,22 +201,39 @@ fn list_live_mids(alloc: Global, rows: &[ToldRow]) -> Result<Seq<Mid>, AllocErro
     Ok(Seq::new(mids))
 }
 
+// Puts the lines of rows, and the group of those that are not stopped.
+fn put_rows(
+    alloc: Global,
+    head: &SdpHead,
+    rows: Vec<ToldRow>,
+    sdp: &mut Sdp,
+) -> Result<(), AllocError>
+    ensures { OnOk result (sdp.new ≡ record sdp.old {
+      groups = sdp.old.groups ++ live_mids (map row_told rows.items) ∷ [];
+      lines = map (told_line head.now) rows.items;
+    }) }
+{
+    let group = list_live_mids(alloc, rows.as_slice())?;
+    sdp.groups.push(group)?;
+    let lines = list_lines(alloc, head, rows)?;
+    sdp.lines = Seq::new(lines);
+    Ok(())
+}
+
 /// The session description of rows.
 pub fn make_sdp(alloc: Global, head: SdpHead, rows: Vec<ToldRow>) -> Result<Sdp, AllocError>
     ensures { IfOk result (λ sdp. sdp ≡ sdp_of_rows head rows.items) }
 {
-    let group = list_live_mids(alloc, rows.as_slice())?;
-    let mut groups = Seq::empty(alloc);
-    groups.push(group)?;
-    let lines = list_lines(alloc, &head, rows)?;
-    let lines = put_candidates(lines, head.candidates);
-    Ok(Sdp {
+    let mut sdp = Sdp {
         id: head.session,
-        groups,
+        groups: Seq::empty(alloc),
         ice_lite: head.lite,
         creds: None,
         fingerprint: None,
         setup: None,
-        lines: Seq::new(lines),
-    })
+        lines: Seq::empty(alloc),
+    };
+    let put = put_rows(alloc, &head, rows, &mut sdp);
+    put_candidates(alloc, head.candidates, &mut sdp);
+    whole(sdp, put)
 }

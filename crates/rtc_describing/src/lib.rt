@@ -2,6 +2,7 @@
 #![tactic(auto)]
 
 mod describing;
+mod filling;
 mod heading;
 mod line_told;
 mod sent_on_lines;

@@ -1,5 +1,5 @@
 //! What the lines of a peer tell of their media.
-ghost use Rattle.std.specs.Prelude.{◌≡◌, IfOk, Option, Some, None};
+ghost use Rattle.std.specs.Prelude.{◌≡◌, IfOk, OnOk, Option, Some, None};
 ghost use Rattle.std.specs.Option.{option_copied};
 ghost use Rattle.rtc_peer_state.specs.MadeSdp.{
   no_media as NoMedia,
@@ -10,6 +10,7 @@ ghost use Rattle.rtc_peer_state.specs.MadeSdp.{
   newest as Newest,
 };
 
+use crate::filling::whole;
 use rtc_change::AddMedia;
 use rtc_codecs::{extensions_of_kind, rows_of_kind};
 use rtc_media::{MediaSession, MediaUpdate};
@@ -32,23 +33,24 @@ pub fn no_media(alloc: Global) -> LineMedia
     }
 }
 
-fn media_of_update(update: &MediaUpdate) -> Result<LineMedia, AllocError>
+fn put_update(update: &MediaUpdate, media: &mut LineMedia) -> Result<(), AllocError>
+    ensures { OnOk result (media.new ≡ MediaOfUpdate update.now) }
+{
+    media.payloads = update.payloads.copy()?;
+    media.exts = update.exts.copy()?;
+    media.simulcast = update.simulcast.copy()?;
+    media.msid = update.msid.copy()?;
+    media.cname = update.cname.copy()?;
+    media.ssrcs = update.ssrcs_tx.copy()?;
+    Ok(())
+}
+
+fn media_of_update(alloc: Global, update: &MediaUpdate) -> Result<LineMedia, AllocError>
     ensures { IfOk result (λ media. media ≡ MediaOfUpdate update.now) }
 {
-    let payloads = update.payloads.copy()?;
-    let exts = update.exts.copy()?;
-    let simulcast = update.simulcast.copy()?;
-    let msid = update.msid.copy()?;
-    let cname = update.cname.copy()?;
-    let ssrcs = update.ssrcs_tx.copy()?;
-    Ok(LineMedia {
-        payloads,
-        exts,
-        simulcast,
-        msid,
-        cname,
-        ssrcs,
-    })
+    let mut media = no_media(alloc);
+    let put = put_update(update, &mut media);
+    whole(media, put)
 }
 
 // What a media part was told last of a line.
@@ -57,32 +59,40 @@ fn media_held(alloc: Global, held: Option<&MediaUpdate>) -> Result<LineMedia, Al
 {
     match held {
         None => Ok(no_media(alloc)),
-        Some(update) => media_of_update(update),
+        Some(update) => media_of_update(alloc, update),
     }
+}
+
+fn put_added(
+    alloc: Global,
+    formats: &Formats,
+    added: &AddMedia,
+    media: &mut LineMedia,
+) -> Result<(), AllocError>
+    ensures { OnOk result (media.new ≡ MediaOfAdded formats.now added.now) }
+{
+    let payloads = rows_of_kind(alloc, added.kind, formats.codecs.rows.as_slice())?;
+    media.payloads = Seq::new(payloads);
+    let exts = extensions_of_kind(alloc, added.kind, formats.extensions.rows.as_slice())?;
+    media.exts = Seq::new(exts);
+    media.simulcast = added.simulcast.copy()?;
+    media.msid = Some(added.msid.copy()?);
+    media.cname = Some(added.cname.copy()?);
+    media.ssrcs = added.ssrcs.copy()?;
+    Ok(())
 }
 
 /// What a line carries that this side adds: the rows and the extensions of its kind, and what was staged with it.
 pub fn media_of_added(
     alloc: Global,
     formats: &Formats,
-    media: &AddMedia,
+    added: &AddMedia,
 ) -> Result<LineMedia, AllocError>
-    ensures { IfOk result (λ made. made ≡ MediaOfAdded formats.now media.now) }
+    ensures { IfOk result (λ made. made ≡ MediaOfAdded formats.now added.now) }
 {
-    let payloads = rows_of_kind(alloc, media.kind, formats.codecs.rows.as_slice())?;
-    let exts = extensions_of_kind(alloc, media.kind, formats.extensions.rows.as_slice())?;
-    let simulcast = media.simulcast.copy()?;
-    let msid = media.msid.copy()?;
-    let cname = media.cname.copy()?;
-    let ssrcs = media.ssrcs.copy()?;
-    Ok(LineMedia {
-        payloads: Seq::new(payloads),
-        exts: Seq::new(exts),
-        simulcast,
-        msid: Some(msid),
-        cname: Some(cname),
-        ssrcs,
-    })
+    let mut media = no_media(alloc);
+    let put = put_added(alloc, formats, added, &mut media);
+    whole(media, put)
 }
 
 // The first of these updates, or else what is held.

@@ -151,19 +151,26 @@ fn refuse<I: IceAgent, D: DtlsInstance, S: Association, M: MediaSession, N: Ids>
     refusal_error(&mut peer.phase, refusal)
 }
 
-/// Accepts an offer, and answers it; the token of an own offer is superseded, also where the offer is refused.
-pub fn accept_offer<I: IceAgent, D: DtlsInstance, S: Association, M: MediaSession, N: Ids>(
+// Gives what was told of something, once that is dropped.
+fn release<P: Drop, T>(_done: P, told: T) -> T
+    ensures { result ≡ told }
+{
+    told
+}
+
+// Accepts an offer that the caller keeps, so that no way out drops it.
+fn accept_lent_offer<I: IceAgent, D: DtlsInstance, S: Association, M: MediaSession, N: Ids>(
     peer: &mut Peer<I, D, S, M, N>,
-    offer: Sdp,
+    offer: &Sdp,
 ) -> Result<Sdp, RtcError>
-    ensures { AcceptsOffer (meanings I.ice D.dtls S.association M.media N.ids) peer.old offer result peer.new }
+    ensures { AcceptsOffer (meanings I.ice D.dtls S.association M.media N.ids) peer.old offer.now result peer.new }
 {
     peer.counter = peer.counter.wrapping_add(1);
-    let plan = match judge_offer(peer, &offer) {
+    let plan = match judge_offer(peer, offer) {
         Ok(plan) => plan,
         Err(refusal) => return Err(refuse(peer, refusal)),
     };
-    let growth = match grow_offer(peer, &offer, &plan) {
+    let growth = match grow_offer(peer, offer, &plan) {
         Ok(growth) => growth,
         Err(_) => return Err(RtcError::Alloc),
     };
@@ -174,7 +181,7 @@ pub fn accept_offer<I: IceAgent, D: DtlsInstance, S: Association, M: MediaSessio
         fingerprint,
     } = growth;
     let Some(answer) = answer else { unreachable!() };
-    match move_peer(peer, following, starting, &offer, plan.rows.as_slice()) {
+    match move_peer(peer, following, starting, offer, plan.rows.as_slice()) {
         Ok(()) => {}
         Err(error) => return Err(error),
     }
@@ -182,6 +189,55 @@ pub fn accept_offer<I: IceAgent, D: DtlsInstance, S: Association, M: MediaSessio
     peer.media.commit();
     peer.lines.commit(plan);
     Ok(answer)
+}
+
+// Accepts an answer that the caller keeps.
+fn accept_lent_answer<I: IceAgent, D: DtlsInstance, S: Association, M: MediaSession, N: Ids>(
+    peer: &mut Peer<I, D, S, M, N>,
+    token: SdpPendingOffer,
+    answer: &Sdp,
+) -> Result<(), RtcError>
+    ensures { AcceptsAnswer (meanings I.ice D.dtls S.association M.media N.ids) peer.old token answer.now result peer.new }
+{
+    if peer.counter != token.change_id().wrapping_add(1) {
+        return Err(RtcError::ChangesOutOfOrder);
+    }
+    let plan = match judge_answer(peer, &token, answer) {
+        Ok(plan) => plan,
+        Err(refusal) => return Err(refuse(peer, refusal)),
+    };
+    let may = token.has_sctp_init();
+    let changes = token.into_changes();
+    let growth = match grow_answer(peer, may, &changes, answer, &plan) {
+        Ok(growth) => growth,
+        Err(_) => return Err(RtcError::Alloc),
+    };
+    let Growth {
+        answer: _,
+        following,
+        starting,
+        fingerprint,
+    } = growth;
+    match move_peer(peer, following, starting, answer, plan.rows.as_slice()) {
+        Ok(()) => {}
+        Err(error) => return Err(error),
+    }
+    peer.fingerprint = fingerprint;
+    peer.media.commit();
+    peer.lines.commit(plan);
+    confirm_channels(&mut peer.channels, changes);
+    Ok(())
+}
+
+/// Accepts an offer, and answers it; the token of an own offer is superseded, also where the offer is refused.
+pub fn accept_offer<I: IceAgent, D: DtlsInstance, S: Association, M: MediaSession, N: Ids>(
+    peer: &mut Peer<I, D, S, M, N>,
+    offer: Sdp,
+) -> Result<Sdp, RtcError>
+    ensures { AcceptsOffer (meanings I.ice D.dtls S.association M.media N.ids) peer.old offer result peer.new }
+{
+    let answer = accept_lent_offer(peer, &offer);
+    release(offer, answer)
 }
 
 /// Accepts the answer to the offer of a token, which is spent. The channels that it adds are confirmed.
@@ -192,32 +248,6 @@ pub fn accept_answer<I: IceAgent, D: DtlsInstance, S: Association, M: MediaSessi
 ) -> Result<(), RtcError>
     ensures { AcceptsAnswer (meanings I.ice D.dtls S.association M.media N.ids) peer.old token answer result peer.new }
 {
-    if peer.counter != token.change_id().wrapping_add(1) {
-        return Err(RtcError::ChangesOutOfOrder);
-    }
-    let plan = match judge_answer(peer, &token, &answer) {
-        Ok(plan) => plan,
-        Err(refusal) => return Err(refuse(peer, refusal)),
-    };
-    let may = token.has_sctp_init();
-    let changes = token.into_changes();
-    let growth = match grow_answer(peer, may, &changes, &answer, &plan) {
-        Ok(growth) => growth,
-        Err(_) => return Err(RtcError::Alloc),
-    };
-    let Growth {
-        answer: _,
-        following,
-        starting,
-        fingerprint,
-    } = growth;
-    match move_peer(peer, following, starting, &answer, plan.rows.as_slice()) {
-        Ok(()) => {}
-        Err(error) => return Err(error),
-    }
-    peer.fingerprint = fingerprint;
-    peer.media.commit();
-    peer.lines.commit(plan);
-    confirm_channels(&mut peer.channels, changes);
-    Ok(())
+    let finished = accept_lent_answer(peer, token, &answer);
+    release(answer, finished)
 }

@@ -1,5 +1,5 @@
 //! M-lines.
-ghost use Rattle.std.specs.Prelude.{◌≡◌};
+ghost use Rattle.std.specs.Prelude.{◌≡◌, IfOk, IsOk, OnOk};
 ghost use Rattle.rtc_sdp_values.specs.MediaLine.{bare_line};
 
 use crate::{
@@ -59,35 +59,89 @@ impl MediaLine {
     }
 }
 
+// What was copied, unless memory ran out meanwhile.
+fn whole(copied: MediaLine, filled: Result<(), AllocError>) -> Result<MediaLine, AllocError>
+    ensures line { IfOk result (λ line. line ≡ copied) }
+    ensures filled { OnOk result (IsOk filled) }
+{
+    filled?;
+    Ok(copied)
+}
+
+impl MediaLine {
+    // A line with a copy of all that takes no memory.
+    fn begin_copy(&self) -> MediaLine
+        ensures { result ≡ record (bare_line self.now.kind self.now.mid self.now.dir) {
+          disabled = self.now.disabled;
+          setup = self.now.setup;
+          max_message_size = self.now.max_message_size;
+        } }
+    {
+        let nothing = self.candidates.empty_text().into_string();
+        let mut line = MediaLine::bare(*nothing.allocator(), self.kind, self.mid, self.dir);
+        line.disabled = self.disabled;
+        line.setup = self.setup;
+        line.max_message_size = self.max_message_size;
+        line
+    }
+
+    fn copy_connection(&self, line: &mut MediaLine) -> Result<(), AllocError>
+        ensures { OnOk result (line.new ≡ record line.old {
+          candidates = self.now.candidates;
+          creds = self.now.creds;
+          fingerprint = self.now.fingerprint;
+          sctp_init = self.now.sctp_init;
+        }) }
+    {
+        line.candidates = self.candidates.copy()?;
+        line.creds = self.creds.copy()?;
+        line.fingerprint = self.fingerprint.copy()?;
+        line.sctp_init = self.sctp_init.copy()?;
+        Ok(())
+    }
+
+    fn copy_media(&self, line: &mut MediaLine) -> Result<(), AllocError>
+        ensures { OnOk result (line.new ≡ record line.old {
+          payloads = self.now.payloads;
+          exts = self.now.exts;
+          simulcast = self.now.simulcast;
+          msid = self.now.msid;
+          cname = self.now.cname;
+          ssrcs = self.now.ssrcs;
+        }) }
+    {
+        line.payloads = self.payloads.copy()?;
+        line.exts = self.exts.copy()?;
+        line.simulcast = self.simulcast.copy()?;
+        line.msid = self.msid.copy()?;
+        line.cname = self.cname.copy()?;
+        line.ssrcs = self.ssrcs.copy()?;
+        Ok(())
+    }
+
+    fn fill_copy(&self, line: &mut MediaLine) -> Result<(), AllocError>
+        ensures { OnOk result (line.new ≡ record line.old {
+          candidates = self.now.candidates;
+          creds = self.now.creds;
+          fingerprint = self.now.fingerprint;
+          sctp_init = self.now.sctp_init;
+          payloads = self.now.payloads;
+          exts = self.now.exts;
+          simulcast = self.now.simulcast;
+          msid = self.now.msid;
+          cname = self.now.cname;
+          ssrcs = self.now.ssrcs;
+        }) }
+    {
+        self.copy_connection(line)?;
+        self.copy_media(line)
+    }
+}
+
 impl TryCopy for MediaLine {
     fn copy(&self) -> Result<MediaLine, AllocError> {
-        let candidates = self.candidates.copy()?;
-        let creds = self.creds.copy()?;
-        let fingerprint = self.fingerprint.copy()?;
-        let payloads = self.payloads.copy()?;
-        let exts = self.exts.copy()?;
-        let simulcast = self.simulcast.copy()?;
-        let msid = self.msid.copy()?;
-        let cname = self.cname.copy()?;
-        let ssrcs = self.ssrcs.copy()?;
-        let sctp_init = self.sctp_init.copy()?;
-        Ok(MediaLine {
-            kind: self.kind,
-            disabled: self.disabled,
-            mid: self.mid,
-            dir: self.dir,
-            candidates,
-            creds,
-            fingerprint,
-            setup: self.setup,
-            payloads,
-            exts,
-            simulcast,
-            msid,
-            cname,
-            ssrcs,
-            max_message_size: self.max_message_size,
-            sctp_init,
-        })
+        let mut line = self.begin_copy();
+        let filled = self.fill_copy(&mut line);
+        whole(line, filled)
     }
 }
