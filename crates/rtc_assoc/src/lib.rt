@@ -18,6 +18,3 @@ pub use joined::moves_join_ends;
 pub use resets::each_reset_is_told_once;
 pub use rtc_assoc_end::PlainAssociation;
 pub use runs::run_assoc;
-
-#[cfg(test)]
-mod tests;

@@ -9,6 +9,3 @@ mod part;
 mod readings;
 
 pub use association::PlainAssociation;
-
-#[cfg(test)]
-mod tests;

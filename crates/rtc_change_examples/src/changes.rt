@@ -1,19 +1,13 @@
 //! Staged changes: channels that are taken out of them, the lines that they add, and what peers tell of them.
 use crate::copies::media;
-use crate::releasing::release;
-use rtc_assoc_end::PlainAssociation;
 use rtc_change::{Change, Changes, Lines, SdpPendingOffer, count_added};
-use rtc_lines::{
-    Candidate, Direction, LineRow, MediaKind, MediaLine, Mid, SdpAnswer, SdpOffer, Setup,
-};
-use rtc_peer::{Association, DtlsInstance, IceAgent, Ids, MediaSession, Rtc, RtcConfig, RtcError};
-use rtc_plain::{CountIds, PlainDtls, PlainIce, PlainMedia};
-use rtc_run::{deliver_answer, deliver_offer};
-use rtc_wire::{Addr, ChannelConfig, ChannelId, Moment, Protocol, Seq, Text};
+use rtc_delivery::{deliver_answer, deliver_offer};
+use rtc_lines::{Direction, LineRow, MediaKind, MediaLine, Mid, SdpAnswer, SdpOffer, Setup};
+use rtc_peer::{RtcConfig, RtcError};
+use rtc_plain::CountIds;
+use rtc_plain_peers::{Endpoint, Peer, add_host, build, build_of, finish, release, unless_refused};
+use rtc_wire::{ChannelConfig, ChannelId, Seq};
 use std::alloc::{AllocError, Global};
-
-// A peer over parts in memory.
-type Peer = Rtc<PlainIce, PlainDtls, PlainAssociation, PlainMedia, CountIds>;
 
 // The offer of a peer whose numbers count up from 1, with the certificate "abc" (its hash is in FIPS 180-2, appendix B.1), one host
 // candidate, and a line for data channels.
@@ -89,74 +83,49 @@ fn are_places_given(alloc: Global, mid: Mid) -> Result<bool, AllocError> {
     Ok(rows.as_slice() == [app, audio].as_slice())
 }
 
-fn build(alloc: Global, first: u64) -> Result<Peer, AllocError> {
-    let cert = b"abc".to_vec(alloc)?;
-    let config = RtcConfig::new(alloc)?.set_dtls_cert(cert);
-    Rtc::build(
-        alloc,
-        config,
-        Moment::FAR_PAST,
-        PlainIce::new(alloc),
-        PlainDtls::new(alloc),
-        PlainAssociation::new(alloc),
-        PlainMedia::new(alloc),
-        CountIds::starting(first),
-    )
-}
-
-fn give_address<I: IceAgent, D: DtlsInstance, S: Association, M: MediaSession, N: Ids>(
-    alloc: Global,
-    left: &mut Rtc<I, D, S, M, N>,
-) -> Result<(), AllocError> {
-    let addr = Addr {
-        ip: [1, 1, 1, 1],
-        port: 1000,
-    };
-    let candidate = Candidate::host(alloc, addr, Protocol::Udp)?;
-    left.add_local_candidate(candidate)?;
-    Ok(())
-}
-
-fn offer_channel<I: IceAgent, D: DtlsInstance, S: Association, M: MediaSession, N: Ids>(
-    alloc: Global,
-    left: &mut Rtc<I, D, S, M, N>,
-) -> Result<Option<(ChannelId, SdpOffer)>, RtcError> {
-    let label = Text::from_str(alloc, "ch1")?;
-    let mut api = left.sdp_api();
-    let id = api.add_channel(label.into_string())?;
-    match api.apply()? {
-        Some((offer, _token)) => Ok(Some((id, offer))),
-        None => Ok(None),
-    }
-}
-
-// Whether a peer's offer of a channel is written as it is to be.
-fn writes_channel<I: IceAgent, D: DtlsInstance, S: Association, M: MediaSession, N: Ids>(
-    alloc: Global,
-    left: &mut Rtc<I, D, S, M, N>,
+// Whether the offer of a first channel is written as it is to be.
+fn is_written(
+    made: &(ChannelId, Option<(SdpOffer, SdpPendingOffer)>),
     expected: &str,
-) -> Result<bool, RtcError> {
-    give_address(alloc, left)?;
-    let Some((id, offer)) = offer_channel(alloc, left)? else {
+) -> Result<bool, AllocError> {
+    let (id, Some((offer, _))) = made else {
         return Ok(false);
     };
     let written = offer.to_sdp_string()?;
     Ok(id.number() == 0 && written.as_str() == expected)
 }
 
-fn is_channel_offered(alloc: Global, expected: &str) -> Result<bool, RtcError> {
-    let mut left = build(alloc, 1)?;
-    let told = writes_channel(alloc, &mut left, expected);
-    release(left, told)
+fn writes_channel<P: Endpoint>(
+    alloc: Global,
+    left: &mut P,
+    label: String,
+    expected: &str,
+) -> Result<bool, RtcError> {
+    add_host(alloc, left, 1)?;
+    let made = left.offer_channel(label)?;
+    let written = is_written(&made, expected);
+    Ok(release(made, written)?)
 }
 
-fn offer_line<I: IceAgent, D: DtlsInstance, S: Association, M: MediaSession, N: Ids>(
-    left: &mut Rtc<I, D, S, M, N>,
-    kind: MediaKind,
-) -> Result<Option<(SdpOffer, SdpPendingOffer)>, AllocError> {
-    let mut api = left.sdp_api();
-    api.add_media(kind, Direction::SendRecv, None, None, None)?;
-    api.apply()
+fn is_channel_offered<P: Endpoint + Drop>(
+    alloc: Global,
+    left: Result<P, AllocError>,
+    expected: &str,
+) -> Result<bool, RtcError> {
+    let label = String::from_str(alloc, "ch1")?;
+    let mut left = left?;
+    writes_channel(alloc, &mut left, label, expected)
+}
+
+// A peer with the certificate `abc`.
+fn build_certified(alloc: Global) -> Result<Peer<CountIds>, AllocError> {
+    let cert = b"abc".to_vec(alloc)?;
+    let config = RtcConfig::new(alloc)?.set_dtls_cert(cert);
+    build_of(alloc, config, CountIds::starting(1))
+}
+
+fn tell_channel(alloc: Global) -> Result<bool, RtcError> {
+    is_channel_offered(alloc, build_certified(alloc), CHANNEL_OFFER)
 }
 
 // Whether there are m-lines, and each has this setup.
@@ -169,86 +138,112 @@ fn all_have_setup(lines: &[MediaLine], setup: Setup) -> bool {
     !lines.is_empty()
 }
 
-// An offer with one more line, as the other side reads it.
-fn offer_read<I: IceAgent, D: DtlsInstance, S: Association, M: MediaSession, N: Ids>(
-    alloc: Global,
-    left: &mut Rtc<I, D, S, M, N>,
-    kind: MediaKind,
-) -> Result<Option<(SdpOffer, SdpPendingOffer)>, RtcError> {
-    match offer_line(left, kind)? {
-        Some((offer, token)) => Ok(Some((deliver_offer(alloc, &offer)?, token))),
-        None => Ok(None),
-    }
+// Whether the lines of an offer, as the other side reads it, leave the role in DTLS to that side (RFC 8842, section 5.2).
+fn leaves_role(offer: &SdpOffer, count: usize) -> bool {
+    let lines = offer.0.lines.as_slice();
+    lines.len() == count && all_have_setup(lines, Setup::ActPass)
+}
+
+// An offer as the other side reads it.
+fn read_offer(alloc: Global, offer: SdpOffer) -> Result<SdpOffer, RtcError> {
+    let delivered = deliver_offer(alloc, &offer);
+    Ok(release(offer, delivered)?)
 }
 
 // The answer to an offer, as the other side reads it.
-fn answer_read<I: IceAgent, D: DtlsInstance, S: Association, M: MediaSession, N: Ids>(
+fn read_answer<P: Endpoint>(
     alloc: Global,
-    right: &mut Rtc<I, D, S, M, N>,
+    right: &mut P,
     offer: SdpOffer,
 ) -> Result<SdpAnswer, RtcError> {
-    let answer = right.sdp_api().accept_offer(offer)?;
-    let answer = deliver_answer(alloc, &answer)?;
-    Ok(answer)
+    let answer = right.accept_offer(offer)?;
+    let delivered = deliver_answer(alloc, &answer);
+    Ok(release(answer, delivered)?)
 }
 
-// Whether an offer leaves the role in DTLS to the other side, and its answer takes one (RFC 8842, sections 5.2 and 5.3).
-fn tell_first_roles<I: IceAgent, D: DtlsInstance, S: Association, M: MediaSession, N: Ids>(
+// Whether an answer takes a role (RFC 8842, section 5.3).
+fn takes_role(answered: &Result<SdpAnswer, RtcError>) -> bool {
+    match answered {
+        Ok(answer) => all_have_setup(answer.0.lines.as_slice(), Setup::Passive),
+        Err(_) => false,
+    }
+}
+
+// Whether an offer leaves the role to the other side, and its answer takes one. The answer is accepted.
+fn agree<P: Endpoint>(
     alloc: Global,
-    left: &mut Rtc<I, D, S, M, N>,
-    right: &mut Rtc<I, D, S, M, N>,
+    left: &mut P,
+    right: &mut P,
+    offer: SdpOffer,
+    token: SdpPendingOffer,
 ) -> Result<bool, RtcError> {
-    let Some((offer, token)) = offer_read(alloc, left, MediaKind::Audio)? else {
+    let offered = leaves_role(&offer, 1);
+    let answered = read_answer(alloc, right, offer);
+    let taken = takes_role(&answered);
+    finish(left, token, answered)?;
+    Ok(offered && taken)
+}
+
+fn tell_first_roles<P: Endpoint>(
+    alloc: Global,
+    left: &mut P,
+    right: &mut P,
+    kind: MediaKind,
+) -> Result<bool, RtcError> {
+    let (_mid, made) = left.offer_media(kind, Direction::SendRecv, None)?;
+    match made {
+        Some((offer, token)) => match read_offer(alloc, offer) {
+            Ok(offer) => agree(alloc, left, right, offer, token),
+            Err(error) => release(token, Err(error)),
+        },
+        None => Ok(false),
+    }
+}
+
+// Whether the offer of one more line leaves the role open again (RFC 8842, section 5.5).
+fn tells_later_role<P: Endpoint>(
+    alloc: Global,
+    left: &mut P,
+    kind: MediaKind,
+) -> Result<bool, RtcError> {
+    let (_mid, made) = left.offer_media(kind, Direction::SendRecv, None)?;
+    let Some((offer, token)) = made else {
         return Ok(false);
     };
-    let offered = all_have_setup(offer.0.lines.as_slice(), Setup::ActPass);
-    let answer = answer_read(alloc, right, offer)?;
-    let answered = all_have_setup(answer.0.lines.as_slice(), Setup::Passive);
-    left.sdp_api().accept_answer(token, answer)?;
-    Ok(offered && answered)
+    let offer = release(token, read_offer(alloc, offer))?;
+    let left_open = leaves_role(&offer, 2);
+    release(offer, Ok(left_open))
 }
 
-// Whether a later offer leaves the role open again (RFC 8842, section 5.5).
-fn tells_later_role<I: IceAgent, D: DtlsInstance, S: Association, M: MediaSession, N: Ids>(
-    alloc: Global,
-    left: &mut Rtc<I, D, S, M, N>,
-) -> Result<bool, RtcError> {
-    let Some((later, _token)) = offer_read(alloc, left, MediaKind::Video)? else {
-        return Ok(false);
-    };
-    let lines = later.0.lines.as_slice();
-    Ok(all_have_setup(lines, Setup::ActPass) && lines.len() == 2)
-}
-
-fn tell_roles<I: IceAgent, D: DtlsInstance, S: Association, M: MediaSession, N: Ids>(
-    alloc: Global,
-    left: &mut Rtc<I, D, S, M, N>,
-    right: &mut Rtc<I, D, S, M, N>,
-) -> Result<bool, RtcError> {
-    if tell_first_roles(alloc, left, right)? {
-        tells_later_role(alloc, left)
+fn tell_roles<P: Endpoint>(alloc: Global, left: &mut P, right: &mut P) -> Result<bool, RtcError> {
+    if tell_first_roles(alloc, left, right, MediaKind::Audio)? {
+        tells_later_role(alloc, left, MediaKind::Video)
     } else {
         Ok(false)
     }
 }
 
-fn tell_roles_to_another(alloc: Global, left: &mut Peer) -> Result<bool, RtcError> {
-    let mut right = build(alloc, 1_000_001)?;
-    let told = tell_roles(alloc, left, &mut right);
-    release(right, told)
+fn are_roles_told<P: Endpoint + Drop>(
+    alloc: Global,
+    left: Result<P, AllocError>,
+    right: Result<P, AllocError>,
+) -> Result<bool, RtcError> {
+    let mut left = left?;
+    let mut right = right?;
+    tell_roles(alloc, &mut left, &mut right)
 }
 
-fn are_roles_told(alloc: Global) -> Result<bool, RtcError> {
-    let mut left = build(alloc, 1)?;
-    let told = tell_roles_to_another(alloc, &mut left);
-    release(left, told)
+fn tell_both(alloc: Global) -> Result<bool, RtcError> {
+    let left = build(alloc, CountIds::starting(1));
+    let right = build(alloc, CountIds::starting(1_000_001));
+    are_roles_told(alloc, left, right)
 }
 
 fn answer(alloc: Global, example: &str, mid: Mid) -> Result<bool, RtcError> {
     match example {
-        "are offered for either role and answered with one" => are_roles_told(alloc),
+        "are offered for either role and answered with one" => tell_both(alloc),
         "give places to the lines that they add" => Ok(are_places_given(alloc, mid)?),
-        "of a channel are written in an offer" => is_channel_offered(alloc, CHANNEL_OFFER),
+        "of a channel are written in an offer" => tell_channel(alloc),
         "take their channels the last first" => Ok(are_channels_taken(alloc, mid)?),
         "to a table declare a line" => Ok(is_line_declared(alloc, mid)?),
         _ => Ok(false),
@@ -260,9 +255,5 @@ pub fn does_agree(alloc: Global, example: &str) -> Result<bool, AllocError> {
     let Some(mid) = Mid::read("0") else {
         return Ok(false);
     };
-    match answer(alloc, example, mid) {
-        Ok(agrees) => Ok(agrees),
-        Err(RtcError::Alloc) => Err(AllocError),
-        Err(_) => Ok(false),
-    }
+    unless_refused(answer(alloc, example, mid))
 }

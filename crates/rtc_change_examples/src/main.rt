@@ -5,7 +5,6 @@
 
 mod changes;
 mod copies;
-mod releasing;
 
 use std::alloc::{AllocError, Global};
 use std::io;

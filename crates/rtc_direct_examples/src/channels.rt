@@ -1,5 +1,6 @@
 //! Channels that are made and closed.
 use rtc_peer::{Association, DirectApi, DtlsInstance, IceAgent, Ids, MediaSession, RtcError};
+use rtc_plain_peers::{release, succeeds};
 use rtc_wire::{ChannelConfig, ChannelId};
 use std::alloc::{AllocError, Global};
 
@@ -9,23 +10,38 @@ fn settled(alloc: Global, stream: u16) -> ChannelConfig {
     config
 }
 
-/// Whether a call was done.
-pub fn is_done(answer: Result<(), RtcError>) -> bool {
-    answer.is_ok()
-}
-
-fn number_of(made: Result<ChannelId, RtcError>) -> Option<ChannelId> {
-    match &made {
-        Ok(id) => Some(*id),
-        Err(_) => None,
+fn has_number(made: &Result<ChannelId, RtcError>, number: u64) -> bool {
+    match made {
+        Ok(id) => *id == ChannelId::new(number),
+        Err(_) => false,
     }
 }
 
-fn is_refused(made: Result<ChannelId, RtcError>) -> bool {
-    match &made {
-        Ok(_) => false,
-        Err(error) => matches!(error, RtcError::BadChannel),
+fn is_refused(made: &Result<ChannelId, RtcError>) -> bool {
+    match made {
+        Err(RtcError::BadChannel) => true,
+        _ => false,
     }
+}
+
+// Whether a channel gets a number.
+fn makes<I: IceAgent, D: DtlsInstance, S: Association, M: MediaSession, N: Ids>(
+    api: &mut DirectApi<'_, I, D, S, M, N>,
+    config: ChannelConfig,
+    number: u64,
+) -> bool {
+    let made = api.create_data_channel(config);
+    let told = has_number(&made, number);
+    release(made, told)
+}
+
+fn refuses<I: IceAgent, D: DtlsInstance, S: Association, M: MediaSession, N: Ids>(
+    api: &mut DirectApi<'_, I, D, S, M, N>,
+    config: ChannelConfig,
+) -> bool {
+    let made = api.create_data_channel(config);
+    let told = is_refused(&made);
+    release(made, told)
 }
 
 /// Channels are numbered from 0. One that is settled for a stream that another claims is refused. None has a stream before a poll.
@@ -33,16 +49,12 @@ pub fn make_channels<I: IceAgent, D: DtlsInstance, S: Association, M: MediaSessi
     alloc: Global,
     api: &mut DirectApi<'_, I, D, S, M, N>,
 ) -> Result<bool, AllocError> {
-    let started = is_done(api.start_sctp(true)) && is_done(api.start_sctp(false));
-    let first = number_of(api.create_data_channel(settled(alloc, 4)));
-    let refused = is_refused(api.create_data_channel(settled(alloc, 4)));
-    let second = number_of(api.create_data_channel(ChannelConfig::new(alloc)));
-    let numbered = first == Some(ChannelId::new(0));
-    let counted = second == Some(ChannelId::new(1));
+    let started = succeeds(api.start_sctp(true)) && succeeds(api.start_sctp(false));
+    let numbered = makes(api, settled(alloc, 4), 0);
+    let refused = refuses(api, settled(alloc, 4));
+    let counted = makes(api, ChannelConfig::new(alloc), 1);
     let waits = api.channel_id_by_sctp_stream_id(4).is_none();
-    if let Some(id) = first {
-        api.close_data_channel(id)?;
-    }
+    api.close_data_channel(ChannelId::new(0))?;
     let made = numbered && refused && counted;
     Ok(started && made && waits)
 }

@@ -7,7 +7,6 @@ mod calls;
 mod channels;
 mod lines;
 mod parts;
-mod peers;
 mod starts;
 mod streams;
 

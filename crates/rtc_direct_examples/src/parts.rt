@@ -1,21 +1,14 @@
 //! What is set at the ICE agent and the DTLS part.
-use crate::channels::is_done;
 use rtc_peer::{
-    Association, Candidate, DirectApi, DtlsInstance, Fingerprint, IceAgent, IceCreds, Ids,
-    MediaSession,
+    Association, DirectApi, DtlsInstance, Fingerprint, IceAgent, IceCreds, Ids, MediaSession,
 };
-use rtc_wire::{Addr, Protocol, Text};
+use rtc_plain_peers::{candidate, release, succeeds};
+use rtc_wire::Text;
 use std::alloc::{AllocError, Global};
 
-fn text(alloc: Global, letters: &str) -> Result<Text, AllocError> {
-    let mut name = String::new(alloc);
-    name.push_str(letters)?;
-    Ok(Text::new(name))
-}
-
 fn creds(alloc: Global, ufrag: &str, pass: &str) -> Result<IceCreds, AllocError> {
-    let ufrag = text(alloc, ufrag)?;
-    let pass = text(alloc, pass)?;
+    let ufrag = Text::from_str(alloc, ufrag)?;
+    let pass = Text::from_str(alloc, pass)?;
     Ok(IceCreds { ufrag, pass })
 }
 
@@ -24,7 +17,40 @@ fn has_creds<I: IceAgent, D: DtlsInstance, S: Association, M: MediaSession, N: I
     ufrag: &str,
 ) -> Result<bool, AllocError> {
     let creds = api.local_ice_credentials()?;
-    Ok(creds.ufrag.as_str() == ufrag)
+    let same = creds.ufrag.as_str() == ufrag;
+    release(creds, Ok(same))
+}
+
+fn set_creds<I: IceAgent, D: DtlsInstance, S: Association, M: MediaSession, N: Ids>(
+    alloc: Global,
+    api: &mut DirectApi<'_, I, D, S, M, N>,
+) -> Result<(), AllocError> {
+    let own = creds(alloc, "own", "ownpassword")?;
+    api.set_local_ice_credentials(own);
+    let other = creds(alloc, "other", "otherpassword")?;
+    api.set_remote_ice_credentials(other);
+    Ok(())
+}
+
+fn set_fingerprint<I: IceAgent, D: DtlsInstance, S: Association, M: MediaSession, N: Ids>(
+    alloc: Global,
+    api: &mut DirectApi<'_, I, D, S, M, N>,
+) -> Result<(), AllocError> {
+    let announced = Fingerprint::of_certificate(alloc, b"abc", "sha-256")?;
+    if let Some(fingerprint) = announced {
+        api.set_remote_fingerprint(fingerprint);
+    }
+    Ok(())
+}
+
+// Whether a candidate that was not added is none to invalidate.
+fn is_strange<I: IceAgent, D: DtlsInstance, S: Association, M: MediaSession, N: Ids>(
+    alloc: Global,
+    api: &mut DirectApi<'_, I, D, S, M, N>,
+) -> Result<bool, AllocError> {
+    let strange = candidate(alloc, 1)?;
+    let invalidated = api.invalidate_candidate(&strange);
+    release(strange, Ok(!invalidated))
 }
 
 /// The credentials that are set are those of this side; no certificate of the other side and no version is known yet.
@@ -34,21 +60,10 @@ pub fn set_parts<I: IceAgent, D: DtlsInstance, S: Association, M: MediaSession, 
 ) -> Result<bool, AllocError> {
     api.set_ice_controlling(true);
     api.set_ice_lite(false);
-    let own = creds(alloc, "own", "ownpassword")?;
-    api.set_local_ice_credentials(own);
-    let other = creds(alloc, "other", "otherpassword")?;
-    api.set_remote_ice_credentials(other);
+    set_creds(alloc, api)?;
     let set = has_creds(api, "own")?;
-    let announced = Fingerprint::of_certificate(alloc, b"abc", "sha-256")?;
-    if let Some(fingerprint) = announced {
-        api.set_remote_fingerprint(fingerprint);
-    }
-    let addr = Addr {
-        ip: [1, 1, 1, 1],
-        port: 1000,
-    };
-    let candidate = Candidate::host(alloc, addr, Protocol::Udp)?;
-    let strange = !api.invalidate_candidate(&candidate);
+    set_fingerprint(alloc, api)?;
+    let strange = is_strange(alloc, api)?;
     let unknown = api.remote_dtls_fingerprint().is_none() && api.dtls_protocol_version().is_none();
     Ok(set && strange && unknown)
 }
@@ -57,7 +72,7 @@ pub fn set_parts<I: IceAgent, D: DtlsInstance, S: Association, M: MediaSession, 
 pub fn keep_role<I: IceAgent, D: DtlsInstance, S: Association, M: MediaSession, N: Ids>(
     api: &mut DirectApi<'_, I, D, S, M, N>,
 ) -> bool {
-    let first = is_done(api.start_dtls(false));
-    let second = is_done(api.start_dtls(true));
+    let first = succeeds(api.start_dtls(false));
+    let second = succeeds(api.start_dtls(true));
     first && second
 }

@@ -1,10 +1,10 @@
 //! What goes between two peers, and the file that comes of it.
-use crate::peers::Peer;
 use crate::way::Way;
 use rtc_file_records::FileReceiver;
-use rtc_peer::{Event, Ids, Input, Output, RtcError};
-use rtc_plain::{PlainIce, PlainMediaEvent};
-use rtc_wire::{Moment, Receive, Span, Transmit};
+use rtc_peer::{Event, Input, Output, RtcError};
+use rtc_plain::PlainMediaEvent;
+use rtc_plain_peers::{Endpoint, deliver, release};
+use rtc_wire::{Moment, Span, Transmit};
 use std::alloc::Global;
 
 // No peer of a stored example has so much to give at once.
@@ -39,15 +39,10 @@ impl Link {
         self.receiver.is_whole() && !self.is_refused && self.receiver.held() == file
     }
 
-    fn deliver<N: Ids + Drop>(
-        &mut self,
-        to: &mut Peer<N>,
-        transmit: &Transmit,
-    ) -> Result<(), RtcError> {
+    fn carry<P: Endpoint>(&mut self, to: &mut P, transmit: &Transmit) -> Result<(), RtcError> {
         let arrivals = self.way.arrivals();
         for _ in 0..arrivals {
-            let received = Receive::from_transmit::<PlainIce>(transmit)?;
-            to.handle_input(&Input::Receive(self.now, received))?;
+            deliver(to, self.now, transmit)?;
         }
         Ok(())
     }
@@ -60,33 +55,43 @@ impl Link {
         }
     }
 
-    // All that a peer has to give: its datagrams go their way, and its messages are taken.
-    fn relay<N: Ids + Drop>(
+    // It answers whether more may come.
+    fn take<P: Endpoint>(
         &mut self,
-        from: &mut Peer<N>,
-        to: &mut Peer<N>,
-    ) -> Result<(), RtcError> {
+        to: &mut P,
+        output: &Output<PlainMediaEvent>,
+    ) -> Result<bool, RtcError> {
+        match output {
+            Output::Timeout(_) => return Ok(false),
+            Output::Transmit(transmit) => self.carry(to, transmit)?,
+            Output::Event(event) => self.hear(event),
+        }
+        Ok(true)
+    }
+
+    fn relay_one<P: Endpoint>(&mut self, from: &mut P, to: &mut P) -> Result<bool, RtcError> {
+        let output = from.give_output()?;
+        let more = self.take(to, &output);
+        release(output, more)
+    }
+
+    // All that a peer has to give: its datagrams go their way, and its messages are taken.
+    fn relay<P: Endpoint>(&mut self, from: &mut P, to: &mut P) -> Result<(), RtcError> {
         for _ in 0..OUTPUTS {
-            match from.poll_output()? {
-                Output::Timeout(_) => return Ok(()),
-                Output::Transmit(transmit) => self.deliver(to, &transmit)?,
-                Output::Event(event) => self.hear(&event),
+            if !self.relay_one(from, to)? {
+                return Ok(());
             }
         }
         Ok(())
     }
 
     /// A second passes, and both peers give what they have.
-    pub fn pass<N: Ids + Drop>(
-        &mut self,
-        left: &mut Peer<N>,
-        right: &mut Peer<N>,
-    ) -> Result<(), RtcError> {
+    pub fn pass<P: Endpoint>(&mut self, left: &mut P, right: &mut P) -> Result<(), RtcError> {
         self.now = self.now.plus(Span::from_secs(1));
         let timeout = Input::Timeout(self.now);
-        left.handle_input(&timeout)?;
+        left.take_input(&timeout)?;
         self.relay(left, right)?;
-        right.handle_input(&timeout)?;
+        right.take_input(&timeout)?;
         self.relay(right, left)
     }
 }

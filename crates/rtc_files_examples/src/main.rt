@@ -5,7 +5,6 @@
 #![tactic(auto)]
 
 mod link;
-mod peers;
 mod sending;
 mod transfer;
 mod way;

@@ -1,7 +1,7 @@
 //! The records of a file as messages of a channel.
-use crate::peers::Peer;
 use rtc_file_records::FileSender;
-use rtc_peer::{Ids, RtcError};
+use rtc_peer::RtcError;
+use rtc_plain_peers::Endpoint;
 use rtc_wire::{Bytes, ChannelId};
 use std::alloc::{AllocError, Global};
 
@@ -14,17 +14,6 @@ pub struct Sending<'a> {
     alloc: Global,
     sender: FileSender<'a>,
     waiting: Option<Bytes>,
-}
-
-fn write<N: Ids + Drop>(
-    peer: &mut Peer<N>,
-    channel: ChannelId,
-    record: &[u8],
-) -> Result<bool, RtcError> {
-    match peer.channel(channel) {
-        Some(mut channel) => channel.write(true, record),
-        None => Ok(false),
-    }
 }
 
 impl<'a> Sending<'a> {
@@ -50,18 +39,30 @@ impl<'a> Sending<'a> {
         }
     }
 
-    /// Writes records to a channel, until it takes none or none is left.
-    pub fn write_on<N: Ids + Drop>(
+    // Writes a record to a channel. It answers whether that took it; one that it did not take waits.
+    fn write_one<P: Endpoint>(
         &mut self,
-        peer: &mut Peer<N>,
+        peer: &mut P,
+        channel: ChannelId,
+    ) -> Result<bool, RtcError> {
+        let Some(record) = self.next()? else {
+            return Ok(false);
+        };
+        let taken = peer.write(channel, true, record.as_slice());
+        if !matches!(taken, Ok(true)) {
+            self.waiting = Some(record);
+        }
+        taken
+    }
+
+    /// Writes records to a channel, until it takes none or none is left.
+    pub fn write_on<P: Endpoint>(
+        &mut self,
+        peer: &mut P,
         channel: ChannelId,
     ) -> Result<(), RtcError> {
         for _ in 0..RECORDS {
-            let Some(record) = self.next()? else {
-                return Ok(());
-            };
-            if !write(peer, channel, record.as_slice())? {
-                self.waiting = Some(record);
+            if !self.write_one(peer, channel)? {
                 return Ok(());
             }
         }

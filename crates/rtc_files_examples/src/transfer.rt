@@ -1,11 +1,11 @@
 //! A file from one peer to another.
 use crate::link::Link;
-use crate::peers::{Peer, build, negotiate};
 use crate::sending::Sending;
 use crate::way::Way;
-use rtc_peer::{Ids, RtcError};
+use rtc_peer::RtcError;
 use rtc_plain::CountIds;
-use rtc_wire::Addr;
+use rtc_plain_peers::{Endpoint, add_host, agree_on_channel, build, release, unless_refused};
+use rtc_wire::ChannelId;
 use std::alloc::{AllocError, Global};
 
 // The rounds in which each file of a stored example comes over.
@@ -29,70 +29,75 @@ fn make_file(alloc: Global, size: u32) -> Result<Vec<u8>, AllocError> {
     Ok(file)
 }
 
-fn carry<N: Ids + Drop>(
-    alloc: Global,
-    left: &mut Peer<N>,
-    right: &mut Peer<N>,
-    case: Case,
-) -> Result<bool, RtcError> {
-    let file = make_file(alloc, case.size)?;
-    let channel = negotiate(alloc, left, right)?;
-    let way = Way {
-        seed: case.seed,
-        lost: case.lost,
-        twice: case.twice,
-    };
-    let mut link = Link::new(alloc, way);
-    let mut sending = Sending::new(alloc, file.as_slice())?;
+fn send_all<P: Endpoint>(
+    left: &mut P,
+    right: &mut P,
+    channel: ChannelId,
+    link: &mut Link,
+    sending: &mut Sending<'_>,
+) -> Result<(), RtcError> {
     for _ in 0..ROUNDS {
         if !link.is_whole() {
             sending.write_on(left, channel)?;
             link.pass(left, right)?;
         }
     }
-    Ok(link.has(file.as_slice()))
+    Ok(())
 }
 
-// Gives what was told of something, once that is dropped.
-fn release<P: Drop, T>(_done: P, told: T) -> T {
-    told
-}
-
-fn meet_another<N: Ids + Drop>(
+// Sends a file over a channel, and answers whether it came over whole.
+fn send<P: Endpoint>(
     alloc: Global,
-    left: &mut Peer<N>,
-    right: N,
-    case: Case,
+    left: &mut P,
+    right: &mut P,
+    channel: ChannelId,
+    way: Way,
+    file: &[u8],
 ) -> Result<bool, RtcError> {
-    let addr = Addr {
-        ip: [2, 2, 2, 2],
-        port: 2000,
-    };
-    let mut right = build(alloc, addr, right)?;
-    let told = carry(alloc, left, &mut right, case);
-    release(right, told)
+    let mut sending = Sending::new(alloc, file)?;
+    let mut link = Link::new(alloc, way);
+    let sent = send_all(left, right, channel, &mut link, &mut sending);
+    let whole = link.has(file);
+    let sent = release(link, release(sending, sent));
+    sent?;
+    Ok(whole)
 }
 
-fn run<N: Ids + Drop>(alloc: Global, left: N, right: N, case: Case) -> Result<bool, RtcError> {
-    let addr = Addr {
-        ip: [1, 1, 1, 1],
-        port: 1000,
-    };
-    let mut left = build(alloc, addr, left)?;
-    let told = meet_another(alloc, &mut left, right, case);
-    release(left, told)
+fn carry<P: Endpoint>(
+    alloc: Global,
+    left: &mut P,
+    right: &mut P,
+    way: Way,
+    file: &[u8],
+) -> Result<bool, RtcError> {
+    add_host(alloc, left, 1)?;
+    add_host(alloc, right, 2)?;
+    let label = String::from_str(alloc, "file")?;
+    let channel = agree_on_channel(left, right, label)?;
+    send(alloc, left, right, channel, way, file)
+}
+
+fn meet<P: Endpoint + Drop>(
+    alloc: Global,
+    left: Result<P, AllocError>,
+    right: Result<P, AllocError>,
+    way: Way,
+    file: &[u8],
+) -> Result<bool, RtcError> {
+    let mut left = left?;
+    let mut right = right?;
+    carry(alloc, &mut left, &mut right, way, file)
 }
 
 /// Whether the file comes over whole. A refusal of the peers is none of it; out of memory is told.
 pub fn does_come_over(alloc: Global, case: Case) -> Result<bool, AllocError> {
-    match run(
-        alloc,
-        CountIds::starting(1),
-        CountIds::starting(1_000_001),
-        case,
-    ) {
-        Ok(told) => Ok(told),
-        Err(RtcError::Alloc) => Err(AllocError),
-        Err(_) => Ok(false),
-    }
+    let way = Way {
+        seed: case.seed,
+        lost: case.lost,
+        twice: case.twice,
+    };
+    let file = make_file(alloc, case.size)?;
+    let left = build(alloc, CountIds::starting(1));
+    let right = build(alloc, CountIds::starting(1_000_001));
+    unless_refused(meet(alloc, left, right, way, file.as_slice()))
 }

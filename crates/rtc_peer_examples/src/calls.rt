@@ -1,15 +1,14 @@
 //! The calls by their names.
-use crate::peers::{Peer, build, build_of, release, succeeds};
 use crate::{direct, parts, staging, streams};
-use rtc_assoc_end::PlainAssociation;
-use rtc_peer::{Ids, Rtc, RtcConfig};
-use rtc_plain::{PlainDtls, PlainIce, PlainMedia};
+use rtc_peer::{Association, DtlsInstance, IceAgent, Ids, MediaSession, Rtc, RtcConfig};
+use rtc_plain::{CountIds, PlainMediaEvent};
+use rtc_plain_peers::{Peer, build, build_of, succeeds};
 use std::alloc::{AllocError, Global};
 
-// What one peer is asked.
-fn ask<N: Ids + Drop>(
+// What a fresh peer is asked.
+fn ask<I: IceAgent, D: DtlsInstance, S: Association, M: MediaSession<E = PlainMediaEvent>, N: Ids>(
     alloc: Global,
-    peer: &mut Peer<N>,
+    peer: &mut Rtc<I, D, S, M, N>,
     subject: &str,
     call: &str,
 ) -> Result<bool, AllocError> {
@@ -22,43 +21,41 @@ fn ask<N: Ids + Drop>(
     }
 }
 
-fn with_peer<N: Ids + Drop>(
+// What is asked of a peer that was made by a call, if it is not that call itself.
+fn ask_made<
+    I: IceAgent + Drop,
+    D: DtlsInstance + Drop,
+    S: Association + Drop,
+    M: MediaSession<E = PlainMediaEvent> + Drop,
+    N: Ids + Drop,
+>(
     alloc: Global,
-    ids: N,
+    made: Result<Rtc<I, D, S, M, N>, AllocError>,
     subject: &str,
     call: &str,
 ) -> Result<bool, AllocError> {
-    let mut peer = build(alloc, ids)?;
-    let told = ask(alloc, &mut peer, subject, call);
-    release(peer, told)
-}
-
-fn is_built<N: Ids + Drop>(alloc: Global, ids: N) -> Result<bool, AllocError> {
-    let config = RtcConfig::new(alloc)?;
-    Ok(succeeds(build_of(alloc, config, ids)))
-}
-
-fn has_config<N: Ids + Drop>(alloc: Global, _ids: N) -> bool {
-    succeeds(Rtc::<PlainIce, PlainDtls, PlainAssociation, PlainMedia, N>::builder(alloc))
-}
-
-// What is asked before there is a peer.
-fn make<N: Ids + Drop>(alloc: Global, ids: N, call: &str) -> Result<bool, AllocError> {
-    match call {
-        "new" => Ok(succeeds(build(alloc, ids))),
-        "build" => is_built(alloc, ids),
-        "builder" => Ok(has_config(alloc, ids)),
-        _ => Ok(false),
+    let mut peer = made?;
+    match subject {
+        "Built" => Ok(call == "new" || call == "build"),
+        _ => ask(alloc, &mut peer, subject, call),
     }
 }
 
+// Each peer but that of the call `build` is made by `new`.
+fn make(alloc: Global, call: &str) -> Result<Peer<CountIds>, AllocError> {
+    let ids = CountIds::starting(1);
+    if call == "build" {
+        let config = RtcConfig::new(alloc)?;
+        return build_of(alloc, config, ids);
+    }
+    build(alloc, ids)
+}
+
 /// Whether a call succeeds: it stands behind its subject.
-pub fn does_succeed<N: Ids + Drop>(alloc: Global, ids: N, name: &str) -> Result<bool, AllocError> {
-    let Some((subject, call)) = name.split_once(' ') else {
-        return Ok(false);
-    };
-    match subject {
-        "Built" => make(alloc, ids, call),
-        _ => with_peer(alloc, ids, subject, call),
+pub fn does_succeed(alloc: Global, name: &str) -> Result<bool, AllocError> {
+    match name.split_once(' ') {
+        Some(("Built", "builder")) => Ok(succeeds(Peer::<CountIds>::builder(alloc))),
+        Some((subject, call)) => ask_made(alloc, make(alloc, call), subject, call),
+        None => Ok(false),
     }
 }

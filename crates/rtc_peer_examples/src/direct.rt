@@ -1,10 +1,10 @@
 //! Calls without session descriptions.
-use crate::peers::{is_true, succeeds};
 use rtc_peer::{
     Association, DirectApi, DtlsInstance, IceAgent, Ids, MediaKind, MediaSession, Mid,
     SctpInitData, Ssrc,
 };
 use rtc_plain::CountIds;
+use rtc_plain_peers::{is_true, release, succeeds};
 use rtc_wire::ChannelConfig;
 use std::alloc::{AllocError, Global};
 
@@ -21,20 +21,23 @@ fn closes_channel<I: IceAgent, D: DtlsInstance, S: Association, M: MediaSession,
     alloc: Global,
     api: &mut DirectApi<'_, I, D, S, M, N>,
 ) -> bool {
-    match api.create_data_channel(ChannelConfig::new(alloc)) {
-        Ok(id) => succeeds(api.close_data_channel(id)),
+    let made = api.create_data_channel(ChannelConfig::new(alloc));
+    let closed = match &made {
+        Ok(id) => succeeds(api.close_data_channel(*id)),
         Err(_) => false,
-    }
+    };
+    release(made, closed)
 }
 
 fn starts_by_halves<I: IceAgent, D: DtlsInstance, S: Association, M: MediaSession, N: Ids>(
     alloc: Global,
     api: &mut DirectApi<'_, I, D, S, M, N>,
 ) -> Result<bool, AllocError> {
+    let chunk = vec![in alloc; 1u8; 20]?;
     let mut halves = SctpInitData::new(alloc);
+    halves.set_remote_init_chunk(chunk);
     let mut ids = CountIds::starting(1);
     halves.ensure_local_init_chunk(&mut ids)?;
-    halves.set_remote_init_chunk(vec![in alloc; 1u8; 20]?);
     Ok(succeeds(api.start_sctp_with_snap(true, halves)))
 }
 

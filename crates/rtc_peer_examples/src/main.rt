@@ -7,11 +7,9 @@
 mod calls;
 mod direct;
 mod parts;
-mod peers;
 mod staging;
 mod streams;
 
-use rtc_plain::CountIds;
 use std::io;
 use std::process::ExitCode;
 
@@ -20,7 +18,7 @@ fn main(rt: HostRuntime) -> io::Result<ExitCode> {
     for line in rt.lines(rt.alloc()) {
         let line = line?;
         let agrees = match line.as_str().strip_prefix("memory ") {
-            Some(name) => { calls::does_succeed(rt.alloc(), CountIds::starting(1), name)? }
+            Some(name) => { calls::does_succeed(rt.alloc(), name)? }
             None => false,
         };
         if agrees {

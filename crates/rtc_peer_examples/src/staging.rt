@@ -1,8 +1,8 @@
 //! Calls that stage changes, and offer them.
-use crate::peers::succeeds;
 use rtc_peer::{
     Association, Direction, DtlsInstance, IceAgent, Ids, MediaKind, MediaSession, Mid, SdpApi,
 };
+use rtc_plain_peers::succeeds;
 use rtc_wire::ChannelConfig;
 use std::alloc::{AllocError, Global};
 

@@ -1,68 +1,81 @@
 //! Datagrams that go from one peer to the other one.
-use crate::peers::Peer;
 use crate::told::Told;
-use rtc_peer::{Ids, Input, Output, RtcError};
-use rtc_plain::PlainIce;
-use rtc_wire::{Moment, Receive, Transmit};
+use crate::wire::Wire;
+use rtc_peer::{Input, Output, RtcError};
+use rtc_plain::PlainMediaEvent;
+use rtc_plain_peers::{Endpoint, deliver};
+use rtc_wire::{Moment, Transmit};
 
-// Polls a peer up to a timeout. Its datagrams are kept behind those that it sent before.
-fn drain<N: Ids + Drop>(
-    peer: &mut Peer<N>,
+// Keeps a datagram behind those that were sent before. It answers whether more may come.
+fn keep(
+    output: Output<PlainMediaEvent>,
+    sent: &mut Vec<Transmit>,
+    told: &mut Told,
+) -> Result<bool, RtcError> {
+    match output {
+        Output::Timeout(_) => return Ok(false),
+        Output::Transmit(transmit) => sent.push(transmit)?,
+        Output::Event(event) => told.add(&event),
+    }
+    Ok(true)
+}
+
+// Polls a peer up to a timeout.
+fn drain<P: Endpoint>(
+    peer: &mut P,
     sent: &mut Vec<Transmit>,
     told: &mut Told,
 ) -> Result<(), RtcError> {
     for _ in 0..u32::MAX {
-        match peer.poll_output()? {
-            Output::Timeout(_) => return Ok(()),
-            Output::Transmit(transmit) => sent.push(transmit)?,
-            Output::Event(event) => told.add(&event),
+        let output = peer.give_output()?;
+        if !keep(output, sent, told)? {
+            return Ok(());
         }
     }
     Ok(())
 }
 
-fn hear<N: Ids + Drop>(peer: &mut Peer<N>, transmit: &Transmit) -> Result<(), RtcError> {
-    let received = Receive::from_transmit::<PlainIce>(transmit)?;
-    peer.handle_input(&Input::Receive(Moment::FAR_PAST, received))
-}
-
 // Gives a peer datagrams, and polls it after each.
-fn deliver<N: Ids + Drop>(
-    peer: &mut Peer<N>,
+fn hear<P: Endpoint>(
+    peer: &mut P,
     arriving: &[Transmit],
     sent: &mut Vec<Transmit>,
     told: &mut Told,
 ) -> Result<(), RtcError> {
     for transmit in arriving {
-        hear(peer, transmit)?;
+        deliver(peer, Moment::FAR_PAST, transmit)?;
         drain(peer, sent, told)?;
     }
     Ok(())
 }
 
 /// Gives a peer the moment at which all happens.
-pub fn wake<N: Ids + Drop>(peer: &mut Peer<N>) -> Result<(), RtcError> {
-    peer.handle_input(&Input::Timeout(Moment::FAR_PAST))
+pub fn wake<P: Endpoint>(peer: &mut P) -> Result<(), RtcError> {
+    peer.take_input(&Input::Timeout(Moment::FAR_PAST))
 }
 
 /// Polls both peers, and hands each datagram to the other one, until neither has one to send.
-pub fn exchange<N: Ids + Drop>(
-    left: &mut Peer<N>,
-    right: &mut Peer<N>,
-    from_left: &mut Vec<Transmit>,
-    from_right: &mut Vec<Transmit>,
-    told: &mut Told,
-) -> Result<(), RtcError> {
-    drain(left, from_left, told)?;
-    drain(right, from_right, told)?;
+pub fn exchange<P: Endpoint>(left: &mut P, right: &mut P, wire: &mut Wire) -> Result<(), RtcError> {
+    drain(left, &mut wire.from_left, &mut wire.told)?;
+    drain(right, &mut wire.from_right, &mut wire.told)?;
     for _ in 0..u32::MAX {
-        if from_left.is_empty() && from_right.is_empty() {
+        if wire.from_left.is_empty() && wire.from_right.is_empty() {
             return Ok(());
         }
-        deliver(right, from_left.as_slice(), from_right, told)?;
-        from_left.clear();
-        deliver(left, from_right.as_slice(), from_left, told)?;
-        from_right.clear();
+        hear(
+            right,
+            wire.from_left.as_slice(),
+            &mut wire.from_right,
+            &mut wire.told,
+        )?;
+        wire.from_left.clear();
+        hear(
+            left,
+            wire.from_right.as_slice(),
+            &mut wire.from_left,
+            &mut wire.told,
+        )?;
+        wire.from_right.clear();
     }
     Ok(())
 }

@@ -4,15 +4,14 @@
 
 mod exchanging;
 mod negotiating;
-mod peers;
 mod told;
+mod wire;
 mod work;
 
-pub use peers::Peer;
 use rtc_io::{OUT_OF_MEMORY, collect_words};
-use rtc_plain::CountIds;
 use std::process::ExitCode;
 pub use told::Told;
+pub use wire::Wire;
 pub use work::{Work, run};
 
 /// A number of the command line; 0 where it is none.
@@ -42,9 +41,7 @@ fn main(rt: HostRuntime) -> ExitCode {
         bytes: number(words, 3),
         in_turn: is_asked(words, "turn"),
     };
-    let left = CountIds::starting(1);
-    let right = CountIds::starting(1_000_001);
-    match run(rt.alloc(), left, right, work) {
+    match run(rt.alloc(), work) {
         Ok(told) => {
             let (opened, messages, bytes) = (told.opened, told.messages, told.bytes);
             match println!(rt; "opened {opened} messages {messages} bytes {bytes}") {

@@ -1,10 +1,12 @@
 //! Amounts of work.
 use crate::exchanging::{exchange, wake};
 use crate::negotiating::negotiate;
-use crate::peers::{Peer, address, build};
 use crate::told::Told;
-use rtc_peer::{Ids, RtcError};
-use rtc_wire::{ChannelId, Transmit};
+use crate::wire::Wire;
+use rtc_peer::{RtcConfig, RtcError};
+use rtc_plain::CountIds;
+use rtc_plain_peers::{Endpoint, Peer, add_host, build_of, release};
+use rtc_wire::ChannelId;
 use std::alloc::{AllocError, Global};
 
 // Checks, the handshake and the openings of channels come one after another.
@@ -42,95 +44,83 @@ fn message(alloc: Global, bytes: u32) -> Result<Vec<u8>, AllocError> {
     Ok(message)
 }
 
-fn connect<N: Ids + Drop>(
-    left: &mut Peer<N>,
-    right: &mut Peer<N>,
-    from_left: &mut Vec<Transmit>,
-    from_right: &mut Vec<Transmit>,
-    told: &mut Told,
-) -> Result<(), RtcError> {
+fn connect<P: Endpoint>(left: &mut P, right: &mut P, wire: &mut Wire) -> Result<(), RtcError> {
     for _ in 0..WAKES {
         wake(left)?;
         wake(right)?;
-        exchange(left, right, from_left, from_right, told)?;
+        exchange(left, right, wire)?;
     }
     Ok(())
 }
 
-// Whether the message was taken.
-fn write<N: Ids + Drop>(
-    left: &mut Peer<N>,
-    id: ChannelId,
-    message: &[u8],
-) -> Result<bool, RtcError> {
-    match left.channel(id) {
-        Some(mut channel) => channel.write(true, message),
-        None => Ok(false),
-    }
-}
-
 // Sends messages from left to right, each once the one before was read and acknowledged.
-fn send<N: Ids + Drop>(
-    left: &mut Peer<N>,
-    right: &mut Peer<N>,
-    from_left: &mut Vec<Transmit>,
-    from_right: &mut Vec<Transmit>,
-    told: &mut Told,
+fn send<P: Endpoint>(
+    left: &mut P,
+    right: &mut P,
+    wire: &mut Wire,
     work: Work,
     message: &[u8],
 ) -> Result<(), RtcError> {
     for number in 0..work.messages {
-        write(left, work.channel(number), message)?;
-        exchange(left, right, from_left, from_right, told)?;
+        left.write(work.channel(number), true, message)?;
+        exchange(left, right, wire)?;
     }
     Ok(())
 }
 
-fn meet<N: Ids + Drop>(
-    alloc: Global,
-    left: &mut Peer<N>,
-    right: &mut Peer<N>,
+fn perform<P: Endpoint>(
+    left: &mut P,
+    right: &mut P,
+    wire: &mut Wire,
     work: Work,
+    message: &[u8],
+) -> Result<(), RtcError> {
+    connect(left, right, wire)?;
+    send(left, right, wire, work, message)
+}
+
+fn meet<P: Endpoint>(
+    alloc: Global,
+    left: &mut P,
+    right: &mut P,
+    work: Work,
+    message: &[u8],
 ) -> Result<Told, RtcError> {
-    let mut from_left = Vec::new(alloc);
-    let mut from_right = Vec::new(alloc);
-    let mut told = Told::nothing();
-    let message = message(alloc, work.bytes)?;
-    address(alloc, left, 1)?;
-    address(alloc, right, 2)?;
+    add_host(alloc, left, 1)?;
+    add_host(alloc, right, 2)?;
     negotiate(alloc, left, right, work.channels)?;
-    connect(left, right, &mut from_left, &mut from_right, &mut told)?;
-    send(
-        left,
-        right,
-        &mut from_left,
-        &mut from_right,
-        &mut told,
-        work,
-        message.as_slice(),
-    )?;
+    let mut wire = Wire::new(alloc);
+    let done = perform(left, right, &mut wire, work, message);
+    let told = wire.told;
+    release(wire, done)?;
     Ok(told)
 }
 
-// Gives what was told of something, once that is dropped.
-fn release<P: Drop, T>(_done: P, told: T) -> T {
-    told
+// A peer buffers as much as its longest message is.
+fn config(alloc: Global) -> Result<RtcConfig, AllocError> {
+    Ok(RtcConfig::new(alloc)?.set_sctp_max_buffered_amount(262_144))
 }
 
-fn meet_another<N: Ids + Drop>(
+fn meet_both<P: Endpoint + Drop>(
     alloc: Global,
-    left: &mut Peer<N>,
-    right: N,
+    left: Result<P, AllocError>,
+    right: Result<P, AllocError>,
     work: Work,
 ) -> Result<Told, RtcError> {
-    let mut right = build(alloc, right)?;
-    let told = meet(alloc, left, &mut right, work);
-    release(right, told)
+    let message = message(alloc, work.bytes)?;
+    let mut left = left?;
+    let mut right = right?;
+    meet(alloc, &mut left, &mut right, work, message.as_slice())
 }
 
-/// Two peers with these sources of numbers connect, open channels and send messages. It answers what both were told.
-pub fn run<N: Ids + Drop>(alloc: Global, left: N, right: N, work: Work) -> Result<Told, RtcError> {
-    let mut left = build(alloc, left)?;
-    let told = meet_another(alloc, &mut left, right, work);
-    release(left, told)
+fn build_buffering(alloc: Global, ids: CountIds) -> Result<Peer<CountIds>, AllocError> {
+    let config = config(alloc)?;
+    build_of(alloc, config, ids)
+}
+
+/// Two peers connect, open channels and send messages. It answers what both were told.
+pub fn run(alloc: Global, work: Work) -> Result<Told, RtcError> {
+    let left = build_buffering(alloc, CountIds::starting(1));
+    let right = build_buffering(alloc, CountIds::starting(1_000_001));
+    meet_both(alloc, left, right, work)
 }

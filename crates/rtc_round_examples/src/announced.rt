@@ -1,66 +1,73 @@
 //! Rounds whose answer announces a fingerprint that the certificate of its side has not (RFC 8122, section 6.2).
-use crate::connected::{address, exchange};
-use crate::peers::Peer;
-use rtc_peer::{Fingerprint, Ids, RtcError, SdpAnswer, SdpOffer, SdpPendingOffer, Why};
+use rtc_peer::{Fingerprint, RtcError, SdpAnswer, SdpOffer, Why};
+use rtc_plain_peers::{Endpoint, add_host, exchange, finish, release};
 use rtc_wire::Text;
 use std::alloc::{AllocError, Global};
 
-fn offer<N: Ids + Drop>(
-    alloc: Global,
-    left: &mut Peer<N>,
-) -> Result<Option<(SdpOffer, SdpPendingOffer)>, RtcError> {
-    let label = String::from_str(alloc, "chat")?;
-    let mut api = left.sdp_api();
-    let _channel = api.add_channel(label)?;
-    Ok(api.apply()?)
-}
-
-// The fingerprint of another certificate, or one by a function that peers do not know. What a session announces counts for its lines.
-fn announce(alloc: Global, answer: &mut SdpAnswer, call: &str) -> Result<(), AllocError> {
+// The fingerprint of another certificate, or one by a function that peers do not know.
+fn other_fingerprint(alloc: Global, call: &str) -> Result<Option<Fingerprint>, AllocError> {
     let mut announced = Fingerprint::of_certificate(alloc, b"abc", "sha-256")?;
     if call == "unknown_hash_function" {
         if let Some(fingerprint) = &mut announced {
             fingerprint.hash_func = Text::from_str(alloc, "md5")?;
         }
     }
-    answer.0.fingerprint = announced;
-    Ok(())
+    Ok(announced)
 }
 
-fn meet<N: Ids + Drop>(
+// What a session announces counts for its lines.
+fn answer<P: Endpoint>(
+    right: &mut P,
+    offer: SdpOffer,
+    announced: Option<Fingerprint>,
+) -> Result<SdpAnswer, RtcError> {
+    let mut answer = right.accept_offer(offer)?;
+    answer.0.fingerprint = announced;
+    Ok(answer)
+}
+
+fn agree<P: Endpoint>(
+    left: &mut P,
+    right: &mut P,
+    label: String,
+    announced: Option<Fingerprint>,
+) -> Result<(), RtcError> {
+    let (_channel, made) = left.offer_channel(label)?;
+    match made {
+        Some((offer, token)) => finish(left, token, answer(right, offer, announced)),
+        None => Ok(()),
+    }
+}
+
+fn meet<P: Endpoint>(
     alloc: Global,
-    left: &mut Peer<N>,
-    right: &mut Peer<N>,
+    left: &mut P,
+    right: &mut P,
     call: &str,
 ) -> Result<(), RtcError> {
-    address(alloc, left, 1)?;
-    address(alloc, right, 2)?;
-    if let Some((offer, token)) = offer(alloc, left)? {
-        let mut answer = right.sdp_api().accept_offer(offer)?;
-        announce(alloc, &mut answer, call)?;
-        left.sdp_api().accept_answer(token, answer)?;
-    }
+    add_host(alloc, left, 1)?;
+    add_host(alloc, right, 2)?;
+    let label = String::from_str(alloc, "chat")?;
+    let announced = other_fingerprint(alloc, call)?;
+    agree(left, right, label, announced)?;
     exchange(left, right)
 }
 
 // Whether a handshake was refused for the fingerprint.
-fn is_refused(call: &str, error: &RtcError) -> bool {
-    match error {
-        RtcError::RemoteSdp(Why::NoMatch { .. }) => call == "another_certificate",
-        RtcError::RemoteSdp(Why::UnknownHash(_)) => call == "unknown_hash_function",
+fn is_refused(call: &str, met: &Result<(), RtcError>) -> bool {
+    match met {
+        Err(RtcError::RemoteSdp(Why::NoMatch { .. })) => call == "another_certificate",
+        Err(RtcError::RemoteSdp(Why::UnknownHash(_))) => call == "unknown_hash_function",
         _ => false,
     }
 }
 
 /// Whether two peers do not connect, and one of them tells why.
-pub fn does_refuse<N: Ids + Drop>(
-    alloc: Global,
-    left: &mut Peer<N>,
-    right: &mut Peer<N>,
-    call: &str,
-) -> bool {
-    match meet(alloc, left, right, call) {
-        Ok(()) => false,
-        Err(error) => is_refused(call, &error) && !left.is_connected() && !right.is_connected(),
-    }
+pub fn does_refuse<P: Endpoint>(alloc: Global, left: &mut P, right: &mut P, call: &str) -> bool {
+    let met = meet(alloc, left, right, call);
+    let refused = is_refused(call, &met);
+    release(
+        met,
+        refused && !left.is_connected() && !right.is_connected(),
+    )
 }

@@ -7,10 +7,8 @@
 mod announced;
 mod calls;
 mod connected;
-mod peers;
 mod rounds;
 
-use rtc_plain::CountIds;
 use std::io;
 use std::process::ExitCode;
 
@@ -19,11 +17,7 @@ fn main(rt: HostRuntime) -> io::Result<ExitCode> {
     for line in rt.lines(rt.alloc()) {
         let line = line?;
         let agrees = match line.as_str().strip_prefix("call ") {
-            Some(name) => {
-                let left = CountIds::starting(1);
-                let right = CountIds::starting(1_000_001);
-                calls::does_succeed(rt.alloc(), left, right, name)?
-            }
+            Some(name) => calls::does_succeed(rt.alloc(), name)?,
             None => false,
         };
         if agrees {

@@ -1,14 +1,13 @@
 //! Codecs that are chosen out of those of an offer.
 use crate::answers::accept;
-use crate::peers::{Peer, build_with, release};
 use rtc_codecs::Codec;
-use rtc_peer::{CodecConfig, Ids, PayloadRow, RtcError, SdpAnswer};
-use rtc_plain::CountIds;
+use rtc_peer::{CodecConfig, PayloadRow, RtcError, SdpAnswer};
+use rtc_plain_peers::{Endpoint, is_true, release};
 use rtc_wire::Seq;
 use std::alloc::{AllocError, Global};
 
-// VP8, then H264.
-fn own_codecs(alloc: Global) -> Result<CodecConfig, AllocError> {
+/// VP8, then H264.
+pub fn own_codecs(alloc: Global) -> Result<CodecConfig, AllocError> {
     let mut rows = Vec::new(alloc);
     rows.push(Codec::Vp8.row(alloc, false)?)?;
     rows.push(Codec::H264.row(alloc, false)?)?;
@@ -34,46 +33,33 @@ fn are_own(rows: &[PayloadRow]) -> bool {
     }
 }
 
-fn answers_own<N: Ids + Drop>(
-    alloc: Global,
-    peer: &mut Peer<N>,
-    offer: &str,
-) -> Result<bool, RtcError> {
+fn answers_own<P: Endpoint>(alloc: Global, peer: &mut P, offer: &str) -> Result<bool, RtcError> {
     let text = accept(alloc, peer, offer)?;
     let answer = SdpAnswer::from_sdp_string(alloc, text.as_str())?;
-    match answer.0.lines.as_slice() {
-        [line] => Ok(are_own(line.payloads.as_slice())),
-        _ => Ok(false),
-    }
+    let own = match answer.0.lines.as_slice() {
+        [line] => are_own(line.payloads.as_slice()),
+        _ => false,
+    };
+    release(answer, Ok(own))
 }
 
 // The codecs of the config stay as they are.
-fn keeps_config<N: Ids + Drop>(peer: &Peer<N>) -> bool {
-    match peer.codec_config().rows.as_slice() {
+fn keeps_config(codecs: &CodecConfig) -> bool {
+    match codecs.rows.as_slice() {
         [first, second] => first.pt.0 == 96 && second.pt.0 == 102,
         _ => false,
     }
 }
 
-fn chooses<N: Ids + Drop>(alloc: Global, peer: &mut Peer<N>, offer: &str) -> bool {
-    match answers_own(alloc, peer, offer) {
-        Ok(own) => own && keeps_config(peer),
-        Err(_) => false,
-    }
-}
-
 // Whether a peer with VP8 before H264 answers so, with the numbers of the offer, and without VP9.
-fn own_order<N: Ids + Drop>(alloc: Global, ids: N, offer: &str) -> Result<bool, AllocError> {
-    let codecs = own_codecs(alloc)?;
-    let mut peer = build_with(alloc, codecs, ids)?;
-    let agrees = chooses(alloc, &mut peer, offer);
-    release(peer, Ok(agrees))
+fn keeps_order<P: Endpoint>(alloc: Global, peer: &mut P, offer: &str) -> bool {
+    is_true(answers_own(alloc, peer, offer)) && keeps_config(peer.codecs())
 }
 
 /// Whether an example of codecs gives what is expected, by the offer of a video line with H264, VP8 and VP9.
-pub fn does_agree(alloc: Global, example: &str, offer: &str) -> Result<bool, AllocError> {
+pub fn does_agree<P: Endpoint>(alloc: Global, peer: &mut P, example: &str, offer: &str) -> bool {
     match example {
-        "keep the own order" => own_order(alloc, CountIds::starting(1), offer),
-        _ => Ok(false),
+        "keep the own order" => keeps_order(alloc, peer, offer),
+        _ => false,
     }
 }

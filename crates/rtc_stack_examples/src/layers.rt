@@ -1,10 +1,7 @@
 //! Layers that are sent.
 use crate::lines::count_line;
-use crate::peers::{Peer, build, release};
-use rtc_peer::{
-    Direction, Ids, MediaKind, MediaLine, Rid, SdpOffer, Simulcast, SimulcastLayer, Ssrc,
-};
-use rtc_plain::CountIds;
+use rtc_peer::{Direction, MediaKind, MediaLine, Rid, SdpOffer, Simulcast, SimulcastLayer, Ssrc};
+use rtc_plain_peers::{Endpoint, release};
 use rtc_wire::{Seq, Text};
 use std::alloc::{AllocError, Global};
 
@@ -56,21 +53,6 @@ fn custom_layer(alloc: Global) -> Result<Simulcast, AllocError> {
     Ok(Simulcast { send, recv })
 }
 
-// The offer of a video line that sends these layers.
-fn offer<N: Ids + Drop>(
-    peer: &mut Peer<N>,
-    layers: Simulcast,
-    kind: MediaKind,
-    dir: Direction,
-) -> Result<Option<SdpOffer>, AllocError> {
-    let mut api = peer.sdp_api();
-    api.add_media(kind, dir, None, None, Some(layers))?;
-    match api.apply()? {
-        Some((offer, _token)) => Ok(Some(offer)),
-        None => Ok(None),
-    }
-}
-
 fn are_resent(ssrcs: &[(Ssrc, Option<Ssrc>)]) -> bool {
     for pair in ssrcs {
         if pair.1.is_none() {
@@ -95,44 +77,41 @@ fn tells(alloc: Global, offer: &SdpOffer, count: usize, wanted: &str) -> Result<
     Ok(found == 1 && has_sources(offer.0.lines.as_slice(), count))
 }
 
-fn offers<N: Ids + Drop>(
+// Whether the offer of a line that sends these layers tells that.
+fn offers<P: Endpoint>(
     alloc: Global,
-    peer: &mut Peer<N>,
+    peer: &mut P,
     layers: Simulcast,
+    kind: MediaKind,
     count: usize,
     wanted: &str,
 ) -> Result<bool, AllocError> {
-    match offer(peer, layers, MediaKind::Video, Direction::SendOnly)? {
-        Some(offer) => tells(alloc, &offer, count, wanted),
+    let (_mid, made) = peer.offer_media(kind, Direction::SendOnly, Some(layers))?;
+    let told = match &made {
+        Some((offer, _)) => tells(alloc, offer, count, wanted),
         None => Ok(false),
-    }
-}
-
-fn are_offered<N: Ids + Drop>(
-    alloc: Global,
-    ids: N,
-    layers: Simulcast,
-    count: usize,
-    wanted: &str,
-) -> Result<bool, AllocError> {
-    let mut peer = build(alloc, ids)?;
-    let agrees = offers(alloc, &mut peer, layers, count, wanted);
-    release(peer, agrees)
+    };
+    release(made, told)
 }
 
 /// Whether an example of layers gives what is expected.
-pub fn does_agree(alloc: Global, example: &str) -> Result<bool, AllocError> {
+pub fn does_agree<P: Endpoint>(
+    alloc: Global,
+    peer: &mut P,
+    example: &str,
+) -> Result<bool, AllocError> {
     match example {
         "have sources of their own" => {
             let layers = three_layers(alloc)?;
-            are_offered(alloc, CountIds::starting(1), layers, 3, "a=rid:h send")
+            offers(alloc, peer, layers, MediaKind::Video, 3, "a=rid:h send")
         }
         "have their pairs" => {
             let layers = custom_layer(alloc)?;
-            are_offered(
+            offers(
                 alloc,
-                CountIds::starting(1),
+                peer,
                 layers,
+                MediaKind::Video,
                 1,
                 "a=rid:custom send foo=bar",
             )

@@ -12,7 +12,9 @@ mod lines;
 mod peers;
 mod starts;
 
-use rtc_plain::CountIds;
+use peers::build_for;
+use rtc_plain_peers::Endpoint;
+use std::alloc::AllocError;
 use std::process::ExitCode;
 use std::rt::Files;
 use std::{fs, io, str};
@@ -22,21 +24,29 @@ fn read<R: Files + AllocGlobal>(rt: &R, path: &str, ending: &str) -> io::Result<
     fs::read(rt, path.as_str())
 }
 
-fn is_answered<R: Files + AllocGlobal>(rt: &R, path: &str) -> io::Result<bool> {
+fn is_answered<R: Files + AllocGlobal, P: Endpoint>(
+    rt: &R,
+    peer: &mut P,
+    path: &str,
+) -> io::Result<bool> {
     let offer = read(rt, path, "offer")?;
     let expected = read(rt, path, "answer")?;
     let Ok(offer) = str::from_utf8(offer.as_slice()) else {
         return Ok(false);
     };
-    let told = answers::answer_to(rt.alloc(), CountIds::starting(1), offer)?;
+    let told = answers::answer_to(rt.alloc(), peer, offer)?;
     Ok(told.as_bytes() == expected.as_slice())
 }
 
 // Whether a peer chooses among codecs as is expected.
-fn is_chosen<R: Files + AllocGlobal>(rt: &R, example: &str) -> io::Result<bool> {
+fn is_chosen<R: Files + AllocGlobal, P: Endpoint>(
+    rt: &R,
+    peer: &mut P,
+    example: &str,
+) -> io::Result<bool> {
     let offer = read(rt, "h264_vp8_vp9", "text")?;
     match str::from_utf8(offer.as_slice()) {
-        Ok(offer) => Ok(codecs::does_agree(rt.alloc(), example, offer)?),
+        Ok(offer) => Ok(codecs::does_agree(rt.alloc(), peer, example, offer)),
         Err(_) => Ok(false),
     }
 }
@@ -51,7 +61,11 @@ fn other_offer(example: &str) -> &'static str {
 }
 
 // Whether a start by session descriptions goes as is expected.
-fn is_started<R: Files + AllocGlobal>(rt: &R, example: &str) -> io::Result<bool> {
+fn is_started<R: Files + AllocGlobal, P: Endpoint>(
+    rt: &R,
+    peer: &mut P,
+    example: &str,
+) -> io::Result<bool> {
     let first = read(rt, "starts/first_chunk", "text")?;
     let other = read(rt, other_offer(example), "text")?;
     let Ok(first) = str::from_utf8(first.as_slice()) else {
@@ -60,17 +74,27 @@ fn is_started<R: Files + AllocGlobal>(rt: &R, example: &str) -> io::Result<bool>
     let Ok(other) = str::from_utf8(other.as_slice()) else {
         return Ok(false);
     };
-    Ok(starts::does_agree(rt.alloc(), example, first, other)?)
+    Ok(starts::does_agree(rt.alloc(), peer, example, first, other)?)
+}
+
+fn ask<R: Files + AllocGlobal, P: Endpoint + Drop>(
+    rt: &R,
+    peer: Result<P, AllocError>,
+    subject: &str,
+    name: &str,
+) -> io::Result<bool> {
+    let mut peer = peer?;
+    match subject {
+        "answer" => is_answered(rt, &mut peer, name),
+        "codecs" => is_chosen(rt, &mut peer, name),
+        "layers" => Ok(layers::does_agree(rt.alloc(), &mut peer, name)?),
+        "starts" => is_started(rt, &mut peer, name),
+        _ => Ok(false),
+    }
 }
 
 fn does_agree<R: Files + AllocGlobal>(rt: &R, subject: &str, name: &str) -> io::Result<bool> {
-    match subject {
-        "answer" => is_answered(rt, name),
-        "codecs" => is_chosen(rt, name),
-        "layers" => Ok(layers::does_agree(rt.alloc(), name)?),
-        "starts" => is_started(rt, name),
-        _ => Ok(false),
-    }
+    ask(rt, build_for(rt.alloc(), subject, name), subject, name)
 }
 
 fn main(rt: HostRuntime) -> io::Result<ExitCode> {

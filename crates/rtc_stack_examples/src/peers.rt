@@ -1,59 +1,34 @@
-//! Fresh peers over parts in memory.
-use rtc_assoc_end::PlainAssociation;
-use rtc_peer::{CodecConfig, Ids, Rtc, RtcConfig};
-use rtc_plain::{PlainDtls, PlainIce, PlainMedia};
-use rtc_wire::Moment;
+//! The peers of the examples.
+use crate::codecs::own_codecs;
+use rtc_peer::{CodecConfig, RtcConfig};
+use rtc_plain::CountIds;
+use rtc_plain_peers::{Peer, build_of};
 use std::alloc::{AllocError, Global};
 
-/// A peer over parts in memory.
-pub type Peer<N> = Rtc<PlainIce, PlainDtls, PlainAssociation, PlainMedia, N>;
-
-fn build_of<N: Ids + Drop>(
-    alloc: Global,
-    config: RtcConfig,
-    ids: N,
-) -> Result<Peer<N>, AllocError> {
-    Rtc::build(
-        alloc,
-        config,
-        Moment::FAR_PAST,
-        PlainIce::new(alloc),
-        PlainDtls::new(alloc),
-        PlainAssociation::new(alloc),
-        PlainMedia::new(alloc),
-        ids,
-    )
+fn with_codecs(config: RtcConfig, codecs: CodecConfig) -> RtcConfig {
+    config.set_codec_config(codecs)
 }
 
-/// A peer of the default config at moment 0.
-pub fn build<N: Ids + Drop>(alloc: Global, ids: N) -> Result<Peer<N>, AllocError> {
-    let config = RtcConfig::new(alloc)?;
-    build_of(alloc, config, ids)
+// A certificate, and starts that may be told by session descriptions.
+fn with_snap(alloc: Global, config: RtcConfig) -> Result<RtcConfig, AllocError> {
+    let cert = b"abc".to_vec(alloc)?;
+    Ok(config.set_dtls_cert(cert).set_snap_enabled(true))
 }
 
-/// A peer with other codecs.
-pub fn build_with<N: Ids + Drop>(
-    alloc: Global,
-    codecs: CodecConfig,
-    ids: N,
-) -> Result<Peer<N>, AllocError> {
-    let config = RtcConfig::new(alloc)?;
-    build_of(alloc, config.set_codec_config(codecs), ids)
+// The default config, but for the codecs of an example of codecs, and for what a peer tells of its start.
+fn config_for(alloc: Global, subject: &str, name: &str) -> Result<RtcConfig, AllocError> {
+    if subject == "codecs" {
+        let codecs = own_codecs(alloc)?;
+        return Ok(with_codecs(RtcConfig::new(alloc)?, codecs));
+    }
+    if subject == "starts" && name == "are told by an offer" {
+        return with_snap(alloc, RtcConfig::new(alloc)?);
+    }
+    RtcConfig::new(alloc)
 }
 
-/// A peer with the certificate `abc`, whose association may be started by session descriptions.
-pub fn build_with_snap<N: Ids + Drop>(alloc: Global, ids: N) -> Result<Peer<N>, AllocError> {
-    let mut cert = Vec::new(alloc);
-    cert.extend_from_slice(b"abc")?;
-    let config = RtcConfig::new(alloc)?;
-    build_of(
-        alloc,
-        config.set_dtls_cert(cert).set_snap_enabled(true),
-        ids,
-    )
-}
-
-/// Gives what was told of something, once that is dropped.
-pub fn release<P: Drop, T>(_done: P, told: T) -> T {
-    told
+/// A fresh peer for an example.
+pub fn build_for(alloc: Global, subject: &str, name: &str) -> Result<Peer<CountIds>, AllocError> {
+    let config = config_for(alloc, subject, name)?;
+    build_of(alloc, config, CountIds::starting(1))
 }

@@ -1,22 +1,10 @@
 //! Starts of the association by session descriptions (draft-hancke-tsvwg-snap).
 use crate::answers::accept;
 use crate::lines::count_line;
-use crate::peers::{Peer, build, build_with_snap, release};
-use rtc_peer::{Ids, RtcError, SdpOffer, Why};
-use rtc_plain::CountIds;
+use rtc_peer::{RtcError, SdpOffer, Why};
+use rtc_plain_peers::{Endpoint, is_true, release, succeeds};
 use rtc_wire::Text;
 use std::alloc::{AllocError, Global};
-
-// The offer of a channel.
-fn offer<N: Ids + Drop>(alloc: Global, peer: &mut Peer<N>) -> Result<Option<SdpOffer>, RtcError> {
-    let label = String::from_str(alloc, "a")?;
-    let mut api = peer.sdp_api();
-    api.add_channel(label)?;
-    match api.apply()? {
-        Some((offer, _token)) => Ok(Some(offer)),
-        None => Ok(None),
-    }
-}
 
 fn has_line(alloc: Global, offer: &SdpOffer, wanted: &str) -> Result<bool, AllocError> {
     let text = offer.to_sdp_string()?;
@@ -24,22 +12,25 @@ fn has_line(alloc: Global, offer: &SdpOffer, wanted: &str) -> Result<bool, Alloc
     Ok(count == 1)
 }
 
-fn offers<N: Ids + Drop>(
+// Whether the offer of a channel has a line once.
+fn offers<P: Endpoint>(
     alloc: Global,
-    peer: &mut Peer<N>,
+    peer: &mut P,
+    label: String,
     wanted: &str,
 ) -> Result<bool, RtcError> {
-    match offer(alloc, peer)? {
-        Some(offer) => Ok(has_line(alloc, &offer, wanted)?),
+    let (_channel, made) = peer.offer_channel(label)?;
+    let told = match &made {
+        Some((offer, _)) => has_line(alloc, offer, wanted),
         None => Ok(false),
-    }
+    };
+    Ok(release(made, told)?)
 }
 
-// Whether the first offer of a channel has a line once, of a peer with a certificate, whose starts may be told by descriptions.
-fn is_told<N: Ids + Drop>(alloc: Global, ids: N, wanted: &str) -> Result<bool, AllocError> {
-    let mut peer = build_with_snap(alloc, ids)?;
-    let agrees = matches!(offers(alloc, &mut peer, wanted), Ok(true));
-    release(peer, Ok(agrees))
+// Whether the first offer of a channel has a line once.
+fn is_told<P: Endpoint>(alloc: Global, peer: &mut P, wanted: &str) -> Result<bool, AllocError> {
+    let label = String::from_str(alloc, "a")?;
+    Ok(is_true(offers(alloc, peer, label, wanted)))
 }
 
 fn tells_changed(why: &Why) -> bool {
@@ -70,36 +61,33 @@ fn is_refused(answered: &Result<Text, RtcError>, changed: bool) -> bool {
     }
 }
 
+fn accepts<P: Endpoint>(alloc: Global, peer: &mut P, offer: &str) -> bool {
+    succeeds(accept(alloc, peer, offer))
+}
+
+fn refuses_other<P: Endpoint>(alloc: Global, peer: &mut P, other: &str, changed: bool) -> bool {
+    let answered = accept(alloc, peer, other);
+    let refused = is_refused(&answered, changed);
+    release(answered, refused)
+}
+
 // Whether a peer that was started by an offer refuses another one, and then accepts the first one again.
-fn refuses<N: Ids + Drop>(
+fn refuses<P: Endpoint>(
     alloc: Global,
-    peer: &mut Peer<N>,
+    peer: &mut P,
     first: &str,
     other: &str,
     changed: bool,
 ) -> bool {
-    if accept(alloc, peer, first).is_err() {
-        return false;
-    }
-    let refused = is_refused(&accept(alloc, peer, other), changed);
-    refused && accept(alloc, peer, first).is_ok()
-}
-
-fn is_other_refused<N: Ids + Drop>(
-    alloc: Global,
-    ids: N,
-    first: &str,
-    other: &str,
-    changed: bool,
-) -> Result<bool, AllocError> {
-    let mut peer = build(alloc, ids)?;
-    let agrees = refuses(alloc, &mut peer, first, other, changed);
-    release(peer, Ok(agrees))
+    accepts(alloc, peer, first)
+        && refuses_other(alloc, peer, other, changed)
+        && accepts(alloc, peer, first)
 }
 
 /// Whether an example of starts gives what is expected, by an offer that tells a chunk, and by another one.
-pub fn does_agree(
+pub fn does_agree<P: Endpoint>(
     alloc: Global,
+    peer: &mut P,
     example: &str,
     first: &str,
     other: &str,
@@ -107,14 +95,10 @@ pub fn does_agree(
     match example {
         "are told by an offer" => {
             let wanted = "a=sctp-init:AQAAFAAAAAQAEAAA/////wAAAAU=";
-            is_told(alloc, CountIds::starting(1), wanted)
+            is_told(alloc, peer, wanted)
         }
-        "keep the first chunk" => {
-            is_other_refused(alloc, CountIds::starting(1), first, other, true)
-        }
-        "need the chunk again" => {
-            is_other_refused(alloc, CountIds::starting(1), first, other, false)
-        }
+        "keep the first chunk" => Ok(refuses(alloc, peer, first, other, true)),
+        "need the chunk again" => Ok(refuses(alloc, peer, first, other, false)),
         _ => Ok(false),
     }
 }

@@ -1,4 +1,5 @@
-//! Runs stored examples of values: copies, datagrams, open messages, fields of text, and values of session descriptions.
+//! Runs stored examples of values: copies, datagrams, open messages, fields of text, values of session descriptions, and of sources
+//! and sinks of bytes.
 //!
 //! Each line of the input names a subject and an example of it. It is printed again behind `agrees` or `differs`.
 #![tactic(auto)]
@@ -8,6 +9,7 @@ mod datagrams;
 mod descriptions;
 mod fields;
 mod messages;
+mod streams;
 
 use std::alloc::{AllocError, Global};
 use std::io;
@@ -20,6 +22,7 @@ fn does_agree(alloc: Global, subject: &str, example: &str) -> Result<bool, Alloc
         "descriptions" => descriptions::does_agree(alloc, example),
         "fields" => fields::does_agree(alloc, example),
         "messages" => messages::does_agree(alloc, example),
+        "streams" => streams::does_agree(alloc, example),
         _ => Ok(false),
     }
 }

@@ -1,9 +1,9 @@
 //! Ends that are started, and steps for which there is no call.
-use super::*;
-use std::test::Fail;
+use crate::scripts::{Do, L, R, Says, is_played};
+use rtc_association::{AssocError, AssocEvent, Ppi};
+use std::alloc::{AllocError, Global};
 
-#[test]
-fn steps_before_the_start_and_second_starts_are_no_such(rt: HostRuntime) -> Result<(), Fail> {
+fn steps_before_the_start_and_second_starts_are_no_such(alloc: Global) -> Result<bool, AllocError> {
     let script = [
         (Do::Open(L, 0), Says::NoSuch),
         (Do::Write(L, 0, Ppi::Text, b"a"), Says::NoSuch),
@@ -34,6 +34,14 @@ fn steps_before_the_start_and_second_starts_are_no_such(rt: HostRuntime) -> Resu
         (Do::Open(L, 0), Says::Done),
         (Do::Open(L, 0), Says::Refused(AssocError::StreamExists)),
     ];
-    assert_eq!(rt; played(rt.alloc(), &script)?, script.len());
-    Ok(())
+    is_played(alloc, &script)
+}
+
+/// Whether a script is played as its rules say.
+pub fn does_agree(alloc: Global, example: &str) -> Result<bool, AllocError> {
+    match example {
+        "steps before the start and second starts are no such" =>
+            steps_before_the_start_and_second_starts_are_no_such(alloc),
+        _ => Ok(false),
+    }
 }

@@ -1,6 +1,7 @@
 //! Streams that are closed, reset and opened again.
-use super::*;
-use std::test::Fail;
+use crate::scripts::{Do, L, R, Says, is_played};
+use rtc_association::{AssocError, AssocEvent, Ppi};
+use std::alloc::{AllocError, Global};
 
 // The left end writes and closes, the right end reads and is told, both are reset, and the right end opens again.
 const RESET: [(Do, Says); 44] = [
@@ -56,14 +57,11 @@ const RESET: [(Do, Says); 44] = [
     (Do::Read(L, 1), Says::Nothing(1)),
 ];
 
-#[test]
-fn a_stream_is_reset_and_opened_again(rt: HostRuntime) -> Result<(), Fail> {
-    assert_eq!(rt; played(rt.alloc(), &RESET)?, RESET.len());
-    Ok(())
+fn a_stream_is_reset_and_opened_again(alloc: Global) -> Result<bool, AllocError> {
+    is_played(alloc, &RESET)
 }
 
-#[test]
-fn unread_messages_go_with_the_close(rt: HostRuntime) -> Result<(), Fail> {
+fn unread_messages_go_with_the_close(alloc: Global) -> Result<bool, AllocError> {
     let script = [
         (Do::Connect(L), Says::Done),
         (Do::Accept(R), Says::Done),
@@ -90,6 +88,14 @@ fn unread_messages_go_with_the_close(rt: HostRuntime) -> Result<(), Fail> {
         (Do::Poll(L), Says::Told(AssocEvent::ResetComplete(5))),
         (Do::Poll(L), Says::Still),
     ];
-    assert_eq!(rt; played(rt.alloc(), &script)?, script.len());
-    Ok(())
+    is_played(alloc, &script)
+}
+
+/// Whether a script is played as its rules say.
+pub fn does_agree(alloc: Global, example: &str) -> Result<bool, AllocError> {
+    match example {
+        "a stream is reset and opened again" => a_stream_is_reset_and_opened_again(alloc),
+        "unread messages go with the close" => unread_messages_go_with_the_close(alloc),
+        _ => Ok(false),
+    }
 }

@@ -1,11 +1,11 @@
 //! Packets that are lost, repeated and out of order.
-use super::*;
-use std::test::Fail;
+use crate::scripts::{Do, L, R, Says, is_played};
+use rtc_association::{AssocError, AssocEvent, Ppi};
+use std::alloc::{AllocError, Global};
 
 const MESSAGE: &[u8] = b"thirty bytes in three pieces..";
 
-#[test]
-fn three_pieces_are_read_once_after_a_resend(rt: HostRuntime) -> Result<(), Fail> {
+fn three_pieces_are_read_once_after_a_resend(alloc: Global) -> Result<bool, AllocError> {
     let script = [
         (Do::Connect(L), Says::Done),
         (Do::Accept(R), Says::Done),
@@ -41,12 +41,10 @@ fn three_pieces_are_read_once_after_a_resend(rt: HostRuntime) -> Result<(), Fail
         (Do::Give(R, 4, 1000), Says::Done),
         (Do::Read(R, 0), Says::Nothing(0)),
     ];
-    assert_eq!(rt; played(rt.alloc(), &script)?, script.len());
-    Ok(())
+    is_played(alloc, &script)
 }
 
-#[test]
-fn messages_of_two_streams_keep_their_order(rt: HostRuntime) -> Result<(), Fail> {
+fn messages_of_two_streams_keep_their_order(alloc: Global) -> Result<bool, AllocError> {
     let script = [
         (Do::Connect(L), Says::Done),
         (Do::Accept(R), Says::Done),
@@ -74,6 +72,18 @@ fn messages_of_two_streams_keep_their_order(rt: HostRuntime) -> Result<(), Fail>
         (Do::Read(R, 1), Says::Text(0, b"c")),
         (Do::Read(R, 1), Says::Nothing(0)),
     ];
-    assert_eq!(rt; played(rt.alloc(), &script)?, script.len());
-    Ok(())
+    is_played(alloc, &script)
+}
+
+/// Whether a script is played as its rules say.
+pub fn does_agree(alloc: Global, example: &str) -> Result<bool, AllocError> {
+    match example {
+        "three pieces are read once after a resend" => three_pieces_are_read_once_after_a_resend(
+            alloc,
+        ),
+        "messages of two streams keep their order" => messages_of_two_streams_keep_their_order(
+            alloc,
+        ),
+        _ => Ok(false),
+    }
 }

@@ -1,21 +1,18 @@
 //! Scripts of two ends, each step with the reply that the rules of the association give by hand.
-use crate::{AssocReply, AssocStep, PlainAssociation, run_assoc};
+use rtc_assoc::{AssocReply, AssocStep, PlainAssociation, run_assoc};
 use rtc_association::{AssocError, AssocEvent, Ppi};
 use rtc_wire::{Bytes, Moment};
 use std::alloc::{AllocError, Global};
 
-mod closes;
-mod losses;
-mod starts;
+/// The left end.
+pub const L: bool = true;
 
-// The left end and the right end.
-const L: bool = true;
-
-const R: bool = false;
+/// The right end.
+pub const R: bool = false;
 
 /// A step, short to write. A moment is in milliseconds.
 #[derive(Clone, Copy)]
-enum Do {
+pub enum Do {
     Connect(bool),
     Accept(bool),
     Open(bool, u16),
@@ -30,7 +27,7 @@ enum Do {
 
 /// What it is to answer.
 #[derive(Clone, Copy)]
-enum Says {
+pub enum Says {
     Done,
     Refused(AssocError),
     Wrote(u64),
@@ -155,4 +152,9 @@ fn played(alloc: Global, script: &[(Do, Says)]) -> Result<usize, AllocError> {
         place += 1;
     }
     Ok(place)
+}
+
+/// Whether each step of a script is answered as it says.
+pub fn is_played(alloc: Global, script: &[(Do, Says)]) -> Result<bool, AllocError> {
+    Ok(played(alloc, script)? == script.len())
 }

@@ -1,9 +1,11 @@
 //! Packets that are none, and packets that somebody else made.
-use super::*;
-use std::test::Fail;
+use crate::ends::{give, server};
+use rtc_assoc_end::PlainAssociation;
+use rtc_association::{AssocError, AssocEvent, Association};
+use std::alloc::{AllocError, Global};
 
-/// What a packet did to a server: its first event, how many packets it queued, and the last byte of the first one.
-#[derive(Clone, Copy, Debug, PartialEq, Eq)]
+// What a packet does to a server: its first event, how many packets it queues, and the last byte of the first one.
+#[derive(Clone, Copy)]
 struct Seen {
     event: Option<AssocEvent>,
     packets: usize,
@@ -23,21 +25,40 @@ const DROPPED: Seen = Seen {
     last: Some(0),
 };
 
-fn seen_of(alloc: Global, bytes: &[u8]) -> Result<Seen, AssocError> {
-    let mut end = server(alloc)?;
-    give(&mut end, 0, bytes)?;
+const CONNECTED: Seen = Seen {
+    event: Some(AssocEvent::Connected),
+    packets: 1,
+    last: Some(2),
+};
+
+const LOST: Seen = Seen {
+    event: Some(AssocEvent::Lost),
+    packets: 0,
+    last: None,
+};
+
+fn last_byte(end: &mut PlainAssociation) -> Option<u8> {
+    match end.poll_transmit() {
+        None => None,
+        Some(packet) => packet.as_slice().last().copied(),
+    }
+}
+
+fn shows(end: &mut PlainAssociation, want: &Seen) -> bool {
     let event = end.poll();
-    let mut last_bytes = Vec::new(alloc);
-    for _ in 0..10 {
-        if let Some(packet) = end.poll_transmit() {
-            last_bytes.push(packet.as_slice().last().copied())?;
+    let last = last_byte(end);
+    for _ in 1..want.packets {
+        if end.poll_transmit().is_none() {
+            return false;
         }
     }
-    Ok(Seen {
-        event,
-        packets: last_bytes.len(),
-        last: last_bytes.first().copied().flatten(),
-    })
+    event == want.event && last == want.last && end.poll_transmit().is_none()
+}
+
+fn does(alloc: Global, bytes: &[u8], want: &Seen) -> Result<bool, AssocError> {
+    let mut end = server(alloc)?;
+    give(&mut end, 0, bytes)?;
+    Ok(shows(&mut end, want))
 }
 
 // A data packet of stream 7, with its acknowledgement, number, generation, part and content.
@@ -58,13 +79,6 @@ fn packet(
     bytes.extend_from_slice(&51u32.to_be_bytes())?;
     bytes.extend_from_slice(content)?;
     Ok(bytes)
-}
-
-fn is_seen(alloc: Global, bytes: &[u8], want: Seen) -> bool {
-    match seen_of(alloc, bytes) {
-        Ok(got) => got == want,
-        Err(_) => false,
-    }
 }
 
 const NONE: [&[u8]; 16] = [
@@ -92,27 +106,17 @@ const NONE: [&[u8]; 16] = [
     ],
 ];
 
-#[test]
-fn malformed_packets_do_nothing(rt: HostRuntime) {
+fn ignores_malformed(alloc: Global) -> Result<bool, AssocError> {
     for bytes in NONE {
-        assert!(rt; is_seen(rt.alloc(), bytes, NOTHING), "{:?}", bytes);
+        if !does(alloc, bytes, &NOTHING)? {
+            return Ok(false);
+        }
     }
+    Ok(true)
 }
 
-#[test]
-fn hello_and_shutdown_do_what_the_format_says(rt: HostRuntime) {
-    let hello = Seen {
-        event: Some(AssocEvent::Connected),
-        packets: 1,
-        last: Some(2),
-    };
-    assert!(rt; is_seen(rt.alloc(), &[1], hello));
-    let lost = Seen {
-        event: Some(AssocEvent::Lost),
-        packets: 0,
-        last: None,
-    };
-    assert!(rt; is_seen(rt.alloc(), &[5], lost));
+fn hears_greetings(alloc: Global) -> Result<bool, AssocError> {
+    Ok(does(alloc, &[1], &CONNECTED)? && does(alloc, &[5], &LOST)?)
 }
 
 // Number, generation, part, and what is seen.
@@ -156,26 +160,30 @@ const FORGED: [(u64, u32, u8, Seen); 10] = [
     ),
 ];
 
-#[test]
-fn forged_items_do_what_the_format_says(rt: HostRuntime) -> Result<(), Fail> {
+fn hears_forged(alloc: Global) -> Result<bool, AssocError> {
     for (number, generation, part, want) in FORGED {
-        let bytes = packet(rt.alloc(), number, generation, part, b"")?;
-        assert!(rt;
-            is_seen(rt.alloc(), bytes.as_slice(), want),
-            "{number} {generation} {part}"
-        );
+        let bytes = packet(alloc, number, generation, part, b"")?;
+        if !does(alloc, bytes.as_slice(), &want)? {
+            return Ok(false);
+        }
     }
-    Ok(())
+    Ok(true)
 }
 
-#[test]
-fn a_message_of_a_generation_to_come_leaves_no_stream(rt: HostRuntime) -> Result<(), Fail> {
-    let bytes = packet(rt.alloc(), 1, 1, 1, b"later")?;
-    let mut end = match server(rt.alloc()) {
-        Ok(end) => end,
-        Err(_) => return Err(AllocError)?,
-    };
-    assert!(rt; give(&mut end, 0, bytes.as_slice()).is_ok());
-    assert!(rt; !end.has_stream(7));
-    Ok(())
+fn leaves_no_stream(alloc: Global) -> Result<bool, AssocError> {
+    let bytes = packet(alloc, 1, 1, 1, b"later")?;
+    let mut end = server(alloc)?;
+    give(&mut end, 0, bytes.as_slice())?;
+    Ok(!end.has_stream(7))
+}
+
+/// Whether a packet of somebody else does what the format says.
+pub fn does_agree(alloc: Global, example: &str) -> Result<bool, AssocError> {
+    match example {
+        "malformed packets do nothing" => ignores_malformed(alloc),
+        "hello and shutdown do what the format says" => hears_greetings(alloc),
+        "forged items do what the format says" => hears_forged(alloc),
+        "a message of a generation to come leaves no stream" => leaves_no_stream(alloc),
+        _ => Ok(false),
+    }
 }
