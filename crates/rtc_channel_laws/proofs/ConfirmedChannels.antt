@@ -34,7 +34,7 @@ all_confirmed_numbers (channel ∷ rest) held h =
 below_next : (n : ℕ) → n < n + 1
 below_next n = omega arith
 
-up_to_next : (n : ℕ) → n ≤ n + 1
+pub up_to_next : (n : ℕ) → n ≤ n + 1
 up_to_next n = omega arith
 
 zero_below : (n : ℕ) → 0 ≤ n

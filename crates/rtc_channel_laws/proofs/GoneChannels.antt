@@ -1,5 +1,5 @@
 -- A channel that has no row gets none where rows are given streams, opened, confirmed and added.
-use Rattle.std.proofs.Common.{if◌then◌else◌, ◌∷◌, ◌+◌, ◌<◌, ℕ, Bool, true, false, List, [], Option, Some, None, arith}
+use Rattle.std.proofs.Common.{if◌then◌else◌, ◌≡◌, ◌∷◌, ◌+◌, ◌<◌, ℕ, Bool, true, false, List, [], Option, Some, None, refl, ◌∙◌, arith}
 use Rattle.rtc_wire.specs.declared.channel_config.ChannelConfig.{ChannelConfig}
 use Rattle.rtc_channels.specs.Channels.{Channel, Channels, has_id, unconfirmed, with_channel, rows_confirmed, confirmed, all_confirmed}
 use Rattle.rtc_channels.specs.Allocation.{sought_by, stream_given, rows_given, all_allocated}
@@ -40,6 +40,20 @@ allocated_gone parity c (channel ∷ rest) held h = by (sought_by parity held ch
         → IsGone c (all_allocated parity rest (stream_given channel.id o held))
     by None go = go held h
     by (Some t) go = go (record held { rows = rows_given channel.id t held.rows }) (h.0, none_given c channel.id t held.rows h.1)
+
+-- and no number is given
+pub allocated_given : (parity : ℕ) (channels : List Channel) (held : Channels) → (all_allocated parity channels held).given ≡ held.given
+allocated_given parity [] held = refl
+allocated_given parity (channel ∷ rest) held =
+    allocated_given parity rest (stream_given channel.id (sought_by parity held channel) held) ∙ by (sought_by parity held channel)
+  where
+    by : (o : Option ℕ) → (stream_given channel.id o held).given ≡ held.given
+    by None = refl
+    by (Some t) = refl
+
+pub all_confirmed_given : (channels : List (ℕ × ChannelConfig)) (held : Channels) → (all_confirmed channels held).given ≡ held.given
+all_confirmed_given [] held = refl
+all_confirmed_given (channel ∷ rest) held = all_confirmed_given rest (confirmed channel.0 channel.1 held)
 
 pub handed_gone : (c id : ℕ) (held : Channels) → IsGone c held → IsGone c (config_handed id held)
 handed_gone c id held h = (h.0, none_opened c id held.rows h.1)

@@ -1,5 +1,6 @@
 -- Offers and answers that are accepted, refused or stopped keep the use of each stream, and live channels.
-use Rattle.std.proofs.Common.{◌≡◌, ℕ, Bool, true, false, not, List, [], Option, Some, None, Result, Ok, Err, refl, sym, ap, subst, ◌∙◌}
+use Rattle.std.proofs.Common.{◌≡◌, ◌&&◌, ℕ, Bool, true, false, true≢false, not, List, [], Option, Some, None, Result, Ok, Err, refl, sym, ap, subst, ◌∙◌}
+use Rattle.std.specs.Prelude.{is_some}
 use Rattle.rtc_association.specs.AssociationLaws.{AssociationLaws}
 use Rattle.rtc_dtls.specs.declared.dtls_error.DtlsError.TheVariants.{WouldBlock, Fault, Alloc as DtlsAlloc}
 use Rattle.rtc_sdp_values.specs.declared.candidate.Candidate.{Candidate}
@@ -25,6 +26,7 @@ use Rattle.rtc_tables.specs.declared.why.Why.TheVariants.{
   NoneAnnounced,
 }
 use Rattle.rtc_tables.specs.ParsedLines.{parsed_lines}
+use Rattle.rtc_tables.specs.Table.{app_of}
 use Rattle.rtc_change.specs.TableAfter.{table_after}
 use Rattle.rtc_change.specs.Plans.{is_offer, asked_by, may_take_init}
 use Rattle.rtc_change.specs.declared.change.Change.{Change}
@@ -34,8 +36,9 @@ use Rattle.rtc_sctp_values.specs.InitHalves.{InitHalves}
 use Rattle.rtc_sctp_values.specs.declared.proto_error.ProtoError.TheVariants.{Fault as AssociationFault}
 use Rattle.rtc_sctp_values.specs.declared.sctp_error.SctpError.{SctpError}
 use Rattle.rtc_sctp_values.specs.declared.sctp_error.SctpError.TheVariants.{Proto, Alloc as SctpAlloc}
-use Rattle.rtc_sctp.specs.Streams.{SctpStreams}
+use Rattle.rtc_sctp.specs.Streams.{SctpStreams, is_established}
 use Rattle.rtc_stream_uses.proofs.CallUses.{inits_entries}
+use Rattle.rtc_stream_contents.specs.RunningStreams.{AreRunning}
 use Rattle.rtc_channels.specs.Channels.{Channels}
 use Rattle.rtc_peer_state.specs.declared.peer.Peer.{Peer}
 use Rattle.rtc_peer_state.specs.declared.phase.Phase.{Phase}
@@ -55,8 +58,9 @@ use Rattle.rtc_polling_laws.specs.Acts.{NegotiationActs, with_core}
 use Rattle.rtc_polling_laws.proofs.ActedAcceptances.{offer_did, answer_did}
 use Rattle.rtc_channel_laws.specs.KeptChannels.{CallKeepsStreams}
 use Rattle.rtc_polling_laws.specs.ChannelStreams.{AreNumberedChannels, IsGone}
-use Rattle.rtc_channel_laws.proofs.GoneChannels.{all_confirmed_gone}
+use Rattle.rtc_channel_laws.proofs.GoneChannels.{all_confirmed_given, all_confirmed_gone}
 use Rattle.rtc_channel_laws.proofs.ConfirmedChannels.{all_confirmed_over, all_confirmed_numbers}
+use Rattle.rtc_polling_laws.proofs.StreamsJoin.{same_given}
 use Rattle.rtc_channel_laws.proofs.KeptCalls.{kept_acts}
 
 -- a closed peer that refuses a description stays closed
@@ -84,32 +88,51 @@ module _ {I D S M E X T W N : Type 0} (m : Meanings I D S M E X T W N) where
   started_entries false client now max halves drops p r q h = ap (λ (s : SctpStreams S). s.entries) h.1
   started_entries true client now max halves drops p r q h = inits_entries m.association client now max halves p r q h
 
+  -- entries stay, and what was established over an association that runs is
+  abbrev LeavesEntries : SctpStreams S → SctpStreams S → Type 0
+  LeavesEntries p q = (q.entries ≡ p.entries) × (AreRunning m.association p → is_established q.state ≡ true)
+
+  leaves_same : (p q : SctpStreams S) → q ≡ p → LeavesEntries p q
+  leaves_same p q is = (ap (λ (s : SctpStreams S). s.entries) is, λ k. ap (λ (s : SctpStreams S). is_established s.state) is ∙ k.1)
+
+  -- what runs needs no start
+  unneeded : (a b : Bool) → b ≡ true → (a && not b) ≡ false
+  unneeded true true e = refl
+  unneeded false true e = refl
+  unneeded a false e = absurd (true≢false (sym e))
+
   sctp_entries : (rows : List LineRow) (client : Bool) (now max : ℕ) (halves : Option InitHalves) (drops : Bool) (p : SctpStreams S)
       (r : Result (Unit {0}) SctpError) (q : SctpStreams S) → StartsSctp m.association p rows client now max halves drops r q
-      → q.entries ≡ p.entries
-  sctp_entries rows client now max halves drops p r q h =
-      started_entries (needs_start m.association rows p) client now max halves drops p r q h
+      → LeavesEntries p q
+  sctp_entries rows client now max halves drops p r q h = (
+    started_entries (needs_start m.association rows p) client now max halves drops p r q h,
+    λ k.
+        ap (λ (s : SctpStreams S). is_established s.state)
+        (subst (λ (b : Bool). StartsWhere m.association b p client now max halves drops r q)
+        (unneeded (is_some (app_of rows)) (m.association.started p.association) k.0) h).1
+        ∙ k.1,
+  )
 
   preparing_entries : (o : Peer I D S M N) (offer may : Bool) (changes : List Change) (sdp : Sdp) (drawn : N) (c : Peer I D S M N)
-      → StopsPreparing m o offer may changes sdp drawn c → c.sctp.entries ≡ o.sctp.entries
-  preparing_entries o offer may changes sdp drawn c (BeforeSources is) = ap (λ (x : Peer I D S M N). x.sctp.entries) is
-  preparing_entries o offer may changes sdp drawn c (AmongDraws later more is) = ap (λ (x : Peer I D S M N). x.sctp.entries) is
-  preparing_entries o offer may changes sdp drawn c (AtUpdates error prepared is) = ap (λ (x : Peer I D S M N). x.sctp.entries) is
+      → StopsPreparing m o offer may changes sdp drawn c → LeavesEntries o.sctp c.sctp
+  preparing_entries o offer may changes sdp drawn c (BeforeSources is) = leaves_same o.sctp c.sctp (ap (λ (x : Peer I D S M N). x.sctp) is)
+  preparing_entries o offer may changes sdp drawn c (AmongDraws later more is) = leaves_same o.sctp c.sctp (ap (λ (x : Peer I D S M N). x.sctp) is)
+  preparing_entries o offer may changes sdp drawn c (AtUpdates error prepared is) = leaves_same o.sctp c.sctp (ap (λ (x : Peer I D S M N). x.sctp) is)
 
   moving_entries : (p : Peer I D S M N) (c : Peer I D S M N) (restart : Option (IceCreds × Bool)) (creds : Option IceCreds) (candidates : List Candidate)
       (control : Option Bool) (active : Bool) (rows : List LineRow) (client : Bool) (max : ℕ) (halves : Option InitHalves) (drops : Bool)
       → StopsMoving m.ice m.dtls m.association p.ice p.dtls p.sctp restart creds candidates control active rows client p.greatest max halves drops c.ice
       c.dtls c.sctp
-      → c.sctp.entries ≡ p.sctp.entries
-  moving_entries p c restart creds candidates control active rows client max halves drops (AtAgent stops dtls sctp) = ap (λ (s : SctpStreams S). s.entries) sctp
-  moving_entries p c restart creds candidates control active rows client max halves drops (AtRole follows starts sctp) = ap (λ (s : SctpStreams S). s.entries) sctp
+      → LeavesEntries p.sctp c.sctp
+  moving_entries p c restart creds candidates control active rows client max halves drops (AtAgent stops dtls sctp) = leaves_same p.sctp c.sctp sctp
+  moving_entries p c restart creds candidates control active rows client max halves drops (AtRole follows starts sctp) = leaves_same p.sctp c.sctp sctp
   moving_entries p c restart creds candidates control active rows client max halves drops (AtStart follows starts started) =
       sctp_entries rows client p.greatest max halves drops p.sctp (Err SctpAlloc) c.sctp started
 
   stops_entries : (p : Peer I D S M N) (count : ℕ) (asked : Option Asked) (changes : List Change) (sdp : Sdp) (restart : Option (IceCreds × Bool))
       (control : Option Bool) (drawn : N) (c : Peer I D S M N) → StopsAccepting m (record p { counter = count }) asked changes sdp restart control drawn c
-      → c.sctp.entries ≡ p.sctp.entries
-  stops_entries p count asked changes sdp restart control drawn c (AtVerdict is) = ap (λ (x : Peer I D S M N). x.sctp.entries) is
+      → LeavesEntries p.sctp c.sctp
+  stops_entries p count asked changes sdp restart control drawn c (AtVerdict is) = leaves_same p.sctp c.sctp (ap (λ (x : Peer I D S M N). x.sctp) is)
   stops_entries p count asked changes sdp restart control drawn c (AtPreparing passes stops) =
       preparing_entries (record p { counter = count }) (is_offer asked) (may_take_init asked) changes sdp drawn c stops
   stops_entries p count asked changes sdp restart control drawn c (AtParts passes ids prepared moving) =
@@ -119,33 +142,36 @@ module _ {I D S M E X T W N : Type 0} (m : Meanings I D S M E X T W N) where
 
   -- acts on the association, where entries and channels stay
   acted_keeps : AssociationLaws m.association → (p : PolledPeer I D S M N) (c : Peer I D S M N) → NegotiationActs m p (with_core c p)
-      → c.sctp.entries ≡ p.core.sctp.entries
+      → LeavesEntries p.core.sctp c.sctp
       → ((s k : ℕ) → channel_over s p.core.channels ≡ Some k → channel_over s c.channels ≡ Some k)
       → (AreNumberedChannels p.core.channels → AreNumberedChannels c.channels)
-      → ((k : ℕ) → IsGone k p.core.channels → IsGone k c.channels) → (p.core.phase ≡ Closed → c.phase ≡ Closed)
-      → CallKeepsStreams m p [] (with_core c p)
-  acted_keeps w p c did entries over numbers gone closed =
-      let kept = kept_acts m.association w p.core.sctp c.sctp did.acts.association did.went.association entries in
+      → ((k : ℕ) → IsGone k p.core.channels → IsGone k c.channels) → c.channels.given ≡ p.core.channels.given
+      → (p.core.phase ≡ Closed → c.phase ≡ Closed) → CallKeepsStreams m p [] (with_core c p)
+  acted_keeps w p c did entries over numbers gone given closed =
+      let kept = kept_acts m.association w p.core.sctp c.sctp did.acts.association did.went.association entries.0 entries.1 in
       record {
         uses = kept.uses;
         lives = λ k s g numbered h. (over s k h.0, kept.lives s g h.1);
         numbers = numbers;
         gone = gone;
         closed = closed;
+        running = kept.running;
+        given = same_given p.core.channels.given c.channels.given given;
+        fresh = kept.fresh;
       }
 
   still_keeps : AssociationLaws m.association → (p : PolledPeer I D S M N) (c : Peer I D S M N) → NegotiationActs m p (with_core c p)
-      → c.sctp.entries ≡ p.core.sctp.entries → c.channels ≡ p.core.channels → (p.core.phase ≡ Closed → c.phase ≡ Closed)
+      → LeavesEntries p.core.sctp c.sctp → c.channels ≡ p.core.channels → (p.core.phase ≡ Closed → c.phase ≡ Closed)
       → CallKeepsStreams m p [] (with_core c p)
   still_keeps w p c did entries is closed =
       acted_keeps w p c did entries (λ s k h. ap (λ (x : Channels). channel_over s x) is ∙ h) (λ h. subst (λ (x : Channels). AreNumberedChannels x) (sym is) h)
-      (λ k h. subst (λ (x : Channels). IsGone k x) (sym is) h) closed
+      (λ k h. subst (λ (x : Channels). IsGone k x) (sym is) h) (ap (λ (x : Channels). x.given) is) closed
 
   refused_keeps : AssociationLaws m.association → (p : PolledPeer I D S M N) (n c : Peer I D S M N) → NegotiationActs m p (with_core c p) → c ≡ n
-      → n.sctp.entries ≡ p.core.sctp.entries → n.channels ≡ p.core.channels → (p.core.phase ≡ Closed → n.phase ≡ Closed)
+      → n.sctp ≡ p.core.sctp → n.channels ≡ p.core.channels → (p.core.phase ≡ Closed → n.phase ≡ Closed)
       → CallKeepsStreams m p [] (with_core c p)
-  refused_keeps w p n c did is entries channels closed =
-      still_keeps w p c did (ap (λ (x : Peer I D S M N). x.sctp.entries) is ∙ entries) (ap (λ (x : Peer I D S M N). x.channels) is ∙ channels)
+  refused_keeps w p n c did is sctp channels closed =
+      still_keeps w p c did (leaves_same p.core.sctp c.sctp (ap (λ (x : Peer I D S M N). x.sctp) is ∙ sctp)) (ap (λ (x : Peer I D S M N). x.channels) is ∙ channels)
       (λ k. ap (λ (x : Peer I D S M N). x.phase) is ∙ closed k)
 
   offer_by : AssociationLaws m.association → (p : PolledPeer I D S M N) (offer : Sdp) (r : Result Sdp RtcError) (c : Peer I D S M N)
@@ -190,6 +216,7 @@ module _ {I D S M E X T W N : Type 0} (m : Meanings I D S M E X T W N) where
       (λ s k e. ap (λ (x : Channels). channel_over s x) is ∙ (all_confirmed_over s (fitting_channels token.changes) p.core.channels ∙ e))
       (λ e. subst (λ (x : Channels). AreNumberedChannels x) (sym is) (all_confirmed_numbers (fitting_channels token.changes) p.core.channels e))
       (λ k e. subst (λ (x : Channels). IsGone k x) (sym is) (all_confirmed_gone k (fitting_channels token.changes) p.core.channels e))
+      (ap (λ (x : Channels). x.given) is ∙ all_confirmed_given (fitting_channels token.changes) p.core.channels)
       (λ k. ap (λ (x : Peer I D S M N). x.phase) h.rest ∙ k)
   answer_by w p token answer (Err (Net cause)) c did h = absurd h
   answer_by w p token answer (Err (MediaFailed cause)) c did h = absurd h

@@ -8,6 +8,7 @@ use Rattle.rtc_wire.specs.declared.receive.Receive.{Receive}
 use Rattle.rtc_association.specs.AssociationLaws.{AssociationLaws}
 use Rattle.rtc_stream_uses.specs.StreamUses.{IsLive}
 use Rattle.rtc_stream_contents.proofs.LiveCalls.{writes_own}
+use Rattle.rtc_stream_contents.proofs.RunningPolls.{stay_same}
 use Rattle.rtc_ready.specs.Signals.{both}
 use Rattle.rtc_sctp_values.specs.declared.sctp_error.SctpError.{SctpError}
 use Rattle.rtc_sctp.specs.Calls.{WritesStream, is_open_stream}
@@ -35,6 +36,7 @@ use Rattle.rtc_polling_laws.specs.Acts.{message_of_write}
 use Rattle.rtc_polling_laws.specs.ChannelStreams.{AreNumberedChannels, IsGone, IsUsedStream}
 use Rattle.rtc_polling_laws.specs.PeerActs.{nothing_came}
 use Rattle.rtc_polling_laws.proofs.ActedClosing.{beside, close_acts}
+use Rattle.rtc_polling_laws.proofs.StreamsJoin.{given_on, same_given}
 use Rattle.rtc_polling_laws.proofs.ClosedRows.{close_rows}
 use Rattle.rtc_channel_laws.specs.KeptChannels.{CallKeepsStreams}
 use Rattle.rtc_channel_laws.proofs.KeptCalls.{StreamsKept, kept_same, kept_acts, kept_write, kept_timeout, kept_threshold_if, kept_close, ChannelsKept, moment_kept}
@@ -65,6 +67,9 @@ module _ {I D S M E X T W N : Type 0} (m : Meanings I D S M E X T W N) where
     numbers = λ k. subst (λ (x : Channels). AreNumberedChannels x) (sym is) k;
     gone = λ c k. subst (λ (x : Channels). IsGone c x) (sym is) k;
     closed = closed;
+    running = h.running;
+    given = same_given p.core.channels.given q.core.channels.given (ap (λ (x : Channels). x.given) is);
+    fresh = h.fresh;
   }
 
   pub over_channels : (p q : PolledPeer I D S M N) → ChannelsKept m.association p.core.channels p.core.sctp q.core.channels q.core.sctp
@@ -75,6 +80,9 @@ module _ {I D S M E X T W N : Type 0} (m : Meanings I D S M E X T W N) where
     numbers = h.numbers;
     gone = h.gone;
     closed = closed;
+    running = h.streams.running;
+    given = h.given;
+    fresh = h.streams.fresh;
   }
 
   by_rows : (p q : PolledPeer I D S M N) (wrote : List StreamMessage) → StreamsKept m.association p.core.sctp wrote q.core.sctp → KeepsRows p q
@@ -92,6 +100,9 @@ module _ {I D S M E X T W N : Type 0} (m : Meanings I D S M E X T W N) where
     numbers = λ k. y.numbers (x.numbers k);
     gone = λ c k. y.gone c (x.gone c k);
     closed = λ k. y.closed (x.closed k);
+    running = λ k. y.running (x.running k);
+    given = given_on p.core.channels.given b.core.channels.given q.core.channels.given x.given y.given;
+    fresh = λ s o k. x.fresh s o (y.fresh s o k);
   }
 
   -- a call keeps them, whatever it answers
@@ -112,25 +123,25 @@ module _ {I D S M E X T W N : Type 0} (m : Meanings I D S M E X T W N) where
   ice_keeps now p (Err Alloc) q h = kept_by p _ q h.1 (refl, refl, λ k. refl)
   ice_keeps now p (Err _) q h = absurd h
 
-  streams_keep : (now : ℕ) → CallKeeps (TimesStreams m now)
+  streams_keep : AssociationLaws m.association → (now : ℕ) → CallKeeps (TimesStreams m now)
   unfolding TimesStreams
-  streams_keep now p (Ok done) q h =
-      by_rows p q [] (kept_timeout m.association now p.core.sctp both (Ok tt) q.core.sctp h.0.0 h.0.1) (beside KeepsRows p _ q h.1 (refl, λ k. k))
-  streams_keep now p (Err Alloc) q h =
-      by_rows p q [] (kept_timeout m.association now p.core.sctp both (Err alloc_error) q.core.sctp h.0.0 h.0.1) (beside KeepsRows p _ q h.1 (refl, λ k. refl))
-  streams_keep now p (Err _) q h = absurd h
+  streams_keep w now p (Ok done) q h =
+      by_rows p q [] (kept_timeout m.association w now p.core.sctp both (Ok tt) q.core.sctp h.0.0 h.0.1) (beside KeepsRows p _ q h.1 (refl, λ k. k))
+  streams_keep w now p (Err Alloc) q h =
+      by_rows p q [] (kept_timeout m.association w now p.core.sctp both (Err alloc_error) q.core.sctp h.0.0 h.0.1) (beside KeepsRows p _ q h.1 (refl, λ k. refl))
+  streams_keep w now p (Err _) q h = absurd h
 
-  channels_keep : CallKeeps (TimesChannels m)
+  channels_keep : AssociationLaws m.association → CallKeeps (TimesChannels m)
   unfolding TimesChannels
-  channels_keep p (Ok done) q h =
+  channels_keep w p (Ok done) q h =
       over_channels p q
-      (moment_kept m.association (is_progress_due m.association p.core.channels p.core.sctp) p.core.channels p.core.sctp both (Ok tt) q.core.channels
+      (moment_kept m.association w (is_progress_due m.association p.core.channels p.core.sctp) p.core.channels p.core.sctp both (Ok tt) q.core.channels
       q.core.sctp h.0.0 h.0.1) (beside StaysClosed p _ q h.1 (λ k. k))
-  channels_keep p (Err Alloc) q h =
+  channels_keep w p (Err Alloc) q h =
       over_channels p q
-      (moment_kept m.association (is_progress_due m.association p.core.channels p.core.sctp) p.core.channels p.core.sctp both (Err alloc_error) q.core.channels
+      (moment_kept m.association w (is_progress_due m.association p.core.channels p.core.sctp) p.core.channels p.core.sctp both (Err alloc_error) q.core.channels
       q.core.sctp h.0.0 h.0.1) (beside StaysClosed p _ q h.1 (λ k. refl))
-  channels_keep p (Err _) q h = absurd h
+  channels_keep w p (Err _) q h = absurd h
 
   media_keeps : (now : ℕ) → CallKeeps (TimesMedia m now)
   unfolding TimesMedia
@@ -152,17 +163,17 @@ module _ {I D S M E X T W N : Type 0} (m : Meanings I D S M E X T W N) where
       let timed = statistics_timed m now p r q h in
       kept_by p _ q timed.kept (refl, refl, stays_closed now p r q timed)
 
-  gives_keep : (now : ℕ) → CallKeeps (GivesTime m now)
-  gives_keep now p r q h =
+  gives_keep : AssociationLaws m.association → (now : ℕ) → CallKeeps (GivesTime m now)
+  gives_keep w now p r q h =
       calls_on p (with_moment now p) q (same_kept p (with_moment now p) (refl, refl, λ k. k))
       (turn_keeps (TimesIce m now) _ (ice_keeps now)
-      (turn_keeps (TimesStreams m now) _ (streams_keep now)
-      (turn_keeps (TimesChannels m) _ channels_keep
+      (turn_keeps (TimesStreams m now) _ (streams_keep w now)
+      (turn_keeps (TimesChannels m) _ (channels_keep w)
       (turn_keeps (TimesMedia m now) (TimesStatistics m now) (media_keeps now) (statistics_keep now)))) (with_moment now p) r q h)
 
-  time_keeps : (earlier : Bool) (now : ℕ) → CallKeeps (TakesTimeIf m earlier now)
-  time_keeps true now p r q h = kept_by p p q h.1 (refl, refl, λ k. k)
-  time_keeps false now p r q h = gives_keep now p r q h
+  time_keeps : AssociationLaws m.association → (earlier : Bool) (now : ℕ) → CallKeeps (TakesTimeIf m earlier now)
+  time_keeps w true now p r q h = kept_by p p q h.1 (refl, refl, λ k. k)
+  time_keeps w false now p r q h = gives_keep w now p r q h
 
   stun_keeps : (now : ℕ) (datagram : Receive) (bytes : List ℕ) → CallKeeps (HearsStun m now datagram bytes)
   unfolding HearsStun
@@ -189,22 +200,22 @@ module _ {I D S M E X T W N : Type 0} (m : Meanings I D S M E X T W N) where
   kind_keeps now datagram (datagrams.Rtp bytes) p r q h = packet_keeps (λ a s b. m.media.rtp_given a now bytes.now s b) bytes.now p r q h
   kind_keeps now datagram (datagrams.Rtcp bytes) p r q h = packet_keeps (λ a s b. m.media.rtcp_given a now bytes.now s b) bytes.now p r q h
 
-  hears_keep : (now : ℕ) (datagram : Receive) → CallKeeps (Hears m now datagram)
-  hears_keep now datagram p r q (Heard between heard time) =
-      calls_on p between q (kind_keeps now datagram datagram.contents p (Ok tt) between heard) (time_keeps _ now between r q time)
-  hears_keep now datagram p r q (PartFailed error is heard) = kind_keeps now datagram datagram.contents p (Err error) q heard
+  hears_keep : AssociationLaws m.association → (now : ℕ) (datagram : Receive) → CallKeeps (Hears m now datagram)
+  hears_keep w now datagram p r q (Heard between heard time) =
+      calls_on p between q (kind_keeps now datagram datagram.contents p (Ok tt) between heard) (time_keeps w _ now between r q time)
+  hears_keep w now datagram p r q (PartFailed error is heard) = kind_keeps now datagram datagram.contents p (Err error) q heard
 
-  input_by : (input : Input) → CallKeeps (HandlesInputBy m input)
-  input_by (Timeout now) p r q h = time_keeps _ now p r q h
-  input_by (Datagram now datagram) p r q h = hears_keep now datagram p r q h
+  input_by : AssociationLaws m.association → (input : Input) → CallKeeps (HandlesInputBy m input)
+  input_by w (Timeout now) p r q h = time_keeps w _ now p r q h
+  input_by w (Datagram now datagram) p r q h = hears_keep w now datagram p r q h
 
-  input_in : (phase : Phase) (input : Input) → CallKeeps (HandlesInputIn m phase input)
-  input_in Alive input p r q h = input_by input p r q h
-  input_in Closing input p r q h = input_by input p r q h
-  input_in Closed input p r q h = kept_by p p q h.1 (refl, refl, λ k. k)
+  input_in : AssociationLaws m.association → (phase : Phase) (input : Input) → CallKeeps (HandlesInputIn m phase input)
+  input_in w Alive input p r q h = input_by w input p r q h
+  input_in w Closing input p r q h = input_by w input p r q h
+  input_in w Closed input p r q h = kept_by p p q h.1 (refl, refl, λ k. k)
 
-  pub input_keeps : (input : Input) → CallKeeps (HandlesInput m input)
-  input_keeps input p r q h = input_in p.core.phase input p r q h
+  pub input_keeps : AssociationLaws m.association → (input : Input) → CallKeeps (HandlesInput m input)
+  input_keeps w input p r q h = input_in w p.core.phase input p r q h
 
   pub threshold_keeps : (stream n : ℕ) (p q : PolledPeer I D S M N) → SetsChannelThreshold stream n p q → CallKeepsStreams m p [] q
   threshold_keeps stream n p q h =
@@ -228,10 +239,10 @@ module _ {I D S M E X T W N : Type 0} (m : Meanings I D S M E X T W N) where
       → m.association.generation p.core.sctp.association stream ≡ g
   channel_writes_own stream binary bytes p q g h live = own_by _ stream binary bytes p q g h live
 
-  pub channel_close_keeps : (id : ℕ) (p : PolledPeer I D S M N) (r : Result (Unit {0}) AllocError) (q : PolledPeer I D S M N)
+  pub channel_close_keeps : AssociationLaws m.association → (id : ℕ) (p : PolledPeer I D S M N) (r : Result (Unit {0}) AllocError) (q : PolledPeer I D S M N)
       → ClosesDataChannel m id p r q → CallKeepsStreams m p [] q
-  channel_close_keeps id p r q h =
-      by_rows p q [] (kept_close m.association (stream_under id p.core.channels) p.core.sctp r q.core.sctp h.0) (beside KeepsRows p _ q h.1 (refl, λ k. k))
+  channel_close_keeps w id p r q h =
+      by_rows p q [] (kept_close m.association w (stream_under id p.core.channels) p.core.sctp r q.core.sctp h.0) (beside KeepsRows p _ q h.1 (refl, λ k. k))
 
   module _ (laws : AssociationLaws m.association) where
     write_keeps : (full : Bool) (stream : ℕ) (binary : Bool) (bytes : List ℕ) (p : PolledPeer I D S M N) (r : Result Bool RtcError)
@@ -264,5 +275,5 @@ module _ {I D S M E X T W N : Type 0} (m : Meanings I D S M E X T W N) where
     close_keeps p r q h =
         let did = close_acts m nothing_came [] laws p r q h in
         let kept = close_rows m p r q h in
-        over_streams p q [] (kept_acts m.association laws p.core.sctp q.core.sctp did.acts.association did.went.association kept.2) kept.1
+        over_streams p q [] (kept_acts m.association laws p.core.sctp q.core.sctp did.acts.association did.went.association kept.2 (λ k. stay_same p.core.sctp q.core.sctp kept.3 k.1)) kept.1
         (close_stays p.core.phase p r q h refl)

@@ -30,7 +30,7 @@ use Rattle.rtc_channel_runs.specs.ChannelUses.{ChannelUse}
 use Rattle.rtc_channel_runs.specs.OpenUses.{AreJoinedUses, StaysOpen}
 use Rattle.rtc_channel_runs.proofs.GotAndSent.{both_carry}
 use Rattle.rtc_channel_runs.proofs.StandingSides.{SideStood}
-use Rattle.rtc_channel_runs.proofs.StepsTold.{open_free, open_placed}
+use Rattle.rtc_channel_runs.proofs.OpenStreams.{open_free, open_placed}
 use Rattle.rtc_channel_runs.proofs.UseLists.{all_member, prefix_same}
 use Rattle.rtc_channel_runs.proofs.UsesTold.{HasGone, InBandTold, IsOver, Lives, StandsSo, UseTold}
 
@@ -65,11 +65,11 @@ module _ {S : Type 0} (m : AssociationMeaning S) (w : AssociationLaws m) (v : Ge
       by false f l rest = rest l
   ended_past s g (act ∷ acts) a b h e = ended_past s g acts h.0 b h.1.1 e
 
-  not_past : (s g : ℕ) (a : S) → m.generation a s ≡ g → is_spent_stream m s a ≡ false → IsPast m s g a → ⊥
+  pub not_past : (s g : ℕ) (a : S) → m.generation a s ≡ g → is_spent_stream m s a ≡ false → IsPast m s g a → ⊥
   not_past s g a own free (inl later) = omega (arith, own, later)
   not_past s g a own free (inr past) = true≢false (sym past.1 ∙ free)
 
-  not_ended : (s g : ℕ) (acts : List AssociationAct) (a b : S) → Moved m a acts b → m.generation b s ≡ g → is_spent_stream m s b ≡ false
+  pub not_ended : (s g : ℕ) (acts : List AssociationAct) (a b : S) → Moved m a acts b → m.generation b s ≡ g → is_spent_stream m s b ≡ false
       → ended s g acts ≡ false
   not_ended s g acts a b h own free = by (ended s g acts) refl
     where
@@ -77,7 +77,7 @@ module _ {S : Type 0} (m : AssociationMeaning S) (w : AssociationLaws m) (v : Ge
       by true e = absurd (not_past s g b own free (ended_past s g acts a b h e))
       by false e = refl
 
-none_unread : (s g : ℕ) (l : List Message) → list_any (is_message_of s g) l ≡ false → unread s g l ≡ []
+pub none_unread : (s g : ℕ) (l : List Message) → list_any (is_message_of s g) l ≡ false → unread s g l ≡ []
 none_unread s g [] h = refl
 none_unread s g (x ∷ l) h = by (is_message_of s g x) h (none_unread s g l)
   where

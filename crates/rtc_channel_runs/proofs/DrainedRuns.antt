@@ -1,6 +1,9 @@
 -- Where a side was drained, all was got that was sent.
-use Rattle.std.proofs.Common.{◌≡◌, ◌∙◌, ◌∷◌, ap, if◌then◌else◌, ℕ, Bool, List, [], sym, subst}
-use Rattle.rtc_assoc_state.specs.Contents.{Contents}
+use Rattle.std.proofs.Common.{◌≡◌, ◌∙◌, ◌∷◌, ap, if◌then◌else◌, ℕ, Bool, false, true≢false, List, [], refl, sym, subst}
+use Rattle.rtc_association.specs.AssociationActs.{LimitsSet, Stirred}
+use Rattle.rtc_parts_values.specs.Why.{Other}
+use Rattle.rtc_assoc_state.proofs.PlainLaws.{plain_laws}
+use Rattle.rtc_assoc_state.specs.Contents.{Contents, fresh_contents, is_started}
 use Rattle.rtc_plain_dtls.specs.Contents.{DtlsContents}
 use Rattle.rtc_plain_ice.specs.Contents.{IceContents}
 use Rattle.rtc_plain_media.specs.MediaContents.{MediaContents}
@@ -27,18 +30,27 @@ use Rattle.rtc_channel_runs.specs.ChannelUses.{ChannelUse}
 use Rattle.rtc_channel_runs.specs.DrainedSides.{DrainedByEntry, DrainedByStep, IsDrained}
 use Rattle.rtc_channel_runs.specs.HandedOut.{AreAllHandedOut, HandsOut}
 use Rattle.rtc_channel_runs.specs.SentMessages.{sent_over}
+use Rattle.rtc_channel_runs.specs.ToldMessages.{MessagesTold, told_over}
 use Rattle.rtc_channel_runs.specs.UsesOfRuns.{reached_by, uses_acted, uses_in_run, uses_of}
 use Rattle.rtc_channel_runs.proofs.DrainedSteps.{acts_heard}
 use Rattle.rtc_channel_runs.proofs.HeardSides.{HeardSide, heard_there}
 use Rattle.rtc_channel_runs.proofs.StandingSides.{Sent}
-use Rattle.rtc_channel_runs.proofs.RunsTold.{PairTold, StoodIn, new_pair_told, pair_handed, pair_once, pair_whole, pair_wholly, reached_told, stood_in}
+use Rattle.rtc_channel_runs.proofs.RunsTold.{PairTold, StoodIn, new_pair_told, pair_handed, pair_once, pair_told_whole, pair_whole, pair_wholly, reached_told, stood_in}
 
 module _ {N : Type 0} (draws : Draws N) where
-  -- a new pair has no stream in use
+  -- a new pair has no stream in use, and has started no association
   new_empty : (p : PlainPolled N) → IsNewPeer draws p.core → IsUnused (plain_over draws) (plain_over_laws draws) p.core
-  new_empty p h = λ fresh.
-      ap (λ (x : Peer IceContents DtlsContents Contents MediaContents N). x.sctp.entries) h.rest
-      ∙ ap (λ (x : SctpStreams Contents). x.entries) h.by_build.streams
+  new_empty p h =
+      let sctp : p.core.sctp ≡ h.built.sctp = ap (λ (x : Peer IceContents DtlsContents Contents MediaContents N). x.sctp) h.rest in
+      let fresh : is_started h.built.sctp.association ≡ false =
+      (plain_laws.same_start fresh_contents h.built.sctp.association (Stirred Other) refl
+      (LimitsSet 1062 h.config.max_message_size h.by_build.by_limits)).0 in
+      record {
+        empty = λ unstarted.
+            ap (λ (x : SctpStreams Contents). x.entries) sctp
+            ∙ ap (λ (x : SctpStreams Contents). x.entries) h.by_build.streams;
+        role = λ started. absurd (true≢false (sym started ∙ ap (λ (x : SctpStreams Contents). is_started x.association) sctp ∙ fresh));
+      }
 
   pub new_unused : (pair : PlainPair N) → IsNewPair draws pair → AreUnused (plain_over draws) (plain_over_laws draws) pair
   new_unused pair h Left = new_empty pair.left h.left
@@ -47,10 +59,10 @@ module _ {N : Type 0} (draws : Draws N) where
   -- a step of one side, as either of them sees it
   heard_after : (at x : Side) (between pair : PlainPair N) (uses : Side → List ChannelUse) (acted : List ChannelUse → List ChannelUse) (step : Step)
       (outcome : Outcome PlainMediaEvent) (earlier : Side → Type 0) → rtc_at (other_side at) pair ≡ rtc_at (other_side at) between
-      → ((earlier at → HeardSide (uses at) (rtc_at at between)) → DrainedByStep (plain_over draws) step outcome (rtc_at at pair) (earlier at)
+      → ((earlier at → HeardSide (uses at) (rtc_at at between)) → DrainedByStep step outcome (earlier at)
       → HeardSide (acted (uses at)) (rtc_at at pair))
       → (earlier x → HeardSide (uses x) (rtc_at x between))
-      → DrainedByEntry (plain_over draws) (same_side at x) step outcome (rtc_at x pair) (earlier x)
+      → DrainedByEntry (same_side at x) step outcome (earlier x)
       → HeardSide (if same_side at x then acted (uses x) else uses x) (rtc_at x pair)
   heard_after Left Left between pair uses acted step outcome earlier other acts before d = acts before d
   heard_after Left Right between pair uses acted step outcome earlier other acts before d =
@@ -60,16 +72,16 @@ module _ {N : Type 0} (draws : Draws N) where
   heard_after Right Right between pair uses acted step outcome earlier other acts before d = acts before d
 
   heard_reached : (stun : List ℕ → Bool) (start : PlainPair N) (past : List (Entry PlainMediaEvent)) (pair : PlainPair N)
-      (ran : Reached (plain_over draws) stun start past pair) → PairTold draws start (λ x. []) (λ x s g. []) → AreUnused (plain_over draws) (plain_over_laws draws) start
-      → (at : Side) → IsDrained (plain_over draws) stun start at past pair ran → HeardSide (uses_of (plain_over draws) stun start at past pair ran) (rtc_at at pair)
+      (ran : Reached (plain_over draws) stun start past pair) → PairTold draws start (λ x. []) (λ x s g. []) (λ x c s g. []) → AreUnused (plain_over draws) (plain_over_laws draws) start
+      → (at : Side) → IsDrained at past → HeardSide (uses_of (plain_over draws) stun start at past pair ran) (rtc_at at pair)
   heard_reached stun start [] pair ran h unused at d = absurd d
   heard_reached stun start (entry ∷ past) pair ran h unused at d =
       heard_after (side_of entry.step) at ran.0 pair uses acted entry.step entry.outcome
-      (λ x. IsDrained (plain_over draws) stun start x past ran.0 ran.1) ran.2.performs.other
+      (λ x. IsDrained x past) ran.2.performs.other
       (λ before e.
       acts_heard draws there.other (rtc_at (other_side (side_of entry.step)) ran.0) (sent (side_of entry.step)) stun entry.step (rtc_at (side_of entry.step) ran.0) ran.0.sdps
       ran.0.packets entry.outcome entry.table (rtc_at (side_of entry.step) pair) pair.sdps pair.packets (uses (side_of entry.step))
-      ran.2.performs.acts there.stood (IsDrained (plain_over draws) stun start (side_of entry.step) past ran.0 ran.1) before e
+      (told (side_of entry.step)) ran.2.performs.acts there.stood (IsDrained (side_of entry.step) past) before e
       (empty (side_of entry.step)))
       (λ e. heard_reached stun start past ran.0 ran.1 h unused at e) d
     where
@@ -78,6 +90,9 @@ module _ {N : Type 0} (draws : Draws N) where
 
       sent : Side → Sent
       sent x = sent_over (plain_over draws) stun start x past ran.0 ran.1
+
+      told : Side → MessagesTold
+      told x = told_over (plain_over draws) stun start x past ran.0 ran.1
 
       acted : List ChannelUse → List ChannelUse
       acted l =
@@ -89,16 +104,17 @@ module _ {N : Type 0} (draws : Draws N) where
           went_unused (plain_over draws) (plain_over_laws draws) (λ earlier between one after. Enters (plain_over draws) stun between one after)
           (λ earlier between one after k. (stun, k)) start (entry ∷ past) pair unused ran
 
-      there : StoodIn draws (side_of entry.step) ran.0 uses sent
-      there = stood_in draws (side_of entry.step) ran.0 uses sent (reached_told draws stun start past ran.0 ran.1 h)
+      there : StoodIn draws (side_of entry.step) ran.0 uses sent told
+      there = stood_in draws (side_of entry.step) ran.0 uses sent told (reached_told draws stun start past ran.0 ran.1 h)
 
   pub pair_drained : (stun : List ℕ → Bool) (start : PlainPair N) (past : List (Entry PlainMediaEvent)) (pair : PlainPair N)
-      (ran : Reached (plain_over draws) stun start past pair) → PairTold draws start (λ x. []) (λ x s g. []) → AreUnused (plain_over draws) (plain_over_laws draws) start
-      → (at : Side) → IsDrained (plain_over draws) stun start at past pair ran
+      (ran : Reached (plain_over draws) stun start past pair) → PairTold draws start (λ x. []) (λ x s g. []) (λ x c s g. []) → AreUnused (plain_over draws) (plain_over_laws draws) start
+      → (at : Side) → IsDrained at past
       → AreAllHandedOut draws (uses_of (plain_over draws) stun start at past pair ran) (rtc_at at pair)
       (uses_of (plain_over draws) stun start (other_side at) past pair ran) (rtc_at (other_side at) pair)
   pair_drained stun start past pair ran h unused at d = λ x y mine theirs joined acknowledged.
-      pair_wholly draws pair (λ z. uses_of (plain_over draws) stun start z past pair ran) (λ z. sent_over (plain_over draws) stun start z past pair ran) at (reached_told draws stun start past pair ran h) x y mine theirs
+      pair_wholly draws pair (λ z. uses_of (plain_over draws) stun start z past pair ran) (λ z. sent_over (plain_over draws) stun start z past pair ran)
+      (λ z. told_over (plain_over draws) stun start z past pair ran) at (reached_told draws stun start past pair ran h) x y mine theirs
       joined acknowledged
       (heard_there draws (uses_of (plain_over draws) stun start at past pair ran) (rtc_at at pair) x (heard_reached stun start past pair ran h unused at d) mine
       joined.reader_in_band joined.reader)
@@ -107,12 +123,19 @@ module _ {N : Type 0} (draws : Draws N) where
       → (run : Runs (plain_over draws) stun start steps replies pair) → HandsOut draws stun start steps replies pair run
   run_hands_out stun start pair steps replies new run =
       let ran : Reached (plain_over draws) stun start run.past pair = reached_by (plain_over draws) stun start run.past pair run.went in
-      let told : PairTold draws pair (uses_in_run (plain_over draws) stun start steps replies pair run) (λ z. sent_over (plain_over draws) stun start z run.past pair ran) =
+      let told : PairTold draws pair (uses_in_run (plain_over draws) stun start steps replies pair run) (λ z. sent_over (plain_over draws) stun start z run.past pair ran)
+      (λ z. told_over (plain_over draws) stun start z run.past pair ran) =
       reached_told draws stun start run.past pair ran (new_pair_told draws start new) in
       record {
-        once = λ at. pair_once draws pair (uses_in_run (plain_over draws) stun start steps replies pair run) (λ z. sent_over (plain_over draws) stun start z run.past pair ran) at told;
-        whole = λ at. pair_whole draws pair (uses_in_run (plain_over draws) stun start steps replies pair run) (λ z. sent_over (plain_over draws) stun start z run.past pair ran) at told;
-        handed = λ at. pair_handed draws pair (uses_in_run (plain_over draws) stun start steps replies pair run) (λ z. sent_over (plain_over draws) stun start z run.past pair ran) at told;
-        all = λ at. pair_wholly draws pair (uses_in_run (plain_over draws) stun start steps replies pair run) (λ z. sent_over (plain_over draws) stun start z run.past pair ran) at told;
+        once = λ at. pair_once draws pair (uses_in_run (plain_over draws) stun start steps replies pair run) (λ z. sent_over (plain_over draws) stun start z run.past pair ran)
+            (λ z. told_over (plain_over draws) stun start z run.past pair ran) at told;
+        whole = λ at. pair_whole draws pair (uses_in_run (plain_over draws) stun start steps replies pair run) (λ z. sent_over (plain_over draws) stun start z run.past pair ran)
+            (λ z. told_over (plain_over draws) stun start z run.past pair ran) at told;
+        told = λ at. pair_told_whole draws pair (uses_in_run (plain_over draws) stun start steps replies pair run) (λ z. sent_over (plain_over draws) stun start z run.past pair ran)
+            (λ z. told_over (plain_over draws) stun start z run.past pair ran) at told;
+        handed = λ at. pair_handed draws pair (uses_in_run (plain_over draws) stun start steps replies pair run) (λ z. sent_over (plain_over draws) stun start z run.past pair ran)
+            (λ z. told_over (plain_over draws) stun start z run.past pair ran) at told;
+        all = λ at. pair_wholly draws pair (uses_in_run (plain_over draws) stun start steps replies pair run) (λ z. sent_over (plain_over draws) stun start z run.past pair ran)
+            (λ z. told_over (plain_over draws) stun start z run.past pair ran) at told;
         drained = λ at d. pair_drained stun start run.past pair ran (new_pair_told draws start new) (new_unused start new) at d;
       }

@@ -15,7 +15,6 @@ use Rattle.rtc_polling.specs.declared.output.Output.TheVariants as polled
 use Rattle.rtc_polling.specs.ChannelCalls.{WritesChannel, open_stream_under}
 use Rattle.rtc_polling.specs.Closing.{ClosesPeer}
 use Rattle.rtc_polling.specs.Walk.{PollsPeer}
-use Rattle.rtc_polling.proofs.StreamStarts.{IsEmptyBefore}
 use Rattle.rtc_polling_laws.specs.Acts.{PeerDid, begun_here, contents_shown, message_of_write}
 use Rattle.rtc_polling_laws.specs.PeerActs.{Came, PeerActs, nothing_came}
 use Rattle.rtc_polling_laws.proofs.ActedClosing.{close_acts}
@@ -39,17 +38,21 @@ use Rattle.rtc_history.specs.CallReplies.{ClosesOpenChannel, FindsNone, StepCall
 use Rattle.rtc_history.specs.PairState.{held_token, kept_remote_sdp}
 use Rattle.rtc_history.specs.Performs.{Acts, DrainsOn, DrainsPeer, PollsOnce, PollsShown, StepPollsPeer}
 use Rattle.rtc_history.specs.Sides.{side_of}
+use Rattle.rtc_history_laws.proofs.UnusedStreams.{IsUnused}
 use Rattle.rtc_joined_runs.specs.PlainPairs.{PlainPolled, plain_over}
 use Rattle.rtc_joined_runs.proofs.NegotiationActed.{answer_acts, negotiates_did, offer_acts}
 use Rattle.rtc_joined_runs.proofs.StepsExchange.{plain_over_laws}
 use Rattle.rtc_channel_runs.specs.ChannelUses.{ChannelUse, uses_shown, uses_told}
 use Rattle.rtc_channel_runs.specs.DrainedSides.{DrainedByEvent, DrainedByOutcome, DrainedByOutputs, DrainedByStep}
-use Rattle.rtc_channel_runs.specs.UsesOfRuns.{uses_acted, uses_behind, uses_drained, uses_drained_by, uses_of_drain, uses_polled, uses_written}
-use Rattle.rtc_channel_runs.proofs.HeardSides.{HeardSide, heard_got, heard_kept, heard_same, heard_sent, timeout_side}
+use Rattle.rtc_channel_runs.specs.PollsOfRuns.{by_drain, by_drain_step, by_poll, by_poll_step, by_polls}
+use Rattle.rtc_channel_runs.specs.ToldMessages.{MessagesTold, told_shown}
+use Rattle.rtc_channel_runs.specs.UsesOfRuns.{uses_acted, uses_written}
+use Rattle.rtc_channel_runs.proofs.HeardSides.{HeardSide, heard_got, heard_kept, heard_same, heard_sent}
 use Rattle.rtc_channel_runs.proofs.KeptNegotiation.{answer_step_keeps, negotiates_keep, offer_step_keeps}
 use Rattle.rtc_channel_runs.proofs.PolledSteps.{shown_stood}
 use Rattle.rtc_channel_runs.proofs.RowLemmas.{closed_stays}
 use Rattle.rtc_channel_runs.proofs.StandingSides.{Sent, Stood}
+use Rattle.rtc_channel_runs.proofs.TimeoutSides.{timeout_side}
 
 -- a packet of no bytes alone
 begun_empty : (x : List ℕ) → Member x begun_here.dtls → x ≡ []
@@ -138,10 +141,10 @@ module _ {N : Type 0} (draws : Draws N) where
   shut_heard : (id : ℕ) (uses : List ChannelUse) (p : PlainPolled N) (r : Result (Unit {0}) RtcError) (next : PlainPolled N)
       → ClosesOpenChannel (plain_over draws) id p r next → HeardSide uses p → HeardSide uses next
   shut_heard id uses p (Ok done) next h heard =
-      quiet_heard [] p next uses (channel_close_acts (plain_over draws) id p (Ok tt) next h) (channel_close_keeps (plain_over draws) id p (Ok tt) next h) heard
+      quiet_heard [] p next uses (channel_close_acts (plain_over draws) id p (Ok tt) next h) (channel_close_keeps (plain_over draws) plain_laws id p (Ok tt) next h) heard
   shut_heard id uses p (Err PeerAlloc) next h heard =
       quiet_heard [] p next uses (channel_close_acts (plain_over draws) id p (Err alloc_error) next h)
-      (channel_close_keeps (plain_over draws) id p (Err alloc_error) next h) heard
+      (channel_close_keeps (plain_over draws) plain_laws id p (Err alloc_error) next h) heard
   shut_heard id uses p (Err error) next h heard = absurd h
 
   channel_closes_heard : (stream : Option ℕ) (id : ℕ) (uses : List ChannelUse) (old : PlainPolled N) (outcome : Outcome PlainMediaEvent)
@@ -159,112 +162,113 @@ module _ {N : Type 0} (draws : Draws N) where
   -- ---- polls
 
   module _ (at : Side) (b : PeerActs) (q : PlainPolled N) (sent : Sent) where
-    shown_heard : (packets : List SentPacket) (shown : Shown PlainMediaEvent) (packets' : List SentPacket) (uses : List ChannelUse) (p next : PlainPolled N)
-        → PollsShown (plain_over draws) at p packets shown next packets' → Stood draws at packets b q uses sent p → (earlier : Type 0)
-        → (earlier → HeardSide uses p) → DrainedByOutputs (plain_over draws) (shown ∷ []) next earlier → IsEmptyBefore plain_meaning next.core.sctp
+    shown_heard : (packets : List SentPacket) (shown : Shown PlainMediaEvent) (packets' : List SentPacket) (uses : List ChannelUse) (told : MessagesTold) (p next : PlainPolled N)
+        → PollsShown (plain_over draws) at p packets shown next packets' → Stood draws at packets b q uses sent told p → (earlier : Type 0)
+        → (earlier → HeardSide uses p) → DrainedByOutputs (shown ∷ []) earlier → IsUnused (plain_over draws) (plain_over_laws draws) next.core
         → HeardSide (uses_shown (plain_over draws) shown next uses) next
-    shown_heard packets (Timeout moment reason) packets' uses p next h stood earlier before d empty =
-        let after = shown_stood draws at b q sent packets (Timeout moment reason) packets' uses p next h stood in
-        timeout_side draws p next moment uses after.side.written after.side.read h.0 d empty after.side.told
-    shown_heard packets (Packet number len) packets' uses p next h stood earlier before d empty =
+    shown_heard packets (Timeout moment reason) packets' uses told p next h stood earlier before d unused =
+        let after = shown_stood draws at b q sent packets (Timeout moment reason) packets' uses told p next h stood in
+        timeout_side draws p next moment after.acts (uses_shown (plain_over draws) (Timeout moment reason) next uses) h.0 unused after.side after.running
+    shown_heard packets (Packet number len) packets' uses told p next h stood earlier before d unused =
         poll_heard p (Ok (polled.Transmit h.0)) next uses h.1 (before d)
-    shown_heard packets (EventShown event) packets' uses p next h stood earlier before d empty = event_heard event p next uses h.0 earlier before d
+    shown_heard packets (EventShown event) packets' uses told p next h stood earlier before d unused = event_heard event p next uses h.0 earlier before d
 
     once_heard : (p : PlainPolled N) (packets : List SentPacket) (outputs : List (Shown PlainMediaEvent)) (end : PollEnd) (next : PlainPolled N)
-        (packets' : List SentPacket) (uses : List ChannelUse) → PollsOnce (plain_over draws) at p packets outputs end next packets'
-        → Stood draws at packets b q uses sent p → (earlier : Type 0) → (earlier → HeardSide uses p) → DrainedByOutputs (plain_over draws) outputs next earlier
-        → IsEmptyBefore plain_meaning next.core.sctp
-        → HeardSide (uses_polled (plain_over draws) outputs next uses) next
-    once_heard p packets (shown ∷ []) Ended next packets' uses h stood earlier before d empty =
-        shown_heard packets shown packets' uses p next h stood earlier before d empty
-    once_heard p packets [] (EndRefused error) next packets' uses h stood earlier before d empty = poll_heard p (Err error) next uses h.0 (before d)
-    once_heard p packets outputs end next packets' uses h stood earlier before d empty = absurd h
+        (packets' : List SentPacket) (uses : List ChannelUse) (told : MessagesTold) → PollsOnce (plain_over draws) at p packets outputs end next packets'
+        → Stood draws at packets b q uses sent told p → (earlier : Type 0) → (earlier → HeardSide uses p) → DrainedByOutputs outputs earlier
+        → IsUnused (plain_over draws) (plain_over_laws draws) next.core
+        → HeardSide (by_poll (plain_over draws) (uses_shown (plain_over draws)) outputs next uses) next
+    once_heard p packets (shown ∷ []) Ended next packets' uses told h stood earlier before d unused =
+        shown_heard packets shown packets' uses told p next h stood earlier before d unused
+    once_heard p packets [] (EndRefused error) next packets' uses told h stood earlier before d unused = poll_heard p (Err error) next uses h.0 (before d)
+    once_heard p packets outputs end next packets' uses told h stood earlier before d unused = absurd h
 
     drains_on_heard : (p : PlainPolled N) (packets : List SentPacket) (outputs : List (Shown PlainMediaEvent)) (end : PollEnd) (next : PlainPolled N)
-        (packets' : List SentPacket) (uses : List ChannelUse) (h : DrainsOn (plain_over draws) at p packets outputs end next packets')
-        → Stood draws at packets b q uses sent p → (earlier : Type 0) → (earlier → HeardSide uses p) → DrainedByOutputs (plain_over draws) outputs next earlier
-        → IsEmptyBefore plain_meaning next.core.sctp
-        → HeardSide (uses_drained (plain_over draws) at p packets outputs end next packets' h uses) next
-    drains_on_heard p packets [] Ended next packets' uses h stood earlier before d empty = absurd h
-    drains_on_heard p packets [] (EndRefused error) next packets' uses h stood earlier before d empty = poll_heard p (Err error) next uses h.0 (before d)
-    drains_on_heard p packets [] NoRoom next packets' uses h stood earlier before d empty = heard_same uses p next h.0 (before d)
-    drains_on_heard p packets (Timeout moment reason ∷ []) Ended next packets' uses h stood earlier before d empty =
-        shown_heard packets (Timeout moment reason) packets' uses p next h stood earlier before d empty
-    drains_on_heard p packets (Timeout moment reason ∷ outputs) end next packets' uses h stood earlier before d empty = absurd h
-    drains_on_heard p packets (Packet number len ∷ outputs) end next packets' uses h stood earlier before d empty =
-        drains_on_heard h.0 h.1 outputs end next packets' uses h.3
-        (shown_stood draws at b q sent packets (Packet number len) h.1 uses p h.0 h.2 stood) earlier
-        (λ e. poll_heard p (Ok (polled.Transmit h.2.0)) h.0 uses h.2.1 (before e)) d empty
-    drains_on_heard p packets (EventShown event ∷ outputs) end next packets' uses h stood earlier before d empty =
-        drains_on_heard h.0 h.1 outputs end next packets' (uses_shown (plain_over draws) (EventShown event) h.0 uses) h.3
-        (shown_stood draws at b q sent packets (EventShown event) h.1 uses p h.0 h.2 stood) (DrainedByEvent event earlier)
-        (λ e. event_heard event p h.0 uses h.2.0 earlier before e) d empty
+        (packets' : List SentPacket) (uses : List ChannelUse) (told : MessagesTold) (h : DrainsOn (plain_over draws) at p packets outputs end next packets')
+        → Stood draws at packets b q uses sent told p → (earlier : Type 0) → (earlier → HeardSide uses p) → DrainedByOutputs outputs earlier
+        → IsUnused (plain_over draws) (plain_over_laws draws) next.core
+        → HeardSide (by_polls (plain_over draws) (uses_shown (plain_over draws)) at p packets outputs end next packets' h uses) next
+    drains_on_heard p packets [] Ended next packets' uses told h stood earlier before d unused = absurd h
+    drains_on_heard p packets [] (EndRefused error) next packets' uses told h stood earlier before d unused = poll_heard p (Err error) next uses h.0 (before d)
+    drains_on_heard p packets [] NoRoom next packets' uses told h stood earlier before d unused = heard_same uses p next h.0 (before d)
+    drains_on_heard p packets (Timeout moment reason ∷ []) Ended next packets' uses told h stood earlier before d unused =
+        shown_heard packets (Timeout moment reason) packets' uses told p next h stood earlier before d unused
+    drains_on_heard p packets (Timeout moment reason ∷ outputs) end next packets' uses told h stood earlier before d unused = absurd h
+    drains_on_heard p packets (Packet number len ∷ outputs) end next packets' uses told h stood earlier before d unused =
+        drains_on_heard h.0 h.1 outputs end next packets' uses told h.3
+        (shown_stood draws at b q sent packets (Packet number len) h.1 uses told p h.0 h.2 stood) earlier
+        (λ e. poll_heard p (Ok (polled.Transmit h.2.0)) h.0 uses h.2.1 (before e)) d unused
+    drains_on_heard p packets (EventShown event ∷ outputs) end next packets' uses told h stood earlier before d unused =
+        drains_on_heard h.0 h.1 outputs end next packets' (uses_shown (plain_over draws) (EventShown event) h.0 uses)
+        (told_shown (plain_over draws) (EventShown event) h.0 told) h.3
+        (shown_stood draws at b q sent packets (EventShown event) h.1 uses told p h.0 h.2 stood) (DrainedByEvent event earlier)
+        (λ e. event_heard event p h.0 uses h.2.0 earlier before e) d unused
 
     drawn_heard : (p : PlainPolled N) (packets : List SentPacket) (outputs : List (Shown PlainMediaEvent)) (end : PollEnd) (next : PlainPolled N)
-        (packets' : List SentPacket) (uses : List ChannelUse) (h : DrainsPeer (plain_over draws) at p packets outputs end next packets')
-        → Stood draws at packets b q uses sent p → (earlier : Type 0) → (earlier → HeardSide uses p) → DrainedByOutputs (plain_over draws) outputs next earlier
-        → IsEmptyBefore plain_meaning next.core.sctp
-        → HeardSide (uses_of_drain (plain_over draws) at p packets outputs end next packets' h uses) next
-    drawn_heard p packets [] NoRoom next packets' uses h stood earlier before d empty = absurd h
-    drawn_heard p packets [] Ended next packets' uses h stood earlier before d empty =
-        drains_on_heard p packets [] Ended next packets' uses h stood earlier before d empty
-    drawn_heard p packets [] (EndRefused error) next packets' uses h stood earlier before d empty =
-        drains_on_heard p packets [] (EndRefused error) next packets' uses h stood earlier before d empty
-    drawn_heard p packets (shown ∷ outputs) end next packets' uses h stood earlier before d empty =
-        drains_on_heard p packets (shown ∷ outputs) end next packets' uses h stood earlier before d empty
+        (packets' : List SentPacket) (uses : List ChannelUse) (told : MessagesTold) (h : DrainsPeer (plain_over draws) at p packets outputs end next packets')
+        → Stood draws at packets b q uses sent told p → (earlier : Type 0) → (earlier → HeardSide uses p) → DrainedByOutputs outputs earlier
+        → IsUnused (plain_over draws) (plain_over_laws draws) next.core
+        → HeardSide (by_drain (plain_over draws) (uses_shown (plain_over draws)) at p packets outputs end next packets' h uses) next
+    drawn_heard p packets [] NoRoom next packets' uses told h stood earlier before d unused = absurd h
+    drawn_heard p packets [] Ended next packets' uses told h stood earlier before d unused =
+        drains_on_heard p packets [] Ended next packets' uses told h stood earlier before d unused
+    drawn_heard p packets [] (EndRefused error) next packets' uses told h stood earlier before d unused =
+        drains_on_heard p packets [] (EndRefused error) next packets' uses told h stood earlier before d unused
+    drawn_heard p packets (shown ∷ outputs) end next packets' uses told h stood earlier before d unused =
+        drains_on_heard p packets (shown ∷ outputs) end next packets' uses told h stood earlier before d unused
 
     poll_step_heard : (old : PlainPolled N) (packets : List SentPacket) (outcome : Outcome PlainMediaEvent) (table : Option Table) (new : PlainPolled N)
-        (packets' : List SentPacket) (uses : List ChannelUse)
-        → StepPollsPeer (plain_over draws) (PollsOnce (plain_over draws) at old) old packets outcome table new packets' → Stood draws at packets b q uses sent old
-        → (earlier : Type 0) → (earlier → HeardSide uses old) → DrainedByOutcome (plain_over draws) outcome new earlier
-        → IsEmptyBefore plain_meaning new.core.sctp
-        → HeardSide (uses_behind (plain_over draws) outcome new uses) new
-    poll_step_heard old packets Alloc None new packets' uses h stood earlier before d empty = heard_same uses old new h.0 (before d)
-    poll_step_heard old packets (Polled outputs end) (Some table) new packets' uses h stood earlier before d empty =
-        once_heard old packets outputs end new packets' uses h.0 stood earlier before d empty
-    poll_step_heard old packets outcome table new packets' uses h stood earlier before d empty = absurd h
+        (packets' : List SentPacket) (uses : List ChannelUse) (told : MessagesTold)
+        → StepPollsPeer (plain_over draws) (PollsOnce (plain_over draws) at old) old packets outcome table new packets' → Stood draws at packets b q uses sent told old
+        → (earlier : Type 0) → (earlier → HeardSide uses old) → DrainedByOutcome outcome earlier
+        → IsUnused (plain_over draws) (plain_over_laws draws) new.core
+        → HeardSide (by_poll_step (plain_over draws) (uses_shown (plain_over draws)) outcome new uses) new
+    poll_step_heard old packets Alloc None new packets' uses told h stood earlier before d unused = heard_same uses old new h.0 (before d)
+    poll_step_heard old packets (Polled outputs end) (Some table) new packets' uses told h stood earlier before d unused =
+        once_heard old packets outputs end new packets' uses told h.0 stood earlier before d unused
+    poll_step_heard old packets outcome table new packets' uses told h stood earlier before d unused = absurd h
 
     drain_step_heard : (old : PlainPolled N) (packets : List SentPacket) (outcome : Outcome PlainMediaEvent) (table : Option Table) (new : PlainPolled N)
-        (packets' : List SentPacket) (uses : List ChannelUse)
+        (packets' : List SentPacket) (uses : List ChannelUse) (told : MessagesTold)
         (h : StepPollsPeer (plain_over draws) (DrainsPeer (plain_over draws) at old) old packets outcome table new packets')
-        → Stood draws at packets b q uses sent old → (earlier : Type 0) → (earlier → HeardSide uses old) → DrainedByOutcome (plain_over draws) outcome new earlier
-        → IsEmptyBefore plain_meaning new.core.sctp
-        → HeardSide (uses_drained_by (plain_over draws) at old packets outcome table new packets' h uses) new
-    drain_step_heard old packets Alloc None new packets' uses h stood earlier before d empty = heard_same uses old new h.0 (before d)
-    drain_step_heard old packets (Polled outputs end) (Some table) new packets' uses h stood earlier before d empty =
-        drawn_heard old packets outputs end new packets' uses h.0 stood earlier before d empty
-    drain_step_heard old packets outcome table new packets' uses h stood earlier before d empty = absurd h
+        → Stood draws at packets b q uses sent told old → (earlier : Type 0) → (earlier → HeardSide uses old) → DrainedByOutcome outcome earlier
+        → IsUnused (plain_over draws) (plain_over_laws draws) new.core
+        → HeardSide (by_drain_step (plain_over draws) (uses_shown (plain_over draws)) at old packets outcome table new packets' h uses) new
+    drain_step_heard old packets Alloc None new packets' uses told h stood earlier before d unused = heard_same uses old new h.0 (before d)
+    drain_step_heard old packets (Polled outputs end) (Some table) new packets' uses told h stood earlier before d unused =
+        drawn_heard old packets outputs end new packets' uses told h.0 stood earlier before d unused
+    drain_step_heard old packets outcome table new packets' uses told h stood earlier before d unused = absurd h
 
   -- ---- each step, an arm each
 
   module _ (b : PeerActs) (q : PlainPolled N) (sent : Sent) where
     pub acts_heard : (stun : List ℕ → Bool) (one : Step) (old : PlainPolled N) (sdps : List Kept) (packets : List SentPacket)
         (outcome : Outcome PlainMediaEvent) (table : Option Table) (new : PlainPolled N) (sdps' : List Kept) (packets' : List SentPacket)
-        (uses : List ChannelUse) (h : Acts (plain_over draws) stun one old sdps packets outcome table new sdps' packets')
-        → Stood draws (side_of one) packets b q uses sent old → (earlier : Type 0) → (earlier → HeardSide uses old)
-        → DrainedByStep (plain_over draws) one outcome new earlier → IsEmptyBefore plain_meaning new.core.sctp
+        (uses : List ChannelUse) (told : MessagesTold) (h : Acts (plain_over draws) stun one old sdps packets outcome table new sdps' packets')
+        → Stood draws (side_of one) packets b q uses sent told old → (earlier : Type 0) → (earlier → HeardSide uses old)
+        → DrainedByStep one outcome earlier → IsUnused (plain_over draws) (plain_over_laws draws) new.core
         → HeardSide (uses_acted (plain_over draws) stun one old sdps packets outcome table new sdps' packets' h uses) new
-    acts_heard stun (step.Negotiate at ops apply) old sdps packets outcome table new sdps' packets' uses h stood earlier before d empty =
+    acts_heard stun (step.Negotiate at ops apply) old sdps packets outcome table new sdps' packets' uses told h stood earlier before d unused =
         call_heard begun_here _ [] [] old new uses (negotiates_did (plain_over draws) at ops apply old sdps outcome table new sdps' h.0)
         (negotiates_keep (plain_over draws) at ops apply old sdps outcome table new sdps' h.0) begun_empty (before d)
-    acts_heard stun (step.AcceptOffer at offer) old sdps packets outcome table new sdps' packets' uses h stood earlier before d empty =
+    acts_heard stun (step.AcceptOffer at offer) old sdps packets outcome table new sdps' packets' uses told h stood earlier before d unused =
         call_heard begun_here _ [] [] old new uses
         (offer_acts (plain_over draws) at (kept_remote_sdp true sdps at offer) old sdps outcome table new sdps' h.0)
         (offer_step_keeps (plain_over draws) plain_laws at (kept_remote_sdp true sdps at offer) old sdps outcome table new sdps' h.0) begun_empty (before d)
-    acts_heard stun (step.AcceptAnswer at token answer) old sdps packets outcome table new sdps' packets' uses h stood earlier before d empty =
+    acts_heard stun (step.AcceptAnswer at token answer) old sdps packets outcome table new sdps' packets' uses told h stood earlier before d unused =
         call_heard begun_here _ [] [] old new uses
         (answer_acts (plain_over draws) token (held_token sdps at token) (kept_remote_sdp false sdps at answer) old sdps outcome table new sdps' h.0)
         (answer_step_keeps (plain_over draws) plain_laws token (held_token sdps at token) (kept_remote_sdp false sdps at answer) old sdps outcome table new sdps' h.0)
         begun_empty (before d)
-    acts_heard stun (step.Time at now) old sdps packets outcome table new sdps' packets' uses h stood earlier before d empty = absurd d
-    acts_heard stun (step.Datagram at packet now) old sdps packets outcome table new sdps' packets' uses h stood earlier before d empty = absurd d
-    acts_heard stun (step.Poll at) old sdps packets outcome table new sdps' packets' uses h stood earlier before d empty =
-        poll_step_heard at b q sent old packets outcome table new packets' uses h.0 stood earlier before d empty
-    acts_heard stun (step.Drain at) old sdps packets outcome table new sdps' packets' uses h stood earlier before d empty =
-        drain_step_heard at b q sent old packets outcome table new packets' uses h.0 stood earlier before d empty
-    acts_heard stun (step.Write at channel binary bytes) old sdps packets outcome table new sdps' packets' uses h stood earlier before d empty =
+    acts_heard stun (step.Time at now) old sdps packets outcome table new sdps' packets' uses told h stood earlier before d unused = absurd d
+    acts_heard stun (step.Datagram at packet now) old sdps packets outcome table new sdps' packets' uses told h stood earlier before d unused = absurd d
+    acts_heard stun (step.Poll at) old sdps packets outcome table new sdps' packets' uses told h stood earlier before d unused =
+        poll_step_heard at b q sent old packets outcome table new packets' uses told h.0 stood earlier before d unused
+    acts_heard stun (step.Drain at) old sdps packets outcome table new sdps' packets' uses told h stood earlier before d unused =
+        drain_step_heard at b q sent old packets outcome table new packets' uses told h.0 stood earlier before d unused
+    acts_heard stun (step.Write at channel binary bytes) old sdps packets outcome table new sdps' packets' uses told h stood earlier before d unused =
         writes_heard channel (open_stream_under channel old) binary bytes uses old outcome table new h.0 (before d)
-    acts_heard stun (step.CloseChannel at channel) old sdps packets outcome table new sdps' packets' uses h stood earlier before d empty =
+    acts_heard stun (step.CloseChannel at channel) old sdps packets outcome table new sdps' packets' uses told h stood earlier before d unused =
         channel_closes_heard (open_stream_under channel old) channel uses old outcome table new h.0 (before d)
-    acts_heard stun (step.Close at) old sdps packets outcome table new sdps' packets' uses h stood earlier before d empty =
+    acts_heard stun (step.Close at) old sdps packets outcome table new sdps' packets' uses told h stood earlier before d unused =
         calls_heard (ClosesPeer (plain_over draws)) uses (λ p r next closes k. closed_heard uses p r next closes k) old outcome table new h.0 (before d)

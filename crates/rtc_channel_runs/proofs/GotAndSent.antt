@@ -11,11 +11,13 @@ use Rattle.rtc_stream_contents.proofs.ContentLemmas.{contents-append, named_cont
 use Rattle.rtc_polling_laws.specs.PeerActs.{PeerActs}
 use Rattle.rtc_joined_runs.specs.PlainPairs.{PlainPolled, plain_over}
 use Rattle.rtc_channel_runs.specs.ChannelUses.{ChannelUse}
-use Rattle.rtc_channel_runs.specs.HandedOut.{AreHandedOut}
+use Rattle.rtc_channel_runs.specs.HandedOut.{AreHandedOut, AreToldWhole}
+use Rattle.rtc_channel_runs.specs.ToldMessages.{MessagesTold}
 use Rattle.rtc_channel_runs.proofs.StandingSides.{SideStood}
 use Rattle.rtc_channel_runs.proofs.UseLists.{all_member, named_kept, prefix_contents, prefix_through}
 use Rattle.rtc_channel_runs.proofs.UsesPolled.{all_dcep_none}
 use Rattle.rtc_channel_runs.proofs.UsesTold.{InBandTold, UseTold, prefix_of}
+use Rattle.rtc_channel_runs.proofs.WholeUses.{InBandWhole, SideWhole, WholeTold}
 
 -- the first message that was read is the first that was written
 first_number : (x y : AssociationMessage) (xs ys : List AssociationMessage) → x ∷ xs ≡ y ∷ ys → x.identifier ≡ y.identifier
@@ -25,7 +27,7 @@ first_number x y xs ys h = ap (λ (l : List AssociationMessage). first l) h
     first [] = x.identifier
     first (z ∷ l) = z.identifier
 
-begins_too : (z : StreamMessage) (l ys : List StreamMessage) → IsNamedPpi z.ppi → HaveNamedPpis ys
+pub begins_too : (z : StreamMessage) (l ys : List StreamMessage) → IsNamedPpi z.ppi → HaveNamedPpis ys
     → IsPrefix (map numbered_message (z ∷ l)) (map numbered_message ys) → begins_with_dcep ys ≡ true → is_dcep_message z ≡ true
 begins_too z l [] named others h begun = absurd (true≢false (sym begun))
 begins_too z l (y ∷ ys) named others h begun =
@@ -55,6 +57,19 @@ carries_rest before last rest none dcep =
     ∙ ap (λ (l : List (Bool × List ℕ)). l ++ contents_of rest) dcep
 
 module _ {N : Type 0} (draws : Draws N) where
+  -- nothing was read of the generation before the message that opened the channel
+  none_before_opening : (s g : ℕ) (a b : PeerActs) (us vs : List ChannelUse) (p q : PlainPolled N) (x : SideStood draws a us p) (y : SideStood draws b vs q)
+      (before : List StreamMessage) (last : StreamMessage) (rest : List StreamMessage) → messages_of s g x.read ≡ (before ++ last ∷ []) ++ rest
+      → any_dcep before ≡ false → begins_with_dcep (messages_of s g y.written) ≡ true → IsPrefix (read s g a.association) (written s g b.association)
+      → before ≡ []
+  none_before_opening s g a b us vs p q x y before last rest xs_is none begun h =
+      nothing_before before last rest (messages_of s g y.written)
+      (subst HaveNamedPpis xs_is (named_kept s g x.read x.told.named_read))
+      (named_kept s g y.written y.told.named_written)
+      (subst (λ (l : List AssociationMessage). IsPrefix l (map numbered_message (messages_of s g y.written)))
+      (read_are s g a.association x.read x.read_is ∙ ap (map numbered_message) xs_is)
+      (subst (λ (l : List AssociationMessage). IsPrefix (read s g a.association) l) (written_are s g b.association y.written y.wrote_is) h)) begun none
+
   -- what was read of the generation carries what was told behind the opening, and what was written of it carries what was sent
   pub both_carry : (s g : ℕ) (a b : PeerActs) (us vs : List ChannelUse) (p q : PlainPolled N) (x : SideStood draws a us p) (y : SideStood draws b vs q)
       (c d : ℕ) (of into : Option ℕ) (sent got sent' got' : List (Bool × List ℕ))
@@ -87,13 +102,8 @@ module _ {N : Type 0} (draws : Draws N) where
       begun : begins_with_dcep ws ≡ true
       begun = ap (λ (n : ℕ). begins_with_dcep (messages_of n g y.written)) (sym other) ∙ u.begins
 
-      numbered : IsPrefix (map numbered_message xs) (map numbered_message ws)
-      numbered =
-          subst (λ (l : List AssociationMessage). IsPrefix l (map numbered_message ws)) read_is
-          (subst (λ (l : List AssociationMessage). IsPrefix (read s g a.association) l) written_is h)
-
       none : t.before ≡ []
-      none = nothing_before t.before t.last t.rest ws named_xs named_ws numbered begun t.none_before
+      none = none_before_opening s g a b us vs p q x y t.before t.last t.rest xs_is t.none_before begun h
 
       reads_are : contents_by (read s g a.association) ≡ contents_of t.rest
       reads_are =
@@ -135,3 +145,33 @@ module _ {N : Type 0} (draws : Draws N) where
     where
       some_is : (n k : ℕ) → Some n ≡ Some k → n ≡ k
       some_is n k e = cc
+
+  -- what was told of the channel in the generation is what it got since it was announced
+  pub told_whole : (a b : PeerActs) (us vs : List ChannelUse) (p q : PlainPolled N) (x : SideStood draws a us p) (y : SideStood draws b vs q)
+      (told : MessagesTold) → SideWhole told x.read us → ((s g : ℕ) → IsPrefix (read s g a.association) (written s g b.association))
+      → AreToldWhole us vs told
+  told_whole a b us vs p q x y told whole reads = λ k l mine theirs band other s of into generations.
+      let w = all_member (InBandWhole told x.read) us k whole.each mine band in
+      let u = all_member (InBandTold (plain_over draws) y.written y.read q) vs l y.told.each theirs other in
+      by k s w (some_is w.stream s (sym w.stream_is ∙ of)) (begun s k.generation l u (some_is u.stream s (sym u.stream_is ∙ into)) (sym generations))
+    where
+      some_is : (n k : ℕ) → Some n ≡ Some k → n ≡ k
+      some_is n k e = cc
+
+      begun : (s g : ℕ) (l : ChannelUse) (u : UseTold (plain_over draws) y.written y.read q l.channel l.stream l.generation l.sent l.got)
+          → u.stream ≡ s → l.generation ≡ g → begins_with_dcep (messages_of s g y.written) ≡ true
+      begun s g l u same own =
+          ap (λ (n : ℕ). begins_with_dcep (messages_of s n y.written)) (sym own)
+          ∙ ap (λ (n : ℕ). begins_with_dcep (messages_of n l.generation y.written)) (sym same)
+          ∙ u.begins
+
+      by : (k : ChannelUse) (s : ℕ) (w : WholeTold told x.read k.channel k.stream k.generation k.got) → w.stream ≡ s
+          → begins_with_dcep (messages_of s k.generation y.written) ≡ true → told k.channel s k.generation ≡ k.got
+      by k s w same opens =
+          ap (λ (n : ℕ). told k.channel n k.generation) (sym same)
+          ∙ w.told_is
+          ∙ ap (λ (l : List (Bool × List ℕ)). l ++ k.got)
+          (w.silent
+          (ap contents_of
+          (none_before_opening s k.generation a b us vs p q x y w.before w.last w.rest
+          (ap (λ (n : ℕ). messages_of n k.generation x.read) (sym same) ∙ w.read_is) w.none_before opens (reads s k.generation))))

@@ -1,20 +1,34 @@
 mod WorkedUses
 mod EarlyData
+mod WorkedRests
 mod UseLists
 mod RowLemmas
 mod UsesTold
+mod AnnouncedStreams
 mod UsesPolled
 mod UsesOpened
 mod OpenedAnew
 mod SidesTold
+mod WholeUses
+mod WholePolled
 mod KeptNegotiation
 mod StandingSides
 mod PolledSteps
+mod OpenStreams
 mod StepsTold
 mod GotAndSent
 mod AllHanded
 mod QuietActs
+mod UnfinishedParts
+mod FinishedSides
 mod HeardSides
+mod TimeoutSides
 mod DrainedSteps
 mod RunsTold
 pub mod DrainedRuns
+mod RestingSides
+mod HeardOpenings
+mod OpenSides
+mod SettledSides
+mod AnsweredOpenings
+pub mod SettledRuns

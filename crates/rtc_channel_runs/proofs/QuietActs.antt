@@ -108,7 +108,7 @@ raised_stirs p q (ThresholdSet id n r h) =
     does_leaves (Unraised p) (stream_cause p id) p (thresholded id n p) q r (none_raised p) (raised_thresholded id n p) h
 raised_stirs p q (ReliabilitySet id u t n r h) = does_leaves (Unraised p) (stream_cause p id) p p q r (none_raised p) (none_raised p) h
 
-raised_act : (p q : Contents) (act : AssociationAct) → gives_packet act ≡ false → Acted plain_meaning p act q → Unraised p q
+pub raised_act : (p q : Contents) (act : AssociationAct) → gives_packet act ≡ false → Acted plain_meaning p act q → Unraised p q
 raised_act p q Started g h = raised_started p q h.1
 raised_act p q (Opened s n) g h = raised_at p q (opened s p) h.0.1 (raised_opened s p)
 raised_act p q (Wrote s n i b) g h = raised_at p q (message_written s (ppi_number h.0) b p) h.1.1.0.1.1.0 (raised_written s (ppi_number h.0) b p)

@@ -24,7 +24,7 @@ no_some c h = cc
 some_is : (a b : ℕ) → Some a ≡ Some b → a ≡ b
 some_is a b h = cc
 
-own_stream : (s : ℕ) (o : Option ℕ) → o ≡ Some s → is_of_stream s o ≡ true
+pub own_stream : (s : ℕ) (o : Option ℕ) → o ≡ Some s → is_of_stream s o ≡ true
 own_stream s None h = absurd (no_some s h)
 own_stream s (Some t) h = let same = some_is t s h in grind (arith, same)
 

@@ -21,7 +21,8 @@ use Rattle.rtc_polling_laws.specs.ChannelStreams.{AreNumberedChannels, IsUsedStr
 use Rattle.rtc_polling_laws.specs.PeerActs.{Came}
 use Rattle.rtc_channel_laws.specs.KeptChannels.{CallKeepsStreams}
 use Rattle.rtc_channel_runs.specs.AnnouncedOnce.{AreAnnouncedOnce, IsAnother}
-use Rattle.rtc_channel_runs.specs.ChannelUses.{ChannelUse, announced_use, uses_told, with_sent_message}
+use Rattle.rtc_channel_runs.specs.ChannelUses.{ChannelUse, announced_use, with_sent_message}
+use Rattle.rtc_channel_runs.proofs.AnnouncedStreams.{AnnouncedUnlessClosed, announced_called, announced_polled, over_sent, uses_answered}
 use Rattle.rtc_channel_runs.proofs.OpenedAnew.{once_got, once_more, once_sent, opening_other}
 use Rattle.rtc_channel_runs.proofs.RowLemmas.{closed_stays}
 use Rattle.rtc_channel_runs.proofs.UseLists.{AllUses, all_got, all_kept, all_more, all_sent, named_join}
@@ -37,13 +38,7 @@ module _ {I D S M E X T W N : Type 0} (m : Meanings I D S M E X T W N) where
     pub named_read : HaveNamedPpis read
     pub each : AllUses (InBandTold m written read p) uses
     pub once : AreAnnouncedOnce uses
-
-  -- the uses behind an answer of a poll
-  abbrev pub uses_answered : Result (Output E) RtcError → PolledPeer I D S M N → List ChannelUse → List ChannelUse
-  uses_answered (Ok (outputs.Event event)) q uses = uses_told m event q uses
-  uses_answered (Ok (outputs.Transmit transmit)) q uses = uses
-  uses_answered (Ok (outputs.Timeout moment)) q uses = uses
-  uses_answered (Err error) q uses = uses
+    pub announced : AnnouncedUnlessClosed m uses p
 
   module _ (w : AssociationLaws m.association) (v : GenerationLaws m.association) where
     -- calls but polls
@@ -65,6 +60,7 @@ module _ {I D S M E X T W N : Type 0} (m : Meanings I D S M E X T W N) where
           all_kept (InBandTold m written read p) (InBandTold m (written ++ []) (read ++ []) q) uses
           (λ x told. silent_told m w v p q [] came moments shown did keeps h.numbers written read x refl told) h.each;
       once = h.once;
+      announced = announced_called m p q [] uses uses keeps (λ s own k. k) h.announced;
     }
 
     -- a message is written
@@ -85,6 +81,8 @@ module _ {I D S M E X T W N : Type 0} (m : Meanings I D S M E X T W N) where
           (λ x e told. other_told m w v p q wrote came moments shown did keeps h.numbers stream id binary bytes placed writes free is written read x e told)
           h.each;
       once = once_sent id (binary, bytes) uses h.once;
+      announced =
+          announced_called m p q wrote uses (with_sent_message id (binary, bytes) uses) keeps (λ s own k. over_sent s own id (binary, bytes) uses k) h.announced;
     }
 
     -- polls
@@ -105,7 +103,7 @@ module _ {I D S M E X T W N : Type 0} (m : Meanings I D S M E X T W N) where
 
     each_polled : (p : PolledPeer I D S M N) (answer : Result (Output E) RtcError) (q : PolledPeer I D S M N) (h : PollsPeer m p answer q)
         (acts : PollActs m p answer q) (uses : List ChannelUse) (written read : List StreamMessage) → SideTold uses written read p
-        → AllUses (InBandTold m (written ++ acts.wrote) (read ++ acts.heard) q) (uses_answered answer q uses)
+        → AllUses (InBandTold m (written ++ acts.wrote) (read ++ acts.heard) q) (uses_answered m answer q uses)
     each_polled p (Ok (outputs.Event (ChannelOpen id label))) q h acts uses written read told =
         all_more (InBandTold m (written ++ acts.wrote) (read ++ acts.heard) q) uses (announced_use m id q)
         (still_each p (Ok (outputs.Event (ChannelOpen id label))) q h acts uses written read acts.shows told)
@@ -124,7 +122,7 @@ module _ {I D S M E X T W N : Type 0} (m : Meanings I D S M E X T W N) where
 
     once_polled : (p : PolledPeer I D S M N) (answer : Result (Output E) RtcError) (q : PolledPeer I D S M N) (h : PollsPeer m p answer q)
         (acts : PollActs m p answer q) (uses : List ChannelUse) (written read : List StreamMessage) → SideTold uses written read p
-        → AreAnnouncedOnce (uses_answered answer q uses)
+        → AreAnnouncedOnce (uses_answered m answer q uses)
     once_polled p (Ok (outputs.Event (ChannelOpen id label))) q h acts uses written read told =
         once_more (announced_use m id q) uses told.once
         (all_kept (InBandTold m written read p) (λ x. IsAnother x (announced_use m id q)) uses
@@ -138,7 +136,7 @@ module _ {I D S M E X T W N : Type 0} (m : Meanings I D S M E X T W N) where
 
     pub side_polled : NamesReadings m.association → (p : PolledPeer I D S M N) (answer : Result (Output E) RtcError) (q : PolledPeer I D S M N)
         (h : PollsPeer m p answer q) (acts : PollActs m p answer q) (uses : List ChannelUse) (written read : List StreamMessage)
-        → SideTold uses written read p → SideTold (uses_answered answer q uses) (written ++ acts.wrote) (read ++ acts.heard) q
+        → SideTold uses written read p → SideTold (uses_answered m answer q uses) (written ++ acts.wrote) (read ++ acts.heard) q
     side_polled names p answer q h acts uses written read told = record {
       used =
           used_polled p answer q written read (written ++ acts.wrote) (read ++ acts.heard) h
@@ -148,4 +146,5 @@ module _ {I D S M E X T W N : Type 0} (m : Meanings I D S M E X T W N) where
       named_read = named_join read acts.heard told.named_read (acts.did.named names);
       each = each_polled p answer q h acts uses written read told;
       once = once_polled p answer q h acts uses written read told;
+      announced = announced_polled m w v p answer q h acts told.numbers written read told.used uses told.announced;
     }

@@ -1,6 +1,5 @@
 -- Each step keeps what holds of the channels that its side announced.
-use Rattle.std.proofs.Common.{◌≡◌, ◌∙◌, ◌++◌, ◌&&◌, ◌==◌, ◌∷◌, if◌then◌else◌, ℕ, Bool, true, false, true≢false, List, [], append-nil, Option, Some, None, Result, Ok, Err, alloc_error, refl, sym, ap}
-use Rattle.std.specs.Prelude.{option_and_then}
+use Rattle.std.proofs.Common.{◌≡◌, ◌++◌, ◌&&◌, ◌==◌, ◌∷◌, if◌then◌else◌, ℕ, Bool, true, false, List, [], append-nil, Option, Some, None, Result, Ok, Err, alloc_error, refl, ap}
 use Rattle.rtc_wire.specs.DatagramRecv.{kind_by}
 use Rattle.rtc_wire.specs.declared.multiplex_kind.MultiplexKind.{MultiplexKind}
 use Rattle.rtc_wire.specs.declared.net_error.NetError.{NetError}
@@ -10,21 +9,19 @@ use Rattle.rtc_assoc_state.proofs.PlainLaws.{plain_laws}
 use Rattle.rtc_assoc_state.specs.PlainMeaning.{plain_meaning}
 use Rattle.rtc_plain_media.specs.declared.plain_media_event.PlainMediaEvent.{PlainMediaEvent}
 use Rattle.rtc_ids.specs.Draws.{Draws}
-use Rattle.rtc_sctp.specs.Calls.{is_nil, is_open_stream, written_ppi}
-use Rattle.rtc_sctp.specs.Streams.{SctpStreams}
+use Rattle.rtc_sctp.specs.Calls.{is_nil, written_ppi}
 use Rattle.rtc_sctp_laws.specs.StreamMessages.{stream_message}
 use Rattle.rtc_stream_uses.specs.StreamUses.{messages_of}
 use Rattle.rtc_stream_contents.specs.Contents.{contents_of}
+use Rattle.rtc_stream_contents.specs.RunningStreams.{AreRunning}
 use Rattle.rtc_stream_contents.proofs.ContentLemmas.{write_named}
 use Rattle.rtc_plain_streams.proofs.PlainGenerations.{plain_generations}
-use Rattle.rtc_peer_state.specs.declared.phase.Phase.TheVariants.{Closed}
 use Rattle.rtc_peer_state.specs.declared.rtc_error.RtcError.{RtcError}
 use Rattle.rtc_peer_state.specs.declared.rtc_error.RtcError.TheVariants.{Alloc as PeerAlloc}
 use Rattle.rtc_polling.specs.declared.input.Input.{Input}
 use Rattle.rtc_polling.specs.declared.input.Input.TheVariants as given
-use Rattle.rtc_polling.specs.ChannelCalls.{WritesChannel, if_open, is_phase_open, open_stream_under, stream_under}
+use Rattle.rtc_polling.specs.ChannelCalls.{WritesChannel, open_stream_under}
 use Rattle.rtc_polling.specs.Closing.{ClosesPeer}
-use Rattle.rtc_polling.specs.declared.polled_peer.PolledPeer.{PolledPeer}
 use Rattle.rtc_polling.specs.Inputs.{HandlesInput}
 use Rattle.rtc_polling_laws.specs.Acts.{CallActs, message_of_write}
 use Rattle.rtc_polling_laws.specs.PeerActs.{PeerActs, came_by, moment_given, nothing_came}
@@ -52,53 +49,17 @@ use Rattle.rtc_joined_runs.specs.SentContents.{contents_sent}
 use Rattle.rtc_joined_runs.proofs.ContentsLemmas.{datagram_carries, sent_among, shows_none}
 use Rattle.rtc_joined_runs.proofs.NegotiationActed.{answer_acts, negotiates_did, offer_acts}
 use Rattle.rtc_channel_runs.specs.ChannelUses.{ChannelUse}
+use Rattle.rtc_channel_runs.specs.PollsOfRuns.{by_step}
 use Rattle.rtc_channel_runs.specs.SentMessages.{sent_acted, sent_by_write}
+use Rattle.rtc_channel_runs.specs.ToldMessages.{MessagesTold, told_shown}
 use Rattle.rtc_channel_runs.specs.UsesOfRuns.{uses_acted, uses_written}
 use Rattle.rtc_channel_runs.proofs.KeptNegotiation.{answer_step_keeps, negotiates_keep, offer_step_keeps}
+use Rattle.rtc_channel_runs.proofs.OpenStreams.{open_free, open_placed}
 use Rattle.rtc_channel_runs.proofs.PolledSteps.{drain_step_stood, poll_step_stood}
 use Rattle.rtc_channel_runs.proofs.SidesTold.{side_wrote}
-use Rattle.rtc_channel_runs.proofs.UseLists.{written_carries}
+use Rattle.rtc_channel_runs.proofs.UseLists.{all_sent, written_carries}
+use Rattle.rtc_channel_runs.proofs.WholeUses.{whole_sent}
 use Rattle.rtc_channel_runs.proofs.StandingSides.{Sent, Stood, call_stood, quiet_stood, same_stood}
-
--- a channel that is open has its stream, at a peer that is neither closing nor closed
-none_some : (s : ℕ) → None ≡ Some s → ⊥
-none_some s h = cc
-
-opens_if : {S : Type 0} (b : Bool) (o : Option ℕ) (p : SctpStreams S) (s : ℕ) → (if b then option_and_then (if_open p) o else None) ≡ Some s
-    → (b ≡ true) × (o ≡ Some s)
-opens_if true None p s h = absurd (none_some s h)
-opens_if true (Some t) p s h = by (is_open_stream t p) h
-  where
-    by : (c : Bool) → (if c then Some t else None) ≡ Some s → (true ≡ true) × (Some t ≡ Some s)
-    by true k = (refl, k)
-    by false k = absurd (none_some s k)
-opens_if false o p s h = absurd (none_some s h)
-
-is_opened : {S : Type 0} (b : Bool) (o : Option ℕ) (p : SctpStreams S) (s : ℕ) → (if b then option_and_then (if_open p) o else None) ≡ Some s
-    → is_open_stream s p ≡ true
-is_opened true None p s h = absurd (none_some s h)
-is_opened {S} true (Some t) p s h = by (is_open_stream t p) refl h
-  where
-    some_is : Some t ≡ Some s → t ≡ s
-    some_is e = cc
-
-    by : (c : Bool) → is_open_stream t p ≡ c → (if c then Some t else None) ≡ Some s → is_open_stream s p ≡ true
-    by true e k = ap (λ (n : ℕ). is_open_stream n p) (sym (some_is k)) ∙ e
-    by false e k = absurd (none_some s k)
-is_opened false o p s h = absurd (none_some s h)
-
-pub open_open : {I D S M N : Type 0} (channel s : ℕ) (p : PolledPeer I D S M N) → open_stream_under channel p ≡ Some s → is_open_stream s p.core.sctp ≡ true
-open_open channel s p h = is_opened (is_phase_open p.core.phase) (stream_under channel p.core.channels) p.core.sctp s h
-
-pub open_placed : {I D S M N : Type 0} (channel s : ℕ) (p : PolledPeer I D S M N) → open_stream_under channel p ≡ Some s
-    → stream_under channel p.core.channels ≡ Some s
-open_placed channel s p h = (opens_if (is_phase_open p.core.phase) (stream_under channel p.core.channels) p.core.sctp s h).1
-
-pub open_free : {I D S M N : Type 0} (channel s : ℕ) (p : PolledPeer I D S M N) → open_stream_under channel p ≡ Some s → p.core.phase ≡ Closed → ⊥
-open_free channel s p h closed =
-    true≢false
-    (sym (opens_if (is_phase_open p.core.phase) (stream_under channel p.core.channels) p.core.sctp s h).0
-    ∙ ap is_phase_open closed)
 
 -- a message that is written to a generation of a stream goes to no other
 sent_more : (t h s g : ℕ) (binary : Bool) (bytes : List ℕ) (sent : List (Bool × List ℕ))
@@ -112,74 +73,78 @@ sent_more t h s g binary bytes sent = by ((t == s) && (h == g)) refl
     by true e = ap (λ (l : List (Bool × List ℕ)). sent ++ l) (written_carries t h binary bytes)
     by false e = append-nil sent
 
-module _ {N : Type 0} (draws : Draws N) (at : Side) (b : PeerActs) (q : PlainPolled N) (sent : Sent) where
+module _ {N : Type 0} (draws : Draws N) (at : Side) (b : PeerActs) (q : PlainPolled N) (sent : Sent) (told : MessagesTold) where
   heard_stood : (packets packets' : List SentPacket) (input : Input) (uses : List ChannelUse) (p : PlainPolled N) (r : Result (Unit {0}) RtcError)
       (next : PlainPolled N) → packets' ≡ packets → CarriesData (came_by input).dtls (contents_sent (other_side at) packets)
-      → HandlesInput (plain_over draws) input p r next → Stood draws at packets b q uses sent p → Stood draws at packets' b q uses sent next
+      → HandlesInput (plain_over draws) input p r next → Stood draws at packets b q uses sent told p → Stood draws at packets' b q uses sent told next
   heard_stood packets packets' input uses p r next kept carried h stood =
-      quiet_stood draws at packets packets' b q p next (came_by input) (moment_given input ∷ []) uses sent carried (shows_none at packets packets' kept)
-      (input_acts (plain_over draws) plain_laws input p r next h) (input_keeps (plain_over draws) input p r next h) stood
+      quiet_stood draws at packets packets' b q p next (came_by input) (moment_given input ∷ []) uses sent told carried (shows_none at packets packets' kept)
+      (input_acts (plain_over draws) plain_laws input p r next h) (input_keeps (plain_over draws) plain_laws input p r next h) stood
 
   closed_stood : (packets packets' : List SentPacket) (uses : List ChannelUse) (p : PlainPolled N) (r : Result (Unit {0}) RtcError) (next : PlainPolled N)
-      → packets' ≡ packets → ClosesPeer (plain_over draws) p r next → Stood draws at packets b q uses sent p → Stood draws at packets' b q uses sent next
+      → packets' ≡ packets → ClosesPeer (plain_over draws) p r next → Stood draws at packets b q uses sent told p → Stood draws at packets' b q uses sent told next
   closed_stood packets packets' uses p r next kept h stood =
-      quiet_stood draws at packets packets' b q p next nothing_came [] uses sent (none_carries (contents_sent (other_side at) packets))
+      quiet_stood draws at packets packets' b q p next nothing_came [] uses sent told (none_carries (contents_sent (other_side at) packets))
       (shows_none at packets packets' kept) (close_acts (plain_over draws) nothing_came [] plain_laws p r next h)
       (close_keeps (plain_over draws) plain_laws p r next h) stood
 
   -- an input or a close
   calls_stood : (call : PlainPolled N → Result (Unit {0}) RtcError → PlainPolled N → Type 0) (packets packets' : List SentPacket) (uses : List ChannelUse)
-      → ((p : PlainPolled N) (r : Result (Unit {0}) RtcError) (next : PlainPolled N) → call p r next → Stood draws at packets b q uses sent p
-      → Stood draws at packets' b q uses sent next)
+      → ((p : PlainPolled N) (r : Result (Unit {0}) RtcError) (next : PlainPolled N) → call p r next → Stood draws at packets b q uses sent told p
+      → Stood draws at packets' b q uses sent told next)
       → (old : PlainPolled N) (outcome : Outcome PlainMediaEvent) (table : Option Table) (new : PlainPolled N) → packets' ≡ packets
-      → StepCalls (plain_over draws) call old outcome table new → Stood draws at packets b q uses sent old → Stood draws at packets' b q uses sent new
-  calls_stood call packets packets' uses keeps old Alloc None new kept h stood = same_stood draws at packets packets' b q sent old new uses h kept stood
+      → StepCalls (plain_over draws) call old outcome table new → Stood draws at packets b q uses sent told old → Stood draws at packets' b q uses sent told new
+  calls_stood call packets packets' uses keeps old Alloc None new kept h stood = same_stood draws at packets packets' b q sent told old new uses h kept stood
   calls_stood call packets packets' uses keeps old Done (Some table) new kept h stood = keeps old (Ok tt) new h.0 stood
   calls_stood call packets packets' uses keeps old (Refused error) (Some table) new kept h stood = keeps old (Err error) new h.0 stood
   calls_stood call packets packets' uses keeps old outcome table new kept h stood = absurd h
 
   -- a call to which nothing came, and that shows and writes nothing
   done_stood : (packets packets' : List SentPacket) (uses : List ChannelUse) (p next : PlainPolled N) → packets' ≡ packets
-      → CallActs (plain_over draws) [] p next → CallKeepsStreams (plain_over draws) p [] next → Stood draws at packets b q uses sent p
-      → Stood draws at packets' b q uses sent next
+      → CallActs (plain_over draws) [] p next → CallKeepsStreams (plain_over draws) p [] next → Stood draws at packets b q uses sent told p
+      → Stood draws at packets' b q uses sent told next
   done_stood packets packets' uses p next kept did keeps stood =
-      quiet_stood draws at packets packets' b q p next nothing_came [] uses sent (none_carries (contents_sent (other_side at) packets))
+      quiet_stood draws at packets packets' b q p next nothing_came [] uses sent told (none_carries (contents_sent (other_side at) packets))
       (shows_none at packets packets' kept) did keeps stood
 
   -- what names a channel that is not open
   none_stood : (packets packets' : List SentPacket) (uses : List ChannelUse) (old : PlainPolled N) (outcome : Outcome PlainMediaEvent)
       (table : Option Table) (new : PlainPolled N) → packets' ≡ packets → FindsNone (plain_over draws) old outcome table new
-      → Stood draws at packets b q uses sent old → Stood draws at packets' b q uses sent new
-  none_stood packets packets' uses old Alloc None new kept h stood = same_stood draws at packets packets' b q sent old new uses h kept stood
-  none_stood packets packets' uses old NoSuch (Some table) new kept h stood = same_stood draws at packets packets' b q sent old new uses h.0 kept stood
+      → Stood draws at packets b q uses sent told old → Stood draws at packets' b q uses sent told new
+  none_stood packets packets' uses old Alloc None new kept h stood = same_stood draws at packets packets' b q sent told old new uses h kept stood
+  none_stood packets packets' uses old NoSuch (Some table) new kept h stood = same_stood draws at packets packets' b q sent told old new uses h.0 kept stood
   none_stood packets packets' uses old outcome table new kept h stood = absurd h
 
   -- writes
   taken_stood : (packets packets' : List SentPacket) (channel stream : ℕ) (binary : Bool) (bytes : List ℕ) (uses : List ChannelUse)
       (p next : PlainPolled N) → packets' ≡ packets → open_stream_under channel p ≡ Some stream
-      → WritesChannel (plain_over draws) stream binary bytes p (Ok true) next → Stood draws at packets b q uses sent p
-      → Stood draws at packets' b q (uses_written {E = PlainMediaEvent} channel binary bytes (Wrote true) uses) (λ s g. sent_by_write (plain_over draws) (Some stream) binary bytes (Wrote true) p s g (sent s g)) next
+      → WritesChannel (plain_over draws) stream binary bytes p (Ok true) next → Stood draws at packets b q uses sent told p
+      → Stood draws at packets' b q (uses_written {E = PlainMediaEvent} channel binary bytes (Wrote true) uses) (λ s g. sent_by_write (plain_over draws) (Some stream) binary bytes (Wrote true) p s g (sent s g)) told next
   taken_stood packets packets' channel stream binary bytes uses p next kept there h stood =
       let did : CallActs (plain_over draws) (message_of_write stream (plain_meaning.generation p.core.sctp.association stream) binary bytes (Ok true)) p next =
       write_acts (plain_over draws) stream binary bytes p (Ok true) next h in
+      let keeps = channel_write_keeps (plain_over draws) plain_laws stream binary bytes p (Ok true) next h in
       call_stood draws at packets packets' b q p next nothing_came [] []
       (message_of_write stream (plain_meaning.generation p.core.sctp.association stream) binary bytes (Ok true)) [] uses
       (uses_written {E = PlainMediaEvent} channel binary bytes (Wrote true) uses) sent
-      (λ s g. sent_by_write (plain_over draws) (Some stream) binary bytes (Wrote true) p s g (sent s g))
+      (λ s g. sent_by_write (plain_over draws) (Some stream) binary bytes (Wrote true) p s g (sent s g)) told told
       (none_carries (contents_sent (other_side at) packets)) (shows_none at packets packets' kept) did
       (λ s g. sent_more stream (plain_meaning.generation p.core.sctp.association stream) s g binary bytes (sent s g)) stood
       (side_wrote (plain_over draws) plain_laws plain_generations stream channel binary bytes
       (message_of_write stream (plain_meaning.generation p.core.sctp.association stream) binary bytes (Ok true)) nothing_came [] [] p next uses
       stood.side.written stood.side.read (open_placed channel stream p there) (open_free channel stream p there) h refl
       (write_named stream (plain_meaning.generation p.core.sctp.association stream) binary bytes (Ok 0)) did
-      (channel_write_keeps (plain_over draws) plain_laws stream binary bytes p (Ok true) next h) stood.side.told)
+      keeps stood.side.told)
+      (whole_sent told stood.side.read [] channel (binary, bytes) uses stood.whole)
+      (all_sent (λ x. AreRunning plain_meaning p.core.sctp) (λ x. AreRunning plain_meaning next.core.sctp) channel (binary, bytes) uses
+      (λ x e k. keeps.running k) (λ x e k. keeps.running k) stood.running)
 
   open_write_stood : (packets packets' : List SentPacket) (channel stream : ℕ) (binary : Bool) (bytes : List ℕ) (uses : List ChannelUse)
       (old : PlainPolled N) (outcome : Outcome PlainMediaEvent) (table : Option Table) (new : PlainPolled N) → packets' ≡ packets
       → open_stream_under channel old ≡ Some stream → StepWritesOpen (plain_over draws) stream binary bytes old outcome table new
-      → Stood draws at packets b q uses sent old → Stood draws at packets' b q (uses_written channel binary bytes outcome uses) (λ s g. sent_by_write (plain_over draws) (Some stream) binary bytes outcome old s g (sent s g)) new
+      → Stood draws at packets b q uses sent told old → Stood draws at packets' b q (uses_written channel binary bytes outcome uses) (λ s g. sent_by_write (plain_over draws) (Some stream) binary bytes outcome old s g (sent s g)) told new
   open_write_stood packets packets' channel stream binary bytes uses old Alloc None new kept there h stood =
-      same_stood draws at packets packets' b q sent old new uses h kept stood
+      same_stood draws at packets packets' b q sent told old new uses h kept stood
   open_write_stood packets packets' channel stream binary bytes uses old (Wrote true) (Some table) new kept there h stood =
       taken_stood packets packets' channel stream binary bytes uses old new kept there h.0 stood
   open_write_stood packets packets' channel stream binary bytes uses old (Wrote false) (Some table) new kept there h stood =
@@ -192,18 +157,18 @@ module _ {N : Type 0} (draws : Draws N) (at : Side) (b : PeerActs) (q : PlainPol
 
   unwritten_stood : (packets packets' : List SentPacket) (channel : ℕ) (binary : Bool) (bytes : List ℕ) (uses : List ChannelUse) (old : PlainPolled N)
       (outcome : Outcome PlainMediaEvent) (table : Option Table) (new : PlainPolled N) → packets' ≡ packets
-      → FindsNone (plain_over draws) old outcome table new → Stood draws at packets b q uses sent old
-      → Stood draws at packets' b q (uses_written channel binary bytes outcome uses) (λ s g. sent_by_write (plain_over draws) None binary bytes outcome old s g (sent s g)) new
+      → FindsNone (plain_over draws) old outcome table new → Stood draws at packets b q uses sent told old
+      → Stood draws at packets' b q (uses_written channel binary bytes outcome uses) (λ s g. sent_by_write (plain_over draws) None binary bytes outcome old s g (sent s g)) told new
   unwritten_stood packets packets' channel binary bytes uses old Alloc None new kept h stood =
-      same_stood draws at packets packets' b q sent old new uses h kept stood
+      same_stood draws at packets packets' b q sent told old new uses h kept stood
   unwritten_stood packets packets' channel binary bytes uses old NoSuch (Some table) new kept h stood =
-      same_stood draws at packets packets' b q sent old new uses h.0 kept stood
+      same_stood draws at packets packets' b q sent told old new uses h.0 kept stood
   unwritten_stood packets packets' channel binary bytes uses old outcome table new kept h stood = absurd h
 
   writes_stood : (packets packets' : List SentPacket) (channel : ℕ) (stream : Option ℕ) (binary : Bool) (bytes : List ℕ) (uses : List ChannelUse)
       (old : PlainPolled N) (outcome : Outcome PlainMediaEvent) (table : Option Table) (new : PlainPolled N) → packets' ≡ packets
       → open_stream_under channel old ≡ stream → StepWrites (plain_over draws) stream binary bytes old outcome table new
-      → Stood draws at packets b q uses sent old → Stood draws at packets' b q (uses_written channel binary bytes outcome uses) (λ s g. sent_by_write (plain_over draws) stream binary bytes outcome old s g (sent s g)) new
+      → Stood draws at packets b q uses sent told old → Stood draws at packets' b q (uses_written channel binary bytes outcome uses) (λ s g. sent_by_write (plain_over draws) stream binary bytes outcome old s g (sent s g)) told new
   writes_stood packets packets' channel None binary bytes uses old outcome table new kept there h stood =
       unwritten_stood packets packets' channel binary bytes uses old outcome table new kept h stood
   writes_stood packets packets' channel (Some stream) binary bytes uses old outcome table new kept there h stood =
@@ -211,19 +176,19 @@ module _ {N : Type 0} (draws : Draws N) (at : Side) (b : PeerActs) (q : PlainPol
 
   -- closes of channels
   shut_stood : (packets packets' : List SentPacket) (id : ℕ) (uses : List ChannelUse) → packets' ≡ packets → (p : PlainPolled N)
-      (r : Result (Unit {0}) RtcError) (next : PlainPolled N) → ClosesOpenChannel (plain_over draws) id p r next → Stood draws at packets b q uses sent p
-      → Stood draws at packets' b q uses sent next
+      (r : Result (Unit {0}) RtcError) (next : PlainPolled N) → ClosesOpenChannel (plain_over draws) id p r next → Stood draws at packets b q uses sent told p
+      → Stood draws at packets' b q uses sent told next
   shut_stood packets packets' id uses kept p (Ok done) next h stood =
       done_stood packets packets' uses p next kept (channel_close_acts (plain_over draws) id p (Ok tt) next h)
-      (channel_close_keeps (plain_over draws) id p (Ok tt) next h) stood
+      (channel_close_keeps (plain_over draws) plain_laws id p (Ok tt) next h) stood
   shut_stood packets packets' id uses kept p (Err PeerAlloc) next h stood =
       done_stood packets packets' uses p next kept (channel_close_acts (plain_over draws) id p (Err alloc_error) next h)
-      (channel_close_keeps (plain_over draws) id p (Err alloc_error) next h) stood
+      (channel_close_keeps (plain_over draws) plain_laws id p (Err alloc_error) next h) stood
   shut_stood packets packets' id uses kept p (Err error) next h stood = absurd h
 
   channel_closes_stood : (packets packets' : List SentPacket) (stream : Option ℕ) (id : ℕ) (uses : List ChannelUse) (old : PlainPolled N)
       (outcome : Outcome PlainMediaEvent) (table : Option Table) (new : PlainPolled N) → packets' ≡ packets
-      → StepClosesChannel (plain_over draws) stream id old outcome table new → Stood draws at packets b q uses sent old → Stood draws at packets' b q uses sent new
+      → StepClosesChannel (plain_over draws) stream id old outcome table new → Stood draws at packets b q uses sent told old → Stood draws at packets' b q uses sent told new
   channel_closes_stood packets packets' None id uses old outcome table new kept h stood =
       none_stood packets packets' uses old outcome table new kept h stood
   channel_closes_stood packets packets' (Some stream) id uses old outcome table new kept h stood =
@@ -233,9 +198,9 @@ module _ {N : Type 0} (draws : Draws N) (at : Side) (b : PeerActs) (q : PlainPol
   -- a datagram that the other side sent
   read_stood : (packets packets' : List SentPacket) (kind : Result MultiplexKind NetError) (transmit : Transmit) (now : ℕ) (uses : List ChannelUse)
       → packets' ≡ packets → Member transmit.contents (contents_sent (other_side at) packets) → (p : PlainPolled N) (r : Result (Unit {0}) RtcError)
-      (next : PlainPolled N) → HandlesRead (plain_over draws) kind transmit now p r next → Stood draws at packets b q uses sent p
-      → Stood draws at packets' b q uses sent next
-  read_stood packets packets' (Err why) transmit now uses kept there p r next h stood = same_stood draws at packets packets' b q sent p next uses h.1 kept stood
+      (next : PlainPolled N) → HandlesRead (plain_over draws) kind transmit now p r next → Stood draws at packets b q uses sent told p
+      → Stood draws at packets' b q uses sent told next
+  read_stood packets packets' (Err why) transmit now uses kept there p r next h stood = same_stood draws at packets packets' b q sent told p next uses h.1 kept stood
   read_stood packets packets' (Ok kind) transmit now uses kept there p r next h stood =
       heard_stood packets packets' (given.Receive now h.0) uses p r next kept
       (datagram_carries h.0.contents transmit.contents (contents_sent (other_side at) packets) h.1.bytes there) h.2 stood
@@ -243,11 +208,11 @@ module _ {N : Type 0} (draws : Draws N) (at : Side) (b : PeerActs) (q : PlainPol
   hears_stood : (stun : List ℕ → Bool) (found : Option Transmit) (now : ℕ) (packets packets' : List SentPacket) (uses : List ChannelUse)
       → ((transmit : Transmit) → found ≡ Some transmit → Member transmit.contents (contents_sent (other_side at) packets))
       → (old : PlainPolled N) (outcome : Outcome PlainMediaEvent) (table : Option Table) (new : PlainPolled N) → packets' ≡ packets
-      → StepTakesDatagram (plain_over draws) stun found now old outcome table new → Stood draws at packets b q uses sent old
-      → Stood draws at packets' b q uses sent new
-  hears_stood stun None now packets packets' uses there old Alloc None new kept h stood = same_stood draws at packets packets' b q sent old new uses h kept stood
+      → StepTakesDatagram (plain_over draws) stun found now old outcome table new → Stood draws at packets b q uses sent told old
+      → Stood draws at packets' b q uses sent told new
+  hears_stood stun None now packets packets' uses there old Alloc None new kept h stood = same_stood draws at packets packets' b q sent told old new uses h kept stood
   hears_stood stun None now packets packets' uses there old NoSuch (Some table) new kept h stood =
-      same_stood draws at packets packets' b q sent old new uses h.0 kept stood
+      same_stood draws at packets packets' b q sent told old new uses h.0 kept stood
   hears_stood stun None now packets packets' uses there old outcome table new kept h stood = absurd h
   hears_stood stun (Some transmit) now packets packets' uses there old outcome table new kept h stood =
       calls_stood (HandlesRead (plain_over draws) (kind_by stun transmit.contents) transmit now) packets packets' uses
@@ -259,41 +224,42 @@ module _ {N : Type 0} (draws : Draws N) (b : PeerActs) (q : PlainPolled N) where
   -- each step, an arm each
   pub acts_stood : (stun : List ℕ → Bool) (step : Step) (old : PlainPolled N) (sdps : List Kept) (packets : List SentPacket)
       (outcome : Outcome PlainMediaEvent) (table : Option Table) (new : PlainPolled N) (sdps' : List Kept) (packets' : List SentPacket)
-      (uses : List ChannelUse) (sent : Sent) (h : Acts (plain_over draws) stun step old sdps packets outcome table new sdps' packets')
-      → Stood draws (side_of step) packets b q uses sent old
-      → Stood draws (side_of step) packets' b q (uses_acted (plain_over draws) stun step old sdps packets outcome table new sdps' packets' h uses) (λ s g. sent_acted (plain_over draws) step outcome old s g (sent s g)) new
-  acts_stood stun (Negotiate at ops apply) old sdps packets outcome table new sdps' packets' uses sent h stood =
-      quiet_stood draws at packets packets' b q old new _ _ uses sent (begun_carries (contents_sent (other_side at) packets))
+      (uses : List ChannelUse) (sent : Sent) (told : MessagesTold) (h : Acts (plain_over draws) stun step old sdps packets outcome table new sdps' packets')
+      → Stood draws (side_of step) packets b q uses sent told old
+      → Stood draws (side_of step) packets' b q (uses_acted (plain_over draws) stun step old sdps packets outcome table new sdps' packets' h uses) (λ s g. sent_acted (plain_over draws) step outcome old s g (sent s g))
+      (by_step (plain_over draws) (told_shown (plain_over draws)) stun step old sdps packets outcome table new sdps' packets' h told) new
+  acts_stood stun (Negotiate at ops apply) old sdps packets outcome table new sdps' packets' uses sent told h stood =
+      quiet_stood draws at packets packets' b q old new _ _ uses sent told (begun_carries (contents_sent (other_side at) packets))
       (shows_none at packets packets' h.1.packets_kept)
       (negotiates_did (plain_over draws) at ops apply old sdps outcome table new sdps' h.0)
       (negotiates_keep (plain_over draws) at ops apply old sdps outcome table new sdps' h.0) stood
-  acts_stood stun (AcceptOffer at offer) old sdps packets outcome table new sdps' packets' uses sent h stood =
-      quiet_stood draws at packets packets' b q old new _ _ uses sent (begun_carries (contents_sent (other_side at) packets))
+  acts_stood stun (AcceptOffer at offer) old sdps packets outcome table new sdps' packets' uses sent told h stood =
+      quiet_stood draws at packets packets' b q old new _ _ uses sent told (begun_carries (contents_sent (other_side at) packets))
       (shows_none at packets packets' h.1.packets_kept)
       (offer_acts (plain_over draws) at (kept_remote_sdp true sdps at offer) old sdps outcome table new sdps' h.0)
       (offer_step_keeps (plain_over draws) plain_laws at (kept_remote_sdp true sdps at offer) old sdps outcome table new sdps' h.0) stood
-  acts_stood stun (AcceptAnswer at token answer) old sdps packets outcome table new sdps' packets' uses sent h stood =
-      quiet_stood draws at packets packets' b q old new _ _ uses sent (begun_carries (contents_sent (other_side at) packets))
+  acts_stood stun (AcceptAnswer at token answer) old sdps packets outcome table new sdps' packets' uses sent told h stood =
+      quiet_stood draws at packets packets' b q old new _ _ uses sent told (begun_carries (contents_sent (other_side at) packets))
       (shows_none at packets packets' h.1.packets_kept)
       (answer_acts (plain_over draws) token (held_token sdps at token) (kept_remote_sdp false sdps at answer) old sdps outcome table new sdps' h.0)
       (answer_step_keeps (plain_over draws) plain_laws token (held_token sdps at token) (kept_remote_sdp false sdps at answer) old sdps outcome table new sdps' h.0)
       stood
-  acts_stood stun (Time at now) old sdps packets outcome table new sdps' packets' uses sent h stood =
-      calls_stood draws at b q sent (HandlesInput (plain_over draws) (given.Timeout now)) packets packets' uses
+  acts_stood stun (Time at now) old sdps packets outcome table new sdps' packets' uses sent told h stood =
+      calls_stood draws at b q sent told (HandlesInput (plain_over draws) (given.Timeout now)) packets packets' uses
       (λ p r next handles s.
-      heard_stood draws at b q sent packets packets' (given.Timeout now) uses p r next h.2 (none_carries (contents_sent (other_side at) packets)) handles s)
+      heard_stood draws at b q sent told packets packets' (given.Timeout now) uses p r next h.2 (none_carries (contents_sent (other_side at) packets)) handles s)
       old outcome table new h.2 h.0 stood
-  acts_stood stun (Datagram at packet now) old sdps packets outcome table new sdps' packets' uses sent h stood =
-      hears_stood draws at b q sent stun (remote_packet packets at packet) now packets packets' uses (λ transmit is. sent_among at packets packet transmit is)
+  acts_stood stun (Datagram at packet now) old sdps packets outcome table new sdps' packets' uses sent told h stood =
+      hears_stood draws at b q sent told stun (remote_packet packets at packet) now packets packets' uses (λ transmit is. sent_among at packets packet transmit is)
       old outcome table new h.2 h.0 stood
-  acts_stood stun (Poll at) old sdps packets outcome table new sdps' packets' uses sent h stood =
-      poll_step_stood draws at b q sent old packets outcome table new packets' uses h.0 stood
-  acts_stood stun (Drain at) old sdps packets outcome table new sdps' packets' uses sent h stood =
-      drain_step_stood draws at b q sent old packets outcome table new packets' uses h.0 stood
-  acts_stood stun (Write at channel binary bytes) old sdps packets outcome table new sdps' packets' uses sent h stood =
-      writes_stood draws at b q sent packets packets' channel (open_stream_under channel old) binary bytes uses old outcome table new h.2 refl h.0 stood
-  acts_stood stun (CloseChannel at channel) old sdps packets outcome table new sdps' packets' uses sent h stood =
-      channel_closes_stood draws at b q sent packets packets' (open_stream_under channel old) channel uses old outcome table new h.2 h.0 stood
-  acts_stood stun (Close at) old sdps packets outcome table new sdps' packets' uses sent h stood =
-      calls_stood draws at b q sent (ClosesPeer (plain_over draws)) packets packets' uses
-      (λ p r next closes s. closed_stood draws at b q sent packets packets' uses p r next h.2 closes s) old outcome table new h.2 h.0 stood
+  acts_stood stun (Poll at) old sdps packets outcome table new sdps' packets' uses sent told h stood =
+      poll_step_stood draws at b q sent old packets outcome table new packets' uses told h.0 stood
+  acts_stood stun (Drain at) old sdps packets outcome table new sdps' packets' uses sent told h stood =
+      drain_step_stood draws at b q sent old packets outcome table new packets' uses told h.0 stood
+  acts_stood stun (Write at channel binary bytes) old sdps packets outcome table new sdps' packets' uses sent told h stood =
+      writes_stood draws at b q sent told packets packets' channel (open_stream_under channel old) binary bytes uses old outcome table new h.2 refl h.0 stood
+  acts_stood stun (CloseChannel at channel) old sdps packets outcome table new sdps' packets' uses sent told h stood =
+      channel_closes_stood draws at b q sent told packets packets' (open_stream_under channel old) channel uses old outcome table new h.2 h.0 stood
+  acts_stood stun (Close at) old sdps packets outcome table new sdps' packets' uses sent told h stood =
+      calls_stood draws at b q sent told (ClosesPeer (plain_over draws)) packets packets' uses
+      (λ p r next closes s. closed_stood draws at b q sent told packets packets' uses p r next h.2 closes s) old outcome table new h.2 h.0 stood

@@ -70,9 +70,17 @@ module _ {I D S M E X T W N : Type 0} (m : Meanings I D S M E X T W N) (w : Asso
       stands = Lives live refl;
     }
 
-    pub opening_told : UsedUnlessClosed m written read p → InBandTold m (written ++ acts.wrote) (read ++ acts.heard) q (announced_use m id q)
-    opening_told (inl closed) = absurd (no_timeout (ChannelOpen id label) _ (Ok (outputs.Event (ChannelOpen id label))) refl (closed_stays m p (Ok (outputs.Event (ChannelOpen id label))) q closed h).0)
-    opening_told (inr uses) = λ band.
+    -- what holds of its stream and generation, by its opening, holds of what its use says of them
+    pub opening_as : (T : Option ℕ → ℕ → Type 0)
+        → (IsOpened
+        (messages_of acts.streams.opens.stream (m.association.generation q.core.sctp.association acts.streams.opens.stream) (written ++ acts.wrote))
+        (messages_of acts.streams.opens.stream (m.association.generation q.core.sctp.association acts.streams.opens.stream) (read ++ acts.heard))
+        → IsLiveChannel id acts.streams.opens.stream (m.association.generation q.core.sctp.association acts.streams.opens.stream) q
+        → T (Some acts.streams.opens.stream) (m.association.generation q.core.sctp.association acts.streams.opens.stream))
+        → UsedUnlessClosed m written read p → (announced_use m id q).in_band ≡ true
+        → T (stream_under id q.core.channels) (generation_under m (stream_under id q.core.channels) q)
+    opening_as T made (inl closed) = absurd (no_timeout (ChannelOpen id label) _ (Ok (outputs.Event (ChannelOpen id label))) refl (closed_stays m p (Ok (outputs.Event (ChannelOpen id label))) q closed h).0)
+    opening_as T made (inr uses) = λ band.
         both band
         (were_opened (entries_of acts.streams.opens.stream q.core.sctp.entries)
         (m.association.generation q.core.sctp.association acts.streams.opens.stream)
@@ -89,10 +97,12 @@ module _ {I D S M E X T W N : Type 0} (m : Meanings I D S M E X T W N) (w : Asso
             (messages_of acts.streams.opens.stream (m.association.generation q.core.sctp.association acts.streams.opens.stream) (read ++ acts.heard))
             → IsSettledStream (entries_of acts.streams.opens.stream q.core.sctp.entries)
             ⊎ IsLiveChannel id acts.streams.opens.stream (m.association.generation q.core.sctp.association acts.streams.opens.stream) q
-            → UseTold m (written ++ acts.wrote) (read ++ acts.heard) q id (stream_under id q.core.channels)
-            (generation_under m (stream_under id q.core.channels) q) [] []
+            → T (stream_under id q.core.channels) (generation_under m (stream_under id q.core.channels) q)
         both band (inl out) k = absurd (settled_out out band)
         both band (inr o) (inl out) = absurd (settled_out out band)
         both band (inr o) (inr live) =
-            subst (λ (n : Option ℕ). UseTold m (written ++ acts.wrote) (read ++ acts.heard) q id n (generation_under m n q) [] []) (sym opening_placed)
-            (opening_is o live)
+            subst (λ (n : Option ℕ). T n (generation_under m n q)) (sym opening_placed) (made o live)
+
+    pub opening_told : UsedUnlessClosed m written read p → InBandTold m (written ++ acts.wrote) (read ++ acts.heard) q (announced_use m id q)
+    opening_told used = λ band.
+        opening_as (λ of g. UseTold m (written ++ acts.wrote) (read ++ acts.heard) q id of g [] []) opening_is used band

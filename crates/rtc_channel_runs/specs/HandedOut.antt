@@ -18,6 +18,7 @@ use Rattle.rtc_channel_runs.specs.ChannelUses.{ChannelUse}
 use Rattle.rtc_channel_runs.specs.DrainedSides.{IsDrained}
 use Rattle.rtc_channel_runs.specs.OpenUses.{AreJoinedUses}
 use Rattle.rtc_channel_runs.specs.SentMessages.{sent_over}
+use Rattle.rtc_channel_runs.specs.ToldMessages.{MessagesTold, told_over}
 use Rattle.rtc_channel_runs.specs.UsesOfRuns.{reached_by, uses_in_run}
 
 -- Where two channels were opened in-band over one generation of one stream, what one got is a prefix of what was sent over the other.
@@ -34,6 +35,21 @@ AreHandedOut readers writers = (x y : ChannelUse) → Member x readers → Membe
 abbrev pub AreSentWhole : List ChannelUse → (sent : ℕ → ℕ → List (Bool × List ℕ)) → Type 0
 AreSentWhole uses sent =
     (x : ChannelUse) → Member x uses → x.in_band ≡ true → (s : ℕ) → x.stream ≡ Some s → sent s x.generation ≡ x.sent
+
+-- Where two channels were opened in-band over one generation of one stream, what the one got since it was announced is all that its side
+-- was ever told of it while it had that stream in that generation: nothing was before.
+abbrev pub AreToldWhole : (readers writers : List ChannelUse) → MessagesTold → Type 0
+AreToldWhole readers writers told =
+    (x y : ChannelUse)
+    → Member x readers
+    → Member y writers
+    → x.in_band ≡ true
+    → y.in_band ≡ true
+    → (s : ℕ)
+    → x.stream ≡ Some s
+    → y.stream ≡ Some s
+    → x.generation ≡ y.generation
+    → told x.channel s x.generation ≡ x.got
 
 -- Where two such channels stay open at both sides, and the writer has no unacknowledged item of the stream, all was got that was sent.
 abbrev pub AreAllHandedOut : {N : Type 0} → Draws N → (readers : List ChannelUse) → PlainPolled N → (writers : List ChannelUse)
@@ -59,9 +75,10 @@ AreWhollyHandedOut draws readers p writers q =
     → x.got ≡ y.sent
 
 -- In a run by these steps with these replies, of the channels that were opened in-band, each side announced each at most once, and at most
--- one over each generation of a stream, to which it sent nothing before. It got over each a prefix of what the other side sent over its
--- own; at the end of the run all of it, where both stay open and all was delivered, as it was where the side was drained since its last
--- input and all is acknowledged.
+-- one over each generation of a stream, to which it sent nothing before. Where the other side announced one over that generation too, it
+-- was told nothing of its own channel there before, and got over it a prefix of what the other side sent over its own; at the end of the
+-- run all of it, where both stay open and all was delivered, as it was where the side was drained since its last input and all is
+-- acknowledged.
 pub record HandsOut {N : Type 0} (draws : Draws N) (stun : List ℕ → Bool) (start : PlainPair N) (steps : List Step)
     (replies : List (Reply PlainMediaEvent)) (pair : PlainPair N) (run : Runs (plain_over draws) stun start steps replies pair)
     : Type 0 where
@@ -69,6 +86,10 @@ pub record HandsOut {N : Type 0} (draws : Draws N) (stun : List ℕ → Bool) (s
   pub whole : (at : Side)
       → AreSentWhole (uses_in_run (plain_over draws) stun start steps replies pair run at)
       (sent_over (plain_over draws) stun start at run.past pair (reached_by (plain_over draws) stun start run.past pair run.went))
+  pub told : (at : Side)
+      → AreToldWhole (uses_in_run (plain_over draws) stun start steps replies pair run at)
+      (uses_in_run (plain_over draws) stun start steps replies pair run (other_side at))
+      (told_over (plain_over draws) stun start at run.past pair (reached_by (plain_over draws) stun start run.past pair run.went))
   pub handed : (at : Side)
       → AreHandedOut (uses_in_run (plain_over draws) stun start steps replies pair run at)
       (uses_in_run (plain_over draws) stun start steps replies pair run (other_side at))
@@ -76,6 +97,6 @@ pub record HandsOut {N : Type 0} (draws : Draws N) (stun : List ℕ → Bool) (s
       → AreWhollyHandedOut draws (uses_in_run (plain_over draws) stun start steps replies pair run at) (rtc_at at pair)
       (uses_in_run (plain_over draws) stun start steps replies pair run (other_side at)) (rtc_at (other_side at) pair)
   pub drained : (at : Side)
-      → IsDrained (plain_over draws) stun start at run.past pair (reached_by (plain_over draws) stun start run.past pair run.went)
+      → IsDrained at run.past
       → AreAllHandedOut draws (uses_in_run (plain_over draws) stun start steps replies pair run at) (rtc_at at pair)
       (uses_in_run (plain_over draws) stun start steps replies pair run (other_side at)) (rtc_at (other_side at) pair)

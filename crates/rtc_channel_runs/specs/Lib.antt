@@ -1,7 +1,10 @@
 pub mod ChannelUses
+pub mod PollsOfRuns
 pub mod UsesOfRuns
 pub mod AnnouncedOnce
 pub mod OpenUses
 pub mod SentMessages
+pub mod ToldMessages
 pub mod DrainedSides
+pub mod SettledPairs
 pub mod HandedOut

@@ -1,25 +1,23 @@
 -- The channels that a side announced in a run, and what it sent and got over each.
-use Rattle.std.specs.Prelude.{ℕ, ◌≡◌, Bool, true, if◌then◌else◌, List, [], ◌∷◌, Option, Some}
+use Rattle.std.specs.Prelude.{ℕ, ◌≡◌, Bool, true, if◌then◌else◌, List, [], ◌∷◌, Option}
 use Rattle.rtc_peer_state.specs.Meanings.{Meanings}
 use Rattle.rtc_polling.specs.declared.polled_peer.PolledPeer.{PolledPeer}
 use Rattle.rtc_history.specs.declared.kept.Kept.{Kept}
 use Rattle.rtc_history.specs.declared.outcome.Outcome.{Outcome}
-use Rattle.rtc_history.specs.declared.outcome.Outcome.TheVariants.{Wrote, Polled}
-use Rattle.rtc_history.specs.declared.poll_end.PollEnd.{PollEnd}
+use Rattle.rtc_history.specs.declared.outcome.Outcome.TheVariants.{Wrote}
 use Rattle.rtc_history.specs.declared.sent_packet.SentPacket.{SentPacket}
-use Rattle.rtc_history.specs.declared.shown.Shown.{Shown}
-use Rattle.rtc_history.specs.declared.shown.Shown.TheVariants.{Timeout, Packet, Event}
 use Rattle.rtc_history.specs.declared.reply.Reply.{Reply}
 use Rattle.rtc_history.specs.declared.side.Side.{Side}
 use Rattle.rtc_history.specs.declared.step.Step.{Step}
-use Rattle.rtc_history.specs.declared.step.Step.TheVariants.{Poll, Drain, Write}
+use Rattle.rtc_history.specs.declared.step.Step.TheVariants.{Write}
 use Rattle.rtc_history.specs.declared.table.Table.{Table}
 use Rattle.rtc_history.specs.PairState.{PairState, rtc_at}
 use Rattle.rtc_history.specs.Past.{Entry}
-use Rattle.rtc_history.specs.Performs.{Acts, DrainsOn, DrainsPeer, StepPollsPeer}
+use Rattle.rtc_history.specs.Performs.{Acts}
 use Rattle.rtc_history.specs.Runs.{EntersSoundly, Reached, Runs, Went}
 use Rattle.rtc_history.specs.Sides.{same_side, side_of}
 use Rattle.rtc_channel_runs.specs.ChannelUses.{ChannelUse, uses_shown, with_sent_message}
+use Rattle.rtc_channel_runs.specs.PollsOfRuns.{by_step}
 
 -- behind a step that writes to a channel: its message was sent where it was taken
 abbrev pub uses_written : {E : Type 0} → (channel : ℕ) → (binary : Bool) → List ℕ → Outcome E → List ChannelUse → List ChannelUse
@@ -27,51 +25,14 @@ uses_written channel binary bytes (Wrote true) uses = with_sent_message channel 
 uses_written channel binary bytes outcome uses = uses
 
 module _ {I D S M E X T W N : Type 0} (m : Meanings I D S M E X T W N) where
-  -- behind one poll, which left the peer so
-  abbrev pub uses_polled : List (Shown E) → PolledPeer I D S M N → List ChannelUse → List ChannelUse
-  uses_polled (shown ∷ []) q uses = uses_shown m shown q uses
-  uses_polled outputs q uses = uses
-
-  -- behind polls in turn, by the peer that each of them left
-  abbrev pub uses_drained : (at : Side) (p : PolledPeer I D S M N) (packets : List SentPacket) (outputs : List (Shown E)) (end : PollEnd)
-      (q : PolledPeer I D S M N) (packets' : List SentPacket) → DrainsOn m at p packets outputs end q packets' → List ChannelUse
-      → List ChannelUse
-  uses_drained at p packets [] end q packets' h uses = uses
-  uses_drained at p packets (Timeout moment reason ∷ outputs) end q packets' h uses = uses
-  uses_drained at p packets (Packet number len ∷ outputs) end q packets' h uses = uses_drained at h.0 h.1 outputs end q packets' h.3 uses
-  uses_drained at p packets (Event event ∷ outputs) end q packets' h uses =
-      uses_drained at h.0 h.1 outputs end q packets' h.3 (uses_shown m (Event event) h.0 uses)
-
-  -- behind a whole drain, by what it told
-  abbrev pub uses_of_drain : (at : Side) (p : PolledPeer I D S M N) (packets : List SentPacket) (outputs : List (Shown E)) (end : PollEnd)
-      (q : PolledPeer I D S M N) (packets' : List SentPacket) → DrainsPeer m at p packets outputs end q packets' → List ChannelUse
-      → List ChannelUse
-  uses_of_drain at p packets [] end q packets' h uses = uses
-  uses_of_drain at p packets (shown ∷ outputs) end q packets' h uses = uses_drained at p packets (shown ∷ outputs) end q packets' h uses
-
-  -- behind a step that polls once
-  abbrev pub uses_behind : Outcome E → PolledPeer I D S M N → List ChannelUse → List ChannelUse
-  uses_behind (Polled outputs end) q uses = uses_polled outputs q uses
-  uses_behind outcome q uses = uses
-
-  -- behind one that drains
-  abbrev pub uses_drained_by : (at : Side) (old : PolledPeer I D S M N) (packets : List SentPacket) (outcome : Outcome E)
-      (table : Option Table) (new : PolledPeer I D S M N) (packets' : List SentPacket)
-      → StepPollsPeer m (DrainsPeer m at old) old packets outcome table new packets' → List ChannelUse → List ChannelUse
-  uses_drained_by at old packets (Polled outputs end) (Some table) new packets' h uses =
-      uses_of_drain at old packets outputs end new packets' h.0 uses
-  uses_drained_by at old packets outcome table new packets' h uses = uses
-
   -- behind a step of the side: what was announced, sent and got
   abbrev pub uses_acted : (stun : List ℕ → Bool) (step : Step) (old : PolledPeer I D S M N) (sdps : List Kept) (packets : List SentPacket)
       (outcome : Outcome E) (table : Option Table) (new : PolledPeer I D S M N) (sdps' : List Kept) (packets' : List SentPacket)
       → Acts m stun step old sdps packets outcome table new sdps' packets' → List ChannelUse → List ChannelUse
   uses_acted stun (Write at channel binary bytes) old sdps packets outcome table new sdps' packets' h uses =
       uses_written channel binary bytes outcome uses
-  uses_acted stun (Poll at) old sdps packets outcome table new sdps' packets' h uses = uses_behind outcome new uses
-  uses_acted stun (Drain at) old sdps packets outcome table new sdps' packets' h uses =
-      uses_drained_by at old packets outcome table new packets' h.0 uses
-  uses_acted stun step old sdps packets outcome table new sdps' packets' h uses = uses
+  uses_acted stun step old sdps packets outcome table new sdps' packets' h uses =
+      by_step m (uses_shown m) stun step old sdps packets outcome table new sdps' packets' h uses
 
   -- The channels that a side announced in a run, in order, by the peers that the run goes through.
   abbrev pub uses_of : (stun : List ℕ → Bool) (start : PairState I D S M N) (at : Side) (past : List (Entry E)) (pair : PairState I D S M N)

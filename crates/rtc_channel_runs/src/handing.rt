@@ -12,19 +12,20 @@ ghost use Rattle.rtc_joined_runs.specs.NewPairs.{IsNewPair};
 ghost use Rattle.rtc_joined_runs.specs.PlainPairs.{PlainPair, plain_over};
 ghost use Rattle.rtc_channel_runs.specs.AnnouncedOnce.{AreAnnouncedOnce};
 ghost use Rattle.rtc_channel_runs.specs.DrainedSides.{IsDrained};
-ghost use Rattle.rtc_channel_runs.specs.HandedOut.{AreAllHandedOut, AreHandedOut, AreSentWhole, AreWhollyHandedOut, HandsOut};
+ghost use Rattle.rtc_channel_runs.specs.HandedOut.{AreAllHandedOut, AreHandedOut, AreSentWhole, AreToldWhole};
+ghost use Rattle.rtc_channel_runs.specs.HandedOut.{AreWhollyHandedOut, HandsOut};
 ghost use Rattle.rtc_channel_runs.specs.SentMessages.{sent_over};
+ghost use Rattle.rtc_channel_runs.specs.ToldMessages.{told_over};
 ghost use Rattle.rtc_channel_runs.specs.UsesOfRuns.{uses_of};
 
 use rtc_ids::Ids;
 
 /// Whatever datagrams a run of two peers loses, repeats or reorders: of the channels that were opened in-band, each side announces
 /// each at most once, and at most one over each generation of a stream, to which it sent nothing before. Where each side announced
-/// such a channel over the same generation of the same stream, what one got over its channel since is a prefix of what the other
-/// sent over its own since. It is all of that where both channels stay open, the writer has no unacknowledged item of the stream,
-/// and no whole message of the generation stands unread at the reader. None does where the reader was drained: since its last input,
-/// and since a channel was last told to be open, a poll of it answered a timeout, with its DTLS connection and its association
-/// standing.
+/// such a channel over the same generation of the same stream, what one got over its channel since is all that it was told of it in
+/// that generation, and a prefix of what the other sent over its own since. It is all of that where both channels stay open, the
+/// writer has no unacknowledged item of the stream, and no whole message of the generation stands unread at the reader. None does
+/// where the reader was drained: since its last input, and since a channel was last told to be open, a poll of it answered a timeout.
 pub fn channels_hand_out_prefixes<N: Ids>()
     ensures reached { (stun : List ℕ → Bool) (start pair : PlainPair N) (past : List (Entry PlainMediaEvent)) → IsNewPair N.ids start
         → (ran : Reached (plain_over N.ids) stun start past pair) → (at : Side)
@@ -37,12 +38,17 @@ pub fn channels_hand_out_prefixes<N: Ids>()
         → (ran : Reached (plain_over N.ids) stun start past pair) → (at : Side)
         → AreSentWhole (uses_of (plain_over N.ids) stun start at past pair ran)
         (sent_over (plain_over N.ids) stun start at past pair ran) }
+    ensures told { (stun : List ℕ → Bool) (start pair : PlainPair N) (past : List (Entry PlainMediaEvent)) → IsNewPair N.ids start
+        → (ran : Reached (plain_over N.ids) stun start past pair) → (at : Side)
+        → AreToldWhole (uses_of (plain_over N.ids) stun start at past pair ran)
+        (uses_of (plain_over N.ids) stun start (other_side at) past pair ran)
+        (told_over (plain_over N.ids) stun start at past pair ran) }
     ensures all { (stun : List ℕ → Bool) (start pair : PlainPair N) (past : List (Entry PlainMediaEvent)) → IsNewPair N.ids start
         → (ran : Reached (plain_over N.ids) stun start past pair) → (at : Side)
         → AreWhollyHandedOut N.ids (uses_of (plain_over N.ids) stun start at past pair ran) (rtc_at at pair)
         (uses_of (plain_over N.ids) stun start (other_side at) past pair ran) (rtc_at (other_side at) pair) }
     ensures drained { (stun : List ℕ → Bool) (start pair : PlainPair N) (past : List (Entry PlainMediaEvent)) → IsNewPair N.ids start
-        → (ran : Reached (plain_over N.ids) stun start past pair) → (at : Side) → IsDrained (plain_over N.ids) stun start at past pair ran
+        → (ran : Reached (plain_over N.ids) stun start past pair) → (at : Side) → IsDrained at past
         → AreAllHandedOut N.ids (uses_of (plain_over N.ids) stun start at past pair ran) (rtc_at at pair)
         (uses_of (plain_over N.ids) stun start (other_side at) past pair ran) (rtc_at (other_side at) pair) }
     ensures ran { (stun : List ℕ → Bool) (start pair : PlainPair N) (steps : List Step) (replies : List (Reply PlainMediaEvent))

@@ -2,5 +2,7 @@
 #![tactic(auto)]
 
 mod handing;
+mod settling;
 
 pub use handing::channels_hand_out_prefixes;
+pub use settling::settled_pairs_have_open_channels;

@@ -1,4 +1,6 @@
--- Before the association of a side is started none of its streams is in use, whatever steps a pair performs.
+-- Before the association of a side is started none of its streams is in use, and it is not started before the DTLS role is set, whatever
+-- steps a pair performs.
+use Rattle.std.specs.Prelude.{is_some}
 use Rattle.std.proofs.Common.{◌≡◌, ◌∙◌, ℕ, Bool, true, false, not, ◌&&◌, List, [], ◌∷◌, Option, Some, None, Result, Ok, Err, sym, ap, subst}
 use Rattle.rtc_wire.specs.DatagramRecv.{kind_by}
 use Rattle.rtc_wire.specs.declared.transmit.Transmit.{Transmit}
@@ -6,12 +8,13 @@ use Rattle.rtc_change.specs.PendingOffer.{PendingOffer}
 use Rattle.rtc_peer_state.specs.declared.peer.Peer.{Peer}
 use Rattle.rtc_peer_state.specs.declared.rtc_error.RtcError.{RtcError}
 use Rattle.rtc_peer_state.specs.Meanings.{Meanings, PartsLaws}
+use Rattle.rtc_peer_state.specs.Stance.{Stance}
 use Rattle.rtc_polling.specs.declared.input.Input.TheVariants as given
 use Rattle.rtc_polling.specs.declared.polled_peer.PolledPeer.{PolledPeer}
 use Rattle.rtc_polling.specs.ChannelCalls.{open_stream_under}
 use Rattle.rtc_polling.specs.Closing.{ClosesPeer}
 use Rattle.rtc_polling.specs.Inputs.{HandlesInput}
-use Rattle.rtc_polling.proofs.StreamStarts.{empty_stays}
+use Rattle.rtc_polling.proofs.StreamStarts.{empty_stays, started_same}
 use Rattle.rtc_history.specs.Signalled.{Signalled, NotMade, Unreadable, Readable}
 use Rattle.rtc_history.specs.declared.side.Side.{Side}
 use Rattle.rtc_history.specs.declared.op.Op.{Op}
@@ -85,7 +88,12 @@ module _ {I D S M E X T W N : Type 0} (m : Meanings I D S M E X T W N) (laws : P
 
   -- a step that negotiates nothing leaves whether the association is started
   moved_unused : (numbers : List ℕ) (p q : PolledPeer I D S M N) → Moves m laws numbers p q → IsUnused m laws p.core → IsUnused m laws q.core
-  moved_unused numbers p q moves unused = empty_stays m.association p.core.sctp q.core.sctp moves.start unused
+  moved_unused numbers p q moves unused = record {
+    empty = empty_stays m.association p.core.sctp q.core.sctp moves.start unused.empty;
+    role = λ s.
+        ap (λ (x : Stance). is_some x.role) moves.peer
+        ∙ unused.role (sym (started_same m.association p.core.sctp q.core.sctp moves.start) ∙ s);
+  }
 
   polled_same : (p q : PolledPeer I D S M N) → q ≡ p → IsUnused m laws p.core → IsUnused m laws q.core
   polled_same p q same unused = same_unused m laws p.core q.core (ap (λ (x : PolledPeer I D S M N). x.core) same) unused
@@ -176,7 +184,8 @@ module _ {I D S M E X T W N : Type 0} (m : Meanings I D S M E X T W N) (laws : P
       enters.performs.acts (unused (side_of entry.step)))
       (polled_same (rtc_at (other_side (side_of entry.step)) old) (rtc_at (other_side (side_of entry.step)) new) enters.performs.other (unused (other_side (side_of entry.step))))
 
-  -- A pair that steps lead to has no stream in use at a side whose association is not started.
+  -- A pair that steps lead to has no stream in use at a side whose association is not started, and no DTLS role lacks at one whose association
+  -- is.
   pub went_unused : (enters : List (Entry E) → PairState I D S M N → Entry E → PairState I D S M N → Type 0)
       → ((earlier : List (Entry E)) (between : PairState I D S M N) (entry : Entry E) (after : PairState I D S M N) → enters earlier between entry after
       → (stun : List ℕ → Bool) × Enters m stun between entry after)

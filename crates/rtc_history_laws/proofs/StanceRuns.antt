@@ -1,5 +1,5 @@
 -- Pairs that steps lead to, as negotiation sees both sides.
-use Rattle.std.proofs.Common.{◌≡◌, ℕ, Bool, List, [], ◌∷◌, ap}
+use Rattle.std.proofs.Common.{◌≡◌, ◌∙◌, ℕ, Bool, true, true≢false, List, [], ◌∷◌, sym, ap}
 use Rattle.rtc_peer_state.specs.Meanings.{Meanings, PartsLaws}
 use Rattle.rtc_history.specs.declared.side.Side.{Side}
 use Rattle.rtc_history.specs.Past.{Entry}
@@ -47,9 +47,12 @@ module _ {I D S M E X T W N : Type 0} (m : Meanings I D S M E X T W N) where
   pub fresh_stands : (pair : PairState I D S M N) → IsFresh m pair → IsFreshStance (pair_stance m pair)
   fresh_stands pair fresh = record { built = fresh.built; rows = λ at. no_rows (peer_at at pair) (fresh.built at).channels; sdps = fresh.sdps; size = fresh.size }
 
-  -- before the association is started no stream is in use
+  -- before the association is started no stream is in use, and no DTLS role is asked for
   pub fresh_unused : (laws : PartsLaws m) (pair : PairState I D S M N) → IsFresh m pair → AreUnused m laws pair
-  fresh_unused laws pair fresh = λ at unstarted. fresh.unused at
+  fresh_unused laws pair fresh = λ at. record {
+    empty = λ unstarted. fresh.unused at;
+    role = λ started. absurd (true≢false (sym started ∙ (fresh.built at).uninited));
+  }
 
   pub reached_stands : (stun : List ℕ → Bool) (laws : PartsLaws m) (start : PairState I D S M N) (past : List (Entry E)) (pair : PairState I D S M N) → AreUnused m laws start → Reached m stun start past pair → StanceReached (pair_stance m start) past (pair_stance m pair)
   reached_stands stun laws start [] pair unused reached = ap (pair_stance m) reached

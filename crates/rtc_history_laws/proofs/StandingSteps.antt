@@ -161,7 +161,7 @@ module _ {I D S M E X T W N : Type 0} (m : Meanings I D S M E X T W N) (laws : P
       → AreUnused m laws old → Performs m stun old step outcome table new → StancePerforms (pair_stance m old) step outcome table (pair_stance m new)
   performs_stands {stun} old step outcome table new unused performs = record {
     acts = acts_stand stun step (rtc_at (side_of step) old) old.sdps old.packets outcome table (rtc_at (side_of step) new) new.sdps new.packets
-        (empty_shut m.association (peer_at (side_of step) old).sctp (unused (side_of step))) performs.acts;
+        (empty_shut m.association (peer_at (side_of step) old).sctp (unused (side_of step)).empty) performs.acts;
     other = ap (λ rtc. stance_of m rtc.core) performs.other;
     size = performs.size;
   }

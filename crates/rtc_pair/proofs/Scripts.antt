@@ -3,6 +3,7 @@ use Rattle.std.proofs.Common.{◌≡◌, ◌≤◌, ◌^◌, ◌⊎◌, inl, inr
 use Rattle.std.specs.declared.alloc.Global.{Global}
 use Rattle.std.specs.Io.KnownBytes.{Consumes, IsAtEnd}
 use Rattle.rtc_channel_runs.proofs.DrainedRuns.{run_hands_out}
+use Rattle.rtc_channel_runs.proofs.SettledRuns.{run_settles_open}
 use Rattle.rtc_run.proofs.PlainFaults.{plain_unfaulted}
 use Rattle.rtc_run.specs.ProgramPair.{counting, plain_parts, PlainPairState}
 use Rattle.rtc_io.proofs.Told.{reads_input}
@@ -80,6 +81,7 @@ ran_joined {E = E} alloc script start pair replies (Ok (kept, told)) (kept_is, t
       plain = λ drew. known ran drew;
       no_fault = plain_unfaulted start pair script.steps told ran;
       channels = run_hands_out counting is_ice_message start pair script.steps told (program_new alloc _ _ start program) ran;
+      settles = run_settles_open counting is_ice_message start pair script.steps told (program_new alloc _ _ start program) ran;
     })
 ran_joined alloc script start pair replies (Err error) joined program formed runs read_back plain = tt
 

@@ -17,6 +17,7 @@ use Rattle.rtc_history.specs.Signalled.{AllReadBack}
 use Rattle.rtc_plain_ice.specs.Messages.{is_ice_message}
 use Rattle.rtc_plain_media.specs.declared.plain_media_event.PlainMediaEvent.{PlainMediaEvent}
 use Rattle.rtc_channel_runs.specs.HandedOut.{HandsOut}
+use Rattle.rtc_channel_runs.specs.SettledPairs.{SettlesOpen}
 use Rattle.rtc_run.specs.ProgramPair.{counting, plain_parts, PlainPairState, IsProgramPair}
 use Rattle.rtc_run.specs.declared.peer_settings.PeerSettings.{PeerSettings}
 use Rattle.rtc_script.specs.Script.{IsScript, IsRefused}
@@ -51,7 +52,8 @@ IsPairOf alloc script pair =
 
 -- A script was run on the program's pair, which is formed, with these replies, which left this pair, and each description that was made is
 -- read back, as it was written where each source was unused when it was drawn. No reply tells that a part failed: those in memory never
--- do. Channels hand out what the other side sent, and of those that were opened in-band each is announced at most once.
+-- do. Channels hand out what the other side sent, and of those that were opened in-band each is announced at most once; where the run
+-- leaves the pair settled, one that is open at a side, over a stream that both keep, is open at both, and was announced at both.
 pub record RanScript (alloc : Global) (script : Script) (replies : List (Reply PlainMediaEvent)) (pair : PlainPairState) : Type 0 where
   pub start : PlainPairState
   pub program : IsPairOf alloc script start
@@ -61,6 +63,7 @@ pub record RanScript (alloc : Global) (script : Script) (replies : List (Reply P
   pub plain : DrawsUnused plain_parts is_ice_message start script.steps replies pair runs → AllPlain pair.sdps
   pub no_fault : tell_fault replies ≡ false
   pub channels : HandsOut counting is_ice_message start script.steps replies pair runs
+  pub settles : SettlesOpen counting is_ice_message start script.steps replies pair runs
 
 -- This text is the report of a run of a script.
 pub record IsReport (alloc : Global) (script : Script) (text : List ℕ) : Type 0 where

@@ -1,5 +1,5 @@
 -- What a poll does to the parts of a peer.
-use Rattle.std.proofs.Common.{◌≡◌, ◌++◌, append-nil, ◌∷◌, ℕ, Bool, true, false, List, [], Some, Result, Ok, refl, sym, ap, subst}
+use Rattle.std.proofs.Common.{◌≡◌, ◌++◌, append-nil, ◌∷◌, ℕ, Bool, true, false, List, [], Option, Some, Result, Ok, refl, sym, ap, subst}
 use Rattle.rtc_sctp_entries.specs.declared.sctp_event.SctpEvent.{SctpEvent}
 use Rattle.rtc_sctp_laws.specs.StreamMessages.{StreamMessage}
 use Rattle.rtc_peer_state.specs.declared.phase.Phase.{Phase}
@@ -22,11 +22,14 @@ use Rattle.rtc_polling_laws.specs.PeerActs.{nothing_came}
 use Rattle.rtc_polling_laws.specs.Acts.{PeerDid, PollActs, contents_shown, ShowsData}
 use Rattle.rtc_polling_laws.proofs.ActJoins.{SameParts, still_did, did_on}
 use Rattle.rtc_polling_laws.proofs.ActedClosing.{beside}
-use Rattle.rtc_polling_laws.specs.ChannelStreams.{IsGone, StreamsWent}
+use Rattle.rtc_polling_laws.specs.ChannelStreams.{AreNumbersGiven, IsGone, StreamsWent, WasOpenInBand, Already, Announced, NoNumber}
 use Rattle.rtc_polling_laws.proofs.UnsharedRows.{AreApart}
 use Rattle.rtc_sctp.specs.Streams.{SctpStreams}
 use Rattle.rtc_stream_uses.specs.UsedCalls.{IsUsedOver}
-use Rattle.rtc_polling_laws.proofs.StreamsJoin.{answer_met, live_kept}
+use Rattle.rtc_stream_uses.proofs.OpeningEntries.{open_is}
+use Rattle.rtc_stream_contents.specs.RunningStreams.{AreRunning}
+use Rattle.rtc_stream_contents.proofs.RunningPolls.{stay_same}
+use Rattle.rtc_polling_laws.proofs.StreamsJoin.{answer_met, given_on, live_kept, same_given}
 use Rattle.rtc_polling_laws.proofs.VisitActs.{contents_met, EventShows, MeetsData, VisitDid, still_visit, repeats_acts}
 use Rattle.rtc_polling_laws.proofs.ActedVisits.{visits_act}
 
@@ -42,16 +45,28 @@ module _ {I D S M E X T W N : Type 0} (m : Meanings I D S M E X T W N) (laws : P
       → StreamsWent m p (answer_met r) wrote heard q
   went_as r p n q is wrote heard h = subst (λ (x : PolledPeer I D S M N). StreamsWent m p (answer_met r) wrote heard x) (sym is) h
 
+  opened_idle : (moment : ℕ) (p n x : PolledPeer I D S M N) (s : ℕ) (own : Option ℕ) → x.core.sctp ≡ n.core.sctp → x.core.channels ≡ n.core.channels
+      → WasOpenInBand {E = E} s own p (Ok (outputs.Timeout 0)) n → WasOpenInBand {E = E} s own p (Ok (outputs.Timeout moment)) x
+  opened_idle moment p n x s own sctp held (Already k) = Already k
+  opened_idle moment p n x s own sctp held (Announced k) = absurd k
+  opened_idle moment p n x s own sctp held (NoNumber k) = NoNumber (subst (λ (y : Channels). AreNumbersGiven y) (sym held) k)
+
   -- a timeout
   went_idle : (moment : ℕ) (p n x q : PolledPeer I D S M N) → q ≡ x → x.core.sctp ≡ n.core.sctp → x.core.channels ≡ n.core.channels → (wrote heard : List StreamMessage)
       → StreamsWent m p (Ok (outputs.Timeout 0)) wrote heard n → StreamsWent m p (Ok (outputs.Timeout moment)) wrote heard q
   went_idle moment p n x q is sctp held wrote heard h = subst (λ (y : PolledPeer I D S M N). StreamsWent m p (Ok (outputs.Timeout moment)) wrote heard y) (sym is) (record {
     uses = λ w v s ws hs k. subst (λ (y : SctpStreams S). IsUsedOver m.association s (ws ++ wrote) (hs ++ heard) y) (sym sctp) (h.uses w v s ws hs k);
-    lives = λ c s g rising k. live_kept c s g n x (ap (λ (y : SctpStreams S). y.entries) sctp, held) (h.lives c s g rising k);
+    lives = λ c s g rising k. live_kept c s g n x (ap (λ (y : SctpStreams S). y.entries) sctp, held, stay_same n.core.sctp x.core.sctp (ap (λ (y : SctpStreams S). y.state) sctp)) (h.lives c s g rising k);
     live_heard = h.live_heard;
     gone = λ c k. subst (λ (y : Channels). IsGone c y) (sym held) (h.gone c k);
     apart = λ k. subst (λ (y : Channels). AreApart y.rows) (sym held) (h.apart k);
     opens = tt;
+    tells = λ v. tt;
+    running = λ w k. subst (λ (y : SctpStreams S). AreRunning m.association y) (sym sctp) (h.running w k);
+    given =
+        given_on p.core.channels.given n.core.channels.given x.core.channels.given h.given
+        (same_given n.core.channels.given x.core.channels.given (ap (λ (y : Channels). y.given) held));
+    fresh = λ s own k. opened_idle moment p n x s own sctp held (h.fresh s own (open_is s own n.core.sctp.entries x.core.sctp.entries (ap (λ (y : SctpStreams S). y.entries) sctp) k));
   })
 
   -- what an answer shows is what was met

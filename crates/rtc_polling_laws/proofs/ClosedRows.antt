@@ -1,5 +1,5 @@
--- Closing leaves the greatest moment, the channels and the entries of streams.
-use Rattle.std.proofs.Common.{◌≡◌, Result, Ok, Err, refl, ◌∙◌}
+-- Closing leaves the greatest moment, the channels, and the entries and the state of streams.
+use Rattle.std.proofs.Common.{◌≡◌, Bool, true, false, Result, Ok, Err, refl, ap, ◌∙◌}
 use Rattle.rtc_peer_state.specs.declared.phase.Phase.{Phase}
 use Rattle.rtc_peer_state.specs.declared.phase.Phase.TheVariants.{Alive, Closing, Closed}
 use Rattle.rtc_peer_state.specs.declared.rtc_error.RtcError.{RtcError}
@@ -8,15 +8,20 @@ use Rattle.rtc_peer_state.specs.Meanings.{Meanings}
 use Rattle.rtc_polling.specs.declared.polled_peer.PolledPeer.{PolledPeer}
 use Rattle.rtc_polling.specs.Closing.{ShutsMedia, ShutsStreams, ShutsDtls, BecomesClosing, BeginsClosing, ClosesPeer, ClosesPeerFrom}
 use Rattle.rtc_polling.specs.Stages.{Call, InTurn, Failed, Passed}
+use Rattle.rtc_sctp_values.specs.declared.proto_error.ProtoError.TheVariants as proto
 use Rattle.rtc_sctp_values.specs.declared.sctp_error.SctpError.{SctpError}
+use Rattle.rtc_sctp_values.specs.declared.sctp_error.SctpError.TheVariants as sctp
 use Rattle.rtc_sctp.specs.Streams.{SctpStreams}
-use Rattle.rtc_sctp.specs.Calls.{Shuts, is_ended}
+use Rattle.rtc_sctp.specs.Calls.{ShutBy, Shuts, is_ended}
 use Rattle.rtc_stream_uses.proofs.CallUses.{shut_entries}
 use Rattle.rtc_polling_laws.proofs.ActedClosing.{beside}
 
 abbrev pub KeepsChannels : {I D S M N : Type 0} → PolledPeer I D S M N → PolledPeer I D S M N → Type 0
 KeepsChannels p q =
-    (q.core.greatest ≡ p.core.greatest) × (q.core.channels ≡ p.core.channels) × (q.core.sctp.entries ≡ p.core.sctp.entries)
+    (q.core.greatest ≡ p.core.greatest)
+    × (q.core.channels ≡ p.core.channels)
+    × (q.core.sctp.entries ≡ p.core.sctp.entries)
+    × (q.core.sctp.state ≡ p.core.sctp.state)
 
 abbrev CallKeepsChannels : {I D S M N : Type 0} → Call (PolledPeer I D S M N) → Type 0
 CallKeepsChannels {I} {D} {S} {M} {N} call =
@@ -28,42 +33,50 @@ turn_keeps first rest one other p r q (Failed error is h) = one p (Err error) q 
 turn_keeps first rest one other p r q (Passed between h k) =
     let a = one p (Ok tt) between h in
     let b = other between r q k in
-    (b.0 ∙ a.0, b.1 ∙ a.1, b.2 ∙ a.2)
+    (b.0 ∙ a.0, b.1 ∙ a.1, b.2 ∙ a.2, b.3 ∙ a.3)
 
 module _ {I D S M E X T W N : Type 0} (m : Meanings I D S M E X T W N) where
   media_keeps : CallKeepsChannels (ShutsMedia m)
   unfolding ShutsMedia
-  media_keeps p (Ok done) q h = beside KeepsChannels p _ q h.1 (refl, refl, refl)
-  media_keeps p (Err Alloc) q h = beside KeepsChannels p _ q h.1 (refl, refl, refl)
+  media_keeps p (Ok done) q h = beside KeepsChannels p _ q h.1 (refl, refl, refl, refl)
+  media_keeps p (Err Alloc) q h = beside KeepsChannels p _ q h.1 (refl, refl, refl, refl)
   media_keeps p (Err _) q h = absurd h
+
+  shuts_state : (ended : Bool) (p : SctpStreams S) (r : Result (Unit {0}) SctpError) (q : SctpStreams S) → ShutBy m.association ended p r q
+      → q.state ≡ p.state
+  shuts_state true p r q h = ap (λ (x : SctpStreams S). x.state) h.1
+  shuts_state false p (Ok done) q h = ap (λ (x : SctpStreams S). x.state) h.1
+  shuts_state false p (Err (sctp.Proto proto.Fault)) q h = ap (λ (x : SctpStreams S). x.state) h.1
+  shuts_state false p (Err sctp.Alloc) q h = ap (λ (x : SctpStreams S). x.state) h.1
+  shuts_state false p (Err e) q h = absurd h
 
   shuts_keep : (p : SctpStreams S) (r : Result (Unit {0}) SctpError) (q : SctpStreams S) → Shuts m.association p r q → q.entries ≡ p.entries
   shuts_keep p r q h = shut_entries m.association (is_ended m.association p.association) p r q h
 
   streams_keep : CallKeepsChannels (ShutsStreams m)
   unfolding ShutsStreams
-  streams_keep p (Ok done) q h = beside KeepsChannels p _ q h.1 (refl, refl, shuts_keep p.core.sctp _ q.core.sctp h.0)
-  streams_keep p (Err (Sctp cause)) q h = beside KeepsChannels p _ q h.2 (refl, refl, shuts_keep p.core.sctp _ q.core.sctp h.1)
-  streams_keep p (Err Alloc) q h = beside KeepsChannels p _ q h.1 (refl, refl, shuts_keep p.core.sctp _ q.core.sctp h.0)
+  streams_keep p (Ok done) q h = beside KeepsChannels p _ q h.1 (refl, refl, shuts_keep p.core.sctp _ q.core.sctp h.0, shuts_state (is_ended m.association p.core.sctp.association) p.core.sctp _ q.core.sctp h.0)
+  streams_keep p (Err (Sctp cause)) q h = beside KeepsChannels p _ q h.2 (refl, refl, shuts_keep p.core.sctp _ q.core.sctp h.1, shuts_state (is_ended m.association p.core.sctp.association) p.core.sctp _ q.core.sctp h.1)
+  streams_keep p (Err Alloc) q h = beside KeepsChannels p _ q h.1 (refl, refl, shuts_keep p.core.sctp _ q.core.sctp h.0, shuts_state (is_ended m.association p.core.sctp.association) p.core.sctp _ q.core.sctp h.0)
   streams_keep p (Err _) q h = absurd h
 
   dtls_keeps : CallKeepsChannels (ShutsDtls m)
   unfolding ShutsDtls
-  dtls_keeps p (Ok done) q h = beside KeepsChannels p _ q h.1 (refl, refl, refl)
-  dtls_keeps p (Err (Dtls cause)) q h = beside KeepsChannels p _ q h.2 (refl, refl, refl)
-  dtls_keeps p (Err Alloc) q h = beside KeepsChannels p _ q h.1 (refl, refl, refl)
+  dtls_keeps p (Ok done) q h = beside KeepsChannels p _ q h.1 (refl, refl, refl, refl)
+  dtls_keeps p (Err (Dtls cause)) q h = beside KeepsChannels p _ q h.2 (refl, refl, refl, refl)
+  dtls_keeps p (Err Alloc) q h = beside KeepsChannels p _ q h.1 (refl, refl, refl, refl)
   dtls_keeps p (Err _) q h = absurd h
 
   begins_keep : CallKeepsChannels (BeginsClosing m)
   begins_keep =
       turn_keeps (ShutsMedia m) _ media_keeps
       (turn_keeps (ShutsStreams m) _ streams_keep
-      (turn_keeps (ShutsDtls m) BecomesClosing dtls_keeps (λ p r q h. beside KeepsChannels p _ q h.1 (refl, refl, refl))))
+      (turn_keeps (ShutsDtls m) BecomesClosing dtls_keeps (λ p r q h. beside KeepsChannels p _ q h.1 (refl, refl, refl, refl))))
 
   closes_from : (phase : Phase) → CallKeepsChannels (ClosesPeerFrom m phase)
   closes_from Alive p r q h = begins_keep p r q h
-  closes_from Closing p r q h = beside KeepsChannels p p q h.1 (refl, refl, refl)
-  closes_from Closed p r q h = beside KeepsChannels p p q h.1 (refl, refl, refl)
+  closes_from Closing p r q h = beside KeepsChannels p p q h.1 (refl, refl, refl, refl)
+  closes_from Closed p r q h = beside KeepsChannels p p q h.1 (refl, refl, refl, refl)
 
   pub close_rows : CallKeepsChannels (ClosesPeer m)
   close_rows p r q h = closes_from p.core.phase p r q h

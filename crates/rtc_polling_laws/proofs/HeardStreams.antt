@@ -29,6 +29,10 @@ first_of_and : (x y : Bool) → (x && y) ≡ true → x ≡ true
 first_of_and true y h = refl
 first_of_and false y h = absurd (true≢false (sym h))
 
+second_of_and : (x y : Bool) → (x && y) ≡ true → y ≡ true
+second_of_and true y h = h
+second_of_and false y h = absurd (true≢false (sym h))
+
 module _ {S : Type 0} (m : AssociationMeaning S) (w : AssociationLaws m) where
   -- what a visit that gave nothing left
   record Heard (t t' : Turn S) : Type 0 where
@@ -83,7 +87,7 @@ module _ {S : Type 0} (m : AssociationMeaning S) (w : AssociationLaws m) where
       let by = attended_by t.entry.threshold t t' h in
       record {
         association = ap (λ (x : Turn S). x.association) by.0;
-        heard = subst (λ (x : Turn S). IsHeard m t.association x.entry) (sym by.0) (inr (e, first_of_and (m.has_stream t.association t.entry.id) _ f, by.1));
+        heard = subst (λ (x : Turn S). IsHeard m t.association x.entry) (sym by.0) (inr (e, first_of_and (m.has_stream t.association t.entry.id) _ f, by.1, second_of_and (m.has_stream t.association t.entry.id) _ f));
       }
 
   heard_in : (st : StreamEntryState) (now : ℕ) (t t' : Turn S) → t.entry.state ≡ st → is_closed_state st ≡ false → VisitsIn m st now t Nothing t' → Heard t t'

@@ -22,6 +22,7 @@ pub mod ClosedRows
 pub mod ActedTransport
 pub mod ActedConnection
 pub mod ActedPackets
+pub mod EnsuredRows
 pub mod ActedStreams
 pub mod ActedVisits
 pub mod ActedPolls

@@ -1,19 +1,25 @@
 -- What stages of a poll leave of streams and live channels, one after the other.
-use Rattle.std.proofs.Common.{◌≡◌, ◌++◌, inl, ℕ, List, [], append-nil, append_assoc, Result, Ok, Err, refl, sym, ap, subst, ◌∙◌}
+use Rattle.std.proofs.Common.{◌≡◌, ◌≤◌, ◌-◌, ◌^◌, ◌++◌, ◌∷◌, inl, ℕ, Bool, Option, List, [], append-nil, append_assoc, Result, Ok, Err, refl, sym, ap, subst, ◌∙◌, arith}
 use Rattle.rtc_association.specs.AssociationActs.{AssociationAct, Moved}
 use Rattle.rtc_association.specs.AssociationLaws.{AssociationLaws}
 use Rattle.rtc_sctp_entries.specs.declared.stream_entry.StreamEntry.{StreamEntry}
 use Rattle.rtc_sctp_laws.specs.StreamMessages.{StreamMessage}
+use Rattle.rtc_sctp_laws.proofs.ClosingPolls.{started_moved}
 use Rattle.rtc_stream_uses.specs.GenerationLaws.{GenerationLaws}
-use Rattle.rtc_stream_uses.specs.StreamUses.{WereOpened, entries_of, messages_of, IsUsed}
+use Rattle.rtc_stream_uses.specs.StreamUses.{HasOpenInBand, WereOpened, entries_of, messages_of, IsUsed}
 use Rattle.rtc_stream_uses.proofs.CallUses.{acts_use}
+use Rattle.rtc_stream_uses.proofs.GenerationMessages.{messages-append}
 use Rattle.rtc_stream_uses.proofs.LivingEntries.{live_is, are_join}
+use Rattle.rtc_stream_uses.proofs.OpeningEntries.{open_is}
+use Rattle.rtc_stream_contents.specs.Contents.{contents_of}
+use Rattle.rtc_stream_contents.proofs.ContentLemmas.{contents-append}
+use Rattle.rtc_stream_contents.proofs.RunningPolls.{StayEstablished, stay_same}
 use Rattle.rtc_channels.specs.Channels.{AreRising, Channel, Channels}
 use Rattle.rtc_peer_state.specs.declared.rtc_error.RtcError.{RtcError}
 use Rattle.rtc_peer_state.specs.declared.rtc_error.RtcError.TheVariants.{Alloc}
 use Rattle.rtc_peer_state.specs.Meanings.{Meanings}
 use Rattle.rtc_polling.specs.declared.event.Event.{Event}
-use Rattle.rtc_polling.specs.declared.event.Event.TheVariants.{ChannelOpen, ChannelClose}
+use Rattle.rtc_polling.specs.declared.event.Event.TheVariants.{ChannelOpen, ChannelData, ChannelClose}
 use Rattle.rtc_polling.specs.declared.met.Met.{Met}
 use Rattle.rtc_polling.specs.declared.met.Met.TheVariants.{Nothing, Again, Transmit, Event as MetEvent, Error}
 use Rattle.rtc_polling.specs.declared.output.Output.{Output}
@@ -22,7 +28,7 @@ use Rattle.rtc_polling.specs.declared.polled_peer.PolledPeer.{PolledPeer}
 use Rattle.rtc_polling.specs.StreamStages.{channel_over}
 use Rattle.rtc_polling_laws.proofs.UnsharedRows.{AreApart}
 use Rattle.rtc_polling_laws.proofs.ActedClosing.{BesideIce, BesideDtls, BesideMedia}
-use Rattle.rtc_polling_laws.specs.ChannelStreams.{IsGone, IsLiveChannel, LeavesLiveBy, LeavesLiveChannel, UnlessLacking, IsUsedStream, OpensByAnswer, StreamsWent}
+use Rattle.rtc_polling_laws.specs.ChannelStreams.{IsGone, IsLiveChannel, LeavesLiveBy, LeavesLiveChannel, UnlessLacking, IsUsedStream, OpensByAnswer, TellsByAnswer, StreamsWent, WasOpenInBand, Already, Announced, NoNumber}
 
 -- what is met, as a poll answers it
 abbrev pub answer_met : {E : Type 0} → Met E → Result (Output E) RtcError
@@ -37,23 +43,36 @@ abbrev pub TellsNoOpening : {E : Type 0} → Result (Output E) RtcError → Type
 TellsNoOpening (Ok (outputs.Event (ChannelOpen id label))) = ⊥
 TellsNoOpening answer = Unit {0}
 
--- the entries of streams stay, and so do the channels
+-- the entries of streams stay, and so do the channels; what was established is
 abbrev pub KeepsStreams : {I D S M N : Type 0} → PolledPeer I D S M N → PolledPeer I D S M N → Type 0
-KeepsStreams p q = (q.core.sctp.entries ≡ p.core.sctp.entries) × (q.core.channels ≡ p.core.channels)
+KeepsStreams p q =
+    (q.core.sctp.entries ≡ p.core.sctp.entries) × (q.core.channels ≡ p.core.channels) × StayEstablished p.core.sctp q.core.sctp
 
 pub ice_kept : {I D S M N : Type 0} (p q : PolledPeer I D S M N) → BesideIce p q → KeepsStreams p q
-ice_kept p q kept = (ap (λ s. s.entries) kept.1, kept.4)
+ice_kept p q kept = (ap (λ s. s.entries) kept.1, kept.4, stay_same p.core.sctp q.core.sctp (ap (λ s. s.state) kept.1))
 
 pub dtls_kept : {I D S M N : Type 0} (p q : PolledPeer I D S M N) → BesideDtls p q → KeepsStreams p q
-dtls_kept p q kept = (ap (λ s. s.entries) kept.1, kept.4)
+dtls_kept p q kept = (ap (λ s. s.entries) kept.1, kept.4, stay_same p.core.sctp q.core.sctp (ap (λ s. s.state) kept.1))
 
 pub media_kept : {I D S M N : Type 0} (p q : PolledPeer I D S M N) → BesideMedia p q → KeepsStreams p q
-media_kept p q kept = (ap (λ s. s.entries) kept.2, kept.4)
+media_kept p q kept = (ap (λ s. s.entries) kept.2, kept.4, stay_same p.core.sctp q.core.sctp (ap (λ s. s.state) kept.2))
 
 pub unless_of : {E : Type 0} (answer : Result (Output E) RtcError) (T : Type 0) → T → UnlessLacking answer T
 unless_of (Ok output) T h = h
 unless_of (Err Alloc) T h = tt
 unless_of (Err error) T h = h
+
+-- what follows from what holds unless memory is lacking
+pub unless_map : {E : Type 0} (answer : Result (Output E) RtcError) (A B : Type 0) → (A → B) → UnlessLacking answer A → UnlessLacking answer B
+unless_map (Ok output) A B f h = f h
+unless_map (Err Alloc) A B f h = tt
+unless_map (Err error) A B f h = f h
+
+pub same_given : (n k : ℕ) → k ≡ n → n ≤ k
+same_given n k e = omega (arith, e)
+
+pub given_on : (a b c : ℕ) → a ≤ b → b ≤ c → a ≤ c
+given_on a b c h k = omega (arith, h, k)
 
 leaves_event : {I D S M E N : Type 0} (event : Event E) (c s g : ℕ) (q : PolledPeer I D S M N) → IsLiveChannel c s g q → LeavesLiveBy event c s g q
 leaves_event (ChannelClose id) c s g q h = inl h
@@ -84,8 +103,8 @@ module _ {I D S M E X T W N : Type 0} (m : Meanings I D S M E X T W N) where
   -- acts by which no message was written or read
   pub streams_stay : (answer : Result (Output E) RtcError) (p q : PolledPeer I D S M N) (acts : List AssociationAct)
       → Moved m.association p.core.sctp.association acts q.core.sctp.association → KeepsStreams p q → TellsNoOpening answer
-      → StreamsWent m p answer [] [] q
-  streams_stay answer p q acts went kept none = record {
+      → TellsByAnswer m answer [] q → StreamsWent m p answer [] [] q
+  streams_stay answer p q acts went kept none tells = record {
     uses = λ w v s ws hs h.
         let left = acts_use m.association v w acts p.core.sctp.association q.core.sctp.association p.core.sctp.entries s ws hs went h in
         let over = subst (λ (l : List StreamEntry). IsUsed m.association s ws hs q.core.sctp.association l) (sym kept.0) left in
@@ -97,7 +116,28 @@ module _ {I D S M E X T W N : Type 0} (m : Meanings I D S M E X T W N) where
     gone = λ c h. subst (λ (held : Channels). IsGone c held) (sym kept.1) h;
     apart = λ h. subst (λ (held : Channels). AreApart held.rows) (sym kept.1) h;
     opens = opens_none answer p [] [] q none;
+    tells = λ v. tells;
+    running = λ w k. (started_moved m.association w acts p.core.sctp.association q.core.sctp.association k.0 went, kept.2 k.1);
+    given = same_given p.core.channels.given q.core.channels.given (ap (λ (held : Channels). held.given) kept.1);
+    fresh =
+        unless_of answer ((s : ℕ) (own : Option ℕ) → HasOpenInBand s own q.core.sctp.entries → WasOpenInBand s own p answer q)
+        (λ s own h. Already (open_is s own p.core.sctp.entries q.core.sctp.entries kept.0 h));
   }
+
+  -- what was open behind a stage that told nothing
+  open_before : (answer : Result (Output E) RtcError) (moment : ℕ) (p b q : PolledPeer I D S M N) (s : ℕ) (own : Option ℕ)
+      → b.core.channels.given ≤ q.core.channels.given → WasOpenInBand {E = E} s own p (Ok (outputs.Timeout moment)) b → WasOpenInBand s own p answer q
+  open_before answer moment p b q s own given (Already h) = Already h
+  open_before answer moment p b q s own given (Announced h) = absurd h
+  open_before answer moment p b q s own given (NoNumber h) = NoNumber (given_on (2 ^ 64 - 1) b.core.channels.given q.core.channels.given h given)
+
+  open_through : (answer : Result (Output E) RtcError) (moment : ℕ) (p b q : PolledPeer I D S M N) (s : ℕ) (own : Option ℕ)
+      → b.core.channels.given ≤ q.core.channels.given
+      → (HasOpenInBand s own b.core.sctp.entries → WasOpenInBand {E = E} s own p (Ok (outputs.Timeout moment)) b) → WasOpenInBand s own b answer q
+      → WasOpenInBand s own p answer q
+  open_through answer moment p b q s own given first (Already h) = open_before answer moment p b q s own given (first h)
+  open_through answer moment p b q s own given first (Announced h) = Announced h
+  open_through answer moment p b q s own given first (NoNumber h) = NoNumber h
 
   -- an opening behind what was met before
   opens_on : (answer : Result (Output E) RtcError) (p b : PolledPeer I D S M N) (first told more heard : List StreamMessage) (q : PolledPeer I D S M N)
@@ -111,6 +151,7 @@ module _ {I D S M E X T W N : Type 0} (m : Meanings I D S M E X T W N) where
       record {
         stream = h.stream;
         over = h.over;
+        running = h.running;
         anew = λ c g rising live. h.anew c g (keeps rising) (lives c h.stream g rising live);
         opened = λ w v ws hs used.
             subst (λ (l : List StreamMessage). WereOpened own gen (messages_of h.stream gen l) (messages_of h.stream gen (hs ++ (told ++ heard)))) (append_assoc ws first more)
@@ -121,6 +162,27 @@ module _ {I D S M E X T W N : Type 0} (m : Meanings I D S M E X T W N) where
   opens_on (Ok (outputs.Transmit transmit)) p b first told more heard q goes lives keeps h = tt
   opens_on (Ok (outputs.Timeout moment)) p b first told more heard q goes lives keeps h = tt
   opens_on (Err error) p b first told more heard q goes lives keeps h = tt
+
+  -- a message that is told behind what was read before
+  tells_on : (answer : Result (Output E) RtcError) (told heard : List StreamMessage) (q : PolledPeer I D S M N) → TellsByAnswer m answer heard q
+      → TellsByAnswer m answer (told ++ heard) q
+  tells_on (Ok (outputs.Event (ChannelData message))) told heard q h =
+      let gen = m.association.generation q.core.sctp.association h.stream in
+      let first : List (Bool × List ℕ) = contents_of (messages_of h.stream gen told) in
+      record {
+        stream = h.stream;
+        over = h.over;
+        before = first ++ h.before;
+        read_is =
+            ap contents_of (messages-append h.stream gen told heard)
+            ∙ contents-append (messages_of h.stream gen told) (messages_of h.stream gen heard)
+            ∙ ap (λ (l : List (Bool × List ℕ)). first ++ l) h.read_is
+            ∙ sym (append_assoc first h.before ((message.binary, message.bytes) ∷ []));
+      }
+  tells_on (Ok (outputs.Event event)) told heard q h = tt
+  tells_on (Ok (outputs.Transmit transmit)) told heard q h = tt
+  tells_on (Ok (outputs.Timeout moment)) told heard q h = tt
+  tells_on (Err error) told heard q h = tt
 
   -- a stage that told nothing, and what follows
   pub streams_on : (answer : Result (Output E) RtcError) (moment : ℕ) (p b q : PolledPeer I D S M N) (first told more heard : List StreamMessage)
@@ -137,6 +199,13 @@ module _ {I D S M E X T W N : Type 0} (m : Meanings I D S M E X T W N) where
     apart = λ h. y.apart (x.apart h);
     opens =
         opens_on answer p b first told more heard q (λ w v s ws hs h. x.uses w v s ws hs h) (λ c s g rising h. x.lives c s g rising h) rising_kept y.opens;
+    tells = λ v. tells_on answer told heard q (y.tells v);
+    running = λ w k. y.running w (x.running w k);
+    given = given_on p.core.channels.given b.core.channels.given q.core.channels.given x.given y.given;
+    fresh =
+        unless_map answer ((s : ℕ) (own : Option ℕ) → HasOpenInBand s own q.core.sctp.entries → WasOpenInBand s own b answer q)
+        ((s : ℕ) (own : Option ℕ) → HasOpenInBand s own q.core.sctp.entries → WasOpenInBand s own p answer q)
+        (λ after s own h. open_through answer moment p b q s own y.given (x.fresh s own) (after s own h)) y.fresh;
   }
     where
       rising_kept : AreRising 0 p.core.channels.rows → AreRising 0 b.core.channels.rows

@@ -5,6 +5,7 @@ use Rattle.rtc_sctp_entries.specs.declared.sctp_event.SctpEvent.{SctpEvent}
 use Rattle.rtc_sctp_entries.specs.declared.sctp_event.SctpEvent.TheVariants as event
 use Rattle.rtc_sctp_laws.specs.StreamMessages.{StreamMessage, are_dcep, shown_messages}
 use Rattle.rtc_sctp_laws.proofs.MessageLemmas.{dcep_join, shown-append}
+use Rattle.rtc_stream_contents.proofs.RunningPolls.{stay_same}
 use Rattle.rtc_channels.specs.Channels.{Channel, Channels}
 use Rattle.rtc_peer_state.specs.Meanings.{Meanings}
 use Rattle.rtc_polling.specs.declared.event.Event.{Event}
@@ -17,7 +18,7 @@ use Rattle.rtc_polling.specs.Stages.{Stage, FollowedBy, Stopped, WentOn, StartsO
 use Rattle.rtc_polling.specs.StreamStages.{channel_over}
 use Rattle.rtc_polling_laws.specs.PeerActs.{nothing_came}
 use Rattle.rtc_polling_laws.specs.Acts.{PeerDid, ArePassed}
-use Rattle.rtc_polling_laws.specs.ChannelStreams.{StreamsWent}
+use Rattle.rtc_polling_laws.specs.ChannelStreams.{StreamsWent, TellsByAnswer}
 use Rattle.rtc_polling_laws.proofs.ActJoins.{SameParts, still_did, did_on}
 use Rattle.rtc_polling_laws.proofs.StreamsJoin.{answer_met, TellsNoOpening, KeepsStreams, streams_stay, streams_on}
 
@@ -78,6 +79,9 @@ passed-append a (event.StreamResetComplete stream ∷ xs) ys h k = absurd h
 passed-append a (event.BufferedAmountLow stream ∷ xs) ys h k = absurd h
 passed-append a (event.AssociationLost ∷ xs) ys h k = absurd h
 
+no_event : (e : SctpEvent) → [] ≡ e ∷ [] → ⊥
+no_event e h = cc
+
 module _ {I D S M E X T W N : Type 0} (m : Meanings I D S M E X T W N) where
   -- a stage acted, by what it met
   pub record VisitDid (p : PolledPeer I D S M N) (r : Met E) (q : PolledPeer I D S M N) : Type 0 where
@@ -119,7 +123,7 @@ module _ {I D S M E X T W N : Type 0} (m : Meanings I D S M E X T W N) where
     data_passed = passed_all p h.heard h.passed h.told h.data_is h.meets h.passed_over;
     greatest = h.greatest;
     rows = h.rows;
-    streams = record { uses = h.streams.uses; lives = h.streams.lives; live_heard = h.streams.live_heard; gone = h.streams.gone; apart = h.streams.apart; opens = tt };
+    streams = record { uses = h.streams.uses; lives = h.streams.lives; live_heard = h.streams.live_heard; gone = h.streams.gone; apart = h.streams.apart; opens = tt; tells = λ v. tt; running = h.streams.running; given = h.streams.given; fresh = h.streams.fresh };
   }
 
   pub quiet_again : (p q : PolledPeer I D S M N) → VisitDid p Again q → QuietDid p q
@@ -131,7 +135,7 @@ module _ {I D S M E X T W N : Type 0} (m : Meanings I D S M E X T W N) where
     data_passed = passed_all p h.heard h.passed h.told h.data_is h.meets h.passed_over;
     greatest = h.greatest;
     rows = h.rows;
-    streams = record { uses = h.streams.uses; lives = h.streams.lives; live_heard = h.streams.live_heard; gone = h.streams.gone; apart = h.streams.apart; opens = tt };
+    streams = record { uses = h.streams.uses; lives = h.streams.lives; live_heard = h.streams.live_heard; gone = h.streams.gone; apart = h.streams.apart; opens = tt; tells = λ v. tt; running = h.streams.running; given = h.streams.given; fresh = h.streams.fresh };
   }
 
   pub quiet_none : (p : PolledPeer I D S M N) → QuietDid p p
@@ -143,8 +147,18 @@ module _ {I D S M E X T W N : Type 0} (m : Meanings I D S M E X T W N) where
     data_passed = tt;
     greatest = refl;
     rows = refl;
-    streams = streams_stay m (Ok (outputs.Timeout 0)) p p [] refl (refl, refl) tt;
+    streams = streams_stay m (Ok (outputs.Timeout 0)) p p [] refl (refl, refl, λ e. e) tt tt;
   }
+
+  -- what is met shows no message of a channel
+  pub none_told : (r : Met E) (held : Channels) (heard : List StreamMessage) (q : PolledPeer I D S M N) → MeetsData r held []
+      → TellsByAnswer m (answer_met r) heard q
+  none_told Nothing held heard q h = tt
+  none_told Again held heard q h = tt
+  none_told (Transmit transmit) held heard q h = tt
+  none_told (MetEvent (ChannelData message)) held heard q h = absurd (no_event (event.Data h.0 message.binary message.bytes) h.1.0)
+  none_told (MetEvent event) held heard q h = tt
+  none_told (Error error) held heard q h = tt
 
   -- what was met is another's, and so is the peer
   pub visit_is : (x r : Met E) (p q : PolledPeer I D S M N) → r ≡ x → VisitDid p x q → VisitDid p r q
@@ -166,7 +180,7 @@ module _ {I D S M E X T W N : Type 0} (m : Meanings I D S M E X T W N) where
     meets = meets;
     greatest = greatest;
     rows = rows;
-    streams = streams_stay m (answer_met r) p q did.acts.association did.went.association kept unopened;
+    streams = streams_stay m (answer_met r) p q did.acts.association did.went.association kept unopened (none_told r q.core.channels [] q meets);
   }
 
   -- what leaves the parts as they were
@@ -190,7 +204,7 @@ module _ {I D S M E X T W N : Type 0} (m : Meanings I D S M E X T W N) where
       (subst (λ (y : PolledPeer I D S M N). VisitDid p x y) (sym is)
       (plain_visit x p n
       (subst (λ (l : List (List ℕ)). PeerDid m nothing_came (p.core.greatest ∷ []) l [] [] p n) (sym none.0)
-      (still_did m nothing_came (p.core.greatest ∷ []) p n same.0)) (none.1 n.core.channels) same.1 (keeps_by x p.core.channels n.core.channels (ap (λ held. held.rows) same.2)) (ap (λ s. s.entries) same.0.3, same.2) none.2))
+      (still_did m nothing_came (p.core.greatest ∷ []) p n same.0)) (none.1 n.core.channels) same.1 (keeps_by x p.core.channels n.core.channels (ap (λ held. held.rows) same.2)) (ap (λ s. s.entries) same.0.3, same.2, stay_same p.core.sctp n.core.sctp (ap (λ s. s.state) same.0.3)) none.2))
 
   module _ (laws : AssociationLaws m.association) where
     pub visit_on : (r : Met E) (p b q : PolledPeer I D S M N) → QuietDid p b → VisitDid b r q → VisitDid p r q

@@ -3,6 +3,7 @@ use Rattle.std.specs.Prelude.{◌≡◌, ◌⊎◌, ◌&&◌, ℕ, true, false, 
 use Rattle.rtc_association.specs.AssociationMeaning.{AssociationMeaning}
 use Rattle.rtc_sctp_entries.specs.declared.stream_entry.StreamEntry.{StreamEntry}
 use Rattle.rtc_sctp_entries.specs.declared.stream_entry_state.StreamEntryState.TheVariants.{AwaitOpen}
+use Rattle.rtc_sctp_entries.specs.Entries.{fits_generation}
 use Rattle.rtc_sctp.specs.Streams.{SctpStreams, is_established}
 use Rattle.rtc_peer_state.specs.declared.rtc_error.RtcError.{RtcError}
 use Rattle.rtc_peer_state.specs.declared.rtc_error.RtcError.TheVariants.{Alloc}
@@ -15,13 +16,15 @@ abbrev pub AnswersAgain : {I D S M E N : Type 0} → (moment : ℕ) → PolledPe
     → PolledPeer I D S M N → Type 0
 AnswersAgain moment p answer q = ((answer ≡ Ok (Timeout moment)) × (q ≡ p)) ⊎ (answer ≡ Err Alloc)
 
--- A stream in use waits to be opened; or it is there, is not to be closed, and no whole message of its generation stands unread.
+-- A stream in use waits to be opened; or it is there, in the generation that its entry keeps, if it keeps one, is not to be closed, and no
+-- whole message of its generation stands unread.
 abbrev pub IsHeard : {S : Type 0} → AssociationMeaning S → S → StreamEntry → Type 0
 IsHeard m a entry =
     (entry.state ≡ AwaitOpen)
     ⊎ ((entry.marked ≡ false)
     × (m.has_stream a entry.id ≡ true)
-    × (m.has_unread a entry.id (m.generation a entry.id) ≡ false))
+    × (m.has_unread a entry.id (m.generation a entry.id) ≡ false)
+    × (fits_generation entry.generation (m.generation a entry.id) ≡ true))
 
 abbrev pub AreHeard : {S : Type 0} → AssociationMeaning S → S → List StreamEntry → Type 0
 AreHeard m a [] = Unit {0}

@@ -21,9 +21,9 @@ use rtc_ids::Ids;
 use rtc_media::MediaSession;
 
 /// Each call is a list of acts of each part. A poll gives the parts nothing that came from outside, shows only what they gave,
-/// and tells the last message that it read for a channel, if any. An input gives its datagram to one part at most, and no moment
-/// but its own. A write that is taken is one message written. Where a data channel is closed, nothing comes, and no message is
-/// written or read.
+/// and tells the last message that it read for a channel, if any: the last of the stream of this channel, in the generation that
+/// the stream has. An input gives its datagram to one part at most, and no moment but its own. A write that is taken is one
+/// message written. Where a data channel is closed, nothing comes, and no message is written or read.
 pub fn calls_act<I: IceAgent, D: DtlsInstance, S: Association, M: MediaSession, N: Ids>()
     ensures polls { (p q : Polled I D S M N) (answer : _)
         → PollsPeer (meanings I.ice D.dtls S.association M.media N.ids) p answer q

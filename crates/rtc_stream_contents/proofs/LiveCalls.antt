@@ -61,7 +61,7 @@ module _ {S : Type 0} (m : AssociationMeaning S) where
   writes_own id binary bytes p n q g h live =
       number_of (stream_generation id p.entries) (m.generation p.association id) g (written_to (can_write m id p) (is_current m id p) id binary bytes p n q h) (live_generation id g p.entries live)
 
-  written_entries : (b c : Bool) (id : ℕ) (binary : Bool) (bytes : List ℕ) (p : SctpStreams S) (r : Result ℕ SctpError) (q : SctpStreams S) → WrittenIf m b c id binary bytes p r q → q.entries ≡ p.entries
+  pub written_entries : (b c : Bool) (id : ℕ) (binary : Bool) (bytes : List ℕ) (p : SctpStreams S) (r : Result ℕ SctpError) (q : SctpStreams S) → WrittenIf m b c id binary bytes p r q → q.entries ≡ p.entries
   written_entries false c id binary bytes p r q h = ap (λ (y : SctpStreams S). y.entries) h.1
   written_entries true false id binary bytes p r q h = ap (λ (y : SctpStreams S). y.entries) h.1
   written_entries true true id binary bytes p r q h = ap (λ (y : SctpStreams S). y.entries) h.3
@@ -105,7 +105,7 @@ module _ {S : Type 0} (m : AssociationMeaning S) where
   awaiting_id true config p e r q e' h = marked_id e e' h.2
   awaiting_id false config p e r q e' h = takes_id config p e r q e' h
 
-  over_live : (st : StreamEntryState) (config : ChannelConfig) (p : S) (e : StreamEntry) (r : Result (Unit {0}) AllocError) (q : S) (e' : StreamEntry) (g : ℕ) → e.state ≡ st → OpensOver m st config p e r q e' → (e'.id ≡ e.id) × (IsLiveIn g e → IsLiveIn g e')
+  pub over_live : (st : StreamEntryState) (config : ChannelConfig) (p : S) (e : StreamEntry) (r : Result (Unit {0}) AllocError) (q : S) (e' : StreamEntry) (g : ℕ) → e.state ≡ st → OpensOver m st config p e r q e' → (e'.id ≡ e.id) × (IsLiveIn g e → IsLiveIn g e')
   over_live AwaitConfig config p e r q e' g is h = (awaiting_id (is_some e.config) config p e r q e' h, λ k. absurd (config_is_other (sym is ∙ k.0)))
   over_live AwaitOpen config p e r q e' g is h = live_marked g e e' h.2
   over_live AwaitDcepAck config p e r q e' g is h = live_marked g e e' h.2

@@ -5,6 +5,8 @@ pub mod KnownUses
 pub mod UsedVisits
 pub mod LivingEntries
 pub mod LivingVisits
+pub mod OpeningVisits
+pub mod OpeningEntries
 pub mod UsedOpenings
 pub mod UsedReadings
 pub mod EntriesOf

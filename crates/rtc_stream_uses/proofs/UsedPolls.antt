@@ -1,5 +1,5 @@
 -- What a poll leaves of the use of each stream.
-use Rattle.std.proofs.Common.{◌≡◌, ℕ, zero, suc, ◌&&◌, Bool, true, false, List, [], ◌∷◌, ◌++◌, append-nil, append_assoc, Option, Some, None, Result, refl, sym, ap, subst, ◌∙◌}
+use Rattle.std.proofs.Common.{◌≡◌, inl, ℕ, zero, suc, ◌&&◌, Bool, true, false, List, [], ◌∷◌, ◌++◌, append-nil, append_assoc, Option, Some, None, Result, refl, sym, ap, subst, ◌∙◌}
 use Rattle.std.specs.Prelude.{is_some, insert, if◌then◌else◌}
 use Rattle.std.specs.declared.alloc.AllocError.{AllocError}
 use Rattle.rtc_association.specs.declared.assoc_event.AssocEvent.{AssocEvent}
@@ -21,13 +21,14 @@ use Rattle.rtc_sctp_laws.specs.StreamActs.{AssociationDid}
 use Rattle.rtc_sctp_laws.proofs.ActLemmas.{did_join, did_same, gave_did, told_did, packet_polled}
 use Rattle.rtc_sctp_laws.proofs.MessageLemmas.{dcep_join, shown-append}
 use Rattle.rtc_sctp_laws.proofs.PollActs.{met_by}
-use Rattle.rtc_stream_uses.specs.StreamUses.{entries_of, IsUsedIn, IsUsedBy, EntryUsed, NoneUsed, AreUsedIn, IsUsed, IsLive, LeavesLive, OpensRightly, LeavesUse}
+use Rattle.rtc_stream_uses.specs.StreamUses.{entries_of, IsUsedIn, IsUsedBy, EntryUsed, NoneUsed, AreUsedIn, IsUsed, HasOpenInBand, IsLive, LeavesLive, OpensRightly, LeavesUse, TellsStreamOpen}
 use Rattle.rtc_stream_uses.specs.UsedCalls.{PollUses}
 use Rattle.rtc_stream_uses.proofs.KeptUses.{did_keeps, unclosed_used}
 use Rattle.rtc_stream_uses.proofs.KnownUses.{idle_unused}
 use Rattle.rtc_stream_uses.proofs.OneEntry.{one_set, one_insert}
 use Rattle.rtc_stream_uses.proofs.EntriesOf.{used_is, none_placed}
 use Rattle.rtc_stream_uses.proofs.LivingEntries.{OpensOther, are_join, live_by, live_is, live_unclosed, live_after}
+use Rattle.rtc_stream_uses.proofs.OpeningEntries.{open_after, open_is, open_unclosed, opens_on}
 use Rattle.rtc_stream_uses.proofs.UsedTours.{TourUses, tour_uses, leaves_by, used_beside}
 
 -- no stream is told to be open, or to be closed
@@ -113,8 +114,8 @@ module _ {S : Type 0} (m : AssociationMeaning S) where
     -- a step that writes and reads nothing
     quiet : (p : SctpStreams S) (met : Met) (q : SctpStreams S) (outs : List (List ℕ)) (tells : List AssocEvent) → AssociationDid m [] outs tells [] [] p.association q.association → data_met met ≡ [] → TellsNoOpen met
         → ((s : ℕ) (ws hs : List StreamMessage) → AreUsedIn m (entries_of s p.entries) s q.association ws hs → AreUsedIn m (entries_of s q.entries) s q.association ws hs)
-        → ((s g : ℕ) → IsLive s g p.entries → IsLive s g q.entries) → Sends p met q outs → PollUses m p met q
-    quiet p met q outs tells d shown untold keeps lives sent = record {
+        → ((s g : ℕ) → IsLive s g p.entries → IsLive s g q.entries) → ((s : ℕ) (o : Option ℕ) → HasOpenInBand s o q.entries → HasOpenInBand s o p.entries) → Sends p met q outs → PollUses m p met q
+    quiet p met q outs tells d shown untold keeps lives opened sent = record {
       outs = outs;
       tells = tells;
       wrote = [];
@@ -128,6 +129,7 @@ module _ {S : Type 0} (m : AssociationMeaning S) where
           leaves_by m met s (ws ++ []) (hs ++ []) q.association q.entries (record { reached = left.reached; used = keeps s (ws ++ []) (hs ++ []) left.used }) (opens_none met s q.association q.entries _ _ untold);
       lives = λ s g live. live_by met s g q.entries (none_other met s untold) (lives s g live);
       live_heard = λ s g live. refl;
+      fresh = λ s o h. inl (opened s o h);
     }
 
     -- one that leaves the entries too
@@ -137,16 +139,19 @@ module _ {S : Type 0} (m : AssociationMeaning S) where
     same_lives : (p q : SctpStreams S) → q.entries ≡ p.entries → (s g : ℕ) → IsLive s g p.entries → IsLive s g q.entries
     same_lives p q e s g h = live_is s g p.entries q.entries e h
 
+    same_opened : (p q : SctpStreams S) → q.entries ≡ p.entries → (s : ℕ) (o : Option ℕ) → HasOpenInBand s o q.entries → HasOpenInBand s o p.entries
+    same_opened p q e s o h = open_is s o p.entries q.entries e h
+
     unchanged : (r : Met) (u p : SctpStreams S) (met : Met) (q : SctpStreams S) → met ≡ r → q ≡ u → u.association ≡ p.association → u.entries ≡ p.entries → data_met r ≡ [] → TellsNoOpen r → Sends p r u [] → PollUses m p met q
     unchanged r u p met q e f same entries shown untold sent =
         quiet p met q [] [] (did_same m p.association q.association (ap (λ (x : SctpStreams S). x.association) f ∙ same)) (ap data_met e ∙ shown) (subst (λ (x : Met). TellsNoOpen x) (sym e) untold)
-        (λ s ws hs. same_entries s p q ws hs (ap (λ (x : SctpStreams S). x.entries) f ∙ entries)) (same_lives p q (ap (λ (x : SctpStreams S). x.entries) f ∙ entries))
+        (λ s ws hs. same_entries s p q ws hs (ap (λ (x : SctpStreams S). x.entries) f ∙ entries)) (same_lives p q (ap (λ (x : SctpStreams S). x.entries) f ∙ entries)) (same_opened p q (ap (λ (x : SctpStreams S). x.entries) f ∙ entries))
         (ap (λ (x : Met). packets_met x ++ pushed_packets q.pushed) e ∙ ap (λ (x : SctpStreams S). packets_met r ++ pushed_packets x.pushed) f ∙ sent)
 
     -- packets
     packet_uses : (p : SctpStreams S) (met : Met) (q : SctpStreams S) → p.pushed ≡ None → q.pushed ≡ p.pushed → q.entries ≡ p.entries → TakesPacket m p.association met q.association → PollUses m p met q
-    packet_uses p Nothing q none same f h = quiet p Nothing q [] [] (did_same m p.association q.association (w.packet_none p.association q.association h)) refl tt (λ s ws hs. same_entries s p q ws hs f) (same_lives p q f) (sends_none Nothing p Nothing q refl refl same)
-    packet_uses p (Output (event.Transmit packets)) q none same f h = quiet p (Output (event.Transmit packets)) q (packet_polled (Some h.0)) [] (gave_did m w p.association q.association (Some h.0) h.1) refl tt (λ s ws hs. same_entries s p q ws hs f) (same_lives p q f)
+    packet_uses p Nothing q none same f h = quiet p Nothing q [] [] (did_same m p.association q.association (w.packet_none p.association q.association h)) refl tt (λ s ws hs. same_entries s p q ws hs f) (same_lives p q f) (same_opened p q f) (sends_none Nothing p Nothing q refl refl same)
+    packet_uses p (Output (event.Transmit packets)) q none same f h = quiet p (Output (event.Transmit packets)) q (packet_polled (Some h.0)) [] (gave_did m w p.association q.association (Some h.0) h.1) refl tt (λ s ws hs. same_entries s p q ws hs f) (same_lives p q f) (same_opened p q f)
         (ap (λ (l : List (List ℕ)). l ++ pushed_packets q.pushed) h.2 ∙ ap (λ (o : Option (List (List ℕ))). (h.0 ∷ []) ++ pushed_packets o) (same ∙ none) ∙ ap (λ (o : Option (List (List ℕ))). pushed_packets o ++ (h.0 ∷ [])) (sym none))
     packet_uses p (Output (event.Open id label)) q none same f h = absurd h
     packet_uses p (Output (event.Close id pending)) q none same f h = absurd h
@@ -155,7 +160,7 @@ module _ {S : Type 0} (m : AssociationMeaning S) where
     packet_uses p (Output (event.BufferedAmountLow id)) q none same f h = absurd h
     packet_uses p (Output event.AssociationLost) q none same f h = absurd h
     packet_uses p Again q none same f h = absurd h
-    packet_uses p OutOfMemory q none same f h = quiet p OutOfMemory q [] [] (did_same m p.association q.association h) refl tt (λ s ws hs. same_entries s p q ws hs f) (same_lives p q f) (sends_none OutOfMemory p OutOfMemory q refl refl same)
+    packet_uses p OutOfMemory q none same f h = quiet p OutOfMemory q [] [] (did_same m p.association q.association h) refl tt (λ s ws hs. same_entries s p q ws hs f) (same_lives p q f) (same_opened p q f) (sends_none OutOfMemory p OutOfMemory q refl refl same)
 
     transmit_if : (b : Bool) (p : SctpStreams S) (met : Met) (q : SctpStreams S) → p.pushed ≡ None → TransmitIf m b p met q → PollUses m p met q
     transmit_if false p met q none h = unchanged Nothing p p met q h.0 h.1 refl refl refl tt (sym (append-nil (pushed_packets p.pushed)))
@@ -198,7 +203,7 @@ module _ {S : Type 0} (m : AssociationMeaning S) where
     told_nothing : (r : Met) (p : SctpStreams S) (met : Met) (q : SctpStreams S) → met ≡ r → q.association ≡ p.association → book_of q ≡ book_of p → q.pushed ≡ p.pushed → data_met r ≡ [] → packets_met r ≡ [] → TellsNoOpen r → PollUses m p met q
     told_nothing r p met q e a b same shown unsent untold =
         quiet p met q [] [] (did_same m p.association q.association a) (ap data_met e ∙ shown) (subst (λ (x : Met). TellsNoOpen x) (sym e) untold)
-        (λ s ws hs. same_entries s p q ws hs (ap (λ (x : Book). x.entries) b)) (same_lives p q (ap (λ (x : Book). x.entries) b)) (sends_none r p met q e unsent same)
+        (λ s ws hs. same_entries s p q ws hs (ap (λ (x : Book). x.entries) b)) (same_lives p q (ap (λ (x : Book). x.entries) b)) (same_opened p q (ap (λ (x : Book). x.entries) b)) (sends_none r p met q e unsent same)
 
     event_uses : (p : SctpStreams S) (met : Met) (q : SctpStreams S) → q.pushed ≡ p.pushed → TakesEvent m p.association (book_of p) met q.association (book_of q) → PollUses m p met q
     event_uses p met q same (NotStarted s e a b) = told_nothing Nothing p met q e a b same refl refl tt
@@ -206,7 +211,7 @@ module _ {S : Type 0} (m : AssociationMeaning S) where
     event_uses p met q same (NoEvent begun k e b) = told_nothing Nothing p met q e (w.event_none p.association q.association k) b same refl refl tt
     event_uses p met q same (Event event begun k e b) =
         quiet p met q [] (event ∷ []) (told_did m w p.association q.association event k) (ap data_met e ∙ event_shown event) (subst (λ (x : Met). TellsNoOpen x) (sym e) (event_opens event))
-        (λ s ws hs. used_after event (book_of p) (book_of q) s q.association ws hs b) (λ s g. live_after event (book_of p) (book_of q) s g b)
+        (λ s ws hs. used_after event (book_of p) (book_of q) s q.association ws hs b) (λ s g. live_after event (book_of p) (book_of q) s g b) (λ s o. open_after event (book_of p) (book_of q) s o b)
         (sends_none (event_met event) p met q e (event_sent event) same)
 
     -- visits
@@ -223,6 +228,7 @@ module _ {S : Type 0} (m : AssociationMeaning S) where
       leaves = z.leaves;
       lives = z.lives;
       live_heard = z.live_heard;
+      fresh = z.fresh;
     }
 
     visits_if : (b : Bool) (p : SctpStreams S) (met : Met) (q : SctpStreams S) → VisitsIf m b p met q → PollUses m p met q
@@ -235,8 +241,8 @@ module _ {S : Type 0} (m : AssociationMeaning S) where
 
     -- a step that made work, or had nothing to give, and what follows
     joins : (own : Met) (p b : SctpStreams S) (met : Met) (q : SctpStreams S) → data_met own ≡ [] → packets_met own ≡ []
-        → ((s : ℕ) (ws hs : List StreamMessage) (a : S) (es : List StreamEntry) → LeavesUse m own s ws hs a es → IsUsed m s ws hs a es) → ((s g : ℕ) (es : List StreamEntry) → LeavesLive own s g es → IsLive s g es) → PollUses m p own b → PollUses m b met q → PollUses m p met q
-    joins own p b met q shown unsent goes on y z = record {
+        → ((s : ℕ) (ws hs : List StreamMessage) (a : S) (es : List StreamEntry) → LeavesUse m own s ws hs a es → IsUsed m s ws hs a es) → ((s g : ℕ) (es : List StreamEntry) → LeavesLive own s g es → IsLive s g es) → ((s : ℕ) → TellsStreamOpen own s → ⊥) → PollUses m p own b → PollUses m b met q → PollUses m p met q
+    joins own p b met q shown unsent goes on silent y z = record {
       outs = y.outs ++ z.outs;
       tells = y.tells ++ z.tells;
       wrote = y.wrote ++ z.wrote;
@@ -254,24 +260,25 @@ module _ {S : Type 0} (m : AssociationMeaning S) where
           (subst (λ (l : List StreamMessage). LeavesUse m met s ((ws ++ y.wrote) ++ z.wrote) l q.association q.entries) (append_assoc hs y.heard z.heard) rest);
       lives = λ s g live. z.lives s g (on s g b.entries (y.lives s g live));
       live_heard = λ s g live. are_join s g y.heard z.heard (y.live_heard s g live) (z.live_heard s g (on s g b.entries (y.lives s g live)));
+      fresh = λ s o h. opens_on own met s o p.entries b.entries q.entries (silent s) (y.fresh s o) (z.fresh s o) h;
     }
 
     else_uses : (A B : SctpStreams S → Met → SctpStreams S → Type 0) → ((p : SctpStreams S) (met : Met) (q : SctpStreams S) → A p met q → PollUses m p met q) → ((p : SctpStreams S) (met : Met) (q : SctpStreams S) → B p met q → PollUses m p met q) → (p : SctpStreams S) (met : Met) (q : SctpStreams S) → Else A B p met q → PollUses m p met q
     else_uses A B f g p met q h = then_step h.0 h.1.0 (f p h.0 h.1.0 h.1.1.0) h.1.1.1
       where
         then_step : (own : Met) (between : SctpStreams S) → PollUses m p own between → ThenBy B own between met q → PollUses m p met q
-        then_step Nothing between d k = joins Nothing p between met q refl refl (λ s ws hs a es l. l.left) (λ s g es l. l) d (g between met q k)
+        then_step Nothing between d k = joins Nothing p between met q refl refl (λ s ws hs a es l. l.left) (λ s g es l. l) (λ s k. k) d (g between met q k)
         then_step Again between d k = rw (k.0, k.1) d
         then_step (Output e) between d k = rw (k.0, k.1) d
         then_step OutOfMemory between d k = rw (k.0, k.1) d
 
     dropped : (p : SctpStreams S) → PollUses m p Nothing (unclosed_streams p)
-    dropped p = quiet p Nothing (unclosed_streams p) [] [] (did_same m p.association p.association refl) refl tt (λ s ws hs. unclosed_used m s p.association ws hs p.entries) (λ s g. live_unclosed s g p.entries) (sym (append-nil (pushed_packets p.pushed)))
+    dropped p = quiet p Nothing (unclosed_streams p) [] [] (did_same m p.association p.association refl) refl tt (λ s ws hs. unclosed_used m s p.association ws hs p.entries) (λ s g. live_unclosed s g p.entries) (λ s o. open_unclosed s o p.entries) (sym (append-nil (pushed_packets p.pushed)))
 
     pass_uses : (p : SctpStreams S) (met : Met) (q : SctpStreams S) → MakesPass m p met q → PollUses m p met q
     unfolding MakesPass
     pass_uses p met q h =
-        joins Nothing p (unclosed_streams p) met q refl refl (λ s ws hs a es l. l.left) (λ s g es l. l) (dropped p)
+        joins Nothing p (unclosed_streams p) met q refl refl (λ s ws hs a es l. l.left) (λ s g es l. l) (λ s k. k) (dropped p)
         (else_uses _ _ (λ p met q k. transmit_of p.pushed p met q refl k)
         (else_uses _ _ (λ p met q k. event_uses p met q (ap (λ (x : SctpStreams S). x.pushed) k.1) k.0)
         (else_uses _ _ (λ p met q k. visits_if (is_established p.state && m.started p.association) p met q k)
@@ -280,9 +287,9 @@ module _ {S : Type 0} (m : AssociationMeaning S) where
 
     over_uses : (n : ℕ) (p q : SctpStreams S) → Over m n p q → PollUses m p Again q
     over_uses zero p q h = unchanged Again p p Again q refl h refl refl refl tt (sym (append-nil (pushed_packets p.pushed)))
-    over_uses (suc n) p q h = joins Again p h.0 Again q refl refl (λ s ws hs a es l. l.left) (λ s g es l. l) (over_uses n p h.0 h.1) (pass_uses h.0 Again q h.2)
+    over_uses (suc n) p q h = joins Again p h.0 Again q refl refl (λ s ws hs a es l. l.left) (λ s g es l. l) (λ s k. k) (over_uses n p h.0 h.1) (pass_uses h.0 Again q h.2)
 
     pub poll_uses : (p : SctpStreams S) (r : Result (Option SctpEvent) AllocError) (q : SctpStreams S) → PollsStreams m p r q → PollUses m p (met_of r) q
     poll_uses p r q h =
         subst (λ (x : Met). PollUses m p x q) (met_by m w r h.met h.answers)
-        (joins Again p h.between h.met q refl refl (λ s ws hs a es l. l.left) (λ s g es l. l) (over_uses h.passes p h.between h.over) (pass_uses h.between h.met q h.last))
+        (joins Again p h.between h.met q refl refl (λ s ws hs a es l. l.left) (λ s g es l. l) (λ s k. k) (over_uses h.passes p h.between h.over) (pass_uses h.between h.met q h.last))

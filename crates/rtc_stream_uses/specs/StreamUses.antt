@@ -104,6 +104,20 @@ LeavesLive (Output (event.Close id pending)) s g entries =
 LeavesLive (Output (event.Open id label)) s g entries = (id ≡ s → ⊥) × IsLive s g entries
 LeavesLive (Output e) s g entries = IsLive s g entries
 
+-- an entry is open for a channel that was not settled by other means than messages, and keeps this generation, if it keeps one
+abbrev pub IsOpenInBand : (own : Option ℕ) → StreamEntry → Type 0
+IsOpenInBand own entry = (entry.state ≡ Open) × (entry.generation ≡ own) × (is_out_of_band entry ≡ false)
+
+-- a stream has an entry that is so
+abbrev pub HasOpenInBand : (stream : ℕ) → (own : Option ℕ) → List StreamEntry → Type 0
+HasOpenInBand s own [] = ⊥
+HasOpenInBand s own (entry ∷ entries) = ((entry.id ≡ s) × IsOpenInBand own entry) ⊎ HasOpenInBand s own entries
+
+-- a step tells that a stream is open
+abbrev pub TellsStreamOpen : Met → ℕ → Type 0
+TellsStreamOpen (Output (event.Open id label)) s = id ≡ s
+TellsStreamOpen met s = ⊥
+
 -- whether those of some messages that are of a stream are of one generation
 abbrev pub are_of_generation : (stream generation : ℕ) → List StreamMessage → Bool
 are_of_generation s g messages = list_all (λ (x : StreamMessage). not (x.stream == s) || (x.generation == g)) messages

@@ -24,8 +24,9 @@ use rtc_association::Association;
 ///
 /// A poll also says of each stream that it tells to be open in-band that no data was written of its generation before, and that the
 /// last message that was read of it opens a channel or acknowledges that, and none before; and a stream whose entry is open in a
-/// generation stays so, is not told to be open again, and is read in that generation alone, until it is told to be closed. A write
-/// that is Ok adds its message. A poll that found no memory leaves nothing known.
+/// generation stays so, is not told to be open again, and is read in that generation alone, until it is told to be closed; and none
+/// is open in-band that was not before, unless this is told. A write that is Ok adds its message. A poll that found no memory leaves
+/// nothing known.
 pub fn calls_keep_uses<S: Association>()
     ensures begins { (s : ℕ) (a : S) → IsUsed S.association s [] [] a [] }
     ensures polls { (p q : SctpStreams S) (r : Result (Option SctpEvent) AllocError)

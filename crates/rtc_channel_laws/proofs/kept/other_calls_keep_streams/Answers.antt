@@ -3,7 +3,7 @@ use Rattle.rtc_channel_laws.proofs.KeptPeers.{input_keeps, close_keeps, channel_
 use Rattle.rtc_channel_laws.proofs.kept.other_calls_keep_streams.Goals as goal
 
 pub returns-clause-inputs : goal.returns-clause-inputs
-returns-clause-inputs g c = λ p q input answer h. input_keeps (meanings g.I.IceAgent.ice g.D.DtlsInstance.dtls g.S.Association.association g.M.MediaSession.media g.N.Ids.ids) input p answer q h
+returns-clause-inputs g c = λ p q input answer h. input_keeps (meanings g.I.IceAgent.ice g.D.DtlsInstance.dtls g.S.Association.association g.M.MediaSession.media g.N.Ids.ids) g.met.S.Association.laws input p answer q h
 
 pub returns-clause-closes : goal.returns-clause-closes
 returns-clause-closes g c = λ p q answer h. close_keeps (meanings g.I.IceAgent.ice g.D.DtlsInstance.dtls g.S.Association.association g.M.MediaSession.media g.N.Ids.ids) g.met.S.Association.laws p answer q h
@@ -18,4 +18,4 @@ pub returns-clause-thresholds : goal.returns-clause-thresholds
 returns-clause-thresholds g c = λ p q stream n h. threshold_keeps (meanings g.I.IceAgent.ice g.D.DtlsInstance.dtls g.S.Association.association g.M.MediaSession.media g.N.Ids.ids) stream n p q h
 
 pub returns-clause-channel_closes : goal.returns-clause-channel_closes
-returns-clause-channel_closes g c = λ p q id answer h. channel_close_keeps (meanings g.I.IceAgent.ice g.D.DtlsInstance.dtls g.S.Association.association g.M.MediaSession.media g.N.Ids.ids) id p answer q h
+returns-clause-channel_closes g c = λ p q id answer h. channel_close_keeps (meanings g.I.IceAgent.ice g.D.DtlsInstance.dtls g.S.Association.association g.M.MediaSession.media g.N.Ids.ids) g.met.S.Association.laws id p answer q h

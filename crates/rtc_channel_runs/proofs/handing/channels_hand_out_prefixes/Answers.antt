@@ -1,32 +1,44 @@
 use Rattle.rtc_joined_runs.specs.PlainPairs.{plain_over}
 use Rattle.rtc_channel_runs.specs.SentMessages.{sent_over}
+use Rattle.rtc_channel_runs.specs.ToldMessages.{told_over}
 use Rattle.rtc_channel_runs.specs.UsesOfRuns.{uses_of}
 use Rattle.rtc_channel_runs.proofs.DrainedRuns.{new_unused, pair_drained, run_hands_out}
-use Rattle.rtc_channel_runs.proofs.RunsTold.{new_pair_told, pair_handed, pair_once, pair_whole, pair_wholly, reached_told}
+use Rattle.rtc_channel_runs.proofs.RunsTold.{new_pair_told, pair_handed, pair_once, pair_told_whole, pair_whole, pair_wholly, reached_told}
 use Rattle.rtc_channel_runs.proofs.handing.channels_hand_out_prefixes.Goals as goal
 
 pub returns-clause-reached : goal.returns-clause-reached
 returns-clause-reached g c = λ stun start pair past new ran at.
     pair_handed g.N.Ids.ids pair (λ x. uses_of (plain_over g.N.Ids.ids) stun start x past pair ran)
-    (λ x. sent_over (plain_over g.N.Ids.ids) stun start x past pair ran) at
+    (λ x. sent_over (plain_over g.N.Ids.ids) stun start x past pair ran)
+    (λ x. told_over (plain_over g.N.Ids.ids) stun start x past pair ran) at
     (reached_told g.N.Ids.ids stun start past pair ran (new_pair_told g.N.Ids.ids start new))
 
 pub returns-clause-once : goal.returns-clause-once
 returns-clause-once g c = λ stun start pair past new ran at.
     pair_once g.N.Ids.ids pair (λ x. uses_of (plain_over g.N.Ids.ids) stun start x past pair ran)
-    (λ x. sent_over (plain_over g.N.Ids.ids) stun start x past pair ran) at
+    (λ x. sent_over (plain_over g.N.Ids.ids) stun start x past pair ran)
+    (λ x. told_over (plain_over g.N.Ids.ids) stun start x past pair ran) at
     (reached_told g.N.Ids.ids stun start past pair ran (new_pair_told g.N.Ids.ids start new))
 
 pub returns-clause-whole : goal.returns-clause-whole
 returns-clause-whole g c = λ stun start pair past new ran at.
     pair_whole g.N.Ids.ids pair (λ x. uses_of (plain_over g.N.Ids.ids) stun start x past pair ran)
-    (λ x. sent_over (plain_over g.N.Ids.ids) stun start x past pair ran) at
+    (λ x. sent_over (plain_over g.N.Ids.ids) stun start x past pair ran)
+    (λ x. told_over (plain_over g.N.Ids.ids) stun start x past pair ran) at
+    (reached_told g.N.Ids.ids stun start past pair ran (new_pair_told g.N.Ids.ids start new))
+
+pub returns-clause-told : goal.returns-clause-told
+returns-clause-told g c = λ stun start pair past new ran at.
+    pair_told_whole g.N.Ids.ids pair (λ x. uses_of (plain_over g.N.Ids.ids) stun start x past pair ran)
+    (λ x. sent_over (plain_over g.N.Ids.ids) stun start x past pair ran)
+    (λ x. told_over (plain_over g.N.Ids.ids) stun start x past pair ran) at
     (reached_told g.N.Ids.ids stun start past pair ran (new_pair_told g.N.Ids.ids start new))
 
 pub returns-clause-all : goal.returns-clause-all
 returns-clause-all g c = λ stun start pair past new ran at.
     pair_wholly g.N.Ids.ids pair (λ x. uses_of (plain_over g.N.Ids.ids) stun start x past pair ran)
-    (λ x. sent_over (plain_over g.N.Ids.ids) stun start x past pair ran) at
+    (λ x. sent_over (plain_over g.N.Ids.ids) stun start x past pair ran)
+    (λ x. told_over (plain_over g.N.Ids.ids) stun start x past pair ran) at
     (reached_told g.N.Ids.ids stun start past pair ran (new_pair_told g.N.Ids.ids start new))
 
 pub returns-clause-drained : goal.returns-clause-drained

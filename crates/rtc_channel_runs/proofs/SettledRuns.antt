@@ -1,0 +1,139 @@
+-- In a settled pair a channel that one side announced is open at both.
+use Rattle.std.proofs.Common.{◌≡◌, ◌∙◌, ◌++◌, ℕ, Bool, false, List, [], Some, sym, ap, subst}
+use Rattle.rtc_association.specs.AssociationWords.{ended, read, written}
+use Rattle.rtc_assoc.specs.Unread.{IsPrefix, unread}
+use Rattle.rtc_assoc_state.specs.Contents.{closed_here, generation_of}
+use Rattle.rtc_assoc_state.specs.Outbox.{has_unacknowledged}
+use Rattle.rtc_assoc_state.specs.PlainMeaning.{plain_meaning}
+use Rattle.rtc_polling_laws.specs.Drained.{AreHeard}
+use Rattle.rtc_polling_laws.specs.PeerActs.{PeerActs}
+use Rattle.rtc_plain_media.specs.declared.plain_media_event.PlainMediaEvent.{PlainMediaEvent}
+use Rattle.rtc_ids.specs.Draws.{Draws}
+use Rattle.rtc_history.specs.declared.reply.Reply.{Reply}
+use Rattle.rtc_history.specs.declared.side.Side.{Side}
+use Rattle.rtc_history.specs.declared.side.Side.TheVariants.{Left, Right}
+use Rattle.rtc_history.specs.declared.step.Step.{Step}
+use Rattle.rtc_history.specs.PairState.{rtc_at}
+use Rattle.rtc_history.specs.Past.{Entry}
+use Rattle.rtc_history.specs.Performs.{Enters}
+use Rattle.rtc_history.specs.Runs.{Reached, Runs}
+use Rattle.rtc_history.specs.Sides.{other_side}
+use Rattle.rtc_history_laws.proofs.EmptyStreams.{AreUnused, went_unused}
+use Rattle.rtc_joined_runs.specs.NewPairs.{IsNewPair}
+use Rattle.rtc_joined_runs.specs.PlainPairs.{PlainPair, PlainPolled, plain_over}
+use Rattle.rtc_joined_runs.proofs.RunsExchange.{side_all, side_reads}
+use Rattle.rtc_joined_runs.proofs.StepsExchange.{plain_over_laws}
+use Rattle.rtc_channel_runs.specs.ChannelUses.{ChannelUse}
+use Rattle.rtc_channel_runs.specs.DrainedSides.{IsDrained}
+use Rattle.rtc_channel_runs.specs.HandedOut.{AreAllHandedOut}
+use Rattle.rtc_channel_runs.specs.OpenUses.{AreJoinedUses}
+use Rattle.rtc_channel_runs.specs.SentMessages.{sent_over}
+use Rattle.rtc_channel_runs.specs.ToldMessages.{told_over}
+use Rattle.rtc_channel_runs.specs.SettledPairs.{AreAnswered, AreOpenAtBoth, IsInBandStream, IsSettledPair, IsSettledPeer, SettlesOpen}
+use Rattle.rtc_channel_runs.specs.UsesOfRuns.{reached_by, uses_of}
+use Rattle.rtc_channel_runs.proofs.AnsweredOpenings.{none_waits}
+use Rattle.rtc_channel_runs.proofs.DrainedRuns.{new_unused, pair_drained}
+use Rattle.rtc_channel_runs.proofs.HeardOpenings.{none_has}
+use Rattle.rtc_channel_runs.proofs.OpenSides.{last_heard, own_use}
+use Rattle.rtc_channel_runs.proofs.RestingSides.{resting_drained, resting_last}
+use Rattle.rtc_channel_runs.proofs.RunsTold.{PairTold, new_pair_told, reached_told}
+use Rattle.rtc_channel_runs.proofs.SettledSides.{other_use}
+use Rattle.rtc_channel_runs.proofs.StandingSides.{SideStood}
+
+module _ {N : Type 0} (draws : Draws N) where
+  -- the same channels, seen from the other side
+  abbrev joined_back : (x : ChannelUse) (p : PlainPolled N) (y : ChannelUse) (q : PlainPolled N) → AreJoinedUses (plain_over draws) x p y q
+      → AreJoinedUses (plain_over draws) y q x p
+  joined_back x p y q h = record {
+    reader_in_band = h.writer_in_band;
+    writer_in_band = h.reader_in_band;
+    reader = h.writer;
+    writer = h.reader;
+    stream_is = sym h.stream_is;
+    generation_is = sym h.generation_is;
+  }
+
+  side_open : (a b : PeerActs) (us vs : List ChannelUse) (p q : PlainPolled N) → SideStood draws a us p → SideStood draws b vs q
+      → IsSettledPeer p → IsSettledPeer q → AreHeard plain_meaning p.core.sctp.association p.core.sctp.entries
+      → AreHeard plain_meaning q.core.sctp.association q.core.sctp.entries → AreAllHandedOut draws us p vs q → AreAllHandedOut draws vs q us p
+      → ((s g : ℕ) → IsPrefix (read s g a.association) (written s g b.association))
+      → ((s g : ℕ) → ended s g a.association ≡ false → ended s g b.association ≡ false
+      → has_unacknowledged s p.core.sctp.association.outbox.items ≡ false
+      → read s g b.association ++ unread s g q.core.sctp.association.inbox.unread ≡ written s g a.association)
+      → AreOpenAtBoth draws us p vs q
+  side_open a b us vs p q x y here there heard others_heard got sent reads all = λ c s shown kept.
+      let mine = own_use draws a us p x here heard c s kept.in_band_here shown kept.unclosed_here in
+      let same : s ≡ mine.stays.stream = some_is s mine.stays.stream (sym mine.stream_is ∙ mine.stays.of) in
+      let it =
+      other_use draws a b us vs p q x y here there others_heard reads all mine.use_of mine.member mine.in_band mine.stays
+      (subst (λ (n : ℕ). IsInBandStream n q.core.sctp.entries) same kept.in_band_there)
+      (ap (λ (n : ℕ). generation_of q.core.sctp.association n) (sym same) ∙ kept.generation_is ∙ sym mine.generation_is)
+      (ap (λ (n : ℕ). closed_here q.core.sctp.association n) (sym same) ∙ kept.unclosed_there) in
+      record {
+        own = mine.use_of;
+        member = mine.member;
+        channel_is = mine.channel_is;
+        other = it.other;
+        other_member = it.member;
+        joined = it.joined;
+        got =
+            got mine.use_of it.other mine.member it.member it.joined
+            (none_has it.joined.writer.stream q.core.sctp.association.outbox.items there.acknowledged);
+        sent =
+            sent it.other mine.use_of it.member mine.member (joined_back mine.use_of p it.other q it.joined)
+            (none_has it.joined.reader.stream p.core.sctp.association.outbox.items here.acknowledged);
+      }
+    where
+      some_is : (n k : ℕ) → Some n ≡ Some k → n ≡ k
+      some_is n k h = cc
+
+  module _ (stun : List ℕ → Bool) (start : PlainPair N) (past : List (Entry PlainMediaEvent)) (pair : PlainPair N)
+      (ran : Reached (plain_over draws) stun start past pair) (h : PairTold draws start (λ x. []) (λ x s g. []) (λ x c s g. []))
+      (unused : AreUnused (plain_over draws) (plain_over_laws draws) start) (settled : IsSettledPair past pair) where
+    abbrev pub uses : Side → List ChannelUse
+    uses at = uses_of (plain_over draws) stun start at past pair ran
+
+    told : PairTold draws pair uses (λ at. sent_over (plain_over draws) stun start at past pair ran) (λ at. told_over (plain_over draws) stun start at past pair ran)
+    told = reached_told draws stun start past pair ran h
+
+    empty : AreUnused (plain_over draws) (plain_over_laws draws) pair
+    empty =
+        went_unused (plain_over draws) (plain_over_laws draws) (λ earlier between one after. Enters (plain_over draws) stun between one after)
+        (λ earlier between one after k. (stun, k)) start past pair unused ran
+
+    drained : (at : Side) → IsDrained at past
+    drained at = resting_drained at past (settled.resting at)
+
+    heard : (at : Side) → AreHeard plain_meaning (rtc_at at pair).core.sctp.association (rtc_at at pair).core.sctp.entries
+    heard at = last_heard draws (rtc_at at pair) (resting_last (plain_over draws) stun start past pair ran at (settled.resting at)) (settled.peers at) (empty at).empty
+
+    pub settled_open : (at : Side) → AreOpenAtBoth draws (uses at) (rtc_at at pair) (uses (other_side at)) (rtc_at (other_side at) pair)
+    settled_open Left =
+        side_open told.acts.left told.acts.right (uses Left) (uses Right) pair.left pair.right told.left.side told.right.side (settled.peers Left)
+        (settled.peers Right) (heard Left) (heard Right) (pair_drained draws stun start past pair ran h unused Left (drained Left))
+        (pair_drained draws stun start past pair ran h unused Right (drained Right)) (λ s g. side_reads told.acts pair Right s g told.exchange)
+        (λ s g. side_all told.acts pair Left s g told.exchange)
+    settled_open Right =
+        side_open told.acts.right told.acts.left (uses Right) (uses Left) pair.right pair.left told.right.side told.left.side (settled.peers Right)
+        (settled.peers Left) (heard Right) (heard Left) (pair_drained draws stun start past pair ran h unused Right (drained Right))
+        (pair_drained draws stun start past pair ran h unused Left (drained Left)) (λ s g. side_reads told.acts pair Left s g told.exchange)
+        (λ s g. side_all told.acts pair Right s g told.exchange)
+
+    pub settled_answered : (at : Side) → AreAnswered (rtc_at at pair) (rtc_at (other_side at) pair)
+    settled_answered Left = λ s kept waits taken.
+        none_waits draws told.acts.left told.acts.right (uses Left) (uses Right) pair.left pair.right told.left.side told.right.side (settled.peers Left)
+        (settled.peers Right) (heard Left) (heard Right) (λ t g. side_all told.acts pair Left t g told.exchange)
+        (λ t g. side_all told.acts pair Right t g told.exchange) s kept waits taken
+    settled_answered Right = λ s kept waits taken.
+        none_waits draws told.acts.right told.acts.left (uses Right) (uses Left) pair.right pair.left told.right.side told.left.side (settled.peers Right)
+        (settled.peers Left) (heard Right) (heard Left) (λ t g. side_all told.acts pair Right t g told.exchange)
+        (λ t g. side_all told.acts pair Left t g told.exchange) s kept waits taken
+
+  pub run_settles_open : (stun : List ℕ → Bool) (start pair : PlainPair N) (steps : List Step) (replies : List (Reply PlainMediaEvent))
+      → IsNewPair draws start → (run : Runs (plain_over draws) stun start steps replies pair) → SettlesOpen draws stun start steps replies pair run
+  run_settles_open stun start pair steps replies new run =
+      let ran : Reached (plain_over draws) stun start run.past pair = reached_by (plain_over draws) stun start run.past pair run.went in
+      record {
+        opened = λ settled at. settled_open stun start run.past pair ran (new_pair_told draws start new) (new_unused draws start new) settled at;
+        answered = λ settled at. settled_answered stun start run.past pair ran (new_pair_told draws start new) (new_unused draws start new) settled at;
+      }

@@ -1,0 +1,138 @@
+-- Pairs in which nothing is under way any more, and what holds of the channels of such a pair (RFC 8832, section 6).
+use Rattle.std.specs.Prelude.{ℕ, ◌≡◌, ◌<◌, ◌-◌, ◌^◌, ◌⊎◌, Bool, true, false, List, [], ◌∷◌, Some}
+use Rattle.rtc_parts_values.specs.Among.{Member}
+use Rattle.rtc_dtls.specs.DtlsState.{can_send}
+use Rattle.rtc_plain_dtls.specs.PlainMeaning.{plain_dtls}
+use Rattle.rtc_assoc_state.specs.Contents.{closed_here, generation_of, is_ending}
+use Rattle.rtc_plain_media.specs.declared.plain_media_event.PlainMediaEvent.{PlainMediaEvent}
+use Rattle.rtc_ids.specs.Draws.{Draws}
+use Rattle.rtc_sctp_entries.specs.declared.stream_entry_state.StreamEntryState.TheVariants.{AwaitOpen, AwaitDcepAck}
+use Rattle.rtc_sctp_entries.specs.declared.stream_entry.StreamEntry.{StreamEntry}
+use Rattle.rtc_sctp_entries.specs.Entries.{is_out_of_band}
+use Rattle.rtc_sctp.specs.Streams.{is_established}
+use Rattle.rtc_peer_state.specs.declared.phase.Phase.TheVariants.{Alive}
+use Rattle.rtc_polling.specs.ChannelCalls.{open_stream_under}
+use Rattle.rtc_history.specs.declared.outcome.Outcome.{Outcome}
+use Rattle.rtc_history.specs.declared.outcome.Outcome.TheVariants.{Polled}
+use Rattle.rtc_history.specs.declared.reply.Reply.{Reply}
+use Rattle.rtc_history.specs.declared.shown.Shown.{Shown}
+use Rattle.rtc_history.specs.declared.shown.Shown.TheVariants.{Timeout, Packet, Event}
+use Rattle.rtc_history.specs.declared.side.Side.{Side}
+use Rattle.rtc_history.specs.declared.step.Step.{Step}
+use Rattle.rtc_history.specs.declared.step.Step.TheVariants.{Poll, Drain}
+use Rattle.rtc_history.specs.PairState.{rtc_at}
+use Rattle.rtc_history.specs.Past.{Entry}
+use Rattle.rtc_history.specs.Runs.{Runs}
+use Rattle.rtc_history.specs.Sides.{other_side, same_side, side_of}
+use Rattle.rtc_joined_runs.specs.PlainPairs.{PlainPair, PlainPolled, plain_over}
+use Rattle.rtc_channel_runs.specs.ChannelUses.{ChannelUse}
+use Rattle.rtc_channel_runs.specs.OpenUses.{AreJoinedUses}
+use Rattle.rtc_channel_runs.specs.UsesOfRuns.{uses_in_run}
+
+-- outputs end in a timeout
+abbrev pub EndInTimeout : {E : Type 0} → List (Shown E) → Type 0
+EndInTimeout [] = ⊥
+EndInTimeout (Timeout moment reason ∷ outputs) = Unit {0}
+EndInTimeout (Packet number len ∷ outputs) = EndInTimeout outputs
+EndInTimeout (Event event ∷ outputs) = EndInTimeout outputs
+
+abbrev pub RestsByOutcome : {E : Type 0} → Outcome E → Type 0
+RestsByOutcome (Polled outputs end) = EndInTimeout outputs
+RestsByOutcome outcome = ⊥
+
+-- a step polled a peer up to a timeout
+abbrev pub RestsByStep : {E : Type 0} → Step → Outcome E → Type 0
+RestsByStep (Poll at) outcome = RestsByOutcome outcome
+RestsByStep (Drain at) outcome = RestsByOutcome outcome
+RestsByStep step outcome = ⊥
+
+abbrev pub RestsByEntry : {E : Type 0} → (acting : Bool) → Step → Outcome E → (earlier : Type 0) → Type 0
+RestsByEntry true step outcome earlier = RestsByStep step outcome
+RestsByEntry false step outcome earlier = earlier
+
+-- a side was polled up to a timeout, and no input came to it and no call was made on it since
+abbrev pub IsResting : {E : Type 0} → Side → List (Entry E) → Type 0
+IsResting at [] = ⊥
+IsResting at (entry ∷ past) = RestsByEntry (same_side (side_of entry.step) at) entry.step entry.outcome (IsResting at past)
+
+-- A peer is alive, application data can go over its DTLS connection, and its association is established, neither closing nor closed. It has
+-- no unacknowledged item, and a number is left for a channel.
+pub record IsSettledPeer {N : Type 0} (p : PlainPolled N) : Type 0 where
+  pub alive : p.core.phase ≡ Alive
+  pub sends : can_send plain_dtls p.core.dtls ≡ true
+  pub established : is_established p.core.sctp.state ≡ true
+  pub lasting : is_ending p.core.sctp.association ≡ false
+  pub acknowledged : p.core.sctp.association.outbox.items ≡ []
+  pub numbers : p.core.channels.given < 2 ^ 64 - 1
+
+-- behind this past, both peers of a pair are so, and rest
+pub record IsSettledPair {E N : Type 0} (past : List (Entry E)) (pair : PlainPair N) : Type 0 where
+  pub peers : (at : Side) → IsSettledPeer (rtc_at at pair)
+  pub resting : (at : Side) → IsResting at past
+
+-- a stream was not settled by other means than messages
+abbrev pub IsInBandStream : (stream : ℕ) → List StreamEntry → Type 0
+IsInBandStream stream [] = Unit {0}
+IsInBandStream stream (entry ∷ entries) = (entry.id ≡ stream → is_out_of_band entry ≡ false) × IsInBandStream stream entries
+
+-- both associations have a stream in one generation, neither end closed it, and neither settled it by other means than messages
+pub record AreKeptStreams {N : Type 0} (stream : ℕ) (p q : PlainPolled N) : Type 0 where
+  pub generation_is : generation_of q.core.sctp.association stream ≡ generation_of p.core.sctp.association stream
+  pub unclosed_here : closed_here p.core.sctp.association stream ≡ false
+  pub unclosed_there : closed_here q.core.sctp.association stream ≡ false
+  pub in_band_here : IsInBandStream stream p.core.sctp.entries
+  pub in_band_there : IsInBandStream stream q.core.sctp.entries
+
+-- A channel of one side was announced, and so was one by the other side, over the same generation of the same stream. Both are open, and
+-- each side got over its channel all that the other sent over its own.
+pub record IsOpenAtBoth {N : Type 0} (draws : Draws N) (channel : ℕ) (uses : List ChannelUse) (p : PlainPolled N) (others : List ChannelUse)
+    (q : PlainPolled N) : Type 0 where
+  pub own : ChannelUse
+  pub member : Member own uses
+  pub channel_is : own.channel ≡ channel
+  pub other : ChannelUse
+  pub other_member : Member other others
+  pub joined : AreJoinedUses (plain_over draws) own p other q
+  pub got : own.got ≡ other.sent
+  pub sent : other.got ≡ own.sent
+
+-- So it is for each channel that is open at the one side, over a stream that both associations have in one generation, and that neither end
+-- closed or settled by other means.
+abbrev pub AreOpenAtBoth : {N : Type 0} → Draws N → (uses : List ChannelUse) → PlainPolled N → (others : List ChannelUse) → PlainPolled N
+    → Type 0
+AreOpenAtBoth draws uses p others q =
+    (channel stream : ℕ)
+    → open_stream_under channel p ≡ Some stream
+    → AreKeptStreams stream p q
+    → IsOpenAtBoth draws channel uses p others q
+
+-- a stream has an entry that is so
+abbrev pub HasEntryOf : (StreamEntry → Type 0) → (stream : ℕ) → List StreamEntry → Type 0
+HasEntryOf is_so stream [] = ⊥
+HasEntryOf is_so stream (entry ∷ entries) = ((entry.id ≡ stream) × is_so entry) ⊎ HasEntryOf is_so stream entries
+
+-- the open message for a stream waits for its answer
+abbrev pub WaitsForAnswer : (stream : ℕ) → List StreamEntry → Type 0
+WaitsForAnswer stream entries = HasEntryOf (λ entry. entry.state ≡ AwaitDcepAck) stream entries
+
+-- a stream is in use, and not only to be opened from here
+abbrev pub IsTakenUp : (stream : ℕ) → List StreamEntry → Type 0
+IsTakenUp stream entries = HasEntryOf (λ entry. entry.state ≡ AwaitOpen → ⊥) stream entries
+
+-- No opening waits for its answer over such a stream, where the other side has it in use too and does not wait to open it.
+abbrev pub AreAnswered : {N : Type 0} → PlainPolled N → PlainPolled N → Type 0
+AreAnswered p q =
+    (stream : ℕ)
+    → AreKeptStreams stream p q
+    → WaitsForAnswer stream p.core.sctp.entries
+    → IsTakenUp stream q.core.sctp.entries
+    → ⊥
+
+-- A run by these steps with these replies leaves it so at both sides, where it left the pair settled.
+pub record SettlesOpen {N : Type 0} (draws : Draws N) (stun : List ℕ → Bool) (start : PlainPair N) (steps : List Step)
+    (replies : List (Reply PlainMediaEvent)) (pair : PlainPair N) (run : Runs (plain_over draws) stun start steps replies pair)
+    : Type 0 where
+  pub opened : IsSettledPair run.past pair → (at : Side)
+      → AreOpenAtBoth draws (uses_in_run (plain_over draws) stun start steps replies pair run at) (rtc_at at pair)
+      (uses_in_run (plain_over draws) stun start steps replies pair run (other_side at)) (rtc_at (other_side at) pair)
+  pub answered : IsSettledPair run.past pair → (at : Side) → AreAnswered (rtc_at at pair) (rtc_at (other_side at) pair)

@@ -1,0 +1,35 @@
+//! The channels of a run of two peers over plain parts that ended with nothing under way.
+ghost use Rattle.std.specs.Prelude.{ℕ, Bool, List};
+ghost use Rattle.rtc_plain_media.specs.declared.plain_media_event.PlainMediaEvent.{PlainMediaEvent};
+ghost use Rattle.rtc_history.specs.declared.reply.Reply.{Reply};
+ghost use Rattle.rtc_history.specs.declared.side.Side.{Side};
+ghost use Rattle.rtc_history.specs.declared.step.Step.{Step};
+ghost use Rattle.rtc_history.specs.PairState.{rtc_at};
+ghost use Rattle.rtc_history.specs.Past.{Entry};
+ghost use Rattle.rtc_history.specs.Runs.{Reached, Runs};
+ghost use Rattle.rtc_history.specs.Sides.{other_side};
+ghost use Rattle.rtc_joined_runs.specs.NewPairs.{IsNewPair};
+ghost use Rattle.rtc_joined_runs.specs.PlainPairs.{PlainPair, plain_over};
+ghost use Rattle.rtc_channel_runs.specs.SettledPairs.{AreAnswered, AreOpenAtBoth, IsSettledPair, SettlesOpen};
+ghost use Rattle.rtc_channel_runs.specs.UsesOfRuns.{uses_of};
+
+use rtc_ids::Ids;
+
+/// Where both peers are alive, with their DTLS connections and their associations standing, where each was polled up to a timeout
+/// since its last input and its last call, and where no association has an unacknowledged item: a channel that is open at one side
+/// is open at both, and each side announced it, over one generation of one stream; and each got all that the other sent over it. So
+/// it is over each stream that both associations have in one generation, and that neither end closed or settled by other means than
+/// messages, while a number is left for a channel. No opening over such a stream waits for its answer, where the other side has the
+/// stream in use too and does not wait to open it.
+pub fn settled_pairs_have_open_channels<N: Ids>()
+    ensures reached { (stun : List ℕ → Bool) (start pair : PlainPair N) (past : List (Entry PlainMediaEvent)) → IsNewPair N.ids start
+        → (ran : Reached (plain_over N.ids) stun start past pair) → IsSettledPair past pair → (at : Side)
+        → AreOpenAtBoth N.ids (uses_of (plain_over N.ids) stun start at past pair ran) (rtc_at at pair)
+        (uses_of (plain_over N.ids) stun start (other_side at) past pair ran) (rtc_at (other_side at) pair) }
+    ensures answered { (stun : List ℕ → Bool) (start pair : PlainPair N) (past : List (Entry PlainMediaEvent)) → IsNewPair N.ids start
+        → Reached (plain_over N.ids) stun start past pair → IsSettledPair past pair → (at : Side)
+        → AreAnswered (rtc_at at pair) (rtc_at (other_side at) pair) }
+    ensures ran { (stun : List ℕ → Bool) (start pair : PlainPair N) (steps : List Step) (replies : List (Reply PlainMediaEvent))
+        → IsNewPair N.ids start → (run : Runs (plain_over N.ids) stun start steps replies pair)
+        → SettlesOpen N.ids stun start steps replies pair run }
+{}
