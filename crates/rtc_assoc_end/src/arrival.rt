@@ -12,7 +12,8 @@ ghost use Rattle.rtc_assoc_state.specs.Calls.{close_came, close_came_at, finishe
 ghost use Rattle.rtc_assoc_state.specs.PlainMeaning.{Sends};
 
 use crate::association::PlainAssociation;
-use rtc_assoc_packets::{ItemHeader, ItemPart, Outgoing, Packet};
+use crate::queueing::{finish, make_ready, queue_close};
+use rtc_assoc_packets::{ItemHeader, ItemPart, Packet};
 use rtc_assoc_state::{CloseState, StreamRow, StreamTable, enqueue};
 use rtc_association::AssocEvent;
 use rtc_wire::Moment;
@@ -51,9 +52,14 @@ impl PlainAssociation {
         ensures ok { OnOk result (Sends self.old (answered (item_counted row self.old)) self.new) }
         ensures err { OnErr result (self.new ≡ self.old) }
     {
-        let answer = Packet::acknowledgement(self.alloc, self.received + 1)?;
-        self.streams.make_room(row.stream)?;
-        self.packets.reserve(1)?;
+        let answer = make_ready(
+            self.alloc,
+            self.received + 1,
+            &mut self.streams,
+            row.stream,
+            &mut self.events,
+            &mut self.packets,
+        )?;
         count_item(
             &mut self.received,
             &mut self.streams,
@@ -75,9 +81,14 @@ impl PlainAssociation {
         ensures ok { OnOk result (Sends self.old (answered (more_kept (item_with item bytes.now) (item_counted row self.old))) self.new) }
         ensures err { OnErr result (self.new ≡ self.old) }
     {
-        let answer = Packet::acknowledgement(self.alloc, self.received + 1)?;
-        self.streams.make_room(row.stream)?;
-        self.packets.reserve(1)?;
+        let answer = make_ready(
+            self.alloc,
+            self.received + 1,
+            &mut self.streams,
+            row.stream,
+            &mut self.events,
+            &mut self.packets,
+        )?;
         self.parts.keep_more(self.alloc, item, bytes)?;
         count_item(
             &mut self.received,
@@ -100,11 +111,15 @@ impl PlainAssociation {
         ensures ok { OnOk result (Sends self.old (answered (last_kept (item_with item bytes.now) (item_counted row self.old))) self.new) }
         ensures err { OnErr result (self.new ≡ self.old) }
     {
-        let answer = Packet::acknowledgement(self.alloc, self.received + 1)?;
         let stream = item.stream;
-        self.events.reserve(1)?;
-        self.streams.make_room(row.stream)?;
-        self.packets.reserve(1)?;
+        let answer = make_ready(
+            self.alloc,
+            self.received + 1,
+            &mut self.streams,
+            row.stream,
+            &mut self.events,
+            &mut self.packets,
+        )?;
         self.unread
             .keep_last(self.alloc, &mut self.parts, item, bytes)?;
         enqueue(&mut self.events, AssocEvent::Readable(stream));
@@ -146,18 +161,31 @@ impl PlainAssociation {
         ensures ok { OnOk result (Sends self.old (answered (close_came_at Unclosed now row (finished row self.old))) self.new) }
         ensures err { OnErr result (self.new ≡ self.old) }
     {
-        let answer = Packet::acknowledgement(self.alloc, self.received + 1)?;
-        let close = Outgoing::close(self.alloc, row.stream, row.generation);
         let number = self.acked + self.items.len() as u64 + 1;
-        let packet = Packet::data(self.alloc, self.received + 1, number, &close)?;
-        self.events.reserve(1)?;
-        self.streams.make_room(row.stream)?;
-        self.packets.reserve(2)?;
-        self.items.push_back(close)?;
-        enqueue(&mut self.events, AssocEvent::Finished(row.stream));
-        enqueue(&mut self.packets, packet);
-        self.unread
-            .forget(&mut self.parts, row.stream, row.generation);
+        let answer = make_ready(
+            self.alloc,
+            self.received + 1,
+            &mut self.streams,
+            row.stream,
+            &mut self.events,
+            &mut self.packets,
+        )?;
+        queue_close(
+            self.alloc,
+            self.received + 1,
+            number,
+            row.stream,
+            row.generation,
+            &mut self.items,
+            &mut self.packets,
+        )?;
+        finish(
+            &mut self.events,
+            &mut self.unread,
+            &mut self.parts,
+            row.stream,
+            row.generation,
+        );
         self.clock.items_sent = now;
         row.close = CloseState::Queued;
         row.finished = true;
@@ -178,13 +206,21 @@ impl PlainAssociation {
             (answered (item_counted (record row { finished = true }) (finished row self.old))) self.new) }
         ensures err { OnErr result (self.new ≡ self.old) }
     {
-        let answer = Packet::acknowledgement(self.alloc, self.received + 1)?;
-        self.events.reserve(1)?;
-        self.streams.make_room(row.stream)?;
-        self.packets.reserve(1)?;
-        enqueue(&mut self.events, AssocEvent::Finished(row.stream));
-        self.unread
-            .forget(&mut self.parts, row.stream, row.generation);
+        let answer = make_ready(
+            self.alloc,
+            self.received + 1,
+            &mut self.streams,
+            row.stream,
+            &mut self.events,
+            &mut self.packets,
+        )?;
+        finish(
+            &mut self.events,
+            &mut self.unread,
+            &mut self.parts,
+            row.stream,
+            row.generation,
+        );
         row.finished = true;
         count_item(
             &mut self.received,
@@ -204,14 +240,22 @@ impl PlainAssociation {
             (answered (reset_told row (item_counted (reset_row row) (finished row self.old)))) self.new) }
         ensures err { OnErr result (self.new ≡ self.old) }
     {
-        let answer = Packet::acknowledgement(self.alloc, self.received + 1)?;
-        self.events.reserve(2)?;
-        self.streams.make_room(row.stream)?;
-        self.packets.reserve(1)?;
-        enqueue(&mut self.events, AssocEvent::Finished(row.stream));
+        let answer = make_ready(
+            self.alloc,
+            self.received + 1,
+            &mut self.streams,
+            row.stream,
+            &mut self.events,
+            &mut self.packets,
+        )?;
+        finish(
+            &mut self.events,
+            &mut self.unread,
+            &mut self.parts,
+            row.stream,
+            row.generation,
+        );
         enqueue(&mut self.events, AssocEvent::ResetComplete(row.stream));
-        self.unread
-            .forget(&mut self.parts, row.stream, row.generation);
         count_item(
             &mut self.received,
             &mut self.streams,

@@ -6,6 +6,7 @@ mod association;
 mod calls;
 mod input;
 mod part;
+mod queueing;
 mod readings;
 
 pub use association::PlainAssociation;
