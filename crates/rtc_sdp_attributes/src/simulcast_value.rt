@@ -120,25 +120,12 @@ fn both_ways(
     }
 }
 
-fn read_both_ways(
-    alloc: Global,
-    direction: &str,
-    list: &str,
-    other: &str,
-    rest: &str,
-) -> Result<Option<SimulcastLine>, AllocError>
-    ensures { IfOk result (λ read. read ≡ form.both_ways (Forms.one_of form.rid_direction_words direction.now) (form.layer_names list.now)
-        (Forms.one_of form.rid_direction_words other.now) (form.layer_names rest.now)) }
+/// The layers that a value lists (RFC 8853, section 5.1), without alternatives; whether one starts paused is not kept.
+pub fn read_simulcast(alloc: Global, value: &str) -> Result<Option<SimulcastLine>, AllocError>
+    ensures { IfOk result (λ read. read ≡ form.simulcast value.now) }
 {
-    let rids = rids_of(alloc, list)?;
-    let rest = rids_of(alloc, rest)?;
-    Ok(both_ways(direction_of(direction), rids, direction_of(other), rest))
-}
-
-fn simulcast_of(alloc: Global, fields: &[&str]) -> Result<Option<SimulcastLine>, AllocError>
-    ensures { IfOk result (λ read. read ≡ form.simulcast_words (map (λ field. field.now) fields.now)) }
-{
-    let [direction, list, more @ ..] = fields else {
+    let fields = words(alloc, value)?;
+    let [direction, list, more @ ..] = fields.as_slice() else {
         return Ok(None);
     };
     if more.is_empty() {
@@ -151,15 +138,9 @@ fn simulcast_of(alloc: Global, fields: &[&str]) -> Result<Option<SimulcastLine>,
     if !further.is_empty() {
         return Ok(None);
     }
-    read_both_ways(alloc, direction, list, other, rest)
-}
-
-/// The layers that a value lists (RFC 8853, section 5.1), without alternatives; whether one starts paused is not kept.
-pub fn read_simulcast(alloc: Global, value: &str) -> Result<Option<SimulcastLine>, AllocError>
-    ensures { IfOk result (λ read. read ≡ form.simulcast value.now) }
-{
-    let fields = words(alloc, value)?;
-    simulcast_of(alloc, fields.as_slice())
+    let rids = rids_of(alloc, list)?;
+    let rest = rids_of(alloc, rest)?;
+    Ok(both_ways(direction_of(direction), rids, direction_of(other), rest))
 }
 
 fn put_rids(out: &mut String, layers: &[SimulcastLayer]) -> Result<(), AllocError>
