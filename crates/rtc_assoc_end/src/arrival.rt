@@ -7,8 +7,8 @@ ghost use Rattle.rtc_assoc_state.specs.declared.close_state.CloseState.TheVarian
 ghost use Rattle.rtc_assoc_state.specs.Streams.{put, reset_row};
 ghost use Rattle.rtc_assoc_state.specs.StreamTable.{SoundTable, HasRowRoom, stream_rows};
 ghost use Rattle.rtc_assoc_state.specs.Contents.{is_ending};
-ghost use Rattle.rtc_assoc_state.specs.Calls.{answered, item_counted, more_kept, last_kept, item_taken, piece_came};
-ghost use Rattle.rtc_assoc_state.specs.Calls.{close_came, close_came_at, finished, reset_told};
+ghost use Rattle.rtc_assoc_state.specs.Calls.{answered, item_counted, more_kept, last_kept, piece_came};
+ghost use Rattle.rtc_assoc_state.specs.Calls.{close_came_at, finished, reset_told};
 ghost use Rattle.rtc_assoc_state.specs.PlainMeaning.{Sends};
 
 use crate::association::PlainAssociation;
@@ -47,7 +47,7 @@ fn count_item(
 
 impl PlainAssociation {
     /// An item came that changes nothing but the number, and the row of its stream.
-    fn skip_item(&mut self, row: StreamRow) -> Result<(), AllocError>
+    pub(crate) fn skip_item(&mut self, row: StreamRow) -> Result<(), AllocError>
         requires { self.old.inbox.received + 1 < 2 ^ 64 }
         ensures ok { OnOk result (Sends self.old (answered (item_counted row self.old)) self.new) }
         ensures err { OnErr result (self.new ≡ self.old) }
@@ -134,7 +134,7 @@ impl PlainAssociation {
     }
 
     /// A piece of a message came.
-    fn take_piece(
+    pub(crate) fn take_piece(
         &mut self,
         row: StreamRow,
         item: ItemHeader,
@@ -155,7 +155,11 @@ impl PlainAssociation {
     }
 
     /// The close of a stream came, which this end did not close: it does now.
-    fn take_first_close(&mut self, now: Moment, mut row: StreamRow) -> Result<(), AllocError>
+    pub(crate) fn take_first_close(
+        &mut self,
+        now: Moment,
+        mut row: StreamRow,
+    ) -> Result<(), AllocError>
         requires number { self.old.inbox.received + 1 < 2 ^ 64 }
         requires lives { is_ending self.old ≡ false }
         ensures ok { OnOk result (Sends self.old (answered (close_came_at Unclosed now row (finished row self.old))) self.new) }
@@ -179,13 +183,7 @@ impl PlainAssociation {
             &mut self.items,
             &mut self.packets,
         )?;
-        finish(
-            &mut self.events,
-            &mut self.unread,
-            &mut self.parts,
-            row.stream,
-            row.generation,
-        );
+        finish(&mut self.events, &mut self.unread, &mut self.parts, row);
         self.clock.items_sent = now;
         row.close = CloseState::Queued;
         row.finished = true;
@@ -200,7 +198,7 @@ impl PlainAssociation {
     }
 
     /// The close of a stream came, which this end closed. Its close was not acknowledged.
-    fn take_second_close(&mut self, mut row: StreamRow) -> Result<(), AllocError>
+    pub(crate) fn take_second_close(&mut self, mut row: StreamRow) -> Result<(), AllocError>
         requires { self.old.inbox.received + 1 < 2 ^ 64 }
         ensures ok { OnOk result (Sends self.old
             (answered (item_counted (record row { finished = true }) (finished row self.old))) self.new) }
@@ -214,13 +212,7 @@ impl PlainAssociation {
             &mut self.events,
             &mut self.packets,
         )?;
-        finish(
-            &mut self.events,
-            &mut self.unread,
-            &mut self.parts,
-            row.stream,
-            row.generation,
-        );
+        finish(&mut self.events, &mut self.unread, &mut self.parts, row);
         row.finished = true;
         count_item(
             &mut self.received,
@@ -233,7 +225,7 @@ impl PlainAssociation {
     }
 
     /// The close of a stream came, after this end's was acknowledged: the reset is complete.
-    fn take_last_close(&mut self, row: StreamRow) -> Result<(), AllocError>
+    pub(crate) fn take_last_close(&mut self, row: StreamRow) -> Result<(), AllocError>
         requires number { self.old.inbox.received + 1 < 2 ^ 64 }
         requires generation { row.generation < 4294967295 }
         ensures ok { OnOk result (Sends self.old
@@ -248,13 +240,7 @@ impl PlainAssociation {
             &mut self.events,
             &mut self.packets,
         )?;
-        finish(
-            &mut self.events,
-            &mut self.unread,
-            &mut self.parts,
-            row.stream,
-            row.generation,
-        );
+        finish(&mut self.events, &mut self.unread, &mut self.parts, row);
         enqueue(&mut self.events, AssocEvent::ResetComplete(row.stream));
         count_item(
             &mut self.received,
@@ -264,48 +250,5 @@ impl PlainAssociation {
             answer,
         );
         Ok(())
-    }
-
-    /// The close of a stream came.
-    fn take_close(&mut self, now: Moment, row: StreamRow, generation: u32) -> Result<(), AllocError>
-        requires number { self.old.inbox.received + 1 < 2 ^ 64 }
-        requires lives { is_ending self.old ≡ false }
-        ensures ok { OnOk result (Sends self.old (answered (close_came now generation row self.old)) self.new) }
-        ensures err { OnErr result (self.new ≡ self.old) }
-    {
-        if generation != row.generation {
-            return self.skip_item(row);
-        }
-        match row.close {
-            CloseState::Unclosed => self.take_first_close(now, row),
-            CloseState::Queued => self.take_second_close(row),
-            CloseState::Acknowledged => {
-                if row.generation < u32::MAX {
-                    return self.take_last_close(row);
-                }
-                self.take_second_close(row)
-            }
-        }
-    }
-
-    /// The next item came: its stream is there.
-    pub(crate) fn take_item(
-        &mut self,
-        now: Moment,
-        item: ItemHeader,
-        bytes: &[u8],
-    ) -> Result<(), AllocError>
-        requires number { self.old.inbox.received + 1 < 2 ^ 64 }
-        requires lives { is_ending self.old ≡ false }
-        ensures ok { OnOk result (Sends self.old (answered (item_taken now (item_with item bytes.now) self.old)) self.new) }
-        ensures err { OnErr result (self.new ≡ self.old) }
-    {
-        let mut row = self.streams.row_of(item.stream);
-        row.there = true;
-        match item.part {
-            ItemPart::Close => self.take_close(now, row, item.generation),
-            ItemPart::More => self.take_piece(row, item, bytes),
-            ItemPart::Last => self.take_piece(row, item, bytes),
-        }
     }
 }

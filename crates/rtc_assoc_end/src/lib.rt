@@ -8,5 +8,6 @@ mod input;
 mod part;
 mod queueing;
 mod readings;
+mod taking;
 
 pub use association::PlainAssociation;

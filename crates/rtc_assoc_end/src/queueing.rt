@@ -1,5 +1,6 @@
 //! What several calls do with queues and streams.
-ghost use Rattle.std.specs.Prelude.{◌≡◌, ◌≤◌, ◌<◌, ◌+◌, ◌∷◌, [], ◌++◌, ℕ, IfOk, OnOk, OnErr, Some, if◌then◌else◌, ◌==◌, vec_len, vec_capacity};
+ghost use Rattle.std.specs.Prelude.{◌≡◌, ◌≤◌, ◌<◌, ◌+◌, ◌∷◌, [], ◌++◌, ℕ, IfOk, OnOk, OnErr, Some};
+ghost use Rattle.std.specs.Prelude.{if◌then◌else◌, ◌==◌, vec_len, vec_capacity};
 ghost use Rattle.std.specs.VecDeque.{deque_len, deque_capacity};
 ghost use Rattle.rtc_association.specs.declared.assoc_event.AssocEvent.TheVariants.{Finished};
 ghost use Rattle.rtc_assoc_packets.specs.declared.frame.Frame.TheVariants.{Data, Acknowledgement};
@@ -10,7 +11,7 @@ ghost use Rattle.rtc_assoc_state.specs.Inbox.{without_part, without_messages};
 ghost use Rattle.rtc_assoc_state.specs.StreamTable.{SoundTable, HasRowRoom, stream_rows};
 
 use rtc_assoc_packets::{Outgoing, Packet};
-use rtc_assoc_state::{Parts, StreamTable, Unread, append_all, enqueue, raise};
+use rtc_assoc_state::{Parts, StreamRow, StreamTable, Unread, append_all, enqueue, raise};
 use rtc_association::AssocEvent;
 use std::alloc::{AllocError, Global};
 use std::collections::{BTreeMap, VecDeque};
@@ -130,21 +131,33 @@ pub(crate) fn queue_message(
     Ok(())
 }
 
-/// Tells that a generation of a stream is finished, in room that was made, and drops what came of it.
+/// Tells that the generation of a row is finished, in room that was made, and drops what came of it.
 pub(crate) fn finish(
     events: &mut VecDeque<AssocEvent>,
     unread: &mut Unread,
     parts: &mut Parts,
-    id: u16,
-    generation: u32,
+    row: StreamRow,
 )
     requires { deque_len events.old < deque_capacity events.old }
-    ensures events { events.new.items ≡ events.old.items ++ Finished id ∷ [] }
+    ensures events { events.new.items ≡ events.old.items ++ Finished row.stream ∷ [] }
     ensures len { deque_len events.new ≡ deque_len events.old + 1 }
     ensures capacity { deque_capacity events.old ≤ deque_capacity events.new }
-    ensures parts { parts.new ≡ without_part id generation parts.old }
-    ensures unread { unread.new ≡ without_messages id generation unread.old }
+    ensures parts { parts.new ≡ without_part row.stream row.generation parts.old }
+    ensures unread { unread.new ≡ without_messages row.stream row.generation unread.old }
 {
-    enqueue(events, AssocEvent::Finished(id));
-    unread.forget(parts, id, generation);
+    enqueue(events, AssocEvent::Finished(row.stream));
+    unread.forget(parts, row.stream, row.generation);
+}
+
+/// Queues packets, and then others.
+pub(crate) fn queue_both(
+    packets: &mut VecDeque<Packet>,
+    mut first: VecDeque<Packet>,
+    mut second: VecDeque<Packet>,
+) -> Result<(), AllocError>
+    ensures ok { OnOk result (packets.new.items ≡ packets.old.items ++ (first.items ++ second.items)) }
+    ensures err { OnErr result (packets.new.items ≡ packets.old.items) }
+{
+    first.append(&mut second)?;
+    packets.append(&mut first)
 }
