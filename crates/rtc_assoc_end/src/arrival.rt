@@ -7,12 +7,13 @@ ghost use Rattle.rtc_assoc_state.specs.declared.close_state.CloseState.TheVarian
 ghost use Rattle.rtc_assoc_state.specs.Streams.{put, reset_row};
 ghost use Rattle.rtc_assoc_state.specs.StreamTable.{SoundTable, HasRowRoom, stream_rows};
 ghost use Rattle.rtc_assoc_state.specs.Contents.{is_ending};
-ghost use Rattle.rtc_assoc_state.specs.Calls.{answered, item_counted, more_kept, last_kept, item_taken, piece_came};
-ghost use Rattle.rtc_assoc_state.specs.Calls.{close_came, close_came_at, finished, reset_told};
+ghost use Rattle.rtc_assoc_state.specs.Calls.{answered, item_counted, more_kept, last_kept, piece_came};
+ghost use Rattle.rtc_assoc_state.specs.Calls.{close_came_at, finished, reset_told};
 ghost use Rattle.rtc_assoc_state.specs.PlainMeaning.{Sends};
 
 use crate::association::PlainAssociation;
-use rtc_assoc_packets::{ItemHeader, ItemPart, Outgoing, Packet};
+use crate::queueing::{finish, make_ready, queue_close};
+use rtc_assoc_packets::{ItemHeader, ItemPart, Packet};
 use rtc_assoc_state::{CloseState, StreamRow, StreamTable, enqueue};
 use rtc_association::AssocEvent;
 use rtc_wire::Moment;
@@ -46,14 +47,19 @@ fn count_item(
 
 impl PlainAssociation {
     /// An item came that changes nothing but the number, and the row of its stream.
-    fn skip_item(&mut self, row: StreamRow) -> Result<(), AllocError>
+    pub(crate) fn skip_item(&mut self, row: StreamRow) -> Result<(), AllocError>
         requires { self.old.inbox.received + 1 < 2 ^ 64 }
         ensures ok { OnOk result (Sends self.old (answered (item_counted row self.old)) self.new) }
         ensures err { OnErr result (self.new ≡ self.old) }
     {
-        let answer = Packet::acknowledgement(self.alloc, self.received + 1)?;
-        self.streams.make_room(row.stream)?;
-        self.packets.reserve(1)?;
+        let answer = make_ready(
+            self.alloc,
+            self.received + 1,
+            &mut self.streams,
+            row.stream,
+            &mut self.events,
+            &mut self.packets,
+        )?;
         count_item(
             &mut self.received,
             &mut self.streams,
@@ -75,9 +81,14 @@ impl PlainAssociation {
         ensures ok { OnOk result (Sends self.old (answered (more_kept (item_with item bytes.now) (item_counted row self.old))) self.new) }
         ensures err { OnErr result (self.new ≡ self.old) }
     {
-        let answer = Packet::acknowledgement(self.alloc, self.received + 1)?;
-        self.streams.make_room(row.stream)?;
-        self.packets.reserve(1)?;
+        let answer = make_ready(
+            self.alloc,
+            self.received + 1,
+            &mut self.streams,
+            row.stream,
+            &mut self.events,
+            &mut self.packets,
+        )?;
         self.parts.keep_more(self.alloc, item, bytes)?;
         count_item(
             &mut self.received,
@@ -100,11 +111,15 @@ impl PlainAssociation {
         ensures ok { OnOk result (Sends self.old (answered (last_kept (item_with item bytes.now) (item_counted row self.old))) self.new) }
         ensures err { OnErr result (self.new ≡ self.old) }
     {
-        let answer = Packet::acknowledgement(self.alloc, self.received + 1)?;
         let stream = item.stream;
-        self.events.reserve(1)?;
-        self.streams.make_room(row.stream)?;
-        self.packets.reserve(1)?;
+        let answer = make_ready(
+            self.alloc,
+            self.received + 1,
+            &mut self.streams,
+            row.stream,
+            &mut self.events,
+            &mut self.packets,
+        )?;
         self.unread
             .keep_last(self.alloc, &mut self.parts, item, bytes)?;
         enqueue(&mut self.events, AssocEvent::Readable(stream));
@@ -119,7 +134,7 @@ impl PlainAssociation {
     }
 
     /// A piece of a message came.
-    fn take_piece(
+    pub(crate) fn take_piece(
         &mut self,
         row: StreamRow,
         item: ItemHeader,
@@ -140,24 +155,35 @@ impl PlainAssociation {
     }
 
     /// The close of a stream came, which this end did not close: it does now.
-    fn take_first_close(&mut self, now: Moment, mut row: StreamRow) -> Result<(), AllocError>
+    pub(crate) fn take_first_close(
+        &mut self,
+        now: Moment,
+        mut row: StreamRow,
+    ) -> Result<(), AllocError>
         requires number { self.old.inbox.received + 1 < 2 ^ 64 }
         requires lives { is_ending self.old ≡ false }
         ensures ok { OnOk result (Sends self.old (answered (close_came_at Unclosed now row (finished row self.old))) self.new) }
         ensures err { OnErr result (self.new ≡ self.old) }
     {
-        let answer = Packet::acknowledgement(self.alloc, self.received + 1)?;
-        let close = Outgoing::close(self.alloc, row.stream, row.generation);
         let number = self.acked + self.items.len() as u64 + 1;
-        let packet = Packet::data(self.alloc, self.received + 1, number, &close)?;
-        self.events.reserve(1)?;
-        self.streams.make_room(row.stream)?;
-        self.packets.reserve(2)?;
-        self.items.push_back(close)?;
-        enqueue(&mut self.events, AssocEvent::Finished(row.stream));
-        enqueue(&mut self.packets, packet);
-        self.unread
-            .forget(&mut self.parts, row.stream, row.generation);
+        let answer = make_ready(
+            self.alloc,
+            self.received + 1,
+            &mut self.streams,
+            row.stream,
+            &mut self.events,
+            &mut self.packets,
+        )?;
+        queue_close(
+            self.alloc,
+            self.received + 1,
+            number,
+            row.stream,
+            row.generation,
+            &mut self.items,
+            &mut self.packets,
+        )?;
+        finish(&mut self.events, &mut self.unread, &mut self.parts, row);
         self.clock.items_sent = now;
         row.close = CloseState::Queued;
         row.finished = true;
@@ -172,19 +198,21 @@ impl PlainAssociation {
     }
 
     /// The close of a stream came, which this end closed. Its close was not acknowledged.
-    fn take_second_close(&mut self, mut row: StreamRow) -> Result<(), AllocError>
+    pub(crate) fn take_second_close(&mut self, mut row: StreamRow) -> Result<(), AllocError>
         requires { self.old.inbox.received + 1 < 2 ^ 64 }
         ensures ok { OnOk result (Sends self.old
             (answered (item_counted (record row { finished = true }) (finished row self.old))) self.new) }
         ensures err { OnErr result (self.new ≡ self.old) }
     {
-        let answer = Packet::acknowledgement(self.alloc, self.received + 1)?;
-        self.events.reserve(1)?;
-        self.streams.make_room(row.stream)?;
-        self.packets.reserve(1)?;
-        enqueue(&mut self.events, AssocEvent::Finished(row.stream));
-        self.unread
-            .forget(&mut self.parts, row.stream, row.generation);
+        let answer = make_ready(
+            self.alloc,
+            self.received + 1,
+            &mut self.streams,
+            row.stream,
+            &mut self.events,
+            &mut self.packets,
+        )?;
+        finish(&mut self.events, &mut self.unread, &mut self.parts, row);
         row.finished = true;
         count_item(
             &mut self.received,
@@ -197,21 +225,23 @@ impl PlainAssociation {
     }
 
     /// The close of a stream came, after this end's was acknowledged: the reset is complete.
-    fn take_last_close(&mut self, row: StreamRow) -> Result<(), AllocError>
+    pub(crate) fn take_last_close(&mut self, row: StreamRow) -> Result<(), AllocError>
         requires number { self.old.inbox.received + 1 < 2 ^ 64 }
         requires generation { row.generation < 4294967295 }
         ensures ok { OnOk result (Sends self.old
             (answered (reset_told row (item_counted (reset_row row) (finished row self.old)))) self.new) }
         ensures err { OnErr result (self.new ≡ self.old) }
     {
-        let answer = Packet::acknowledgement(self.alloc, self.received + 1)?;
-        self.events.reserve(2)?;
-        self.streams.make_room(row.stream)?;
-        self.packets.reserve(1)?;
-        enqueue(&mut self.events, AssocEvent::Finished(row.stream));
+        let answer = make_ready(
+            self.alloc,
+            self.received + 1,
+            &mut self.streams,
+            row.stream,
+            &mut self.events,
+            &mut self.packets,
+        )?;
+        finish(&mut self.events, &mut self.unread, &mut self.parts, row);
         enqueue(&mut self.events, AssocEvent::ResetComplete(row.stream));
-        self.unread
-            .forget(&mut self.parts, row.stream, row.generation);
         count_item(
             &mut self.received,
             &mut self.streams,
@@ -220,48 +250,5 @@ impl PlainAssociation {
             answer,
         );
         Ok(())
-    }
-
-    /// The close of a stream came.
-    fn take_close(&mut self, now: Moment, row: StreamRow, generation: u32) -> Result<(), AllocError>
-        requires number { self.old.inbox.received + 1 < 2 ^ 64 }
-        requires lives { is_ending self.old ≡ false }
-        ensures ok { OnOk result (Sends self.old (answered (close_came now generation row self.old)) self.new) }
-        ensures err { OnErr result (self.new ≡ self.old) }
-    {
-        if generation != row.generation {
-            return self.skip_item(row);
-        }
-        match row.close {
-            CloseState::Unclosed => self.take_first_close(now, row),
-            CloseState::Queued => self.take_second_close(row),
-            CloseState::Acknowledged => {
-                if row.generation < u32::MAX {
-                    return self.take_last_close(row);
-                }
-                self.take_second_close(row)
-            }
-        }
-    }
-
-    /// The next item came: its stream is there.
-    pub(crate) fn take_item(
-        &mut self,
-        now: Moment,
-        item: ItemHeader,
-        bytes: &[u8],
-    ) -> Result<(), AllocError>
-        requires number { self.old.inbox.received + 1 < 2 ^ 64 }
-        requires lives { is_ending self.old ≡ false }
-        ensures ok { OnOk result (Sends self.old (answered (item_taken now (item_with item bytes.now) self.old)) self.new) }
-        ensures err { OnErr result (self.new ≡ self.old) }
-    {
-        let mut row = self.streams.row_of(item.stream);
-        row.there = true;
-        match item.part {
-            ItemPart::Close => self.take_close(now, row, item.generation),
-            ItemPart::More => self.take_piece(row, item, bytes),
-            ItemPart::Last => self.take_piece(row, item, bytes),
-        }
     }
 }

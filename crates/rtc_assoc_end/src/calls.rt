@@ -6,8 +6,9 @@ ghost use Rattle.rtc_assoc_state.specs.Calls.{stream_ended, thresholded, shut_do
 ghost use Rattle.rtc_assoc_state.specs.PlainMeaning.{Sends};
 
 use crate::association::PlainAssociation;
-use rtc_assoc_packets::{DATA_OVERHEAD, Outgoing, Packet, cut_message, packets_of};
-use rtc_assoc_state::{CloseState, Message, Role, append_all, enqueue, raise};
+use crate::queueing::{queue_close, queue_message};
+use rtc_assoc_packets::{DATA_OVERHEAD, Packet, cut_message, packets_of};
+use rtc_assoc_state::{CloseState, Message, Role};
 use rtc_wire::Moment;
 use std::alloc::AllocError;
 
@@ -109,11 +110,15 @@ impl PlainAssociation {
         let items = cut_message(self.alloc, size, id, generation, identifier, bytes)?;
         let first = self.acked + self.items.len() as u64 + 1;
         let packets = packets_of(self.alloc, self.received, first, &items)?;
-        self.items.reserve(items.len())?;
-        self.packets.reserve(packets.len())?;
-        raise(&mut self.amounts, id, bytes.len())?;
-        append_all(&mut self.items, items);
-        append_all(&mut self.packets, packets);
+        queue_message(
+            &mut self.items,
+            &mut self.packets,
+            &mut self.amounts,
+            id,
+            bytes.len(),
+            items,
+            packets,
+        )?;
         self.clock.items_sent = self.clock.now;
         Ok(())
     }
@@ -126,13 +131,17 @@ impl PlainAssociation {
     {
         let mut row = self.streams.row_of(id);
         let generation = row.generation;
-        let close = Outgoing::close(self.alloc, id, generation);
         let number = self.acked + self.items.len() as u64 + 1;
-        let packet = Packet::data(self.alloc, self.received, number, &close)?;
-        self.packets.reserve(1)?;
         self.streams.make_room(row.stream)?;
-        self.items.push_back(close)?;
-        enqueue(&mut self.packets, packet);
+        queue_close(
+            self.alloc,
+            self.received,
+            number,
+            id,
+            generation,
+            &mut self.items,
+            &mut self.packets,
+        )?;
         row.close = CloseState::Queued;
         self.streams.set_row(row);
         self.unread.forget(&mut self.parts, id, generation);

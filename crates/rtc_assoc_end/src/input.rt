@@ -15,6 +15,7 @@ ghost use Rattle.rtc_assoc_state.specs.Calls.{framed, half_taken, input_taken, t
 ghost use Rattle.rtc_assoc_state.specs.PlainMeaning.{Sends, Gives, Times, Polls, Transmits};
 
 use crate::association::PlainAssociation;
+use crate::queueing::queue_both;
 use rtc_assoc_packets::{Header, ItemHeader, Packet, content_of, packets_of};
 use rtc_assoc_state::{Role, Standing, enqueue, settle};
 use rtc_association::AssocEvent;
@@ -261,10 +262,9 @@ impl PlainAssociation {
     {
         let hello = self.is_hello_due(now);
         let items = self.are_items_due(now);
-        let mut first = self.hello_again(hello)?;
-        let mut second = self.items_again(items)?;
-        first.append(&mut second)?;
-        self.packets.append(&mut first)?;
+        let first = self.hello_again(hello)?;
+        let second = self.items_again(items)?;
+        queue_both(&mut self.packets, first, second)?;
         self.clock.now = now;
         self.clock.hello_sent = either(hello, now, self.clock.hello_sent);
         self.clock.items_sent = either(items, now, self.clock.items_sent);

@@ -6,6 +6,8 @@ mod association;
 mod calls;
 mod input;
 mod part;
+mod queueing;
 mod readings;
+mod taking;
 
 pub use association::PlainAssociation;

@@ -3,8 +3,9 @@ ghost use Rattle.std.specs.Prelude.{◌≡◌, ◌&&◌, not, IfOk, Option, Some
 ghost use Rattle.std.specs.Option.{option_copied};
 ghost use Rattle.rtc_sdp_values.specs.Sdp.{creds_of, sdp_fingerprint};
 ghost use Rattle.rtc_change.specs.Plans.{same_creds, is_restart as IsRestart, unasked_restart as UnaskedRestart, side_verdict};
-ghost use Rattle.rtc_change.specs.Plans.{changed_init, init_refusal};
+ghost use Rattle.rtc_change.specs.Plans.{changed_init, init_refusal, no_fingerprint};
 
+use crate::releasing::release;
 use crate::{Refusal, View};
 use rtc_sdp_values::{IceCreds, Sdp};
 use rtc_tables::Why;
@@ -55,6 +56,17 @@ fn find_unasked_restart(
     Ok(Some(Refusal::RemoteSdp(Why::UnaskedRestart { kept, got })))
 }
 
+// The fingerprint that a certificate could not be checked without.
+fn find_missing_fingerprint(view: &View<'_>, sdp: &Sdp) -> Option<Refusal>
+    ensures { result ≡ no_fingerprint view.now.has_fingerprint (sdp_fingerprint sdp.now) }
+{
+    if view.has_fingerprint || sdp.fingerprint().is_some() {
+        None
+    } else {
+        Some(Refusal::RemoteSdp(Why::NoFingerprint))
+    }
+}
+
 /// Why what a session description tells of its side is refused: how the side is reached, and how it is known.
 #[tactic(auto, unfolding(crate::specs::Plans::side_verdict))]
 pub fn judge_side(view: &View<'_>, may: bool, sdp: &Sdp) -> Result<Option<Refusal>, AllocError>
@@ -70,10 +82,7 @@ pub fn judge_side(view: &View<'_>, may: bool, sdp: &Sdp) -> Result<Option<Refusa
     if unasked.is_some() {
         return Ok(unasked);
     }
-    if !view.has_fingerprint && sdp.fingerprint().is_none() {
-        return Ok(Some(Refusal::RemoteSdp(Why::NoFingerprint)));
-    }
-    Ok(None)
+    Ok(release(unasked, find_missing_fingerprint(view, sdp)))
 }
 
 // Why a chunk is refused, where another one was kept.

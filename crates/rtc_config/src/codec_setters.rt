@@ -1,8 +1,11 @@
 //! Setters of codecs.
-ghost use Rattle.std.specs.Prelude.{◌≡◌, [], false, IfOk};
+ghost use Rattle.std.specs.Prelude.{◌≡◌, [], false, IfOk, OnOk};
+ghost use Rattle.rtc_codecs.specs.Codec.{codec_row_with};
+ghost use Rattle.rtc_codecs.specs.CodecRows.{codecs_with, repeated_distances};
 ghost use Rattle.rtc_config.specs.CodecSettings as spec;
 
 use crate::RtcConfig;
+use crate::rtc_config::whole;
 use rtc_codecs::{Codec, collect_distances, set_row};
 use rtc_sdp_values::CodecConfig;
 use rtc_wire::Seq;
@@ -18,16 +21,41 @@ fn no_codecs(alloc: Global) -> CodecConfig
     }
 }
 
+// A codec that is enabled goes last, and one that is disabled goes.
+fn change_codecs(
+    alloc: Global,
+    codecs: &mut CodecConfig,
+    codec: Codec,
+    enabled: bool,
+    red: bool,
+) -> Result<(), AllocError>
+    ensures { OnOk result (codecs.new ≡ codecs_with (codec_row_with red codec) enabled codecs.old) }
+{
+    let row = codec.row(alloc, red)?;
+    let held = mem::replace(codecs, no_codecs(alloc));
+    *codecs = set_row(held, row, enabled)?;
+    Ok(())
+}
+
+// The distances of redundant packets in place of those that there are.
+fn change_distances(
+    alloc: Global,
+    codecs: &mut CodecConfig,
+    distances: &[u32],
+) -> Result<(), AllocError>
+    ensures { OnOk result (codecs.new ≡ record codecs.old { red_distances = repeated_distances distances.now }) }
+{
+    let distances = collect_distances(alloc, distances)?;
+    codecs.red_distances = Seq::new(distances);
+    Ok(())
+}
+
 impl RtcConfig {
-    // A codec that is enabled goes last, and one that is disabled goes.
     fn set_codec(mut self, codec: Codec, enabled: bool, red: bool) -> Result<RtcConfig, AllocError>
         ensures { IfOk result (λ config. config ≡ spec.codec_set codec enabled red self) }
     {
-        let row = codec.row(self.alloc, red)?;
-        let none = no_codecs(self.alloc);
-        let codecs = mem::replace(&mut self.codecs, none);
-        self.codecs = set_row(codecs, row, enabled)?;
-        Ok(self)
+        let changed = change_codecs(self.alloc, &mut self.codecs, codec, enabled, red);
+        whole(self, changed)
     }
 
     /// Drops every codec.
@@ -126,8 +154,7 @@ impl RtcConfig {
     pub fn set_red_distances(mut self, distances: &[u32]) -> Result<RtcConfig, AllocError>
         ensures { IfOk result (λ config. config ≡ spec.distances_set distances.now self) }
     {
-        let distances = collect_distances(self.alloc, distances)?;
-        self.codecs.red_distances = Seq::new(distances);
-        Ok(self)
+        let changed = change_distances(self.alloc, &mut self.codecs, distances);
+        whole(self, changed)
     }
 }

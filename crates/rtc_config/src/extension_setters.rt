@@ -1,8 +1,9 @@
 //! Setters of header extensions.
-ghost use Rattle.std.specs.Prelude.{◌≡◌, ◌≤◌, [], IfOk};
+ghost use Rattle.std.specs.Prelude.{◌≡◌, ◌≤◌, [], IfOk, OnOk};
 ghost use Rattle.rtc_codecs.specs.CodecRows as spec;
 
 use crate::RtcConfig;
+use crate::rtc_config::whole;
 use rtc_codecs::set_extension_row;
 use rtc_sdp_values::{Extension, ExtensionMap};
 use rtc_wire::Seq;
@@ -15,6 +16,20 @@ fn no_extension(alloc: Global) -> ExtensionMap
     ExtensionMap {
         rows: Seq::empty(alloc),
     }
+}
+
+// Gives a header extension a number.
+fn change_extensions(
+    alloc: Global,
+    extensions: &mut ExtensionMap,
+    id: u8,
+    extension: Extension,
+) -> Result<(), AllocError>
+    ensures { OnOk result (extensions.new ≡ spec.extensions_with id extension extensions.old) }
+{
+    let held = mem::replace(extensions, no_extension(alloc));
+    *extensions = set_extension_row(held, id, extension)?;
+    Ok(())
 }
 
 impl RtcConfig {
@@ -40,9 +55,7 @@ impl RtcConfig {
         requires most { id ≤ 14 }
         ensures { IfOk result (λ config. config ≡ record self { extensions = spec.extensions_with id extension self.extensions }) }
     {
-        let none = no_extension(self.alloc);
-        let extensions = mem::replace(&mut self.extensions, none);
-        self.extensions = set_extension_row(extensions, id, extension)?;
-        Ok(self)
+        let changed = change_extensions(self.alloc, &mut self.extensions, id, extension);
+        whole(self, changed)
     }
 }

@@ -1,4 +1,6 @@
 //! What a negotiation says of a media line.
+ghost use Rattle.std.specs.Prelude.{◌≡◌, [], IfOk, IsOk, None, OnOk};
+
 use rtc_sdp_values::{Extension, LineRow, Mid, Msid, PayloadRow, Simulcast, Ssrc};
 use rtc_wire::{Seq, Text, TryCopy};
 use std::alloc::AllocError;
@@ -23,26 +25,82 @@ pub struct MediaUpdate {
     pub ssrcs_rx: Seq<(Ssrc, Option<Ssrc>)>,
 }
 
-impl TryCopy for MediaUpdate {
-    fn copy(&self) -> Result<MediaUpdate, AllocError> {
-        let payloads = self.payloads.copy()?;
-        let exts = self.exts.copy()?;
-        let simulcast = self.simulcast.copy()?;
-        let msid = self.msid.copy()?;
-        let cname = self.cname.copy()?;
-        let ssrcs_tx = self.ssrcs_tx.copy()?;
-        let ssrcs_rx = self.ssrcs_rx.copy()?;
-        Ok(MediaUpdate {
+// Puts a copy in place of a value, unless memory ran out before.
+fn fill<T: TryCopy + Drop>(
+    filled: Result<(), AllocError>,
+    place: &mut T,
+    value: &T,
+) -> Result<(), AllocError>
+    ensures before { OnOk result (IsOk filled) }
+    ensures place { OnOk result (place.new ≡ value.now) }
+{
+    filled?;
+    *place = value.copy()?;
+    Ok(())
+}
+
+// What was filled, unless memory ran out meanwhile.
+fn whole<T: Drop>(copied: T, filled: Result<(), AllocError>) -> Result<T, AllocError>
+    ensures value { IfOk result (λ value. value ≡ copied) }
+    ensures filled { OnOk result (IsOk filled) }
+{
+    filled?;
+    Ok(copied)
+}
+
+impl MediaUpdate {
+    // An update with a copy of all that takes no memory.
+    fn begin_copy(&self) -> MediaUpdate
+        ensures { result ≡ record self.now {
+          payloads = [];
+          exts = [];
+          simulcast = None;
+          msid = None;
+          cname = None;
+          ssrcs_tx = [];
+          ssrcs_rx = [];
+        } }
+    {
+        let nothing = self.payloads.empty_text().into_string();
+        MediaUpdate {
             row: self.row,
             removed: self.removed,
             announce: self.announce,
-            payloads,
-            exts,
-            simulcast,
-            msid,
-            cname,
-            ssrcs_tx,
-            ssrcs_rx,
-        })
+            payloads: Seq::empty(*nothing.allocator()),
+            exts: Seq::empty(*nothing.allocator()),
+            simulcast: None,
+            msid: None,
+            cname: None,
+            ssrcs_tx: Seq::empty(*nothing.allocator()),
+            ssrcs_rx: Seq::empty(*nothing.allocator()),
+        }
+    }
+
+    fn fill_copy(&self, update: &mut MediaUpdate) -> Result<(), AllocError>
+        ensures { OnOk result (update.new ≡ record update.old {
+          payloads = self.now.payloads;
+          exts = self.now.exts;
+          simulcast = self.now.simulcast;
+          msid = self.now.msid;
+          cname = self.now.cname;
+          ssrcs_tx = self.now.ssrcs_tx;
+          ssrcs_rx = self.now.ssrcs_rx;
+        }) }
+    {
+        let filled = fill(Ok(()), &mut update.payloads, &self.payloads);
+        let filled = fill(filled, &mut update.exts, &self.exts);
+        let filled = fill(filled, &mut update.simulcast, &self.simulcast);
+        let filled = fill(filled, &mut update.msid, &self.msid);
+        let filled = fill(filled, &mut update.cname, &self.cname);
+        let filled = fill(filled, &mut update.ssrcs_tx, &self.ssrcs_tx);
+        fill(filled, &mut update.ssrcs_rx, &self.ssrcs_rx)
+    }
+}
+
+impl TryCopy for MediaUpdate {
+    fn copy(&self) -> Result<MediaUpdate, AllocError> {
+        let mut update = self.begin_copy();
+        let filled = self.fill_copy(&mut update);
+        whole(update, filled)
     }
 }

@@ -5,7 +5,7 @@ ghost use Rattle.rtc_plain_ice.specs.PlaceTables.{addr_key};
 use rtc_wire::Addr;
 
 /// An address, by which its table finds it.
-#[derive(Clone, Copy, Debug, PartialEq, Eq, Hash)]
+#[derive(Clone, Copy, PartialEq, Eq, Hash)]
 pub struct AddrKey {
     pub port: u16,
     pub ip: [u8; 4],

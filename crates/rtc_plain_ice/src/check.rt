@@ -2,7 +2,7 @@
 use rtc_wire::{Addr, Moment, Protocol};
 
 /// The two ends of a pair, from here to the other side.
-#[derive(Clone, Copy, Debug, PartialEq, Eq)]
+#[derive(Clone, Copy)]
 pub struct Ends {
     pub proto: Protocol,
     pub source: Addr,
@@ -10,7 +10,7 @@ pub struct Ends {
 }
 
 /// A check to which no response came, with the moments at which it was made and at which the next is due.
-#[derive(Clone, Copy, Debug, PartialEq, Eq)]
+#[derive(Clone, Copy)]
 pub struct Check {
     pub number: u64,
     pub ends: Ends,

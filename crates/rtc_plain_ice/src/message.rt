@@ -1,5 +1,6 @@
 //! Messages.
-ghost use Rattle.std.specs.Prelude.{◌≡◌, ◌≤◌, ◌<◌, ◌+◌, length, slice_range, drop, IfOk, MatchOption, IfSome, None, Some, true};
+ghost use Rattle.std.specs.Prelude.{◌≡◌, ◌≤◌, ◌<◌, ◌+◌, ◌++◌, ◌∷◌, length, slice_range, drop};
+ghost use Rattle.std.specs.Prelude.{IfOk, OnOk, MatchOption, IfSome, None, Some, true};
 ghost use Rattle.std.specs.Int.{w16, w64, from_be_bytes};
 ghost use Rattle.rtc_plain_ice.specs.Messages.{IceMessage, message_bytes, ice_message_in, body_in, is_ice_message, check_number};
 
@@ -80,6 +81,16 @@ pub fn number_bytes(number: u64) -> [u8; 12]
     [0, 0, 0, 0, n0, n1, n2, n3, n4, n5, n6, n7]
 }
 
+/// Puts a text behind its length.
+fn put_text(bytes: &mut Vec<u8>, text: &[u8]) -> Result<(), AllocError>
+    requires { length text.now ≤ 255 }
+    ensures { OnOk result (bytes.new.items ≡ bytes.old.items ++ length text.now ∷ text.now) }
+{
+    bytes.push(text.len() as u8)?;
+    bytes.extend_from_slice(text)?;
+    Ok(())
+}
+
 /// A message whose type begins with this byte, 0 for a check and 1 for a response.
 #[tactic(auto, unfolding(crate::specs::Messages::message_bytes))]
 pub fn write(
@@ -98,9 +109,7 @@ pub fn write(
     let mut bytes = Vec::new(alloc);
     bytes.extend_from_slice(&[first, 1, n0, n1, 0x21, 0x12, 0xa4, 0x42])?;
     bytes.extend_from_slice(number)?;
-    bytes.push(receiver.len() as u8)?;
-    bytes.extend_from_slice(receiver)?;
-    bytes.push(sender.len() as u8)?;
-    bytes.extend_from_slice(sender)?;
+    put_text(&mut bytes, receiver)?;
+    put_text(&mut bytes, sender)?;
     Ok(DatagramSend::new(Bytes::new(bytes)))
 }

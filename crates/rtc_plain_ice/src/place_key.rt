@@ -8,7 +8,7 @@ use rtc_sdp_values::Candidate;
 use rtc_wire::Protocol;
 
 /// The protocol and the address of a candidate, by which its table finds it.
-#[derive(Clone, Copy, Debug, PartialEq, Eq, Hash)]
+#[derive(Clone, Copy, PartialEq, Eq, Hash)]
 pub struct PlaceKey {
     pub proto: u8,
     pub addr: AddrKey,

@@ -3,3 +3,4 @@ pub mod LendLemmas
 pub mod PlaceLemmas
 pub mod CountLemmas
 pub mod RemovalLemmas
+pub mod QueueLemmas

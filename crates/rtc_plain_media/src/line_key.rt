@@ -8,7 +8,7 @@ use rtc_sdp_values::Mid;
 use std::hash::{Hash, Hasher};
 
 /// The mid of a line, by which its table finds it.
-#[derive(Clone, Copy, Debug, PartialEq, Eq)]
+#[derive(Clone, Copy, PartialEq, Eq)]
 pub struct LineKey {
     pub mid: Mid,
 }

@@ -119,9 +119,12 @@ fn put_line(lines: &mut Lines, key: LineKey, line: HeldLine) -> Option<HeldLine>
     }
 }
 
+/// Drops a value, by one call for all that is in it.
+fn release<T: Drop>(_value: T) {}
+
 /// Counts no more the sources of a line, where there was one.
-fn drop_sources(counts: &mut SourceCounts, line: Option<HeldLine>)
-    ensures counts { (n : ℕ) → count_for counts.new n ≡ count_for counts.old n - held_count n line }
+fn drop_sources(counts: &mut SourceCounts, line: &Option<HeldLine>)
+    ensures counts { (n : ℕ) → count_for counts.new n ≡ count_for counts.old n - held_count n line.now }
     ensures room { spare counts.old ≤ spare counts.new }
 {
     if let Some(line) = line {
@@ -157,7 +160,8 @@ fn apply(
     tell(events, event);
     source_counts::add_line(counts, &update);
     let before = put_line(lines, key, HeldLine { update, mark });
-    drop_sources(counts, before);
+    drop_sources(counts, &before);
+    release(before);
 }
 
 /// Applies updates in turn. Room was made for all of them.

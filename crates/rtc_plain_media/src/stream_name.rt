@@ -11,7 +11,7 @@ use rtc_sdp_values::{Mid, Rid};
 use std::hash::{Hash, Hasher};
 
 /// The name of a layer, as a part of a key.
-#[derive(Clone, Copy, Debug, PartialEq, Eq)]
+#[derive(Clone, Copy, PartialEq, Eq)]
 pub struct LayerKey {
     pub rid: Rid,
 }
@@ -27,7 +27,7 @@ impl Hash for LayerKey {
 }
 
 /// The line of a stream and its layer, by which its table finds it.
-#[derive(Clone, Copy, Debug, PartialEq, Eq, Hash)]
+#[derive(Clone, Copy, PartialEq, Eq, Hash)]
 pub struct StreamName {
     pub line: LineKey,
     pub layer: Option<LayerKey>,

@@ -6,7 +6,7 @@ use crate::PlainMark;
 use rtc_sdp_values::{Mid, Rid, Ssrc};
 
 /// A stream that is received or sent.
-#[derive(Clone, Copy, Debug, PartialEq, Eq)]
+#[derive(Clone, Copy)]
 pub struct StreamRow {
     pub ssrc: Ssrc,
     /// The stream of its retransmissions (RFC 4588).

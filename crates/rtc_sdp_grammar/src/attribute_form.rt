@@ -1,5 +1,5 @@
 //! Attributes by their names, which are told apart by length first.
-ghost use Rattle.std.specs.Prelude.{◌≡◌, IfOk};
+ghost use Rattle.std.specs.Prelude.{◌≡◌, IfOk, IsOk, OnOk};
 ghost use Rattle.rtc_sdp_attributes.specs.Forms as forms;
 ghost use Rattle.rtc_sdp_grammar.specs.declared.attribute.Attribute.TheVariants.{DirectionLine, LiteLine};
 ghost use Rattle.rtc_sdp_grammar.specs.ItemForm.{attribute as attribute_line};
@@ -39,6 +39,18 @@ fn or_skipped(level: Level, read: Option<Attribute>) -> Item
 }
 
 #[inline(always)]
+fn read_or_skipped(
+    level: Level,
+    read: Result<Option<Attribute>, AllocError>,
+) -> Result<Item, AllocError>
+    ensures item { IfOk result (λ item. IfOk read (λ attribute. item ≡ spec.row_item level spec.IsSkipped attribute)) }
+    ensures read { OnOk result (IsOk read) }
+{
+    let attribute = read?;
+    Ok(or_skipped(level, attribute))
+}
+
+#[inline(always)]
 fn lite(value: Option<&str>) -> Option<Attribute>
     ensures { result ≡ forms.bare LiteLine (names.bytes_shown value.entry) }
 {
@@ -65,8 +77,7 @@ fn of_3(alloc: Global, name: &str, value: Option<&str>) -> Result<Item, AllocErr
     if name == "mid" {
         Ok(or_refused(Level::MediaLevel, Strict::Mid, mid(value)))
     } else if name == "rid" {
-        let read = layer(alloc, value)?;
-        Ok(or_skipped(Level::MediaLevel, read))
+        read_or_skipped(Level::MediaLevel, layer(alloc, value))
     } else {
         Ok(Item::Skipped)
     }
@@ -77,14 +88,11 @@ fn of_4(alloc: Global, name: &str, value: Option<&str>) -> Result<Item, AllocErr
     ensures { IfOk result (λ item. item ≡ spec.looked_up (names.of_length 4 spec.table) name.now (names.bytes_shown value.entry)) }
 {
     if name == "fmtp" {
-        let read = parameters(alloc, value)?;
-        Ok(or_skipped(Level::MediaLevel, read))
+        read_or_skipped(Level::MediaLevel, parameters(alloc, value))
     } else if name == "msid" {
-        let read = stream(alloc, value)?;
-        Ok(or_skipped(Level::MediaLevel, read))
+        read_or_skipped(Level::MediaLevel, stream(alloc, value))
     } else if name == "ssrc" {
-        let read = source(alloc, value)?;
-        Ok(or_skipped(Level::MediaLevel, read))
+        read_or_skipped(Level::MediaLevel, source(alloc, value))
     } else {
         Ok(Item::Skipped)
     }
@@ -109,8 +117,7 @@ fn of_6(alloc: Global, name: &str, value: Option<&str>) -> Result<Item, AllocErr
     ensures { IfOk result (λ item. item ≡ spec.looked_up (names.of_length 6 spec.table) name.now (names.bytes_shown value.entry)) }
 {
     if name == "rtpmap" {
-        let read = codec(alloc, value)?;
-        Ok(or_skipped(Level::MediaLevel, read))
+        read_or_skipped(Level::MediaLevel, codec(alloc, value))
     } else if name == "extmap" {
         Ok(or_skipped(Level::MediaLevel, extension(value)))
     } else {
@@ -123,8 +130,7 @@ fn of_7(alloc: Global, name: &str, value: Option<&str>) -> Result<Item, AllocErr
     ensures { IfOk result (λ item. item ≡ spec.looked_up (names.of_length 7 spec.table) name.now (names.bytes_shown value.entry)) }
 {
     if name == "ice-pwd" {
-        let read = password(alloc, value)?;
-        Ok(or_skipped(Level::AnyLevel, read))
+        read_or_skipped(Level::AnyLevel, password(alloc, value))
     } else {
         Ok(Item::Skipped)
     }
@@ -154,17 +160,13 @@ fn of_9(alloc: Global, name: &str, value: Option<&str>) -> Result<Item, AllocErr
     ensures { IfOk result (λ item. item ≡ spec.looked_up (names.of_length 9 spec.table) name.now (names.bytes_shown value.entry)) }
 {
     if name == "ice-ufrag" {
-        let read = ufrag(alloc, value)?;
-        Ok(or_skipped(Level::AnyLevel, read))
+        read_or_skipped(Level::AnyLevel, ufrag(alloc, value))
     } else if name == "candidate" {
-        let read = candidate(alloc, value)?;
-        Ok(or_skipped(Level::MediaLevel, read))
+        read_or_skipped(Level::MediaLevel, candidate(alloc, value))
     } else if name == "simulcast" {
-        let read = layer_list(alloc, value)?;
-        Ok(or_skipped(Level::MediaLevel, read))
+        read_or_skipped(Level::MediaLevel, layer_list(alloc, value))
     } else if name == "sctp-init" {
-        let read = sctp_init(alloc, value)?;
-        Ok(or_skipped(Level::MediaLevel, read))
+        read_or_skipped(Level::MediaLevel, sctp_init(alloc, value))
     } else {
         Ok(Item::Skipped)
     }

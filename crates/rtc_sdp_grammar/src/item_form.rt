@@ -1,5 +1,5 @@
 //! The form of lines.
-ghost use Rattle.std.specs.Prelude.{◌≡◌, ◌∷◌, IfOk, IfSome};
+ghost use Rattle.std.specs.Prelude.{◌≡◌, ◌∷◌, map, IfOk, IfSome};
 ghost use Rattle.std.specs.Char.{is_ascii_lowercase};
 ghost use Rattle.std.specs.List.{list_all};
 ghost use Rattle.rtc_sdp_grammar.specs.ItemForm as spec;
@@ -11,15 +11,14 @@ use rtc_fields::{number, words};
 use rtc_sdp_attributes::cut;
 use std::alloc::{AllocError, Global};
 
-fn origin(alloc: Global, value: &str) -> Result<Item, AllocError>
-    ensures { IfOk result (λ item. item ≡ spec.origin value.now) }
+fn origin_of(fields: &[&str]) -> Item
+    ensures { result ≡ spec.origin_words (map (λ field. field.now) fields.now) }
 {
-    let fields = words(alloc, value)?;
-    let [user, id, version, network, family, address] = fields.as_slice() else {
-        return Ok(Item::Skipped);
+    let [user, id, version, network, family, address] = fields else {
+        return Item::Skipped;
     };
     let Some(id) = number(id) else {
-        return Ok(Item::Skipped);
+        return Item::Skipped;
     };
     if is_filled(user)
         && is_filled(version)
@@ -27,10 +26,17 @@ fn origin(alloc: Global, value: &str) -> Result<Item, AllocError>
         && is_filled(family)
         && is_filled(address)
     {
-        Ok(Item::Origin(id))
+        Item::Origin(id)
     } else {
-        Ok(Item::Skipped)
+        Item::Skipped
     }
+}
+
+fn origin(alloc: Global, value: &str) -> Result<Item, AllocError>
+    ensures { IfOk result (λ item. item ≡ spec.origin value.now) }
+{
+    let fields = words(alloc, value)?;
+    Ok(origin_of(fields.as_slice()))
 }
 
 fn are_lowercase(name: &str) -> bool

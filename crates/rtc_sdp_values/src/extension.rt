@@ -1,5 +1,6 @@
 //! Header extensions.
 ghost use Rattle.std.specs.Prelude.{◌≡◌};
+ghost use Rattle.std.specs.Str.{bytes_eq};
 ghost use Rattle.rtc_sdp_values.specs.Extension as spec;
 
 use rtc_wire::TryCopy;
@@ -39,24 +40,30 @@ impl Extension {
         }
     }
 
+    fn is_named(self, uri: &str) -> bool
+        ensures { result ≡ bytes_eq uri.now (spec.uri_of self) }
+    {
+        uri == self.uri()
+    }
+
     /// The extension that a URI names, if it is one of these.
     #[tactic(auto, unfolding(crate::specs::Extension::of_uri))]
     pub fn from_uri(uri: &str) -> Option<Extension>
         ensures { result ≡ spec.of_uri uri.now }
     {
-        if uri == Extension::AudioLevel.uri() {
+        if Extension::AudioLevel.is_named(uri) {
             Some(Extension::AudioLevel)
-        } else if uri == Extension::AbsoluteSendTime.uri() {
+        } else if Extension::AbsoluteSendTime.is_named(uri) {
             Some(Extension::AbsoluteSendTime)
-        } else if uri == Extension::TransportSequenceNumber.uri() {
+        } else if Extension::TransportSequenceNumber.is_named(uri) {
             Some(Extension::TransportSequenceNumber)
-        } else if uri == Extension::RtpMid.uri() {
+        } else if Extension::RtpMid.is_named(uri) {
             Some(Extension::RtpMid)
-        } else if uri == Extension::RtpStreamId.uri() {
+        } else if Extension::RtpStreamId.is_named(uri) {
             Some(Extension::RtpStreamId)
-        } else if uri == Extension::RepairedRtpStreamId.uri() {
+        } else if Extension::RepairedRtpStreamId.is_named(uri) {
             Some(Extension::RepairedRtpStreamId)
-        } else if uri == Extension::VideoOrientation.uri() {
+        } else if Extension::VideoOrientation.is_named(uri) {
             Some(Extension::VideoOrientation)
         } else {
             None

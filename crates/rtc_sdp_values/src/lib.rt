@@ -8,6 +8,7 @@ mod consistency;
 mod direction;
 mod extension;
 mod extension_map;
+mod filling;
 mod fingerprint;
 mod ice_creds;
 mod inconsistent;

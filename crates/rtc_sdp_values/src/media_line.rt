@@ -1,7 +1,8 @@
 //! M-lines.
-ghost use Rattle.std.specs.Prelude.{◌≡◌, IfOk, IsOk, OnOk};
+ghost use Rattle.std.specs.Prelude.{◌≡◌, OnOk};
 ghost use Rattle.rtc_sdp_values.specs.MediaLine.{bare_line};
 
+use crate::filling::{fill, whole};
 use crate::{
     Candidate, Direction, Extension, Fingerprint, IceCreds, LineKind, Mid, Msid, PayloadRow, Setup,
     Simulcast, Ssrc,
@@ -59,15 +60,6 @@ impl MediaLine {
     }
 }
 
-// What was copied, unless memory ran out meanwhile.
-fn whole(copied: MediaLine, filled: Result<(), AllocError>) -> Result<MediaLine, AllocError>
-    ensures line { IfOk result (λ line. line ≡ copied) }
-    ensures filled { OnOk result (IsOk filled) }
-{
-    filled?;
-    Ok(copied)
-}
-
 impl MediaLine {
     // A line with a copy of all that takes no memory.
     fn begin_copy(&self) -> MediaLine
@@ -93,11 +85,10 @@ impl MediaLine {
           sctp_init = self.now.sctp_init;
         }) }
     {
-        line.candidates = self.candidates.copy()?;
-        line.creds = self.creds.copy()?;
-        line.fingerprint = self.fingerprint.copy()?;
-        line.sctp_init = self.sctp_init.copy()?;
-        Ok(())
+        let filled = fill(Ok(()), &mut line.candidates, &self.candidates);
+        let filled = fill(filled, &mut line.creds, &self.creds);
+        let filled = fill(filled, &mut line.fingerprint, &self.fingerprint);
+        fill(filled, &mut line.sctp_init, &self.sctp_init)
     }
 
     fn copy_media(&self, line: &mut MediaLine) -> Result<(), AllocError>
@@ -110,13 +101,12 @@ impl MediaLine {
           ssrcs = self.now.ssrcs;
         }) }
     {
-        line.payloads = self.payloads.copy()?;
-        line.exts = self.exts.copy()?;
-        line.simulcast = self.simulcast.copy()?;
-        line.msid = self.msid.copy()?;
-        line.cname = self.cname.copy()?;
-        line.ssrcs = self.ssrcs.copy()?;
-        Ok(())
+        let filled = fill(Ok(()), &mut line.payloads, &self.payloads);
+        let filled = fill(filled, &mut line.exts, &self.exts);
+        let filled = fill(filled, &mut line.simulcast, &self.simulcast);
+        let filled = fill(filled, &mut line.msid, &self.msid);
+        let filled = fill(filled, &mut line.cname, &self.cname);
+        fill(filled, &mut line.ssrcs, &self.ssrcs)
     }
 
     fn fill_copy(&self, line: &mut MediaLine) -> Result<(), AllocError>

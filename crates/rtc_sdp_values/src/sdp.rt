@@ -1,11 +1,12 @@
 //! Session descriptions.
-ghost use Rattle.std.specs.Prelude.{◌≡◌, ◌++◌, IfOk, OnOk, Option, option_map};
+ghost use Rattle.std.specs.Prelude.{◌≡◌, ◌++◌, [], IfOk, None, OnOk, Option, option_map};
 ghost use Rattle.std.specs.Option.{option_copied};
 ghost use Rattle.std.specs.List.{flat_map};
 ghost use Rattle.rtc_fields.specs.Fields.{first};
 ghost use Rattle.rtc_sdp_values.specs.Sdp as spec;
 
 use crate::consistency::inconsistency;
+use crate::filling::{fill, whole};
 use crate::{Candidate, Fingerprint, IceCreds, MediaLine, Mid, SdpError, Setup};
 use rtc_wire::{Seq, TryCopy};
 use std::alloc::AllocError;
@@ -78,6 +79,15 @@ fn append_candidates(found: &mut Seq<Candidate>, candidates: &[Candidate]) -> Re
     Ok(())
 }
 
+fn append_line_candidates(found: &mut Seq<Candidate>, lines: &[MediaLine]) -> Result<(), AllocError>
+    ensures { OnOk result (found.new ≡ found.old ++ flat_map (λ line. line.candidates) lines.now) }
+{
+    for line in lines {
+        append_candidates(found, line.candidates.as_slice())?;
+    }
+    Ok(())
+}
+
 impl Sdp {
     /// The credentials of the session, else of the first line that has them.
     pub fn ice_creds(&self) -> Option<&IceCreds>
@@ -136,15 +146,10 @@ impl Sdp {
     pub fn candidates(&self) -> Result<Seq<Candidate>, AllocError>
         ensures { IfOk result (λ found. found ≡ spec.candidates_of self.now) }
     {
-        let [first, rest @ ..] = self.lines.as_slice() else {
-            let nothing = self.lines.copy()?.into_vec();
-            return Ok(Seq::empty(*nothing.allocator()));
-        };
-        let mut found = first.candidates.copy()?;
-        for line in rest {
-            append_candidates(&mut found, line.candidates.as_slice())?;
-        }
-        Ok(found)
+        let nothing = self.lines.empty_text().into_string();
+        let mut found = Seq::empty(*nothing.allocator());
+        let filled = append_line_candidates(&mut found, self.lines.as_slice());
+        whole(found, filled)
     }
 
     /// Whether the mids and the BUNDLE group are consistent (RFC 8843, section 7.1).
@@ -160,20 +165,42 @@ impl Sdp {
     }
 }
 
+impl Sdp {
+    // A description with a copy of all that takes no memory.
+    fn begin_copy(&self) -> Sdp
+        ensures { result ≡ record self.now { groups = []; creds = None; fingerprint = None; lines = [] } }
+    {
+        let nothing = self.lines.empty_text().into_string();
+        Sdp {
+            id: self.id,
+            groups: Seq::empty(*nothing.allocator()),
+            ice_lite: self.ice_lite,
+            creds: None,
+            fingerprint: None,
+            setup: self.setup,
+            lines: Seq::empty(*nothing.allocator()),
+        }
+    }
+
+    fn fill_copy(&self, sdp: &mut Sdp) -> Result<(), AllocError>
+        ensures { OnOk result (sdp.new ≡ record sdp.old {
+          groups = self.now.groups;
+          creds = self.now.creds;
+          fingerprint = self.now.fingerprint;
+          lines = self.now.lines;
+        }) }
+    {
+        let filled = fill(Ok(()), &mut sdp.groups, &self.groups);
+        let filled = fill(filled, &mut sdp.creds, &self.creds);
+        let filled = fill(filled, &mut sdp.fingerprint, &self.fingerprint);
+        fill(filled, &mut sdp.lines, &self.lines)
+    }
+}
+
 impl TryCopy for Sdp {
     fn copy(&self) -> Result<Sdp, AllocError> {
-        let groups = self.groups.copy()?;
-        let creds = self.creds.copy()?;
-        let fingerprint = self.fingerprint.copy()?;
-        let lines = self.lines.copy()?;
-        Ok(Sdp {
-            id: self.id,
-            groups,
-            ice_lite: self.ice_lite,
-            creds,
-            fingerprint,
-            setup: self.setup,
-            lines,
-        })
+        let mut sdp = self.begin_copy();
+        let filled = self.fill_copy(&mut sdp);
+        whole(sdp, filled)
     }
 }

@@ -1,5 +1,5 @@
 //! Why a line is refused.
-ghost use Rattle.std.specs.Prelude.{◌≡◌, ◌<◌, ◌^◌, ◌-◌, ◌||◌, nat_lt, Bool, true, false, length, Some, None};
+ghost use Rattle.std.specs.Prelude.{◌≡◌, ◌<◌, ◌^◌, ◌-◌, ◌||◌, nat_lt, Bool, true, false, length, slice_get, Some, None};
 ghost use Rattle.std.specs.Option.{option_copied};
 ghost use Rattle.rtc_tables.specs.Table.{Distinct, row_of, app_of, has_mid};
 ghost use Rattle.rtc_tables.specs.DeclaredMedia.{media_place};
@@ -125,6 +125,16 @@ fn judge_place(offer: bool, mid: Mid, row: &LineRow) -> Option<Why>
     }
 }
 
+// A media line whose mid no row has.
+fn judge_free(rows: &[LineRow], offer: bool, place: u32, mid: Mid) -> Option<Why>
+    ensures { result ≡ place_refusal offer mid (slice_get rows.now place) }
+{
+    match rows.get(place as usize) {
+        Some(row) => judge_place(offer, mid, row),
+        None => None,
+    }
+}
+
 fn judge_media(
     rows: &MidIndex<'_>,
     offer: bool,
@@ -137,10 +147,7 @@ fn judge_media(
 {
     match rows.find_at(place as usize, mid) {
         Some(row) => judge_known(place, kind, mid, row),
-        None => match rows.as_slice().get(place as usize) {
-            Some(row) => judge_place(offer, mid, row),
-            None => None,
-        },
+        None => judge_free(rows.as_slice(), offer, place, mid),
     }
 }
 
@@ -162,6 +169,9 @@ fn judge_line(
     }
 }
 
+// Drops a value, by one call for all that is in it.
+fn release<T: Drop>(_value: T) {}
+
 /// The refusal of the first line that is refused.
 pub fn judge_lines(rows: &MidIndex<'_>, offer: bool, lines: &[ParsedLine]) -> Option<Why>
     requires few { length lines.now < 2 ^ 32 - 1 }
@@ -174,6 +184,7 @@ pub fn judge_lines(rows: &MidIndex<'_>, offer: bool, lines: &[ParsedLine]) -> Op
         if refused.is_some() {
             return refused;
         }
+        release(refused);
         came = came || parsed.kind == LineKind::Application;
     }
     None

@@ -1,9 +1,10 @@
-use Rattle.std.proofs.Common.{◌≡◌, ◌+◌, ◌++◌, List, sym, ap, ◌∙◌, append_assoc, refl, arith}
+use Rattle.std.proofs.Common.{◌≡◌, ◌+◌, ◌++◌, List, sym, ap, ◌∙◌, append_assoc, append-nil, refl, arith}
 use Rattle.rtc_media.specs.declared.media_update.MediaUpdate.{MediaUpdate}
 use Rattle.rtc_plain_media.specs.declared.plain_media_event.PlainMediaEvent.{PlainMediaEvent}
 use Rattle.rtc_plain_media.specs.Lines.{Lines, lines_after, events_after, events_of, set_line}
 use Rattle.rtc_plain_media.specs.SourceCounts.{count_for, update_numbers, updates_numbers}
 use Rattle.rtc_plain_media.proofs.CountLemmas.{counts_put, update_most}
+use Rattle.rtc_plain_media.proofs.QueueLemmas.{none_left}
 use Rattle.rtc_plain_media.proofs.lines.apply_all.Goals as goal
 
 pub apply-requires-clause-counts : goal.apply-requires-clause-counts
@@ -15,6 +16,12 @@ pub apply-requires-clause-fits : goal.apply-requires-clause-fits
 apply-requires-clause-fits c = λ n.
     let parted : updates_numbers c.loop-update.pending.items ≡ update_numbers c.in-Some.update + updates_numbers c.pop_front.new.self.items = ap updates_numbers c.in-Some.ensures.items in
     omega (arith, parted, c.loop-update.invariant.most n, c.requires.fits n)
+
+pub apply-requires-clause-lines : goal.apply-requires-clause-lines
+apply-requires-clause-lines c = omega (arith, c.in-Some.ensures.cases, c.loop-update.invariant.lines_room)
+
+pub apply-requires-clause-events : goal.apply-requires-clause-events
+apply-requires-clause-events c = omega (arith, c.in-Some.ensures.cases, c.loop-update.invariant.events_room)
 
 pub loop-update-preserved : goal.loop-update-preserved
 loop-update-preserved c =
@@ -41,3 +48,30 @@ loop-update-preserved c =
       counts = λ n. counts_put n u lines c.apply.new.lines.entries (count_for c.loop-update.counts n) (count_for c.apply.new.counts n) c.apply.ensures.lines (c.loop-update.invariant.counts n) (c.apply.ensures.counts n);
       most = λ n. omega (arith, parted, c.loop-update.invariant.most n, c.apply.ensures.counts n, update_most n u);
     }
+
+pub returns-clause-lines : goal.returns-clause-lines
+returns-clause-lines c =
+    ap (λ (us : List MediaUpdate). lines_after us c.loop-update.lines.entries) (sym (none_left _ _ c.in_default.ensures.items c.in_default.ensures.rest))
+    ∙ c.loop-update.invariant.lines
+
+pub returns-clause-events : goal.returns-clause-events
+returns-clause-events c =
+    sym (append-nil c.loop-update.events.items)
+    ∙ ap (λ (us : List MediaUpdate). c.loop-update.events.items ++ events_after us c.loop-update.lines.entries)
+    (sym (none_left _ _ c.in_default.ensures.items c.in_default.ensures.rest))
+    ∙ c.loop-update.invariant.events
+
+pub returns-clause-counts : goal.returns-clause-counts
+returns-clause-counts c = c.loop-update.invariant.counts
+
+pub returns-clause-most : goal.returns-clause-most
+returns-clause-most c = λ n. omega (arith, c.loop-update.invariant.most n)
+
+pub returns-clause-pending : goal.returns-clause-pending
+returns-clause-pending c = sym c.in_default.ensures.items ∙ none_left _ _ c.in_default.ensures.items c.in_default.ensures.rest
+
+pub returns-clause-empty : goal.returns-clause-empty
+returns-clause-empty c = c.in_default.ensures.cases.1
+
+pub returns-clause-room : goal.returns-clause-room
+returns-clause-room c = omega (arith, c.loop-update.invariant.events_room)

@@ -13,8 +13,8 @@ invariant_of-self-2 c =
     record {
       least = c.self.invariant.least;
       most = c.self.invariant.most;
-      numbers = omega (arith, left, last, c.in_ok-push_back.ensures.len);
-      agree = rw (c.in_ok-push_back.ensures.items, c.close-close.ensures) (agree-closed _ _ _ _ c.self.invariant.agree);
+      numbers = omega (arith, left, last, c.in_ok-queue_close.ensures.count);
+      agree = rw c.in_ok-queue_close.ensures.items (agree-closed _ _ _ _ c.self.invariant.agree);
       table = c.set_row.ensures.sound;
     }
 
@@ -22,12 +22,10 @@ pub returns-clause-ok : goal.returns-clause-ok
 unfolding sent stream_ended
 returns-clause-ok c =
     let row_is = c.row_of-row.ensures in
-    let closes = rw row_is at c.close-close.ensures in
-    let items_is = c.in_ok-push_back.ensures.items ∙ ap (λ i. c.self.inside.items.items ++ i ∷ []) closes in
+    let items_is = rw row_is at c.in_ok-queue_close.ensures.items in
     let number_is : c.self.inside.acked + c.len.result + 1 ≡ c.self.inside.acked + length c.self.inside.items.items + 1 = omega (arith, c.len.ensures) in
-    let made = rw (number_is, closes) at c.in_ok-packet.ensures.bytes in
-    let reads = rw (number_is, closes) at c.in_ok-packet.ensures.reads in
-    let packets_is = c.enqueue.ensures.items ∙ ap (λ l. l ++ c.in_ok-packet.packet ∷ []) c.in_ok-reserve.ensures.items ∙ ap (λ b. c.self.inside.packets.items ++ b ∷ []) made in
+    let packets_is = rw (number_is, row_is) at c.in_ok-queue_close.ensures.packets in
+    let reads = rw (number_is, row_is) at c.in_ok-queue_close.ensures.reads in
     let streams_is = rw (c.in_ok-make_room.ensures.rows, row_is) at c.set_row.ensures.rows in
     let parts_is = rw row_is at c.forget.ensures.parts in
     let unread_is = rw row_is at c.forget.ensures.unread in

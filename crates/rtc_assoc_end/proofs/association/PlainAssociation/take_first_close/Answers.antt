@@ -13,22 +13,22 @@ invariant_of-self-2 c =
     record {
       least = c.self.invariant.least;
       most = c.self.invariant.most;
-      numbers = omega (arith, left, last, c.in_ok-push_back.ensures.len);
-      agree = rw (c.in_ok-push_back.ensures.items, c.close-close.ensures) (agree-closed _ _ _ _ c.self.invariant.agree);
+      numbers = omega (arith, left, last, c.in_ok-queue_close.ensures.count);
+      agree = rw c.in_ok-queue_close.ensures.items (agree-closed _ _ _ _ c.self.invariant.agree);
       table = c.count_item.ensures.sound;
     }
 
 pub returns-clause-ok : goal.returns-clause-ok
 unfolding item_counted finished sent answered
 returns-clause-ok c =
-    let items_is = c.in_ok-push_back.ensures.items ∙ ap (λ i. c.self.inside.items.items ++ i ∷ []) c.close-close.ensures in
+    let items_is = c.in_ok-queue_close.ensures.items in
     let number_is : c.self.inside.acked + c.len.result + 1 ≡ c.self.inside.acked + length c.self.inside.items.items + 1 = omega (arith, c.len.ensures) in
-    let made = rw (number_is, c.close-close.ensures) at c.in_ok-packet.ensures.bytes in
-    let reads = rw (number_is, c.close-close.ensures) at c.in_ok-packet.ensures.reads in
-    let packets_is = rw (c.enqueue-2.ensures.items, c.in_ok-reserve-2.ensures.items, made, c.in_ok-answer.ensures.bytes) at c.count_item.ensures.packets in
-    let streams_is = rw c.in_ok-make_room.ensures.rows at c.count_item.ensures.streams in
-    let events_is = rw c.in_ok-reserve.ensures.items at c.enqueue.ensures.items in
+    let made = rw number_is at c.in_ok-queue_close.ensures.packets in
+    let reads = rw number_is at c.in_ok-queue_close.ensures.reads in
+    let packets_is = rw (made, c.in_ok-answer.ensures.packets, c.in_ok-answer.ensures.bytes) at c.count_item.ensures.packets in
+    let streams_is = rw c.in_ok-answer.ensures.rows at c.count_item.ensures.streams in
+    let events_is = rw c.in_ok-answer.ensures.events at c.finish.ensures.events in
     rw (← c.self.view_is) (
-      rw (items_is, packets_is, streams_is, events_is, c.count_item.ensures.received, c.forget.ensures.parts, c.forget.ensures.unread) refl,
+      rw (items_is, packets_is, streams_is, events_is, c.count_item.ensures.received, c.finish.ensures.parts, c.finish.ensures.unread) refl,
       queues_close _ _ _ _ _ (sym c.count_item.ensures.received) packets_is reads c.in_ok-answer.ensures.reads c.self.inside.items.items items_is refl,
     )

@@ -6,7 +6,7 @@ use Rattle.rtc_assoc_end.proofs.association.PlainAssociation.take_more.Goals as 
 pub returns-clause-ok : goal.returns-clause-ok
 unfolding item_counted more_kept answered
 returns-clause-ok c =
-    let packets_is = rw (c.in_ok-reserve.ensures.items, c.in_ok-answer.ensures.bytes) at c.count_item.ensures.packets in
-    let streams_is = rw c.in_ok-make_room.ensures.rows at c.count_item.ensures.streams in
+    let packets_is = rw (c.in_ok-answer.ensures.packets, c.in_ok-answer.ensures.bytes) at c.count_item.ensures.packets in
+    let streams_is = rw c.in_ok-answer.ensures.rows at c.count_item.ensures.streams in
     rw (← c.self.view_is)
-    (rw (packets_is, streams_is, c.count_item.ensures.received, c.in_ok-keep_more.ensures.ok) refl, queues_acknowledgement _ _ _ packets_is c.in_ok-answer.ensures.reads (sym c.count_item.ensures.received))
+    (rw (packets_is, streams_is, c.count_item.ensures.received, c.in_ok-answer.ensures.events, c.in_ok-keep_more.ensures.ok) refl, queues_acknowledgement _ _ _ packets_is c.in_ok-answer.ensures.reads (sym c.count_item.ensures.received))

@@ -1,7 +1,0 @@
-use Rattle.std.proofs.Common.{◌≡◌, ◌++◌, drop}
-use Rattle.std.specs.List.{flat_map}
-use Rattle.rtc_sdp_values.specs.Sdp as spec
-use Rattle.rtc_sdp_values.proofs.sdp.Sdp.candidates.Given as goal
-
-abbrev pub invariant-loop-line : goal.invariant-loop-line
-invariant-loop-line l = l.found ++ flat_map (λ line. line.candidates) (drop l.line-index l.rest) ≡ spec.candidates_of l.self
