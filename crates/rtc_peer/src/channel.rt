@@ -1,5 +1,5 @@
 //! Data channels that are open.
-ghost use Rattle.std.specs.Prelude.{◌≡◌, None, Some, MatchOption, if◌then◌else◌};
+ghost use Rattle.std.specs.Prelude.{◌≡◌, None, Some, MatchOption};
 ghost use Rattle.rtc_sctp_entries.specs.Entries.{stream_config};
 ghost use Rattle.rtc_peer_state.specs.Meanings.{meanings};
 ghost use Rattle.rtc_polling.specs.ChannelCalls.{SetsChannelThreshold, WritesChannel, bytes_buffered};
@@ -44,14 +44,16 @@ impl<I: IceAgent, D: DtlsInstance, S: Association, M: MediaSession, N: Ids> Chan
         ensures same_stream { self.new.stream ≡ self.old.stream }
         ensures same_reference { self.new.rtc.ghost_name ≡ self.old.rtc.ghost_name }
     {
-        self.rtc.write_channel(self.stream, binary, buf)
+        let rtc = &mut *self.rtc;
+        rtc.polled.write_channel(self.stream, binary, buf)
     }
 
     /// The bytes written to the channel that are not acknowledged.
     pub fn buffered_amount(&self) -> usize
         ensures { result ≡ bytes_buffered (meanings I.ice D.dtls S.association M.media N.ids) self.now.stream self.now.rtc.now }
     {
-        self.rtc.buffered_amount(self.stream)
+        let rtc = &*self.rtc;
+        rtc.polled.core.sctp.buffered_amount(self.stream)
     }
 
     /// Asks to be told where what the channel has buffered falls to `threshold` bytes.
@@ -60,7 +62,8 @@ impl<I: IceAgent, D: DtlsInstance, S: Association, M: MediaSession, N: Ids> Chan
         ensures same_stream { self.new.stream ≡ self.old.stream }
         ensures same_reference { self.new.rtc.ghost_name ≡ self.old.rtc.ghost_name }
     {
-        self.rtc.set_threshold(self.stream, threshold)
+        let rtc = &mut *self.rtc;
+        rtc.polled.set_threshold(self.stream, threshold);
     }
 
     /// What the channel was opened with.
@@ -68,6 +71,7 @@ impl<I: IceAgent, D: DtlsInstance, S: Association, M: MediaSession, N: Ids> Chan
         ensures { MatchOption result (stream_config self.now.stream self.now.rtc.now.core.sctp.entries ≡ None)
             (λ config. stream_config self.now.stream self.now.rtc.now.core.sctp.entries ≡ Some config.now) }
     {
-        self.rtc.config_of_stream(self.stream)
+        let rtc = &*self.rtc;
+        rtc.polled.core.sctp.config(self.stream)
     }
 }

@@ -9,6 +9,11 @@ ghost use Rattle.rtc_direct.specs.ChannelMaking.{StartsStreams, CreatesChannel};
 
 use crate::Rtc;
 use rtc_association::Association;
+use rtc_direct::{
+    copy_local_credentials, create_data_channel, invalidate_candidate, set_ice_controlling,
+    set_ice_lite, set_local_credentials, set_remote_credentials, set_remote_fingerprint,
+    start_dtls, start_sctp, start_sctp_with_snap,
+};
 use rtc_dtls::{DtlsInstance, DtlsVersion};
 use rtc_ice::IceAgent;
 use rtc_ids::Ids;
@@ -32,6 +37,16 @@ impl<I: IceAgent, D: DtlsInstance, S: Association, M: MediaSession, N: Ids> Drop
         ensures { self.exit.0.now ≡ self.entry.rtc.now }
     {
         let DirectApi { rtc: _ } = self;
+    }
+}
+
+impl<I: IceAgent, D: DtlsInstance, S: Association, M: MediaSession, N: Ids> Rtc<I, D, S, M, N> {
+    /// A handle by which a user drives the peer without session descriptions.
+    pub fn direct_api(&mut self) -> DirectApi<'_, I, D, S, M, N>
+        ensures same_reference { result.rtc.ghost_name ≡ self.entry.ghost_name }
+        ensures peer { result.rtc.now ≡ self.old }
+    {
+        DirectApi { rtc: self }
     }
 }
 
@@ -65,7 +80,8 @@ impl<'a, I: IceAgent, D: DtlsInstance, S: Association, M: MediaSession, N: Ids> 
         ensures same_reference { self.new.rtc.ghost_name ≡ self.old.rtc.ghost_name }
         ensures does { SetsControlling I.ice on self.old.rtc.now self.new.rtc.now }
     {
-        self.rtc.set_ice_controlling(on);
+        let rtc = &mut *self.rtc;
+        set_ice_controlling(&mut rtc.polled, on);
     }
 
     /// Sets whether this side only answers checks (RFC 8445, section 2.5).
@@ -73,7 +89,8 @@ impl<'a, I: IceAgent, D: DtlsInstance, S: Association, M: MediaSession, N: Ids> 
         ensures same_reference { self.new.rtc.ghost_name ≡ self.old.rtc.ghost_name }
         ensures does { SetsLite I.ice on self.old.rtc.now self.new.rtc.now }
     {
-        self.rtc.set_ice_lite(on);
+        let rtc = &mut *self.rtc;
+        set_ice_lite(&mut rtc.polled, on);
     }
 
     /// Sets the credentials of this side.
@@ -81,7 +98,8 @@ impl<'a, I: IceAgent, D: DtlsInstance, S: Association, M: MediaSession, N: Ids> 
         ensures same_reference { self.new.rtc.ghost_name ≡ self.old.rtc.ghost_name }
         ensures does { SetsLocalCreds I.ice creds self.old.rtc.now self.new.rtc.now }
     {
-        self.rtc.set_local_ice_credentials(creds);
+        let rtc = &mut *self.rtc;
+        set_local_credentials(&mut rtc.polled, creds);
     }
 
     /// Sets the credentials of the other side.
@@ -89,7 +107,8 @@ impl<'a, I: IceAgent, D: DtlsInstance, S: Association, M: MediaSession, N: Ids> 
         ensures same_reference { self.new.rtc.ghost_name ≡ self.old.rtc.ghost_name }
         ensures does { SetsRemoteCreds I.ice creds self.old.rtc.now self.new.rtc.now }
     {
-        self.rtc.set_remote_ice_credentials(creds);
+        let rtc = &mut *self.rtc;
+        set_remote_credentials(&mut rtc.polled, creds);
     }
 
     /// Stops using a candidate. Answers whether it was there.
@@ -97,14 +116,16 @@ impl<'a, I: IceAgent, D: DtlsInstance, S: Association, M: MediaSession, N: Ids> 
         ensures same_reference { self.new.rtc.ghost_name ≡ self.old.rtc.ghost_name }
         ensures does { InvalidatesCandidate I.ice candidate.now result self.old.rtc.now self.new.rtc.now }
     {
-        self.rtc.invalidate_candidate(candidate)
+        let rtc = &mut *self.rtc;
+        invalidate_candidate(&mut rtc.polled, candidate)
     }
 
     /// The credentials of this side, copied.
     pub fn local_ice_credentials(&self) -> Result<IceCreds, AllocError>
         ensures { IfOk result (λ creds. creds ≡ (I.ice.settings self.now.rtc.now.core.ice).local) }
     {
-        self.rtc.copy_credentials()
+        let rtc = &*self.rtc;
+        copy_local_credentials(&rtc.polled)
     }
 
     /// Sets the fingerprint that the certificate of the other side has to match (RFC 8122, section 5).
@@ -112,7 +133,8 @@ impl<'a, I: IceAgent, D: DtlsInstance, S: Association, M: MediaSession, N: Ids> 
         ensures same_reference { self.new.rtc.ghost_name ≡ self.old.rtc.ghost_name }
         ensures does { self.new.rtc.now ≡ with_fingerprint fingerprint self.old.rtc.now }
     {
-        self.rtc.set_remote_fingerprint(fingerprint);
+        let rtc = &mut *self.rtc;
+        set_remote_fingerprint(&mut rtc.polled, fingerprint);
     }
 
     /// Takes a DTLS role, where there is none: an active side begins the handshake. Ok, and nothing happens, where there is
@@ -121,14 +143,16 @@ impl<'a, I: IceAgent, D: DtlsInstance, S: Association, M: MediaSession, N: Ids> 
         ensures same_reference { self.new.rtc.ghost_name ≡ self.old.rtc.ghost_name }
         ensures does { TakesDtlsRole D.dtls active self.old.rtc.now result self.new.rtc.now }
     {
-        self.rtc.start_dtls(active)
+        let rtc = &mut *self.rtc;
+        start_dtls(&mut rtc.polled, active)
     }
 
     /// The SHA-256 fingerprint of the certificate of this side (RFC 8122, section 5).
     pub fn local_dtls_fingerprint(&self) -> &Fingerprint
         ensures { result.now ≡ self.now.rtc.now.core.dtls.local }
     {
-        self.rtc.own_fingerprint()
+        let rtc = &*self.rtc;
+        rtc.polled.core.dtls.local_fingerprint()
     }
 
     /// The fingerprint of the certificate that the other side showed.
@@ -136,14 +160,16 @@ impl<'a, I: IceAgent, D: DtlsInstance, S: Association, M: MediaSession, N: Ids> 
         ensures { MatchOption result (self.now.rtc.now.core.dtls.remote ≡ None)
             (λ f. self.now.rtc.now.core.dtls.remote ≡ Some f.now) }
     {
-        self.rtc.checked_fingerprint()
+        let rtc = &*self.rtc;
+        rtc.polled.core.dtls.remote_fingerprint()
     }
 
     /// The version that the handshake gave; None before.
     pub fn dtls_protocol_version(&self) -> Option<DtlsVersion>
         ensures { result ≡ D.dtls.version self.now.rtc.now.core.dtls.instance }
     {
-        self.rtc.dtls_version()
+        let rtc = &*self.rtc;
+        rtc.polled.core.dtls.protocol_version()
     }
 
     /// Starts the association as client or as server. Ok, and nothing happens, where it was started before.
@@ -151,7 +177,8 @@ impl<'a, I: IceAgent, D: DtlsInstance, S: Association, M: MediaSession, N: Ids> 
         ensures same_reference { self.new.rtc.ghost_name ≡ self.old.rtc.ghost_name }
         ensures does { StartsStreams S.association client None self.old.rtc.now result self.new.rtc.now }
     {
-        self.rtc.start_sctp(client)
+        let rtc = &mut *self.rtc;
+        start_sctp(&mut rtc.polled, client)
     }
 
     /// Starts the association by the halves of both sides (draft-hancke-tsvwg-snap): it is established at once, and session
@@ -165,7 +192,8 @@ impl<'a, I: IceAgent, D: DtlsInstance, S: Association, M: MediaSession, N: Ids> 
         ensures same_reference { self.new.rtc.ghost_name ≡ self.old.rtc.ghost_name }
         ensures does { StartsStreams S.association client (Some halves) self.old.rtc.now result self.new.rtc.now }
     {
-        self.rtc.start_sctp_with_snap(client, halves)
+        let rtc = &mut *self.rtc;
+        start_sctp_with_snap(&mut rtc.polled, client, halves)
     }
 
     /// Makes a channel, and answers its number: it is opened once the association is started and it has a stream.
@@ -173,7 +201,8 @@ impl<'a, I: IceAgent, D: DtlsInstance, S: Association, M: MediaSession, N: Ids> 
         ensures same_reference { self.new.rtc.ghost_name ≡ self.old.rtc.ghost_name }
         ensures does { CreatesChannel config self.old.rtc.now result self.new.rtc.now }
     {
-        self.rtc.create_data_channel(config)
+        let rtc = &mut *self.rtc;
+        create_data_channel(&mut rtc.polled, config)
     }
 
     /// Closes a data channel: its stream is reset, if it has one (RFC 8831, section 6.7). Nothing happens where there is no such
@@ -182,20 +211,23 @@ impl<'a, I: IceAgent, D: DtlsInstance, S: Association, M: MediaSession, N: Ids> 
         ensures same_reference { self.new.rtc.ghost_name ≡ self.old.rtc.ghost_name }
         ensures does { ClosesDataChannel (meanings I.ice D.dtls S.association M.media N.ids) id self.old.rtc.now result self.new.rtc.now }
     {
-        self.rtc.close_data_channel(id)
+        let rtc = &mut *self.rtc;
+        rtc.polled.close_data_channel(id)
     }
 
     /// The channel that a stream was given to.
     pub fn channel_id_by_sctp_stream_id(&self, s: u16) -> Option<ChannelId>
         ensures { result ≡ channel_of_stream s (map numbered_stream self.now.rtc.now.core.channels.rows) }
     {
-        self.rtc.channel_of(s)
+        let rtc = &*self.rtc;
+        rtc.polled.core.channels.channel_id_by_stream_id(s)
     }
 
     /// The stream that a channel was given.
     pub fn sctp_stream_id_by_channel_id(&self, id: ChannelId) -> Option<u16>
         ensures { result ≡ stream_under id self.now.rtc.now.core.channels }
     {
-        self.rtc.stream_of(id)
+        let rtc = &*self.rtc;
+        rtc.polled.core.channels.stream_id_by_channel_id(id)
     }
 }

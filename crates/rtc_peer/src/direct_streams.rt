@@ -9,6 +9,10 @@ ghost use Rattle.rtc_direct.specs.Streams.{ExpectsRx, DeclaresTx, LendsRx, Lends
 
 use crate::DirectApi;
 use rtc_association::Association;
+use rtc_direct::{
+    lend_stream_rx, lend_stream_rx_by_mid, lend_stream_tx, lend_stream_tx_by_mid, make_stream_rx,
+    make_stream_tx, reset_stream_tx,
+};
 use rtc_dtls::DtlsInstance;
 use rtc_ice::IceAgent;
 use rtc_ids::Ids;
@@ -41,7 +45,8 @@ impl<'a, I: IceAgent, D: DtlsInstance, S: Association, M: MediaSession, N: Ids> 
             (λ n. (n.rtc.ghost_name ≡ self.old.rtc.ghost_name) × (n.rtc.now ≡ self.old.rtc.now))) }
         ensures answer { StreamAnswers (gives_no_rx M.media ssrc rtx mid rid self.old.rtc.now) result }
     {
-        self.rtc.make_stream_rx(ssrc, rtx, mid, rid)
+        let rtc = &mut *self.rtc;
+        make_stream_rx(&mut rtc.polled, ssrc, rtx, mid, rid)
     }
 
     /// Makes the stream of a source to be sent, or replaces it, and lends it. The error says why there is none.
@@ -61,7 +66,8 @@ impl<'a, I: IceAgent, D: DtlsInstance, S: Association, M: MediaSession, N: Ids> 
             (λ n. (n.rtc.ghost_name ≡ self.old.rtc.ghost_name) × (n.rtc.now ≡ self.old.rtc.now))) }
         ensures answer { StreamAnswers (gives_no_tx M.media ssrc rtx mid rid self.old.rtc.now) result }
     {
-        self.rtc.make_stream_tx(ssrc, rtx, mid, rid)
+        let rtc = &mut *self.rtc;
+        make_stream_tx(&mut rtc.polled, ssrc, rtx, mid, rid)
     }
 
     /// `make_stream_rx` with None where no row of media has the mid, and where the media part has no such stream.
@@ -101,7 +107,8 @@ impl<'a, I: IceAgent, D: DtlsInstance, S: Association, M: MediaSession, N: Ids> 
             (λ n. (n.rtc.ghost_name ≡ self.old.rtc.ghost_name) × (n.rtc.now ≡ self.old.rtc.now))) }
         ensures found { is_some result ≡ M.media.has_rx self.old.rtc.now.core.media ssrc }
     {
-        self.rtc.stream_rx(ssrc)
+        let rtc = &mut *self.rtc;
+        lend_stream_rx(&mut rtc.polled, ssrc)
     }
 
     /// The stream of a source that is sent.
@@ -115,7 +122,8 @@ impl<'a, I: IceAgent, D: DtlsInstance, S: Association, M: MediaSession, N: Ids> 
             (λ n. (n.rtc.ghost_name ≡ self.old.rtc.ghost_name) × (n.rtc.now ≡ self.old.rtc.now))) }
         ensures found { is_some result ≡ M.media.has_tx self.old.rtc.now.core.media ssrc }
     {
-        self.rtc.stream_tx(ssrc)
+        let rtc = &mut *self.rtc;
+        lend_stream_tx(&mut rtc.polled, ssrc)
     }
 
     /// The stream of a line and a layer that is received.
@@ -129,7 +137,8 @@ impl<'a, I: IceAgent, D: DtlsInstance, S: Association, M: MediaSession, N: Ids> 
             (λ n. (n.rtc.ghost_name ≡ self.old.rtc.ghost_name) × (n.rtc.now ≡ self.old.rtc.now))) }
         ensures found { is_some result ≡ M.media.has_rx_named self.old.rtc.now.core.media mid rid }
     {
-        self.rtc.stream_rx_by_mid(mid, rid)
+        let rtc = &mut *self.rtc;
+        lend_stream_rx_by_mid(&mut rtc.polled, mid, rid)
     }
 
     /// The stream of a line and a layer that is sent.
@@ -143,7 +152,8 @@ impl<'a, I: IceAgent, D: DtlsInstance, S: Association, M: MediaSession, N: Ids> 
             (λ n. (n.rtc.ghost_name ≡ self.old.rtc.ghost_name) × (n.rtc.now ≡ self.old.rtc.now))) }
         ensures found { is_some result ≡ M.media.has_tx_named self.old.rtc.now.core.media mid rid }
     {
-        self.rtc.stream_tx_by_mid(mid, rid)
+        let rtc = &mut *self.rtc;
+        lend_stream_tx_by_mid(&mut rtc.polled, mid, rid)
     }
 
     /// Gives the stream of a line and a layer that is sent a new source. None where there is no such stream, or where it has this
@@ -164,6 +174,7 @@ impl<'a, I: IceAgent, D: DtlsInstance, S: Association, M: MediaSession, N: Ids> 
             (λ n. (n.rtc.ghost_name ≡ self.old.rtc.ghost_name) × (n.rtc.now ≡ self.old.rtc.now))) }
         ensures found { is_some result ≡ M.media.resets_tx self.old.rtc.now.core.media mid rid new_ssrc new_rtx }
     {
-        self.rtc.reset_stream_tx(mid, rid, new_ssrc, new_rtx)
+        let rtc = &mut *self.rtc;
+        reset_stream_tx(&mut rtc.polled, mid, rid, new_ssrc, new_rtx)
     }
 }

@@ -6,7 +6,6 @@
 mod built;
 mod channel;
 mod direct_api;
-mod direct_calls;
 mod direct_lends;
 mod direct_media;
 mod direct_streams;

@@ -1,10 +1,9 @@
 //! The channels of a peer that are open.
-ghost use Rattle.std.specs.Prelude.{◌≡◌, None, Some, IfSome, IsSome, MatchOption, ◌↔◌, option_map};
+ghost use Rattle.std.specs.Prelude.{◌≡◌, None, Some, IfSome, IsSome, MatchOption, ◌↔◌};
 ghost use Rattle.std.specs.Borrow.{RestsIfNone, sem};
 ghost use Rattle.rtc_peer.specs.contracts.rtc.Rtc.{the_row};
-ghost use Rattle.rtc_sctp_entries.specs.Entries.{stream_config};
 ghost use Rattle.rtc_peer_state.specs.Meanings.{meanings};
-ghost use Rattle.rtc_polling.specs.ChannelCalls.{SetsChannelThreshold, ClosesDataChannel, WritesChannel, bytes_buffered, open_stream_under};
+ghost use Rattle.rtc_polling.specs.ChannelCalls.{ClosesDataChannel, open_stream_under};
 ghost use Rattle.rtc_polling.specs.ChannelCalls.{config_under, stream_under};
 
 use crate::{Channel, Rtc};
@@ -13,7 +12,6 @@ use rtc_dtls::DtlsInstance;
 use rtc_ice::IceAgent;
 use rtc_ids::Ids;
 use rtc_media::MediaSession;
-use rtc_peer_state::RtcError;
 use rtc_wire::{ChannelConfig, ChannelId};
 use std::alloc::AllocError;
 
@@ -51,35 +49,5 @@ impl<I: IceAgent, D: DtlsInstance, S: Association, M: MediaSession, N: Ids> Rtc<
         ensures { ClosesDataChannel (meanings I.ice D.dtls S.association M.media N.ids) id self.old result self.new }
     {
         self.polled.close_data_channel(id)
-    }
-
-    pub(crate) fn write_channel(
-        &mut self,
-        stream: u16,
-        binary: bool,
-        buf: &[u8],
-    ) -> Result<bool, RtcError>
-        ensures { WritesChannel (meanings I.ice D.dtls S.association M.media N.ids) stream binary buf.now self.old result self.new }
-    {
-        self.polled.write_channel(stream, binary, buf)
-    }
-
-    pub(crate) fn buffered_amount(&self, stream: u16) -> usize
-        ensures { result ≡ bytes_buffered (meanings I.ice D.dtls S.association M.media N.ids) stream self.now }
-    {
-        self.polled.core.sctp.buffered_amount(stream)
-    }
-
-    pub(crate) fn set_threshold(&mut self, stream: u16, n: usize)
-        ensures { SetsChannelThreshold stream n self.old self.new }
-    {
-        self.polled.set_threshold(stream, n);
-    }
-
-    pub(crate) fn config_of_stream(&self, stream: u16) -> Option<&ChannelConfig>
-        ensures { MatchOption result (stream_config stream self.now.core.sctp.entries ≡ None)
-            (λ config. stream_config stream self.now.core.sctp.entries ≡ Some config.now) }
-    {
-        self.polled.core.sctp.config(stream)
     }
 }

@@ -1,40 +1,29 @@
 //! The peer that callers hold.
-ghost use Rattle.std.specs.Prelude.{◌≡◌, ◌≢◌, IsTrue, ◌↔◌, [], IfOk, IfSome, slice_get, true};
+ghost use Rattle.std.specs.Prelude.{◌≡◌, [], IfOk, IfSome, slice_get, true};
 ghost use Rattle.std.specs.Option.{option_copied};
 ghost use Rattle.rtc_peer_state.specs.declared.phase.Phase.TheVariants.{Closed};
-ghost use Rattle.rtc_peer_state.specs.Acceptances.{AcceptsOffer, AcceptsAnswer};
 ghost use Rattle.rtc_peer_state.specs.ChannelRows.{channel_rows};
-ghost use Rattle.rtc_peer_state.specs.Calls.{AddsMedia, AddsChannel, StagesRestart, SetsDirection, StopsMedia, Applies};
 ghost use Rattle.rtc_peer_state.specs.Built.{AreFresh, Builds};
 ghost use Rattle.rtc_peer_state.specs.Formats.{AreFormedFormats};
 ghost use Rattle.rtc_peer_state.specs.Formed.{AreSdpCreds, IsFormed};
 ghost use Rattle.rtc_peer_state.specs.Meanings.{meanings};
 ghost use Rattle.rtc_peer_state.specs.Stance.{stance_of};
 ghost use Rattle.rtc_polling.specs.Connection.{no_transport};
-ghost use Rattle.rtc_peer.specs.Described.{sdp_of_answer, sdp_of_offer};
-ghost use Rattle.rtc_peer.specs.Labelled.{labelled_config};
 ghost use Rattle.rtc_peer.specs.Readings.{media_row_of, is_alive_phase, AddsRemote};
-ghost use Rattle.rtc_peer.specs.WantedLine.{wanted_line};
 
 use crate::SdpApi;
 use rtc_association::Association;
-use rtc_change::{Lines, SdpPendingOffer};
+use rtc_change::Lines;
 use rtc_channels::ChannelRow;
 use rtc_dtls::DtlsInstance;
 use rtc_ice::IceAgent;
 use rtc_ids::Ids;
-use rtc_lines::{
-    Candidate, Direction, IceCreds, LineRow, MediaKind, Mid, SdpAnswer, SdpOffer, Simulcast,
-};
+use rtc_lines::{Candidate, LineRow, Mid};
 use rtc_media::MediaSession;
-use rtc_negotiation::{accept_answer, accept_offer, apply_staged};
-use rtc_peer_state::{Phase, RtcConfig, RtcError};
+use rtc_peer_state::{Phase, RtcConfig};
 use rtc_polling::{PolledPeer, Transport};
-use rtc_staging::{
-    build_peer, list_channels, set_direction, show_channel, stage_channel, stage_media,
-    stage_restart, stop_media,
-};
-use rtc_wire::{ChannelConfig, ChannelId, Moment, Seq, Text};
+use rtc_staging::{build_peer, list_channels, show_channel};
+use rtc_wire::{Moment, Seq};
 use std::alloc::{AllocError, Global};
 use std::marker::Model;
 
@@ -192,105 +181,6 @@ impl<I: IceAgent, D: DtlsInstance, S: Association, M: MediaSession, N: Ids> Rtc<
         match self.polled.core.ice.add_remote_candidate(candidate) {
             Ok(_taken) => Ok(()),
             Err(error) => Err(error),
-        }
-    }
-
-    pub(crate) fn has_staged(&self) -> bool
-        ensures { IsTrue result ↔ (self.now.core.staged ≢ []) }
-    {
-        !self.polled.core.staged.is_empty()
-    }
-
-    pub(crate) fn accept_offer(&mut self, offer: SdpOffer) -> Result<SdpAnswer, RtcError>
-        ensures accepts { AcceptsOffer (meanings I.ice D.dtls S.association M.media N.ids)
-            self.old.core offer.0 (sdp_of_answer result) self.new.core }
-        ensures connection { self.new.transport ≡ self.old.transport }
-    {
-        match accept_offer(&mut self.polled.core, offer.0) {
-            Ok(answer) => Ok(SdpAnswer(answer)),
-            Err(error) => Err(error),
-        }
-    }
-
-    pub(crate) fn accept_answer(
-        &mut self,
-        pending: SdpPendingOffer,
-        answer: SdpAnswer,
-    ) -> Result<(), RtcError>
-        ensures accepts { AcceptsAnswer (meanings I.ice D.dtls S.association M.media N.ids)
-            self.old.core pending answer.0 result self.new.core }
-        ensures connection { self.new.transport ≡ self.old.transport }
-    {
-        accept_answer(&mut self.polled.core, pending, answer.0)
-    }
-
-    pub(crate) fn stage(
-        &mut self,
-        kind: MediaKind,
-        dir: Direction,
-        stream_id: Option<String>,
-        track_id: Option<String>,
-        simulcast: Option<Simulcast>,
-    ) -> Result<Mid, AllocError>
-        ensures adds { AddsMedia (meanings I.ice D.dtls S.association M.media N.ids) self.old.core
-            (wanted_line kind dir stream_id track_id simulcast) result self.new.core }
-        ensures connection { self.new.transport ≡ self.old.transport }
-    {
-        stage_media(
-            &mut self.polled.core,
-            kind,
-            dir,
-            stream_id,
-            track_id,
-            simulcast,
-        )
-    }
-
-    pub(crate) fn stage_channel(&mut self, config: ChannelConfig) -> Result<ChannelId, RtcError>
-        ensures adds { AddsChannel (meanings I.ice D.dtls S.association M.media N.ids) self.old.core config result self.new.core }
-        ensures connection { self.new.transport ≡ self.old.transport }
-    {
-        stage_channel(&mut self.polled.core, config)
-    }
-
-    pub(crate) fn stage_labelled(&mut self, label: String) -> Result<ChannelId, RtcError>
-        ensures adds { AddsChannel (meanings I.ice D.dtls S.association M.media N.ids) self.old.core
-            (labelled_config label) result self.new.core }
-        ensures connection { self.new.transport ≡ self.old.transport }
-    {
-        let mut config = ChannelConfig::new(self.polled.core.alloc);
-        config.label = Text::new(label);
-        stage_channel(&mut self.polled.core, config)
-    }
-
-    pub(crate) fn stage_restart(&mut self, keeps: bool) -> Result<IceCreds, AllocError>
-        ensures stages { StagesRestart (meanings I.ice D.dtls S.association M.media N.ids) self.old.core keeps result self.new.core }
-        ensures connection { self.new.transport ≡ self.old.transport }
-    {
-        stage_restart(&mut self.polled.core, keeps)
-    }
-
-    pub(crate) fn set_direction(&mut self, mid: Mid, dir: Direction) -> Result<bool, AllocError>
-        ensures sets { SetsDirection self.old.core mid dir result self.new.core }
-        ensures connection { self.new.transport ≡ self.old.transport }
-    {
-        set_direction(&mut self.polled.core, mid, dir)
-    }
-
-    pub(crate) fn stop_media(&mut self, mid: Mid) -> Result<bool, AllocError>
-        ensures stops { StopsMedia self.old.core mid result self.new.core }
-        ensures connection { self.new.transport ≡ self.old.transport }
-    {
-        stop_media(&mut self.polled.core, mid)
-    }
-
-    pub(crate) fn apply(&mut self) -> Result<Option<(SdpOffer, SdpPendingOffer)>, AllocError>
-        ensures applies { Applies (meanings I.ice D.dtls S.association M.media N.ids) self.old.core (sdp_of_offer result) self.new.core }
-        ensures connection { self.new.transport ≡ self.old.transport }
-    {
-        match apply_staged(&mut self.polled.core)? {
-            Some((offer, token)) => Ok(Some((SdpOffer(offer), token))),
-            None => Ok(None),
         }
     }
 }

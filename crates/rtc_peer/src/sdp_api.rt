@@ -15,8 +15,10 @@ use rtc_ice::IceAgent;
 use rtc_ids::Ids;
 use rtc_lines::{Direction, IceCreds, MediaKind, Mid, SdpAnswer, SdpOffer, Simulcast};
 use rtc_media::MediaSession;
+use rtc_negotiation::{accept_answer, accept_offer, apply_staged};
 use rtc_peer_state::RtcError;
-use rtc_wire::{ChannelConfig, ChannelId};
+use rtc_staging::{set_direction, stage_channel, stage_media, stage_restart, stop_media};
+use rtc_wire::{ChannelConfig, ChannelId, Text};
 use std::alloc::AllocError;
 
 /// A handle on the negotiation of a peer.
@@ -44,7 +46,11 @@ impl<'a, I: IceAgent, D: DtlsInstance, S: Association, M: MediaSession, N: Ids> 
             self.entry.rtc.now.core offer.0 (sdp_of_answer result) self.exit.0.now.core }
         ensures connection { self.exit.0.now.transport ≡ self.entry.rtc.now.transport }
     {
-        self.rtc.accept_offer(offer)
+        let rtc = &mut *self.rtc;
+        match accept_offer(&mut rtc.polled.core, offer.0) {
+            Ok(answer) => Ok(SdpAnswer(answer)),
+            Err(error) => Err(error),
+        }
     }
 
     /// Accepts the answer to an offer of this side (RFC 8829, section 5.11). The token is spent, also where the answer is
@@ -54,14 +60,16 @@ impl<'a, I: IceAgent, D: DtlsInstance, S: Association, M: MediaSession, N: Ids> 
             self.entry.rtc.now.core pending answer.0 result self.exit.0.now.core }
         ensures connection { self.exit.0.now.transport ≡ self.entry.rtc.now.transport }
     {
-        self.rtc.accept_answer(pending, answer)
+        let rtc = &mut *self.rtc;
+        accept_answer(&mut rtc.polled.core, pending, answer.0)
     }
 
     /// Whether something is staged.
     pub fn has_changes(&self) -> bool
         ensures { IsTrue result ↔ (self.now.rtc.now.core.staged ≢ []) }
     {
-        self.rtc.has_staged()
+        let rtc = &*self.rtc;
+        !rtc.polled.core.staged.is_empty()
     }
 
     /// The peer's rows as they are now.
@@ -88,7 +96,15 @@ impl<'a, I: IceAgent, D: DtlsInstance, S: Association, M: MediaSession, N: Ids> 
             (wanted_line kind dir stream_id track_id simulcast) result self.new.rtc.now.core }
         ensures connection { self.new.rtc.now.transport ≡ self.old.rtc.now.transport }
     {
-        self.rtc.stage(kind, dir, stream_id, track_id, simulcast)
+        let rtc = &mut *self.rtc;
+        stage_media(
+            &mut rtc.polled.core,
+            kind,
+            dir,
+            stream_id,
+            track_id,
+            simulcast,
+        )
     }
 
     /// Stages a data channel with a label, and answers its number: ordered, reliable, announced by an open message.
@@ -98,7 +114,10 @@ impl<'a, I: IceAgent, D: DtlsInstance, S: Association, M: MediaSession, N: Ids> 
             self.old.rtc.now.core (labelled_config label) result self.new.rtc.now.core }
         ensures connection { self.new.rtc.now.transport ≡ self.old.rtc.now.transport }
     {
-        self.rtc.stage_labelled(label)
+        let rtc = &mut *self.rtc;
+        let mut config = ChannelConfig::new(rtc.polled.core.alloc);
+        config.label = Text::new(label);
+        stage_channel(&mut rtc.polled.core, config)
     }
 
     /// Stages a data channel, and answers its number, which no channel of the peer had before (RFC 8831, section 6.4).
@@ -111,7 +130,8 @@ impl<'a, I: IceAgent, D: DtlsInstance, S: Association, M: MediaSession, N: Ids> 
             self.old.rtc.now.core config result self.new.rtc.now.core }
         ensures connection { self.new.rtc.now.transport ≡ self.old.rtc.now.transport }
     {
-        self.rtc.stage_channel(config)
+        let rtc = &mut *self.rtc;
+        stage_channel(&mut rtc.polled.core, config)
     }
 
     /// Sets the direction of a live media line, and stages it (RFC 8829, section 4.2.3).
@@ -123,7 +143,8 @@ impl<'a, I: IceAgent, D: DtlsInstance, S: Association, M: MediaSession, N: Ids> 
         ensures sets { SetsDirection self.old.rtc.now.core mid dir result self.new.rtc.now.core }
         ensures connection { self.new.rtc.now.transport ≡ self.old.rtc.now.transport }
     {
-        self.rtc.set_direction(mid, dir)
+        let rtc = &mut *self.rtc;
+        set_direction(&mut rtc.polled.core, mid, dir)
     }
 
     /// Stops a live media line for good, and stages it (RFC 8829, section 4.2.1).
@@ -136,7 +157,8 @@ impl<'a, I: IceAgent, D: DtlsInstance, S: Association, M: MediaSession, N: Ids> 
         ensures stops { StopsMedia self.old.rtc.now.core mid result self.new.rtc.now.core }
         ensures connection { self.new.rtc.now.transport ≡ self.old.rtc.now.transport }
     {
-        self.rtc.stop_media(mid)
+        let rtc = &mut *self.rtc;
+        stop_media(&mut rtc.polled.core, mid)
     }
 
     /// Stages a restart of ICE with new credentials, which are drawn and answered, in place of one that was staged
@@ -147,7 +169,8 @@ impl<'a, I: IceAgent, D: DtlsInstance, S: Association, M: MediaSession, N: Ids> 
             self.old.rtc.now.core keep_local_candidates result self.new.rtc.now.core }
         ensures connection { self.new.rtc.now.transport ≡ self.old.rtc.now.transport }
     {
-        self.rtc.stage_restart(keep_local_candidates)
+        let rtc = &mut *self.rtc;
+        stage_restart(&mut rtc.polled.core, keep_local_candidates)
     }
 
     /// Makes the offer of what is staged, with the token that `accept_answer` takes with its answer.
@@ -159,6 +182,10 @@ impl<'a, I: IceAgent, D: DtlsInstance, S: Association, M: MediaSession, N: Ids> 
             self.entry.rtc.now.core (sdp_of_offer result) self.exit.0.now.core }
         ensures connection { self.exit.0.now.transport ≡ self.entry.rtc.now.transport }
     {
-        self.rtc.apply()
+        let rtc = &mut *self.rtc;
+        match apply_staged(&mut rtc.polled.core)? {
+            Some((offer, token)) => Ok(Some((SdpOffer(offer), token))),
+            None => Ok(None),
+        }
     }
 }

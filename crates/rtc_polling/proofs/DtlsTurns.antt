@@ -1,5 +1,5 @@
 -- Outputs of the DTLS connection that a poll takes.
-use Rattle.std.proofs.Common.{◌≡◌, ◌<◌, ◌≤◌, ◌-◌, ◌^◌, ℕ, Bool, true, List, [], ◌∷◌, Option, Some, None, Result, Ok, Err}
+use Rattle.std.proofs.Common.{◌≡◌, ◌<◌, ◌≤◌, ◌-◌, ◌^◌, ℕ, Bool, true, false, List, [], ◌∷◌, Option, Some, None, Result, Ok, Err}
 use Rattle.std.proofs.Common.{refl, sym, ap, subst, arith}
 use Rattle.std.specs.declared.alloc.AllocError.{AllocError}
 use Rattle.rtc_dtls.specs.declared.dtls_output.DtlsOutput.{DtlsOutput}
@@ -11,10 +11,11 @@ use Rattle.rtc_dtls.specs.DtlsMeaning.{DtlsMeaning}
 use Rattle.rtc_dtls.specs.DtlsState.{DtlsState, PollsOutput, drawn_by}
 use Rattle.rtc_dtls.specs.DtlsWords.{takes}
 use Rattle.rtc_peer_state.specs.Meanings.{Meanings}
+use Rattle.rtc_polling.specs.declared.met.Met.{Met}
 use Rattle.rtc_polling.specs.declared.met.Met.TheVariants.{Again}
 use Rattle.rtc_polling.specs.declared.polled_peer.PolledPeer.{PolledPeer}
 use Rattle.rtc_polling.specs.Connection.{with_dtls}
-use Rattle.rtc_polling.specs.DtlsStages.{ChecksCert, TakesKeys, TakesCloseNotify, HandsPacket, TakesDtlsOutput, TakesDtlsAnswer, PollsDtlsOutput}
+use Rattle.rtc_polling.specs.DtlsStages.{ChecksCert, TakesKeys, TakesCloseNotify, HandsPacket, TakesDtlsOutput, TakesDtlsAnswer, PollsDtlsOutput, GivesDtlsTime, TimesDtlsIf}
 
 module _ {D : Type 0} (m : DtlsMeaning D) (laws : DtlsLaws m) where
   -- packets that are taken lower what the part holds
@@ -26,6 +27,12 @@ module _ {D : Type 0} (m : DtlsMeaning D) (laws : DtlsLaws m) where
       omega (arith, falls, rest)
 
 module _ {I D S M E X T W N : Type 0} (m : Meanings I D S M E X T W N) where
+  -- a moment that has come is given
+  pub given_when_due : (due : Bool) (p : PolledPeer I D S M N) (r : Met E) (q : PolledPeer I D S M N) → due ≡ true → GivesDtlsTime m p r q
+      → TimesDtlsIf m due p r q
+  given_when_due true p r q is h = h
+  given_when_due false p r q is h = cc (is)
+
   -- an output that is followed by the next is none of a moment, and leaves the instance
   pub taken_output : (output : DtlsOutput) (p q : PolledPeer I D S M N) → TakesDtlsOutput m output p Again q
       → (draws_output (drawn_by output) ≡ true)

@@ -1,5 +1,5 @@
 //! What callers read of channels, and do with one that is open.
-ghost use Rattle.std.specs.Prelude.{◌≡◌, None, Some, MatchOption, if◌then◌else◌, option_and_then};
+ghost use Rattle.std.specs.Prelude.{◌≡◌, None, Some, MatchOption, if◌then◌else◌};
 ghost use Rattle.rtc_peer_state.specs.Meanings.{meanings};
 ghost use Rattle.rtc_polling.specs.ChannelCalls.{is_phase_open, stream_under, if_open, open_stream_under, config_under};
 ghost use Rattle.rtc_polling.specs.ChannelCalls.{SetsChannelThreshold, ClosesDataChannel, WritesChannel, write_taken as WriteTaken};

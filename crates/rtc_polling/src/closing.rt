@@ -1,7 +1,7 @@
 //! How a peer is closed.
 ghost use Rattle.std.specs.Prelude.{◌≡◌};
 ghost use Rattle.rtc_peer_state.specs.Meanings.{meanings};
-ghost use Rattle.rtc_polling.specs.Closing.{ShutsMedia, ShutsStreams, ShutsDtls, BeginsClosing};
+ghost use Rattle.rtc_polling.specs.Closing.{ShutsMedia, ShutsStreams, ShutsDtls};
 ghost use Rattle.rtc_polling.specs.Closing.{ClosesPeer, is_phase_closing, is_closing_complete};
 
 use crate::PolledPeer;
@@ -79,9 +79,16 @@ impl<I: IceAgent, D: DtlsInstance, S: Association, M: MediaSession, N: Ids> Poll
         }
     }
 
-    fn begin_closing(&mut self) -> Result<(), RtcError>
-        ensures { BeginsClosing (meanings I.ice D.dtls S.association M.media N.ids) self.old result self.new }
+    /// Begins to close the peer, which polls then bring to its end: media says goodbye (RFC 3550, section 6.6), the association
+    /// is shut down (RFC 9260, section 9.2), and the DTLS connection is closed (RFC 5246, section 7.2.1). Nothing happens where
+    /// this has begun. An error leaves the peer closed.
+    pub fn close(&mut self) -> Result<(), RtcError>
+        ensures { ClosesPeer (meanings I.ice D.dtls S.association M.media N.ids) self.old result self.new }
     {
+        match self.core.phase {
+            Phase::Alive => {}
+            Phase::Closing | Phase::Closed => return Ok(()),
+        }
         match self.shut_media() {
             Ok(()) => {}
             Err(error) => return Err(error),
@@ -96,21 +103,6 @@ impl<I: IceAgent, D: DtlsInstance, S: Association, M: MediaSession, N: Ids> Poll
         }
         self.core.phase = Phase::Closing;
         Ok(())
-    }
-
-    /// Begins to close the peer, which polls then bring to its end: media says goodbye (RFC 3550, section 6.6), the association
-    /// is shut down (RFC 9260, section 9.2), and the DTLS connection is closed (RFC 5246, section 7.2.1). Nothing happens where
-    /// this has begun. An error leaves the peer closed.
-    pub fn close(&mut self) -> Result<(), RtcError>
-        ensures { ClosesPeer (meanings I.ice D.dtls S.association M.media N.ids) self.old result self.new }
-    {
-        match self.core.phase {
-            Phase::Alive => match self.begin_closing() {
-                Ok(()) => Ok(()),
-                Err(error) => Err(error),
-            },
-            Phase::Closing | Phase::Closed => Ok(()),
-        }
     }
 
     /// Whether nothing of a closing is left to do.

@@ -1,10 +1,10 @@
 //! Inputs.
-ghost use Rattle.std.specs.Prelude.{◌≡◌};
 ghost use Rattle.rtc_peer_state.specs.Meanings.{meanings};
-ghost use Rattle.rtc_polling.specs.Inputs.{TimesIce, TimesMedia, GivesTime, TakesTime};
-ghost use Rattle.rtc_polling.specs.Inputs.{HearsStun, HearsDtls, HearsMedia, HearsKind, Hears, HandlesInput};
+ghost use Rattle.rtc_polling.specs.Inputs.{TimesIce, TimesMedia, TakesTime};
+ghost use Rattle.rtc_polling.specs.Inputs.{HearsStun, HearsDtls, HearsKind, HandlesInput};
 
 use crate::sending::count_bytes;
+use crate::timing::{time_handler, time_sctp};
 use crate::{Input, PolledPeer};
 use rtc_association::Association;
 use rtc_dtls::{DtlsError, DtlsInstance};
@@ -50,36 +50,37 @@ impl<I: IceAgent, D: DtlsInstance, S: Association, M: MediaSession, N: Ids> Poll
         }
     }
 
-    fn give_time(&mut self, now: Moment) -> Result<(), RtcError>
-        ensures { GivesTime (meanings I.ice D.dtls S.association M.media N.ids) now self.old result self.new }
-    {
-        self.core.greatest = now;
-        match self.time_ice(now) {
-            Ok(()) => {}
-            Err(error) => return Err(error),
-        }
-        match self.time_streams(now) {
-            Ok(()) => {}
-            Err(error) => return Err(error),
-        }
-        match self.time_channels(now) {
-            Ok(()) => {}
-            Err(error) => return Err(error),
-        }
-        match self.time_media(now) {
-            Ok(()) => {}
-            Err(error) => return Err(error),
-        }
-        self.time_statistics(now)
-    }
-
+    #[tactic(auto, unfolding(crate::specs::Inputs::TimesStreams, crate::specs::Inputs::TimesChannels))]
     fn take_time(&mut self, now: Moment) -> Result<(), RtcError>
         ensures { TakesTime (meanings I.ice D.dtls S.association M.media N.ids) now self.old result self.new }
     {
         if now.nanos() < self.core.greatest.nanos() {
             return Ok(());
         }
-        self.give_time(now)
+        self.core.greatest = now;
+        match self.time_ice(now) {
+            Ok(()) => {}
+            Err(error) => return Err(error),
+        }
+        match time_sctp(&mut self.core.sctp, now) {
+            Ok(()) => {}
+            Err(_) => {
+                self.core.phase = Phase::Closed;
+                return Err(RtcError::Alloc);
+            }
+        }
+        match time_handler(&mut self.core.channels, &mut self.core.sctp, now) {
+            Ok(()) => {}
+            Err(_) => {
+                self.core.phase = Phase::Closed;
+                return Err(RtcError::Alloc);
+            }
+        }
+        match self.time_media(now) {
+            Ok(()) => {}
+            Err(error) => return Err(error),
+        }
+        self.time_statistics(now)
     }
 
     #[tactic(auto, unfolding(crate::specs::Inputs::HearsStun))]
@@ -124,35 +125,6 @@ impl<I: IceAgent, D: DtlsInstance, S: Association, M: MediaSession, N: Ids> Poll
     }
 
     #[tactic(auto, unfolding(crate::specs::Inputs::HearsMedia))]
-    fn hear_rtp(&mut self, now: Moment, bytes: &[u8]) -> Result<(), RtcError>
-        ensures { HearsMedia (meanings I.ice D.dtls S.association M.media N.ids)
-            (λ a r b. M.media.rtp_given a now bytes.now r b) bytes.now self.old result self.new }
-    {
-        self.transport.received = count_bytes(self.transport.received, bytes);
-        match self.core.media.handle_rtp(now, bytes) {
-            Ok(()) => Ok(()),
-            Err(_) => {
-                self.core.phase = Phase::Closed;
-                Err(RtcError::Alloc)
-            }
-        }
-    }
-
-    #[tactic(auto, unfolding(crate::specs::Inputs::HearsMedia))]
-    fn hear_rtcp(&mut self, now: Moment, bytes: &[u8]) -> Result<(), RtcError>
-        ensures { HearsMedia (meanings I.ice D.dtls S.association M.media N.ids)
-            (λ a r b. M.media.rtcp_given a now bytes.now r b) bytes.now self.old result self.new }
-    {
-        self.transport.received = count_bytes(self.transport.received, bytes);
-        match self.core.media.handle_rtcp(now, bytes) {
-            Ok(()) => Ok(()),
-            Err(_) => {
-                self.core.phase = Phase::Closed;
-                Err(RtcError::Alloc)
-            }
-        }
-    }
-
     fn hear_kind(
         &mut self,
         now: Moment,
@@ -164,19 +136,27 @@ impl<I: IceAgent, D: DtlsInstance, S: Association, M: MediaSession, N: Ids> Poll
         match contents {
             DatagramRecv::Stun(message) => self.hear_stun(now, datagram, message),
             DatagramRecv::Dtls(bytes) => self.hear_dtls(bytes),
-            DatagramRecv::Rtp(bytes) => self.hear_rtp(now, bytes),
-            DatagramRecv::Rtcp(bytes) => self.hear_rtcp(now, bytes),
+            DatagramRecv::Rtp(bytes) => {
+                self.transport.received = count_bytes(self.transport.received, bytes);
+                match self.core.media.handle_rtp(now, bytes) {
+                    Ok(()) => Ok(()),
+                    Err(_) => {
+                        self.core.phase = Phase::Closed;
+                        Err(RtcError::Alloc)
+                    }
+                }
+            }
+            DatagramRecv::Rtcp(bytes) => {
+                self.transport.received = count_bytes(self.transport.received, bytes);
+                match self.core.media.handle_rtcp(now, bytes) {
+                    Ok(()) => Ok(()),
+                    Err(_) => {
+                        self.core.phase = Phase::Closed;
+                        Err(RtcError::Alloc)
+                    }
+                }
+            }
         }
-    }
-
-    fn hear(&mut self, now: Moment, datagram: &Receive<'_>) -> Result<(), RtcError>
-        ensures { Hears (meanings I.ice D.dtls S.association M.media N.ids) now datagram.now self.old result self.new }
-    {
-        match self.hear_kind(now, datagram, &datagram.contents) {
-            Ok(()) => {}
-            Err(error) => return Err(error),
-        }
-        self.take_time(now)
     }
 
     /// Takes a moment or a datagram. A moment before the greatest that was taken changes no time; a datagram goes to its
@@ -187,7 +167,13 @@ impl<I: IceAgent, D: DtlsInstance, S: Association, M: MediaSession, N: Ids> Poll
         match self.core.phase {
             Phase::Alive | Phase::Closing => match input {
                 Input::Timeout(now) => self.take_time(*now),
-                Input::Receive(now, datagram) => self.hear(*now, datagram),
+                Input::Receive(now, datagram) => {
+                    match self.hear_kind(*now, datagram, &datagram.contents) {
+                        Ok(()) => {}
+                        Err(error) => return Err(error),
+                    }
+                    self.take_time(*now)
+                }
             },
             Phase::Closed => Ok(()),
         }

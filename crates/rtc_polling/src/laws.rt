@@ -1,5 +1,5 @@
 //! What holds of every poll, input and close, whatever the parts are.
-ghost use Rattle.std.specs.Prelude.{◌≡◌, Result, Err, None};
+ghost use Rattle.std.specs.Prelude.{◌≡◌, Err, None};
 ghost use Rattle.rtc_peer_state.specs.declared.phase.Phase.TheVariants.{Closed};
 ghost use Rattle.rtc_peer_state.specs.Meanings.{meanings};
 ghost use Rattle.rtc_peer_state.specs.ChannelRows.{channel_rows};

@@ -1,21 +1,22 @@
 //! What a poll takes from the DTLS connection.
 ghost use Rattle.std.specs.Prelude.{◌≡◌, ◌≤◌, length};
 ghost use Rattle.rtc_peer_state.specs.Meanings.{meanings};
-ghost use Rattle.rtc_polling.specs.DtlsStages.{GivesDtlsTime, TimesDtls, TakesKeys, TakesCloseNotify, HandsPacket, TakesDtlsOutput};
-ghost use Rattle.rtc_polling.specs.DtlsStages.{PollsDtlsOutput, PollsDtlsOutputs, TellsConnected, has_come as is_past, is_dtls_due};
+ghost use Rattle.rtc_polling.specs.DtlsStages.{TimesDtls, TakesCloseNotify, TakesDtlsOutput};
+ghost use Rattle.rtc_polling.specs.DtlsStages.{PollsDtlsOutputs, TellsConnected, has_come as is_past};
 ghost use Rattle.rtc_polling.specs.DtlsStages.{finished_handshake, silenced_handshake};
 
 use crate::met::Met;
 use crate::{Event, Handshake, PolledPeer};
 use rtc_association::Association;
-use rtc_dtls::{DtlsError, DtlsInstance, DtlsOutput, SrtpProfile};
+use rtc_dtls::{DtlsError, DtlsInstance, DtlsOutput};
 use rtc_ice::IceAgent;
 use rtc_ids::Ids;
 use rtc_media::MediaSession;
 use rtc_peer_state::{Phase, RtcError};
 use rtc_wire::Moment;
 
-fn has_come(moment: Moment, greatest: Moment) -> bool
+/// Whether a moment that was asked for has come.
+pub(crate) fn has_come(moment: Moment, greatest: Moment) -> bool
     ensures { result ≡ is_past moment greatest }
 {
     moment.nanos() != Moment::FAR_FUTURE.nanos() && moment.nanos() <= greatest.nanos()
@@ -46,17 +47,14 @@ impl<I: IceAgent, D: DtlsInstance, S: Association, M: MediaSession, N: Ids> Poll
     M,
     N,
 > {
-    /// Whether the moment that the DTLS part asked for has come.
-    pub(crate) fn is_dtls_due(&self) -> bool
-        ensures { result ≡ is_dtls_due self.now }
+    /// Hands a moment that the DTLS part asked for, and that has come, to it.
+    #[tactic(auto, using(crate::proofs::DtlsTurns::given_when_due), unfolding(crate::specs::DtlsStages::GivesDtlsTime))]
+    pub(crate) fn time_dtls(&mut self) -> Met<M::E>
+        ensures { TimesDtls (meanings I.ice D.dtls S.association M.media N.ids) self.old result self.new }
     {
-        has_come(self.transport.dtls_wake, self.core.greatest)
-    }
-
-    #[tactic(auto, unfolding(crate::specs::DtlsStages::GivesDtlsTime))]
-    fn give_dtls_time(&mut self) -> Met<M::E>
-        ensures { GivesDtlsTime (meanings I.ice D.dtls S.association M.media N.ids) self.old result self.new }
-    {
+        if !has_come(self.transport.dtls_wake, self.core.greatest) {
+            return Met::Nothing;
+        }
         match self.core.dtls.handle_timeout(self.core.greatest) {
             Ok(()) => Met::Nothing,
             Err(DtlsError::WouldBlock) => unreachable!(),
@@ -65,29 +63,6 @@ impl<I: IceAgent, D: DtlsInstance, S: Association, M: MediaSession, N: Ids> Poll
                 Met::Error(RtcError::Dtls(DtlsError::Fault))
             }
             Err(DtlsError::Alloc) => {
-                self.core.phase = Phase::Closed;
-                Met::Error(RtcError::Alloc)
-            }
-        }
-    }
-
-    /// Hands a moment that the DTLS part asked for, and that has come, to it.
-    pub(crate) fn time_dtls(&mut self) -> Met<M::E>
-        ensures { TimesDtls (meanings I.ice D.dtls S.association M.media N.ids) self.old result self.new }
-    {
-        if self.is_dtls_due() {
-            return self.give_dtls_time();
-        }
-        Met::Nothing
-    }
-
-    #[tactic(auto, unfolding(crate::specs::DtlsStages::TakesKeys))]
-    fn take_keys(&mut self, key: &[u8], profile: SrtpProfile, active: bool) -> Met<M::E>
-        ensures { TakesKeys (meanings I.ice D.dtls S.association M.media N.ids) key.now profile active self.old result self.new }
-    {
-        match self.core.media.set_keying(key, profile, active) {
-            Ok(()) => Met::Again,
-            Err(_) => {
                 self.core.phase = Phase::Closed;
                 Met::Error(RtcError::Alloc)
             }
@@ -107,20 +82,7 @@ impl<I: IceAgent, D: DtlsInstance, S: Association, M: MediaSession, N: Ids> Poll
         }
     }
 
-    // Application data is a packet for the association.
-    #[tactic(auto, unfolding(crate::specs::DtlsStages::HandsPacket))]
-    fn hand_packet(&mut self, bytes: &[u8]) -> Met<M::E>
-        ensures { HandsPacket (meanings I.ice D.dtls S.association M.media N.ids) bytes.now self.old result self.new }
-    {
-        match self.core.sctp.handle_input(self.core.greatest, bytes) {
-            Ok(()) => Met::Again,
-            Err(_) => {
-                self.core.phase = Phase::Closed;
-                Met::Error(RtcError::Alloc)
-            }
-        }
-    }
-
+    #[tactic(auto, unfolding(crate::specs::DtlsStages::TakesKeys, crate::specs::DtlsStages::HandsPacket))]
     fn take_dtls_output(&mut self, output: &DtlsOutput<'_>) -> Met<M::E>
         ensures { TakesDtlsOutput (meanings I.ice D.dtls S.association M.media N.ids) output.now self.old result self.new }
     {
@@ -131,28 +93,29 @@ impl<I: IceAgent, D: DtlsInstance, S: Association, M: MediaSession, N: Ids> Poll
             }
             DtlsOutput::KeyingMaterial(key, profile) => {
                 let active = self.core.dtls.is_active().unwrap_or(false);
-                self.take_keys(key, *profile, active)
+                match self.core.media.set_keying(key, *profile, active) {
+                    Ok(()) => Met::Again,
+                    Err(_) => {
+                        self.core.phase = Phase::Closed;
+                        Met::Error(RtcError::Alloc)
+                    }
+                }
             }
             DtlsOutput::PeerCert(cert) => self.check_cert(cert),
-            DtlsOutput::ApplicationData(bytes) => self.hand_packet(bytes),
+            DtlsOutput::ApplicationData(bytes) => {
+                match self.core.sctp.handle_input(self.core.greatest, bytes) {
+                    Ok(()) => Met::Again,
+                    Err(_) => {
+                        self.core.phase = Phase::Closed;
+                        Met::Error(RtcError::Alloc)
+                    }
+                }
+            }
             DtlsOutput::Timeout(moment) => {
                 self.transport.dtls_wake = *moment;
                 Met::Nothing
             }
             DtlsOutput::CloseNotify => self.take_close_notify(),
-        }
-    }
-
-    fn poll_dtls_output(&mut self, buf: &mut [u8]) -> Met<M::E>
-        requires { 2000 ≤ length buf.old }
-        ensures { PollsDtlsOutput (meanings I.ice D.dtls S.association M.media N.ids) self.old result self.new }
-    {
-        match self.core.dtls.poll_output(buf) {
-            Ok(output) => self.take_dtls_output(&output),
-            Err(_) => {
-                self.core.phase = Phase::Closed;
-                Met::Error(RtcError::Alloc)
-            }
         }
     }
 
@@ -162,9 +125,15 @@ impl<I: IceAgent, D: DtlsInstance, S: Association, M: MediaSession, N: Ids> Poll
         ensures { PollsDtlsOutputs (meanings I.ice D.dtls S.association M.media N.ids) self.old result self.new }
     {
         'outputs: loop {
-            match self.poll_dtls_output(buf) {
-                Met::Again => {}
-                met => return met,
+            match self.core.dtls.poll_output(buf) {
+                Ok(output) => match self.take_dtls_output(&output) {
+                    Met::Again => {}
+                    met => return met,
+                },
+                Err(_) => {
+                    self.core.phase = Phase::Closed;
+                    return Met::Error(RtcError::Alloc);
+                }
             }
         }
     }

@@ -1,6 +1,6 @@
 //! What a poll takes from the ICE agent.
 ghost use Rattle.rtc_peer_state.specs.Meanings.{meanings};
-ghost use Rattle.rtc_polling.specs.IceStages.{PollsIceEvent, PollsIceEvents, TakesIceEvent};
+ghost use Rattle.rtc_polling.specs.IceStages.{PollsIceEvents, TakesIceEvent};
 
 use crate::met::Met;
 use crate::{Event, PolledPeer, SendAddr};
@@ -46,19 +46,13 @@ impl<I: IceAgent, D: DtlsInstance, S: Association, M: MediaSession, N: Ids> Poll
         }
     }
 
-    fn poll_ice_event(&mut self) -> Met<M::E>
-        ensures { PollsIceEvent (meanings I.ice D.dtls S.association M.media N.ids) self.old result self.new }
-    {
-        let event = self.core.ice.poll_event();
-        self.take_ice_event(event)
-    }
-
     /// Polls events of the agent up to one that is told.
     pub(crate) fn poll_ice_events(&mut self) -> Met<M::E>
         ensures { PollsIceEvents (meanings I.ice D.dtls S.association M.media N.ids) self.old result self.new }
     {
         'events: loop {
-            match self.poll_ice_event() {
+            let event = self.core.ice.poll_event();
+            match self.take_ice_event(event) {
                 Met::Again => {}
                 met => return met,
             }

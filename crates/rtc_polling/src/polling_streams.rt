@@ -1,7 +1,7 @@
 //! What a poll takes from the streams of the data channels.
 ghost use Rattle.std.specs.Prelude.{◌≡◌, None};
 ghost use Rattle.rtc_peer_state.specs.Meanings.{meanings};
-ghost use Rattle.rtc_polling.specs.StreamStages.{OpensChannelOver, ClosesChannelOver, HearsChannelOver, FallsChannelOver, channel_over};
+ghost use Rattle.rtc_polling.specs.StreamStages.{OpensChannelOver};
 ghost use Rattle.rtc_polling.specs.StreamStages.{LosesAssociation, TakesStreamEvent, PollsStreamEvent, PollsStreamEvents, IsShortTransmit};
 
 use crate::met::Met;
@@ -13,7 +13,7 @@ use rtc_ids::Ids;
 use rtc_media::MediaSession;
 use rtc_peer_state::{Phase, RtcError};
 use rtc_sctp::SctpEvent;
-use rtc_wire::{Bytes, Text};
+use rtc_wire::Text;
 
 impl<I: IceAgent, D: DtlsInstance, S: Association, M: MediaSession, N: Ids> PolledPeer<
     I,
@@ -35,36 +35,6 @@ impl<I: IceAgent, D: DtlsInstance, S: Association, M: MediaSession, N: Ids> Poll
         }
         match self.core.channels.channel_id_by_stream_id(stream) {
             Some(id) => Met::Event(Event::ChannelOpen(id, label)),
-            None => Met::Again,
-        }
-    }
-
-    fn close_channel_over(&mut self, stream: u16, reset_pending: bool) -> Met<M::E>
-        ensures { ClosesChannelOver (channel_over stream self.old.core.channels) reset_pending self.old result self.new }
-    {
-        match self.core.channels.channel_id_by_stream_id(stream) {
-            Some(id) => {
-                self.core.channels.remove_channel(id, reset_pending);
-                Met::Event(Event::ChannelClose(id))
-            }
-            None => Met::Again,
-        }
-    }
-
-    fn hear_channel_over(&self, stream: u16, binary: bool, bytes: Bytes) -> Met<M::E>
-        ensures { HearsChannelOver (channel_over stream self.now.core.channels) binary bytes self.now result self.now }
-    {
-        match self.core.channels.channel_id_by_stream_id(stream) {
-            Some(id) => Met::Event(Event::ChannelData(ChannelData { id, binary, bytes })),
-            None => Met::Again,
-        }
-    }
-
-    fn lower_channel_over(&self, stream: u16) -> Met<M::E>
-        ensures { FallsChannelOver (channel_over stream self.now.core.channels) self.now result self.now }
-    {
-        match self.core.channels.channel_id_by_stream_id(stream) {
-            Some(id) => Met::Event(Event::ChannelBufferedAmountLow(id)),
             None => Met::Again,
         }
     }
@@ -91,13 +61,31 @@ impl<I: IceAgent, D: DtlsInstance, S: Association, M: MediaSession, N: Ids> Poll
                 Met::Nothing
             }
             SctpEvent::Open { id, label } => self.open_channel_over(id, label),
-            SctpEvent::Close { id, reset_pending } => self.close_channel_over(id, reset_pending),
+            SctpEvent::Close { id, reset_pending } => {
+                match self.core.channels.channel_id_by_stream_id(id) {
+                    Some(id) => {
+                        self.core.channels.remove_channel(id, reset_pending);
+                        Met::Event(Event::ChannelClose(id))
+                    }
+                    None => Met::Again,
+                }
+            }
             SctpEvent::StreamResetComplete { id } => {
                 self.core.channels.stream_reset_complete(id);
                 Met::Again
             }
-            SctpEvent::Data { id, binary, bytes } => self.hear_channel_over(id, binary, bytes),
-            SctpEvent::BufferedAmountLow { id } => self.lower_channel_over(id),
+            SctpEvent::Data { id, binary, bytes } => {
+                match self.core.channels.channel_id_by_stream_id(id) {
+                    Some(id) => Met::Event(Event::ChannelData(ChannelData { id, binary, bytes })),
+                    None => Met::Again,
+                }
+            }
+            SctpEvent::BufferedAmountLow { id } => {
+                match self.core.channels.channel_id_by_stream_id(id) {
+                    Some(id) => Met::Event(Event::ChannelBufferedAmountLow(id)),
+                    None => Met::Again,
+                }
+            }
             SctpEvent::AssociationLost => self.lose_association(),
         }
     }

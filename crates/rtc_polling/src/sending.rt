@@ -1,7 +1,6 @@
 //! Datagrams that a poll sends.
 ghost use Rattle.std.specs.Prelude.{◌≡◌};
 ghost use Rattle.rtc_peer_state.specs.Meanings.{meanings};
-ghost use Rattle.rtc_polling.specs.Stages.{FollowedBy};
 ghost use Rattle.rtc_polling.specs.SendStages.{SendsChecks, SendsDtlsPacket, SendsMediaDatagram, SendsByPair, bytes_counted, sent_by};
 
 use crate::met::Met;
@@ -82,27 +81,18 @@ impl<I: IceAgent, D: DtlsInstance, S: Association, M: MediaSession, N: Ids> Poll
         }
     }
 
-    fn send_via(&mut self, sends: SendAddr) -> Met<M::E>
-        ensures { FollowedBy (SendsDtlsPacket (meanings I.ice D.dtls S.association M.media N.ids) sends)
-            (SendsMediaDatagram (meanings I.ice D.dtls S.association M.media N.ids) sends) self.old result self.new }
+    /// Sends the next packet or media datagram by the nominated pair. Before one is, feedback that waits is dropped.
+    pub(crate) fn send_by_pair(&mut self) -> Met<M::E>
+        ensures { SendsByPair (meanings I.ice D.dtls S.association M.media N.ids) self.old result self.new }
     {
+        let Some(sends) = self.transport.send_addr else {
+            self.core.media.clear_feedback();
+            return Met::Nothing;
+        };
         match self.send_dtls(sends) {
             Met::Nothing => {}
             met => return met,
         }
         self.send_media(sends)
-    }
-
-    /// Sends the next packet or media datagram by the nominated pair. Before one is, feedback that waits is dropped.
-    pub(crate) fn send_by_pair(&mut self) -> Met<M::E>
-        ensures { SendsByPair (meanings I.ice D.dtls S.association M.media N.ids) self.old result self.new }
-    {
-        match self.transport.send_addr {
-            None => {
-                self.core.media.clear_feedback();
-                Met::Nothing
-            }
-            Some(sends) => self.send_via(sends),
-        }
     }
 }

@@ -2,7 +2,7 @@
 ghost use Rattle.std.specs.Prelude.{◌≡◌};
 ghost use Rattle.rtc_peer_state.specs.Meanings.{meanings};
 ghost use Rattle.rtc_polling.specs.Statistics.{IsGathered, Reports, ReportsRound, TellsStatistics, TimesStatistics};
-ghost use Rattle.rtc_polling.specs.Statistics.{event_of_report as EventOfReport, pair_stats as PairStats};
+ghost use Rattle.rtc_polling.specs.Statistics.{event_of_report as EventOfReport};
 
 use crate::met::Met;
 use crate::{Event, PolledPeer};
@@ -79,32 +79,28 @@ impl<I: IceAgent, D: DtlsInstance, S: Association, M: MediaSession, N: Ids> Poll
         }
     }
 
-    fn pair_stats(&self) -> Option<CandidatePairStats>
-        ensures { result ≡ PairStats (meanings I.ice D.dtls S.association M.media N.ids) self.now.transport.send_addr self.now.core.ice }
-    {
-        match self.transport.send_addr {
-            None => None,
-            Some(sends) => Some(CandidatePairStats {
-                protocol: sends.proto,
-                local: CandidateStats { addr: sends.source },
-                remote: CandidateStats {
-                    addr: sends.destination,
-                },
-                current_round_trip_time: self.core.ice.pair_rtt(),
-                total_round_trip_time: self.core.ice.pair_total_rtt(),
-                responses_received: self.core.ice.pair_responses(),
-            }),
-        }
-    }
-
     fn gather(&self, now: Moment) -> StatsSnapshot
         ensures { IsGathered (meanings I.ice D.dtls S.association M.media N.ids) now self.now result }
     {
         let mut snapshot = StatsSnapshot::new(self.core.alloc, now);
         snapshot.peer_tx = self.transport.sent;
         snapshot.peer_rx = self.transport.received;
-        snapshot.selected_candidate_pair = self.pair_stats();
-        snapshot
+        match self.transport.send_addr {
+            None => snapshot,
+            Some(sends) => {
+                snapshot.selected_candidate_pair = Some(CandidatePairStats {
+                    protocol: sends.proto,
+                    local: CandidateStats { addr: sends.source },
+                    remote: CandidateStats {
+                        addr: sends.destination,
+                    },
+                    current_round_trip_time: self.core.ice.pair_rtt(),
+                    total_round_trip_time: self.core.ice.pair_total_rtt(),
+                    responses_received: self.core.ice.pair_responses(),
+                });
+                snapshot
+            }
+        }
     }
 
     /// Hands a moment to the statistics: where a round is due, it is gathered and its reports are queued.

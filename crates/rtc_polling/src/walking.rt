@@ -1,12 +1,13 @@
 //! Polls.
-ghost use Rattle.std.specs.Prelude.{◌≢◌, ◌≤◌, length};
+ghost use Rattle.std.specs.Prelude.{◌≡◌, ◌≤◌, if◌then◌else◌, length};
 ghost use Rattle.rtc_peer_state.specs.Meanings.{meanings};
 ghost use Rattle.rtc_polling.specs.Stages.{RepeatsStage};
-ghost use Rattle.rtc_polling.specs.declared.met.Met.TheVariants.{Again};
-ghost use Rattle.rtc_polling.specs.Walk.{AnswersMet, PollsPeer, Rests, SendsDatagrams, StartsOverWhenDue, TellsArrivals, TellsConnection};
+ghost use Rattle.rtc_polling.specs.declared.met.Met.TheVariants.{Again, Nothing};
+ghost use Rattle.rtc_polling.specs.Walk.{PollsPeer, Rests, TellsConnection};
 ghost use Rattle.rtc_polling.specs.Walk.{VisitsParts, Waits, Walks};
 
 use crate::met::Met;
+use crate::polling_dtls::has_come;
 use crate::{Output, PolledPeer};
 use rtc_association::Association;
 use rtc_dtls::DtlsInstance;
@@ -16,6 +17,23 @@ use rtc_media::MediaSession;
 use rtc_parts_values::Reason;
 use rtc_peer_state::{Phase, RtcError};
 use rtc_wire::{DATAGRAM_MAX_PACKET_SIZE, Moment};
+
+// Room for a datagram of the DTLS part.
+fn empty_buffer() -> [u8; DATAGRAM_MAX_PACKET_SIZE]
+    ensures { length result ≡ 2000 }
+{
+    [0u8; DATAGRAM_MAX_PACKET_SIZE]
+}
+
+// A walk starts over where a moment that the DTLS part asked for has come.
+fn again_when<E>(due: bool) -> Met<E>
+    ensures { result ≡ (if due then Again else Nothing) }
+{
+    if due {
+        return Met::Again;
+    }
+    Met::Nothing
+}
 
 impl<I: IceAgent, D: DtlsInstance, S: Association, M: MediaSession, N: Ids> PolledPeer<
     I,
@@ -44,41 +62,6 @@ impl<I: IceAgent, D: DtlsInstance, S: Association, M: MediaSession, N: Ids> Poll
         self.tell_connected()
     }
 
-    #[tactic(auto, unfolding(crate::specs::Walk::TellsArrivals))]
-    fn tell_arrivals(&mut self) -> Met<M::E>
-        ensures { TellsArrivals (meanings I.ice D.dtls S.association M.media N.ids) self.old result self.new }
-    {
-        match self.tell_media() {
-            Met::Nothing => {}
-            met => return met,
-        }
-        match self.tell_fallible_media() {
-            Met::Nothing => {}
-            met => return met,
-        }
-        self.tell_statistics()
-    }
-
-    #[tactic(auto, unfolding(crate::specs::Walk::SendsDatagrams))]
-    fn send_datagrams(&mut self) -> Met<M::E>
-        ensures { SendsDatagrams (meanings I.ice D.dtls S.association M.media N.ids) self.old result self.new }
-    {
-        match self.send_checks() {
-            Met::Nothing => {}
-            met => return met,
-        }
-        self.send_by_pair()
-    }
-
-    fn start_over_when_due(&mut self) -> Met<M::E>
-        ensures { StartsOverWhenDue self.old result self.new }
-    {
-        if self.is_dtls_due() {
-            return Met::Again;
-        }
-        Met::Nothing
-    }
-
     #[tactic(auto, unfolding(crate::specs::Walk::VisitsParts))]
     fn visit_parts(&mut self, buf: &mut [u8]) -> Met<M::E>
         requires { 2000 ≤ length buf.old }
@@ -88,19 +71,35 @@ impl<I: IceAgent, D: DtlsInstance, S: Association, M: MediaSession, N: Ids> Poll
             Met::Nothing => {}
             met => return met,
         }
-        match self.tell_streams() {
+        match self.poll_stream_events() {
             Met::Nothing => {}
             met => return met,
         }
-        match self.tell_arrivals() {
+        match self.send_kept_packets() {
             Met::Nothing => {}
             met => return met,
         }
-        match self.send_datagrams() {
+        match self.tell_media() {
             Met::Nothing => {}
             met => return met,
         }
-        self.start_over_when_due()
+        match self.tell_fallible_media() {
+            Met::Nothing => {}
+            met => return met,
+        }
+        match self.tell_statistics() {
+            Met::Nothing => {}
+            met => return met,
+        }
+        match self.send_checks() {
+            Met::Nothing => {}
+            met => return met,
+        }
+        match self.send_by_pair() {
+            Met::Nothing => {}
+            met => return met,
+        }
+        again_when(has_come(self.transport.dtls_wake, self.core.greatest))
     }
 
     fn walk(&mut self, buf: &mut [u8]) -> Met<M::E>
@@ -139,25 +138,17 @@ impl<I: IceAgent, D: DtlsInstance, S: Association, M: MediaSession, N: Ids> Poll
         Ok(Output::Timeout(wake))
     }
 
-    fn answer_met(&mut self, met: Met<M::E>) -> Result<Output<M::E>, RtcError>
-        requires { met ≢ Again }
-        ensures { AnswersMet (meanings I.ice D.dtls S.association M.media N.ids) met self.old result self.new }
+    fn walk_parts(&mut self) -> Result<Output<M::E>, RtcError>
+        ensures { Walks (meanings I.ice D.dtls S.association M.media N.ids) self.old result self.new }
     {
-        match met {
+        let mut buf = empty_buffer();
+        match self.walk(&mut buf) {
             Met::Nothing => self.wait(),
             Met::Again => unreachable!(),
             Met::Transmit(transmit) => Ok(Output::Transmit(transmit)),
             Met::Event(event) => Ok(Output::Event(event)),
             Met::Error(error) => Err(error),
         }
-    }
-
-    fn walk_parts(&mut self) -> Result<Output<M::E>, RtcError>
-        ensures { Walks (meanings I.ice D.dtls S.association M.media N.ids) self.old result self.new }
-    {
-        let mut buf = [0u8; DATAGRAM_MAX_PACKET_SIZE];
-        let met = self.walk(&mut buf);
-        self.answer_met(met)
     }
 
     /// The first thing that the peer has to give: events and datagrams, or the moment at which a timeout is wanted as

@@ -1,4 +1,4 @@
-use Rattle.std.proofs.Common.{◌≡◌, ◌⊎◌, ℕ, Result, inl, inr}
+use Rattle.std.proofs.Common.{◌≡◌, ◌⊎◌, ℕ, Result, Err, inl, inr, refl}
 use Rattle.rtc_wire.specs.declared.receive.Receive.{Receive}
 use Rattle.rtc_peer_state.specs.declared.phase.Phase.{Phase}
 use Rattle.rtc_peer_state.specs.declared.phase.Phase.TheVariants.{Alive, Closing, Closed}
@@ -6,7 +6,7 @@ use Rattle.rtc_peer_state.specs.Meanings.{Meanings, meanings}
 use Rattle.rtc_polling.specs.declared.input.Input.TheVariants.{Receive as Datagram}
 use Rattle.rtc_polling.specs.declared.polled_peer.PolledPeer.{PolledPeer}
 use Rattle.rtc_peer_state.specs.declared.rtc_error.RtcError.{RtcError}
-use Rattle.rtc_polling.specs.Inputs.{Hears, HandlesInputIn}
+use Rattle.rtc_polling.specs.Inputs.{Hears, Heard, PartFailed, HandlesInputIn}
 use Rattle.rtc_polling.proofs.polled_peer.PolledPeer.handle_input.Goals as goal
 
 module _ {I D S M E X T W N : Type 0} (m : Meanings I D S M E X T W N) where
@@ -18,8 +18,16 @@ module _ {I D S M E X T W N : Type 0} (m : Meanings I D S M E X T W N) where
   hears_in Closed now datagram p r q (inl is) h = cc (is)
   hears_in Closed now datagram p r q (inr is) h = cc (is)
 
-pub returns-in-Receive : goal.returns-in-Receive
-returns-in-Receive g c =
+pub returns-in-Err : goal.returns-in-Err
+returns-in-Err g c =
     let m = meanings g.I.IceAgent.ice g.D.DtlsInstance.dtls g.S.Association.association g.M.MediaSession.media g.N.Ids.ids in
     let p = c.args.self.now in
-    rw c.in-Receive.is (hears_in m p.core.phase c.in-Receive.now c.in-Receive.datagram p c.hear.result c.hear.new.self c.in-Alive.is c.hear.ensures)
+    rw c.in-Receive.is (hears_in m p.core.phase c.in-Receive.now c.in-Receive.datagram p (Err c.in-Err.error) c.hear_kind.new.self c.in-Alive.is
+    (PartFailed c.in-Err.error refl c.in-Err.ensures))
+
+pub returns-in-Ok : goal.returns-in-Ok
+returns-in-Ok g c =
+    let m = meanings g.I.IceAgent.ice g.D.DtlsInstance.dtls g.S.Association.association g.M.MediaSession.media g.N.Ids.ids in
+    let p = c.args.self.now in
+    rw c.in-Receive.is (hears_in m p.core.phase c.in-Receive.now c.in-Receive.datagram p c.take_time-in-Receive.result c.take_time-in-Receive.new.self c.in-Alive.is
+    (Heard c.hear_kind.new.self c.in-Ok.ensures c.take_time-in-Receive.ensures))

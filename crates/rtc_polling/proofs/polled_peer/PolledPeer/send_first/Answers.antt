@@ -3,17 +3,18 @@ use Rattle.rtc_dtls.specs.declared.dtls_error.DtlsError.{DtlsError}
 use Rattle.rtc_dtls.specs.declared.dtls_error.DtlsError.TheVariants.{WouldBlock, Fault, Alloc as DtlsAlloc}
 use Rattle.rtc_dtls.specs.DtlsState.{DtlsState, SendsData, can_send}
 use Rattle.rtc_peer_state.specs.Meanings.{meanings}
-use Rattle.rtc_polling.specs.Connection.{with_dtls, with_pushed}
+use Rattle.rtc_sctp.specs.Streams.{SctpStreams}
+use Rattle.rtc_polling.specs.Connection.{with_dtls, with_pushed, with_sctp}
 use Rattle.rtc_polling.proofs.SentPackets.{Answers, first_sent, first_dropped, first_refused, first_lacks, first_waits, blocked_same}
 use Rattle.rtc_polling.proofs.ShortPackets.{first_and_rest}
 use Rattle.rtc_polling.proofs.polled_peer.PolledPeer.send_first.Goals as goal
 
 pub returns-in-Ok : goal.returns-in-Ok
 returns-in-Ok g c =
-    first_sent (meanings g.I.IceAgent.ice g.D.DtlsInstance.dtls g.S.Association.association g.M.MediaSession.media g.N.Ids.ids) c.in-Some.packet.now c.args.packets.items c.handle_input.new.self c.args.self.now c.keep_rest.new.self
+    first_sent (meanings g.I.IceAgent.ice g.D.DtlsInstance.dtls g.S.Association.association g.M.MediaSession.media g.N.Ids.ids) c.in-Some.packet.now c.args.packets.items c.handle_input.new.self c.args.self.now (with_sctp c.keep_rest.new.sctp (with_dtls c.handle_input.new.self c.args.self.now))
     (first_and_rest c.args.packets.items c.in-Some.packet.now (sym (ap (λ (l : List (List ℕ)). slice_get l 0) c.deref.ensures.value) ∙ sym c.in-Some.ensures.value))
     (subst (λ (b : List ℕ). Answers (meanings g.I.IceAgent.ice g.D.DtlsInstance.dtls g.S.Association.association g.M.MediaSession.media g.N.Ids.ids) b c.args.self.now (Ok tt) c.handle_input.new.self) c.as_slice.ensures c.in-Ok.ensures.sent)
-    c.keep_rest.ensures
+    (ap (λ (s : SctpStreams g.row.S.Denot). with_sctp s (with_dtls c.handle_input.new.self c.args.self.now)) c.keep_rest.ensures)
 
 pub returns-in-Err-WouldBlock : goal.returns-in-Err-WouldBlock
 returns-in-Err-WouldBlock g c =
@@ -27,24 +28,24 @@ returns-in-Err-WouldBlock g c =
 
 pub returns-then-is_closing : goal.returns-then-is_closing
 returns-then-is_closing g c =
-    first_dropped (meanings g.I.IceAgent.ice g.D.DtlsInstance.dtls g.S.Association.association g.M.MediaSession.media g.N.Ids.ids) c.in-Some.packet.now c.args.packets.items c.handle_input.new.self c.args.self.now c.keep_rest-in-Err-Fault.new.self
+    first_dropped (meanings g.I.IceAgent.ice g.D.DtlsInstance.dtls g.S.Association.association g.M.MediaSession.media g.N.Ids.ids) c.in-Some.packet.now c.args.packets.items c.handle_input.new.self c.args.self.now (with_sctp c.keep_rest-in-Err-Fault.new.sctp (with_dtls c.handle_input.new.self c.args.self.now))
     (first_and_rest c.args.packets.items c.in-Some.packet.now (sym (ap (λ (l : List (List ℕ)). slice_get l 0) c.deref.ensures.value) ∙ sym c.in-Some.ensures.value))
     (subst (λ (b : List ℕ). Answers (meanings g.I.IceAgent.ice g.D.DtlsInstance.dtls g.S.Association.association g.M.MediaSession.media g.N.Ids.ids) b c.args.self.now (Err Fault) c.handle_input.new.self) c.as_slice.ensures
     (subst (λ (e : DtlsError). Answers (meanings g.I.IceAgent.ice g.D.DtlsInstance.dtls g.S.Association.association g.M.MediaSession.media g.N.Ids.ids) c.as_slice.result.now c.args.self.now (Err e) c.handle_input.new.self) c.in-Err-Fault.field-0-is c.in-Err-Fault.ensures.sent))
-    c.keep_rest-in-Err-Fault.ensures (sym c.is_closing.ensures ∙ c.if-is_closing.true)
+    (ap (λ (s : SctpStreams g.row.S.Denot). with_sctp s (with_dtls c.handle_input.new.self c.args.self.now)) c.keep_rest-in-Err-Fault.ensures) (sym c.is_closing.ensures ∙ c.if-is_closing.true)
 
 pub returns-else-is_closing : goal.returns-else-is_closing
 returns-else-is_closing g c =
-    first_refused (meanings g.I.IceAgent.ice g.D.DtlsInstance.dtls g.S.Association.association g.M.MediaSession.media g.N.Ids.ids) c.in-Some.packet.now c.args.packets.items c.handle_input.new.self c.args.self.now c.keep_rest-in-Err-Fault.new.self
+    first_refused (meanings g.I.IceAgent.ice g.D.DtlsInstance.dtls g.S.Association.association g.M.MediaSession.media g.N.Ids.ids) c.in-Some.packet.now c.args.packets.items c.handle_input.new.self c.args.self.now (with_sctp c.keep_rest-in-Err-Fault.new.sctp (with_dtls c.handle_input.new.self c.args.self.now))
     (first_and_rest c.args.packets.items c.in-Some.packet.now (sym (ap (λ (l : List (List ℕ)). slice_get l 0) c.deref.ensures.value) ∙ sym c.in-Some.ensures.value))
     (subst (λ (b : List ℕ). Answers (meanings g.I.IceAgent.ice g.D.DtlsInstance.dtls g.S.Association.association g.M.MediaSession.media g.N.Ids.ids) b c.args.self.now (Err Fault) c.handle_input.new.self) c.as_slice.ensures
     (subst (λ (e : DtlsError). Answers (meanings g.I.IceAgent.ice g.D.DtlsInstance.dtls g.S.Association.association g.M.MediaSession.media g.N.Ids.ids) c.as_slice.result.now c.args.self.now (Err e) c.handle_input.new.self) c.in-Err-Fault.field-0-is c.in-Err-Fault.ensures.sent))
-    c.keep_rest-in-Err-Fault.ensures (sym c.is_closing.ensures ∙ c.if-is_closing.false)
+    (ap (λ (s : SctpStreams g.row.S.Denot). with_sctp s (with_dtls c.handle_input.new.self c.args.self.now)) c.keep_rest-in-Err-Fault.ensures) (sym c.is_closing.ensures ∙ c.if-is_closing.false)
 
 pub returns-in-Err-Alloc : goal.returns-in-Err-Alloc
 returns-in-Err-Alloc g c =
-    first_lacks (meanings g.I.IceAgent.ice g.D.DtlsInstance.dtls g.S.Association.association g.M.MediaSession.media g.N.Ids.ids) c.in-Some.packet.now c.args.packets.items c.handle_input.new.self c.args.self.now c.keep_rest-in-Err-Alloc.new.self
+    first_lacks (meanings g.I.IceAgent.ice g.D.DtlsInstance.dtls g.S.Association.association g.M.MediaSession.media g.N.Ids.ids) c.in-Some.packet.now c.args.packets.items c.handle_input.new.self c.args.self.now (with_sctp c.keep_rest-in-Err-Alloc.new.sctp (with_dtls c.handle_input.new.self c.args.self.now))
     (first_and_rest c.args.packets.items c.in-Some.packet.now (sym (ap (λ (l : List (List ℕ)). slice_get l 0) c.deref.ensures.value) ∙ sym c.in-Some.ensures.value))
     (subst (λ (b : List ℕ). Answers (meanings g.I.IceAgent.ice g.D.DtlsInstance.dtls g.S.Association.association g.M.MediaSession.media g.N.Ids.ids) b c.args.self.now (Err DtlsAlloc) c.handle_input.new.self) c.as_slice.ensures
     (subst (λ (e : DtlsError). Answers (meanings g.I.IceAgent.ice g.D.DtlsInstance.dtls g.S.Association.association g.M.MediaSession.media g.N.Ids.ids) c.as_slice.result.now c.args.self.now (Err e) c.handle_input.new.self) c.in-Err-Alloc.field-0-is c.in-Err-Alloc.ensures.sent))
-    c.keep_rest-in-Err-Alloc.ensures
+    (ap (λ (s : SctpStreams g.row.S.Denot). with_sctp s (with_dtls c.handle_input.new.self c.args.self.now)) c.keep_rest-in-Err-Alloc.ensures)

@@ -1,8 +1,11 @@
-use Rattle.std.proofs.Common.{◌≡◌, ℕ, Bool, true, false, nat_lt, Result, arith}
+use Rattle.std.proofs.Common.{◌≡◌, ◌≤◌, ℕ, Bool, true, false, nat_lt, Result, refl, arith}
 use Rattle.rtc_peer_state.specs.declared.rtc_error.RtcError.{RtcError}
 use Rattle.rtc_peer_state.specs.Meanings.{Meanings, meanings}
 use Rattle.rtc_polling.specs.declared.polled_peer.PolledPeer.{PolledPeer}
-use Rattle.rtc_polling.specs.Inputs.{GivesTime, TakesTimeIf}
+use Rattle.rtc_polling.specs.Inputs.{GivesTime, TakesTimeIf, TimesStreams, TimesChannels}
+use Rattle.rtc_polling.specs.Connection.{with_sctp, with_channels}
+use Rattle.rtc_peer_state.specs.declared.rtc_error.RtcError.TheVariants.{Alloc}
+use Rattle.rtc_polling.specs.Stages.{Failed, Passed}
 use Rattle.rtc_polling.proofs.polled_peer.PolledPeer.take_time.Goals as goal
 
 -- a moment that is not earlier is given
@@ -11,7 +14,34 @@ takes : {I D S M E X T W N : Type 0} (m : Meanings I D S M E X T W N) (earlier :
 takes m true now p r q is h = cc (is)
 takes m false now p r q is h = h
 
+later : (now greatest a b : ℕ) → a ≡ now → b ≡ greatest → b ≤ a → nat_lt now greatest ≡ false
+later now greatest a b first second h = grind (arith, h, first, second)
+
+pub returns-in-Err : goal.returns-in-Err
+returns-in-Err g c = takes (meanings g.I.IceAgent.ice g.D.DtlsInstance.dtls g.S.Association.association g.M.MediaSession.media g.N.Ids.ids) _ _ _ _ _ (later c.args.now c.args.self.now.core.greatest _ _ c.nanos.ensures c.nanos-2.ensures c.if-nanos.false)
+    (Failed c.in-Err.error refl c.in-Err.ensures)
+
+pub returns-in-Err-time_sctp : goal.returns-in-Err-time_sctp
+unfolding TimesStreams
+returns-in-Err-time_sctp g c = takes (meanings g.I.IceAgent.ice g.D.DtlsInstance.dtls g.S.Association.association g.M.MediaSession.media g.N.Ids.ids) _ _ _ _ _ (later c.args.now c.args.self.now.core.greatest _ _ c.nanos.ensures c.nanos-2.ensures c.if-nanos.false)
+    (Passed _ c.in-Ok.ensures (Failed Alloc refl (c.in-Err-time_sctp.ensures, refl)))
+
+pub returns-in-Err-time_handler : goal.returns-in-Err-time_handler
+unfolding TimesStreams TimesChannels
+returns-in-Err-time_handler g c = takes (meanings g.I.IceAgent.ice g.D.DtlsInstance.dtls g.S.Association.association g.M.MediaSession.media g.N.Ids.ids) _ _ _ _ _ (later c.args.now c.args.self.now.core.greatest _ _ c.nanos.ensures c.nanos-2.ensures c.if-nanos.false)
+    (Passed _ c.in-Ok.ensures (Passed (with_sctp c.time_sctp.new.sctp c.time_ice.new.self) (c.in-Ok-time_sctp.ensures, refl)
+    (Failed Alloc refl (c.in-Err-time_handler.ensures, refl))))
+
+pub returns-in-Err-time_media : goal.returns-in-Err-time_media
+unfolding TimesStreams TimesChannels
+returns-in-Err-time_media g c = takes (meanings g.I.IceAgent.ice g.D.DtlsInstance.dtls g.S.Association.association g.M.MediaSession.media g.N.Ids.ids) _ _ _ _ _ (later c.args.now c.args.self.now.core.greatest _ _ c.nanos.ensures c.nanos-2.ensures c.if-nanos.false)
+    (Passed _ c.in-Ok.ensures (Passed (with_sctp c.time_sctp.new.sctp c.time_ice.new.self) (c.in-Ok-time_sctp.ensures, refl)
+    (Passed (with_channels c.time_handler.new.channels (with_sctp c.time_handler.new.sctp c.time_ice.new.self)) (c.in-Ok-time_handler.ensures, refl)
+    (Failed c.in-Err-time_media.error refl c.in-Err-time_media.ensures))))
+
 pub returns : goal.returns
-returns g c =
-    let later : nat_lt c.args.now c.args.self.now.core.greatest ≡ false = grind (arith, c.if-nanos.false, c.nanos.ensures, c.nanos-2.ensures) in
-    takes (meanings g.I.IceAgent.ice g.D.DtlsInstance.dtls g.S.Association.association g.M.MediaSession.media g.N.Ids.ids) _ _ _ _ _ later c.give_time.ensures
+unfolding TimesStreams TimesChannels
+returns g c = takes (meanings g.I.IceAgent.ice g.D.DtlsInstance.dtls g.S.Association.association g.M.MediaSession.media g.N.Ids.ids) _ _ _ _ _ (later c.args.now c.args.self.now.core.greatest _ _ c.nanos.ensures c.nanos-2.ensures c.if-nanos.false)
+    (Passed _ c.in-Ok.ensures (Passed (with_sctp c.time_sctp.new.sctp c.time_ice.new.self) (c.in-Ok-time_sctp.ensures, refl)
+    (Passed (with_channels c.time_handler.new.channels (with_sctp c.time_handler.new.sctp c.time_ice.new.self)) (c.in-Ok-time_handler.ensures, refl)
+    (Passed _ c.in-Ok-time_media.ensures c.time_statistics.ensures))))
