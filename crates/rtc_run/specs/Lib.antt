@@ -1,5 +1,6 @@
 pub mod Brings
 pub mod Completeness
+pub mod Keeping
 pub mod NoSuch
 pub mod OutcomeOf
 pub mod RefusedChannel

@@ -11,6 +11,7 @@ mod negotiating;
 mod pair;
 mod performing;
 mod polling;
+mod releasing;
 mod replying;
 mod running;
 mod turn;
