@@ -18,8 +18,8 @@ use Rattle.rtc_plain_ice.specs.Messages.{is_ice_message}
 use Rattle.rtc_plain_media.specs.declared.plain_media_event.PlainMediaEvent.{PlainMediaEvent}
 use Rattle.rtc_channel_runs.specs.HandedOut.{HandsOut}
 use Rattle.rtc_channel_runs.specs.SettledPairs.{SettlesOpen}
-use Rattle.rtc_run.specs.ProgramPair.{counting, plain_parts, PlainPairState, IsProgramPair}
-use Rattle.rtc_run.specs.declared.peer_settings.PeerSettings.{PeerSettings}
+use Rattle.rtc_plain_pair.specs.ProgramPair.{counting, plain_parts, PlainPairState, IsProgramPair}
+use Rattle.rtc_plain_pair.specs.declared.peer_settings.PeerSettings.{PeerSettings}
 use Rattle.rtc_script.specs.Script.{IsScript, IsRefused}
 use Rattle.rtc_script.specs.declared.script_error.ScriptError.TheVariants.{Line}
 use Rattle.rtc_script.specs.Report.{report}

@@ -10,7 +10,7 @@ use Rattle.rtc_history.specs.Orderly.{are_orderly}
 use Rattle.rtc_history.specs.declared.reply.Reply.{Reply}
 use Rattle.rtc_history.specs.declared.step.Step.{Step}
 use Rattle.rtc_plain_media.specs.declared.plain_media_event.PlainMediaEvent.{PlainMediaEvent}
-use Rattle.rtc_run.specs.ProgramPair.{PlainPairState}
+use Rattle.rtc_plain_pair.specs.ProgramPair.{PlainPairState}
 use Rattle.rtc_script.specs.declared.script.Script.{Script}
 use Rattle.rtc_pair.specs.Answers.{RanScript, script_program, run_words, lack_memory}
 use Rattle.rtc_pair.specs.Words.{AskForNothing}

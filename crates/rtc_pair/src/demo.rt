@@ -9,7 +9,7 @@ use rtc_demo::{count_demo, demo_steps, write_counts};
 use rtc_history::{Reply, Step};
 use rtc_io::{OUT_OF_MEMORY, SINK_FAILED, Sink, write_all};
 use rtc_plain::PlainMediaEvent;
-use rtc_run::PlainPair;
+use rtc_plain_pair::PlainPair;
 use rtc_script::Script;
 use rtc_wire::Seq;
 use std::alloc::{AllocError, Global};

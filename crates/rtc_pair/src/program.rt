@@ -13,7 +13,7 @@ use crate::demo::perform_demo;
 use crate::top::run_main;
 use rtc_demo::read_demo;
 use rtc_io::{Sink, Source, USAGE, say};
-use rtc_run::PlainPair;
+use rtc_plain_pair::PlainPair;
 use std::alloc::Global;
 
 /// Does what the words ask for, and answers the status to end with: `run` reads a script from `input`, performs it, and writes its report

@@ -4,7 +4,7 @@ ghost use Rattle.rtc_io.specs.Saying.{BreaksOff};
 ghost use Rattle.rtc_io.specs.Programs.{RefusesInput};
 ghost use Rattle.rtc_history.specs.Fresh.{ArePeersFormed, IsFresh};
 ghost use Rattle.rtc_history.specs.Sizes.{steps_size};
-ghost use Rattle.rtc_run.specs.ProgramPair.{plain_parts};
+ghost use Rattle.rtc_plain_pair.specs.ProgramPair.{plain_parts};
 ghost use Rattle.rtc_script.specs.Report.{report};
 ghost use Rattle.rtc_pair.specs.Answers.{
   script_program,
@@ -25,7 +25,8 @@ ghost use Rattle.rtc_pair.specs.Answers.{
 use rtc_history::{Reply, Side, Step};
 use rtc_io::{OUT_OF_MEMORY, SINK_FAILED, Sink, Source, read_input, refuse_input, write_all};
 use rtc_plain::PlainMediaEvent;
-use rtc_run::{PeerSettings, PlainPair, make_pair, run_pair};
+use rtc_plain_pair::{PeerSettings, PlainPair, make_pair};
+use rtc_run::run_pair;
 use rtc_script::{Script, ScriptError, read_script, write_report};
 use rtc_wire::Seq;
 use std::alloc::{AllocError, Global};

@@ -1,5 +1,5 @@
 -- A drain, turn by turn: what is left from a turn on makes, behind what was shown, the whole.
-use Rattle.std.proofs.Common.{◌≡◌, ◌≤◌, ◌+◌, ◌∙◌, ℕ, true, false, List, [], ◌∷◌, ◌++◌, length, Ok, refl, sym, ap, subst, arith, append-nil, append_assoc, length-append}
+use Rattle.std.proofs.Common.{◌≡◌, ◌≤◌, ◌+◌, ◌∙◌, ℕ, true, false, List, [], ◌∷◌, ◌++◌, length, Option, Some, Ok, refl, sym, ap, subst, arith, append-nil, append_assoc, length-append}
 use Rattle.rtc_parts_values.specs.declared.reason.Reason.{Reason}
 use Rattle.rtc_peer_state.specs.declared.rtc_error.RtcError.{RtcError}
 use Rattle.rtc_peer_state.specs.Meanings.{Meanings}
@@ -10,11 +10,16 @@ use Rattle.rtc_polling.specs.Walk.{PollsPeer}
 use Rattle.rtc_history.specs.declared.side.Side.{Side}
 use Rattle.rtc_history.specs.declared.poll_end.PollEnd.{PollEnd}
 use Rattle.rtc_history.specs.declared.poll_end.PollEnd.TheVariants.{Ended, Refused as EndRefused, NoRoom}
+use Rattle.rtc_history.specs.declared.outcome.Outcome.{Outcome}
+use Rattle.rtc_history.specs.declared.outcome.Outcome.TheVariants.{Polled}
 use Rattle.rtc_history.specs.declared.sent_packet.SentPacket.{SentPacket}
+use Rattle.rtc_history.specs.declared.table.Table.{Table}
 use Rattle.rtc_history.specs.declared.shown.Shown.{Shown}
 use Rattle.rtc_history.specs.declared.shown.Shown.TheVariants.{Timeout, Packet, Event}
-use Rattle.rtc_history.specs.Performs.{PollsShown, DrainsOn, DrainsPeer}
-use Rattle.rtc_run.specs.Turns.{Turns, TakesTurn, ShowsOutput, is_timeout}
+use Rattle.rtc_history.specs.Performs.{PollsShown, PollsOnce, DrainsOn, DrainsPeer, StepPollsPeer}
+use Rattle.rtc_run.specs.ShownTable.{shown_table}
+use Rattle.rtc_run.specs.Turns.{Turns, TakesTurn, ShowsOutput, end_of, is_timeout}
+use Rattle.rtc_run.specs.declared.turn.Turn.{Turn}
 use Rattle.rtc_run.specs.declared.turn.Turn.TheVariants.{More, Over, Refused}
 
 module _ {I D S M E X T W N : Type 0} (m : Meanings I D S M E X T W N) (at : Side) where
@@ -135,3 +140,25 @@ module _ {I D S M E X T W N : Type 0} (m : Meanings I D S M E X T W N) where
       subst (λ (s : Shown E). PollsShown m at p packets s q packets') (sym shows.0) (transmit, polls, refl, refl, shows.1)
   turns_shown at p packets (polled.Event event) reason shown q packets' polls is shows =
       subst (λ (s : Shown E). PollsShown m at p packets s q packets') (sym shows.0) (polls, shows.1)
+
+  -- ---- the reply to polls
+
+  pub told_polls : (polls : List SentPacket → List (Shown E) → PollEnd → PolledPeer I D S M N → List SentPacket → Type 0) (old : PolledPeer I D S M N) (packets same : List SentPacket) (outputs : List (Shown E)) (end : PollEnd)
+      (outcome : Outcome E) (table : Option Table) (new : PolledPeer I D S M N) (packets' : List SentPacket) → polls same outputs end new packets' → same ≡ packets → outcome ≡ Polled outputs end
+      → table ≡ Some (shown_table m.association new.core) → StepPollsPeer m polls old packets outcome table new packets'
+  told_polls polls old packets same outputs end outcome table new packets' polled same_is outcome_is table_is =
+      let kept : polls packets outputs end new packets' = subst (λ (list : List SentPacket). polls list outputs end new packets') same_is polled in
+      rw (outcome_is, table_is) (kept, record { lines = refl; channels = refl })
+
+  -- one turn is one poll
+  pub one_turn : (at : Side) (p : PolledPeer I D S M N) (packets : List SentPacket) (none : List (Shown E)) (turn : Turn) (q : PolledPeer I D S M N) (packets' : List SentPacket) (outputs : List (Shown E)) (end : PollEnd)
+      → TakesTurn m at p packets none turn q packets' outputs → none ≡ [] → end ≡ end_of turn → PollsOnce m at p packets outputs end q packets'
+  one_turn at p packets none More q packets' outputs end takes is ends =
+      let only : outputs ≡ takes.0 ∷ [] = takes.3 ∙ ap (λ (front : List (Shown E)). front ++ takes.0 ∷ []) is in
+      rw (only, ends) takes.1
+  one_turn at p packets none Over q packets' outputs end takes is ends =
+      let only : outputs ≡ takes.0 ∷ [] = takes.3 ∙ ap (λ (front : List (Shown E)). front ++ takes.0 ∷ []) is in
+      rw (only, ends) takes.1
+  one_turn at p packets none (Refused error) q packets' outputs end takes is ends =
+      let empty : outputs ≡ [] = takes.2 ∙ is in
+      rw (empty, ends) (takes.0, takes.1)

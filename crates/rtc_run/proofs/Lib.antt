@@ -7,8 +7,6 @@ pub mod Lent
 pub mod RowsLeft
 pub mod Paired
 pub mod FaultlessSdps
-pub mod PlainPeers
-pub mod PlainFaults
 pub mod Drained
 pub mod PollsKeep
 pub mod Answered

@@ -1,8 +1,8 @@
 pub mod Brings
 pub mod Completeness
+pub mod Keeping
 pub mod NoSuch
 pub mod OutcomeOf
-pub mod ProgramPair
 pub mod RefusedChannel
 pub mod ShownTable
 pub mod Stages

@@ -7,6 +7,8 @@ use Rattle.rtc_polling.specs.declared.output.Output.{Output}
 use Rattle.rtc_polling.specs.declared.output.Output.TheVariants as polled
 use Rattle.rtc_polling.specs.declared.polled_peer.PolledPeer.{PolledPeer}
 use Rattle.rtc_polling.specs.Walk.{PollsPeer}
+use Rattle.rtc_history.specs.declared.poll_end.PollEnd.{PollEnd}
+use Rattle.rtc_history.specs.declared.poll_end.PollEnd.TheVariants.{Ended, Refused as EndRefused}
 use Rattle.rtc_history.specs.declared.sent_packet.SentPacket.{SentPacket}
 use Rattle.rtc_history.specs.declared.shown.Shown.{Shown}
 use Rattle.rtc_history.specs.declared.shown.Shown.TheVariants.{Timeout, Packet, Event}
@@ -20,6 +22,12 @@ abbrev pub is_timeout : {E : Type 0} → Shown E → Bool
 is_timeout (Timeout moment reason) = true
 is_timeout (Packet number len) = false
 is_timeout (Event event) = false
+
+-- what ends a step of one turn
+abbrev pub end_of : Turn → PollEnd
+end_of More = Ended
+end_of Over = Ended
+end_of (Refused error) = EndRefused error
 
 -- the moment of a timeout
 abbrev pub moment_of : {E : Type 0} → Output E → ℕ

@@ -7,11 +7,12 @@ ghost use Rattle.rtc_peer.specs.Described.{sdp_of_answer};
 ghost use Rattle.rtc_history.specs.Sides.{same_side};
 ghost use Rattle.rtc_history.specs.PairState.{sent_sdp, kept_remote_sdp, held_token, spent};
 ghost use Rattle.rtc_history.specs.Performs.{StepAcceptsAnswer, StepAcceptsOffer, kept_answer, lent};
-ghost use Rattle.rtc_history.specs.Signalled.{signalled};
+ghost use Rattle.rtc_history.specs.Signalled.{Readable, signalled};
 ghost use Rattle.rtc_peer_state.specs.Meanings.{meanings};
 ghost use Rattle.rtc_run.specs.Brings.{Brings};
 
 use crate::brought::Brought;
+use crate::releasing::release;
 use crate::replying::{
     make_room, reply_no_memory, reply_no_such, reply_unread, reply_with, room_for,
 };
@@ -94,6 +95,32 @@ fn accept_offer<I: IceAgent, D: DtlsInstance, S: Association, M: MediaSession, N
     rtc.sdp_api().accept_offer(offer)
 }
 
+// Has a peer accept or refuse an offer that was delivered, where there is memory for the reply.
+fn accept_delivered_offer<I: IceAgent, D: DtlsInstance, S: Association, M: MediaSession, N: Ids>(
+    alloc: Global,
+    rtc: &mut Rtc<I, D, S, M, N>,
+    sdps: &mut Vec<Kept>,
+    at: Side,
+    delivered: Sdp,
+) -> Reply<M::E>
+    requires count { length sdps.old.items < 2 ^ 32 }
+    ensures connection { rtc.new.transport ≡ rtc.old.transport }
+    ensures accepts { StepAcceptsOffer (meanings I.ice D.dtls S.association M.media N.ids)
+        at (Readable delivered) rtc.old.core sdps.old.items result.outcome result.table rtc.new.core sdps.new.items }
+{
+    let Ok(room) = make_room(alloc, rtc, delivered.lines.len(), 0, sdps) else {
+        return release(delivered, reply_no_memory());
+    };
+    match accept_offer(rtc, SdpOffer(delivered)) {
+        Ok(answer) => {
+            let text = sdps.len() as u32;
+            sdps.push_reserved(keep_answer(at, answer));
+            reply_with(Outcome::Answered { text }, room, rtc)
+        }
+        Err(error) => reply_with(Outcome::Refused(error), room, rtc),
+    }
+}
+
 /// Delivers the offer of a number to a peer, which accepts or refuses it. What cannot be read does not reach the peer.
 pub fn deliver_and_accept_offer<
     I: IceAgent,
@@ -114,22 +141,11 @@ pub fn deliver_and_accept_offer<
         at (kept_remote_sdp true sdps.old.items at offer) rtc.old.core sdps.old.items
         result.outcome result.table rtc.new.core sdps.new.items }
 {
-    let delivered = match bring(alloc, sdps.as_slice(), true, at, offer) {
-        Brought::NotMade => return reply_no_such(alloc, rtc),
-        Brought::Unreadable(line) => return reply_unread(alloc, rtc, line),
-        Brought::Readable(delivered) => delivered,
-        Brought::Alloc => return reply_no_memory(),
-    };
-    let Ok(room) = make_room(alloc, rtc, delivered.lines.len(), 0, sdps) else {
-        return reply_no_memory();
-    };
-    match accept_offer(rtc, SdpOffer(delivered)) {
-        Ok(answer) => {
-            let text = sdps.len() as u32;
-            sdps.push_reserved(keep_answer(at, answer));
-            reply_with(Outcome::Answered { text }, room, rtc)
-        }
-        Err(error) => reply_with(Outcome::Refused(error), room, rtc),
+    match bring(alloc, sdps.as_slice(), true, at, offer) {
+        Brought::NotMade => reply_no_such(alloc, rtc),
+        Brought::Unreadable(line) => reply_unread(alloc, rtc, line),
+        Brought::Readable(delivered) => accept_delivered_offer(alloc, rtc, sdps, at, delivered),
+        Brought::Alloc => reply_no_memory(),
     }
 }
 
@@ -172,6 +188,32 @@ fn accept_answer<I: IceAgent, D: DtlsInstance, S: Association, M: MediaSession, 
     rtc.sdp_api().accept_answer(pending, answer)
 }
 
+// Has a peer accept or refuse an answer that was delivered, with the token of a number, where there is memory for the reply.
+fn accept_delivered_answer<I: IceAgent, D: DtlsInstance, S: Association, M: MediaSession, N: Ids>(
+    alloc: Global,
+    rtc: &mut Rtc<I, D, S, M, N>,
+    sdps: &mut Vec<Kept>,
+    at: Side,
+    token: u32,
+    delivered: Sdp,
+) -> Reply<M::E>
+    ensures connection { rtc.new.transport ≡ rtc.old.transport }
+    ensures accepts { StepAcceptsAnswer (meanings I.ice D.dtls S.association M.media N.ids)
+        token (held_token sdps.old.items at token) (Readable delivered)
+        rtc.old.core sdps.old.items result.outcome result.table rtc.new.core sdps.new.items }
+{
+    let Ok(room) = room_for(alloc, rtc, delivered.lines.len(), 0) else {
+        return release(delivered, reply_no_memory());
+    };
+    let Some(pending) = take_token(sdps, at, token) else {
+        return release(delivered, reply_with(Outcome::NoSuch, room, rtc));
+    };
+    match accept_answer(rtc, pending, SdpAnswer(delivered)) {
+        Ok(()) => reply_with(Outcome::Finished, room, rtc),
+        Err(error) => reply_with(Outcome::Refused(error), room, rtc),
+    }
+}
+
 /// Delivers the answer of a number to a peer, which accepts or refuses it with the token of a number. What cannot be read does not
 /// reach the peer, and the token stays.
 pub fn deliver_and_accept_answer<
@@ -196,20 +238,12 @@ pub fn deliver_and_accept_answer<
     if !has_token(sdps.as_slice(), at, token) {
         return reply_no_such(alloc, rtc);
     }
-    let delivered = match bring(alloc, sdps.as_slice(), false, at, answer) {
-        Brought::NotMade => return reply_no_such(alloc, rtc),
-        Brought::Unreadable(line) => return reply_unread(alloc, rtc, line),
-        Brought::Readable(delivered) => delivered,
-        Brought::Alloc => return reply_no_memory(),
-    };
-    let Ok(room) = room_for(alloc, rtc, delivered.lines.len(), 0) else {
-        return reply_no_memory();
-    };
-    let Some(pending) = take_token(sdps, at, token) else {
-        return reply_with(Outcome::NoSuch, room, rtc);
-    };
-    match accept_answer(rtc, pending, SdpAnswer(delivered)) {
-        Ok(()) => reply_with(Outcome::Finished, room, rtc),
-        Err(error) => reply_with(Outcome::Refused(error), room, rtc),
+    match bring(alloc, sdps.as_slice(), false, at, answer) {
+        Brought::NotMade => reply_no_such(alloc, rtc),
+        Brought::Unreadable(line) => reply_unread(alloc, rtc, line),
+        Brought::Readable(delivered) => {
+            accept_delivered_answer(alloc, rtc, sdps, at, token, delivered)
+        }
+        Brought::Alloc => reply_no_memory(),
     }
 }

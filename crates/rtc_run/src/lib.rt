@@ -9,17 +9,14 @@ mod hearing;
 mod laws;
 mod negotiating;
 mod pair;
-mod peer_settings;
 mod performing;
-mod plain_pair;
 mod polling;
+mod releasing;
 mod replying;
 mod running;
 mod turn;
 
 pub use laws::{faultless_descriptions_pass, faults_are_counted};
 pub use pair::Pair;
-pub use peer_settings::PeerSettings;
-pub use plain_pair::{PlainPair, make_pair};
 pub use rtc_delivery::{deliver_answer, deliver_offer};
 pub use running::run_pair;

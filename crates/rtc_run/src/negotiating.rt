@@ -4,15 +4,15 @@ ghost use Rattle.std.specs.Prelude.{Some, IfOk, not, ◌&&◌, true, false};
 ghost use Rattle.rtc_tables.specs.RowChanges.{media_mid};
 ghost use Rattle.rtc_history.specs.Memory.{answers_lack};
 ghost use Rattle.rtc_history.specs.declared.op.Op.TheVariants.{AddMedia, SetDirection, StopMedia, AddChannel, IceRestart};
-ghost use Rattle.rtc_history.specs.declared.outcome.Outcome.TheVariants.{Negotiated};
 ghost use Rattle.rtc_history.specs.Performs.{Negotiates, PerformsOps, kept_offer};
+ghost use Rattle.rtc_run.specs.Keeping.{Keeps};
 ghost use Rattle.rtc_run.specs.RefusedChannel.{refused_channel};
-ghost use Rattle.rtc_run.specs.ShownTable.{shown_table};
 ghost use Rattle.rtc_run.specs.Stages.{Stages};
 ghost use Rattle.rtc_peer_state.specs.Meanings.{meanings};
 
 use crate::applied::Applied;
-use crate::replying::{Room, make_room, reply_no_memory, reply_with};
+use crate::releasing::release;
+use crate::replying::{make_room, reply_no_memory, reply_with};
 use rtc_change::SdpPendingOffer;
 use rtc_history::{Kept, Made, Op, OpAnswer, Outcome, Reply, Side, do_answers_lack};
 use rtc_lines::SdpOffer;
@@ -115,7 +115,10 @@ fn add_channel<I: IceAgent, D: DtlsInstance, S: Association, M: MediaSession, N:
     };
     match api.add_channel_with_config(config) {
         Ok(id) => OpAnswer::Channel(id),
-        Err(error) => answer_refusal(&error),
+        Err(error) => {
+            let answer = answer_refusal(&error);
+            release(error, answer)
+        }
     }
 }
 
@@ -229,21 +232,22 @@ fn keep_offer(at: Side, offer: SdpOffer, token: SdpPendingOffer) -> Kept
     }
 }
 
-// The reply to a step of ops.
-fn reply_made<I: IceAgent, D: DtlsInstance, S: Association, M: MediaSession, N: Ids>(
-    answers: Seq<OpAnswer>,
-    made: Made,
-    room: Room,
-    rtc: &Rtc<I, D, S, M, N>,
-) -> Reply<M::E>
-    requires no_lines { room.lines.items ≡ [] }
-    requires no_channels { room.channels.items ≡ [] }
-    requires lines { length rtc.now.core.lines ≤ vec_capacity room.lines }
-    requires channels { length rtc.now.core.channels.rows ≤ vec_capacity room.channels }
-    ensures outcome { result.outcome ≡ Negotiated answers made }
-    ensures table { result.table ≡ Some (shown_table S.association rtc.now.core) }
+// What was made of the changes. An offer is kept with its token, for which there is room.
+fn keep_made(sdps: &mut Vec<Kept>, at: Side, applied: Applied) -> Made
+    requires count { length sdps.old.items < 2 ^ 32 }
+    requires room { vec_len sdps.old < vec_capacity sdps.old }
+    ensures { Keeps at applied sdps.old.items result sdps.new.items }
 {
-    reply_with(Outcome::Negotiated { answers, made }, room, rtc)
+    match applied {
+        Applied::NotAsked => Made::NotAsked,
+        Applied::Nothing => Made::Nothing,
+        Applied::Alloc => Made::Alloc,
+        Applied::Offer(offer, token) => {
+            let number = next_number(sdps);
+            sdps.push_reserved(keep_offer(at, offer, token));
+            Made::Offer(number)
+        }
+    }
 }
 
 /// Performs ops at a peer, and applies what they staged if the step asks for it.
@@ -267,14 +271,6 @@ pub fn negotiate<I: IceAgent, D: DtlsInstance, S: Association, M: MediaSession, 
         return reply_no_memory();
     };
     let (answers, applied) = perform_and_apply(rtc, ops, apply, answers);
-    match applied {
-        Applied::NotAsked => reply_made(answers, Made::NotAsked, room, rtc),
-        Applied::Nothing => reply_made(answers, Made::Nothing, room, rtc),
-        Applied::Alloc => reply_made(answers, Made::Alloc, room, rtc),
-        Applied::Offer(offer, token) => {
-            let number = next_number(sdps);
-            sdps.push_reserved(keep_offer(at, offer, token));
-            reply_made(answers, Made::Offer(number), room, rtc)
-        }
-    }
+    let made = keep_made(sdps, at, applied);
+    reply_with(Outcome::Negotiated { answers, made }, room, rtc)
 }

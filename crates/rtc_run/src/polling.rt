@@ -1,11 +1,10 @@
 //! Polls of a step.
-ghost use Rattle.std.specs.Prelude.{◌≡◌, ◌+◌, ◌<◌, ◌≤◌, ◌^◌, ◌++◌, [], ◌∷◌, length, IfOk, OnOk, vec_capacity, vec_len, Some, if◌then◌else◌};
+ghost use Rattle.std.specs.Prelude.{◌≡◌, ◌+◌, ◌<◌, ◌≤◌, ◌^◌, ◌++◌, [], ◌∷◌, length, IfOk, OnOk, vec_capacity, vec_len, if◌then◌else◌};
 ghost use Rattle.rtc_history.specs.Performs.{DrainsPeer, PollsOnce, StepPollsPeer, sent_packet};
 ghost use Rattle.rtc_history.specs.declared.outcome.Outcome.TheVariants.{Polled};
 ghost use Rattle.rtc_history.specs.declared.shown.Shown.TheVariants.{Packet};
 ghost use Rattle.rtc_peer_state.specs.Meanings.{meanings};
-ghost use Rattle.rtc_run.specs.ShownTable.{shown_table};
-ghost use Rattle.rtc_run.specs.Turns.{Turns, TakesTurn, ShowsOutput, is_timeout, moment_of};
+ghost use Rattle.rtc_run.specs.Turns.{Turns, TakesTurn, ShowsOutput, end_of, is_timeout, moment_of};
 ghost use Rattle.rtc_run.specs.declared.turn.Turn.TheVariants.{More, Over};
 
 use crate::replying::{Room, make_channel_room, reply_no_memory, reply_with, room_for};
@@ -173,40 +172,44 @@ fn drain_outputs<I: IceAgent, D: DtlsInstance, S: Association, M: MediaSession, 
     PollEnd::NoRoom
 }
 
-// Room for the table of a peer whose polls may add a channel, and for a datagram.
+// Room for the table of a peer whose polls may add a channel, for a datagram, and for an output.
 fn make_first_room<I: IceAgent, D: DtlsInstance, S: Association, M: MediaSession, N: Ids>(
     alloc: Global,
     rtc: &Rtc<I, D, S, M, N>,
     packets: &mut Vec<SentPacket>,
-) -> Result<Room, AllocError>
-    ensures no_lines { IfOk result (λ room. room.lines.items ≡ []) }
-    ensures no_channels { IfOk result (λ room. room.channels.items ≡ []) }
-    ensures lines { IfOk result (λ room. length rtc.now.core.lines ≤ vec_capacity room.lines) }
-    ensures channels { IfOk result (λ room. length rtc.now.core.channels.rows + 1 ≤ vec_capacity room.channels) }
+) -> Result<(Vec<Shown<M::E>>, Room), AllocError>
+    ensures no_outputs { IfOk result (λ made. made.0.items ≡ []) }
+    ensures output { IfOk result (λ made. vec_len made.0 < vec_capacity made.0) }
+    ensures no_lines { IfOk result (λ made. made.1.lines.items ≡ []) }
+    ensures no_channels { IfOk result (λ made. made.1.channels.items ≡ []) }
+    ensures lines { IfOk result (λ made. length rtc.now.core.lines ≤ vec_capacity made.1.lines) }
+    ensures channels { IfOk result (λ made. length rtc.now.core.channels.rows + 1 ≤ vec_capacity made.1.channels) }
     ensures packet { OnOk result (vec_len packets.new < vec_capacity packets.new) }
     ensures packets { packets.new.items ≡ packets.old.items }
 {
-    let room = room_for(alloc, rtc, 0, 1)?;
     packets.reserve(1)?;
-    Ok(room)
+    let room = room_for(alloc, rtc, 0, 1)?;
+    let outputs = Vec::with_capacity(alloc, 1)?;
+    Ok((outputs, room))
 }
 
-// The reply to polls.
-fn reply_polled<I: IceAgent, D: DtlsInstance, S: Association, M: MediaSession, N: Ids>(
-    outputs: Vec<Shown<M::E>>,
-    end: PollEnd,
-    room: Room,
-    rtc: &Rtc<I, D, S, M, N>,
-) -> Reply<M::E>
-    requires no_lines { room.lines.items ≡ [] }
-    requires no_channels { room.channels.items ≡ [] }
-    requires lines { length rtc.now.core.lines ≤ vec_capacity room.lines }
-    requires channels { length rtc.now.core.channels.rows ≤ vec_capacity room.channels }
-    ensures outcome { result.outcome ≡ Polled outputs.items end }
-    ensures table { result.table ≡ Some (shown_table S.association rtc.now.core) }
+// The outcome of polls.
+fn polled<E>(outputs: Vec<Shown<E>>, end: PollEnd) -> Outcome<E>
+    ensures { result ≡ Polled outputs.items end }
 {
     let outputs = Seq::new(outputs);
-    reply_with(Outcome::Polled { outputs, end }, room, rtc)
+    Outcome::Polled { outputs, end }
+}
+
+// What ended a step of one turn.
+fn end_of(turn: Turn) -> PollEnd
+    ensures { result ≡ end_of turn }
+{
+    match turn {
+        Turn::More => PollEnd::Ended,
+        Turn::Over => PollEnd::Ended,
+        Turn::Refused(error) => PollEnd::Refused(error),
+    }
 }
 
 /// Polls a peer once.
@@ -220,20 +223,12 @@ pub fn poll<I: IceAgent, D: DtlsInstance, S: Association, M: MediaSession, N: Id
         (PollsOnce (meanings I.ice D.dtls S.association M.media N.ids) at rtc.old)
         rtc.old packets.old.items result.outcome result.table rtc.new packets.new.items }
 {
-    let Ok(room) = make_first_room(alloc, rtc, packets) else {
-        return reply_no_memory();
-    };
-    let Ok(outputs) = Vec::with_capacity(alloc, 1) else {
+    let Ok((outputs, room)) = make_first_room(alloc, rtc, packets) else {
         return reply_no_memory();
     };
     let mut outputs = outputs;
-    match poll_shown(rtc, at, packets) {
-        Ok(shown) => {
-            outputs.push_reserved(shown);
-            reply_polled(outputs, PollEnd::Ended, room, rtc)
-        }
-        Err(error) => reply_polled(outputs, PollEnd::Refused(error), room, rtc),
-    }
+    let turn = take_turn(rtc, at, packets, &mut outputs);
+    reply_with(polled(outputs, end_of(turn)), room, rtc)
 }
 
 /// Polls a peer up to a timeout or an error, or until there is no room for one more poll.
@@ -247,14 +242,11 @@ pub fn drain<I: IceAgent, D: DtlsInstance, S: Association, M: MediaSession, N: I
         (DrainsPeer (meanings I.ice D.dtls S.association M.media N.ids) at rtc.old)
         rtc.old packets.old.items result.outcome result.table rtc.new packets.new.items }
 {
-    let Ok(room) = make_first_room(alloc, rtc, packets) else {
-        return reply_no_memory();
-    };
-    let Ok(outputs) = Vec::with_capacity(alloc, 1) else {
+    let Ok((outputs, room)) = make_first_room(alloc, rtc, packets) else {
         return reply_no_memory();
     };
     let mut outputs = outputs;
     let mut room = room;
     let end = drain_outputs(rtc, at, packets, &mut outputs, &mut room.channels);
-    reply_polled(outputs, end, room, rtc)
+    reply_with(polled(outputs, end), room, rtc)
 }

@@ -35,9 +35,9 @@ pub fn room_for<I: IceAgent, D: DtlsInstance, S: Association, M: MediaSession, N
     ensures lines { IfOk result (λ room. length rtc.now.core.lines + lines ≤ vec_capacity room.lines) }
     ensures channels { IfOk result (λ room. length rtc.now.core.channels.rows + channels ≤ vec_capacity room.channels) }
 {
-    let shown = rtc.channels()?;
+    let shown = rtc.channels()?.len();
     let lines = Vec::with_capacity(alloc, rtc.lines().rows().len() + lines)?;
-    let channels = Vec::with_capacity(alloc, shown.len() + channels)?;
+    let channels = Vec::with_capacity(alloc, shown + channels)?;
     Ok(Room { lines, channels })
 }
 

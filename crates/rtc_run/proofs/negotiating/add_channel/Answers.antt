@@ -1,4 +1,4 @@
-use Rattle.std.proofs.Common.{refl}
+use Rattle.std.proofs.Common.{refl, ◌∙◌}
 use Rattle.rtc_run.proofs.Ops.{channel_once, channel_refused, channel_uncopied}
 use Rattle.rtc_peer_state.specs.Meanings.{meanings}
 use Rattle.rtc_run.proofs.negotiating.add_channel.Goals as goal
@@ -12,4 +12,4 @@ returns-in-Ok-add_channel_with_config-clause-performs g c =
 
 pub returns-in-Err-clause-performs : goal.returns-in-Err-clause-performs
 returns-in-Err-clause-performs g c =
-    channel_refused (meanings g.I.IceAgent.ice g.D.DtlsInstance.dtls g.S.Association.association g.M.MediaSession.media g.N.Ids.ids) c.args.api.now.rtc.now.core c.add_channel_with_config.new.self.rtc.now.core c.args.config.now c.in-Ok.config c.in-Err.error c.answer_refusal.result c.in-Ok.ensures c.in-Err.ensures.adds c.answer_refusal.ensures
+    channel_refused (meanings g.I.IceAgent.ice g.D.DtlsInstance.dtls g.S.Association.association g.M.MediaSession.media g.N.Ids.ids) c.args.api.now.rtc.now.core c.add_channel_with_config.new.self.rtc.now.core c.args.config.now c.in-Ok.config c.in-Err.error c.release.result c.in-Ok.ensures c.in-Err.ensures.adds (c.release.ensures ∙ c.answer_refusal-answer.ensures)

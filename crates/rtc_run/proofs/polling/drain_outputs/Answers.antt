@@ -1,4 +1,4 @@
-use Rattle.std.proofs.Common.{rules, arith}
+use Rattle.std.proofs.Common.{rules, arith, ◌∙◌}
 use Rattle.rtc_peer_state.specs.Meanings.{meanings}
 use Rattle.rtc_run.proofs.Drained.{left_first, left_same, count_more, some_more, drains_ended, drains_refused, drains_lacking}
 use Rattle.rtc_run.proofs.polling.drain_outputs.Goals as goal
@@ -22,9 +22,9 @@ loop-turn-preserved g c =
       count = count_more (meanings g.I.IceAgent.ice g.D.DtlsInstance.dtls g.S.Association.association g.M.MediaSession.media g.N.Ids.ids) _ _ _ _ _ _ _ _ _ c.in-More.ensures.takes c.make_room.ensures.outputs c.loop-turn.invariant.count;
       output = search rules;
       packet = search rules;
-      lines = search rules;
+      lines = c.in-More.ensures.lines ∙ c.loop-turn.invariant.lines;
       channel = search rules;
-      no_channels = search rules;
+      no_channels = c.make_room.ensures.no_channels ∙ c.loop-turn.invariant.no_channels;
     }
 
 pub returns-in-Over-clause-drains : goal.returns-in-Over-clause-drains

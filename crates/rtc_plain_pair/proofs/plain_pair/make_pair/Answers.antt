@@ -1,6 +1,6 @@
 use Rattle.std.proofs.Common.{refl}
-use Rattle.rtc_run.proofs.PlainPeers.{pair_fresh, pair_formed, left_host, right_host}
-use Rattle.rtc_run.proofs.plain_pair.make_pair.Goals as goal
+use Rattle.rtc_plain_pair.proofs.PlainPeers.{pair_fresh, pair_formed, left_host, right_host}
+use Rattle.rtc_plain_pair.proofs.plain_pair.make_pair.Goals as goal
 
 pub returns-clause-fresh : goal.returns-clause-fresh
 returns-clause-fresh c = rw c.new.ensures (pair_fresh _ c.in_ok-left.ensures.fresh c.in_ok-right.ensures.fresh c.in_ok-left.ensures.unused c.in_ok-right.ensures.unused refl refl refl)

@@ -1,8 +1,8 @@
 use Rattle.std.proofs.Common.{true, ◌∙◌, ap}
 use Rattle.rtc_peer_state.specs.Config.{Config}
 use Rattle.rtc_polling.specs.Connection.{no_transport}
-use Rattle.rtc_run.proofs.PlainPeers.{built_bare, program_fresh, program_formed, program_unused}
-use Rattle.rtc_run.proofs.plain_pair.make_peer.Goals as goal
+use Rattle.rtc_plain_pair.proofs.PlainPeers.{built_bare, program_fresh, program_formed, program_unused}
+use Rattle.rtc_plain_pair.proofs.plain_pair.make_peer.Goals as goal
 
 pub add_address-requires : goal.add_address-requires
 add_address-requires c = built_bare c.args.alloc c.in_ok-config.config c.args.first c.in_ok-rtc.rtc.core c.in_ok-rtc.ensures.built

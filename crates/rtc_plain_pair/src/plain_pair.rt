@@ -12,12 +12,13 @@ ghost use Rattle.rtc_peer_state.specs.Stance.{stance_of};
 ghost use Rattle.rtc_history.specs.Fresh.{ArePeersFormed};
 ghost use Rattle.rtc_history.specs.Fresh.{IsFresh, IsJustBuilt};
 ghost use Rattle.rtc_polling.specs.Connection.{no_transport};
-ghost use Rattle.rtc_run.specs.ProgramPair.{plain_parts, host_at, program_config, IsProgramPeer, IsProgramPair};
+ghost use Rattle.rtc_plain_pair.specs.ProgramPair.{plain_parts, host_at, program_config, IsProgramPeer, IsProgramPair};
 
-use crate::{Pair, PeerSettings};
+use crate::PeerSettings;
 use rtc_assoc_end::PlainAssociation;
 use rtc_peer::{Candidate, Rtc, RtcConfig};
 use rtc_plain::{CountIds, PlainDtls, PlainIce, PlainMedia};
+use rtc_run::Pair;
 use rtc_wire::{Addr, Moment, Protocol};
 use std::alloc::{AllocError, Global};
 

@@ -23,8 +23,8 @@ use Rattle.rtc_history.specs.declared.side.Side.{Side}
 use Rattle.rtc_history.specs.declared.side.Side.TheVariants.{Left, Right}
 use Rattle.rtc_history.specs.Fresh.{IsFresh, IsJustBuilt}
 use Rattle.rtc_history.specs.PairState.{peer_at, stances_of}
-use Rattle.rtc_run.specs.ProgramPair.{PlainPeer, PlainPairState, plain_parts, host_at, left_address, right_address, program_config, IsProgramPeer}
-use Rattle.rtc_run.specs.declared.peer_settings.PeerSettings.{PeerSettings}
+use Rattle.rtc_plain_pair.specs.ProgramPair.{PlainPeer, PlainPairState, plain_parts, host_at, left_address, right_address, program_config, IsProgramPeer}
+use Rattle.rtc_plain_pair.specs.declared.peer_settings.PeerSettings.{PeerSettings}
 
 -- no candidate and no credentials of the other side are there after the first two calls
 fresh_after : (lite : Bool) (creds : IceCreds) → (local_set creds (lite_set lite fresh_ice)).settings.candidates ≡ []

@@ -23,7 +23,7 @@ use Rattle.rtc_peer_state.specs.Config.{Config}
 use Rattle.rtc_peer_state.specs.Meanings.{Meanings, meanings}
 use Rattle.rtc_polling.specs.Connection.{no_transport}
 use Rattle.rtc_history.specs.PairState.{PairState}
-use Rattle.rtc_run.specs.declared.peer_settings.PeerSettings.{PeerSettings}
+use Rattle.rtc_plain_pair.specs.declared.peer_settings.PeerSettings.{PeerSettings}
 
 -- numbers that count up by one, and wrap
 abbrev pub counting : Draws ℕ

@@ -10,7 +10,7 @@ use Rattle.rtc_history.specs.Memory.{CountedPart, DtlsPart, AssociationPart, Med
 use Rattle.rtc_history.specs.Runs.{Runs}
 use Rattle.rtc_history.specs.SoundParts.{CountsFault}
 use Rattle.rtc_history_laws.proofs.PartsSound.{runs_unfaulted}
-use Rattle.rtc_run.specs.ProgramPair.{plain_parts, PlainPairState}
+use Rattle.rtc_plain_pair.specs.ProgramPair.{plain_parts, PlainPairState}
 
 plain_uncounted : (start pair : PlainPairState) (part : CountedPart) (at : Side) → CountsFault plain_parts part at start pair → ⊥
 plain_uncounted start pair DtlsPart at counts = let rose : min (0 + 1) (2 ^ 64 - 1) ≤ 0 = counts in absurd (omega arith)

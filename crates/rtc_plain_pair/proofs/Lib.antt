@@ -1,0 +1,2 @@
+pub mod PlainPeers
+pub mod PlainFaults
