@@ -41,13 +41,13 @@ impl PlainMedia {
     pub(crate) fn make_ready(&mut self, updates: &[MediaUpdate]) -> Result<(), AllocError>
         ensures { MediaLeaves self.old (record self.old { pending = updates.now }) result self.new }
     {
-        let copies = copy_updates(self.alloc, updates)?;
-        let count = copies.len();
+        let count = updates.len();
         let coming = numbers_in(updates)?;
         let most = source_counts::add(self.most, coming)?;
         self.counts.reserve(coming)?;
         self.lines.reserve(count)?;
         make_room(&mut self.events, self.pending.len(), count)?;
+        let copies = copy_updates(self.alloc, updates)?;
         self.pending = copies;
         self.most = most;
         Ok(())

@@ -2,6 +2,7 @@
 ghost use Rattle.std.specs.Prelude.{◌≡◌, IfOk, IsOk, OnOk};
 ghost use Rattle.rtc_sdp_attributes.specs.Forms as forms;
 ghost use Rattle.rtc_sdp_grammar.specs.declared.attribute.Attribute.TheVariants.{DirectionLine, LiteLine};
+ghost use Rattle.rtc_sdp_grammar.specs.declared.level.Level.TheVariants.{MediaLevel, SessionLevel};
 ghost use Rattle.rtc_sdp_grammar.specs.ItemForm.{attribute as attribute_line};
 ghost use Rattle.rtc_sdp_grammar.specs.NameLengths as names;
 ghost use Rattle.rtc_sdp_grammar.specs.Table as spec;
@@ -51,22 +52,22 @@ fn read_or_skipped(
 }
 
 #[inline(always)]
-fn lite(value: Option<&str>) -> Option<Attribute>
-    ensures { result ≡ forms.bare LiteLine (names.bytes_shown value.entry) }
+fn lite(value: Option<&str>) -> Item
+    ensures { result ≡ spec.row_item SessionLevel spec.IsSkipped (forms.bare LiteLine (names.bytes_shown value.entry)) }
 {
     match value {
-        Some(_) => None,
-        None => Some(Attribute::LiteLine),
+        Some(_) => Item::Skipped,
+        None => Item::Says(Level::SessionLevel, Attribute::LiteLine),
     }
 }
 
 #[inline(always)]
-fn direction(dir: Direction, value: Option<&str>) -> Option<Attribute>
-    ensures { result ≡ forms.bare (DirectionLine dir) (names.bytes_shown value.entry) }
+fn direction(dir: Direction, value: Option<&str>) -> Item
+    ensures { result ≡ spec.row_item MediaLevel spec.IsSkipped (forms.bare (DirectionLine dir) (names.bytes_shown value.entry)) }
 {
     match value {
-        Some(_) => None,
-        None => Some(Attribute::DirectionLine(dir)),
+        Some(_) => Item::Skipped,
+        None => Item::Says(Level::MediaLevel, Attribute::DirectionLine(dir)),
     }
 }
 
@@ -141,15 +142,15 @@ fn of_8(name: &str, value: Option<&str>) -> Item
     ensures { result ≡ spec.looked_up (names.of_length 8 spec.table) name.now (names.bytes_shown value.entry) }
 {
     if name == "ice-lite" {
-        or_skipped(Level::SessionLevel, lite(value))
+        lite(value)
     } else if name == "sendrecv" {
-        or_skipped(Level::MediaLevel, direction(Direction::SendRecv, value))
+        direction(Direction::SendRecv, value)
     } else if name == "sendonly" {
-        or_skipped(Level::MediaLevel, direction(Direction::SendOnly, value))
+        direction(Direction::SendOnly, value)
     } else if name == "recvonly" {
-        or_skipped(Level::MediaLevel, direction(Direction::RecvOnly, value))
+        direction(Direction::RecvOnly, value)
     } else if name == "inactive" {
-        or_skipped(Level::MediaLevel, direction(Direction::Inactive, value))
+        direction(Direction::Inactive, value)
     } else {
         Item::Skipped
     }

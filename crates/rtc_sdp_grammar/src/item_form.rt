@@ -1,7 +1,8 @@
 //! The form of lines.
-ghost use Rattle.std.specs.Prelude.{◌≡◌, ◌∷◌, map, IfOk, IfSome};
+ghost use Rattle.std.specs.Prelude.{◌≡◌, ◌∷◌, [], map, IfOk, IfSome};
 ghost use Rattle.std.specs.Char.{is_ascii_lowercase};
 ghost use Rattle.std.specs.List.{list_all};
+ghost use Rattle.rtc_sdp_attributes.specs.Forms as forms;
 ghost use Rattle.rtc_sdp_grammar.specs.ItemForm as spec;
 
 use crate::Item;
@@ -11,24 +12,29 @@ use rtc_fields::{number, words};
 use rtc_sdp_attributes::cut;
 use std::alloc::{AllocError, Global};
 
+/// Whether the words beside the number of an origin have bytes.
+fn is_origin_filled(user: &str, version: &str, network: &str, family: &str, address: &str) -> bool
+    ensures { result ≡ list_all forms.is_filled (user.now ∷ version.now ∷ network.now ∷ family.now ∷ address.now ∷ []) }
+{
+    is_filled(user)
+        && is_filled(version)
+        && is_filled(network)
+        && is_filled(family)
+        && is_filled(address)
+}
+
 fn origin_of(fields: &[&str]) -> Item
     ensures { result ≡ spec.origin_words (map (λ field. field.now) fields.now) }
 {
     let [user, id, version, network, family, address] = fields else {
         return Item::Skipped;
     };
-    let Some(id) = number(id) else {
+    if !is_origin_filled(user, version, network, family, address) {
         return Item::Skipped;
-    };
-    if is_filled(user)
-        && is_filled(version)
-        && is_filled(network)
-        && is_filled(family)
-        && is_filled(address)
-    {
-        Item::Origin(id)
-    } else {
-        Item::Skipped
+    }
+    match number(id) {
+        Some(id) => Item::Origin(id),
+        None => Item::Skipped,
     }
 }
 

@@ -90,12 +90,7 @@ fn are_known_among(alloc: Global, group: &[Mid], mids: &[Mid]) -> Result<bool, A
         return Ok(true);
     }
     let found = collect_mids(alloc, mids)?;
-    for mid in group {
-        if !found.contains(mid) {
-            return Ok(false);
-        }
-    }
-    Ok(true)
+    Ok(group.iter().all(|mid| found.contains(mid)))
 }
 
 fn are_grouped_among(
