@@ -7,10 +7,20 @@ use rtc_sdp_values::{CodecConfig, ExtensionMap};
 use std::alloc::{AllocError, Global};
 
 /// What a peer offers on its media lines, and takes on those of the other side.
-#[derive(Debug, PartialEq, Eq, Drop)]
+#[derive(Debug, PartialEq, Eq)]
 pub struct Formats {
     pub codecs: CodecConfig,
     pub extensions: ExtensionMap,
+}
+
+// Written out, so that the proof of what owns them sees one call and not the drop of each field.
+impl Drop for Formats {
+    fn drop(self) {
+        let Formats {
+            codecs: _codecs,
+            extensions: _extensions,
+        } = self;
+    }
 }
 
 impl Formats {

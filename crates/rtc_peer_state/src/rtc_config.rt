@@ -11,7 +11,7 @@ use std::alloc::{AllocError, Global};
 use std::marker::Model;
 
 /// What a peer is built from.
-#[derive(Debug, Drop)]
+#[derive(Debug)]
 pub struct RtcConfig {
     ice_lite: bool,
     creds: Option<IceCreds>,
@@ -40,6 +40,22 @@ impl Model for RtcConfig {
     } };
 
     ghost invariant = { λ config. IsShort config.cert };
+}
+
+// Written out, so that the proof of what owns a config sees one call and not the drop of each field.
+impl Drop for RtcConfig {
+    fn drop(self) {
+        let RtcConfig {
+            ice_lite: _ice_lite,
+            creds: _creds,
+            cert: _cert,
+            formats: _formats,
+            snap: _snap,
+            max_buffered: _max_buffered,
+            max_message_size: _max_message_size,
+            stats_interval: _stats_interval,
+        } = self;
+    }
 }
 
 impl RtcConfig {
@@ -88,29 +104,11 @@ impl RtcConfig {
     }
 
     /// Sets the credentials of ICE.
-    pub fn set_local_ice_credentials(self, creds: IceCreds) -> RtcConfig
+    pub fn set_local_ice_credentials(mut self, creds: IceCreds) -> RtcConfig
         ensures { result ≡ record self { creds = Some creds } }
     {
-        let RtcConfig {
-            ice_lite,
-            creds: _,
-            cert,
-            formats,
-            snap,
-            max_buffered,
-            max_message_size,
-            stats_interval,
-        } = self;
-        RtcConfig {
-            ice_lite,
-            creds: Some(creds),
-            cert,
-            formats,
-            snap,
-            max_buffered,
-            max_message_size,
-            stats_interval,
-        }
+        self.creds = Some(creds);
+        self
     }
 
     /// The credentials that were set.
@@ -121,30 +119,12 @@ impl RtcConfig {
     }
 
     /// Sets the certificate, of at most 1900 bytes.
-    pub fn set_dtls_cert(self, cert: Vec<u8>) -> RtcConfig
+    pub fn set_dtls_cert(mut self, cert: Vec<u8>) -> RtcConfig
         requires { vec_len cert ≤ 1900 }
         ensures { result ≡ record self { cert = Some cert.items } }
     {
-        let RtcConfig {
-            ice_lite,
-            creds,
-            cert: _,
-            formats,
-            snap,
-            max_buffered,
-            max_message_size,
-            stats_interval,
-        } = self;
-        RtcConfig {
-            ice_lite,
-            creds,
-            cert: Some(Bytes::new(cert)),
-            formats,
-            snap,
-            max_buffered,
-            max_message_size,
-            stats_interval,
-        }
+        self.cert = Some(Bytes::new(cert));
+        self
     }
 
     /// The certificate that was set.
@@ -159,63 +139,19 @@ impl RtcConfig {
     }
 
     /// Sets the codecs.
-    pub fn set_codec_config(self, codecs: CodecConfig) -> RtcConfig
+    pub fn set_codec_config(mut self, codecs: CodecConfig) -> RtcConfig
         ensures { result ≡ record self { formats = record { codecs = codecs; extensions = self.formats.extensions } } }
     {
-        let RtcConfig {
-            ice_lite,
-            creds,
-            cert,
-            formats,
-            snap,
-            max_buffered,
-            max_message_size,
-            stats_interval,
-        } = self;
-        let Formats {
-            codecs: _,
-            extensions,
-        } = formats;
-        RtcConfig {
-            ice_lite,
-            creds,
-            cert,
-            formats: Formats { codecs, extensions },
-            snap,
-            max_buffered,
-            max_message_size,
-            stats_interval,
-        }
+        self.formats.codecs = codecs;
+        self
     }
 
     /// Sets the header extensions.
-    pub fn set_extension_map(self, extensions: ExtensionMap) -> RtcConfig
+    pub fn set_extension_map(mut self, extensions: ExtensionMap) -> RtcConfig
         ensures { result ≡ record self { formats = record { codecs = self.formats.codecs; extensions = extensions } } }
     {
-        let RtcConfig {
-            ice_lite,
-            creds,
-            cert,
-            formats,
-            snap,
-            max_buffered,
-            max_message_size,
-            stats_interval,
-        } = self;
-        let Formats {
-            codecs,
-            extensions: _,
-        } = formats;
-        RtcConfig {
-            ice_lite,
-            creds,
-            cert,
-            formats: Formats { codecs, extensions },
-            snap,
-            max_buffered,
-            max_message_size,
-            stats_interval,
-        }
+        self.formats.extensions = extensions;
+        self
     }
 
     /// The codecs and header extensions, of which the config is made.

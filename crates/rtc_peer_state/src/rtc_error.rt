@@ -59,11 +59,11 @@ impl fmt::Display for RtcError {
     fn fmt<W: fmt::Write>(&self, f: &mut fmt::Formatter<W>) -> fmt::Result {
         match self {
             RtcError::RemoteSdp(why) => write!(f, "remote sdp: {why}"),
-            RtcError::Sdp(cause) => write!(f, "{cause}"),
+            RtcError::Sdp(cause) => fmt::Display::fmt(cause, f),
             RtcError::Net(cause) => f.write_str(net_text(cause)),
-            RtcError::Dtls(cause) => write!(f, "{cause}"),
-            RtcError::Sctp(cause) => write!(f, "{cause}"),
-            RtcError::Media(cause) => write!(f, "{cause}"),
+            RtcError::Dtls(cause) => fmt::Display::fmt(cause, f),
+            RtcError::Sctp(cause) => fmt::Display::fmt(cause, f),
+            RtcError::Media(cause) => fmt::Display::fmt(cause, f),
             RtcError::ChangesOutOfOrder => f.write_str("Changes made out of order"),
             RtcError::BadChannel => f.write_str("channel config refused"),
             RtcError::Alloc => f.write_str("out of memory"),

@@ -1,7 +1,7 @@
 //! How a peer is closed.
 ghost use Rattle.std.specs.Prelude.{◌≡◌};
 ghost use Rattle.rtc_peer_state.specs.Meanings.{meanings};
-ghost use Rattle.rtc_polling.specs.Closing.{ShutsMedia, ShutsStreams, ShutsDtls};
+ghost use Rattle.rtc_polling.specs.Closing.{ShutsStreams, ShutsDtls};
 ghost use Rattle.rtc_polling.specs.Closing.{ClosesPeer, is_phase_closing, is_closing_complete};
 
 use crate::PolledPeer;
@@ -29,19 +29,6 @@ impl<I: IceAgent, D: DtlsInstance, S: Association, M: MediaSession, N: Ids> Poll
     M,
     N,
 > {
-    #[tactic(auto, unfolding(crate::specs::Closing::ShutsMedia))]
-    fn shut_media(&mut self) -> Result<(), RtcError>
-        ensures { ShutsMedia (meanings I.ice D.dtls S.association M.media N.ids) self.old result self.new }
-    {
-        match self.core.media.close_rtp() {
-            Ok(()) => Ok(()),
-            Err(_) => {
-                self.core.phase = Phase::Closed;
-                Err(RtcError::Alloc)
-            }
-        }
-    }
-
     #[tactic(auto, unfolding(crate::specs::Closing::ShutsStreams))]
     fn shut_streams(&mut self) -> Result<(), RtcError>
         ensures { ShutsStreams (meanings I.ice D.dtls S.association M.media N.ids) self.old result self.new }
@@ -89,9 +76,12 @@ impl<I: IceAgent, D: DtlsInstance, S: Association, M: MediaSession, N: Ids> Poll
             Phase::Alive => {}
             Phase::Closing | Phase::Closed => return Ok(()),
         }
-        match self.shut_media() {
+        match self.core.media.close_rtp() {
             Ok(()) => {}
-            Err(error) => return Err(error),
+            Err(_) => {
+                self.core.phase = Phase::Closed;
+                return Err(RtcError::Alloc);
+            }
         }
         match self.shut_streams() {
             Ok(()) => {}

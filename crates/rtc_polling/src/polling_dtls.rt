@@ -2,7 +2,7 @@
 ghost use Rattle.std.specs.Prelude.{◌≡◌, ◌≤◌, length};
 ghost use Rattle.rtc_peer_state.specs.Meanings.{meanings};
 ghost use Rattle.rtc_polling.specs.DtlsStages.{TimesDtls, TakesCloseNotify, TakesDtlsOutput};
-ghost use Rattle.rtc_polling.specs.DtlsStages.{PollsDtlsOutputs, TellsConnected, has_come as is_past};
+ghost use Rattle.rtc_polling.specs.DtlsStages.{PollsDtlsOutputs, has_come as is_past};
 ghost use Rattle.rtc_polling.specs.DtlsStages.{finished_handshake, silenced_handshake};
 
 use crate::met::Met;
@@ -135,19 +135,6 @@ impl<I: IceAgent, D: DtlsInstance, S: Association, M: MediaSession, N: Ids> Poll
                     return Met::Error(RtcError::Alloc);
                 }
             }
-        }
-    }
-
-    /// Tells once that the handshake is finished.
-    pub(crate) fn tell_connected(&mut self) -> Met<M::E>
-        ensures { TellsConnected self.old result self.new }
-    {
-        match self.transport.handshake {
-            Handshake::Finished => {
-                self.transport.handshake = Handshake::Told;
-                Met::Event(Event::Connected)
-            }
-            Handshake::Pending | Handshake::Told => Met::Nothing,
         }
     }
 }

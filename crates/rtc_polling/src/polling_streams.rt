@@ -2,7 +2,7 @@
 ghost use Rattle.std.specs.Prelude.{◌≡◌, None};
 ghost use Rattle.rtc_peer_state.specs.Meanings.{meanings};
 ghost use Rattle.rtc_polling.specs.StreamStages.{OpensChannelOver};
-ghost use Rattle.rtc_polling.specs.StreamStages.{LosesAssociation, TakesStreamEvent, PollsStreamEvent, PollsStreamEvents, IsShortTransmit};
+ghost use Rattle.rtc_polling.specs.StreamStages.{LosesAssociation, TakesStreamEvent, PollsStreamEvents, IsShortTransmit};
 
 use crate::met::Met;
 use crate::{ChannelData, Event, PolledPeer};
@@ -90,30 +90,24 @@ impl<I: IceAgent, D: DtlsInstance, S: Association, M: MediaSession, N: Ids> Poll
         }
     }
 
-    fn poll_stream_event(&mut self) -> Met<M::E>
-        ensures { PollsStreamEvent (meanings I.ice D.dtls S.association M.media N.ids) self.old result self.new }
-    {
-        self.core.sctp.pushed_back_is_short();
-        match self.core.sctp.poll() {
-            Ok(told) => match told {
-                Some(event) => self.take_stream_event(event),
-                None => Met::Nothing,
-            },
-            Err(_) => {
-                self.core.phase = Phase::Closed;
-                Met::Error(RtcError::Alloc)
-            }
-        }
-    }
-
     /// Polls the streams up to an event that is told, or packets, which are kept to be sent.
     pub(crate) fn poll_stream_events(&mut self) -> Met<M::E>
         ensures { PollsStreamEvents (meanings I.ice D.dtls S.association M.media N.ids) self.old result self.new }
     {
         'events: loop {
-            match self.poll_stream_event() {
-                Met::Again => {}
-                met => return met,
+            self.core.sctp.pushed_back_is_short();
+            match self.core.sctp.poll() {
+                Ok(told) => match told {
+                    Some(event) => match self.take_stream_event(event) {
+                        Met::Again => {}
+                        met => return met,
+                    },
+                    None => return Met::Nothing,
+                },
+                Err(_) => {
+                    self.core.phase = Phase::Closed;
+                    return Met::Error(RtcError::Alloc);
+                }
             }
         }
     }

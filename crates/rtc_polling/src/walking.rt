@@ -8,7 +8,7 @@ ghost use Rattle.rtc_polling.specs.Walk.{VisitsParts, Waits, Walks};
 
 use crate::met::Met;
 use crate::polling_dtls::has_come;
-use crate::{Output, PolledPeer};
+use crate::{Event, Handshake, Output, PolledPeer};
 use rtc_association::Association;
 use rtc_dtls::DtlsInstance;
 use rtc_ice::IceAgent;
@@ -59,7 +59,13 @@ impl<I: IceAgent, D: DtlsInstance, S: Association, M: MediaSession, N: Ids> Poll
             Met::Nothing => {}
             met => return met,
         }
-        self.tell_connected()
+        match self.transport.handshake {
+            Handshake::Finished => {
+                self.transport.handshake = Handshake::Told;
+                Met::Event(Event::Connected)
+            }
+            Handshake::Pending | Handshake::Told => Met::Nothing,
+        }
     }
 
     #[tactic(auto, unfolding(crate::specs::Walk::VisitsParts))]

@@ -1,8 +1,8 @@
 //! The polls of streams.
-ghost use Rattle.std.specs.Prelude.{◌≡◌, true, false};
+ghost use Rattle.std.specs.Prelude.{◌≡◌, true};
 ghost use Rattle.rtc_sctp_entries.specs.Entries.{Ascend};
 ghost use Rattle.rtc_sctp.specs.Polls.{TakesPacket, GivesTransmit, TakesEvent, HandlesEvent, book, VisitsAll, VisitsEntries};
-ghost use Rattle.rtc_sctp.specs.Polls.{GivesCompletion, Else, MakesPass, PollsStreams, unclosed_streams};
+ghost use Rattle.rtc_sctp.specs.Polls.{GivesCompletion, MakesPass, PollsStreams, unclosed_streams};
 
 use crate::events::{apply_event, make_room};
 use crate::streams::RtcSctp;
@@ -131,34 +131,6 @@ impl<S: Association> RtcSctp<S> {
         Met::Output(SctpEvent::StreamResetComplete { id })
     }
 
-    fn visit_or_complete(&mut self) -> Met
-        ensures { Else (VisitsEntries S.association) GivesCompletion self.old result self.new }
-    {
-        match self.visit_entries() {
-            Met::Nothing => self.give_completion(),
-            met => met,
-        }
-    }
-
-    fn take_event_or_visit(&mut self) -> Met
-        ensures { Else (HandlesEvent S.association) (Else (VisitsEntries S.association) GivesCompletion) self.old result self.new }
-    {
-        match self.take_event() {
-            Met::Nothing => self.visit_or_complete(),
-            met => met,
-        }
-    }
-
-    fn give_transmit_or_go_on(&mut self) -> Met
-        ensures { Else (GivesTransmit S.association)
-            (Else (HandlesEvent S.association) (Else (VisitsEntries S.association) GivesCompletion)) self.old result self.new }
-    {
-        match self.give_transmit() {
-            Met::Nothing => self.take_event_or_visit(),
-            met => met,
-        }
-    }
-
     fn drop_closed_entries(&mut self)
         ensures { self.new ≡ unclosed_streams self.old }
     {
@@ -169,7 +141,19 @@ impl<S: Association> RtcSctp<S> {
         ensures { MakesPass S.association self.old result self.new }
     {
         self.drop_closed_entries();
-        self.give_transmit_or_go_on()
+        match self.give_transmit() {
+            Met::Nothing => {}
+            met => return met,
+        }
+        match self.take_event() {
+            Met::Nothing => {}
+            met => return met,
+        }
+        match self.visit_entries() {
+            Met::Nothing => {}
+            met => return met,
+        }
+        self.give_completion()
     }
 
     /// The next of what the streams give.

@@ -1,5 +1,6 @@
 //! The start of an association, and its end.
-ghost use Rattle.std.specs.Prelude.{◌≡◌, None, false, true};
+ghost use Rattle.std.specs.Prelude.{◌≡◌, None, false, true, IfErr, OnOk, Err};
+ghost use Rattle.rtc_sctp_entries.specs.declared.asked.Asked.TheVariants.{Done};
 ghost use Rattle.rtc_sctp_values.specs.SnapHalves.{begun_halves};
 ghost use Rattle.rtc_sctp.specs.Calls.{AsksSnap, AsksInit, Inits, Shuts, is_ended as IsEnded};
 ghost use Rattle.rtc_sctp.specs.Calls.{limit_or_default as LimitOrDefault, are_whole as AreWhole};
@@ -80,28 +81,35 @@ fn ask_start<S: Association>(
     }
 }
 
+// Gives what was told of halves, once these are dropped.
+fn release<P: Drop, T>(_done: P, told: T) -> T
+    ensures { result ≡ told }
+{
+    told
+}
+
 impl<S: Association> RtcSctp<S> {
+    // Starts the association alone. The halves are lent, so that no way out drops them.
     fn start(
         &mut self,
         client: bool,
         now: Moment,
-        snap: Option<SctpInitData>,
-        remote_max: Option<u32>,
+        snap: &Option<SctpInitData>,
+        max: u32,
     ) -> Result<(), SctpError>
-        ensures { Inits S.association client now (LimitOrDefault remote_max) snap self.old result self.new }
+        ensures fresh { OnOk result (S.association.started self.old.association ≡ false) }
+        ensures asked { OnOk result (AsksInit S.association snap.now client self.old.association now max Done self.new.association) }
+        ensures others { OnOk result (self.new ≡ record self.old { association = self.new.association }) }
+        ensures refused { IfErr result (λ error. Inits S.association client now max snap.now self.old (Err error) self.new) }
     {
         if self.association.is_started() {
             return Err(SctpError::Proto(ProtoError::Started));
         }
-        if !are_whole(&snap) {
+        if !are_whole(snap) {
             return Err(SctpError::Proto(ProtoError::SnapHalf));
         }
-        let max = limit_or_default(remote_max);
-        match ask_start(&mut self.association, &snap, client, now, max) {
-            Asked::Done => {
-                self.begin(client, max, snap);
-                Ok(())
-            }
+        match ask_start(&mut self.association, snap, client, now, max) {
+            Asked::Done => Ok(()),
             Asked::Refused => Err(SctpError::Proto(ProtoError::Fault)),
             Asked::OutOfMemory => Err(SctpError::Alloc),
         }
@@ -135,7 +143,14 @@ impl<S: Association> RtcSctp<S> {
         ensures refused { IsRefusedAs (refusal_of_start S.association snap self.old)
             (S.association.faults self.old.association) (S.association.faults self.new.association) result }
     {
-        self.start(client, now, snap, remote_max)
+        let max = limit_or_default(remote_max);
+        match self.start(client, now, &snap, max) {
+            Ok(()) => {
+                self.begin(client, max, snap);
+                Ok(())
+            }
+            Err(error) => release(snap, Err(error)),
+        }
     }
 
     pub(crate) fn is_ended(&self) -> bool

@@ -5,8 +5,8 @@ ghost use Rattle.rtc_sctp.specs.Calls.{TakesInput, TakesTimeout, timed_streams, 
 ghost use Rattle.rtc_sctp.specs.Calls.{state_on_input as StateOnInput, earlier_of as EarlierOf};
 ghost use Rattle.rtc_sctp.specs.Calls.{attached_wake as AttachedWake, retry_wake as RetryWake};
 
-use crate::RtcSctpState;
 use crate::streams::RtcSctp;
+use crate::{RtcSctpState, StreamEntry};
 use rtc_association::Association;
 use rtc_ready::Wake;
 use rtc_sctp_entries::entries::{any_retrying, drop_closed};
@@ -35,6 +35,24 @@ fn earlier_of(a: Option<Moment>, b: Option<Moment>) -> Option<Moment>
             Some(second) => Some(first.min(second)),
         },
     }
+}
+
+fn attached_wake<S: Association>(state: RtcSctpState, association: &S) -> Option<Moment>
+    ensures { result ≡ AttachedWake S.association (is_attached state) association.now }
+{
+    if state.propagate_endpoint_to_assoc() {
+        return association.poll_timeout();
+    }
+    None
+}
+
+fn retry_wake(entries: &[StreamEntry], last: Moment) -> Option<Moment>
+    ensures { result ≡ RetryWake entries.now last }
+{
+    if any_retrying(entries) {
+        return Some(last.plus(STREAM_OPEN_RETRY_INTERVAL));
+    }
+    None
 }
 
 impl<S: Association> RtcSctp<S> {
@@ -81,28 +99,13 @@ impl<S: Association> RtcSctp<S> {
         Ok(())
     }
 
-    fn attached_wake(&self) -> Option<Moment>
-        ensures { result ≡ AttachedWake S.association (is_attached self.now.state) self.now.association }
-    {
-        if self.state.propagate_endpoint_to_assoc() {
-            return self.association.poll_timeout();
-        }
-        None
-    }
-
-    fn retry_wake(&self) -> Option<Moment>
-        ensures { result ≡ RetryWake self.now.entries self.now.last }
-    {
-        if any_retrying(self.entries.as_slice()) {
-            return Some(self.last.plus(STREAM_OPEN_RETRY_INTERVAL));
-        }
-        None
-    }
-
     /// When `handle_timeout` is wanted.
     pub fn poll_timeout(&self) -> Option<Moment>
         ensures { result ≡ streams_wake S.association self.now }
     {
-        earlier_of(self.attached_wake(), self.retry_wake())
+        earlier_of(
+            attached_wake(self.state, &self.association),
+            retry_wake(self.entries.as_slice(), self.last),
+        )
     }
 }

@@ -1,6 +1,6 @@
 //! Messages to the other end.
 ghost use Rattle.std.specs.Prelude.{◌≡◌, ◌-◌, if◌then◌else◌, true};
-ghost use Rattle.rtc_sctp.specs.Calls.{is_open_stream, can_write as CanWrite, WritesStream, WrittenIf, buffered_sum};
+ghost use Rattle.rtc_sctp.specs.Calls.{is_open_stream, can_write as CanWrite, WritesStream, buffered_sum};
 ghost use Rattle.rtc_sctp.specs.Calls.{is_current as IsCurrent};
 ghost use Rattle.rtc_sctp.specs.Calls.{written_ppi as WrittenPpi, write_refusal as WriteRefusal};
 ghost use Rattle.rtc_sctp.specs.Refusals.{IsRefusedAs, refusal_of_message};
@@ -81,34 +81,20 @@ impl<S: Association> RtcSctp<S> {
         )
     }
 
-    fn write_open(&mut self, id: u16, binary: bool, buf: &[u8]) -> Result<usize, SctpError>
-        requires { S.association.started self.old.association ≡ true }
-        ensures { WrittenIf S.association true true id binary buf.now self.old result self.new }
+    fn write_message(&mut self, id: u16, binary: bool, buf: &[u8]) -> Result<usize, SctpError>
+        ensures { WritesStream S.association id binary buf.now self.old result self.new }
     {
+        if !self.can_write(id) {
+            return Err(SctpError::WriteBeforeEstablished);
+        }
+        if !self.is_current(id) {
+            return Err(SctpError::Proto(ProtoError::NoStream(id)));
+        }
         let ppi = written_ppi(binary, buf.is_empty());
         match self.association.stream_write(id, ppi, buf) {
             Ok(_) => Ok(buf.len()),
             Err(why) => Err(write_refusal(id, buf.len(), self.remote_max, why)),
         }
-    }
-
-    fn write_current(&mut self, id: u16, binary: bool, buf: &[u8]) -> Result<usize, SctpError>
-        requires { S.association.started self.old.association ≡ true }
-        ensures { WrittenIf S.association true (IsCurrent S.association id self.old) id binary buf.now self.old result self.new }
-    {
-        if self.is_current(id) {
-            return self.write_open(id, binary, buf);
-        }
-        Err(SctpError::Proto(ProtoError::NoStream(id)))
-    }
-
-    fn write_message(&mut self, id: u16, binary: bool, buf: &[u8]) -> Result<usize, SctpError>
-        ensures { WritesStream S.association id binary buf.now self.old result self.new }
-    {
-        if self.can_write(id) {
-            return self.write_current(id, binary, buf);
-        }
-        Err(SctpError::WriteBeforeEstablished)
     }
 
     /// Writes a message, and answers the number of its bytes.

@@ -4,7 +4,9 @@ use Rattle.rtc_peer_state.specs.declared.phase.Phase.TheVariants.{Alive, Closing
 use Rattle.rtc_peer_state.specs.declared.rtc_error.RtcError.{RtcError}
 use Rattle.rtc_peer_state.specs.Meanings.{Meanings, meanings}
 use Rattle.rtc_polling.specs.declared.polled_peer.PolledPeer.{PolledPeer}
-use Rattle.rtc_polling.specs.Closing.{BeginsClosing, ClosesPeerFrom}
+use Rattle.rtc_polling.specs.Closing.{BeginsClosing, ClosesPeerFrom, ShutsMedia}
+use Rattle.rtc_polling.specs.Connection.{with_media}
+use Rattle.rtc_peer_state.specs.declared.rtc_error.RtcError.TheVariants.{Alloc}
 use Rattle.rtc_polling.specs.Stages.{Failed, Passed}
 use Rattle.rtc_polling.proofs.polled_peer.PolledPeer.close.Goals as goal
 
@@ -16,16 +18,20 @@ begins m Closing p r q is h = cc (is)
 begins m Closed p r q is h = cc (is)
 
 pub returns-in-Err : goal.returns-in-Err
-returns-in-Err g c = begins (meanings g.I.IceAgent.ice g.D.DtlsInstance.dtls g.S.Association.association g.M.MediaSession.media g.N.Ids.ids) _ _ _ _ c.in-Alive.is (Failed c.in-Err.error refl c.in-Err.ensures)
+unfolding ShutsMedia
+returns-in-Err g c = begins (meanings g.I.IceAgent.ice g.D.DtlsInstance.dtls g.S.Association.association g.M.MediaSession.media g.N.Ids.ids) _ _ _ _ c.in-Alive.is (Failed Alloc refl (c.in-Err.ensures, refl))
 
 pub returns-in-Err-shut_streams : goal.returns-in-Err-shut_streams
+unfolding ShutsMedia
 returns-in-Err-shut_streams g c = begins (meanings g.I.IceAgent.ice g.D.DtlsInstance.dtls g.S.Association.association g.M.MediaSession.media g.N.Ids.ids) _ _ _ _ c.in-Alive.is
-    (Passed _ c.in-Ok.ensures (Failed c.in-Err-shut_streams.error refl c.in-Err-shut_streams.ensures))
+    (Passed (with_media c.close_rtp.new.self c.args.self.now) (c.in-Ok.ensures, refl) (Failed c.in-Err-shut_streams.error refl c.in-Err-shut_streams.ensures))
 
 pub returns-in-Err-shut_dtls : goal.returns-in-Err-shut_dtls
+unfolding ShutsMedia
 returns-in-Err-shut_dtls g c = begins (meanings g.I.IceAgent.ice g.D.DtlsInstance.dtls g.S.Association.association g.M.MediaSession.media g.N.Ids.ids) _ _ _ _ c.in-Alive.is
-    (Passed _ c.in-Ok.ensures (Passed _ c.in-Ok-shut_streams.ensures (Failed c.in-Err-shut_dtls.error refl c.in-Err-shut_dtls.ensures)))
+    (Passed (with_media c.close_rtp.new.self c.args.self.now) (c.in-Ok.ensures, refl) (Passed _ c.in-Ok-shut_streams.ensures (Failed c.in-Err-shut_dtls.error refl c.in-Err-shut_dtls.ensures)))
 
 pub returns : goal.returns
+unfolding ShutsMedia
 returns g c = begins (meanings g.I.IceAgent.ice g.D.DtlsInstance.dtls g.S.Association.association g.M.MediaSession.media g.N.Ids.ids) _ _ _ _ c.in-Alive.is
-    (Passed _ c.in-Ok.ensures (Passed _ c.in-Ok-shut_streams.ensures (Passed _ c.in-Ok-shut_dtls.ensures (refl, refl))))
+    (Passed (with_media c.close_rtp.new.self c.args.self.now) (c.in-Ok.ensures, refl) (Passed _ c.in-Ok-shut_streams.ensures (Passed _ c.in-Ok-shut_dtls.ensures (refl, refl))))
