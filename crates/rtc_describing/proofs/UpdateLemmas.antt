@@ -1,5 +1,5 @@
 -- The updates of rows, one row at a time.
-use Rattle.std.proofs.Common.{◌≡◌, ◌∙◌, ℕ, zero, suc, Bool, true, false, List, [], ◌∷◌, ◌++◌, drop, length, slice_index_or, ◌<◌, arith, Option, Some, None, refl, sym, ap, subst, append_assoc, append-nil}
+use Rattle.std.proofs.Common.{◌≡◌, ◌∙◌, ℕ, zero, suc, Bool, true, false, List, [], ◌∷◌, ◌++◌, drop, length, slice_index_or, ◌<◌, ◌≤◌, arith, Option, Some, None, refl, sym, ap, subst, append_assoc, append-nil}
 use Rattle.std.specs.Prelude.{slice_get}
 use Rattle.std.specs.List.{flat_map}
 use Rattle.rtc_sdp_values.specs.LineRow.{row_mid}
@@ -37,6 +37,13 @@ none_here (suc k) (x ∷ xs) is = none_here k xs is
 
 pub none_from : {A : Type 0} (k place : ℕ) (xs : List A) → place ≡ k → None ≡ slice_get xs place → drop k xs ≡ []
 none_from {A} k place xs at is = none_here k xs (subst (λ (n : ℕ). None ≡ slice_get xs n) at is)
+
+-- nor behind the last
+pub none_behind : {A : Type 0} (k : ℕ) (xs : List A) → length xs ≤ k → drop k xs ≡ []
+none_behind zero [] behind = refl
+none_behind (suc k) [] behind = refl
+none_behind zero (x ∷ xs) behind = absurd (omega (arith, behind))
+none_behind (suc k) (x ∷ xs) behind = none_behind k xs (omega (arith, behind))
 
 -- the row at a place is the first of those from there on
 pub first_from : (k : ℕ) (rows : List LineRow) → first_row (drop k rows) ≡ slice_get rows k
@@ -89,6 +96,16 @@ pub after_no_updates : {N : Type 0} (draws : Draws N) (used : ℕ → Bool) (sen
 after_no_updates draws used sends [] lines ids last none h = h
 after_no_updates draws used sends (row ∷ rows) lines ids last none h =
     subst (λ (ls : List MediaLine). after_updates draws used sends (row ∷ rows) ls ids ≡ last) none h
+
+-- there are no rows any more
+pub no_rows : {N : Type 0} (draws : Draws N) (used : ℕ → Bool) (sends : List ℕ → Sending) (formats : Formats) (offer : Bool) (before rows : List LineRow) (lines : List MediaLine)
+    (earlier : List ℕ) (ids : N) (done all : List MediaUpdate) → rows ≡ [] → done ++ row_updates draws used sends formats offer before rows lines earlier ids ≡ all → done ≡ all
+no_rows draws used sends formats offer before rows lines earlier ids done all none h =
+    sym (append-nil done) ∙ subst (λ (rs : List LineRow). done ++ row_updates draws used sends formats offer before rs lines earlier ids ≡ all) none h
+
+pub after_no_rows : {N : Type 0} (draws : Draws N) (used : ℕ → Bool) (sends : List ℕ → Sending) (rows : List LineRow) (lines : List MediaLine) (ids last : N)
+    → rows ≡ [] → after_updates draws used sends rows lines ids ≡ last → ids ≡ last
+after_no_rows draws used sends rows lines ids last none h = subst (λ (rs : List LineRow). after_updates draws used sends rs lines ids ≡ last) none h
 
 -- ---- how many numbers are drawn at most
 

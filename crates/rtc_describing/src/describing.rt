@@ -1,5 +1,6 @@
 //! Session descriptions that a peer makes.
 ghost use Rattle.std.specs.Prelude.{◌≡◌, ◌++◌, [], ◌∷◌, IfOk, OnOk, Some, map};
+ghost use Rattle.rtc_sdp_values.specs.MediaLine.{bare_line};
 ghost use Rattle.rtc_peer_state.specs.MadeSdp.{
   is_stopped,
   shown_msid as ShownMsid,
@@ -15,12 +16,12 @@ ghost use Rattle.rtc_peer_state.specs.MadeSdp.{
   sdp_of_rows,
 };
 
-use crate::filling::whole;
+use crate::filling::{fill, fill_some, whole};
 use rtc_peer_state::{LineMedia, SdpHead, ToldRow};
 use rtc_sdp_values::{
     Candidate, Direction, LineKind, LineRow, MediaKind, MediaLine, Mid, Msid, Sdp, Ssrc,
 };
-use rtc_wire::{Seq, Text, TryCopy};
+use rtc_wire::{Seq, Text};
 use std::alloc::{AllocError, Global};
 use std::mem;
 
@@ -71,9 +72,16 @@ fn name_of_sources(ssrcs: &Seq<(Ssrc, Option<Ssrc>)>, cname: Option<Text>) -> Op
     }
 }
 
-// A line with what it tells of its media.
-fn with_media(alloc: Global, line: MediaLine, stopped: bool, media: LineMedia) -> MediaLine
-    ensures { result ≡ record line {
+// The m-line of a media row, with what it tells of its media.
+fn media_line(
+    alloc: Global,
+    kind: MediaKind,
+    mid: Mid,
+    dir: Direction,
+    stopped: bool,
+    media: LineMedia,
+) -> MediaLine
+    ensures { result ≡ record (bare_line (line_kind kind) mid dir) {
       disabled = stopped;
       payloads = media.payloads;
       exts = media.exts;
@@ -83,24 +91,25 @@ fn with_media(alloc: Global, line: MediaLine, stopped: bool, media: LineMedia) -
       ssrcs = ShownSsrcs stopped media.ssrcs;
     } }
 {
-    let LineMedia {
-        payloads,
-        exts,
-        simulcast,
-        msid,
-        cname,
+    let ssrcs = shown_ssrcs(alloc, stopped, media.ssrcs);
+    MediaLine {
+        kind: kind_of_line(kind),
+        disabled: stopped,
+        mid,
+        dir,
+        candidates: Seq::empty(alloc),
+        creds: None,
+        fingerprint: None,
+        setup: None,
+        payloads: media.payloads,
+        exts: media.exts,
+        simulcast: media.simulcast,
+        msid: shown_msid(stopped, media.msid),
+        cname: name_of_sources(&ssrcs, media.cname),
         ssrcs,
-    } = media;
-    let ssrcs = shown_ssrcs(alloc, stopped, ssrcs);
-    let mut line = line;
-    line.disabled = stopped;
-    line.payloads = payloads;
-    line.exts = exts;
-    line.simulcast = simulcast;
-    line.msid = shown_msid(stopped, msid);
-    line.cname = name_of_sources(&ssrcs, cname);
-    line.ssrcs = ssrcs;
-    line
+        max_message_size: None,
+        sctp_init: None,
+    }
 }
 
 // The m-line of a row, without what it tells of its peer but how long messages of its data channels may be.
@@ -114,25 +123,26 @@ fn bare_row_line(alloc: Global, most: u32, media: LineMedia, row: &LineRow) -> M
             dir,
             stopped,
             ..
-        } => {
-            let line = MediaLine::bare(alloc, kind_of_line(*kind), *mid, *dir);
-            with_media(alloc, line, *stopped, media)
-        }
+        } => media_line(alloc, *kind, *mid, *dir, *stopped, media),
         LineRow::App { mid, .. } => {
             let mut line = MediaLine::bare(alloc, LineKind::Application, *mid, Direction::SendRecv);
             line.max_message_size = Some(most as u64);
+            drop(media);
             line
         }
     }
 }
 
-// What the line of a row tells of the start of the association: only that of the data channels tells it.
-fn init_of_row(told: &Option<Text>, row: &LineRow) -> Result<Option<Text>, AllocError>
-    ensures { IfOk result (λ init. init ≡ InitOfRow told.now row.now) }
+// Puts what the line of a row tells of the start of the association: only that of the data channels tells it.
+fn put_init(told: &Option<Text>, row: &LineRow, init: &mut Option<Text>) -> Result<(), AllocError>
+    ensures { OnOk result (init.new ≡ InitOfRow told.now row.now) }
 {
     match row {
-        LineRow::Media { .. } => Ok(None),
-        LineRow::App { .. } => told.copy(),
+        LineRow::Media { .. } => {
+            *init = None;
+            Ok(())
+        }
+        LineRow::App { .. } => fill(init, told),
     }
 }
 
@@ -145,11 +155,10 @@ fn put_peer(head: &SdpHead, row: &LineRow, line: &mut MediaLine) -> Result<(), A
       setup = Some head.now.setup;
     }) }
 {
-    line.sctp_init = init_of_row(&head.sctp_init, row)?;
-    line.creds = Some(head.creds.copy()?);
-    line.fingerprint = Some(head.fingerprint.copy()?);
     line.setup = Some(head.setup);
-    Ok(())
+    fill_some(&mut line.creds, &head.creds)?;
+    fill_some(&mut line.fingerprint, &head.fingerprint)?;
+    put_init(&head.sctp_init, row, &mut line.sctp_init)
 }
 
 // The m-line of a row.
@@ -194,9 +203,10 @@ fn list_live_mids(alloc: Global, rows: &[ToldRow]) -> Result<Seq<Mid>, AllocErro
 {
     let mut mids = Vec::with_capacity(alloc, rows.len())?;
     for told in rows {
-        if !is_stopped_row(&told.row) {
-            mids.push(told.row.mid())?;
+        if is_stopped_row(&told.row) {
+            continue;
         }
+        mids.push(told.row.mid())?;
     }
     Ok(Seq::new(mids))
 }
@@ -224,6 +234,7 @@ fn put_rows(
 pub fn make_sdp(alloc: Global, head: SdpHead, rows: Vec<ToldRow>) -> Result<Sdp, AllocError>
     ensures { IfOk result (λ sdp. sdp ≡ sdp_of_rows head rows.items) }
 {
+    let mut head = head;
     let mut sdp = Sdp {
         id: head.session,
         groups: Seq::empty(alloc),
@@ -234,6 +245,8 @@ pub fn make_sdp(alloc: Global, head: SdpHead, rows: Vec<ToldRow>) -> Result<Sdp,
         lines: Seq::empty(alloc),
     };
     let put = put_rows(alloc, &head, rows, &mut sdp);
-    put_candidates(alloc, head.candidates, &mut sdp);
+    let candidates = mem::replace(&mut head.candidates, Seq::empty(alloc));
+    put_candidates(alloc, candidates, &mut sdp);
+    drop(head);
     whole(sdp, put)
 }

@@ -1,5 +1,5 @@
 //! What a peer tells of itself in offers and answers.
-ghost use Rattle.std.specs.Prelude.{◌≡◌, IfOk, MatchOption, Some, None, option_map};
+ghost use Rattle.std.specs.Prelude.{◌≡◌, [], IfOk, OnOk, MatchOption, Some, None, option_map};
 ghost use Rattle.rtc_ice.specs.IceMeaning.{IceSettings};
 ghost use Rattle.rtc_peer_state.specs.MadeSdp.{
   creds_in_use as CredsInUse,
@@ -9,24 +9,26 @@ ghost use Rattle.rtc_peer_state.specs.MadeSdp.{
   setup_of_role as SetupOfRole,
 };
 
+use crate::filling::{fill, set, whole};
 use rtc_dtls::{Dtls, DtlsInstance};
 use rtc_ice::IceAgent;
 use rtc_peer_state::SdpHead;
-use rtc_sdp_values::{Candidate, IceCreds, Setup};
-use rtc_wire::{Seq, Text, TryCopy};
+use rtc_sdp_values::{Candidate, Fingerprint, IceCreds, Setup};
+use rtc_wire::{Bytes, Seq, Text, copy_all};
 use std::alloc::{AllocError, Global};
 
-// The credentials of a restart that is asked for, or else those that are in use.
-fn creds_in_use<I: IceAgent>(
+// Puts the credentials of a restart that is asked for, or else those that are in use.
+fn put_creds<I: IceAgent>(
     ice: &I,
     restart: Option<(&IceCreds, bool)>,
-) -> Result<IceCreds, AllocError>
-    ensures { IfOk result (λ creds. creds
+    creds: &mut IceCreds,
+) -> Result<(), AllocError>
+    ensures { OnOk result (creds.new
         ≡ CredsInUse (option_map (λ asked. (asked.0.now, asked.1)) restart.entry) (I.ice.settings ice.now)) }
 {
     match restart {
-        None => ice.local_credentials().copy(),
-        Some((creds, _)) => creds.copy(),
+        None => fill(creds, ice.local_credentials()),
+        Some((asked, _)) => fill(creds, asked),
     }
 }
 
@@ -42,17 +44,7 @@ fn candidates_in_use<I: IceAgent>(
     if let Some((_, false)) = restart {
         return Ok(Seq::empty(alloc));
     }
-    copy_candidates(alloc, ice.local_candidates())
-}
-
-fn copy_candidates(alloc: Global, candidates: &[Candidate]) -> Result<Seq<Candidate>, AllocError>
-    ensures { IfOk result (λ copied. copied ≡ candidates.now) }
-{
-    let mut copied = Vec::with_capacity(alloc, candidates.len())?;
-    for candidate in candidates {
-        let candidate = candidate.copy()?;
-        copied.push(candidate)?;
-    }
+    let copied = copy_all(alloc, ice.local_candidates())?;
     Ok(Seq::new(copied))
 }
 
@@ -87,6 +79,32 @@ pub fn setup_of_role(active: bool) -> Setup
     }
 }
 
+// Puts what the parts of a peer have.
+fn put_parts<I: IceAgent, D: DtlsInstance>(
+    alloc: Global,
+    ice: &I,
+    dtls: &Dtls<D>,
+    restart: Option<(&IceCreds, bool)>,
+    head: &mut SdpHead,
+) -> Result<(), AllocError>
+    ensures { OnOk result (head.new ≡ record head.old {
+      creds = CredsInUse (option_map (λ asked. (asked.0.now, asked.1)) restart.entry) (I.ice.settings ice.now);
+      fingerprint = dtls.now.local;
+      candidates = CandidatesInUse (option_map (λ asked. (asked.0.now, asked.1)) restart.entry) (I.ice.settings ice.now);
+    }) }
+{
+    put_creds(ice, restart, &mut head.creds)?;
+    let candidates = candidates_in_use(alloc, ice, restart)?;
+    set(&mut head.candidates, candidates);
+    fill(&mut head.fingerprint, dtls.local_fingerprint())
+}
+
+fn empty_text(alloc: Global) -> Text
+    ensures { result ≡ [] }
+{
+    Text::new(String::new(alloc))
+}
+
 /// What a peer tells of itself, where it restarts ICE or does not.
 pub fn make_head<I: IceAgent, D: DtlsInstance>(
     alloc: Global,
@@ -109,17 +127,22 @@ pub fn make_head<I: IceAgent, D: DtlsInstance>(
       sctp_init = sctp_init;
     }) }
 {
-    let creds = creds_in_use(ice, restart)?;
-    let candidates = candidates_in_use(alloc, ice, restart)?;
-    let fingerprint = dtls.local_fingerprint().copy()?;
-    Ok(SdpHead {
+    let mut head = SdpHead {
         session,
         lite: ice.ice_lite(),
-        creds,
-        fingerprint,
+        creds: IceCreds {
+            ufrag: empty_text(alloc),
+            pass: empty_text(alloc),
+        },
+        fingerprint: Fingerprint {
+            hash_func: empty_text(alloc),
+            bytes: Bytes::new(Vec::new(alloc)),
+        },
         setup,
-        candidates,
+        candidates: Seq::empty(alloc),
         max_message_size,
         sctp_init,
-    })
+    };
+    let put = put_parts(alloc, ice, dtls, restart, &mut head);
+    whole(head, put)
 }

@@ -7,6 +7,7 @@ mod heading;
 mod line_told;
 mod sent_on_lines;
 mod telling;
+mod updated_rows;
 mod updating;
 
 pub use describing::make_sdp;

@@ -10,13 +10,13 @@ ghost use Rattle.rtc_peer_state.specs.MadeSdp.{
   newest as Newest,
 };
 
-use crate::filling::whole;
+use crate::filling::{fill, fill_some, set, whole};
 use rtc_change::AddMedia;
 use rtc_codecs::{extensions_of_kind, rows_of_kind};
 use rtc_media::{MediaSession, MediaUpdate};
 use rtc_peer_state::{Formats, LineMedia};
 use rtc_sdp_values::LineRow;
-use rtc_wire::{Seq, TryCopy};
+use rtc_wire::Seq;
 use std::alloc::{AllocError, Global};
 
 /// Nothing of media.
@@ -36,13 +36,12 @@ pub fn no_media(alloc: Global) -> LineMedia
 fn put_update(update: &MediaUpdate, media: &mut LineMedia) -> Result<(), AllocError>
     ensures { OnOk result (media.new ≡ MediaOfUpdate update.now) }
 {
-    media.payloads = update.payloads.copy()?;
-    media.exts = update.exts.copy()?;
-    media.simulcast = update.simulcast.copy()?;
-    media.msid = update.msid.copy()?;
-    media.cname = update.cname.copy()?;
-    media.ssrcs = update.ssrcs_tx.copy()?;
-    Ok(())
+    fill(&mut media.payloads, &update.payloads)?;
+    fill(&mut media.exts, &update.exts)?;
+    fill(&mut media.simulcast, &update.simulcast)?;
+    fill(&mut media.msid, &update.msid)?;
+    fill(&mut media.cname, &update.cname)?;
+    fill(&mut media.ssrcs, &update.ssrcs_tx)
 }
 
 fn media_of_update(alloc: Global, update: &MediaUpdate) -> Result<LineMedia, AllocError>
@@ -72,14 +71,13 @@ fn put_added(
     ensures { OnOk result (media.new ≡ MediaOfAdded formats.now added.now) }
 {
     let payloads = rows_of_kind(alloc, added.kind, formats.codecs.rows.as_slice())?;
-    media.payloads = Seq::new(payloads);
+    set(&mut media.payloads, Seq::new(payloads));
     let exts = extensions_of_kind(alloc, added.kind, formats.extensions.rows.as_slice())?;
-    media.exts = Seq::new(exts);
-    media.simulcast = added.simulcast.copy()?;
-    media.msid = Some(added.msid.copy()?);
-    media.cname = Some(added.cname.copy()?);
-    media.ssrcs = added.ssrcs.copy()?;
-    Ok(())
+    set(&mut media.exts, Seq::new(exts));
+    fill(&mut media.simulcast, &added.simulcast)?;
+    fill_some(&mut media.msid, &added.msid)?;
+    fill_some(&mut media.cname, &added.cname)?;
+    fill(&mut media.ssrcs, &added.ssrcs)
 }
 
 /// What a line carries that this side adds: the rows and the extensions of its kind, and what was staged with it.

@@ -1,13 +1,14 @@
 //! What is sent on the lines of a peer.
-ghost use Rattle.std.specs.Prelude.{◌≡◌, [], IfOk, Option, Some, None, option_map};
-ghost use Rattle.std.specs.Option.{option_copied};
+ghost use Rattle.std.specs.Prelude.{◌≡◌, [], IfOk, OnOk, Option, Some, None, option_map};
+ghost use Rattle.std.specs.Option.{option_copied, option_or};
 ghost use Rattle.rtc_peer_state.specs.LineUpdates.{added_media, bare_sending as BareSending, sending_of, inverted, layered};
 
+use crate::filling::{fill, fill_some, set, whole};
 use rtc_change::{AddMedia, Change};
 use rtc_media::{MediaSession, MediaUpdate};
 use rtc_peer_state::Sending;
 use rtc_sdp_values::{MediaLine, Mid, Msid, Simulcast};
-use rtc_wire::{Seq, Text, TryCopy};
+use rtc_wire::{Seq, Text};
 use std::alloc::{AllocError, Global};
 
 // The media line of a mid that changes add.
@@ -25,35 +26,35 @@ fn find_added(changes: &[Change], mid: Mid) -> Option<&AddMedia>
     None
 }
 
-fn sending_of_update(update: &MediaUpdate) -> Result<Sending, AllocError>
-    ensures { IfOk result (λ sending. sending ≡ sending_of (Some update.now) None []) }
+// Nothing is sent.
+fn no_sending(alloc: Global) -> Sending
+    ensures { result ≡ record { simulcast = None; msid = None; cname = None; ssrcs = [] } }
 {
-    let simulcast = update.simulcast.copy()?;
-    let msid = update.msid.copy()?;
-    let cname = update.cname.copy()?;
-    let ssrcs = update.ssrcs_tx.copy()?;
-    Ok(Sending {
-        simulcast,
-        msid,
-        cname,
-        ssrcs,
-    })
+    Sending {
+        simulcast: None,
+        msid: None,
+        cname: None,
+        ssrcs: Seq::empty(alloc),
+    }
+}
+
+fn put_update(update: &MediaUpdate, sending: &mut Sending) -> Result<(), AllocError>
+    ensures { OnOk result (sending.new ≡ sending_of (Some update.now) None []) }
+{
+    fill(&mut sending.simulcast, &update.simulcast)?;
+    fill(&mut sending.msid, &update.msid)?;
+    fill(&mut sending.cname, &update.cname)?;
+    fill(&mut sending.ssrcs, &update.ssrcs_tx)
 }
 
 // Layers that were staged are offered, and stand for nothing until the other side names the line.
-fn sending_of_media(media: &AddMedia) -> Result<Sending, AllocError>
-    ensures { IfOk result (λ sending. sending ≡ sending_of None (Some media.now) []) }
+fn put_media(media: &AddMedia, sending: &mut Sending) -> Result<(), AllocError>
+    ensures { OnOk result (sending.new ≡ sending_of None (Some media.now) []) }
 {
-    let simulcast: Option<Simulcast> = None;
-    let msid = media.msid.copy()?;
-    let cname = media.cname.copy()?;
-    let ssrcs = media.ssrcs.copy()?;
-    Ok(Sending {
-        simulcast,
-        msid: Some(msid),
-        cname: Some(cname),
-        ssrcs,
-    })
+    set(&mut sending.simulcast, None);
+    fill_some(&mut sending.msid, &media.msid)?;
+    fill_some(&mut sending.cname, &media.cname)?;
+    fill(&mut sending.ssrcs, &media.ssrcs)
 }
 
 // A line that came in an offer has its mid for all names, and no sources yet.
@@ -74,22 +75,25 @@ fn bare_sending(alloc: Global, mid: Mid) -> Result<Sending, AllocError>
     })
 }
 
-// What is sent on a line: what the media part has of it, or else what was staged with it, without layers.
-fn find_sending<M: MediaSession>(
+// Puts what is sent on a line: what the media part has of it, or else what was staged with it, without layers.
+fn put_sending<M: MediaSession>(
     alloc: Global,
     media: &M,
     changes: &[Change],
     mid: Mid,
-) -> Result<Sending, AllocError>
-    ensures { IfOk result (λ sending. sending ≡ sending_of (M.media.line media.now mid) (added_media changes.now mid) mid) }
+    sending: &mut Sending,
+) -> Result<(), AllocError>
+    ensures { OnOk result (sending.new ≡ sending_of (M.media.line media.now mid) (added_media changes.now mid) mid) }
 {
     if let Some(update) = media.line(mid) {
-        return sending_of_update(update);
+        return put_update(update, sending);
     }
     if let Some(added) = find_added(changes, mid) {
-        return sending_of_media(added);
+        return put_media(added, sending);
     }
-    bare_sending(alloc, mid)
+    let bare = bare_sending(alloc, mid)?;
+    set(sending, bare);
+    Ok(())
 }
 
 // Layers as the other side sees them.
@@ -106,25 +110,30 @@ fn invert_layers(told: &Option<Simulcast>) -> Result<Option<Simulcast>, AllocErr
 }
 
 // A line that has no layers takes those that the other side tells.
-fn take_layers(line: &MediaLine, sending: Sending) -> Result<Sending, AllocError>
-    ensures { IfOk result (λ made. made ≡ layered line.now sending) }
+fn put_layers(line: &MediaLine, layers: &mut Option<Simulcast>) -> Result<(), AllocError>
+    ensures { OnOk result (layers.new ≡ option_or layers.old (option_map inverted line.now.simulcast)) }
 {
-    let Sending {
-        simulcast,
-        msid,
-        cname,
-        ssrcs,
-    } = sending;
-    let simulcast = match simulcast {
-        Some(own) => Some(own),
-        None => invert_layers(&line.simulcast)?,
-    };
-    Ok(Sending {
-        simulcast,
-        msid,
-        cname,
-        ssrcs,
-    })
+    if layers.is_some() {
+        return Ok(());
+    }
+    let told = invert_layers(&line.simulcast)?;
+    set(layers, told);
+    Ok(())
+}
+
+fn put_layered<M: MediaSession>(
+    alloc: Global,
+    media: &M,
+    changes: &[Change],
+    line: &MediaLine,
+    mid: Mid,
+    sending: &mut Sending,
+) -> Result<(), AllocError>
+    ensures { OnOk result (sending.new
+        ≡ layered line.now (sending_of (M.media.line media.now mid) (added_media changes.now mid) mid)) }
+{
+    put_sending(alloc, media, changes, mid, sending)?;
+    put_layers(line, &mut sending.simulcast)
 }
 
 /// What is sent on the line of a mid once its m-line of the other side is taken.
@@ -138,6 +147,7 @@ pub fn find_layered<M: MediaSession>(
     ensures { IfOk result (λ sending. sending
         ≡ layered line.now (sending_of (M.media.line media.now mid) (added_media changes.now mid) mid)) }
 {
-    let sending = find_sending(alloc, media, changes, mid)?;
-    take_layers(line, sending)
+    let mut sending = no_sending(alloc);
+    let put = put_layered(alloc, media, changes, line, mid, &mut sending);
+    whole(sending, put)
 }

@@ -3,15 +3,11 @@ ghost use Rattle.std.specs.Prelude.{◌≡◌, ◌++◌, ◌&&◌, not, [], List
 ghost use Rattle.std.specs.List.{flat_map};
 ghost use Rattle.std.specs.Option.{option_copied};
 ghost use Rattle.rtc_ids.specs.Draws.{Later};
-ghost use Rattle.rtc_peer_state.specs.MadeSdp.{is_stopped};
 ghost use Rattle.rtc_peer_state.specs.Sources.{has_source, pair_numbers, pair_count as PairCount};
 ghost use Rattle.rtc_peer_state.specs.LineUpdates.{
   line_sending,
-  has_none,
   row_kind,
   wants_sources as WantsSources,
-  is_added as IsAdded,
-  replaced_mid as ReplacedMid,
   row_update as RowUpdate,
   if_media,
   row_pairs,
@@ -20,16 +16,15 @@ ghost use Rattle.rtc_peer_state.specs.LineUpdates.{
   after_updates,
 };
 
-use crate::describing::is_stopped_row;
 use crate::sent_on_lines::find_layered;
+use crate::updated_rows::{kind_of_row, make_update};
 use rtc_change::Change;
-use rtc_codecs::{match_rows, share_extensions};
 use rtc_drawing::{EarlierNumbers, draw_pairs};
 use rtc_ids::Ids;
 use rtc_media::{MediaSession, MediaUpdate};
 use rtc_peer_state::{Formats, Sending};
-use rtc_sdp_values::{LineRow, MediaKind, MediaLine, Mid, Simulcast, Ssrc};
-use rtc_wire::{Seq, TryCopy};
+use rtc_sdp_values::{LineRow, MediaLine, Simulcast, Ssrc};
+use rtc_wire::Seq;
 use std::alloc::{AllocError, Global};
 
 /// How many sources a line is to have.
@@ -39,15 +34,6 @@ pub fn count_pairs(simulcast: &Option<Simulcast>) -> usize
     match simulcast {
         None => 1,
         Some(simulcast) => simulcast.send.len(),
-    }
-}
-
-fn kind_of_row(row: &LineRow) -> MediaKind
-    ensures { result ≡ row_kind row.now }
-{
-    match row {
-        LineRow::Media { kind, .. } => *kind,
-        LineRow::App { .. } => MediaKind::Audio,
     }
 }
 
@@ -85,95 +71,6 @@ fn draw_row<M: MediaSession, N: Ids>(
     Ok(pairs)
 }
 
-// Whether a row is new at its place, by the row that stood there before.
-fn is_added(before: Option<&LineRow>, row: &LineRow) -> bool
-    ensures { result ≡ IsAdded (option_copied before.entry) row.now }
-{
-    match before {
-        None => true,
-        Some(before) => before.mid() != row.mid(),
-    }
-}
-
-// The mid of the row whose place a row takes.
-fn replaced_mid(before: Option<&LineRow>, row: &LineRow) -> Option<Mid>
-    ensures { result ≡ ReplacedMid (option_copied before.entry) row.now }
-{
-    match before {
-        None => None,
-        Some(before) => {
-            if before.mid() == row.mid() {
-                None
-            } else {
-                Some(before.mid())
-            }
-        }
-    }
-}
-
-fn is_announced(offer: bool, before: Option<&LineRow>, row: &LineRow) -> bool
-    ensures { result ≡ (offer && (IsAdded (option_copied before.entry) row.now && not (is_stopped row.now))) }
-{
-    if !offer {
-        return false;
-    }
-    is_added(before, row) && !is_stopped_row(row)
-}
-
-// The sources, and then those that were drawn.
-fn join_pairs(
-    ssrcs: Seq<(Ssrc, Option<Ssrc>)>,
-    drawn: Seq<(Ssrc, Option<Ssrc>)>,
-) -> Result<Seq<(Ssrc, Option<Ssrc>)>, AllocError>
-    ensures { IfOk result (λ pairs. pairs ≡ ssrcs ++ drawn) }
-{
-    let mut pairs = ssrcs.into_vec();
-    let mut drawn = drawn.into_vec();
-    pairs.append(&mut drawn)?;
-    Ok(Seq::new(pairs))
-}
-
-// What the media part is told of a row.
-fn row_update(
-    alloc: Global,
-    formats: &Formats,
-    offer: bool,
-    before: Option<&LineRow>,
-    row: &LineRow,
-    line: &MediaLine,
-    sending: Sending,
-    drawn: Seq<(Ssrc, Option<Ssrc>)>,
-) -> Result<MediaUpdate, AllocError>
-    ensures { IfOk result (λ update. update
-        ≡ RowUpdate formats.now offer (option_copied before.entry) row.now line.now sending drawn) }
-{
-    let payloads = match_rows(
-        alloc,
-        kind_of_row(row),
-        formats.codecs.rows.as_slice(),
-        line.payloads.as_slice(),
-    )?;
-    let exts = share_extensions(
-        alloc,
-        formats.extensions.rows.as_slice(),
-        line.exts.as_slice(),
-    )?;
-    let ssrcs_rx = line.ssrcs.copy()?;
-    let ssrcs_tx = join_pairs(sending.ssrcs, drawn)?;
-    Ok(MediaUpdate {
-        row: *row,
-        removed: replaced_mid(before, row),
-        announce: is_announced(offer, before, row),
-        payloads: Seq::new(payloads),
-        exts: Seq::new(exts),
-        simulcast: sending.simulcast,
-        msid: sending.msid,
-        cname: sending.cname,
-        ssrcs_tx,
-        ssrcs_rx,
-    })
-}
-
 fn push_if_media(
     updates: &mut Vec<MediaUpdate>,
     row: &LineRow,
@@ -186,7 +83,10 @@ fn push_if_media(
             updates.push(update)?;
             Ok(())
         }
-        LineRow::App { .. } => Ok(()),
+        LineRow::App { .. } => {
+            drop(update);
+            Ok(())
+        }
     }
 }
 
@@ -220,8 +120,14 @@ fn push_update<M: MediaSession, N: Ids>(
     ensures later { Later N.ids ids.old ids.new }
     ensures most { Later N.ids ids.new (after_row N.ids (has_source M.media media.now) sending named.now.row.now ids.old) }
 {
-    let drawn = draw_row(alloc, ids, media, earlier, named.row, &sending)?;
-    let update = row_update(
+    let drawn = match draw_row(alloc, ids, media, earlier, named.row, &sending) {
+        Ok(drawn) => drawn,
+        Err(error) => {
+            drop(sending);
+            return Err(error);
+        }
+    };
+    let update = make_update(
         alloc,
         named.formats,
         named.offer,

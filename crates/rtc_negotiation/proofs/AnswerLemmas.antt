@@ -1,5 +1,5 @@
 -- An answer that is accepted or refused, put together from the steps of the call.
-use Rattle.std.proofs.Common.{◌≡◌, ◌∙◌, Bool, true, false, List, Some, None, Result, Ok, Err, refl, sym, ap, subst}
+use Rattle.std.proofs.Common.{◌≡◌, ◌==◌, ◌∙◌, ℕ, arith, Bool, true, false, List, Some, None, Result, Ok, Err, refl, sym, ap, subst}
 use Rattle.std.specs.Option.{option_or}
 use Rattle.rtc_sdp_values.specs.Sdp.{sdp_fingerprint}
 use Rattle.rtc_sdp_values.specs.declared.line_row.LineRow.{LineRow}
@@ -41,6 +41,10 @@ use Rattle.rtc_negotiation.specs.declared.growth.Growth.{Growth}
 use Rattle.rtc_negotiation.specs.declared.starting.Starting.{Starting}
 use Rattle.rtc_negotiation.specs.Growths.{following_of, GrowsAnswer}
 use Rattle.rtc_negotiation.specs.Moves.{MovesParts}
+
+-- the latest token has the number before the counter
+pub latest_raised : (latest : Bool) (counter number : ℕ) → latest ≡ (counter == raised number) → latest ≡ true → counter ≡ raised number
+latest_raised latest counter number is holds = grind (arith, is, holds)
 
 module _ {I D S M E X T W N : Type 0} (m : Meanings I D S M E X T W N) where
   -- memory lacked, which leaves rows, channels and fingerprint wherever it stopped

@@ -17,6 +17,7 @@ use Rattle.rtc_peer_state.specs.Stance.{stance_of}
 use Rattle.rtc_peer_state.specs.StoppedAcceptances.{StopsPreparing}
 use Rattle.rtc_negotiation.specs.declared.following.Following.{Following}
 use Rattle.rtc_negotiation.specs.declared.growth.Growth.{Growth}
+use Rattle.rtc_negotiation.specs.declared.starting.Starting.{Starting}
 
 -- what is followed of a session description
 abbrev pub following_of : Option (IceCreds × Bool) → Sdp → Option Bool → Following
@@ -25,6 +26,15 @@ following_of restart sdp control = record {
   creds = creds_of sdp;
   candidates = candidates_of sdp;
   control = control;
+}
+
+-- nothing is made ready yet but a restart, the control and a start
+abbrev pub begun_growth : Option (IceCreds × Bool) → Option Bool → Starting → Growth
+begun_growth restart control starting = record {
+  answer = None;
+  following = record { restart = restart; creds = None; candidates = []; control = control };
+  starting = starting;
+  fingerprint = None;
 }
 
 module _ {I D S M E X T W N : Type 0} (m : Meanings I D S M E X T W N) where

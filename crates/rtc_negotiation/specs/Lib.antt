@@ -1,3 +1,4 @@
+pub mod FollowedAnswers
 pub mod Growths
 pub mod Moves
 pub mod ToldHalves

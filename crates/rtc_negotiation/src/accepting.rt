@@ -1,12 +1,14 @@
 //! Offers and answers of the other side.
-ghost use Rattle.std.specs.Prelude.{◌≡◌, ◌≤◌, length, is_some, IfOk, None, Some, option_map, string_bytes};
+ghost use Rattle.std.specs.Prelude.{◌≡◌, ◌==◌, ◌≤◌, length, is_some, IfOk, None, Some, option_map, string_bytes};
 ghost use Rattle.std.specs.Option.{option_copied};
 ghost use Rattle.rtc_change.specs.Plans.{PlansSdp, asked_by};
 ghost use Rattle.rtc_tables.specs.Table.{IsTable};
 ghost use Rattle.rtc_peer_state.specs.Acceptances.{AcceptsOffer, AcceptsAnswer, phase_after, refused_phase};
+ghost use Rattle.rtc_peer_state.specs.Calls.{raised};
 ghost use Rattle.rtc_peer_state.specs.Meanings.{meanings};
 ghost use Rattle.rtc_peer_state.specs.RtcErrors.{error_of_refusal};
 ghost use Rattle.rtc_peer_state.specs.Stance.{stance_of, held_by, kept_init as KeptInit};
+ghost use Rattle.rtc_negotiation.specs.FollowedAnswers.{FollowsAnswer};
 
 use crate::confirming::confirm_channels;
 use crate::growing::{grow_answer, grow_offer};
@@ -151,13 +153,6 @@ fn refuse<I: IceAgent, D: DtlsInstance, S: Association, M: MediaSession, N: Ids>
     refusal_error(&mut peer.phase, refusal)
 }
 
-// Gives what was told of something, once that is dropped.
-fn release<P: Drop, T>(_done: P, told: T) -> T
-    ensures { result ≡ told }
-{
-    told
-}
-
 // Accepts an offer that the caller keeps, so that no way out drops it.
 fn accept_lent_offer<I: IceAgent, D: DtlsInstance, S: Association, M: MediaSession, N: Ids>(
     peer: &mut Peer<I, D, S, M, N>,
@@ -172,7 +167,10 @@ fn accept_lent_offer<I: IceAgent, D: DtlsInstance, S: Association, M: MediaSessi
     };
     let growth = match grow_offer(peer, offer, &plan) {
         Ok(growth) => growth,
-        Err(_) => return Err(RtcError::Alloc),
+        Err(_) => {
+            drop(plan);
+            return Err(RtcError::Alloc);
+        }
     };
     let Growth {
         answer,
@@ -183,7 +181,10 @@ fn accept_lent_offer<I: IceAgent, D: DtlsInstance, S: Association, M: MediaSessi
     let Some(answer) = answer else { unreachable!() };
     match move_peer(peer, following, starting, offer, plan.rows.as_slice()) {
         Ok(()) => {}
-        Err(error) => return Err(error),
+        Err(error) => {
+            drop((plan, answer, fingerprint));
+            return Err(error);
+        }
     }
     peer.fingerprint = fingerprint;
     peer.media.commit();
@@ -191,41 +192,54 @@ fn accept_lent_offer<I: IceAgent, D: DtlsInstance, S: Association, M: MediaSessi
     Ok(answer)
 }
 
-// Accepts an answer that the caller keeps.
-fn accept_lent_answer<I: IceAgent, D: DtlsInstance, S: Association, M: MediaSession, N: Ids>(
+// Whether a token is that of the latest offer, made or given.
+fn is_latest(counter: u64, token: &SdpPendingOffer) -> bool
+    ensures { result ≡ (counter == raised token.now.id) }
+{
+    counter == token.change_id().wrapping_add(1)
+}
+
+// Accepts an answer to the offer of a token, which the caller spends: the channels that it adds are still to be confirmed.
+fn follow_answer<I: IceAgent, D: DtlsInstance, S: Association, M: MediaSession, N: Ids>(
     peer: &mut Peer<I, D, S, M, N>,
-    token: SdpPendingOffer,
+    token: &SdpPendingOffer,
     answer: &Sdp,
 ) -> Result<(), RtcError>
-    ensures { AcceptsAnswer (meanings I.ice D.dtls S.association M.media N.ids) peer.old token answer.now result peer.new }
+    ensures { FollowsAnswer (meanings I.ice D.dtls S.association M.media N.ids) peer.old token.now answer.now result peer.new }
 {
-    if peer.counter != token.change_id().wrapping_add(1) {
+    if !is_latest(peer.counter, token) {
         return Err(RtcError::ChangesOutOfOrder);
     }
-    let plan = match judge_answer(peer, &token, answer) {
+    let plan = match judge_answer(peer, token, answer) {
         Ok(plan) => plan,
         Err(refusal) => return Err(refuse(peer, refusal)),
     };
     let may = token.has_sctp_init();
-    let changes = token.into_changes();
-    let growth = match grow_answer(peer, may, &changes, answer, &plan) {
+    let staged = token.changes();
+    let growth = match grow_answer(peer, may, staged, answer, &plan) {
         Ok(growth) => growth,
-        Err(_) => return Err(RtcError::Alloc),
+        Err(_) => {
+            drop(plan);
+            return Err(RtcError::Alloc);
+        }
     };
     let Growth {
-        answer: _,
+        answer: own,
         following,
         starting,
         fingerprint,
     } = growth;
+    drop(own);
     match move_peer(peer, following, starting, answer, plan.rows.as_slice()) {
         Ok(()) => {}
-        Err(error) => return Err(error),
+        Err(error) => {
+            drop((plan, fingerprint));
+            return Err(error);
+        }
     }
     peer.fingerprint = fingerprint;
     peer.media.commit();
     peer.lines.commit(plan);
-    confirm_channels(&mut peer.channels, changes);
     Ok(())
 }
 
@@ -237,7 +251,8 @@ pub fn accept_offer<I: IceAgent, D: DtlsInstance, S: Association, M: MediaSessio
     ensures { AcceptsOffer (meanings I.ice D.dtls S.association M.media N.ids) peer.old offer result peer.new }
 {
     let answer = accept_lent_offer(peer, &offer);
-    release(offer, answer)
+    drop(offer);
+    answer
 }
 
 /// Accepts the answer to the offer of a token, which is spent. The channels that it adds are confirmed.
@@ -248,6 +263,15 @@ pub fn accept_answer<I: IceAgent, D: DtlsInstance, S: Association, M: MediaSessi
 ) -> Result<(), RtcError>
     ensures { AcceptsAnswer (meanings I.ice D.dtls S.association M.media N.ids) peer.old token answer result peer.new }
 {
-    let finished = accept_lent_answer(peer, token, &answer);
-    release(answer, finished)
+    match follow_answer(peer, &token, &answer) {
+        Ok(()) => {
+            drop(answer);
+            confirm_channels(&mut peer.channels, token.into_changes());
+            Ok(())
+        }
+        Err(error) => {
+            drop((token, answer));
+            Err(error)
+        }
+    }
 }

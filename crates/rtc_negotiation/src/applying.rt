@@ -19,7 +19,7 @@ use rtc_dtls::{Dtls, DtlsInstance};
 use rtc_ice::IceAgent;
 use rtc_ids::Ids;
 use rtc_media::MediaSession;
-use rtc_peer_state::{Peer, SdpHead, count_lines};
+use rtc_peer_state::{Peer, SdpHead, Staged, count_lines};
 use rtc_sctp::RtcSctp;
 use rtc_sctp_values::SctpInitData;
 use rtc_sdp_values::{Sdp, Setup};
@@ -36,6 +36,13 @@ fn makes_offer(changes: &[Change]) -> bool
         }
     }
     false
+}
+
+// Whether what is staged makes an offer.
+fn stages_offer(staged: &Staged) -> bool
+    ensures { result ≡ do_offer staged.now }
+{
+    makes_offer(staged.as_slice())
 }
 
 // Applies channels alone, which no offer tells of. Nothing happens where nothing is staged.
@@ -160,7 +167,7 @@ pub fn apply_staged<I: IceAgent, D: DtlsInstance, S: Association, M: MediaSessio
 ) -> Result<Option<(Sdp, SdpPendingOffer)>, AllocError>
     ensures { Applies (meanings I.ice D.dtls S.association M.media N.ids) peer.old result peer.new }
 {
-    if !makes_offer(peer.staged.as_slice()) {
+    if !stages_offer(&peer.staged) {
         apply_channels(peer);
         return Ok(None);
     }
@@ -170,11 +177,17 @@ pub fn apply_staged<I: IceAgent, D: DtlsInstance, S: Association, M: MediaSessio
     };
     let init = match tell_offered_init(&peer.sctp, &told) {
         Ok(init) => init,
-        Err(error) => return Err(error),
+        Err(error) => {
+            drop(told);
+            return Err(error);
+        }
     };
     let offer = match make_offer(peer, init) {
         Ok(offer) => offer,
-        Err(error) => return Err(error),
+        Err(error) => {
+            drop(told);
+            return Err(error);
+        }
     };
     keep_told(&mut peer.sctp, told);
     let control = control_of_offer(&peer.ice, &peer.dtls);

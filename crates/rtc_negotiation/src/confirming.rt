@@ -44,10 +44,9 @@ fn confirm_change(channels: &mut ChannelHandler, change: Change)
 {
     match change {
         Change::AddChannel(id, config) => confirm_channel(channels, id, config),
-        Change::AddMedia(_)
-        | Change::AddApp(_)
-        | Change::Direction(_, _)
-        | Change::IceRestart(_, _) => {}
+        Change::AddMedia(media) => drop(media),
+        Change::IceRestart(creds, _) => drop(creds),
+        Change::AddApp(_) | Change::Direction(_, _) => {}
     }
 }
 

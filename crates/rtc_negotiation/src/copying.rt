@@ -1,15 +1,18 @@
 //! What an acceptance copies of a session description and of a token.
-ghost use Rattle.std.specs.Prelude.{◌≡◌, IfOk, option_map};
+ghost use Rattle.std.specs.Prelude.{◌≡◌, IfOk, OnOk, None, option_map};
 ghost use Rattle.std.specs.Option.{option_or};
 ghost use Rattle.rtc_sdp_values.specs.Sdp.{creds_of, sdp_fingerprint};
 ghost use Rattle.rtc_change.specs.PendingOffer.{staged_restart};
-ghost use Rattle.rtc_negotiation.specs.Growths.{following_of};
+ghost use Rattle.rtc_negotiation.specs.Growths.{begun_growth, following_of};
 
+use crate::filling::{fill_some, set};
 use crate::following::Following;
+use crate::growth::Growth;
+use crate::starting::Starting;
 use rtc_change::Changes;
 use rtc_sdp_values::{Fingerprint, IceCreds, Sdp};
-use rtc_wire::TryCopy;
-use std::alloc::AllocError;
+use rtc_wire::{Seq, TryCopy};
+use std::alloc::{AllocError, Global};
 
 /// A restart, lent.
 pub fn lend_restart(restart: &Option<(IceCreds, bool)>) -> Option<(&IceCreds, bool)>
@@ -21,50 +24,73 @@ pub fn lend_restart(restart: &Option<(IceCreds, bool)>) -> Option<(&IceCreds, bo
     }
 }
 
-/// The fingerprint that is known, or else that which is told.
-pub fn first_fingerprint(
+// Puts the fingerprint that is known, or else that which is told.
+fn put_fingerprint(
     known: &Option<Fingerprint>,
     sdp: &Sdp,
-) -> Result<Option<Fingerprint>, AllocError>
-    ensures { IfOk result (λ fingerprint. fingerprint ≡ option_or known.now (sdp_fingerprint sdp.now)) }
+    fingerprint: &mut Option<Fingerprint>,
+) -> Result<(), AllocError>
+    requires { fingerprint.old ≡ None }
+    ensures { OnOk result (fingerprint.new ≡ option_or known.now (sdp_fingerprint sdp.now)) }
 {
     if let Some(known) = known {
-        let copied = known.copy()?;
-        return Ok(Some(copied));
+        return fill_some(fingerprint, known);
     }
-    let Some(told) = sdp.fingerprint() else {
-        return Ok(None);
-    };
-    let copied = told.copy()?;
-    Ok(Some(copied))
+    match sdp.fingerprint() {
+        Some(told) => fill_some(fingerprint, told),
+        None => Ok(()),
+    }
 }
 
-fn copy_creds(sdp: &Sdp) -> Result<Option<IceCreds>, AllocError>
-    ensures { IfOk result (λ creds. creds ≡ creds_of sdp.now) }
+fn put_creds(sdp: &Sdp, creds: &mut Option<IceCreds>) -> Result<(), AllocError>
+    requires { creds.old ≡ None }
+    ensures { OnOk result (creds.new ≡ creds_of sdp.now) }
 {
-    let Some(creds) = sdp.ice_creds() else {
-        return Ok(None);
-    };
-    let copied = creds.copy()?;
-    Ok(Some(copied))
+    match sdp.ice_creds() {
+        Some(told) => fill_some(creds, told),
+        None => Ok(()),
+    }
 }
 
-/// What the agent is to follow.
-pub fn make_following(
+/// Nothing is made ready yet but the restart that the agent is to follow, its control and how the association is started.
+pub fn begin_growth(
+    alloc: Global,
     restart: Option<(IceCreds, bool)>,
-    sdp: &Sdp,
     control: Option<bool>,
-) -> Result<Following, AllocError>
-    ensures { IfOk result (λ following. following ≡ following_of restart sdp.now control) }
+    starting: Starting,
+) -> Growth
+    ensures { result ≡ begun_growth restart control starting }
 {
-    let creds = copy_creds(sdp)?;
+    Growth {
+        answer: None,
+        following: Following {
+            restart,
+            creds: None,
+            candidates: Seq::empty(alloc),
+            control,
+        },
+        starting,
+        fingerprint: None,
+    }
+}
+
+/// Puts what an offer or an answer tells of its side.
+pub fn put_told(
+    known: &Option<Fingerprint>,
+    sdp: &Sdp,
+    growth: &mut Growth,
+) -> Result<(), AllocError>
+    requires creds { growth.old.following.creds ≡ None }
+    requires fingerprint { growth.old.fingerprint ≡ None }
+    ensures { OnOk result (growth.new ≡ record growth.old {
+      following = following_of growth.old.following.restart sdp.now growth.old.following.control;
+      fingerprint = option_or known.now (sdp_fingerprint sdp.now);
+    }) }
+{
+    put_creds(sdp, &mut growth.following.creds)?;
     let candidates = sdp.candidates()?;
-    Ok(Following {
-        restart,
-        creds,
-        candidates,
-        control,
-    })
+    set(&mut growth.following.candidates, candidates);
+    put_fingerprint(known, sdp, &mut growth.fingerprint)
 }
 
 /// The restart that is staged with the changes of a token.

@@ -32,6 +32,14 @@ pub struct Drawn {
     pub halves: Option<SctpInitData>,
 }
 
+// The rows that the m-lines of a session description name.
+fn named_rows<'a>(rows: &'a [LineRow], sdp: &Sdp) -> &'a [LineRow]
+    requires { length sdp.now.lines ≤ length rows.now }
+    ensures { result.now ≡ take (length sdp.now.lines) rows.now }
+{
+    &rows[..sdp.lines.len()]
+}
+
 // What the media part is told, by the rows that the lines leave. Numbers are drawn for sources.
 fn list_line_updates<I: IceAgent, D: DtlsInstance, S: Association, M: MediaSession, N: Ids>(
     peer: &mut Peer<I, D, S, M, N>,
@@ -60,7 +68,7 @@ fn list_line_updates<I: IceAgent, D: DtlsInstance, S: Association, M: MediaSessi
         changes,
         offer,
         peer.lines.rows(),
-        &rows[..sdp.lines.len()],
+        named_rows(rows, sdp),
         sdp.lines.as_slice(),
     )?;
     Ok(updates)

@@ -1,38 +1,45 @@
 //! What takes memory in an acceptance, before parts are touched.
-ghost use Rattle.std.specs.Prelude.{◌≡◌, ◌≤◌, length, take, IfOk, OnOk, Some, None, true, false, [], option_map};
-ghost use Rattle.std.specs.Option.{option_or, option_copied};
-ghost use Rattle.rtc_sdp_values.specs.Sdp.{creds_of, candidates_of, sdp_fingerprint};
+ghost use Rattle.std.specs.Prelude.{◌≡◌, ◌≤◌, length, take, IfOk, OnOk, Some, None, true, false, []};
+ghost use Rattle.std.specs.Option.{option_or};
+ghost use Rattle.rtc_sdp_values.specs.Sdp.{creds_of, sdp_fingerprint};
 ghost use Rattle.rtc_change.specs.PendingOffer.{staged_restart};
 ghost use Rattle.rtc_change.specs.Plans.{is_restart};
 ghost use Rattle.rtc_change.specs.TableAfter.{table_after};
 ghost use Rattle.rtc_tables.specs.ParsedLines.{parsed_lines};
 ghost use Rattle.rtc_peer_state.specs.Calls.{control_for as ControlFor};
 ghost use Rattle.rtc_peer_state.specs.Creds.{new_creds, after_new_creds};
-ghost use Rattle.rtc_peer_state.specs.MadeSdp.{answer_head, answer_sdp};
+ghost use Rattle.rtc_peer_state.specs.MadeSdp.{answer_sdp};
 ghost use Rattle.rtc_peer_state.specs.Meanings.{meanings};
 ghost use Rattle.rtc_peer_state.specs.SdpHalves.{answer_init};
 ghost use Rattle.rtc_peer_state.specs.Stance.{stance_of};
 ghost use Rattle.rtc_sctp.specs.Calls.{are_whole};
 ghost use Rattle.rtc_negotiation.specs.Growths.{following_of, GrowsOffer, GrowsAnswer};
 
-use crate::copying::{copy_restart, first_fingerprint, lend_restart, make_following};
+use crate::answering::make_answer;
+use crate::copying::{begin_growth, copy_restart, put_told};
 use crate::draws::{Drawn, draw_along};
+use crate::filling::{set, whole};
 use crate::growth::Growth;
 use crate::starting::Starting;
 use crate::telling_init::tell_init;
 use rtc_association::Association;
 use rtc_change::{Changes, Plan};
-use rtc_describing::{make_head, make_sdp, role_after, setup_of_role, tell_rows};
 use rtc_drawing::make_creds;
 use rtc_dtls::{Dtls, DtlsInstance};
 use rtc_ice::IceAgent;
 use rtc_ids::Ids;
 use rtc_media::{MediaSession, MediaUpdate};
-use rtc_peer_state::{Peer, SdpHead};
+use rtc_peer_state::Peer;
 use rtc_sctp_values::SctpInitData;
 use rtc_sdp_values::{Fingerprint, IceCreds, LineRow, Sdp};
-use rtc_wire::Text;
 use std::alloc::{AllocError, Global};
+
+// A restart with these credentials, which keeps the candidates.
+fn keep_candidates(creds: IceCreds) -> (IceCreds, bool)
+    ensures { result ≡ (creds, true) }
+{
+    (creds, true)
+}
 
 // The restart by which a restart of the other side is followed: with drawn credentials, and the candidates kept.
 fn draw_restart<N: Ids>(
@@ -48,7 +55,7 @@ fn draw_restart<N: Ids>(
     }
     let n = ids.draw();
     let creds = make_creds(alloc, n)?;
-    Ok(Some((creds, true)))
+    Ok(Some(keep_candidates(creds)))
 }
 
 // Which side is controlling, where that is still to be settled.
@@ -61,56 +68,41 @@ fn control_for<D: DtlsInstance>(dtls: &Dtls<D>, on: bool) -> Option<bool>
     }
 }
 
-// What the answer of a peer tells of it.
-fn make_answer_head<I: IceAgent, D: DtlsInstance, S: Association, M: MediaSession, N: Ids>(
-    peer: &Peer<I, D, S, M, N>,
-    restart: &Option<(IceCreds, bool)>,
-    init: Option<Text>,
-    offer: &Sdp,
-) -> Result<SdpHead, AllocError>
-    ensures { IfOk result (λ head. head
-        ≡ answer_head (stance_of (meanings I.ice D.dtls S.association M.media N.ids) peer.now) restart.now init offer.now) }
-{
-    let active = role_after(peer.dtls.is_active(), offer.setup());
-    make_head(
-        peer.alloc,
-        peer.session_id,
-        &peer.ice,
-        &peer.dtls,
-        setup_of_role(active),
-        lend_restart(restart),
-        peer.sctp.local_max_message_size(),
-        init,
-    )
-}
-
-// The answer to an offer that leaves these rows, and of whose lines the media part is told this.
-#[tactic(auto, unfolding(rtc_peer_state::specs::MadeSdp::answer_sdp))]
-fn make_answer<I: IceAgent, D: DtlsInstance, S: Association, M: MediaSession, N: Ids>(
-    peer: &Peer<I, D, S, M, N>,
-    restart: &Option<(IceCreds, bool)>,
-    offer: &Sdp,
-    rows: &[LineRow],
-    updates: &[MediaUpdate],
-    init: Option<Text>,
-) -> Result<Sdp, AllocError>
-    requires { rows.now ≡ table_after peer.now.lines (parsed_lines offer.now) true }
-    ensures { IfOk result (λ answer. answer
-        ≡ answer_sdp (stance_of (meanings I.ice D.dtls S.association M.media N.ids) peer.now) restart.now updates.now init offer.now) }
-{
-    let head = make_answer_head(peer, restart, init, offer)?;
-    let told = tell_rows(peer.alloc, &peer.media, updates, rows)?;
-    make_sdp(peer.alloc, head, told)
-}
-
 // Makes the updates ready.
-fn prepare_media<M: MediaSession>(media: &mut M, updates: &[MediaUpdate]) -> Result<(), AllocError>
-    ensures { M.media.prepared media.old updates.now result media.new }
+fn prepare_media<M: MediaSession>(
+    media: &mut M,
+    updates: Vec<MediaUpdate>,
+) -> Result<(), AllocError>
+    ensures { M.media.prepared media.old updates.items result media.new }
 {
-    match media.prepare(updates) {
+    match media.prepare(updates.as_slice()) {
         Ok(()) => Ok(()),
         Err(error) => Err(error),
     }
+}
+
+// Puts the answer to an offer, and what the offer tells of its side.
+fn put_followed<I: IceAgent, D: DtlsInstance, S: Association, M: MediaSession, N: Ids>(
+    peer: &Peer<I, D, S, M, N>,
+    offer: &Sdp,
+    rows: &[LineRow],
+    updates: &[MediaUpdate],
+    growth: &mut Growth,
+) -> Result<(), AllocError>
+    requires rows { rows.now ≡ table_after peer.now.lines (parsed_lines offer.now) true }
+    requires creds { growth.old.following.creds ≡ None }
+    requires fingerprint { growth.old.fingerprint ≡ None }
+    ensures { OnOk result (growth.new ≡ record growth.old {
+      answer = Some (answer_sdp (stance_of (meanings I.ice D.dtls S.association M.media N.ids) peer.now) growth.old.following.restart updates.now
+          (answer_init (S.association.started peer.now.sctp.association) peer.now.sctp.snap growth.old.starting.halves) offer.now);
+      following = following_of growth.old.following.restart offer.now growth.old.following.control;
+      fingerprint = option_or peer.now.fingerprint (sdp_fingerprint offer.now);
+    }) }
+{
+    let init = tell_init(&peer.sctp, &growth.starting.halves)?;
+    let answer = make_answer(peer, &growth.following.restart, offer, rows, updates, init)?;
+    set(&mut growth.answer, Some(answer));
+    put_told(&peer.fingerprint, offer, growth)
 }
 
 // What the acceptance of an offer needs besides the updates, once a restart was drawn and they were made.
@@ -131,20 +123,14 @@ fn grow_followed<I: IceAgent, D: DtlsInstance, S: Association, M: MediaSession, 
       fingerprint = option_or peer.now.fingerprint (sdp_fingerprint offer.now);
     }) }
 {
-    let init = tell_init(&peer.sctp, &halves)?;
-    let answer = make_answer(peer, &restart, offer, rows, updates, init)?;
     let control = control_for(&peer.dtls, offer.ice_lite);
-    let following = make_following(restart, offer, control)?;
-    let fingerprint = first_fingerprint(&peer.fingerprint, offer)?;
-    Ok(Growth {
-        answer: Some(answer),
-        following,
-        starting: Starting {
-            halves,
-            drops: false,
-        },
-        fingerprint,
-    })
+    let starting = Starting {
+        halves,
+        drops: false,
+    };
+    let mut growth = begin_growth(peer.alloc, restart, control, starting);
+    let put = put_followed(peer, offer, rows, updates, &mut growth);
+    whole(growth, put)
 }
 
 /// Makes ready what the acceptance of an offer needs: credentials are drawn before sources and these before this side's half of a start
@@ -164,30 +150,53 @@ pub fn grow_offer<I: IceAgent, D: DtlsInstance, S: Association, M: MediaSession,
         Ok(restart) => restart,
         Err(error) => return Err(error),
     };
-    let drawn = match draw_along(peer, true, true, &[], offer, plan.rows.as_slice()) {
+    let rows = plan.rows.as_slice();
+    let drawn = match draw_along(peer, true, true, &[], offer, rows) {
         Ok(drawn) => drawn,
-        Err(error) => return Err(error),
+        Err(error) => {
+            drop(restart);
+            return Err(error);
+        }
     };
     let Drawn { updates, halves } = drawn;
-    let growth = match grow_followed(
-        peer,
-        offer,
-        plan.rows.as_slice(),
-        restart,
-        updates.as_slice(),
-        halves,
-    ) {
+    let growth = match grow_followed(peer, offer, rows, restart, updates.as_slice(), halves) {
         Ok(growth) => growth,
-        Err(error) => return Err(error),
+        Err(error) => {
+            drop(updates);
+            return Err(error);
+        }
     };
-    match prepare_media(&mut peer.media, updates.as_slice()) {
+    match prepare_media(&mut peer.media, updates) {
         Ok(()) => Ok(growth),
-        Err(error) => Err(error),
+        Err(error) => {
+            drop(growth);
+            Err(error)
+        }
     }
+}
+
+// Puts the restart that an answer is followed by, and what the answer tells of its side.
+fn put_answered(
+    changes: &Changes,
+    answer: &Sdp,
+    known: &Option<Fingerprint>,
+    growth: &mut Growth,
+) -> Result<(), AllocError>
+    requires creds { growth.old.following.creds ≡ None }
+    requires fingerprint { growth.old.fingerprint ≡ None }
+    ensures { OnOk result (growth.new ≡ record growth.old {
+      following = following_of (staged_restart changes.now.0) answer.now growth.old.following.control;
+      fingerprint = option_or known.now (sdp_fingerprint answer.now);
+    }) }
+{
+    let restart = copy_restart(changes)?;
+    set(&mut growth.following.restart, restart);
+    put_told(known, answer, growth)
 }
 
 // What the acceptance of an answer needs besides the updates.
 fn grow_answered(
+    alloc: Global,
     changes: &Changes,
     answer: &Sdp,
     known: &Option<Fingerprint>,
@@ -200,18 +209,13 @@ fn grow_answered(
       fingerprint = option_or known.now (sdp_fingerprint answer.now);
     }) }
 {
-    let restart = copy_restart(changes)?;
-    let following = make_following(restart, answer, None)?;
-    let fingerprint = first_fingerprint(known, answer)?;
-    Ok(Growth {
-        answer: None,
-        following,
-        starting: Starting {
-            halves,
-            drops: true,
-        },
-        fingerprint,
-    })
+    let starting = Starting {
+        halves,
+        drops: true,
+    };
+    let mut growth = begin_growth(alloc, None, None, starting);
+    let put = put_answered(changes, answer, known, &mut growth);
+    whole(growth, put)
 }
 
 /// Makes ready what the acceptance of an answer needs.
@@ -239,12 +243,18 @@ pub fn grow_answer<I: IceAgent, D: DtlsInstance, S: Association, M: MediaSession
         Err(error) => return Err(error),
     };
     let Drawn { updates, halves } = drawn;
-    let growth = match grow_answered(changes, answer, &peer.fingerprint, halves) {
+    let growth = match grow_answered(peer.alloc, changes, answer, &peer.fingerprint, halves) {
         Ok(growth) => growth,
-        Err(error) => return Err(error),
+        Err(error) => {
+            drop(updates);
+            return Err(error);
+        }
     };
-    match prepare_media(&mut peer.media, updates.as_slice()) {
+    match prepare_media(&mut peer.media, updates) {
         Ok(()) => Ok(growth),
-        Err(error) => Err(error),
+        Err(error) => {
+            drop(growth);
+            Err(error)
+        }
     }
 }

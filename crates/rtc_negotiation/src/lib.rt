@@ -2,10 +2,12 @@
 #![tactic(auto)]
 
 mod accepting;
+mod answering;
 mod applying;
 mod confirming;
 mod copying;
 mod draws;
+mod filling;
 mod following;
 mod growing;
 mod growth;

@@ -36,13 +36,22 @@ fn move_parts<I: IceAgent, D: DtlsInstance, S: Association>(
     let client = role_after(dtls.is_active(), sdp.setup());
     match follow(ice, following) {
         Ok(()) => {}
-        Err(_) => return Err(RtcError::Alloc),
+        Err(_) => {
+            drop(starting);
+            return Err(RtcError::Alloc);
+        }
     }
     match start_dtls(dtls, role_for(sdp.setup()), now) {
         Ok(()) => {}
         Err(DtlsError::WouldBlock) => unreachable!(),
-        Err(DtlsError::Fault) => return Err(RtcError::Dtls(DtlsError::Fault)),
-        Err(DtlsError::Alloc) => return Err(RtcError::Alloc),
+        Err(DtlsError::Fault) => {
+            drop(starting);
+            return Err(RtcError::Dtls(DtlsError::Fault));
+        }
+        Err(DtlsError::Alloc) => {
+            drop(starting);
+            return Err(RtcError::Alloc);
+        }
     }
     match start_sctp(sctp, rows, client, now, sdp, starting) {
         Ok(()) => Ok(()),

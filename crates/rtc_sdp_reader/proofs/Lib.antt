@@ -1,6 +1,7 @@
 pub mod RowLemmas
 pub mod PayloadLookups
 pub mod PayloadLaw
+pub mod LinkLemmas
 pub mod LayerLaw
 pub mod PlaceLemmas
 pub mod SourceLaw

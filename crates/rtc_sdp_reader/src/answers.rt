@@ -48,18 +48,12 @@ fn read_by(reader: &mut Reader, alloc: Global, text: &str) -> Result<Sdp, SdpErr
     reader.finish(alloc)
 }
 
-/// What was told, without what is done with: a reader is large, and here its drop is one call.
-fn release<P: Drop, T>(_done: P, told: T) -> T
-    ensures { result ≡ told }
-{
-    told
-}
-
 /// The value that a session description has, or the number of the first line that refuses it. Goes over the text once.
 pub fn read(alloc: Global, text: &str) -> Result<Sdp, SdpError>
     ensures { ReadsSdp result (reading text.now) }
 {
     let mut reader = Reader::new(alloc);
     let told = read_by(&mut reader, alloc, text);
-    release(reader, told)
+    drop(reader);
+    told
 }

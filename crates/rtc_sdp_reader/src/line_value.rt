@@ -36,6 +36,7 @@ fn line_named(
 ) -> Result<MediaLine, AllocError>
     ensures { IfOk result (λ line. line ≡ spec.line_named head.now part.old mid) }
 {
+    let ssrcs = sources(alloc, part.sources.as_slice(), part.pairs.as_slice())?;
     let payloads = payload_rows(
         alloc,
         head.formats.as_slice(),
@@ -43,7 +44,6 @@ fn line_named(
         &mut part.parameters,
     )?;
     let simulcast = simulcast_in(alloc, part.layers.as_slice(), &part.layer_list)?;
-    let ssrcs = sources(alloc, part.sources.as_slice(), part.pairs.as_slice())?;
     let creds = creds_made(part.ufrag.take(), part.pass.take());
     Ok(MediaLine {
         kind: head.kind,

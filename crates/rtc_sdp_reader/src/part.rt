@@ -1,9 +1,9 @@
 //! A part that is being built.
-ghost use Rattle.std.specs.Prelude.{◌≡◌, OnOk, Some};
+ghost use Rattle.std.specs.Prelude.{◌≡◌, ◌++◌, ◌∷◌, [], None, OnOk, Some};
 ghost use Rattle.std.specs.Option.{option_or};
 ghost use Rattle.rtc_sdp_reader.specs.Putting as spec;
 
-use rtc_sdp_attributes::{Fmtp, RidLine, Rtpmap, SimulcastLine};
+use rtc_sdp_attributes::{Fmtp, RidLine, Rtpmap, SimulcastLine, SsrcName};
 use rtc_sdp_grammar::Attribute;
 use rtc_sdp_values::{Candidate, Direction, Extension, Fingerprint, Mid, Msid, Setup, Ssrc};
 use rtc_wire::{Seq, Text};
@@ -73,20 +73,20 @@ impl Part {
         self.groups.clear();
         self.setup = None;
         self.dir = None;
-        self.ufrag = None;
-        self.pass = None;
+        let_go(&mut self.ufrag);
+        let_go(&mut self.pass);
         self.lite = false;
-        self.fingerprint = None;
+        let_go(&mut self.fingerprint);
         self.candidates.clear();
         self.max_message_size = None;
-        self.sctp_init = None;
+        let_go(&mut self.sctp_init);
         self.codecs.clear();
         self.parameters.clear();
         self.exts.clear();
-        self.msid = None;
+        let_go(&mut self.msid);
         self.layers.clear();
-        self.layer_list = None;
-        self.cname = None;
+        let_go(&mut self.layer_list);
+        let_go(&mut self.cname);
         self.sources.clear();
         self.pairs.clear();
     }
@@ -97,7 +97,7 @@ impl Part {
     {
         match attribute {
             Attribute::MidLine(mid) => keep_first(&mut self.mid, mid),
-            Attribute::GroupLine(mids) => self.groups.push(mids)?,
+            Attribute::GroupLine(mids) => self.groups.push(mids),
             Attribute::SetupLine(setup) => keep_first(&mut self.setup, setup),
             Attribute::DirectionLine(dir) => keep_first(&mut self.dir, dir),
             Attribute::UfragLine(ufrag) => keep_first(&mut self.ufrag, ufrag),
@@ -106,32 +106,53 @@ impl Part {
                 &mut self.fingerprint,
                 fingerprint,
             ),
-            Attribute::CandidateLine(candidate) => self.candidates.push(candidate)?,
+            Attribute::CandidateLine(candidate) => self.candidates.push(candidate),
             Attribute::MessageSizeLine(size) => keep_first(&mut self.max_message_size, size),
             Attribute::SctpInitLine(chunk) => keep_first(&mut self.sctp_init, chunk),
-            Attribute::CodecLine(codec) => self.codecs.push(codec)?,
-            Attribute::ParametersLine(fmtp) => self.parameters.push(fmtp)?,
-            Attribute::ExtensionLine(row) => self.exts.push(row)?,
+            Attribute::CodecLine(codec) => self.codecs.push(codec),
+            Attribute::ParametersLine(fmtp) => self.parameters.push(fmtp),
+            Attribute::ExtensionLine(row) => self.exts.push(row),
             Attribute::StreamLine(msid) => keep_first(&mut self.msid, msid),
-            Attribute::LayerLine(layer) => self.layers.push(layer)?,
+            Attribute::LayerLine(layer) => self.layers.push(layer),
             Attribute::LayerListLine(list) => keep_first(&mut self.layer_list, list),
-            Attribute::SourcePairLine(pair) => self.pairs.push(pair)?,
-            Attribute::OtherGroup => {}
-            Attribute::LiteLine => self.lite = true,
-            Attribute::SourceLine(source) => {
-                self.sources.push(source.ssrc.0)?;
-                keep_first(&mut self.cname, source.cname);
+            Attribute::SourcePairLine(pair) => self.pairs.push(pair),
+            Attribute::OtherGroup => Ok(()),
+            Attribute::LiteLine => {
+                self.lite = true;
+                Ok(())
             }
+            Attribute::SourceLine(source) => put_source(&mut self.sources, &mut self.cname, source),
         }
-        Ok(())
     }
 }
 
-/// Of an attribute that counts once, the first counts.
-fn keep_first<T: Drop>(field: &mut Option<T>, value: T)
-    ensures { field.new ≡ option_or field.old (Some value) }
+/// Lets go what a field has.
+fn let_go<T: Drop>(field: &mut Option<T>)
+    ensures { field.new ≡ None }
+{
+    *field = None;
+}
+
+/// Of an attribute that counts once, the first counts. It answers as the push of one that counts each time does.
+fn keep_first<T: Drop>(field: &mut Option<T>, value: T) -> Result<(), AllocError>
+    ensures { OnOk result (field.new ≡ option_or field.old (Some value)) }
 {
     if field.is_none() {
         *field = Some(value);
     }
+    Ok(())
+}
+
+/// Puts a source that has a name, and the name where it is the first.
+fn put_source(
+    sources: &mut Seq<u32>,
+    cname: &mut Option<Text>,
+    source: SsrcName,
+) -> Result<(), AllocError>
+    ensures sources { OnOk result (sources.new ≡ sources.old ++ source.ssrc.0 ∷ []) }
+    ensures cname { OnOk result (cname.new ≡ option_or cname.old (Some source.cname)) }
+{
+    let SsrcName { ssrc, cname: name } = source;
+    sources.push(ssrc.0)?;
+    keep_first(cname, name)
 }

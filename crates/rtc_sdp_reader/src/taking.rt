@@ -78,9 +78,11 @@ impl Reader {
     fn put_in_session(&mut self, level: Level, attribute: Attribute) -> Result<(), SdpError>
         ensures { StepsTo result self.new (spec.take_in_session self.old (Says level attribute)) }
     {
-        if counts(level, false) {
-            self.session.put(attribute)?;
+        if !counts(level, false) {
+            drop(attribute);
+            return Ok(());
         }
+        self.session.put(attribute)?;
         Ok(())
     }
 
@@ -141,9 +143,11 @@ impl Reader {
             ≡ spec.put_here (spec.with_line_counted self.old (Says level attribute)) level attribute) }
     {
         self.with_mid_counted(names_line(&attribute));
-        if counts(level, true) {
-            self.part.put(attribute)?;
+        if !counts(level, true) {
+            drop(attribute);
+            return Ok(());
         }
+        self.part.put(attribute)?;
         Ok(())
     }
 
@@ -183,8 +187,16 @@ impl Reader {
         let place = self.place();
         self.number = self.number.saturating_add(1);
         match place {
-            Place::First => self.take_first(&item),
-            Place::Second => self.take_second(&item),
+            Place::First => {
+                let told = self.take_first(&item);
+                drop(item);
+                told
+            }
+            Place::Second => {
+                let told = self.take_second(&item);
+                drop(item);
+                told
+            }
             Place::Session => self.take_in_session(item),
             Place::Line => self.take_in_line(alloc, item),
         }

@@ -1,6 +1,7 @@
 //! Peers that are built.
 ghost use Rattle.std.specs.Prelude.{◌≡◌, ◌≤◌, ◌<◌, ◌^◌, false, IfOk, OnOk, length, ℕ};
 ghost use Rattle.std.specs.Option.{option_copied};
+ghost use Rattle.rtc_dtls.specs.DtlsState.{BeginsDtls};
 ghost use Rattle.rtc_peer_state.specs.Built.{Builds, creds_or, after_creds, cert_or, after_cert};
 ghost use Rattle.rtc_peer_state.specs.Built.{empty_peer as EmptyPeer, limited_streams, allowed_halves, streams_of_config};
 ghost use Rattle.rtc_peer_state.specs.Meanings.{meanings};
@@ -56,6 +57,31 @@ fn make_cert<N: Ids>(alloc: Global, ids: &mut N, given: Option<&[u8]>) -> Result
             Ok(Bytes::new(bytes))
         }
     }
+}
+
+// What a peer tells of itself, and the DTLS part that has its certificate.
+#[derive(Drop)]
+struct OwnSide<D> {
+    creds: IceCreds,
+    dtls: Dtls<D>,
+}
+
+// The credentials, and the DTLS part that is given the certificate. Those that the config has not are drawn.
+fn draw_own<D: DtlsInstance + Drop, N: Ids>(
+    alloc: Global,
+    config: &RtcConfig,
+    ids: &mut N,
+    dtls: D,
+) -> Result<OwnSide<D>, AllocError>
+    ensures creds { IfOk result (λ own. own.creds ≡ creds_or N.ids config.now.creds ids.old) }
+    ensures dtls { IfOk result (λ own. BeginsDtls D.dtls
+        (cert_or N.ids config.now.cert (after_creds N.ids config.now.creds ids.old)) dtls (1150, 1280) own.dtls) }
+    ensures after { OnOk result (ids.new ≡ after_cert N.ids config.now.cert (after_creds N.ids config.now.creds ids.old)) }
+{
+    let creds = take_creds(alloc, ids, config.local_ice_credentials())?;
+    let cert = make_cert(alloc, ids, config.dtls_cert())?;
+    let dtls = Dtls::new(alloc, cert.as_slice(), dtls, MTU)?;
+    Ok(OwnSide { creds, dtls })
 }
 
 // Streams over a fresh association, with the limits that a config says.
@@ -159,11 +185,16 @@ pub fn build_peer<
     let mut ids = ids;
     let mut ice = ice;
     let session_id = ids.draw();
-    let creds = take_creds(alloc, &mut ids, config.local_ice_credentials())?;
-    let cert = make_cert(alloc, &mut ids, config.dtls_cert())?;
+    let own = match draw_own(alloc, &config, &mut ids, dtls) {
+        Ok(own) => own,
+        Err(error) => {
+            drop((config, ice, association, media, ids));
+            return Err(error);
+        }
+    };
+    let OwnSide { creds, dtls } = own;
     ice.set_ice_lite(config.ice_lite());
     ice.set_local_credentials(creds);
-    let dtls = Dtls::new(alloc, cert.as_slice(), dtls, MTU)?;
     let sctp = make_streams(alloc, &config, start, association);
     let formats = config.into_formats();
     Ok(empty_peer(

@@ -1,9 +1,10 @@
 //! Lines and channels that are staged.
-ghost use Rattle.std.specs.Prelude.{◌≡◌, IfOk, OnOk};
+ghost use Rattle.std.specs.Prelude.{◌≡◌, IfOk, OnOk, OnErr};
 ghost use Rattle.rtc_ids.specs.Draws.{Later};
 ghost use Rattle.rtc_peer_state.specs.Sources.{has_source, after_pairs, pair_count};
 ghost use Rattle.rtc_staging.specs.StagedNames.{given_name, drawn_msid, drawn_media, after_names};
 ghost use Rattle.rtc_peer_state.specs.Calls.{AddsMedia, AddsChannel, StagesRestart};
+ghost use Rattle.rtc_peer_state.specs.Staging.{with_restart};
 ghost use Rattle.rtc_peer_state.specs.Meanings.{meanings};
 
 use rtc_association::Association;
@@ -15,7 +16,7 @@ use rtc_dtls::DtlsInstance;
 use rtc_ice::IceAgent;
 use rtc_ids::Ids;
 use rtc_media::MediaSession;
-use rtc_peer_state::{Peer, RtcError};
+use rtc_peer_state::{Peer, RtcError, Staged};
 use rtc_sdp_values::{Direction, IceCreds, MediaKind, Mid, Msid, Simulcast};
 use rtc_wire::{ChannelConfig, ChannelId, TryCopy};
 use std::alloc::{AllocError, Global};
@@ -134,6 +135,20 @@ pub fn stage_channel<I: IceAgent, D: DtlsInstance, S: Association, M: MediaSessi
     }
 }
 
+// Stages a restart of ICE with these credentials.
+fn stage_creds(
+    alloc: Global,
+    creds: &IceCreds,
+    keeps: bool,
+    staged: &mut Staged,
+) -> Result<(), AllocError>
+    ensures ok { OnOk result (staged.new ≡ with_restart creds.now keeps staged.old) }
+    ensures err { OnErr result (staged.new ≡ staged.old) }
+{
+    let copied = creds.copy()?;
+    staged.push_restart(alloc, copied, keeps)
+}
+
 /// Stages a restart of ICE with credentials that are drawn, in place of one that was staged, and answers them.
 #[tactic(auto, using(rtc_ids::proofs::LaterLemmas::later_none, rtc_ids::proofs::LaterLemmas::later_once))]
 pub fn stage_restart<I: IceAgent, D: DtlsInstance, S: Association, M: MediaSession, N: Ids>(
@@ -145,7 +160,11 @@ pub fn stage_restart<I: IceAgent, D: DtlsInstance, S: Association, M: MediaSessi
     let alloc = peer.alloc;
     let n = peer.ids.draw();
     let creds = make_creds(alloc, n)?;
-    let staged = creds.copy()?;
-    peer.staged.push_restart(alloc, staged, keeps)?;
-    Ok(creds)
+    match stage_creds(alloc, &creds, keeps, &mut peer.staged) {
+        Ok(()) => Ok(creds),
+        Err(error) => {
+            drop(creds);
+            Err(error)
+        }
+    }
 }

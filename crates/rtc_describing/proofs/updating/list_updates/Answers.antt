@@ -1,8 +1,9 @@
-use Rattle.std.proofs.Common.{◌≡◌, ◌+◌, suc, drop, arith}
-use Rattle.rtc_ids.proofs.LaterLemmas.{later_join}
+use Rattle.std.proofs.Common.{◌≡◌, ◌+◌, suc, drop, refl, arith}
+use Rattle.rtc_ids.proofs.LaterLemmas.{later_none, later_join}
 use Rattle.rtc_peer_state.specs.Sources.{has_source}
 use Rattle.rtc_peer_state.specs.LineUpdates.{added_media, sending_of}
-use Rattle.rtc_describing.proofs.UpdateLemmas.{from_place, from_index, none_from, one_update, one_update_after, no_updates, after_no_updates, most_updates, most_with_row}
+use Rattle.rtc_describing.proofs.UpdateLemmas.{from_place, from_index, none_from, none_behind, one_update, one_update_after}
+use Rattle.rtc_describing.proofs.UpdateLemmas.{no_updates, after_no_updates, no_rows, after_no_rows, most_updates, most_with_row}
 use Rattle.rtc_describing.proofs.updating.list_updates.Goals as goal
 
 pub loop-row-preserved : goal.loop-row-preserved
@@ -56,3 +57,36 @@ pub returns-clause-most : goal.returns-clause-most
 returns-clause-most g c =
     most_updates g.N.Ids.ids (has_source g.M.MediaSession.media c.args.media.now) (λ mid. sending_of (g.M.MediaSession.media.line c.args.media.now mid) (added_media c.args.changes.now mid) mid)
     (drop c.loop-row.row-index c.args.rows.now) (drop c.loop-row.row-index c.args.lines.now) c.loop-row.ids _ c.loop-row.invariant.after
+
+pub returns-in_default-clause-later : goal.returns-in_default-clause-later
+returns-in_default-clause-later g c = c.loop-row.invariant.later
+
+pub returns-in_err-sending-clause-later : goal.returns-in_err-sending-clause-later
+returns-in_err-sending-clause-later g c = c.loop-row.invariant.later
+
+pub returns-in_err-push_update-clause-later : goal.returns-in_err-push_update-clause-later
+returns-in_err-push_update-clause-later g c =
+    later_join g.N.Ids.ids c.args.ids.now c.loop-row.ids _ c.loop-row.invariant.later c.in_err-push_update.ensures.later
+
+pub returns-clause-later : goal.returns-clause-later
+returns-clause-later g c = c.loop-row.invariant.later
+
+pub returns-clause-updates : goal.returns-clause-updates
+returns-clause-updates g c =
+    no_rows g.N.Ids.ids (has_source g.M.MediaSession.media c.args.media.now) (λ mid. sending_of (g.M.MediaSession.media.line c.args.media.now mid) (added_media c.args.changes.now mid) mid) c.args.formats.now c.args.offer
+    (drop c.loop-row.row-index c.args.before.now) (drop c.loop-row.row-index c.args.rows.now) (drop c.loop-row.row-index c.args.lines.now) c.loop-row.drawn c.loop-row.ids c.loop-row.updates.items _
+    (none_behind c.loop-row.row-index c.args.rows.now (omega (arith, c.loop-row-test.false))) c.loop-row.invariant.updates
+
+pub returns-clause-after : goal.returns-clause-after
+returns-clause-after g c =
+    after_no_rows g.N.Ids.ids (has_source g.M.MediaSession.media c.args.media.now) (λ mid. sending_of (g.M.MediaSession.media.line c.args.media.now mid) (added_media c.args.changes.now mid) mid)
+    (drop c.loop-row.row-index c.args.rows.now) (drop c.loop-row.row-index c.args.lines.now) c.loop-row.ids _
+    (none_behind c.loop-row.row-index c.args.rows.now (omega (arith, c.loop-row-test.false))) c.loop-row.invariant.after
+
+pub loop-row-init : goal.loop-row-init
+loop-row-init g c = record {
+  place = refl;
+  updates = rw (c.new-updates.ensures.items, c.new-drawn.ensures) refl;
+  after = refl;
+  later = later_none g.N.Ids.ids c.args.ids.now;
+}

@@ -35,3 +35,24 @@ returns-in_err-push-clause-most g c =
     let one_less : c.args.count - c.loop.counter ≡ suc (c.args.count - (c.loop.counter + 1)) = omega arith in
     most_pairs g.N.Ids.ids (has_source g.M.MediaSession.media c.args.media.now) c.args.kind _ _ c.loop.ids _ _ one_less
     (later_same g.N.Ids.ids _ _ c.in_ok-pair.ensures.after) c.loop.invariant.after
+
+pub returns-in_err-pair-clause-later : goal.returns-in_err-pair-clause-later
+returns-in_err-pair-clause-later g c =
+    later_join g.N.Ids.ids c.args.ids.now c.loop.ids _ c.loop.invariant.later c.in_err-pair.ensures.later
+
+pub returns-in_err-push-clause-later : goal.returns-in_err-push-clause-later
+returns-in_err-push-clause-later g c =
+    later_join g.N.Ids.ids c.args.ids.now c.loop.ids _ c.loop.invariant.later c.in_ok-pair.ensures.later
+
+pub returns-clause-after : goal.returns-clause-after
+returns-clause-after g c =
+    let none : c.args.count - c.loop.counter ≡ 0 = omega arith in
+    rw none at c.loop.invariant.after
+
+pub returns-clause-later : goal.returns-clause-later
+returns-clause-later g c = c.loop.invariant.later
+
+pub returns-clause-most : goal.returns-clause-most
+returns-clause-most g c =
+    let none : c.args.count - c.loop.counter ≡ 0 = omega arith in
+    later_same g.N.Ids.ids _ _ (rw none at c.loop.invariant.after)

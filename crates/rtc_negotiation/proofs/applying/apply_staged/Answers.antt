@@ -1,4 +1,4 @@
-use Rattle.std.proofs.Common.{◌∙◌, ap}
+use Rattle.std.proofs.Common.{◌∙◌, sym, ap}
 use Rattle.rtc_peer_state.specs.Meanings.{meanings}
 use Rattle.rtc_peer_state.specs.SdpHalves.{tells_half, draws_half}
 use Rattle.rtc_peer_state.specs.Stance.{stance_of}
@@ -22,3 +22,6 @@ returns-in-Err-make_offer g c =
     let m = meanings g.I.IceAgent.ice g.D.DtlsInstance.dtls g.S.Association.association g.M.MediaSession.media g.N.Ids.ids in
     lacks_drawn m (tells_half (stance_of m c.args.peer.now)) c.args.peer.now c.draw_half.new.peer
     (c.in-Ok.ensures.others ∙ ap (λ n. record c.args.peer.now { ids = n }) c.in-Ok.ensures.after)
+
+pub returns-then-not-stages_offer : goal.returns-then-not-stages_offer
+returns-then-not-stages_offer g c = (sym c.stages_offer.ensures ∙ c.if-not-stages_offer.true, c.apply_channels.ensures)

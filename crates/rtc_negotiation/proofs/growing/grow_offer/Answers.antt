@@ -22,20 +22,20 @@ returns-in-Err-grow_followed-clause-grows g c =
     stops_among_draws m c.args.peer.now c.draw_along.new.peer true true [] c.args.offer.now (answer_ids m c.args.peer.now c.args.offer.now) c.draw_restart.new.ids
     (drawn_creds_ids m c.args.peer.now c.args.offer.now c.args.plan.now.restart c.draw_restart.new.ids c.requires.restart c.in-Ok.ensures.after) c.in-Ok-draw_along.ensures.along
 
-pub returns-clause-grows : goal.returns-clause-grows
-returns-clause-grows g c =
+pub returns-in-Err-prepare_media-clause-grows : goal.returns-in-Err-prepare_media-clause-grows
+returns-in-Err-prepare_media-clause-grows g c =
     let m = meanings g.I.IceAgent.ice g.D.DtlsInstance.dtls g.S.Association.association g.M.MediaSession.media g.N.Ids.ids in
     stops_at_updates m c.args.peer.now c.draw_along.new.peer true true [] c.args.offer.now (answer_ids m c.args.peer.now c.args.offer.now) c.draw_restart.new.ids
     c.in-Ok-draw_along.drawn.updates.items c.in-Err-prepare_media.error c.prepare_media.new.media
     (drawn_creds_ids m c.args.peer.now c.args.offer.now c.args.plan.now.restart c.draw_restart.new.ids c.requires.restart c.in-Ok.ensures.after)
     c.in-Ok-draw_along.ensures.along.others c.in-Ok-draw_along.ensures.updates c.in-Ok-draw_along.ensures.after
-    (rw c.as_slice-4.ensures.value at c.in-Err-prepare_media.ensures)
+    c.in-Err-prepare_media.ensures
 
 pub returns-in-Ok-prepare_media-clause-grows : goal.returns-in-Ok-prepare_media-clause-grows
 returns-in-Ok-prepare_media-clause-grows g c =
     offer_grown (meanings g.I.IceAgent.ice g.D.DtlsInstance.dtls g.S.Association.association g.M.MediaSession.media g.N.Ids.ids) c.args.peer.now
     c.draw_along.new.peer c.args.offer.now c.args.plan.now.restart c.in-Ok.restart c.draw_restart.new.ids c.in-Ok-grow_followed.growth
     c.in-Ok-draw_along.drawn.updates.items c.in-Ok-draw_along.drawn.halves c.prepare_media.new.media
-    c.requires.restart c.in-Ok.ensures.restart c.in-Ok.ensures.after (rw c.as_slice-3.ensures.value at c.in-Ok-grow_followed.ensures)
+    c.requires.restart c.in-Ok.ensures.restart c.in-Ok.ensures.after (rw c.as_slice.ensures.value at c.in-Ok-grow_followed.ensures)
     c.in-Ok-draw_along.ensures.along.others c.in-Ok-draw_along.ensures.updates c.in-Ok-draw_along.ensures.halves c.in-Ok-draw_along.ensures.after
-    (rw c.as_slice-4.ensures.value at c.in-Ok-prepare_media.ensures)
+    c.in-Ok-prepare_media.ensures
