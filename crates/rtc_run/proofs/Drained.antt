@@ -1,5 +1,5 @@
 -- A drain, turn by turn: what is left from a turn on makes, behind what was shown, the whole.
-use Rattle.std.proofs.Common.{◌≡◌, ◌≤◌, ◌+◌, ◌∙◌, ℕ, true, false, List, [], ◌∷◌, ◌++◌, length, Option, Some, Ok, refl, sym, ap, subst, arith, append-nil, append_assoc, length-append}
+use Rattle.std.proofs.Common.{◌≡◌, ◌≤◌, ◌+◌, ◌∙◌, if◌then◌else◌, ℕ, Bool, true, false, List, [], ◌∷◌, ◌++◌, length, Option, Some, Ok, refl, sym, ap, subst, arith, append-nil, append_assoc, length-append}
 use Rattle.rtc_parts_values.specs.declared.reason.Reason.{Reason}
 use Rattle.rtc_peer_state.specs.declared.rtc_error.RtcError.{RtcError}
 use Rattle.rtc_peer_state.specs.Meanings.{Meanings}
@@ -18,7 +18,7 @@ use Rattle.rtc_history.specs.declared.shown.Shown.{Shown}
 use Rattle.rtc_history.specs.declared.shown.Shown.TheVariants.{Timeout, Packet, Event}
 use Rattle.rtc_history.specs.Performs.{PollsShown, PollsOnce, DrainsOn, DrainsPeer, StepPollsPeer}
 use Rattle.rtc_run.specs.ShownTable.{shown_table}
-use Rattle.rtc_run.specs.Turns.{Turns, TakesTurn, ShowsOutput, end_of, is_timeout}
+use Rattle.rtc_run.specs.Turns.{TakesTurn, ShowsOutput, end_of, is_timeout}
 use Rattle.rtc_run.specs.declared.turn.Turn.{Turn}
 use Rattle.rtc_run.specs.declared.turn.Turn.TheVariants.{More, Over, Refused}
 
@@ -132,14 +132,27 @@ module _ {I D S M E X T W N : Type 0} (m : Meanings I D S M E X T W N) (at : Sid
 -- ---- one poll, by what is shown of its output
 
 module _ {I D S M E X T W N : Type 0} (m : Meanings I D S M E X T W N) where
-  pub turns_shown : (at : Side) (p : PolledPeer I D S M N) (packets : List SentPacket) (output : Output E) (reason : Reason) (shown : Shown E) (q : PolledPeer I D S M N) (packets' : List SentPacket)
-      → PollsPeer m p (Ok output) q → reason ≡ q.transport.last_reason → ShowsOutput at packets reason output shown packets' → Turns m at p packets (Ok shown) q packets'
-  turns_shown at p packets (polled.Timeout moment) reason shown q packets' polls is shows =
+  polled_shown : (at : Side) (p : PolledPeer I D S M N) (packets : List SentPacket) (output : Output E) (reason : Reason) (shown : Shown E) (q : PolledPeer I D S M N) (packets' : List SentPacket)
+      → PollsPeer m p (Ok output) q → reason ≡ q.transport.last_reason → ShowsOutput at packets reason output shown packets' → PollsShown m at p packets shown q packets'
+  polled_shown at p packets (polled.Timeout moment) reason shown q packets' polls is shows =
       subst (λ (s : Shown E). PollsShown m at p packets s q packets') (sym shows.0) (polls, is, shows.1)
-  turns_shown at p packets (polled.Transmit transmit) reason shown q packets' polls is shows =
+  polled_shown at p packets (polled.Transmit transmit) reason shown q packets' polls is shows =
       subst (λ (s : Shown E). PollsShown m at p packets s q packets') (sym shows.0) (transmit, polls, refl, refl, shows.1)
-  turns_shown at p packets (polled.Event event) reason shown q packets' polls is shows =
+  polled_shown at p packets (polled.Event event) reason shown q packets' polls is shows =
       subst (λ (s : Shown E). PollsShown m at p packets s q packets') (sym shows.0) (polls, shows.1)
+
+  -- a turn, by what is shown of its output
+  turned : (at : Side) (p : PolledPeer I D S M N) (packets : List SentPacket) (outputs : List (Shown E)) (shown : Shown E) (q : PolledPeer I D S M N) (packets' : List SentPacket) (outputs' : List (Shown E)) (turn : Turn) (over : Bool)
+      → is_timeout shown ≡ over → PollsShown m at p packets shown q packets' → outputs' ≡ outputs ++ shown ∷ [] → turn ≡ (if over then Over else More)
+      → TakesTurn m at p packets outputs turn q packets' outputs'
+  turned at p packets outputs shown q packets' outputs' turn true is polls put told = rw told (shown, polls, is, put)
+  turned at p packets outputs shown q packets' outputs' turn false is polls put told = rw told (shown, polls, is, put)
+
+  pub turn_shown : (at : Side) (p : PolledPeer I D S M N) (packets : List SentPacket) (outputs : List (Shown E)) (output : Output E) (reason : Reason) (shown : Shown E) (q : PolledPeer I D S M N) (packets' : List SentPacket) (outputs' : List (Shown E)) (turn : Turn)
+      → PollsPeer m p (Ok output) q → reason ≡ q.transport.last_reason → ShowsOutput at packets reason output shown packets' → outputs' ≡ outputs ++ shown ∷ []
+      → turn ≡ (if is_timeout shown then Over else More) → TakesTurn m at p packets outputs turn q packets' outputs'
+  turn_shown at p packets outputs output reason shown q packets' outputs' turn polls is shows put told =
+      turned at p packets outputs shown q packets' outputs' turn (is_timeout shown) refl (polled_shown at p packets output reason shown q packets' polls is shows) put told
 
   -- ---- the reply to polls
 

@@ -1,7 +1,6 @@
 -- One poll of a step: what is shown of its output, or its error.
-use Rattle.std.specs.Prelude.{◌≡◌, ◌-◌, ◌^◌, ℕ, Bool, true, false, List, [], ◌∷◌, ◌++◌, length, Result, Ok, Err}
+use Rattle.std.specs.Prelude.{◌≡◌, ◌-◌, ◌^◌, ℕ, Bool, true, false, List, [], ◌∷◌, ◌++◌, length, Err}
 use Rattle.rtc_parts_values.specs.declared.reason.Reason.{Reason}
-use Rattle.rtc_peer_state.specs.declared.rtc_error.RtcError.{RtcError}
 use Rattle.rtc_peer_state.specs.Meanings.{Meanings}
 use Rattle.rtc_polling.specs.declared.output.Output.{Output}
 use Rattle.rtc_polling.specs.declared.output.Output.TheVariants as polled
@@ -43,12 +42,6 @@ ShowsOutput at packets reason (polled.Transmit transmit) shown packets' =
 ShowsOutput at packets reason (polled.Event event) shown packets' = (shown ≡ Event event) × (packets' ≡ packets)
 
 module _ {I D S M E X T W N : Type 0} (m : Meanings I D S M E X T W N) where
-  -- one poll
-  abbrev pub Turns : Side → PolledPeer I D S M N → List SentPacket → Result (Shown E) RtcError → PolledPeer I D S M N → List SentPacket
-      → Type 0
-  Turns at p packets (Ok shown) q packets' = PollsShown m at p packets shown q packets'
-  Turns at p packets (Err error) q packets' = PollsPeer m p (Err error) q × (packets' ≡ packets)
-
   -- one poll of a drain: its output stands behind those that are shown
   abbrev pub TakesTurn : Side → PolledPeer I D S M N → List SentPacket → List (Shown E) → Turn → PolledPeer I D S M N → List SentPacket
       → List (Shown E) → Type 0

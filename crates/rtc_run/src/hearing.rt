@@ -28,19 +28,6 @@ pub fn outcome_of<E>(answer: Result<(), RtcError>) -> Outcome<E>
     }
 }
 
-// Gives a peer a moment.
-#[tactic(auto, using(crate::proofs::PollsKeep::lines_after_input))]
-fn give_moment<I: IceAgent, D: DtlsInstance, S: Association, M: MediaSession, N: Ids>(
-    rtc: &mut Rtc<I, D, S, M, N>,
-    now: Moment,
-) -> Result<(), RtcError>
-    ensures handles { HandlesInput (meanings I.ice D.dtls S.association M.media N.ids) (given.Timeout now) rtc.old result rtc.new }
-    ensures lines { rtc.new.core.lines ≡ rtc.old.core.lines }
-    ensures channels { length rtc.new.core.channels.rows ≤ length rtc.old.core.channels.rows }
-{
-    rtc.handle_input(&Input::Timeout(now))
-}
-
 /// Gives a peer a moment.
 pub fn take_moment<I: IceAgent, D: DtlsInstance, S: Association, M: MediaSession, N: Ids>(
     alloc: Global,
@@ -54,7 +41,7 @@ pub fn take_moment<I: IceAgent, D: DtlsInstance, S: Association, M: MediaSession
     let Ok(room) = room_for(alloc, rtc, 0, 0) else {
         return reply_no_memory();
     };
-    let answer = give_moment(rtc, now);
+    let answer = rtc.handle_input(&Input::Timeout(now));
     reply_with(outcome_of(answer), room, rtc)
 }
 
@@ -129,18 +116,6 @@ pub fn take_datagram<I: IceAgent, D: DtlsInstance, S: Association, M: MediaSessi
     }
 }
 
-// Begins to close a peer.
-#[tactic(auto, using(crate::proofs::PollsKeep::lines_after_close))]
-fn shut<I: IceAgent, D: DtlsInstance, S: Association, M: MediaSession, N: Ids>(
-    rtc: &mut Rtc<I, D, S, M, N>,
-) -> Result<(), RtcError>
-    ensures closes { ClosesPeer (meanings I.ice D.dtls S.association M.media N.ids) rtc.old result rtc.new }
-    ensures lines { rtc.new.core.lines ≡ rtc.old.core.lines }
-    ensures channels { length rtc.new.core.channels.rows ≤ length rtc.old.core.channels.rows }
-{
-    rtc.close()
-}
-
 /// Begins to close a peer.
 pub fn close<I: IceAgent, D: DtlsInstance, S: Association, M: MediaSession, N: Ids>(
     alloc: Global,
@@ -153,6 +128,6 @@ pub fn close<I: IceAgent, D: DtlsInstance, S: Association, M: MediaSession, N: I
     let Ok(room) = room_for(alloc, rtc, 0, 0) else {
         return reply_no_memory();
     };
-    let answer = shut(rtc);
+    let answer = rtc.close();
     reply_with(outcome_of(answer), room, rtc)
 }

@@ -4,7 +4,7 @@ ghost use Rattle.rtc_history.specs.Performs.{DrainsPeer, PollsOnce, StepPollsPee
 ghost use Rattle.rtc_history.specs.declared.outcome.Outcome.TheVariants.{Polled};
 ghost use Rattle.rtc_history.specs.declared.shown.Shown.TheVariants.{Packet};
 ghost use Rattle.rtc_peer_state.specs.Meanings.{meanings};
-ghost use Rattle.rtc_run.specs.Turns.{Turns, TakesTurn, ShowsOutput, end_of, is_timeout, moment_of};
+ghost use Rattle.rtc_run.specs.Turns.{TakesTurn, ShowsOutput, end_of, is_timeout, moment_of};
 ghost use Rattle.rtc_run.specs.declared.turn.Turn.TheVariants.{More, Over};
 
 use crate::replying::{Room, make_channel_room, reply_no_memory, reply_with, room_for};
@@ -12,7 +12,7 @@ use crate::turn::Turn;
 use rtc_channels::ChannelRow;
 use rtc_history::{Outcome, PollEnd, Reply, SentPacket, Shown, Side};
 use rtc_parts_values::Reason;
-use rtc_peer::{Association, DtlsInstance, IceAgent, Ids, MediaSession, Output, Rtc, RtcError};
+use rtc_peer::{Association, DtlsInstance, IceAgent, Ids, MediaSession, Output, Rtc};
 use rtc_wire::{Moment, Seq, Transmit};
 use std::alloc::{AllocError, Global};
 
@@ -56,28 +56,6 @@ fn show_output<E>(
     }
 }
 
-// Polls a peer, and keeps the datagram that it sends.
-#[tactic(auto, using(crate::proofs::PollsKeep::lines_after_poll))]
-fn poll_shown<I: IceAgent, D: DtlsInstance, S: Association, M: MediaSession, N: Ids>(
-    rtc: &mut Rtc<I, D, S, M, N>,
-    at: Side,
-    packets: &mut Vec<SentPacket>,
-) -> Result<Shown<M::E>, RtcError>
-    requires { vec_len packets.old < vec_capacity packets.old }
-    ensures turns { Turns (meanings I.ice D.dtls S.association M.media N.ids)
-        at rtc.old packets.old.items result rtc.new packets.new.items }
-    ensures lines { rtc.new.core.lines ≡ rtc.old.core.lines }
-    ensures channels { length rtc.new.core.channels.rows ≤ length rtc.old.core.channels.rows + 1 }
-{
-    match rtc.poll_output() {
-        Ok(output) => {
-            let reason = rtc.last_timeout_reason();
-            Ok(show_output(output, reason, at, packets))
-        }
-        Err(error) => Err(error),
-    }
-}
-
 fn is_timeout<E>(shown: &Shown<E>) -> bool
     ensures { result ≡ is_timeout shown.now }
 {
@@ -99,7 +77,8 @@ fn put_output<E>(outputs: &mut Vec<Shown<E>>, shown: Shown<E>) -> Turn
     if over { Turn::Over } else { Turn::More }
 }
 
-// Polls a peer once, and puts its output behind those that are shown.
+// Polls a peer once, keeps the datagram that it sends, and puts its output behind those that are shown.
+#[tactic(auto, using(crate::proofs::PollsKeep::lines_after_poll))]
 fn take_turn<I: IceAgent, D: DtlsInstance, S: Association, M: MediaSession, N: Ids>(
     rtc: &mut Rtc<I, D, S, M, N>,
     at: Side,
@@ -113,8 +92,12 @@ fn take_turn<I: IceAgent, D: DtlsInstance, S: Association, M: MediaSession, N: I
     ensures lines { rtc.new.core.lines ≡ rtc.old.core.lines }
     ensures channels { length rtc.new.core.channels.rows ≤ length rtc.old.core.channels.rows + 1 }
 {
-    match poll_shown(rtc, at, packets) {
-        Ok(shown) => put_output(outputs, shown),
+    match rtc.poll_output() {
+        Ok(output) => {
+            let reason = rtc.last_timeout_reason();
+            let shown = show_output(output, reason, at, packets);
+            put_output(outputs, shown)
+        }
         Err(error) => Turn::Refused(error),
     }
 }

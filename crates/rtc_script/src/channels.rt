@@ -2,7 +2,7 @@
 ghost use Rattle.std.specs.Prelude.{◌≡◌, ◌++◌, OnOk, string_bytes};
 ghost use Rattle.rtc_script.specs.Rows.{stream_text, channel_report_line, channel_lines};
 
-use crate::pushing::{push_long, push_number};
+use crate::pushing::{push_named, push_number};
 use rtc_channels::ChannelRow;
 use std::alloc::AllocError;
 
@@ -18,12 +18,10 @@ fn push_stream(out: &mut String, stream: Option<u16>) -> Result<(), AllocError>
 fn push_channel(out: &mut String, row: &ChannelRow) -> Result<(), AllocError>
     ensures { OnOk result (string_bytes out.new ≡ string_bytes out.old ++ channel_report_line row.now) }
 {
-    out.push_str("channel ")?;
-    push_long(out, row.id.number())?;
+    push_named(out, "channel ", row.id.number())?;
     out.push_str(" ")?;
     push_stream(out, row.stream)?;
-    out.push_str(" ")?;
-    push_long(out, row.generation)?;
+    push_named(out, " ", row.generation)?;
     out.push_str(if row.is_open { " open\n" } else { " waiting\n" })
 }
 

@@ -6,7 +6,7 @@ ghost use Rattle.rtc_polling.specs.declared.event.Event.TheVariants.{ChannelData
 
 use crate::directions::direction_word;
 use crate::kinds::kind_word;
-use crate::pushing::{push_count, push_long};
+use crate::pushing::{push_named, push_word};
 use rtc_ice::IceConnectionState;
 use rtc_media::{PeerStats, RawPacket};
 use rtc_plain_media::PlainMediaEvent;
@@ -42,22 +42,10 @@ fn push_raw(out: &mut String, packet: &RawPacket) -> Result<(), AllocError>
     ensures { OnOk result (string_bytes out.new ≡ string_bytes out.old ++ raw_packet_text packet.now) }
 {
     match packet {
-        RawPacket::RtcpTx(bytes) => {
-            out.push_str("rtcptx ")?;
-            push_count(out, bytes.as_slice().len())
-        }
-        RawPacket::RtcpRx(bytes) => {
-            out.push_str("rtcprx ")?;
-            push_count(out, bytes.as_slice().len())
-        }
-        RawPacket::RtpTx(bytes) => {
-            out.push_str("rtptx ")?;
-            push_count(out, bytes.as_slice().len())
-        }
-        RawPacket::RtpRx(bytes) => {
-            out.push_str("rtprx ")?;
-            push_count(out, bytes.as_slice().len())
-        }
+        RawPacket::RtcpTx(bytes) => { push_named(out, "rtcptx ", bytes.as_slice().len() as u64) }
+        RawPacket::RtcpRx(bytes) => { push_named(out, "rtcprx ", bytes.as_slice().len() as u64) }
+        RawPacket::RtpTx(bytes) => { push_named(out, "rtptx ", bytes.as_slice().len() as u64) }
+        RawPacket::RtpRx(bytes) => { push_named(out, "rtprx ", bytes.as_slice().len() as u64) }
     }
 }
 
@@ -68,25 +56,16 @@ fn push_media_event(out: &mut String, event: &PlainMediaEvent) -> Result<(), All
         PlainMediaEvent::Added(mid, kind, dir) => {
             out.push_str("added ")?;
             out.push_str(mid.as_str())?;
-            out.push_str(" ")?;
-            out.push_str(kind_word(*kind))?;
-            out.push_str(" ")?;
-            out.push_str(direction_word(*dir))
+            push_word(out, kind_word(*kind))?;
+            push_word(out, direction_word(*dir))
         }
         PlainMediaEvent::Changed(mid, dir) => {
             out.push_str("changed ")?;
             out.push_str(mid.as_str())?;
-            out.push_str(" ")?;
-            out.push_str(direction_word(*dir))
+            push_word(out, direction_word(*dir))
         }
-        PlainMediaEvent::Rtp(len) => {
-            out.push_str("rtp ")?;
-            push_count(out, *len)
-        }
-        PlainMediaEvent::Rtcp(len) => {
-            out.push_str("rtcp ")?;
-            push_count(out, *len)
-        }
+        PlainMediaEvent::Rtp(len) => { push_named(out, "rtp ", *len as u64) }
+        PlainMediaEvent::Rtcp(len) => { push_named(out, "rtcp ", *len as u64) }
         PlainMediaEvent::Raw(packet) => {
             out.push_str("raw ")?;
             push_raw(out, packet)
@@ -103,10 +82,8 @@ fn message_kind_word(binary: bool) -> &'static str
 fn push_message(alloc: Global, out: &mut String, message: &ChannelData) -> Result<(), AllocError>
     ensures { OnOk result (string_bytes out.new ≡ string_bytes out.old ++ event_text (DataOf message.now)) }
 {
-    out.push_str("data ")?;
-    push_long(out, message.id.number())?;
-    out.push_str(" ")?;
-    out.push_str(message_kind_word(message.binary))?;
+    push_named(out, "data ", message.id.number())?;
+    push_word(out, message_kind_word(message.binary))?;
     out.push_str(" ")?;
     push_hex(alloc, out, message.bytes.as_slice())
 }
@@ -119,8 +96,7 @@ fn push_opening(
 ) -> Result<(), AllocError>
     ensures { OnOk result (string_bytes out.new ≡ string_bytes out.old ++ event_text (OpenOf id label.now)) }
 {
-    out.push_str("open ")?;
-    push_long(out, id.number())?;
+    push_named(out, "open ", id.number())?;
     out.push_str(" ")?;
     push_hex(alloc, out, label.as_str().as_bytes())
 }
@@ -129,10 +105,8 @@ fn push_opening(
 fn push_totals(out: &mut String, stats: &PeerStats) -> Result<(), AllocError>
     ensures { OnOk result (string_bytes out.new ≡ string_bytes out.old ++ event_text (TotalsOf stats.now)) }
 {
-    out.push_str("stats ")?;
-    push_long(out, stats.peer_bytes_rx)?;
-    out.push_str(" ")?;
-    push_long(out, stats.peer_bytes_tx)
+    push_named(out, "stats ", stats.peer_bytes_rx)?;
+    push_named(out, " ", stats.peer_bytes_tx)
 }
 
 // Puts how many bytes were counted of a line.
@@ -140,8 +114,7 @@ fn push_line_bytes(out: &mut String, mid: Mid, bytes: u64) -> Result<(), AllocEr
     ensures { OnOk result (string_bytes out.new ≡ string_bytes out.old ++ line_bytes_text mid bytes) }
 {
     out.push_str(mid.as_str())?;
-    out.push_str(" ")?;
-    push_long(out, bytes)
+    push_named(out, " ", bytes)
 }
 
 /// Puts the words of an event behind a text.
@@ -160,14 +133,8 @@ pub fn push_event(
         }
         Event::ChannelOpen(id, label) => push_opening(alloc, out, *id, label),
         Event::ChannelData(message) => push_message(alloc, out, message),
-        Event::ChannelClose(id) => {
-            out.push_str("close ")?;
-            push_long(out, id.number())
-        }
-        Event::ChannelBufferedAmountLow(id) => {
-            out.push_str("low ")?;
-            push_long(out, id.number())
-        }
+        Event::ChannelClose(id) => { push_named(out, "close ", id.number()) }
+        Event::ChannelBufferedAmountLow(id) => { push_named(out, "low ", id.number()) }
         Event::PeerStats(stats) => push_totals(out, stats),
         Event::MediaIngressStats(stats) => {
             out.push_str("ingress ")?;

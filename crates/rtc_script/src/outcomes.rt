@@ -2,7 +2,7 @@
 ghost use Rattle.std.specs.Prelude.{◌≡◌, ◌++◌, OnOk, string_bytes};
 ghost use Rattle.rtc_script.specs.Outcomes.{op_answer_text, more_answers, answers_text, made_text, outcome_text};
 
-use crate::pushing::{push_count, push_long, push_number};
+use crate::pushing::{push_named, push_number};
 use crate::refusals::push_refusal;
 use rtc_history::{Made, OpAnswer, Outcome};
 use std::alloc::AllocError;
@@ -15,10 +15,7 @@ fn push_answer(out: &mut String, answer: &OpAnswer) -> Result<(), AllocError>
         OpAnswer::Changed(true) => out.push_str("true"),
         OpAnswer::Changed(false) => out.push_str("false"),
         OpAnswer::NoLine => out.push_str("none"),
-        OpAnswer::Channel(id) => {
-            out.push_str("c")?;
-            push_long(out, id.number())
-        }
+        OpAnswer::Channel(id) => { push_named(out, "c", id.number()) }
         OpAnswer::BadChannel => out.push_str("bad"),
         OpAnswer::Creds(creds) => out.push_str(creds.ufrag.as_str()),
         OpAnswer::Alloc => out.push_str("nomemory"),
@@ -69,17 +66,13 @@ pub fn push_outcome<E>(out: &mut String, outcome: &Outcome<E>) -> Result<(), All
             out.push_str(" text ")?;
             push_made(out, *made)
         }
-        Outcome::Answered { text } => {
-            out.push_str("answered ")?;
-            push_number(out, *text)
-        }
+        Outcome::Answered { text } => { push_named(out, "answered ", u64::from(*text)) }
         Outcome::Finished => out.push_str("finished"),
         Outcome::Done => out.push_str("done"),
         Outcome::Wrote { taken: true } => out.push_str("wrote true"),
         Outcome::Wrote { taken: false } => out.push_str("wrote false"),
         Outcome::Polled { outputs, .. } => {
-            out.push_str("polled ")?;
-            push_count(out, outputs.as_slice().len())
+            push_named(out, "polled ", outputs.as_slice().len() as u64)
         }
         Outcome::Refused(error) => push_refusal(out, error),
         Outcome::NoSuch => out.push_str("nosuch"),

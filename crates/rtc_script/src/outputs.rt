@@ -3,7 +3,7 @@ ghost use Rattle.std.specs.Prelude.{◌≡◌, ◌++◌, OnOk, string_bytes};
 ghost use Rattle.rtc_script.specs.Outputs.{end_line, error_line, moment_text, output_line, outputs_lines, polled_lines, reason_text};
 
 use crate::events::push_event;
-use crate::pushing::{push_count, push_long};
+use crate::pushing::{push_long, push_named, push_word};
 use rtc_history::{Outcome, PollEnd, Shown};
 use rtc_parts_values::Reason;
 use rtc_peer_state::RtcError;
@@ -53,15 +53,12 @@ fn push_output(
         Shown::Timeout(moment, reason) => {
             out.push_str("out timeout ")?;
             push_moment(out, *moment)?;
-            out.push_str(" ")?;
-            out.push_str(reason_word(*reason))?;
+            push_word(out, reason_word(*reason))?;
             out.push_str("\n")
         }
         Shown::Packet { number, len } => {
-            out.push_str("out packet ")?;
-            push_long(out, *number)?;
-            out.push_str(" ")?;
-            push_count(out, *len)?;
+            push_named(out, "out packet ", *number)?;
+            push_named(out, " ", *len as u64)?;
             out.push_str("\n")
         }
         Shown::Event(event) => {

@@ -5,7 +5,7 @@ ghost use Rattle.rtc_script.specs.Report.{table_lines, step_line, step_lines, re
 use crate::channels::push_channels;
 use crate::outcomes::push_outcome;
 use crate::outputs::push_polled;
-use crate::pushing::push_count;
+use crate::pushing::{push_named, push_word};
 use crate::rows::push_rows;
 use crate::sides::side_word;
 use rtc_history::{Outcome, Reply, Step, Table};
@@ -34,10 +34,8 @@ fn push_step_line<E>(
 ) -> Result<(), AllocError>
     ensures { OnOk result (string_bytes out.new ≡ string_bytes out.old ++ step_line number step.now outcome.now) }
 {
-    out.push_str("step ")?;
-    push_count(out, number)?;
-    out.push_str(" ")?;
-    out.push_str(side_word(step.side()))?;
+    push_named(out, "step ", number as u64)?;
+    push_word(out, side_word(step.side()))?;
     out.push_str(" ")?;
     push_outcome(out, outcome)?;
     out.push_str("\n")

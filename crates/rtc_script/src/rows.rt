@@ -4,7 +4,7 @@ ghost use Rattle.rtc_script.specs.Rows.{row_report_line, row_lines};
 
 use crate::directions::direction_word;
 use crate::kinds::kind_word;
-use crate::pushing::push_number;
+use crate::pushing::{push_named, push_word};
 use rtc_sdp_values::LineRow;
 use std::alloc::AllocError;
 
@@ -20,14 +20,10 @@ fn push_row(out: &mut String, row: &LineRow) -> Result<(), AllocError>
             stopped,
             remote_created,
         } => {
-            out.push_str("line ")?;
-            push_number(out, *place)?;
-            out.push_str(" ")?;
-            out.push_str(mid.as_str())?;
-            out.push_str(" ")?;
-            out.push_str(kind_word(*kind))?;
-            out.push_str(" ")?;
-            out.push_str(direction_word(*dir))?;
+            push_named(out, "line ", u64::from(*place))?;
+            push_word(out, mid.as_str())?;
+            push_word(out, kind_word(*kind))?;
+            push_word(out, direction_word(*dir))?;
             out.push_str(if *stopped { " stopped" } else { " live" })?;
             out.push_str(if *remote_created {
                 " remote\n"
@@ -36,10 +32,8 @@ fn push_row(out: &mut String, row: &LineRow) -> Result<(), AllocError>
             })
         }
         LineRow::App { place, mid } => {
-            out.push_str("line ")?;
-            push_number(out, *place)?;
-            out.push_str(" ")?;
-            out.push_str(mid.as_str())?;
+            push_named(out, "line ", u64::from(*place))?;
+            push_word(out, mid.as_str())?;
             out.push_str(" app\n")
         }
     }

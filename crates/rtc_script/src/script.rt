@@ -30,17 +30,6 @@ fn makes_lite(setting: &(Side, Setting), at: Side) -> bool
     }
 }
 
-fn sets_lite(settings: &[(Side, Setting)], at: Side) -> bool
-    ensures { result ≡ sets_lite at settings.now }
-{
-    for setting in settings {
-        if makes_lite(setting, at) {
-            return true;
-        }
-    }
-    false
-}
-
 fn allows_snap(setting: &(Side, Setting), at: Side) -> bool
     ensures { result ≡ allows_snap at setting.now }
 {
@@ -56,79 +45,36 @@ fn allows_snap(setting: &(Side, Setting), at: Side) -> bool
     }
 }
 
-fn sets_snap(settings: &[(Side, Setting)], at: Side) -> bool
-    ensures { result ≡ sets_snap at settings.now }
-{
-    for setting in settings {
-        if allows_snap(setting, at) {
-            return true;
-        }
-    }
-    false
-}
-
 // How many bytes may be buffered by a setting, or else as before.
-fn buffer_by(setting: Setting, size: usize) -> usize
-    ensures { result ≡ buffer_by setting size }
-{
-    match setting {
-        Setting::Lite
-        | Setting::Snap
-        | Setting::MaxMessage { size: _ }
-        | Setting::Stats { millis: _ } => size,
-        Setting::Buffer { size: set } => set as usize,
-    }
-}
-
 fn buffer_after(setting: &(Side, Setting), at: Side, size: usize) -> usize
     ensures { result ≡ number_after buffer_by at setting.now size }
 {
     match (setting.0, at) {
-        (Side::Left, Side::Left) | (Side::Right, Side::Right) => buffer_by(setting.1, size),
+        (Side::Left, Side::Left) | (Side::Right, Side::Right) => match setting.1 {
+            Setting::Lite
+            | Setting::Snap
+            | Setting::MaxMessage { size: _ }
+            | Setting::Stats { millis: _ } => size,
+            Setting::Buffer { size: set } => set as usize,
+        },
         (Side::Left, Side::Right) | (Side::Right, Side::Left) => size,
     }
 }
 
-fn buffer_set(settings: &[(Side, Setting)], at: Side) -> usize
-    ensures { result ≡ buffer_set at settings.now }
-{
-    let mut size = DEFAULT_MAX_BUFFERED_AMOUNT;
-    for setting in settings {
-        size = buffer_after(setting, at, size);
-    }
-    size
-}
-
 // The longest message that is taken by a setting, or else as before.
-fn max_message_by(setting: Setting, size: u32) -> u32
-    ensures { result ≡ max_message_by setting size }
-{
-    match setting {
-        Setting::Lite
-        | Setting::Snap
-        | Setting::Buffer { size: _ }
-        | Setting::Stats { millis: _ } => size,
-        Setting::MaxMessage { size: set } => set,
-    }
-}
-
 fn max_message_after(setting: &(Side, Setting), at: Side, size: u32) -> u32
     ensures { result ≡ number_after max_message_by at setting.now size }
 {
     match (setting.0, at) {
-        (Side::Left, Side::Left) | (Side::Right, Side::Right) => max_message_by(setting.1, size),
+        (Side::Left, Side::Left) | (Side::Right, Side::Right) => match setting.1 {
+            Setting::Lite
+            | Setting::Snap
+            | Setting::Buffer { size: _ }
+            | Setting::Stats { millis: _ } => size,
+            Setting::MaxMessage { size: set } => set,
+        },
         (Side::Left, Side::Right) | (Side::Right, Side::Left) => size,
     }
-}
-
-fn max_message_set(settings: &[(Side, Setting)], at: Side) -> u32
-    ensures { result ≡ max_message_set at settings.now }
-{
-    let mut size = LOCAL_MAX_MESSAGE_SIZE;
-    for setting in settings {
-        size = max_message_after(setting, at, size);
-    }
-    size
 }
 
 // The time between two rounds of statistics by a setting, or else as before.
@@ -153,49 +99,66 @@ fn interval_after(setting: &(Side, Setting), at: Side, interval: Option<Span>) -
     }
 }
 
-fn interval_set(settings: &[(Side, Setting)], at: Side) -> Option<Span>
-    ensures { result ≡ interval_set at settings.now }
-{
-    let mut interval = None;
-    for setting in settings {
-        interval = interval_after(setting, at, interval);
-    }
-    interval
-}
-
 impl Script {
     /// Whether its settings make the ICE agent of a side lite.
     pub fn sets_lite(&self, at: Side) -> bool
         ensures { result ≡ sets_lite at self.now.settings }
     {
-        sets_lite(self.settings.as_slice(), at)
+        let settings = self.settings.as_slice();
+        for setting in settings {
+            if makes_lite(setting, at) {
+                return true;
+            }
+        }
+        false
     }
 
     /// Whether its settings let the association of a side be started by session descriptions.
     pub fn sets_snap(&self, at: Side) -> bool
         ensures { result ≡ sets_snap at self.now.settings }
     {
-        sets_snap(self.settings.as_slice(), at)
+        let settings = self.settings.as_slice();
+        for setting in settings {
+            if allows_snap(setting, at) {
+                return true;
+            }
+        }
+        false
     }
 
     /// How many bytes of data channels its settings let a side buffer.
     pub fn buffer_set(&self, at: Side) -> usize
         ensures { result ≡ buffer_set at self.now.settings }
     {
-        buffer_set(self.settings.as_slice(), at)
+        let settings = self.settings.as_slice();
+        let mut size = DEFAULT_MAX_BUFFERED_AMOUNT;
+        for setting in settings {
+            size = buffer_after(setting, at, size);
+        }
+        size
     }
 
     /// The longest message that its settings let a side take, in bytes.
     pub fn max_message_set(&self, at: Side) -> u32
         ensures { result ≡ max_message_set at self.now.settings }
     {
-        max_message_set(self.settings.as_slice(), at)
+        let settings = self.settings.as_slice();
+        let mut size = LOCAL_MAX_MESSAGE_SIZE;
+        for setting in settings {
+            size = max_message_after(setting, at, size);
+        }
+        size
     }
 
     /// The time between two rounds of statistics of a side, where its settings ask for them.
     pub fn interval_set(&self, at: Side) -> Option<Span>
         ensures { result ≡ interval_set at self.now.settings }
     {
-        interval_set(self.settings.as_slice(), at)
+        let settings = self.settings.as_slice();
+        let mut interval = None;
+        for setting in settings {
+            interval = interval_after(setting, at, interval);
+        }
+        interval
     }
 }

@@ -9,7 +9,7 @@ use rtc_history::Step;
 use std::alloc::{AllocError, AllocFailed, Global};
 
 /// Why lines behind a header are not lines of steps.
-#[derive(Clone, Copy, Debug, PartialEq, Eq)]
+#[derive(Clone, Copy)]
 pub enum StepsError {
     /// The line at this place, counted from 0, is the first that is no step's.
     NotStep(usize),
