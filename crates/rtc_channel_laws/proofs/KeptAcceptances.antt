@@ -1,5 +1,5 @@
 -- Offers and answers that are accepted, refused or stopped keep the use of each stream, and live channels.
-use Rattle.std.proofs.Common.{◌≡◌, ◌&&◌, ℕ, Bool, true, false, true≢false, not, List, [], Option, Some, None, Result, Ok, Err, refl, sym, ap, subst, ◌∙◌}
+use Rattle.std.proofs.Common.{◌≡◌, inr, ◌&&◌, ℕ, Bool, true, false, true≢false, not, List, [], Option, Some, None, Result, Ok, Err, refl, sym, ap, subst, ◌∙◌}
 use Rattle.std.specs.Prelude.{is_some}
 use Rattle.rtc_association.specs.AssociationLaws.{AssociationLaws}
 use Rattle.rtc_dtls.specs.declared.dtls_error.DtlsError.TheVariants.{WouldBlock, Fault, Alloc as DtlsAlloc}
@@ -33,10 +33,12 @@ use Rattle.rtc_change.specs.declared.change.Change.{Change}
 use Rattle.rtc_change.specs.Held.{Asked}
 use Rattle.rtc_change.specs.PendingOffer.{PendingOffer, staged_restart}
 use Rattle.rtc_sctp_values.specs.InitHalves.{InitHalves}
-use Rattle.rtc_sctp_values.specs.declared.proto_error.ProtoError.TheVariants.{Fault as AssociationFault}
+use Rattle.rtc_sctp_values.specs.declared.proto_error.ProtoError.TheVariants.{Fault as AssociationFault, Started, SnapHalf}
 use Rattle.rtc_sctp_values.specs.declared.sctp_error.SctpError.{SctpError}
 use Rattle.rtc_sctp_values.specs.declared.sctp_error.SctpError.TheVariants.{Proto, Alloc as SctpAlloc}
 use Rattle.rtc_sctp.specs.Streams.{SctpStreams, is_established}
+use Rattle.rtc_sctp.specs.declared.rtc_sctp_state.RtcSctpState.TheVariants.{Uninited}
+use Rattle.rtc_sctp.specs.Calls.{Inits, begun_state}
 use Rattle.rtc_stream_uses.proofs.CallUses.{inits_entries}
 use Rattle.rtc_stream_contents.specs.RunningStreams.{AreRunning}
 use Rattle.rtc_channels.specs.Channels.{Channels}
@@ -60,6 +62,8 @@ use Rattle.rtc_channel_laws.specs.KeptChannels.{CallKeepsStreams}
 use Rattle.rtc_polling_laws.specs.ChannelStreams.{AreNumberedChannels, IsGone}
 use Rattle.rtc_channel_laws.proofs.GoneChannels.{all_confirmed_given, all_confirmed_gone}
 use Rattle.rtc_channel_laws.proofs.ConfirmedChannels.{all_confirmed_over, all_confirmed_numbers}
+use Rattle.rtc_polling_laws.specs.RowsChanged.{Confirmed, KeepsBegun, OnlyActs, RowsChange, Stayed}
+use Rattle.rtc_polling_laws.proofs.ChangedRows.{one_changed, same_rows}
 use Rattle.rtc_polling_laws.proofs.StreamsJoin.{same_given}
 use Rattle.rtc_channel_laws.proofs.KeptCalls.{kept_acts}
 
@@ -88,12 +92,37 @@ module _ {I D S M E X T W N : Type 0} (m : Meanings I D S M E X T W N) where
   started_entries false client now max halves drops p r q h = ap (λ (s : SctpStreams S). s.entries) h.1
   started_entries true client now max halves drops p r q h = inits_entries m.association client now max halves p r q h
 
+  -- a start leaves the association begun, or as it was
+  begun_state_is : (halves : Option InitHalves) (client : Bool) → begun_state halves client ≡ Uninited → ⊥
+  begun_state_is None true e = cc (e)
+  begun_state_is None false e = cc (e)
+  begun_state_is (Some both) client e = cc (e)
+
+  inits_begun : (client : Bool) (now max : ℕ) (halves : Option InitHalves) (p : SctpStreams S) (r : Result (Unit {0}) SctpError) (q : SctpStreams S)
+      → Inits m.association client now max halves p r q → KeepsBegun p q
+  inits_begun client now max halves p (Ok done) q h =
+      λ e. absurd (begun_state_is halves client (sym (ap (λ (s : SctpStreams S). s.state) h.2) ∙ e))
+  inits_begun client now max halves p (Err (Proto Started)) q h = (λ e. sym (ap (λ (s : SctpStreams S). s.state) h.1) ∙ e)
+  inits_begun client now max halves p (Err (Proto SnapHalf)) q h = (λ e. sym (ap (λ (s : SctpStreams S). s.state) h.2) ∙ e)
+  inits_begun client now max halves p (Err (Proto AssociationFault)) q h = (λ e. sym (ap (λ (s : SctpStreams S). s.state) h.2) ∙ e)
+  inits_begun client now max halves p (Err SctpAlloc) q h = (λ e. sym (ap (λ (s : SctpStreams S). s.state) h.2) ∙ e)
+  inits_begun client now max halves p (Err error) q h = absurd h
+
+  started_begun : (b : Bool) (client : Bool) (now max : ℕ) (halves : Option InitHalves) (drops : Bool) (p : SctpStreams S)
+      (r : Result (Unit {0}) SctpError) (q : SctpStreams S) → StartsWhere m.association b p client now max halves drops r q → KeepsBegun p q
+  started_begun false client now max halves drops p r q h = (λ e. sym (ap (λ (s : SctpStreams S). s.state) h.1) ∙ e)
+  started_begun true client now max halves drops p r q h = inits_begun client now max halves p r q h
+
   -- entries stay, and what was established over an association that runs is
   abbrev LeavesEntries : SctpStreams S → SctpStreams S → Type 0
-  LeavesEntries p q = (q.entries ≡ p.entries) × (AreRunning m.association p → is_established q.state ≡ true)
+  LeavesEntries p q = (q.entries ≡ p.entries) × (AreRunning m.association p → is_established q.state ≡ true) × KeepsBegun p q
 
   leaves_same : (p q : SctpStreams S) → q ≡ p → LeavesEntries p q
-  leaves_same p q is = (ap (λ (s : SctpStreams S). s.entries) is, λ k. ap (λ (s : SctpStreams S). is_established s.state) is ∙ k.1)
+  leaves_same p q is = (
+    ap (λ (s : SctpStreams S). s.entries) is,
+    λ k. ap (λ (s : SctpStreams S). is_established s.state) is ∙ k.1,
+    λ e. sym (ap (λ (s : SctpStreams S). s.state) is) ∙ e,
+  )
 
   -- what runs needs no start
   unneeded : (a b : Bool) → b ≡ true → (a && not b) ≡ false
@@ -111,6 +140,7 @@ module _ {I D S M E X T W N : Type 0} (m : Meanings I D S M E X T W N) where
         (subst (λ (b : Bool). StartsWhere m.association b p client now max halves drops r q)
         (unneeded (is_some (app_of rows)) (m.association.started p.association) k.0) h).1
         ∙ k.1,
+    started_begun (needs_start m.association rows p) client now max halves drops p r q h,
   )
 
   preparing_entries : (o : Peer I D S M N) (offer may : Bool) (changes : List Change) (sdp : Sdp) (drawn : N) (c : Peer I D S M N)
@@ -146,8 +176,9 @@ module _ {I D S M E X T W N : Type 0} (m : Meanings I D S M E X T W N) where
       → ((s k : ℕ) → channel_over s p.core.channels ≡ Some k → channel_over s c.channels ≡ Some k)
       → (AreNumberedChannels p.core.channels → AreNumberedChannels c.channels)
       → ((k : ℕ) → IsGone k p.core.channels → IsGone k c.channels) → c.channels.given ≡ p.core.channels.given
-      → (p.core.phase ≡ Closed → c.phase ≡ Closed) → CallKeepsStreams m p [] (with_core c p)
-  acted_keeps w p c did entries over numbers gone given closed =
+      → (p.core.phase ≡ Closed → c.phase ≡ Closed) → RowsChange m.association p.core.channels p.core.sctp c.channels c.sctp
+      → CallKeepsStreams m p [] (with_core c p)
+  acted_keeps w p c did entries over numbers gone given closed change =
       let kept = kept_acts m.association w p.core.sctp c.sctp did.acts.association did.went.association entries.0 entries.1 in
       record {
         uses = kept.uses;
@@ -158,7 +189,12 @@ module _ {I D S M E X T W N : Type 0} (m : Meanings I D S M E X T W N) where
         running = kept.running;
         given = same_given p.core.channels.given c.channels.given given;
         fresh = kept.fresh;
+        changed = inr (one_changed m.association p.core.channels p.core.sctp c.channels c.sctp change);
       }
+
+  left_acts : (p : PolledPeer I D S M N) (c : Peer I D S M N) → NegotiationActs m p (with_core c p) → LeavesEntries p.core.sctp c.sctp
+      → OnlyActs m.association p.core.sctp c.sctp
+  left_acts p c did left = record { acts = did.acts.association; went = did.went.association; entries = left.0; begun = left.2 }
 
   still_keeps : AssociationLaws m.association → (p : PolledPeer I D S M N) (c : Peer I D S M N) → NegotiationActs m p (with_core c p)
       → LeavesEntries p.core.sctp c.sctp → c.channels ≡ p.core.channels → (p.core.phase ≡ Closed → c.phase ≡ Closed)
@@ -166,6 +202,7 @@ module _ {I D S M E X T W N : Type 0} (m : Meanings I D S M E X T W N) where
   still_keeps w p c did entries is closed =
       acted_keeps w p c did entries (λ s k h. ap (λ (x : Channels). channel_over s x) is ∙ h) (λ h. subst (λ (x : Channels). AreNumberedChannels x) (sym is) h)
       (λ k h. subst (λ (x : Channels). IsGone k x) (sym is) h) (ap (λ (x : Channels). x.given) is) closed
+      (Stayed (same_rows p.core.channels c.channels is) (left_acts p c did entries))
 
   refused_keeps : AssociationLaws m.association → (p : PolledPeer I D S M N) (n c : Peer I D S M N) → NegotiationActs m p (with_core c p) → c ≡ n
       → n.sctp ≡ p.core.sctp → n.channels ≡ p.core.channels → (p.core.phase ≡ Closed → n.phase ≡ Closed)
@@ -210,14 +247,15 @@ module _ {I D S M E X T W N : Type 0} (m : Meanings I D S M E X T W N) where
       (c : Peer I D S M N) → NegotiationActs m p (with_core c p) → AcceptsAnswer m p.core token answer r c → CallKeepsStreams m p [] (with_core c p)
   answer_by w p token answer (Ok done) c did h =
       let is = ap (λ (x : Peer I D S M N). x.channels) h.rest in
-      acted_keeps w p c did
-      (sctp_entries (table_after p.core.lines (parsed_lines answer) false) (role_after p.core.dtls.active (sdp_setup answer)) p.core.greatest
-      (remote_limit (max_message_size_of answer)) (halves_for m p.core false token.says_init token.changes answer p.core.ids) true p.core.sctp (Ok tt) c.sctp h.sctp_starts)
+      let left =
+      sctp_entries (table_after p.core.lines (parsed_lines answer) false) (role_after p.core.dtls.active (sdp_setup answer)) p.core.greatest
+      (remote_limit (max_message_size_of answer)) (halves_for m p.core false token.says_init token.changes answer p.core.ids) true p.core.sctp (Ok tt) c.sctp h.sctp_starts in
+      acted_keeps w p c did left
       (λ s k e. ap (λ (x : Channels). channel_over s x) is ∙ (all_confirmed_over s (fitting_channels token.changes) p.core.channels ∙ e))
       (λ e. subst (λ (x : Channels). AreNumberedChannels x) (sym is) (all_confirmed_numbers (fitting_channels token.changes) p.core.channels e))
       (λ k e. subst (λ (x : Channels). IsGone k x) (sym is) (all_confirmed_gone k (fitting_channels token.changes) p.core.channels e))
       (ap (λ (x : Channels). x.given) is ∙ all_confirmed_given (fitting_channels token.changes) p.core.channels)
-      (λ k. ap (λ (x : Peer I D S M N). x.phase) h.rest ∙ k)
+      (λ k. ap (λ (x : Peer I D S M N). x.phase) h.rest ∙ k) (Confirmed (fitting_channels token.changes) is (left_acts p c did left))
   answer_by w p token answer (Err (Net cause)) c did h = absurd h
   answer_by w p token answer (Err (MediaFailed cause)) c did h = absurd h
   answer_by w p token answer (Err BadChannel) c did h = absurd h

@@ -30,9 +30,8 @@ use Rattle.rtc_polling_laws.specs.PeerActs.{nothing_came}
 use Rattle.rtc_polling_laws.specs.Acts.{PeerDid}
 use Rattle.rtc_polling_laws.proofs.ActJoins.{ice_did, dtls_did, media_did, still_did}
 use Rattle.rtc_polling_laws.proofs.ActedClosing.{beside, BesideIce, BesideDtls, BesideMedia, close_acts}
-use Rattle.rtc_stream_contents.proofs.RunningPolls.{stay_same}
 use Rattle.rtc_polling_laws.proofs.ClosedRows.{close_rows}
-use Rattle.rtc_polling_laws.proofs.StreamsJoin.{answer_met, TellsNoOpening, ice_kept, dtls_kept, media_kept}
+use Rattle.rtc_polling_laws.proofs.StreamsJoin.{answer_met, TellsNoOpening, ice_kept, dtls_kept, media_kept, states_same}
 use Rattle.rtc_polling_laws.proofs.VisitActs.{contents_met, MeetsData, KeepsRows, VisitDid, ShowsNone, quiet_nothing, visit_is, plain_visit, still_visit}
 use Rattle.rtc_polling_laws.proofs.VisitActs.{keeps_by, visit_on, StageActs}
 
@@ -142,7 +141,7 @@ module _ {I D S M E X T W N : Type 0} (m : Meanings I D S M E X T W N) (laws : P
       (subst (λ (l : List (List ℕ)). PeerDid m nothing_came (p.core.greatest ∷ []) l [] [] p q) (sym none)
       (close_acts m nothing_came (p.core.greatest ∷ []) laws.association p answer q h)) shows (close_rows m p answer q h).0
       (keeps_by m r p.core.channels q.core.channels (ap (λ held. held.rows) (close_rows m p answer q h).1))
-      ((close_rows m p answer q h).2, (close_rows m p answer q h).1, stay_same p.core.sctp q.core.sctp (close_rows m p answer q h).3) unopened
+      ((close_rows m p answer q h).2, (close_rows m p answer q h).1, states_same p.core.sctp q.core.sctp (close_rows m p answer q h).3) unopened
 
   pub close_notify : StageActs m laws.association (TakesCloseNotify m)
   unfolding TakesCloseNotify

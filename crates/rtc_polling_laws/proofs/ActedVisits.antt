@@ -8,7 +8,6 @@ use Rattle.rtc_ice.specs.IceActs.{Taken as IceTaken, ice_moved-one}
 use Rattle.rtc_media.specs.declared.media_error.MediaError.TheVariants.{Alloc as MediaAlloc}
 use Rattle.rtc_media.specs.MediaActs.{MediaTaken, MediaStirred, EventTold, FallibleTold, FeedbackCleared, StirsMedia, media_moved-one}
 use Rattle.rtc_sctp_laws.specs.StreamMessages.{pushed_packets}
-use Rattle.rtc_stream_contents.proofs.RunningPolls.{stay_same}
 use Rattle.rtc_peer_state.specs.declared.rtc_error.RtcError.TheVariants.{Media, Alloc}
 use Rattle.rtc_peer_state.specs.Meanings.{Meanings, PartsLaws}
 use Rattle.rtc_polling.specs.declared.event.Event.TheVariants as told
@@ -31,7 +30,7 @@ use Rattle.rtc_polling_laws.proofs.ActJoins.{ice_did, media_did}
 use Rattle.rtc_polling_laws.proofs.ActedClosing.{beside, BesideIce, BesideMedia}
 use Rattle.rtc_polling_laws.proofs.ActedConnection.{connection_acts}
 use Rattle.rtc_polling_laws.proofs.ActedStreams.{streams_act}
-use Rattle.rtc_polling_laws.proofs.StreamsJoin.{ice_kept, media_kept}
+use Rattle.rtc_polling_laws.proofs.StreamsJoin.{ice_kept, media_kept, states_same}
 use Rattle.rtc_polling_laws.proofs.VisitActs.{VisitDid, plain_visit, still_visit, visit_is, StageActs, else_acts}
 
 module _ {I D S M E X T W N : Type 0} (m : Meanings I D S M E X T W N) (laws : PartsLaws m) where
@@ -157,7 +156,7 @@ module _ {I D S M E X T W N : Type 0} (m : Meanings I D S M E X T W N) (laws : P
         heard_is = refl;
         named = λ n. tt;
       }) refl (ap (λ (x : PolledPeer I D S M N). x.core.greatest) h.2) tt
-      (ap (λ (x : PolledPeer I D S M N). x.core.sctp.entries) h.2, ap (λ (x : PolledPeer I D S M N). x.core.channels) h.2, stay_same p.core.sctp q.core.sctp (ap (λ (x : PolledPeer I D S M N). x.core.sctp.state) h.2)) tt
+      (ap (λ (x : PolledPeer I D S M N). x.core.sctp.entries) h.2, ap (λ (x : PolledPeer I D S M N). x.core.channels) h.2, states_same p.core.sctp q.core.sctp (ap (λ (x : PolledPeer I D S M N). x.core.sctp.state) h.2)) tt
   packets_act addr p _ q h = absurd h
 
   media_sent : (addr : SendAddr) → StageActs m laws.association (SendsMediaDatagram m addr)

@@ -1,8 +1,14 @@
 -- What stages of a poll leave of streams and live channels, one after the other.
-use Rattle.std.proofs.Common.{◌≡◌, ◌≤◌, ◌-◌, ◌^◌, ◌++◌, ◌∷◌, inl, ℕ, Bool, Option, List, [], append-nil, append_assoc, Result, Ok, Err, refl, sym, ap, subst, ◌∙◌, arith}
+use Rattle.std.proofs.Common.{◌≡◌, ◌≤◌, ◌-◌, ◌^◌, ◌++◌, ◌∷◌, inl, ℕ, Bool, true, false, Option, List, [], append-nil, append_assoc, Result, Ok, Err, refl, sym, ap, subst, ◌∙◌, arith}
+use Rattle.std.specs.declared.alloc.AllocError.{AllocError}
 use Rattle.rtc_association.specs.AssociationActs.{AssociationAct, Moved}
 use Rattle.rtc_association.specs.AssociationLaws.{AssociationLaws}
+use Rattle.rtc_association.specs.AssociationMeaning.{AssociationMeaning}
 use Rattle.rtc_sctp_entries.specs.declared.stream_entry.StreamEntry.{StreamEntry}
+use Rattle.rtc_sctp.specs.declared.rtc_sctp_state.RtcSctpState.{RtcSctpState}
+use Rattle.rtc_sctp.specs.declared.rtc_sctp_state.RtcSctpState.TheVariants.{Uninited, AwaitRemoteAssociation, AwaitAssociationEstablished, Established}
+use Rattle.rtc_sctp.specs.Streams.{SctpStreams}
+use Rattle.rtc_sctp.specs.Calls.{InputIf, state_on_input}
 use Rattle.rtc_sctp_laws.specs.StreamMessages.{StreamMessage}
 use Rattle.rtc_sctp_laws.proofs.ClosingPolls.{started_moved}
 use Rattle.rtc_stream_uses.specs.GenerationLaws.{GenerationLaws}
@@ -13,7 +19,7 @@ use Rattle.rtc_stream_uses.proofs.LivingEntries.{live_is, are_join}
 use Rattle.rtc_stream_uses.proofs.OpeningEntries.{open_is}
 use Rattle.rtc_stream_contents.specs.Contents.{contents_of}
 use Rattle.rtc_stream_contents.proofs.ContentLemmas.{contents-append}
-use Rattle.rtc_stream_contents.proofs.RunningPolls.{StayEstablished, stay_same}
+use Rattle.rtc_stream_contents.proofs.RunningPolls.{StayEstablished, input_stays, stay_same}
 use Rattle.rtc_channels.specs.Channels.{AreRising, Channel, Channels}
 use Rattle.rtc_peer_state.specs.declared.rtc_error.RtcError.{RtcError}
 use Rattle.rtc_peer_state.specs.declared.rtc_error.RtcError.TheVariants.{Alloc}
@@ -26,8 +32,10 @@ use Rattle.rtc_polling.specs.declared.output.Output.{Output}
 use Rattle.rtc_polling.specs.declared.output.Output.TheVariants as outputs
 use Rattle.rtc_polling.specs.declared.polled_peer.PolledPeer.{PolledPeer}
 use Rattle.rtc_polling.specs.StreamStages.{channel_over}
+use Rattle.rtc_polling_laws.proofs.ChangedRows.{changed_on, rows_stay}
 use Rattle.rtc_polling_laws.proofs.UnsharedRows.{AreApart}
 use Rattle.rtc_polling_laws.proofs.ActedClosing.{BesideIce, BesideDtls, BesideMedia}
+use Rattle.rtc_polling_laws.specs.RowsChanged.{KeepsBegun, RowsChanged}
 use Rattle.rtc_polling_laws.specs.ChannelStreams.{IsGone, IsLiveChannel, LeavesLiveBy, LeavesLiveChannel, UnlessLacking, IsUsedStream, OpensByAnswer, TellsByAnswer, StreamsWent, WasOpenInBand, Already, Announced, NoNumber}
 
 -- what is met, as a poll answers it
@@ -43,19 +51,42 @@ abbrev pub TellsNoOpening : {E : Type 0} → Result (Output E) RtcError → Type
 TellsNoOpening (Ok (outputs.Event (ChannelOpen id label))) = ⊥
 TellsNoOpening answer = Unit {0}
 
+-- an association that was begun stays so, and one that was established
+pub record StatesStay {S : Type 0} (p q : SctpStreams S) : Type 0 where
+  pub established : StayEstablished p q
+  pub begun : KeepsBegun p q
+
+pub states_same : {S : Type 0} (p q : SctpStreams S) → q.state ≡ p.state → StatesStay p q
+states_same p q same = record { established = stay_same p q same; begun = λ e. sym same ∙ e }
+
+-- a packet of the other end begins nothing
+input_uninited : (state : RtcSctpState) → state_on_input state ≡ Uninited → state ≡ Uninited
+input_uninited Uninited e = refl
+input_uninited AwaitRemoteAssociation e = absurd (let k : AwaitAssociationEstablished ≡ Uninited = e in cc)
+input_uninited AwaitAssociationEstablished e = e
+input_uninited Established e = e
+
+pub input_states : {S : Type 0} (m : AssociationMeaning S) (started : Bool) (now : ℕ) (bytes : List ℕ) (p : SctpStreams S)
+    (r : Result (Unit {0}) AllocError) (q : SctpStreams S) → InputIf m started now bytes p r q → StatesStay p q
+input_states m false now bytes p r q h = states_same p q (ap (λ x. x.state) h.1)
+input_states m true now bytes p r q h = record {
+  established = input_stays m true now bytes p r q h;
+  begun = λ e. input_uninited p.state (sym (ap (λ x. x.state) h.1) ∙ e);
+}
+
 -- the entries of streams stay, and so do the channels; what was established is
 abbrev pub KeepsStreams : {I D S M N : Type 0} → PolledPeer I D S M N → PolledPeer I D S M N → Type 0
 KeepsStreams p q =
-    (q.core.sctp.entries ≡ p.core.sctp.entries) × (q.core.channels ≡ p.core.channels) × StayEstablished p.core.sctp q.core.sctp
+    (q.core.sctp.entries ≡ p.core.sctp.entries) × (q.core.channels ≡ p.core.channels) × StatesStay p.core.sctp q.core.sctp
 
 pub ice_kept : {I D S M N : Type 0} (p q : PolledPeer I D S M N) → BesideIce p q → KeepsStreams p q
-ice_kept p q kept = (ap (λ s. s.entries) kept.1, kept.4, stay_same p.core.sctp q.core.sctp (ap (λ s. s.state) kept.1))
+ice_kept p q kept = (ap (λ s. s.entries) kept.1, kept.4, states_same p.core.sctp q.core.sctp (ap (λ s. s.state) kept.1))
 
 pub dtls_kept : {I D S M N : Type 0} (p q : PolledPeer I D S M N) → BesideDtls p q → KeepsStreams p q
-dtls_kept p q kept = (ap (λ s. s.entries) kept.1, kept.4, stay_same p.core.sctp q.core.sctp (ap (λ s. s.state) kept.1))
+dtls_kept p q kept = (ap (λ s. s.entries) kept.1, kept.4, states_same p.core.sctp q.core.sctp (ap (λ s. s.state) kept.1))
 
 pub media_kept : {I D S M N : Type 0} (p q : PolledPeer I D S M N) → BesideMedia p q → KeepsStreams p q
-media_kept p q kept = (ap (λ s. s.entries) kept.2, kept.4, stay_same p.core.sctp q.core.sctp (ap (λ s. s.state) kept.2))
+media_kept p q kept = (ap (λ s. s.entries) kept.2, kept.4, states_same p.core.sctp q.core.sctp (ap (λ s. s.state) kept.2))
 
 pub unless_of : {E : Type 0} (answer : Result (Output E) RtcError) (T : Type 0) → T → UnlessLacking answer T
 unless_of (Ok output) T h = h
@@ -117,11 +148,15 @@ module _ {I D S M E X T W N : Type 0} (m : Meanings I D S M E X T W N) where
     apart = λ h. subst (λ (held : Channels). AreApart held.rows) (sym kept.1) h;
     opens = opens_none answer p [] [] q none;
     tells = λ v. tells;
-    running = λ w k. (started_moved m.association w acts p.core.sctp.association q.core.sctp.association k.0 went, kept.2 k.1);
+    running = λ w k. (started_moved m.association w acts p.core.sctp.association q.core.sctp.association k.0 went, kept.2.established k.1);
     given = same_given p.core.channels.given q.core.channels.given (ap (λ (held : Channels). held.given) kept.1);
     fresh =
         unless_of answer ((s : ℕ) (own : Option ℕ) → HasOpenInBand s own q.core.sctp.entries → WasOpenInBand s own p answer q)
         (λ s own h. Already (open_is s own p.core.sctp.entries q.core.sctp.entries kept.0 h));
+    changed =
+        unless_of answer (RowsChanged m.association p.core.channels p.core.sctp q.core.channels q.core.sctp)
+        (rows_stay m.association p.core.channels p.core.sctp q.core.channels q.core.sctp kept.1
+        (record { acts = acts; went = went; entries = kept.0; begun = kept.2.begun }));
   }
 
   -- what was open behind a stage that told nothing
@@ -206,6 +241,11 @@ module _ {I D S M E X T W N : Type 0} (m : Meanings I D S M E X T W N) where
         unless_map answer ((s : ℕ) (own : Option ℕ) → HasOpenInBand s own q.core.sctp.entries → WasOpenInBand s own b answer q)
         ((s : ℕ) (own : Option ℕ) → HasOpenInBand s own q.core.sctp.entries → WasOpenInBand s own p answer q)
         (λ after s own h. open_through answer moment p b q s own y.given (x.fresh s own) (after s own h)) y.fresh;
+    changed =
+        unless_map answer (RowsChanged m.association b.core.channels b.core.sctp q.core.channels q.core.sctp)
+        (RowsChanged m.association p.core.channels p.core.sctp q.core.channels q.core.sctp)
+        (λ after.
+        changed_on m.association p.core.channels p.core.sctp b.core.channels b.core.sctp q.core.channels q.core.sctp x.changed after) y.changed;
   }
     where
       rising_kept : AreRising 0 p.core.channels.rows → AreRising 0 b.core.channels.rows
