@@ -202,7 +202,7 @@ module _ {N : Type 0} (draws : Draws N) where
 
     by_one : (one : OpenOne s opened.own q.core.sctp.entries) → IsHeard plain_meaning q.core.sctp.association one.entry → one.entry.id ≡ s
         → AnnouncedUnlessClosed (plain_over draws) vs q → OwnUse c s vs q
-    by_one one (inl waits) same told = absurd (awaits_open (sym waits ∙ one.opened.0))
+    by_one one (inl waits) same told = absurd (awaits_open (sym waits.0 ∙ one.opened.0))
     by_one one (inr it) same (inl closed) = absurd (not_closed q there.alive closed)
     by_one one (inr it) same (inr announced) = by (announced s opened.own opened.has)
       where

@@ -1,0 +1,16 @@
+-- Pairs of peers whose associations wait for nothing more.
+use Rattle.std.specs.Prelude.{◌≡◌, List, [], Option, None}
+use Rattle.rtc_assoc_state.specs.PlainMeaning.{plain_meaning}
+use Rattle.rtc_sctp.specs.Calls.{streams_wake}
+use Rattle.rtc_history.specs.declared.side.Side.{Side}
+use Rattle.rtc_history.specs.PairState.{rtc_at}
+use Rattle.rtc_joined_runs.specs.PlainPairs.{PlainPair, PlainPolled}
+
+-- The association of a peer and its streams want no moment, so that no opening is to be tried again, and no whole message stands unread.
+pub record IsStillPeer {N : Type 0} (p : PlainPolled N) : Type 0 where
+  pub waits : streams_wake plain_meaning p.core.sctp ≡ None
+  pub read : p.core.sctp.association.inbox.unread ≡ []
+
+-- so it is at both sides
+abbrev pub IsStillPair : {N : Type 0} → PlainPair N → Type 0
+IsStillPair pair = (at : Side) → IsStillPeer (rtc_at at pair)
