@@ -31,4 +31,17 @@ mod HeardOpenings
 mod OpenSides
 mod SettledSides
 mod AnsweredOpenings
+mod StillSides
+mod StandingVisits
+mod StandingEntries
+mod StandingPolls
+mod PlacedEntries
+mod StandingCalls
+mod ConfigRows
+mod EnsuredNumbers
+mod BegunRows
+mod OpenedRows
+mod StepRows
+mod ConfirmedRuns
+mod ConfirmedSides
 pub mod SettledRuns

@@ -49,7 +49,7 @@ use Rattle.rtc_channel_runs.proofs.OpenStreams.{open_placed}
 some_is : (a b : ℕ) → Some a ≡ Some b → a ≡ b
 some_is a b h = cc
 
-both_true : (a b : Bool) → a ≡ true → b ≡ true → (a && b) ≡ true
+pub both_true : (a b : Bool) → a ≡ true → b ≡ true → (a && b) ≡ true
 both_true true b e k = k
 both_true false b e k = absurd (true≢false (sym e))
 
@@ -131,7 +131,7 @@ module _ {N : Type 0} (draws : Draws N) where
 
   -- ---- the channel at the other end
 
-  stays_under : (c s : ℕ) (q : PlainPolled N) → q.core.phase ≡ Alive → stream_under c q.core.channels ≡ Some s → is_open_stream s q.core.sctp ≡ true
+  pub stays_under : (c s : ℕ) (q : PlainPolled N) → q.core.phase ≡ Alive → stream_under c q.core.channels ≡ Some s → is_open_stream s q.core.sctp ≡ true
       → open_stream_under c q ≡ Some s
   stays_under c s q alive placed opened =
       ap (λ (phase : Phase). if is_phase_open phase then option_and_then (if_open q.core.sctp) (stream_under c q.core.channels) else None) alive

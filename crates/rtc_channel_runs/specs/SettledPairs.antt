@@ -11,7 +11,7 @@ use Rattle.rtc_sctp_entries.specs.declared.stream_entry.StreamEntry.{StreamEntry
 use Rattle.rtc_sctp_entries.specs.Entries.{is_out_of_band}
 use Rattle.rtc_sctp.specs.Streams.{is_established}
 use Rattle.rtc_peer_state.specs.declared.phase.Phase.TheVariants.{Alive}
-use Rattle.rtc_polling.specs.ChannelCalls.{open_stream_under}
+use Rattle.rtc_polling.specs.ChannelCalls.{open_stream_under, stream_under}
 use Rattle.rtc_history.specs.declared.outcome.Outcome.{Outcome}
 use Rattle.rtc_history.specs.declared.outcome.Outcome.TheVariants.{Polled}
 use Rattle.rtc_history.specs.declared.reply.Reply.{Reply}
@@ -27,7 +27,9 @@ use Rattle.rtc_history.specs.Sides.{other_side, same_side, side_of}
 use Rattle.rtc_joined_runs.specs.PlainPairs.{PlainPair, PlainPolled, plain_over}
 use Rattle.rtc_channel_runs.specs.ChannelUses.{ChannelUse}
 use Rattle.rtc_channel_runs.specs.OpenUses.{AreJoinedUses}
-use Rattle.rtc_channel_runs.specs.UsesOfRuns.{uses_in_run}
+use Rattle.rtc_channel_runs.specs.ConfirmedChannels.{WasConfirmed}
+use Rattle.rtc_channel_runs.specs.StillPairs.{IsStillPair}
+use Rattle.rtc_channel_runs.specs.UsesOfRuns.{reached_by, uses_in_run}
 
 -- outputs end in a timeout
 abbrev pub EndInTimeout : {E : Type 0} → List (Shown E) → Type 0
@@ -128,7 +130,18 @@ AreAnswered p q =
     → IsTakenUp stream q.core.sctp.entries
     → ⊥
 
--- A run by these steps with these replies leaves it so at both sides, where it left the pair settled.
+-- Each channel of one side that was confirmed and has a stream is open at both, over a stream that both associations have in one
+-- generation, and that neither end closed or settled by other means.
+abbrev pub AreConfirmedOpen : {N : Type 0} → Draws N → (confirmed : ℕ → Type 0) → (uses : List ChannelUse) → PlainPolled N
+    → (others : List ChannelUse) → PlainPolled N → Type 0
+AreConfirmedOpen draws confirmed uses p others q =
+    (channel stream : ℕ)
+    → confirmed channel
+    → stream_under channel p.core.channels ≡ Some stream
+    → AreKeptStreams stream p q
+    → IsOpenAtBoth draws channel uses p others q
+
+-- A run by these steps with these replies leaves it so at both sides, where it left the pair settled, and no opening under way.
 pub record SettlesOpen {N : Type 0} (draws : Draws N) (stun : List ℕ → Bool) (start : PlainPair N) (steps : List Step)
     (replies : List (Reply PlainMediaEvent)) (pair : PlainPair N) (run : Runs (plain_over draws) stun start steps replies pair)
     : Type 0 where
@@ -136,3 +149,9 @@ pub record SettlesOpen {N : Type 0} (draws : Draws N) (stun : List ℕ → Bool)
       → AreOpenAtBoth draws (uses_in_run (plain_over draws) stun start steps replies pair run at) (rtc_at at pair)
       (uses_in_run (plain_over draws) stun start steps replies pair run (other_side at)) (rtc_at (other_side at) pair)
   pub answered : IsSettledPair run.past pair → (at : Side) → AreAnswered (rtc_at at pair) (rtc_at (other_side at) pair)
+  pub confirmed : IsSettledPair run.past pair → IsStillPair pair → (at : Side)
+      → AreConfirmedOpen draws
+      (λ channel. WasConfirmed (plain_over draws) stun start at channel run.past pair
+      (reached_by (plain_over draws) stun start run.past pair run.went))
+      (uses_in_run (plain_over draws) stun start steps replies pair run at) (rtc_at at pair)
+      (uses_in_run (plain_over draws) stun start steps replies pair run (other_side at)) (rtc_at (other_side at) pair)

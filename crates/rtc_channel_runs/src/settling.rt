@@ -10,7 +10,9 @@ ghost use Rattle.rtc_history.specs.Runs.{Reached, Runs};
 ghost use Rattle.rtc_history.specs.Sides.{other_side};
 ghost use Rattle.rtc_joined_runs.specs.NewPairs.{IsNewPair};
 ghost use Rattle.rtc_joined_runs.specs.PlainPairs.{PlainPair, plain_over};
-ghost use Rattle.rtc_channel_runs.specs.SettledPairs.{AreAnswered, AreOpenAtBoth, IsSettledPair, SettlesOpen};
+ghost use Rattle.rtc_channel_runs.specs.ConfirmedChannels.{WasConfirmed};
+ghost use Rattle.rtc_channel_runs.specs.SettledPairs.{AreAnswered, AreConfirmedOpen, AreOpenAtBoth, IsSettledPair, SettlesOpen};
+ghost use Rattle.rtc_channel_runs.specs.StillPairs.{IsStillPair};
 ghost use Rattle.rtc_channel_runs.specs.UsesOfRuns.{uses_of};
 
 use rtc_ids::Ids;
@@ -21,6 +23,9 @@ use rtc_ids::Ids;
 /// it is over each stream that both associations have in one generation, and that neither end closed or settled by other means than
 /// messages, while a number is left for a channel. No opening over such a stream waits for its answer, where the other side has the
 /// stream in use too and does not wait to open it.
+///
+/// Where, besides, neither the associations with their streams nor the channels over them want a moment, and no whole message stands
+/// unread, each channel that was confirmed in the run, and has such a stream, is open at both sides so.
 pub fn settled_pairs_have_open_channels<N: Ids>()
     ensures reached { (stun : List ℕ → Bool) (start pair : PlainPair N) (past : List (Entry PlainMediaEvent)) → IsNewPair N.ids start
         → (ran : Reached (plain_over N.ids) stun start past pair) → IsSettledPair past pair → (at : Side)
@@ -29,6 +34,11 @@ pub fn settled_pairs_have_open_channels<N: Ids>()
     ensures answered { (stun : List ℕ → Bool) (start pair : PlainPair N) (past : List (Entry PlainMediaEvent)) → IsNewPair N.ids start
         → Reached (plain_over N.ids) stun start past pair → IsSettledPair past pair → (at : Side)
         → AreAnswered (rtc_at at pair) (rtc_at (other_side at) pair) }
+    ensures confirmed { (stun : List ℕ → Bool) (start pair : PlainPair N) (past : List (Entry PlainMediaEvent)) → IsNewPair N.ids start
+        → (ran : Reached (plain_over N.ids) stun start past pair) → IsSettledPair past pair → IsStillPair pair → (at : Side)
+        → AreConfirmedOpen N.ids (λ channel. WasConfirmed (plain_over N.ids) stun start at channel past pair ran)
+        (uses_of (plain_over N.ids) stun start at past pair ran) (rtc_at at pair)
+        (uses_of (plain_over N.ids) stun start (other_side at) past pair ran) (rtc_at (other_side at) pair) }
     ensures ran { (stun : List ℕ → Bool) (start pair : PlainPair N) (steps : List Step) (replies : List (Reply PlainMediaEvent))
         → IsNewPair N.ids start → (run : Runs (plain_over N.ids) stun start steps replies pair)
         → SettlesOpen N.ids stun start steps replies pair run }
