@@ -365,6 +365,6 @@ module _ {I D S M E X T W N : Type 0} (m : Meanings I D S M E X T W N) where
         let did = close_acts m nothing_came [] laws p r q h in
         let kept = close_rows m p r q h in
         over_streams p q [] (kept_acts m.association laws p.core.sctp q.core.sctp did.acts.association did.went.association kept.2 (λ k. stay_same p.core.sctp q.core.sctp kept.3 k.1)) kept.1
-        (close_stays p.core.phase p r q h refl) 
+        (close_stays p.core.phase p r q h refl)
         (changes_none p q kept.1
         (record { acts = did.acts.association; went = did.went.association; entries = kept.2; begun = λ e. sym kept.3 ∙ e }))

@@ -135,9 +135,10 @@ found_behind s c row rows apart h = by (is_of_stream s row.stream) refl
 found_in : (channels : List Channel) (held : Channels) → AreUnshared (map numbered_stream channels)
     → ((s c : ℕ) → over_rows s channels ≡ Some c → channel_over s held ≡ Some c) → AreFound channels held
 found_in [] held h f = tt
-found_in (row ∷ channels) held h f =
-    (λ s e. f s row.id (found_first s row channels e),
-    found_in channels held h.1 (λ s c e. f s c (found_behind s c row channels h.0 e)))
+found_in (row ∷ channels) held h f = (
+  λ s e. f s row.id (found_first s row channels e),
+  found_in channels held h.1 (λ s c e. f s c (found_behind s c row channels h.0 e)),
+)
 
 pub found_all : (held : Channels) → AreUnshared (map numbered_stream held.rows) → AreFound held.rows held
 found_all held h = found_in held.rows held h (λ s c e. e)
