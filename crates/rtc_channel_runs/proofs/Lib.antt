@@ -44,4 +44,7 @@ mod OpenedRows
 mod StepRows
 mod ConfirmedRuns
 mod ConfirmedSides
+mod ClosingRows
+mod ClosingEnds
+mod ClosingPairs
 pub mod SettledRuns
