@@ -1,5 +1,5 @@
 -- What each act of an end of the plain association does to the closes of generations.
-use Rattle.std.proofs.Common.{◌≡◌, ◌∙◌, ◌⊎◌, inl, inr, ◌+◌, ◌-◌, ◌<◌, ◌==◌, ◌&&◌, ◌||◌, nat_lt, ℕ, not, cond, Bool, true, false, List, [], ◌∷◌, ◌++◌, drop, length, append-nil, Option, Some, None, Result, refl, sym, ap, subst, arith}
+use Rattle.std.proofs.Common.{◌≡◌, ◌∙◌, inl, inr, ◌+◌, ◌-◌, ◌<◌, ◌==◌, ◌&&◌, ◌||◌, nat_lt, ℕ, not, cond, Bool, true, false, List, [], ◌∷◌, ◌++◌, drop, length, append-nil, Option, Some, None, Result, refl, sym, ap, subst, arith}
 use Rattle.std.proofs.lemmas.Bool.{eqb-true}
 use Rattle.std.proofs.lemmas.Bool.Decides.{nat_tests}
 use Rattle.std.specs.declared.alloc.AllocError.{AllocError}
@@ -21,7 +21,7 @@ use Rattle.rtc_assoc_state.specs.Contents.{Contents, is_ending, is_server}
 use Rattle.rtc_assoc_state.specs.Streams.{is_closed_here, is_unclosed, put, reset_row, stream_of, takes_messages}
 use Rattle.rtc_assoc_state.specs.Outbox.{Outbox, settled_count}
 use Rattle.rtc_assoc_state.specs.Settling.{can_reset, told_of}
-use Rattle.rtc_assoc_state.specs.Calls.{limited, started_as, said_hello, connected, accepted, snapped, opened, sent, message_written, next_message, taken_out, stream_ended, thresholded, shut_down, greeted, welcomed, acknowledged, item_counted, more_kept, last_kept, piece_kept, finished, reset_told, close_came_at, part_came, item_taken, is_ahead, item_came, answered, lost, framed, at_moment, input_taken, half_taken, timed, event_given, packet_given}
+use Rattle.rtc_assoc_state.specs.Calls.{limited, started_as, said_hello, connected, accepted, snapped, opened, sent, message_written, next_message, taken_out, stream_ended, thresholded, shut_down, greeted, welcomed, acknowledged, item_counted, more_kept, last_kept, piece_kept, finished, reset_told, close_came_at, part_came, item_taken, is_ahead, item_came, answered, lost, framed, at_moment, half_taken, timed, event_given, packet_given}
 use Rattle.rtc_assoc_state.specs.PlainMeaning.{plain_meaning, open_cause, write_cause, end_cause, stream_cause, ending_cause, Gives, Leaves, Sends, Reads}
 use Rattle.rtc_assoc_state.proofs.RaiseLemmas.{stream_of-stream}
 use Rattle.rtc_assoc_state.proofs.DoesLemmas.{refused_changes_nothing, does_leaves, gives, times, polls_some, transmits_some, reads_some}

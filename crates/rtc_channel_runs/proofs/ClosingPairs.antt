@@ -1,10 +1,8 @@
 -- Two ends of the plain association between which nothing is under way have each stream in one generation, and closed at neither.
 use Rattle.std.proofs.Common.{◌≡◌, ◌∙◌, ◌⊎◌, inl, inr, ◌+◌, ◌<◌, ◌≤◌, ◌==◌, ◌||◌, nat_lt, ℕ, zero, suc, not, Bool, true, false, true≢false, List, [], ◌∷◌, ◌++◌, drop, take, length, append-nil, append_assoc, Option, Some, None, refl, sym, ap, subst, arith}
-use Rattle.std.specs.List.{list_any}
-use Rattle.std.proofs.lemmas.Bool.{cases_Bool}
 use Rattle.std.proofs.lemmas.Bool.Decides.{leb_tells, nat_tests}
 use Rattle.std.proofs.lemmas.List.{append_cancel_left, take-append-le}
-use Rattle.rtc_parts_values.specs.Among.{Member, Among}
+use Rattle.rtc_parts_values.specs.Among.{Among}
 use Rattle.rtc_association.specs.AssociationActs.{AssociationAct, Given, Taken, Moved}
 use Rattle.rtc_association.specs.AssociationWords.{ended, given, taken}
 use Rattle.rtc_assoc_packets.specs.declared.item.Item.{Item}
@@ -18,7 +16,6 @@ use Rattle.rtc_assoc_state.specs.PlainMeaning.{plain_meaning}
 use Rattle.rtc_assoc_state.specs.Settling.{can_reset}
 use Rattle.rtc_assoc_state.specs.Streams.{LAST_GENERATION, any_at_last_generation, is_at_last_generation, is_closed_here, is_unclosed, stream_of}
 use Rattle.rtc_assoc.specs.Joined.{Ends, fresh_ends, Move, LeftMoves, RightMoves, Goes, Run}
-use Rattle.rtc_assoc.proofs.MessageLemmas.{HasClose}
 use Rattle.rtc_assoc.proofs.FrameLemmas.{Brings}
 use Rattle.rtc_assoc.proofs.CoreLemmas.{Causes, Step}
 use Rattle.rtc_assoc.proofs.StepLemmas.{step_of}
@@ -209,7 +206,7 @@ false_by false h = refl
 
 by_order : (n k : ℕ) → (n < k → ⊥) → (k < n → ⊥) → k ≡ n
 by_order n k f g = elim (leb_tells n k) [
-  | inl e ↦ elim (leb_tells k n) [ | inl d ↦ (let x = e.1 in let y = d.1 in omega (arith, x, y)) | inr d ↦ absurd (f d.1) ]
+  | inl e ↦ elim (leb_tells k n) [ inl d ↦ (let x = e.1 in let y = d.1 in omega (arith, x, y)) | inr d ↦ absurd (f d.1) ]
   | inr e ↦ absurd (g e.1)
 ]
 

@@ -162,7 +162,7 @@ row_next s row items items' w r got closed can news h = record {
   where
     order : (g n : ℕ) → g < n + 1 → (g < n) ⊎ (g ≡ n)
     order g n less =
-        elim (leb_tells n g) [ | inl e ↦ (let le = e.1 in inr (omega (arith, le, less))) | inr e ↦ inl e.1 ]
+        elim (leb_tells n g) [ inl e ↦ (let le = e.1 in inr (omega (arith, le, less))) | inr e ↦ inl e.1 ]
 
     by : (g : ℕ) → (g < row.generation) ⊎ (g ≡ row.generation) → HasClose s g w
     by g (inl less) = h.below g less
