@@ -24,9 +24,9 @@ pub has_set : (s : ℕ) (es : List StreamEntry) (i : ℕ) (e e' : StreamEntry) �
     → HasEntry s (slice_set es i e')
 has_set s [] i e e' at k h = absurd h
 has_set s (x ∷ xs) zero e e' at k (inl h) =
-    let same = sym (same_Some x e at) in
+    let same = same_Some x e at in
     inl
-    (k.0 ∙ (ap (λ (y : StreamEntry). y.id) (sym same) ∙ h.0), k.1 (subst (λ (y : StreamEntry). is_closed_state y.state ≡ false) (sym same) h.1))
+    (k.0 ∙ (ap (λ (y : StreamEntry). y.id) (sym same) ∙ h.0), k.1 (subst (λ (y : StreamEntry). is_closed_state y.state ≡ false) same h.1))
 has_set s (x ∷ xs) zero e e' at k (inr h) = inr h
 has_set s (x ∷ xs) (suc i) e e' at k (inl h) = inl h
 has_set s (x ∷ xs) (suc i) e e' at k (inr h) = inr (has_set s xs i e e' at k h)
@@ -89,12 +89,13 @@ less_behind n l h = grind (arith, h)
 has_within : (s : ℕ) (es : List StreamEntry) → NoneClosed es
     → nat_lt (prefix_len (λ (x : StreamEntry). not (is_entry_of s x)) es) (length es) ≡ true → HasEntry s es
 has_within s [] free h = absurd (no_less 0 h)
-has_within s (x ∷ xs) free h = by (not (is_entry_of s x)) refl h
+has_within s (x ∷ xs) free h = by (not (is_entry_of s x)) refl h (λ k. has_within s xs free.1 k)
   where
     by : (b : Bool) → not (is_entry_of s x) ≡ b
-        → nat_lt (cond b (1 + prefix_len (λ (y : StreamEntry). not (is_entry_of s y)) xs) 0) (length (x ∷ xs)) ≡ true → HasEntry s (x ∷ xs)
-    by true e k = inr (has_within s xs free.1 (less_behind (prefix_len (λ (y : StreamEntry). not (is_entry_of s y)) xs) (length xs) k))
-    by false e k = inl (of_stream x.id s e, free.0)
+        → nat_lt (cond b (1 + prefix_len (λ (y : StreamEntry). not (is_entry_of s y)) xs) 0) (length (x ∷ xs)) ≡ true
+        → (nat_lt (prefix_len (λ (y : StreamEntry). not (is_entry_of s y)) xs) (length xs) ≡ true → HasEntry s xs) → HasEntry s (x ∷ xs)
+    by true e k rest = inr (rest (less_behind (prefix_len (λ (y : StreamEntry). not (is_entry_of s y)) xs) (length xs) k))
+    by false e k rest = inl (of_stream x.id s e, free.0)
 
 no_place : (place : ℕ) → None ≡ Some place → ⊥
 no_place place h = cc
