@@ -1,5 +1,5 @@
 -- Polls of streams keep that each stream of which a message stands unread has an entry, or is to be told of.
-use Rattle.std.proofs.Common.{◌≡◌, ◌∙◌, ◌⊎◌, inl, inr, ℕ, zero, suc, ◌&&◌, Bool, true, false, true≢false, List, [], ◌∷◌, Option, Some, None, Result, refl, sym, ap, subst}
+use Rattle.std.proofs.Common.{◌≡◌, ◌∙◌, ◌⊎◌, inl, inr, ℕ, zero, suc, ◌&&◌, Bool, true, false, List, [], ◌∷◌, Option, Some, None, Result, refl, sym, ap, subst}
 use Rattle.std.specs.declared.alloc.AllocError.{AllocError}
 use Rattle.rtc_association.specs.declared.assoc_event.AssocEvent.{AssocEvent}
 use Rattle.rtc_association.specs.declared.assoc_event.AssocEvent.TheVariants as assoc
@@ -15,9 +15,8 @@ use Rattle.rtc_sctp_entries.specs.declared.met.Met.{Met}
 use Rattle.rtc_sctp_entries.specs.declared.met.Met.TheVariants.{Nothing, Again, Output, OutOfMemory}
 use Rattle.rtc_sctp_entries.specs.Entries.{is_closed_state}
 use Rattle.rtc_sctp_entries.specs.Visits.{Turn, turn, Visits}
-use Rattle.rtc_sctp.specs.declared.rtc_sctp_state.RtcSctpState.{RtcSctpState}
 use Rattle.rtc_sctp.specs.Streams.{SctpStreams, is_established}
-use Rattle.rtc_sctp.specs.Polls.{Book, book_of, AfterEvent, with_expected, Else, ThenBy, unclosed_streams, CompletionOf, TakesPacket, TransmitIf, TransmitOf, GivesTransmit, TakesEvent, HandlesEvent, NotStarted, NoRoom, NoEvent, Event, VisitedThen, VisitsAll, VisitsIf, MakesPass, Over, PollsStreams}
+use Rattle.rtc_sctp.specs.Polls.{Book, book_of, AfterEvent, with_expected, Else, ThenBy, unclosed_streams, CompletionOf, TakesPacket, TransmitIf, TransmitOf, GivesTransmit, TakesEvent, NotStarted, NoRoom, NoEvent, Event, VisitedThen, VisitsAll, VisitsIf, MakesPass, Over, PollsStreams}
 use Rattle.rtc_sctp_laws.specs.StreamActs.{AssociationDid, VisitDid}
 use Rattle.rtc_sctp_laws.proofs.ActLemmas.{did_same, gave_did, told_did, packet_polled}
 use Rattle.rtc_sctp_laws.proofs.ClosingPolls.{started_moved}
@@ -28,7 +27,7 @@ use Rattle.rtc_stream_uses.specs.StreamUses.{is_spent_stream}
 use Rattle.rtc_stream_uses.proofs.KeptUses.{acts_keep, spent_kept}
 use Rattle.rtc_plain_streams.proofs.KnownStreams.{AreBacked, AreKnown, HasEntry, IsKnown, IsSilent, NoneClosed, UnreadLaws, known_quiet, moved_backed, silent_on, unread_before}
 use Rattle.rtc_plain_streams.proofs.KnownEntries.{has_after, expected_own, has_is, has_unclosed, none_unclosed}
-use Rattle.rtc_plain_streams.proofs.KnownVisits.{IsLeft, IsReady, visit_left}
+use Rattle.rtc_plain_streams.proofs.KnownVisits.{visit_left}
 
 module _ {S : Type 0} (m : AssociationMeaning S) (w : AssociationLaws m) (v : GenerationLaws m) (u : UnreadLaws m) where
   -- what gave no packet and told nothing, and what became of the entries
@@ -157,7 +156,7 @@ module _ {S : Type 0} (m : AssociationMeaning S) (w : AssociationLaws m) (v : Ge
 
   then_goes : (now : ℕ) (es : List StreamEntry)
       → ((a : S) (rs : List ℕ) (met : Met) (a' : S) (rs' : List ℕ) (es' : List StreamEntry) → AreBacked m a
-        → VisitsAll m now es a rs met a' rs' es' → Tour es a' es')
+      → VisitsAll m now es a rs met a' rs' es' → Tour es a' es')
       → (own : Met) (e : StreamEntry) (a : S) (rs : List ℕ) (b : Turn S) (met : Met) (a' : S) (rs' : List ℕ) (es' : List StreamEntry) → AreBacked m a
       → Visits m now (turn a e rs) own b → VisitedThen m (VisitsAll m now es) own es b met a' rs' es' → Tour (e ∷ es) a' es'
   then_goes now es rest Nothing e a rs b met a' rs' es' k h t =
@@ -277,9 +276,10 @@ module _ {S : Type 0} (m : AssociationMeaning S) (w : AssociationLaws m) (v : Ge
   transmit_kept None p met q h = packet_kept (m.started p.association) p met q h
 
   transmit_dropped : (p : SctpStreams S) (met : Met) (q : SctpStreams S) → GivesTransmit m p met q → IsDropped p → IsDropped q
-  transmit_dropped p met q h k =
-      ( subst (λ (l : List StreamEntry). NoneClosed l) (sym (transmit_kept p.pushed p met q h)) k.0,
-        quiet_known p q (transmit_of p.pushed p met q h) k.1)
+  transmit_dropped p met q h k = (
+    subst (λ (l : List StreamEntry). NoneClosed l) (sym (transmit_kept p.pushed p met q h)) k.0,
+    quiet_known p q (transmit_of p.pushed p met q h) k.1,
+  )
 
   pass_known : (p : SctpStreams S) (met : Met) (q : SctpStreams S) → MakesPass m p met q → AreKnown m p → AreKnown m q
   unfolding MakesPass

@@ -1,5 +1,5 @@
 -- A visit of an entry closes it only where nothing of its stream stands unread, or the stream takes no message any more.
-use Rattle.std.proofs.Common.{◌≡◌, ◌∙◌, ◌⊎◌, ◌<◌, inl, inr, ℕ, Bool, true, false, true≢false, List, [], Option, Some, None, Result, Ok, Err, refl, sym, ap, subst, arith}
+use Rattle.std.proofs.Common.{◌≡◌, ◌∙◌, ◌⊎◌, inl, inr, ℕ, Bool, true, false, true≢false, List, [], Option, Some, None, Result, Err, refl, sym, ap, subst, arith}
 use Rattle.rtc_association.specs.declared.assoc_error.AssocError.{AssocError}
 use Rattle.rtc_association.specs.declared.assoc_error.AssocError.TheVariants.{Alloc}
 use Rattle.rtc_association.specs.declared.assoc_event.AssocEvent.{AssocEvent}

@@ -7,3 +7,4 @@ pub mod BackedRows
 pub mod KnownVisits
 pub mod KnownEntries
 pub mod KnownPolls
+pub mod KnownCalls
