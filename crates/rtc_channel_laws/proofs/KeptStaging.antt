@@ -1,5 +1,5 @@
 -- What is staged and applied keeps the use of each stream, and live channels.
-use Rattle.std.proofs.Common.{◌≡◌, inl, inr, ◌≤◌, ◌∷◌, ℕ, Bool, true, false, List, [], Option, Some, None, Result, Ok, Err, refl, sym, ap, subst, ◌∙◌}
+use Rattle.std.proofs.Common.{◌≡◌, inr, ◌≤◌, ◌∷◌, ℕ, Bool, true, false, List, [], Option, Some, None, Result, Ok, Err, refl, sym, ap, subst, ◌∙◌}
 use Rattle.std.specs.declared.alloc.AllocError.{AllocError}
 use Rattle.rtc_wire.specs.declared.channel_config.ChannelConfig.{ChannelConfig}
 use Rattle.rtc_sdp_values.specs.declared.sdp.Sdp.{Sdp}

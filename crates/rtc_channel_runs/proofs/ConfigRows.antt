@@ -1,6 +1,5 @@
 -- The row of a channel that has a config, where rows are put behind others, go, are given streams, opened and confirmed.
-use Rattle.std.proofs.Common.{◌≡◌, ◌∙◌, ◌⊎◌, inl, inr, ◌<◌, ◌++◌, ◌==◌, ◌∷◌, if◌then◌else◌, ℕ, Bool, true, false, true≢false, List, [], map, Option, Some, None, refl, sym, ap, subst, arith}
-use Rattle.std.specs.Prelude.{is_some}
+use Rattle.std.proofs.Common.{◌≡◌, ◌∙◌, ◌⊎◌, inl, inr, ◌+◌, ◌++◌, ◌∷◌, if◌then◌else◌, ℕ, Bool, true, false, true≢false, List, [], map, Option, Some, None, refl, sym, subst, arith}
 use Rattle.std.proofs.lemmas.Bool.{eqb-true}
 use Rattle.rtc_wire.specs.declared.channel_config.ChannelConfig.{ChannelConfig}
 use Rattle.rtc_channels.specs.Allocation.{AreUnshared, IsUnshared, all_allocated, channel_ensured, is_ensured, opened_by_other, rows_given, sought_by, stream_given}
@@ -135,9 +134,10 @@ found_behind s c row rows apart h = by (is_of_stream s row.stream) refl
 found_in : (channels : List Channel) (held : Channels) → AreUnshared (map numbered_stream channels)
     → ((s c : ℕ) → over_rows s channels ≡ Some c → channel_over s held ≡ Some c) → AreFound channels held
 found_in [] held h f = tt
-found_in (row ∷ channels) held h f =
-    (λ s e. f s row.id (found_first s row channels e),
-    found_in channels held h.1 (λ s c e. f s c (found_behind s c row channels h.0 e)))
+found_in (row ∷ channels) held h f = (
+  λ s e. f s row.id (found_first s row channels e),
+  found_in channels held h.1 (λ s c e. f s c (found_behind s c row channels h.0 e)),
+)
 
 pub found_all : (held : Channels) → AreUnshared (map numbered_stream held.rows) → AreFound held.rows held
 found_all held h = found_in held.rows held h (λ s c e. e)

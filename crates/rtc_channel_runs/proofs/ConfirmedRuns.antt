@@ -1,6 +1,5 @@
 -- A channel that was confirmed in a run is opened, or its row went.
-use Rattle.std.proofs.Common.{◌≡◌, ◌⊎◌, inl, inr, ℕ, Bool, List, [], ◌∷◌, refl, sym, subst}
-use Rattle.rtc_sctp.specs.Streams.{SctpStreams}
+use Rattle.std.proofs.Common.{◌≡◌, ◌⊎◌, inl, inr, ℕ, Bool, List, [], ◌∷◌, sym, subst}
 use Rattle.rtc_peer_state.specs.declared.phase.Phase.TheVariants.{Closed}
 use Rattle.rtc_peer_state.specs.Meanings.{Meanings, PartsLaws}
 use Rattle.rtc_polling.specs.declared.polled_peer.PolledPeer.{PolledPeer}

@@ -1,8 +1,7 @@
 -- In a settled pair that waits for nothing a channel that was confirmed and has a stream is open, or waits to be.
-use Rattle.std.proofs.Common.{◌≡◌, ◌∙◌, ◌⊎◌, ◌+◌, ◌≤◌, ◌==◌, ◌&&◌, ◌||◌, ◌∷◌, if◌then◌else◌, inl, inr, ℕ, Bool, true, false, true≢false, List, [], Option, Some, None, refl, sym, ap, subst, arith}
+use Rattle.std.proofs.Common.{◌≡◌, ◌∙◌, ◌+◌, ◌≤◌, ◌==◌, ◌&&◌, ◌||◌, ◌∷◌, if◌then◌else◌, inl, inr, ℕ, Bool, true, false, true≢false, List, [], Option, Some, None, refl, sym, ap, subst, arith}
 use Rattle.std.specs.Prelude.{is_some}
 use Rattle.std.proofs.lemmas.Bool.{eqb-true}
-use Rattle.rtc_wire.specs.declared.channel_config.ChannelConfig.{ChannelConfig}
 use Rattle.rtc_assoc_state.specs.Contents.{Contents, is_started}
 use Rattle.rtc_assoc_state.specs.PlainMeaning.{plain_meaning}
 use Rattle.rtc_plain_ice.specs.Contents.{IceContents}
@@ -15,7 +14,7 @@ use Rattle.rtc_sctp_entries.specs.declared.stream_entry.StreamEntry.{StreamEntry
 use Rattle.rtc_sctp_entries.specs.Entries.{has_open, is_open_awaited, is_open_state}
 use Rattle.rtc_sctp.specs.Streams.{SctpStreams}
 use Rattle.rtc_channels.specs.Channels.{AreRising, Channel, Channels, no_channels}
-use Rattle.rtc_channels.specs.Openings.{can_be_opened, can_open, can_progress, channels_wake, is_progress_due}
+use Rattle.rtc_channels.specs.Openings.{can_be_opened, can_open, channels_wake, is_progress_due}
 use Rattle.rtc_peer_state.specs.declared.peer.Peer.{Peer}
 use Rattle.rtc_polling.specs.ChannelCalls.{stream_under}
 use Rattle.rtc_polling_laws.specs.ChannelStreams.{AreNumberedChannels}
@@ -112,7 +111,7 @@ opens_soon c s least (row ∷ rows) h (inr k) under =
     other false e f = f
 
 none_due : (b : Bool) → ◌≡◌ {A = Option ℕ} (if b then Some 0 else None) None → b ≡ true → ⊥
-none_due true h k = let clash : Some 0 ≡ None = h in cc
+none_due true h k = let clash : ◌≡◌ {A = Option ℕ} (Some 0) None = h in cc
 none_due false h k = true≢false (sym k)
 
 both : (a b c : Bool) → a ≡ true → b ≡ true → (a && (b || c)) ≡ true

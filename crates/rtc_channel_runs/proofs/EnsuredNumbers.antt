@@ -1,7 +1,7 @@
 -- Numbers of channels rise where a stream is given a channel, and where the row of one goes.
-use Rattle.std.proofs.Common.{◌≡◌, ◌≤◌, ◌<◌, ◌+◌, ◌++◌, ◌∷◌, if◌then◌else◌, ℕ, Bool, true, false, List, [], refl, arith}
+use Rattle.std.proofs.Common.{◌≤◌, ◌<◌, ◌+◌, ◌++◌, ◌∷◌, if◌then◌else◌, ℕ, Bool, true, false, [], refl, arith}
 use Rattle.rtc_channels.specs.Allocation.{channel_ensured, is_ensured, opened_by_other}
-use Rattle.rtc_channels.specs.Channels.{AreBelow, AreRising, Channel, Channels}
+use Rattle.rtc_channels.specs.Channels.{AreBelow, AreRising, Channels}
 use Rattle.rtc_channels.specs.Holds.{removed_channel}
 use Rattle.rtc_channels.proofs.GivenLemmas.{below_without, rising_without}
 use Rattle.rtc_channels.proofs.KeptLemmas.{below_more, below_one_more, rising_more}

@@ -7,13 +7,12 @@ use Rattle.rtc_association.specs.AssociationLaws.{AssociationLaws}
 use Rattle.rtc_association.specs.AssociationMeaning.{AssociationMeaning}
 use Rattle.rtc_sctp_entries.specs.declared.met.Met.{Met}
 use Rattle.rtc_sctp_entries.specs.declared.stream_entry.StreamEntry.{StreamEntry}
-use Rattle.rtc_sctp_entries.specs.declared.sctp_event.SctpEvent.{SctpEvent}
 use Rattle.rtc_sctp.specs.declared.rtc_sctp_state.RtcSctpState.TheVariants.{Uninited}
 use Rattle.rtc_sctp.specs.Streams.{SctpStreams}
 use Rattle.rtc_sctp_laws.specs.StreamMessages.{met_of}
 use Rattle.rtc_channels.specs.Allocation.{Allocates, all_allocated}
 use Rattle.rtc_channels.specs.Channels.{Channel, Channels, all_confirmed, with_channel}
-use Rattle.rtc_channels.specs.Openings.{Following, MeetsMoment, OpensAll, OpensChannel, Progresses, config_handed}
+use Rattle.rtc_channels.specs.Openings.{Following, MeetsMoment, OpensAll, OpensChannel, config_handed}
 use Rattle.rtc_polling.specs.StreamStages.{channel_over}
 use Rattle.rtc_polling_laws.specs.ChannelStreams.{AreNumberedChannels}
 use Rattle.rtc_polling_laws.specs.RowsChanged.{ChangeRows, RowsChange, RowsChanged}
@@ -33,7 +32,7 @@ use Rattle.rtc_channel_runs.proofs.BegunRows.{AreSound, IsBegun, HasGone, Awaits
 some_is : (a b : ℕ) → Some a ≡ Some b → a ≡ b
 some_is a b h = cc
 
-not_lacking : (error : AllocError) → Ok tt ≡ Err error → ⊥
+not_lacking : (error : AllocError) → ◌≡◌ {A = Result (Unit {0}) AllocError} (Ok tt) (Err error) → ⊥
 not_lacking error h = cc
 
 module _ {S : Type 0} (m : AssociationMeaning S) where

@@ -1,5 +1,5 @@
 -- What moments, openings and closes of streams leave of entries whose opening is begun.
-use Rattle.std.proofs.Common.{◌≡◌, ◌⊎◌, inl, inr, ℕ, zero, suc, Bool, true, false, List, [], ◌∷◌, Option, Some, None, Result, Ok, Err, refl, sym, ap, subst, ◌∙◌}
+use Rattle.std.proofs.Common.{◌≡◌, inl, inr, ℕ, zero, suc, Bool, true, false, List, [], ◌∷◌, Option, Some, None, Result, Ok, refl, sym, ap, subst, ◌∙◌}
 use Rattle.std.specs.Prelude.{is_some, slice_get, slice_set}
 use Rattle.std.specs.declared.alloc.AllocError.{AllocError}
 use Rattle.std.proofs.lemmas.Option.{same_Some}
@@ -19,7 +19,7 @@ use Rattle.rtc_sctp.specs.Calls.{TimedBy, TakesTimeout}
 use Rattle.rtc_sctp.specs.StreamCalls.{ConfigBy, TakesConfig, Declined, Answered, OpensAwaiting, OpensOver, OpensAt, OpensStream, ClosesAt, ClosesDataStream, SetsThreshold}
 use Rattle.rtc_channel_runs.proofs.PlacedEntries.{place_number}
 use Rattle.rtc_channel_runs.proofs.StandingVisits.{IsStanding}
-use Rattle.rtc_channel_runs.proofs.StandingEntries.{HasStanding, NoneClosed, AreBanded, Kept, EntryKept, kept_is, kept_on, kept_set, kept_unclosed, marked_kept, own_insert, shut_insert, shut_unclosed, stands_insert}
+use Rattle.rtc_channel_runs.proofs.StandingEntries.{HasStanding, NoneClosed, Kept, kept_is, kept_on, kept_set, kept_unclosed, marked_kept, own_insert, shut_insert, shut_unclosed, stands_insert}
 use Rattle.rtc_channel_runs.proofs.StandingPolls.{IsShutBefore}
 
 no_entry : (e : StreamEntry) → None ≡ Some e → ⊥

@@ -1,5 +1,5 @@
 -- Entries whose opening is begun, where entries are set, put in and dropped.
-use Rattle.std.proofs.Common.{◌≡◌, ◌⊎◌, inl, inr, ℕ, zero, suc, not, cond, Bool, true, false, List, [], ◌∷◌, ◌++◌, take, drop, insert, Option, Some, None, refl, sym, ap, subst, ◌∙◌}
+use Rattle.std.proofs.Common.{◌≡◌, inl, inr, ℕ, zero, suc, not, cond, Bool, true, false, List, [], ◌∷◌, ◌++◌, take, drop, insert, Option, Some, None, refl, sym, ap, subst, ◌∙◌}
 use Rattle.std.specs.Prelude.{is_some, slice_get, slice_set, if◌then◌else◌}
 use Rattle.std.proofs.lemmas.List.{take-append-drop}
 use Rattle.std.proofs.lemmas.Option.{same_Some}
@@ -62,7 +62,7 @@ stands_set : (s : ℕ) (es : List StreamEntry) (i : ℕ) (e e' : StreamEntry) �
 stands_set s [] i e e' at k h = absurd h
 stands_set s (x ∷ xs) zero e e' at k (inl h) =
     let same = sym (same_Some x e at) in
-    inl (k.id_is ∙ (ap (λ (y : StreamEntry). y.id) (sym same) ∙ h.0), k.stands (subst (λ (y : StreamEntry). IsStanding y) (sym same) h.1))
+    inl (k.id_is ∙ (ap (λ (y : StreamEntry). y.id) same ∙ h.0), k.stands (subst (λ (y : StreamEntry). IsStanding y) (sym same) h.1))
 stands_set s (x ∷ xs) zero e e' at k (inr h) = inr h
 stands_set s (x ∷ xs) (suc i) e e' at k (inl h) = inl h
 stands_set s (x ∷ xs) (suc i) e e' at k (inr h) = inr (stands_set s xs i e e' at k h)

@@ -9,7 +9,7 @@ use Rattle.rtc_sctp_entries.specs.declared.stream_entry.StreamEntry.{StreamEntry
 use Rattle.rtc_sctp_entries.specs.declared.sctp_event.SctpEvent.{SctpEvent}
 use Rattle.rtc_sctp_entries.specs.declared.met.Met.{Met}
 use Rattle.rtc_sctp_entries.specs.declared.met.Met.TheVariants.{Nothing, Again, Output, OutOfMemory}
-use Rattle.rtc_sctp_entries.specs.Visits.{Turn, turn, Visits}
+use Rattle.rtc_sctp_entries.specs.Visits.{Turn, turn}
 use Rattle.rtc_sctp.specs.declared.rtc_sctp_state.RtcSctpState.TheVariants.{Uninited, Established}
 use Rattle.rtc_sctp.specs.Streams.{SctpStreams, is_established}
 use Rattle.rtc_sctp.specs.Polls.{Book, book_of, AfterEvent, Else, ThenBy, unclosed_streams, CompletionOf, TransmitIf, TransmitOf, TakesEvent, NotStarted, NoRoom, NoEvent, Event, VisitedThen, VisitsAll, VisitsIf, MakesPass, Over, PollsStreams}

@@ -1,5 +1,5 @@
 -- In a settled pair that wants no moment for its streams no stream waits to be opened, and none for the answer to its opening.
-use Rattle.std.proofs.Common.{◌≡◌, ◌∙◌, ◌+◌, ◌-◌, ◌^◌, ◌++◌, ◌∷◌, ◌==◌, ◌||◌, if◌then◌else◌, ℕ, Bool, true, false, true≢false, List, [], min, Option, Some, None, inl, inr, refl, sym, ap, subst, arith}
+use Rattle.std.proofs.Common.{◌≡◌, ◌∙◌, ◌+◌, ◌-◌, ◌^◌, ◌++◌, ◌∷◌, ◌==◌, ◌||◌, if◌then◌else◌, ℕ, Bool, true, false, true≢false, List, [], min, Option, Some, None, inl, inr, refl, sym, ap, subst}
 use Rattle.std.specs.List.{list_any}
 use Rattle.std.proofs.lemmas.Bool.{eqb-true}
 use Rattle.rtc_association.specs.AssociationWords.{ended, read, written}
@@ -103,7 +103,7 @@ module _ {N : Type 0} (draws : Draws N) where
       → read s g b.association ++ unread s g q.core.sctp.association.inbox.unread ≡ written s g a.association)
       (s : ℕ) (kept : AreKeptStreams s p q)
       (none : has_unread q.core.sctp.association s (generation_of q.core.sctp.association s) ≡ false) where
-    g : ℕ
+    abbrev g : ℕ
     g = generation_of p.core.sctp.association s
 
     -- what the open message from here tells of the other side

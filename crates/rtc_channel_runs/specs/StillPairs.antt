@@ -1,5 +1,5 @@
 -- Pairs of peers whose associations wait for nothing more.
-use Rattle.std.specs.Prelude.{◌≡◌, true, List, [], Option, None}
+use Rattle.std.specs.Prelude.{◌≡◌, true, [], None}
 use Rattle.rtc_assoc_state.specs.Contents.{is_started}
 use Rattle.rtc_assoc_state.specs.PlainMeaning.{plain_meaning}
 use Rattle.rtc_sctp.specs.Calls.{streams_wake}
