@@ -45,3 +45,6 @@ mod StepRows
 mod ConfirmedRuns
 mod ConfirmedSides
 pub mod SettledRuns
+pub mod KnownRows
+pub mod KnownRuns
+pub mod KnownSides

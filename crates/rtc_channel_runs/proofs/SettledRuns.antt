@@ -1,10 +1,8 @@
 -- In a settled pair a channel that one side announced is open at both.
 use Rattle.std.proofs.Common.{◌≡◌, ◌∙◌, ◌++◌, ℕ, Bool, false, List, [], Some, inl, inr, sym, ap, subst}
-use Rattle.std.specs.List.{list_any}
 use Rattle.rtc_association.specs.AssociationWords.{ended, read, written}
 use Rattle.rtc_assoc.specs.Unread.{IsPrefix, unread}
 use Rattle.rtc_assoc_state.specs.Contents.{closed_here, generation_of, has_unread}
-use Rattle.rtc_assoc_state.specs.Inbox.{is_message_of}
 use Rattle.rtc_assoc_state.specs.Outbox.{has_unacknowledged}
 use Rattle.rtc_assoc_state.specs.PlainMeaning.{plain_meaning}
 use Rattle.rtc_sctp_entries.specs.Entries.{has_open}
@@ -45,8 +43,13 @@ use Rattle.rtc_channel_runs.proofs.DrainedRuns.{new_unused, pair_drained}
 use Rattle.rtc_channel_runs.proofs.HeardOpenings.{none_has}
 use Rattle.rtc_channel_runs.proofs.ConfirmedRuns.{SideBegun, SideSound, run_begun}
 use Rattle.rtc_channel_runs.proofs.ConfirmedSides.{IsOpen, Opening, StandsAs, Unanswered, confirmed_stands, new_sound, stands_as}
-use Rattle.rtc_channel_runs.proofs.OpenSides.{both_true, last_heard, not_closed, own_use, stays_under}
+use Rattle.rtc_channel_runs.proofs.OpenSides.{both_true, last_all, last_heard, not_closed, own_use, stays_under}
+use Rattle.rtc_channel_runs.proofs.KnownRuns.{SideKnown, new_pair_known, run_known}
+use Rattle.rtc_channel_runs.proofs.KnownSides.{none_unread}
 use Rattle.rtc_channel_runs.proofs.StillSides.{none_opening, taken_up}
+use Rattle.rtc_plain_streams.proofs.BackedRows.{plain_unread}
+use Rattle.rtc_plain_streams.proofs.KnownStreams.{AreKnown}
+use Rattle.rtc_plain_streams.proofs.PlainGenerations.{plain_generations}
 use Rattle.rtc_channel_runs.proofs.RestingSides.{resting_drained, resting_last}
 use Rattle.rtc_channel_runs.proofs.RunsTold.{PairTold, new_pair_told, reached_told}
 use Rattle.rtc_channel_runs.proofs.SettledSides.{other_use}
@@ -151,19 +154,31 @@ module _ {N : Type 0} (draws : Draws N) where
       numbers Left = told.left.side.told.numbers
       numbers Right = told.right.side.told.numbers
 
-      none_unread : (at : Side) (s : ℕ)
+      known_at : (at : Side) → SideKnown (plain_over draws) (plain_over_laws draws) plain_generations plain_unread (rtc_at at pair)
+          → AreKnown plain_meaning (rtc_at at pair).core.sctp
+      known_at at (inl closed) = absurd (not_closed draws (rtc_at at pair) (settled.peers at).alive closed)
+      known_at at (inr known) = known
+
+      known : (at : Side) → AreKnown plain_meaning (rtc_at at pair).core.sctp
+      known at =
+          known_at at
+          (run_known (plain_over draws) (plain_over_laws draws) plain_generations plain_unread stun start past pair ran (new_pair_known draws start new) at)
+
+      quiet : (at : Side) (s : ℕ) → closed_here (rtc_at at pair).core.sctp.association s ≡ false
           → has_unread (rtc_at at pair).core.sctp.association s (generation_of (rtc_at at pair).core.sctp.association s) ≡ false
-      none_unread at s =
-          ap (list_any (is_message_of s (generation_of (rtc_at at pair).core.sctp.association s))) (still at).read
+      quiet at s unclosed =
+          none_unread draws (rtc_at at pair) s (settled.peers at)
+          (last_all draws (rtc_at at pair) (resting_last (plain_over draws) stun start past pair ran at (settled.resting at)) (settled.peers at)) (heard at)
+          (known at) (still at).waits unclosed
 
       taken : (at : Side) (s : ℕ) → AreKeptStreams s (rtc_at at pair) (rtc_at (other_side at) pair) → WaitsForAnswer s (rtc_at at pair).core.sctp.entries
           → IsTakenUp s (rtc_at (other_side at) pair).core.sctp.entries
       taken Left s kept waits =
           taken_up draws told.acts.left told.acts.right (uses Left) (uses Right) pair.left pair.right told.left.side told.right.side (settled.peers Left)
-          (settled.peers Right) (heard Left) (λ t g. side_all told.acts pair Left t g told.exchange) s kept (none_unread Right s) waits
+          (settled.peers Right) (heard Left) (λ t g. side_all told.acts pair Left t g told.exchange) s kept (quiet Right s kept.unclosed_there) waits
       taken Right s kept waits =
           taken_up draws told.acts.right told.acts.left (uses Right) (uses Left) pair.right pair.left told.right.side told.left.side (settled.peers Right)
-          (settled.peers Left) (heard Right) (λ t g. side_all told.acts pair Right t g told.exchange) s kept (none_unread Left s) waits
+          (settled.peers Left) (heard Right) (λ t g. side_all told.acts pair Right t g told.exchange) s kept (quiet Left s kept.unclosed_there) waits
 
       by_entry : (at : Side) (c s : ℕ) → stream_under c (rtc_at at pair).core.channels ≡ Some s
           → AreKeptStreams s (rtc_at at pair) (rtc_at (other_side at) pair) → StandsAs s (rtc_at at pair).core.sctp.entries
@@ -184,7 +199,8 @@ module _ {N : Type 0} (draws : Draws N) where
       by_side at c s under kept (inr begun) =
           by_entry at c s under kept
           (stands_as (rtc_at at pair).core.sctp.association s (rtc_at at pair).core.sctp.entries (heard at)
-          (confirmed_stands c s (rtc_at at pair).core.channels (rtc_at at pair).core.sctp (numbers at) (still at).started (still at).idle begun.1 under))
+          (confirmed_stands c s (rtc_at at pair).core.channels (rtc_at at pair).core.sctp (numbers at)
+          ((known at).begun (settled.peers at).established) (still at).idle begun.1 under))
 
       pub settled_confirmed : (at : Side)
           → AreConfirmedOpen draws (λ c. WasConfirmed (plain_over draws) stun start at c past pair ran) (uses at) (rtc_at at pair) (uses (other_side at))
