@@ -38,12 +38,12 @@ use Rattle.rtc_polling.specs.Stages.{Call, InTurn, Failed, Passed}
 use Rattle.rtc_polling.specs.StreamStages.{channel_over}
 use Rattle.rtc_polling_laws.specs.Acts.{message_of_write}
 use Rattle.rtc_polling_laws.specs.RowsChanged.{OnlyActs, RowsChange, RowsChanged, Timed, Progressed, ThresholdSet, StreamClosed}
-use Rattle.rtc_polling_laws.proofs.ChangedRows.{changed_on, one_changed, rows_same, rows_stay}
+use Rattle.rtc_polling_laws.proofs.ChangedRows.{changed_on, one_changed, only_called, rows_same, rows_stay}
 use Rattle.rtc_polling_laws.specs.ChannelStreams.{AreNumberedChannels, IsGone, IsUsedStream}
 use Rattle.rtc_polling_laws.specs.PeerActs.{nothing_came}
 use Rattle.rtc_polling_laws.proofs.ActedClosing.{beside, close_acts}
 use Rattle.rtc_polling_laws.proofs.StreamsJoin.{given_on, same_given}
-use Rattle.rtc_polling_laws.proofs.ClosedRows.{close_rows}
+use Rattle.rtc_polling_laws.proofs.ClosedRows.{close_only, close_rows}
 use Rattle.rtc_channel_laws.specs.KeptChannels.{CallKeepsStreams}
 use Rattle.rtc_channel_laws.proofs.KeptCalls.{StreamsKept, kept_same, kept_acts, kept_write, kept_timeout, kept_threshold_if, kept_close, ChannelsKept, channels_on, moment_kept, same_channels}
 
@@ -346,7 +346,7 @@ module _ {I D S M E X T W N : Type 0} (m : Meanings I D S M E X T W N) where
         let same = written_same m.association (can_write m.association stream p.core.sctp) (is_current m.association stream p.core.sctp) stream binary
         bytes p.core.sctp h.0 q.core.sctp h.1 in
         let did = writes_did m.association stream binary bytes p.core.sctp h.0 q.core.sctp h.1 in
-        changes_none p q is (record { acts = did.did.acts; went = did.did.went; entries = same.0; begun = λ e. sym same.1 ∙ e })))
+        changes_none p q is (only_called m.association [] _ p.core.sctp q.core.sctp did same.0 same.1)))
 
     pub channel_write_keeps : (stream : ℕ) (binary : Bool) (bytes : List ℕ) (p : PolledPeer I D S M N) (r : Result Bool RtcError)
         (q : PolledPeer I D S M N) → WritesChannel m stream binary bytes p r q
@@ -365,6 +365,4 @@ module _ {I D S M E X T W N : Type 0} (m : Meanings I D S M E X T W N) where
         let did = close_acts m nothing_came [] laws p r q h in
         let kept = close_rows m p r q h in
         over_streams p q [] (kept_acts m.association laws p.core.sctp q.core.sctp did.acts.association did.went.association kept.2 (λ k. stay_same p.core.sctp q.core.sctp kept.3 k.1)) kept.1
-        (close_stays p.core.phase p r q h refl)
-        (changes_none p q kept.1
-        (record { acts = did.acts.association; went = did.went.association; entries = kept.2; begun = λ e. sym kept.3 ∙ e }))
+        (close_stays p.core.phase p r q h refl) (changes_none p q kept.1 (close_only m laws p r q h))

@@ -47,7 +47,7 @@ module _ {I D S M E X T W N : Type 0} (m : Meanings I D S M E X T W N) (laws : P
 
   module _ (stun : List ℕ → Bool) (start : PairState I D S M N) where
     -- the changes of each side by the last step
-    last_rows : (entry : Entry E) (past : List (Entry E)) (pair : PairState I D S M N) (ran : Reached m stun start (entry ∷ past) pair) (at : Side)
+    pub last_rows : (entry : Entry E) (past : List (Entry E)) (pair : PairState I D S M N) (ran : Reached m stun start (entry ∷ past) pair) (at : Side)
         → StepRows m (rtc_at at ran.0) (rtc_at at pair)
     last_rows entry past pair ran at =
         rows_at m (side_of entry.step) at ran.0 pair

@@ -48,3 +48,6 @@ mod ClosingRows
 mod ClosingEnds
 mod ClosingPairs
 pub mod SettledRuns
+pub mod KnownRows
+pub mod KnownRuns
+pub mod KnownSides

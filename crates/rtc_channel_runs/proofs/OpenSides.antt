@@ -113,20 +113,22 @@ module _ {N : Type 0} (draws : Draws N) where
   pub not_closed : (q : PlainPolled N) → q.core.phase ≡ Alive → q.core.phase ≡ Closed → ⊥
   not_closed q alive closed = let clash : Alive ≡ Closed = sym alive ∙ closed in cc
 
-  pub last_heard : (q : PlainPolled N) → PolledLast (plain_over draws) q → IsSettledPeer q → IsEmptyBefore plain_meaning q.core.sctp
-      → AreHeard plain_meaning q.core.sctp.association q.core.sctp.entries
-  last_heard q last settled empty = by (is_started q.core.sctp.association) refl
+  pub last_all : (q : PlainPolled N) → PolledLast (plain_over draws) q → IsSettledPeer q → AllHeard plain_meaning q.core.sctp
+  last_all q last settled =
+      timeout_heard (plain_over draws) (plain_over_laws draws) last.before q last.moment last.polled live
+      (pushed_none last.moment q (poll_ends (plain_over draws) last.before.core.phase last.moment last.before q refl last.polled) live settled.sends)
     where
       live : q.core.phase ≡ Closed → ⊥
       live = not_closed q settled.alive
 
-      all : AllHeard plain_meaning q.core.sctp
-      all =
-          timeout_heard (plain_over draws) (plain_over_laws draws) last.before q last.moment last.polled live
-          (pushed_none last.moment q (poll_ends (plain_over draws) last.before.core.phase last.moment last.before q refl last.polled) live settled.sends)
-
+  pub last_heard : (q : PlainPolled N) → PolledLast (plain_over draws) q → IsSettledPeer q → IsEmptyBefore plain_meaning q.core.sctp
+      → AreHeard plain_meaning q.core.sctp.association q.core.sctp.entries
+  last_heard q last settled empty = by (is_started q.core.sctp.association) refl
+    where
       by : (b : Bool) → is_started q.core.sctp.association ≡ b → AreHeard plain_meaning q.core.sctp.association q.core.sctp.entries
-      by true e = all.streams (both_true (is_established q.core.sctp.state) (is_started q.core.sctp.association) settled.established e)
+      by true e =
+          (last_all q last settled).streams
+          (both_true (is_established q.core.sctp.state) (is_started q.core.sctp.association) settled.established e)
       by false e = subst (λ (l : List StreamEntry). AreHeard plain_meaning q.core.sctp.association l) (sym (empty e)) tt
 
   -- ---- the channel at the other end

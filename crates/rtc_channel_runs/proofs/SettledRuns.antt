@@ -1,14 +1,13 @@
 -- In a settled pair a channel that one side announced is open at both.
-use Rattle.std.proofs.Common.{◌≡◌, ◌∙◌, ◌++◌, ℕ, Bool, false, List, [], Some, inl, inr, sym, ap, subst}
-use Rattle.std.specs.List.{list_any}
+use Rattle.std.proofs.Common.{◌≡◌, ◌⊎◌, None, ◌∙◌, ◌++◌, ℕ, Bool, false, List, [], Some, inl, inr, sym, ap, subst}
 use Rattle.rtc_association.specs.AssociationWords.{ended, read, written}
 use Rattle.rtc_assoc.specs.Unread.{IsPrefix, unread}
 use Rattle.rtc_assoc_state.specs.Contents.{closed_here, generation_of, has_unread}
-use Rattle.rtc_assoc_state.specs.Inbox.{is_message_of}
 use Rattle.rtc_assoc_state.specs.Outbox.{has_unacknowledged}
 use Rattle.rtc_assoc_state.specs.PlainMeaning.{plain_meaning}
 use Rattle.rtc_sctp_entries.specs.Entries.{has_open}
 use Rattle.rtc_sctp.specs.Streams.{is_established}
+use Rattle.rtc_channels.specs.Openings.{channels_wake}
 use Rattle.rtc_polling.specs.ChannelCalls.{stream_under}
 use Rattle.rtc_polling_laws.specs.ChannelStreams.{AreNumberedChannels}
 use Rattle.rtc_polling_laws.specs.Drained.{AreHeard}
@@ -36,7 +35,7 @@ use Rattle.rtc_channel_runs.specs.OpenUses.{AreJoinedUses}
 use Rattle.rtc_channel_runs.specs.SentMessages.{sent_over}
 use Rattle.rtc_channel_runs.specs.ToldMessages.{told_over}
 use Rattle.rtc_channel_runs.specs.ConfirmedChannels.{WasConfirmed}
-use Rattle.rtc_channel_runs.specs.SettledPairs.{AreAnswered, AreConfirmedOpen, AreKeptStreams, AreOpenAtBoth, IsInBandStream, IsOpenAtBoth, IsSettledPair}
+use Rattle.rtc_channel_runs.specs.SettledPairs.{AreAnswered, AreConfirmedOpen, AreConfirmedSettled, AreKeptStreams, AreOpenAtBoth, IsInBandStream, IsOpenAtBoth, IsOpeningRefused, IsSettledPair}
 use Rattle.rtc_channel_runs.specs.SettledPairs.{IsSettledPeer, IsTakenUp, SettlesOpen, WaitsForAnswer}
 use Rattle.rtc_channel_runs.specs.StillPairs.{IsStillPair}
 use Rattle.rtc_channel_runs.specs.UsesOfRuns.{reached_by, uses_of}
@@ -45,8 +44,13 @@ use Rattle.rtc_channel_runs.proofs.DrainedRuns.{new_unused, pair_drained}
 use Rattle.rtc_channel_runs.proofs.HeardOpenings.{none_has}
 use Rattle.rtc_channel_runs.proofs.ConfirmedRuns.{SideBegun, SideSound, run_begun}
 use Rattle.rtc_channel_runs.proofs.ConfirmedSides.{IsOpen, Opening, StandsAs, Unanswered, confirmed_stands, new_sound, stands_as}
-use Rattle.rtc_channel_runs.proofs.OpenSides.{both_true, last_heard, not_closed, own_use, stays_under}
+use Rattle.rtc_channel_runs.proofs.OpenSides.{both_true, last_all, last_heard, not_closed, own_use, stays_under}
+use Rattle.rtc_channel_runs.proofs.KnownRuns.{SideKnown, new_pair_known, run_known}
+use Rattle.rtc_channel_runs.proofs.KnownSides.{none_unread, refused_of, refused_opening}
 use Rattle.rtc_channel_runs.proofs.StillSides.{none_opening, taken_up}
+use Rattle.rtc_plain_streams.proofs.BackedRows.{plain_unread}
+use Rattle.rtc_plain_streams.proofs.KnownStreams.{AreKnown}
+use Rattle.rtc_plain_streams.proofs.PlainGenerations.{plain_generations}
 use Rattle.rtc_channel_runs.proofs.RestingSides.{resting_drained, resting_last}
 use Rattle.rtc_channel_runs.proofs.RunsTold.{PairTold, new_pair_told, reached_told}
 use Rattle.rtc_channel_runs.proofs.SettledSides.{other_use}
@@ -142,7 +146,7 @@ module _ {N : Type 0} (draws : Draws N) where
         (λ t g. side_all told.acts pair Left t g told.exchange) s kept waits taken
 
     -- a channel that was confirmed and has a stream
-    module _ (new : IsNewPair draws start) (still : IsStillPair pair) where
+    module _ (new : IsNewPair draws start) where
       sound_start : (at : Side) → SideSound (plain_over draws) (plain_over_laws draws) (rtc_at at start)
       sound_start Left = inr (new_sound draws start.left new.left)
       sound_start Right = inr (new_sound draws start.right new.right)
@@ -151,46 +155,92 @@ module _ {N : Type 0} (draws : Draws N) where
       numbers Left = told.left.side.told.numbers
       numbers Right = told.right.side.told.numbers
 
-      none_unread : (at : Side) (s : ℕ)
-          → has_unread (rtc_at at pair).core.sctp.association s (generation_of (rtc_at at pair).core.sctp.association s) ≡ false
-      none_unread at s =
-          ap (list_any (is_message_of s (generation_of (rtc_at at pair).core.sctp.association s))) (still at).read
+      known_at : (at : Side) → SideKnown (plain_over draws) (plain_over_laws draws) plain_generations plain_unread (rtc_at at pair)
+          → AreKnown plain_meaning (rtc_at at pair).core.sctp
+      known_at at (inl closed) = absurd (not_closed draws (rtc_at at pair) (settled.peers at).alive closed)
+      known_at at (inr known) = known
 
-      taken : (at : Side) (s : ℕ) → AreKeptStreams s (rtc_at at pair) (rtc_at (other_side at) pair) → WaitsForAnswer s (rtc_at at pair).core.sctp.entries
-          → IsTakenUp s (rtc_at (other_side at) pair).core.sctp.entries
-      taken Left s kept waits =
+      known : (at : Side) → AreKnown plain_meaning (rtc_at at pair).core.sctp
+      known at =
+          known_at at
+          (run_known (plain_over draws) (plain_over_laws draws) plain_generations plain_unread stun start past pair ran (new_pair_known draws start new) at)
+
+      quiet : (at : Side) (s : ℕ) → closed_here (rtc_at at pair).core.sctp.association s ≡ false
+          → IsOpeningRefused s (rtc_at at pair)
+          ⊎ (has_unread (rtc_at at pair).core.sctp.association s (generation_of (rtc_at at pair).core.sctp.association s) ≡ false)
+      quiet at s unclosed =
+          none_unread draws (rtc_at at pair) s (settled.peers at)
+          (last_all draws (rtc_at at pair) (resting_last (plain_over draws) stun start past pair ran at (settled.resting at)) (settled.peers at)) (heard at)
+          (known at) unclosed
+
+      taken : (at : Side) (s : ℕ) → AreKeptStreams s (rtc_at at pair) (rtc_at (other_side at) pair)
+          → has_unread (rtc_at (other_side at) pair).core.sctp.association s (generation_of (rtc_at (other_side at) pair).core.sctp.association s) ≡ false
+          → WaitsForAnswer s (rtc_at at pair).core.sctp.entries → IsTakenUp s (rtc_at (other_side at) pair).core.sctp.entries
+      taken Left s kept none waits =
           taken_up draws told.acts.left told.acts.right (uses Left) (uses Right) pair.left pair.right told.left.side told.right.side (settled.peers Left)
-          (settled.peers Right) (heard Left) (λ t g. side_all told.acts pair Left t g told.exchange) s kept (none_unread Right s) waits
-      taken Right s kept waits =
+          (settled.peers Right) (heard Left) (λ t g. side_all told.acts pair Left t g told.exchange) s kept none waits
+      taken Right s kept none waits =
           taken_up draws told.acts.right told.acts.left (uses Right) (uses Left) pair.right pair.left told.right.side told.left.side (settled.peers Right)
-          (settled.peers Left) (heard Right) (λ t g. side_all told.acts pair Right t g told.exchange) s kept (none_unread Left s) waits
+          (settled.peers Left) (heard Right) (λ t g. side_all told.acts pair Right t g told.exchange) s kept none waits
+
+      -- it is open at both sides, or the opening of its stream is refused for now at one
+      abbrev EndsAt : (at : Side) (c s : ℕ) → Type 0
+      EndsAt at c s =
+          IsOpenAtBoth draws c (uses at) (rtc_at at pair) (uses (other_side at)) (rtc_at (other_side at) pair)
+          ⊎ (IsOpeningRefused s (rtc_at at pair) ⊎ IsOpeningRefused s (rtc_at (other_side at) pair))
+
+      unanswered : (at : Side) (c s : ℕ) → AreKeptStreams s (rtc_at at pair) (rtc_at (other_side at) pair)
+          → WaitsForAnswer s (rtc_at at pair).core.sctp.entries
+          → IsOpeningRefused s (rtc_at (other_side at) pair)
+          ⊎ (has_unread (rtc_at (other_side at) pair).core.sctp.association s
+          (generation_of (rtc_at (other_side at) pair).core.sctp.association s) ≡ false)
+          → EndsAt at c s
+      unanswered at c s kept waits (inl refused) = inr (inr refused)
+      unanswered at c s kept waits (inr none) = absurd (settled_answered at s kept waits (taken at s kept none waits))
 
       by_entry : (at : Side) (c s : ℕ) → stream_under c (rtc_at at pair).core.channels ≡ Some s
-          → AreKeptStreams s (rtc_at at pair) (rtc_at (other_side at) pair) → StandsAs s (rtc_at at pair).core.sctp.entries
-          → IsOpenAtBoth draws c (uses at) (rtc_at at pair) (uses (other_side at)) (rtc_at (other_side at) pair)
-      by_entry at c s under kept (Opening h) = absurd (none_opening s (rtc_at at pair).core.sctp (heard at) (still at).waits h)
-      by_entry at c s under kept (Unanswered h) = absurd (settled_answered at s kept h (taken at s kept h))
+          → AreKeptStreams s (rtc_at at pair) (rtc_at (other_side at) pair) → StandsAs s (rtc_at at pair).core.sctp.entries → EndsAt at c s
+      by_entry at c s under kept (Opening h) = inr (inl (refused_of draws (rtc_at at pair) s (heard at) kept.unclosed_here h))
+      by_entry at c s under kept (Unanswered h) = unanswered at c s kept h (quiet (other_side at) s kept.unclosed_there)
       by_entry at c s under kept (IsOpen h) =
-          settled_open at c s
+          inl
+          (settled_open at c s
           (stays_under draws c s (rtc_at at pair) (settled.peers at).alive under
           (both_true (is_established (rtc_at at pair).core.sctp.state) (has_open s (rtc_at at pair).core.sctp.entries) (settled.peers at).established h))
-          kept
+          kept)
 
-      by_side : (at : Side) (c s : ℕ) → stream_under c (rtc_at at pair).core.channels ≡ Some s
-          → AreKeptStreams s (rtc_at at pair) (rtc_at (other_side at) pair)
-          → SideBegun (plain_over draws) (plain_over_laws draws) c (rtc_at at pair)
-          → IsOpenAtBoth draws c (uses at) (rtc_at at pair) (uses (other_side at)) (rtc_at (other_side at) pair)
-      by_side at c s under kept (inl closed) = absurd (not_closed draws (rtc_at at pair) (settled.peers at).alive closed)
-      by_side at c s under kept (inr begun) =
+      by_side : (at : Side) (c s : ℕ) → channels_wake plain_meaning (rtc_at at pair).core.channels (rtc_at at pair).core.sctp ≡ None
+          → stream_under c (rtc_at at pair).core.channels ≡ Some s → AreKeptStreams s (rtc_at at pair) (rtc_at (other_side at) pair)
+          → SideBegun (plain_over draws) (plain_over_laws draws) c (rtc_at at pair) → EndsAt at c s
+      by_side at c s idle under kept (inl closed) = absurd (not_closed draws (rtc_at at pair) (settled.peers at).alive closed)
+      by_side at c s idle under kept (inr begun) =
           by_entry at c s under kept
           (stands_as (rtc_at at pair).core.sctp.association s (rtc_at at pair).core.sctp.entries (heard at)
-          (confirmed_stands c s (rtc_at at pair).core.channels (rtc_at at pair).core.sctp (numbers at) (still at).started (still at).idle begun.1 under))
+          (confirmed_stands c s (rtc_at at pair).core.channels (rtc_at at pair).core.sctp (numbers at)
+          ((known at).begun (settled.peers at).established) idle begun.1 under))
 
-      pub settled_confirmed : (at : Side)
-          → AreConfirmedOpen draws (λ c. WasConfirmed (plain_over draws) stun start at c past pair ran) (uses at) (rtc_at at pair) (uses (other_side at))
-          (rtc_at (other_side at) pair)
-      settled_confirmed at = λ c s confirmed under kept.
-          by_side at c s under kept (run_begun (plain_over draws) (plain_over_laws draws) stun start past pair ran sound_start at c confirmed)
+      pub settled_refused : (at : Side) → channels_wake plain_meaning (rtc_at at pair).core.channels (rtc_at at pair).core.sctp ≡ None
+          → AreConfirmedSettled draws (λ c. WasConfirmed (plain_over draws) stun start at c past pair ran) (uses at) (rtc_at at pair)
+          (uses (other_side at)) (rtc_at (other_side at) pair)
+      settled_refused at idle = λ c s confirmed under kept.
+          by_side at c s idle under kept (run_begun (plain_over draws) (plain_over_laws draws) stun start past pair ran sound_start at c confirmed)
+
+      -- so it is open at both, where none is tried again
+      module _ (still : IsStillPair pair) where
+        none_refused : (at : Side) (s : ℕ) → IsOpeningRefused s (rtc_at at pair) → ⊥
+        none_refused at s refused =
+            none_opening s (rtc_at at pair).core.sctp (heard at) (still at).waits (refused_opening s (rtc_at at pair) refused)
+
+        still_open : (at : Side) (c s : ℕ) → EndsAt at c s
+            → IsOpenAtBoth draws c (uses at) (rtc_at at pair) (uses (other_side at)) (rtc_at (other_side at) pair)
+        still_open at c s (inl opened) = opened
+        still_open at c s (inr (inl here)) = absurd (none_refused at s here)
+        still_open at c s (inr (inr there)) = absurd (none_refused (other_side at) s there)
+
+        pub settled_confirmed : (at : Side)
+            → AreConfirmedOpen draws (λ c. WasConfirmed (plain_over draws) stun start at c past pair ran) (uses at) (rtc_at at pair)
+            (uses (other_side at)) (rtc_at (other_side at) pair)
+        settled_confirmed at = λ c s confirmed under kept. still_open at c s (settled_refused at (still at).idle c s confirmed under kept)
 
   pub run_settles_open : (stun : List ℕ → Bool) (start pair : PlainPair N) (steps : List Step) (replies : List (Reply PlainMediaEvent))
       → IsNewPair draws start → (run : Runs (plain_over draws) stun start steps replies pair) → SettlesOpen draws stun start steps replies pair run
@@ -199,6 +249,8 @@ module _ {N : Type 0} (draws : Draws N) where
       record {
         opened = λ settled at. settled_open stun start run.past pair ran (new_pair_told draws start new) (new_unused draws start new) settled at;
         answered = λ settled at. settled_answered stun start run.past pair ran (new_pair_told draws start new) (new_unused draws start new) settled at;
+        refused = λ settled at idle.
+            settled_refused stun start run.past pair ran (new_pair_told draws start new) (new_unused draws start new) settled new at idle;
         confirmed = λ settled still at.
             settled_confirmed stun start run.past pair ran (new_pair_told draws start new) (new_unused draws start new) settled new still at;
       }

@@ -1,15 +1,17 @@
 -- Pairs in which nothing is under way any more, and what holds of the channels of such a pair (RFC 8832, section 6).
-use Rattle.std.specs.Prelude.{ℕ, ◌≡◌, ◌<◌, ◌-◌, ◌^◌, ◌⊎◌, Bool, true, false, List, [], ◌∷◌, Some}
+use Rattle.std.specs.Prelude.{ℕ, ◌≡◌, ◌<◌, ◌-◌, ◌^◌, ◌⊎◌, Bool, true, false, List, [], ◌∷◌, Some, None}
 use Rattle.rtc_parts_values.specs.Among.{Member}
 use Rattle.rtc_dtls.specs.DtlsState.{can_send}
 use Rattle.rtc_plain_dtls.specs.PlainMeaning.{plain_dtls}
-use Rattle.rtc_assoc_state.specs.Contents.{closed_here, generation_of, is_ending}
+use Rattle.rtc_assoc_state.specs.Contents.{closed_here, generation_of, has_stream, is_ending}
+use Rattle.rtc_assoc_state.specs.PlainMeaning.{plain_meaning}
 use Rattle.rtc_plain_media.specs.declared.plain_media_event.PlainMediaEvent.{PlainMediaEvent}
 use Rattle.rtc_ids.specs.Draws.{Draws}
 use Rattle.rtc_sctp_entries.specs.declared.stream_entry_state.StreamEntryState.TheVariants.{AwaitOpen, AwaitDcepAck}
 use Rattle.rtc_sctp_entries.specs.declared.stream_entry.StreamEntry.{StreamEntry}
-use Rattle.rtc_sctp_entries.specs.Entries.{is_out_of_band}
+use Rattle.rtc_sctp_entries.specs.Entries.{is_out_of_band, is_retrying}
 use Rattle.rtc_sctp.specs.Streams.{is_established}
+use Rattle.rtc_channels.specs.Openings.{channels_wake}
 use Rattle.rtc_peer_state.specs.declared.phase.Phase.TheVariants.{Alive}
 use Rattle.rtc_polling.specs.ChannelCalls.{open_stream_under, stream_under}
 use Rattle.rtc_history.specs.declared.outcome.Outcome.{Outcome}
@@ -141,7 +143,25 @@ AreConfirmedOpen draws confirmed uses p others q =
     → AreKeptStreams stream p q
     → IsOpenAtBoth draws channel uses p others q
 
--- A run by these steps with these replies leaves it so at both sides, where it left the pair settled, and no opening under way.
+-- the opening of a stream is refused for now, as the stream is there already, and is tried again
+abbrev pub IsOpeningRefused : {N : Type 0} → (stream : ℕ) → PlainPolled N → Type 0
+IsOpeningRefused stream p =
+    HasEntryOf (λ entry. (entry.state ≡ AwaitOpen) × (is_retrying entry ≡ true)) stream p.core.sctp.entries
+    × (has_stream p.core.sctp.association stream ≡ true)
+
+-- Each channel of one side that was confirmed and has a stream is open at both, over such a stream, or the opening of the stream is refused
+-- for now at one of them.
+abbrev pub AreConfirmedSettled : {N : Type 0} → Draws N → (confirmed : ℕ → Type 0) → (uses : List ChannelUse) → PlainPolled N
+    → (others : List ChannelUse) → PlainPolled N → Type 0
+AreConfirmedSettled draws confirmed uses p others q =
+    (channel stream : ℕ)
+    → confirmed channel
+    → stream_under channel p.core.channels ≡ Some stream
+    → AreKeptStreams stream p q
+    → IsOpenAtBoth draws channel uses p others q ⊎ (IsOpeningRefused stream p ⊎ IsOpeningRefused stream q)
+
+-- A run by these steps with these replies leaves it so at both sides, where it left the pair settled: where nothing is due for the channels
+-- of the side, and where besides no opening is under way at either.
 pub record SettlesOpen {N : Type 0} (draws : Draws N) (stun : List ℕ → Bool) (start : PlainPair N) (steps : List Step)
     (replies : List (Reply PlainMediaEvent)) (pair : PlainPair N) (run : Runs (plain_over draws) stun start steps replies pair)
     : Type 0 where
@@ -149,6 +169,13 @@ pub record SettlesOpen {N : Type 0} (draws : Draws N) (stun : List ℕ → Bool)
       → AreOpenAtBoth draws (uses_in_run (plain_over draws) stun start steps replies pair run at) (rtc_at at pair)
       (uses_in_run (plain_over draws) stun start steps replies pair run (other_side at)) (rtc_at (other_side at) pair)
   pub answered : IsSettledPair run.past pair → (at : Side) → AreAnswered (rtc_at at pair) (rtc_at (other_side at) pair)
+  pub refused : IsSettledPair run.past pair → (at : Side)
+      → channels_wake plain_meaning (rtc_at at pair).core.channels (rtc_at at pair).core.sctp ≡ None
+      → AreConfirmedSettled draws
+      (λ channel. WasConfirmed (plain_over draws) stun start at channel run.past pair
+      (reached_by (plain_over draws) stun start run.past pair run.went))
+      (uses_in_run (plain_over draws) stun start steps replies pair run at) (rtc_at at pair)
+      (uses_in_run (plain_over draws) stun start steps replies pair run (other_side at)) (rtc_at (other_side at) pair)
   pub confirmed : IsSettledPair run.past pair → IsStillPair pair → (at : Side)
       → AreConfirmedOpen draws
       (λ channel. WasConfirmed (plain_over draws) stun start at channel run.past pair

@@ -1,5 +1,7 @@
 //! The channels of a run of two peers over plain parts that ended with nothing under way.
-ghost use Rattle.std.specs.Prelude.{ℕ, Bool, List};
+ghost use Rattle.std.specs.Prelude.{ℕ, ◌≡◌, Bool, List, None};
+ghost use Rattle.rtc_assoc_state.specs.PlainMeaning.{plain_meaning};
+ghost use Rattle.rtc_channels.specs.Openings.{channels_wake};
 ghost use Rattle.rtc_plain_media.specs.declared.plain_media_event.PlainMediaEvent.{PlainMediaEvent};
 ghost use Rattle.rtc_history.specs.declared.reply.Reply.{Reply};
 ghost use Rattle.rtc_history.specs.declared.side.Side.{Side};
@@ -11,7 +13,7 @@ ghost use Rattle.rtc_history.specs.Sides.{other_side};
 ghost use Rattle.rtc_joined_runs.specs.NewPairs.{IsNewPair};
 ghost use Rattle.rtc_joined_runs.specs.PlainPairs.{PlainPair, plain_over};
 ghost use Rattle.rtc_channel_runs.specs.ConfirmedChannels.{WasConfirmed};
-ghost use Rattle.rtc_channel_runs.specs.SettledPairs.{AreAnswered, AreConfirmedOpen, AreOpenAtBoth, IsSettledPair, SettlesOpen};
+ghost use Rattle.rtc_channel_runs.specs.SettledPairs.{AreAnswered, AreConfirmedOpen, AreConfirmedSettled, AreOpenAtBoth, IsSettledPair, SettlesOpen};
 ghost use Rattle.rtc_channel_runs.specs.StillPairs.{IsStillPair};
 ghost use Rattle.rtc_channel_runs.specs.UsesOfRuns.{uses_of};
 
@@ -24,8 +26,9 @@ use rtc_ids::Ids;
 /// messages, while a number is left for a channel. No opening over such a stream waits for its answer, where the other side has the
 /// stream in use too and does not wait to open it.
 ///
-/// Where, besides, neither the associations with their streams nor the channels over them want a moment, and no whole message stands
-/// unread, each channel that was confirmed in the run, and has such a stream, is open at both sides so.
+/// Where, besides, nothing is due for the channels of a side, each of them that was confirmed in the run, and has such a stream, is
+/// open at both sides so; or the opening of its stream is refused for now at one of them, as the stream is there already, and is tried
+/// again. It is open at both, where neither the associations with their streams nor the channels over them want a moment.
 pub fn settled_pairs_have_open_channels<N: Ids>()
     ensures reached { (stun : List ℕ → Bool) (start pair : PlainPair N) (past : List (Entry PlainMediaEvent)) → IsNewPair N.ids start
         → (ran : Reached (plain_over N.ids) stun start past pair) → IsSettledPair past pair → (at : Side)
@@ -34,6 +37,12 @@ pub fn settled_pairs_have_open_channels<N: Ids>()
     ensures answered { (stun : List ℕ → Bool) (start pair : PlainPair N) (past : List (Entry PlainMediaEvent)) → IsNewPair N.ids start
         → Reached (plain_over N.ids) stun start past pair → IsSettledPair past pair → (at : Side)
         → AreAnswered (rtc_at at pair) (rtc_at (other_side at) pair) }
+    ensures refused { (stun : List ℕ → Bool) (start pair : PlainPair N) (past : List (Entry PlainMediaEvent)) → IsNewPair N.ids start
+        → (ran : Reached (plain_over N.ids) stun start past pair) → IsSettledPair past pair → (at : Side)
+        → channels_wake plain_meaning (rtc_at at pair).core.channels (rtc_at at pair).core.sctp ≡ None
+        → AreConfirmedSettled N.ids (λ channel. WasConfirmed (plain_over N.ids) stun start at channel past pair ran)
+        (uses_of (plain_over N.ids) stun start at past pair ran) (rtc_at at pair)
+        (uses_of (plain_over N.ids) stun start (other_side at) past pair ran) (rtc_at (other_side at) pair) }
     ensures confirmed { (stun : List ℕ → Bool) (start pair : PlainPair N) (past : List (Entry PlainMediaEvent)) → IsNewPair N.ids start
         → (ran : Reached (plain_over N.ids) stun start past pair) → IsSettledPair past pair → IsStillPair pair → (at : Side)
         → AreConfirmedOpen N.ids (λ channel. WasConfirmed (plain_over N.ids) stun start at channel past pair ran)

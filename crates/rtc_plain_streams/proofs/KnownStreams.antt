@@ -12,7 +12,7 @@ use Rattle.rtc_association.proofs.AssociationLemmas.{adds_all, generation_rises}
 use Rattle.rtc_parts_values.specs.Among.{Member}
 use Rattle.rtc_sctp_entries.specs.declared.stream_entry.StreamEntry.{StreamEntry}
 use Rattle.rtc_sctp_entries.specs.Entries.{is_closed_state}
-use Rattle.rtc_sctp.specs.Streams.{SctpStreams}
+use Rattle.rtc_sctp.specs.Streams.{SctpStreams, is_established}
 use Rattle.rtc_stream_uses.specs.GenerationLaws.{GenerationLaws, gives_packet}
 use Rattle.rtc_stream_uses.specs.StreamUses.{is_spent_stream}
 use Rattle.rtc_stream_uses.proofs.KeptUses.{acts_keep, spent_kept}
@@ -62,6 +62,7 @@ module _ {S : Type 0} (m : AssociationMeaning S) where
   pub record AreKnown (p : SctpStreams S) : Type 0 where
     pub backed : AreBacked p.association
     pub known : (s : ℕ) → IsKnown s p.association p.entries
+    pub begun : is_established p.state ≡ true → m.started p.association ≡ true
 
   -- nothing of the stream stands unread, or it takes no message of its generation any more
   abbrev pub IsSilent : ℕ → S → Type 0
@@ -79,7 +80,7 @@ module _ {S : Type 0} (m : AssociationMeaning S) where
     moved_fewer (act ∷ acts) a b none h s g k = u.fewer a h.0 act refl h.1.0 s g (moved_fewer acts h.0 b none h.1.1 s g k)
 
     -- what stands unread of the generation of a stream behind acts that gave no packet stood so before
-    unread_before : (acts : List AssociationAct) (a b : S) (s : ℕ) → given acts ≡ [] → Moved m a acts b
+    pub unread_before : (acts : List AssociationAct) (a b : S) (s : ℕ) → given acts ≡ [] → Moved m a acts b
         → m.has_unread b s (m.generation b s) ≡ true → m.has_unread a s (m.generation a s) ≡ true
     unread_before acts a b s none h k =
         let same = (acts_keep m v s acts a b none h).generation_is in

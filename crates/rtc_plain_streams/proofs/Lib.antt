@@ -4,3 +4,7 @@ pub mod PlainGenerations
 pub mod PlainReadings
 pub mod KnownStreams
 pub mod BackedRows
+pub mod KnownVisits
+pub mod KnownEntries
+pub mod KnownPolls
+pub mod KnownCalls

@@ -110,7 +110,7 @@ module _ {I D S M E X T W N : Type 0} (m : Meanings I D S M E X T W N) (laws : P
       beside.0 beside.1 beside.2
 
   quiet_of : (p q : PolledPeer I D S M N) → PeerDid m nothing_came (p.core.greatest ∷ []) [] [] [] p q → BesideDtls p q → QuietDid m p q
-  quiet_of p q did kept = quiet_nothing m p q (plain_visit m Nothing p q did refl kept.3 (ap (λ held. held.rows) kept.4) (dtls_kept p q kept) tt)
+  quiet_of p q did kept = quiet_nothing m p q (plain_visit m Nothing p q did refl kept.3 (ap (λ held. held.rows) kept.4) (dtls_kept m.association p q kept) tt)
 
   -- an output that tells something, or a moment
   told_did : (call : DtlsCall) (output : DtlsOutput) (d : DtlsState D) (p : PolledPeer I D S M N) (packets : List (List ℕ)) (k : D)

@@ -56,7 +56,7 @@ module _ {I D S M E X T W N : Type 0} (m : Meanings I D S M E X T W N) (laws : P
       → StreamsWent m p (Ok (outputs.Timeout 0)) wrote heard n → StreamsWent m p (Ok (outputs.Timeout moment)) wrote heard q
   went_idle moment p n x q is sctp held wrote heard h = subst (λ (y : PolledPeer I D S M N). StreamsWent m p (Ok (outputs.Timeout moment)) wrote heard y) (sym is) (record {
     uses = λ w v s ws hs k. subst (λ (y : SctpStreams S). IsUsedOver m.association s (ws ++ wrote) (hs ++ heard) y) (sym sctp) (h.uses w v s ws hs k);
-    lives = λ c s g rising k. live_kept c s g n x (ap (λ (y : SctpStreams S). y.entries) sctp, held, states_same n.core.sctp x.core.sctp (ap (λ (y : SctpStreams S). y.state) sctp)) (h.lives c s g rising k);
+    lives = λ c s g rising k. live_kept m.association c s g n x (ap (λ (y : SctpStreams S). y.entries) sctp, held, states_same m.association n.core.sctp x.core.sctp sctp) (h.lives c s g rising k);
     live_heard = h.live_heard;
     gone = λ c k. subst (λ (y : Channels). IsGone c y) (sym held) (h.gone c k);
     apart = λ k. subst (λ (y : Channels). AreApart y.rows) (sym held) (h.apart k);

@@ -1,7 +1,14 @@
 -- Changes of channels and of the entries of their streams, one after the other.
-use Rattle.std.proofs.Common.{◌≡◌, ℕ, zero, suc, Bool, [], Option, refl, sym, ap, subst, ◌∙◌}
+use Rattle.std.proofs.Common.{◌≡◌, ◌⊎◌, ◌++◌, inl, inr, ℕ, zero, suc, Bool, true, List, [], Option, refl, sym, ap, subst, ◌∙◌}
+use Rattle.rtc_association.specs.AssociationActs.{moved-append}
+use Rattle.rtc_association.specs.AssociationLaws.{AssociationLaws}
 use Rattle.rtc_association.specs.AssociationMeaning.{AssociationMeaning}
-use Rattle.rtc_sctp.specs.Streams.{SctpStreams}
+use Rattle.rtc_association.specs.AssociationWords.{told}
+use Rattle.rtc_association.proofs.AssociationLemmas.{told-append}
+use Rattle.rtc_sctp.specs.Streams.{SctpStreams, is_established}
+use Rattle.rtc_sctp_laws.specs.StreamActs.{CallDid}
+use Rattle.rtc_sctp_laws.specs.StreamMessages.{StreamMessage}
+use Rattle.rtc_sctp_laws.proofs.ClosingPolls.{started_moved}
 use Rattle.rtc_channels.specs.Channels.{Channels}
 use Rattle.rtc_polling_laws.specs.RowsChanged.{ChangeRows, ClosesRow, OnlyActs, RowsChange, RowsChanged, SameRows, Stayed}
 
@@ -30,9 +37,42 @@ module _ {S : Type 0} (m : AssociationMeaning S) where
   no_acts a n b is association entries state = record {
     acts = [];
     went = ap (λ (x : SctpStreams S). x.association) is ∙ association;
+    untold = refl;
     entries = ap (λ (x : SctpStreams S). x.entries) is ∙ entries;
     begun = λ e. sym (ap (λ (x : SctpStreams S). x.state) is ∙ state) ∙ e;
+    lasts = λ e. inl (ap is_established (sym (ap (λ (x : SctpStreams S). x.state) is ∙ state)) ∙ e);
   }
+
+  -- a call that told nothing, and that leaves entries and state
+  pub only_called : (ins : List (List ℕ)) (wrote : List StreamMessage) (a b : SctpStreams S) → CallDid m ins wrote a b → b.entries ≡ a.entries
+      → b.state ≡ a.state → OnlyActs m a b
+  only_called ins wrote a b d entries state = record {
+    acts = d.did.acts;
+    went = d.did.went;
+    untold = d.did.told_is;
+    entries = entries;
+    begun = λ e. sym state ∙ e;
+    lasts = λ e. inl (ap is_established (sym state) ∙ e);
+  }
+
+  -- acts behind others
+  pub only_on : AssociationLaws m → (a b c : SctpStreams S) → OnlyActs m a b → OnlyActs m b c → OnlyActs m a c
+  only_on w a b c h k = record {
+    acts = h.acts ++ k.acts;
+    went = moved-append m a.association b.association c.association h.acts k.acts h.went k.went;
+    untold = told-append h.acts k.acts ∙ ap (λ l. l ++ told k.acts) h.untold ∙ k.untold;
+    entries = k.entries ∙ h.entries;
+    begun = λ e. h.begun (k.begun e);
+    lasts = λ e. by (k.lasts e);
+  }
+    where
+      of_first : (is_established a.state ≡ true) ⊎ (m.started b.association ≡ true) → (is_established a.state ≡ true) ⊎ (m.started c.association ≡ true)
+      of_first (inl e) = inl e
+      of_first (inr s) = inr (started_moved m w k.acts b.association c.association s k.went)
+
+      by : (is_established b.state ≡ true) ⊎ (m.started c.association ≡ true) → (is_established a.state ≡ true) ⊎ (m.started c.association ≡ true)
+      by (inl e) = of_first (h.lasts e)
+      by (inr s) = inr s
 
   pub rows_same : (held : Channels) (a : SctpStreams S) (held' : Channels) (b : SctpStreams S) → held' ≡ held → b ≡ a
       → RowsChanged m held a held' b

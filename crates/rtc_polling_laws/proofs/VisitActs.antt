@@ -146,7 +146,7 @@ module _ {I D S M E X T W N : Type 0} (m : Meanings I D S M E X T W N) where
     data_passed = tt;
     greatest = refl;
     rows = refl;
-    streams = streams_stay m (Ok (outputs.Timeout 0)) p p [] refl (refl, refl, states_same p.core.sctp p.core.sctp refl) tt tt;
+    streams = streams_stay m (Ok (outputs.Timeout 0)) p p [] refl (refl, refl, states_same m.association p.core.sctp p.core.sctp refl) tt tt;
   }
 
   -- what is met shows no message of a channel
@@ -165,7 +165,7 @@ module _ {I D S M E X T W N : Type 0} (m : Meanings I D S M E X T W N) where
 
   -- acts by which no message was written or read
   pub plain_visit : (r : Met E) (p q : PolledPeer I D S M N) → PeerDid m nothing_came (p.core.greatest ∷ []) (contents_met r) [] [] p q
-      → MeetsData r q.core.channels [] → q.core.greatest ≡ p.core.greatest → KeepsRows r p.core.channels q.core.channels → KeepsStreams p q
+      → MeetsData r q.core.channels [] → q.core.greatest ≡ p.core.greatest → KeepsRows r p.core.channels q.core.channels → KeepsStreams m.association p q
       → TellsNoOpening (answer_met r) → VisitDid p r q
   plain_visit r p q did meets greatest rows kept unopened = record {
     wrote = [];
@@ -203,7 +203,7 @@ module _ {I D S M E X T W N : Type 0} (m : Meanings I D S M E X T W N) where
       (subst (λ (y : PolledPeer I D S M N). VisitDid p x y) (sym is)
       (plain_visit x p n
       (subst (λ (l : List (List ℕ)). PeerDid m nothing_came (p.core.greatest ∷ []) l [] [] p n) (sym none.0)
-      (still_did m nothing_came (p.core.greatest ∷ []) p n same.0)) (none.1 n.core.channels) same.1 (keeps_by x p.core.channels n.core.channels (ap (λ held. held.rows) same.2)) (ap (λ s. s.entries) same.0.3, same.2, states_same p.core.sctp n.core.sctp (ap (λ s. s.state) same.0.3)) none.2))
+      (still_did m nothing_came (p.core.greatest ∷ []) p n same.0)) (none.1 n.core.channels) same.1 (keeps_by x p.core.channels n.core.channels (ap (λ held. held.rows) same.2)) (ap (λ s. s.entries) same.0.3, same.2, states_same m.association p.core.sctp n.core.sctp same.0.3) none.2))
 
   module _ (laws : AssociationLaws m.association) where
     pub visit_on : (r : Met E) (p b q : PolledPeer I D S M N) → QuietDid p b → VisitDid b r q → VisitDid p r q

@@ -1,14 +1,15 @@
 -- How calls and polls change the channels of a peer and the entries of their streams, one change after the other.
-use Rattle.std.specs.Prelude.{ℕ, zero, suc, ◌≡◌, Bool, List, Option, Some, None, Result, Ok}
+use Rattle.std.specs.Prelude.{ℕ, zero, suc, ◌≡◌, ◌⊎◌, Bool, true, List, [], Option, Some, None, Result, Ok}
 use Rattle.std.specs.declared.alloc.AllocError.{AllocError}
 use Rattle.rtc_ready.specs.Signals.{Signals}
 use Rattle.rtc_wire.specs.declared.channel_config.ChannelConfig.{ChannelConfig}
 use Rattle.rtc_association.specs.AssociationActs.{AssociationAct, Moved}
 use Rattle.rtc_association.specs.AssociationMeaning.{AssociationMeaning}
+use Rattle.rtc_association.specs.AssociationWords.{told}
 use Rattle.rtc_sctp.specs.declared.rtc_sctp_state.RtcSctpState.TheVariants.{Uninited}
 use Rattle.rtc_sctp_entries.specs.declared.sctp_event.SctpEvent.{SctpEvent}
 use Rattle.rtc_sctp_entries.specs.declared.sctp_event.SctpEvent.TheVariants as event
-use Rattle.rtc_sctp.specs.Streams.{SctpStreams}
+use Rattle.rtc_sctp.specs.Streams.{SctpStreams, is_established}
 use Rattle.rtc_sctp.specs.Calls.{TakesTimeout}
 use Rattle.rtc_sctp.specs.StreamCalls.{ClosesDataStream, SetsThreshold}
 use Rattle.rtc_sctp.specs.Polls.{PollsStreams}
@@ -42,12 +43,18 @@ abbrev pub KeepsBegun : {S : Type 0} → SctpStreams S → SctpStreams S → Typ
 KeepsBegun a b = b.state ≡ Uninited → a.state ≡ Uninited
 
 module _ {S : Type 0} (m : AssociationMeaning S) where
-  -- acts were done to the association, and the entries stay
+  -- one that is established was so before, or is started
+  abbrev pub StartsEstablished : SctpStreams S → SctpStreams S → Type 0
+  StartsEstablished a b = is_established b.state ≡ true → (is_established a.state ≡ true) ⊎ (m.started b.association ≡ true)
+
+  -- acts were done to the association by which no event was told, and the entries stay
   pub record OnlyActs (a b : SctpStreams S) : Type 0 where
     pub acts : List AssociationAct
     pub went : Moved m a.association acts b.association
+    pub untold : told acts ≡ []
     pub entries : b.entries ≡ a.entries
     pub begun : KeepsBegun a b
+    pub lasts : StartsEstablished a b
 
   -- One change of channels and of the entries of their streams: none; a poll of the streams, with what becomes of their channels; a moment
   -- that the streams take, and one that the channels take behind them; a threshold that is set; a stream that is closed from here; channels
