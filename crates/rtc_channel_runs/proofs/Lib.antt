@@ -47,6 +47,7 @@ mod ConfirmedSides
 mod ClosingRows
 mod ClosingEnds
 mod ClosingPairs
+mod KeptStreams
 pub mod SettledRuns
 pub mod KnownRows
 pub mod KnownRuns

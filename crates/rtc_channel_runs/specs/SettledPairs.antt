@@ -3,7 +3,7 @@ use Rattle.std.specs.Prelude.{ℕ, ◌≡◌, ◌<◌, ◌-◌, ◌^◌, ◌⊎�
 use Rattle.rtc_parts_values.specs.Among.{Member}
 use Rattle.rtc_dtls.specs.DtlsState.{can_send}
 use Rattle.rtc_plain_dtls.specs.PlainMeaning.{plain_dtls}
-use Rattle.rtc_assoc_state.specs.Contents.{closed_here, generation_of, has_stream, is_ending}
+use Rattle.rtc_assoc_state.specs.Contents.{has_stream, is_ending}
 use Rattle.rtc_assoc_state.specs.PlainMeaning.{plain_meaning}
 use Rattle.rtc_plain_media.specs.declared.plain_media_event.PlainMediaEvent.{PlainMediaEvent}
 use Rattle.rtc_ids.specs.Draws.{Draws}
@@ -79,13 +79,10 @@ abbrev pub IsInBandStream : (stream : ℕ) → List StreamEntry → Type 0
 IsInBandStream stream [] = Unit {0}
 IsInBandStream stream (entry ∷ entries) = (entry.id ≡ stream → is_out_of_band entry ≡ false) × IsInBandStream stream entries
 
--- both associations have a stream in one generation, neither end closed it, and neither settled it by other means than messages
-pub record AreKeptStreams {N : Type 0} (stream : ℕ) (p q : PlainPolled N) : Type 0 where
-  pub generation_is : generation_of q.core.sctp.association stream ≡ generation_of p.core.sctp.association stream
-  pub unclosed_here : closed_here p.core.sctp.association stream ≡ false
-  pub unclosed_there : closed_here q.core.sctp.association stream ≡ false
-  pub in_band_here : IsInBandStream stream p.core.sctp.entries
-  pub in_band_there : IsInBandStream stream q.core.sctp.entries
+-- neither side settled a stream by other means than messages
+pub record AreInBandStreams {N : Type 0} (stream : ℕ) (p q : PlainPolled N) : Type 0 where
+  pub here : IsInBandStream stream p.core.sctp.entries
+  pub there : IsInBandStream stream q.core.sctp.entries
 
 -- A channel of one side was announced, and so was one by the other side, over the same generation of the same stream. Both are open, and
 -- each side got over its channel all that the other sent over its own.
@@ -100,14 +97,13 @@ pub record IsOpenAtBoth {N : Type 0} (draws : Draws N) (channel : ℕ) (uses : L
   pub got : own.got ≡ other.sent
   pub sent : other.got ≡ own.sent
 
--- So it is for each channel that is open at the one side, over a stream that both associations have in one generation, and that neither end
--- closed or settled by other means.
+-- So it is for each channel that is open at the one side, over a stream that neither side settled by other means than messages.
 abbrev pub AreOpenAtBoth : {N : Type 0} → Draws N → (uses : List ChannelUse) → PlainPolled N → (others : List ChannelUse) → PlainPolled N
     → Type 0
 AreOpenAtBoth draws uses p others q =
     (channel stream : ℕ)
     → open_stream_under channel p ≡ Some stream
-    → AreKeptStreams stream p q
+    → AreInBandStreams stream p q
     → IsOpenAtBoth draws channel uses p others q
 
 -- a stream has an entry that is so
@@ -127,20 +123,19 @@ IsTakenUp stream entries = HasEntryOf (λ entry. entry.state ≡ AwaitOpen → �
 abbrev pub AreAnswered : {N : Type 0} → PlainPolled N → PlainPolled N → Type 0
 AreAnswered p q =
     (stream : ℕ)
-    → AreKeptStreams stream p q
+    → AreInBandStreams stream p q
     → WaitsForAnswer stream p.core.sctp.entries
     → IsTakenUp stream q.core.sctp.entries
     → ⊥
 
--- Each channel of one side that was confirmed and has a stream is open at both, over a stream that both associations have in one
--- generation, and that neither end closed or settled by other means.
+-- each channel of one side that was confirmed and has such a stream is open at both
 abbrev pub AreConfirmedOpen : {N : Type 0} → Draws N → (confirmed : ℕ → Type 0) → (uses : List ChannelUse) → PlainPolled N
     → (others : List ChannelUse) → PlainPolled N → Type 0
 AreConfirmedOpen draws confirmed uses p others q =
     (channel stream : ℕ)
     → confirmed channel
     → stream_under channel p.core.channels ≡ Some stream
-    → AreKeptStreams stream p q
+    → AreInBandStreams stream p q
     → IsOpenAtBoth draws channel uses p others q
 
 -- the opening of a stream is refused for now, as the stream is there already, and is tried again
@@ -149,15 +144,14 @@ IsOpeningRefused stream p =
     HasEntryOf (λ entry. (entry.state ≡ AwaitOpen) × (is_retrying entry ≡ true)) stream p.core.sctp.entries
     × (has_stream p.core.sctp.association stream ≡ true)
 
--- Each channel of one side that was confirmed and has a stream is open at both, over such a stream, or the opening of the stream is refused
--- for now at one of them.
+-- each channel of one side that was confirmed and has such a stream is open at both, or the opening of the stream is refused for now at one
 abbrev pub AreConfirmedSettled : {N : Type 0} → Draws N → (confirmed : ℕ → Type 0) → (uses : List ChannelUse) → PlainPolled N
     → (others : List ChannelUse) → PlainPolled N → Type 0
 AreConfirmedSettled draws confirmed uses p others q =
     (channel stream : ℕ)
     → confirmed channel
     → stream_under channel p.core.channels ≡ Some stream
-    → AreKeptStreams stream p q
+    → AreInBandStreams stream p q
     → IsOpenAtBoth draws channel uses p others q ⊎ (IsOpeningRefused stream p ⊎ IsOpeningRefused stream q)
 
 -- A run by these steps with these replies leaves it so at both sides, where it left the pair settled: where nothing is due for the channels
