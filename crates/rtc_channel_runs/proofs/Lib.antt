@@ -48,6 +48,7 @@ mod ClosingRows
 mod ClosingEnds
 mod ClosingPairs
 mod KeptStreams
+mod IdleSides
 pub mod SettledRuns
 pub mod KnownRows
 pub mod KnownRuns

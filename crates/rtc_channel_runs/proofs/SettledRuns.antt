@@ -1,5 +1,5 @@
 -- In a settled pair a channel that one side announced is open at both.
-use Rattle.std.proofs.Common.{◌≡◌, ◌⊎◌, None, ◌∙◌, ◌++◌, ℕ, Bool, false, List, [], Some, inl, inr, sym, ap, subst}
+use Rattle.std.proofs.Common.{◌<◌, ◌≡◌, ◌⊎◌, None, ◌∙◌, ◌++◌, ℕ, Bool, false, List, [], Some, inl, inr, sym, ap, subst}
 use Rattle.rtc_association.specs.AssociationWords.{ended, read, written}
 use Rattle.rtc_assoc.specs.Unread.{IsPrefix, unread}
 use Rattle.rtc_assoc_state.specs.Contents.{closed_here, generation_of, has_unread}
@@ -35,7 +35,7 @@ use Rattle.rtc_channel_runs.specs.OpenUses.{AreJoinedUses}
 use Rattle.rtc_channel_runs.specs.SentMessages.{sent_over}
 use Rattle.rtc_channel_runs.specs.ToldMessages.{told_over}
 use Rattle.rtc_channel_runs.specs.ConfirmedChannels.{WasConfirmed}
-use Rattle.rtc_channel_runs.specs.SettledPairs.{AreAnswered, AreConfirmedOpen, AreConfirmedSettled, AreInBandStreams, AreOpenAtBoth, IsInBandStream, IsOpenAtBoth, IsOpeningRefused, IsSettledPair}
+use Rattle.rtc_channel_runs.specs.SettledPairs.{AreAnswered, AreConfirmedOpen, AreConfirmedSettled, AreInBandStreams, AreOpenAtBoth, IsInBandStream, HasNothingDue, IsOpenAtBoth, IsOpeningRefused, IsSettledPair}
 use Rattle.rtc_channel_runs.specs.SettledPairs.{IsSettledPeer, IsTakenUp, SettlesOpen, WaitsForAnswer}
 use Rattle.rtc_channel_runs.specs.StillPairs.{IsStillPair}
 use Rattle.rtc_channel_runs.specs.UsesOfRuns.{reached_by, uses_of}
@@ -45,6 +45,7 @@ use Rattle.rtc_channel_runs.proofs.HeardOpenings.{none_has}
 use Rattle.rtc_channel_runs.proofs.ConfirmedRuns.{SideBegun, SideSound, run_begun}
 use Rattle.rtc_channel_runs.proofs.ConfirmedSides.{IsOpen, Opening, StandsAs, Unanswered, confirmed_stands, new_sound, stands_as}
 use Rattle.rtc_channel_runs.proofs.OpenSides.{both_true, last_all, last_heard, not_closed, own_use, stays_under}
+use Rattle.rtc_channel_runs.proofs.IdleSides.{none_due}
 use Rattle.rtc_channel_runs.proofs.KeptStreams.{AreKeptStreams, AreLevelStreams, kept_by, pair_level}
 use Rattle.rtc_channel_runs.proofs.KnownRuns.{SideKnown, new_pair_known, run_known}
 use Rattle.rtc_channel_runs.proofs.KnownSides.{none_unread, refused_of, refused_opening}
@@ -124,7 +125,7 @@ module _ {N : Type 0} (draws : Draws N) where
     drained at = resting_drained at past (settled.resting at)
 
     heard : (at : Side) → AreHeard plain_meaning (rtc_at at pair).core.sctp.association (rtc_at at pair).core.sctp.entries
-    heard at = last_heard draws (rtc_at at pair) (resting_last (plain_over draws) stun start past pair ran at (settled.resting at)) (settled.peers at) (empty at).empty
+    heard at = last_heard draws (rtc_at at pair) (resting_last (plain_over draws) (λ n. Unit {0}) stun start past pair ran at (settled.resting at)) (settled.peers at) (empty at).empty
 
     level : (at : Side) → AreLevelStreams (rtc_at at pair) (rtc_at (other_side at) pair)
     level at = pair_level told.acts pair told.exchange settled.peers at
@@ -155,6 +156,14 @@ module _ {N : Type 0} (draws : Draws N) where
         (settled.peers Left) (heard Right) (heard Left) (λ t g. side_all told.acts pair Right t g told.exchange)
         (λ t g. side_all told.acts pair Left t g told.exchange) s (kept_streams Right s band) waits taken
 
+    -- nothing is due for the channels of a side that waits for a later moment
+    pub settled_idle : (at : Side) → HasNothingDue at past pair
+        → channels_wake plain_meaning (rtc_at at pair).core.channels (rtc_at at pair).core.sctp ≡ None
+    settled_idle at later =
+        none_due draws (rtc_at at pair)
+        (resting_last (plain_over draws) (λ moment. (rtc_at at pair).core.greatest < moment) stun start past pair ran at later)
+        (settled.peers at).alive
+
     -- a channel that was confirmed and has a stream
     module _ (new : IsNewPair draws start) where
       sound_start : (at : Side) → SideSound (plain_over draws) (plain_over_laws draws) (rtc_at at start)
@@ -180,7 +189,7 @@ module _ {N : Type 0} (draws : Draws N) where
           ⊎ (has_unread (rtc_at at pair).core.sctp.association s (generation_of (rtc_at at pair).core.sctp.association s) ≡ false)
       quiet at s unclosed =
           none_unread draws (rtc_at at pair) s (settled.peers at)
-          (last_all draws (rtc_at at pair) (resting_last (plain_over draws) stun start past pair ran at (settled.resting at)) (settled.peers at)) (heard at)
+          (last_all draws (rtc_at at pair) (resting_last (plain_over draws) (λ n. Unit {0}) stun start past pair ran at (settled.resting at)) (settled.peers at)) (heard at)
           (known at) unclosed
 
       taken : (at : Side) (s : ℕ) → AreInBandStreams s (rtc_at at pair) (rtc_at (other_side at) pair)
@@ -259,6 +268,8 @@ module _ {N : Type 0} (draws : Draws N) where
       record {
         opened = λ settled at. settled_open stun start run.past pair ran (new_pair_told draws start new) (new_unused draws start new) settled at;
         answered = λ settled at. settled_answered stun start run.past pair ran (new_pair_told draws start new) (new_unused draws start new) settled at;
+        idle = λ settled at later.
+            settled_idle stun start run.past pair ran (new_pair_told draws start new) (new_unused draws start new) settled at later;
         refused = λ settled at idle.
             settled_refused stun start run.past pair ran (new_pair_told draws start new) (new_unused draws start new) settled new at idle;
         confirmed = λ settled still at.

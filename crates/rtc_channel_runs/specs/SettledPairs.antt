@@ -33,31 +33,40 @@ use Rattle.rtc_channel_runs.specs.ConfirmedChannels.{WasConfirmed}
 use Rattle.rtc_channel_runs.specs.StillPairs.{IsStillPair}
 use Rattle.rtc_channel_runs.specs.UsesOfRuns.{reached_by, uses_in_run}
 
--- outputs end in a timeout
-abbrev pub EndInTimeout : {E : Type 0} → List (Shown E) → Type 0
-EndInTimeout [] = ⊥
-EndInTimeout (Timeout moment reason ∷ outputs) = Unit {0}
-EndInTimeout (Packet number len ∷ outputs) = EndInTimeout outputs
-EndInTimeout (Event event ∷ outputs) = EndInTimeout outputs
+-- outputs end in a timeout at a moment that is so
+abbrev pub EndInTimeout : {E : Type 0} → (ℕ → Type 0) → List (Shown E) → Type 0
+EndInTimeout is_so [] = ⊥
+EndInTimeout is_so (Timeout moment reason ∷ outputs) = is_so moment
+EndInTimeout is_so (Packet number len ∷ outputs) = EndInTimeout is_so outputs
+EndInTimeout is_so (Event event ∷ outputs) = EndInTimeout is_so outputs
 
-abbrev pub RestsByOutcome : {E : Type 0} → Outcome E → Type 0
-RestsByOutcome (Polled outputs end) = EndInTimeout outputs
-RestsByOutcome outcome = ⊥
+abbrev pub RestsByOutcome : {E : Type 0} → (ℕ → Type 0) → Outcome E → Type 0
+RestsByOutcome is_so (Polled outputs end) = EndInTimeout is_so outputs
+RestsByOutcome is_so outcome = ⊥
 
--- a step polled a peer up to a timeout
-abbrev pub RestsByStep : {E : Type 0} → Step → Outcome E → Type 0
-RestsByStep (Poll at) outcome = RestsByOutcome outcome
-RestsByStep (Drain at) outcome = RestsByOutcome outcome
-RestsByStep step outcome = ⊥
+-- a step polled a peer up to such a timeout
+abbrev pub RestsByStep : {E : Type 0} → (ℕ → Type 0) → Step → Outcome E → Type 0
+RestsByStep is_so (Poll at) outcome = RestsByOutcome is_so outcome
+RestsByStep is_so (Drain at) outcome = RestsByOutcome is_so outcome
+RestsByStep is_so step outcome = ⊥
 
-abbrev pub RestsByEntry : {E : Type 0} → (acting : Bool) → Step → Outcome E → (earlier : Type 0) → Type 0
-RestsByEntry true step outcome earlier = RestsByStep step outcome
-RestsByEntry false step outcome earlier = earlier
+abbrev pub RestsByEntry : {E : Type 0} → (ℕ → Type 0) → (acting : Bool) → Step → Outcome E → (earlier : Type 0) → Type 0
+RestsByEntry is_so true step outcome earlier = RestsByStep is_so step outcome
+RestsByEntry is_so false step outcome earlier = earlier
 
--- a side was polled up to a timeout, and no input came to it and no call was made on it since
+-- a side was polled up to a timeout at a moment that is so, and no input came to it and no call was made on it since
+abbrev pub RestsUntil : {E : Type 0} → (ℕ → Type 0) → Side → List (Entry E) → Type 0
+RestsUntil is_so at [] = ⊥
+RestsUntil is_so at (entry ∷ past) =
+    RestsByEntry is_so (same_side (side_of entry.step) at) entry.step entry.outcome (RestsUntil is_so at past)
+
+-- whatever the moment
 abbrev pub IsResting : {E : Type 0} → Side → List (Entry E) → Type 0
-IsResting at [] = ⊥
-IsResting at (entry ∷ past) = RestsByEntry (same_side (side_of entry.step) at) entry.step entry.outcome (IsResting at past)
+IsResting at past = RestsUntil (λ moment. Unit {0}) at past
+
+-- nothing was due by then: the moment is later than each that the peer took
+abbrev pub HasNothingDue : {E N : Type 0} → Side → List (Entry E) → PlainPair N → Type 0
+HasNothingDue at past pair = RestsUntil (λ moment. (rtc_at at pair).core.greatest < moment) at past
 
 -- A peer is alive, application data can go over its DTLS connection, and its association is established, neither closing nor closed. It has
 -- no unacknowledged item, and a number is left for a channel.
@@ -163,6 +172,8 @@ pub record SettlesOpen {N : Type 0} (draws : Draws N) (stun : List ℕ → Bool)
       → AreOpenAtBoth draws (uses_in_run (plain_over draws) stun start steps replies pair run at) (rtc_at at pair)
       (uses_in_run (plain_over draws) stun start steps replies pair run (other_side at)) (rtc_at (other_side at) pair)
   pub answered : IsSettledPair run.past pair → (at : Side) → AreAnswered (rtc_at at pair) (rtc_at (other_side at) pair)
+  pub idle : IsSettledPair run.past pair → (at : Side) → HasNothingDue at run.past pair
+      → channels_wake plain_meaning (rtc_at at pair).core.channels (rtc_at at pair).core.sctp ≡ None
   pub refused : IsSettledPair run.past pair → (at : Side)
       → channels_wake plain_meaning (rtc_at at pair).core.channels (rtc_at at pair).core.sctp ≡ None
       → AreConfirmedSettled draws
