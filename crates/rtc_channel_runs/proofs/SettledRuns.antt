@@ -146,12 +146,13 @@ module _ {N : Type 0} (draws : Draws N) where
         (pair_drained draws stun start past pair ran h unused Left (drained Left)) (λ s g. side_reads told.acts pair Left s g told.exchange)
         (λ s g. side_all told.acts pair Right s g told.exchange) (level Right)
 
-    pub settled_answered : (at : Side) → AreAnswered (rtc_at at pair) (rtc_at (other_side at) pair)
-    settled_answered Left = λ s band waits taken.
+    none_taken : (at : Side) (s : ℕ) → AreInBandStreams s (rtc_at at pair) (rtc_at (other_side at) pair)
+        → WaitsForAnswer s (rtc_at at pair).core.sctp.entries → IsTakenUp s (rtc_at (other_side at) pair).core.sctp.entries → ⊥
+    none_taken Left = λ s band waits taken.
         none_waits draws told.acts.left told.acts.right (uses Left) (uses Right) pair.left pair.right told.left.side told.right.side (settled.peers Left)
         (settled.peers Right) (heard Left) (heard Right) (λ t g. side_all told.acts pair Left t g told.exchange)
         (λ t g. side_all told.acts pair Right t g told.exchange) s (kept_streams Left s band) waits taken
-    settled_answered Right = λ s band waits taken.
+    none_taken Right = λ s band waits taken.
         none_waits draws told.acts.right told.acts.left (uses Right) (uses Left) pair.right pair.left told.right.side told.left.side (settled.peers Right)
         (settled.peers Left) (heard Right) (heard Left) (λ t g. side_all told.acts pair Right t g told.exchange)
         (λ t g. side_all told.acts pair Left t g told.exchange) s (kept_streams Right s band) waits taken
@@ -208,19 +209,24 @@ module _ {N : Type 0} (draws : Draws N) where
           IsOpenAtBoth draws c (uses at) (rtc_at at pair) (uses (other_side at)) (rtc_at (other_side at) pair)
           ⊎ (IsOpeningRefused s (rtc_at at pair) ⊎ IsOpeningRefused s (rtc_at (other_side at) pair))
 
-      unanswered : (at : Side) (c s : ℕ) → AreInBandStreams s (rtc_at at pair) (rtc_at (other_side at) pair)
+      -- an opening waits for its answer where that of the other side is refused for now
+      refused_there : (at : Side) (s : ℕ) → AreInBandStreams s (rtc_at at pair) (rtc_at (other_side at) pair)
           → WaitsForAnswer s (rtc_at at pair).core.sctp.entries
           → IsOpeningRefused s (rtc_at (other_side at) pair)
           ⊎ (has_unread (rtc_at (other_side at) pair).core.sctp.association s
           (generation_of (rtc_at (other_side at) pair).core.sctp.association s) ≡ false)
-          → EndsAt at c s
-      unanswered at c s band waits (inl refused) = inr (inr refused)
-      unanswered at c s band waits (inr none) = absurd (settled_answered at s band waits (taken at s band none waits))
+          → IsOpeningRefused s (rtc_at (other_side at) pair)
+      refused_there at s band waits (inl refused) = refused
+      refused_there at s band waits (inr none) = absurd (none_taken at s band waits (taken at s band none waits))
+
+      pub settled_answered : (at : Side) → AreAnswered (rtc_at at pair) (rtc_at (other_side at) pair)
+      settled_answered at = λ s band waits.
+          (refused_there at s band waits (quiet (other_side at) s (level at s).there), λ in_use. none_taken at s band waits in_use)
 
       by_entry : (at : Side) (c s : ℕ) → stream_under c (rtc_at at pair).core.channels ≡ Some s
           → AreInBandStreams s (rtc_at at pair) (rtc_at (other_side at) pair) → StandsAs s (rtc_at at pair).core.sctp.entries → EndsAt at c s
       by_entry at c s under band (Opening h) = inr (inl (refused_of draws (rtc_at at pair) s (heard at) (level at s).here h))
-      by_entry at c s under band (Unanswered h) = unanswered at c s band h (quiet (other_side at) s (level at s).there)
+      by_entry at c s under band (Unanswered h) = inr (inr (settled_answered at s band h).0)
       by_entry at c s under band (IsOpen h) =
           inl
           (settled_open at c s
@@ -267,7 +273,8 @@ module _ {N : Type 0} (draws : Draws N) where
       let ran : Reached (plain_over draws) stun start run.past pair = reached_by (plain_over draws) stun start run.past pair run.went in
       record {
         opened = λ settled at. settled_open stun start run.past pair ran (new_pair_told draws start new) (new_unused draws start new) settled at;
-        answered = λ settled at. settled_answered stun start run.past pair ran (new_pair_told draws start new) (new_unused draws start new) settled at;
+        answered = λ settled at.
+            settled_answered stun start run.past pair ran (new_pair_told draws start new) (new_unused draws start new) settled new at;
         idle = λ settled at later.
             settled_idle stun start run.past pair ran (new_pair_told draws start new) (new_unused draws start new) settled at later;
         refused = λ settled at idle.

@@ -128,14 +128,20 @@ WaitsForAnswer stream entries = HasEntryOf (λ entry. entry.state ≡ AwaitDcepA
 abbrev pub IsTakenUp : (stream : ℕ) → List StreamEntry → Type 0
 IsTakenUp stream entries = HasEntryOf (λ entry. entry.state ≡ AwaitOpen → ⊥) stream entries
 
--- No opening waits for its answer over such a stream, where the other side has it in use too and does not wait to open it.
+-- the opening of a stream is refused for now, as the stream is there already, and is tried again
+abbrev pub IsOpeningRefused : {N : Type 0} → (stream : ℕ) → PlainPolled N → Type 0
+IsOpeningRefused stream p =
+    HasEntryOf (λ entry. (entry.state ≡ AwaitOpen) × (is_retrying entry ≡ true)) stream p.core.sctp.entries
+    × (has_stream p.core.sctp.association stream ≡ true)
+
+-- Where an opening waits for its answer over such a stream, the other side has the stream not in use, and its own opening of it is refused
+-- for now.
 abbrev pub AreAnswered : {N : Type 0} → PlainPolled N → PlainPolled N → Type 0
 AreAnswered p q =
     (stream : ℕ)
     → AreInBandStreams stream p q
     → WaitsForAnswer stream p.core.sctp.entries
-    → IsTakenUp stream q.core.sctp.entries
-    → ⊥
+    → IsOpeningRefused stream q × (IsTakenUp stream q.core.sctp.entries → ⊥)
 
 -- each channel of one side that was confirmed and has such a stream is open at both
 abbrev pub AreConfirmedOpen : {N : Type 0} → Draws N → (confirmed : ℕ → Type 0) → (uses : List ChannelUse) → PlainPolled N
@@ -146,12 +152,6 @@ AreConfirmedOpen draws confirmed uses p others q =
     → stream_under channel p.core.channels ≡ Some stream
     → AreInBandStreams stream p q
     → IsOpenAtBoth draws channel uses p others q
-
--- the opening of a stream is refused for now, as the stream is there already, and is tried again
-abbrev pub IsOpeningRefused : {N : Type 0} → (stream : ℕ) → PlainPolled N → Type 0
-IsOpeningRefused stream p =
-    HasEntryOf (λ entry. (entry.state ≡ AwaitOpen) × (is_retrying entry ≡ true)) stream p.core.sctp.entries
-    × (has_stream p.core.sctp.association stream ≡ true)
 
 -- each channel of one side that was confirmed and has such a stream is open at both, or the opening of the stream is refused for now at one
 abbrev pub AreConfirmedSettled : {N : Type 0} → Draws N → (confirmed : ℕ → Type 0) → (uses : List ChannelUse) → PlainPolled N

@@ -9,7 +9,7 @@ returns-clause-reached g c = λ stun start pair past new ran settled at.
 
 pub returns-clause-answered : goal.returns-clause-answered
 returns-clause-answered g c = λ stun start pair past new ran settled at.
-    settled_answered g.N.Ids.ids stun start past pair ran (new_pair_told g.N.Ids.ids start new) (new_unused g.N.Ids.ids start new) settled at
+    settled_answered g.N.Ids.ids stun start past pair ran (new_pair_told g.N.Ids.ids start new) (new_unused g.N.Ids.ids start new) settled new at
 
 pub returns-clause-idle : goal.returns-clause-idle
 returns-clause-idle g c = λ stun start pair past new ran settled at later.
