@@ -10,7 +10,7 @@ use Rattle.rtc_sctp.specs.Streams.{is_established}
 use Rattle.rtc_channels.specs.Openings.{channels_wake}
 use Rattle.rtc_polling.specs.ChannelCalls.{stream_under}
 use Rattle.rtc_polling_laws.specs.ChannelStreams.{AreNumberedChannels}
-use Rattle.rtc_polling_laws.specs.Drained.{AreHeard}
+use Rattle.rtc_polling_laws.specs.Drained.{AreHeard, AreTriedAgain}
 use Rattle.rtc_polling_laws.specs.PeerActs.{PeerActs}
 use Rattle.rtc_plain_media.specs.declared.plain_media_event.PlainMediaEvent.{PlainMediaEvent}
 use Rattle.rtc_ids.specs.Draws.{Draws}
@@ -46,7 +46,7 @@ use Rattle.rtc_channel_runs.proofs.ConfirmedRuns.{SideBegun, SideSound, run_begu
 use Rattle.rtc_channel_runs.proofs.ConfirmedSides.{IsOpen, Opening, StandsAs, Unanswered, confirmed_stands, new_sound, stands_as}
 use Rattle.rtc_channel_runs.proofs.OpenSides.{both_true, last_all, last_heard, not_closed, own_use, stays_under}
 use Rattle.rtc_channel_runs.proofs.KnownRuns.{SideKnown, new_pair_known, run_known}
-use Rattle.rtc_channel_runs.proofs.KnownSides.{none_unread, refused_of, refused_opening}
+use Rattle.rtc_channel_runs.proofs.KnownSides.{none_unread, refused_of, refused_opening, tried_in}
 use Rattle.rtc_channel_runs.proofs.StillSides.{none_opening, taken_up}
 use Rattle.rtc_plain_streams.proofs.BackedRows.{plain_unread}
 use Rattle.rtc_plain_streams.proofs.KnownStreams.{AreKnown}
@@ -173,6 +173,12 @@ module _ {N : Type 0} (draws : Draws N) where
           (last_all draws (rtc_at at pair) (resting_last (plain_over draws) stun start past pair ran at (settled.resting at)) (settled.peers at)) (heard at)
           (known at) unclosed
 
+      tried : (at : Side) → AreTriedAgain (rtc_at at pair).core.sctp.last (rtc_at at pair).core.sctp.entries
+      tried at =
+          tried_in draws (rtc_at at pair) (settled.peers at)
+          (last_all draws (rtc_at at pair) (resting_last (plain_over draws) stun start past pair ran at (settled.resting at)) (settled.peers at))
+          (known at)
+
       taken : (at : Side) (s : ℕ) → AreKeptStreams s (rtc_at at pair) (rtc_at (other_side at) pair)
           → has_unread (rtc_at (other_side at) pair).core.sctp.association s (generation_of (rtc_at (other_side at) pair).core.sctp.association s) ≡ false
           → WaitsForAnswer s (rtc_at at pair).core.sctp.entries → IsTakenUp s (rtc_at (other_side at) pair).core.sctp.entries
@@ -200,7 +206,7 @@ module _ {N : Type 0} (draws : Draws N) where
 
       by_entry : (at : Side) (c s : ℕ) → stream_under c (rtc_at at pair).core.channels ≡ Some s
           → AreKeptStreams s (rtc_at at pair) (rtc_at (other_side at) pair) → StandsAs s (rtc_at at pair).core.sctp.entries → EndsAt at c s
-      by_entry at c s under kept (Opening h) = inr (inl (refused_of draws (rtc_at at pair) s (heard at) kept.unclosed_here h))
+      by_entry at c s under kept (Opening h) = inr (inl (refused_of draws (rtc_at at pair) s (heard at) (tried at) kept.unclosed_here h))
       by_entry at c s under kept (Unanswered h) = unanswered at c s kept h (quiet (other_side at) s kept.unclosed_there)
       by_entry at c s under kept (IsOpen h) =
           inl

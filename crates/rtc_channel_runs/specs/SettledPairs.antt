@@ -9,11 +9,12 @@ use Rattle.rtc_plain_media.specs.declared.plain_media_event.PlainMediaEvent.{Pla
 use Rattle.rtc_ids.specs.Draws.{Draws}
 use Rattle.rtc_sctp_entries.specs.declared.stream_entry_state.StreamEntryState.TheVariants.{AwaitOpen, AwaitDcepAck}
 use Rattle.rtc_sctp_entries.specs.declared.stream_entry.StreamEntry.{StreamEntry}
-use Rattle.rtc_sctp_entries.specs.Entries.{is_out_of_band, is_retrying}
+use Rattle.rtc_sctp_entries.specs.Entries.{is_out_of_band}
 use Rattle.rtc_sctp.specs.Streams.{is_established}
 use Rattle.rtc_channels.specs.Openings.{channels_wake}
 use Rattle.rtc_peer_state.specs.declared.phase.Phase.TheVariants.{Alive}
 use Rattle.rtc_polling.specs.ChannelCalls.{open_stream_under, stream_under}
+use Rattle.rtc_polling_laws.specs.Drained.{IsTriedAgain}
 use Rattle.rtc_history.specs.declared.outcome.Outcome.{Outcome}
 use Rattle.rtc_history.specs.declared.outcome.Outcome.TheVariants.{Polled}
 use Rattle.rtc_history.specs.declared.reply.Reply.{Reply}
@@ -143,10 +144,10 @@ AreConfirmedOpen draws confirmed uses p others q =
     → AreKeptStreams stream p q
     → IsOpenAtBoth draws channel uses p others q
 
--- the opening of a stream is refused for now, as the stream is there already, and is tried again
+-- the opening of a stream is refused for now, as the stream is there already, and is tried again: it has been so for less than ten seconds
 abbrev pub IsOpeningRefused : {N : Type 0} → (stream : ℕ) → PlainPolled N → Type 0
 IsOpeningRefused stream p =
-    HasEntryOf (λ entry. (entry.state ≡ AwaitOpen) × (is_retrying entry ≡ true)) stream p.core.sctp.entries
+    HasEntryOf (IsTriedAgain p.core.sctp.last) stream p.core.sctp.entries
     × (has_stream p.core.sctp.association stream ≡ true)
 
 -- Each channel of one side that was confirmed and has a stream is open at both, over such a stream, or the opening of the stream is refused

@@ -27,8 +27,9 @@ use rtc_ids::Ids;
 /// stream in use too and does not wait to open it.
 ///
 /// Where, besides, nothing is due for the channels of a side, each of them that was confirmed in the run, and has such a stream, is
-/// open at both sides so; or the opening of its stream is refused for now at one of them, as the stream is there already, and is tried
-/// again. It is open at both, where neither the associations with their streams nor the channels over them want a moment.
+/// open at both sides so; or the opening of its stream is refused for now at one of them, as the stream is there already, and has been
+/// for less than ten seconds. It is open at both, where neither the associations with their streams nor the channels over them want a
+/// moment.
 pub fn settled_pairs_have_open_channels<N: Ids>()
     ensures reached { (stun : List ℕ → Bool) (start pair : PlainPair N) (past : List (Entry PlainMediaEvent)) → IsNewPair N.ids start
         → (ran : Reached (plain_over N.ids) stun start past pair) → IsSettledPair past pair → (at : Side)
