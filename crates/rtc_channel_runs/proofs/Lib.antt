@@ -44,6 +44,11 @@ mod OpenedRows
 mod StepRows
 mod ConfirmedRuns
 mod ConfirmedSides
+mod ClosingRows
+mod ClosingEnds
+mod ClosingPairs
+mod KeptStreams
+mod IdleSides
 pub mod SettledRuns
 pub mod KnownRows
 pub mod KnownRuns

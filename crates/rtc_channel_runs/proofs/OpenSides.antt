@@ -113,7 +113,7 @@ module _ {N : Type 0} (draws : Draws N) where
   pub not_closed : (q : PlainPolled N) → q.core.phase ≡ Alive → q.core.phase ≡ Closed → ⊥
   not_closed q alive closed = let clash : Alive ≡ Closed = sym alive ∙ closed in cc
 
-  pub last_all : (q : PlainPolled N) → PolledLast (plain_over draws) q → IsSettledPeer q → AllHeard plain_meaning q.core.sctp
+  pub last_all : (q : PlainPolled N) → PolledLast (plain_over draws) (λ n. Unit {0}) q → IsSettledPeer q → AllHeard plain_meaning q.core.sctp
   last_all q last settled =
       timeout_heard (plain_over draws) (plain_over_laws draws) last.before q last.moment last.polled live
       (pushed_none last.moment q (poll_ends (plain_over draws) last.before.core.phase last.moment last.before q refl last.polled) live settled.sends)
@@ -121,7 +121,7 @@ module _ {N : Type 0} (draws : Draws N) where
       live : q.core.phase ≡ Closed → ⊥
       live = not_closed q settled.alive
 
-  pub last_heard : (q : PlainPolled N) → PolledLast (plain_over draws) q → IsSettledPeer q → IsEmptyBefore plain_meaning q.core.sctp
+  pub last_heard : (q : PlainPolled N) → PolledLast (plain_over draws) (λ n. Unit {0}) q → IsSettledPeer q → IsEmptyBefore plain_meaning q.core.sctp
       → AreHeard plain_meaning q.core.sctp.association q.core.sctp.entries
   last_heard q last settled empty = by (is_started q.core.sctp.association) refl
     where

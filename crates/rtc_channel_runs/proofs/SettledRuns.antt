@@ -1,5 +1,5 @@
 -- In a settled pair a channel that one side announced is open at both.
-use Rattle.std.proofs.Common.{◌≡◌, ◌⊎◌, None, ◌∙◌, ◌++◌, ℕ, Bool, false, List, [], Some, inl, inr, sym, ap, subst}
+use Rattle.std.proofs.Common.{◌<◌, ◌≡◌, ◌⊎◌, None, ◌∙◌, ◌++◌, ℕ, Bool, false, List, [], Some, inl, inr, sym, ap, subst}
 use Rattle.rtc_association.specs.AssociationWords.{ended, read, written}
 use Rattle.rtc_assoc.specs.Unread.{IsPrefix, unread}
 use Rattle.rtc_assoc_state.specs.Contents.{closed_here, generation_of, has_unread}
@@ -35,7 +35,7 @@ use Rattle.rtc_channel_runs.specs.OpenUses.{AreJoinedUses}
 use Rattle.rtc_channel_runs.specs.SentMessages.{sent_over}
 use Rattle.rtc_channel_runs.specs.ToldMessages.{told_over}
 use Rattle.rtc_channel_runs.specs.ConfirmedChannels.{WasConfirmed}
-use Rattle.rtc_channel_runs.specs.SettledPairs.{AreAnswered, AreConfirmedOpen, AreConfirmedSettled, AreKeptStreams, AreOpenAtBoth, IsInBandStream, IsOpenAtBoth, IsOpeningRefused, IsSettledPair}
+use Rattle.rtc_channel_runs.specs.SettledPairs.{AreBothOpening, AreAnswered, AreConfirmedOpen, AreConfirmedSettled, AreInBandStreams, AreOpenAtBoth, IsInBandStream, HasNothingDue, IsOpenAtBoth, IsOpeningRefused, IsSettledPair}
 use Rattle.rtc_channel_runs.specs.SettledPairs.{IsSettledPeer, IsTakenUp, SettlesOpen, WaitsForAnswer}
 use Rattle.rtc_channel_runs.specs.StillPairs.{IsStillPair}
 use Rattle.rtc_channel_runs.specs.UsesOfRuns.{reached_by, uses_of}
@@ -45,6 +45,8 @@ use Rattle.rtc_channel_runs.proofs.HeardOpenings.{none_has}
 use Rattle.rtc_channel_runs.proofs.ConfirmedRuns.{SideBegun, SideSound, run_begun}
 use Rattle.rtc_channel_runs.proofs.ConfirmedSides.{IsOpen, Opening, StandsAs, Unanswered, confirmed_stands, new_sound, stands_as}
 use Rattle.rtc_channel_runs.proofs.OpenSides.{both_true, last_all, last_heard, not_closed, own_use, stays_under}
+use Rattle.rtc_channel_runs.proofs.IdleSides.{none_due}
+use Rattle.rtc_channel_runs.proofs.KeptStreams.{AreKeptStreams, AreLevelStreams, kept_by, pair_level}
 use Rattle.rtc_channel_runs.proofs.KnownRuns.{SideKnown, new_pair_known, run_known}
 use Rattle.rtc_channel_runs.proofs.KnownSides.{none_unread, refused_of, refused_opening, tried_in}
 use Rattle.rtc_channel_runs.proofs.StillSides.{none_opening, taken_up}
@@ -76,8 +78,10 @@ module _ {N : Type 0} (draws : Draws N) where
       → ((s g : ℕ) → ended s g a.association ≡ false → ended s g b.association ≡ false
       → has_unacknowledged s p.core.sctp.association.outbox.items ≡ false
       → read s g b.association ++ unread s g q.core.sctp.association.inbox.unread ≡ written s g a.association)
+      → AreLevelStreams p q
       → AreOpenAtBoth draws us p vs q
-  side_open a b us vs p q x y here there heard others_heard got sent reads all = λ c s shown kept.
+  side_open a b us vs p q x y here there heard others_heard got sent reads all level = λ c s shown band.
+      let kept : AreKeptStreams s p q = kept_by s p q level band in
       let mine = own_use draws a us p x here heard c s kept.in_band_here shown kept.unclosed_here in
       let same : s ≡ mine.stays.stream = some_is s mine.stays.stream (sym mine.stream_is ∙ mine.stays.of) in
       let it =
@@ -121,29 +125,44 @@ module _ {N : Type 0} (draws : Draws N) where
     drained at = resting_drained at past (settled.resting at)
 
     heard : (at : Side) → AreHeard plain_meaning (rtc_at at pair).core.sctp.association (rtc_at at pair).core.sctp.entries
-    heard at = last_heard draws (rtc_at at pair) (resting_last (plain_over draws) stun start past pair ran at (settled.resting at)) (settled.peers at) (empty at).empty
+    heard at = last_heard draws (rtc_at at pair) (resting_last (plain_over draws) (λ n. Unit {0}) stun start past pair ran at (settled.resting at)) (settled.peers at) (empty at).empty
+
+    level : (at : Side) → AreLevelStreams (rtc_at at pair) (rtc_at (other_side at) pair)
+    level at = pair_level told.acts pair told.exchange settled.peers at
+
+    kept_streams : (at : Side) (s : ℕ) → AreInBandStreams s (rtc_at at pair) (rtc_at (other_side at) pair)
+        → AreKeptStreams s (rtc_at at pair) (rtc_at (other_side at) pair)
+    kept_streams at s band = kept_by s (rtc_at at pair) (rtc_at (other_side at) pair) (level at) band
 
     pub settled_open : (at : Side) → AreOpenAtBoth draws (uses at) (rtc_at at pair) (uses (other_side at)) (rtc_at (other_side at) pair)
     settled_open Left =
         side_open told.acts.left told.acts.right (uses Left) (uses Right) pair.left pair.right told.left.side told.right.side (settled.peers Left)
         (settled.peers Right) (heard Left) (heard Right) (pair_drained draws stun start past pair ran h unused Left (drained Left))
         (pair_drained draws stun start past pair ran h unused Right (drained Right)) (λ s g. side_reads told.acts pair Right s g told.exchange)
-        (λ s g. side_all told.acts pair Left s g told.exchange)
+        (λ s g. side_all told.acts pair Left s g told.exchange) (level Left)
     settled_open Right =
         side_open told.acts.right told.acts.left (uses Right) (uses Left) pair.right pair.left told.right.side told.left.side (settled.peers Right)
         (settled.peers Left) (heard Right) (heard Left) (pair_drained draws stun start past pair ran h unused Right (drained Right))
         (pair_drained draws stun start past pair ran h unused Left (drained Left)) (λ s g. side_reads told.acts pair Left s g told.exchange)
-        (λ s g. side_all told.acts pair Right s g told.exchange)
+        (λ s g. side_all told.acts pair Right s g told.exchange) (level Right)
 
     pub settled_answered : (at : Side) → AreAnswered (rtc_at at pair) (rtc_at (other_side at) pair)
-    settled_answered Left = λ s kept waits taken.
+    settled_answered Left = λ s band waits taken.
         none_waits draws told.acts.left told.acts.right (uses Left) (uses Right) pair.left pair.right told.left.side told.right.side (settled.peers Left)
         (settled.peers Right) (heard Left) (heard Right) (λ t g. side_all told.acts pair Left t g told.exchange)
-        (λ t g. side_all told.acts pair Right t g told.exchange) s kept waits taken
-    settled_answered Right = λ s kept waits taken.
+        (λ t g. side_all told.acts pair Right t g told.exchange) s (kept_streams Left s band) waits taken
+    settled_answered Right = λ s band waits taken.
         none_waits draws told.acts.right told.acts.left (uses Right) (uses Left) pair.right pair.left told.right.side told.left.side (settled.peers Right)
         (settled.peers Left) (heard Right) (heard Left) (λ t g. side_all told.acts pair Right t g told.exchange)
-        (λ t g. side_all told.acts pair Left t g told.exchange) s kept waits taken
+        (λ t g. side_all told.acts pair Left t g told.exchange) s (kept_streams Right s band) waits taken
+
+    -- nothing is due for the channels of a side that waits for a later moment
+    pub settled_idle : (at : Side) → HasNothingDue at past pair
+        → channels_wake plain_meaning (rtc_at at pair).core.channels (rtc_at at pair).core.sctp ≡ None
+    settled_idle at later =
+        none_due draws (rtc_at at pair)
+        (resting_last (plain_over draws) (λ moment. (rtc_at at pair).core.greatest < moment) stun start past pair ran at later)
+        (settled.peers at).alive
 
     -- a channel that was confirmed and has a stream
     module _ (new : IsNewPair draws start) where
@@ -170,57 +189,57 @@ module _ {N : Type 0} (draws : Draws N) where
           ⊎ (has_unread (rtc_at at pair).core.sctp.association s (generation_of (rtc_at at pair).core.sctp.association s) ≡ false)
       quiet at s unclosed =
           none_unread draws (rtc_at at pair) s (settled.peers at)
-          (last_all draws (rtc_at at pair) (resting_last (plain_over draws) stun start past pair ran at (settled.resting at)) (settled.peers at)) (heard at)
+          (last_all draws (rtc_at at pair) (resting_last (plain_over draws) (λ n. Unit {0}) stun start past pair ran at (settled.resting at)) (settled.peers at)) (heard at)
           (known at) unclosed
 
       tried : (at : Side) → AreTriedAgain (rtc_at at pair).core.sctp.last (rtc_at at pair).core.sctp.entries
       tried at =
           tried_in draws (rtc_at at pair) (settled.peers at)
-          (last_all draws (rtc_at at pair) (resting_last (plain_over draws) stun start past pair ran at (settled.resting at)) (settled.peers at))
+          (last_all draws (rtc_at at pair) (resting_last (plain_over draws) (λ n. Unit {0}) stun start past pair ran at (settled.resting at)) (settled.peers at))
           (known at)
 
-      taken : (at : Side) (s : ℕ) → AreKeptStreams s (rtc_at at pair) (rtc_at (other_side at) pair)
+      taken : (at : Side) (s : ℕ) → AreInBandStreams s (rtc_at at pair) (rtc_at (other_side at) pair)
           → has_unread (rtc_at (other_side at) pair).core.sctp.association s (generation_of (rtc_at (other_side at) pair).core.sctp.association s) ≡ false
           → WaitsForAnswer s (rtc_at at pair).core.sctp.entries → IsTakenUp s (rtc_at (other_side at) pair).core.sctp.entries
-      taken Left s kept none waits =
+      taken Left s band none waits =
           taken_up draws told.acts.left told.acts.right (uses Left) (uses Right) pair.left pair.right told.left.side told.right.side (settled.peers Left)
-          (settled.peers Right) (heard Left) (λ t g. side_all told.acts pair Left t g told.exchange) s kept none waits
-      taken Right s kept none waits =
+          (settled.peers Right) (heard Left) (λ t g. side_all told.acts pair Left t g told.exchange) s (kept_streams Left s band) none waits
+      taken Right s band none waits =
           taken_up draws told.acts.right told.acts.left (uses Right) (uses Left) pair.right pair.left told.right.side told.left.side (settled.peers Right)
-          (settled.peers Left) (heard Right) (λ t g. side_all told.acts pair Right t g told.exchange) s kept none waits
+          (settled.peers Left) (heard Right) (λ t g. side_all told.acts pair Right t g told.exchange) s (kept_streams Right s band) none waits
 
       -- it is open at both sides, or the opening of its stream is refused for now at one
       abbrev EndsAt : (at : Side) (c s : ℕ) → Type 0
       EndsAt at c s =
           IsOpenAtBoth draws c (uses at) (rtc_at at pair) (uses (other_side at)) (rtc_at (other_side at) pair)
-          ⊎ (IsOpeningRefused s (rtc_at at pair) ⊎ IsOpeningRefused s (rtc_at (other_side at) pair))
+          ⊎ (IsOpeningRefused s (rtc_at at pair) ⊎ AreBothOpening s (rtc_at at pair) (rtc_at (other_side at) pair))
 
-      unanswered : (at : Side) (c s : ℕ) → AreKeptStreams s (rtc_at at pair) (rtc_at (other_side at) pair)
+      unanswered : (at : Side) (c s : ℕ) → AreInBandStreams s (rtc_at at pair) (rtc_at (other_side at) pair)
           → WaitsForAnswer s (rtc_at at pair).core.sctp.entries
           → IsOpeningRefused s (rtc_at (other_side at) pair)
           ⊎ (has_unread (rtc_at (other_side at) pair).core.sctp.association s
           (generation_of (rtc_at (other_side at) pair).core.sctp.association s) ≡ false)
           → EndsAt at c s
-      unanswered at c s kept waits (inl refused) = inr (inr refused)
-      unanswered at c s kept waits (inr none) = absurd (settled_answered at s kept waits (taken at s kept none waits))
+      unanswered at c s band waits (inl refused) = inr (inr (waits, refused))
+      unanswered at c s band waits (inr none) = absurd (settled_answered at s band waits (taken at s band none waits))
 
       by_entry : (at : Side) (c s : ℕ) → stream_under c (rtc_at at pair).core.channels ≡ Some s
-          → AreKeptStreams s (rtc_at at pair) (rtc_at (other_side at) pair) → StandsAs s (rtc_at at pair).core.sctp.entries → EndsAt at c s
-      by_entry at c s under kept (Opening h) = inr (inl (refused_of draws (rtc_at at pair) s (heard at) (tried at) kept.unclosed_here h))
-      by_entry at c s under kept (Unanswered h) = unanswered at c s kept h (quiet (other_side at) s kept.unclosed_there)
-      by_entry at c s under kept (IsOpen h) =
+          → AreInBandStreams s (rtc_at at pair) (rtc_at (other_side at) pair) → StandsAs s (rtc_at at pair).core.sctp.entries → EndsAt at c s
+      by_entry at c s under band (Opening h) = inr (inl (refused_of draws (rtc_at at pair) s (heard at) (tried at) (level at s).here h))
+      by_entry at c s under band (Unanswered h) = unanswered at c s band h (quiet (other_side at) s (level at s).there)
+      by_entry at c s under band (IsOpen h) =
           inl
           (settled_open at c s
           (stays_under draws c s (rtc_at at pair) (settled.peers at).alive under
           (both_true (is_established (rtc_at at pair).core.sctp.state) (has_open s (rtc_at at pair).core.sctp.entries) (settled.peers at).established h))
-          kept)
+          band)
 
       by_side : (at : Side) (c s : ℕ) → channels_wake plain_meaning (rtc_at at pair).core.channels (rtc_at at pair).core.sctp ≡ None
-          → stream_under c (rtc_at at pair).core.channels ≡ Some s → AreKeptStreams s (rtc_at at pair) (rtc_at (other_side at) pair)
+          → stream_under c (rtc_at at pair).core.channels ≡ Some s → AreInBandStreams s (rtc_at at pair) (rtc_at (other_side at) pair)
           → SideBegun (plain_over draws) (plain_over_laws draws) c (rtc_at at pair) → EndsAt at c s
-      by_side at c s idle under kept (inl closed) = absurd (not_closed draws (rtc_at at pair) (settled.peers at).alive closed)
-      by_side at c s idle under kept (inr begun) =
-          by_entry at c s under kept
+      by_side at c s idle under band (inl closed) = absurd (not_closed draws (rtc_at at pair) (settled.peers at).alive closed)
+      by_side at c s idle under band (inr begun) =
+          by_entry at c s under band
           (stands_as (rtc_at at pair).core.sctp.association s (rtc_at at pair).core.sctp.entries (heard at)
           (confirmed_stands c s (rtc_at at pair).core.channels (rtc_at at pair).core.sctp (numbers at)
           ((known at).begun (settled.peers at).established) idle begun.1 under))
@@ -228,8 +247,8 @@ module _ {N : Type 0} (draws : Draws N) where
       pub settled_refused : (at : Side) → channels_wake plain_meaning (rtc_at at pair).core.channels (rtc_at at pair).core.sctp ≡ None
           → AreConfirmedSettled draws (λ c. WasConfirmed (plain_over draws) stun start at c past pair ran) (uses at) (rtc_at at pair)
           (uses (other_side at)) (rtc_at (other_side at) pair)
-      settled_refused at idle = λ c s confirmed under kept.
-          by_side at c s idle under kept (run_begun (plain_over draws) (plain_over_laws draws) stun start past pair ran sound_start at c confirmed)
+      settled_refused at idle = λ c s confirmed under band.
+          by_side at c s idle under band (run_begun (plain_over draws) (plain_over_laws draws) stun start past pair ran sound_start at c confirmed)
 
       -- so it is open at both, where none is tried again
       module _ (still : IsStillPair pair) where
@@ -241,12 +260,12 @@ module _ {N : Type 0} (draws : Draws N) where
             → IsOpenAtBoth draws c (uses at) (rtc_at at pair) (uses (other_side at)) (rtc_at (other_side at) pair)
         still_open at c s (inl opened) = opened
         still_open at c s (inr (inl here)) = absurd (none_refused at s here)
-        still_open at c s (inr (inr there)) = absurd (none_refused (other_side at) s there)
+        still_open at c s (inr (inr there)) = absurd (none_refused (other_side at) s there.1)
 
         pub settled_confirmed : (at : Side)
             → AreConfirmedOpen draws (λ c. WasConfirmed (plain_over draws) stun start at c past pair ran) (uses at) (rtc_at at pair)
             (uses (other_side at)) (rtc_at (other_side at) pair)
-        settled_confirmed at = λ c s confirmed under kept. still_open at c s (settled_refused at (still at).idle c s confirmed under kept)
+        settled_confirmed at = λ c s confirmed under band. still_open at c s (settled_refused at (still at).idle c s confirmed under band)
 
   pub run_settles_open : (stun : List ℕ → Bool) (start pair : PlainPair N) (steps : List Step) (replies : List (Reply PlainMediaEvent))
       → IsNewPair draws start → (run : Runs (plain_over draws) stun start steps replies pair) → SettlesOpen draws stun start steps replies pair run
@@ -255,6 +274,8 @@ module _ {N : Type 0} (draws : Draws N) where
       record {
         opened = λ settled at. settled_open stun start run.past pair ran (new_pair_told draws start new) (new_unused draws start new) settled at;
         answered = λ settled at. settled_answered stun start run.past pair ran (new_pair_told draws start new) (new_unused draws start new) settled at;
+        idle = λ settled at later.
+            settled_idle stun start run.past pair ran (new_pair_told draws start new) (new_unused draws start new) settled at later;
         refused = λ settled at idle.
             settled_refused stun start run.past pair ran (new_pair_told draws start new) (new_unused draws start new) settled new at idle;
         confirmed = λ settled still at.

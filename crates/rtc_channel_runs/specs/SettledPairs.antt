@@ -3,7 +3,7 @@ use Rattle.std.specs.Prelude.{ℕ, ◌≡◌, ◌<◌, ◌-◌, ◌^◌, ◌⊎�
 use Rattle.rtc_parts_values.specs.Among.{Member}
 use Rattle.rtc_dtls.specs.DtlsState.{can_send}
 use Rattle.rtc_plain_dtls.specs.PlainMeaning.{plain_dtls}
-use Rattle.rtc_assoc_state.specs.Contents.{closed_here, generation_of, has_stream, is_ending}
+use Rattle.rtc_assoc_state.specs.Contents.{has_stream, is_ending}
 use Rattle.rtc_assoc_state.specs.PlainMeaning.{plain_meaning}
 use Rattle.rtc_plain_media.specs.declared.plain_media_event.PlainMediaEvent.{PlainMediaEvent}
 use Rattle.rtc_ids.specs.Draws.{Draws}
@@ -34,31 +34,40 @@ use Rattle.rtc_channel_runs.specs.ConfirmedChannels.{WasConfirmed}
 use Rattle.rtc_channel_runs.specs.StillPairs.{IsStillPair}
 use Rattle.rtc_channel_runs.specs.UsesOfRuns.{reached_by, uses_in_run}
 
--- outputs end in a timeout
-abbrev pub EndInTimeout : {E : Type 0} → List (Shown E) → Type 0
-EndInTimeout [] = ⊥
-EndInTimeout (Timeout moment reason ∷ outputs) = Unit {0}
-EndInTimeout (Packet number len ∷ outputs) = EndInTimeout outputs
-EndInTimeout (Event event ∷ outputs) = EndInTimeout outputs
+-- outputs end in a timeout at a moment that is so
+abbrev pub EndInTimeout : {E : Type 0} → (ℕ → Type 0) → List (Shown E) → Type 0
+EndInTimeout is_so [] = ⊥
+EndInTimeout is_so (Timeout moment reason ∷ outputs) = is_so moment
+EndInTimeout is_so (Packet number len ∷ outputs) = EndInTimeout is_so outputs
+EndInTimeout is_so (Event event ∷ outputs) = EndInTimeout is_so outputs
 
-abbrev pub RestsByOutcome : {E : Type 0} → Outcome E → Type 0
-RestsByOutcome (Polled outputs end) = EndInTimeout outputs
-RestsByOutcome outcome = ⊥
+abbrev pub RestsByOutcome : {E : Type 0} → (ℕ → Type 0) → Outcome E → Type 0
+RestsByOutcome is_so (Polled outputs end) = EndInTimeout is_so outputs
+RestsByOutcome is_so outcome = ⊥
 
--- a step polled a peer up to a timeout
-abbrev pub RestsByStep : {E : Type 0} → Step → Outcome E → Type 0
-RestsByStep (Poll at) outcome = RestsByOutcome outcome
-RestsByStep (Drain at) outcome = RestsByOutcome outcome
-RestsByStep step outcome = ⊥
+-- a step polled a peer up to such a timeout
+abbrev pub RestsByStep : {E : Type 0} → (ℕ → Type 0) → Step → Outcome E → Type 0
+RestsByStep is_so (Poll at) outcome = RestsByOutcome is_so outcome
+RestsByStep is_so (Drain at) outcome = RestsByOutcome is_so outcome
+RestsByStep is_so step outcome = ⊥
 
-abbrev pub RestsByEntry : {E : Type 0} → (acting : Bool) → Step → Outcome E → (earlier : Type 0) → Type 0
-RestsByEntry true step outcome earlier = RestsByStep step outcome
-RestsByEntry false step outcome earlier = earlier
+abbrev pub RestsByEntry : {E : Type 0} → (ℕ → Type 0) → (acting : Bool) → Step → Outcome E → (earlier : Type 0) → Type 0
+RestsByEntry is_so true step outcome earlier = RestsByStep is_so step outcome
+RestsByEntry is_so false step outcome earlier = earlier
 
--- a side was polled up to a timeout, and no input came to it and no call was made on it since
+-- a side was polled up to a timeout at a moment that is so, and no input came to it and no call was made on it since
+abbrev pub RestsUntil : {E : Type 0} → (ℕ → Type 0) → Side → List (Entry E) → Type 0
+RestsUntil is_so at [] = ⊥
+RestsUntil is_so at (entry ∷ past) =
+    RestsByEntry is_so (same_side (side_of entry.step) at) entry.step entry.outcome (RestsUntil is_so at past)
+
+-- whatever the moment
 abbrev pub IsResting : {E : Type 0} → Side → List (Entry E) → Type 0
-IsResting at [] = ⊥
-IsResting at (entry ∷ past) = RestsByEntry (same_side (side_of entry.step) at) entry.step entry.outcome (IsResting at past)
+IsResting at past = RestsUntil (λ moment. Unit {0}) at past
+
+-- nothing was due by then: the moment is later than each that the peer took
+abbrev pub HasNothingDue : {E N : Type 0} → Side → List (Entry E) → PlainPair N → Type 0
+HasNothingDue at past pair = RestsUntil (λ moment. (rtc_at at pair).core.greatest < moment) at past
 
 -- A peer is alive, application data can go over its DTLS connection, and its association is established, neither closing nor closed. It has
 -- no unacknowledged item, and a number is left for a channel.
@@ -80,13 +89,10 @@ abbrev pub IsInBandStream : (stream : ℕ) → List StreamEntry → Type 0
 IsInBandStream stream [] = Unit {0}
 IsInBandStream stream (entry ∷ entries) = (entry.id ≡ stream → is_out_of_band entry ≡ false) × IsInBandStream stream entries
 
--- both associations have a stream in one generation, neither end closed it, and neither settled it by other means than messages
-pub record AreKeptStreams {N : Type 0} (stream : ℕ) (p q : PlainPolled N) : Type 0 where
-  pub generation_is : generation_of q.core.sctp.association stream ≡ generation_of p.core.sctp.association stream
-  pub unclosed_here : closed_here p.core.sctp.association stream ≡ false
-  pub unclosed_there : closed_here q.core.sctp.association stream ≡ false
-  pub in_band_here : IsInBandStream stream p.core.sctp.entries
-  pub in_band_there : IsInBandStream stream q.core.sctp.entries
+-- neither side settled a stream by other means than messages
+pub record AreInBandStreams {N : Type 0} (stream : ℕ) (p q : PlainPolled N) : Type 0 where
+  pub here : IsInBandStream stream p.core.sctp.entries
+  pub there : IsInBandStream stream q.core.sctp.entries
 
 -- A channel of one side was announced, and so was one by the other side, over the same generation of the same stream. Both are open, and
 -- each side got over its channel all that the other sent over its own.
@@ -101,14 +107,13 @@ pub record IsOpenAtBoth {N : Type 0} (draws : Draws N) (channel : ℕ) (uses : L
   pub got : own.got ≡ other.sent
   pub sent : other.got ≡ own.sent
 
--- So it is for each channel that is open at the one side, over a stream that both associations have in one generation, and that neither end
--- closed or settled by other means.
+-- So it is for each channel that is open at the one side, over a stream that neither side settled by other means than messages.
 abbrev pub AreOpenAtBoth : {N : Type 0} → Draws N → (uses : List ChannelUse) → PlainPolled N → (others : List ChannelUse) → PlainPolled N
     → Type 0
 AreOpenAtBoth draws uses p others q =
     (channel stream : ℕ)
     → open_stream_under channel p ≡ Some stream
-    → AreKeptStreams stream p q
+    → AreInBandStreams stream p q
     → IsOpenAtBoth draws channel uses p others q
 
 -- a stream has an entry that is so
@@ -128,20 +133,19 @@ IsTakenUp stream entries = HasEntryOf (λ entry. entry.state ≡ AwaitOpen → �
 abbrev pub AreAnswered : {N : Type 0} → PlainPolled N → PlainPolled N → Type 0
 AreAnswered p q =
     (stream : ℕ)
-    → AreKeptStreams stream p q
+    → AreInBandStreams stream p q
     → WaitsForAnswer stream p.core.sctp.entries
     → IsTakenUp stream q.core.sctp.entries
     → ⊥
 
--- Each channel of one side that was confirmed and has a stream is open at both, over a stream that both associations have in one
--- generation, and that neither end closed or settled by other means.
+-- each channel of one side that was confirmed and has such a stream is open at both
 abbrev pub AreConfirmedOpen : {N : Type 0} → Draws N → (confirmed : ℕ → Type 0) → (uses : List ChannelUse) → PlainPolled N
     → (others : List ChannelUse) → PlainPolled N → Type 0
 AreConfirmedOpen draws confirmed uses p others q =
     (channel stream : ℕ)
     → confirmed channel
     → stream_under channel p.core.channels ≡ Some stream
-    → AreKeptStreams stream p q
+    → AreInBandStreams stream p q
     → IsOpenAtBoth draws channel uses p others q
 
 -- the opening of a stream is refused for now, as the stream is there already, and is tried again: it has been so for less than ten seconds
@@ -150,16 +154,20 @@ IsOpeningRefused stream p =
     HasEntryOf (IsTriedAgain p.core.sctp.last) stream p.core.sctp.entries
     × (has_stream p.core.sctp.association stream ≡ true)
 
--- Each channel of one side that was confirmed and has a stream is open at both, over such a stream, or the opening of the stream is refused
--- for now at one of them.
+-- both sides opened a stream themselves: the opening from here waits for its answer, and the one from there is refused for now
+abbrev pub AreBothOpening : {N : Type 0} → (stream : ℕ) → PlainPolled N → PlainPolled N → Type 0
+AreBothOpening stream p q = WaitsForAnswer stream p.core.sctp.entries × IsOpeningRefused stream q
+
+-- Each channel of one side that was confirmed and has such a stream is open at both, or the opening of the stream is refused for now, also
+-- where both sides opened it.
 abbrev pub AreConfirmedSettled : {N : Type 0} → Draws N → (confirmed : ℕ → Type 0) → (uses : List ChannelUse) → PlainPolled N
     → (others : List ChannelUse) → PlainPolled N → Type 0
 AreConfirmedSettled draws confirmed uses p others q =
     (channel stream : ℕ)
     → confirmed channel
     → stream_under channel p.core.channels ≡ Some stream
-    → AreKeptStreams stream p q
-    → IsOpenAtBoth draws channel uses p others q ⊎ (IsOpeningRefused stream p ⊎ IsOpeningRefused stream q)
+    → AreInBandStreams stream p q
+    → IsOpenAtBoth draws channel uses p others q ⊎ (IsOpeningRefused stream p ⊎ AreBothOpening stream p q)
 
 -- A run by these steps with these replies leaves it so at both sides, where it left the pair settled: where nothing is due for the channels
 -- of the side, and where besides no opening is under way at either.
@@ -170,6 +178,8 @@ pub record SettlesOpen {N : Type 0} (draws : Draws N) (stun : List ℕ → Bool)
       → AreOpenAtBoth draws (uses_in_run (plain_over draws) stun start steps replies pair run at) (rtc_at at pair)
       (uses_in_run (plain_over draws) stun start steps replies pair run (other_side at)) (rtc_at (other_side at) pair)
   pub answered : IsSettledPair run.past pair → (at : Side) → AreAnswered (rtc_at at pair) (rtc_at (other_side at) pair)
+  pub idle : IsSettledPair run.past pair → (at : Side) → HasNothingDue at run.past pair
+      → channels_wake plain_meaning (rtc_at at pair).core.channels (rtc_at at pair).core.sctp ≡ None
   pub refused : IsSettledPair run.past pair → (at : Side)
       → channels_wake plain_meaning (rtc_at at pair).core.channels (rtc_at at pair).core.sctp ≡ None
       → AreConfirmedSettled draws

@@ -1,6 +1,6 @@
 use Rattle.rtc_channel_runs.proofs.DrainedRuns.{new_unused}
 use Rattle.rtc_channel_runs.proofs.RunsTold.{new_pair_told}
-use Rattle.rtc_channel_runs.proofs.SettledRuns.{run_settles_open, settled_answered, settled_confirmed, settled_open, settled_refused}
+use Rattle.rtc_channel_runs.proofs.SettledRuns.{run_settles_open, settled_answered, settled_confirmed, settled_idle, settled_open, settled_refused}
 use Rattle.rtc_channel_runs.proofs.settling.settled_pairs_have_open_channels.Goals as goal
 
 pub returns-clause-reached : goal.returns-clause-reached
@@ -10,6 +10,10 @@ returns-clause-reached g c = λ stun start pair past new ran settled at.
 pub returns-clause-answered : goal.returns-clause-answered
 returns-clause-answered g c = λ stun start pair past new ran settled at.
     settled_answered g.N.Ids.ids stun start past pair ran (new_pair_told g.N.Ids.ids start new) (new_unused g.N.Ids.ids start new) settled at
+
+pub returns-clause-idle : goal.returns-clause-idle
+returns-clause-idle g c = λ stun start pair past new ran settled at later.
+    settled_idle g.N.Ids.ids stun start past pair ran (new_pair_told g.N.Ids.ids start new) (new_unused g.N.Ids.ids start new) settled at later
 
 pub returns-clause-refused : goal.returns-clause-refused
 returns-clause-refused g c = λ stun start pair past new ran settled at idle.
