@@ -10,7 +10,7 @@ use Rattle.rtc_sctp.specs.Streams.{is_established}
 use Rattle.rtc_channels.specs.Openings.{channels_wake}
 use Rattle.rtc_polling.specs.ChannelCalls.{stream_under}
 use Rattle.rtc_polling_laws.specs.ChannelStreams.{AreNumberedChannels}
-use Rattle.rtc_polling_laws.specs.Drained.{AreHeard}
+use Rattle.rtc_polling_laws.specs.Drained.{AreHeard, AreTriedAgain}
 use Rattle.rtc_polling_laws.specs.PeerActs.{PeerActs}
 use Rattle.rtc_plain_media.specs.declared.plain_media_event.PlainMediaEvent.{PlainMediaEvent}
 use Rattle.rtc_ids.specs.Draws.{Draws}
@@ -35,7 +35,7 @@ use Rattle.rtc_channel_runs.specs.OpenUses.{AreJoinedUses}
 use Rattle.rtc_channel_runs.specs.SentMessages.{sent_over}
 use Rattle.rtc_channel_runs.specs.ToldMessages.{told_over}
 use Rattle.rtc_channel_runs.specs.ConfirmedChannels.{WasConfirmed}
-use Rattle.rtc_channel_runs.specs.SettledPairs.{AreAnswered, AreConfirmedOpen, AreConfirmedSettled, AreInBandStreams, AreOpenAtBoth, IsInBandStream, HasNothingDue, IsOpenAtBoth, IsOpeningRefused, IsSettledPair}
+use Rattle.rtc_channel_runs.specs.SettledPairs.{AreBothOpening, AreAnswered, AreConfirmedOpen, AreConfirmedSettled, AreInBandStreams, AreOpenAtBoth, IsInBandStream, HasNothingDue, IsLevelStream, IsOpenAtBoth, IsOpeningRefused, IsSettledPair}
 use Rattle.rtc_channel_runs.specs.SettledPairs.{IsSettledPeer, IsTakenUp, SettlesOpen, WaitsForAnswer}
 use Rattle.rtc_channel_runs.specs.StillPairs.{IsStillPair}
 use Rattle.rtc_channel_runs.specs.UsesOfRuns.{reached_by, uses_of}
@@ -48,7 +48,7 @@ use Rattle.rtc_channel_runs.proofs.OpenSides.{both_true, last_all, last_heard, n
 use Rattle.rtc_channel_runs.proofs.IdleSides.{none_due}
 use Rattle.rtc_channel_runs.proofs.KeptStreams.{AreKeptStreams, AreLevelStreams, kept_by, pair_level}
 use Rattle.rtc_channel_runs.proofs.KnownRuns.{SideKnown, new_pair_known, run_known}
-use Rattle.rtc_channel_runs.proofs.KnownSides.{none_unread, refused_of, refused_opening}
+use Rattle.rtc_channel_runs.proofs.KnownSides.{none_unread, refused_of, refused_opening, tried_in}
 use Rattle.rtc_channel_runs.proofs.StillSides.{none_opening, taken_up}
 use Rattle.rtc_plain_streams.proofs.BackedRows.{plain_unread}
 use Rattle.rtc_plain_streams.proofs.KnownStreams.{AreKnown}
@@ -134,6 +134,10 @@ module _ {N : Type 0} (draws : Draws N) where
         → AreKeptStreams s (rtc_at at pair) (rtc_at (other_side at) pair)
     kept_streams at s band = kept_by s (rtc_at at pair) (rtc_at (other_side at) pair) (level at) band
 
+    pub settled_level : (at : Side) (s : ℕ) → IsLevelStream s (rtc_at at pair) (rtc_at (other_side at) pair)
+    settled_level at s =
+        record { generation_is = (level at s).generation_is; unclosed_here = (level at s).here; unclosed_there = (level at s).there }
+
     pub settled_open : (at : Side) → AreOpenAtBoth draws (uses at) (rtc_at at pair) (uses (other_side at)) (rtc_at (other_side at) pair)
     settled_open Left =
         side_open told.acts.left told.acts.right (uses Left) (uses Right) pair.left pair.right told.left.side told.right.side (settled.peers Left)
@@ -193,6 +197,12 @@ module _ {N : Type 0} (draws : Draws N) where
           (last_all draws (rtc_at at pair) (resting_last (plain_over draws) (λ n. Unit {0}) stun start past pair ran at (settled.resting at)) (settled.peers at)) (heard at)
           (known at) unclosed
 
+      tried : (at : Side) → AreTriedAgain (rtc_at at pair).core.sctp.last (rtc_at at pair).core.sctp.entries
+      tried at =
+          tried_in draws (rtc_at at pair) (settled.peers at)
+          (last_all draws (rtc_at at pair) (resting_last (plain_over draws) (λ n. Unit {0}) stun start past pair ran at (settled.resting at)) (settled.peers at))
+          (known at)
+
       taken : (at : Side) (s : ℕ) → AreInBandStreams s (rtc_at at pair) (rtc_at (other_side at) pair)
           → has_unread (rtc_at (other_side at) pair).core.sctp.association s (generation_of (rtc_at (other_side at) pair).core.sctp.association s) ≡ false
           → WaitsForAnswer s (rtc_at at pair).core.sctp.entries → IsTakenUp s (rtc_at (other_side at) pair).core.sctp.entries
@@ -207,7 +217,7 @@ module _ {N : Type 0} (draws : Draws N) where
       abbrev EndsAt : (at : Side) (c s : ℕ) → Type 0
       EndsAt at c s =
           IsOpenAtBoth draws c (uses at) (rtc_at at pair) (uses (other_side at)) (rtc_at (other_side at) pair)
-          ⊎ (IsOpeningRefused s (rtc_at at pair) ⊎ IsOpeningRefused s (rtc_at (other_side at) pair))
+          ⊎ (IsOpeningRefused s (rtc_at at pair) ⊎ AreBothOpening s (rtc_at at pair) (rtc_at (other_side at) pair))
 
       -- an opening waits for its answer where that of the other side is refused for now
       refused_there : (at : Side) (s : ℕ) → AreInBandStreams s (rtc_at at pair) (rtc_at (other_side at) pair)
@@ -225,8 +235,8 @@ module _ {N : Type 0} (draws : Draws N) where
 
       by_entry : (at : Side) (c s : ℕ) → stream_under c (rtc_at at pair).core.channels ≡ Some s
           → AreInBandStreams s (rtc_at at pair) (rtc_at (other_side at) pair) → StandsAs s (rtc_at at pair).core.sctp.entries → EndsAt at c s
-      by_entry at c s under band (Opening h) = inr (inl (refused_of draws (rtc_at at pair) s (heard at) (level at s).here h))
-      by_entry at c s under band (Unanswered h) = inr (inr (settled_answered at s band h).0)
+      by_entry at c s under band (Opening h) = inr (inl (refused_of draws (rtc_at at pair) s (heard at) (tried at) (level at s).here h))
+      by_entry at c s under band (Unanswered h) = inr (inr (h, (settled_answered at s band h).0))
       by_entry at c s under band (IsOpen h) =
           inl
           (settled_open at c s
@@ -260,7 +270,7 @@ module _ {N : Type 0} (draws : Draws N) where
             → IsOpenAtBoth draws c (uses at) (rtc_at at pair) (uses (other_side at)) (rtc_at (other_side at) pair)
         still_open at c s (inl opened) = opened
         still_open at c s (inr (inl here)) = absurd (none_refused at s here)
-        still_open at c s (inr (inr there)) = absurd (none_refused (other_side at) s there)
+        still_open at c s (inr (inr there)) = absurd (none_refused (other_side at) s there.1)
 
         pub settled_confirmed : (at : Side)
             → AreConfirmedOpen draws (λ c. WasConfirmed (plain_over draws) stun start at c past pair ran) (uses at) (rtc_at at pair)
@@ -272,6 +282,7 @@ module _ {N : Type 0} (draws : Draws N) where
   run_settles_open stun start pair steps replies new run =
       let ran : Reached (plain_over draws) stun start run.past pair = reached_by (plain_over draws) stun start run.past pair run.went in
       record {
+        level = λ settled at s. settled_level stun start run.past pair ran (new_pair_told draws start new) (new_unused draws start new) settled at s;
         opened = λ settled at. settled_open stun start run.past pair ran (new_pair_told draws start new) (new_unused draws start new) settled at;
         answered = λ settled at.
             settled_answered stun start run.past pair ran (new_pair_told draws start new) (new_unused draws start new) settled new at;

@@ -3,17 +3,18 @@ use Rattle.std.specs.Prelude.{ℕ, ◌≡◌, ◌<◌, ◌-◌, ◌^◌, ◌⊎�
 use Rattle.rtc_parts_values.specs.Among.{Member}
 use Rattle.rtc_dtls.specs.DtlsState.{can_send}
 use Rattle.rtc_plain_dtls.specs.PlainMeaning.{plain_dtls}
-use Rattle.rtc_assoc_state.specs.Contents.{has_stream, is_ending}
+use Rattle.rtc_assoc_state.specs.Contents.{closed_here, generation_of, has_stream, is_ending}
 use Rattle.rtc_assoc_state.specs.PlainMeaning.{plain_meaning}
 use Rattle.rtc_plain_media.specs.declared.plain_media_event.PlainMediaEvent.{PlainMediaEvent}
 use Rattle.rtc_ids.specs.Draws.{Draws}
 use Rattle.rtc_sctp_entries.specs.declared.stream_entry_state.StreamEntryState.TheVariants.{AwaitOpen, AwaitDcepAck}
 use Rattle.rtc_sctp_entries.specs.declared.stream_entry.StreamEntry.{StreamEntry}
-use Rattle.rtc_sctp_entries.specs.Entries.{is_out_of_band, is_retrying}
+use Rattle.rtc_sctp_entries.specs.Entries.{is_out_of_band}
 use Rattle.rtc_sctp.specs.Streams.{is_established}
 use Rattle.rtc_channels.specs.Openings.{channels_wake}
 use Rattle.rtc_peer_state.specs.declared.phase.Phase.TheVariants.{Alive}
 use Rattle.rtc_polling.specs.ChannelCalls.{open_stream_under, stream_under}
+use Rattle.rtc_polling_laws.specs.Drained.{IsTriedAgain}
 use Rattle.rtc_history.specs.declared.outcome.Outcome.{Outcome}
 use Rattle.rtc_history.specs.declared.outcome.Outcome.TheVariants.{Polled}
 use Rattle.rtc_history.specs.declared.reply.Reply.{Reply}
@@ -93,6 +94,12 @@ pub record AreInBandStreams {N : Type 0} (stream : ℕ) (p q : PlainPolled N) : 
   pub here : IsInBandStream stream p.core.sctp.entries
   pub there : IsInBandStream stream q.core.sctp.entries
 
+-- both associations have a stream in one generation, and neither end closed it
+pub record IsLevelStream {N : Type 0} (stream : ℕ) (p q : PlainPolled N) : Type 0 where
+  pub generation_is : generation_of q.core.sctp.association stream ≡ generation_of p.core.sctp.association stream
+  pub unclosed_here : closed_here p.core.sctp.association stream ≡ false
+  pub unclosed_there : closed_here q.core.sctp.association stream ≡ false
+
 -- A channel of one side was announced, and so was one by the other side, over the same generation of the same stream. Both are open, and
 -- each side got over its channel all that the other sent over its own.
 pub record IsOpenAtBoth {N : Type 0} (draws : Draws N) (channel : ℕ) (uses : List ChannelUse) (p : PlainPolled N) (others : List ChannelUse)
@@ -128,10 +135,10 @@ WaitsForAnswer stream entries = HasEntryOf (λ entry. entry.state ≡ AwaitDcepA
 abbrev pub IsTakenUp : (stream : ℕ) → List StreamEntry → Type 0
 IsTakenUp stream entries = HasEntryOf (λ entry. entry.state ≡ AwaitOpen → ⊥) stream entries
 
--- the opening of a stream is refused for now, as the stream is there already, and is tried again
+-- the opening of a stream is refused for now, as the stream is there already, and is tried again: it has been so for less than ten seconds
 abbrev pub IsOpeningRefused : {N : Type 0} → (stream : ℕ) → PlainPolled N → Type 0
 IsOpeningRefused stream p =
-    HasEntryOf (λ entry. (entry.state ≡ AwaitOpen) × (is_retrying entry ≡ true)) stream p.core.sctp.entries
+    HasEntryOf (IsTriedAgain p.core.sctp.last) stream p.core.sctp.entries
     × (has_stream p.core.sctp.association stream ≡ true)
 
 -- Where an opening waits for its answer over such a stream, the other side has the stream not in use, and its own opening of it is refused
@@ -153,7 +160,12 @@ AreConfirmedOpen draws confirmed uses p others q =
     → AreInBandStreams stream p q
     → IsOpenAtBoth draws channel uses p others q
 
--- each channel of one side that was confirmed and has such a stream is open at both, or the opening of the stream is refused for now at one
+-- both sides opened a stream themselves: the opening from here waits for its answer, and the one from there is refused for now
+abbrev pub AreBothOpening : {N : Type 0} → (stream : ℕ) → PlainPolled N → PlainPolled N → Type 0
+AreBothOpening stream p q = WaitsForAnswer stream p.core.sctp.entries × IsOpeningRefused stream q
+
+-- Each channel of one side that was confirmed and has such a stream is open at both, or the opening of the stream is refused for now, also
+-- where both sides opened it.
 abbrev pub AreConfirmedSettled : {N : Type 0} → Draws N → (confirmed : ℕ → Type 0) → (uses : List ChannelUse) → PlainPolled N
     → (others : List ChannelUse) → PlainPolled N → Type 0
 AreConfirmedSettled draws confirmed uses p others q =
@@ -161,13 +173,14 @@ AreConfirmedSettled draws confirmed uses p others q =
     → confirmed channel
     → stream_under channel p.core.channels ≡ Some stream
     → AreInBandStreams stream p q
-    → IsOpenAtBoth draws channel uses p others q ⊎ (IsOpeningRefused stream p ⊎ IsOpeningRefused stream q)
+    → IsOpenAtBoth draws channel uses p others q ⊎ (IsOpeningRefused stream p ⊎ AreBothOpening stream p q)
 
 -- A run by these steps with these replies leaves it so at both sides, where it left the pair settled: where nothing is due for the channels
 -- of the side, and where besides no opening is under way at either.
 pub record SettlesOpen {N : Type 0} (draws : Draws N) (stun : List ℕ → Bool) (start : PlainPair N) (steps : List Step)
     (replies : List (Reply PlainMediaEvent)) (pair : PlainPair N) (run : Runs (plain_over draws) stun start steps replies pair)
     : Type 0 where
+  pub level : IsSettledPair run.past pair → (at : Side) (stream : ℕ) → IsLevelStream stream (rtc_at at pair) (rtc_at (other_side at) pair)
   pub opened : IsSettledPair run.past pair → (at : Side)
       → AreOpenAtBoth draws (uses_in_run (plain_over draws) stun start steps replies pair run at) (rtc_at at pair)
       (uses_in_run (plain_over draws) stun start steps replies pair run (other_side at)) (rtc_at (other_side at) pair)

@@ -13,23 +13,28 @@ ghost use Rattle.rtc_history.specs.Sides.{other_side};
 ghost use Rattle.rtc_joined_runs.specs.NewPairs.{IsNewPair};
 ghost use Rattle.rtc_joined_runs.specs.PlainPairs.{PlainPair, plain_over};
 ghost use Rattle.rtc_channel_runs.specs.ConfirmedChannels.{WasConfirmed};
-ghost use Rattle.rtc_channel_runs.specs.SettledPairs.{AreAnswered, AreConfirmedOpen, AreConfirmedSettled, AreOpenAtBoth, HasNothingDue, IsSettledPair, SettlesOpen};
+ghost use Rattle.rtc_channel_runs.specs.SettledPairs.{AreAnswered, AreConfirmedOpen, AreConfirmedSettled, AreOpenAtBoth, HasNothingDue, IsLevelStream, IsSettledPair, SettlesOpen};
 ghost use Rattle.rtc_channel_runs.specs.StillPairs.{IsStillPair};
 ghost use Rattle.rtc_channel_runs.specs.UsesOfRuns.{uses_of};
 
 use rtc_ids::Ids;
 
 /// Where both peers are alive, with their DTLS connections and their associations standing, where each was polled up to a timeout
-/// since its last input and its last call, and where no association has an unacknowledged item: a channel that is open at one side
-/// is open at both, and each side announced it, over one generation of one stream; and each got all that the other sent over it. So
+/// since its last input and its last call, and where no association has an unacknowledged item: both associations have each stream in
+/// one generation, and neither closed it. A channel that is open at one side is open at both, and each side announced it, over one generation of one stream; and each got all that the other sent over it. So
 /// it is over each stream that neither side settled by other means than messages, while a number is left for a channel. An opening
 /// over such a stream waits for its answer only where the other side has the stream not in use, and its own opening of it is refused
 /// for now.
 ///
-/// Nothing is due for the channels of a side whose last timeout is later than each moment that its peer took. Where nothing is, each of them that was confirmed in the run, and has such a stream, is
-/// open at both sides so; or the opening of its stream is refused for now at one of them, as the stream is there already, and is tried
-/// again. It is open at both, where neither the associations with their streams nor the channels over them want a moment.
+/// Nothing is due for the channels of a side whose last timeout is later than each moment that its peer took. Where nothing is, each
+/// of them that was confirmed in the run, and has such a stream, is open at both sides so; or the opening of its stream is refused for
+/// now, as the stream is there already, and has been for less than ten seconds; or both sides opened the stream themselves, so that the
+/// opening from here waits for its answer, and the one from there is refused so. It is open at both, where neither the associations with
+/// their streams nor the channels over them want a moment.
 pub fn settled_pairs_have_open_channels<N: Ids>()
+    ensures level { (stun : List ℕ → Bool) (start pair : PlainPair N) (past : List (Entry PlainMediaEvent)) → IsNewPair N.ids start
+        → Reached (plain_over N.ids) stun start past pair → IsSettledPair past pair → (at : Side) (stream : ℕ)
+        → IsLevelStream stream (rtc_at at pair) (rtc_at (other_side at) pair) }
     ensures reached { (stun : List ℕ → Bool) (start pair : PlainPair N) (past : List (Entry PlainMediaEvent)) → IsNewPair N.ids start
         → (ran : Reached (plain_over N.ids) stun start past pair) → IsSettledPair past pair → (at : Side)
         → AreOpenAtBoth N.ids (uses_of (plain_over N.ids) stun start at past pair ran) (rtc_at at pair)

@@ -1,9 +1,10 @@
 -- Polls of a peer that answered a timeout, without a call between.
-use Rattle.std.specs.Prelude.{◌≡◌, ◌⊎◌, ◌&&◌, ◌||◌, ℕ, Bool, true, false, List, [], ◌∷◌, Result, Ok, Err}
+use Rattle.std.specs.Prelude.{◌≡◌, ◌⊎◌, ◌&&◌, ◌||◌, ℕ, Bool, true, false, List, [], ◌∷◌, Some, Result, Ok, Err}
 use Rattle.rtc_association.specs.AssociationMeaning.{AssociationMeaning}
 use Rattle.rtc_sctp_entries.specs.declared.stream_entry.StreamEntry.{StreamEntry}
 use Rattle.rtc_sctp_entries.specs.declared.stream_entry_state.StreamEntryState.TheVariants.{AwaitOpen}
 use Rattle.rtc_sctp_entries.specs.Entries.{fits_generation, is_open_awaited, is_retrying}
+use Rattle.rtc_sctp_entries.specs.Visits.{is_opening_over}
 use Rattle.rtc_sctp.specs.Streams.{SctpStreams, is_established}
 use Rattle.rtc_peer_state.specs.declared.rtc_error.RtcError.{RtcError}
 use Rattle.rtc_peer_state.specs.declared.rtc_error.RtcError.TheVariants.{Alloc}
@@ -35,7 +36,18 @@ abbrev pub AreHeard : {S : Type 0} → AssociationMeaning S → S → List Strea
 AreHeard m a [] = Unit {0}
 AreHeard m a (entry ∷ entries) = IsHeard m a entry × AreHeard m a entries
 
+-- A stream waits to be opened, which was refused first at a moment, and is not given up by this one: that was less than ten seconds ago.
+abbrev pub IsTriedAgain : (last : ℕ) → StreamEntry → Type 0
+IsTriedAgain last entry =
+    (entry.state ≡ AwaitOpen) × ((first : ℕ) × ((entry.refused ≡ Some first) × (is_opening_over first last ≡ false)))
+
+-- each that waits to be opened does so
+abbrev pub AreTriedAgain : (last : ℕ) → List StreamEntry → Type 0
+AreTriedAgain last [] = Unit {0}
+AreTriedAgain last (entry ∷ entries) = (entry.state ≡ AwaitOpen → IsTriedAgain last entry) × AreTriedAgain last entries
+
 -- The association, once it was started, holds nothing that a poll still gives; and once it is established, each stream in use was heard.
 pub record AllHeard {S : Type 0} (m : AssociationMeaning S) (p : SctpStreams S) : Type 0 where
   pub quiet : m.started p.association ≡ true → m.held p.association ≡ 0
   pub streams : (is_established p.state && m.started p.association) ≡ true → AreHeard m p.association p.entries
+  pub tried : (is_established p.state && m.started p.association) ≡ true → AreTriedAgain p.last p.entries

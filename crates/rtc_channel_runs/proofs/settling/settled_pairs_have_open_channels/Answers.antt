@@ -1,7 +1,11 @@
 use Rattle.rtc_channel_runs.proofs.DrainedRuns.{new_unused}
 use Rattle.rtc_channel_runs.proofs.RunsTold.{new_pair_told}
-use Rattle.rtc_channel_runs.proofs.SettledRuns.{run_settles_open, settled_answered, settled_confirmed, settled_idle, settled_open, settled_refused}
+use Rattle.rtc_channel_runs.proofs.SettledRuns.{run_settles_open, settled_answered, settled_confirmed, settled_idle, settled_level, settled_open, settled_refused}
 use Rattle.rtc_channel_runs.proofs.settling.settled_pairs_have_open_channels.Goals as goal
+
+pub returns-clause-level : goal.returns-clause-level
+returns-clause-level g c = λ stun start pair past new ran settled at s.
+    settled_level g.N.Ids.ids stun start past pair ran (new_pair_told g.N.Ids.ids start new) (new_unused g.N.Ids.ids start new) settled at s
 
 pub returns-clause-reached : goal.returns-clause-reached
 returns-clause-reached g c = λ stun start pair past new ran settled at.
