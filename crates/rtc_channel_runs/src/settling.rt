@@ -21,10 +21,10 @@ use rtc_ids::Ids;
 
 /// Where both peers are alive, with their DTLS connections and their associations standing, where each was polled up to a timeout
 /// since its last input and its last call, and where no association has an unacknowledged item: both associations have each stream in
-/// one generation, and neither closed it. A channel that is open at one side is open at both, and each side announced it, over one generation of one stream; and each got all that the other sent over it. So
-/// it is over each stream that neither side settled by other means than messages, while a number is left for a channel. An opening
-/// over such a stream waits for its answer only where the other side has the stream not in use, and its own opening of it is refused
-/// for now.
+/// one generation, and neither closed it. A channel that is open at one side is open at both, and each side announced it, over one
+/// generation of one stream; and each got all that the other sent over it. So it is over each stream that neither side settled by other
+/// means than messages, while a number is left for a channel. An opening over such a stream waits for its answer only where the other
+/// side has the stream not in use, and its own opening of it is refused for now.
 ///
 /// Nothing is due for the channels of a side whose last timeout is later than each moment that its peer took. Where nothing is, each
 /// of them that was confirmed in the run, and has such a stream, is open at both sides so; or the opening of its stream is refused for
