@@ -1,5 +1,5 @@
 -- In a settled pair a channel that one side announced is open at both.
-use Rattle.std.proofs.Common.{◌<◌, ◌≡◌, ◌⊎◌, None, ◌∙◌, ◌++◌, ℕ, Bool, false, List, [], Some, inl, inr, sym, ap, subst}
+use Rattle.std.proofs.Common.{◌<◌, ◌+◌, ◌≡◌, ◌⊎◌, None, ◌∙◌, ◌++◌, ℕ, Bool, false, List, [], Some, inl, inr, sym, ap, subst}
 use Rattle.rtc_association.specs.AssociationWords.{ended, read, written}
 use Rattle.rtc_assoc.specs.Unread.{IsPrefix, unread}
 use Rattle.rtc_assoc_state.specs.Contents.{closed_here, generation_of, has_unread}
@@ -35,7 +35,7 @@ use Rattle.rtc_channel_runs.specs.OpenUses.{AreJoinedUses}
 use Rattle.rtc_channel_runs.specs.SentMessages.{sent_over}
 use Rattle.rtc_channel_runs.specs.ToldMessages.{told_over}
 use Rattle.rtc_channel_runs.specs.ConfirmedChannels.{WasConfirmed}
-use Rattle.rtc_channel_runs.specs.SettledPairs.{AreBothOpening, AreAnswered, AreConfirmedOpen, AreConfirmedSettled, AreInBandStreams, AreOpenAtBoth, IsInBandStream, HasNothingDue, IsLevelStream, IsOpenAtBoth, IsOpeningRefused, IsSettledPair}
+use Rattle.rtc_channel_runs.specs.SettledPairs.{AreBothOpening, AreAnswered, AreConfirmedOpen, AreConfirmedSettled, AreInBandStreams, AreOpenAtBoth, IsInBandStream, HasNothingDue, HasNothingSoon, IsLevelStream, IsOpenAtBoth, IsOpeningRefused, IsSettledPair}
 use Rattle.rtc_channel_runs.specs.SettledPairs.{IsSettledPeer, IsTakenUp, SettlesOpen, WaitsForAnswer}
 use Rattle.rtc_channel_runs.specs.StillPairs.{IsStillPair}
 use Rattle.rtc_channel_runs.specs.UsesOfRuns.{reached_by, uses_of}
@@ -45,15 +45,15 @@ use Rattle.rtc_channel_runs.proofs.HeardOpenings.{none_has}
 use Rattle.rtc_channel_runs.proofs.ConfirmedRuns.{SideBegun, SideSound, run_begun}
 use Rattle.rtc_channel_runs.proofs.ConfirmedSides.{IsOpen, Opening, StandsAs, Unanswered, confirmed_stands, new_sound, stands_as}
 use Rattle.rtc_channel_runs.proofs.OpenSides.{both_true, last_all, last_heard, not_closed, own_use, stays_under}
-use Rattle.rtc_channel_runs.proofs.IdleSides.{none_due}
+use Rattle.rtc_channel_runs.proofs.IdleSides.{none_due, none_retried}
 use Rattle.rtc_channel_runs.proofs.KeptStreams.{AreKeptStreams, AreLevelStreams, kept_by, pair_level}
 use Rattle.rtc_channel_runs.proofs.KnownRuns.{SideKnown, new_pair_known, run_known}
 use Rattle.rtc_channel_runs.proofs.KnownSides.{none_unread, refused_of, refused_opening, tried_in}
-use Rattle.rtc_channel_runs.proofs.StillSides.{none_opening, taken_up}
+use Rattle.rtc_channel_runs.proofs.StillSides.{awaits_retried, none_opening, taken_up}
 use Rattle.rtc_plain_streams.proofs.BackedRows.{plain_unread}
 use Rattle.rtc_plain_streams.proofs.KnownStreams.{AreKnown}
 use Rattle.rtc_plain_streams.proofs.PlainGenerations.{plain_generations}
-use Rattle.rtc_channel_runs.proofs.RestingSides.{resting_drained, resting_last}
+use Rattle.rtc_channel_runs.proofs.RestingSides.{PolledLast, resting_drained, resting_last}
 use Rattle.rtc_channel_runs.proofs.RunsTold.{PairTold, new_pair_told, reached_told}
 use Rattle.rtc_channel_runs.proofs.SettledSides.{other_use}
 use Rattle.rtc_channel_runs.proofs.StandingSides.{SideStood}
@@ -165,9 +165,9 @@ module _ {N : Type 0} (draws : Draws N) where
     pub settled_idle : (at : Side) → HasNothingDue at past pair
         → channels_wake plain_meaning (rtc_at at pair).core.channels (rtc_at at pair).core.sctp ≡ None
     settled_idle at later =
-        none_due draws (rtc_at at pair)
-        (resting_last (plain_over draws) (λ moment. (rtc_at at pair).core.greatest < moment) stun start past pair ran at later)
-        (settled.peers at).alive
+        let last : PolledLast (plain_over draws) (λ moment. (rtc_at at pair).core.greatest < moment) (rtc_at at pair) =
+        resting_last (plain_over draws) (λ moment. (rtc_at at pair).core.greatest < moment) stun start past pair ran at later in
+        none_due draws (λ moment. (rtc_at at pair).core.greatest < moment) (rtc_at at pair) last (settled.peers at).alive last.moment_is
 
     -- a channel that was confirmed and has a stream
     module _ (new : IsNewPair draws start) where
@@ -261,21 +261,44 @@ module _ {N : Type 0} (draws : Draws N) where
           by_side at c s idle under band (run_begun (plain_over draws) (plain_over_laws draws) stun start past pair ran sound_start at c confirmed)
 
       -- so it is open at both, where none is tried again
+      open_unless : ((at : Side) (s : ℕ) → IsOpeningRefused s (rtc_at at pair) → ⊥) → (at : Side) (c s : ℕ) → EndsAt at c s
+          → IsOpenAtBoth draws c (uses at) (rtc_at at pair) (uses (other_side at)) (rtc_at (other_side at) pair)
+      open_unless none at c s (inl opened) = opened
+      open_unless none at c s (inr (inl here)) = absurd (none at s here)
+      open_unless none at c s (inr (inr there)) = absurd (none (other_side at) s there.1)
+
       module _ (still : IsStillPair pair) where
         none_refused : (at : Side) (s : ℕ) → IsOpeningRefused s (rtc_at at pair) → ⊥
         none_refused at s refused =
             none_opening s (rtc_at at pair).core.sctp (heard at) (still at).waits (refused_opening s (rtc_at at pair) refused)
 
-        still_open : (at : Side) (c s : ℕ) → EndsAt at c s
-            → IsOpenAtBoth draws c (uses at) (rtc_at at pair) (uses (other_side at)) (rtc_at (other_side at) pair)
-        still_open at c s (inl opened) = opened
-        still_open at c s (inr (inl here)) = absurd (none_refused at s here)
-        still_open at c s (inr (inr there)) = absurd (none_refused (other_side at) s there.1)
-
         pub settled_confirmed : (at : Side)
             → AreConfirmedOpen draws (λ c. WasConfirmed (plain_over draws) stun start at c past pair ran) (uses at) (rtc_at at pair)
             (uses (other_side at)) (rtc_at (other_side at) pair)
-        settled_confirmed at = λ c s confirmed under band. still_open at c s (settled_refused at (still at).idle c s confirmed under band)
+        settled_confirmed at = λ c s confirmed under band.
+            open_unless none_refused at c s (settled_refused at (still at).idle c s confirmed under band)
+
+      -- that is told by timeouts that are late enough
+      module _ (soon : (at : Side) → HasNothingSoon at past pair) where
+        abbrev IsLate : Side → ℕ → Type 0
+        IsLate at moment = ((rtc_at at pair).core.greatest < moment) × ((rtc_at at pair).core.sctp.last + 500_000_000 < moment)
+
+        late : (at : Side) → PolledLast (plain_over draws) (IsLate at) (rtc_at at pair)
+        late at = resting_last (plain_over draws) (IsLate at) stun start past pair ran at (soon at)
+
+        none_again : (at : Side) (s : ℕ) → IsOpeningRefused s (rtc_at at pair) → ⊥
+        none_again at s refused =
+            none_retried draws (IsLate at) (rtc_at at pair) (late at) (settled.peers at).alive (late at).moment_is.0 (late at).moment_is.1
+            (awaits_retried s (rtc_at at pair).core.sctp.association (rtc_at at pair).core.sctp.entries (heard at)
+            (refused_opening s (rtc_at at pair) refused))
+
+        pub settled_later : (at : Side)
+            → AreConfirmedOpen draws (λ c. WasConfirmed (plain_over draws) stun start at c past pair ran) (uses at) (rtc_at at pair)
+            (uses (other_side at)) (rtc_at (other_side at) pair)
+        settled_later at = λ c s confirmed under band.
+            open_unless none_again at c s
+            (settled_refused at (none_due draws (IsLate at) (rtc_at at pair) (late at) (settled.peers at).alive (late at).moment_is.0) c s confirmed
+            under band)
 
   pub run_settles_open : (stun : List ℕ → Bool) (start pair : PlainPair N) (steps : List Step) (replies : List (Reply PlainMediaEvent))
       → IsNewPair draws start → (run : Runs (plain_over draws) stun start steps replies pair) → SettlesOpen draws stun start steps replies pair run
@@ -292,4 +315,6 @@ module _ {N : Type 0} (draws : Draws N) where
             settled_refused stun start run.past pair ran (new_pair_told draws start new) (new_unused draws start new) settled new at idle;
         confirmed = λ settled still at.
             settled_confirmed stun start run.past pair ran (new_pair_told draws start new) (new_unused draws start new) settled new still at;
+        later = λ settled soon at.
+            settled_later stun start run.past pair ran (new_pair_told draws start new) (new_unused draws start new) settled new soon at;
       }

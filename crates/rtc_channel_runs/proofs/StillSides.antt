@@ -60,7 +60,7 @@ retried_by : (a : Contents) (entry : StreamEntry) → entry.state ≡ AwaitOpen 
 retried_by a entry opening (inl waits) = waits.1
 retried_by a entry opening (inr it) = absurd (true≢false (sym (ap is_open_awaited opening) ∙ it.4))
 
-awaits_retried : (s : ℕ) (a : Contents) (entries : List StreamEntry) → AreHeard plain_meaning a entries
+pub awaits_retried : (s : ℕ) (a : Contents) (entries : List StreamEntry) → AreHeard plain_meaning a entries
     → HasEntryOf (λ entry. entry.state ≡ AwaitOpen) s entries → list_any is_retrying entries ≡ true
 awaits_retried s a [] heard h = absurd h
 awaits_retried s a (entry ∷ entries) heard (inl own) =

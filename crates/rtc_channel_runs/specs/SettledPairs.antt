@@ -1,5 +1,5 @@
 -- Pairs in which nothing is under way any more, and what holds of the channels of such a pair (RFC 8832, section 6).
-use Rattle.std.specs.Prelude.{ℕ, ◌≡◌, ◌<◌, ◌-◌, ◌^◌, ◌⊎◌, Bool, true, false, List, [], ◌∷◌, Some, None}
+use Rattle.std.specs.Prelude.{ℕ, ◌≡◌, ◌+◌, ◌<◌, ◌-◌, ◌^◌, ◌⊎◌, Bool, true, false, List, [], ◌∷◌, Some, None}
 use Rattle.rtc_parts_values.specs.Among.{Member}
 use Rattle.rtc_dtls.specs.DtlsState.{can_send}
 use Rattle.rtc_plain_dtls.specs.PlainMeaning.{plain_dtls}
@@ -68,6 +68,12 @@ IsResting at past = RestsUntil (λ moment. Unit {0}) at past
 -- nothing was due by then: the moment is later than each that the peer took
 abbrev pub HasNothingDue : {E N : Type 0} → Side → List (Entry E) → PlainPair N → Type 0
 HasNothingDue at past pair = RestsUntil (λ moment. (rtc_at at pair).core.greatest < moment) at past
+
+-- nor was anything to be tried again: the moment is later than half a second after the last one that the streams took, too
+abbrev pub HasNothingSoon : {E N : Type 0} → Side → List (Entry E) → PlainPair N → Type 0
+HasNothingSoon at past pair =
+    RestsUntil
+    (λ moment. ((rtc_at at pair).core.greatest < moment) × ((rtc_at at pair).core.sctp.last + 500_000_000 < moment)) at past
 
 -- A peer is alive, application data can go over its DTLS connection, and its association is established, neither closing nor closed. It has
 -- no unacknowledged item, and a number is left for a channel.
@@ -195,6 +201,12 @@ pub record SettlesOpen {N : Type 0} (draws : Draws N) (stun : List ℕ → Bool)
       (uses_in_run (plain_over draws) stun start steps replies pair run at) (rtc_at at pair)
       (uses_in_run (plain_over draws) stun start steps replies pair run (other_side at)) (rtc_at (other_side at) pair)
   pub confirmed : IsSettledPair run.past pair → IsStillPair pair → (at : Side)
+      → AreConfirmedOpen draws
+      (λ channel. WasConfirmed (plain_over draws) stun start at channel run.past pair
+      (reached_by (plain_over draws) stun start run.past pair run.went))
+      (uses_in_run (plain_over draws) stun start steps replies pair run at) (rtc_at at pair)
+      (uses_in_run (plain_over draws) stun start steps replies pair run (other_side at)) (rtc_at (other_side at) pair)
+  pub later : IsSettledPair run.past pair → ((at : Side) → HasNothingSoon at run.past pair) → (at : Side)
       → AreConfirmedOpen draws
       (λ channel. WasConfirmed (plain_over draws) stun start at channel run.past pair
       (reached_by (plain_over draws) stun start run.past pair run.went))

@@ -13,7 +13,7 @@ ghost use Rattle.rtc_history.specs.Sides.{other_side};
 ghost use Rattle.rtc_joined_runs.specs.NewPairs.{IsNewPair};
 ghost use Rattle.rtc_joined_runs.specs.PlainPairs.{PlainPair, plain_over};
 ghost use Rattle.rtc_channel_runs.specs.ConfirmedChannels.{WasConfirmed};
-ghost use Rattle.rtc_channel_runs.specs.SettledPairs.{AreAnswered, AreConfirmedOpen, AreConfirmedSettled, AreOpenAtBoth, HasNothingDue, IsLevelStream, IsSettledPair, SettlesOpen};
+ghost use Rattle.rtc_channel_runs.specs.SettledPairs.{AreAnswered, AreConfirmedOpen, AreConfirmedSettled, AreOpenAtBoth, HasNothingDue, HasNothingSoon, IsLevelStream, IsSettledPair, SettlesOpen};
 ghost use Rattle.rtc_channel_runs.specs.StillPairs.{IsStillPair};
 ghost use Rattle.rtc_channel_runs.specs.UsesOfRuns.{uses_of};
 
@@ -30,7 +30,8 @@ use rtc_ids::Ids;
 /// of them that was confirmed in the run, and has such a stream, is open at both sides so; or the opening of its stream is refused for
 /// now, as the stream is there already, and has been for less than ten seconds; or both sides opened the stream themselves, so that the
 /// opening from here waits for its answer, and the one from there is refused so. It is open at both, where neither the associations with
-/// their streams nor the channels over them want a moment.
+/// their streams nor the channels over them want a moment; and where both last timeouts are later than each moment that the peers took,
+/// and than half a second after the last one that their streams took.
 pub fn settled_pairs_have_open_channels<N: Ids>()
     ensures level { (stun : List ℕ → Bool) (start pair : PlainPair N) (past : List (Entry PlainMediaEvent)) → IsNewPair N.ids start
         → Reached (plain_over N.ids) stun start past pair → IsSettledPair past pair → (at : Side) (stream : ℕ)
@@ -53,6 +54,12 @@ pub fn settled_pairs_have_open_channels<N: Ids>()
         (uses_of (plain_over N.ids) stun start (other_side at) past pair ran) (rtc_at (other_side at) pair) }
     ensures confirmed { (stun : List ℕ → Bool) (start pair : PlainPair N) (past : List (Entry PlainMediaEvent)) → IsNewPair N.ids start
         → (ran : Reached (plain_over N.ids) stun start past pair) → IsSettledPair past pair → IsStillPair pair → (at : Side)
+        → AreConfirmedOpen N.ids (λ channel. WasConfirmed (plain_over N.ids) stun start at channel past pair ran)
+        (uses_of (plain_over N.ids) stun start at past pair ran) (rtc_at at pair)
+        (uses_of (plain_over N.ids) stun start (other_side at) past pair ran) (rtc_at (other_side at) pair) }
+    ensures later { (stun : List ℕ → Bool) (start pair : PlainPair N) (past : List (Entry PlainMediaEvent)) → IsNewPair N.ids start
+        → (ran : Reached (plain_over N.ids) stun start past pair) → IsSettledPair past pair
+        → ((at : Side) → HasNothingSoon at past pair) → (at : Side)
         → AreConfirmedOpen N.ids (λ channel. WasConfirmed (plain_over N.ids) stun start at channel past pair ran)
         (uses_of (plain_over N.ids) stun start at past pair ran) (rtc_at at pair)
         (uses_of (plain_over N.ids) stun start (other_side at) past pair ran) (rtc_at (other_side at) pair) }

@@ -1,6 +1,6 @@
 use Rattle.rtc_channel_runs.proofs.DrainedRuns.{new_unused}
 use Rattle.rtc_channel_runs.proofs.RunsTold.{new_pair_told}
-use Rattle.rtc_channel_runs.proofs.SettledRuns.{run_settles_open, settled_answered, settled_confirmed, settled_idle, settled_level, settled_open, settled_refused}
+use Rattle.rtc_channel_runs.proofs.SettledRuns.{run_settles_open, settled_answered, settled_confirmed, settled_idle, settled_later, settled_level, settled_open, settled_refused}
 use Rattle.rtc_channel_runs.proofs.settling.settled_pairs_have_open_channels.Goals as goal
 
 pub returns-clause-level : goal.returns-clause-level
@@ -26,6 +26,10 @@ returns-clause-refused g c = λ stun start pair past new ran settled at idle.
 pub returns-clause-confirmed : goal.returns-clause-confirmed
 returns-clause-confirmed g c = λ stun start pair past new ran settled still at.
     settled_confirmed g.N.Ids.ids stun start past pair ran (new_pair_told g.N.Ids.ids start new) (new_unused g.N.Ids.ids start new) settled new still at
+
+pub returns-clause-later : goal.returns-clause-later
+returns-clause-later g c = λ stun start pair past new ran settled soon at.
+    settled_later g.N.Ids.ids stun start past pair ran (new_pair_told g.N.Ids.ids start new) (new_unused g.N.Ids.ids start new) settled new soon at
 
 pub returns-clause-ran : goal.returns-clause-ran
 returns-clause-ran g c = λ stun start pair steps replies new run. run_settles_open g.N.Ids.ids stun start pair steps replies new run
