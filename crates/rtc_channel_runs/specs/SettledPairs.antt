@@ -181,8 +181,9 @@ AreConfirmedSettled draws confirmed uses p others q =
     → AreInBandStreams stream p q
     → IsOpenAtBoth draws channel uses p others q ⊎ (IsOpeningRefused stream p ⊎ AreBothOpening stream p q)
 
--- A run by these steps with these replies leaves it so at both sides, where it left the pair settled: where nothing is due for the channels
--- of the side, and where besides no opening is under way at either.
+-- A run by these steps with these replies leaves it so at both sides, where it left the pair settled. Of channels that were confirmed it
+-- tells where nothing is due for those of the side; they are open where besides no opening is under way at either side, and where the last
+-- timeouts of both are late enough.
 pub record SettlesOpen {N : Type 0} (draws : Draws N) (stun : List ℕ → Bool) (start : PlainPair N) (steps : List Step)
     (replies : List (Reply PlainMediaEvent)) (pair : PlainPair N) (run : Runs (plain_over draws) stun start steps replies pair)
     : Type 0 where
