@@ -53,3 +53,4 @@ pub mod SettledRuns
 pub mod KnownRows
 pub mod KnownRuns
 pub mod KnownSides
+pub mod RefusedSides

@@ -5,6 +5,7 @@ use Rattle.rtc_assoc.specs.Unread.{IsPrefix, unread}
 use Rattle.rtc_assoc_state.specs.Contents.{closed_here, generation_of, has_unread}
 use Rattle.rtc_assoc_state.specs.Outbox.{has_unacknowledged}
 use Rattle.rtc_assoc_state.specs.PlainMeaning.{plain_meaning}
+use Rattle.rtc_sctp_entries.specs.declared.stream_entry_state.StreamEntryState.TheVariants.{AwaitOpen}
 use Rattle.rtc_sctp_entries.specs.Entries.{has_open}
 use Rattle.rtc_sctp.specs.Streams.{is_established}
 use Rattle.rtc_channels.specs.Openings.{channels_wake}
@@ -35,7 +36,7 @@ use Rattle.rtc_channel_runs.specs.OpenUses.{AreJoinedUses}
 use Rattle.rtc_channel_runs.specs.SentMessages.{sent_over}
 use Rattle.rtc_channel_runs.specs.ToldMessages.{told_over}
 use Rattle.rtc_channel_runs.specs.ConfirmedChannels.{WasConfirmed}
-use Rattle.rtc_channel_runs.specs.SettledPairs.{AreBothOpening, AreAnswered, AreConfirmedOpen, AreConfirmedSettled, AreInBandStreams, AreOpenAtBoth, IsInBandStream, HasNothingDue, HasNothingSoon, IsLevelStream, IsOpenAtBoth, IsOpeningRefused, IsSettledPair}
+use Rattle.rtc_channel_runs.specs.SettledPairs.{AreBothOpening, HasEntryOf, IsRefusedAlone, AreAnswered, AreConfirmedOpen, AreConfirmedSettled, AreInBandStreams, AreOpenAtBoth, IsInBandStream, HasNothingDue, HasNothingSoon, IsLevelStream, IsOpenAtBoth, IsOpeningRefused, IsSettledPair}
 use Rattle.rtc_channel_runs.specs.SettledPairs.{IsSettledPeer, IsTakenUp, SettlesOpen, WaitsForAnswer}
 use Rattle.rtc_channel_runs.specs.StillPairs.{IsStillPair}
 use Rattle.rtc_channel_runs.specs.UsesOfRuns.{reached_by, uses_of}
@@ -48,6 +49,7 @@ use Rattle.rtc_channel_runs.proofs.OpenSides.{both_true, last_all, last_heard, n
 use Rattle.rtc_channel_runs.proofs.IdleSides.{none_due, none_retried}
 use Rattle.rtc_channel_runs.proofs.KeptStreams.{AreKeptStreams, AreLevelStreams, kept_by, pair_level}
 use Rattle.rtc_channel_runs.proofs.KnownRuns.{SideKnown, new_pair_known, run_known}
+use Rattle.rtc_channel_runs.proofs.RefusedSides.{shut_there}
 use Rattle.rtc_channel_runs.proofs.KnownSides.{none_unread, refused_of, refused_opening, tried_in}
 use Rattle.rtc_channel_runs.proofs.StillSides.{awaits_retried, none_opening, taken_up}
 use Rattle.rtc_plain_streams.proofs.BackedRows.{plain_unread}
@@ -217,7 +219,7 @@ module _ {N : Type 0} (draws : Draws N) where
       abbrev EndsAt : (at : Side) (c s : ℕ) → Type 0
       EndsAt at c s =
           IsOpenAtBoth draws c (uses at) (rtc_at at pair) (uses (other_side at)) (rtc_at (other_side at) pair)
-          ⊎ (IsOpeningRefused s (rtc_at at pair) ⊎ AreBothOpening s (rtc_at at pair) (rtc_at (other_side at) pair))
+          ⊎ (IsRefusedAlone s (rtc_at at pair) (rtc_at (other_side at) pair) ⊎ AreBothOpening s (rtc_at at pair) (rtc_at (other_side at) pair))
 
       -- an opening waits for its answer where that of the other side is refused for now
       refused_there : (at : Side) (s : ℕ) → AreInBandStreams s (rtc_at at pair) (rtc_at (other_side at) pair)
@@ -233,9 +235,21 @@ module _ {N : Type 0} (draws : Draws N) where
       settled_answered at = λ s band waits.
           (refused_there at s band waits (quiet (other_side at) s (level at s).there), λ in_use. none_taken at s band waits in_use)
 
+      -- the other side has the stream not open then
+      other_shut : (at : Side) (s : ℕ) → AreInBandStreams s (rtc_at at pair) (rtc_at (other_side at) pair)
+          → HasEntryOf (λ entry. entry.state ≡ AwaitOpen) s (rtc_at at pair).core.sctp.entries
+          → has_open s (rtc_at (other_side at) pair).core.sctp.entries ≡ false
+      other_shut Left s band h =
+          shut_there draws told.acts.left told.acts.right (uses Left) (uses Right) pair.left pair.right told.left.side told.right.side (settled.peers Left)
+          (settled.peers Right) (heard Right) (λ t g. side_reads told.acts pair Left t g told.exchange) s (kept_streams Left s band) h
+      other_shut Right s band h =
+          shut_there draws told.acts.right told.acts.left (uses Right) (uses Left) pair.right pair.left told.right.side told.left.side (settled.peers Right)
+          (settled.peers Left) (heard Left) (λ t g. side_reads told.acts pair Right t g told.exchange) s (kept_streams Right s band) h
+
       by_entry : (at : Side) (c s : ℕ) → stream_under c (rtc_at at pair).core.channels ≡ Some s
           → AreInBandStreams s (rtc_at at pair) (rtc_at (other_side at) pair) → StandsAs s (rtc_at at pair).core.sctp.entries → EndsAt at c s
-      by_entry at c s under band (Opening h) = inr (inl (refused_of draws (rtc_at at pair) s (heard at) (tried at) (level at s).here h))
+      by_entry at c s under band (Opening h) =
+          inr (inl (refused_of draws (rtc_at at pair) s (heard at) (tried at) (level at s).here h, other_shut at s band h))
       by_entry at c s under band (Unanswered h) = inr (inr (h, (settled_answered at s band h).0))
       by_entry at c s under band (IsOpen h) =
           inl
@@ -264,7 +278,7 @@ module _ {N : Type 0} (draws : Draws N) where
       open_unless : ((at : Side) (s : ℕ) → IsOpeningRefused s (rtc_at at pair) → ⊥) → (at : Side) (c s : ℕ) → EndsAt at c s
           → IsOpenAtBoth draws c (uses at) (rtc_at at pair) (uses (other_side at)) (rtc_at (other_side at) pair)
       open_unless none at c s (inl opened) = opened
-      open_unless none at c s (inr (inl here)) = absurd (none at s here)
+      open_unless none at c s (inr (inl here)) = absurd (none at s here.0)
       open_unless none at c s (inr (inr there)) = absurd (none (other_side at) s there.1)
 
       module _ (still : IsStillPair pair) where

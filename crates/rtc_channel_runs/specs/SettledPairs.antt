@@ -9,7 +9,7 @@ use Rattle.rtc_plain_media.specs.declared.plain_media_event.PlainMediaEvent.{Pla
 use Rattle.rtc_ids.specs.Draws.{Draws}
 use Rattle.rtc_sctp_entries.specs.declared.stream_entry_state.StreamEntryState.TheVariants.{AwaitOpen, AwaitDcepAck}
 use Rattle.rtc_sctp_entries.specs.declared.stream_entry.StreamEntry.{StreamEntry}
-use Rattle.rtc_sctp_entries.specs.Entries.{is_out_of_band}
+use Rattle.rtc_sctp_entries.specs.Entries.{has_open, is_out_of_band}
 use Rattle.rtc_sctp.specs.Streams.{is_established}
 use Rattle.rtc_channels.specs.Openings.{channels_wake}
 use Rattle.rtc_peer_state.specs.declared.phase.Phase.TheVariants.{Alive}
@@ -166,6 +166,10 @@ AreConfirmedOpen draws confirmed uses p others q =
     → AreInBandStreams stream p q
     → IsOpenAtBoth draws channel uses p others q
 
+-- the opening of a stream from here is refused for now, and the stream is not open at the other side either
+abbrev pub IsRefusedAlone : {N : Type 0} → (stream : ℕ) → PlainPolled N → PlainPolled N → Type 0
+IsRefusedAlone stream p q = IsOpeningRefused stream p × (has_open stream q.core.sctp.entries ≡ false)
+
 -- both sides opened a stream themselves: the opening from here waits for its answer, and the one from there is refused for now
 abbrev pub AreBothOpening : {N : Type 0} → (stream : ℕ) → PlainPolled N → PlainPolled N → Type 0
 AreBothOpening stream p q = WaitsForAnswer stream p.core.sctp.entries × IsOpeningRefused stream q
@@ -179,7 +183,7 @@ AreConfirmedSettled draws confirmed uses p others q =
     → confirmed channel
     → stream_under channel p.core.channels ≡ Some stream
     → AreInBandStreams stream p q
-    → IsOpenAtBoth draws channel uses p others q ⊎ (IsOpeningRefused stream p ⊎ AreBothOpening stream p q)
+    → IsOpenAtBoth draws channel uses p others q ⊎ (IsRefusedAlone stream p q ⊎ AreBothOpening stream p q)
 
 -- A run by these steps with these replies leaves it so at both sides, where it left the pair settled. Of channels that were confirmed it
 -- tells where nothing is due for those of the side; they are open where besides no opening is under way at either side, and where the last

@@ -28,10 +28,10 @@ use rtc_ids::Ids;
 ///
 /// Nothing is due for the channels of a side whose last timeout is later than each moment that its peer took. Where nothing is, each
 /// of them that was confirmed in the run, and has such a stream, is open at both sides so; or the opening of its stream is refused for
-/// now, as the stream is there already, and has been for less than ten seconds; or both sides opened the stream themselves, so that the
-/// opening from here waits for its answer, and the one from there is refused so. It is open at both, where neither the associations with
-/// their streams nor the channels over them want a moment; and where both last timeouts are later than each moment that the peers took,
-/// and than half a second after the last one that their streams took.
+/// now, as the stream is there already, and has been for less than ten seconds, while it is not open at the other side either; or both
+/// sides opened the stream themselves, so that the opening from here waits for its answer, and the one from there is refused so. It is
+/// open at both, where neither the associations with their streams nor the channels over them want a moment; and where both last timeouts
+/// are later than each moment that the peers took, and than half a second after the last one that their streams took.
 pub fn settled_pairs_have_open_channels<N: Ids>()
     ensures level { (stun : List ℕ → Bool) (start pair : PlainPair N) (past : List (Entry PlainMediaEvent)) → IsNewPair N.ids start
         → Reached (plain_over N.ids) stun start past pair → IsSettledPair past pair → (at : Side) (stream : ℕ)
