@@ -1,5 +1,5 @@
 -- Offers and answers that are accepted, refused or stopped keep the use of each stream, and live channels.
-use Rattle.std.proofs.Common.{◌≡◌, ◌&&◌, ℕ, Bool, true, false, true≢false, not, List, [], Option, Some, None, Result, Ok, Err, refl, sym, ap, subst, ◌∙◌}
+use Rattle.std.proofs.Common.{◌≡◌, inl, inr, ◌&&◌, ℕ, Bool, true, false, true≢false, not, List, [], Option, Some, None, Result, Ok, Err, refl, sym, ap, subst, ◌∙◌}
 use Rattle.std.specs.Prelude.{is_some}
 use Rattle.rtc_association.specs.AssociationLaws.{AssociationLaws}
 use Rattle.rtc_dtls.specs.declared.dtls_error.DtlsError.TheVariants.{WouldBlock, Fault, Alloc as DtlsAlloc}
@@ -33,10 +33,14 @@ use Rattle.rtc_change.specs.declared.change.Change.{Change}
 use Rattle.rtc_change.specs.Held.{Asked}
 use Rattle.rtc_change.specs.PendingOffer.{PendingOffer, staged_restart}
 use Rattle.rtc_sctp_values.specs.InitHalves.{InitHalves}
-use Rattle.rtc_sctp_values.specs.declared.proto_error.ProtoError.TheVariants.{Fault as AssociationFault}
+use Rattle.rtc_sctp_values.specs.declared.proto_error.ProtoError.TheVariants.{Fault as AssociationFault, Started, SnapHalf}
 use Rattle.rtc_sctp_values.specs.declared.sctp_error.SctpError.{SctpError}
 use Rattle.rtc_sctp_values.specs.declared.sctp_error.SctpError.TheVariants.{Proto, Alloc as SctpAlloc}
 use Rattle.rtc_sctp.specs.Streams.{SctpStreams, is_established}
+use Rattle.rtc_sctp.specs.declared.rtc_sctp_state.RtcSctpState.TheVariants.{Uninited}
+use Rattle.rtc_sctp.specs.Calls.{Inits, begun_state}
+use Rattle.rtc_sctp.proofs.BegunLemmas.{inits_started}
+use Rattle.rtc_sctp_laws.proofs.CallActs.{inits_did}
 use Rattle.rtc_stream_uses.proofs.CallUses.{inits_entries}
 use Rattle.rtc_stream_contents.specs.RunningStreams.{AreRunning}
 use Rattle.rtc_channels.specs.Channels.{Channels}
@@ -49,7 +53,7 @@ use Rattle.rtc_peer_state.specs.Meanings.{Meanings}
 use Rattle.rtc_peer_state.specs.Calls.{raised, control_for, fitting_channels}
 use Rattle.rtc_peer_state.specs.MadeSdp.{role_for, role_after}
 use Rattle.rtc_peer_state.specs.SdpMoves.{followed_restart, answer_ids, halves_for}
-use Rattle.rtc_peer_state.specs.PartMoves.{needs_start, StartsWhere, StartsSctp, remote_limit, StopsMoving, AtAgent, AtRole, AtStart}
+use Rattle.rtc_peer_state.specs.PartMoves.{dropped_halves, needs_start, StartsWhere, StartsSctp, remote_limit, StopsMoving, AtAgent, AtRole, AtStart}
 use Rattle.rtc_peer_state.specs.StoppedAcceptances.{StopsPreparing, BeforeSources, AmongDraws, AtUpdates, StopsAccepting, AtVerdict, AtPreparing, AtParts}
 use Rattle.rtc_peer_state.specs.Acceptances.{AcceptsOffer, AcceptsAnswer, phase_after}
 use Rattle.rtc_polling.specs.declared.polled_peer.PolledPeer.{PolledPeer}
@@ -60,6 +64,8 @@ use Rattle.rtc_channel_laws.specs.KeptChannels.{CallKeepsStreams}
 use Rattle.rtc_polling_laws.specs.ChannelStreams.{AreNumberedChannels, IsGone}
 use Rattle.rtc_channel_laws.proofs.GoneChannels.{all_confirmed_given, all_confirmed_gone}
 use Rattle.rtc_channel_laws.proofs.ConfirmedChannels.{all_confirmed_over, all_confirmed_numbers}
+use Rattle.rtc_polling_laws.specs.RowsChanged.{Confirmed, KeepsBegun, OnlyActs, RowsChange, StartsEstablished, Stayed}
+use Rattle.rtc_polling_laws.proofs.ChangedRows.{no_acts, one_changed, same_rows}
 use Rattle.rtc_polling_laws.proofs.StreamsJoin.{same_given}
 use Rattle.rtc_channel_laws.proofs.KeptCalls.{kept_acts}
 
@@ -88,12 +94,58 @@ module _ {I D S M E X T W N : Type 0} (m : Meanings I D S M E X T W N) where
   started_entries false client now max halves drops p r q h = ap (λ (s : SctpStreams S). s.entries) h.1
   started_entries true client now max halves drops p r q h = inits_entries m.association client now max halves p r q h
 
+  -- a start leaves the association begun, or as it was
+  begun_state_is : (halves : Option InitHalves) (client : Bool) → begun_state halves client ≡ Uninited → ⊥
+  begun_state_is None true e = cc (e)
+  begun_state_is None false e = cc (e)
+  begun_state_is (Some both) client e = cc (e)
+
+  inits_begun : (client : Bool) (now max : ℕ) (halves : Option InitHalves) (p : SctpStreams S) (r : Result (Unit {0}) SctpError) (q : SctpStreams S)
+      → Inits m.association client now max halves p r q → KeepsBegun p q
+  inits_begun client now max halves p (Ok done) q h =
+      λ e. absurd (begun_state_is halves client (sym (ap (λ (s : SctpStreams S). s.state) h.2) ∙ e))
+  inits_begun client now max halves p (Err (Proto Started)) q h = (λ e. sym (ap (λ (s : SctpStreams S). s.state) h.1) ∙ e)
+  inits_begun client now max halves p (Err (Proto SnapHalf)) q h = (λ e. sym (ap (λ (s : SctpStreams S). s.state) h.2) ∙ e)
+  inits_begun client now max halves p (Err (Proto AssociationFault)) q h = (λ e. sym (ap (λ (s : SctpStreams S). s.state) h.2) ∙ e)
+  inits_begun client now max halves p (Err SctpAlloc) q h = (λ e. sym (ap (λ (s : SctpStreams S). s.state) h.2) ∙ e)
+  inits_begun client now max halves p (Err error) q h = absurd h
+
+  -- one that is established by it is started
+  inits_last : AssociationLaws m.association → (client : Bool) (now max : ℕ) (halves : Option InitHalves) (p : SctpStreams S)
+      (r : Result (Unit {0}) SctpError) (q : SctpStreams S) → Inits m.association client now max halves p r q → StartsEstablished m.association p q
+  inits_last w client now max halves p (Ok done) q h = (λ e. inr (inits_started m.association w client now max halves p q h))
+  inits_last w client now max halves p (Err (Proto Started)) q h = (λ e. inl (ap is_established (sym (ap (λ (s : SctpStreams S). s.state) h.1)) ∙ e))
+  inits_last w client now max halves p (Err (Proto SnapHalf)) q h = (λ e. inl (ap is_established (sym (ap (λ (s : SctpStreams S). s.state) h.2)) ∙ e))
+  inits_last w client now max halves p (Err (Proto AssociationFault)) q h = (λ e. inl (ap is_established (sym (ap (λ (s : SctpStreams S). s.state) h.2)) ∙ e))
+  inits_last w client now max halves p (Err SctpAlloc) q h = (λ e. inl (ap is_established (sym (ap (λ (s : SctpStreams S). s.state) h.2)) ∙ e))
+  inits_last w client now max halves p (Err error) q h = absurd h
+
+  started_only : AssociationLaws m.association → (b : Bool) (client : Bool) (now max : ℕ) (halves : Option InitHalves) (drops : Bool) (p : SctpStreams S)
+      (r : Result (Unit {0}) SctpError) (q : SctpStreams S) → StartsWhere m.association b p client now max halves drops r q
+      → OnlyActs m.association p q
+  started_only w false client now max halves drops p r q h =
+      no_acts m.association p (record p { snap = dropped_halves drops p.snap }) q h.1 refl refl refl
+  started_only w true client now max halves drops p r q h =
+      let d = inits_did m.association client now max halves p r q h in
+      record {
+        acts = d.did.acts;
+        went = d.did.went;
+        untold = d.did.told_is;
+        entries = inits_entries m.association client now max halves p r q h;
+        begun = inits_begun client now max halves p r q h;
+        lasts = inits_last w client now max halves p r q h;
+      }
+
   -- entries stay, and what was established over an association that runs is
   abbrev LeavesEntries : SctpStreams S → SctpStreams S → Type 0
-  LeavesEntries p q = (q.entries ≡ p.entries) × (AreRunning m.association p → is_established q.state ≡ true)
+  LeavesEntries p q = (q.entries ≡ p.entries) × (AreRunning m.association p → is_established q.state ≡ true) × OnlyActs m.association p q
 
   leaves_same : (p q : SctpStreams S) → q ≡ p → LeavesEntries p q
-  leaves_same p q is = (ap (λ (s : SctpStreams S). s.entries) is, λ k. ap (λ (s : SctpStreams S). is_established s.state) is ∙ k.1)
+  leaves_same p q is = (
+    ap (λ (s : SctpStreams S). s.entries) is,
+    λ k. ap (λ (s : SctpStreams S). is_established s.state) is ∙ k.1,
+    no_acts m.association p p q is refl refl refl,
+  )
 
   -- what runs needs no start
   unneeded : (a b : Bool) → b ≡ true → (a && not b) ≡ false
@@ -101,16 +153,17 @@ module _ {I D S M E X T W N : Type 0} (m : Meanings I D S M E X T W N) where
   unneeded false true e = refl
   unneeded a false e = absurd (true≢false (sym e))
 
-  sctp_entries : (rows : List LineRow) (client : Bool) (now max : ℕ) (halves : Option InitHalves) (drops : Bool) (p : SctpStreams S)
+  sctp_entries : AssociationLaws m.association → (rows : List LineRow) (client : Bool) (now max : ℕ) (halves : Option InitHalves) (drops : Bool) (p : SctpStreams S)
       (r : Result (Unit {0}) SctpError) (q : SctpStreams S) → StartsSctp m.association p rows client now max halves drops r q
       → LeavesEntries p q
-  sctp_entries rows client now max halves drops p r q h = (
+  sctp_entries w rows client now max halves drops p r q h = (
     started_entries (needs_start m.association rows p) client now max halves drops p r q h,
     λ k.
         ap (λ (s : SctpStreams S). is_established s.state)
         (subst (λ (b : Bool). StartsWhere m.association b p client now max halves drops r q)
         (unneeded (is_some (app_of rows)) (m.association.started p.association) k.0) h).1
         ∙ k.1,
+    started_only w (needs_start m.association rows p) client now max halves drops p r q h,
   )
 
   preparing_entries : (o : Peer I D S M N) (offer may : Bool) (changes : List Change) (sdp : Sdp) (drawn : N) (c : Peer I D S M N)
@@ -119,24 +172,24 @@ module _ {I D S M E X T W N : Type 0} (m : Meanings I D S M E X T W N) where
   preparing_entries o offer may changes sdp drawn c (AmongDraws later more is) = leaves_same o.sctp c.sctp (ap (λ (x : Peer I D S M N). x.sctp) is)
   preparing_entries o offer may changes sdp drawn c (AtUpdates error prepared is) = leaves_same o.sctp c.sctp (ap (λ (x : Peer I D S M N). x.sctp) is)
 
-  moving_entries : (p : Peer I D S M N) (c : Peer I D S M N) (restart : Option (IceCreds × Bool)) (creds : Option IceCreds) (candidates : List Candidate)
+  moving_entries : AssociationLaws m.association → (p : Peer I D S M N) (c : Peer I D S M N) (restart : Option (IceCreds × Bool)) (creds : Option IceCreds) (candidates : List Candidate)
       (control : Option Bool) (active : Bool) (rows : List LineRow) (client : Bool) (max : ℕ) (halves : Option InitHalves) (drops : Bool)
       → StopsMoving m.ice m.dtls m.association p.ice p.dtls p.sctp restart creds candidates control active rows client p.greatest max halves drops c.ice
       c.dtls c.sctp
       → LeavesEntries p.sctp c.sctp
-  moving_entries p c restart creds candidates control active rows client max halves drops (AtAgent stops dtls sctp) = leaves_same p.sctp c.sctp sctp
-  moving_entries p c restart creds candidates control active rows client max halves drops (AtRole follows starts sctp) = leaves_same p.sctp c.sctp sctp
-  moving_entries p c restart creds candidates control active rows client max halves drops (AtStart follows starts started) =
-      sctp_entries rows client p.greatest max halves drops p.sctp (Err SctpAlloc) c.sctp started
+  moving_entries w p c restart creds candidates control active rows client max halves drops (AtAgent stops dtls sctp) = leaves_same p.sctp c.sctp sctp
+  moving_entries w p c restart creds candidates control active rows client max halves drops (AtRole follows starts sctp) = leaves_same p.sctp c.sctp sctp
+  moving_entries w p c restart creds candidates control active rows client max halves drops (AtStart follows starts started) =
+      sctp_entries w rows client p.greatest max halves drops p.sctp (Err SctpAlloc) c.sctp started
 
-  stops_entries : (p : Peer I D S M N) (count : ℕ) (asked : Option Asked) (changes : List Change) (sdp : Sdp) (restart : Option (IceCreds × Bool))
+  stops_entries : AssociationLaws m.association → (p : Peer I D S M N) (count : ℕ) (asked : Option Asked) (changes : List Change) (sdp : Sdp) (restart : Option (IceCreds × Bool))
       (control : Option Bool) (drawn : N) (c : Peer I D S M N) → StopsAccepting m (record p { counter = count }) asked changes sdp restart control drawn c
       → LeavesEntries p.sctp c.sctp
-  stops_entries p count asked changes sdp restart control drawn c (AtVerdict is) = leaves_same p.sctp c.sctp (ap (λ (x : Peer I D S M N). x.sctp) is)
-  stops_entries p count asked changes sdp restart control drawn c (AtPreparing passes stops) =
+  stops_entries w p count asked changes sdp restart control drawn c (AtVerdict is) = leaves_same p.sctp c.sctp (ap (λ (x : Peer I D S M N). x.sctp) is)
+  stops_entries w p count asked changes sdp restart control drawn c (AtPreparing passes stops) =
       preparing_entries (record p { counter = count }) (is_offer asked) (may_take_init asked) changes sdp drawn c stops
-  stops_entries p count asked changes sdp restart control drawn c (AtParts passes ids prepared moving) =
-      moving_entries p c restart (creds_of sdp) (candidates_of sdp) control (role_for (sdp_setup sdp)) (table_after p.lines (parsed_lines sdp) (is_offer asked))
+  stops_entries w p count asked changes sdp restart control drawn c (AtParts passes ids prepared moving) =
+      moving_entries w p c restart (creds_of sdp) (candidates_of sdp) control (role_for (sdp_setup sdp)) (table_after p.lines (parsed_lines sdp) (is_offer asked))
       (role_after p.dtls.active (sdp_setup sdp)) (remote_limit (max_message_size_of sdp))
       (halves_for m (record p { counter = count }) (is_offer asked) (may_take_init asked) changes sdp drawn) (not (is_offer asked)) moving
 
@@ -146,8 +199,9 @@ module _ {I D S M E X T W N : Type 0} (m : Meanings I D S M E X T W N) where
       → ((s k : ℕ) → channel_over s p.core.channels ≡ Some k → channel_over s c.channels ≡ Some k)
       → (AreNumberedChannels p.core.channels → AreNumberedChannels c.channels)
       → ((k : ℕ) → IsGone k p.core.channels → IsGone k c.channels) → c.channels.given ≡ p.core.channels.given
-      → (p.core.phase ≡ Closed → c.phase ≡ Closed) → CallKeepsStreams m p [] (with_core c p)
-  acted_keeps w p c did entries over numbers gone given closed =
+      → (p.core.phase ≡ Closed → c.phase ≡ Closed) → RowsChange m.association p.core.channels p.core.sctp c.channels c.sctp
+      → CallKeepsStreams m p [] (with_core c p)
+  acted_keeps w p c did entries over numbers gone given closed change =
       let kept = kept_acts m.association w p.core.sctp c.sctp did.acts.association did.went.association entries.0 entries.1 in
       record {
         uses = kept.uses;
@@ -158,6 +212,7 @@ module _ {I D S M E X T W N : Type 0} (m : Meanings I D S M E X T W N) where
         running = kept.running;
         given = same_given p.core.channels.given c.channels.given given;
         fresh = kept.fresh;
+        changed = inr (one_changed m.association p.core.channels p.core.sctp c.channels c.sctp change);
       }
 
   still_keeps : AssociationLaws m.association → (p : PolledPeer I D S M N) (c : Peer I D S M N) → NegotiationActs m p (with_core c p)
@@ -166,6 +221,7 @@ module _ {I D S M E X T W N : Type 0} (m : Meanings I D S M E X T W N) where
   still_keeps w p c did entries is closed =
       acted_keeps w p c did entries (λ s k h. ap (λ (x : Channels). channel_over s x) is ∙ h) (λ h. subst (λ (x : Channels). AreNumberedChannels x) (sym is) h)
       (λ k h. subst (λ (x : Channels). IsGone k x) (sym is) h) (ap (λ (x : Channels). x.given) is) closed
+      (Stayed (same_rows p.core.channels c.channels is) entries.2)
 
   refused_keeps : AssociationLaws m.association → (p : PolledPeer I D S M N) (n c : Peer I D S M N) → NegotiationActs m p (with_core c p) → c ≡ n
       → n.sctp ≡ p.core.sctp → n.channels ≡ p.core.channels → (p.core.phase ≡ Closed → n.phase ≡ Closed)
@@ -178,7 +234,7 @@ module _ {I D S M E X T W N : Type 0} (m : Meanings I D S M E X T W N) where
       → NegotiationActs m p (with_core c p) → AcceptsOffer m p.core offer r c → CallKeepsStreams m p [] (with_core c p)
   offer_by w p offer (Ok answer) c did h =
       still_keeps w p c did
-      (sctp_entries (table_after p.core.lines (parsed_lines offer) true) (role_after p.core.dtls.active (sdp_setup offer)) p.core.greatest
+      (sctp_entries w (table_after p.core.lines (parsed_lines offer) true) (role_after p.core.dtls.active (sdp_setup offer)) p.core.greatest
       (remote_limit (max_message_size_of offer)) (halves_for m p.core true true [] offer (answer_ids m p.core offer)) false p.core.sctp (Ok tt) c.sctp h.sctp_starts) (ap (λ (x : Peer I D S M N). x.channels) h.rest)
       (λ k. ap (λ (x : Peer I D S M N). x.phase) h.rest ∙ k)
   offer_by w p offer (Err (RemoteSdp why)) c did h = refused_keeps w p _ c did h.1 refl refl (λ k. stays_closed why p.core.phase k)
@@ -188,7 +244,7 @@ module _ {I D S M E X T W N : Type 0} (m : Meanings I D S M E X T W N) where
   offer_by w p offer (Err (Dtls DtlsAlloc)) c did h = absurd h
   offer_by w p offer (Err (Sctp error)) c did h =
       still_keeps w p c did
-      (sctp_entries (table_after p.core.lines (parsed_lines offer) true) (role_after p.core.dtls.active (sdp_setup offer)) p.core.greatest
+      (sctp_entries w (table_after p.core.lines (parsed_lines offer) true) (role_after p.core.dtls.active (sdp_setup offer)) p.core.greatest
       (remote_limit (max_message_size_of offer)) (halves_for m p.core true true [] offer (answer_ids m p.core offer)) false p.core.sctp (Err (Proto AssociationFault)) c.sctp h.1.sctp_fails)
       (ap (λ (x : Peer I D S M N). x.channels) h.1.rest)
       (λ k. ap (λ (x : Peer I D S M N). x.phase) h.1.rest ∙ k)
@@ -198,7 +254,7 @@ module _ {I D S M E X T W N : Type 0} (m : Meanings I D S M E X T W N) where
   offer_by w p offer (Err BadChannel) c did h = absurd h
   offer_by w p offer (Err Alloc) c did h =
       still_keeps w p c did
-      (stops_entries p.core (raised p.core.counter) None [] offer (followed_restart m p.core offer) (control_for p.core.dtls.active offer.ice_lite)
+      (stops_entries w p.core (raised p.core.counter) None [] offer (followed_restart m p.core offer) (control_for p.core.dtls.active offer.ice_lite)
       (answer_ids m p.core offer) c h.stops) (ap (λ (x : Peer I D S M N). x.channels) h.rest)
       (λ k. ap (λ (x : Peer I D S M N). x.phase) h.rest ∙ k)
 
@@ -210,14 +266,15 @@ module _ {I D S M E X T W N : Type 0} (m : Meanings I D S M E X T W N) where
       (c : Peer I D S M N) → NegotiationActs m p (with_core c p) → AcceptsAnswer m p.core token answer r c → CallKeepsStreams m p [] (with_core c p)
   answer_by w p token answer (Ok done) c did h =
       let is = ap (λ (x : Peer I D S M N). x.channels) h.rest in
-      acted_keeps w p c did
-      (sctp_entries (table_after p.core.lines (parsed_lines answer) false) (role_after p.core.dtls.active (sdp_setup answer)) p.core.greatest
-      (remote_limit (max_message_size_of answer)) (halves_for m p.core false token.says_init token.changes answer p.core.ids) true p.core.sctp (Ok tt) c.sctp h.sctp_starts)
+      let left =
+      sctp_entries w (table_after p.core.lines (parsed_lines answer) false) (role_after p.core.dtls.active (sdp_setup answer)) p.core.greatest
+      (remote_limit (max_message_size_of answer)) (halves_for m p.core false token.says_init token.changes answer p.core.ids) true p.core.sctp (Ok tt) c.sctp h.sctp_starts in
+      acted_keeps w p c did left
       (λ s k e. ap (λ (x : Channels). channel_over s x) is ∙ (all_confirmed_over s (fitting_channels token.changes) p.core.channels ∙ e))
       (λ e. subst (λ (x : Channels). AreNumberedChannels x) (sym is) (all_confirmed_numbers (fitting_channels token.changes) p.core.channels e))
       (λ k e. subst (λ (x : Channels). IsGone k x) (sym is) (all_confirmed_gone k (fitting_channels token.changes) p.core.channels e))
       (ap (λ (x : Channels). x.given) is ∙ all_confirmed_given (fitting_channels token.changes) p.core.channels)
-      (λ k. ap (λ (x : Peer I D S M N). x.phase) h.rest ∙ k)
+      (λ k. ap (λ (x : Peer I D S M N). x.phase) h.rest ∙ k) (Confirmed (fitting_channels token.changes) is left.2)
   answer_by w p token answer (Err (Net cause)) c did h = absurd h
   answer_by w p token answer (Err (MediaFailed cause)) c did h = absurd h
   answer_by w p token answer (Err BadChannel) c did h = absurd h
@@ -229,13 +286,13 @@ module _ {I D S M E X T W N : Type 0} (m : Meanings I D S M E X T W N) where
   answer_by w p token answer (Err (Dtls DtlsAlloc)) c did h = absurd h
   answer_by w p token answer (Err (Sctp error)) c did h =
       still_keeps w p c did
-      (sctp_entries (table_after p.core.lines (parsed_lines answer) false) (role_after p.core.dtls.active (sdp_setup answer)) p.core.greatest
+      (sctp_entries w (table_after p.core.lines (parsed_lines answer) false) (role_after p.core.dtls.active (sdp_setup answer)) p.core.greatest
       (remote_limit (max_message_size_of answer)) (halves_for m p.core false token.says_init token.changes answer p.core.ids) true p.core.sctp (Err (Proto AssociationFault)) c.sctp h.1.sctp_fails)
       (ap (λ (x : Peer I D S M N). x.channels) h.1.rest)
       (λ k. ap (λ (x : Peer I D S M N). x.phase) h.1.rest ∙ k)
   answer_by w p token answer (Err Alloc) c did h =
       still_keeps w p c did
-      (stops_entries p.core p.core.counter (Some (asked_by p.core.lines token)) token.changes answer (staged_restart token.changes) None p.core.ids c h.stops)
+      (stops_entries w p.core p.core.counter (Some (asked_by p.core.lines token)) token.changes answer (staged_restart token.changes) None p.core.ids c h.stops)
       (ap (λ (x : Peer I D S M N). x.channels) h.rest)
       (λ k. ap (λ (x : Peer I D S M N). x.phase) h.rest ∙ k)
 

@@ -126,7 +126,7 @@ module _ {S : Type 0} (m : AssociationMeaning S) where
     pub gone : (c : ℕ) → IsGone c held → IsGone c held'
     pub given : held.given ≤ held'.given
 
-  same_channels : (held : Channels) (a : SctpStreams S) (held' : Channels) (b : SctpStreams S) → held' ≡ held → StreamsKept a [] b → ChannelsKept held a held' b
+  pub same_channels : (held : Channels) (a : SctpStreams S) (held' : Channels) (b : SctpStreams S) → held' ≡ held → StreamsKept a [] b → ChannelsKept held a held' b
   same_channels held a held' b is streams = record {
     streams = streams;
     over = λ s c numbered h. subst (λ (x : Channels). channel_over s x ≡ Some c) (sym is) h;
@@ -135,7 +135,7 @@ module _ {S : Type 0} (m : AssociationMeaning S) where
     given = same_given held.given held'.given (ap (λ (x : Channels). x.given) is);
   }
 
-  channels_on : (x : Channels) (a : SctpStreams S) (y : Channels) (b : SctpStreams S) (z : Channels) (c : SctpStreams S) → ChannelsKept x a y b → ChannelsKept y b z c → ChannelsKept x a z c
+  pub channels_on : (x : Channels) (a : SctpStreams S) (y : Channels) (b : SctpStreams S) (z : Channels) (c : SctpStreams S) → ChannelsKept x a y b → ChannelsKept y b z c → ChannelsKept x a z c
   channels_on x a y b z c h k = record {
     streams = kept_on a b c h.streams k.streams;
     over = λ s id numbered e. k.over s id (h.numbers numbered) (h.over s id numbered e);

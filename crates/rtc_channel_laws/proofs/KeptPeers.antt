@@ -1,21 +1,25 @@
 -- The calls of a peer beside polls keep the use of each stream, and live channels.
-use Rattle.std.proofs.Common.{◌≡◌, ◌⊎◌, inl, inr, ◌++◌, ℕ, Bool, true, false, List, [], append-nil, Result, Ok, Err, refl, sym, ap, subst, ◌∙◌}
+use Rattle.std.proofs.Common.{◌≡◌, ◌⊎◌, inl, inr, ◌++◌, ℕ, Bool, true, false, List, [], append-nil, Option, Some, None, Result, Ok, Err, refl, sym, ap, subst, ◌∙◌}
 use Rattle.std.specs.Prelude.{alloc_error}
 use Rattle.std.specs.declared.alloc.AllocError.{AllocError}
 use Rattle.rtc_wire.specs.declared.datagram_recv.DatagramRecv.{DatagramRecv}
 use Rattle.rtc_wire.specs.declared.datagram_recv.DatagramRecv.TheVariants as datagrams
 use Rattle.rtc_wire.specs.declared.receive.Receive.{Receive}
+use Rattle.rtc_association.specs.AssociationMeaning.{AssociationMeaning}
 use Rattle.rtc_association.specs.AssociationLaws.{AssociationLaws}
 use Rattle.rtc_stream_uses.specs.StreamUses.{IsLive}
 use Rattle.rtc_stream_contents.proofs.LiveCalls.{writes_own}
 use Rattle.rtc_stream_contents.proofs.RunningPolls.{stay_same}
 use Rattle.rtc_ready.specs.Signals.{both}
+use Rattle.rtc_sctp_entries.specs.Entries.{entry_place}
 use Rattle.rtc_sctp_values.specs.declared.sctp_error.SctpError.{SctpError}
-use Rattle.rtc_sctp.specs.Calls.{WritesStream, is_open_stream}
+use Rattle.rtc_sctp.specs.Streams.{SctpStreams}
+use Rattle.rtc_sctp.specs.Calls.{WritesStream, WrittenIf, can_write, is_current, is_open_stream}
 use Rattle.rtc_sctp_laws.specs.StreamActs.{written_message}
+use Rattle.rtc_sctp_laws.proofs.CallActs.{writes_did}
 use Rattle.rtc_sctp_laws.specs.StreamMessages.{StreamMessage}
 use Rattle.rtc_channels.specs.Channels.{Channels}
-use Rattle.rtc_channels.specs.Openings.{is_progress_due}
+use Rattle.rtc_channels.specs.Openings.{ClosesChannel, MeetsMoment, is_progress_due}
 use Rattle.rtc_peer_state.specs.declared.phase.Phase.{Phase}
 use Rattle.rtc_peer_state.specs.declared.phase.Phase.TheVariants.{Alive, Closing, Closed}
 use Rattle.rtc_peer_state.specs.declared.rtc_error.RtcError.{RtcError}
@@ -24,22 +28,24 @@ use Rattle.rtc_peer_state.specs.Meanings.{Meanings}
 use Rattle.rtc_polling.specs.declared.input.Input.{Input}
 use Rattle.rtc_polling.specs.declared.input.Input.TheVariants.{Timeout, Receive as Datagram}
 use Rattle.rtc_polling.specs.declared.polled_peer.PolledPeer.{PolledPeer}
-use Rattle.rtc_polling.specs.ChannelCalls.{ClosesDataChannel, SetsChannelThreshold, WritesChannel, WritesIf, stream_under, write_taken}
+use Rattle.rtc_polling.specs.ChannelCalls.{ClosesDataChannel, SetsChannelThreshold, SetsThresholdIf, WritesChannel, WritesIf, stream_under, write_taken}
 use Rattle.rtc_polling.specs.Closing.{ClosesPeer, ClosesPeerFrom}
 use Rattle.rtc_polling.specs.Statistics.{TimesStatistics}
 use Rattle.rtc_polling.proofs.StatisticsTurns.{StatisticsTimed, statistics_timed}
-use Rattle.rtc_polling.specs.Inputs.{TimesIce, TimesStreams, TimesChannels, TimesMedia, GivesTime, TakesTimeIf, HandlesInputBy, HandlesInputIn, HandlesInput, with_moment}
+use Rattle.rtc_polling.specs.Inputs.{TimesIce, TimesStreams, TimesChannels, TimesMedia, GivesTime, TakesTimeIf, HandlesInputBy, HandlesInputIn, HandlesInput, with_moment, StreamsTimed, ChannelsTimed}
 use Rattle.rtc_polling.specs.Inputs.{HearsStun, HearsDtls, HearsMedia, HearsKind, Hears, Heard, PartFailed}
 use Rattle.rtc_polling.specs.Stages.{Call, InTurn, Failed, Passed}
 use Rattle.rtc_polling.specs.StreamStages.{channel_over}
 use Rattle.rtc_polling_laws.specs.Acts.{message_of_write}
+use Rattle.rtc_polling_laws.specs.RowsChanged.{OnlyActs, RowsChange, RowsChanged, Timed, Progressed, ThresholdSet, StreamClosed}
+use Rattle.rtc_polling_laws.proofs.ChangedRows.{changed_on, one_changed, only_called, rows_same, rows_stay}
 use Rattle.rtc_polling_laws.specs.ChannelStreams.{AreNumberedChannels, IsGone, IsUsedStream}
 use Rattle.rtc_polling_laws.specs.PeerActs.{nothing_came}
 use Rattle.rtc_polling_laws.proofs.ActedClosing.{beside, close_acts}
 use Rattle.rtc_polling_laws.proofs.StreamsJoin.{given_on, same_given}
-use Rattle.rtc_polling_laws.proofs.ClosedRows.{close_rows}
+use Rattle.rtc_polling_laws.proofs.ClosedRows.{close_only, close_rows}
 use Rattle.rtc_channel_laws.specs.KeptChannels.{CallKeepsStreams}
-use Rattle.rtc_channel_laws.proofs.KeptCalls.{StreamsKept, kept_same, kept_acts, kept_write, kept_timeout, kept_threshold_if, kept_close, ChannelsKept, moment_kept}
+use Rattle.rtc_channel_laws.proofs.KeptCalls.{StreamsKept, kept_same, kept_acts, kept_write, kept_timeout, kept_threshold_if, kept_close, ChannelsKept, channels_on, moment_kept, same_channels}
 
 -- a closed peer stays closed
 abbrev StaysClosed : {I D S M N : Type 0} → PolledPeer I D S M N → PolledPeer I D S M N → Type 0
@@ -58,10 +64,29 @@ written_is : (stream generation : ℕ) (binary : Bool) (bytes : List ℕ) (answe
 written_is stream generation binary bytes (Ok count) = refl
 written_is stream generation binary bytes (Err error) = refl
 
+-- a write leaves the entries, and the state of the association
+written_same : {S : Type 0} (m : AssociationMeaning S) (can current : Bool) (id : ℕ) (binary : Bool) (bytes : List ℕ) (p : SctpStreams S)
+    (r : Result ℕ SctpError) (q : SctpStreams S) → WrittenIf m can current id binary bytes p r q → (q.entries ≡ p.entries) × (q.state ≡ p.state)
+written_same m false current id binary bytes p r q h = (ap (λ x. x.entries) h.1, ap (λ x. x.state) h.1)
+written_same m true false id binary bytes p r q h = (ap (λ x. x.entries) h.1, ap (λ x. x.state) h.1)
+written_same m true true id binary bytes p r q h = (ap (λ x. x.entries) h.3, ap (λ x. x.state) h.3)
+
 module _ {I D S M E X T W N : Type 0} (m : Meanings I D S M E X T W N) where
+  -- the peer is closed, or the changes of channels and entries are these
+  abbrev pub ChangesRows : PolledPeer I D S M N → PolledPeer I D S M N → Type 0
+  ChangesRows p q = (q.core.phase ≡ Closed) ⊎ RowsChanged m.association p.core.channels p.core.sctp q.core.channels q.core.sctp
+
+  -- acts alone, and channels stay
+  pub changes_none : (p q : PolledPeer I D S M N) → q.core.channels ≡ p.core.channels → OnlyActs m.association p.core.sctp q.core.sctp
+      → ChangesRows p q
+  changes_none p q is only = inr (rows_stay m.association p.core.channels p.core.sctp q.core.channels q.core.sctp is only)
+
+  changes_one : (p q : PolledPeer I D S M N) → RowsChange m.association p.core.channels p.core.sctp q.core.channels q.core.sctp → ChangesRows p q
+  changes_one p q h = inr (one_changed m.association p.core.channels p.core.sctp q.core.channels q.core.sctp h)
+
   pub over_streams : (p q : PolledPeer I D S M N) (wrote : List StreamMessage) → StreamsKept m.association p.core.sctp wrote q.core.sctp
-      → q.core.channels ≡ p.core.channels → (p.core.phase ≡ Closed → q.core.phase ≡ Closed) → CallKeepsStreams m p wrote q
-  over_streams p q wrote h is closed = record {
+      → q.core.channels ≡ p.core.channels → (p.core.phase ≡ Closed → q.core.phase ≡ Closed) → ChangesRows p q → CallKeepsStreams m p wrote q
+  over_streams p q wrote h is closed changed = record {
     uses = h.uses;
     lives = λ c s g numbered k. (ap (λ (x : Channels). channel_over s x) is ∙ k.0, h.lives s g k.1);
     numbers = λ k. subst (λ (x : Channels). AreNumberedChannels x) (sym is) k;
@@ -70,11 +95,12 @@ module _ {I D S M E X T W N : Type 0} (m : Meanings I D S M E X T W N) where
     running = h.running;
     given = same_given p.core.channels.given q.core.channels.given (ap (λ (x : Channels). x.given) is);
     fresh = h.fresh;
+    changed = changed;
   }
 
   pub over_channels : (p q : PolledPeer I D S M N) → ChannelsKept m.association p.core.channels p.core.sctp q.core.channels q.core.sctp
-      → (p.core.phase ≡ Closed → q.core.phase ≡ Closed) → CallKeepsStreams m p [] q
-  over_channels p q h closed = record {
+      → (p.core.phase ≡ Closed → q.core.phase ≡ Closed) → ChangesRows p q → CallKeepsStreams m p [] q
+  over_channels p q h closed changed = record {
     uses = h.streams.uses;
     lives = λ c s g numbered k. (h.over s c numbered k.0, h.streams.lives s g k.1);
     numbers = h.numbers;
@@ -83,14 +109,24 @@ module _ {I D S M E X T W N : Type 0} (m : Meanings I D S M E X T W N) where
     running = h.streams.running;
     given = h.given;
     fresh = h.streams.fresh;
+    changed = changed;
   }
 
   by_rows : (p q : PolledPeer I D S M N) (wrote : List StreamMessage) → StreamsKept m.association p.core.sctp wrote q.core.sctp → KeepsRows p q
-      → CallKeepsStreams m p wrote q
-  by_rows p q wrote h k = over_streams p q wrote h k.0 k.1
+      → (q.core.channels ≡ p.core.channels → ChangesRows p q) → CallKeepsStreams m p wrote q
+  by_rows p q wrote h k changes = over_streams p q wrote h k.0 k.1 (changes k.0)
 
   pub same_kept : (p q : PolledPeer I D S M N) → KeepsBoth p q → CallKeepsStreams m p [] q
-  same_kept p q h = over_streams p q [] (kept_same m.association p.core.sctp q.core.sctp h.0) h.1 h.2
+  same_kept p q h =
+      over_streams p q [] (kept_same m.association p.core.sctp q.core.sctp h.0) h.1 h.2
+      (inr (rows_same m.association p.core.channels p.core.sctp q.core.channels q.core.sctp h.1 h.0))
+
+  changes_on : (p b q : PolledPeer I D S M N) → (b.core.phase ≡ Closed → q.core.phase ≡ Closed) → ChangesRows p b → ChangesRows b q → ChangesRows p q
+  changes_on p b q closed (inl k) after = inl (closed k)
+  changes_on p b q closed (inr first) (inl k) = inl k
+  changes_on p b q closed (inr first) (inr after) =
+      inr
+      (changed_on m.association p.core.channels p.core.sctp b.core.channels b.core.sctp q.core.channels q.core.sctp first after)
 
   pub calls_on : (p b q : PolledPeer I D S M N) → CallKeepsStreams m p [] b → CallKeepsStreams m b [] q → CallKeepsStreams m p [] q
   calls_on p b q x y = record {
@@ -103,6 +139,7 @@ module _ {I D S M E X T W N : Type 0} (m : Meanings I D S M E X T W N) where
     running = λ k. y.running (x.running k);
     given = given_on p.core.channels.given b.core.channels.given q.core.channels.given x.given y.given;
     fresh = λ s o k. x.fresh s o (y.fresh s o k);
+    changed = changes_on p b q y.closed x.changed y.changed;
   }
 
   -- a call keeps them, whatever it answers
@@ -127,21 +164,46 @@ module _ {I D S M E X T W N : Type 0} (m : Meanings I D S M E X T W N) where
   unfolding TimesStreams
   streams_keep w now p (Ok done) q h =
       by_rows p q [] (kept_timeout m.association w now p.core.sctp both (Ok tt) q.core.sctp h.0.0 h.0.1) (beside KeepsRows p _ q h.1 (refl, λ k. k))
+      (λ is. changes_one p q (Timed now both h.0.0 (Ok tt) h.0.1 is))
   streams_keep w now p (Err Alloc) q h =
       by_rows p q [] (kept_timeout m.association w now p.core.sctp both (Err alloc_error) q.core.sctp h.0.0 h.0.1) (beside KeepsRows p _ q h.1 (refl, λ k. refl))
+      (λ is. inl (ap (λ (x : PolledPeer I D S M N). x.core.phase) h.1))
   streams_keep w now p (Err _) q h = absurd h
 
-  channels_keep : AssociationLaws m.association → CallKeeps (TimesChannels m)
+  -- channels are handed a moment behind the streams
+  timed_rows : (now : ℕ) (p b : PolledPeer I D S M N) → TimesStreams m now p (Ok tt) b → b.core.channels ≡ p.core.channels
+  unfolding TimesStreams
+  timed_rows now p b h = ap (λ (x : PolledPeer I D S M N). x.core.channels) h.1
+
+  timed_streams : (now : ℕ) (p b : PolledPeer I D S M N) → TimesStreams m now p (Ok tt) b → StreamsTimed m.association now p.core.sctp (Ok tt) b.core.sctp
+  unfolding TimesStreams
+  timed_streams now p b h = h.0
+
+  channels_kept : AssociationLaws m.association → (now : ℕ) (p b q : PolledPeer I D S M N) (r : Result (Unit {0}) AllocError)
+      → TimesStreams m now p (Ok tt) b → ChannelsTimed m.association b.core.channels b.core.sctp r q.core.channels q.core.sctp
+      → ChannelsKept m.association p.core.channels p.core.sctp q.core.channels q.core.sctp
+  channels_kept w now p b q r h k =
+      let timed = timed_streams now p b h in
+      channels_on m.association p.core.channels p.core.sctp b.core.channels b.core.sctp q.core.channels q.core.sctp
+      (same_channels m.association p.core.channels p.core.sctp b.core.channels b.core.sctp (timed_rows now p b h)
+      (kept_timeout m.association w now p.core.sctp both (Ok tt) b.core.sctp timed.0 timed.1))
+      (moment_kept m.association w (is_progress_due m.association b.core.channels b.core.sctp) b.core.channels b.core.sctp both r q.core.channels
+      q.core.sctp k.0 k.1)
+
+  channels_keep : AssociationLaws m.association → (now : ℕ) (p b : PolledPeer I D S M N) (r : Result (Unit {0}) RtcError) (q : PolledPeer I D S M N)
+      → TimesStreams m now p (Ok tt) b → (p.core.phase ≡ Closed → b.core.phase ≡ Closed) → TimesChannels m b r q → CallKeepsStreams m p [] q
   unfolding TimesChannels
-  channels_keep w p (Ok done) q h =
-      over_channels p q
-      (moment_kept m.association w (is_progress_due m.association p.core.channels p.core.sctp) p.core.channels p.core.sctp both (Ok tt) q.core.channels
-      q.core.sctp h.0.0 h.0.1) (beside StaysClosed p _ q h.1 (λ k. k))
-  channels_keep w p (Err Alloc) q h =
-      over_channels p q
-      (moment_kept m.association w (is_progress_due m.association p.core.channels p.core.sctp) p.core.channels p.core.sctp both (Err alloc_error) q.core.channels
-      q.core.sctp h.0.0 h.0.1) (beside StaysClosed p _ q h.1 (λ k. refl))
-  channels_keep w p (Err _) q h = absurd h
+  channels_keep w now p b (Ok done) q h closed k =
+      let timed = timed_streams now p b h in
+      let due = is_progress_due m.association b.core.channels b.core.sctp in
+      over_channels p q (channels_kept w now p b q (Ok tt) h k.0) (λ e. beside StaysClosed b _ q k.1 (λ f. f) (closed e))
+      (changes_one p q
+      (Progressed now both timed.0 b.core.sctp timed.1 due both k.0.0
+      (subst (λ (x : Channels). MeetsMoment m.association due x b.core.sctp both (Ok tt) q.core.channels q.core.sctp k.0.0) (timed_rows now p b h) k.0.1)))
+  channels_keep w now p b (Err Alloc) q h closed k =
+      over_channels p q (channels_kept w now p b q (Err alloc_error) h k.0) (λ e. beside StaysClosed b _ q k.1 (λ f. refl) (closed e))
+      (inl (ap (λ (x : PolledPeer I D S M N). x.core.phase) k.1))
+  channels_keep w now p b (Err _) q h closed k = absurd k
 
   media_keeps : (now : ℕ) → CallKeeps (TimesMedia m now)
   unfolding TimesMedia
@@ -163,13 +225,24 @@ module _ {I D S M E X T W N : Type 0} (m : Meanings I D S M E X T W N) where
       let timed = statistics_timed m now p r q h in
       kept_by p _ q timed.kept (refl, refl, stays_closed now p r q timed)
 
+  -- the streams, the channels behind them, and what follows
+  behind_keep : AssociationLaws m.association → (now : ℕ) (rest : Call (PolledPeer I D S M N)) → CallKeeps rest → (p b : PolledPeer I D S M N)
+      (r : Result (Unit {0}) RtcError) (q : PolledPeer I D S M N) → TimesStreams m now p (Ok tt) b → (p.core.phase ≡ Closed → b.core.phase ≡ Closed)
+      → InTurn (TimesChannels m) rest b r q → CallKeepsStreams m p [] q
+  behind_keep w now rest others p b r q h closed (Failed error is k) = channels_keep w now p b (Err error) q h closed k
+  behind_keep w now rest others p b r q h closed (Passed c k more) =
+      calls_on p c q (channels_keep w now p b (Ok tt) c h closed k) (others c r q more)
+
+  both_keep : AssociationLaws m.association → (now : ℕ) (rest : Call (PolledPeer I D S M N)) → CallKeeps rest
+      → CallKeeps (InTurn (TimesStreams m now) (InTurn (TimesChannels m) rest))
+  both_keep w now rest others p r q (Failed error is h) = streams_keep w now p (Err error) q h
+  both_keep w now rest others p r q (Passed b h k) = behind_keep w now rest others p b r q h (streams_keep w now p (Ok tt) b h).closed k
+
   gives_keep : AssociationLaws m.association → (now : ℕ) → CallKeeps (GivesTime m now)
   gives_keep w now p r q h =
       calls_on p (with_moment now p) q (same_kept p (with_moment now p) (refl, refl, λ k. k))
       (turn_keeps (TimesIce m now) _ (ice_keeps now)
-      (turn_keeps (TimesStreams m now) _ (streams_keep w now)
-      (turn_keeps (TimesChannels m) _ (channels_keep w)
-      (turn_keeps (TimesMedia m now) (TimesStatistics m now) (media_keeps now) (statistics_keep now)))) (with_moment now p) r q h)
+      (both_keep w now _ (turn_keeps (TimesMedia m now) (TimesStatistics m now) (media_keeps now) (statistics_keep now))) (with_moment now p) r q h)
 
   time_keeps : AssociationLaws m.association → (earlier : Bool) (now : ℕ) → CallKeeps (TakesTimeIf m earlier now)
   time_keeps w true now p r q h = kept_by p p q h.1 (refl, refl, λ k. k)
@@ -217,10 +290,15 @@ module _ {I D S M E X T W N : Type 0} (m : Meanings I D S M E X T W N) where
   pub input_keeps : AssociationLaws m.association → (input : Input) → CallKeeps (HandlesInput m input)
   input_keeps w input p r q h = input_in w p.core.phase input p r q h
 
+  threshold_changes : (is_open : Bool) (stream n : ℕ) (p q : PolledPeer I D S M N) → q.core.channels ≡ p.core.channels
+      → SetsThresholdIf S is_open stream n p.core.sctp q.core.sctp → ChangesRows p q
+  threshold_changes true stream n p q is h = changes_one p q (ThresholdSet n (entry_place stream p.core.sctp.entries) h is)
+  threshold_changes false stream n p q is h = inr (rows_same m.association p.core.channels p.core.sctp q.core.channels q.core.sctp is h)
+
   pub threshold_keeps : (stream n : ℕ) (p q : PolledPeer I D S M N) → SetsChannelThreshold stream n p q → CallKeepsStreams m p [] q
   threshold_keeps stream n p q h =
       by_rows p q [] (kept_threshold_if m.association (is_open_stream stream p.core.sctp) stream n p.core.sctp q.core.sctp h.0)
-      (beside KeepsRows p _ q h.1 (refl, λ k. k))
+      (beside KeepsRows p _ q h.1 (refl, λ k. k)) (λ is. threshold_changes (is_open_stream stream p.core.sctp) stream n p q is h.0)
 
   -- a message that a live stream took is of its generation
   own_by : (full : Bool) (stream : ℕ) (binary : Bool) (bytes : List ℕ) (p q : PolledPeer I D S M N) (g : ℕ)
@@ -239,10 +317,16 @@ module _ {I D S M E X T W N : Type 0} (m : Meanings I D S M E X T W N) where
       → m.association.generation p.core.sctp.association stream ≡ g
   channel_writes_own stream binary bytes p q g h live = own_by _ stream binary bytes p q g h live
 
+  close_changes : (stream : Option ℕ) (p : PolledPeer I D S M N) (r : Result (Unit {0}) AllocError) (q : PolledPeer I D S M N)
+      → q.core.channels ≡ p.core.channels → ClosesChannel m.association stream p.core.sctp r q.core.sctp → ChangesRows p q
+  close_changes None p r q is h = inr (rows_same m.association p.core.channels p.core.sctp q.core.channels q.core.sctp is h.1)
+  close_changes (Some stream) p r q is h = changes_one p q (StreamClosed stream r h is)
+
   pub channel_close_keeps : AssociationLaws m.association → (id : ℕ) (p : PolledPeer I D S M N) (r : Result (Unit {0}) AllocError) (q : PolledPeer I D S M N)
       → ClosesDataChannel m id p r q → CallKeepsStreams m p [] q
   channel_close_keeps w id p r q h =
       by_rows p q [] (kept_close m.association w (stream_under id p.core.channels) p.core.sctp r q.core.sctp h.0) (beside KeepsRows p _ q h.1 (refl, λ k. k))
+      (λ is. close_changes (stream_under id p.core.channels) p r q is h.0)
 
   module _ (laws : AssociationLaws m.association) where
     write_keeps : (full : Bool) (stream : ℕ) (binary : Bool) (bytes : List ℕ) (p : PolledPeer I D S M N) (r : Result Bool RtcError)
@@ -257,7 +341,12 @@ module _ {I D S M E X T W N : Type 0} (m : Meanings I D S M E X T W N) where
         (written_is stream (m.association.generation p.core.sctp.association stream) binary bytes h.0
         ∙ ap (message_of_write stream (m.association.generation p.core.sctp.association stream) binary bytes) (sym h.2))
         (by_rows p q (written_message stream (m.association.generation p.core.sctp.association stream) binary bytes h.0)
-        (kept_write m.association laws stream binary bytes p.core.sctp h.0 q.core.sctp h.1) (beside KeepsRows p _ q h.3 (refl, λ k. k)))
+        (kept_write m.association laws stream binary bytes p.core.sctp h.0 q.core.sctp h.1) (beside KeepsRows p _ q h.3 (refl, λ k. k))
+        (λ is.
+        let same = written_same m.association (can_write m.association stream p.core.sctp) (is_current m.association stream p.core.sctp) stream binary
+        bytes p.core.sctp h.0 q.core.sctp h.1 in
+        let did = writes_did m.association stream binary bytes p.core.sctp h.0 q.core.sctp h.1 in
+        changes_none p q is (only_called m.association [] _ p.core.sctp q.core.sctp did same.0 same.1)))
 
     pub channel_write_keeps : (stream : ℕ) (binary : Bool) (bytes : List ℕ) (p : PolledPeer I D S M N) (r : Result Bool RtcError)
         (q : PolledPeer I D S M N) → WritesChannel m stream binary bytes p r q
@@ -276,4 +365,4 @@ module _ {I D S M E X T W N : Type 0} (m : Meanings I D S M E X T W N) where
         let did = close_acts m nothing_came [] laws p r q h in
         let kept = close_rows m p r q h in
         over_streams p q [] (kept_acts m.association laws p.core.sctp q.core.sctp did.acts.association did.went.association kept.2 (λ k. stay_same p.core.sctp q.core.sctp kept.3 k.1)) kept.1
-        (close_stays p.core.phase p r q h refl)
+        (close_stays p.core.phase p r q h refl) (changes_none p q kept.1 (close_only m laws p r q h))

@@ -22,7 +22,8 @@ use Rattle.rtc_polling_laws.specs.Drained.{AreHeard, IsHeard}
 use Rattle.rtc_polling_laws.specs.PeerActs.{PeerActs}
 use Rattle.rtc_joined_runs.specs.PlainPairs.{PlainPolled, plain_over}
 use Rattle.rtc_channel_runs.specs.ChannelUses.{ChannelUse}
-use Rattle.rtc_channel_runs.specs.SettledPairs.{AreKeptStreams, HasEntryOf, IsInBandStream, IsSettledPeer, IsTakenUp, WaitsForAnswer}
+use Rattle.rtc_channel_runs.specs.SettledPairs.{HasEntryOf, IsInBandStream, IsSettledPeer, IsTakenUp, WaitsForAnswer}
+use Rattle.rtc_channel_runs.proofs.KeptStreams.{AreKeptStreams}
 use Rattle.rtc_channel_runs.proofs.AllHanded.{none_unread, not_ended}
 use Rattle.rtc_channel_runs.proofs.AnnouncedStreams.{AnnouncedUnlessClosed, HasUseOver, found}
 use Rattle.rtc_channel_runs.proofs.HeardOpenings.{entry_among, none_has, reads_dcep}
@@ -49,13 +50,13 @@ any_of P s (e ∷ es) (inr h) = by (e.id == s) (any_of P s es h)
     by true k = inr k
     by false k = k
 
-record OneOf (P : StreamEntry → Type 0) (R : StreamEntry → Type 0) (s : ℕ) (es : List StreamEntry) : Type 0 where
-  entry : StreamEntry
-  only : entries_of s es ≡ entry ∷ []
-  is_so : P entry
-  used : R entry
+pub record OneOf (P : StreamEntry → Type 0) (R : StreamEntry → Type 0) (s : ℕ) (es : List StreamEntry) : Type 0 where
+  pub entry : StreamEntry
+  pub only : entries_of s es ≡ entry ∷ []
+  pub is_so : P entry
+  pub used : R entry
 
-one_of : (P : StreamEntry → Type 0) (Q : Type 0) (R : StreamEntry → Type 0) (s : ℕ) (es : List StreamEntry) → HasEntryOf P s es
+pub one_of : (P : StreamEntry → Type 0) (Q : Type 0) (R : StreamEntry → Type 0) (s : ℕ) (es : List StreamEntry) → HasEntryOf P s es
     → OneAtMost Q R (entries_of s es) → OneOf P R s es
 one_of P Q R s es h one = by (entries_of s es) refl (any_of P s es h) one
   where
@@ -69,11 +70,11 @@ awaits_open : (st : StreamEntryState) → st ≡ AwaitDcepAck → st ≡ AwaitOp
 awaits_open st h k = let clash : AwaitDcepAck ≡ AwaitOpen = sym h ∙ k in cc
 
 -- what an entry that waits for its answer has behind it
-record Waiting (s g : ℕ) (ws hs : List StreamMessage) : Type 0 where
-  begins : begins_with_dcep (messages_of s g ws) ≡ true
-  none : any_dcep (messages_of s g hs) ≡ false
+pub record Waiting (s g : ℕ) (ws hs : List StreamMessage) : Type 0 where
+  pub begins : begins_with_dcep (messages_of s g ws) ≡ true
+  pub none : any_dcep (messages_of s g hs) ≡ false
 
-waiting_by : (own : Option ℕ) (s : ℕ) (a : Contents) (ws hs : List StreamMessage) → fits_generation own (generation_of a s) ≡ true
+pub waiting_by : (own : Option ℕ) (s : ℕ) (a : Contents) (ws hs : List StreamMessage) → fits_generation own (generation_of a s) ≡ true
     → IsUsedIn plain_meaning AwaitDcepAck false own s a (messages_for plain_meaning AwaitDcepAck own s a ws) (messages_for plain_meaning AwaitDcepAck own s a hs)
     → Waiting s (generation_of a s) ws hs
 waiting_by None s a ws hs fits h = absurd (true≢false (sym h.0))
@@ -97,7 +98,7 @@ taken_open Open own s a ws hs free any fits h = refl
 taken_open EntryClosed own s a ws hs free any fits (inl none) = absurd (true≢false (sym any ∙ ap any_dcep none.1))
 taken_open EntryClosed own s a ws hs free any fits (inr spent) = absurd (true≢false (sym spent ∙ free))
 
-unmarked : (s : ℕ) (a : Contents) (ws hs : List StreamMessage) (e : StreamEntry) → e.marked ≡ false → EntryUsed plain_meaning s a ws hs e
+pub unmarked : (s : ℕ) (a : Contents) (ws hs : List StreamMessage) (e : StreamEntry) → e.marked ≡ false → EntryUsed plain_meaning s a ws hs e
     → IsUsedIn plain_meaning e.state false e.generation s a (messages_for plain_meaning e.state e.generation s a ws)
     (messages_for plain_meaning e.state e.generation s a hs)
 unmarked s a ws hs e none h =
@@ -109,7 +110,7 @@ some_is n k h = cc
 
 module _ {N : Type 0} (draws : Draws N) where
   -- who read all that was written read the message that opens the channel
-  opening_read : (a b : PeerActs) (us vs : List ChannelUse) (p q : PlainPolled N) (x : SideStood draws a us p) (y : SideStood draws b vs q) (s g : ℕ)
+  pub opening_read : (a b : PeerActs) (us vs : List ChannelUse) (p q : PlainPolled N) (x : SideStood draws a us p) (y : SideStood draws b vs q) (s g : ℕ)
       → read s g b.association ++ unread s g q.core.sctp.association.inbox.unread ≡ written s g a.association
       → has_unread q.core.sctp.association s g ≡ false → begins_with_dcep (messages_of s g x.written) ≡ true
       → any_dcep (messages_of s g y.read) ≡ true
@@ -122,11 +123,11 @@ module _ {N : Type 0} (draws : Draws N) where
       ∙ all
       ∙ written_are s g a.association x.written x.wrote_is) begun
 
-  free_of : (p : PlainPolled N) (s : ℕ) → IsSettledPeer p → closed_here p.core.sctp.association s ≡ false
+  pub free_of : (p : PlainPolled N) (s : ℕ) → IsSettledPeer p → closed_here p.core.sctp.association s ≡ false
       → is_spent_stream plain_meaning s p.core.sctp.association ≡ false
   free_of p s here unclosed = ap (λ (c : Bool). c || is_ending p.core.sctp.association) unclosed ∙ here.lasting
 
-  unended : (a : PeerActs) (us : List ChannelUse) (p : PlainPolled N) (s g : ℕ) → SideStood draws a us p → IsSettledPeer p
+  pub unended : (a : PeerActs) (us : List ChannelUse) (p : PlainPolled N) (s g : ℕ) → SideStood draws a us p → IsSettledPeer p
       → closed_here p.core.sctp.association s ≡ false → generation_of p.core.sctp.association s ≡ g → ended s g a.association ≡ false
   unended a us p s g x here unclosed own =
       not_ended plain_meaning plain_laws plain_generations s g a.association fresh_contents p.core.sctp.association x.went own (free_of p s here unclosed)
@@ -180,8 +181,8 @@ module _ {N : Type 0} (draws : Draws N) where
         → IsHeard plain_meaning p.core.sctp.association e → (f : StreamEntry) → (f.state ≡ AwaitOpen → ⊥) → f.id ≡ s
         → entries_of s q.core.sctp.entries ≡ f ∷ [] → EntryUsed plain_meaning s q.core.sctp.association y.written y.read f
         → IsHeard plain_meaning q.core.sctp.association f → ⊥
-    by_entries e waits same used (inl opening) f past own only taken it = awaits_open e.state waits opening
-    by_entries e waits same used (inr it) f past own only taken (inl opening) = past opening
+    by_entries e waits same used (inl opening) f past own only taken it = awaits_open e.state waits opening.0
+    by_entries e waits same used (inr it) f past own only taken (inl opening) = past opening.0
     by_entries e waits same used (inr it) f past own only taken (inr at) = true≢false (sym answered ∙ here_is.none)
       where
         fits : fits_generation e.generation (generation_of p.core.sctp.association s) ≡ true

@@ -73,7 +73,7 @@ module _ {S : Type 0} (m : AssociationMeaning S) (s : ℕ) (a : S) (ws hs : List
       absurd
       (not_idle _
       (subst (λ (st : StreamEntryState). IsUsedIn m st e.marked e.generation s a (messages_for m st e.generation s a ws) (messages_for m st e.generation s a hs))
-      waits used))
+      waits.0 used))
   open_heard e same any used (inr heard) =
       let fits : fits_generation e.generation (m.generation a s) ≡ true =
       ap (λ (n : ℕ). fits_generation e.generation (m.generation a n)) (sym same) ∙ heard.3 in

@@ -31,4 +31,26 @@ mod HeardOpenings
 mod OpenSides
 mod SettledSides
 mod AnsweredOpenings
+mod StillSides
+mod StandingVisits
+mod StandingEntries
+mod StandingPolls
+mod PlacedEntries
+mod StandingCalls
+mod ConfigRows
+mod EnsuredNumbers
+mod BegunRows
+mod OpenedRows
+mod StepRows
+mod ConfirmedRuns
+mod ConfirmedSides
+mod ClosingRows
+mod ClosingEnds
+mod ClosingPairs
+mod KeptStreams
+mod IdleSides
 pub mod SettledRuns
+pub mod KnownRows
+pub mod KnownRuns
+pub mod KnownSides
+pub mod RefusedSides

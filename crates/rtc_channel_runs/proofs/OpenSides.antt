@@ -49,7 +49,7 @@ use Rattle.rtc_channel_runs.proofs.OpenStreams.{open_placed}
 some_is : (a b : ℕ) → Some a ≡ Some b → a ≡ b
 some_is a b h = cc
 
-both_true : (a b : Bool) → a ≡ true → b ≡ true → (a && b) ≡ true
+pub both_true : (a b : Bool) → a ≡ true → b ≡ true → (a && b) ≡ true
 both_true true b e k = k
 both_true false b e k = absurd (true≢false (sym e))
 
@@ -113,25 +113,27 @@ module _ {N : Type 0} (draws : Draws N) where
   pub not_closed : (q : PlainPolled N) → q.core.phase ≡ Alive → q.core.phase ≡ Closed → ⊥
   not_closed q alive closed = let clash : Alive ≡ Closed = sym alive ∙ closed in cc
 
-  pub last_heard : (q : PlainPolled N) → PolledLast (plain_over draws) q → IsSettledPeer q → IsEmptyBefore plain_meaning q.core.sctp
-      → AreHeard plain_meaning q.core.sctp.association q.core.sctp.entries
-  last_heard q last settled empty = by (is_started q.core.sctp.association) refl
+  pub last_all : (q : PlainPolled N) → PolledLast (plain_over draws) (λ n. Unit {0}) q → IsSettledPeer q → AllHeard plain_meaning q.core.sctp
+  last_all q last settled =
+      timeout_heard (plain_over draws) (plain_over_laws draws) last.before q last.moment last.polled live
+      (pushed_none last.moment q (poll_ends (plain_over draws) last.before.core.phase last.moment last.before q refl last.polled) live settled.sends)
     where
       live : q.core.phase ≡ Closed → ⊥
       live = not_closed q settled.alive
 
-      all : AllHeard plain_meaning q.core.sctp
-      all =
-          timeout_heard (plain_over draws) (plain_over_laws draws) last.before q last.moment last.polled live
-          (pushed_none last.moment q (poll_ends (plain_over draws) last.before.core.phase last.moment last.before q refl last.polled) live settled.sends)
-
+  pub last_heard : (q : PlainPolled N) → PolledLast (plain_over draws) (λ n. Unit {0}) q → IsSettledPeer q → IsEmptyBefore plain_meaning q.core.sctp
+      → AreHeard plain_meaning q.core.sctp.association q.core.sctp.entries
+  last_heard q last settled empty = by (is_started q.core.sctp.association) refl
+    where
       by : (b : Bool) → is_started q.core.sctp.association ≡ b → AreHeard plain_meaning q.core.sctp.association q.core.sctp.entries
-      by true e = all.streams (both_true (is_established q.core.sctp.state) (is_started q.core.sctp.association) settled.established e)
+      by true e =
+          (last_all q last settled).streams
+          (both_true (is_established q.core.sctp.state) (is_started q.core.sctp.association) settled.established e)
       by false e = subst (λ (l : List StreamEntry). AreHeard plain_meaning q.core.sctp.association l) (sym (empty e)) tt
 
   -- ---- the channel at the other end
 
-  stays_under : (c s : ℕ) (q : PlainPolled N) → q.core.phase ≡ Alive → stream_under c q.core.channels ≡ Some s → is_open_stream s q.core.sctp ≡ true
+  pub stays_under : (c s : ℕ) (q : PlainPolled N) → q.core.phase ≡ Alive → stream_under c q.core.channels ≡ Some s → is_open_stream s q.core.sctp ≡ true
       → open_stream_under c q ≡ Some s
   stays_under c s q alive placed opened =
       ap (λ (phase : Phase). if is_phase_open phase then option_and_then (if_open q.core.sctp) (stream_under c q.core.channels) else None) alive
@@ -202,7 +204,7 @@ module _ {N : Type 0} (draws : Draws N) where
 
     by_one : (one : OpenOne s opened.own q.core.sctp.entries) → IsHeard plain_meaning q.core.sctp.association one.entry → one.entry.id ≡ s
         → AnnouncedUnlessClosed (plain_over draws) vs q → OwnUse c s vs q
-    by_one one (inl waits) same told = absurd (awaits_open (sym waits ∙ one.opened.0))
+    by_one one (inl waits) same told = absurd (awaits_open (sym waits.0 ∙ one.opened.0))
     by_one one (inr it) same (inl closed) = absurd (not_closed q there.alive closed)
     by_one one (inr it) same (inr announced) = by (announced s opened.own opened.has)
       where

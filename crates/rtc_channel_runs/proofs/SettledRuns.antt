@@ -1,11 +1,17 @@
 -- In a settled pair a channel that one side announced is open at both.
-use Rattle.std.proofs.Common.{◌≡◌, ◌∙◌, ◌++◌, ℕ, Bool, false, List, [], Some, sym, ap, subst}
+use Rattle.std.proofs.Common.{◌<◌, ◌+◌, ◌≡◌, ◌⊎◌, None, ◌∙◌, ◌++◌, ℕ, Bool, false, List, [], Some, inl, inr, sym, ap, subst}
 use Rattle.rtc_association.specs.AssociationWords.{ended, read, written}
 use Rattle.rtc_assoc.specs.Unread.{IsPrefix, unread}
-use Rattle.rtc_assoc_state.specs.Contents.{closed_here, generation_of}
+use Rattle.rtc_assoc_state.specs.Contents.{closed_here, generation_of, has_unread}
 use Rattle.rtc_assoc_state.specs.Outbox.{has_unacknowledged}
 use Rattle.rtc_assoc_state.specs.PlainMeaning.{plain_meaning}
-use Rattle.rtc_polling_laws.specs.Drained.{AreHeard}
+use Rattle.rtc_sctp_entries.specs.declared.stream_entry_state.StreamEntryState.TheVariants.{AwaitOpen}
+use Rattle.rtc_sctp_entries.specs.Entries.{has_open}
+use Rattle.rtc_sctp.specs.Streams.{is_established}
+use Rattle.rtc_channels.specs.Openings.{channels_wake}
+use Rattle.rtc_polling.specs.ChannelCalls.{stream_under}
+use Rattle.rtc_polling_laws.specs.ChannelStreams.{AreNumberedChannels}
+use Rattle.rtc_polling_laws.specs.Drained.{AreHeard, AreTriedAgain}
 use Rattle.rtc_polling_laws.specs.PeerActs.{PeerActs}
 use Rattle.rtc_plain_media.specs.declared.plain_media_event.PlainMediaEvent.{PlainMediaEvent}
 use Rattle.rtc_ids.specs.Draws.{Draws}
@@ -29,13 +35,27 @@ use Rattle.rtc_channel_runs.specs.HandedOut.{AreAllHandedOut}
 use Rattle.rtc_channel_runs.specs.OpenUses.{AreJoinedUses}
 use Rattle.rtc_channel_runs.specs.SentMessages.{sent_over}
 use Rattle.rtc_channel_runs.specs.ToldMessages.{told_over}
-use Rattle.rtc_channel_runs.specs.SettledPairs.{AreAnswered, AreOpenAtBoth, IsInBandStream, IsSettledPair, IsSettledPeer, SettlesOpen}
+use Rattle.rtc_channel_runs.specs.ConfirmedChannels.{WasConfirmed}
+use Rattle.rtc_channel_runs.specs.SettledPairs.{AreBothOpening, HasEntryOf, IsRefusedAlone, AreAnswered, AreConfirmedOpen, AreConfirmedSettled, AreInBandStreams, AreOpenAtBoth, IsInBandStream, HasNothingDue, HasNothingSoon, IsLevelStream, IsOpenAtBoth, IsOpeningRefused, IsSettledPair}
+use Rattle.rtc_channel_runs.specs.SettledPairs.{IsSettledPeer, IsTakenUp, SettlesOpen, WaitsForAnswer}
+use Rattle.rtc_channel_runs.specs.StillPairs.{IsStillPair}
 use Rattle.rtc_channel_runs.specs.UsesOfRuns.{reached_by, uses_of}
 use Rattle.rtc_channel_runs.proofs.AnsweredOpenings.{none_waits}
 use Rattle.rtc_channel_runs.proofs.DrainedRuns.{new_unused, pair_drained}
 use Rattle.rtc_channel_runs.proofs.HeardOpenings.{none_has}
-use Rattle.rtc_channel_runs.proofs.OpenSides.{last_heard, own_use}
-use Rattle.rtc_channel_runs.proofs.RestingSides.{resting_drained, resting_last}
+use Rattle.rtc_channel_runs.proofs.ConfirmedRuns.{SideBegun, SideSound, run_begun}
+use Rattle.rtc_channel_runs.proofs.ConfirmedSides.{IsOpen, Opening, StandsAs, Unanswered, confirmed_stands, new_sound, stands_as}
+use Rattle.rtc_channel_runs.proofs.OpenSides.{both_true, last_all, last_heard, not_closed, own_use, stays_under}
+use Rattle.rtc_channel_runs.proofs.IdleSides.{none_due, none_retried}
+use Rattle.rtc_channel_runs.proofs.KeptStreams.{AreKeptStreams, AreLevelStreams, kept_by, pair_level}
+use Rattle.rtc_channel_runs.proofs.KnownRuns.{SideKnown, new_pair_known, run_known}
+use Rattle.rtc_channel_runs.proofs.RefusedSides.{shut_there}
+use Rattle.rtc_channel_runs.proofs.KnownSides.{none_unread, refused_of, refused_opening, tried_in}
+use Rattle.rtc_channel_runs.proofs.StillSides.{awaits_retried, none_opening, taken_up}
+use Rattle.rtc_plain_streams.proofs.BackedRows.{plain_unread}
+use Rattle.rtc_plain_streams.proofs.KnownStreams.{AreKnown}
+use Rattle.rtc_plain_streams.proofs.PlainGenerations.{plain_generations}
+use Rattle.rtc_channel_runs.proofs.RestingSides.{PolledLast, resting_drained, resting_last}
 use Rattle.rtc_channel_runs.proofs.RunsTold.{PairTold, new_pair_told, reached_told}
 use Rattle.rtc_channel_runs.proofs.SettledSides.{other_use}
 use Rattle.rtc_channel_runs.proofs.StandingSides.{SideStood}
@@ -60,8 +80,10 @@ module _ {N : Type 0} (draws : Draws N) where
       → ((s g : ℕ) → ended s g a.association ≡ false → ended s g b.association ≡ false
       → has_unacknowledged s p.core.sctp.association.outbox.items ≡ false
       → read s g b.association ++ unread s g q.core.sctp.association.inbox.unread ≡ written s g a.association)
+      → AreLevelStreams p q
       → AreOpenAtBoth draws us p vs q
-  side_open a b us vs p q x y here there heard others_heard got sent reads all = λ c s shown kept.
+  side_open a b us vs p q x y here there heard others_heard got sent reads all level = λ c s shown band.
+      let kept : AreKeptStreams s p q = kept_by s p q level band in
       let mine = own_use draws a us p x here heard c s kept.in_band_here shown kept.unclosed_here in
       let same : s ≡ mine.stays.stream = some_is s mine.stays.stream (sym mine.stream_is ∙ mine.stays.of) in
       let it =
@@ -105,35 +127,208 @@ module _ {N : Type 0} (draws : Draws N) where
     drained at = resting_drained at past (settled.resting at)
 
     heard : (at : Side) → AreHeard plain_meaning (rtc_at at pair).core.sctp.association (rtc_at at pair).core.sctp.entries
-    heard at = last_heard draws (rtc_at at pair) (resting_last (plain_over draws) stun start past pair ran at (settled.resting at)) (settled.peers at) (empty at).empty
+    heard at = last_heard draws (rtc_at at pair) (resting_last (plain_over draws) (λ n. Unit {0}) stun start past pair ran at (settled.resting at)) (settled.peers at) (empty at).empty
+
+    level : (at : Side) → AreLevelStreams (rtc_at at pair) (rtc_at (other_side at) pair)
+    level at = pair_level told.acts pair told.exchange settled.peers at
+
+    kept_streams : (at : Side) (s : ℕ) → AreInBandStreams s (rtc_at at pair) (rtc_at (other_side at) pair)
+        → AreKeptStreams s (rtc_at at pair) (rtc_at (other_side at) pair)
+    kept_streams at s band = kept_by s (rtc_at at pair) (rtc_at (other_side at) pair) (level at) band
+
+    pub settled_level : (at : Side) (s : ℕ) → IsLevelStream s (rtc_at at pair) (rtc_at (other_side at) pair)
+    settled_level at s =
+        record { generation_is = (level at s).generation_is; unclosed_here = (level at s).here; unclosed_there = (level at s).there }
 
     pub settled_open : (at : Side) → AreOpenAtBoth draws (uses at) (rtc_at at pair) (uses (other_side at)) (rtc_at (other_side at) pair)
     settled_open Left =
         side_open told.acts.left told.acts.right (uses Left) (uses Right) pair.left pair.right told.left.side told.right.side (settled.peers Left)
         (settled.peers Right) (heard Left) (heard Right) (pair_drained draws stun start past pair ran h unused Left (drained Left))
         (pair_drained draws stun start past pair ran h unused Right (drained Right)) (λ s g. side_reads told.acts pair Right s g told.exchange)
-        (λ s g. side_all told.acts pair Left s g told.exchange)
+        (λ s g. side_all told.acts pair Left s g told.exchange) (level Left)
     settled_open Right =
         side_open told.acts.right told.acts.left (uses Right) (uses Left) pair.right pair.left told.right.side told.left.side (settled.peers Right)
         (settled.peers Left) (heard Right) (heard Left) (pair_drained draws stun start past pair ran h unused Right (drained Right))
         (pair_drained draws stun start past pair ran h unused Left (drained Left)) (λ s g. side_reads told.acts pair Left s g told.exchange)
-        (λ s g. side_all told.acts pair Right s g told.exchange)
+        (λ s g. side_all told.acts pair Right s g told.exchange) (level Right)
 
-    pub settled_answered : (at : Side) → AreAnswered (rtc_at at pair) (rtc_at (other_side at) pair)
-    settled_answered Left = λ s kept waits taken.
+    none_taken : (at : Side) (s : ℕ) → AreInBandStreams s (rtc_at at pair) (rtc_at (other_side at) pair)
+        → WaitsForAnswer s (rtc_at at pair).core.sctp.entries → IsTakenUp s (rtc_at (other_side at) pair).core.sctp.entries → ⊥
+    none_taken Left = λ s band waits taken.
         none_waits draws told.acts.left told.acts.right (uses Left) (uses Right) pair.left pair.right told.left.side told.right.side (settled.peers Left)
         (settled.peers Right) (heard Left) (heard Right) (λ t g. side_all told.acts pair Left t g told.exchange)
-        (λ t g. side_all told.acts pair Right t g told.exchange) s kept waits taken
-    settled_answered Right = λ s kept waits taken.
+        (λ t g. side_all told.acts pair Right t g told.exchange) s (kept_streams Left s band) waits taken
+    none_taken Right = λ s band waits taken.
         none_waits draws told.acts.right told.acts.left (uses Right) (uses Left) pair.right pair.left told.right.side told.left.side (settled.peers Right)
         (settled.peers Left) (heard Right) (heard Left) (λ t g. side_all told.acts pair Right t g told.exchange)
-        (λ t g. side_all told.acts pair Left t g told.exchange) s kept waits taken
+        (λ t g. side_all told.acts pair Left t g told.exchange) s (kept_streams Right s band) waits taken
+
+    -- nothing is due for the channels of a side that waits for a later moment
+    pub settled_idle : (at : Side) → HasNothingDue at past pair
+        → channels_wake plain_meaning (rtc_at at pair).core.channels (rtc_at at pair).core.sctp ≡ None
+    settled_idle at later =
+        let last : PolledLast (plain_over draws) (λ moment. (rtc_at at pair).core.greatest < moment) (rtc_at at pair) =
+        resting_last (plain_over draws) (λ moment. (rtc_at at pair).core.greatest < moment) stun start past pair ran at later in
+        none_due draws (λ moment. (rtc_at at pair).core.greatest < moment) (rtc_at at pair) last (settled.peers at).alive last.moment_is
+
+    -- a channel that was confirmed and has a stream
+    module _ (new : IsNewPair draws start) where
+      sound_start : (at : Side) → SideSound (plain_over draws) (plain_over_laws draws) (rtc_at at start)
+      sound_start Left = inr (new_sound draws start.left new.left)
+      sound_start Right = inr (new_sound draws start.right new.right)
+
+      numbers : (at : Side) → AreNumberedChannels (rtc_at at pair).core.channels
+      numbers Left = told.left.side.told.numbers
+      numbers Right = told.right.side.told.numbers
+
+      known_at : (at : Side) → SideKnown (plain_over draws) (plain_over_laws draws) plain_generations plain_unread (rtc_at at pair)
+          → AreKnown plain_meaning (rtc_at at pair).core.sctp
+      known_at at (inl closed) = absurd (not_closed draws (rtc_at at pair) (settled.peers at).alive closed)
+      known_at at (inr known) = known
+
+      known : (at : Side) → AreKnown plain_meaning (rtc_at at pair).core.sctp
+      known at =
+          known_at at
+          (run_known (plain_over draws) (plain_over_laws draws) plain_generations plain_unread stun start past pair ran (new_pair_known draws start new) at)
+
+      quiet : (at : Side) (s : ℕ) → closed_here (rtc_at at pair).core.sctp.association s ≡ false
+          → IsOpeningRefused s (rtc_at at pair)
+          ⊎ (has_unread (rtc_at at pair).core.sctp.association s (generation_of (rtc_at at pair).core.sctp.association s) ≡ false)
+      quiet at s unclosed =
+          none_unread draws (rtc_at at pair) s (settled.peers at)
+          (last_all draws (rtc_at at pair) (resting_last (plain_over draws) (λ n. Unit {0}) stun start past pair ran at (settled.resting at)) (settled.peers at)) (heard at)
+          (known at) unclosed
+
+      tried : (at : Side) → AreTriedAgain (rtc_at at pair).core.sctp.last (rtc_at at pair).core.sctp.entries
+      tried at =
+          tried_in draws (rtc_at at pair) (settled.peers at)
+          (last_all draws (rtc_at at pair) (resting_last (plain_over draws) (λ n. Unit {0}) stun start past pair ran at (settled.resting at)) (settled.peers at))
+          (known at)
+
+      taken : (at : Side) (s : ℕ) → AreInBandStreams s (rtc_at at pair) (rtc_at (other_side at) pair)
+          → has_unread (rtc_at (other_side at) pair).core.sctp.association s (generation_of (rtc_at (other_side at) pair).core.sctp.association s) ≡ false
+          → WaitsForAnswer s (rtc_at at pair).core.sctp.entries → IsTakenUp s (rtc_at (other_side at) pair).core.sctp.entries
+      taken Left s band none waits =
+          taken_up draws told.acts.left told.acts.right (uses Left) (uses Right) pair.left pair.right told.left.side told.right.side (settled.peers Left)
+          (settled.peers Right) (heard Left) (λ t g. side_all told.acts pair Left t g told.exchange) s (kept_streams Left s band) none waits
+      taken Right s band none waits =
+          taken_up draws told.acts.right told.acts.left (uses Right) (uses Left) pair.right pair.left told.right.side told.left.side (settled.peers Right)
+          (settled.peers Left) (heard Right) (λ t g. side_all told.acts pair Right t g told.exchange) s (kept_streams Right s band) none waits
+
+      -- it is open at both sides, or the opening of its stream is refused for now at one
+      abbrev EndsAt : (at : Side) (c s : ℕ) → Type 0
+      EndsAt at c s =
+          IsOpenAtBoth draws c (uses at) (rtc_at at pair) (uses (other_side at)) (rtc_at (other_side at) pair)
+          ⊎ (IsRefusedAlone s (rtc_at at pair) (rtc_at (other_side at) pair) ⊎ AreBothOpening s (rtc_at at pair) (rtc_at (other_side at) pair))
+
+      -- an opening waits for its answer where that of the other side is refused for now
+      refused_there : (at : Side) (s : ℕ) → AreInBandStreams s (rtc_at at pair) (rtc_at (other_side at) pair)
+          → WaitsForAnswer s (rtc_at at pair).core.sctp.entries
+          → IsOpeningRefused s (rtc_at (other_side at) pair)
+          ⊎ (has_unread (rtc_at (other_side at) pair).core.sctp.association s
+          (generation_of (rtc_at (other_side at) pair).core.sctp.association s) ≡ false)
+          → IsOpeningRefused s (rtc_at (other_side at) pair)
+      refused_there at s band waits (inl refused) = refused
+      refused_there at s band waits (inr none) = absurd (none_taken at s band waits (taken at s band none waits))
+
+      pub settled_answered : (at : Side) → AreAnswered (rtc_at at pair) (rtc_at (other_side at) pair)
+      settled_answered at = λ s band waits.
+          (refused_there at s band waits (quiet (other_side at) s (level at s).there), λ in_use. none_taken at s band waits in_use)
+
+      -- the other side has the stream not open then
+      other_shut : (at : Side) (s : ℕ) → AreInBandStreams s (rtc_at at pair) (rtc_at (other_side at) pair)
+          → HasEntryOf (λ entry. entry.state ≡ AwaitOpen) s (rtc_at at pair).core.sctp.entries
+          → has_open s (rtc_at (other_side at) pair).core.sctp.entries ≡ false
+      other_shut Left s band h =
+          shut_there draws told.acts.left told.acts.right (uses Left) (uses Right) pair.left pair.right told.left.side told.right.side (settled.peers Left)
+          (settled.peers Right) (heard Right) (λ t g. side_reads told.acts pair Left t g told.exchange) s (kept_streams Left s band) h
+      other_shut Right s band h =
+          shut_there draws told.acts.right told.acts.left (uses Right) (uses Left) pair.right pair.left told.right.side told.left.side (settled.peers Right)
+          (settled.peers Left) (heard Left) (λ t g. side_reads told.acts pair Right t g told.exchange) s (kept_streams Right s band) h
+
+      by_entry : (at : Side) (c s : ℕ) → stream_under c (rtc_at at pair).core.channels ≡ Some s
+          → AreInBandStreams s (rtc_at at pair) (rtc_at (other_side at) pair) → StandsAs s (rtc_at at pair).core.sctp.entries → EndsAt at c s
+      by_entry at c s under band (Opening h) =
+          inr (inl (refused_of draws (rtc_at at pair) s (heard at) (tried at) (level at s).here h, other_shut at s band h))
+      by_entry at c s under band (Unanswered h) = inr (inr (h, (settled_answered at s band h).0))
+      by_entry at c s under band (IsOpen h) =
+          inl
+          (settled_open at c s
+          (stays_under draws c s (rtc_at at pair) (settled.peers at).alive under
+          (both_true (is_established (rtc_at at pair).core.sctp.state) (has_open s (rtc_at at pair).core.sctp.entries) (settled.peers at).established h))
+          band)
+
+      by_side : (at : Side) (c s : ℕ) → channels_wake plain_meaning (rtc_at at pair).core.channels (rtc_at at pair).core.sctp ≡ None
+          → stream_under c (rtc_at at pair).core.channels ≡ Some s → AreInBandStreams s (rtc_at at pair) (rtc_at (other_side at) pair)
+          → SideBegun (plain_over draws) (plain_over_laws draws) c (rtc_at at pair) → EndsAt at c s
+      by_side at c s idle under band (inl closed) = absurd (not_closed draws (rtc_at at pair) (settled.peers at).alive closed)
+      by_side at c s idle under band (inr begun) =
+          by_entry at c s under band
+          (stands_as (rtc_at at pair).core.sctp.association s (rtc_at at pair).core.sctp.entries (heard at)
+          (confirmed_stands c s (rtc_at at pair).core.channels (rtc_at at pair).core.sctp (numbers at)
+          ((known at).begun (settled.peers at).established) idle begun.1 under))
+
+      pub settled_refused : (at : Side) → channels_wake plain_meaning (rtc_at at pair).core.channels (rtc_at at pair).core.sctp ≡ None
+          → AreConfirmedSettled draws (λ c. WasConfirmed (plain_over draws) stun start at c past pair ran) (uses at) (rtc_at at pair)
+          (uses (other_side at)) (rtc_at (other_side at) pair)
+      settled_refused at idle = λ c s confirmed under band.
+          by_side at c s idle under band (run_begun (plain_over draws) (plain_over_laws draws) stun start past pair ran sound_start at c confirmed)
+
+      -- so it is open at both, where none is tried again
+      open_unless : ((at : Side) (s : ℕ) → IsOpeningRefused s (rtc_at at pair) → ⊥) → (at : Side) (c s : ℕ) → EndsAt at c s
+          → IsOpenAtBoth draws c (uses at) (rtc_at at pair) (uses (other_side at)) (rtc_at (other_side at) pair)
+      open_unless none at c s (inl opened) = opened
+      open_unless none at c s (inr (inl here)) = absurd (none at s here.0)
+      open_unless none at c s (inr (inr there)) = absurd (none (other_side at) s there.1)
+
+      module _ (still : IsStillPair pair) where
+        none_refused : (at : Side) (s : ℕ) → IsOpeningRefused s (rtc_at at pair) → ⊥
+        none_refused at s refused =
+            none_opening s (rtc_at at pair).core.sctp (heard at) (still at).waits (refused_opening s (rtc_at at pair) refused)
+
+        pub settled_confirmed : (at : Side)
+            → AreConfirmedOpen draws (λ c. WasConfirmed (plain_over draws) stun start at c past pair ran) (uses at) (rtc_at at pair)
+            (uses (other_side at)) (rtc_at (other_side at) pair)
+        settled_confirmed at = λ c s confirmed under band.
+            open_unless none_refused at c s (settled_refused at (still at).idle c s confirmed under band)
+
+      -- that is told by timeouts that are late enough
+      module _ (soon : (at : Side) → HasNothingSoon at past pair) where
+        abbrev IsLate : Side → ℕ → Type 0
+        IsLate at moment = ((rtc_at at pair).core.greatest < moment) × ((rtc_at at pair).core.sctp.last + 500_000_000 < moment)
+
+        late : (at : Side) → PolledLast (plain_over draws) (IsLate at) (rtc_at at pair)
+        late at = resting_last (plain_over draws) (IsLate at) stun start past pair ran at (soon at)
+
+        none_again : (at : Side) (s : ℕ) → IsOpeningRefused s (rtc_at at pair) → ⊥
+        none_again at s refused =
+            none_retried draws (IsLate at) (rtc_at at pair) (late at) (settled.peers at).alive (late at).moment_is.0 (late at).moment_is.1
+            (awaits_retried s (rtc_at at pair).core.sctp.association (rtc_at at pair).core.sctp.entries (heard at)
+            (refused_opening s (rtc_at at pair) refused))
+
+        pub settled_later : (at : Side)
+            → AreConfirmedOpen draws (λ c. WasConfirmed (plain_over draws) stun start at c past pair ran) (uses at) (rtc_at at pair)
+            (uses (other_side at)) (rtc_at (other_side at) pair)
+        settled_later at = λ c s confirmed under band.
+            open_unless none_again at c s
+            (settled_refused at (none_due draws (IsLate at) (rtc_at at pair) (late at) (settled.peers at).alive (late at).moment_is.0) c s confirmed
+            under band)
 
   pub run_settles_open : (stun : List ℕ → Bool) (start pair : PlainPair N) (steps : List Step) (replies : List (Reply PlainMediaEvent))
       → IsNewPair draws start → (run : Runs (plain_over draws) stun start steps replies pair) → SettlesOpen draws stun start steps replies pair run
   run_settles_open stun start pair steps replies new run =
       let ran : Reached (plain_over draws) stun start run.past pair = reached_by (plain_over draws) stun start run.past pair run.went in
       record {
+        level = λ settled at s. settled_level stun start run.past pair ran (new_pair_told draws start new) (new_unused draws start new) settled at s;
         opened = λ settled at. settled_open stun start run.past pair ran (new_pair_told draws start new) (new_unused draws start new) settled at;
-        answered = λ settled at. settled_answered stun start run.past pair ran (new_pair_told draws start new) (new_unused draws start new) settled at;
+        answered = λ settled at.
+            settled_answered stun start run.past pair ran (new_pair_told draws start new) (new_unused draws start new) settled new at;
+        idle = λ settled at later.
+            settled_idle stun start run.past pair ran (new_pair_told draws start new) (new_unused draws start new) settled at later;
+        refused = λ settled at idle.
+            settled_refused stun start run.past pair ran (new_pair_told draws start new) (new_unused draws start new) settled new at idle;
+        confirmed = λ settled still at.
+            settled_confirmed stun start run.past pair ran (new_pair_told draws start new) (new_unused draws start new) settled new still at;
+        later = λ settled soon at.
+            settled_later stun start run.past pair ran (new_pair_told draws start new) (new_unused draws start new) settled new soon at;
       }

@@ -54,7 +54,7 @@ heard_open m a s [] h e = absurd (true≢false (sym e))
 heard_open m a s (entry ∷ entries) h e = by ((entry.id == s) && is_open_state entry.state) refl e (heard_open m a s entries h.1)
   where
     own : entry.id ≡ s → is_open_state entry.state ≡ true → IsHeard m a entry → m.has_unread a s (m.generation a s) ≡ false
-    own same opened (inl waits) = absurd (true≢false (sym opened ∙ ap is_open_state waits))
+    own same opened (inl waits) = absurd (true≢false (sym opened ∙ ap is_open_state waits.0))
     own same opened (inr heard) = ap (λ (n : ℕ). m.has_unread a n (m.generation a n)) (sym same) ∙ heard.2
 
     by : (b : Bool) → ((entry.id == s) && is_open_state entry.state) ≡ b → (b || has_open s entries) ≡ true

@@ -1,5 +1,5 @@
 -- Sides that rest, or do not, worked by hand.
-use Rattle.std.proofs.Common.{◌∷◌, [], None}
+use Rattle.std.proofs.Common.{◌∷◌, ◌<◌, [], None, arith}
 use Rattle.rtc_parts_values.specs.declared.reason.Reason.TheVariants.{NotHappening}
 use Rattle.rtc_history.specs.declared.outcome.Outcome.{Outcome}
 use Rattle.rtc_history.specs.declared.outcome.Outcome.TheVariants.{Done, Polled}
@@ -9,7 +9,7 @@ use Rattle.rtc_history.specs.declared.side.Side.TheVariants.{Left, Right}
 use Rattle.rtc_history.specs.declared.step.Step.{Step}
 use Rattle.rtc_history.specs.declared.step.Step.TheVariants.{Time, Poll, Drain, Close}
 use Rattle.rtc_history.specs.Past.{Entry}
-use Rattle.rtc_channel_runs.specs.SettledPairs.{IsResting}
+use Rattle.rtc_channel_runs.specs.SettledPairs.{IsResting, RestsUntil}
 
 abbrev entry_of : Step → Outcome (Unit {0}) → Entry (Unit {0})
 entry_of step outcome = record { step = step; outcome = outcome; table = None; made = [] }
@@ -27,6 +27,13 @@ other_moves = tt
 
 drained_rests : IsResting Left (entry_of (Drain Left) (Polled (Packet 0 40 ∷ Timeout 9 NotHappening ∷ []) Ended) ∷ [])
 drained_rests = tt
+
+-- until a moment that is later than another, or is not
+later_rests : RestsUntil (λ moment. 5 < moment) Left (waited ∷ [])
+later_rests = omega arith
+
+due_rests : RestsUntil (λ moment. 9 < moment) Left (waited ∷ []) → ⊥
+due_rests h = omega (arith, h)
 
 -- an input or a call of its own ends that, and so does a poll that gave something else
 time_wakes : IsResting Left (entry_of (Time Left 5) Done ∷ waited ∷ []) → ⊥

@@ -6,5 +6,7 @@ pub mod OpenUses
 pub mod SentMessages
 pub mod ToldMessages
 pub mod DrainedSides
+pub mod ConfirmedChannels
+pub mod StillPairs
 pub mod SettledPairs
 pub mod HandedOut

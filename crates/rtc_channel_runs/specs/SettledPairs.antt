@@ -1,17 +1,20 @@
 -- Pairs in which nothing is under way any more, and what holds of the channels of such a pair (RFC 8832, section 6).
-use Rattle.std.specs.Prelude.{ℕ, ◌≡◌, ◌<◌, ◌-◌, ◌^◌, ◌⊎◌, Bool, true, false, List, [], ◌∷◌, Some}
+use Rattle.std.specs.Prelude.{ℕ, ◌≡◌, ◌+◌, ◌<◌, ◌-◌, ◌^◌, ◌⊎◌, Bool, true, false, List, [], ◌∷◌, Some, None}
 use Rattle.rtc_parts_values.specs.Among.{Member}
 use Rattle.rtc_dtls.specs.DtlsState.{can_send}
 use Rattle.rtc_plain_dtls.specs.PlainMeaning.{plain_dtls}
-use Rattle.rtc_assoc_state.specs.Contents.{closed_here, generation_of, is_ending}
+use Rattle.rtc_assoc_state.specs.Contents.{closed_here, generation_of, has_stream, is_ending}
+use Rattle.rtc_assoc_state.specs.PlainMeaning.{plain_meaning}
 use Rattle.rtc_plain_media.specs.declared.plain_media_event.PlainMediaEvent.{PlainMediaEvent}
 use Rattle.rtc_ids.specs.Draws.{Draws}
 use Rattle.rtc_sctp_entries.specs.declared.stream_entry_state.StreamEntryState.TheVariants.{AwaitOpen, AwaitDcepAck}
 use Rattle.rtc_sctp_entries.specs.declared.stream_entry.StreamEntry.{StreamEntry}
-use Rattle.rtc_sctp_entries.specs.Entries.{is_out_of_band}
+use Rattle.rtc_sctp_entries.specs.Entries.{has_open, is_out_of_band}
 use Rattle.rtc_sctp.specs.Streams.{is_established}
+use Rattle.rtc_channels.specs.Openings.{channels_wake}
 use Rattle.rtc_peer_state.specs.declared.phase.Phase.TheVariants.{Alive}
-use Rattle.rtc_polling.specs.ChannelCalls.{open_stream_under}
+use Rattle.rtc_polling.specs.ChannelCalls.{open_stream_under, stream_under}
+use Rattle.rtc_polling_laws.specs.Drained.{IsTriedAgain}
 use Rattle.rtc_history.specs.declared.outcome.Outcome.{Outcome}
 use Rattle.rtc_history.specs.declared.outcome.Outcome.TheVariants.{Polled}
 use Rattle.rtc_history.specs.declared.reply.Reply.{Reply}
@@ -27,33 +30,50 @@ use Rattle.rtc_history.specs.Sides.{other_side, same_side, side_of}
 use Rattle.rtc_joined_runs.specs.PlainPairs.{PlainPair, PlainPolled, plain_over}
 use Rattle.rtc_channel_runs.specs.ChannelUses.{ChannelUse}
 use Rattle.rtc_channel_runs.specs.OpenUses.{AreJoinedUses}
-use Rattle.rtc_channel_runs.specs.UsesOfRuns.{uses_in_run}
+use Rattle.rtc_channel_runs.specs.ConfirmedChannels.{WasConfirmed}
+use Rattle.rtc_channel_runs.specs.StillPairs.{IsStillPair}
+use Rattle.rtc_channel_runs.specs.UsesOfRuns.{reached_by, uses_in_run}
 
--- outputs end in a timeout
-abbrev pub EndInTimeout : {E : Type 0} → List (Shown E) → Type 0
-EndInTimeout [] = ⊥
-EndInTimeout (Timeout moment reason ∷ outputs) = Unit {0}
-EndInTimeout (Packet number len ∷ outputs) = EndInTimeout outputs
-EndInTimeout (Event event ∷ outputs) = EndInTimeout outputs
+-- outputs end in a timeout at a moment that is so
+abbrev pub EndInTimeout : {E : Type 0} → (ℕ → Type 0) → List (Shown E) → Type 0
+EndInTimeout is_so [] = ⊥
+EndInTimeout is_so (Timeout moment reason ∷ outputs) = is_so moment
+EndInTimeout is_so (Packet number len ∷ outputs) = EndInTimeout is_so outputs
+EndInTimeout is_so (Event event ∷ outputs) = EndInTimeout is_so outputs
 
-abbrev pub RestsByOutcome : {E : Type 0} → Outcome E → Type 0
-RestsByOutcome (Polled outputs end) = EndInTimeout outputs
-RestsByOutcome outcome = ⊥
+abbrev pub RestsByOutcome : {E : Type 0} → (ℕ → Type 0) → Outcome E → Type 0
+RestsByOutcome is_so (Polled outputs end) = EndInTimeout is_so outputs
+RestsByOutcome is_so outcome = ⊥
 
--- a step polled a peer up to a timeout
-abbrev pub RestsByStep : {E : Type 0} → Step → Outcome E → Type 0
-RestsByStep (Poll at) outcome = RestsByOutcome outcome
-RestsByStep (Drain at) outcome = RestsByOutcome outcome
-RestsByStep step outcome = ⊥
+-- a step polled a peer up to such a timeout
+abbrev pub RestsByStep : {E : Type 0} → (ℕ → Type 0) → Step → Outcome E → Type 0
+RestsByStep is_so (Poll at) outcome = RestsByOutcome is_so outcome
+RestsByStep is_so (Drain at) outcome = RestsByOutcome is_so outcome
+RestsByStep is_so step outcome = ⊥
 
-abbrev pub RestsByEntry : {E : Type 0} → (acting : Bool) → Step → Outcome E → (earlier : Type 0) → Type 0
-RestsByEntry true step outcome earlier = RestsByStep step outcome
-RestsByEntry false step outcome earlier = earlier
+abbrev pub RestsByEntry : {E : Type 0} → (ℕ → Type 0) → (acting : Bool) → Step → Outcome E → (earlier : Type 0) → Type 0
+RestsByEntry is_so true step outcome earlier = RestsByStep is_so step outcome
+RestsByEntry is_so false step outcome earlier = earlier
 
--- a side was polled up to a timeout, and no input came to it and no call was made on it since
+-- a side was polled up to a timeout at a moment that is so, and no input came to it and no call was made on it since
+abbrev pub RestsUntil : {E : Type 0} → (ℕ → Type 0) → Side → List (Entry E) → Type 0
+RestsUntil is_so at [] = ⊥
+RestsUntil is_so at (entry ∷ past) =
+    RestsByEntry is_so (same_side (side_of entry.step) at) entry.step entry.outcome (RestsUntil is_so at past)
+
+-- whatever the moment
 abbrev pub IsResting : {E : Type 0} → Side → List (Entry E) → Type 0
-IsResting at [] = ⊥
-IsResting at (entry ∷ past) = RestsByEntry (same_side (side_of entry.step) at) entry.step entry.outcome (IsResting at past)
+IsResting at past = RestsUntil (λ moment. Unit {0}) at past
+
+-- nothing was due by then: the moment is later than each that the peer took
+abbrev pub HasNothingDue : {E N : Type 0} → Side → List (Entry E) → PlainPair N → Type 0
+HasNothingDue at past pair = RestsUntil (λ moment. (rtc_at at pair).core.greatest < moment) at past
+
+-- nor was anything to be tried again: the moment is later than half a second after the last one that the streams took, too
+abbrev pub HasNothingSoon : {E N : Type 0} → Side → List (Entry E) → PlainPair N → Type 0
+HasNothingSoon at past pair =
+    RestsUntil
+    (λ moment. ((rtc_at at pair).core.greatest < moment) × ((rtc_at at pair).core.sctp.last + 500_000_000 < moment)) at past
 
 -- A peer is alive, application data can go over its DTLS connection, and its association is established, neither closing nor closed. It has
 -- no unacknowledged item, and a number is left for a channel.
@@ -75,13 +95,16 @@ abbrev pub IsInBandStream : (stream : ℕ) → List StreamEntry → Type 0
 IsInBandStream stream [] = Unit {0}
 IsInBandStream stream (entry ∷ entries) = (entry.id ≡ stream → is_out_of_band entry ≡ false) × IsInBandStream stream entries
 
--- both associations have a stream in one generation, neither end closed it, and neither settled it by other means than messages
-pub record AreKeptStreams {N : Type 0} (stream : ℕ) (p q : PlainPolled N) : Type 0 where
+-- neither side settled a stream by other means than messages
+pub record AreInBandStreams {N : Type 0} (stream : ℕ) (p q : PlainPolled N) : Type 0 where
+  pub here : IsInBandStream stream p.core.sctp.entries
+  pub there : IsInBandStream stream q.core.sctp.entries
+
+-- both associations have a stream in one generation, and neither end closed it
+pub record IsLevelStream {N : Type 0} (stream : ℕ) (p q : PlainPolled N) : Type 0 where
   pub generation_is : generation_of q.core.sctp.association stream ≡ generation_of p.core.sctp.association stream
   pub unclosed_here : closed_here p.core.sctp.association stream ≡ false
   pub unclosed_there : closed_here q.core.sctp.association stream ≡ false
-  pub in_band_here : IsInBandStream stream p.core.sctp.entries
-  pub in_band_there : IsInBandStream stream q.core.sctp.entries
 
 -- A channel of one side was announced, and so was one by the other side, over the same generation of the same stream. Both are open, and
 -- each side got over its channel all that the other sent over its own.
@@ -96,14 +119,13 @@ pub record IsOpenAtBoth {N : Type 0} (draws : Draws N) (channel : ℕ) (uses : L
   pub got : own.got ≡ other.sent
   pub sent : other.got ≡ own.sent
 
--- So it is for each channel that is open at the one side, over a stream that both associations have in one generation, and that neither end
--- closed or settled by other means.
+-- So it is for each channel that is open at the one side, over a stream that neither side settled by other means than messages.
 abbrev pub AreOpenAtBoth : {N : Type 0} → Draws N → (uses : List ChannelUse) → PlainPolled N → (others : List ChannelUse) → PlainPolled N
     → Type 0
 AreOpenAtBoth draws uses p others q =
     (channel stream : ℕ)
     → open_stream_under channel p ≡ Some stream
-    → AreKeptStreams stream p q
+    → AreInBandStreams stream p q
     → IsOpenAtBoth draws channel uses p others q
 
 -- a stream has an entry that is so
@@ -119,20 +141,79 @@ WaitsForAnswer stream entries = HasEntryOf (λ entry. entry.state ≡ AwaitDcepA
 abbrev pub IsTakenUp : (stream : ℕ) → List StreamEntry → Type 0
 IsTakenUp stream entries = HasEntryOf (λ entry. entry.state ≡ AwaitOpen → ⊥) stream entries
 
--- No opening waits for its answer over such a stream, where the other side has it in use too and does not wait to open it.
+-- the opening of a stream is refused for now, as the stream is there already, and is tried again: it has been so for less than ten seconds
+abbrev pub IsOpeningRefused : {N : Type 0} → (stream : ℕ) → PlainPolled N → Type 0
+IsOpeningRefused stream p =
+    HasEntryOf (IsTriedAgain p.core.sctp.last) stream p.core.sctp.entries
+    × (has_stream p.core.sctp.association stream ≡ true)
+
+-- Where an opening waits for its answer over such a stream, the other side has the stream not in use, and its own opening of it is refused
+-- for now.
 abbrev pub AreAnswered : {N : Type 0} → PlainPolled N → PlainPolled N → Type 0
 AreAnswered p q =
     (stream : ℕ)
-    → AreKeptStreams stream p q
+    → AreInBandStreams stream p q
     → WaitsForAnswer stream p.core.sctp.entries
-    → IsTakenUp stream q.core.sctp.entries
-    → ⊥
+    → IsOpeningRefused stream q × (IsTakenUp stream q.core.sctp.entries → ⊥)
 
--- A run by these steps with these replies leaves it so at both sides, where it left the pair settled.
+-- each channel of one side that was confirmed and has such a stream is open at both
+abbrev pub AreConfirmedOpen : {N : Type 0} → Draws N → (confirmed : ℕ → Type 0) → (uses : List ChannelUse) → PlainPolled N
+    → (others : List ChannelUse) → PlainPolled N → Type 0
+AreConfirmedOpen draws confirmed uses p others q =
+    (channel stream : ℕ)
+    → confirmed channel
+    → stream_under channel p.core.channels ≡ Some stream
+    → AreInBandStreams stream p q
+    → IsOpenAtBoth draws channel uses p others q
+
+-- the opening of a stream from here is refused for now, and the stream is not open at the other side either
+abbrev pub IsRefusedAlone : {N : Type 0} → (stream : ℕ) → PlainPolled N → PlainPolled N → Type 0
+IsRefusedAlone stream p q = IsOpeningRefused stream p × (has_open stream q.core.sctp.entries ≡ false)
+
+-- both sides opened a stream themselves: the opening from here waits for its answer, and the one from there is refused for now
+abbrev pub AreBothOpening : {N : Type 0} → (stream : ℕ) → PlainPolled N → PlainPolled N → Type 0
+AreBothOpening stream p q = WaitsForAnswer stream p.core.sctp.entries × IsOpeningRefused stream q
+
+-- Each channel of one side that was confirmed and has such a stream is open at both, or the opening of the stream is refused for now, also
+-- where both sides opened it.
+abbrev pub AreConfirmedSettled : {N : Type 0} → Draws N → (confirmed : ℕ → Type 0) → (uses : List ChannelUse) → PlainPolled N
+    → (others : List ChannelUse) → PlainPolled N → Type 0
+AreConfirmedSettled draws confirmed uses p others q =
+    (channel stream : ℕ)
+    → confirmed channel
+    → stream_under channel p.core.channels ≡ Some stream
+    → AreInBandStreams stream p q
+    → IsOpenAtBoth draws channel uses p others q ⊎ (IsRefusedAlone stream p q ⊎ AreBothOpening stream p q)
+
+-- A run by these steps with these replies leaves it so at both sides, where it left the pair settled. Of channels that were confirmed it
+-- tells where nothing is due for those of the side; they are open where besides no opening is under way at either side, and where the last
+-- timeouts of both are late enough.
 pub record SettlesOpen {N : Type 0} (draws : Draws N) (stun : List ℕ → Bool) (start : PlainPair N) (steps : List Step)
     (replies : List (Reply PlainMediaEvent)) (pair : PlainPair N) (run : Runs (plain_over draws) stun start steps replies pair)
     : Type 0 where
+  pub level : IsSettledPair run.past pair → (at : Side) (stream : ℕ) → IsLevelStream stream (rtc_at at pair) (rtc_at (other_side at) pair)
   pub opened : IsSettledPair run.past pair → (at : Side)
       → AreOpenAtBoth draws (uses_in_run (plain_over draws) stun start steps replies pair run at) (rtc_at at pair)
       (uses_in_run (plain_over draws) stun start steps replies pair run (other_side at)) (rtc_at (other_side at) pair)
   pub answered : IsSettledPair run.past pair → (at : Side) → AreAnswered (rtc_at at pair) (rtc_at (other_side at) pair)
+  pub idle : IsSettledPair run.past pair → (at : Side) → HasNothingDue at run.past pair
+      → channels_wake plain_meaning (rtc_at at pair).core.channels (rtc_at at pair).core.sctp ≡ None
+  pub refused : IsSettledPair run.past pair → (at : Side)
+      → channels_wake plain_meaning (rtc_at at pair).core.channels (rtc_at at pair).core.sctp ≡ None
+      → AreConfirmedSettled draws
+      (λ channel. WasConfirmed (plain_over draws) stun start at channel run.past pair
+      (reached_by (plain_over draws) stun start run.past pair run.went))
+      (uses_in_run (plain_over draws) stun start steps replies pair run at) (rtc_at at pair)
+      (uses_in_run (plain_over draws) stun start steps replies pair run (other_side at)) (rtc_at (other_side at) pair)
+  pub confirmed : IsSettledPair run.past pair → IsStillPair pair → (at : Side)
+      → AreConfirmedOpen draws
+      (λ channel. WasConfirmed (plain_over draws) stun start at channel run.past pair
+      (reached_by (plain_over draws) stun start run.past pair run.went))
+      (uses_in_run (plain_over draws) stun start steps replies pair run at) (rtc_at at pair)
+      (uses_in_run (plain_over draws) stun start steps replies pair run (other_side at)) (rtc_at (other_side at) pair)
+  pub later : IsSettledPair run.past pair → ((at : Side) → HasNothingSoon at run.past pair) → (at : Side)
+      → AreConfirmedOpen draws
+      (λ channel. WasConfirmed (plain_over draws) stun start at channel run.past pair
+      (reached_by (plain_over draws) stun start run.past pair run.went))
+      (uses_in_run (plain_over draws) stun start steps replies pair run at) (rtc_at at pair)
+      (uses_in_run (plain_over draws) stun start steps replies pair run (other_side at)) (rtc_at (other_side at) pair)

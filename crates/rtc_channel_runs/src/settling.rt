@@ -1,5 +1,7 @@
 //! The channels of a run of two peers over plain parts that ended with nothing under way.
-ghost use Rattle.std.specs.Prelude.{ℕ, Bool, List};
+ghost use Rattle.std.specs.Prelude.{ℕ, ◌≡◌, Bool, List, None};
+ghost use Rattle.rtc_assoc_state.specs.PlainMeaning.{plain_meaning};
+ghost use Rattle.rtc_channels.specs.Openings.{channels_wake};
 ghost use Rattle.rtc_plain_media.specs.declared.plain_media_event.PlainMediaEvent.{PlainMediaEvent};
 ghost use Rattle.rtc_history.specs.declared.reply.Reply.{Reply};
 ghost use Rattle.rtc_history.specs.declared.side.Side.{Side};
@@ -10,18 +12,30 @@ ghost use Rattle.rtc_history.specs.Runs.{Reached, Runs};
 ghost use Rattle.rtc_history.specs.Sides.{other_side};
 ghost use Rattle.rtc_joined_runs.specs.NewPairs.{IsNewPair};
 ghost use Rattle.rtc_joined_runs.specs.PlainPairs.{PlainPair, plain_over};
-ghost use Rattle.rtc_channel_runs.specs.SettledPairs.{AreAnswered, AreOpenAtBoth, IsSettledPair, SettlesOpen};
+ghost use Rattle.rtc_channel_runs.specs.ConfirmedChannels.{WasConfirmed};
+ghost use Rattle.rtc_channel_runs.specs.SettledPairs.{AreAnswered, AreConfirmedOpen, AreConfirmedSettled, AreOpenAtBoth, HasNothingDue, HasNothingSoon, IsLevelStream, IsSettledPair, SettlesOpen};
+ghost use Rattle.rtc_channel_runs.specs.StillPairs.{IsStillPair};
 ghost use Rattle.rtc_channel_runs.specs.UsesOfRuns.{uses_of};
 
 use rtc_ids::Ids;
 
 /// Where both peers are alive, with their DTLS connections and their associations standing, where each was polled up to a timeout
-/// since its last input and its last call, and where no association has an unacknowledged item: a channel that is open at one side
-/// is open at both, and each side announced it, over one generation of one stream; and each got all that the other sent over it. So
-/// it is over each stream that both associations have in one generation, and that neither end closed or settled by other means than
-/// messages, while a number is left for a channel. No opening over such a stream waits for its answer, where the other side has the
-/// stream in use too and does not wait to open it.
+/// since its last input and its last call, and where no association has an unacknowledged item: both associations have each stream in
+/// one generation, and neither closed it. A channel that is open at one side is open at both, and each side announced it, over one
+/// generation of one stream; and each got all that the other sent over it. So it is over each stream that neither side settled by other
+/// means than messages, while a number is left for a channel. An opening over such a stream waits for its answer only where the other
+/// side has the stream not in use, and its own opening of it is refused for now.
+///
+/// Nothing is due for the channels of a side whose last timeout is later than each moment that its peer took. Where nothing is, each
+/// of them that was confirmed in the run, and has such a stream, is open at both sides so; or the opening of its stream is refused for
+/// now, as the stream is there already, and has been for less than ten seconds, while it is not open at the other side either; or both
+/// sides opened the stream themselves, so that the opening from here waits for its answer, and the one from there is refused so. It is
+/// open at both, where neither the associations with their streams nor the channels over them want a moment; and where both last timeouts
+/// are later than each moment that the peers took, and than half a second after the last one that their streams took.
 pub fn settled_pairs_have_open_channels<N: Ids>()
+    ensures level { (stun : List ℕ → Bool) (start pair : PlainPair N) (past : List (Entry PlainMediaEvent)) → IsNewPair N.ids start
+        → Reached (plain_over N.ids) stun start past pair → IsSettledPair past pair → (at : Side) (stream : ℕ)
+        → IsLevelStream stream (rtc_at at pair) (rtc_at (other_side at) pair) }
     ensures reached { (stun : List ℕ → Bool) (start pair : PlainPair N) (past : List (Entry PlainMediaEvent)) → IsNewPair N.ids start
         → (ran : Reached (plain_over N.ids) stun start past pair) → IsSettledPair past pair → (at : Side)
         → AreOpenAtBoth N.ids (uses_of (plain_over N.ids) stun start at past pair ran) (rtc_at at pair)
@@ -29,6 +43,26 @@ pub fn settled_pairs_have_open_channels<N: Ids>()
     ensures answered { (stun : List ℕ → Bool) (start pair : PlainPair N) (past : List (Entry PlainMediaEvent)) → IsNewPair N.ids start
         → Reached (plain_over N.ids) stun start past pair → IsSettledPair past pair → (at : Side)
         → AreAnswered (rtc_at at pair) (rtc_at (other_side at) pair) }
+    ensures idle { (stun : List ℕ → Bool) (start pair : PlainPair N) (past : List (Entry PlainMediaEvent)) → IsNewPair N.ids start
+        → Reached (plain_over N.ids) stun start past pair → IsSettledPair past pair → (at : Side) → HasNothingDue at past pair
+        → channels_wake plain_meaning (rtc_at at pair).core.channels (rtc_at at pair).core.sctp ≡ None }
+    ensures refused { (stun : List ℕ → Bool) (start pair : PlainPair N) (past : List (Entry PlainMediaEvent)) → IsNewPair N.ids start
+        → (ran : Reached (plain_over N.ids) stun start past pair) → IsSettledPair past pair → (at : Side)
+        → channels_wake plain_meaning (rtc_at at pair).core.channels (rtc_at at pair).core.sctp ≡ None
+        → AreConfirmedSettled N.ids (λ channel. WasConfirmed (plain_over N.ids) stun start at channel past pair ran)
+        (uses_of (plain_over N.ids) stun start at past pair ran) (rtc_at at pair)
+        (uses_of (plain_over N.ids) stun start (other_side at) past pair ran) (rtc_at (other_side at) pair) }
+    ensures confirmed { (stun : List ℕ → Bool) (start pair : PlainPair N) (past : List (Entry PlainMediaEvent)) → IsNewPair N.ids start
+        → (ran : Reached (plain_over N.ids) stun start past pair) → IsSettledPair past pair → IsStillPair pair → (at : Side)
+        → AreConfirmedOpen N.ids (λ channel. WasConfirmed (plain_over N.ids) stun start at channel past pair ran)
+        (uses_of (plain_over N.ids) stun start at past pair ran) (rtc_at at pair)
+        (uses_of (plain_over N.ids) stun start (other_side at) past pair ran) (rtc_at (other_side at) pair) }
+    ensures later { (stun : List ℕ → Bool) (start pair : PlainPair N) (past : List (Entry PlainMediaEvent)) → IsNewPair N.ids start
+        → (ran : Reached (plain_over N.ids) stun start past pair) → IsSettledPair past pair
+        → ((at : Side) → HasNothingSoon at past pair) → (at : Side)
+        → AreConfirmedOpen N.ids (λ channel. WasConfirmed (plain_over N.ids) stun start at channel past pair ran)
+        (uses_of (plain_over N.ids) stun start at past pair ran) (rtc_at at pair)
+        (uses_of (plain_over N.ids) stun start (other_side at) past pair ran) (rtc_at (other_side at) pair) }
     ensures ran { (stun : List ℕ → Bool) (start pair : PlainPair N) (steps : List Step) (replies : List (Reply PlainMediaEvent))
         → IsNewPair N.ids start → (run : Runs (plain_over N.ids) stun start steps replies pair)
         → SettlesOpen N.ids stun start steps replies pair run }

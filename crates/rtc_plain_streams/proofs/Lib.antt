@@ -2,3 +2,9 @@ pub mod RowsGo
 pub mod GoingEnds
 pub mod PlainGenerations
 pub mod PlainReadings
+pub mod KnownStreams
+pub mod BackedRows
+pub mod KnownVisits
+pub mod KnownEntries
+pub mod KnownPolls
+pub mod KnownCalls

@@ -35,8 +35,7 @@ use Rattle.rtc_polling_laws.proofs.ActedClosing.{beside, BesideDtls, BesideStrea
 use Rattle.rtc_polling_laws.proofs.VisitActs.{VisitDid, QuietDid, quiet_nothing, plain_visit, still_visit}
 use Rattle.rtc_polling_laws.proofs.VisitActs.{visit_on, StageActs, else_acts, repeats_acts}
 use Rattle.rtc_stream_contents.proofs.LiveCalls.{input_entries}
-use Rattle.rtc_stream_contents.proofs.RunningPolls.{input_stays}
-use Rattle.rtc_polling_laws.proofs.StreamsJoin.{dtls_kept}
+use Rattle.rtc_polling_laws.proofs.StreamsJoin.{dtls_kept, input_states}
 use Rattle.rtc_polling_laws.proofs.ActedTransport.{shows_again, shows_nothing, shows_error, ice_event, times_act, keys_act, cert_acts, close_notify}
 
 -- acts by which packets were taken give, send and get nothing, and hand no moment
@@ -111,7 +110,7 @@ module _ {I D S M E X T W N : Type 0} (m : Meanings I D S M E X T W N) (laws : P
       beside.0 beside.1 beside.2
 
   quiet_of : (p q : PolledPeer I D S M N) → PeerDid m nothing_came (p.core.greatest ∷ []) [] [] [] p q → BesideDtls p q → QuietDid m p q
-  quiet_of p q did kept = quiet_nothing m p q (plain_visit m Nothing p q did refl kept.3 (ap (λ held. held.rows) kept.4) (dtls_kept p q kept) tt)
+  quiet_of p q did kept = quiet_nothing m p q (plain_visit m Nothing p q did refl kept.3 (ap (λ held. held.rows) kept.4) (dtls_kept m.association p q kept) tt)
 
   -- an output that tells something, or a moment
   told_did : (call : DtlsCall) (output : DtlsOutput) (d : DtlsState D) (p : PolledPeer I D S M N) (packets : List (List ℕ)) (k : D)
@@ -230,7 +229,7 @@ module _ {I D S M E X T W N : Type 0} (m : Meanings I D S M E X T W N) (laws : P
       (ap (λ (y : DtlsState D). y.instance) kept.1) (ap (λ (y : DtlsState D). y.packets) kept.1 ∙ x.1.1.2)
       (input_did m.association p.core.greatest bytes.now p.core.sctp (Ok tt) q.core.sctp taken.0) kept.0 kept.2)
       refl kept.3 (ap (λ (y : PolledPeer I D S M N). y.core.channels.rows) taken.1)
-      (input_entries m.association (m.association.started p.core.sctp.association) p.core.greatest bytes.now p.core.sctp (Ok tt) q.core.sctp taken.0, ap (λ (y : PolledPeer I D S M N). y.core.channels) taken.1, input_stays m.association (m.association.started p.core.sctp.association) p.core.greatest bytes.now p.core.sctp (Ok tt) q.core.sctp taken.0) tt
+      (input_entries m.association (m.association.started p.core.sctp.association) p.core.greatest bytes.now p.core.sctp (Ok tt) q.core.sctp taken.0, ap (λ (y : PolledPeer I D S M N). y.core.channels) taken.1, input_states m.association (m.association.started p.core.sctp.association) p.core.greatest bytes.now p.core.sctp (Ok tt) q.core.sctp taken.0) tt
   data_acts bytes (Some active) d p (Error Alloc) q h taken =
       let x = h.0 in
       let kept = beside BesideStreams (with_dtls d p) _ q taken.1 (refl, refl, refl, refl) in
@@ -238,7 +237,7 @@ module _ {I D S M E X T W N : Type 0} (m : Meanings I D S M E X T W N) (laws : P
       (data_did bytes.now x.0 x.1.0 d.instance p q x.1.1.0 (dtls_moved-one m.dtls x.1.0 d.instance (Got bytes.now) x.1.1.1)
       (ap (λ (y : DtlsState D). y.instance) kept.1) (ap (λ (y : DtlsState D). y.packets) kept.1 ∙ x.1.1.2)
       (input_did m.association p.core.greatest bytes.now p.core.sctp (Err alloc_error) q.core.sctp taken.0) kept.0 kept.2)
-      refl kept.3 tt (input_entries m.association (m.association.started p.core.sctp.association) p.core.greatest bytes.now p.core.sctp (Err alloc_error) q.core.sctp taken.0, ap (λ (y : PolledPeer I D S M N). y.core.channels) taken.1, input_stays m.association (m.association.started p.core.sctp.association) p.core.greatest bytes.now p.core.sctp (Err alloc_error) q.core.sctp taken.0) tt
+      refl kept.3 tt (input_entries m.association (m.association.started p.core.sctp.association) p.core.greatest bytes.now p.core.sctp (Err alloc_error) q.core.sctp taken.0, ap (λ (y : PolledPeer I D S M N). y.core.channels) taken.1, input_states m.association (m.association.started p.core.sctp.association) p.core.greatest bytes.now p.core.sctp (Err alloc_error) q.core.sctp taken.0) tt
   data_acts bytes (Some active) d p _ q h taken = absurd taken
 
   -- an output that was taken

@@ -19,8 +19,7 @@ use Rattle.rtc_polling.specs.Connection.{with_pushed}
 use Rattle.rtc_polling.specs.StreamStages.{SendsPacket, SendsFirst, left_over}
 use Rattle.rtc_polling_laws.specs.PeerActs.{peer_acts, nothing_came, dtls_moments}
 use Rattle.rtc_polling_laws.specs.Acts.{PeerDid}
-use Rattle.rtc_stream_contents.proofs.RunningPolls.{stay_same}
-use Rattle.rtc_polling_laws.proofs.StreamsJoin.{answer_met, TellsNoOpening}
+use Rattle.rtc_polling_laws.proofs.StreamsJoin.{answer_met, TellsNoOpening, states_by}
 use Rattle.rtc_polling_laws.proofs.VisitActs.{contents_met, MeetsData, KeepsRows, VisitDid, visit_is, plain_visit, still_visit}
 
 pushed_is_left : (packets : List (List ℕ)) → pushed_packets (left_over packets) ≡ packets
@@ -124,7 +123,7 @@ module _ {I D S M E X T W N : Type 0} (m : Meanings I D S M E X T W N) (laws : P
       (sent_did packet rest p q (subst (λ (x : PolledPeer I D S M N). SentActs packet x.core.dtls q.core.dtls) is sent) stood
       (same ∙ ap (λ (x : PolledPeer I D S M N). record x.core.sctp { pushed = left_over rest }) is) (ice ∙ ap (λ (x : PolledPeer I D S M N). x.core.ice) is)
       (media ∙ ap (λ (x : PolledPeer I D S M N). x.core.media) is))) shows (greatest ∙ ap (λ (x : PolledPeer I D S M N). x.core.greatest) is) rows
-      (ap (λ (s : SctpStreams S). s.entries) same ∙ ap (λ (x : PolledPeer I D S M N). x.core.sctp.entries) is, held ∙ ap (λ (x : PolledPeer I D S M N). x.core.channels) is, stay_same p.core.sctp q.core.sctp (ap (λ (s : SctpStreams S). s.state) same ∙ ap (λ (x : PolledPeer I D S M N). x.core.sctp.state) is)) unopened
+      (ap (λ (s : SctpStreams S). s.entries) same ∙ ap (λ (x : PolledPeer I D S M N). x.core.sctp.entries) is, held ∙ ap (λ (x : PolledPeer I D S M N). x.core.channels) is, states_by m.association p.core.sctp (record p.core.sctp { pushed = left_over rest }) q.core.sctp (same ∙ ap (λ (x : PolledPeer I D S M N). record x.core.sctp { pushed = left_over rest }) is) refl refl refl) unopened
 
   sent_or : (packet : List ℕ) (p q : PolledPeer I D S M N)
       → SendsData m.dtls p.core.dtls (can_send m.dtls p.core.dtls) packet (Ok tt) q.core.dtls
@@ -159,7 +158,7 @@ module _ {I D S M E X T W N : Type 0} (m : Meanings I D S M E X T W N) (laws : P
         wrote_is = refl;
         heard_is = refl;
         named = λ n. tt;
-      }) refl refl refl (refl, refl, λ e. e) tt))
+      }) refl refl refl (refl, refl, states_by m.association p.core.sctp (with_pushed None p).core.sctp (with_pushed None p).core.sctp refl refl refl refl) tt))
   sends_visit (Some (packet ∷ rest)) p n Nothing q is stood h =
       still_visit m Nothing Nothing p (with_pushed (Some (packet ∷ rest)) p) q refl
       (h.1 ∙ ap (λ (x : PolledPeer I D S M N). with_pushed (Some (packet ∷ rest)) x) is) (refl, λ held. refl, tt)

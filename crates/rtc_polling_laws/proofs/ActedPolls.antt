@@ -28,8 +28,8 @@ use Rattle.rtc_sctp.specs.Streams.{SctpStreams}
 use Rattle.rtc_stream_uses.specs.UsedCalls.{IsUsedOver}
 use Rattle.rtc_stream_uses.proofs.OpeningEntries.{open_is}
 use Rattle.rtc_stream_contents.specs.RunningStreams.{AreRunning}
-use Rattle.rtc_stream_contents.proofs.RunningPolls.{stay_same}
-use Rattle.rtc_polling_laws.proofs.StreamsJoin.{answer_met, given_on, live_kept, same_given}
+use Rattle.rtc_polling_laws.proofs.ChangedRows.{changed_on, rows_same}
+use Rattle.rtc_polling_laws.proofs.StreamsJoin.{answer_met, given_on, live_kept, same_given, states_same}
 use Rattle.rtc_polling_laws.proofs.VisitActs.{contents_met, EventShows, MeetsData, VisitDid, still_visit, repeats_acts}
 use Rattle.rtc_polling_laws.proofs.ActedVisits.{visits_act}
 
@@ -56,7 +56,7 @@ module _ {I D S M E X T W N : Type 0} (m : Meanings I D S M E X T W N) (laws : P
       → StreamsWent m p (Ok (outputs.Timeout 0)) wrote heard n → StreamsWent m p (Ok (outputs.Timeout moment)) wrote heard q
   went_idle moment p n x q is sctp held wrote heard h = subst (λ (y : PolledPeer I D S M N). StreamsWent m p (Ok (outputs.Timeout moment)) wrote heard y) (sym is) (record {
     uses = λ w v s ws hs k. subst (λ (y : SctpStreams S). IsUsedOver m.association s (ws ++ wrote) (hs ++ heard) y) (sym sctp) (h.uses w v s ws hs k);
-    lives = λ c s g rising k. live_kept c s g n x (ap (λ (y : SctpStreams S). y.entries) sctp, held, stay_same n.core.sctp x.core.sctp (ap (λ (y : SctpStreams S). y.state) sctp)) (h.lives c s g rising k);
+    lives = λ c s g rising k. live_kept m.association c s g n x (ap (λ (y : SctpStreams S). y.entries) sctp, held, states_same m.association n.core.sctp x.core.sctp sctp) (h.lives c s g rising k);
     live_heard = h.live_heard;
     gone = λ c k. subst (λ (y : Channels). IsGone c y) (sym held) (h.gone c k);
     apart = λ k. subst (λ (y : Channels). AreApart y.rows) (sym held) (h.apart k);
@@ -67,6 +67,9 @@ module _ {I D S M E X T W N : Type 0} (m : Meanings I D S M E X T W N) (laws : P
         given_on p.core.channels.given n.core.channels.given x.core.channels.given h.given
         (same_given n.core.channels.given x.core.channels.given (ap (λ (y : Channels). y.given) held));
     fresh = λ s own k. opened_idle moment p n x s own sctp held (h.fresh s own (open_is s own n.core.sctp.entries x.core.sctp.entries (ap (λ (y : SctpStreams S). y.entries) sctp) k));
+    changed =
+        changed_on m.association p.core.channels p.core.sctp n.core.channels n.core.sctp x.core.channels x.core.sctp h.changed
+        (rows_same m.association n.core.channels n.core.sctp x.core.channels x.core.sctp held sctp);
   })
 
   -- what an answer shows is what was met

@@ -35,6 +35,8 @@ use Rattle.rtc_polling.proofs.StreamWork.{poll_none}
 use Rattle.rtc_polling_laws.specs.PeerActs.{nothing_came}
 use Rattle.rtc_polling_laws.specs.Acts.{PeerDid, ArePassed}
 use Rattle.rtc_polling_laws.specs.ChannelStreams.{HasNoRow, IsGone, LeavesLiveChannel, UnlessLacking, OpensByAnswer, TellsByAnswer, TellsMessage, WasOpenInBand, Already, Announced, NoNumber}
+use Rattle.rtc_polling_laws.specs.RowsChanged.{Polled, RowsAnswered, RowsChanged}
+use Rattle.rtc_polling_laws.proofs.ChangedRows.{closed_row, one_changed}
 use Rattle.rtc_polling_laws.proofs.ChannelsOver.{ensured_over, without_over, same_stream, ensured_gone, removed_gone, none_left}
 use Rattle.rtc_polling_laws.proofs.EnsuredRows.{ensured_full, ensured_given, ensured_rows}
 use Rattle.rtc_polling_laws.proofs.StreamsJoin.{answer_met, same_given, unless_map}
@@ -72,6 +74,10 @@ module _ {I D S M E X T W N : Type 0} (m : Meanings I D S M E X T W N) (laws : P
   OpensAnewBy x answer p q =
       UnlessLacking (answer_met x) ((s : ℕ) (own : Option ℕ) → TellsStreamOpen (met_of answer) s → WasOpenInBand s own p (answer_met x) q)
 
+  -- what becomes of the channels
+  abbrev ChangesBy : Met E → Result (Option SctpEvent) AllocError → PolledPeer I D S M N → PolledPeer I D S M N → Type 0
+  ChangesBy x answer p q = UnlessLacking (answer_met x) (RowsAnswered answer p.core.channels q.core.channels)
+
   opened_anew : (x : Met E) (answer : Result (Option SctpEvent) AllocError) (p q : PolledPeer I D S M N) (s : ℕ) (own : Option ℕ)
       → (TellsStreamOpen (met_of answer) s → WasOpenInBand s own p (answer_met x) q)
       → HasOpenInBand s own p.core.sctp.entries ⊎ TellsStreamOpen (met_of answer) s → WasOpenInBand s own p (answer_met x) q
@@ -85,10 +91,10 @@ module _ {I D S M E X T W N : Type 0} (m : Meanings I D S M E X T W N) (laws : P
       → data_met (met_of answer) ≡ passed ++ said → ArePassed p.core.channels passed → MeetsData x q.core.channels said
       → KeepsRows x p.core.channels q.core.channels → (q.core.sctp.entries ≡ streams.entries) × (q.core.sctp.state ≡ streams.state)
       → LeavesUsesBy x answer streams → StaysLiveBy x answer streams p q
-      → KeepsHeld p.core.channels q.core.channels → OpensAnewBy x answer p q
+      → KeepsHeld p.core.channels q.core.channels → OpensAnewBy x answer p q → ChangesBy x answer p q
       → OpensByAnswer m (answer_met x) p did.wrote did.heard q → (GenerationLaws m.association → TellsByAnswer m (answer_met x) did.heard q)
       → PollsStreams m.association p.core.sctp answer streams → VisitDid m p r q
-  polled_visit x r answer streams p q passed said did met is pushed kept none shown over meets rows entries left goes gone anew opens tells polled = visit_is m x r p q met (record {
+  polled_visit x r answer streams p q passed said did met is pushed kept none shown over meets rows entries left goes gone anew rowed opens tells polled = visit_is m x r p q met (record {
     wrote = did.wrote;
     heard = did.heard;
     did =
@@ -119,6 +125,11 @@ module _ {I D S M E X T W N : Type 0} (m : Meanings I D S M E X T W N) (laws : P
           ((s : ℕ) (own : Option ℕ) → HasOpenInBand s own q.core.sctp.entries → WasOpenInBand s own p (answer_met x) q)
           (λ opening s own h.
           opened_anew x answer p q s own (opening s own) (did.fresh s own (open_is s own streams.entries q.core.sctp.entries entries.0 h))) anew;
+      changed =
+          unless_map (answer_met x) (RowsAnswered answer p.core.channels q.core.channels)
+          (RowsChanged m.association p.core.channels p.core.sctp q.core.channels q.core.sctp)
+          (λ after.
+          one_changed m.association p.core.channels p.core.sctp q.core.channels q.core.sctp (Polled answer streams polled after is entries.0 entries.1)) rowed;
       opens = opens;
       tells = tells;
       running = λ w k. (
@@ -135,13 +146,13 @@ module _ {I D S M E X T W N : Type 0} (m : Meanings I D S M E X T W N) (laws : P
       → n.core.sctp.association ≡ streams.association → n.core.sctp.pushed ≡ streams.pushed → BesideStreams p n → contents_met x ≡ []
       → ((held : Channels) → MeetsData x held []) → KeepsRows x p.core.channels n.core.channels → (n.core.sctp.entries ≡ streams.entries) × (n.core.sctp.state ≡ streams.state)
       → LeavesUsesBy x answer streams
-      → StaysLiveBy x answer streams p n → KeepsHeld p.core.channels n.core.channels → OpensAnewBy x answer p n → ((did : PollUses m.association p.core.sctp (met_of answer) streams) → OpensByAnswer m (answer_met x) p did.wrote did.heard n)
+      → StaysLiveBy x answer streams p n → KeepsHeld p.core.channels n.core.channels → OpensAnewBy x answer p n → ChangesBy x answer p n → ((did : PollUses m.association p.core.sctp (met_of answer) streams) → OpensByAnswer m (answer_met x) p did.wrote did.heard n)
       → VisitDid m p r q
-  silent_visit x r answer streams p n q h packets shown met is same pushed kept none meets rows entries left goes gone anew opens =
+  silent_visit x r answer streams p n q h packets shown met is same pushed kept none meets rows entries left goes gone anew rowed opens =
       let did = poll_uses m.association laws.association p.core.sctp answer streams h in
       subst (λ (y : PolledPeer I D S M N). VisitDid m p r y) (sym is)
       (polled_visit x r answer streams p n [] [] did met same
-      (ap pushed_packets pushed ∙ ap (λ l. l ++ pushed_packets streams.pushed) (sym packets) ∙ did.sent_is) kept none shown tt (meets n.core.channels) rows entries left goes gone anew (opens did)
+      (ap pushed_packets pushed ∙ ap (λ l. l ++ pushed_packets streams.pushed) (sym packets) ∙ did.sent_is) kept none shown tt (meets n.core.channels) rows entries left goes gone anew rowed (opens did)
       (λ v. none_told m x n.core.channels did.heard n (meets n.core.channels)) h)
 
   opens_visit : (stream : ℕ) (label : List ℕ) (streams : SctpStreams S) (p : PolledPeer I D S M N) (r : Met E) (q : PolledPeer I D S M N)
@@ -152,16 +163,16 @@ module _ {I D S M E X T W N : Type 0} (m : Meanings I D S M E X T W N) (laws : P
       silent_visit (MetEvent (told.ChannelOpen id text)) (MetEvent (told.ChannelOpen id text)) (Ok (Some (event.Open stream label))) streams p _ q h refl refl refl
       taken.2 refl refl (refl, refl, refl, refl) refl (λ held. refl) tt (refl, refl) (λ s ws hs l. l.left)
       (λ c s g rising over live. (ensured_over stream s c p.core.channels over, live.1)) (λ c k. ensured_gone stream c p.core.channels k, λ k. ensured_apart stream p.core.channels k, ensured_given stream p.core.channels)
-      (λ s own k. Announced (ap (λ (n : ℕ). channel_over n (channel_ensured stream p.core.channels)) (sym k) ∙ taken.1))
+      (λ s own k. Announced (ap (λ (n : ℕ). channel_over n (channel_ensured stream p.core.channels)) (sym k) ∙ taken.1)) refl
       (λ did. record { stream = stream; over = taken.1; running = opening_runs m.association laws.association p.core.sctp stream label streams h; anew = λ c g rising live. (did.lives stream g live.1).0 refl; opened = λ w v ws hs used. (did.leaves v stream ws hs used).opens refl })
   opens_visit stream label streams p Again q h taken =
       silent_visit Again Again (Ok (Some (event.Open stream label))) streams p _ q h refl refl refl taken.1 refl refl (refl, refl, refl, refl) refl
       (λ held. refl) (ensured_rows stream p.core.channels taken.0) (refl, refl) (λ s ws hs l. l.left)
       (λ c s g rising over live. (ensured_over stream s c p.core.channels over, live.1)) (λ c k. ensured_gone stream c p.core.channels k, λ k. ensured_apart stream p.core.channels k, ensured_given stream p.core.channels)
-      (λ s own k. NoNumber (ensured_full stream p.core.channels taken.0)) (λ did. tt)
+      (λ s own k. NoNumber (ensured_full stream p.core.channels taken.0)) refl (λ did. tt)
   opens_visit stream label streams p (Error Alloc) q h taken =
       silent_visit (Error Alloc) (Error Alloc) (Ok (Some (event.Open stream label))) streams p _ q h refl refl refl taken refl refl (refl, refl, refl, refl) refl
-      (λ held. refl) tt (refl, refl) (λ s ws hs l. tt) (λ c s g rising over live. tt) (λ c k. k, λ k. k, same_given p.core.channels.given p.core.channels.given refl) tt (λ did. tt)
+      (λ held. refl) tt (refl, refl) (λ s ws hs l. tt) (λ c s g rising over live. tt) (λ c k. k, λ k. k, same_given p.core.channels.given p.core.channels.given refl) tt tt (λ did. tt)
   opens_visit stream label streams p _ q h taken = absurd taken
 
   -- the row of a channel goes, and another one's stays
@@ -186,20 +197,20 @@ module _ {I D S M E X T W N : Type 0} (m : Meanings I D S M E X T W N) (laws : P
   closes_visit (Some id) stream pending streams p r q is h taken =
       silent_visit (MetEvent (told.ChannelClose id)) r (Ok (Some (event.Close stream pending))) streams p
       (with_channels (removed_channel id pending p.core.channels) (with_sctp streams p)) q h refl refl taken.0 taken.1 refl refl
-      (refl, refl, refl, refl) refl (λ held. refl) tt (refl, refl) (λ s ws hs l. l.left) (closed_live id stream pending streams p is) (λ c k. removed_gone c id pending p.core.channels k, λ k. without_apart id p.core.channels.rows k, same_given p.core.channels.given p.core.channels.given refl) (λ s own k. absurd k) (λ did. tt)
+      (refl, refl, refl, refl) refl (λ held. refl) tt (refl, refl) (λ s ws hs l. l.left) (closed_live id stream pending streams p is) (λ c k. removed_gone c id pending p.core.channels k, λ k. without_apart id p.core.channels.rows k, same_given p.core.channels.given p.core.channels.given refl) (λ s own k. absurd k) (closed_row (channel_over stream p.core.channels) (Some id) pending p.core.channels (removed_channel id pending p.core.channels) is refl) (λ did. tt)
   closes_visit None stream pending streams p r q is h taken =
       silent_visit Again r (Ok (Some (event.Close stream pending))) streams p (with_sctp streams p) q h refl refl taken.0 taken.1 refl refl
-      (refl, refl, refl, refl) refl (λ held. refl) refl (refl, refl) (λ s ws hs l. l.left) (passed_live stream pending streams p is) (λ c k. k, λ k. k, same_given p.core.channels.given p.core.channels.given refl) (λ s own k. absurd k) (λ did. tt)
+      (refl, refl, refl, refl) refl (λ held. refl) refl (refl, refl) (λ s ws hs l. l.left) (passed_live stream pending streams p is) (λ c k. k, λ k. k, same_given p.core.channels.given p.core.channels.given refl) (λ s own k. absurd k) (closed_row (channel_over stream p.core.channels) None pending p.core.channels p.core.channels is (refl, refl)) (λ did. tt)
 
   falls_visit : (id : Option ℕ) (stream : ℕ) (streams : SctpStreams S) (p : PolledPeer I D S M N) (r : Met E) (q : PolledPeer I D S M N)
       → PollsStreams m.association p.core.sctp (Ok (Some (event.BufferedAmountLow stream))) streams
       → FallsChannelOver {I = I} {D = D} {S = S} {M = M} {E = E} {N = N} id (with_sctp streams p) r q → VisitDid m p r q
   falls_visit (Some id) stream streams p r q h taken =
       silent_visit (MetEvent (told.ChannelBufferedAmountLow id)) r (Ok (Some (event.BufferedAmountLow stream))) streams p _ q h refl refl taken.0 taken.1 refl refl
-      (refl, refl, refl, refl) refl (λ held. refl) tt (refl, refl) (λ s ws hs l. l.left) (λ c s g rising over live. (over, live)) (λ c k. k, λ k. k, same_given p.core.channels.given p.core.channels.given refl) (λ s own k. absurd k) (λ did. tt)
+      (refl, refl, refl, refl) refl (λ held. refl) tt (refl, refl) (λ s ws hs l. l.left) (λ c s g rising over live. (over, live)) (λ c k. k, λ k. k, same_given p.core.channels.given p.core.channels.given refl) (λ s own k. absurd k) (refl, refl) (λ did. tt)
   falls_visit None stream streams p r q h taken =
       silent_visit Again r (Ok (Some (event.BufferedAmountLow stream))) streams p _ q h refl refl taken.0 taken.1 refl refl (refl, refl, refl, refl) refl
-      (λ held. refl) refl (refl, refl) (λ s ws hs l. l.left) (λ c s g rising over live. (over, live)) (λ c k. k, λ k. k, same_given p.core.channels.given p.core.channels.given refl) (λ s own k. absurd k) (λ did. tt)
+      (λ held. refl) refl (refl, refl) (λ s ws hs l. l.left) (λ c s g rising over live. (over, live)) (λ c k. k, λ k. k, same_given p.core.channels.given p.core.channels.given refl) (λ s own k. absurd k) (refl, refl) (λ did. tt)
 
   -- the message of a stream that is told was read of it in the generation that it has
   tells_data : (id stream : ℕ) (binary : Bool) (bytes : List ℕ) (streams : SctpStreams S) (p : PolledPeer I D S M N)
@@ -231,13 +242,13 @@ module _ {I D S M E X T W N : Type 0} (m : Meanings I D S M E X T W N) (laws : P
       subst (λ (y : PolledPeer I D S M N). VisitDid m p r y) (sym taken.1)
       (polled_visit (MetEvent (told.ChannelData (record { id = id; binary = binary; bytes = bytes }))) r (Ok (Some (event.Data stream binary bytes))) streams p
       (with_sctp streams p) [] (event.Data stream binary bytes ∷ []) did taken.0 refl did.sent_is (refl, refl, refl, refl) refl refl tt
-      (stream, (refl, is)) tt (refl, refl) (λ s ws hs l. l.left) (λ c s g rising over live. (over, live)) (λ c k. k, λ k. k, same_given p.core.channels.given p.core.channels.given refl) (λ s own k. absurd k) tt
+      (stream, (refl, is)) tt (refl, refl) (λ s ws hs l. l.left) (λ c s g rising over live. (over, live)) (λ c k. k, λ k. k, same_given p.core.channels.given p.core.channels.given refl) (λ s own k. absurd k) (refl, refl) tt
       (λ v. tells_data id stream binary bytes streams p is did v) h)
   hears_visit None stream binary bytes streams p r q is h taken =
       let did = poll_uses m.association laws.association p.core.sctp (Ok (Some (event.Data stream binary bytes))) streams h in
       subst (λ (y : PolledPeer I D S M N). VisitDid m p r y) (sym taken.1)
       (polled_visit Again r (Ok (Some (event.Data stream binary bytes))) streams p (with_sctp streams p) (event.Data stream binary bytes ∷ []) [] did
-      taken.0 refl did.sent_is (refl, refl, refl, refl) refl refl (is, tt) refl refl (refl, refl) (λ s ws hs l. l.left) (λ c s g rising over live. (over, live)) (λ c k. k, λ k. k, same_given p.core.channels.given p.core.channels.given refl) (λ s own k. absurd k) tt (λ v. tt) h)
+      taken.0 refl did.sent_is (refl, refl, refl, refl) refl refl (is, tt) refl refl (refl, refl) (λ s ws hs l. l.left) (λ c s g rising over live. (over, live)) (λ c k. k, λ k. k, same_given p.core.channels.given p.core.channels.given refl) (λ s own k. absurd k) (refl, refl) tt (λ v. tt) h)
 
   -- the association is lost
   lost_visit : (streams : SctpStreams S) (p : PolledPeer I D S M N) (r : Met E) (q : PolledPeer I D S M N)
@@ -247,13 +258,13 @@ module _ {I D S M E X T W N : Type 0} (m : Meanings I D S M E X T W N) (laws : P
       visit_on m laws.association (MetEvent told.Closed) p (with_channels (holds_lost p.core.channels) (with_sctp streams p)) q
       (quiet_nothing m p (with_channels (holds_lost p.core.channels) (with_sctp streams p))
       (silent_visit Nothing Nothing (Ok (Some event.AssociationLost)) streams p (with_channels (holds_lost p.core.channels) (with_sctp streams p)) _ h refl refl
-      refl refl refl refl (refl, refl, refl, refl) refl (λ held. refl) refl (refl, refl) (λ s ws hs l. l.left) (λ c s g rising over live. (over, live)) (λ c k. k, λ k. k, same_given p.core.channels.given p.core.channels.given refl) (λ s own k. absurd k) (λ did. tt)))
+      refl refl refl refl (refl, refl, refl, refl) refl (λ held. refl) refl (refl, refl) (λ s ws hs l. l.left) (λ c s g rising over live. (over, live)) (λ c k. k, λ k. k, same_given p.core.channels.given p.core.channels.given refl) (λ s own k. absurd k) (refl, refl) (λ did. tt)))
       (closing_visit m laws (MetEvent told.Closed) (Ok tt) (with_channels (holds_lost p.core.channels) (with_sctp streams p)) q refl refl tt taken)
   lost_visit streams p (Error error) q h taken =
       visit_on m laws.association (Error error) p (with_channels (holds_lost p.core.channels) (with_sctp streams p)) q
       (quiet_nothing m p (with_channels (holds_lost p.core.channels) (with_sctp streams p))
       (silent_visit Nothing Nothing (Ok (Some event.AssociationLost)) streams p (with_channels (holds_lost p.core.channels) (with_sctp streams p)) _ h refl refl
-      refl refl refl refl (refl, refl, refl, refl) refl (λ held. refl) refl (refl, refl) (λ s ws hs l. l.left) (λ c s g rising over live. (over, live)) (λ c k. k, λ k. k, same_given p.core.channels.given p.core.channels.given refl) (λ s own k. absurd k) (λ did. tt)))
+      refl refl refl refl (refl, refl, refl, refl) refl (λ held. refl) refl (refl, refl) (λ s ws hs l. l.left) (λ c s g rising over live. (over, live)) (λ c k. k, λ k. k, same_given p.core.channels.given p.core.channels.given refl) (λ s own k. absurd k) (refl, refl) (λ did. tt)))
       (closing_visit m laws (Error error) (Err error) (with_channels (holds_lost p.core.channels) (with_sctp streams p)) q refl refl tt taken)
   lost_visit streams p _ q h taken = absurd taken
 
@@ -265,13 +276,13 @@ module _ {I D S M E X T W N : Type 0} (m : Meanings I D S M E X T W N) (laws : P
       subst (λ (y : PolledPeer I D S M N). VisitDid m p r y) (sym taken.1)
       (polled_visit Nothing r (Ok (Some (event.Transmit packets))) streams p (with_pushed (Some packets) (with_sctp streams p)) [] [] did taken.0 refl
       (sym (append-nil packets) ∙ ap (λ (o : Option (List (List ℕ))). packets ++ pushed_packets o) (sym none) ∙ did.sent_is) (refl, refl, refl, refl) refl
-      refl tt refl refl (refl, refl) (λ s ws hs l. l.left) (λ c s g rising over live. (over, live)) (λ c k. k, λ k. k, same_given p.core.channels.given p.core.channels.given refl) (λ s own k. absurd k) tt (λ v. tt) h)
+      refl tt refl refl (refl, refl) (λ s ws hs l. l.left) (λ c s g rising over live. (over, live)) (λ c k. k, λ k. k, same_given p.core.channels.given p.core.channels.given refl) (λ s own k. absurd k) (refl, refl) tt (λ v. tt) h)
   event_visit (event.Open stream label) streams p r q h taken = opens_visit stream label streams p r q h taken
   event_visit (event.Close stream pending) streams p r q h taken =
       closes_visit (channel_over stream p.core.channels) stream pending streams p r q refl h taken
   event_visit (event.StreamResetComplete stream) streams p r q h taken =
       silent_visit Again r (Ok (Some (event.StreamResetComplete stream))) streams p _ q h refl refl taken.0 taken.1 refl refl (refl, refl, refl, refl) refl
-      (λ held. refl) refl (refl, refl) (λ s ws hs l. l.left) (λ c s g rising over live. (over, live)) (λ c k. k, λ k. k, same_given p.core.channels.given p.core.channels.given refl) (λ s own k. absurd k) (λ did. tt)
+      (λ held. refl) refl (refl, refl) (λ s ws hs l. l.left) (λ c s g rising over live. (over, live)) (λ c k. k, λ k. k, same_given p.core.channels.given p.core.channels.given refl) (λ s own k. absurd k) (refl, refl) (λ did. tt)
   event_visit (event.Data stream binary bytes) streams p r q h taken =
       hears_visit (channel_over stream p.core.channels) stream binary bytes streams p r q refl h taken
   event_visit (event.BufferedAmountLow stream) streams p r q h taken =
@@ -281,11 +292,11 @@ module _ {I D S M E X T W N : Type 0} (m : Meanings I D S M E X T W N) (laws : P
   answer_visit : (answer : Result (Option SctpEvent) AllocError) (streams : SctpStreams S) (p : PolledPeer I D S M N) (r : Met E) (q : PolledPeer I D S M N)
       → PollsStreams m.association p.core.sctp answer streams → TakesStreamAnswer m answer (with_sctp streams p) r q → VisitDid m p r q
   answer_visit (Ok None) streams p r q h taken =
-      silent_visit Nothing r (Ok None) streams p _ q h refl refl taken.0 taken.1 refl refl (refl, refl, refl, refl) refl (λ held. refl) refl (refl, refl) (λ s ws hs l. l.left) (λ c s g rising over live. (over, live)) (λ c k. k, λ k. k, same_given p.core.channels.given p.core.channels.given refl) (λ s own k. absurd k) (λ did. tt)
+      silent_visit Nothing r (Ok None) streams p _ q h refl refl taken.0 taken.1 refl refl (refl, refl, refl, refl) refl (λ held. refl) refl (refl, refl) (λ s ws hs l. l.left) (λ c s g rising over live. (over, live)) (λ c k. k, λ k. k, same_given p.core.channels.given p.core.channels.given refl) (λ s own k. absurd k) (refl, refl) (λ did. tt)
   answer_visit (Ok (Some e)) streams p r q h taken = event_visit e streams p r q h taken
   answer_visit (Err error) streams p r q h taken =
       silent_visit (Error Alloc) r (Err error) streams p _ q h refl refl taken.0 taken.1 refl refl (refl, refl, refl, refl) refl (λ held. refl) tt (refl, refl)
-      (λ s ws hs l. tt) (λ c s g rising over live. tt) (λ c k. k, λ k. k, same_given p.core.channels.given p.core.channels.given refl) tt (λ did. tt)
+      (λ s ws hs l. tt) (λ c s g rising over live. tt) (λ c k. k, λ k. k, same_given p.core.channels.given p.core.channels.given refl) tt tt (λ did. tt)
 
   events_act : StageActs m laws.association (PollsStreamEvents m)
   events_act =

@@ -30,9 +30,10 @@ use Rattle.rtc_polling_laws.specs.PeerActs.{nothing_came}
 use Rattle.rtc_polling_laws.specs.Acts.{PeerDid}
 use Rattle.rtc_polling_laws.proofs.ActJoins.{ice_did, dtls_did, media_did, still_did}
 use Rattle.rtc_polling_laws.proofs.ActedClosing.{beside, BesideIce, BesideDtls, BesideMedia, close_acts}
+use Rattle.rtc_polling_laws.proofs.ClosedRows.{close_only, close_rows}
+use Rattle.rtc_polling_laws.specs.RowsChanged.{OnlyActs}
 use Rattle.rtc_stream_contents.proofs.RunningPolls.{stay_same}
-use Rattle.rtc_polling_laws.proofs.ClosedRows.{close_rows}
-use Rattle.rtc_polling_laws.proofs.StreamsJoin.{answer_met, TellsNoOpening, ice_kept, dtls_kept, media_kept}
+use Rattle.rtc_polling_laws.proofs.StreamsJoin.{StatesStay, answer_met, TellsNoOpening, ice_kept, dtls_kept, media_kept}
 use Rattle.rtc_polling_laws.proofs.VisitActs.{contents_met, MeetsData, KeepsRows, VisitDid, ShowsNone, quiet_nothing, visit_is, plain_visit, still_visit}
 use Rattle.rtc_polling_laws.proofs.VisitActs.{keeps_by, visit_on, StageActs}
 
@@ -61,7 +62,7 @@ module _ {I D S M E X T W N : Type 0} (m : Meanings I D S M E X T W N) (laws : P
       (subst (λ (y : PolledPeer I D S M N). VisitDid m p x y) (sym is)
       (plain_visit m x p n
       (subst (λ (l : List (List ℕ)). PeerDid m nothing_came (p.core.greatest ∷ []) l [] [] p n) (sym none) (ice_told event p n polled beside))
-      data_none beside.3 rows (ice_kept p n beside) unopened))
+      data_none beside.3 rows (ice_kept m.association p n beside) unopened))
 
   pub ice_event : (event : Option IceEvent) (ice : I) (p : PolledPeer I D S M N) (r : Met E) (q : PolledPeer I D S M N) → m.ice.polled p.core.ice event ice
       → TakesIceEvent event (with_ice ice p) r q → VisitDid m p r q
@@ -95,13 +96,13 @@ module _ {I D S M E X T W N : Type 0} (m : Meanings I D S M E X T W N) (laws : P
   unfolding GivesDtlsTime
   given_time p Nothing q h =
       let kept = beside BesideDtls p _ q h.1 (refl, refl, refl, refl, refl) in
-      plain_visit m Nothing p q (handed_time p.core.dtls.active (Ok tt) p q h.0 kept) refl kept.3 (ap (λ held. held.rows) kept.4) (dtls_kept p q kept) tt
+      plain_visit m Nothing p q (handed_time p.core.dtls.active (Ok tt) p q h.0 kept) refl kept.3 (ap (λ held. held.rows) kept.4) (dtls_kept m.association p q kept) tt
   given_time p (Error (Dtls cause)) q h =
       let kept = beside BesideDtls p _ q h.2 (refl, refl, refl, refl, refl) in
-      plain_visit m (Error (Dtls cause)) p q (handed_time p.core.dtls.active (Err Fault) p q h.1 kept) refl kept.3 tt (dtls_kept p q kept) tt
+      plain_visit m (Error (Dtls cause)) p q (handed_time p.core.dtls.active (Err Fault) p q h.1 kept) refl kept.3 tt (dtls_kept m.association p q kept) tt
   given_time p (Error Alloc) q h =
       let kept = beside BesideDtls p _ q h.1 (refl, refl, refl, refl, refl) in
-      plain_visit m (Error Alloc) p q (handed_time p.core.dtls.active (Err DtlsAlloc) p q h.0 kept) refl kept.3 tt (dtls_kept p q kept) tt
+      plain_visit m (Error Alloc) p q (handed_time p.core.dtls.active (Err DtlsAlloc) p q h.0 kept) refl kept.3 tt (dtls_kept m.association p q kept) tt
   given_time p _ q h = absurd h
 
   pub times_act : (due : Bool) (p : PolledPeer I D S M N) (r : Met E) (q : PolledPeer I D S M N) → TimesDtlsIf m due p r q → VisitDid m p r q
@@ -120,10 +121,10 @@ module _ {I D S M E X T W N : Type 0} (m : Meanings I D S M E X T W N) (laws : P
   unfolding TakesKeys
   keys_act key profile active p Again q h =
       let kept = beside BesideMedia p _ q h.1 (refl, refl, refl, refl, refl) in
-      plain_visit m Again p q (keyed_did key profile active (Ok tt) p q h.0 kept) refl kept.3 (ap (λ held. held.rows) kept.4) (media_kept p q kept) tt
+      plain_visit m Again p q (keyed_did key profile active (Ok tt) p q h.0 kept) refl kept.3 (ap (λ held. held.rows) kept.4) (media_kept m.association p q kept) tt
   keys_act key profile active p (Error Alloc) q h =
       let kept = beside BesideMedia p _ q h.1 (refl, refl, refl, refl, refl) in
-      plain_visit m (Error Alloc) p q (keyed_did key profile active (Err alloc_error) p q h.0 kept) refl kept.3 tt (media_kept p q kept) tt
+      plain_visit m (Error Alloc) p q (keyed_did key profile active (Err alloc_error) p q h.0 kept) refl kept.3 tt (media_kept m.association p q kept) tt
   keys_act key profile active p _ q h = absurd h
 
   pub cert_acts : (cert : List ℕ) → StageActs m laws.association (ChecksCert {I = I} {D = D} {S = S} {M = M} {E = E} {N = N} cert)
@@ -134,6 +135,10 @@ module _ {I D S M E X T W N : Type 0} (m : Meanings I D S M E X T W N) (laws : P
   cert_acts cert p (Error Alloc) q h = still_visit m (Error Alloc) (Error Alloc) p _ q refl h (shows_error Alloc) ((refl, refl, refl, refl, refl), refl, refl)
   cert_acts cert p _ q h = absurd h
 
+  states_closed : (p q : PolledPeer I D S M N) → q.core.sctp.state ≡ p.core.sctp.state → OnlyActs m.association p.core.sctp q.core.sctp
+      → StatesStay m.association p.core.sctp q.core.sctp
+  states_closed p q same only = record { established = stay_same p.core.sctp q.core.sctp same; only = only }
+
   -- closing, met as an event or an error
   pub closing_visit : (r : Met E) (answer : Result (Unit {0}) RtcError) (p q : PolledPeer I D S M N) → contents_met r ≡ [] → MeetsData r q.core.channels []
       → TellsNoOpening (answer_met r) → ClosesPeer m p answer q → VisitDid m p r q
@@ -142,7 +147,7 @@ module _ {I D S M E X T W N : Type 0} (m : Meanings I D S M E X T W N) (laws : P
       (subst (λ (l : List (List ℕ)). PeerDid m nothing_came (p.core.greatest ∷ []) l [] [] p q) (sym none)
       (close_acts m nothing_came (p.core.greatest ∷ []) laws.association p answer q h)) shows (close_rows m p answer q h).0
       (keeps_by m r p.core.channels q.core.channels (ap (λ held. held.rows) (close_rows m p answer q h).1))
-      ((close_rows m p answer q h).2, (close_rows m p answer q h).1, stay_same p.core.sctp q.core.sctp (close_rows m p answer q h).3) unopened
+      ((close_rows m p answer q h).2, (close_rows m p answer q h).1, states_closed p q (close_rows m p answer q h).3 (close_only m laws.association p answer q h)) unopened
 
   pub close_notify : StageActs m laws.association (TakesCloseNotify m)
   unfolding TakesCloseNotify

@@ -8,7 +8,6 @@ use Rattle.rtc_ice.specs.IceActs.{Taken as IceTaken, ice_moved-one}
 use Rattle.rtc_media.specs.declared.media_error.MediaError.TheVariants.{Alloc as MediaAlloc}
 use Rattle.rtc_media.specs.MediaActs.{MediaTaken, MediaStirred, EventTold, FallibleTold, FeedbackCleared, StirsMedia, media_moved-one}
 use Rattle.rtc_sctp_laws.specs.StreamMessages.{pushed_packets}
-use Rattle.rtc_stream_contents.proofs.RunningPolls.{stay_same}
 use Rattle.rtc_peer_state.specs.declared.rtc_error.RtcError.TheVariants.{Media, Alloc}
 use Rattle.rtc_peer_state.specs.Meanings.{Meanings, PartsLaws}
 use Rattle.rtc_polling.specs.declared.event.Event.TheVariants as told
@@ -31,7 +30,7 @@ use Rattle.rtc_polling_laws.proofs.ActJoins.{ice_did, media_did}
 use Rattle.rtc_polling_laws.proofs.ActedClosing.{beside, BesideIce, BesideMedia}
 use Rattle.rtc_polling_laws.proofs.ActedConnection.{connection_acts}
 use Rattle.rtc_polling_laws.proofs.ActedStreams.{streams_act}
-use Rattle.rtc_polling_laws.proofs.StreamsJoin.{ice_kept, media_kept}
+use Rattle.rtc_polling_laws.proofs.StreamsJoin.{ice_kept, media_kept, states_by}
 use Rattle.rtc_polling_laws.proofs.VisitActs.{VisitDid, plain_visit, still_visit, visit_is, StageActs, else_acts}
 
 module _ {I D S M E X T W N : Type 0} (m : Meanings I D S M E X T W N) (laws : PartsLaws m) where
@@ -53,7 +52,7 @@ module _ {I D S M E X T W N : Type 0} (m : Meanings I D S M E X T W N) (laws : P
   told_acts p Nothing q h = media_still p _ q h.1 (laws.media.event_none p.core.media q.core.media h.0) (refl, refl, refl, refl, refl)
   told_acts p (MetEvent (told.Media event)) q h =
       let kept = beside BesideMedia p _ q h.1 (refl, refl, refl, refl, refl) in
-      plain_visit m (MetEvent (told.Media event)) p q (stirred_did p q (EventTold event h.0) kept) refl kept.3 tt (media_kept p q kept) tt
+      plain_visit m (MetEvent (told.Media event)) p q (stirred_did p q (EventTold event h.0) kept) refl kept.3 tt (media_kept m.association p q kept) tt
   told_acts p _ q h = absurd h
 
   fallible_acts : StageActs m laws.association (TellsFallibleMedia m)
@@ -62,13 +61,13 @@ module _ {I D S M E X T W N : Type 0} (m : Meanings I D S M E X T W N) (laws : P
       media_still p _ q h.1 (laws.media.fallible_none p.core.media q.core.media p.core.greatest h.0) (refl, refl, refl, refl, refl)
   fallible_acts p (MetEvent (told.Media event)) q h =
       let kept = beside BesideMedia p _ q h.1 (refl, refl, refl, refl, refl) in
-      plain_visit m (MetEvent (told.Media event)) p q (stirred_did p q (FallibleTold p.core.greatest (Ok (Some event)) h.0) kept) refl kept.3 tt (media_kept p q kept) tt
+      plain_visit m (MetEvent (told.Media event)) p q (stirred_did p q (FallibleTold p.core.greatest (Ok (Some event)) h.0) kept) refl kept.3 tt (media_kept m.association p q kept) tt
   fallible_acts p (Error (Media cause)) q h =
       let kept = beside BesideMedia p _ q h.2 (refl, refl, refl, refl, refl) in
-      plain_visit m (Error (Media cause)) p q (stirred_did p q (FallibleTold p.core.greatest (Err cause) h.1) kept) refl kept.3 tt (media_kept p q kept) tt
+      plain_visit m (Error (Media cause)) p q (stirred_did p q (FallibleTold p.core.greatest (Err cause) h.1) kept) refl kept.3 tt (media_kept m.association p q kept) tt
   fallible_acts p (Error Alloc) q h =
       let kept = beside BesideMedia p _ q h.1 (refl, refl, refl, refl, refl) in
-      plain_visit m (Error Alloc) p q (stirred_did p q (FallibleTold p.core.greatest (Err MediaAlloc) h.0) kept) refl kept.3 tt (media_kept p q kept) tt
+      plain_visit m (Error Alloc) p q (stirred_did p q (FallibleTold p.core.greatest (Err MediaAlloc) h.0) kept) refl kept.3 tt (media_kept m.association p q kept) tt
   fallible_acts p _ q h = absurd h
 
   -- statistics
@@ -109,7 +108,7 @@ module _ {I D S M E X T W N : Type 0} (m : Meanings I D S M E X T W N) (laws : P
       plain_visit m (Transmit transmit) p q
       (ice_did m nothing_came (p.core.greatest ∷ []) (transmit.contents ∷ []) p q (IceTaken transmit ∷ [])
       (ice_moved-one m.ice p.core.ice q.core.ice (IceTaken transmit) h.0) (among_none []) (among_none (p.core.greatest ∷ []))
-      (among_self (transmit.contents ∷ [])) (ap (λ d. d.instance) kept.0) (ap (λ d. d.packets) kept.0) kept.1 kept.2) refl kept.3 tt (ice_kept p q kept) tt
+      (among_self (transmit.contents ∷ [])) (ap (λ d. d.instance) kept.0) (ap (λ d. d.packets) kept.0) kept.1 kept.2) refl kept.3 tt (ice_kept m.association p q kept) tt
   checks_act p _ q h = absurd h
 
   -- the oldest packet that stands to be shown is shown
@@ -157,7 +156,7 @@ module _ {I D S M E X T W N : Type 0} (m : Meanings I D S M E X T W N) (laws : P
         heard_is = refl;
         named = λ n. tt;
       }) refl (ap (λ (x : PolledPeer I D S M N). x.core.greatest) h.2) tt
-      (ap (λ (x : PolledPeer I D S M N). x.core.sctp.entries) h.2, ap (λ (x : PolledPeer I D S M N). x.core.channels) h.2, stay_same p.core.sctp q.core.sctp (ap (λ (x : PolledPeer I D S M N). x.core.sctp.state) h.2)) tt
+      (ap (λ (x : PolledPeer I D S M N). x.core.sctp.entries) h.2, ap (λ (x : PolledPeer I D S M N). x.core.channels) h.2, states_by m.association p.core.sctp _ q.core.sctp (ap (λ (x : PolledPeer I D S M N). x.core.sctp) h.2) refl refl refl) tt
   packets_act addr p _ q h = absurd h
 
   media_sent : (addr : SendAddr) → StageActs m laws.association (SendsMediaDatagram m addr)
@@ -170,7 +169,7 @@ module _ {I D S M E X T W N : Type 0} (m : Meanings I D S M E X T W N) (laws : P
       (media_did m nothing_came (p.core.greatest ∷ []) (transmit.contents ∷ []) p q (MediaTaken transmit.contents ∷ [])
       (media_moved-one m.media p.core.media q.core.media (MediaTaken transmit.contents) (p.core.greatest, h.1)) (among_none [])
       (among_none (p.core.greatest ∷ [])) (among_self (transmit.contents ∷ [])) kept.0 (ap (λ d. d.instance) kept.1) (ap (λ d. d.packets) kept.1) kept.2)
-      refl kept.3 tt (media_kept p q kept) tt
+      refl kept.3 tt (media_kept m.association p q kept) tt
   media_sent addr p _ q h = absurd h
 
   pair_acts : (addr : Option SendAddr) (p : PolledPeer I D S M N) (r : Met E) (q : PolledPeer I D S M N) → SendsBy m addr p r q → VisitDid m p r q
@@ -179,7 +178,7 @@ module _ {I D S M E X T W N : Type 0} (m : Meanings I D S M E X T W N) (laws : P
   pair_acts None p r q h =
       let kept = beside BesideMedia p _ q h.2 (refl, refl, refl, refl, refl) in
       visit_is m Nothing r p q h.0
-      (plain_visit m Nothing p q (stirred_did p q (FeedbackCleared h.1) kept) refl kept.3 (ap (λ held. held.rows) kept.4) (media_kept p q kept) tt)
+      (plain_visit m Nothing p q (stirred_did p q (FeedbackCleared h.1) kept) refl kept.3 (ap (λ held. held.rows) kept.4) (media_kept m.association p q kept) tt)
 
   datagrams_act : StageActs m laws.association (SendsDatagrams m)
   unfolding SendsDatagrams

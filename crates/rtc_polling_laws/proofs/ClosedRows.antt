@@ -1,5 +1,5 @@
 -- Closing leaves the greatest moment, the channels, and the entries and the state of streams.
-use Rattle.std.proofs.Common.{◌≡◌, Bool, true, false, Result, Ok, Err, refl, ap, ◌∙◌}
+use Rattle.std.proofs.Common.{◌≡◌, Bool, true, false, [], Result, Ok, Err, refl, ap, ◌∙◌}
 use Rattle.rtc_peer_state.specs.declared.phase.Phase.{Phase}
 use Rattle.rtc_peer_state.specs.declared.phase.Phase.TheVariants.{Alive, Closing, Closed}
 use Rattle.rtc_peer_state.specs.declared.rtc_error.RtcError.{RtcError}
@@ -14,7 +14,11 @@ use Rattle.rtc_sctp_values.specs.declared.sctp_error.SctpError.TheVariants as sc
 use Rattle.rtc_sctp.specs.Streams.{SctpStreams}
 use Rattle.rtc_sctp.specs.Calls.{ShutBy, Shuts, is_ended}
 use Rattle.rtc_stream_uses.proofs.CallUses.{shut_entries}
+use Rattle.rtc_association.specs.AssociationLaws.{AssociationLaws}
+use Rattle.rtc_sctp_laws.proofs.CallActs.{shuts_did}
 use Rattle.rtc_polling_laws.proofs.ActedClosing.{beside}
+use Rattle.rtc_polling_laws.proofs.ChangedRows.{no_acts, only_called, only_on}
+use Rattle.rtc_polling_laws.specs.RowsChanged.{OnlyActs}
 
 abbrev pub KeepsChannels : {I D S M N : Type 0} → PolledPeer I D S M N → PolledPeer I D S M N → Type 0
 KeepsChannels p q =
@@ -80,3 +84,57 @@ module _ {I D S M E X T W N : Type 0} (m : Meanings I D S M E X T W N) where
 
   pub close_rows : CallKeepsChannels (ClosesPeer m)
   close_rows p r q h = closes_from p.core.phase p r q h
+
+  -- ---- it acts on the association, by which no event is told
+
+  abbrev CallOnlyActs : Call (PolledPeer I D S M N) → Type 0
+  CallOnlyActs call =
+      (p : PolledPeer I D S M N) (r : Result (Unit {0}) RtcError) (q : PolledPeer I D S M N) → call p r q → OnlyActs m.association p.core.sctp q.core.sctp
+
+  only_still : (p q : PolledPeer I D S M N) → q.core.sctp ≡ p.core.sctp → OnlyActs m.association p.core.sctp q.core.sctp
+  only_still p q is = no_acts m.association p.core.sctp p.core.sctp q.core.sctp is refl refl refl
+
+  media_only : CallOnlyActs (ShutsMedia m)
+  unfolding ShutsMedia
+  media_only p (Ok done) q h = only_still p q (ap (λ (x : PolledPeer I D S M N). x.core.sctp) h.1)
+  media_only p (Err Alloc) q h = only_still p q (ap (λ (x : PolledPeer I D S M N). x.core.sctp) h.1)
+  media_only p (Err _) q h = absurd h
+
+  shuts_only : (p : SctpStreams S) (r : Result (Unit {0}) SctpError) (q : SctpStreams S) → Shuts m.association p r q → OnlyActs m.association p q
+  shuts_only p r q h =
+      only_called m.association [] [] p q (shuts_did m.association p r q h) (shuts_keep p r q h)
+      (shuts_state (is_ended m.association p.association) p r q h)
+
+  streams_only : CallOnlyActs (ShutsStreams m)
+  unfolding ShutsStreams
+  streams_only p (Ok done) q h = shuts_only p.core.sctp _ q.core.sctp h.0
+  streams_only p (Err (Sctp cause)) q h = shuts_only p.core.sctp _ q.core.sctp h.1
+  streams_only p (Err Alloc) q h = shuts_only p.core.sctp _ q.core.sctp h.0
+  streams_only p (Err _) q h = absurd h
+
+  dtls_only : CallOnlyActs (ShutsDtls m)
+  unfolding ShutsDtls
+  dtls_only p (Ok done) q h = only_still p q (ap (λ (x : PolledPeer I D S M N). x.core.sctp) h.1)
+  dtls_only p (Err (Dtls cause)) q h = only_still p q (ap (λ (x : PolledPeer I D S M N). x.core.sctp) h.2)
+  dtls_only p (Err Alloc) q h = only_still p q (ap (λ (x : PolledPeer I D S M N). x.core.sctp) h.1)
+  dtls_only p (Err _) q h = absurd h
+
+  module _ (w : AssociationLaws m.association) where
+    turn_only : (first rest : Call (PolledPeer I D S M N)) → CallOnlyActs first → CallOnlyActs rest → CallOnlyActs (InTurn first rest)
+    turn_only first rest one other p r q (Failed error is h) = one p (Err error) q h
+    turn_only first rest one other p r q (Passed between h k) =
+        only_on m.association w p.core.sctp between.core.sctp q.core.sctp (one p (Ok tt) between h) (other between r q k)
+
+    begins_only : CallOnlyActs (BeginsClosing m)
+    begins_only =
+        turn_only (ShutsMedia m) _ media_only
+        (turn_only (ShutsStreams m) _ streams_only
+        (turn_only (ShutsDtls m) BecomesClosing dtls_only (λ p r q h. only_still p q (ap (λ (x : PolledPeer I D S M N). x.core.sctp) h.1))))
+
+    from_only : (phase : Phase) → CallOnlyActs (ClosesPeerFrom m phase)
+    from_only Alive p r q h = begins_only p r q h
+    from_only Closing p r q h = only_still p q (ap (λ (x : PolledPeer I D S M N). x.core.sctp) h.1)
+    from_only Closed p r q h = only_still p q (ap (λ (x : PolledPeer I D S M N). x.core.sctp) h.1)
+
+    pub close_only : CallOnlyActs (ClosesPeer m)
+    close_only p r q h = from_only p.core.phase p r q h

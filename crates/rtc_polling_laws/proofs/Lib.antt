@@ -14,6 +14,7 @@ pub mod ActWords
 pub mod ActJoins
 pub mod ActedClosing
 pub mod ActedInputs
+pub mod ChangedRows
 pub mod StreamsJoin
 pub mod ChannelsOver
 pub mod UnsharedRows

@@ -1,9 +1,16 @@
 -- What stages of a poll leave of streams and live channels, one after the other.
-use Rattle.std.proofs.Common.{◌≡◌, ◌≤◌, ◌-◌, ◌^◌, ◌++◌, ◌∷◌, inl, ℕ, Bool, Option, List, [], append-nil, append_assoc, Result, Ok, Err, refl, sym, ap, subst, ◌∙◌, arith}
+use Rattle.std.proofs.Common.{◌≡◌, ◌≤◌, ◌-◌, ◌^◌, ◌++◌, ◌∷◌, inl, ℕ, Bool, true, false, Option, List, [], append-nil, append_assoc, Result, Ok, Err, refl, sym, ap, subst, ◌∙◌, arith}
+use Rattle.std.specs.declared.alloc.AllocError.{AllocError}
 use Rattle.rtc_association.specs.AssociationActs.{AssociationAct, Moved}
 use Rattle.rtc_association.specs.AssociationLaws.{AssociationLaws}
+use Rattle.rtc_association.specs.AssociationMeaning.{AssociationMeaning}
 use Rattle.rtc_sctp_entries.specs.declared.stream_entry.StreamEntry.{StreamEntry}
+use Rattle.rtc_sctp.specs.declared.rtc_sctp_state.RtcSctpState.{RtcSctpState}
+use Rattle.rtc_sctp.specs.declared.rtc_sctp_state.RtcSctpState.TheVariants.{Uninited, AwaitRemoteAssociation, AwaitAssociationEstablished, Established}
+use Rattle.rtc_sctp.specs.Streams.{SctpStreams, is_established}
+use Rattle.rtc_sctp.specs.Calls.{InputIf, state_on_input}
 use Rattle.rtc_sctp_laws.specs.StreamMessages.{StreamMessage}
+use Rattle.rtc_sctp_laws.proofs.ActLemmas.{given_did}
 use Rattle.rtc_sctp_laws.proofs.ClosingPolls.{started_moved}
 use Rattle.rtc_stream_uses.specs.GenerationLaws.{GenerationLaws}
 use Rattle.rtc_stream_uses.specs.StreamUses.{HasOpenInBand, WereOpened, entries_of, messages_of, IsUsed}
@@ -13,7 +20,7 @@ use Rattle.rtc_stream_uses.proofs.LivingEntries.{live_is, are_join}
 use Rattle.rtc_stream_uses.proofs.OpeningEntries.{open_is}
 use Rattle.rtc_stream_contents.specs.Contents.{contents_of}
 use Rattle.rtc_stream_contents.proofs.ContentLemmas.{contents-append}
-use Rattle.rtc_stream_contents.proofs.RunningPolls.{StayEstablished, stay_same}
+use Rattle.rtc_stream_contents.proofs.RunningPolls.{StayEstablished, input_stays, stay_same}
 use Rattle.rtc_channels.specs.Channels.{AreRising, Channel, Channels}
 use Rattle.rtc_peer_state.specs.declared.rtc_error.RtcError.{RtcError}
 use Rattle.rtc_peer_state.specs.declared.rtc_error.RtcError.TheVariants.{Alloc}
@@ -26,8 +33,10 @@ use Rattle.rtc_polling.specs.declared.output.Output.{Output}
 use Rattle.rtc_polling.specs.declared.output.Output.TheVariants as outputs
 use Rattle.rtc_polling.specs.declared.polled_peer.PolledPeer.{PolledPeer}
 use Rattle.rtc_polling.specs.StreamStages.{channel_over}
+use Rattle.rtc_polling_laws.proofs.ChangedRows.{changed_on, no_acts, rows_stay}
 use Rattle.rtc_polling_laws.proofs.UnsharedRows.{AreApart}
 use Rattle.rtc_polling_laws.proofs.ActedClosing.{BesideIce, BesideDtls, BesideMedia}
+use Rattle.rtc_polling_laws.specs.RowsChanged.{OnlyActs, RowsChanged}
 use Rattle.rtc_polling_laws.specs.ChannelStreams.{IsGone, IsLiveChannel, LeavesLiveBy, LeavesLiveChannel, UnlessLacking, IsUsedStream, OpensByAnswer, TellsByAnswer, StreamsWent, WasOpenInBand, Already, Announced, NoNumber}
 
 -- what is met, as a poll answers it
@@ -43,19 +52,65 @@ abbrev pub TellsNoOpening : {E : Type 0} → Result (Output E) RtcError → Type
 TellsNoOpening (Ok (outputs.Event (ChannelOpen id label))) = ⊥
 TellsNoOpening answer = Unit {0}
 
+-- an association that was established stays so, and acts were done to it by which no event was told
+pub record StatesStay {S : Type 0} (m : AssociationMeaning S) (p q : SctpStreams S) : Type 0 where
+  pub established : StayEstablished p q
+  pub only : OnlyActs m p q
+
+pub states_by : {S : Type 0} (m : AssociationMeaning S) (p n q : SctpStreams S) → q ≡ n → n.association ≡ p.association → n.entries ≡ p.entries
+    → n.state ≡ p.state → StatesStay m p q
+states_by {S} m p n q is association entries state = record {
+  established = stay_same p q (ap (λ (x : SctpStreams S). x.state) is ∙ state);
+  only = no_acts m p n q is association entries state;
+}
+
+pub states_same : {S : Type 0} (m : AssociationMeaning S) (p q : SctpStreams S) → q ≡ p → StatesStay m p q
+states_same m p q same = states_by m p p q same refl refl refl
+
+-- a packet of the other end begins nothing, and establishes nothing
+input_uninited : (state : RtcSctpState) → state_on_input state ≡ Uninited → state ≡ Uninited
+input_uninited Uninited e = refl
+input_uninited AwaitRemoteAssociation e = absurd (let k : AwaitAssociationEstablished ≡ Uninited = e in cc)
+input_uninited AwaitAssociationEstablished e = e
+input_uninited Established e = e
+
+input_established : (state : RtcSctpState) → is_established (state_on_input state) ≡ true → is_established state ≡ true
+input_established Uninited e = e
+input_established AwaitRemoteAssociation e = e
+input_established AwaitAssociationEstablished e = e
+input_established Established e = e
+
+pub input_states : {S : Type 0} (m : AssociationMeaning S) (started : Bool) (now : ℕ) (bytes : List ℕ) (p : SctpStreams S)
+    (r : Result (Unit {0}) AllocError) (q : SctpStreams S) → InputIf m started now bytes p r q → StatesStay m p q
+input_states m false now bytes p r q h = states_same m p q h.1
+input_states {S} m true now bytes p r q h =
+    let state : q.state ≡ state_on_input p.state = ap (λ (x : SctpStreams S). x.state) h.1 in
+    let did = given_did m p.association q.association now bytes r h.0 in
+    record {
+      established = input_stays m true now bytes p r q h;
+      only = record {
+        acts = did.acts;
+        went = did.went;
+        untold = did.told_is;
+        entries = ap (λ (x : SctpStreams S). x.entries) h.1;
+        begun = λ e. input_uninited p.state (sym state ∙ e);
+        lasts = λ e. inl (input_established p.state (ap is_established (sym state) ∙ e));
+      };
+    }
+
 -- the entries of streams stay, and so do the channels; what was established is
-abbrev pub KeepsStreams : {I D S M N : Type 0} → PolledPeer I D S M N → PolledPeer I D S M N → Type 0
-KeepsStreams p q =
-    (q.core.sctp.entries ≡ p.core.sctp.entries) × (q.core.channels ≡ p.core.channels) × StayEstablished p.core.sctp q.core.sctp
+abbrev pub KeepsStreams : {I D S M N : Type 0} → AssociationMeaning S → PolledPeer I D S M N → PolledPeer I D S M N → Type 0
+KeepsStreams m p q =
+    (q.core.sctp.entries ≡ p.core.sctp.entries) × (q.core.channels ≡ p.core.channels) × StatesStay m p.core.sctp q.core.sctp
 
-pub ice_kept : {I D S M N : Type 0} (p q : PolledPeer I D S M N) → BesideIce p q → KeepsStreams p q
-ice_kept p q kept = (ap (λ s. s.entries) kept.1, kept.4, stay_same p.core.sctp q.core.sctp (ap (λ s. s.state) kept.1))
+pub ice_kept : {I D S M N : Type 0} (m : AssociationMeaning S) (p q : PolledPeer I D S M N) → BesideIce p q → KeepsStreams m p q
+ice_kept m p q kept = (ap (λ s. s.entries) kept.1, kept.4, states_same m p.core.sctp q.core.sctp kept.1)
 
-pub dtls_kept : {I D S M N : Type 0} (p q : PolledPeer I D S M N) → BesideDtls p q → KeepsStreams p q
-dtls_kept p q kept = (ap (λ s. s.entries) kept.1, kept.4, stay_same p.core.sctp q.core.sctp (ap (λ s. s.state) kept.1))
+pub dtls_kept : {I D S M N : Type 0} (m : AssociationMeaning S) (p q : PolledPeer I D S M N) → BesideDtls p q → KeepsStreams m p q
+dtls_kept m p q kept = (ap (λ s. s.entries) kept.1, kept.4, states_same m p.core.sctp q.core.sctp kept.1)
 
-pub media_kept : {I D S M N : Type 0} (p q : PolledPeer I D S M N) → BesideMedia p q → KeepsStreams p q
-media_kept p q kept = (ap (λ s. s.entries) kept.2, kept.4, stay_same p.core.sctp q.core.sctp (ap (λ s. s.state) kept.2))
+pub media_kept : {I D S M N : Type 0} (m : AssociationMeaning S) (p q : PolledPeer I D S M N) → BesideMedia p q → KeepsStreams m p q
+media_kept m p q kept = (ap (λ s. s.entries) kept.2, kept.4, states_same m p.core.sctp q.core.sctp kept.2)
 
 pub unless_of : {E : Type 0} (answer : Result (Output E) RtcError) (T : Type 0) → T → UnlessLacking answer T
 unless_of (Ok output) T h = h
@@ -87,8 +142,9 @@ leaves_live (Err Alloc) c s g q h = tt
 leaves_live (Err error) c s g q h = h
 
 -- a live channel, over the same entries and channels
-pub live_kept : {I D S M N : Type 0} (c s g : ℕ) (p q : PolledPeer I D S M N) → KeepsStreams p q → IsLiveChannel c s g p → IsLiveChannel c s g q
-live_kept c s g p q kept h =
+pub live_kept : {I D S M N : Type 0} (m : AssociationMeaning S) (c s g : ℕ) (p q : PolledPeer I D S M N) → KeepsStreams m p q
+    → IsLiveChannel c s g p → IsLiveChannel c s g q
+live_kept m c s g p q kept h =
     (ap (λ (held : Channels). channel_over s held) kept.1 ∙ h.0, live_is s g p.core.sctp.entries q.core.sctp.entries kept.0 h.1)
 
 module _ {I D S M E X T W N : Type 0} (m : Meanings I D S M E X T W N) where
@@ -102,7 +158,7 @@ module _ {I D S M E X T W N : Type 0} (m : Meanings I D S M E X T W N) where
 
   -- acts by which no message was written or read
   pub streams_stay : (answer : Result (Output E) RtcError) (p q : PolledPeer I D S M N) (acts : List AssociationAct)
-      → Moved m.association p.core.sctp.association acts q.core.sctp.association → KeepsStreams p q → TellsNoOpening answer
+      → Moved m.association p.core.sctp.association acts q.core.sctp.association → KeepsStreams m.association p q → TellsNoOpening answer
       → TellsByAnswer m answer [] q → StreamsWent m p answer [] [] q
   streams_stay answer p q acts went kept none tells = record {
     uses = λ w v s ws hs h.
@@ -111,17 +167,20 @@ module _ {I D S M E X T W N : Type 0} (m : Meanings I D S M E X T W N) where
         unless_of answer (IsUsedStream m s (ws ++ []) (hs ++ []) q)
         (subst (λ (l : List StreamMessage). IsUsedStream m s l (hs ++ []) q) (sym (append-nil ws))
         (subst (λ (l : List StreamMessage). IsUsedStream m s ws l q) (sym (append-nil hs)) over));
-    lives = λ c s g rising h. leaves_live answer c s g q (live_kept c s g p q kept h);
+    lives = λ c s g rising h. leaves_live answer c s g q (live_kept m.association c s g p q kept h);
     live_heard = λ c s g rising h. refl;
     gone = λ c h. subst (λ (held : Channels). IsGone c held) (sym kept.1) h;
     apart = λ h. subst (λ (held : Channels). AreApart held.rows) (sym kept.1) h;
     opens = opens_none answer p [] [] q none;
     tells = λ v. tells;
-    running = λ w k. (started_moved m.association w acts p.core.sctp.association q.core.sctp.association k.0 went, kept.2 k.1);
+    running = λ w k. (started_moved m.association w acts p.core.sctp.association q.core.sctp.association k.0 went, kept.2.established k.1);
     given = same_given p.core.channels.given q.core.channels.given (ap (λ (held : Channels). held.given) kept.1);
     fresh =
         unless_of answer ((s : ℕ) (own : Option ℕ) → HasOpenInBand s own q.core.sctp.entries → WasOpenInBand s own p answer q)
         (λ s own h. Already (open_is s own p.core.sctp.entries q.core.sctp.entries kept.0 h));
+    changed =
+        unless_of answer (RowsChanged m.association p.core.channels p.core.sctp q.core.channels q.core.sctp)
+        (rows_stay m.association p.core.channels p.core.sctp q.core.channels q.core.sctp kept.1 kept.2.only);
   }
 
   -- what was open behind a stage that told nothing
@@ -206,6 +265,11 @@ module _ {I D S M E X T W N : Type 0} (m : Meanings I D S M E X T W N) where
         unless_map answer ((s : ℕ) (own : Option ℕ) → HasOpenInBand s own q.core.sctp.entries → WasOpenInBand s own b answer q)
         ((s : ℕ) (own : Option ℕ) → HasOpenInBand s own q.core.sctp.entries → WasOpenInBand s own p answer q)
         (λ after s own h. open_through answer moment p b q s own y.given (x.fresh s own) (after s own h)) y.fresh;
+    changed =
+        unless_map answer (RowsChanged m.association b.core.channels b.core.sctp q.core.channels q.core.sctp)
+        (RowsChanged m.association p.core.channels p.core.sctp q.core.channels q.core.sctp)
+        (λ after.
+        changed_on m.association p.core.channels p.core.sctp b.core.channels b.core.sctp q.core.channels q.core.sctp x.changed after) y.changed;
   }
     where
       rising_kept : AreRising 0 p.core.channels.rows → AreRising 0 b.core.channels.rows

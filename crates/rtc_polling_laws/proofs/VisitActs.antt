@@ -5,7 +5,6 @@ use Rattle.rtc_sctp_entries.specs.declared.sctp_event.SctpEvent.{SctpEvent}
 use Rattle.rtc_sctp_entries.specs.declared.sctp_event.SctpEvent.TheVariants as event
 use Rattle.rtc_sctp_laws.specs.StreamMessages.{StreamMessage, are_dcep, shown_messages}
 use Rattle.rtc_sctp_laws.proofs.MessageLemmas.{dcep_join, shown-append}
-use Rattle.rtc_stream_contents.proofs.RunningPolls.{stay_same}
 use Rattle.rtc_channels.specs.Channels.{Channel, Channels}
 use Rattle.rtc_peer_state.specs.Meanings.{Meanings}
 use Rattle.rtc_polling.specs.declared.event.Event.{Event}
@@ -20,7 +19,7 @@ use Rattle.rtc_polling_laws.specs.PeerActs.{nothing_came}
 use Rattle.rtc_polling_laws.specs.Acts.{PeerDid, ArePassed}
 use Rattle.rtc_polling_laws.specs.ChannelStreams.{StreamsWent, TellsByAnswer}
 use Rattle.rtc_polling_laws.proofs.ActJoins.{SameParts, still_did, did_on}
-use Rattle.rtc_polling_laws.proofs.StreamsJoin.{answer_met, TellsNoOpening, KeepsStreams, streams_stay, streams_on}
+use Rattle.rtc_polling_laws.proofs.StreamsJoin.{answer_met, TellsNoOpening, KeepsStreams, states_same, streams_stay, streams_on}
 
 -- the contents of the datagram that is met
 abbrev pub contents_met : {E : Type 0} → Met E → List (List ℕ)
@@ -123,7 +122,7 @@ module _ {I D S M E X T W N : Type 0} (m : Meanings I D S M E X T W N) where
     data_passed = passed_all p h.heard h.passed h.told h.data_is h.meets h.passed_over;
     greatest = h.greatest;
     rows = h.rows;
-    streams = record { uses = h.streams.uses; lives = h.streams.lives; live_heard = h.streams.live_heard; gone = h.streams.gone; apart = h.streams.apart; opens = tt; tells = λ v. tt; running = h.streams.running; given = h.streams.given; fresh = h.streams.fresh };
+    streams = record { uses = h.streams.uses; lives = h.streams.lives; live_heard = h.streams.live_heard; gone = h.streams.gone; apart = h.streams.apart; opens = tt; tells = λ v. tt; running = h.streams.running; given = h.streams.given; fresh = h.streams.fresh; changed = h.streams.changed };
   }
 
   pub quiet_again : (p q : PolledPeer I D S M N) → VisitDid p Again q → QuietDid p q
@@ -135,7 +134,7 @@ module _ {I D S M E X T W N : Type 0} (m : Meanings I D S M E X T W N) where
     data_passed = passed_all p h.heard h.passed h.told h.data_is h.meets h.passed_over;
     greatest = h.greatest;
     rows = h.rows;
-    streams = record { uses = h.streams.uses; lives = h.streams.lives; live_heard = h.streams.live_heard; gone = h.streams.gone; apart = h.streams.apart; opens = tt; tells = λ v. tt; running = h.streams.running; given = h.streams.given; fresh = h.streams.fresh };
+    streams = record { uses = h.streams.uses; lives = h.streams.lives; live_heard = h.streams.live_heard; gone = h.streams.gone; apart = h.streams.apart; opens = tt; tells = λ v. tt; running = h.streams.running; given = h.streams.given; fresh = h.streams.fresh; changed = h.streams.changed };
   }
 
   pub quiet_none : (p : PolledPeer I D S M N) → QuietDid p p
@@ -147,7 +146,7 @@ module _ {I D S M E X T W N : Type 0} (m : Meanings I D S M E X T W N) where
     data_passed = tt;
     greatest = refl;
     rows = refl;
-    streams = streams_stay m (Ok (outputs.Timeout 0)) p p [] refl (refl, refl, λ e. e) tt tt;
+    streams = streams_stay m (Ok (outputs.Timeout 0)) p p [] refl (refl, refl, states_same m.association p.core.sctp p.core.sctp refl) tt tt;
   }
 
   -- what is met shows no message of a channel
@@ -166,7 +165,7 @@ module _ {I D S M E X T W N : Type 0} (m : Meanings I D S M E X T W N) where
 
   -- acts by which no message was written or read
   pub plain_visit : (r : Met E) (p q : PolledPeer I D S M N) → PeerDid m nothing_came (p.core.greatest ∷ []) (contents_met r) [] [] p q
-      → MeetsData r q.core.channels [] → q.core.greatest ≡ p.core.greatest → KeepsRows r p.core.channels q.core.channels → KeepsStreams p q
+      → MeetsData r q.core.channels [] → q.core.greatest ≡ p.core.greatest → KeepsRows r p.core.channels q.core.channels → KeepsStreams m.association p q
       → TellsNoOpening (answer_met r) → VisitDid p r q
   plain_visit r p q did meets greatest rows kept unopened = record {
     wrote = [];
@@ -204,7 +203,7 @@ module _ {I D S M E X T W N : Type 0} (m : Meanings I D S M E X T W N) where
       (subst (λ (y : PolledPeer I D S M N). VisitDid p x y) (sym is)
       (plain_visit x p n
       (subst (λ (l : List (List ℕ)). PeerDid m nothing_came (p.core.greatest ∷ []) l [] [] p n) (sym none.0)
-      (still_did m nothing_came (p.core.greatest ∷ []) p n same.0)) (none.1 n.core.channels) same.1 (keeps_by x p.core.channels n.core.channels (ap (λ held. held.rows) same.2)) (ap (λ s. s.entries) same.0.3, same.2, stay_same p.core.sctp n.core.sctp (ap (λ s. s.state) same.0.3)) none.2))
+      (still_did m nothing_came (p.core.greatest ∷ []) p n same.0)) (none.1 n.core.channels) same.1 (keeps_by x p.core.channels n.core.channels (ap (λ held. held.rows) same.2)) (ap (λ s. s.entries) same.0.3, same.2, states_same m.association p.core.sctp n.core.sctp same.0.3) none.2))
 
   module _ (laws : AssociationLaws m.association) where
     pub visit_on : (r : Met E) (p b q : PolledPeer I D S M N) → QuietDid p b → VisitDid b r q → VisitDid p r q

@@ -35,8 +35,8 @@ pub fn wakes_are_not_past<I: IceAgent, D: DtlsInstance, S: Association, M: Media
 {}
 
 /// Once a peer that is not closed answered a timeout, and no packet stands to be sent, its association gives nothing more, and each
-/// stream in use waits to be opened, or has the generation that its entry keeps, is not to be closed, and every whole message of its
-/// generation was read.
+/// stream in use waits to be opened, which is refused for now and tried again, for less than ten seconds since the first refusal; or it
+/// was opened, has the generation that its entry keeps, is not to be closed, and every whole message of its generation was read.
 pub fn drained_peers_have_heard<
     I: IceAgent,
     D: DtlsInstance,

@@ -1,7 +1,11 @@
 use Rattle.rtc_channel_runs.proofs.DrainedRuns.{new_unused}
 use Rattle.rtc_channel_runs.proofs.RunsTold.{new_pair_told}
-use Rattle.rtc_channel_runs.proofs.SettledRuns.{run_settles_open, settled_answered, settled_open}
+use Rattle.rtc_channel_runs.proofs.SettledRuns.{run_settles_open, settled_answered, settled_confirmed, settled_idle, settled_later, settled_level, settled_open, settled_refused}
 use Rattle.rtc_channel_runs.proofs.settling.settled_pairs_have_open_channels.Goals as goal
+
+pub returns-clause-level : goal.returns-clause-level
+returns-clause-level g c = λ stun start pair past new ran settled at s.
+    settled_level g.N.Ids.ids stun start past pair ran (new_pair_told g.N.Ids.ids start new) (new_unused g.N.Ids.ids start new) settled at s
 
 pub returns-clause-reached : goal.returns-clause-reached
 returns-clause-reached g c = λ stun start pair past new ran settled at.
@@ -9,7 +13,23 @@ returns-clause-reached g c = λ stun start pair past new ran settled at.
 
 pub returns-clause-answered : goal.returns-clause-answered
 returns-clause-answered g c = λ stun start pair past new ran settled at.
-    settled_answered g.N.Ids.ids stun start past pair ran (new_pair_told g.N.Ids.ids start new) (new_unused g.N.Ids.ids start new) settled at
+    settled_answered g.N.Ids.ids stun start past pair ran (new_pair_told g.N.Ids.ids start new) (new_unused g.N.Ids.ids start new) settled new at
+
+pub returns-clause-idle : goal.returns-clause-idle
+returns-clause-idle g c = λ stun start pair past new ran settled at later.
+    settled_idle g.N.Ids.ids stun start past pair ran (new_pair_told g.N.Ids.ids start new) (new_unused g.N.Ids.ids start new) settled at later
+
+pub returns-clause-refused : goal.returns-clause-refused
+returns-clause-refused g c = λ stun start pair past new ran settled at idle.
+    settled_refused g.N.Ids.ids stun start past pair ran (new_pair_told g.N.Ids.ids start new) (new_unused g.N.Ids.ids start new) settled new at idle
+
+pub returns-clause-confirmed : goal.returns-clause-confirmed
+returns-clause-confirmed g c = λ stun start pair past new ran settled still at.
+    settled_confirmed g.N.Ids.ids stun start past pair ran (new_pair_told g.N.Ids.ids start new) (new_unused g.N.Ids.ids start new) settled new still at
+
+pub returns-clause-later : goal.returns-clause-later
+returns-clause-later g c = λ stun start pair past new ran settled soon at.
+    settled_later g.N.Ids.ids stun start past pair ran (new_pair_told g.N.Ids.ids start new) (new_unused g.N.Ids.ids start new) settled new soon at
 
 pub returns-clause-ran : goal.returns-clause-ran
 returns-clause-ran g c = λ stun start pair steps replies new run. run_settles_open g.N.Ids.ids stun start pair steps replies new run
