@@ -1,8 +1,9 @@
 //! The open streams of two peers in one process.
 use rtc_assoc_end::PlainAssociation;
+use rtc_association::Association;
 use rtc_sctp::{RtcSctp, SctpError, SctpEvent};
 use rtc_wire::{Bytes, ChannelConfig, Moment, Seq};
-use std::alloc::Global;
+use std::alloc::{AllocError, Global};
 
 const MTU: usize = 1200;
 
@@ -10,30 +11,30 @@ const LONGEST: u32 = 262_144;
 
 /// The streams of a client, the left side, and of its server, between which every packet arrives.
 #[derive(Drop)]
-pub struct OpenStreams {
+pub struct OpenStreams<S> {
     alloc: Global,
-    left: RtcSctp<PlainAssociation>,
-    right: RtcSctp<PlainAssociation>,
+    left: RtcSctp<S>,
+    right: RtcSctp<S>,
 }
 
-impl OpenStreams {
-    /// Two sides that are connected.
-    pub fn connected(alloc: Global) -> Result<OpenStreams, SctpError> {
-        let mut streams = OpenStreams {
-            alloc,
-            left: unstarted(alloc),
-            right: unstarted(alloc),
-        };
-        streams.left.init(true, Moment::FAR_PAST, None, None)?;
-        streams.right.init(false, Moment::FAR_PAST, None, None)?;
-        streams.exchange()?;
-        Ok(streams)
+impl<S: Association> OpenStreams<S> {
+    /// Two sides that are not started.
+    pub fn new(alloc: Global, left: RtcSctp<S>, right: RtcSctp<S>) -> OpenStreams<S> {
+        OpenStreams { alloc, left, right }
+    }
+
+    /// Connects both.
+    pub fn connect(&mut self) -> Result<usize, SctpError> {
+        self.left.init(true, Moment::FAR_PAST, None, None)?;
+        self.right.init(false, Moment::FAR_PAST, None, None)?;
+        self.exchange()
     }
 
     /// Asks for a stream at both sides, which settled it by other means.
     pub fn settle(&mut self, id: u16) -> Result<(), SctpError> {
         settle(self.alloc, &mut self.left, id)?;
-        settle(self.alloc, &mut self.right, id)
+        settle(self.alloc, &mut self.right, id)?;
+        Ok(())
     }
 
     /// Opens so many streams at both sides, the last one first: a poll visits the streams in order, and so finds the one to
@@ -43,9 +44,8 @@ impl OpenStreams {
         for k in 0..streams {
             let id = streams - 1 - k;
             self.settle(id)?;
-            let left = self.left.do_poll()?;
-            let right = self.right.do_poll()?;
-            if is_open_event(&left) && is_open_event(&right) {
+            let left = opens(&mut self.left)?;
+            if opens(&mut self.right)? & left {
                 count = count.saturating_add(1);
             }
         }
@@ -56,7 +56,7 @@ impl OpenStreams {
     pub fn poll_left(&mut self, polls: u32) -> Result<usize, SctpError> {
         let mut count = 0usize;
         for _ in 0..polls {
-            if self.left.do_poll()?.is_some() {
+            if tells(&mut self.left)? {
                 count = count.saturating_add(1);
             }
         }
@@ -80,7 +80,8 @@ impl OpenStreams {
     }
 }
 
-fn unstarted(alloc: Global) -> RtcSctp<PlainAssociation> {
+/// The streams of a side that is not started.
+pub fn unstarted(alloc: Global) -> RtcSctp<PlainAssociation> {
     RtcSctp::new(
         alloc,
         MTU,
@@ -90,7 +91,7 @@ fn unstarted(alloc: Global) -> RtcSctp<PlainAssociation> {
     )
 }
 
-fn settle(alloc: Global, side: &mut RtcSctp<PlainAssociation>, id: u16) -> Result<(), SctpError> {
+fn settle<S: Association>(alloc: Global, side: &mut RtcSctp<S>, id: u16) -> Result<(), AllocError> {
     let mut config = ChannelConfig::new(alloc);
     config.negotiated = Some(id);
     if config.label.as_str().is_empty() && config.protocol.as_str().is_empty() {
@@ -106,25 +107,54 @@ fn is_open_event(event: &Option<SctpEvent>) -> bool {
     }
 }
 
+// Whether the next poll tells that a stream is open.
+fn opens<S: Association>(side: &mut RtcSctp<S>) -> Result<bool, AllocError> {
+    let told = side.do_poll()?;
+    Ok(is_open_event(&told))
+}
+
+// Whether the next poll gives something.
+fn tells<S: Association>(side: &mut RtcSctp<S>) -> Result<bool, AllocError> {
+    let told = side.do_poll()?;
+    Ok(told.is_some())
+}
+
+// Hands on what a side gave. It answers how many events that was, and None where it gave nothing.
+fn hand_on<S: Association>(
+    given: &Option<SctpEvent>,
+    to: &mut RtcSctp<S>,
+) -> Result<Option<usize>, AllocError> {
+    match given {
+        Some(SctpEvent::Transmit { packets }) => {
+            deliver(packets, to)?;
+            Ok(Some(0))
+        }
+        Some(_) => Ok(Some(1)),
+        None => Ok(None),
+    }
+}
+
+fn carry_one<S: Association>(
+    from: &mut RtcSctp<S>,
+    to: &mut RtcSctp<S>,
+) -> Result<Option<usize>, AllocError> {
+    let given = from.do_poll()?;
+    hand_on(&given, to)
+}
+
 /// Polls one side to its end, and hands its packets to the other one. It answers how many events were told.
-fn carry(
-    from: &mut RtcSctp<PlainAssociation>,
-    to: &mut RtcSctp<PlainAssociation>,
-) -> Result<usize, SctpError> {
+fn carry<S: Association>(from: &mut RtcSctp<S>, to: &mut RtcSctp<S>) -> Result<usize, AllocError> {
     let mut count = 0usize;
     for _ in 0..u32::MAX {
-        let Some(event) = from.do_poll()? else {
-            break;
-        };
-        match &event {
-            SctpEvent::Transmit { packets } => deliver(packets, to)?,
-            _ => count = count.saturating_add(1),
+        match carry_one(from, to)? {
+            Some(told) => count = count.saturating_add(told),
+            None => break,
         }
     }
     Ok(count)
 }
 
-fn deliver(packets: &Seq<Bytes>, to: &mut RtcSctp<PlainAssociation>) -> Result<(), SctpError> {
+fn deliver<S: Association>(packets: &Seq<Bytes>, to: &mut RtcSctp<S>) -> Result<(), AllocError> {
     for packet in packets.as_slice() {
         to.handle_input(Moment::FAR_PAST, packet.as_slice())?;
     }

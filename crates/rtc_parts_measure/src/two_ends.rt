@@ -1,29 +1,40 @@
 //! Two ends in one process.
-use rtc_assoc_end::PlainAssociation;
 use rtc_association::{AssocError, Association, Ppi};
-use rtc_wire::Moment;
+use rtc_wire::{Bytes, Moment};
 use std::alloc::{AllocError, Global};
 
 /// A client and its server, between which every packet arrives.
 #[derive(Drop)]
-pub struct TwoEnds {
-    left: PlainAssociation,
-    right: PlainAssociation,
+pub struct TwoEnds<A> {
+    left: A,
+    right: A,
 }
 
-impl TwoEnds {
-    /// Two ends that are connected.
-    pub fn connected(alloc: Global) -> Result<TwoEnds, AssocError> {
-        let mut left = PlainAssociation::new(alloc);
-        let mut right = PlainAssociation::new(alloc);
-        if left.is_started() || right.is_started() {
-            return Err(AssocError::Closing);
-        }
-        left.connect(Moment::FAR_PAST, u32::MAX)?;
-        right.accept(Moment::FAR_PAST, u32::MAX)?;
-        let mut ends = TwoEnds { left, right };
-        ends.exchange()?;
-        Ok(ends)
+fn connect<A: Association>(end: &mut A) -> Result<(), AssocError> {
+    if end.is_started() {
+        return Err(AssocError::Closing);
+    }
+    end.connect(Moment::FAR_PAST, u32::MAX)
+}
+
+fn accept<A: Association>(end: &mut A) -> Result<(), AssocError> {
+    if end.is_started() {
+        return Err(AssocError::Closing);
+    }
+    end.accept(Moment::FAR_PAST, u32::MAX)
+}
+
+impl<A: Association> TwoEnds<A> {
+    /// Two ends that are not started.
+    pub fn new(left: A, right: A) -> TwoEnds<A> {
+        TwoEnds { left, right }
+    }
+
+    /// Connects both.
+    pub fn connect(&mut self) -> Result<(), AssocError> {
+        connect(&mut self.left)?;
+        accept(&mut self.right)?;
+        self.exchange()
     }
 
     /// Hands over what each end has to send, twice, and drops the events.
@@ -45,30 +56,18 @@ impl TwoEnds {
 
     /// Writes a message at the left end.
     pub fn write(&mut self, id: u16, bytes: &[u8]) -> Result<(), AssocError> {
-        if !self.left.is_started() {
-            return Err(AssocError::Closing);
-        }
-        self.left.stream_write(id, Ppi::Binary, bytes)?;
+        write(&mut self.left, id, bytes)?;
         Ok(())
     }
 
     /// The length of the next message at the right end; 0 where there is none.
     pub fn read(&mut self, id: u16) -> Result<usize, AssocError> {
-        if !self.right.is_started() {
-            return Err(AssocError::Closing);
-        }
-        match self.right.stream_read(id)? {
-            None => Ok(0),
-            Some((_, bytes)) => Ok(bytes.as_slice().len()),
-        }
+        read(&mut self.right, id)
     }
 
     /// Closes a stream at the left end.
     pub fn close(&mut self, id: u16) -> Result<(), AssocError> {
-        if !self.left.is_started() {
-            return Err(AssocError::Closing);
-        }
-        self.left.stream_close(id)
+        close(&mut self.left, id)
     }
 
     /// Gives the right end so many packets that somebody else made, each with a message of another generation to come of
@@ -126,6 +125,35 @@ impl TwoEnds {
     }
 }
 
+fn write<A: Association>(end: &mut A, id: u16, bytes: &[u8]) -> Result<usize, AssocError> {
+    if !end.is_started() {
+        return Err(AssocError::Closing);
+    }
+    end.stream_write(id, Ppi::Binary, bytes)
+}
+
+fn length(message: &Option<(Ppi, Bytes)>) -> usize {
+    match message {
+        None => 0,
+        Some((_, bytes)) => bytes.as_slice().len(),
+    }
+}
+
+fn read<A: Association>(end: &mut A, id: u16) -> Result<usize, AssocError> {
+    if !end.is_started() {
+        return Err(AssocError::Closing);
+    }
+    let message = end.stream_read(id)?;
+    Ok(length(&message))
+}
+
+fn close<A: Association>(end: &mut A, id: u16) -> Result<(), AssocError> {
+    if !end.is_started() {
+        return Err(AssocError::Closing);
+    }
+    end.stream_close(id)
+}
+
 /// A data packet with 100 bytes of a message.
 fn piece(
     alloc: Global,
@@ -135,6 +163,17 @@ fn piece(
     part: u8,
 ) -> Result<Vec<u8>, AllocError> {
     let mut bytes = Vec::with_capacity(alloc, 128)?;
+    fill(&mut bytes, number, id, generation, part)?;
+    Ok(bytes)
+}
+
+fn fill(
+    bytes: &mut Vec<u8>,
+    number: u64,
+    id: u16,
+    generation: u32,
+    part: u8,
+) -> Result<(), AllocError> {
     bytes.push(3)?;
     bytes.extend_from_slice(&0u64.to_be_bytes())?;
     bytes.extend_from_slice(&number.to_be_bytes())?;
@@ -143,10 +182,10 @@ fn piece(
     bytes.push(part)?;
     bytes.extend_from_slice(&53u32.to_be_bytes())?;
     bytes.extend_from_slice(&[7; 100])?;
-    Ok(bytes)
+    Ok(())
 }
 
-fn give(to: &mut PlainAssociation, bytes: &[u8]) -> Result<(), AssocError> {
+fn give<A: Association>(to: &mut A, bytes: &[u8]) -> Result<(), AssocError> {
     if !to.is_started() {
         return Err(AssocError::Closing);
     }
@@ -155,7 +194,7 @@ fn give(to: &mut PlainAssociation, bytes: &[u8]) -> Result<(), AssocError> {
 }
 
 /// The number that an end waits for, by its answer.
-fn awaited(end: &mut PlainAssociation) -> u64 {
+fn awaited<A: Association>(end: &mut A) -> u64 {
     let Some(packet) = end.poll_transmit() else {
         return 1;
     };
@@ -167,27 +206,33 @@ fn awaited(end: &mut PlainAssociation) -> u64 {
     }
 }
 
-fn open(end: &mut PlainAssociation, id: u16) -> Result<(), AssocError> {
+fn open<A: Association>(end: &mut A, id: u16) -> Result<(), AssocError> {
     if !end.is_started() {
         return Err(AssocError::Closing);
     }
     end.open_stream(id)
 }
 
-fn carry(from: &mut PlainAssociation, to: &mut PlainAssociation) -> Result<(), AssocError> {
-    for _ in 0..u32::MAX {
-        let Some(packet) = from.poll_transmit() else {
-            break;
-        };
-        if !to.is_started() {
-            return Err(AssocError::Closing);
+fn carry_one<A: Association>(from: &mut A, to: &mut A) -> Result<bool, AssocError> {
+    match from.poll_transmit() {
+        Some(packet) => {
+            give(to, packet.as_slice())?;
+            Ok(true)
         }
-        to.handle_input(Moment::FAR_PAST, packet.as_slice())?;
+        None => Ok(false),
+    }
+}
+
+fn carry<A: Association>(from: &mut A, to: &mut A) -> Result<(), AssocError> {
+    for _ in 0..u32::MAX {
+        if !carry_one(from, to)? {
+            break;
+        }
     }
     Ok(())
 }
 
-fn drop_events(end: &mut PlainAssociation) {
+fn drop_events<A: Association>(end: &mut A) {
     for _ in 0..u32::MAX {
         if end.poll().is_none() {
             break;
