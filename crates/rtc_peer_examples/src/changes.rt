@@ -1,11 +1,12 @@
 //! Staged changes: channels that are taken out of them, the lines that they add, and what peers tell of them.
 use crate::copies::media;
+use rtc_cases::{is_ok, is_true, release};
 use rtc_change::{Change, Changes, Lines, SdpPendingOffer, count_added};
 use rtc_delivery::{deliver_answer, deliver_offer};
 use rtc_lines::{Direction, LineRow, MediaKind, MediaLine, Mid, SdpAnswer, SdpOffer, Setup};
 use rtc_peer::{RtcConfig, RtcError};
 use rtc_plain::CountIds;
-use rtc_plain_peers::{Endpoint, Peer, add_host, build, build_of, finish, release, unless_refused};
+use rtc_plain_peers::{Endpoint, Peer, add_host, build_of, finish};
 use rtc_wire::{ChannelConfig, ChannelId, Seq};
 use std::alloc::{AllocError, Global};
 
@@ -30,43 +31,55 @@ const CHANNEL_OFFER: &str = "v=0\r\n\
     a=sctp-port:5000\r\n\
     a=max-message-size:262144\r\n";
 
-// Whether channels are taken the last first, and the other change stays.
-fn are_channels_taken(alloc: Global, mid: Mid) -> Result<bool, AllocError> {
-    let mut changes = Seq::empty(alloc);
-    changes.push(Change::AddChannel(ChannelId::new(4), ChannelConfig::new(alloc)))?;
+fn add_channel(alloc: Global, changes: &mut Seq<Change>, number: u64) -> Result<(), AllocError> {
+    changes.push(Change::AddChannel(ChannelId::new(number), ChannelConfig::new(alloc)))
+}
+
+fn add_channels(alloc: Global, changes: &mut Seq<Change>, mid: Mid) -> Result<(), AllocError> {
+    add_channel(alloc, changes, 4)?;
     changes.push(Change::Direction(mid, Direction::Inactive))?;
-    changes.push(Change::AddChannel(ChannelId::new(9), ChannelConfig::new(alloc)))?;
-    let mut changes = Changes(changes);
+    add_channel(alloc, changes, 9)
+}
+
+fn have_numbers(channels: &[(ChannelId, ChannelConfig)]) -> bool {
+    match channels {
+        [last, first] => (last.0.number() == 9) & (first.0.number() == 4),
+        _ => false,
+    }
+}
+
+fn are_taken(changes: &mut Changes) -> Result<bool, AllocError> {
     let channels = changes.take_new_channels()?;
-    let mut numbers = channels.as_slice().iter();
-    let last = match numbers.next() {
-        Some(channel) => channel.0.number() == 9,
-        None => false,
-    };
-    let first = match numbers.next() {
-        Some(channel) => channel.0.number() == 4,
-        None => false,
-    };
-    Ok(last && first && channels.len() == 2 && changes.0.len() == 1)
+    Ok(have_numbers(channels.as_slice()))
+}
+
+// Whether channels are taken the last first, and the other change stays.
+fn are_channels_taken(alloc: Global, mid: Mid) -> bool {
+    let mut changes = Changes(Seq::empty(alloc));
+    let added = is_ok(add_channels(alloc, &mut changes.0, mid));
+    let taken = is_true(are_taken(&mut changes));
+    added & taken & (changes.0.len() == 1)
 }
 
 // Whether a line is declared once for its mid.
-fn is_line_declared(alloc: Global, mid: Mid) -> Result<bool, AllocError> {
+fn is_line_declared(alloc: Global, mid: Mid) -> bool {
     let mut lines = Lines::new(alloc);
-    let declared = lines.declare(mid, MediaKind::Audio)?;
-    Ok(declared && lines.has_mid(mid) && lines.rows().len() == 1)
+    let declared = is_true(lines.declare(mid, MediaKind::Audio));
+    declared & lines.has_mid(mid) & (lines.rows().len() == 1)
 }
 
-// Whether the lines that are added have places that count up, and a channel between them has none.
-fn are_places_given(alloc: Global, mid: Mid) -> Result<bool, AllocError> {
-    let Some(other) = Mid::read("1") else {
-        return Ok(false);
-    };
-    let mut changes = Seq::empty(alloc);
+fn add_lines(
+    alloc: Global,
+    changes: &mut Seq<Change>,
+    mid: Mid,
+    other: Mid,
+) -> Result<(), AllocError> {
     changes.push(Change::AddApp(mid))?;
-    changes.push(Change::AddChannel(ChannelId::new(0), ChannelConfig::new(alloc)))?;
-    changes.push(Change::AddMedia(media(alloc, other, Seq::empty(alloc))))?;
-    let changes = Changes(changes);
+    add_channel(alloc, changes, 0)?;
+    changes.push(Change::AddMedia(media(alloc, other, Seq::empty(alloc))))
+}
+
+fn have_places(changes: &Changes, mid: Mid, other: Mid) -> Result<bool, AllocError> {
     if count_added(changes.0.as_slice()) != 2 {
         return Ok(false);
     }
@@ -83,6 +96,13 @@ fn are_places_given(alloc: Global, mid: Mid) -> Result<bool, AllocError> {
     Ok(rows.as_slice() == [app, audio].as_slice())
 }
 
+// Whether the lines that are added have places that count up, and a channel between them has none.
+fn are_places_given(alloc: Global, mid: Mid, other: Mid) -> bool {
+    let mut changes = Changes(Seq::empty(alloc));
+    let added = is_ok(add_lines(alloc, &mut changes.0, mid, other));
+    added & is_true(have_places(&changes, mid, other))
+}
+
 // Whether the offer of a first channel is written as it is to be.
 fn is_written(
     made: &(ChannelId, Option<(SdpOffer, SdpPendingOffer)>),
@@ -92,7 +112,7 @@ fn is_written(
         return Ok(false);
     };
     let written = offer.to_sdp_string()?;
-    Ok(id.number() == 0 && written.as_str() == expected)
+    Ok((id.number() == 0) & (written.as_str() == expected))
 }
 
 fn writes_channel<P: Endpoint>(
@@ -107,25 +127,20 @@ fn writes_channel<P: Endpoint>(
     Ok(release(made, written)?)
 }
 
-fn is_channel_offered<P: Endpoint + Drop>(
+fn is_channel_offered<P: Endpoint>(
     alloc: Global,
-    left: Result<P, AllocError>,
+    left: &mut P,
     expected: &str,
 ) -> Result<bool, RtcError> {
     let label = String::from_str(alloc, "ch1")?;
-    let mut left = left?;
-    writes_channel(alloc, &mut left, label, expected)
+    writes_channel(alloc, left, label, expected)
 }
 
-// A peer with the certificate `abc`.
-fn build_certified(alloc: Global) -> Result<Peer<CountIds>, AllocError> {
+/// A peer with the certificate `abc`.
+pub fn build_certified(alloc: Global) -> Result<Peer<CountIds>, AllocError> {
     let cert = b"abc".to_vec(alloc)?;
-    let config = RtcConfig::new(alloc)?.set_dtls_cert(cert);
-    build_of(alloc, config, CountIds::starting(1))
-}
-
-fn tell_channel(alloc: Global) -> Result<bool, RtcError> {
-    is_channel_offered(alloc, build_certified(alloc), CHANNEL_OFFER)
+    let config = RtcConfig::new(alloc)?;
+    build_of(alloc, config.set_dtls_cert(cert), CountIds::starting(1))
 }
 
 // Whether there are m-lines, and each has this setup.
@@ -141,7 +156,7 @@ fn all_have_setup(lines: &[MediaLine], setup: Setup) -> bool {
 // Whether the lines of an offer, as the other side reads it, leave the role in DTLS to that side (RFC 8842, section 5.2).
 fn leaves_role(offer: &SdpOffer, count: usize) -> bool {
     let lines = offer.0.lines.as_slice();
-    lines.len() == count && all_have_setup(lines, Setup::ActPass)
+    (lines.len() == count) & all_have_setup(lines, Setup::ActPass)
 }
 
 // An offer as the other side reads it.
@@ -181,7 +196,7 @@ fn agree<P: Endpoint>(
     let answered = read_answer(alloc, right, offer);
     let taken = takes_role(&answered);
     finish(left, token, answered)?;
-    Ok(offered && taken)
+    Ok(offered & taken)
 }
 
 fn tell_first_roles<P: Endpoint>(
@@ -223,37 +238,25 @@ fn tell_roles<P: Endpoint>(alloc: Global, left: &mut P, right: &mut P) -> Result
     }
 }
 
-fn are_roles_told<P: Endpoint + Drop>(
-    alloc: Global,
-    left: Result<P, AllocError>,
-    right: Result<P, AllocError>,
-) -> Result<bool, RtcError> {
-    let mut left = left?;
-    let mut right = right?;
-    tell_roles(alloc, &mut left, &mut right)
-}
-
-fn tell_both(alloc: Global) -> Result<bool, RtcError> {
-    let left = build(alloc, CountIds::starting(1));
-    let right = build(alloc, CountIds::starting(1_000_001));
-    are_roles_told(alloc, left, right)
-}
-
-fn answer(alloc: Global, example: &str, mid: Mid) -> Result<bool, RtcError> {
-    match example {
-        "are offered for either role and answered with one" => tell_both(alloc),
-        "give places to the lines that they add" => Ok(are_places_given(alloc, mid)?),
-        "of a channel are written in an offer" => tell_channel(alloc),
-        "take their channels the last first" => Ok(are_channels_taken(alloc, mid)?),
-        "to a table declare a line" => Ok(is_line_declared(alloc, mid)?),
-        _ => Ok(false),
-    }
-}
-
 /// Whether an example of changes gives what is expected.
-pub fn does_agree(alloc: Global, example: &str) -> Result<bool, AllocError> {
-    let Some(mid) = Mid::read("0") else {
-        return Ok(false);
-    };
-    unless_refused(answer(alloc, example, mid))
+pub fn does_agree<P: Endpoint>(
+    alloc: Global,
+    left: &mut P,
+    right: &mut P,
+    mids: (Mid, Mid),
+    example: &str,
+) -> bool {
+    let (mid, other) = mids;
+    match example {
+        "are offered for either role and answered with one" => {
+            is_true(tell_roles(alloc, left, right))
+        }
+        "give places to the lines that they add" => are_places_given(alloc, mid, other),
+        "of a channel are written in an offer" => {
+            is_true(is_channel_offered(alloc, left, CHANNEL_OFFER))
+        }
+        "take their channels the last first" => are_channels_taken(alloc, mid),
+        "to a table declare a line" => is_line_declared(alloc, mid),
+        _ => false,
+    }
 }
