@@ -115,10 +115,19 @@ def messages():
         print(f"| {size:,} | {cost - start:,} | {(cost - start) / size:.1f} |")
 
 
+# The line that asks the program of parts for some work, and what that costs.
+def work(*words):
+    return f"{' '.join(map(str, words))}\n".encode()
+
+
+def count_work(*words):
+    return count([program("rtc_parts_measure")], work(*words))[0]
+
+
 # Two plain associations: a message over one of so many open streams, and streams that are opened, used and reset in turn.
 def associations():
     def cost(*words):
-        return count([program("rtc_assoc_measure"), *map(str, words)], b"")[0]
+        return count_work("association", *words)
 
     print("| Open streams | Bytes | Instructions over those for 0 bytes | A byte |\n|---|---|---|---|")
     for streams in (1, 100, 10_000):
@@ -135,7 +144,7 @@ def associations():
     start = cost("resets", 0)
     for streams in (300, 3_000, 30_000):
         more = cost("resets", streams) - start
-        most = memory([program("rtc_assoc_measure"), "resets", str(streams)])
+        most = memory([program("rtc_parts_measure")], work("association", "resets", streams))
         print(f"| {streams:,} | {more:,} | {more // streams:,} | {most:,} |")
 
 
@@ -143,7 +152,7 @@ def associations():
 # opened at once, and channels that are given streams.
 def streams():
     def cost(*words):
-        return count([program("rtc_sctp_measure"), *map(str, words)], b"")[0]
+        return count_work("streams", *words)
 
     print("| Open streams | A poll that gives nothing | A stream | A message over the first | Over the last |\n|---|---|---|---|---|")
     for open_streams in (1, 100, 1_000, 10_000):
@@ -161,7 +170,7 @@ def streams():
         print(f"| {at_once:,} | {more:,} | {more // at_once:,} |")
     print("\n| Channels given streams at once | Instructions | A channel |\n|---|---|---|")
     for channels in (100, 1_000, 10_000, 30_000):
-        more = cost("allocate", channels, 1) - cost("allocate", channels, 0)
+        more = count_work("channels", "allocate", channels, 1) - count_work("channels", "allocate", channels, 0)
         print(f"| {channels:,} | {more:,} | {more // channels:,} |")
 
 
@@ -185,8 +194,8 @@ def channels():
 
 
 # The greatest memory of a program, in KiB. Its parent is small, since the memory of a parent before the program starts counts too.
-def memory(words):
-    done = subprocess.run(["/usr/bin/time", "-f", "%M", *words], stdin=subprocess.DEVNULL, capture_output=True)
+def memory(words, given=b""):
+    done = subprocess.run(["/usr/bin/time", "-f", "%M", *words], input=given, capture_output=True)
     if done.returncode != 0:
         sys.exit(f"measure: {words[0]} ended with status {done.returncode}")
     return int(done.stderr)
@@ -196,13 +205,13 @@ def memory(words):
 def forged():
     print("| Forged packets | Greatest memory, KiB |\n|---|---|")
     for packets in (1, 1_000, 100_000):
-        print(f"| {packets:,} | {memory([program('rtc_assoc_measure'), 'forged', str(packets)]):,} |")
+        print(f"| {packets:,} | {memory([program('rtc_parts_measure')], work('association', 'forged', packets)):,} |")
 
 
 # Look-ups of the last of so many entries of a plain part.
 def lookups():
     def cost(*words):
-        return count([program("rtc_parts_measure"), *map(str, words)], b"")[0]
+        return count_work("lookups", *words)
 
     print("| Entries | An ssrc in use | A stream by line and layer | The address of a candidate |\n|---|---|---|---|")
     for entries in (10, 100, 1_000, 10_000):

@@ -1,134 +1,90 @@
-//! Gives streams to data channels, holds them and opens them, and prints what is seen of it.
+//! Runs data channels between two peers' streams in memory, and gives streams to the channels of one side, and prints what is seen of it.
 #![tactic(auto)]
 
-mod scene;
+mod channel_scenes;
+mod channels;
+mod notes;
+mod stream_scenes;
+mod streams;
+mod two_peers;
 
-use rtc_sctp::SctpError;
-pub use scene::Scene;
+use channel_scenes::{ChannelScene, play_channels};
+use channels::Side;
+use notes::Notes;
+use rtc_assoc_end::PlainAssociation;
+use rtc_channels::ChannelHandler;
+use rtc_sctp::RtcSctp;
+use rtc_wire::Moment;
 use std::alloc::Global;
 use std::process::ExitCode;
+use stream_scenes::{StreamScene, play_streams, tell_longest};
 
-// A stream is held as often as channels that had it went, and each completed reset ends one hold.
-fn stream_is_held_twice(scene: &mut Scene) -> Result<(), SctpError> {
-    scene.hold(4)?;
-    scene.hold(4)?;
-    scene.tell_held(4)?;
-    scene.complete(4);
-    scene.tell_held(4)?;
-    scene.complete(4);
-    scene.tell_held(4)?;
-    scene.hold(4)?;
-    scene.lose();
-    scene.tell_held(4)
+const STREAM_SCENES: [StreamScene; 5] = [
+    StreamScene::OneMessage,
+    StreamScene::OpenedAgain,
+    StreamScene::WaitsForReset,
+    StreamScene::Went,
+    StreamScene::GivenUp,
+];
+
+const CHANNEL_SCENES: [ChannelScene; 8] = [
+    ChannelScene::HeldTwice,
+    ChannelScene::StaysHeld,
+    ChannelScene::Numbers,
+    ChannelScene::Refused,
+    ChannelScene::SettledWaits,
+    ChannelScene::OddStreams,
+    ChannelScene::AllHeld,
+    ChannelScene::Many,
+];
+
+// The streams of a side that is not started.
+fn fresh(alloc: Global) -> RtcSctp<PlainAssociation> {
+    RtcSctp::new(
+        alloc,
+        1200,
+        262_144,
+        Moment::FAR_PAST,
+        PlainAssociation::new(alloc),
+    )
 }
 
-// However often streams are given, one that is held stays so.
-fn stream_stays_held(scene: &mut Scene) -> Result<(), SctpError> {
-    scene.hold(4)?;
-    scene.make(Some(4))?;
-    for _ in 0..100u8 {
-        scene.allocate(true)?;
+// Streams over datagrams of 900 bytes.
+fn over_short_datagrams(alloc: Global) -> RtcSctp<PlainAssociation> {
+    RtcSctp::new(
+        alloc,
+        900,
+        262_144,
+        Moment::FAR_PAST,
+        PlainAssociation::new(alloc),
+    )
+}
+
+fn side(alloc: Global) -> Side<PlainAssociation> {
+    Side {
+        channels: ChannelHandler::new(alloc),
+        sctp: fresh(alloc),
     }
-    scene.tell_held(4)
 }
 
-// The number of a channel that went is not given again.
-fn numbers_are_not_given_again(scene: &mut Scene) -> Result<(), SctpError> {
-    let first = scene.make(None)?;
-    scene.tell_channel(first)?;
-    let second = scene.make(None)?;
-    scene.tell_channel(second)?;
-    scene.remove(first, false);
-    let third = scene.make(None)?;
-    scene.tell_channel(third)?;
-    let fourth = scene.make(None)?;
-    scene.tell_channel(fourth)
-}
-
-// A settled stream that is held is given once its reset is complete, and then opened.
-fn settled_stream_waits(scene: &mut Scene) -> Result<(), SctpError> {
-    scene.start(true)?;
-    scene.hold(4)?;
-    let id = scene.make(Some(4))?;
-    scene.pass_moment()?;
-    scene.tell_stream(id)?;
-    scene.tell_wake()?;
-    scene.complete(4);
-    scene.tell_wake()?;
-    scene.pass_moment()?;
-    scene.tell_stream(id)?;
-    scene.tell_label(4)?;
-    scene.tell_wake()?;
-    scene.close(id)
-}
-
-// A server takes the least odd stream that is free.
-fn server_takes_odd_streams(scene: &mut Scene) -> Result<(), SctpError> {
-    let first = scene.make(None)?;
-    let second = scene.make(None)?;
-    scene.allocate(false)?;
-    scene.tell_stream(first)?;
-    scene.tell_stream(second)?;
-    scene.remove(first, false);
-    let third = scene.make(None)?;
-    scene.allocate(false)?;
-    scene.tell_stream(third)
-}
-
-// Where every stream of a side is held, a channel gets none, and no moment is wanted.
-fn every_stream_is_held(scene: &mut Scene) -> Result<(), SctpError> {
-    scene.start(false)?;
-    for place in 0..32768u16 {
-        scene.hold(2 * place + 1)?;
+fn show(alloc: Global, notes: &mut Notes) {
+    for scene in STREAM_SCENES {
+        play_streams(alloc, fresh(alloc), fresh(alloc), scene, notes);
     }
-    let id = scene.make(None)?;
-    scene.allocate(false)?;
-    scene.tell_stream(id)?;
-    scene.tell_wake()
-}
-
-// Ten thousand channels get the even streams from 0 on.
-fn many_channels(scene: &mut Scene) -> Result<(), SctpError> {
-    let mut last = scene.make(None)?;
-    for _ in 1..10000u16 {
-        last = scene.make(None)?;
+    tell_longest(over_short_datagrams(alloc), notes);
+    for scene in CHANNEL_SCENES {
+        play_channels(alloc, side(alloc), scene, notes);
     }
-    scene.allocate(true)?;
-    scene.tell_stream(last)
-}
-
-fn show(alloc: Global) -> Result<String, SctpError> {
-    let mut report = String::new(alloc);
-    let mut twice = Scene::new(alloc);
-    stream_is_held_twice(&mut twice)?;
-    report.push_str(twice.report())?;
-    let mut stays = Scene::new(alloc);
-    stream_stays_held(&mut stays)?;
-    report.push_str(stays.report())?;
-    let mut numbers = Scene::new(alloc);
-    numbers_are_not_given_again(&mut numbers)?;
-    report.push_str(numbers.report())?;
-    let mut settled = Scene::new(alloc);
-    settled_stream_waits(&mut settled)?;
-    report.push_str(settled.report())?;
-    let mut odd = Scene::new(alloc);
-    server_takes_odd_streams(&mut odd)?;
-    report.push_str(odd.report())?;
-    let mut full = Scene::new(alloc);
-    every_stream_is_held(&mut full)?;
-    report.push_str(full.report())?;
-    let mut many = Scene::new(alloc);
-    many_channels(&mut many)?;
-    report.push_str(many.report())?;
-    Ok(report)
 }
 
 fn main(rt: HostRuntime) -> ExitCode {
-    match show(rt.alloc()) {
-        Ok(report) => match print!(rt; "{report}") {
+    let mut notes = Notes::new(rt.alloc());
+    show(rt.alloc(), &mut notes);
+    match notes.told() {
+        None => ExitCode::FAILURE,
+        Some(report) => match print!(rt; "{report}") {
             Ok(()) => ExitCode::SUCCESS,
             Err(_) => ExitCode::FAILURE,
         },
-        Err(_) => ExitCode::FAILURE,
     }
 }

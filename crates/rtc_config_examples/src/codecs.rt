@@ -1,5 +1,6 @@
 //! The codecs of a configuration, and what settings leave of them.
-use rtc_config::RtcConfig;
+use crate::config::{Config, Named, fresh, with_codecs};
+use rtc_cases::{is_list, is_true};
 use rtc_sdp_values::PayloadRow;
 use std::alloc::{AllocError, Global};
 
@@ -12,45 +13,55 @@ pub fn numbers(alloc: Global, rows: &[PayloadRow]) -> Result<Vec<u8>, AllocError
     Ok(numbers)
 }
 
-fn enable_audio(config: RtcConfig) -> Result<RtcConfig, AllocError> {
-    let config = config.enable_opus(true, true)?.enable_pcmu(true, true)?;
-    let config = config.enable_pcma(true, true)?.enable_g722(true, true)?;
-    config.enable_comfort_noise(true)?.enable_amr_wb(true)
+fn has_numbers<C: Config>(alloc: Global, config: &C, expected: &[u8]) -> bool {
+    is_list(numbers(alloc, config.rows()), expected)
 }
 
-fn enable_video(config: RtcConfig) -> Result<RtcConfig, AllocError> {
-    let config = config.enable_vp8(true)?.enable_h264(true)?;
-    let config = config.enable_h265(true)?.enable_h266(true)?;
-    config.enable_vp9(true)?.enable_av1(true)
-}
+const ALL: [Named; 12] = [
+    Named::Opus,
+    Named::Pcmu,
+    Named::Pcma,
+    Named::G722,
+    Named::ComfortNoise,
+    Named::AmrWb,
+    Named::Vp8,
+    Named::H264(true),
+    Named::H265,
+    Named::H266,
+    Named::Vp9,
+    Named::Av1,
+];
 
 // Whether all codecs have their payload types, in the order in which they were enabled.
-fn all_enabled(alloc: Global) -> Result<bool, AllocError> {
-    let config = enable_audio(RtcConfig::new(alloc)?.clear_codecs())?;
-    let config = enable_video(config)?;
-    let own = numbers(alloc, config.codecs().rows.as_slice())?;
-    Ok(own.as_slice() == [111u8, 0, 8, 9, 13, 114, 96, 102, 104, 106, 98, 45].as_slice())
+fn all_enabled<C: Config + Drop>(
+    alloc: Global,
+    made: Result<C, AllocError>,
+) -> Result<bool, AllocError> {
+    let config = with_codecs(made?.without_codecs(), &ALL)?;
+    let expected = [111u8, 0, 8, 9, 13, 114, 96, 102, 104, 106, 98, 45];
+    Ok(has_numbers(alloc, &config, expected.as_slice()))
 }
 
 // Whether opus, enabled once more, goes last, and H264, disabled, goes.
-fn enabled_and_disabled(alloc: Global) -> Result<bool, AllocError> {
-    let config = RtcConfig::new(alloc)?.enable_opus(true, true)?;
-    let config = config.enable_h264(false)?;
-    let own = numbers(alloc, config.codecs().rows.as_slice())?;
-    Ok(own.as_slice() == [96u8, 104, 98, 45, 111].as_slice())
+fn enabled_and_disabled<C: Config + Drop>(
+    alloc: Global,
+    made: Result<C, AllocError>,
+) -> Result<bool, AllocError> {
+    let config = with_codecs(made?, &[Named::Opus, Named::H264(false)])?;
+    Ok(has_numbers(alloc, &config, [96u8, 104, 98, 45, 111].as_slice()))
 }
 
-fn repeat_packets(alloc: Global) -> Result<bool, AllocError> {
-    let config = RtcConfig::new(alloc)?.set_red_distances(&[10, 11, 0, 3, 3])?;
-    Ok(config.codecs().red_distances.as_slice() == [1u32, 3, 10].as_slice())
+fn repeat_packets<C: Config + Drop>(made: Result<C, AllocError>) -> Result<bool, AllocError> {
+    let config = made?.with_distances(&[10, 11, 0, 3, 3])?;
+    Ok(config.distances() == [1u32, 3, 10].as_slice())
 }
 
 /// Whether an example of codecs gives what is expected.
-pub fn does_agree(alloc: Global, example: &str) -> Result<bool, AllocError> {
+pub fn does_agree(alloc: Global, example: &str) -> bool {
     match example {
-        "of all names" => all_enabled(alloc),
-        "that are enabled and disabled" => enabled_and_disabled(alloc),
-        "that repeat packets" => repeat_packets(alloc),
-        _ => Ok(false),
+        "of all names" => is_true(all_enabled(alloc, fresh(alloc))),
+        "that are enabled and disabled" => is_true(enabled_and_disabled(alloc, fresh(alloc))),
+        "that repeat packets" => is_true(repeat_packets(fresh(alloc))),
+        _ => false,
     }
 }

@@ -1,5 +1,6 @@
 //! Configurations: their copies, and what is changed in place.
-use rtc_config::RtcConfig;
+use crate::config::{Config, fresh};
+use rtc_cases::{every, is_true};
 use rtc_sdp_values::{Extension, ExtensionMap, IceCreds};
 use rtc_wire::{Text, TryCopy};
 use std::alloc::{AllocError, Global};
@@ -10,56 +11,65 @@ fn creds(alloc: Global) -> Result<IceCreds, AllocError> {
     Ok(IceCreds { ufrag, pass })
 }
 
-fn set_identity(alloc: Global) -> Result<RtcConfig, AllocError> {
-    let creds = creds(alloc)?;
-    let cert = Vec::from_slice(alloc, b"abc")?;
-    let config = RtcConfig::new(alloc)?;
-    Ok(config.set_local_ice_credentials(creds).set_dtls_cert(cert))
-}
-
 // Whether a configuration has the credentials and the certificate that were set.
-fn has_identity(config: &RtcConfig) -> bool {
-    let named = match config.local_ice_credentials() {
+fn has_identity<C: Config>(config: &C) -> bool {
+    let named = match config.creds() {
         Some(creds) => creds.ufrag.as_str() == "4ZcD",
         None => false,
     };
-    match config.dtls_cert() {
-        Some(cert) => named && cert == b"abc".as_slice(),
-        None => false,
-    }
+    named & (config.cert() == Some(b"abc".as_slice()))
 }
 
-fn copied(alloc: Global) -> Result<bool, AllocError> {
-    let config = set_identity(alloc)?;
+fn are_same<C: Config>(config: &C, copied: &C) -> bool {
+    every(&[
+        copied.rows() == config.rows(),
+        copied.distances() == config.distances(),
+        copied.extension_rows() == config.extension_rows(),
+        has_identity(config),
+        has_identity(copied),
+    ])
+}
+
+fn is_same<C: Config + TryCopy + Drop>(config: &C) -> Result<bool, AllocError> {
     let copied = config.copy()?;
-    let same = copied.codecs() == config.codecs() && copied.extensions() == config.extensions();
-    Ok(same && has_identity(&config) && has_identity(&copied))
+    Ok(are_same(config, &copied))
+}
+
+fn is_copied<C: Config + TryCopy + Drop>(
+    alloc: Global,
+    made: Result<C, AllocError>,
+) -> Result<bool, AllocError> {
+    let config = made?;
+    let creds = creds(alloc)?;
+    let cert = Vec::from_slice(alloc, b"abc")?;
+    let config = config.with_identity(creds, cert);
+    is_same(&config)
 }
 
 // Whether codecs and extensions that are changed in place stay so.
-fn changed_in_place(alloc: Global) -> Result<bool, AllocError> {
-    let mut config = RtcConfig::new(alloc)?;
-    config.codec_config().rows.clear();
-    config.extension_map().rows.clear();
-    Ok(config.codecs().rows.is_empty() && config.extensions().rows.is_empty())
+fn is_cleared<C: Config + Drop>(made: Result<C, AllocError>) -> Result<bool, AllocError> {
+    let mut config = made?;
+    config.clear();
+    Ok(config.rows().is_empty() & config.extension_rows().is_empty())
 }
 
-fn with_extensions(alloc: Global) -> Result<bool, AllocError> {
+fn is_extended<C: Config + Drop>(
+    alloc: Global,
+    made: Result<C, AllocError>,
+) -> Result<bool, AllocError> {
+    let config = made?;
     let map = ExtensionMap::standard(alloc)?;
-    let config = RtcConfig::new(alloc)?.clear_extension_map();
-    let config = config
-        .set_extension_map(map)
-        .set_extension(4, Extension::AudioLevel)?;
-    let rows = config.extensions().rows.as_slice();
-    Ok(rows.len() == 7 && rows.last() == Some(&(4, Extension::AudioLevel)))
+    let config = config.with_extensions(map)?;
+    let rows = config.extension_rows();
+    Ok((rows.len() == 7) & (rows.last() == Some(&(4, Extension::AudioLevel))))
 }
 
 /// Whether an example of configurations gives what is expected.
-pub fn does_agree(alloc: Global, example: &str) -> Result<bool, AllocError> {
+pub fn does_agree(alloc: Global, example: &str) -> bool {
     match example {
-        "changed in place" => changed_in_place(alloc),
-        "that are copied" => copied(alloc),
-        "with extensions" => with_extensions(alloc),
-        _ => Ok(false),
+        "changed in place" => is_true(is_cleared(fresh(alloc))),
+        "that are copied" => is_true(is_copied(alloc, fresh(alloc))),
+        "with extensions" => is_true(is_extended(alloc, fresh(alloc))),
+        _ => false,
     }
 }

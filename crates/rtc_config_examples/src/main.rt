@@ -4,38 +4,32 @@
 #![tactic(auto)]
 
 mod codecs;
+mod config;
+mod config_of_peers;
 mod configs;
 mod lines;
 mod statistics;
 
-use std::alloc::{AllocError, Global};
+use rtc_cases::{Examples, run};
 use std::io;
 use std::process::ExitCode;
+use std::rt::Files;
 
-fn does_agree(alloc: Global, subject: &str, example: &str) -> Result<bool, AllocError> {
-    match subject {
-        "codecs" => codecs::does_agree(alloc, example),
-        "configs" => configs::does_agree(alloc, example),
-        "lines" => lines::does_agree(alloc, example),
-        "statistics" => statistics::does_agree(alloc, example),
-        _ => Ok(false),
+struct Configurations;
+
+impl Examples for Configurations {
+    fn does_agree<R: Files + AllocGlobal>(rt: &R, subject: &str, name: &str) -> bool {
+        let alloc = rt.alloc();
+        match subject {
+            "codecs" => codecs::does_agree(alloc, name),
+            "configs" => configs::does_agree(alloc, name),
+            "lines" => lines::does_agree(alloc, name),
+            "statistics" => statistics::does_agree(alloc, name),
+            _ => false,
+        }
     }
 }
 
 fn main(rt: HostRuntime) -> io::Result<ExitCode> {
-    let mut status = 0;
-    for line in rt.lines(rt.alloc()) {
-        let line = line?;
-        let agrees = match line.as_str().split_once(' ') {
-            Some((subject, example)) => does_agree(rt.alloc(), subject, example)?,
-            None => false,
-        };
-        if agrees {
-            println!(rt; "agrees {line}")?;
-        } else {
-            println!(rt; "differs {line}")?;
-            status = 1;
-        }
-    }
-    Ok(ExitCode::from(status))
+    run::<Configurations, HostRuntime>(&rt)
 }

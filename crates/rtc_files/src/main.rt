@@ -3,8 +3,6 @@
 
 mod asking;
 mod sessions;
-#[cfg(test)]
-mod tests;
 mod top;
 
 pub use asking::{SESSION_LIMIT, session_sizes};

@@ -25,7 +25,16 @@ fn add_candidates<A: IceAgent>(agent: &mut A, alloc: Global, count: u32) -> Resu
 /// Asks so many times whether the address of the last candidate is viable.
 pub fn count_found(alloc: Global, candidates: u32, times: u32) -> Result<u32, AllocError> {
     let mut agent = PlainIce::new(alloc);
-    add_candidates(&mut agent, alloc, candidates)?;
+    add_and_count(&mut agent, alloc, candidates, times)
+}
+
+fn add_and_count<A: IceAgent>(
+    agent: &mut A,
+    alloc: Global,
+    candidates: u32,
+    times: u32,
+) -> Result<u32, AllocError> {
+    add_candidates(agent, alloc, candidates)?;
     let last = address(candidates.saturating_sub(1));
     let mut found: u32 = 0;
     for _ in 0..times {

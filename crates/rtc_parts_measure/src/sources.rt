@@ -30,14 +30,24 @@ fn update(alloc: Global, place: u32, mid: Mid) -> Result<MediaUpdate, AllocError
     })
 }
 
+fn add_line<M: MediaSession>(
+    part: &mut M,
+    alloc: Global,
+    place: u32,
+    mid: Mid,
+) -> Result<(), AllocError> {
+    let updates = [update(alloc, place, mid)?];
+    part.prepare(updates.as_slice())?;
+    part.commit();
+    Ok(())
+}
+
 /// Gives a part so many lines, each with a mid and a source of its own.
 fn add_lines<M: MediaSession>(part: &mut M, alloc: Global, count: u32) -> Result<(), AllocError> {
     for place in 0..count {
         let text = format!(in alloc; "{place}")?;
         if let Some(mid) = Mid::read(text.as_str()) {
-            let updates = [update(alloc, place, mid)?];
-            part.prepare(updates.as_slice())?;
-            part.commit();
+            add_line(part, alloc, place, mid)?;
         }
     }
     Ok(())
@@ -46,7 +56,16 @@ fn add_lines<M: MediaSession>(part: &mut M, alloc: Global, count: u32) -> Result
 /// Asks so many times whether the source of the last line is in use.
 pub fn count_found(alloc: Global, lines: u32, times: u32) -> Result<u32, AllocError> {
     let mut part = PlainMedia::new(alloc);
-    add_lines(&mut part, alloc, lines)?;
+    count_sources(&mut part, alloc, lines, times)
+}
+
+fn count_sources<M: MediaSession>(
+    part: &mut M,
+    alloc: Global,
+    lines: u32,
+    times: u32,
+) -> Result<u32, AllocError> {
+    add_lines(part, alloc, lines)?;
     let last = Ssrc(lines.saturating_sub(1));
     let mut found: u32 = 0;
     for _ in 0..times {

@@ -31,6 +31,17 @@ fn count_streams<M: MediaSession>(part: &mut M, mid: Mid, rid: Rid, times: u32) 
     found
 }
 
+fn make_and_count<M: MediaSession>(
+    part: &mut M,
+    alloc: Global,
+    (mid, rid): (Mid, Rid),
+    streams: u32,
+    times: u32,
+) -> Result<u32, AllocError> {
+    add_streams(part, alloc, rid, streams)?;
+    Ok(count_streams(part, mid, rid, times))
+}
+
 /// Asks so many times for the stream that was made last.
 pub fn count_found(alloc: Global, streams: u32, times: u32) -> Result<u32, AllocError> {
     let last = streams.saturating_sub(1);
@@ -39,6 +50,5 @@ pub fn count_found(alloc: Global, streams: u32, times: u32) -> Result<u32, Alloc
         return Ok(0);
     };
     let mut part = PlainMedia::new(alloc);
-    add_streams(&mut part, alloc, rid, streams)?;
-    Ok(count_streams(&mut part, mid, rid, times))
+    make_and_count(&mut part, alloc, (mid, rid), streams, times)
 }

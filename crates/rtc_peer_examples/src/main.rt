@@ -1,32 +1,39 @@
-//! Makes each call of a peer that allocates once, where memory suffices.
+//! Runs stored examples of peers: of one that is driven without session descriptions, and calls that allocate, on one peer, in a round of
+//! two, and on two that are connected.
 //!
-//! Each line of the input names a call, and is printed again behind `agrees`, or behind `differs` where the call answered anything
-//! but success, as want of memory.
+//! Each line of the input names a subject and an example of it. It is printed again behind `agrees`, or behind `differs` where a call
+//! answered anything but what is due, as want of memory.
 #![tactic(auto)]
 
+mod announced;
+mod ask;
 mod calls;
+mod changes;
+mod channels;
+mod connected;
+mod copies;
 mod direct;
+mod direct_of_parts;
+mod lines;
 mod parts;
+mod rounds;
 mod staging;
+mod starts;
 mod streams;
 
+use rtc_cases::{Examples, run};
 use std::io;
 use std::process::ExitCode;
+use std::rt::Files;
+
+struct Peers;
+
+impl Examples for Peers {
+    fn does_agree<R: Files + AllocGlobal>(rt: &R, subject: &str, name: &str) -> bool {
+        calls::does_agree(rt.alloc(), subject, name)
+    }
+}
 
 fn main(rt: HostRuntime) -> io::Result<ExitCode> {
-    let mut status = 0;
-    for line in rt.lines(rt.alloc()) {
-        let line = line?;
-        let agrees = match line.as_str().strip_prefix("memory ") {
-            Some(name) => { calls::does_succeed(rt.alloc(), name)? }
-            None => false,
-        };
-        if agrees {
-            println!(rt; "agrees {line}")?;
-        } else {
-            println!(rt; "differs {line}")?;
-            status = 1;
-        }
-    }
-    Ok(ExitCode::from(status))
+    run::<Peers, HostRuntime>(&rt)
 }

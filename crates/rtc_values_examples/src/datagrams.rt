@@ -1,4 +1,5 @@
 //! Datagrams by their first bytes (RFC 7983, section 7), and what is printed of them.
+use rtc_cases::{every, gives, is_refused, is_true, prints, shows};
 use rtc_wire::{
     Addr, Bytes, DatagramRecv, DatagramSend, IoKind, IoText, MultiplexKind, NetError, Protocol,
     Receive, StunError, StunReader, StunView, Transmit,
@@ -37,17 +38,25 @@ const BINDING_REQUEST: [u8; 20] = [
     0xfa, 0x87, 0xdf, 0xae,
 ];
 
+// Whether the first bytes tell a kind, or are refused.
+fn is_kind(bytes: &[u8], expected: Result<MultiplexKind, NetError>) -> bool {
+    MultiplexKind::read(bytes) == expected
+}
+
+fn invalid(text: IoText) -> NetError {
+    NetError::Io(IoKind::InvalidData, text)
+}
+
 // Whether the first bytes tell the kind.
 fn kinds() -> bool {
-    let unknown = NetError::Io(IoKind::InvalidData, IoText::UnknownDatagram);
-    let empty = NetError::Io(IoKind::InvalidData, IoText::EmptyDatagram);
-    let known = MultiplexKind::read(&BINDING_REQUEST) == Ok(MultiplexKind::Stun)
-        && MultiplexKind::read(&[0x16]) == Ok(MultiplexKind::Dtls)
-        && MultiplexKind::read(&[0x80, 0x60, 0x00]) == Ok(MultiplexKind::Rtp);
-    known
-        && MultiplexKind::read(&[0x80, 0xc8, 0x00]) == Ok(MultiplexKind::Rtcp)
-        && MultiplexKind::read(&[]) == Err(empty)
-        && MultiplexKind::read(&[0x80, 0x60]) == Err(unknown)
+    every(&[
+        is_kind(&BINDING_REQUEST, Ok(MultiplexKind::Stun)),
+        is_kind(&[0x16], Ok(MultiplexKind::Dtls)),
+        is_kind(&[0x80, 0x60, 0x00], Ok(MultiplexKind::Rtp)),
+        is_kind(&[0x80, 0xc8, 0x00], Ok(MultiplexKind::Rtcp)),
+        is_kind(&[], Err(invalid(IoText::EmptyDatagram))),
+        is_kind(&[0x80, 0x60], Err(invalid(IoText::UnknownDatagram))),
+    ])
 }
 
 // Whether STUN has to pass its reader.
@@ -55,60 +64,70 @@ fn stun() -> bool {
     let view = StunView {
         bytes: &BINDING_REQUEST,
     };
-    let refused = DatagramRecv::read::<Refusing>(&BINDING_REQUEST);
-    let taken = DatagramRecv::read::<Taking>(&BINDING_REQUEST);
-    refused == Err(NetError::Stun(StunError::NotStun)) && taken == Ok(DatagramRecv::Stun(view))
+    every(&[
+        is_refused(
+            DatagramRecv::read::<Refusing>(&BINDING_REQUEST),
+            &NetError::Stun(StunError::NotStun),
+        ),
+        gives(
+            DatagramRecv::read::<Taking>(&BINDING_REQUEST),
+            &DatagramRecv::Stun(view),
+        ),
+    ])
 }
 
 // Whether what is sent is received.
-fn sent(alloc: Global) -> Result<bool, AllocError> {
-    let source = Addr {
-        ip: [192, 0, 2, 1],
-        port: 5000,
-    };
-    let destination = Addr {
-        ip: [192, 0, 2, 2],
-        port: 6000,
-    };
-    let contents = DatagramSend::new(Bytes::new(vec![in alloc; 0x16u8, 0xfe]?));
-    let sent = Transmit {
-        proto: Protocol::Udp,
-        source,
-        destination,
-        contents,
-    };
+fn is_received(sent: &Transmit) -> bool {
     let bytes = sent.contents.as_slice();
-    let same = Receive::new::<Refusing>(Protocol::Udp, source, destination, bytes);
-    match Receive::from_transmit::<Refusing>(&sent) {
-        Ok(received) => {
-            Ok(received.contents == DatagramRecv::Dtls(bytes) && same == Ok(received))
-        }
-        Err(_) => Ok(false),
+    let same = Receive::new::<Refusing>(sent.proto, sent.source, sent.destination, bytes);
+    match Receive::from_transmit::<Refusing>(sent) {
+        Ok(received) => (received.contents == DatagramRecv::Dtls(bytes)) & gives(same, &received),
+        Err(_) => false,
     }
 }
 
+fn address(host: u8, port: u16) -> Addr {
+    Addr {
+        ip: [192, 0, 2, host],
+        port,
+    }
+}
+
+fn sent(alloc: Global) -> Result<bool, AllocError> {
+    let contents = DatagramSend::new(Bytes::new(vec![in alloc; 0x16u8, 0xfe]?));
+    let sent = Transmit {
+        proto: Protocol::Udp,
+        source: address(1, 5000),
+        destination: address(2, 6000),
+        contents,
+    };
+    Ok(is_received(&sent))
+}
+
 // Whether datagrams print their lengths, and refusals their causes.
-fn printed(alloc: Global) -> Result<bool, AllocError> {
+fn printed(alloc: Global) -> bool {
     let bytes = [0u8; 3];
-    let stun = format!(in alloc; "{:?}", DatagramRecv::Stun(StunView { bytes: &bytes }))?;
-    let dtls = format!(in alloc; "{:?}", DatagramRecv::Dtls(&bytes))?;
-    let rtp = format!(in alloc; "{:?}", DatagramRecv::Rtp(&bytes))?;
-    let empty = NetError::Io(IoKind::InvalidData, IoText::EmptyDatagram);
-    let empty = format!(in alloc; "{empty}")?;
-    let refused = format!(in alloc; "{}", NetError::Stun(StunError::NotStun))?;
-    let lengths = stun.as_str() == "Stun(len: 3)"
-        && dtls.as_str() == "Dtls(len: 3)"
-        && rtp.as_str() == "Rtp(len: 3)";
-    Ok(lengths && empty.as_str() == "Empty datagram" && refused.as_str() == "not a STUN message")
+    let stun = DatagramRecv::Stun(StunView { bytes: &bytes });
+    every(&[
+        shows(alloc, &stun, "Stun(len: 3)"),
+        shows(alloc, &DatagramRecv::Dtls(&bytes), "Dtls(len: 3)"),
+        shows(alloc, &DatagramRecv::Rtp(&bytes), "Rtp(len: 3)"),
+        prints(alloc, &invalid(IoText::EmptyDatagram), "Empty datagram"),
+        prints(
+            alloc,
+            &NetError::Stun(StunError::NotStun),
+            "not a STUN message",
+        ),
+    ])
 }
 
 /// Whether an example of datagrams gives what is expected.
-pub fn does_agree(alloc: Global, example: &str) -> Result<bool, AllocError> {
+pub fn does_agree(alloc: Global, example: &str) -> bool {
     match example {
-        "by their first bytes" => Ok(kinds()),
-        "of STUN" => Ok(stun()),
+        "by their first bytes" => kinds(),
+        "of STUN" => stun(),
         "printed" => printed(alloc),
-        "sent and received" => sent(alloc),
-        _ => Ok(false),
+        "sent and received" => is_true(sent(alloc)),
+        _ => false,
     }
 }

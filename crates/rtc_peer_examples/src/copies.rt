@@ -1,0 +1,84 @@
+//! Copies of staged changes, offers and answers.
+use rtc_cases::{is_copied, is_ok, is_true};
+use rtc_change::{AddMedia, Change, Changes};
+use rtc_lines::{Direction, MediaKind, Mid, Msid, Sdp, SdpAnswer, SdpOffer, Ssrc};
+use rtc_wire::{Seq, Text};
+use std::alloc::{AllocError, Global};
+
+fn sources(alloc: Global) -> Result<Seq<(Ssrc, Option<Ssrc>)>, AllocError> {
+    let mut ssrcs = Seq::empty(alloc);
+    ssrcs.push((Ssrc(1), Some(Ssrc(2))))?;
+    Ok(ssrcs)
+}
+
+fn no_text(alloc: Global) -> Text {
+    Text::new(String::new(alloc))
+}
+
+/// A line of audio that sends, without names.
+pub fn media(alloc: Global, mid: Mid, ssrcs: Seq<(Ssrc, Option<Ssrc>)>) -> AddMedia {
+    AddMedia {
+        mid,
+        cname: no_text(alloc),
+        msid: Msid {
+            stream_id: no_text(alloc),
+            track_id: no_text(alloc),
+        },
+        kind: MediaKind::Audio,
+        dir: Direction::SendOnly,
+        ssrcs,
+        simulcast: None,
+    }
+}
+
+fn add_each(alloc: Global, changes: &mut Seq<Change>, mid: Mid) -> Result<(), AllocError> {
+    let ssrcs = sources(alloc)?;
+    changes.push(Change::AddMedia(media(alloc, mid, ssrcs)))?;
+    changes.push(Change::AddApp(mid))?;
+    changes.push(Change::Direction(mid, Direction::Inactive))
+}
+
+// Whether changes of each kind are copied.
+fn are_changes_copied(alloc: Global, mid: Mid) -> bool {
+    let mut changes = Changes(Seq::empty(alloc));
+    let added = is_ok(add_each(alloc, &mut changes.0, mid));
+    added & is_copied(&changes)
+}
+
+fn without_lines(alloc: Global) -> Sdp {
+    Sdp {
+        id: 7,
+        groups: Seq::empty(alloc),
+        ice_lite: true,
+        creds: None,
+        fingerprint: None,
+        setup: None,
+        lines: Seq::empty(alloc),
+    }
+}
+
+fn lists_no_candidates(offer: &SdpOffer) -> Result<bool, AllocError> {
+    let listed = offer.0.candidates()?;
+    Ok(listed.is_empty())
+}
+
+// Whether an offer without lines is copied, and has no candidates.
+fn is_offer_copied(alloc: Global) -> bool {
+    let offer = SdpOffer(without_lines(alloc));
+    let listed = is_true(lists_no_candidates(&offer));
+    listed & is_copied(&offer)
+}
+
+fn is_answer_copied(alloc: Global) -> bool {
+    let answer = SdpAnswer(without_lines(alloc));
+    is_copied(&answer)
+}
+
+/// Whether an example of copies gives what is expected.
+pub fn does_agree(alloc: Global, example: &str, mid: Mid) -> bool {
+    match example {
+        "of changes" => are_changes_copied(alloc, mid),
+        "of offers and answers" => is_offer_copied(alloc) & is_answer_copied(alloc),
+        _ => false,
+    }
+}
