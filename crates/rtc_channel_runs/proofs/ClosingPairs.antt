@@ -22,7 +22,8 @@ use Rattle.rtc_assoc.proofs.StepLemmas.{step_of}
 use Rattle.rtc_assoc.proofs.DirectedLemmas.{Directed, brings_of, next_of, receiver_moves, sender_moves}
 use Rattle.rtc_assoc.proofs.RunLemmas.{both_run}
 use Rattle.rtc_channel_runs.proofs.ClosingRows.{Keeps, RowKeeps}
-use Rattle.rtc_channel_runs.proofs.ClosingEnds.{EndGo, act_frame, act_go}
+use Rattle.rtc_channel_runs.proofs.ClosingEnds.{act_frame, act_go}
+use Rattle.rtc_channel_runs.proofs.ClosingSteps.{EndGo}
 
 -- what each end sent the other in all, and what of closes that makes of their rows
 pub record Level (a b : Contents) (v u : List AssociationAct) : Type 0 where

@@ -45,10 +45,14 @@ mod StepRows
 mod ConfirmedRuns
 mod ConfirmedSides
 mod ClosingRows
+mod ClosingSettled
+mod ClosingSteps
+mod ClosingItems
 mod ClosingEnds
 mod ClosingPairs
 mod KeptStreams
 mod IdleSides
+mod SettledOpens
 pub mod SettledRuns
 pub mod KnownRows
 pub mod KnownRuns

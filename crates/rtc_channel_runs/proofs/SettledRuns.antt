@@ -1,9 +1,6 @@
 -- In a settled pair a channel that one side announced is open at both.
-use Rattle.std.proofs.Common.{◌<◌, ◌+◌, ◌≡◌, ◌⊎◌, None, ◌∙◌, ◌++◌, ℕ, Bool, false, List, [], Some, inl, inr, sym, ap, subst}
-use Rattle.rtc_association.specs.AssociationWords.{ended, read, written}
-use Rattle.rtc_assoc.specs.Unread.{IsPrefix, unread}
+use Rattle.std.proofs.Common.{◌<◌, ◌+◌, ◌≡◌, ◌⊎◌, None, ℕ, Bool, false, List, [], Some, inl, inr}
 use Rattle.rtc_assoc_state.specs.Contents.{closed_here, generation_of, has_unread}
-use Rattle.rtc_assoc_state.specs.Outbox.{has_unacknowledged}
 use Rattle.rtc_assoc_state.specs.PlainMeaning.{plain_meaning}
 use Rattle.rtc_sctp_entries.specs.declared.stream_entry_state.StreamEntryState.TheVariants.{AwaitOpen}
 use Rattle.rtc_sctp_entries.specs.Entries.{has_open}
@@ -12,7 +9,6 @@ use Rattle.rtc_channels.specs.Openings.{channels_wake}
 use Rattle.rtc_polling.specs.ChannelCalls.{stream_under}
 use Rattle.rtc_polling_laws.specs.ChannelStreams.{AreNumberedChannels}
 use Rattle.rtc_polling_laws.specs.Drained.{AreHeard, AreTriedAgain}
-use Rattle.rtc_polling_laws.specs.PeerActs.{PeerActs}
 use Rattle.rtc_plain_media.specs.declared.plain_media_event.PlainMediaEvent.{PlainMediaEvent}
 use Rattle.rtc_ids.specs.Draws.{Draws}
 use Rattle.rtc_history.specs.declared.reply.Reply.{Reply}
@@ -26,26 +22,23 @@ use Rattle.rtc_history.specs.Runs.{Reached, Runs}
 use Rattle.rtc_history.specs.Sides.{other_side}
 use Rattle.rtc_history_laws.proofs.EmptyStreams.{AreUnused, went_unused}
 use Rattle.rtc_joined_runs.specs.NewPairs.{IsNewPair}
-use Rattle.rtc_joined_runs.specs.PlainPairs.{PlainPair, PlainPolled, plain_over}
+use Rattle.rtc_joined_runs.specs.PlainPairs.{PlainPair, plain_over}
 use Rattle.rtc_joined_runs.proofs.RunsExchange.{side_all, side_reads}
 use Rattle.rtc_joined_runs.proofs.StepsExchange.{plain_over_laws}
 use Rattle.rtc_channel_runs.specs.ChannelUses.{ChannelUse}
 use Rattle.rtc_channel_runs.specs.DrainedSides.{IsDrained}
-use Rattle.rtc_channel_runs.specs.HandedOut.{AreAllHandedOut}
-use Rattle.rtc_channel_runs.specs.OpenUses.{AreJoinedUses}
 use Rattle.rtc_channel_runs.specs.SentMessages.{sent_over}
 use Rattle.rtc_channel_runs.specs.ToldMessages.{told_over}
 use Rattle.rtc_channel_runs.specs.ConfirmedChannels.{WasConfirmed}
-use Rattle.rtc_channel_runs.specs.SettledPairs.{AreBothOpening, HasEntryOf, IsRefusedAlone, AreAnswered, AreConfirmedOpen, AreConfirmedSettled, AreInBandStreams, AreOpenAtBoth, IsInBandStream, HasNothingDue, HasNothingSoon, IsLevelStream, IsOpenAtBoth, IsOpeningRefused, IsSettledPair}
-use Rattle.rtc_channel_runs.specs.SettledPairs.{IsSettledPeer, IsTakenUp, SettlesOpen, WaitsForAnswer}
+use Rattle.rtc_channel_runs.specs.SettledPairs.{AreBothOpening, HasEntryOf, IsRefusedAlone, AreAnswered, AreConfirmedOpen, AreConfirmedSettled, AreInBandStreams, AreOpenAtBoth, HasNothingDue, HasNothingSoon, IsLevelStream, IsOpenAtBoth, IsOpeningRefused, IsSettledPair}
+use Rattle.rtc_channel_runs.specs.SettledPairs.{IsTakenUp, SettlesOpen, WaitsForAnswer}
 use Rattle.rtc_channel_runs.specs.StillPairs.{IsStillPair}
 use Rattle.rtc_channel_runs.specs.UsesOfRuns.{reached_by, uses_of}
 use Rattle.rtc_channel_runs.proofs.AnsweredOpenings.{none_waits}
 use Rattle.rtc_channel_runs.proofs.DrainedRuns.{new_unused, pair_drained}
-use Rattle.rtc_channel_runs.proofs.HeardOpenings.{none_has}
 use Rattle.rtc_channel_runs.proofs.ConfirmedRuns.{SideBegun, SideSound, run_begun}
 use Rattle.rtc_channel_runs.proofs.ConfirmedSides.{IsOpen, Opening, StandsAs, Unanswered, confirmed_stands, new_sound, stands_as}
-use Rattle.rtc_channel_runs.proofs.OpenSides.{both_true, last_all, last_heard, not_closed, own_use, stays_under}
+use Rattle.rtc_channel_runs.proofs.OpenSides.{both_true, last_all, last_heard, not_closed, stays_under}
 use Rattle.rtc_channel_runs.proofs.IdleSides.{none_due, none_retried}
 use Rattle.rtc_channel_runs.proofs.KeptStreams.{AreKeptStreams, AreLevelStreams, kept_by, pair_level}
 use Rattle.rtc_channel_runs.proofs.KnownRuns.{SideKnown, new_pair_known, run_known}
@@ -57,58 +50,9 @@ use Rattle.rtc_plain_streams.proofs.KnownStreams.{AreKnown}
 use Rattle.rtc_plain_streams.proofs.PlainGenerations.{plain_generations}
 use Rattle.rtc_channel_runs.proofs.RestingSides.{PolledLast, resting_drained, resting_last}
 use Rattle.rtc_channel_runs.proofs.RunsTold.{PairTold, new_pair_told, reached_told}
-use Rattle.rtc_channel_runs.proofs.SettledSides.{other_use}
-use Rattle.rtc_channel_runs.proofs.StandingSides.{SideStood}
+use Rattle.rtc_channel_runs.proofs.SettledOpens.{side_open}
 
 module _ {N : Type 0} (draws : Draws N) where
-  -- the same channels, seen from the other side
-  abbrev joined_back : (x : ChannelUse) (p : PlainPolled N) (y : ChannelUse) (q : PlainPolled N) → AreJoinedUses (plain_over draws) x p y q
-      → AreJoinedUses (plain_over draws) y q x p
-  joined_back x p y q h = record {
-    reader_in_band = h.writer_in_band;
-    writer_in_band = h.reader_in_band;
-    reader = h.writer;
-    writer = h.reader;
-    stream_is = sym h.stream_is;
-    generation_is = sym h.generation_is;
-  }
-
-  side_open : (a b : PeerActs) (us vs : List ChannelUse) (p q : PlainPolled N) → SideStood draws a us p → SideStood draws b vs q
-      → IsSettledPeer p → IsSettledPeer q → AreHeard plain_meaning p.core.sctp.association p.core.sctp.entries
-      → AreHeard plain_meaning q.core.sctp.association q.core.sctp.entries → AreAllHandedOut draws us p vs q → AreAllHandedOut draws vs q us p
-      → ((s g : ℕ) → IsPrefix (read s g a.association) (written s g b.association))
-      → ((s g : ℕ) → ended s g a.association ≡ false → ended s g b.association ≡ false
-      → has_unacknowledged s p.core.sctp.association.outbox.items ≡ false
-      → read s g b.association ++ unread s g q.core.sctp.association.inbox.unread ≡ written s g a.association)
-      → AreLevelStreams p q
-      → AreOpenAtBoth draws us p vs q
-  side_open a b us vs p q x y here there heard others_heard got sent reads all level = λ c s shown band.
-      let kept : AreKeptStreams s p q = kept_by s p q level band in
-      let mine = own_use draws a us p x here heard c s kept.in_band_here shown kept.unclosed_here in
-      let same : s ≡ mine.stays.stream = some_is s mine.stays.stream (sym mine.stream_is ∙ mine.stays.of) in
-      let it =
-      other_use draws a b us vs p q x y here there others_heard reads all mine.use_of mine.member mine.in_band mine.stays
-      (subst (λ (n : ℕ). IsInBandStream n q.core.sctp.entries) same kept.in_band_there)
-      (ap (λ (n : ℕ). generation_of q.core.sctp.association n) (sym same) ∙ kept.generation_is ∙ sym mine.generation_is)
-      (ap (λ (n : ℕ). closed_here q.core.sctp.association n) (sym same) ∙ kept.unclosed_there) in
-      record {
-        own = mine.use_of;
-        member = mine.member;
-        channel_is = mine.channel_is;
-        other = it.other;
-        other_member = it.member;
-        joined = it.joined;
-        got =
-            got mine.use_of it.other mine.member it.member it.joined
-            (none_has it.joined.writer.stream q.core.sctp.association.outbox.items there.acknowledged);
-        sent =
-            sent it.other mine.use_of it.member mine.member (joined_back mine.use_of p it.other q it.joined)
-            (none_has it.joined.reader.stream p.core.sctp.association.outbox.items here.acknowledged);
-      }
-    where
-      some_is : (n k : ℕ) → Some n ≡ Some k → n ≡ k
-      some_is n k h = cc
-
   module _ (stun : List ℕ → Bool) (start : PlainPair N) (past : List (Entry PlainMediaEvent)) (pair : PlainPair N)
       (ran : Reached (plain_over draws) stun start past pair) (h : PairTold draws start (λ x. []) (λ x s g. []) (λ x c s g. []))
       (unused : AreUnused (plain_over draws) (plain_over_laws draws) start) (settled : IsSettledPair past pair) where
@@ -142,12 +86,12 @@ module _ {N : Type 0} (draws : Draws N) where
 
     pub settled_open : (at : Side) → AreOpenAtBoth draws (uses at) (rtc_at at pair) (uses (other_side at)) (rtc_at (other_side at) pair)
     settled_open Left =
-        side_open told.acts.left told.acts.right (uses Left) (uses Right) pair.left pair.right told.left.side told.right.side (settled.peers Left)
+        side_open draws told.acts.left told.acts.right (uses Left) (uses Right) pair.left pair.right told.left.side told.right.side (settled.peers Left)
         (settled.peers Right) (heard Left) (heard Right) (pair_drained draws stun start past pair ran h unused Left (drained Left))
         (pair_drained draws stun start past pair ran h unused Right (drained Right)) (λ s g. side_reads told.acts pair Right s g told.exchange)
         (λ s g. side_all told.acts pair Left s g told.exchange) (level Left)
     settled_open Right =
-        side_open told.acts.right told.acts.left (uses Right) (uses Left) pair.right pair.left told.right.side told.left.side (settled.peers Right)
+        side_open draws told.acts.right told.acts.left (uses Right) (uses Left) pair.right pair.left told.right.side told.left.side (settled.peers Right)
         (settled.peers Left) (heard Right) (heard Left) (pair_drained draws stun start past pair ran h unused Right (drained Right))
         (pair_drained draws stun start past pair ran h unused Left (drained Left)) (λ s g. side_reads told.acts pair Left s g told.exchange)
         (λ s g. side_all told.acts pair Right s g told.exchange) (level Right)

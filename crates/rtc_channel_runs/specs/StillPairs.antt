@@ -7,8 +7,8 @@ use Rattle.rtc_history.specs.declared.side.Side.{Side}
 use Rattle.rtc_history.specs.PairState.{rtc_at}
 use Rattle.rtc_joined_runs.specs.PlainPairs.{PlainPair, PlainPolled}
 
--- Neither the association of a peer with its streams nor the channels over them want a moment, so that no opening is to be tried again or is
--- still to be begun.
+-- Neither the association of a peer with its streams nor the channels over them want a moment, so that no opening is to be tried again
+-- or is still to be begun.
 pub record IsStillPeer {N : Type 0} (p : PlainPolled N) : Type 0 where
   pub idle : channels_wake plain_meaning p.core.channels p.core.sctp ≡ None
   pub waits : streams_wake plain_meaning p.core.sctp ≡ None

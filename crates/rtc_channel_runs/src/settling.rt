@@ -13,7 +13,8 @@ ghost use Rattle.rtc_history.specs.Sides.{other_side};
 ghost use Rattle.rtc_joined_runs.specs.NewPairs.{IsNewPair};
 ghost use Rattle.rtc_joined_runs.specs.PlainPairs.{PlainPair, plain_over};
 ghost use Rattle.rtc_channel_runs.specs.ConfirmedChannels.{WasConfirmed};
-ghost use Rattle.rtc_channel_runs.specs.SettledPairs.{AreAnswered, AreConfirmedOpen, AreConfirmedSettled, AreOpenAtBoth, HasNothingDue, HasNothingSoon, IsLevelStream, IsSettledPair, SettlesOpen};
+ghost use Rattle.rtc_channel_runs.specs.SettledPairs.{AreAnswered, AreConfirmedOpen, AreConfirmedSettled, AreOpenAtBoth};
+ghost use Rattle.rtc_channel_runs.specs.SettledPairs.{HasNothingDue, HasNothingSoon, IsLevelStream, IsSettledPair, SettlesOpen};
 ghost use Rattle.rtc_channel_runs.specs.StillPairs.{IsStillPair};
 ghost use Rattle.rtc_channel_runs.specs.UsesOfRuns.{uses_of};
 

@@ -21,8 +21,8 @@ AnswersAgain moment p answer q = ((answer ≡ Ok (Timeout moment)) × (q ≡ p))
 abbrev pub is_refused : {S : Type 0} → AssociationMeaning S → S → (stream : ℕ) → Bool
 is_refused m a stream = m.has_stream a stream || m.resetting a stream
 
--- A stream in use waits to be opened, which is refused for now and tried again; or it was opened, is there, in the generation that its entry
--- keeps, if it keeps one, is not to be closed, and no whole message of its generation stands unread.
+-- A stream in use waits to be opened, which is refused for now and tried again; or it was opened, is there, in the generation that its
+-- entry keeps, if it keeps one, is not to be closed, and no whole message of its generation stands unread.
 abbrev pub IsHeard : {S : Type 0} → AssociationMeaning S → S → StreamEntry → Type 0
 IsHeard m a entry =
     ((entry.state ≡ AwaitOpen) × (is_retrying entry ≡ true) × (is_refused m a entry.id ≡ true))

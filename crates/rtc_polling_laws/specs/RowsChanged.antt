@@ -69,7 +69,8 @@ module _ {S : Type 0} (m : AssociationMeaning S) where
     Progressed : (now : ℕ) (wake wake' : Signals) (between : SctpStreams S) → TakesTimeout m now a wake (Ok tt) between wake' → (due : Bool)
         (signals signals' : Signals) → MeetsMoment m due held between signals (Ok tt) held' b signals' → RowsChange held a held' b
     ThresholdSet : (n : ℕ) (place : Option ℕ) → SetsThreshold S n place a b → held' ≡ held → RowsChange held a held' b
-    StreamClosed : (stream : ℕ) (r : Result (Unit {0}) AllocError) → ClosesDataStream m stream a r b → held' ≡ held → RowsChange held a held' b
+    StreamClosed : (stream : ℕ) (r : Result (Unit {0}) AllocError) → ClosesDataStream m stream a r b → held' ≡ held
+        → RowsChange held a held' b
     Confirmed : (channels : List (ℕ × ChannelConfig)) → held' ≡ all_confirmed channels held → OnlyActs a b → RowsChange held a held' b
     Made : (config : ChannelConfig) → held' ≡ with_channel held config → OnlyActs a b → RowsChange held a held' b
 
