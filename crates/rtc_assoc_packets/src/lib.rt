@@ -18,6 +18,3 @@ pub use item_header::ItemHeader;
 pub use item_part::ItemPart;
 pub use outgoing::Outgoing;
 pub use packet::Packet;
-
-#[cfg(test)]
-mod tests;

@@ -1,7 +1,7 @@
 //! Streams that are closed, reset and opened again.
 use crate::scripts::{Do, L, R, Says, is_played};
 use rtc_association::{AssocError, AssocEvent, Ppi};
-use std::alloc::{AllocError, Global};
+use std::alloc::Global;
 
 // The left end writes and closes, the right end reads and is told, both are reset, and the right end opens again.
 const RESET: [(Do, Says); 44] = [
@@ -57,11 +57,11 @@ const RESET: [(Do, Says); 44] = [
     (Do::Read(L, 1), Says::Nothing(1)),
 ];
 
-fn a_stream_is_reset_and_opened_again(alloc: Global) -> Result<bool, AllocError> {
+fn a_stream_is_reset_and_opened_again(alloc: Global) -> bool {
     is_played(alloc, &RESET)
 }
 
-fn unread_messages_go_with_the_close(alloc: Global) -> Result<bool, AllocError> {
+fn unread_messages_go_with_the_close(alloc: Global) -> bool {
     let script = [
         (Do::Connect(L), Says::Done),
         (Do::Accept(R), Says::Done),
@@ -92,10 +92,10 @@ fn unread_messages_go_with_the_close(alloc: Global) -> Result<bool, AllocError> 
 }
 
 /// Whether a script is played as its rules say.
-pub fn does_agree(alloc: Global, example: &str) -> Result<bool, AllocError> {
+pub fn does_agree(alloc: Global, example: &str) -> bool {
     match example {
         "a stream is reset and opened again" => a_stream_is_reset_and_opened_again(alloc),
         "unread messages go with the close" => unread_messages_go_with_the_close(alloc),
-        _ => Ok(false),
+        _ => false,
     }
 }

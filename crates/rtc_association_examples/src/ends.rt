@@ -6,35 +6,23 @@ use std::alloc::Global;
 
 pub const SECOND: u64 = 1_000_000_000;
 
-// An end that is not started yet. Its packets carry twelve bytes of a message.
-fn fresh(alloc: Global) -> PlainAssociation {
+/// An end that is not started yet. Its packets carry twelve bytes of a message.
+pub fn fresh(alloc: Global) -> PlainAssociation {
     let mut end = PlainAssociation::new(alloc);
     end.set_limits(40, 262_144);
     end
 }
 
-/// A client that has not heard of a server.
-pub fn client(alloc: Global) -> Result<PlainAssociation, AssocError> {
-    let mut end = fresh(alloc);
-    connect(&mut end)?;
-    Ok(end)
-}
-
-fn connect(end: &mut PlainAssociation) -> Result<(), AssocError> {
+/// Starts an end as a client.
+pub fn connect<A: Association>(end: &mut A) -> Result<(), AssocError> {
     if end.is_started() {
         return Err(AssocError::Closing);
     }
     end.connect(Moment::FAR_PAST, 1000)
 }
 
-/// A server that has not heard of a client.
-pub fn server(alloc: Global) -> Result<PlainAssociation, AssocError> {
-    let mut end = fresh(alloc);
-    accept(&mut end)?;
-    Ok(end)
-}
-
-fn accept(end: &mut PlainAssociation) -> Result<(), AssocError> {
+/// Starts an end as a server.
+pub fn accept<A: Association>(end: &mut A) -> Result<(), AssocError> {
     if end.is_started() {
         return Err(AssocError::Closing);
     }
@@ -42,7 +30,7 @@ fn accept(end: &mut PlainAssociation) -> Result<(), AssocError> {
 }
 
 /// Gives an end that was started a packet. Like the calls below it answers that the end is closing where it was not.
-pub fn give(end: &mut PlainAssociation, nanos: u64, bytes: &[u8]) -> Result<(), AssocError> {
+pub fn give<A: Association>(end: &mut A, nanos: u64, bytes: &[u8]) -> Result<(), AssocError> {
     if !end.is_started() {
         return Err(AssocError::Closing);
     }
@@ -51,7 +39,7 @@ pub fn give(end: &mut PlainAssociation, nanos: u64, bytes: &[u8]) -> Result<(), 
 }
 
 /// Opens a stream.
-pub fn open(end: &mut PlainAssociation, id: u16) -> Result<(), AssocError> {
+pub fn open<A: Association>(end: &mut A, id: u16) -> Result<(), AssocError> {
     if !end.is_started() {
         return Err(AssocError::Closing);
     }
@@ -59,7 +47,7 @@ pub fn open(end: &mut PlainAssociation, id: u16) -> Result<(), AssocError> {
 }
 
 /// Writes a binary message.
-pub fn write(end: &mut PlainAssociation, id: u16, bytes: &[u8]) -> Result<usize, AssocError> {
+pub fn write<A: Association>(end: &mut A, id: u16, bytes: &[u8]) -> Result<usize, AssocError> {
     if !end.is_started() {
         return Err(AssocError::Closing);
     }
@@ -67,7 +55,7 @@ pub fn write(end: &mut PlainAssociation, id: u16, bytes: &[u8]) -> Result<usize,
 }
 
 /// Closes a stream.
-pub fn close(end: &mut PlainAssociation, id: u16) -> Result<(), AssocError> {
+pub fn close<A: Association>(end: &mut A, id: u16) -> Result<(), AssocError> {
     if !end.is_started() {
         return Err(AssocError::Closing);
     }
@@ -75,7 +63,7 @@ pub fn close(end: &mut PlainAssociation, id: u16) -> Result<(), AssocError> {
 }
 
 /// Shuts an end down.
-pub fn shut(end: &mut PlainAssociation) -> Result<(), AssocError> {
+pub fn shut<A: Association>(end: &mut A) -> Result<(), AssocError> {
     if !end.is_started() {
         return Err(AssocError::Closing);
     }
@@ -83,7 +71,7 @@ pub fn shut(end: &mut PlainAssociation) -> Result<(), AssocError> {
 }
 
 /// Sets the threshold of a stream.
-pub fn set_threshold(end: &mut PlainAssociation, id: u16, n: usize) -> Result<(), AssocError> {
+pub fn set_threshold<A: Association>(end: &mut A, id: u16, n: usize) -> Result<(), AssocError> {
     if !end.is_started() {
         return Err(AssocError::Closing);
     }
@@ -91,7 +79,7 @@ pub fn set_threshold(end: &mut PlainAssociation, id: u16, n: usize) -> Result<()
 }
 
 // A message of a stream, where one is unread.
-fn read(end: &mut PlainAssociation, id: u16) -> Result<Option<(Ppi, Bytes)>, AssocError> {
+fn read<A: Association>(end: &mut A, id: u16) -> Result<Option<(Ppi, Bytes)>, AssocError> {
     if !end.is_started() {
         return Err(AssocError::Closing);
     }
@@ -99,7 +87,7 @@ fn read(end: &mut PlainAssociation, id: u16) -> Result<Option<(Ppi, Bytes)>, Ass
 }
 
 /// Whether the next packet has these bytes.
-pub fn sends(end: &mut PlainAssociation, bytes: &[u8]) -> bool {
+pub fn sends<A: Association>(end: &mut A, bytes: &[u8]) -> bool {
     match end.poll_transmit() {
         None => false,
         Some(packet) => packet.as_slice() == bytes,
@@ -107,12 +95,12 @@ pub fn sends(end: &mut PlainAssociation, bytes: &[u8]) -> bool {
 }
 
 /// Whether no packet and no event is left.
-pub fn is_quiet(end: &mut PlainAssociation) -> bool {
-    end.poll_transmit().is_none() && end.poll().is_none()
+pub fn is_quiet<A: Association>(end: &mut A) -> bool {
+    end.poll_transmit().is_none() & end.poll().is_none()
 }
 
 /// Whether an end wants to be woken at this moment.
-pub fn wakes_at(end: &PlainAssociation, nanos: u64) -> bool {
+pub fn wakes_at<A: Association>(end: &A, nanos: u64) -> bool {
     match end.poll_timeout() {
         None => false,
         Some(moment) => moment == Moment::from_nanos(nanos),
@@ -120,7 +108,7 @@ pub fn wakes_at(end: &PlainAssociation, nanos: u64) -> bool {
 }
 
 /// Whether no message of a stream is unread.
-pub fn has_read_all(end: &mut PlainAssociation, id: u16) -> bool {
+pub fn has_read_all<A: Association>(end: &mut A, id: u16) -> bool {
     match read(end, id) {
         Ok(message) => message.is_none(),
         Err(_) => false,
@@ -128,17 +116,9 @@ pub fn has_read_all(end: &mut PlainAssociation, id: u16) -> bool {
 }
 
 /// Whether the next unread message of a stream is binary and has these bytes.
-pub fn reads(end: &mut PlainAssociation, id: u16, bytes: &[u8]) -> bool {
+pub fn reads<A: Association>(end: &mut A, id: u16, bytes: &[u8]) -> bool {
     match read(end, id) {
-        Ok(Some((ppi, message))) => ppi == Ppi::Binary && message.as_slice() == bytes,
+        Ok(Some((ppi, message))) => (ppi == Ppi::Binary) & (message.as_slice() == bytes),
         _ => false,
-    }
-}
-
-/// Whether a call was refused with this error.
-pub fn is_refused<T: Drop>(answer: Result<T, AssocError>, want: AssocError) -> bool {
-    match answer {
-        Ok(_) => false,
-        Err(error) => error == want,
     }
 }

@@ -1,7 +1,7 @@
 //! Packets that are none, and packets that somebody else made.
-use crate::ends::{give, server};
-use rtc_assoc_end::PlainAssociation;
-use rtc_association::{AssocError, AssocEvent, Association};
+use crate::ends::{accept, fresh, give};
+use rtc_association::{AssocEvent, Association};
+use rtc_cases::{is_ok, is_true, keep};
 use std::alloc::{AllocError, Global};
 
 // What a packet does to a server: its first event, how many packets it queues, and the last byte of the first one.
@@ -37,14 +37,14 @@ const LOST: Seen = Seen {
     last: None,
 };
 
-fn last_byte(end: &mut PlainAssociation) -> Option<u8> {
+fn last_byte<A: Association>(end: &mut A) -> Option<u8> {
     match end.poll_transmit() {
         None => None,
         Some(packet) => packet.as_slice().last().copied(),
     }
 }
 
-fn shows(end: &mut PlainAssociation, want: &Seen) -> bool {
+fn shows<A: Association>(end: &mut A, want: &Seen) -> bool {
     let event = end.poll();
     let last = last_byte(end);
     for _ in 1..want.packets {
@@ -52,13 +52,19 @@ fn shows(end: &mut PlainAssociation, want: &Seen) -> bool {
             return false;
         }
     }
-    event == want.event && last == want.last && end.poll_transmit().is_none()
+    (event == want.event) & (last == want.last) & end.poll_transmit().is_none()
 }
 
-fn does(alloc: Global, bytes: &[u8], want: &Seen) -> Result<bool, AssocError> {
-    let mut end = server(alloc)?;
-    give(&mut end, 0, bytes)?;
-    Ok(shows(&mut end, want))
+// Whether a packet does this to a server that has heard of no client.
+fn does_at<A: Association>(end: &mut A, bytes: &[u8], want: &Seen) -> bool {
+    let started = is_ok(accept(end));
+    let given = is_ok(give(end, 0, bytes));
+    started & given & shows(end, want)
+}
+
+fn does(alloc: Global, bytes: &[u8], want: &Seen) -> bool {
+    let mut end = fresh(alloc);
+    does_at(&mut end, bytes, want)
 }
 
 // A data packet of stream 7, with its acknowledgement, number, generation, part and content.
@@ -70,6 +76,17 @@ fn packet(
     content: &[u8],
 ) -> Result<Vec<u8>, AllocError> {
     let mut bytes = Vec::new(alloc);
+    let filled = fill(&mut bytes, number, generation, part, content);
+    keep(bytes, filled)
+}
+
+fn fill(
+    bytes: &mut Vec<u8>,
+    number: u64,
+    generation: u32,
+    part: u8,
+    content: &[u8],
+) -> Result<(), AllocError> {
     bytes.push(3)?;
     bytes.extend_from_slice(&u64::MAX.to_be_bytes())?;
     bytes.extend_from_slice(&number.to_be_bytes())?;
@@ -78,7 +95,7 @@ fn packet(
     bytes.push(part)?;
     bytes.extend_from_slice(&51u32.to_be_bytes())?;
     bytes.extend_from_slice(content)?;
-    Ok(bytes)
+    Ok(())
 }
 
 const NONE: [&[u8]; 16] = [
@@ -106,17 +123,17 @@ const NONE: [&[u8]; 16] = [
     ],
 ];
 
-fn ignores_malformed(alloc: Global) -> Result<bool, AssocError> {
+fn ignores_malformed(alloc: Global) -> bool {
     for bytes in NONE {
-        if !does(alloc, bytes, &NOTHING)? {
-            return Ok(false);
+        if !does(alloc, bytes, &NOTHING) {
+            return false;
         }
     }
-    Ok(true)
+    true
 }
 
-fn hears_greetings(alloc: Global) -> Result<bool, AssocError> {
-    Ok(does(alloc, &[1], &CONNECTED)? && does(alloc, &[5], &LOST)?)
+fn hears_greetings(alloc: Global) -> bool {
+    does(alloc, &[1], &CONNECTED) & does(alloc, &[5], &LOST)
 }
 
 // Number, generation, part, and what is seen.
@@ -160,30 +177,46 @@ const FORGED: [(u64, u32, u8, Seen); 10] = [
     ),
 ];
 
-fn hears_forged(alloc: Global) -> Result<bool, AssocError> {
-    for (number, generation, part, want) in FORGED {
-        let bytes = packet(alloc, number, generation, part, b"")?;
-        if !does(alloc, bytes.as_slice(), &want)? {
-            return Ok(false);
-        }
-    }
-    Ok(true)
+fn does_forged(
+    alloc: Global,
+    number: u64,
+    generation: u32,
+    part: u8,
+    want: &Seen,
+) -> Result<bool, AllocError> {
+    let bytes = packet(alloc, number, generation, part, b"")?;
+    Ok(does(alloc, bytes.as_slice(), want))
 }
 
-fn leaves_no_stream(alloc: Global) -> Result<bool, AssocError> {
+fn hears_forged(alloc: Global) -> bool {
+    for (number, generation, part, want) in FORGED {
+        if !is_true(does_forged(alloc, number, generation, part, &want)) {
+            return false;
+        }
+    }
+    true
+}
+
+// Whether a server that is given a packet has no stream 7.
+fn is_left<A: Association>(end: &mut A, bytes: &[u8]) -> bool {
+    let started = is_ok(accept(end));
+    let given = is_ok(give(end, 0, bytes));
+    started & given & !end.has_stream(7)
+}
+
+fn leaves_no_stream(alloc: Global) -> Result<bool, AllocError> {
     let bytes = packet(alloc, 1, 1, 1, b"later")?;
-    let mut end = server(alloc)?;
-    give(&mut end, 0, bytes.as_slice())?;
-    Ok(!end.has_stream(7))
+    let mut end = fresh(alloc);
+    Ok(is_left(&mut end, bytes.as_slice()))
 }
 
 /// Whether a packet of somebody else does what the format says.
-pub fn does_agree(alloc: Global, example: &str) -> Result<bool, AssocError> {
+pub fn does_agree(alloc: Global, example: &str) -> bool {
     match example {
         "malformed packets do nothing" => ignores_malformed(alloc),
         "hello and shutdown do what the format says" => hears_greetings(alloc),
         "forged items do what the format says" => hears_forged(alloc),
-        "a message of a generation to come leaves no stream" => leaves_no_stream(alloc),
-        _ => Ok(false),
+        "a message of a generation to come leaves no stream" => is_true(leaves_no_stream(alloc)),
+        _ => false,
     }
 }

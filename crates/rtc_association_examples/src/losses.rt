@@ -1,11 +1,11 @@
 //! Packets that are lost, repeated and out of order.
 use crate::scripts::{Do, L, R, Says, is_played};
 use rtc_association::{AssocError, AssocEvent, Ppi};
-use std::alloc::{AllocError, Global};
+use std::alloc::Global;
 
 const MESSAGE: &[u8] = b"thirty bytes in three pieces..";
 
-fn three_pieces_are_read_once_after_a_resend(alloc: Global) -> Result<bool, AllocError> {
+fn three_pieces_are_read_once_after_a_resend(alloc: Global) -> bool {
     let script = [
         (Do::Connect(L), Says::Done),
         (Do::Accept(R), Says::Done),
@@ -44,7 +44,7 @@ fn three_pieces_are_read_once_after_a_resend(alloc: Global) -> Result<bool, Allo
     is_played(alloc, &script)
 }
 
-fn messages_of_two_streams_keep_their_order(alloc: Global) -> Result<bool, AllocError> {
+fn messages_of_two_streams_keep_their_order(alloc: Global) -> bool {
     let script = [
         (Do::Connect(L), Says::Done),
         (Do::Accept(R), Says::Done),
@@ -76,7 +76,7 @@ fn messages_of_two_streams_keep_their_order(alloc: Global) -> Result<bool, Alloc
 }
 
 /// Whether a script is played as its rules say.
-pub fn does_agree(alloc: Global, example: &str) -> Result<bool, AllocError> {
+pub fn does_agree(alloc: Global, example: &str) -> bool {
     match example {
         "three pieces are read once after a resend" => three_pieces_are_read_once_after_a_resend(
             alloc,
@@ -84,6 +84,6 @@ pub fn does_agree(alloc: Global, example: &str) -> Result<bool, AllocError> {
         "messages of two streams keep their order" => messages_of_two_streams_keep_their_order(
             alloc,
         ),
-        _ => Ok(false),
+        _ => false,
     }
 }

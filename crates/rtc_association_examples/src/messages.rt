@@ -1,6 +1,7 @@
 //! Messages between two associations in memory.
 use rtc_assoc::{AssocReply, AssocStep, PlainAssociation, run_assoc};
 use rtc_association::Ppi;
+use rtc_cases::{every, is_true};
 use rtc_wire::{Bytes, Moment};
 use std::alloc::{AllocError, Global};
 
@@ -28,29 +29,71 @@ fn carry(steps: &mut Vec<AssocStep>, left: bool, packet: u32) -> Result<(), Allo
     Ok(())
 }
 
-// The steps that take a message from the left end to the right one: the start, its packets each with its
-// acknowledgement, and the read.
-fn steps_for(alloc: Global, length: usize) -> Result<Vec<AssocStep>, AllocError> {
-    let mut steps = Vec::new(alloc);
+// The start of both ends, which hear of each other.
+fn start(steps: &mut Vec<AssocStep>) -> Result<(), AllocError> {
     steps.push(AssocStep::Connect { left: true })?;
     steps.push(AssocStep::Accept { left: false })?;
-    carry(&mut steps, true, 0)?;
-    carry(&mut steps, false, 1)?;
+    carry(steps, true, 0)?;
+    carry(steps, false, 1)?;
     steps.push(AssocStep::Open { left: true, id: 0 })?;
+    Ok(())
+}
+
+fn write(alloc: Global, steps: &mut Vec<AssocStep>, length: usize) -> Result<(), AllocError> {
+    let bytes = message(alloc, length)?;
     steps.push(AssocStep::Write {
         left: true,
         id: 0,
         ppi: Ppi::Binary,
-        bytes: message(alloc, length)?,
+        bytes,
     })?;
+    Ok(())
+}
+
+// The packets of a message, each with its acknowledgement, and the read.
+fn pass(steps: &mut Vec<AssocStep>, length: usize) -> Result<(), AllocError> {
     let mut packet = 2u32;
     for _ in 0..length.div_ceil(PIECE).max(1) {
-        carry(&mut steps, true, packet)?;
-        carry(&mut steps, false, packet.wrapping_add(1))?;
+        carry(steps, true, packet)?;
+        carry(steps, false, packet.wrapping_add(1))?;
         packet = packet.wrapping_add(2);
     }
     steps.push(AssocStep::Read { left: false, id: 0 })?;
-    Ok(steps)
+    Ok(())
+}
+
+// The steps that take a message from the left end to the right one.
+fn add_steps(alloc: Global, steps: &mut Vec<AssocStep>, length: usize) -> Result<(), AllocError> {
+    start(steps)?;
+    write(alloc, steps, length)?;
+    pass(steps, length)
+}
+
+// Whether the last reply is a binary message of these bytes.
+fn gives(replies: &[AssocReply], expected: &[u8]) -> bool {
+    match replies.last() {
+        Some(
+            AssocReply::Message {
+                message: Some((Ppi::Binary, bytes)),
+                ..
+            },
+        ) => bytes.as_slice() == expected,
+        _ => false,
+    }
+}
+
+fn run(alloc: Global, steps: &[AssocStep]) -> Result<Vec<AssocReply>, AllocError> {
+    if steps.len() > 10_000 {
+        return Err(AllocError);
+    }
+    let mut left = PlainAssociation::new(alloc);
+    let mut right = PlainAssociation::new(alloc);
+    run_assoc(alloc, MAX_PAYLOAD, steps, &mut left, &mut right)
+}
+
+fn is_read(alloc: Global, steps: &[AssocStep], expected: &[u8]) -> Result<bool, AllocError> {
+    let replies = run(alloc, steps)?;
+    Ok(gives(replies.as_slice(), expected))
 }
 
 // Whether a message of so many bytes, at most 262,144, is read as it was written.
@@ -58,30 +101,23 @@ fn does_arrive(alloc: Global, length: usize) -> Result<bool, AllocError> {
     if length > 262_144 {
         return Ok(false);
     }
-    let steps = steps_for(alloc, length)?;
-    if steps.len() > 10_000 {
-        return Ok(false);
-    }
-    let mut left = PlainAssociation::new(alloc);
-    let mut right = PlainAssociation::new(alloc);
-    let replies = run_assoc(alloc, MAX_PAYLOAD, steps.as_slice(), &mut left, &mut right)?;
     let expected = message(alloc, length)?;
-    Ok(match replies.last() {
-        Some(
-            AssocReply::Message {
-                message: Some((Ppi::Binary, bytes)),
-                ..
-            },
-        ) => bytes.as_slice() == expected.as_slice(),
-        _ => false,
-    })
+    let mut steps = Vec::new(alloc);
+    add_steps(alloc, &mut steps, length)?;
+    is_read(alloc, steps.as_slice(), expected.as_slice())
 }
 
 // Whether payload identifiers have their registered numbers (RFC 8831, section 8).
 fn identifiers() -> bool {
-    let named = Ppi::Dcep.number() == 50 && Ppi::Text.number() == 51 && Ppi::Binary.number() == 53;
-    let empty = Ppi::EmptyText.number() == 56 && Ppi::EmptyBinary.number() == 57;
-    named && empty && Ppi::of(53) == Ppi::Binary && Ppi::of(52) == Ppi::Other(52)
+    every(&[
+        Ppi::Dcep.number() == 50,
+        Ppi::Text.number() == 51,
+        Ppi::Binary.number() == 53,
+        Ppi::EmptyText.number() == 56,
+        Ppi::EmptyBinary.number() == 57,
+        Ppi::of(53) == Ppi::Binary,
+        Ppi::of(52) == Ppi::Other(52),
+    ])
 }
 
 // The length in an example as `of 1034 bytes`.
@@ -94,9 +130,9 @@ fn length(example: &str) -> Option<usize> {
 }
 
 /// Whether an example of messages gives what is expected.
-pub fn does_agree(alloc: Global, example: &str) -> Result<bool, AllocError> {
+pub fn does_agree(alloc: Global, example: &str) -> bool {
     match length(example) {
-        Some(length) => does_arrive(alloc, length),
-        None => Ok(example == "with registered identifiers" && identifiers()),
+        Some(length) => is_true(does_arrive(alloc, length)),
+        None => (example == "with registered identifiers") & identifiers(),
     }
 }

@@ -1,6 +1,7 @@
 //! Scripts of two ends, each step with the reply that the rules of the association give by hand.
 use rtc_assoc::{AssocReply, AssocStep, PlainAssociation, run_assoc};
 use rtc_association::{AssocError, AssocEvent, Ppi};
+use rtc_cases::gives;
 use rtc_wire::{Bytes, Moment};
 use std::alloc::{AllocError, Global};
 
@@ -84,7 +85,7 @@ fn is_message(
 ) -> bool {
     match message {
         None => false,
-        Some((got, read)) => generation == want && *got == ppi && read.as_slice() == bytes,
+        Some((got, read)) => (generation == want) & (*got == ppi) & (read.as_slice() == bytes),
     }
 }
 
@@ -115,25 +116,38 @@ fn answers(reply: &AssocReply, want: Says) -> bool {
             AssocReply::Message {
                 generation,
                 message,
-            } => *generation == want && message.is_none(),
+            } => (*generation == want) & message.is_none(),
             _ => false,
         },
         Says::NoSuch => *reply == AssocReply::NoSuch,
     }
 }
 
-fn replies_to(alloc: Global, script: &[(Do, Says)]) -> Result<Vec<AssocReply>, AllocError> {
-    let mut steps = Vec::new(alloc);
+fn add_steps(
+    alloc: Global,
+    steps: &mut Vec<AssocStep>,
+    script: &[(Do, Says)],
+) -> Result<(), AllocError> {
     for (wanted, _) in script {
         let step = step(alloc, *wanted)?;
         steps.push(step)?;
     }
+    Ok(())
+}
+
+fn run(alloc: Global, steps: &[AssocStep]) -> Result<Vec<AssocReply>, AllocError> {
     if steps.len() > 1000 {
         return Err(AllocError);
     }
     let mut left = PlainAssociation::new(alloc);
     let mut right = PlainAssociation::new(alloc);
-    run_assoc(alloc, 40, steps.as_slice(), &mut left, &mut right)
+    run_assoc(alloc, 40, steps, &mut left, &mut right)
+}
+
+fn replies_to(alloc: Global, script: &[(Do, Says)]) -> Result<Vec<AssocReply>, AllocError> {
+    let mut steps = Vec::new(alloc);
+    add_steps(alloc, &mut steps, script)?;
+    run(alloc, steps.as_slice())
 }
 
 // The number of the first step that is not answered so, or that of all steps.
@@ -155,6 +169,6 @@ fn played(alloc: Global, script: &[(Do, Says)]) -> Result<usize, AllocError> {
 }
 
 /// Whether each step of a script is answered as it says.
-pub fn is_played(alloc: Global, script: &[(Do, Says)]) -> Result<bool, AllocError> {
-    Ok(played(alloc, script)? == script.len())
+pub fn is_played(alloc: Global, script: &[(Do, Says)]) -> bool {
+    gives(played(alloc, script), &script.len())
 }

@@ -14,6 +14,3 @@ mod progress;
 pub use channel_error::ChannelError;
 pub use channel_handler::ChannelHandler;
 pub use channel_row::ChannelRow;
-
-#[cfg(test)]
-mod tests;

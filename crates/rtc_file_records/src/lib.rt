@@ -8,8 +8,6 @@ mod file_record;
 mod file_sender;
 mod laws;
 mod record_view;
-#[cfg(test)]
-mod tests;
 
 pub use announced::Announced;
 pub use file_error::FileError;

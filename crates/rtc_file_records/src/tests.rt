@@ -1,3 +1,0 @@
-//! Records by their bytes, and a receiver at its wrong moments.
-mod receiving;
-mod records;
