@@ -18,7 +18,7 @@ use std::collections::{BTreeMap, LinkedList};
 const QUEUE_LIMIT: usize = 4611686018427387904;
 
 /// The connection whose stream is read.
-#[derive(Clone, Copy, Debug)]
+#[derive(Clone, Copy)]
 pub struct Sender {
     pub place: usize,
     pub number: u32,

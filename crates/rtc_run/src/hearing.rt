@@ -79,25 +79,6 @@ fn give_datagram<I: IceAgent, D: DtlsInstance, S: Association, M: MediaSession, 
     }
 }
 
-// Gives a peer a datagram that the other side sent.
-fn hear<I: IceAgent, D: DtlsInstance, S: Association, M: MediaSession, N: Ids>(
-    alloc: Global,
-    rtc: &mut Rtc<I, D, S, M, N>,
-    transmit: &Transmit,
-    now: Moment,
-) -> Reply<M::E>
-    ensures { StepCalls (meanings I.ice D.dtls S.association M.media N.ids)
-        (HandlesRead (meanings I.ice D.dtls S.association M.media N.ids)
-        (kind_by I.stun transmit.now.contents) transmit.now now)
-        rtc.old result.outcome result.table rtc.new }
-{
-    let Ok(room) = room_for(alloc, rtc, 0, 0) else {
-        return reply_no_memory();
-    };
-    let answer = give_datagram(rtc, transmit, now);
-    reply_with(outcome_of(answer), room, rtc)
-}
-
 /// Gives a peer the datagram of a number, if the other side sent it.
 pub fn take_datagram<I: IceAgent, D: DtlsInstance, S: Association, M: MediaSession, N: Ids>(
     alloc: Global,
@@ -110,10 +91,14 @@ pub fn take_datagram<I: IceAgent, D: DtlsInstance, S: Association, M: MediaSessi
     ensures { StepTakesDatagram (meanings I.ice D.dtls S.association M.media N.ids)
         I.stun (remote_packet packets.now at packet) now rtc.old result.outcome result.table rtc.new }
 {
-    match find_packet(packets, at, packet) {
-        None => reply_no_such(alloc, rtc),
-        Some(transmit) => hear(alloc, rtc, transmit, now),
-    }
+    let Some(transmit) = find_packet(packets, at, packet) else {
+        return reply_no_such(alloc, rtc);
+    };
+    let Ok(room) = room_for(alloc, rtc, 0, 0) else {
+        return reply_no_memory();
+    };
+    let answer = give_datagram(rtc, transmit, now);
+    reply_with(outcome_of(answer), room, rtc)
 }
 
 /// Begins to close a peer.

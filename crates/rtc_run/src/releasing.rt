@@ -1,4 +1,4 @@
-//! The end of what was delivered.
+//! The end of what a step owns.
 ghost use Rattle.std.specs.Prelude.{◌≡◌};
 
 /// Gives what was told of something, once that is dropped: to what owns it, its drop is then one call.

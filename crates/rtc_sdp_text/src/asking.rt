@@ -5,7 +5,7 @@ ghost use Rattle.rtc_sdp_text.specs.Asking as spec;
 use crate::SdpKind;
 
 /// What is to be done with a session description.
-#[derive(Clone, Copy, Debug, PartialEq, Eq)]
+#[derive(Clone, Copy)]
 pub enum Asked {
     /// To read it, and write it again.
     Rewrite(SdpKind),

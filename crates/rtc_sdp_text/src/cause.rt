@@ -1,7 +1,7 @@
 //! Why lines refuse texts.
 
 /// Why a line refuses a session description.
-#[derive(Clone, Copy, Debug, PartialEq, Eq)]
+#[derive(Clone, Copy)]
 pub enum Cause {
     /// The first line is not `v=0`.
     NoVersion,

@@ -6,6 +6,7 @@ ghost use Rattle.rtc_sdp_reader.specs.Reading.{reading};
 ghost use Rattle.rtc_sdp_text.specs.Explanation as spec;
 
 use crate::fates::{came_with, cause, item_fate, next};
+use crate::releasing::release;
 use crate::repairing::{repair, utf8_of};
 use crate::{Cause, Explanation, Fate, Walk};
 use rtc_sdp_grammar::{Item, item_of};
@@ -14,36 +15,36 @@ use rtc_sdp_values::SdpError;
 use rtc_wire::{Seq, Text};
 use std::alloc::{AllocError, Global};
 
-fn put_cause(out: &mut String, cause: Cause) -> Result<(), AllocError>
-    ensures { OnOk result (string_bytes out.new ≡ string_bytes out.old ++ spec.cause_words cause) }
+fn cause_words(cause: Cause) -> &'static str
+    ensures { result.now ≡ spec.cause_words cause }
 {
     match cause {
-        Cause::NoVersion => out.push_str("refused (the first line is not v=0)"),
-        Cause::NoOrigin => out.push_str("refused (the second line is no o= line)"),
-        Cause::NoForm => out.push_str("refused (no line of a session description)"),
-        Cause::Malformed => out.push_str("refused (not of its form)"),
-        Cause::NotOneMid => out.push_str("refused (its part has not exactly one mid)"),
+        Cause::NoVersion => "refused (the first line is not v=0)",
+        Cause::NoOrigin => "refused (the second line is no o= line)",
+        Cause::NoForm => "refused (no line of a session description)",
+        Cause::Malformed => "refused (not of its form)",
+        Cause::NotOneMid => "refused (its part has not exactly one mid)",
     }
 }
 
-fn put_fate(out: &mut String, fate: Fate) -> Result<(), AllocError>
-    ensures { OnOk result (string_bytes out.new ≡ string_bytes out.old ++ spec.fate_words fate) }
+fn fate_words(fate: Fate) -> &'static str
+    ensures { result.now ≡ spec.fate_words fate }
 {
     match fate {
-        Fate::Frame => out.push_str("frame"),
-        Fate::Kept => out.push_str("kept"),
-        Fate::UnknownName => out.push_str("skipped (unknown attribute)"),
-        Fate::CameBefore => out.push_str("skipped (another came first)"),
-        Fate::NotOfItsForm => out.push_str("skipped (not of its form)"),
-        Fate::NotHere => out.push_str("skipped (not here)"),
-        Fate::Refused(cause) => put_cause(out, cause),
+        Fate::Frame => "frame",
+        Fate::Kept => "kept",
+        Fate::UnknownName => "skipped (unknown attribute)",
+        Fate::CameBefore => "skipped (another came first)",
+        Fate::NotOfItsForm => "skipped (not of its form)",
+        Fate::NotHere => "skipped (not here)",
+        Fate::Refused(cause) => cause_words(cause),
     }
 }
 
 fn put_row(out: &mut String, fate: Fate, line: &str) -> Result<(), AllocError>
     ensures { OnOk result (string_bytes out.new ≡ string_bytes out.old ++ spec.fate_row fate line.now) }
 {
-    put_fate(out, fate)?;
+    out.push_str(fate_words(fate))?;
     out.push_str(" | ")?;
     out.push_str(line)?;
     out.push_str("\n")
@@ -101,6 +102,20 @@ fn go_over(walk: &mut Walk, item: &Item) -> Result<(), AllocError>
     Ok(())
 }
 
+/// Puts the row of a line, and goes over it.
+fn put_and_go_over(
+    out: &mut String,
+    walk: &mut Walk,
+    line: &str,
+    item: &Item,
+) -> Result<(), AllocError>
+    ensures row { OnOk result (string_bytes out.new ≡ string_bytes out.old ++ spec.item_row walk.old line.now item.now) }
+    ensures walk { OnOk result (walk.new ≡ spec.walk_over walk.old item.now) }
+{
+    put_item(out, walk, line, item)?;
+    go_over(walk, item)
+}
+
 /// Puts the row of the next line, and goes over it.
 fn put_next(alloc: Global, out: &mut String, walk: &mut Walk, line: &str) -> Result<(), AllocError>
     ensures row { OnOk result (string_bytes out.new ≡ string_bytes out.old
@@ -108,10 +123,8 @@ fn put_next(alloc: Global, out: &mut String, walk: &mut Walk, line: &str) -> Res
     ensures walk { OnOk result (walk.new ≡ spec.walk_over walk.old (items.item_of line.now)) }
 {
     let item = item_of(alloc, line)?;
-    put_item(out, walk, line, &item)?;
-    go_over(walk, &item)?;
-    drop(item);
-    Ok(())
+    let put = put_and_go_over(out, walk, line, &item);
+    release(item, put)
 }
 
 /// The rows of a text whose line of this number refuses it, if one does.
@@ -140,7 +153,7 @@ fn refusal_in(alloc: Global, text: &str) -> Result<Option<u32>, AllocError>
     ensures { IfOk result (λ number. number ≡ spec.refusal_in (reading text.now)) }
 {
     match read(alloc, text) {
-        Ok(_) => Ok(None),
+        Ok(sdp) => release(sdp, Ok(None)),
         Err(SdpError::Parse(number)) => Ok(Some(number)),
         Err(SdpError::Inconsistent(_)) => unreachable!(),
         Err(SdpError::Alloc) => Err(AllocError),

@@ -2,7 +2,7 @@
 use rtc_wire::Text;
 
 /// A session description, line by line, with what becomes of each.
-#[derive(Debug, Drop)]
+#[derive(Drop)]
 pub struct Explanation {
     /// A row for each line, up to the one that refuses the session description.
     pub rows: Text,

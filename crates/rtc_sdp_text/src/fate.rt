@@ -2,7 +2,7 @@
 use crate::Cause;
 
 /// What becomes of a line of a session description.
-#[derive(Clone, Copy, Debug, PartialEq, Eq)]
+#[derive(Clone, Copy)]
 pub enum Fate {
     /// No attribute: a line of the frame.
     Frame,

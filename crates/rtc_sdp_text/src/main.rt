@@ -9,6 +9,7 @@ mod explanation;
 mod fate;
 mod fates;
 mod known_name;
+mod releasing;
 mod repairing;
 mod rewriting;
 mod sdp_kind;

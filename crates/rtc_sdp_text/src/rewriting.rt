@@ -1,22 +1,35 @@
 //! A session description, read and written again.
+ghost use Rattle.std.specs.Prelude.{◌≡◌, Ok, Err, MatchResult};
 ghost use Rattle.rtc_sdp_reader.specs.Reading.{reading};
 ghost use Rattle.rtc_sdp_text.specs.Repair.{bytes_reading};
 ghost use Rattle.rtc_sdp_text.specs.Rewrite.{Rewrites};
+ghost use Rattle.rtc_sdp_text.specs.declared.text_error.TextError.TheVariants.{Alloc};
 
+use crate::releasing::release;
 use crate::repairing::{repair, utf8_of};
 use crate::{SdpKind, TextError};
 use rtc_lines::{SdpAnswer, SdpOffer};
 use rtc_sdp_values::SdpError;
 use rtc_wire::Text;
-use std::alloc::Global;
+use std::alloc::{AllocError, Global};
+
+// The text, or that there is no memory for it.
+fn or_no_memory(text: Result<Text, AllocError>) -> Result<Text, TextError>
+    ensures { MatchResult text (λ text. result ≡ Ok text) (λ _. result ≡ Err Alloc) }
+{
+    match text {
+        Ok(text) => Ok(text),
+        Err(_) => Err(TextError::Alloc),
+    }
+}
 
 fn rewrite_offer(alloc: Global, text: &str) -> Result<Text, TextError>
     ensures { Rewrites result (reading text.now) }
 {
     match SdpOffer::from_sdp_string(alloc, text) {
         Ok(offer) => {
-            let text = offer.to_sdp_string()?;
-            Ok(text)
+            let text = offer.to_sdp_string();
+            release(offer, or_no_memory(text))
         }
         Err(SdpError::Parse(line)) => Err(TextError::Line(line)),
         Err(SdpError::Inconsistent(_)) => unreachable!(),
@@ -29,8 +42,8 @@ fn rewrite_answer(alloc: Global, text: &str) -> Result<Text, TextError>
 {
     match SdpAnswer::from_sdp_string(alloc, text) {
         Ok(answer) => {
-            let text = answer.to_sdp_string()?;
-            Ok(text)
+            let text = answer.to_sdp_string();
+            release(answer, or_no_memory(text))
         }
         Err(SdpError::Parse(line)) => Err(TextError::Line(line)),
         Err(SdpError::Inconsistent(_)) => unreachable!(),

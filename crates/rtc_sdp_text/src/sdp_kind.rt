@@ -1,7 +1,7 @@
 //! Kinds of session descriptions.
 
 /// Which kind of session description is to be read. Both have one grammar.
-#[derive(Clone, Copy, Debug, PartialEq, Eq)]
+#[derive(Clone, Copy)]
 pub enum SdpKind {
     Offer,
     Answer,

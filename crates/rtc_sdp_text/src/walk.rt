@@ -3,7 +3,7 @@ use rtc_sdp_reader::Place;
 use rtc_wire::Seq;
 
 /// Where the walk over the lines of a text stands.
-#[derive(Debug, Drop)]
+#[derive(Drop)]
 pub struct Walk {
     /// Where the next line stands.
     pub place: Place,
