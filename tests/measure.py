@@ -179,10 +179,10 @@ def streams():
 # message is not in the figures. A packet has at most 1034 bytes of it.
 def channels():
     def cost(open_channels, messages, size):
-        words = [program("rtc_polling_measure"), "one", *map(str, (open_channels, messages, size))]
-        more, told = count(words, b"")
-        if told != b"opened %d messages %d bytes %d\n" % (2 * open_channels, messages, messages * size):
-            sys.exit(f"measure: {words[1:]} ended with {told!r}")
+        line = work("work", "one", open_channels, messages, size)
+        more, told = count([program("rtc_stack_examples")], line)
+        if told != b"agrees " + line:
+            sys.exit(f"measure: {line} ended with {told!r}")
         return more
 
     print("| Open channels | Bytes | Instructions | A byte | A packet |\n|---|---|---|---|---|")

@@ -1,7 +1,8 @@
 //! What a fresh peer answers to an offer that comes as text.
 use crate::lines::describe;
+use rtc_cases::release;
 use rtc_peer::{RtcError, SdpAnswer, SdpOffer};
-use rtc_plain_peers::{Endpoint, release};
+use rtc_plain_peers::Endpoint;
 use rtc_wire::Text;
 use std::alloc::{AllocError, Global};
 

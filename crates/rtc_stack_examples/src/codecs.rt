@@ -1,34 +1,40 @@
 //! Codecs that are chosen out of those of an offer.
 use crate::answers::accept;
+use rtc_cases::{is_true, release};
 use rtc_codecs::Codec;
 use rtc_peer::{CodecConfig, PayloadRow, RtcError, SdpAnswer};
-use rtc_plain_peers::{Endpoint, is_true, release};
+use rtc_plain_peers::Endpoint;
 use rtc_wire::Seq;
 use std::alloc::{AllocError, Global};
 
+fn push_row(alloc: Global, rows: &mut Seq<PayloadRow>, codec: Codec) -> Result<(), AllocError> {
+    let row = codec.row(alloc, false)?;
+    rows.push(row)
+}
+
 /// VP8, then H264.
 pub fn own_codecs(alloc: Global) -> Result<CodecConfig, AllocError> {
-    let mut rows = Vec::new(alloc);
-    rows.push(Codec::Vp8.row(alloc, false)?)?;
-    rows.push(Codec::H264.row(alloc, false)?)?;
-    Ok(CodecConfig {
-        rows: Seq::new(rows),
+    let mut codecs = CodecConfig {
+        rows: Seq::empty(alloc),
         red_distances: Seq::empty(alloc),
-    })
+    };
+    push_row(alloc, &mut codecs.rows, Codec::Vp8)?;
+    push_row(alloc, &mut codecs.rows, Codec::H264)?;
+    Ok(codecs)
 }
 
 fn is_vp8(row: &PayloadRow) -> bool {
-    row.codec.as_str() == "VP8" && row.pt.0 == 100
+    (row.codec.as_str() == "VP8") & (row.pt.0 == 100)
 }
 
 fn is_h264(row: &PayloadRow) -> bool {
-    row.codec.as_str() == "H264" && row.pt.0 == 120
+    (row.codec.as_str() == "H264") & (row.pt.0 == 120)
 }
 
 // Whether rows are VP8, then H264, with the numbers of the offer.
 fn are_own(rows: &[PayloadRow]) -> bool {
     match rows {
-        [first, second] => is_vp8(first) && is_h264(second),
+        [first, second] => is_vp8(first) & is_h264(second),
         _ => false,
     }
 }
@@ -46,14 +52,15 @@ fn answers_own<P: Endpoint>(alloc: Global, peer: &mut P, offer: &str) -> Result<
 // The codecs of the config stay as they are.
 fn keeps_config(codecs: &CodecConfig) -> bool {
     match codecs.rows.as_slice() {
-        [first, second] => first.pt.0 == 96 && second.pt.0 == 102,
+        [first, second] => (first.pt.0 == 96) & (second.pt.0 == 102),
         _ => false,
     }
 }
 
 // Whether a peer with VP8 before H264 answers so, with the numbers of the offer, and without VP9.
 fn keeps_order<P: Endpoint>(alloc: Global, peer: &mut P, offer: &str) -> bool {
-    is_true(answers_own(alloc, peer, offer)) && keeps_config(peer.codecs())
+    let own = is_true(answers_own(alloc, peer, offer));
+    own & keeps_config(peer.codecs())
 }
 
 /// Whether an example of codecs gives what is expected, by the offer of a video line with H264, VP8 and VP9.

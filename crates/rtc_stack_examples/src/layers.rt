@@ -1,7 +1,8 @@
 //! Layers that are sent.
 use crate::lines::count_line;
+use rtc_cases::release;
 use rtc_peer::{Direction, MediaKind, MediaLine, Rid, SdpOffer, Simulcast, SimulcastLayer, Ssrc};
-use rtc_plain_peers::{Endpoint, release};
+use rtc_plain_peers::Endpoint;
 use rtc_wire::{Seq, Text};
 use std::alloc::{AllocError, Global};
 
@@ -65,7 +66,7 @@ fn are_resent(ssrcs: &[(Ssrc, Option<Ssrc>)]) -> bool {
 // Whether a line has as many sources, each with that of its retransmissions.
 fn has_sources(lines: &[MediaLine], count: usize) -> bool {
     match lines {
-        [line] => line.ssrcs.len() == count && are_resent(line.ssrcs.as_slice()),
+        [line] => (line.ssrcs.len() == count) & are_resent(line.ssrcs.as_slice()),
         _ => false,
     }
 }
@@ -74,19 +75,19 @@ fn has_sources(lines: &[MediaLine], count: usize) -> bool {
 fn tells(alloc: Global, offer: &SdpOffer, count: usize, wanted: &str) -> Result<bool, AllocError> {
     let text = offer.to_sdp_string()?;
     let found = count_line(alloc, text.as_str(), wanted)?;
-    Ok(found == 1 && has_sources(offer.0.lines.as_slice(), count))
+    Ok((found == 1) & has_sources(offer.0.lines.as_slice(), count))
 }
 
 // Whether the offer of a line that sends these layers tells that.
 fn offers<P: Endpoint>(
     alloc: Global,
     peer: &mut P,
-    layers: Simulcast,
-    kind: MediaKind,
+    layers: Result<Simulcast, AllocError>,
     count: usize,
     wanted: &str,
 ) -> Result<bool, AllocError> {
-    let (_mid, made) = peer.offer_media(kind, Direction::SendOnly, Some(layers))?;
+    let layers = layers?;
+    let (_mid, made) = peer.offer_media(MediaKind::Video, Direction::SendOnly, Some(layers))?;
     let told = match &made {
         Some((offer, _)) => tells(alloc, offer, count, wanted),
         None => Ok(false),
@@ -102,16 +103,13 @@ pub fn does_agree<P: Endpoint>(
 ) -> Result<bool, AllocError> {
     match example {
         "have sources of their own" => {
-            let layers = three_layers(alloc)?;
-            offers(alloc, peer, layers, MediaKind::Video, 3, "a=rid:h send")
+            offers(alloc, peer, three_layers(alloc), 3, "a=rid:h send")
         }
         "have their pairs" => {
-            let layers = custom_layer(alloc)?;
             offers(
                 alloc,
                 peer,
-                layers,
-                MediaKind::Video,
+                custom_layer(alloc),
                 1,
                 "a=rid:custom send foo=bar",
             )

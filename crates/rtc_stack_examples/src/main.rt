@@ -1,27 +1,39 @@
-//! Runs stored examples of offers of other stacks, as a signalling server hands them over, and of what a peer answers.
+//! Runs stored examples of offers of other stacks, as a signalling server hands them over, and of what a peer answers; and sends files
+//! between two peers over a data channel, while datagrams are lost and repeated.
 //!
 //! Each line of the input names an example, and is printed again behind `agrees` or `differs`: `answer PATH` gives a fresh peer the
-//! offer `PATH.offer`, whose answer has the lines of `PATH.answer`; `codecs NAME`, `layers NAME` and
-//! `starts NAME` are calls.
+//! offer `PATH.offer`, whose answer has the lines of `PATH.answer`; `codecs NAME`, `layers NAME` and `starts NAME` are calls;
+//! `file SIZE SEED LOST TWICE` sends a file, and `work one C M B` and `work turn C M B` so many messages over channels, so that a tool
+//! that counts instructions sees what they cost.
 #![tactic(auto)]
 
 mod answers;
 mod codecs;
+mod exchanging;
 mod layers;
 mod lines;
+mod link;
+mod negotiating;
 mod peers;
+mod sending;
 mod starts;
+mod told;
+mod transfer;
+mod way;
+mod wire;
+mod work;
 
-use peers::build_for;
+use peers::{build_for, build_other};
+use rtc_cases::{Examples, is_text, is_true, run};
 use rtc_plain_peers::Endpoint;
 use std::alloc::AllocError;
 use std::process::ExitCode;
 use std::rt::Files;
-use std::{fs, io, str};
+use std::{fs, io};
 
-fn read<R: Files + AllocGlobal>(rt: &R, path: &str, ending: &str) -> io::Result<Vec<u8>> {
+fn read<R: Files + AllocGlobal>(rt: &R, path: &str, ending: &str) -> io::Result<String> {
     let path = format!(in rt.alloc(); "{path}.{ending}")?;
-    fs::read(rt, path.as_str())
+    fs::read_to_string(rt, path.as_str())
 }
 
 fn is_answered<R: Files + AllocGlobal, P: Endpoint>(
@@ -31,11 +43,8 @@ fn is_answered<R: Files + AllocGlobal, P: Endpoint>(
 ) -> io::Result<bool> {
     let offer = read(rt, path, "offer")?;
     let expected = read(rt, path, "answer")?;
-    let Ok(offer) = str::from_utf8(offer.as_slice()) else {
-        return Ok(false);
-    };
-    let told = answers::answer_to(rt.alloc(), peer, offer)?;
-    Ok(told.as_bytes() == expected.as_slice())
+    let told = answers::answer_to(rt.alloc(), peer, offer.as_str());
+    Ok(is_text(told, expected.as_str()))
 }
 
 // Whether a peer chooses among codecs as is expected.
@@ -45,10 +54,7 @@ fn is_chosen<R: Files + AllocGlobal, P: Endpoint>(
     example: &str,
 ) -> io::Result<bool> {
     let offer = read(rt, "h264_vp8_vp9", "text")?;
-    match str::from_utf8(offer.as_slice()) {
-        Ok(offer) => Ok(codecs::does_agree(rt.alloc(), peer, example, offer)),
-        Err(_) => Ok(false),
-    }
+    Ok(codecs::does_agree(rt.alloc(), peer, example, offer.as_str()))
 }
 
 // The offer beside the first one, which tells another chunk or none.
@@ -68,49 +74,49 @@ fn is_started<R: Files + AllocGlobal, P: Endpoint>(
 ) -> io::Result<bool> {
     let first = read(rt, "starts/first_chunk", "text")?;
     let other = read(rt, other_offer(example), "text")?;
-    let Ok(first) = str::from_utf8(first.as_slice()) else {
-        return Ok(false);
-    };
-    let Ok(other) = str::from_utf8(other.as_slice()) else {
-        return Ok(false);
-    };
-    Ok(starts::does_agree(rt.alloc(), peer, example, first, other)?)
+    Ok(starts::does_agree(rt.alloc(), peer, example, first.as_str(), other.as_str()))
 }
 
-fn ask<R: Files + AllocGlobal, P: Endpoint + Drop>(
+fn ask<R: Files + AllocGlobal, P: Endpoint>(
     rt: &R,
-    peer: Result<P, AllocError>,
+    peer: &mut P,
+    other: &mut P,
     subject: &str,
     name: &str,
-) -> io::Result<bool> {
-    let mut peer = peer?;
+) -> bool {
     match subject {
-        "answer" => is_answered(rt, &mut peer, name),
-        "codecs" => is_chosen(rt, &mut peer, name),
-        "layers" => Ok(layers::does_agree(rt.alloc(), &mut peer, name)?),
-        "starts" => is_started(rt, &mut peer, name),
-        _ => Ok(false),
+        "answer" => is_true(is_answered(rt, peer, name)),
+        "codecs" => is_true(is_chosen(rt, peer, name)),
+        "file" => is_true(transfer::does_come_over(rt.alloc(), peer, other, name)),
+        "layers" => is_true(layers::does_agree(rt.alloc(), peer, name)),
+        "starts" => is_true(is_started(rt, peer, name)),
+        "work" => is_true(work::does_come(rt.alloc(), peer, other, name)),
+        _ => false,
     }
 }
 
-fn does_agree<R: Files + AllocGlobal>(rt: &R, subject: &str, name: &str) -> io::Result<bool> {
-    ask(rt, build_for(rt.alloc(), subject, name), subject, name)
+fn ask_made<R: Files + AllocGlobal, P: Endpoint + Drop>(
+    rt: &R,
+    peer: Result<P, AllocError>,
+    other: Result<P, AllocError>,
+    subject: &str,
+    name: &str,
+) -> Result<bool, AllocError> {
+    let mut peer = peer?;
+    let mut other = other?;
+    Ok(ask(rt, &mut peer, &mut other, subject, name))
+}
+
+struct Stacks;
+
+impl Examples for Stacks {
+    fn does_agree<R: Files + AllocGlobal>(rt: &R, subject: &str, name: &str) -> bool {
+        let peer = build_for(rt.alloc(), subject, name);
+        let other = build_other(rt.alloc(), subject);
+        is_true(ask_made(rt, peer, other, subject, name))
+    }
 }
 
 fn main(rt: HostRuntime) -> io::Result<ExitCode> {
-    let mut status = 0;
-    for line in rt.lines(rt.alloc()) {
-        let line = line?;
-        let agrees = match line.as_str().split_once(' ') {
-            Some((subject, name)) => does_agree(&rt, subject, name)?,
-            None => false,
-        };
-        if agrees {
-            println!(rt; "agrees {line}")?;
-        } else {
-            println!(rt; "differs {line}")?;
-            status = 1;
-        }
-    }
-    Ok(ExitCode::from(status))
+    run::<Stacks, HostRuntime>(&rt)
 }

@@ -1,8 +1,9 @@
 //! Starts of the association by session descriptions (draft-hancke-tsvwg-snap).
 use crate::answers::accept;
 use crate::lines::count_line;
+use rtc_cases::{is_ok, is_true, release};
 use rtc_peer::{RtcError, SdpOffer, Why};
-use rtc_plain_peers::{Endpoint, is_true, release, succeeds};
+use rtc_plain_peers::Endpoint;
 use rtc_wire::Text;
 use std::alloc::{AllocError, Global};
 
@@ -35,7 +36,7 @@ fn is_told<P: Endpoint>(alloc: Global, peer: &mut P, wanted: &str) -> Result<boo
 
 fn tells_changed(why: &Why) -> bool {
     match why {
-        Why::SctpInitChanged { kept, got } => kept.as_str() == "AQ==" && got.as_str() == "Ag==",
+        Why::SctpInitChanged { kept, got } => (kept.as_str() == "AQ==") & (got.as_str() == "Ag=="),
         _ => false,
     }
 }
@@ -62,7 +63,7 @@ fn is_refused(answered: &Result<Text, RtcError>, changed: bool) -> bool {
 }
 
 fn accepts<P: Endpoint>(alloc: Global, peer: &mut P, offer: &str) -> bool {
-    succeeds(accept(alloc, peer, offer))
+    is_ok(accept(alloc, peer, offer))
 }
 
 fn refuses_other<P: Endpoint>(alloc: Global, peer: &mut P, other: &str, changed: bool) -> bool {
@@ -79,9 +80,9 @@ fn refuses<P: Endpoint>(
     other: &str,
     changed: bool,
 ) -> bool {
-    accepts(alloc, peer, first)
-        && refuses_other(alloc, peer, other, changed)
-        && accepts(alloc, peer, first)
+    let accepted = accepts(alloc, peer, first);
+    let refused = refuses_other(alloc, peer, other, changed);
+    accepted & refused & accepts(alloc, peer, first)
 }
 
 /// Whether an example of starts gives what is expected, by an offer that tells a chunk, and by another one.
@@ -91,14 +92,14 @@ pub fn does_agree<P: Endpoint>(
     example: &str,
     first: &str,
     other: &str,
-) -> Result<bool, AllocError> {
+) -> bool {
     match example {
         "are told by an offer" => {
             let wanted = "a=sctp-init:AQAAFAAAAAQAEAAA/////wAAAAU=";
-            is_told(alloc, peer, wanted)
+            is_true(is_told(alloc, peer, wanted))
         }
-        "keep the first chunk" => Ok(refuses(alloc, peer, first, other, true)),
-        "need the chunk again" => Ok(refuses(alloc, peer, first, other, false)),
-        _ => Ok(false),
+        "keep the first chunk" => refuses(alloc, peer, first, other, true),
+        "need the chunk again" => refuses(alloc, peer, first, other, false),
+        _ => false,
     }
 }

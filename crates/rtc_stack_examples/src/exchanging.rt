@@ -5,19 +5,29 @@ use rtc_peer::{Input, Output, RtcError};
 use rtc_plain::PlainMediaEvent;
 use rtc_plain_peers::{Endpoint, deliver};
 use rtc_wire::{Moment, Transmit};
+use std::alloc::AllocError;
 
 // Keeps a datagram behind those that were sent before. It answers whether more may come.
 fn keep(
     output: Output<PlainMediaEvent>,
     sent: &mut Vec<Transmit>,
     told: &mut Told,
-) -> Result<bool, RtcError> {
+) -> Result<bool, AllocError> {
     match output {
         Output::Timeout(_) => return Ok(false),
         Output::Transmit(transmit) => sent.push(transmit)?,
         Output::Event(event) => told.add(&event),
     }
     Ok(true)
+}
+
+fn drain_one<P: Endpoint>(
+    peer: &mut P,
+    sent: &mut Vec<Transmit>,
+    told: &mut Told,
+) -> Result<bool, RtcError> {
+    let output = peer.give_output()?;
+    Ok(keep(output, sent, told)?)
 }
 
 // Polls a peer up to a timeout.
@@ -27,8 +37,7 @@ fn drain<P: Endpoint>(
     told: &mut Told,
 ) -> Result<(), RtcError> {
     for _ in 0..u32::MAX {
-        let output = peer.give_output()?;
-        if !keep(output, sent, told)? {
+        if !drain_one(peer, sent, told)? {
             return Ok(());
         }
     }

@@ -1,6 +1,7 @@
 //! The offer of the channels, and its answer.
+use rtc_cases::release;
 use rtc_peer::{RtcError, Sdp, SdpAnswer, SdpOffer};
-use rtc_plain_peers::{Endpoint, finish, release};
+use rtc_plain_peers::{Endpoint, finish};
 use rtc_wire::TryCopy;
 use std::alloc::Global;
 

@@ -1,9 +1,10 @@
 //! What goes between two peers, and the file that comes of it.
 use crate::way::Way;
+use rtc_cases::release;
 use rtc_file_records::FileReceiver;
 use rtc_peer::{Event, Input, Output, RtcError};
 use rtc_plain::PlainMediaEvent;
-use rtc_plain_peers::{Endpoint, deliver, release};
+use rtc_plain_peers::{Endpoint, deliver};
 use rtc_wire::{Moment, Span, Transmit};
 use std::alloc::Global;
 
@@ -36,7 +37,7 @@ impl Link {
 
     /// Whether a file came whole, and each message was a record of it.
     pub fn has(&self, file: &[u8]) -> bool {
-        self.receiver.is_whole() && !self.is_refused && self.receiver.held() == file
+        self.receiver.is_whole() & !self.is_refused & (self.receiver.held() == file)
     }
 
     fn carry<P: Endpoint>(&mut self, to: &mut P, transmit: &Transmit) -> Result<(), RtcError> {

@@ -3,9 +3,9 @@ use crate::exchanging::{exchange, wake};
 use crate::negotiating::negotiate;
 use crate::told::Told;
 use crate::wire::Wire;
-use rtc_peer::{RtcConfig, RtcError};
-use rtc_plain::CountIds;
-use rtc_plain_peers::{Endpoint, Peer, add_host, build_of, release};
+use rtc_cases::release;
+use rtc_peer::RtcError;
+use rtc_plain_peers::{Endpoint, add_host};
 use rtc_wire::ChannelId;
 use std::alloc::{AllocError, Global};
 
@@ -13,7 +13,7 @@ use std::alloc::{AllocError, Global};
 const WAKES: usize = 4;
 
 /// What two peers are to do.
-#[derive(Clone, Copy, Debug)]
+#[derive(Clone, Copy)]
 pub struct Work {
     pub channels: u32,
     pub messages: u32,
@@ -96,31 +96,40 @@ fn meet<P: Endpoint>(
     Ok(told)
 }
 
-// A peer buffers as much as its longest message is.
-fn config(alloc: Global) -> Result<RtcConfig, AllocError> {
-    Ok(RtcConfig::new(alloc)?.set_sctp_max_buffered_amount(262_144))
+fn number(word: Option<&str>) -> u32 {
+    match word {
+        Some(word) => word.parse::<u32>().unwrap_or(0),
+        None => 0,
+    }
 }
 
-fn meet_both<P: Endpoint + Drop>(
+// Whether all channels were opened at both ends, and all messages came.
+fn is_done(told: &Told, work: Work) -> bool {
+    let opened = told.opened == (work.channels as usize).saturating_mul(2);
+    let came = told.messages == work.messages as usize;
+    opened & came & (told.bytes == (work.messages as usize).saturating_mul(work.bytes as usize))
+}
+
+/// Whether two peers that buffer as much as the longest message is open so many channels, and so many messages of so many bytes come
+/// over the last one, or over all in turn.
+pub fn does_come<P: Endpoint>(
     alloc: Global,
-    left: Result<P, AllocError>,
-    right: Result<P, AllocError>,
-    work: Work,
-) -> Result<Told, RtcError> {
-    let message = message(alloc, work.bytes)?;
-    let mut left = left?;
-    let mut right = right?;
-    meet(alloc, &mut left, &mut right, work, message.as_slice())
-}
-
-fn build_buffering(alloc: Global, ids: CountIds) -> Result<Peer<CountIds>, AllocError> {
-    let config = config(alloc)?;
-    build_of(alloc, config, ids)
-}
-
-/// Two peers connect, open channels and send messages. It answers what both were told.
-pub fn run(alloc: Global, work: Work) -> Result<Told, RtcError> {
-    let left = build_buffering(alloc, CountIds::starting(1));
-    let right = build_buffering(alloc, CountIds::starting(1_000_001));
-    meet_both(alloc, left, right, work)
+    left: &mut P,
+    right: &mut P,
+    line: &str,
+) -> Result<bool, RtcError> {
+    let mut words = line.split(' ');
+    let in_turn = words.next() == Some("turn");
+    let channels = number(words.next());
+    let messages = number(words.next());
+    let bytes = number(words.next());
+    let work = Work {
+        channels,
+        messages,
+        bytes,
+        in_turn,
+    };
+    let message = message(alloc, bytes)?;
+    let told = meet(alloc, left, right, work, message.as_slice())?;
+    Ok(is_done(&told, work))
 }

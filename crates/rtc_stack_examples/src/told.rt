@@ -3,7 +3,7 @@ use rtc_peer::Event;
 use rtc_plain::PlainMediaEvent;
 
 /// How many channels peers told to be open, and the messages that came on channels.
-#[derive(Clone, Copy, Debug, PartialEq, Eq)]
+#[derive(Clone, Copy)]
 pub struct Told {
     pub opened: usize,
     pub messages: usize,

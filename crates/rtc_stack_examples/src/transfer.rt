@@ -2,23 +2,14 @@
 use crate::link::Link;
 use crate::sending::Sending;
 use crate::way::Way;
+use rtc_cases::release;
 use rtc_peer::RtcError;
-use rtc_plain::CountIds;
-use rtc_plain_peers::{Endpoint, add_host, agree_on_channel, build, release, unless_refused};
+use rtc_plain_peers::{Endpoint, add_host, agree_on_channel};
 use rtc_wire::ChannelId;
 use std::alloc::{AllocError, Global};
 
 // The rounds in which each file of a stored example comes over.
 const ROUNDS: usize = 1000;
-
-/// A file of a size, and the way of the datagrams that carry it.
-#[derive(Clone, Copy, Debug, PartialEq, Eq)]
-pub struct Case {
-    pub size: u32,
-    pub seed: u32,
-    pub lost: u32,
-    pub twice: u32,
-}
 
 // The file whose bytes are their places modulo 251.
 fn make_file(alloc: Global, size: u32) -> Result<Vec<u8>, AllocError> {
@@ -77,27 +68,31 @@ fn carry<P: Endpoint>(
     send(alloc, left, right, channel, way, file)
 }
 
-fn meet<P: Endpoint + Drop>(
-    alloc: Global,
-    left: Result<P, AllocError>,
-    right: Result<P, AllocError>,
-    way: Way,
-    file: &[u8],
-) -> Result<bool, RtcError> {
-    let mut left = left?;
-    let mut right = right?;
-    carry(alloc, &mut left, &mut right, way, file)
+fn number(word: Option<&str>) -> u32 {
+    match word {
+        Some(word) => word.parse::<u32>().unwrap_or(0),
+        None => 0,
+    }
 }
 
-/// Whether the file comes over whole. A refusal of the peers is none of it; out of memory is told.
-pub fn does_come_over(alloc: Global, case: Case) -> Result<bool, AllocError> {
-    let way = Way {
-        seed: case.seed,
-        lost: case.lost,
-        twice: case.twice,
-    };
-    let file = make_file(alloc, case.size)?;
-    let left = build(alloc, CountIds::starting(1));
-    let right = build(alloc, CountIds::starting(1_000_001));
-    unless_refused(meet(alloc, left, right, way, file.as_slice()))
+/// Whether a file of a size comes over whole on a way of a seed, by the four numbers of a line.
+pub fn does_come_over<P: Endpoint>(
+    alloc: Global,
+    left: &mut P,
+    right: &mut P,
+    case: &str,
+) -> Result<bool, RtcError> {
+    let mut words = case.split(' ');
+    let size = number(words.next());
+    let seed = number(words.next());
+    let lost = number(words.next());
+    let twice = number(words.next());
+    let file = make_file(alloc, size)?;
+    carry(
+        alloc,
+        left,
+        right,
+        Way { seed, lost, twice },
+        file.as_slice(),
+    )
 }
