@@ -1,13 +1,12 @@
 //! Two media parts in memory that give each other their packets.
-use crate::sessions::{is_silent, settings, shows, tells_rtcp};
-use rtc_media::{MediaSession, RawPacket, SrtpProfile};
-use rtc_plain_media::{PlainMedia, PlainMediaEvent};
+use crate::sessions::{Part, is_silent, settings, shows, tells_rtcp};
+use rtc_media::{RawPacket, SrtpProfile};
 use rtc_sdp_values::Ssrc;
 use rtc_wire::{Bytes, Moment};
 use std::alloc::{AllocError, Global};
 
 // The next datagram of a part is given to the other one.
-fn pass<M: MediaSession>(from: &mut M, to: &mut M) -> Result<bool, AllocError> {
+fn pass<M: Part>(from: &mut M, to: &mut M) -> Result<bool, AllocError> {
     let Some(datagram) = from.poll_datagram(Moment::FAR_PAST) else {
         return Ok(false);
     };
@@ -16,40 +15,34 @@ fn pass<M: MediaSession>(from: &mut M, to: &mut M) -> Result<bool, AllocError> {
 }
 
 // Both parts are connected once they have keys.
-fn take_keys<M: MediaSession>(left: &mut M, right: &mut M) -> Result<bool, AllocError> {
+fn take_keys<M: Part>(left: &mut M, right: &mut M) -> Result<bool, AllocError> {
     let key = [7; 56];
     left.set_keying(key.as_slice(), SrtpProfile::AeadAes128Gcm, true)?;
     let waits = !right.is_connected();
     right.set_keying(key.as_slice(), SrtpProfile::AeadAes128Gcm, false)?;
     let left_keyed = left.is_connected();
     let right_keyed = right.is_connected();
-    Ok(waits && left_keyed && right_keyed)
+    Ok(waits & left_keyed & right_keyed)
 }
 
 // The wish for a picture is told by its length.
-fn wishes<M: MediaSession<E = PlainMediaEvent>>(
-    left: &mut M,
-    right: &mut M,
-) -> Result<bool, AllocError> {
+fn wishes<M: Part>(left: &mut M, right: &mut M) -> Result<bool, AllocError> {
     left.send_pli_feedback(Ssrc(1), Ssrc(2))?;
     let passed = pass(left, right)?;
     let told = tells_rtcp(right, 4);
-    Ok(passed && told)
+    Ok(passed & told)
 }
 
 // Feedback of the application that comes back is told by its length, with its header.
-fn answers<M: MediaSession<E = PlainMediaEvent>>(
-    left: &mut M,
-    right: &mut M,
-) -> Result<bool, AllocError> {
+fn answers<M: Part>(left: &mut M, right: &mut M) -> Result<bool, AllocError> {
     right.send_app_specific_feedback(Ssrc(2), Ssrc(1), b"\x05\x06")?;
     let passed = pass(right, left)?;
     let told = tells_rtcp(left, 6);
-    Ok(passed && told)
+    Ok(passed & told)
 }
 
 // Where raw packets are on, the packet is told before its length.
-fn wishes_raw<M: MediaSession<E = PlainMediaEvent>>(
+fn wishes_raw<M: Part>(
     left: &mut M,
     right: &mut M,
     packet: &RawPacket,
@@ -59,43 +52,34 @@ fn wishes_raw<M: MediaSession<E = PlainMediaEvent>>(
     let passed = pass(left, right)?;
     let shown = shows(right, packet);
     let told = tells_rtcp(right, 4);
-    Ok(passed && shown && told)
+    Ok(passed & shown & told)
 }
 
 // The goodbye is the last packet of a part that closes, and closes only that part.
-fn parts_close<M: MediaSession<E = PlainMediaEvent>>(
-    left: &mut M,
-    right: &mut M,
-) -> Result<bool, AllocError> {
+fn parts_close<M: Part>(left: &mut M, right: &mut M) -> Result<bool, AllocError> {
     left.close_rtp()?;
     right.configure(settings(false));
     let passed = pass(left, right)?;
     let told = tells_rtcp(right, 4);
     let silent = is_silent(left);
-    let closed = left.is_rtp_closed() && !right.is_rtp_closed();
-    let last = passed && told && silent;
-    Ok(last && closed)
+    let closed = left.is_rtp_closed() & !right.is_rtp_closed();
+    let last = passed & told & silent;
+    Ok(last & closed)
 }
 
-fn exchange<M: MediaSession<E = PlainMediaEvent>>(
-    left: &mut M,
-    right: &mut M,
-    packet: &RawPacket,
-) -> Result<bool, AllocError> {
+// What two parts tell of each other's packets.
+fn exchange<M: Part>(left: &mut M, right: &mut M, packet: &RawPacket) -> Result<bool, AllocError> {
     let keyed = take_keys(left, right)?;
     let wished = wishes(left, right)?;
     let answered = answers(left, right)?;
     let shown = wishes_raw(left, right, packet)?;
     let closed = parts_close(left, right)?;
-    let passed = wished && answered && shown;
-    Ok(keyed && passed && closed)
+    Ok(keyed & wished & answered & shown & closed)
 }
 
 /// Whether two parts that have keys tell each other's packets, and the goodbye of the one that closes.
-pub fn exchanged(alloc: Global) -> Result<bool, AllocError> {
+pub fn exchanged<M: Part>(alloc: Global, left: &mut M, right: &mut M) -> Result<bool, AllocError> {
     let bytes = Vec::from_slice(alloc, b"\x80\xce\0\0")?;
     let packet = RawPacket::RtcpRx(Bytes::new(bytes));
-    let mut left = PlainMedia::new(alloc);
-    let mut right = PlainMedia::new(alloc);
-    exchange(&mut left, &mut right, &packet)
+    exchange(left, right, &packet)
 }

@@ -10,23 +10,22 @@ mod media;
 mod reports;
 mod sessions;
 
+use rtc_cases::{Examples, run};
 use std::io;
 use std::process::ExitCode;
+use std::rt::Files;
+
+struct MediaParts;
+
+impl Examples for MediaParts {
+    fn does_agree<R: Files + AllocGlobal>(rt: &R, subject: &str, name: &str) -> bool {
+        if subject != "media" {
+            return false;
+        }
+        media::does_agree(rt.alloc(), name)
+    }
+}
 
 fn main(rt: HostRuntime) -> io::Result<ExitCode> {
-    let mut status = 0;
-    for line in rt.lines(rt.alloc()) {
-        let line = line?;
-        let agrees = match line.as_str().strip_prefix("media ") {
-            Some(example) => media::does_agree(rt.alloc(), example)?,
-            None => false,
-        };
-        if agrees {
-            println!(rt; "agrees {line}")?;
-        } else {
-            println!(rt; "differs {line}")?;
-            status = 1;
-        }
-    }
-    Ok(ExitCode::from(status))
+    run::<MediaParts, HostRuntime>(&rt)
 }

@@ -1,7 +1,6 @@
 //! Marks that a media part keeps for its caller at streams and at the writers of lines.
-use crate::sessions::{commit, counts, update};
-use rtc_media::MediaSession;
-use rtc_plain_media::{PlainMark, PlainMedia};
+use crate::sessions::{Part, commit, counts, update};
+use rtc_plain_media::PlainMark;
 use rtc_sdp_values::{Direction, Mid, Ssrc};
 use std::alloc::{AllocError, Global};
 
@@ -17,41 +16,29 @@ fn marks(mark: Option<&mut PlainMark>, count: u64) -> bool {
 }
 
 // A stream that is sent takes the place of that of its ssrc, and its mark begins at 0.
-fn renews_tx<M: MediaSession<Tx = PlainMark>>(
-    part: &mut M,
-    mid: Mid,
-    other: Mid,
-) -> Result<bool, AllocError> {
+fn renews_tx<M: Part>(part: &mut M, mid: Mid, other: Mid) -> Result<bool, AllocError> {
     let made = marks(part.declare_stream_tx(Ssrc(1), None, mid, None)?, 5);
     let kept = counts(part.stream_tx(Ssrc(1)), 5);
     let renewed = counts(part.declare_stream_tx(Ssrc(1), None, other, None)?, 0);
     let gone = part.stream_tx_by_mid(mid, None).is_none();
     let there = counts(part.stream_tx_by_mid(other, None), 0);
-    let moved = renewed && gone && there;
-    Ok(made && kept && moved)
+    let moved = renewed & gone & there;
+    Ok(made & kept & moved)
 }
 
 // So does one that is received.
-fn renews_rx<M: MediaSession<Rx = PlainMark>>(
-    part: &mut M,
-    mid: Mid,
-    other: Mid,
-) -> Result<bool, AllocError> {
+fn renews_rx<M: Part>(part: &mut M, mid: Mid, other: Mid) -> Result<bool, AllocError> {
     let made = marks(part.expect_stream_rx(Ssrc(1), None, mid, None)?, 5);
     let kept = counts(part.stream_rx(Ssrc(1)), 5);
     let renewed = counts(part.expect_stream_rx(Ssrc(1), None, other, None)?, 0);
     let gone = part.stream_rx_by_mid(mid, None).is_none();
     let there = counts(part.stream_rx_by_mid(other, None), 0);
-    let moved = renewed && gone && there;
-    Ok(made && kept && moved)
+    let moved = renewed & gone & there;
+    Ok(made & kept & moved)
 }
 
-// A line that is there has a writer, whose mark stays where the line is updated.
-fn keeps_writer<M: MediaSession<Writer = PlainMark>>(
-    part: &mut M,
-    alloc: Global,
-    mid: Mid,
-) -> Result<bool, AllocError> {
+/// Whether a line that is there has a writer, whose mark stays where the line is updated.
+pub fn keeps_writer<M: Part>(part: &mut M, alloc: Global, mid: Mid) -> Result<bool, AllocError> {
     let before = part.writer(mid).is_some();
     let comes = update(alloc, mid, Direction::SendRecv, true, None)?;
     commit(part, comes)?;
@@ -62,25 +49,12 @@ fn keeps_writer<M: MediaSession<Writer = PlainMark>>(
     part.remove_line(mid);
     let after = part.writer(mid).is_some();
     let missing = before || after;
-    Ok(marked && kept && !missing)
+    Ok(marked & kept & !missing)
 }
 
 /// Whether a stream that is made again is a new one.
-pub fn renewed(alloc: Global) -> Result<bool, AllocError> {
-    let (Some(mid), Some(other)) = (Mid::read("0"), Mid::read("1")) else {
-        return Ok(false);
-    };
-    let mut part = PlainMedia::new(alloc);
-    let sent = renews_tx(&mut part, mid, other)?;
-    let received = renews_rx(&mut part, mid, other)?;
-    Ok(sent && received)
-}
-
-/// Whether the writer of a line keeps its mark.
-pub fn written(alloc: Global) -> Result<bool, AllocError> {
-    let Some(mid) = Mid::read("0") else {
-        return Ok(false);
-    };
-    let mut part = PlainMedia::new(alloc);
-    keeps_writer(&mut part, alloc, mid)
+pub fn renewed<M: Part>(part: &mut M, mid: Mid, other: Mid) -> Result<bool, AllocError> {
+    let sent = renews_tx(part, mid, other)?;
+    let received = renews_rx(part, mid, other)?;
+    Ok(sent & received)
 }

@@ -1,23 +1,17 @@
 //! Printed faults of media, reports put together, and raw packets copied.
 ghost use Rattle.std.specs.Prelude.{◌≡◌, None};
 
+use rtc_cases::{is_copied, prints};
 use rtc_media::{MediaError, MediaIngressStats, RawPacket, RemoteEgressStats};
 use rtc_sdp_values::{Mid, Pt};
-use rtc_wire::{Bytes, Moment, Span, TryCopy};
+use rtc_wire::{Bytes, Moment, Span};
 use std::alloc::{AllocError, Global};
-
-fn prints(alloc: Global, error: &MediaError, text: &str) -> bool {
-    match error.to_string(alloc) {
-        Ok(printed) => printed.as_str() == text,
-        Err(_) => false,
-    }
-}
 
 /// Whether faults print the stated texts.
 pub fn printed(alloc: Global) -> bool {
     let unknown = prints(alloc, &MediaError::UnknownPt(Pt(96)), "PT is unknown 96");
     let memory = prints(alloc, &MediaError::Alloc, "out of memory");
-    unknown && memory && prints(alloc, &MediaError::Rtp, "media error")
+    unknown & memory & prints(alloc, &MediaError::Rtp, "media error")
 }
 
 fn report(mid: Mid, bytes: u64, timestamp: u64, jitter: u32) -> MediaIngressStats
@@ -40,17 +34,14 @@ fn report(mid: Mid, bytes: u64, timestamp: u64, jitter: u32) -> MediaIngressStat
 }
 
 /// Whether two reports are put together.
-pub fn merged() -> bool {
-    let Some(mid) = Mid::read("0") else {
-        return false;
-    };
+pub fn merged(mid: Mid) -> bool {
     let mut first = report(mid, u64::MAX, 5, 1);
     first.merge_by_mid_rid(&report(mid, 2, 5, 9));
-    first.bytes == u64::MAX && first.packets == 2 && first.jitter == 9
+    (first.bytes == u64::MAX) & (first.packets == 2) & (first.jitter == 9)
 }
 
 /// Whether raw packets are copied.
 pub fn copies(alloc: Global) -> Result<bool, AllocError> {
     let packet = RawPacket::RtcpTx(Bytes::new(vec![in alloc; 1u8, 2]?));
-    Ok(packet.copy()? == packet)
+    Ok(is_copied(&packet))
 }

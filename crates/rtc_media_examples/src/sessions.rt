@@ -2,10 +2,20 @@
 use rtc_media::{
     MediaEvent, MediaSession, MediaSettings, MediaUpdate, RawPacket, Vp9PacketizerMode,
 };
-use rtc_plain_media::{PlainMark, PlainMediaEvent};
+use rtc_plain_media::{PlainMark, PlainMedia, PlainMediaEvent};
 use rtc_sdp_values::{Direction, LineRow, MediaKind, Mid, Ssrc};
 use rtc_wire::{Moment, Seq, Span};
 use std::alloc::{AllocError, Global};
+
+/// A media part that keeps marks and tells events as that in memory does.
+pub trait Part: MediaSession<
+    E = PlainMediaEvent,
+    Rx = PlainMark,
+    Tx = PlainMark,
+    Writer = PlainMark,
+> {}
+
+impl Part for PlainMedia {}
 
 /// Settings that tell packets as they are, or do not.
 pub fn settings(raw_packets: bool) -> MediaSettings {
@@ -57,7 +67,7 @@ pub fn update(
 }
 
 /// Makes an update ready and applies it.
-pub fn commit<M: MediaSession>(part: &mut M, update: MediaUpdate) -> Result<(), AllocError> {
+pub fn commit<M: Part>(part: &mut M, update: MediaUpdate) -> Result<(), AllocError> {
     let updates = [update];
     part.prepare(updates.as_slice())?;
     part.commit();
@@ -65,7 +75,7 @@ pub fn commit<M: MediaSession>(part: &mut M, update: MediaUpdate) -> Result<(), 
 }
 
 /// Whether the next datagram has these bytes.
-pub fn sends<M: MediaSession>(part: &mut M, bytes: &[u8]) -> bool {
+pub fn sends<M: Part>(part: &mut M, bytes: &[u8]) -> bool {
     match part.poll_datagram(Moment::FAR_PAST) {
         Some(datagram) => datagram.as_slice() == bytes,
         None => false,
@@ -73,7 +83,7 @@ pub fn sends<M: MediaSession>(part: &mut M, bytes: &[u8]) -> bool {
 }
 
 /// Whether no datagram is queued.
-pub fn is_silent<M: MediaSession>(part: &mut M) -> bool {
+pub fn is_silent<M: Part>(part: &mut M) -> bool {
     part.poll_datagram(Moment::FAR_PAST).is_none()
 }
 
@@ -95,7 +105,7 @@ fn is_rtcp(event: &PlainMediaEvent, length: usize) -> bool {
 fn is_added(event: &PlainMediaEvent, line: Mid, to: Direction) -> bool {
     match event {
         PlainMediaEvent::Added(mid, kind, dir) => {
-            *mid == line && *kind == MediaKind::Audio && *dir == to
+            (*mid == line) & (*kind == MediaKind::Audio) & (*dir == to)
         }
         _ => false,
     }
@@ -103,13 +113,13 @@ fn is_added(event: &PlainMediaEvent, line: Mid, to: Direction) -> bool {
 
 fn is_changed(event: &PlainMediaEvent, line: Mid, to: Direction) -> bool {
     match event {
-        PlainMediaEvent::Changed(mid, dir) => *mid == line && *dir == to,
+        PlainMediaEvent::Changed(mid, dir) => (*mid == line) & (*dir == to),
         _ => false,
     }
 }
 
 /// Whether the next event is that of an RTP packet of so many bytes.
-pub fn tells_rtp<M: MediaSession<E = PlainMediaEvent>>(part: &mut M, length: usize) -> bool {
+pub fn tells_rtp<M: Part>(part: &mut M, length: usize) -> bool {
     match part.poll_event() {
         Some(event) => is_rtp(&event, length),
         None => false,
@@ -117,7 +127,7 @@ pub fn tells_rtp<M: MediaSession<E = PlainMediaEvent>>(part: &mut M, length: usi
 }
 
 /// Whether the next event is that of an RTCP packet of so many bytes.
-pub fn tells_rtcp<M: MediaSession<E = PlainMediaEvent>>(part: &mut M, length: usize) -> bool {
+pub fn tells_rtcp<M: Part>(part: &mut M, length: usize) -> bool {
     match part.poll_event() {
         Some(event) => is_rtcp(&event, length),
         None => false,
@@ -125,11 +135,7 @@ pub fn tells_rtcp<M: MediaSession<E = PlainMediaEvent>>(part: &mut M, length: us
 }
 
 /// Whether the next event is that a line came.
-pub fn tells_added<M: MediaSession<E = PlainMediaEvent>>(
-    part: &mut M,
-    mid: Mid,
-    dir: Direction,
-) -> bool {
+pub fn tells_added<M: Part>(part: &mut M, mid: Mid, dir: Direction) -> bool {
     match part.poll_event() {
         Some(event) => is_added(&event, mid, dir),
         None => false,
@@ -137,11 +143,7 @@ pub fn tells_added<M: MediaSession<E = PlainMediaEvent>>(
 }
 
 /// Whether the next event is that a line turned.
-pub fn tells_changed<M: MediaSession<E = PlainMediaEvent>>(
-    part: &mut M,
-    mid: Mid,
-    dir: Direction,
-) -> bool {
+pub fn tells_changed<M: Part>(part: &mut M, mid: Mid, dir: Direction) -> bool {
     match part.poll_event() {
         Some(event) => is_changed(&event, mid, dir),
         None => false,
@@ -156,7 +158,7 @@ fn is_packet(event: &PlainMediaEvent, packet: &RawPacket) -> bool {
 }
 
 /// Whether the next event shows a packet.
-pub fn shows<M: MediaSession<E = PlainMediaEvent>>(part: &mut M, packet: &RawPacket) -> bool {
+pub fn shows<M: Part>(part: &mut M, packet: &RawPacket) -> bool {
     match part.poll_event() {
         Some(event) => is_packet(&event, packet),
         None => false,

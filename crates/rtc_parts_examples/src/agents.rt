@@ -59,8 +59,8 @@ pub fn sends<A: IceAgent>(agent: &mut A, source: Addr, destination: Addr, bytes:
         None => false,
         Some(sent) => {
             let by_udp = sent.proto == Protocol::Udp;
-            let there = sent.source == source && sent.destination == destination;
-            by_udp && there && sent.contents.as_slice() == bytes
+            let there = (sent.source == source) & (sent.destination == destination);
+            by_udp & there & (sent.contents.as_slice() == bytes)
         }
     }
 }
@@ -96,7 +96,7 @@ fn turns_to<A: IceAgent>(agent: &mut A, state: IceConnectionState) -> bool {
 pub fn discovers<A: IceAgent>(agent: &mut A, from: Addr) -> bool {
     match agent.poll_event() {
         Some(IceEvent::DiscoveredRecv { proto, source }) => {
-            proto == Protocol::Udp && source == from
+            (proto == Protocol::Udp) & (source == from)
         }
         _ => false,
     }
@@ -110,7 +110,7 @@ fn sends_by<A: IceAgent>(agent: &mut A, from: Addr, to: Addr) -> bool {
                 source,
                 destination,
             },
-        ) => proto == Protocol::Udp && source == from && destination == to,
+        ) => (proto == Protocol::Udp) & (source == from) & (destination == to),
         _ => false,
     }
 }
@@ -119,14 +119,14 @@ fn sends_by<A: IceAgent>(agent: &mut A, from: Addr, to: Addr) -> bool {
 pub fn nominates<A: IceAgent>(agent: &mut A, from: Addr, to: Addr) -> bool {
     let connected = turns_to(agent, IceConnectionState::Connected);
     let told = sends_by(agent, from, to);
-    connected && told
+    connected & told
 }
 
 /// Whether an agent has neither events nor datagrams.
 pub fn is_quiet<A: IceAgent>(agent: &mut A) -> bool {
     let told = agent.poll_event().is_some();
     let sent = agent.poll_transmit().is_some();
-    !told && !sent
+    !told & !sent
 }
 
 /// Whether an agent wants to be called at this moment.

@@ -1,8 +1,6 @@
 //! Candidates that an ICE agent finds by their addresses and protocols.
 use crate::agents::{LEFT, RIGHT, creds, give};
-use crate::releasing::release;
 use rtc_ice::IceAgent;
-use rtc_plain_ice::PlainIce;
 use rtc_sdp_values::Candidate;
 use rtc_wire::Protocol;
 use std::alloc::{AllocError, Global};
@@ -31,8 +29,8 @@ fn takes_each<A: IceAgent>(agent: &mut A, alloc: Global) -> Result<bool, AllocEr
     let again = takes(agent, alloc, Protocol::Tls)?;
     let right = agent.has_viable_remote_candidate(RIGHT);
     let left = agent.has_viable_remote_candidate(LEFT);
-    let taken = udp && tls && !again;
-    Ok(!before && taken && right && !left)
+    let taken = udp & tls & !again;
+    Ok(!before & taken & right & !left)
 }
 
 // The address is viable until the candidates of both protocols are withdrawn.
@@ -43,8 +41,8 @@ fn withdraws_each<A: IceAgent>(agent: &mut A, alloc: Global) -> Result<bool, All
     let tls = withdraws(agent, alloc, Protocol::Tls)?;
     let after = agent.has_viable_remote_candidate(RIGHT);
     let back = takes(agent, alloc, Protocol::Udp)?;
-    let withdrawn = udp && !again && tls;
-    Ok(withdrawn && still && !after && back)
+    let withdrawn = udp & !again & tls;
+    Ok(withdrawn & still & !after & back)
 }
 
 // The address that a check came from is viable.
@@ -55,18 +53,12 @@ fn discovers<A: IceAgent>(agent: &mut A) -> Result<bool, AllocError> {
     Ok(agent.has_viable_remote_candidate(LEFT))
 }
 
-fn finds_each<A: IceAgent>(agent: &mut A, alloc: Global) -> Result<bool, AllocError> {
+/// Whether an agent finds candidates by address and protocol, and addresses that checks came from.
+pub fn finds_each<A: IceAgent>(agent: &mut A, alloc: Global) -> Result<bool, AllocError> {
     let own = creds(alloc, "rr")?;
     agent.set_local_credentials(own);
     let taken = takes_each(agent, alloc)?;
     let withdrawn = withdraws_each(agent, alloc)?;
     let discovered = discovers(agent)?;
-    Ok(taken && withdrawn && discovered)
-}
-
-/// Whether candidates are found by address and protocol, and addresses that checks came from.
-pub fn found(alloc: Global) -> Result<bool, AllocError> {
-    let mut agent = PlainIce::new(alloc);
-    let told = finds_each(&mut agent, alloc);
-    release(agent, told)
+    Ok(taken & withdrawn & discovered)
 }

@@ -1,5 +1,5 @@
 //! What examples ask of a DTLS connection.
-use rtc_dtls::{Dtls, DtlsError, DtlsInstance, DtlsOutput, SrtpProfile};
+use rtc_dtls::{Dtls, DtlsInstance, DtlsOutput, SrtpProfile};
 use rtc_plain_dtls::PlainDtls;
 use std::alloc::{AllocError, Global};
 
@@ -39,7 +39,7 @@ fn either(same: bool, shown: Seen) -> Seen {
 }
 
 fn is_key(key: &[u8], profile: SrtpProfile) -> bool {
-    key.len() == 56 && profile == SrtpProfile::AeadAes128Gcm
+    (key.len() == 56) & (profile == SrtpProfile::AeadAes128Gcm)
 }
 
 fn look(output: &DtlsOutput<'_>, expected: &[u8], at: u64) -> Seen {
@@ -73,7 +73,7 @@ pub fn shows_cert<D: DtlsInstance>(end: &mut Dtls<D>, buf: &mut [u8], cert: &[u8
 pub fn shows_finished<D: DtlsInstance>(end: &mut Dtls<D>, buf: &mut [u8]) -> bool {
     let keys = shown(end, buf, &[], 0) == Seen::Keys;
     let connected = shown(end, buf, &[], 0) == Seen::Connected;
-    keys && connected
+    keys & connected
 }
 
 /// Whether nothing but this moment is next.
@@ -92,12 +92,4 @@ pub fn sends<D: DtlsInstance>(end: &mut Dtls<D>, packet: &[u8]) -> bool {
 /// Whether no packet is queued.
 pub fn is_empty<D: DtlsInstance>(end: &mut Dtls<D>) -> bool {
     end.poll_packet().is_none()
-}
-
-/// Whether calls of a connection were not refused, and what they gave is expected.
-pub fn succeeds(answer: Result<bool, DtlsError>) -> bool {
-    match answer {
-        Ok(holds) => holds,
-        Err(_) => false,
-    }
 }

@@ -1,9 +1,9 @@
 //! Two DTLS connections over plain parts, with packets that are lost, repeated and forged.
 use crate::connections::{
-    SECOND, Seen, buffer, connect, is_empty, sends, shown, shows_cert, shows_finished, succeeds,
-    waits,
+    SECOND, Seen, buffer, connect, is_empty, sends, shown, shows_cert, shows_finished, waits,
 };
 use crate::limits;
+use rtc_cases::is_true;
 use rtc_dtls::{Dtls, DtlsError, DtlsInstance};
 use rtc_wire::Moment;
 use std::alloc::{AllocError, Global};
@@ -31,7 +31,7 @@ fn says_hello<D: DtlsInstance>(left: &mut Dtls<D>, buf: &mut [u8]) -> Result<boo
     left.handle_receive(&[])?;
     let waiting = waits(left, buf, SECOND);
     let sent = sends(left, hello());
-    Ok(waiting && sent)
+    Ok(waiting & sent)
 }
 
 // The passive side answers a hello.
@@ -41,7 +41,7 @@ fn answers<D: DtlsInstance>(right: &mut Dtls<D>, buf: &mut [u8]) -> Result<bool,
     let told = shows_cert(right, buf, b"abc");
     let waiting = waits(right, buf, SECOND);
     let sent = sends(right, answer());
-    Ok(told && waiting && sent)
+    Ok(told & waiting & sent)
 }
 
 // The active side is given the answer, is told of the end of the handshake, and sends its finish.
@@ -51,7 +51,7 @@ fn finishes<D: DtlsInstance>(left: &mut Dtls<D>, buf: &mut [u8]) -> Result<bool,
     let finished = shows_finished(left, buf);
     let resting = waits(left, buf, u64::MAX);
     let sent = sends(left, finish());
-    Ok(told && finished && resting && sent)
+    Ok(told & finished & resting & sent)
 }
 
 // The passive side is given the finish.
@@ -59,7 +59,7 @@ fn is_finished<D: DtlsInstance>(right: &mut Dtls<D>, buf: &mut [u8]) -> Result<b
     right.handle_receive(finish())?;
     let finished = shows_finished(right, buf);
     let resting = waits(right, buf, u64::MAX);
-    Ok(finished && resting)
+    Ok(finished & resting)
 }
 
 fn shake_hands<D: DtlsInstance>(
@@ -71,17 +71,8 @@ fn shake_hands<D: DtlsInstance>(
     let answered = answers(right, buf)?;
     let ended = finishes(left, buf)?;
     let ended_too = is_finished(right, buf)?;
-    let begun = greeted && answered;
-    Ok(begun && ended && ended_too)
-}
-
-// Whether a handshake ends on both sides.
-fn handshakes(alloc: Global) -> Result<bool, AllocError> {
-    let mut buf = buffer(alloc)?;
-    let mut left = connect(alloc, b"abc")?;
-    let mut right = connect(alloc, b"def")?;
-    let ended = shake_hands(&mut left, &mut right, &mut buf);
-    Ok(succeeds(ended))
+    let begun = greeted & answered;
+    Ok(begun & ended & ended_too)
 }
 
 fn wait_until<D: DtlsInstance>(left: &mut Dtls<D>, seconds: u64) -> Result<(), DtlsError> {
@@ -97,15 +88,7 @@ fn repeats_hello<D: DtlsInstance>(left: &mut Dtls<D>, buf: &mut [u8]) -> Result<
     let sent = sends(left, hello());
     let again = sends(left, hello());
     let rest = is_empty(left);
-    Ok(waiting && sent && again && rest)
-}
-
-// Whether the hello is sent again until it is answered.
-fn repeated(alloc: Global) -> Result<bool, AllocError> {
-    let mut buf = buffer(alloc)?;
-    let mut left = connect(alloc, b"abc")?;
-    let sent = repeats_hello(&mut left, &mut buf);
-    Ok(succeeds(sent))
+    Ok(waiting & sent & again & rest)
 }
 
 // Data that comes too early is lost, and each hello is taken.
@@ -123,7 +106,7 @@ fn answers_twice<D: DtlsInstance>(right: &mut Dtls<D>, buf: &mut [u8]) -> Result
     let waiting = waits(right, buf, SECOND);
     let sent = sends(right, answer());
     let again = sends(right, answer());
-    Ok(told && waiting && sent && again)
+    Ok(told & waiting & sent & again)
 }
 
 // Application data stands in for a finish that was lost.
@@ -131,21 +114,13 @@ fn takes_data<D: DtlsInstance>(right: &mut Dtls<D>, buf: &mut [u8]) -> Result<bo
     right.handle_receive(b"\x17hi")?;
     let finished = shows_finished(right, buf);
     let got = shown(right, buf, b"hi", 0) == Seen::Data;
-    Ok(finished && got)
+    Ok(finished & got)
 }
 
 fn makes_good<D: DtlsInstance>(right: &mut Dtls<D>, buf: &mut [u8]) -> Result<bool, DtlsError> {
     let answered = answers_twice(right, buf)?;
     let got = takes_data(right, buf)?;
-    Ok(answered && got)
-}
-
-// Whether lost and repeated packets are made good.
-fn losses(alloc: Global) -> Result<bool, AllocError> {
-    let mut buf = buffer(alloc)?;
-    let mut right = connect(alloc, b"def")?;
-    let good = makes_good(&mut right, &mut buf);
-    Ok(succeeds(good))
+    Ok(answered & got)
 }
 
 fn is_blocked<D: DtlsInstance>(end: &mut Dtls<D>) -> bool {
@@ -163,14 +138,7 @@ fn blocks<D: DtlsInstance>(left: &mut Dtls<D>, buf: &mut [u8]) -> bool {
     left.set_active(false);
     let active = left.is_active() == Some(true);
     let still = is_blocked(left);
-    before && resting && active && still
-}
-
-// Whether data waits for the handshake.
-fn blocked(alloc: Global) -> Result<bool, AllocError> {
-    let mut buf = buffer(alloc)?;
-    let mut left = connect(alloc, b"abc")?;
-    Ok(blocks(&mut left, &mut buf))
+    before & resting & active & still
 }
 
 // A side with a finished handshake sends data and a close, and is given the other side's close twice.
@@ -187,7 +155,7 @@ fn ends<D: DtlsInstance>(left: &mut Dtls<D>, buf: &mut [u8]) -> Result<bool, Dtl
     sends_and_closes(left)?;
     let told = shown(left, buf, &[], 0) == Seen::Closed;
     let resting = waits(left, buf, u64::MAX);
-    Ok(finished && told && resting)
+    Ok(finished & told & resting)
 }
 
 // It is closed once its packets are given out.
@@ -196,21 +164,13 @@ fn gives_out<D: DtlsInstance>(left: &mut Dtls<D>) -> bool {
     let sent = sends(left, b"\x17hi");
     let closing = sends(left, close());
     let closed = left.is_closed();
-    open && sent && closing && closed
+    open & sent & closing & closed
 }
 
 fn closes<D: DtlsInstance>(left: &mut Dtls<D>, buf: &mut [u8]) -> Result<bool, DtlsError> {
     let ended = ends(left, buf)?;
     let given = gives_out(left);
-    Ok(ended && given)
-}
-
-// Whether a close is told once.
-fn closings(alloc: Global) -> Result<bool, AllocError> {
-    let mut buf = buffer(alloc)?;
-    let mut left = connect(alloc, b"abc")?;
-    let closed = closes(&mut left, &mut buf);
-    Ok(succeeds(closed))
+    Ok(ended & given)
 }
 
 // The passive side sends its certificate again one second later.
@@ -220,7 +180,7 @@ fn repeats_answer<D: DtlsInstance>(right: &mut Dtls<D>, buf: &mut [u8]) -> Resul
     let waiting = waits(right, buf, 2_000_000_000);
     let again = sends(right, answer());
     let rest = is_empty(right);
-    Ok(answered && waiting && again && rest)
+    Ok(answered & waiting & again & rest)
 }
 
 // The active side sends its finish again where the certificate comes again, and tells of nothing.
@@ -231,31 +191,59 @@ fn repeats_finish<D: DtlsInstance>(left: &mut Dtls<D>, buf: &mut [u8]) -> Result
     let resting = waits(left, buf, u64::MAX);
     let again = sends(left, finish());
     let rest = is_empty(left);
-    Ok(finished && resting && again && rest)
+    Ok(finished & resting & again & rest)
 }
 
 // Whether the certificate of the passive side and the finish are made good where they are lost.
-fn flights(alloc: Global) -> Result<bool, AllocError> {
+fn flights<D: DtlsInstance>(
+    left: &mut Dtls<D>,
+    right: &mut Dtls<D>,
+    buf: &mut [u8],
+) -> Result<bool, DtlsError> {
+    let answered = repeats_answer(right, buf)?;
+    let finished = repeats_finish(left, buf)?;
+    Ok(answered & finished)
+}
+
+fn agrees<D: DtlsInstance>(
+    left: &mut Dtls<D>,
+    right: &mut Dtls<D>,
+    buf: &mut [u8],
+    example: &str,
+) -> Result<bool, DtlsError> {
+    match example {
+        "certificate and finish are sent again" => flights(left, right, buf),
+        "close is told once" => closes(left, buf),
+        "data waits for the handshake" => Ok(blocks(left, buf)),
+        "handshake ends on both sides" => shake_hands(left, right, buf),
+        "hello is sent again" => repeats_hello(left, buf),
+        "lost packets are made good" => makes_good(right, buf),
+        "other packets are ignored" => limits::ignored(left, right, buf),
+        "timers end with moments" => limits::waits_to_the_end(left, buf),
+        _ => Ok(false),
+    }
+}
+
+// Whether an example of two connections gives what is expected, where there was memory for them.
+fn agrees_where_made<D: DtlsInstance + Drop>(
+    alloc: Global,
+    left: Result<Dtls<D>, AllocError>,
+    right: Result<Dtls<D>, AllocError>,
+    example: &str,
+) -> Result<bool, AllocError> {
+    let mut left = left?;
+    let mut right = right?;
     let mut buf = buffer(alloc)?;
-    let mut left = connect(alloc, b"abc")?;
-    let mut right = connect(alloc, b"def")?;
-    let answered = repeats_answer(&mut right, &mut buf);
-    let finished = repeats_finish(&mut left, &mut buf);
-    Ok(succeeds(answered) && succeeds(finished))
+    if example == "longest packets are taken" {
+        limits::longest(alloc, &mut right, &mut buf)
+    } else {
+        Ok(is_true(agrees(&mut left, &mut right, &mut buf, example)))
+    }
 }
 
 /// Whether an example of DTLS connections gives what is expected.
-pub fn does_agree(alloc: Global, example: &str) -> Result<bool, AllocError> {
-    match example {
-        "certificate and finish are sent again" => flights(alloc),
-        "close is told once" => closings(alloc),
-        "data waits for the handshake" => blocked(alloc),
-        "handshake ends on both sides" => handshakes(alloc),
-        "hello is sent again" => repeated(alloc),
-        "longest packets are taken" => limits::longest(alloc),
-        "lost packets are made good" => losses(alloc),
-        "other packets are ignored" => limits::ignored(alloc),
-        "timers end with moments" => limits::ended(alloc),
-        _ => Ok(false),
-    }
+pub fn does_agree(alloc: Global, example: &str) -> bool {
+    let left = connect(alloc, b"abc");
+    let right = connect(alloc, b"def");
+    is_true(agrees_where_made(alloc, left, right, example))
 }

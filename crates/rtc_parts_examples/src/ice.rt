@@ -2,8 +2,8 @@
 use crate::agents::{
     LEFT, RIGHT, creds, discovers, give, is_quiet, makes_check, nominates, prepare, sends, wakes_at,
 };
-use crate::releasing::{keep, release};
 use crate::{candidates, repeats};
+use rtc_cases::is_true;
 use rtc_ice::{IceAgent, IceEvent};
 use rtc_plain_ice::PlainIce;
 use rtc_sdp_values::IceCreds;
@@ -51,32 +51,19 @@ fn length() -> &'static [u8] {
     b"\x00\x01\x00\x07\x21\x12\xa4\x42\0\0\0\0\0\0\0\0\0\0\0\x01\x02rr\x02ll"
 }
 
-/// The left agent, with its credentials and candidate and those of the right one.
-pub fn left_agent(alloc: Global) -> Result<PlainIce, AllocError> {
-    let mut agent = PlainIce::new(alloc);
-    let prepared = prepare(&mut agent, alloc, "ll", "rr", LEFT, RIGHT);
-    keep(agent, prepared)
-}
-
-fn right_agent(alloc: Global) -> Result<PlainIce, AllocError> {
-    let mut agent = PlainIce::new(alloc);
-    let prepared = prepare(&mut agent, alloc, "rr", "ll", RIGHT, LEFT);
-    keep(agent, prepared)
-}
-
 // The left agent makes its first check, and would make the next a quarter of a second later.
 fn left_checks<A: IceAgent>(left: &mut A) -> Result<bool, AllocError> {
     let now = wakes_at(left, 0);
     let made = makes_check(left)?;
     let sent = sends(left, LEFT, RIGHT, left_check());
     let later = wakes_at(left, 250_000_000);
-    Ok(now && made && sent && later)
+    Ok(now & made & sent & later)
 }
 
 fn right_checks<A: IceAgent>(right: &mut A) -> Result<bool, AllocError> {
     let made = makes_check(right)?;
     let sent = sends(right, RIGHT, LEFT, right_check());
-    Ok(made && sent)
+    Ok(made & sent)
 }
 
 // The right agent is given the left one's check, and answers it.
@@ -85,7 +72,7 @@ fn right_answers<A: IceAgent>(right: &mut A) -> Result<bool, AllocError> {
     let discovered = discovers(right, LEFT);
     let sent = sends(right, RIGHT, LEFT, right_response());
     let quiet = is_quiet(right);
-    Ok(discovered && sent && quiet)
+    Ok(discovered & sent & quiet)
 }
 
 fn left_answers<A: IceAgent>(left: &mut A) -> Result<bool, AllocError> {
@@ -93,7 +80,7 @@ fn left_answers<A: IceAgent>(left: &mut A) -> Result<bool, AllocError> {
     let discovered = discovers(left, RIGHT);
     let sent = sends(left, LEFT, RIGHT, left_response());
     let quiet = is_quiet(left);
-    Ok(discovered && sent && quiet)
+    Ok(discovered & sent & quiet)
 }
 
 // A response with another number is ignored.
@@ -112,20 +99,20 @@ fn left_is_nominated<A: IceAgent>(left: &mut A) -> Result<bool, AllocError> {
         None => 0,
     };
     let responses = left.pair_responses();
-    Ok(nominated && quiet && rtt == 7 && responses == 1)
+    Ok(nominated & quiet & (rtt == 7) & (responses == 1))
 }
 
 fn right_is_nominated<A: IceAgent>(right: &mut A) -> Result<bool, AllocError> {
     give(right, 11, LEFT, RIGHT, left_response())?;
     let nominated = nominates(right, RIGHT, LEFT);
     let quiet = is_quiet(right);
-    Ok(nominated && quiet)
+    Ok(nominated & quiet)
 }
 
 // Neither agent makes a check any more.
 fn rest<A: IceAgent>(left: &A, right: &A) -> bool {
-    let connected = left.state().is_connected() && right.state().is_connected();
-    connected && left.poll_timeout().is_none() && right.poll_timeout().is_none()
+    let connected = left.state().is_connected() & right.state().is_connected();
+    connected & left.poll_timeout().is_none() & right.poll_timeout().is_none()
 }
 
 // Both agents check, and both checks are answered.
@@ -137,29 +124,14 @@ fn check_each_other<A: IceAgent>(left: &mut A, right: &mut A) -> Result<bool, Al
     let nominated = left_is_nominated(left)?;
     let answered_back = left_answers(left)?;
     let nominated_back = right_is_nominated(right)?;
-    let all_checked = checked && checked_back && waited;
-    let all_answered = answered && answered_back;
-    let all_nominated = nominated && nominated_back;
-    Ok(all_checked && all_answered && all_nominated)
+    let all_checked = checked & checked_back & waited;
+    Ok(all_checked & answered & answered_back & nominated & nominated_back)
 }
 
 fn nominate_both<A: IceAgent>(left: &mut A, right: &mut A) -> Result<bool, AllocError> {
     let nominated = check_each_other(left, right)?;
     let resting = rest(left, right);
-    Ok(nominated && resting)
-}
-
-fn nominate_with(alloc: Global, left: &mut PlainIce) -> Result<bool, AllocError> {
-    let mut right = right_agent(alloc)?;
-    let told = nominate_both(left, &mut right);
-    release(right, told)
-}
-
-// Whether checks and their responses nominate the pair at both agents.
-fn nomination(alloc: Global) -> Result<bool, AllocError> {
-    let mut left = left_agent(alloc)?;
-    let told = nominate_with(alloc, &mut left);
-    release(left, told)
+    Ok(nominated & resting)
 }
 
 // A lite agent makes no check, and takes the pair by which one came.
@@ -172,34 +144,21 @@ fn takes_pair<A: IceAgent>(right: &mut A) -> Result<bool, AllocError> {
     let nominated = nominates(right, RIGHT, LEFT);
     let sent = sends(right, RIGHT, LEFT, right_response());
     let untimed = right.pair_rtt().is_none();
-    let taken = quiet && discovered && nominated;
-    Ok(taken && sent && untimed)
+    let taken = quiet & discovered & nominated;
+    Ok(taken & sent & untimed)
 }
 
 fn check_lite<A: IceAgent>(left: &mut A, right: &mut A) -> Result<bool, AllocError> {
     let checked = left_checks(left)?;
     let taken = takes_pair(right)?;
     let nominated = left_is_nominated(left)?;
-    Ok(checked && taken && nominated)
+    Ok(checked & taken & nominated)
 }
 
 fn nominate_lite<A: IceAgent>(left: &mut A, right: &mut A) -> Result<bool, AllocError> {
     let nominated = check_lite(left, right)?;
     let resting = rest(left, right);
-    Ok(nominated && resting)
-}
-
-fn nominate_lite_with(alloc: Global, left: &mut PlainIce) -> Result<bool, AllocError> {
-    let mut right = right_agent(alloc)?;
-    let told = nominate_lite(left, &mut right);
-    release(right, told)
-}
-
-// Whether an agent that checks and a lite one take the pair.
-fn lite(alloc: Global) -> Result<bool, AllocError> {
-    let mut left = left_agent(alloc)?;
-    let told = nominate_lite_with(alloc, &mut left);
-    release(left, told)
+    Ok(nominated & resting)
 }
 
 fn ignores<A: IceAgent>(right: &mut A, bytes: &[u8]) -> Result<bool, AllocError> {
@@ -211,26 +170,19 @@ fn ignores_others<A: IceAgent>(right: &mut A) -> Result<bool, AllocError> {
     let another = ignores(right, other())?;
     let long = ignores(right, longer())?;
     let unasked = ignores(right, right_response())?;
-    Ok(another && long && unasked)
+    Ok(another & long & unasked)
 }
 
 fn ignores_malformed<A: IceAgent>(right: &mut A) -> Result<bool, AllocError> {
     let other_cookie = ignores(right, cookie())?;
     let other_length = ignores(right, length())?;
-    Ok(other_cookie && other_length)
+    Ok(other_cookie & other_length)
 }
 
 fn ignores_each<A: IceAgent>(right: &mut A) -> Result<bool, AllocError> {
     let others = ignores_others(right)?;
     let malformed = ignores_malformed(right)?;
-    Ok(others && malformed)
-}
-
-// Whether messages for another agent, and malformed ones, are ignored.
-fn other_messages(alloc: Global) -> Result<bool, AllocError> {
-    let mut right = right_agent(alloc)?;
-    let told = ignores_each(&mut right);
-    release(right, told)
+    Ok(others & malformed)
 }
 
 // A restart with new credentials leaves so many local candidates.
@@ -247,25 +199,35 @@ fn restarts_twice<A: IceAgent>(alloc: Global, left: &mut A) -> Result<bool, Allo
     let kept = leaves(left, second, true)?;
     let third = creds(alloc, "l3")?;
     let cleared = leaves(left, third, false)?;
-    Ok(kept == 1 && cleared == 0)
+    Ok((kept == 1) & (cleared == 0))
 }
 
-// Whether a restart keeps or clears the local candidates.
-fn restarts(alloc: Global) -> Result<bool, AllocError> {
-    let mut left = left_agent(alloc)?;
-    let told = restarts_twice(alloc, &mut left);
-    release(left, told)
+// Whether an example of two agents that know each other's credentials and candidates gives what is expected.
+fn agrees<A: IceAgent>(
+    alloc: Global,
+    left: &mut A,
+    right: &mut A,
+    example: &str,
+) -> Result<bool, AllocError> {
+    prepare(left, alloc, "ll", "rr", LEFT, RIGHT)?;
+    prepare(right, alloc, "rr", "ll", RIGHT, LEFT)?;
+    match example {
+        "checks are repeated until one is answered" => repeats::is_repeated(left),
+        "checks nominate a pair at both agents" => nominate_both(left, right),
+        "lite agent takes the pair of a check" => nominate_lite(left, right),
+        "other messages are ignored" => ignores_each(right),
+        "restart keeps or clears candidates" => restarts_twice(alloc, left),
+        _ => Ok(false),
+    }
 }
 
 /// Whether an example of ICE agents gives what is expected.
-pub fn does_agree(alloc: Global, example: &str) -> Result<bool, AllocError> {
-    match example {
-        "candidates are found by address and protocol" => candidates::found(alloc),
-        "checks are repeated until one is answered" => repeats::repeated(alloc),
-        "checks nominate a pair at both agents" => nomination(alloc),
-        "lite agent takes the pair of a check" => lite(alloc),
-        "other messages are ignored" => other_messages(alloc),
-        "restart keeps or clears candidates" => restarts(alloc),
-        _ => Ok(false),
+pub fn does_agree(alloc: Global, example: &str) -> bool {
+    let mut left = PlainIce::new(alloc);
+    let mut right = PlainIce::new(alloc);
+    if example == "candidates are found by address and protocol" {
+        is_true(candidates::finds_each(&mut right, alloc))
+    } else {
+        is_true(agrees(alloc, &mut left, &mut right, example))
     }
 }

@@ -1,8 +1,6 @@
 //! Packets that a DTLS connection ignores, packets of the greatest length, and moments at the end of their range.
-use crate::connections::{
-    SECOND, Seen, buffer, connect, is_empty, sends, shown, shows_cert, shows_finished, succeeds,
-    waits,
-};
+use crate::connections::{SECOND, Seen, is_empty, sends, shown, shows_cert, shows_finished, waits};
+use rtc_cases::is_true;
 use rtc_dtls::{Dtls, DtlsError, DtlsInstance};
 use rtc_wire::Moment;
 use std::alloc::{AllocError, Global};
@@ -17,7 +15,7 @@ fn ignores<D: DtlsInstance>(
     end.handle_receive(packet)?;
     let waiting = waits(end, buf, at);
     let rest = is_empty(end);
-    Ok(waiting && rest)
+    Ok(waiting & rest)
 }
 
 // Packets with other marks, one without its second mark, and a close with a byte behind it.
@@ -27,8 +25,8 @@ fn ignores_marks<D: DtlsInstance>(right: &mut Dtls<D>, buf: &mut [u8]) -> Result
     let kind = ignores(right, buf, b"\x18abc", u64::MAX)?;
     let unmarked = ignores(right, buf, b"\x16", u64::MAX)?;
     let behind = ignores(right, buf, b"\x15\x01\0", u64::MAX)?;
-    let marks = handshake && alert && kind;
-    Ok(marks && unmarked && behind)
+    let marks = handshake & alert & kind;
+    Ok(marks & unmarked & behind)
 }
 
 // Packets of the other side, and a finish and data before the handshake began.
@@ -37,15 +35,15 @@ fn ignores_sides<D: DtlsInstance>(right: &mut Dtls<D>, buf: &mut [u8]) -> Result
     let certificate = ignores(right, buf, b"\x16\x02abc", u64::MAX)?;
     let finish = ignores(right, buf, b"\x16\x03", u64::MAX)?;
     let data = ignores(right, buf, b"\x17early", u64::MAX)?;
-    let early = finish && data;
-    Ok(started && certificate && early)
+    let early = finish & data;
+    Ok(started & certificate & early)
 }
 
 fn ignores_others<D: DtlsInstance>(right: &mut Dtls<D>, buf: &mut [u8]) -> Result<bool, DtlsError> {
     right.set_active(false);
     let marks = ignores_marks(right, buf)?;
     let sides = ignores_sides(right, buf)?;
-    Ok(marks && sides)
+    Ok(marks & sides)
 }
 
 // An active side ignores a hello, and data before the certificate.
@@ -53,17 +51,18 @@ fn ignores_hello<D: DtlsInstance>(left: &mut Dtls<D>, buf: &mut [u8]) -> Result<
     left.set_active(true);
     let hello = ignores(left, buf, b"\x16\x01def", SECOND)?;
     let data = ignores(left, buf, b"\x17early", SECOND)?;
-    Ok(hello && data)
+    Ok(hello & data)
 }
 
 /// Whether packets that say nothing are ignored.
-pub fn ignored(alloc: Global) -> Result<bool, AllocError> {
-    let mut buf = buffer(alloc)?;
-    let mut left = connect(alloc, b"abc")?;
-    let mut right = connect(alloc, b"def")?;
-    let active = ignores_hello(&mut left, &mut buf);
-    let passive = ignores_others(&mut right, &mut buf);
-    Ok(succeeds(active) && succeeds(passive))
+pub fn ignored<D: DtlsInstance>(
+    left: &mut Dtls<D>,
+    right: &mut Dtls<D>,
+    buf: &mut [u8],
+) -> Result<bool, DtlsError> {
+    let active = ignores_hello(left, buf)?;
+    let passive = ignores_others(right, buf)?;
+    Ok(active & passive)
 }
 
 // A packet with 1901 zeros behind its marks.
@@ -90,8 +89,8 @@ fn takes_hello<D: DtlsInstance>(
     let told = shows_cert(right, buf, zeros);
     let waiting = waits(right, buf, SECOND);
     let sent = sends(right, b"\x16\x02def");
-    let taken = told && waiting && sent;
-    Ok(ignored && taken)
+    let taken = told & waiting & sent;
+    Ok(ignored & taken)
 }
 
 // So is data.
@@ -108,7 +107,7 @@ fn takes_data<D: DtlsInstance>(
     right.handle_receive(packet)?;
     let finished = shows_finished(right, buf);
     let got = shown(right, buf, zeros, 0) == Seen::Data;
-    Ok(ignored && finished && got)
+    Ok(ignored & finished & got)
 }
 
 fn takes_both<D: DtlsInstance>(
@@ -120,28 +119,30 @@ fn takes_both<D: DtlsInstance>(
 ) -> Result<bool, DtlsError> {
     let greeted = takes_hello(right, buf, hello, zeros)?;
     let got = takes_data(right, buf, data, zeros)?;
-    Ok(greeted && got)
+    Ok(greeted & got)
 }
 
 /// Whether packets with at most 1900 bytes behind their marks are taken, and longer ones ignored.
-pub fn longest(alloc: Global) -> Result<bool, AllocError> {
-    let mut buf = buffer(alloc)?;
+pub fn longest<D: DtlsInstance>(
+    alloc: Global,
+    right: &mut Dtls<D>,
+    buf: &mut [u8],
+) -> Result<bool, AllocError> {
     let hello = long_packet(alloc, b"\x16\x01")?;
     let data = long_packet(alloc, b"\x17")?;
     let zeros: Vec<u8> = vec![in alloc; 0; 1900]?;
-    let mut right = connect(alloc, b"def")?;
     let taken = takes_both(
-        &mut right,
-        &mut buf,
+        right,
+        buf,
         hello.as_slice(),
         data.as_slice(),
         zeros.as_slice(),
     );
-    Ok(succeeds(taken))
+    Ok(is_true(taken))
 }
 
-// A hello is sent again one second after the greatest moment, as long as that is before the last of all moments.
-fn waits_to_the_end<D: DtlsInstance>(
+/// Whether a hello is sent again one second after the greatest moment, as long as that is before the last of all moments.
+pub fn waits_to_the_end<D: DtlsInstance>(
     left: &mut Dtls<D>,
     buf: &mut [u8],
 ) -> Result<bool, DtlsError> {
@@ -152,14 +153,6 @@ fn waits_to_the_end<D: DtlsInstance>(
     left.handle_timeout(Moment::from_nanos(u64::MAX - 1_000_000_000))?;
     let never = waits(left, buf, u64::MAX);
     let rest = is_empty(left);
-    let ended = never && rest;
-    Ok(last && sent && ended)
-}
-
-/// Whether timers end where moments do.
-pub fn ended(alloc: Global) -> Result<bool, AllocError> {
-    let mut buf = buffer(alloc)?;
-    let mut left = connect(alloc, b"abc")?;
-    let waited = waits_to_the_end(&mut left, &mut buf);
-    Ok(succeeds(waited))
+    let ended = never & rest;
+    Ok(last & sent & ended)
 }

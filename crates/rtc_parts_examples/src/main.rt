@@ -9,35 +9,26 @@ mod connections;
 mod dtls;
 mod ice;
 mod limits;
-mod releasing;
 mod repeats;
 
-use std::alloc::{AllocError, Global};
+use rtc_cases::{Examples, run};
 use std::io;
 use std::process::ExitCode;
+use std::rt::Files;
 
-fn does_agree(alloc: Global, subject: &str, example: &str) -> Result<bool, AllocError> {
-    match subject {
-        "dtls" => dtls::does_agree(alloc, example),
-        "ice" => ice::does_agree(alloc, example),
-        _ => Ok(false),
+struct Parts;
+
+impl Examples for Parts {
+    fn does_agree<R: Files + AllocGlobal>(rt: &R, subject: &str, name: &str) -> bool {
+        let alloc = rt.alloc();
+        match subject {
+            "dtls" => dtls::does_agree(alloc, name),
+            "ice" => ice::does_agree(alloc, name),
+            _ => false,
+        }
     }
 }
 
 fn main(rt: HostRuntime) -> io::Result<ExitCode> {
-    let mut status = 0;
-    for line in rt.lines(rt.alloc()) {
-        let line = line?;
-        let agrees = match line.as_str().split_once(' ') {
-            Some((subject, example)) => does_agree(rt.alloc(), subject, example)?,
-            None => false,
-        };
-        if agrees {
-            println!(rt; "agrees {line}")?;
-        } else {
-            println!(rt; "differs {line}")?;
-            status = 1;
-        }
-    }
-    Ok(ExitCode::from(status))
+    run::<Parts, HostRuntime>(&rt)
 }

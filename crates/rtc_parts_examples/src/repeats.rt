@@ -1,7 +1,6 @@
 //! Checks of an ICE agent that are repeated until one is answered.
 use crate::agents::{LEFT, RIGHT, give, is_quiet, makes_check, nominates, sends, wakes_at};
-use crate::ice::{left_agent, left_check, other_response, right_response};
-use crate::releasing::release;
+use crate::ice::{left_check, other_response, right_response};
 use rtc_ice::IceAgent;
 use rtc_wire::{Moment, Span};
 use std::alloc::{AllocError, Global};
@@ -26,8 +25,8 @@ fn checks_twice<A: IceAgent>(left: &mut A) -> Result<bool, AllocError> {
     time(left, 100_000_000)?;
     let second = sends(left, LEFT, RIGHT, second_check());
     let later = wakes_at(left, 200_000_000);
-    let begun = made && first && early;
-    Ok(begun && second && later)
+    let begun = made & first & early;
+    Ok(begun & second & later)
 }
 
 // The response to the first check comes too late, and that to the second one counts from it.
@@ -38,8 +37,8 @@ fn is_answered<A: IceAgent>(left: &mut A) -> Result<bool, AllocError> {
     let nominated = nominates(left, LEFT, RIGHT);
     let quiet = is_quiet(left);
     let total = left.pair_total_rtt().nanos() == 50_000_001;
-    let answered = nominated && quiet && total;
-    Ok(late && answered)
+    let answered = nominated & quiet & total;
+    Ok(late & answered)
 }
 
 // No check is made after the nomination.
@@ -47,19 +46,13 @@ fn rests<A: IceAgent>(left: &mut A) -> Result<bool, AllocError> {
     time(left, 200_000_000)?;
     let quiet = is_quiet(left);
     let waits = left.poll_timeout().is_some();
-    Ok(quiet && !waits)
-}
-
-fn is_repeated<A: IceAgent>(left: &mut A) -> Result<bool, AllocError> {
-    let checked = checks_twice(left)?;
-    let answered = is_answered(left)?;
-    let resting = rests(left)?;
-    Ok(checked && answered && resting)
+    Ok(quiet & !waits)
 }
 
 /// Whether checks are repeated until one is answered.
-pub fn repeated(alloc: Global) -> Result<bool, AllocError> {
-    let mut left = left_agent(alloc)?;
-    let told = is_repeated(&mut left);
-    release(left, told)
+pub fn is_repeated<A: IceAgent>(left: &mut A) -> Result<bool, AllocError> {
+    let checked = checks_twice(left)?;
+    let answered = is_answered(left)?;
+    let resting = rests(left)?;
+    Ok(checked & answered & resting)
 }
