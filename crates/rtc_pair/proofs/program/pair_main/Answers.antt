@@ -1,6 +1,16 @@
-use Rattle.std.proofs.Common.{inr}
+use Rattle.std.proofs.Common.{inl, inr}
 use Rattle.rtc_pair.proofs.program.pair_main.Goals as goal
 
 pub returns-in-Some-clause-done : goal.returns-in-Some-clause-done
 returns-in-Some-clause-done g c = λ is.
     inr (c.in-Some.asked.0, c.in-Some.asked.1, c.in-Some.ensures.some, c.perform_demo.ensures.done is)
+
+pub returns-in-Some-clause-write : goal.returns-in-Some-clause-write
+returns-in-Some-clause-write g c = λ is.
+    let broken = c.perform_demo.ensures.write is in
+    record {
+      text = broken.text;
+      due = inl (c.in-Some.asked.0, c.in-Some.asked.1, c.in-Some.ensures.some, broken.due);
+      front = broken.front;
+      rose = broken.rose;
+    }
