@@ -23,6 +23,7 @@ use rtc_media::MediaSession;
 use rtc_peer_state::{Peer, Phase, RtcError, count_lines};
 use rtc_sctp::RtcSctp;
 use rtc_sdp_values::{IceCreds, Sdp};
+use rtc_wire::release;
 use std::alloc::AllocError;
 
 // A table has fewer rows than this.
@@ -218,10 +219,7 @@ fn follow_answer<I: IceAgent, D: DtlsInstance, S: Association, M: MediaSession, 
     let staged = token.changes();
     let growth = match grow_answer(peer, may, staged, answer, &plan) {
         Ok(growth) => growth,
-        Err(_) => {
-            drop(plan);
-            return Err(RtcError::Alloc);
-        }
+        Err(_) => return release(plan, Err(RtcError::Alloc)),
     };
     let Growth {
         answer: own,
@@ -230,9 +228,12 @@ fn follow_answer<I: IceAgent, D: DtlsInstance, S: Association, M: MediaSession, 
         fingerprint,
     } = growth;
     drop(own);
-    if let Err(error) = move_peer(peer, following, starting, answer, plan.rows.as_slice()) {
-        drop((plan, fingerprint));
-        return Err(error);
+    match move_peer(peer, following, starting, answer, plan.rows.as_slice()) {
+        Ok(()) => {}
+        Err(error) => {
+            drop((plan, fingerprint));
+            return Err(error);
+        }
     }
     peer.fingerprint = fingerprint;
     peer.media.commit();

@@ -15,8 +15,8 @@ returns-in-Err g c =
 pub returns-in-Err-grow_answer : goal.returns-in-Err-grow_answer
 returns-in-Err-grow_answer g c =
     let right = latest_raised c.is_latest.result c.args.peer.now.counter c.args.token.now.id c.is_latest.ensures c.if-not-is_latest.false in
-    answer_unprepared (meanings g.I.IceAgent.ice g.D.DtlsInstance.dtls g.S.Association.association g.M.MediaSession.media g.N.Ids.ids) c.args.peer.now c.grow_answer.new.peer c.args.token.now c.args.answer.now right
-    (c.in-Ok.ensures.plans.0) (rw (c.changes-staged.ensures, c.has_sctp_init-may.ensures) at c.in-Err-grow_answer.ensures.grows)
+    rw c.release.ensures (answer_unprepared (meanings g.I.IceAgent.ice g.D.DtlsInstance.dtls g.S.Association.association g.M.MediaSession.media g.N.Ids.ids) c.args.peer.now c.grow_answer.new.peer c.args.token.now c.args.answer.now right
+    (c.in-Ok.ensures.plans.0) (rw (c.changes-staged.ensures, c.has_sctp_init-may.ensures) at c.in-Err-grow_answer.ensures.grows))
 
 pub returns-in-Err-move_peer : goal.returns-in-Err-move_peer
 returns-in-Err-move_peer g c =
