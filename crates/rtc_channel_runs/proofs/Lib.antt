@@ -33,6 +33,7 @@ mod SettledSides
 mod AnsweredOpenings
 mod StillSides
 mod StandingVisits
+mod StandingReadings
 mod StandingEntries
 mod StandingPolls
 mod PlacedEntries

@@ -185,9 +185,20 @@ AreConfirmedSettled draws confirmed uses p others q =
     → AreInBandStreams stream p q
     → IsOpenAtBoth draws channel uses p others q ⊎ (IsRefusedAlone stream p q ⊎ AreBothOpening stream p q)
 
+-- each channel of one side that was confirmed is open at both, where neither side settled its stream by other means
+abbrev pub AreConfirmedInBand : {N : Type 0} → Draws N → (confirmed : ℕ → Type 0) → (uses : List ChannelUse) → PlainPolled N
+    → (others : List ChannelUse) → PlainPolled N → Type 0
+AreConfirmedInBand draws confirmed uses p others q =
+    (channel stream : ℕ)
+    → confirmed channel
+    → stream_under channel p.core.channels ≡ Some stream
+    → AreInBandStreams stream p q
+    → AreInBandChannels stream p q
+    → IsOpenAtBoth draws channel uses p others q
+
 -- A run by these steps with these replies leaves it so at both sides, where it left the pair settled. Of channels that were confirmed it
 -- tells where nothing is due for those of the side; they are open where besides no opening is under way at either side, and where the last
--- timeouts of both are late enough.
+-- timeouts of both are late enough. Each opening is over a stream of its own side.
 pub record SettlesOpen {N : Type 0} (draws : Draws N) (stun : List ℕ → Bool) (start : PlainPair N) (steps : List Step)
     (replies : List (Reply PlainMediaEvent)) (pair : PlainPair N) (run : Runs (plain_over draws) stun start steps replies pair)
     : Type 0 where
