@@ -35,6 +35,7 @@ mod StillSides
 mod StandingVisits
 mod StandingReadings
 mod StandingEntries
+mod StandingTours
 mod StandingPolls
 mod PlacedEntries
 mod StandingCalls
@@ -59,3 +60,9 @@ pub mod KnownRows
 pub mod KnownRuns
 pub mod KnownSides
 pub mod RefusedSides
+mod OwnedRows
+mod OwnedAllocation
+mod OwnedChanges
+mod SideChanges
+pub mod OwnedRuns
+pub mod OwnSides

@@ -12,17 +12,12 @@ use Rattle.rtc_sctp_entries.specs.Entries.{Ascend, entry_place, new_place, new_e
 use Rattle.rtc_sctp.specs.Polls.{Book, AfterEvent, FinishesAt, finished_entry, with_expected}
 use Rattle.rtc_sctp_entries.proofs.OrderLemmas.{ascend_set, ascend_with, none_missing}
 use Rattle.rtc_sctp.proofs.OrderKept.{ascend_unclosed}
-use Rattle.rtc_channel_runs.specs.OwnOpenings.{IsOpeningState}
-use Rattle.rtc_channel_runs.specs.SettledPairs.{HasEntryOf}
+use Rattle.rtc_channel_runs.specs.OwnOpenings.{HasEntryOf, HasOpening, IsOpeningState}
 use Rattle.rtc_channel_runs.proofs.StandingVisits.{IsStanding}
 
 -- a stream has an entry whose opening is begun
 abbrev pub HasStanding : (stream : ℕ) → List StreamEntry → Type 0
 HasStanding s es = HasEntryOf IsStanding s es
-
--- a stream is opened from here
-abbrev pub HasOpening : (stream : ℕ) → List StreamEntry → Type 0
-HasOpening s es = HasEntryOf (λ entry. IsOpeningState entry.state) s es
 
 -- no entry is closed
 abbrev pub NoneClosed : List StreamEntry → Type 0

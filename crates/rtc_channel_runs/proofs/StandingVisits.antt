@@ -67,7 +67,7 @@ open_closed h = cc
 open_config : Open ≡ AwaitConfig → ⊥
 open_config h = cc
 
-open_not : (st : StreamEntryState) → st ≡ Open → IsOpeningState st → ⊥
+pub open_not : (st : StreamEntryState) → st ≡ Open → IsOpeningState st → ⊥
 open_not st is (inl h) = let clash : Open ≡ AwaitOpen = sym is ∙ h in cc
 open_not st is (inr h) = let clash : Open ≡ AwaitDcepAck = sym is ∙ h in cc
 

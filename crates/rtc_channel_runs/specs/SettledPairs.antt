@@ -31,6 +31,7 @@ use Rattle.rtc_joined_runs.specs.PlainPairs.{PlainPair, PlainPolled, plain_over}
 use Rattle.rtc_channel_runs.specs.ChannelUses.{ChannelUse}
 use Rattle.rtc_channel_runs.specs.OpenUses.{AreJoinedUses}
 use Rattle.rtc_channel_runs.specs.ConfirmedChannels.{WasConfirmed}
+use Rattle.rtc_channel_runs.specs.OwnOpenings.{HasEntryOf, HasOpening, IsInBandChannel, IsOfSide}
 use Rattle.rtc_channel_runs.specs.StillPairs.{IsStillPair}
 use Rattle.rtc_channel_runs.specs.UsesOfRuns.{reached_by, uses_in_run}
 
@@ -128,11 +129,6 @@ AreOpenAtBoth draws uses p others q =
     → AreInBandStreams stream p q
     → IsOpenAtBoth draws channel uses p others q
 
--- a stream has an entry that is so
-abbrev pub HasEntryOf : (StreamEntry → Type 0) → (stream : ℕ) → List StreamEntry → Type 0
-HasEntryOf is_so stream [] = ⊥
-HasEntryOf is_so stream (entry ∷ entries) = ((entry.id ≡ stream) × is_so entry) ⊎ HasEntryOf is_so stream entries
-
 -- the open message for a stream waits for its answer
 abbrev pub WaitsForAnswer : (stream : ℕ) → List StreamEntry → Type 0
 WaitsForAnswer stream entries = HasEntryOf (λ entry. entry.state ≡ AwaitDcepAck) stream entries
@@ -184,6 +180,23 @@ AreConfirmedSettled draws confirmed uses p others q =
     → stream_under channel p.core.channels ≡ Some stream
     → AreInBandStreams stream p q
     → IsOpenAtBoth draws channel uses p others q ⊎ (IsRefusedAlone stream p q ⊎ AreBothOpening stream p q)
+
+-- the stream of no channel of either side was settled by other means than messages
+pub record AreInBandChannels {N : Type 0} (stream : ℕ) (p q : PlainPolled N) : Type 0 where
+  pub here : IsInBandChannel stream p.core.channels.rows
+  pub there : IsInBandChannel stream q.core.channels.rows
+
+-- an opening from here is over a stream of this side, where no channel was settled for the stream by other means
+abbrev pub AreOwnOpenings : {N : Type 0} → PlainPolled N → Type 0
+AreOwnOpenings p =
+    (stream : ℕ)
+    → IsInBandChannel stream p.core.channels.rows
+    → HasOpening stream p.core.sctp.entries
+    → IsOfSide p.core.sctp.client stream
+
+-- one started its association as the client, and the other one as the server
+abbrev pub AreOnSides : {N : Type 0} → PlainPolled N → PlainPolled N → Type 0
+AreOnSides p q = q.core.sctp.client ≡ p.core.sctp.client → ⊥
 
 -- each channel of one side that was confirmed is open at both, where neither side settled its stream by other means
 abbrev pub AreConfirmedInBand : {N : Type 0} → Draws N → (confirmed : ℕ → Type 0) → (uses : List ChannelUse) → PlainPolled N
