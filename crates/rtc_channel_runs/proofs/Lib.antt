@@ -66,3 +66,4 @@ mod OwnedChanges
 mod SideChanges
 pub mod OwnedRuns
 pub mod OwnSides
+pub mod SettlesRuns

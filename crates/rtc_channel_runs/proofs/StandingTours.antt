@@ -31,11 +31,8 @@ least_entry P s low (e ∷ es) h (inr k) = let up = least_entry P s (e.id + 1) e
 
 -- an entry that is open stands
 open_stands : (s : ℕ) (e : StreamEntry) → (e.id ≡ s) × (e.state ≡ Open) → (e.id ≡ s) × IsStanding e
-open_stands s e h = (
-  h.0,
-  (λ c. let clash : Open ≡ Closed = sym h.1 ∙ c in cc),
-  λ c. absurd (let clash : Open ≡ AwaitConfig = sym h.1 ∙ c in cc),
-)
+open_stands s e h =
+    (h.0, ((λ c. let clash : Open ≡ Closed = sym h.1 ∙ c in cc), λ c. absurd (let clash : Open ≡ AwaitConfig = sym h.1 ∙ c in cc)))
 
 -- the first gives something
 stopped : (met : Met) (e e' : StreamEntry) (es : List StreamEntry) → Goes met e e' → TourGoes met (e ∷ es) (e' ∷ es)
