@@ -64,7 +64,7 @@ use Rattle.rtc_channel_laws.specs.KeptChannels.{CallKeepsStreams}
 use Rattle.rtc_polling_laws.specs.ChannelStreams.{AreNumberedChannels, IsGone}
 use Rattle.rtc_channel_laws.proofs.GoneChannels.{all_confirmed_given, all_confirmed_gone}
 use Rattle.rtc_channel_laws.proofs.ConfirmedChannels.{all_confirmed_over, all_confirmed_numbers}
-use Rattle.rtc_polling_laws.specs.RowsChanged.{Confirmed, KeepsBegun, OnlyActs, RowsChange, StartsEstablished, Stayed}
+use Rattle.rtc_polling_laws.specs.RowsChanged.{Confirmed, KeepsBegun, KeepsSide, OnlyActs, RowsChange, StartsEstablished, Stayed}
 use Rattle.rtc_polling_laws.proofs.ChangedRows.{no_acts, one_changed, same_rows}
 use Rattle.rtc_polling_laws.proofs.StreamsJoin.{same_given}
 use Rattle.rtc_channel_laws.proofs.KeptCalls.{kept_acts}
@@ -120,6 +120,16 @@ module _ {I D S M E X T W N : Type 0} (m : Meanings I D S M E X T W N) where
   inits_last w client now max halves p (Err SctpAlloc) q h = (λ e. inl (ap is_established (sym (ap (λ (s : SctpStreams S). s.state) h.2)) ∙ e))
   inits_last w client now max halves p (Err error) q h = absurd h
 
+  -- one that was started before keeps its side
+  inits_side : (client : Bool) (now max : ℕ) (halves : Option InitHalves) (p : SctpStreams S) (r : Result (Unit {0}) SctpError) (q : SctpStreams S)
+      → Inits m.association client now max halves p r q → KeepsSide m.association p q
+  inits_side client now max halves p (Ok done) q h = λ e. absurd (true≢false (sym e ∙ h.0))
+  inits_side client now max halves p (Err (Proto Started)) q h = λ e. ap (λ (s : SctpStreams S). s.client) h.1
+  inits_side client now max halves p (Err (Proto SnapHalf)) q h = λ e. ap (λ (s : SctpStreams S). s.client) h.2
+  inits_side client now max halves p (Err (Proto AssociationFault)) q h = λ e. ap (λ (s : SctpStreams S). s.client) h.2
+  inits_side client now max halves p (Err SctpAlloc) q h = λ e. ap (λ (s : SctpStreams S). s.client) h.2
+  inits_side client now max halves p (Err error) q h = absurd h
+
   started_only : AssociationLaws m.association → (b : Bool) (client : Bool) (now max : ℕ) (halves : Option InitHalves) (drops : Bool) (p : SctpStreams S)
       (r : Result (Unit {0}) SctpError) (q : SctpStreams S) → StartsWhere m.association b p client now max halves drops r q
       → OnlyActs m.association p q
@@ -134,6 +144,7 @@ module _ {I D S M E X T W N : Type 0} (m : Meanings I D S M E X T W N) where
         entries = inits_entries m.association client now max halves p r q h;
         begun = inits_begun client now max halves p r q h;
         lasts = inits_last w client now max halves p r q h;
+        side = inits_side client now max halves p r q h;
       }
 
   -- entries stay, and what was established over an association that runs is

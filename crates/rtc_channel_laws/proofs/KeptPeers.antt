@@ -1,5 +1,5 @@
 -- The calls of a peer beside polls keep the use of each stream, and live channels.
-use Rattle.std.proofs.Common.{◌≡◌, ◌⊎◌, inl, inr, ◌++◌, ℕ, Bool, true, false, List, [], append-nil, Option, Some, None, Result, Ok, Err, refl, sym, ap, subst, ◌∙◌}
+use Rattle.std.proofs.Common.{◌≡◌, ◌⊎◌, inl, inr, ◌++◌, ◌&&◌, ℕ, Bool, true, false, List, [], append-nil, Option, Some, None, Result, Ok, Err, refl, sym, ap, subst, ◌∙◌}
 use Rattle.std.specs.Prelude.{alloc_error}
 use Rattle.std.specs.declared.alloc.AllocError.{AllocError}
 use Rattle.rtc_wire.specs.declared.datagram_recv.DatagramRecv.{DatagramRecv}
@@ -37,7 +37,7 @@ use Rattle.rtc_polling.specs.Inputs.{HearsStun, HearsDtls, HearsMedia, HearsKind
 use Rattle.rtc_polling.specs.Stages.{Call, InTurn, Failed, Passed}
 use Rattle.rtc_polling.specs.StreamStages.{channel_over}
 use Rattle.rtc_polling_laws.specs.Acts.{message_of_write}
-use Rattle.rtc_polling_laws.specs.RowsChanged.{OnlyActs, RowsChange, RowsChanged, Timed, Progressed, ThresholdSet, StreamClosed}
+use Rattle.rtc_polling_laws.specs.RowsChanged.{OnlyActs, RowsChange, RowsChanged, Timed, Progressed, ThresholdSet, StreamClosed, begun_as}
 use Rattle.rtc_polling_laws.proofs.ChangedRows.{changed_on, one_changed, only_called, rows_same, rows_stay}
 use Rattle.rtc_polling_laws.specs.ChannelStreams.{AreNumberedChannels, IsGone, IsUsedStream}
 use Rattle.rtc_polling_laws.specs.PeerActs.{nothing_came}
@@ -58,18 +58,23 @@ KeepsBoth p q = (q.core.sctp ≡ p.core.sctp) × (q.core.channels ≡ p.core.cha
 abbrev KeepsRows : {I D S M N : Type 0} → PolledPeer I D S M N → PolledPeer I D S M N → Type 0
 KeepsRows p q = (q.core.channels ≡ p.core.channels) × StaysClosed p q
 
+-- what is due for channels is so over an association that was started
+due_started : (a b : Bool) → (a && b) ≡ true → a ≡ true
+due_started true b h = refl
+due_started false b h = h
+
 -- what a write took
 written_is : (stream generation : ℕ) (binary : Bool) (bytes : List ℕ) (answer : Result ℕ SctpError)
     → written_message stream generation binary bytes answer ≡ message_of_write stream generation binary bytes (write_taken answer)
 written_is stream generation binary bytes (Ok count) = refl
 written_is stream generation binary bytes (Err error) = refl
 
--- a write leaves the entries, and the state of the association
+-- a write leaves the entries, and how the association was begun
 written_same : {S : Type 0} (m : AssociationMeaning S) (can current : Bool) (id : ℕ) (binary : Bool) (bytes : List ℕ) (p : SctpStreams S)
-    (r : Result ℕ SctpError) (q : SctpStreams S) → WrittenIf m can current id binary bytes p r q → (q.entries ≡ p.entries) × (q.state ≡ p.state)
-written_same m false current id binary bytes p r q h = (ap (λ x. x.entries) h.1, ap (λ x. x.state) h.1)
-written_same m true false id binary bytes p r q h = (ap (λ x. x.entries) h.1, ap (λ x. x.state) h.1)
-written_same m true true id binary bytes p r q h = (ap (λ x. x.entries) h.3, ap (λ x. x.state) h.3)
+    (r : Result ℕ SctpError) (q : SctpStreams S) → WrittenIf m can current id binary bytes p r q → (q.entries ≡ p.entries) × (begun_as q ≡ begun_as p)
+written_same m false current id binary bytes p r q h = (ap (λ x. x.entries) h.1, ap begun_as h.1)
+written_same m true false id binary bytes p r q h = (ap (λ x. x.entries) h.1, ap begun_as h.1)
+written_same m true true id binary bytes p r q h = (ap (λ x. x.entries) h.3, ap begun_as h.3)
 
 module _ {I D S M E X T W N : Type 0} (m : Meanings I D S M E X T W N) where
   -- the peer is closed, or the changes of channels and entries are these
@@ -198,7 +203,7 @@ module _ {I D S M E X T W N : Type 0} (m : Meanings I D S M E X T W N) where
       let due = is_progress_due m.association b.core.channels b.core.sctp in
       over_channels p q (channels_kept w now p b q (Ok tt) h k.0) (λ e. beside StaysClosed b _ q k.1 (λ f. f) (closed e))
       (changes_one p q
-      (Progressed now both timed.0 b.core.sctp timed.1 due both k.0.0
+      (Progressed now both timed.0 b.core.sctp timed.1 due (λ e. due_started (m.association.started b.core.sctp.association) _ e) both k.0.0
       (subst (λ (x : Channels). MeetsMoment m.association due x b.core.sctp both (Ok tt) q.core.channels q.core.sctp k.0.0) (timed_rows now p b h) k.0.1)))
   channels_keep w now p b (Err Alloc) q h closed k =
       over_channels p q (channels_kept w now p b q (Err alloc_error) h k.0) (λ e. beside StaysClosed b _ q k.1 (λ f. refl) (closed e))

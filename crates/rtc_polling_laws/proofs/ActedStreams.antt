@@ -35,7 +35,7 @@ use Rattle.rtc_polling.proofs.StreamWork.{poll_none}
 use Rattle.rtc_polling_laws.specs.PeerActs.{nothing_came}
 use Rattle.rtc_polling_laws.specs.Acts.{PeerDid, ArePassed}
 use Rattle.rtc_polling_laws.specs.ChannelStreams.{HasNoRow, IsGone, LeavesLiveChannel, UnlessLacking, OpensByAnswer, TellsByAnswer, TellsMessage, WasOpenInBand, Already, Announced, NoNumber}
-use Rattle.rtc_polling_laws.specs.RowsChanged.{Polled, RowsAnswered, RowsChanged}
+use Rattle.rtc_polling_laws.specs.RowsChanged.{Polled, RowsAnswered, RowsChanged, begun_as}
 use Rattle.rtc_polling_laws.proofs.ChangedRows.{closed_row, one_changed}
 use Rattle.rtc_polling_laws.proofs.ChannelsOver.{ensured_over, without_over, same_stream, ensured_gone, removed_gone, none_left}
 use Rattle.rtc_polling_laws.proofs.EnsuredRows.{ensured_full, ensured_given, ensured_rows}
@@ -89,7 +89,7 @@ module _ {I D S M E X T W N : Type 0} (m : Meanings I D S M E X T W N) (laws : P
       → (did : PollUses m.association p.core.sctp (met_of answer) streams) → r ≡ x → q.core.sctp.association ≡ streams.association
       → pushed_packets q.core.sctp.pushed ≡ pushed_packets p.core.sctp.pushed ++ did.outs → BesideStreams p q → contents_met x ≡ []
       → data_met (met_of answer) ≡ passed ++ said → ArePassed p.core.channels passed → MeetsData x q.core.channels said
-      → KeepsRows x p.core.channels q.core.channels → (q.core.sctp.entries ≡ streams.entries) × (q.core.sctp.state ≡ streams.state)
+      → KeepsRows x p.core.channels q.core.channels → (q.core.sctp.entries ≡ streams.entries) × (begun_as q.core.sctp ≡ begun_as streams)
       → LeavesUsesBy x answer streams → StaysLiveBy x answer streams p q
       → KeepsHeld p.core.channels q.core.channels → OpensAnewBy x answer p q → ChangesBy x answer p q
       → OpensByAnswer m (answer_met x) p did.wrote did.heard q → (GenerationLaws m.association → TellsByAnswer m (answer_met x) did.heard q)
@@ -129,13 +129,13 @@ module _ {I D S M E X T W N : Type 0} (m : Meanings I D S M E X T W N) (laws : P
           unless_map (answer_met x) (RowsAnswered answer p.core.channels q.core.channels)
           (RowsChanged m.association p.core.channels p.core.sctp q.core.channels q.core.sctp)
           (λ after.
-          one_changed m.association p.core.channels p.core.sctp q.core.channels q.core.sctp (Polled answer streams polled after is entries.0 entries.1)) rowed;
+          one_changed m.association p.core.channels p.core.sctp q.core.channels q.core.sctp (Polled answer streams polled after is entries.0 (ap (λ b. b.0) entries.1) (ap (λ b. b.1) entries.1))) rowed;
       opens = opens;
       tells = tells;
       running = λ w k. (
         subst (λ (a : S). m.association.started a ≡ true) (sym is)
             (started_moved m.association w did.did.acts p.core.sctp.association streams.association k.0 did.did.went),
-        ap is_established entries.1 ∙ polls_stay m.association p.core.sctp answer streams polled k.1,
+        ap (λ b. is_established b.0) entries.1 ∙ polls_stay m.association p.core.sctp answer streams polled k.1,
       );
     };
   })
@@ -144,7 +144,7 @@ module _ {I D S M E X T W N : Type 0} (m : Meanings I D S M E X T W N) (laws : P
   silent_visit : (x r : Met E) (answer : Result (Option SctpEvent) AllocError) (streams : SctpStreams S) (p n q : PolledPeer I D S M N)
       → PollsStreams m.association p.core.sctp answer streams → packets_met (met_of answer) ≡ [] → data_met (met_of answer) ≡ [] → r ≡ x → q ≡ n
       → n.core.sctp.association ≡ streams.association → n.core.sctp.pushed ≡ streams.pushed → BesideStreams p n → contents_met x ≡ []
-      → ((held : Channels) → MeetsData x held []) → KeepsRows x p.core.channels n.core.channels → (n.core.sctp.entries ≡ streams.entries) × (n.core.sctp.state ≡ streams.state)
+      → ((held : Channels) → MeetsData x held []) → KeepsRows x p.core.channels n.core.channels → (n.core.sctp.entries ≡ streams.entries) × (begun_as n.core.sctp ≡ begun_as streams)
       → LeavesUsesBy x answer streams
       → StaysLiveBy x answer streams p n → KeepsHeld p.core.channels n.core.channels → OpensAnewBy x answer p n → ChangesBy x answer p n → ((did : PollUses m.association p.core.sctp (met_of answer) streams) → OpensByAnswer m (answer_met x) p did.wrote did.heard n)
       → VisitDid m p r q

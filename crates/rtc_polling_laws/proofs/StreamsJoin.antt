@@ -36,7 +36,7 @@ use Rattle.rtc_polling.specs.StreamStages.{channel_over}
 use Rattle.rtc_polling_laws.proofs.ChangedRows.{changed_on, no_acts, rows_stay}
 use Rattle.rtc_polling_laws.proofs.UnsharedRows.{AreApart}
 use Rattle.rtc_polling_laws.proofs.ActedClosing.{BesideIce, BesideDtls, BesideMedia}
-use Rattle.rtc_polling_laws.specs.RowsChanged.{OnlyActs, RowsChanged}
+use Rattle.rtc_polling_laws.specs.RowsChanged.{OnlyActs, RowsChanged, begun_as}
 use Rattle.rtc_polling_laws.specs.ChannelStreams.{IsGone, IsLiveChannel, LeavesLiveBy, LeavesLiveChannel, UnlessLacking, IsUsedStream, OpensByAnswer, TellsByAnswer, StreamsWent, WasOpenInBand, Already, Announced, NoNumber}
 
 -- what is met, as a poll answers it
@@ -58,10 +58,10 @@ pub record StatesStay {S : Type 0} (m : AssociationMeaning S) (p q : SctpStreams
   pub only : OnlyActs m p q
 
 pub states_by : {S : Type 0} (m : AssociationMeaning S) (p n q : SctpStreams S) → q ≡ n → n.association ≡ p.association → n.entries ≡ p.entries
-    → n.state ≡ p.state → StatesStay m p q
-states_by {S} m p n q is association entries state = record {
-  established = stay_same p q (ap (λ (x : SctpStreams S). x.state) is ∙ state);
-  only = no_acts m p n q is association entries state;
+    → begun_as n ≡ begun_as p → StatesStay m p q
+states_by {S} m p n q is association entries begun = record {
+  established = stay_same p q (ap (λ (x : RtcSctpState × Bool). x.0) (ap begun_as is ∙ begun));
+  only = no_acts m p n q is association entries begun;
 }
 
 pub states_same : {S : Type 0} (m : AssociationMeaning S) (p q : SctpStreams S) → q ≡ p → StatesStay m p q
@@ -95,6 +95,7 @@ input_states {S} m true now bytes p r q h =
         entries = ap (λ (x : SctpStreams S). x.entries) h.1;
         begun = λ e. input_uninited p.state (sym state ∙ e);
         lasts = λ e. inl (input_established p.state (ap is_established (sym state) ∙ e));
+        side = λ e. ap (λ (x : SctpStreams S). x.client) h.1;
       };
     }
 

@@ -6,6 +6,7 @@ use Rattle.rtc_wire.specs.declared.channel_config.ChannelConfig.{ChannelConfig}
 use Rattle.rtc_association.specs.AssociationActs.{AssociationAct, Moved}
 use Rattle.rtc_association.specs.AssociationMeaning.{AssociationMeaning}
 use Rattle.rtc_association.specs.AssociationWords.{told}
+use Rattle.rtc_sctp.specs.declared.rtc_sctp_state.RtcSctpState.{RtcSctpState}
 use Rattle.rtc_sctp.specs.declared.rtc_sctp_state.RtcSctpState.TheVariants.{Uninited}
 use Rattle.rtc_sctp_entries.specs.declared.sctp_event.SctpEvent.{SctpEvent}
 use Rattle.rtc_sctp_entries.specs.declared.sctp_event.SctpEvent.TheVariants as event
@@ -38,6 +39,10 @@ abbrev pub RowsAnswered : Result (Option SctpEvent) AllocError → Channels → 
 RowsAnswered (Ok (Some e)) held held' = RowsTold e held held'
 RowsAnswered answer held held' = SameRows held held'
 
+-- how far the start of an association came, and whether this side is its client
+abbrev pub begun_as : {S : Type 0} → SctpStreams S → RtcSctpState × Bool
+begun_as p = (p.state, p.client)
+
 -- an association that was begun, as client or as server, stays so
 abbrev pub KeepsBegun : {S : Type 0} → SctpStreams S → SctpStreams S → Type 0
 KeepsBegun a b = b.state ≡ Uninited → a.state ≡ Uninited
@@ -47,6 +52,10 @@ module _ {S : Type 0} (m : AssociationMeaning S) where
   abbrev pub StartsEstablished : SctpStreams S → SctpStreams S → Type 0
   StartsEstablished a b = is_established b.state ≡ true → (is_established a.state ≡ true) ⊎ (m.started b.association ≡ true)
 
+  -- one that is started keeps its side
+  abbrev pub KeepsSide : SctpStreams S → SctpStreams S → Type 0
+  KeepsSide a b = m.started a.association ≡ true → b.client ≡ a.client
+
   -- acts were done to the association by which no event was told, and the entries stay
   pub record OnlyActs (a b : SctpStreams S) : Type 0 where
     pub acts : List AssociationAct
@@ -55,6 +64,7 @@ module _ {S : Type 0} (m : AssociationMeaning S) where
     pub entries : b.entries ≡ a.entries
     pub begun : KeepsBegun a b
     pub lasts : StartsEstablished a b
+    pub side : KeepsSide a b
 
   -- One change of channels and of the entries of their streams: none; a poll of the streams, with what becomes of their channels; a moment
   -- that the streams take, and one that the channels take behind them; a threshold that is set; a stream that is closed from here; channels
@@ -63,11 +73,13 @@ module _ {S : Type 0} (m : AssociationMeaning S) where
     Stayed : SameRows held held' → OnlyActs a b → RowsChange held a held' b
     Polled : (answer : Result (Option SctpEvent) AllocError) (streams : SctpStreams S) → PollsStreams m a answer streams
         → RowsAnswered answer held held' → b.association ≡ streams.association → b.entries ≡ streams.entries → b.state ≡ streams.state
+        → b.client ≡ streams.client
         → RowsChange held a held' b
     Timed : (now : ℕ) (wake wake' : Signals) (r : Result (Unit {0}) AllocError) → TakesTimeout m now a wake r b wake' → held' ≡ held
         → RowsChange held a held' b
     Progressed : (now : ℕ) (wake wake' : Signals) (between : SctpStreams S) → TakesTimeout m now a wake (Ok tt) between wake' → (due : Bool)
-        (signals signals' : Signals) → MeetsMoment m due held between signals (Ok tt) held' b signals' → RowsChange held a held' b
+        → (due ≡ true → m.started between.association ≡ true) → (signals signals' : Signals)
+        → MeetsMoment m due held between signals (Ok tt) held' b signals' → RowsChange held a held' b
     ThresholdSet : (n : ℕ) (place : Option ℕ) → SetsThreshold S n place a b → held' ≡ held → RowsChange held a held' b
     StreamClosed : (stream : ℕ) (r : Result (Unit {0}) AllocError) → ClosesDataStream m stream a r b → held' ≡ held
         → RowsChange held a held' b
