@@ -20,8 +20,8 @@ use Rattle.rtc_sctp.specs.Streams.{SctpStreams}
 use Rattle.rtc_sctp.specs.Calls.{TimedBy, TakesTimeout}
 use Rattle.rtc_sctp.specs.StreamCalls.{ConfigBy, TakesConfig, Declined, Answered, OpensAwaiting, OpensOver, OpensAt, OpensStream, NoRoom, Ended, EndsIf, ClosesAt, ClosesDataStream, SetsThreshold}
 use Rattle.rtc_sctp_laws.specs.StreamRuns.{is_past_opening}
-use Rattle.rtc_stream_uses.specs.GenerationLaws.{GenerationLaws}
-use Rattle.rtc_plain_streams.proofs.ThereStreams.{AreBegunStreams, Goes, HasPast, KeepingLaws, OpenNone, ended_goes, goes_act, goes_acts, goes_same, reliability_goes}
+use Rattle.rtc_stream_uses.specs.GenerationLaws.{GenerationLaws, OpenAndReadNone}
+use Rattle.rtc_plain_streams.proofs.ThereStreams.{AreBegunStreams, Goes, HasPast, KeepingLaws, ended_goes, goes_act, goes_acts, goes_same, reliability_goes}
 use Rattle.rtc_plain_streams.proofs.ThereEntries.{StaysPastOpening, past_insert, past_is, past_set, past_unclosed}
 use Rattle.rtc_plain_streams.proofs.TherePolls.{begun_over, begun_same}
 
@@ -163,7 +163,7 @@ module _ {S : Type 0} (m : AssociationMeaning S) where
 
     -- acts that open and read no stream, over the same entries
     pub acts_begun : (acts : List AssociationAct) (p q : SctpStreams S) → Moved m p.association acts q.association
-        → OpenNone acts → q.entries ≡ p.entries → AreBegunStreams m keeps p → AreBegunStreams m keeps q
+        → OpenAndReadNone acts → q.entries ≡ p.entries → AreBegunStreams m keeps p → AreBegunStreams m keeps q
     acts_begun acts p q went none entries k =
         begun_over m keeps w v u p q (λ s. goes_acts m keeps w v u s acts p.association q.association went none)
         (λ s x. past_is s p.entries q.entries entries x) k

@@ -14,7 +14,7 @@ use Rattle.rtc_parts_values.specs.Why.{Other}
 use Rattle.rtc_sctp_entries.specs.declared.stream_entry.StreamEntry.{StreamEntry}
 use Rattle.rtc_sctp_laws.specs.StreamRuns.{is_past_opening}
 use Rattle.rtc_sctp.specs.Streams.{SctpStreams}
-use Rattle.rtc_stream_uses.specs.GenerationLaws.{GenerationLaws}
+use Rattle.rtc_stream_uses.specs.GenerationLaws.{GenerationLaws, OpenAndReadNone, opens_or_reads}
 use Rattle.rtc_stream_uses.specs.StreamUses.{is_spent_stream}
 use Rattle.rtc_stream_uses.proofs.KeptUses.{spent_kept}
 
@@ -23,17 +23,6 @@ abbrev pub uses_stream : ℕ → AssociationAct → Bool
 uses_stream s (Opened t g) = t == s
 uses_stream s (Read t g i b) = t == s
 uses_stream s act = false
-
--- whether an act opens or reads any stream
-abbrev pub uses_any : AssociationAct → Bool
-uses_any (Opened t g) = true
-uses_any (Read t g i b) = true
-uses_any act = false
-
--- acts that open and read no stream
-abbrev pub OpenNone : List AssociationAct → Type 0
-OpenNone [] = Unit {0}
-OpenNone (act ∷ acts) = (uses_any act ≡ false) × OpenNone acts
 
 -- a stream has an entry past its opening, which is not closed
 abbrev pub HasPast : ℕ → List StreamEntry → Type 0
@@ -119,12 +108,12 @@ module _ {S : Type 0} (m : AssociationMeaning S) (keeps : S → ℕ → Type 0) 
         held z (inl k) = u.stays a b act s h none z k
         held z (inr is) = inr (spent_by act h (z ∙ sym (first z)) is)
 
-    unused : (s : ℕ) (act : AssociationAct) → uses_any act ≡ false → uses_stream s act ≡ false
+    unused : (s : ℕ) (act : AssociationAct) → opens_or_reads act ≡ false → uses_stream s act ≡ false
     unused s (Opened t g) h = absurd (true≢false h)
     unused s (Read t g i b) h = absurd (true≢false h)
     unused s act h = refl
 
-    pub goes_acts : (s : ℕ) (acts : List AssociationAct) (a b : S) → Moved m a acts b → OpenNone acts → Goes s a b
+    pub goes_acts : (s : ℕ) (acts : List AssociationAct) (a b : S) → Moved m a acts b → OpenAndReadNone acts → Goes s a b
     goes_acts s [] a b h none = goes_same s a b h
     goes_acts s (act ∷ acts) a b h none =
         goes_join s a h.0 b (goes_act s a h.0 act h.1.0 (unused s act none.0)) (goes_acts s acts h.0 b h.1.1 none.1)

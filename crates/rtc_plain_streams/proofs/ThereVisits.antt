@@ -9,7 +9,6 @@ use Rattle.rtc_association.specs.AssociationMeaning.{AssociationMeaning}
 use Rattle.rtc_sctp_entries.specs.declared.asked.Asked.{Asked}
 use Rattle.rtc_sctp_entries.specs.declared.asked.Asked.TheVariants as did
 use Rattle.rtc_sctp_entries.specs.declared.opening.Opening.{Opening}
-use Rattle.rtc_sctp_entries.specs.declared.opening.Opening.TheVariants as opened
 use Rattle.rtc_sctp_entries.specs.declared.heard.Heard.{Heard}
 use Rattle.rtc_sctp_entries.specs.declared.heard.Heard.TheVariants as heard
 use Rattle.rtc_sctp_entries.specs.declared.read_message.ReadMessage.{ReadMessage}
@@ -31,9 +30,6 @@ use Rattle.rtc_stream_uses.specs.StreamUses.{is_spent_stream}
 use Rattle.rtc_stream_uses.proofs.KeptUses.{did_keeps}
 use Rattle.rtc_stream_uses.proofs.KnownUses.{done_alloc, end_facts, not_alloc, refused_alloc}
 use Rattle.rtc_plain_streams.proofs.ThereStreams.{Goes, IsFine, IsHeld, KeepingLaws, ended_goes, goes_join, opened_goes, read_goes, reliability_goes, threshold_goes, wrote_goes}
-
-no_answer : opened.OutOfMemory ≡ opened.Exists → ⊥
-no_answer h = cc
 
 module _ {S : Type 0} (m : AssociationMeaning S) (keeps : S → ℕ → Type 0) (w : AssociationLaws m) (v : GenerationLaws m) (u : KeepingLaws m keeps)
     (s : ℕ) (a : S) (id : ℕ) where
