@@ -67,3 +67,5 @@ mod SideChanges
 pub mod OwnedRuns
 pub mod OwnSides
 pub mod SettlesRuns
+pub mod ThereRows
+pub mod ThereRuns

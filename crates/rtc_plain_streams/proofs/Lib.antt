@@ -17,3 +17,5 @@ pub mod KeptLists
 pub mod HeldItems
 pub mod HeldRows
 pub mod HeldActs
+pub mod PartItems
+pub mod PartActs
