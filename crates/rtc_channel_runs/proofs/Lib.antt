@@ -69,3 +69,5 @@ pub mod OwnSides
 pub mod SettlesRuns
 pub mod ThereRows
 pub mod ThereRuns
+pub mod PiecePairs
+pub mod AloneSides
