@@ -1,5 +1,5 @@
 -- Of two ends of the plain association: a part of a message that one holds is of a generation of a stream to which the other one wrote.
-use Rattle.std.proofs.Common.{◌≡◌, ◌∙◌, ◌⊎◌, inl, inr, ℕ, List, [], ◌∷◌, ◌++◌, append-nil, append_assoc, drop, length, Option, Some, None, refl, sym, subst, arith}
+use Rattle.std.proofs.Common.{◌≡◌, ◌∙◌, ◌⊎◌, inl, inr, ℕ, true, List, [], ◌∷◌, ◌++◌, append-nil, append_assoc, drop, length, Option, Some, None, refl, sym, subst, arith}
 use Rattle.rtc_parts_values.specs.Among.{Among}
 use Rattle.rtc_association.specs.AssociationActs.{AssociationAct, Given, Moved}
 use Rattle.rtc_association.specs.AssociationWords.{AssociationMessage, ended, given, taken, written}
