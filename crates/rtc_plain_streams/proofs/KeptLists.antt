@@ -105,7 +105,6 @@ above s t h k = grind (arith, h, k)
 pub bytes_keeps : (s g t n : ℕ) (bytes : List ℕ) (xs : List MessagePart) → HasPart s g xs → HasPart s g (with_bytes t n bytes xs)
 bytes_keeps s g t n bytes xs h = by (nat_lt s t) refl (s == t) refl
   where
-
     by : (b : Bool) → nat_lt s t ≡ b → (c : Bool) → (s == t) ≡ c → HasPart s g (with_bytes t n bytes xs)
     by true e c f =
         one_left (λ (p : MessagePart). p.stream) (λ (p : MessagePart). p.generation) s g (filter (is_part_below t) xs)
