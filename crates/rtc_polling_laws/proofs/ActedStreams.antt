@@ -136,7 +136,7 @@ module _ {I D S M E X T W N : Type 0} (m : Meanings I D S M E X T W N) (laws : P
   hears_visit None stream binary bytes streams p r q is h taken =
       let did = poll_uses m.association laws.association p.core.sctp (Ok (Some (event.Data stream binary bytes))) streams h in
       subst (λ (y : PolledPeer I D S M N). VisitDid m p r y) (sym taken.1)
-      (polled_visit Again r (Ok (Some (event.Data stream binary bytes))) streams p (with_sctp streams p) (event.Data stream binary bytes ∷ []) [] did
+      (polled_visit m laws Again r (Ok (Some (event.Data stream binary bytes))) streams p (with_sctp streams p) (event.Data stream binary bytes ∷ []) [] did
       taken.0 refl did.sent_is (refl, refl, refl, refl) refl refl (is, tt) refl refl (refl, refl) (λ s ws hs l. l.left) (λ c s g rising over live. (over, live)) (λ c k. k, λ k. k, same_given p.core.channels.given p.core.channels.given refl) (λ s own k. absurd k) (refl, refl) tt (λ v. tt) h)
 
   -- the association is lost
@@ -163,7 +163,7 @@ module _ {I D S M E X T W N : Type 0} (m : Meanings I D S M E X T W N) (laws : P
       let did = poll_uses m.association laws.association p.core.sctp (Ok (Some (event.Transmit packets))) streams h in
       let none = poll_none m.association laws.association p.core.sctp (Ok (Some (event.Transmit packets))) streams h in
       subst (λ (y : PolledPeer I D S M N). VisitDid m p r y) (sym taken.1)
-      (polled_visit Nothing r (Ok (Some (event.Transmit packets))) streams p (with_pushed (Some packets) (with_sctp streams p)) [] [] did taken.0 refl
+      (polled_visit m laws Nothing r (Ok (Some (event.Transmit packets))) streams p (with_pushed (Some packets) (with_sctp streams p)) [] [] did taken.0 refl
       (sym (append-nil packets) ∙ ap (λ (o : Option (List (List ℕ))). packets ++ pushed_packets o) (sym none) ∙ did.sent_is) (refl, refl, refl, refl) refl
       refl tt refl refl (refl, refl) (λ s ws hs l. l.left) (λ c s g rising over live. (over, live)) (λ c k. k, λ k. k, same_given p.core.channels.given p.core.channels.given refl) (λ s own k. absurd k) (refl, refl) tt (λ v. tt) h)
   event_visit (event.Open stream label) streams p r q h taken = opens_visit stream label streams p r q h taken

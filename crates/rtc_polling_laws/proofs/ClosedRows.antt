@@ -15,6 +15,7 @@ use Rattle.rtc_sctp.specs.Streams.{SctpStreams}
 use Rattle.rtc_sctp.specs.Calls.{ShutBy, Shuts, is_ended}
 use Rattle.rtc_stream_uses.proofs.CallUses.{shut_entries}
 use Rattle.rtc_association.specs.AssociationLaws.{AssociationLaws}
+use Rattle.rtc_sctp.specs.declared.rtc_sctp_state.RtcSctpState.{RtcSctpState}
 use Rattle.rtc_stream_uses.proofs.AsideActs.{shuts_aside}
 use Rattle.rtc_polling_laws.proofs.ActedClosing.{beside}
 use Rattle.rtc_polling_laws.proofs.ChangedRows.{no_acts, only_called, only_on}
