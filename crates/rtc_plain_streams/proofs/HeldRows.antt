@@ -12,7 +12,7 @@ use Rattle.rtc_assoc_state.specs.Contents.{Contents, closed_here, generation_of,
 use Rattle.rtc_assoc_state.specs.Streams.{stream_of, put, reset_row}
 use Rattle.rtc_assoc_state.specs.Outbox.{settled_count, buffered, bytes_for}
 use Rattle.rtc_assoc_state.specs.Settling.{Told, told_of, can_reset, reaches, close_settled, part_settled, item_settled, settled}
-use Rattle.rtc_assoc_state.specs.Calls.{greeted, acknowledged, finished}
+use Rattle.rtc_assoc_state.specs.Calls.{greeted, acknowledged}
 use Rattle.rtc_assoc_state.proofs.RaiseLemmas.{stream_of-put, stream_of-put_other, stream_of-stream}
 use Rattle.rtc_plain_streams.proofs.KeptLists.{HasMessage, HasPart}
 

@@ -1,5 +1,5 @@
 -- What acts leave of the parts of messages at an end of the plain association, and of the pieces that it sends.
-use Rattle.std.proofs.Common.{◌≡◌, ◌∙◌, ◌⊎◌, ◌+◌, ◌-◌, ◌++◌, ◌∷◌, inl, inr, cond, ℕ, Bool, true, false, List, [], length, Option, Some, None, Result, refl, sym, subst}
+use Rattle.std.proofs.Common.{◌≡◌, ◌∙◌, ◌⊎◌, ◌-◌, ◌++◌, ◌∷◌, inl, inr, cond, ℕ, Bool, true, false, List, [], length, Option, Some, None, Result, refl, sym, subst}
 use Rattle.std.specs.declared.alloc.AllocError.{AllocError}
 use Rattle.rtc_association.specs.declared.assoc_event.AssocEvent.TheVariants.{Connected}
 use Rattle.rtc_association.specs.Ppi.{ppi_number}

@@ -222,14 +222,12 @@ module _ {S : Type 0} (m : AssociationMeaning S) (keeps : S → ℕ → Type 0) 
   taken_up_by did.Refused label t met t' k up h = marks t met t' k up h
   taken_up_by did.OutOfMemory label t met t' k up h = starves t met t' h
 
-  takes_up : (label : List ℕ) (t : Turn S) (met : Met) (t' : Turn S) → Midway t → is_past_opening t.entry.state ≡ true → TakesUp m label t met t'
-      → LeavesReady met t'
+  takes_up : (label : List ℕ) (t : Turn S) (met : Met) (t' : Turn S) → Midway t → is_past_opening t.entry.state ≡ true → TakesUp m label t met t' → LeavesReady met t'
   takes_up label t met t' k up h =
       taken_up_by h.answer label (record t { association = h.between }) met t'
       (midway_on t h.between (λ ne. reliability_goes m keeps w v u s t.entry.id _ _ _ t.association h.between h.asks.result h.asks.called) k) up h.then
 
-  taken_as : (message : ReadMessage) (t : Turn S) (met : Met) (t' : Turn S) → Midway t → is_past_opening t.entry.state ≡ true → TakenAs m message t met t'
-      → LeavesReady met t'
+  taken_as : (message : ReadMessage) (t : Turn S) (met : Met) (t' : Turn S) → Midway t → is_past_opening t.entry.state ≡ true → TakenAs m message t met t' → LeavesReady met t'
   taken_as (read.Open label config) t met t' k up h = takes_up label _ met t' (record { id_is = k.id_is; other = k.other }) up h
   taken_as read.Malformed t met t' k up h = marks t met t' k up h
   taken_as read.OutOfMemory t met t' k up h = starves t met t' h
@@ -258,8 +256,7 @@ module _ {S : Type 0} (m : AssociationMeaning S) (keeps : S → ℕ → Type 0) 
   read_by heard.Refused t met t' k up h = marks t met t' k up h
   read_by heard.OutOfMemory t met t' k up h = starves t met t' h
 
-  handed : (answer : Asked) (n : ℕ) (t : Turn S) (met : Met) (t' : Turn S) → Midway t → is_past_opening t.entry.state ≡ true → HandedBy m answer n t met t'
-      → LeavesReady met t'
+  handed : (answer : Asked) (n : ℕ) (t : Turn S) (met : Met) (t' : Turn S) → Midway t → is_past_opening t.entry.state ≡ true → HandedBy m answer n t met t' → LeavesReady met t'
   handed did.Done n t met t' k up h = left_as Again _ met t' h.0 h.1 (past _ (record { id_is = k.id_is; other = k.other }) up)
   handed did.Refused n t met t' k up h = left_as Again _ met t' h.0 h.1 (past _ (record { id_is = k.id_is; other = k.other }) up)
   handed did.OutOfMemory n t met t' k up h = starves t met t' h
@@ -279,8 +276,7 @@ module _ {S : Type 0} (m : AssociationMeaning S) (keeps : S → ℕ → Type 0) 
   attends_by (Configured n) t met t' k up h =
       read_by h.answer (record t { association = h.between }) met t' (reads_on t h.between h.asks.result h.asks.called k) up h.then
 
-  attends_if : (b there : Bool) (t : Turn S) (met : Met) (t' : Turn S) → Midway t → is_past_opening t.entry.state ≡ true → AttendsIf m b there t met t'
-      → LeavesReady met t'
+  attends_if : (b there : Bool) (t : Turn S) (met : Met) (t' : Turn S) → Midway t → is_past_opening t.entry.state ≡ true → AttendsIf m b there t met t' → LeavesReady met t'
   attends_if true there t met t' k up h = closes t met t' k h
   attends_if false false t met t' k up h = marks t met t' k up h
   attends_if false true t met t' k up h = attends_by t.entry.threshold t met t' k up h
