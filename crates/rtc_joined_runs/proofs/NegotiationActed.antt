@@ -121,7 +121,7 @@ module _ {I D S M E X T W N : Type 0} (m : Meanings I D S M E X T W N) where
   agent_did p q agent same pushed =
       agent_acts_did m begun_here (p.core.greatest ∷ []) [] p q agent.acts agent.went (none_among _ [] agent.given)
       (none_among _ (p.core.greatest ∷ []) agent.timed) (among_none _) (ap (λ (x : DtlsState D × (S × List StreamEntry) × M). x.0.instance) same)
-      (ap (λ (x : DtlsState D × (S × List StreamEntry) × M). x.0.packets) same) (ap (λ (x : DtlsState D × (S × List StreamEntry) × M). x.1.0) same) pushed (ap (λ (x : DtlsState D × (S × List StreamEntry) × M). x.2) same)
+      (ap (λ (x : DtlsState D × (S × List StreamEntry) × M). queue_and_role x.0) same) (ap (λ (x : DtlsState D × (S × List StreamEntry) × M). x.1.0) same) pushed (ap (λ (x : DtlsState D × (S × List StreamEntry) × M). x.2) same)
 
   same_did : (p q : PolledPeer I D S M N) → q.core ≡ p.core → NegotiationActs m p q
   same_did p q same =
@@ -154,6 +154,7 @@ module _ {I D S M E X T W N : Type 0} (m : Meanings I D S M E X T W N) where
     timed_ice = h.timed_ice;
     timed_dtls = h.timed_dtls;
     timed_media = h.timed_media;
+    role = h.role;
     sent = h.sent;
     handed = h.handed;
     all_handed = h.all_handed;
