@@ -20,6 +20,7 @@ use Rattle.rtc_peer_state.specs.SdpHalves.{draws_half}
 use Rattle.rtc_peer_state.specs.Stance.{stance_of}
 use Rattle.rtc_polling.specs.declared.polled_peer.PolledPeer.{PolledPeer}
 use Rattle.rtc_polling_laws.specs.Acts.{NegotiationActs, begun_here, with_core}
+use Rattle.rtc_polling_laws.specs.PeerActs.{queue_and_role}
 use Rattle.rtc_polling_laws.proofs.ActJoins.{agent_acts_did}
 use Rattle.rtc_polling_laws.proofs.ActedAcceptances.{offer_did, answer_did}
 use Rattle.rtc_polling_laws.proofs.FollowedParts.{AgentTold, agent_none}
