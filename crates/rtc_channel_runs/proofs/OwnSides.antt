@@ -1,5 +1,5 @@
 -- In a settled pair each opening is over a stream of its own side, so that the sides open no stream both.
-use Rattle.std.proofs.Common.{◌≡◌, ◌∙◌, inl, inr, ℕ, Bool, true, false, List, [], ◌∷◌, None, refl, sym}
+use Rattle.std.proofs.Common.{◌≡◌, ◌∙◌, inl, inr, ℕ, Bool, true, false, List, [], ◌∷◌, None, refl, sym, arith}
 use Rattle.rtc_free_ids.specs.Ids.{parity_of}
 use Rattle.rtc_assoc_state.specs.PlainMeaning.{plain_meaning}
 use Rattle.rtc_channels.specs.Openings.{channels_wake}
@@ -42,8 +42,8 @@ refused_here s q h = entry_map _ _ s q.core.sctp.entries (λ e k. inl k) (refuse
 
 one_side : (a b : Bool) → parity_of a ≡ parity_of b → a ≡ b
 one_side true true h = refl
-one_side true false h = let clash : 0 ≡ 1 = h in cc
-one_side false true h = let clash : 1 ≡ 0 = h in cc
+one_side true false h = absurd (omega (arith, h))
+one_side false true h = absurd (omega (arith, h))
 one_side false false h = refl
 
 -- both sides open no stream
