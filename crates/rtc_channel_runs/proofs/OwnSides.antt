@@ -16,8 +16,11 @@ use Rattle.rtc_history_laws.proofs.EmptyStreams.{AreUnused}
 use Rattle.rtc_joined_runs.specs.NewPairs.{IsNewPair}
 use Rattle.rtc_joined_runs.specs.PlainPairs.{PlainPair, PlainPolled, plain_over}
 use Rattle.rtc_joined_runs.proofs.StepsExchange.{plain_over_laws}
+use Rattle.rtc_channel_runs.specs.ConfirmedChannels.{WasConfirmed}
 use Rattle.rtc_channel_runs.specs.OwnOpenings.{HasEntryOf, HasOpening}
-use Rattle.rtc_channel_runs.specs.SettledPairs.{AreInBandChannels, AreOnSides, AreOwnOpenings, IsOpeningRefused, IsSettledPair, IsSettledPeer, WaitsForAnswer}
+use Rattle.rtc_channel_runs.specs.SettledPairs.{AreBothOpening, AreConfirmedAlone, AreInBandChannels, AreInBandStreams, AreOnSides, AreOwnOpenings}
+use Rattle.rtc_channel_runs.specs.SettledPairs.{IsOpenAtBoth, IsOpeningRefused, IsRefusedAlone, IsSettledPair, IsSettledPeer, OpenNoneBoth, WaitsForAnswer}
+use Rattle.rtc_channel_runs.specs.UsesOfRuns.{uses_of}
 use Rattle.rtc_channel_runs.proofs.ConfirmedRuns.{SideSound}
 use Rattle.rtc_channel_runs.proofs.ConfirmedSides.{new_sound}
 use Rattle.rtc_channel_runs.proofs.KnownSides.{refused_opening}
