@@ -40,7 +40,7 @@ use Rattle.rtc_sctp.specs.Streams.{SctpStreams, is_established}
 use Rattle.rtc_sctp.specs.declared.rtc_sctp_state.RtcSctpState.TheVariants.{Uninited}
 use Rattle.rtc_sctp.specs.Calls.{Inits, begun_state}
 use Rattle.rtc_sctp.proofs.BegunLemmas.{inits_started}
-use Rattle.rtc_sctp_laws.proofs.CallActs.{inits_did}
+use Rattle.rtc_stream_uses.proofs.AsideActs.{inits_aside}
 use Rattle.rtc_stream_uses.proofs.CallUses.{inits_entries}
 use Rattle.rtc_stream_contents.specs.RunningStreams.{AreRunning}
 use Rattle.rtc_channels.specs.Channels.{Channels}
@@ -136,11 +136,12 @@ module _ {I D S M E X T W N : Type 0} (m : Meanings I D S M E X T W N) where
   started_only w false client now max halves drops p r q h =
       no_acts m.association p (record p { snap = dropped_halves drops p.snap }) q h.1 refl refl refl
   started_only w true client now max halves drops p r q h =
-      let d = inits_did m.association client now max halves p r q h in
+      let d = inits_aside m.association client now max halves p r q h in
       record {
-        acts = d.did.acts;
-        went = d.did.went;
-        untold = d.did.told_is;
+        acts = d.acts;
+        went = d.went;
+        untold = d.untold;
+        aside = d.aside;
         entries = inits_entries m.association client now max halves p r q h;
         begun = inits_begun client now max halves p r q h;
         lasts = inits_last w client now max halves p r q h;

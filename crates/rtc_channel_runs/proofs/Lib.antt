@@ -66,4 +66,9 @@ mod OwnedChanges
 mod SideChanges
 pub mod OwnedRuns
 pub mod OwnSides
+pub mod ThereRows
+pub mod ThereRuns
+pub mod PiecePairs
+pub mod AloneSides
+pub mod UnresetSides
 pub mod SettlesRuns

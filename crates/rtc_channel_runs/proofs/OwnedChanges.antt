@@ -123,8 +123,7 @@ module _ (c : Bool) where
     answer_owned (Ok (Some e)) held held' a b numbers goes h owned = event_owned e held held' a b numbers goes h owned
     answer_owned (Ok None) held held' a b numbers goes h owned =
         owned_on held held' a.entries b.entries h.0 (λ s k. only s b.entries (goes.stands s k)) goes.openings goes.ordered owned
-    answer_owned (Err error) held held' a b numbers goes h owned =
-        owned_on held held' a.entries b.entries h.0 (λ s k. only s b.entries (goes.stands s k)) goes.openings goes.ordered owned
+    answer_owned (Err error) held held' a b numbers goes h owned = absurd h
 
   -- ---- moments
 

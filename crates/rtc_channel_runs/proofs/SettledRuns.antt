@@ -58,7 +58,7 @@ module _ {N : Type 0} (draws : Draws N) where
     abbrev pub uses : Side → List ChannelUse
     uses at = uses_of (plain_over draws) stun start at past pair ran
 
-    told : PairTold draws pair uses (λ at. sent_over (plain_over draws) stun start at past pair ran) (λ at. told_over (plain_over draws) stun start at past pair ran)
+    pub told : PairTold draws pair uses (λ at. sent_over (plain_over draws) stun start at past pair ran) (λ at. told_over (plain_over draws) stun start at past pair ran)
     told = reached_told draws stun start past pair ran h
 
     empty : AreUnused (plain_over draws) (plain_over_laws draws) pair
@@ -69,13 +69,13 @@ module _ {N : Type 0} (draws : Draws N) where
     drained : (at : Side) → IsDrained at past
     drained at = resting_drained at past (settled.resting at)
 
-    heard : (at : Side) → AreHeard plain_meaning (rtc_at at pair).core.sctp.association (rtc_at at pair).core.sctp.entries
+    pub heard : (at : Side) → AreHeard plain_meaning (rtc_at at pair).core.sctp.association (rtc_at at pair).core.sctp.entries
     heard at = last_heard draws (rtc_at at pair) (resting_last (plain_over draws) (λ n. Unit {0}) stun start past pair ran at (settled.resting at)) (settled.peers at) (empty at).empty
 
     level : (at : Side) → AreLevelStreams (rtc_at at pair) (rtc_at (other_side at) pair)
     level at = pair_level told.acts pair told.exchange settled.peers at
 
-    kept_streams : (at : Side) (s : ℕ) → AreInBandStreams s (rtc_at at pair) (rtc_at (other_side at) pair)
+    pub kept_streams : (at : Side) (s : ℕ) → AreInBandStreams s (rtc_at at pair) (rtc_at (other_side at) pair)
         → AreKeptStreams s (rtc_at at pair) (rtc_at (other_side at) pair)
     kept_streams at s band = kept_by s (rtc_at at pair) (rtc_at (other_side at) pair) (level at) band
 

@@ -13,6 +13,7 @@ use Rattle.rtc_channel_runs.proofs.DrainedRuns.{new_unused}
 use Rattle.rtc_channel_runs.proofs.RunsTold.{new_pair_told}
 use Rattle.rtc_channel_runs.proofs.SettledRuns.{settled_answered, settled_confirmed, settled_idle, settled_later, settled_level, settled_open, settled_refused}
 use Rattle.rtc_channel_runs.proofs.OwnSides.{settled_alone, settled_own, settled_parted}
+use Rattle.rtc_channel_runs.proofs.UnresetSides.{settled_unreset}
 
 module _ {N : Type 0} (draws : Draws N) where
   pub run_settles_open : (stun : List ℕ → Bool) (start pair : PlainPair N) (steps : List Step) (replies : List (Reply PlainMediaEvent))
@@ -36,4 +37,6 @@ module _ {N : Type 0} (draws : Draws N) where
         parted = λ settled at sides. settled_parted draws stun start run.past pair ran new settled at sides;
         alone = λ settled at sides idle.
             settled_alone draws stun start run.past pair ran new (new_pair_told draws start new) (new_unused draws start new) settled at sides idle;
+        unreset = λ settled at sides later.
+            settled_unreset draws stun start run.past pair ran new (new_pair_told draws start new) (new_unused draws start new) settled at sides later;
       }

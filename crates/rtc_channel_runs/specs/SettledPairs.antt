@@ -230,6 +230,18 @@ AreConfirmedInBand draws confirmed uses p others q =
     → AreInBandChannels stream p q
     → IsOpenAtBoth draws channel uses p others q
 
+-- the same of streams that are in their first generation: neither was ever reset
+abbrev pub AreConfirmedUnreset : {N : Type 0} → Draws N → (confirmed : ℕ → Type 0) → (uses : List ChannelUse) → PlainPolled N
+    → (others : List ChannelUse) → PlainPolled N → Type 0
+AreConfirmedUnreset draws confirmed uses p others q =
+    (channel stream : ℕ)
+    → confirmed channel
+    → stream_under channel p.core.channels ≡ Some stream
+    → AreInBandStreams stream p q
+    → AreInBandChannels stream p q
+    → generation_of p.core.sctp.association stream ≡ 0
+    → IsOpenAtBoth draws channel uses p others q
+
 -- A run by these steps with these replies leaves it so at both sides, where it left the pair settled. Of channels that were confirmed it
 -- tells where nothing is due for those of the side; they are open where besides no opening is under way at either side, and where the last
 -- timeouts of both are late enough. Each opening is over a stream of its own side; where the sides differ, both never open one.
@@ -268,6 +280,13 @@ pub record SettlesOpen {N : Type 0} (draws : Draws N) (stun : List ℕ → Bool)
   pub alone : IsSettledPair run.past pair → (at : Side) → AreOnSides (rtc_at at pair) (rtc_at (other_side at) pair)
       → channels_wake plain_meaning (rtc_at at pair).core.channels (rtc_at at pair).core.sctp ≡ None
       → AreConfirmedAlone draws
+      (λ channel. WasConfirmed (plain_over draws) stun start at channel run.past pair
+      (reached_by (plain_over draws) stun start run.past pair run.went))
+      (uses_in_run (plain_over draws) stun start steps replies pair run at) (rtc_at at pair)
+      (uses_in_run (plain_over draws) stun start steps replies pair run (other_side at)) (rtc_at (other_side at) pair)
+  pub unreset : IsSettledPair run.past pair → (at : Side) → AreOnSides (rtc_at at pair) (rtc_at (other_side at) pair)
+      → HasNothingDue at run.past pair
+      → AreConfirmedUnreset draws
       (λ channel. WasConfirmed (plain_over draws) stun start at channel run.past pair
       (reached_by (plain_over draws) stun start run.past pair run.went))
       (uses_in_run (plain_over draws) stun start steps replies pair run at) (rtc_at at pair)

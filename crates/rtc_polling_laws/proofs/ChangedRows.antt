@@ -1,5 +1,5 @@
 -- Changes of channels and of the entries of their streams, one after the other.
-use Rattle.std.proofs.Common.{◌≡◌, ◌⊎◌, ◌++◌, inl, inr, ℕ, zero, suc, Bool, true, List, [], Option, refl, sym, ap, subst, ◌∙◌}
+use Rattle.std.proofs.Common.{◌≡◌, ◌⊎◌, ◌++◌, inl, inr, ℕ, zero, suc, Bool, true, [], Option, refl, sym, ap, subst, ◌∙◌}
 use Rattle.rtc_association.specs.AssociationActs.{moved-append}
 use Rattle.rtc_association.specs.AssociationLaws.{AssociationLaws}
 use Rattle.rtc_association.specs.AssociationMeaning.{AssociationMeaning}
@@ -7,9 +7,8 @@ use Rattle.rtc_association.specs.AssociationWords.{told}
 use Rattle.rtc_association.proofs.AssociationLemmas.{told-append}
 use Rattle.rtc_sctp.specs.declared.rtc_sctp_state.RtcSctpState.{RtcSctpState}
 use Rattle.rtc_sctp.specs.Streams.{SctpStreams, is_established}
-use Rattle.rtc_sctp_laws.specs.StreamActs.{CallDid}
-use Rattle.rtc_sctp_laws.specs.StreamMessages.{StreamMessage}
 use Rattle.rtc_sctp_laws.proofs.ClosingPolls.{started_moved}
+use Rattle.rtc_stream_uses.proofs.AsideActs.{AsideDid, aside-append}
 use Rattle.rtc_channels.specs.Channels.{Channels}
 use Rattle.rtc_polling_laws.specs.RowsChanged.{ChangeRows, ClosesRow, OnlyActs, RowsChange, RowsChanged, SameRows, Stayed, begun_as}
 
@@ -46,19 +45,21 @@ module _ {S : Type 0} (m : AssociationMeaning S) where
     acts = [];
     went = ap (λ (x : SctpStreams S). x.association) is ∙ association;
     untold = refl;
+    aside = tt;
     entries = ap (λ (x : SctpStreams S). x.entries) is ∙ entries;
     begun = λ e. sym (state_of a b (ap begun_as is ∙ begun)) ∙ e;
     lasts = λ e. inl (ap is_established (sym (state_of a b (ap begun_as is ∙ begun))) ∙ e);
     side = λ e. client_of a b (ap begun_as is ∙ begun);
   }
 
-  -- a call that told nothing, and that leaves entries and state
-  pub only_called : (ins : List (List ℕ)) (wrote : List StreamMessage) (a b : SctpStreams S) → CallDid m ins wrote a b → b.entries ≡ a.entries
+  -- such acts that leave entries and state
+  pub only_called : (a b : SctpStreams S) → AsideDid m a.association b.association → b.entries ≡ a.entries
       → begun_as b ≡ begun_as a → OnlyActs m a b
-  only_called ins wrote a b d entries begun = record {
-    acts = d.did.acts;
-    went = d.did.went;
-    untold = d.did.told_is;
+  only_called a b d entries begun = record {
+    acts = d.acts;
+    went = d.went;
+    untold = d.untold;
+    aside = d.aside;
     entries = entries;
     begun = λ e. sym (state_of a b begun) ∙ e;
     lasts = λ e. inl (ap is_established (sym (state_of a b begun)) ∙ e);
@@ -71,6 +72,7 @@ module _ {S : Type 0} (m : AssociationMeaning S) where
     acts = h.acts ++ k.acts;
     went = moved-append m a.association b.association c.association h.acts k.acts h.went k.went;
     untold = told-append h.acts k.acts ∙ ap (λ l. l ++ told k.acts) h.untold ∙ k.untold;
+    aside = aside-append h.acts k.acts h.aside k.aside;
     entries = k.entries ∙ h.entries;
     begun = λ e. h.begun (k.begun e);
     lasts = λ e. by (k.lasts e);

@@ -1,5 +1,5 @@
 -- Closing leaves the greatest moment, the channels, and the entries and the state of streams.
-use Rattle.std.proofs.Common.{◌≡◌, Bool, true, false, [], Result, Ok, Err, refl, ap, ◌∙◌}
+use Rattle.std.proofs.Common.{◌≡◌, Bool, true, false, Result, Ok, Err, refl, ap, ◌∙◌}
 use Rattle.rtc_peer_state.specs.declared.phase.Phase.{Phase}
 use Rattle.rtc_peer_state.specs.declared.phase.Phase.TheVariants.{Alive, Closing, Closed}
 use Rattle.rtc_peer_state.specs.declared.rtc_error.RtcError.{RtcError}
@@ -15,7 +15,8 @@ use Rattle.rtc_sctp.specs.Streams.{SctpStreams}
 use Rattle.rtc_sctp.specs.Calls.{ShutBy, Shuts, is_ended}
 use Rattle.rtc_stream_uses.proofs.CallUses.{shut_entries}
 use Rattle.rtc_association.specs.AssociationLaws.{AssociationLaws}
-use Rattle.rtc_sctp_laws.proofs.CallActs.{shuts_did}
+use Rattle.rtc_sctp.specs.declared.rtc_sctp_state.RtcSctpState.{RtcSctpState}
+use Rattle.rtc_stream_uses.proofs.AsideActs.{shuts_aside}
 use Rattle.rtc_polling_laws.proofs.ActedClosing.{beside}
 use Rattle.rtc_polling_laws.proofs.ChangedRows.{no_acts, only_called, only_on}
 use Rattle.rtc_polling_laws.specs.RowsChanged.{OnlyActs, begun_as}
@@ -106,7 +107,7 @@ module _ {I D S M E X T W N : Type 0} (m : Meanings I D S M E X T W N) where
 
   shuts_only : (p : SctpStreams S) (r : Result (Unit {0}) SctpError) (q : SctpStreams S) → Shuts m.association p r q → OnlyActs m.association p q
   shuts_only p r q h =
-      only_called m.association [] [] p q (shuts_did m.association p r q h) (shuts_keep p r q h)
+      only_called m.association p q (shuts_aside m.association p r q h) (shuts_keep p r q h)
       (shuts_begun (is_ended m.association p.association) p r q h)
 
   streams_only : CallOnlyActs (ShutsStreams m)

@@ -1,5 +1,5 @@
 -- How calls and polls change the channels of a peer and the entries of their streams, one change after the other.
-use Rattle.std.specs.Prelude.{ℕ, zero, suc, ◌≡◌, ◌⊎◌, Bool, true, List, [], Option, Some, None, Result, Ok}
+use Rattle.std.specs.Prelude.{ℕ, zero, suc, ◌≡◌, ◌⊎◌, Bool, true, List, [], Option, Some, None, Result, Ok, Err}
 use Rattle.std.specs.declared.alloc.AllocError.{AllocError}
 use Rattle.rtc_ready.specs.Signals.{Signals}
 use Rattle.rtc_wire.specs.declared.channel_config.ChannelConfig.{ChannelConfig}
@@ -14,6 +14,7 @@ use Rattle.rtc_sctp.specs.Streams.{SctpStreams, is_established}
 use Rattle.rtc_sctp.specs.Calls.{TakesTimeout}
 use Rattle.rtc_sctp.specs.StreamCalls.{ClosesDataStream, SetsThreshold}
 use Rattle.rtc_sctp.specs.Polls.{PollsStreams}
+use Rattle.rtc_stream_uses.specs.GenerationLaws.{OpenAndReadNone}
 use Rattle.rtc_channels.specs.Allocation.{channel_ensured}
 use Rattle.rtc_channels.specs.Channels.{Channels, all_confirmed, with_channel}
 use Rattle.rtc_channels.specs.Holds.{removed_channel}
@@ -29,7 +30,7 @@ abbrev pub ClosesRow : Option ℕ → (pending : Bool) → Channels → Channels
 ClosesRow (Some id) pending held held' = held' ≡ removed_channel id pending held
 ClosesRow None pending held held' = SameRows held held'
 
--- what becomes of channels by an event of their streams, and by the answer of a poll
+-- what becomes of channels by an event of their streams, and by the answer of a poll that found memory
 abbrev pub RowsTold : SctpEvent → Channels → Channels → Type 0
 RowsTold (event.Open stream label) held held' = held' ≡ channel_ensured stream held
 RowsTold (event.Close stream pending) held held' = ClosesRow (channel_over stream held) pending held held'
@@ -37,7 +38,8 @@ RowsTold e held held' = SameRows held held'
 
 abbrev pub RowsAnswered : Result (Option SctpEvent) AllocError → Channels → Channels → Type 0
 RowsAnswered (Ok (Some e)) held held' = RowsTold e held held'
-RowsAnswered answer held held' = SameRows held held'
+RowsAnswered (Ok None) held held' = SameRows held held'
+RowsAnswered (Err error) held held' = ⊥
 
 -- how far the start of an association came, and whether this side is its client
 abbrev pub begun_as : {S : Type 0} → SctpStreams S → RtcSctpState × Bool
@@ -56,11 +58,12 @@ module _ {S : Type 0} (m : AssociationMeaning S) where
   abbrev pub KeepsSide : SctpStreams S → SctpStreams S → Type 0
   KeepsSide a b = m.started a.association ≡ true → b.client ≡ a.client
 
-  -- acts were done to the association by which no event was told, and the entries stay
+  -- acts were done to the association that open and read no stream, and by which no event was told; the entries stay
   pub record OnlyActs (a b : SctpStreams S) : Type 0 where
     pub acts : List AssociationAct
     pub went : Moved m a.association acts b.association
     pub untold : told acts ≡ []
+    pub aside : OpenAndReadNone acts
     pub entries : b.entries ≡ a.entries
     pub begun : KeepsBegun a b
     pub lasts : StartsEstablished a b

@@ -2,6 +2,7 @@ use Rattle.rtc_channel_runs.proofs.DrainedRuns.{new_unused}
 use Rattle.rtc_channel_runs.proofs.RunsTold.{new_pair_told}
 use Rattle.rtc_channel_runs.proofs.OwnSides.{settled_alone, settled_own, settled_parted}
 use Rattle.rtc_channel_runs.proofs.SettlesRuns.{run_settles_open}
+use Rattle.rtc_channel_runs.proofs.UnresetSides.{settled_unreset}
 use Rattle.rtc_channel_runs.proofs.SettledRuns.{settled_answered, settled_confirmed, settled_idle, settled_later, settled_level, settled_open, settled_refused}
 use Rattle.rtc_channel_runs.proofs.settling.settled_pairs_have_open_channels.Goals as goal
 
@@ -43,6 +44,11 @@ returns-clause-parted g c = λ stun start pair past new ran settled at sides.
 pub returns-clause-alone : goal.returns-clause-alone
 returns-clause-alone g c = λ stun start pair past new ran settled at sides idle.
     settled_alone g.N.Ids.ids stun start past pair ran new (new_pair_told g.N.Ids.ids start new) (new_unused g.N.Ids.ids start new) settled at sides idle
+
+pub returns-clause-unreset : goal.returns-clause-unreset
+returns-clause-unreset g c = λ stun start pair past new ran settled at sides later.
+    settled_unreset g.N.Ids.ids stun start past pair ran new (new_pair_told g.N.Ids.ids start new) (new_unused g.N.Ids.ids start new) settled at sides
+    later
 
 pub returns-clause-ran : goal.returns-clause-ran
 returns-clause-ran g c = λ stun start pair steps replies new run. run_settles_open g.N.Ids.ids stun start pair steps replies new run
