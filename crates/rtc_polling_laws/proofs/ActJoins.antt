@@ -29,11 +29,11 @@ use Rattle.rtc_polling_laws.proofs.ActWords.{media_given-append, ice_moments-app
 use Rattle.rtc_polling_laws.proofs.ActWords.{among_with, among_pair, taken_first, taken_second, through}
 
 -- what stands to be sent stays, and the role does
-same_queue : {D : Type 0} {d e : DtlsState D} → queue_and_role e ≡ queue_and_role d → e.packets ≡ d.packets
-same_queue is = ap (λ (x : List (List ℕ) × Option Bool). x.0) is
+same_queue : {D : Type 0} (d e : DtlsState D) → queue_and_role e ≡ queue_and_role d → e.packets ≡ d.packets
+same_queue d e is = ap (λ (x : List (List ℕ) × Option Bool). x.0) is
 
-same_role : {D : Type 0} {d e : DtlsState D} → queue_and_role e ≡ queue_and_role d → e.active ≡ d.active
-same_role is = ap (λ (x : List (List ℕ) × Option Bool). x.1) is
+same_role : {D : Type 0} (d e : DtlsState D) → queue_and_role e ≡ queue_and_role d → e.active ≡ d.active
+same_role d e is = ap (λ (x : List (List ℕ) × Option Bool). x.1) is
 
 module _ {I D S M E X T W N : Type 0} (m : Meanings I D S M E X T W N) where
   -- all parts are as they were, with what stands to be sent and shown
@@ -68,7 +68,7 @@ module _ {I D S M E X T W N : Type 0} (m : Meanings I D S M E X T W N) where
     timed_ice = timed;
     timed_dtls = among_none moments;
     timed_media = among_none moments;
-    role = same_role queue;
+    role = same_role p.core.dtls q.core.dtls queue;
     sent = shown_of;
     handed = among_none [];
     all_handed = λ started. refl;
@@ -86,7 +86,7 @@ module _ {I D S M E X T W N : Type 0} (m : Meanings I D S M E X T W N) where
               (member-left x (map (λ (transmit : Transmit). transmit.contents) (ice_taken acts)) [] (shows.each x n))
           | inr n ↦
               member-right x (contents_taken (peer_acts acts [] [] [])) p.core.dtls.packets
-              (subst (λ (l : List (List ℕ)). Member x l) (same_queue queue) n)
+              (subst (λ (l : List (List ℕ)). Member x l) (same_queue p.core.dtls q.core.dtls queue) n)
         ];
       }
 
@@ -138,11 +138,11 @@ module _ {I D S M E X T W N : Type 0} (m : Meanings I D S M E X T W N) where
     timed_ice = among_none moments;
     timed_dtls = among_none moments;
     timed_media = timed;
-    role = same_role queue;
+    role = same_role p.core.dtls q.core.dtls queue;
     sent = record {
       each = λ x h. elim (member-append x shown q.core.dtls.packets h) [
         | inl n ↦ member-left x (media_taken acts) p.core.dtls.packets (shows.each x n)
-        | inr n ↦ member-right x (media_taken acts) p.core.dtls.packets (subst (λ (l : List (List ℕ)). Member x l) (same_queue queue) n)
+        | inr n ↦ member-right x (media_taken acts) p.core.dtls.packets (subst (λ (l : List (List ℕ)). Member x l) (same_queue p.core.dtls q.core.dtls queue) n)
       ];
     };
     handed = among_none [];
@@ -173,8 +173,8 @@ module _ {I D S M E X T W N : Type 0} (m : Meanings I D S M E X T W N) where
     timed_ice = among_none moments;
     timed_dtls = among_none moments;
     timed_media = among_none moments;
-    role = same_role queue;
-    sent = same_among _ _ (same_queue queue);
+    role = same_role p.core.dtls q.core.dtls queue;
+    sent = same_among _ _ (same_queue p.core.dtls q.core.dtls queue);
     handed = subst (λ (l : List (List ℕ)). Among l []) (sym did.given_is) (among_none []);
     all_handed = λ started. did.given_is;
     relayed = record {
