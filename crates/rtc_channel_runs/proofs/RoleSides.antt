@@ -97,7 +97,8 @@ module _ {N : Type 0} (draws : Draws N) (stun : List ℕ → Bool) (start : Plai
   role_at : (at : Side) → IsSettledPeer (rtc_at at pair) → (rtc_at at pair).core.dtls.active ≡ Some (rtc_at at pair).core.sctp.client
   role_at at settled =
       run_role (plain_over draws) (plain_over_laws draws) stun start past pair ran (new_unused draws start new) new_role at
-      (λ closed. not_closed draws (rtc_at at pair) settled.alive closed) STARTED
+      (λ closed. not_closed draws (rtc_at at pair) settled.alive closed)
+      ((known_at at).begun settled.established)
 
   -- One side of a settled pair is the client, and the other one the server.
   pub settled_sides : IsSettledPair past pair → (at : Side) → AreOnSides (rtc_at at pair) (rtc_at (other_side at) pair)

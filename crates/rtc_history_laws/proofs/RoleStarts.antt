@@ -151,13 +151,16 @@ module _ {I D S M E X T W N : Type 0} (m : Meanings I D S M E X T W N) (laws : P
 
   -- ---- steps
 
+  unstaged : (old new : Peer I D S M N) → KeepsRole (record old { staged = [] }) new → KeepsRole old new
+  unstaged old new keeps = record { stays = keeps.stays; starts = keeps.starts }
+
   peer_role : (old new : Peer I D S M N) → PeerKind m laws old new → KeepsRole old new
   peer_role old new (KeptCore same) = same_role old old new refl refl same
   peer_role old new (StagedOps same) =
       role_alike old new (ap (λ (c : DtlsState D × (S × List StreamEntry) × M). c.0) same)
       (ap (λ (c : DtlsState D × (S × List StreamEntry) × M). m.association.started c.1.0) same)
-  peer_role old new (TookOffer offer r h) = offer_role (record old { staged = [] }) offer r new h
-  peer_role old new (TookAnswer token answer r h) = answer_role (record old { staged = [] }) token answer r new h
+  peer_role old new (TookOffer offer r h) = unstaged old new (offer_role (record old { staged = [] }) offer r new h)
+  peer_role old new (TookAnswer token answer r h) = unstaged old new (answer_role (record old { staged = [] }) token answer r new h)
 
   -- What a step leaves of the role of the side that it is performed at.
   step_role : (old new : PolledPeer I D S M N) → StepKind m laws old new → KeepsRole old.core new.core

@@ -1,5 +1,5 @@
 -- What a step leaves of the side that it is performed at: the side as it was, a move of its parts, or the peer that a negotiation leaves.
-use Rattle.std.proofs.Common.{◌≡◌, ◌∙◌, ℕ, Bool, not, ◌&&◌, List, [], Option, Some, None, Result, Ok, Err}
+use Rattle.std.proofs.Common.{◌≡◌, ◌∙◌, ℕ, Bool, true, false, not, ◌&&◌, List, [], Option, Some, None, Result, Ok, Err}
 use Rattle.rtc_wire.specs.DatagramRecv.{kind_by}
 use Rattle.rtc_wire.specs.declared.transmit.Transmit.{Transmit}
 use Rattle.rtc_sdp_values.specs.declared.sdp.Sdp.{Sdp}
