@@ -7,6 +7,7 @@ use Rattle.rtc_dtls.specs.DtlsState.{can_send}
 use Rattle.rtc_dtls.specs.DtlsWords.{dtls_given}
 use Rattle.rtc_plain_dtls.specs.Contents.{fresh_dtls, phase_is_finished}
 use Rattle.rtc_plain_dtls.specs.PlainMeaning.{plain_dtls}
+use Rattle.rtc_assoc_state.specs.PlainMeaning.{plain_meaning}
 use Rattle.rtc_ids.specs.Draws.{Draws}
 use Rattle.rtc_plain_media.specs.declared.plain_media_event.PlainMediaEvent.{PlainMediaEvent}
 use Rattle.rtc_peer_state.specs.declared.phase.Phase.TheVariants.{Closed}
@@ -30,9 +31,13 @@ use Rattle.rtc_joined_runs.specs.PlainPairs.{HasExchanged, PlainPair, PlainPolle
 use Rattle.rtc_joined_runs.proofs.NewPeers.{new_exchanged}
 use Rattle.rtc_joined_runs.proofs.RunsExchange.{reached_exchanged}
 use Rattle.rtc_joined_runs.proofs.StepsExchange.{plain_over_laws}
+use Rattle.rtc_plain_streams.proofs.BackedRows.{plain_unread}
+use Rattle.rtc_plain_streams.proofs.KnownStreams.{AreKnown}
+use Rattle.rtc_plain_streams.proofs.PlainGenerations.{plain_generations}
 use Rattle.rtc_channel_runs.specs.SettledPairs.{AreOnSides, IsSettledPair, IsSettledPeer}
 use Rattle.rtc_channel_runs.proofs.ConfirmedRuns.{last_rows}
 use Rattle.rtc_channel_runs.proofs.DrainedRuns.{new_unstarted, new_unused}
+use Rattle.rtc_channel_runs.proofs.KnownRuns.{SideKnown, new_pair_known, run_known}
 use Rattle.rtc_channel_runs.proofs.OpenSides.{not_closed}
 use Rattle.rtc_channel_runs.proofs.SideChanges.{changed_side}
 use Rattle.rtc_channel_runs.proofs.StepRows.{StepRows}
@@ -94,11 +99,20 @@ module _ {N : Type 0} (draws : Draws N) (stun : List ℕ → Bool) (start : Plai
   new_role Right = λ started. absurd (true≢false (sym started ∙ new_unstarted draws start.right new.right))
 
   -- an association that is established was started
+  known_at : (at : Side) → IsSettledPeer (rtc_at at pair) → AreKnown plain_meaning (rtc_at at pair).core.sctp
+  known_at at settled =
+      by (run_known (plain_over draws) (plain_over_laws draws) plain_generations plain_unread stun start past pair ran (new_pair_known draws start new) at)
+    where
+      by : SideKnown (plain_over draws) (plain_over_laws draws) plain_generations plain_unread (rtc_at at pair)
+          → AreKnown plain_meaning (rtc_at at pair).core.sctp
+      by (inl closed) = absurd (not_closed draws (rtc_at at pair) settled.alive closed)
+      by (inr known) = known
+
   role_at : (at : Side) → IsSettledPeer (rtc_at at pair) → (rtc_at at pair).core.dtls.active ≡ Some (rtc_at at pair).core.sctp.client
   role_at at settled =
       run_role (plain_over draws) (plain_over_laws draws) stun start past pair ran (new_unused draws start new) new_role at
       (λ closed. not_closed draws (rtc_at at pair) settled.alive closed)
-      ((known_at at).begun settled.established)
+      ((known_at at settled).begun settled.established)
 
   -- One side of a settled pair is the client, and the other one the server.
   pub settled_sides : IsSettledPair past pair → (at : Side) → AreOnSides (rtc_at at pair) (rtc_at (other_side at) pair)
