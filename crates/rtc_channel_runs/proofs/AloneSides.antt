@@ -1,6 +1,6 @@
 -- In a settled pair a stream in its first generation whose opening is refused for now was opened by the other side, which waits for its
 -- answer: the stream is not there otherwise.
-use Rattle.std.proofs.Common.{◌≡◌, ◌∙◌, ◌⊎◌, ◌++◌, ◌∷◌, ◌==◌, ◌&&◌, ◌||◌, if◌then◌else◌, ℕ, Bool, true, false, true≢false, List, [], map, Option, inl, inr, refl, sym, ap, subst}
+use Rattle.std.proofs.Common.{◌≡◌, ◌∙◌, ◌⊎◌, ◌++◌, ◌∷◌, ◌==◌, ◌&&◌, ◌||◌, if◌then◌else◌, ℕ, Bool, true, false, true≢false, List, [], map, Option, inl, inr, refl, sym, ap, subst, arith}
 use Rattle.std.proofs.lemmas.Bool.{eqb-true}
 use Rattle.rtc_association.specs.AssociationWords.{AssociationMessage, ended, read, written}
 use Rattle.rtc_assoc.specs.Unread.{unread}

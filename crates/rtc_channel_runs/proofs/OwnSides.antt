@@ -1,5 +1,5 @@
 -- In a settled pair each opening is over a stream of its own side, so that the sides open no stream both.
-use Rattle.std.proofs.Common.{◌≡◌, ◌∙◌, inl, inr, ℕ, Bool, true, false, List, [], ◌∷◌, None, refl, sym, arith}
+use Rattle.std.proofs.Common.{◌≡◌, ◌∙◌, ◌⊎◌, inl, inr, ℕ, Bool, true, false, List, [], ◌∷◌, None, refl, sym, arith}
 use Rattle.rtc_free_ids.specs.Ids.{parity_of}
 use Rattle.rtc_assoc_state.specs.PlainMeaning.{plain_meaning}
 use Rattle.rtc_channels.specs.Openings.{channels_wake}
