@@ -24,7 +24,6 @@ use Rattle.rtc_history.specs.Runs.{Reached}
 use Rattle.rtc_history.specs.Sides.{other_side}
 use Rattle.rtc_history_laws.proofs.EmptyStreams.{AreUnused, went_unused}
 use Rattle.rtc_history_laws.proofs.RoleStarts.{KeepsRole, enters_role}
-use Rattle.rtc_joined_peers.proofs.HandshakeMarks.{role_in}
 use Rattle.rtc_joined_peers.proofs.HandshakeRoles.{moved_role, roles_differ}
 use Rattle.rtc_joined_runs.specs.NewPairs.{IsNewPair}
 use Rattle.rtc_joined_runs.specs.PlainPairs.{HasExchanged, PlainPair, PlainPolled, ShookHands, plain_over}
