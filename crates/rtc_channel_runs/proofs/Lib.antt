@@ -64,6 +64,7 @@ mod OwnedRows
 mod OwnedAllocation
 mod OwnedChanges
 mod SideChanges
+mod RoleSides
 pub mod OwnedRuns
 pub mod OwnSides
 pub mod ThereRows

@@ -28,6 +28,7 @@ use Rattle.rtc_channel_runs.proofs.OpenSides.{not_closed}
 use Rattle.rtc_channel_runs.proofs.OwnedChanges.{IsOwned}
 use Rattle.rtc_channel_runs.proofs.OwnedRows.{owner_side}
 use Rattle.rtc_channel_runs.proofs.OwnedRuns.{new_pair_owned, run_owned}
+use Rattle.rtc_channel_runs.proofs.RoleSides.{settled_sides}
 use Rattle.rtc_channel_runs.proofs.RunsTold.{PairTold}
 use Rattle.rtc_channel_runs.proofs.SettledRuns.{settled_refused}
 
@@ -73,20 +74,19 @@ module _ {N : Type 0} (draws : Draws N) (stun : List ℕ → Bool) (start : Plai
   settled_own settled at = λ s band opening.
       owner_side (rtc_at at pair).core.sctp.client s (rtc_at at pair).core.channels.rows band ((owned_at at (settled.peers at)).openings s opening)
 
-  pub settled_parted : IsSettledPair past pair → (at : Side) → AreOnSides (rtc_at at pair) (rtc_at (other_side at) pair)
-      → OpenNoneBoth (rtc_at at pair) (rtc_at (other_side at) pair)
-  settled_parted settled at sides = λ s band here there.
-      never_both s (rtc_at at pair) (rtc_at (other_side at) pair) (settled_own settled at) (settled_own settled (other_side at)) sides band here there
+  pub settled_parted : IsSettledPair past pair → (at : Side) → OpenNoneBoth (rtc_at at pair) (rtc_at (other_side at) pair)
+  settled_parted settled at = λ s band here there.
+      never_both s (rtc_at at pair) (rtc_at (other_side at) pair) (settled_own settled at) (settled_own settled (other_side at))
+      (settled_sides draws stun start past pair ran new settled at) band here there
 
   -- a channel that was confirmed is open at both sides, or refused alone
   module _ (h : PairTold draws start (λ x. []) (λ x s g. []) (λ x c s g. [])) (unused : AreUnused (plain_over draws) (plain_over_laws draws) start)
       (settled : IsSettledPair past pair) where
-    pub settled_alone : (at : Side) → AreOnSides (rtc_at at pair) (rtc_at (other_side at) pair)
-        → channels_wake plain_meaning (rtc_at at pair).core.channels (rtc_at at pair).core.sctp ≡ None
+    pub settled_alone : (at : Side) → channels_wake plain_meaning (rtc_at at pair).core.channels (rtc_at at pair).core.sctp ≡ None
         → AreConfirmedAlone draws (λ c. WasConfirmed (plain_over draws) stun start at c past pair ran)
         (uses_of (plain_over draws) stun start at past pair ran) (rtc_at at pair)
         (uses_of (plain_over draws) stun start (other_side at) past pair ran) (rtc_at (other_side at) pair)
-    settled_alone at sides idle = λ c s confirmed under band channels.
+    settled_alone at idle = λ c s confirmed under band channels.
         by c s channels (settled_refused draws stun start past pair ran h unused settled new at idle c s confirmed under band)
       where
         by : (c s : ℕ) → AreInBandChannels s (rtc_at at pair) (rtc_at (other_side at) pair)
@@ -100,5 +100,5 @@ module _ {N : Type 0} (draws : Draws N) (stun : List ℕ → Bool) (start : Plai
         by c s channels (inr (inl alone)) = inr alone
         by c s channels (inr (inr both)) =
             absurd
-            (settled_parted settled at sides s channels (waits_opening s (rtc_at at pair).core.sctp.entries both.0)
+            (settled_parted settled at s channels (waits_opening s (rtc_at at pair).core.sctp.entries both.0)
             (refused_here s (rtc_at (other_side at) pair) both.1))

@@ -13,6 +13,7 @@ use Rattle.rtc_channel_runs.proofs.DrainedRuns.{new_unused}
 use Rattle.rtc_channel_runs.proofs.RunsTold.{new_pair_told}
 use Rattle.rtc_channel_runs.proofs.SettledRuns.{settled_answered, settled_confirmed, settled_idle, settled_later, settled_level, settled_open, settled_refused}
 use Rattle.rtc_channel_runs.proofs.OwnSides.{settled_alone, settled_own, settled_parted}
+use Rattle.rtc_channel_runs.proofs.RoleSides.{settled_sides}
 use Rattle.rtc_channel_runs.proofs.UnresetSides.{settled_unreset}
 
 module _ {N : Type 0} (draws : Draws N) where
@@ -34,9 +35,10 @@ module _ {N : Type 0} (draws : Draws N) where
         later = λ settled soon at.
             settled_later draws stun start run.past pair ran (new_pair_told draws start new) (new_unused draws start new) settled new soon at;
         own = λ settled at. settled_own draws stun start run.past pair ran new settled at;
-        parted = λ settled at sides. settled_parted draws stun start run.past pair ran new settled at sides;
-        alone = λ settled at sides idle.
-            settled_alone draws stun start run.past pair ran new (new_pair_told draws start new) (new_unused draws start new) settled at sides idle;
-        unreset = λ settled at sides later.
-            settled_unreset draws stun start run.past pair ran new (new_pair_told draws start new) (new_unused draws start new) settled at sides later;
+        sides = λ settled at. settled_sides draws stun start run.past pair ran new settled at;
+        parted = λ settled at. settled_parted draws stun start run.past pair ran new settled at;
+        alone = λ settled at idle.
+            settled_alone draws stun start run.past pair ran new (new_pair_told draws start new) (new_unused draws start new) settled at idle;
+        unreset = λ settled at later.
+            settled_unreset draws stun start run.past pair ran new (new_pair_told draws start new) (new_unused draws start new) settled at later;
       }

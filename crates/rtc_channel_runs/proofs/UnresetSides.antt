@@ -24,7 +24,7 @@ use Rattle.rtc_joined_runs.specs.PlainPairs.{PairActs, PairExchanges, PlainPair,
 use Rattle.rtc_joined_runs.proofs.RunsExchange.{side_all}
 use Rattle.rtc_joined_runs.proofs.StepsExchange.{plain_over_laws}
 use Rattle.rtc_channel_runs.specs.ConfirmedChannels.{WasConfirmed}
-use Rattle.rtc_channel_runs.specs.SettledPairs.{AreConfirmedUnreset, AreInBandChannels, AreInBandStreams, AreOnSides, HasNothingDue, IsOpenAtBoth, IsRefusedAlone, IsSettledPair, WaitsForAnswer}
+use Rattle.rtc_channel_runs.specs.SettledPairs.{AreConfirmedUnreset, AreInBandChannels, AreInBandStreams, HasNothingDue, IsOpenAtBoth, IsRefusedAlone, IsSettledPair, WaitsForAnswer}
 use Rattle.rtc_channel_runs.specs.UsesOfRuns.{uses_of}
 use Rattle.rtc_channel_runs.proofs.AloneSides.{alone_waits}
 use Rattle.rtc_channel_runs.proofs.OpenSides.{not_closed}
@@ -78,13 +78,13 @@ module _ {N : Type 0} (draws : Draws N) (stun : List ℕ → Bool) (start : Plai
       (λ t g. side_all k.acts pair Left t g k.exchange) (side_parts k.acts pair k.exchange Right) s
       (kept_streams draws stun start past pair ran h unused settled Right s band) alone first
 
-  pub settled_unreset : (at : Side) → AreOnSides (rtc_at at pair) (rtc_at (other_side at) pair) → HasNothingDue at past pair
+  pub settled_unreset : (at : Side) → HasNothingDue at past pair
       → AreConfirmedUnreset draws (λ c. WasConfirmed (plain_over draws) stun start at c past pair ran)
       (uses_of (plain_over draws) stun start at past pair ran) (rtc_at at pair)
       (uses_of (plain_over draws) stun start (other_side at) past pair ran) (rtc_at (other_side at) pair)
-  settled_unreset at sides later = λ c s confirmed under band channels first.
+  settled_unreset at later = λ c s confirmed under band channels first.
       by c s band channels first
-      (settled_alone draws stun start past pair ran new h unused settled at sides
+      (settled_alone draws stun start past pair ran new h unused settled at
       (settled_idle draws stun start past pair ran h unused settled at later) c s confirmed under band channels)
     where
       by : (c s : ℕ) → AreInBandStreams s (rtc_at at pair) (rtc_at (other_side at) pair)
@@ -97,5 +97,5 @@ module _ {N : Type 0} (draws : Draws N) (stun : List ℕ → Bool) (start : Plai
       by c s band channels first (inl opened) = opened
       by c s band channels first (inr alone) =
           absurd
-          (settled_parted draws stun start past pair ran new settled at sides s channels (refused_here s (rtc_at at pair) alone.0)
+          (settled_parted draws stun start past pair ran new settled at s channels (refused_here s (rtc_at at pair) alone.0)
           (waits_opening s (rtc_at (other_side at) pair).core.sctp.entries (waits_there at s band alone first)))

@@ -244,7 +244,8 @@ AreConfirmedUnreset draws confirmed uses p others q =
 
 -- A run by these steps with these replies leaves it so at both sides, where it left the pair settled. Of channels that were confirmed it
 -- tells where nothing is due for those of the side; they are open where besides no opening is under way at either side, and where the last
--- timeouts of both are late enough. Each opening is over a stream of its own side; where the sides differ, both never open one.
+-- timeouts of both are late enough. One side is the client and the other one the server; each opening is over a stream of its own side, so
+-- that both never open one.
 pub record SettlesOpen {N : Type 0} (draws : Draws N) (stun : List ℕ → Bool) (start : PlainPair N) (steps : List Step)
     (replies : List (Reply PlainMediaEvent)) (pair : PlainPair N) (run : Runs (plain_over draws) stun start steps replies pair)
     : Type 0 where
@@ -275,17 +276,16 @@ pub record SettlesOpen {N : Type 0} (draws : Draws N) (stun : List ℕ → Bool)
       (uses_in_run (plain_over draws) stun start steps replies pair run at) (rtc_at at pair)
       (uses_in_run (plain_over draws) stun start steps replies pair run (other_side at)) (rtc_at (other_side at) pair)
   pub own : IsSettledPair run.past pair → (at : Side) → AreOwnOpenings (rtc_at at pair)
-  pub parted : IsSettledPair run.past pair → (at : Side) → AreOnSides (rtc_at at pair) (rtc_at (other_side at) pair)
-      → OpenNoneBoth (rtc_at at pair) (rtc_at (other_side at) pair)
-  pub alone : IsSettledPair run.past pair → (at : Side) → AreOnSides (rtc_at at pair) (rtc_at (other_side at) pair)
+  pub sides : IsSettledPair run.past pair → (at : Side) → AreOnSides (rtc_at at pair) (rtc_at (other_side at) pair)
+  pub parted : IsSettledPair run.past pair → (at : Side) → OpenNoneBoth (rtc_at at pair) (rtc_at (other_side at) pair)
+  pub alone : IsSettledPair run.past pair → (at : Side)
       → channels_wake plain_meaning (rtc_at at pair).core.channels (rtc_at at pair).core.sctp ≡ None
       → AreConfirmedAlone draws
       (λ channel. WasConfirmed (plain_over draws) stun start at channel run.past pair
       (reached_by (plain_over draws) stun start run.past pair run.went))
       (uses_in_run (plain_over draws) stun start steps replies pair run at) (rtc_at at pair)
       (uses_in_run (plain_over draws) stun start steps replies pair run (other_side at)) (rtc_at (other_side at) pair)
-  pub unreset : IsSettledPair run.past pair → (at : Side) → AreOnSides (rtc_at at pair) (rtc_at (other_side at) pair)
-      → HasNothingDue at run.past pair
+  pub unreset : IsSettledPair run.past pair → (at : Side) → HasNothingDue at run.past pair
       → AreConfirmedUnreset draws
       (λ channel. WasConfirmed (plain_over draws) stun start at channel run.past pair
       (reached_by (plain_over draws) stun start run.past pair run.went))

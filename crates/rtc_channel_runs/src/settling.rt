@@ -36,10 +36,11 @@ use rtc_ids::Ids;
 /// are later than each moment that the peers took, and than half a second after the last one that their streams took.
 ///
 /// A stream that is opened from here is even where this side started the association as the client, and odd where it did as the server,
-/// unless a channel was settled for the stream by other means. So where the one side started it as the client, and the other one as the
-/// server, no such stream is opened from both, and the last of the three cases does not come. Nor does the second one, of a stream that
-/// was never reset, which is in its first generation: each channel that was confirmed and has such a stream is then open at both sides,
-/// where the last timeout of its side is later than each moment that its peer took.
+/// unless a channel was settled for the stream by other means. One side started it as the client, and the other one as the server: each
+/// did by its DTLS role, and a handshake is finished only between the two roles. So no such stream is opened from both, and the last of
+/// the three cases does not come. Nor does the second one, of a stream that was never reset, which is in its first generation: each
+/// channel that was confirmed and has such a stream is then open at both sides, where the last timeout of its side is later than each
+/// moment that its peer took.
 pub fn settled_pairs_have_open_channels<N: Ids>()
     ensures level { (stun : List ℕ → Bool) (start pair : PlainPair N) (past : List (Entry PlainMediaEvent)) → IsNewPair N.ids start
         → Reached (plain_over N.ids) stun start past pair → IsSettledPair past pair → (at : Side) (stream : ℕ)
@@ -73,19 +74,20 @@ pub fn settled_pairs_have_open_channels<N: Ids>()
         (uses_of (plain_over N.ids) stun start (other_side at) past pair ran) (rtc_at (other_side at) pair) }
     ensures own { (stun : List ℕ → Bool) (start pair : PlainPair N) (past : List (Entry PlainMediaEvent)) → IsNewPair N.ids start
         → Reached (plain_over N.ids) stun start past pair → IsSettledPair past pair → (at : Side) → AreOwnOpenings (rtc_at at pair) }
+    ensures sides { (stun : List ℕ → Bool) (start pair : PlainPair N) (past : List (Entry PlainMediaEvent)) → IsNewPair N.ids start
+        → Reached (plain_over N.ids) stun start past pair → IsSettledPair past pair → (at : Side)
+        → AreOnSides (rtc_at at pair) (rtc_at (other_side at) pair) }
     ensures parted { (stun : List ℕ → Bool) (start pair : PlainPair N) (past : List (Entry PlainMediaEvent)) → IsNewPair N.ids start
         → Reached (plain_over N.ids) stun start past pair → IsSettledPair past pair → (at : Side)
-        → AreOnSides (rtc_at at pair) (rtc_at (other_side at) pair) → OpenNoneBoth (rtc_at at pair) (rtc_at (other_side at) pair) }
+        → OpenNoneBoth (rtc_at at pair) (rtc_at (other_side at) pair) }
     ensures alone { (stun : List ℕ → Bool) (start pair : PlainPair N) (past : List (Entry PlainMediaEvent)) → IsNewPair N.ids start
         → (ran : Reached (plain_over N.ids) stun start past pair) → IsSettledPair past pair → (at : Side)
-        → AreOnSides (rtc_at at pair) (rtc_at (other_side at) pair)
         → channels_wake plain_meaning (rtc_at at pair).core.channels (rtc_at at pair).core.sctp ≡ None
         → AreConfirmedAlone N.ids (λ channel. WasConfirmed (plain_over N.ids) stun start at channel past pair ran)
         (uses_of (plain_over N.ids) stun start at past pair ran) (rtc_at at pair)
         (uses_of (plain_over N.ids) stun start (other_side at) past pair ran) (rtc_at (other_side at) pair) }
     ensures unreset { (stun : List ℕ → Bool) (start pair : PlainPair N) (past : List (Entry PlainMediaEvent)) → IsNewPair N.ids start
-        → (ran : Reached (plain_over N.ids) stun start past pair) → IsSettledPair past pair → (at : Side)
-        → AreOnSides (rtc_at at pair) (rtc_at (other_side at) pair) → HasNothingDue at past pair
+        → (ran : Reached (plain_over N.ids) stun start past pair) → IsSettledPair past pair → (at : Side) → HasNothingDue at past pair
         → AreConfirmedUnreset N.ids (λ channel. WasConfirmed (plain_over N.ids) stun start at channel past pair ran)
         (uses_of (plain_over N.ids) stun start at past pair ran) (rtc_at at pair)
         (uses_of (plain_over N.ids) stun start (other_side at) past pair ran) (rtc_at (other_side at) pair) }

@@ -19,7 +19,7 @@ use Rattle.rtc_peer_state.specs.Meanings.{Meanings, PartsLaws}
 use Rattle.rtc_polling.specs.declared.met.Met.{Met}
 use Rattle.rtc_polling.specs.declared.polled_peer.PolledPeer.{PolledPeer}
 use Rattle.rtc_polling.specs.StreamStages.{channel_over}
-use Rattle.rtc_polling_laws.specs.PeerActs.{nothing_came}
+use Rattle.rtc_polling_laws.specs.PeerActs.{nothing_came, queue_and_role}
 use Rattle.rtc_polling_laws.specs.Acts.{PeerDid, ArePassed}
 use Rattle.rtc_polling_laws.specs.ChannelStreams.{IsGone, LeavesLiveChannel, UnlessLacking, OpensByAnswer, TellsByAnswer, WasOpenInBand, Already}
 use Rattle.rtc_polling_laws.specs.RowsChanged.{Polled, RowsAnswered, RowsChanged, begun_as}
@@ -78,7 +78,7 @@ module _ {I D S M E X T W N : Type 0} (m : Meanings I D S M E X T W N) (laws : P
         subst (λ (l : List (List ℕ)). PeerDid m nothing_came (p.core.greatest ∷ []) l did.wrote did.heard p q) (sym none)
         (streams_did m nothing_came (p.core.greatest ∷ []) did.outs did.tells did.wrote did.heard p q
         (subst (λ (a : S). AssociationDid m.association [] did.outs did.tells did.wrote did.heard p.core.sctp.association a) (sym is) did.did)
-        pushed kept.0 (ap (λ d. d.instance) kept.1) (ap (λ d. d.packets) kept.1) kept.2);
+        pushed kept.0 (ap (λ d. d.instance) kept.1) (ap queue_and_role kept.1) kept.2);
     dcep = did.dcep;
     passed = passed;
     told = said;
