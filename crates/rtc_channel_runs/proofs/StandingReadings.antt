@@ -19,7 +19,7 @@ use Rattle.rtc_sctp_entries.specs.declared.stream_entry.StreamEntry.{StreamEntry
 use Rattle.rtc_sctp_entries.specs.declared.sctp_event.SctpEvent.{SctpEvent}
 use Rattle.rtc_sctp_entries.specs.declared.sctp_event.SctpEvent.TheVariants as event
 use Rattle.rtc_sctp_entries.specs.declared.met.Met.{Met}
-use Rattle.rtc_sctp_entries.specs.declared.met.Met.TheVariants.{Nothing, Again, Output, OutOfMemory}
+use Rattle.rtc_sctp_entries.specs.declared.met.Met.TheVariants.{Nothing, Again, Output}
 use Rattle.rtc_sctp_entries.specs.Entries.{config_or_fresh}
 use Rattle.rtc_sctp_entries.specs.Visits.{Turn, given_config, ReadsOpen}
 use Rattle.rtc_sctp_entries.specs.Visits.{AcknowledgedBy, Acknowledges}
