@@ -18,7 +18,7 @@ use Rattle.rtc_joined_runs.specs.PlainPairs.{PlainPair, PlainPolled, plain_over}
 use Rattle.rtc_joined_runs.proofs.StepsExchange.{plain_over_laws}
 use Rattle.rtc_channel_runs.specs.ConfirmedChannels.{WasConfirmed}
 use Rattle.rtc_channel_runs.specs.OwnOpenings.{HasEntryOf, HasOpening}
-use Rattle.rtc_channel_runs.specs.SettledPairs.{AreBothOpening, AreConfirmedAlone, AreInBandChannels, AreInBandStreams, AreOnSides, AreOwnOpenings}
+use Rattle.rtc_channel_runs.specs.SettledPairs.{AreBothOpening, AreConfirmedAlone, AreInBandChannels, AreOnSides, AreOwnOpenings}
 use Rattle.rtc_channel_runs.specs.SettledPairs.{IsOpenAtBoth, IsOpeningRefused, IsRefusedAlone, IsSettledPair, IsSettledPeer, OpenNoneBoth, WaitsForAnswer}
 use Rattle.rtc_channel_runs.specs.UsesOfRuns.{uses_of}
 use Rattle.rtc_channel_runs.proofs.ConfirmedRuns.{SideSound}

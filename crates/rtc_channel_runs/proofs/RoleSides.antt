@@ -1,6 +1,6 @@
 -- In a settled pair one side started its association as the client, and the other one as the server: each has the side that its DTLS role gives,
 -- and a handshake that is finished is one of both roles.
-use Rattle.std.proofs.Common.{◌≡◌, ◌∙◌, ◌⊎◌, inl, inr, ℕ, Bool, true, false, true≢false, List, [], ◌∷◌, Option, Some, None, refl, sym, ap, subst}
+use Rattle.std.proofs.Common.{◌≡◌, ◌∙◌, ◌⊎◌, inl, inr, ℕ, Bool, true, false, true≢false, List, [], ◌∷◌, Some, None, refl, sym, ap, subst}
 use Rattle.std.specs.Prelude.{is_some, ◌&&◌}
 use Rattle.rtc_dtls.specs.DtlsActs.{DtlsMoved}
 use Rattle.rtc_dtls.specs.DtlsState.{can_send}
