@@ -36,8 +36,6 @@ use Rattle.rtc_history.specs.Sides.{side_of, other_side}
 use Rattle.rtc_history.specs.PairState.{PairState, rtc_at, peer_at}
 use Rattle.rtc_history.specs.Performs.{Enters}
 use Rattle.rtc_history.proofs.BothSides.{both_sides}
-use Rattle.rtc_history_laws.proofs.OpParts.{counting_parts}
-use Rattle.rtc_history_laws.proofs.StandingPolls.{Moves}
 use Rattle.rtc_history_laws.proofs.StepKinds.{PeerKind, KeptCore, StagedOps, TookOffer, TookAnswer, StepKind, Stayed, MovedBy, Described, acts_kind}
 use Rattle.rtc_history_laws.proofs.UnusedStreams.{offer_halves, answer_halves, refused_same, stopped_started}
 

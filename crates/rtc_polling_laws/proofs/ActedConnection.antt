@@ -100,8 +100,7 @@ module _ {I D S M E X T W N : Type 0} (m : Meanings I D S M E X T W N) (laws : P
   output_did : (acts : List DtlsAct) (packets : List (List ℕ)) (k : D) (p q : PolledPeer I D S M N) → DtlsMoved m.dtls p.core.dtls.instance (takes packets) k
       → DtlsMoved m.dtls k acts q.core.dtls.instance → dtls_given acts ≡ [] → dtls_taken acts ≡ [] → dtls_sent acts ≡ [] → dtls_got acts ≡ []
       → dtls_moments acts ≡ [] → dtls_roles acts ≡ [] → q.core.dtls.packets ≡ p.core.dtls.packets ++ packets
-      → q.core.dtls.active ≡ p.core.dtls.active → BesideDtls p q
-      → PeerDid m nothing_came (p.core.greatest ∷ []) [] [] [] p q
+      → q.core.dtls.active ≡ p.core.dtls.active → BesideDtls p q → PeerDid m nothing_came (p.core.greatest ∷ []) [] [] [] p q
   output_did acts packets k p q went more given taken sent got timed roles queue role beside =
       dtls_did m nothing_came (p.core.greatest ∷ []) p q (takes packets ++ acts)
       (dtls_moved-append m.dtls p.core.dtls.instance k q.core.dtls.instance (takes packets) acts went more)
@@ -121,8 +120,7 @@ module _ {I D S M E X T W N : Type 0} (m : Meanings I D S M E X T W N) (laws : P
   -- an output that tells something, or a moment
   told_did : (call : DtlsCall) (output : DtlsOutput) (d : DtlsState D) (p : PolledPeer I D S M N) (packets : List (List ℕ)) (k : D)
       → DtlsMoved m.dtls p.core.dtls.instance (takes packets) k → DtlsMoved m.dtls k (Stirred call ∷ []) d.instance
-      → dtls_moments (Stirred call ∷ []) ≡ [] → dtls_roles (Stirred call ∷ []) ≡ [] → d.packets ≡ p.core.dtls.packets ++ packets
-      → d.active ≡ p.core.dtls.active → QuietDid m p (with_dtls d p)
+      → dtls_moments (Stirred call ∷ []) ≡ [] → dtls_roles (Stirred call ∷ []) ≡ [] → d.packets ≡ p.core.dtls.packets ++ packets → d.active ≡ p.core.dtls.active → QuietDid m p (with_dtls d p)
   told_did call output d p packets k went more timed roles queue role =
       quiet_of p (with_dtls d p)
       (output_did (Stirred call ∷ []) packets k p (with_dtls d p) went more refl refl refl refl timed roles queue role (refl, refl, refl, refl, refl))

@@ -24,11 +24,11 @@ use Rattle.rtc_polling_laws.specs.PeerActs.{PeerActs, PeerMoved, Came, nothing_c
 use Rattle.rtc_polling_laws.specs.PeerActs.{ice_moments, dtls_moments, media_moments, dtls_roles, roles_after}
 
 -- Acts in order took the parts of one peer to those of another. What they were given is among what came, and the moments that they were
--- handed are among these. The first role that the DTLS part was given is that of the peer. What was shown as contents of datagrams, and the packets that stand to be shown behind it, are among what was
--- taken from the parts in these acts and what stood before. What the association was given came over the DTLS connection, and all of that
--- was given to it, in order, once it was started. What was sent over the connection, or stands to be sent behind it, was taken from the
--- association or stood to be sent before. These messages were written and read, and the identifiers that were read have their names where
--- the association's readings do.
+-- handed are among these. The first role that the DTLS part was given is that of the peer. What was shown as contents of datagrams, and
+-- the packets that stand to be shown behind it, are among what was taken from the parts in these acts and what stood before. What the
+-- association was given came over the DTLS connection, and all of that was given to it, in order, once it was started. What was sent over
+-- the connection, or stands to be sent behind it, was taken from the association or stood to be sent before. These messages were written
+-- and read, and the identifiers that were read have their names where the association's readings do.
 pub record PeerDid {I D S M E X T W N : Type 0} (m : Meanings I D S M E X T W N) (came : Came) (moments : List ℕ)
     (shown : List (List ℕ)) (wrote heard : List StreamMessage) (p q : PolledPeer I D S M N) : Type 0 where
   pub acts : PeerActs
