@@ -12,7 +12,6 @@ ghost use Rattle.rtc_peer_state.specs.Meanings.{meanings};
 ghost use Rattle.rtc_negotiation_steps.specs.Brings.{Brings};
 
 use crate::brought::Brought;
-use crate::releasing::release;
 use rtc_change::SdpPendingOffer;
 use rtc_delivery::deliver;
 use rtc_history::{Kept, Outcome, Reply, Side};
@@ -22,6 +21,7 @@ use rtc_sdp_values::{Sdp, SdpError};
 use rtc_step_replies::{
     is_same_side, make_room, reply_no_memory, reply_no_such, reply_unread, reply_with, room_for,
 };
+use rtc_wire::release;
 use std::alloc::Global;
 
 // The offer (or answer) of a number, if the other side made it.

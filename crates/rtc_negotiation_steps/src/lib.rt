@@ -5,7 +5,6 @@ mod accepting;
 mod applied;
 mod brought;
 mod negotiating;
-mod releasing;
 
 pub use accepting::{deliver_and_accept_answer, deliver_and_accept_offer};
 pub use negotiating::negotiate;

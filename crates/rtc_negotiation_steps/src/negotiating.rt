@@ -5,20 +5,19 @@ ghost use Rattle.rtc_tables.specs.RowChanges.{media_mid};
 ghost use Rattle.rtc_history.specs.Memory.{answers_lack};
 ghost use Rattle.rtc_history.specs.declared.op.Op.TheVariants.{AddMedia, SetDirection, StopMedia, AddChannel, IceRestart};
 ghost use Rattle.rtc_history.specs.Performs.{Negotiates, PerformsOps, kept_offer};
-ghost use Rattle.rtc_negotiation_steps.specs.Keeping.{Keeps};
+ghost use Rattle.rtc_negotiation_steps.specs.Keeping.{KeepsMade};
 ghost use Rattle.rtc_negotiation_steps.specs.RefusedChannel.{refused_channel};
 ghost use Rattle.rtc_negotiation_steps.specs.Stages.{Stages};
 ghost use Rattle.rtc_peer_state.specs.Meanings.{meanings};
 
 use crate::applied::Applied;
-use crate::releasing::release;
 use rtc_change::SdpPendingOffer;
 use rtc_history::{Kept, Made, Op, OpAnswer, Outcome, Reply, Side, do_answers_lack};
 use rtc_lines::SdpOffer;
 use rtc_peer::{Association, DtlsInstance, IceAgent, Ids, MediaSession, Rtc, RtcError, SdpApi};
 use rtc_sdp_values::{Direction, LineRow, MediaKind, Mid};
 use rtc_step_replies::{make_room, reply_no_memory, reply_with};
-use rtc_wire::{ChannelConfig, Seq, TryCopy};
+use rtc_wire::{ChannelConfig, Seq, TryCopy, release};
 use std::alloc::Global;
 
 // Stages a media line whose stream and track names are drawn.
@@ -236,7 +235,7 @@ fn keep_offer(at: Side, offer: SdpOffer, token: SdpPendingOffer) -> Kept
 fn keep_made(sdps: &mut Vec<Kept>, at: Side, applied: Applied) -> Made
     requires count { length sdps.old.items < 2 ^ 32 }
     requires room { vec_len sdps.old < vec_capacity sdps.old }
-    ensures { Keeps at applied sdps.old.items result sdps.new.items }
+    ensures { KeepsMade at applied sdps.old.items result sdps.new.items }
 {
     match applied {
         Applied::NotAsked => Made::NotAsked,
