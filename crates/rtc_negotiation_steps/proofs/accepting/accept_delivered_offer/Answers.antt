@@ -8,4 +8,4 @@ use Rattle.rtc_negotiation_steps.proofs.accepting.accept_delivered_offer.Goals a
 pub returns-in-Ok-accept_offer-clause-accepts : goal.returns-in-Ok-accept_offer-clause-accepts
 returns-in-Ok-accept_offer-clause-accepts g c =
     let sdps : c.push_reserved.new.self.items ≡ c.args.sdps.now.items ++ kept_answer c.args.at c.in-Ok-accept_offer.answer.0 ∷ [] = search rules in
-    answered_offer (meanings g.I.IceAgent.ice g.D.DtlsInstance.dtls g.S.Association.association g.M.MediaSession.media g.N.Ids.ids) c.args.at (Readable c.args.delivered) c.args.delivered c.in-Ok-accept_offer.answer.0 c.args.rtc.now.core c.accept_offer.new.rtc.core c.args.sdps.now.items _ (length c.args.sdps.now.items) _ _ refl c.in-Ok-accept_offer.ensures.accepts sdps refl (search rules) c.reply_with.ensures.table
+    answered_offer (meanings g.I.IceAgent.ice g.D.DtlsInstance.dtls g.S.Association.association g.M.MediaSession.media g.N.Ids.ids) c.args.at (Readable c.args.delivered) c.args.delivered c.in-Ok-accept_offer.answer.0 c.args.rtc.now.core c.accept_offer.new.rtc.core c.args.sdps.now.items c.push_reserved.new.self.items (length c.args.sdps.now.items) c.reply_with.result.outcome c.reply_with.result.table refl c.in-Ok-accept_offer.ensures.accepts sdps refl (search rules) c.reply_with.ensures.table

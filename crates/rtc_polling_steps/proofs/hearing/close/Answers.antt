@@ -18,4 +18,4 @@ reply_with-requires-clause-channels g c =
 pub returns : goal.returns
 returns g c =
     answered_call (meanings g.I.IceAgent.ice g.D.DtlsInstance.dtls g.S.Association.association g.M.MediaSession.media g.N.Ids.ids) (ClosesPeer (meanings g.I.IceAgent.ice g.D.DtlsInstance.dtls g.S.Association.association g.M.MediaSession.media g.N.Ids.ids))
-    c.args.rtc.now c.close-answer.result _ _ c.close-answer.new.self c.close-answer.ensures (c.reply_with.ensures.outcome ∙ c.outcome_of.ensures) c.reply_with.ensures.table
+    c.args.rtc.now c.close-answer.result c.reply_with.result.outcome c.reply_with.result.table c.close-answer.new.self c.close-answer.ensures (c.reply_with.ensures.outcome ∙ c.outcome_of.ensures) c.reply_with.ensures.table

@@ -20,4 +20,4 @@ pub returns : goal.returns
 returns g c =
     answered_call (meanings g.I.IceAgent.ice g.D.DtlsInstance.dtls g.S.Association.association g.M.MediaSession.media g.N.Ids.ids)
     (HandlesInput (meanings g.I.IceAgent.ice g.D.DtlsInstance.dtls g.S.Association.association g.M.MediaSession.media g.N.Ids.ids) (given.Timeout c.args.now))
-    c.args.rtc.now c.handle_input-answer.result _ _ c.handle_input-answer.new.self c.handle_input-answer.ensures (c.reply_with.ensures.outcome ∙ c.outcome_of.ensures) c.reply_with.ensures.table
+    c.args.rtc.now c.handle_input-answer.result c.reply_with.result.outcome c.reply_with.result.table c.handle_input-answer.new.self c.handle_input-answer.ensures (c.reply_with.ensures.outcome ∙ c.outcome_of.ensures) c.reply_with.ensures.table
