@@ -1,1 +1,1 @@
-mod ShownRows
+pub mod ShownRows
