@@ -51,7 +51,7 @@ under_given id t other (row ∷ rows) ne = by (row.id == id) refl (under_given i
     by false e rest = ap (λ (o : Option ℕ). if row.id == other then row.stream else o) rest
 
 -- channels that have the streams that rows tell of them
-abbrev AreListed : List Channel → List Channel → Type 0
+abbrev pub AreListed : List Channel → List Channel → Type 0
 AreListed [] rows = Unit {0}
 AreListed (channel ∷ rest) rows = (under_rows channel.id rows ≡ channel.stream) × AreListed rest rows
 
@@ -64,7 +64,7 @@ listed_more row (channel ∷ rest) rows least le h k =
     passed true e = absurd (true≢false e)
     passed false e = k.0
 
-listed_all : (least : ℕ) (rows : List Channel) → AreRising least rows → AreListed rows rows
+pub listed_all : (least : ℕ) (rows : List Channel) → AreRising least rows → AreListed rows rows
 listed_all least [] h = tt
 listed_all least (row ∷ rows) h = (own (row.id == row.id) (grind arith), listed_more row rows rows (row.id + 1) (omega arith) h.1 (listed_all (row.id + 1) rows h.1))
   where
@@ -72,7 +72,7 @@ listed_all least (row ∷ rows) h = (own (row.id == row.id) (grind arith), liste
     own true e = refl
     own false e = absurd (true≢false (sym e))
 
-listed_given : (id t least : ℕ) (channels rows : List Channel) → id + 1 ≤ least → AreRising least channels → AreListed channels rows → AreListed channels (rows_given id t rows)
+pub listed_given : (id t least : ℕ) (channels rows : List Channel) → id + 1 ≤ least → AreRising least channels → AreListed channels rows → AreListed channels (rows_given id t rows)
 listed_given id t least [] rows le h k = tt
 listed_given id t least (channel ∷ rest) rows le h k =
     (under_given id t channel.id rows (λ e. omega (arith, le, h.0, e)) ∙ k.0, listed_given id t (channel.id + 1) rest rows (omega (arith, le, h.0)) h.1 k.1)

@@ -1,5 +1,5 @@
 -- Offers and answers that are accepted, refused or stopped keep the use of each stream, and live channels.
-use Rattle.std.proofs.Common.{◌≡◌, inl, inr, ◌&&◌, ℕ, Bool, true, false, true≢false, not, List, [], Option, Some, None, Result, Ok, Err, refl, sym, ap, subst, ◌∙◌}
+use Rattle.std.proofs.Common.{◌≡◌, inr, ◌&&◌, ℕ, Bool, true, false, true≢false, not, List, [], Option, Some, None, Result, Ok, Err, refl, sym, ap, subst, ◌∙◌}
 use Rattle.std.specs.Prelude.{is_some}
 use Rattle.rtc_association.specs.AssociationLaws.{AssociationLaws}
 use Rattle.rtc_dtls.specs.declared.dtls_error.DtlsError.TheVariants.{WouldBlock, Fault, Alloc as DtlsAlloc}
@@ -33,15 +33,10 @@ use Rattle.rtc_change.specs.declared.change.Change.{Change}
 use Rattle.rtc_change.specs.Held.{Asked}
 use Rattle.rtc_change.specs.PendingOffer.{PendingOffer, staged_restart}
 use Rattle.rtc_sctp_values.specs.InitHalves.{InitHalves}
-use Rattle.rtc_sctp_values.specs.declared.proto_error.ProtoError.TheVariants.{Fault as AssociationFault, Started, SnapHalf}
+use Rattle.rtc_sctp_values.specs.declared.proto_error.ProtoError.TheVariants.{Fault as AssociationFault}
 use Rattle.rtc_sctp_values.specs.declared.sctp_error.SctpError.{SctpError}
 use Rattle.rtc_sctp_values.specs.declared.sctp_error.SctpError.TheVariants.{Proto, Alloc as SctpAlloc}
 use Rattle.rtc_sctp.specs.Streams.{SctpStreams, is_established}
-use Rattle.rtc_sctp.specs.declared.rtc_sctp_state.RtcSctpState.TheVariants.{Uninited}
-use Rattle.rtc_sctp.specs.Calls.{Inits, begun_state}
-use Rattle.rtc_sctp.proofs.BegunLemmas.{inits_started}
-use Rattle.rtc_sctp_laws.proofs.CallActs.{inits_did}
-use Rattle.rtc_stream_uses.proofs.CallUses.{inits_entries}
 use Rattle.rtc_stream_contents.specs.RunningStreams.{AreRunning}
 use Rattle.rtc_channels.specs.Channels.{Channels}
 use Rattle.rtc_peer_state.specs.declared.peer.Peer.{Peer}
@@ -53,7 +48,7 @@ use Rattle.rtc_peer_state.specs.Meanings.{Meanings}
 use Rattle.rtc_peer_state.specs.Calls.{raised, control_for, fitting_channels}
 use Rattle.rtc_peer_state.specs.MadeSdp.{role_for, role_after}
 use Rattle.rtc_peer_state.specs.SdpMoves.{followed_restart, answer_ids, halves_for}
-use Rattle.rtc_peer_state.specs.PartMoves.{dropped_halves, needs_start, StartsWhere, StartsSctp, remote_limit, StopsMoving, AtAgent, AtRole, AtStart}
+use Rattle.rtc_peer_state.specs.PartMoves.{needs_start, StartsWhere, StartsSctp, remote_limit, StopsMoving, AtAgent, AtRole, AtStart}
 use Rattle.rtc_peer_state.specs.StoppedAcceptances.{StopsPreparing, BeforeSources, AmongDraws, AtUpdates, StopsAccepting, AtVerdict, AtPreparing, AtParts}
 use Rattle.rtc_peer_state.specs.Acceptances.{AcceptsOffer, AcceptsAnswer, phase_after}
 use Rattle.rtc_polling.specs.declared.polled_peer.PolledPeer.{PolledPeer}
@@ -64,10 +59,11 @@ use Rattle.rtc_channel_laws.specs.KeptChannels.{CallKeepsStreams}
 use Rattle.rtc_polling_laws.specs.ChannelStreams.{AreNumberedChannels, IsGone}
 use Rattle.rtc_channel_laws.proofs.GoneChannels.{all_confirmed_given, all_confirmed_gone}
 use Rattle.rtc_channel_laws.proofs.ConfirmedChannels.{all_confirmed_over, all_confirmed_numbers}
-use Rattle.rtc_polling_laws.specs.RowsChanged.{Confirmed, KeepsBegun, OnlyActs, RowsChange, StartsEstablished, Stayed}
+use Rattle.rtc_polling_laws.specs.RowsChanged.{Confirmed, OnlyActs, RowsChange, Stayed}
 use Rattle.rtc_polling_laws.proofs.ChangedRows.{no_acts, one_changed, same_rows}
 use Rattle.rtc_polling_laws.proofs.StreamsJoin.{same_given}
 use Rattle.rtc_channel_laws.proofs.KeptCalls.{kept_acts}
+use Rattle.rtc_channel_laws.proofs.KeptStarts.{started_entries, started_only}
 
 -- a closed peer that refuses a description stays closed
 stays_closed : (why : Why) (phase : Phase) → phase ≡ Closed → phase_after why phase ≡ Closed
@@ -87,55 +83,6 @@ stays_closed (UnknownHash name) phase h = refl
 stays_closed NoneAnnounced phase h = refl
 
 module _ {I D S M E X T W N : Type 0} (m : Meanings I D S M E X T W N) where
-  -- the streams are started where they are to be; their entries stay
-  started_entries : (b : Bool) (client : Bool) (now max : ℕ) (halves : Option InitHalves) (drops : Bool) (p : SctpStreams S)
-      (r : Result (Unit {0}) SctpError) (q : SctpStreams S) → StartsWhere m.association b p client now max halves drops r q
-      → q.entries ≡ p.entries
-  started_entries false client now max halves drops p r q h = ap (λ (s : SctpStreams S). s.entries) h.1
-  started_entries true client now max halves drops p r q h = inits_entries m.association client now max halves p r q h
-
-  -- a start leaves the association begun, or as it was
-  begun_state_is : (halves : Option InitHalves) (client : Bool) → begun_state halves client ≡ Uninited → ⊥
-  begun_state_is None true e = cc (e)
-  begun_state_is None false e = cc (e)
-  begun_state_is (Some both) client e = cc (e)
-
-  inits_begun : (client : Bool) (now max : ℕ) (halves : Option InitHalves) (p : SctpStreams S) (r : Result (Unit {0}) SctpError) (q : SctpStreams S)
-      → Inits m.association client now max halves p r q → KeepsBegun p q
-  inits_begun client now max halves p (Ok done) q h =
-      λ e. absurd (begun_state_is halves client (sym (ap (λ (s : SctpStreams S). s.state) h.2) ∙ e))
-  inits_begun client now max halves p (Err (Proto Started)) q h = (λ e. sym (ap (λ (s : SctpStreams S). s.state) h.1) ∙ e)
-  inits_begun client now max halves p (Err (Proto SnapHalf)) q h = (λ e. sym (ap (λ (s : SctpStreams S). s.state) h.2) ∙ e)
-  inits_begun client now max halves p (Err (Proto AssociationFault)) q h = (λ e. sym (ap (λ (s : SctpStreams S). s.state) h.2) ∙ e)
-  inits_begun client now max halves p (Err SctpAlloc) q h = (λ e. sym (ap (λ (s : SctpStreams S). s.state) h.2) ∙ e)
-  inits_begun client now max halves p (Err error) q h = absurd h
-
-  -- one that is established by it is started
-  inits_last : AssociationLaws m.association → (client : Bool) (now max : ℕ) (halves : Option InitHalves) (p : SctpStreams S)
-      (r : Result (Unit {0}) SctpError) (q : SctpStreams S) → Inits m.association client now max halves p r q → StartsEstablished m.association p q
-  inits_last w client now max halves p (Ok done) q h = (λ e. inr (inits_started m.association w client now max halves p q h))
-  inits_last w client now max halves p (Err (Proto Started)) q h = (λ e. inl (ap is_established (sym (ap (λ (s : SctpStreams S). s.state) h.1)) ∙ e))
-  inits_last w client now max halves p (Err (Proto SnapHalf)) q h = (λ e. inl (ap is_established (sym (ap (λ (s : SctpStreams S). s.state) h.2)) ∙ e))
-  inits_last w client now max halves p (Err (Proto AssociationFault)) q h = (λ e. inl (ap is_established (sym (ap (λ (s : SctpStreams S). s.state) h.2)) ∙ e))
-  inits_last w client now max halves p (Err SctpAlloc) q h = (λ e. inl (ap is_established (sym (ap (λ (s : SctpStreams S). s.state) h.2)) ∙ e))
-  inits_last w client now max halves p (Err error) q h = absurd h
-
-  started_only : AssociationLaws m.association → (b : Bool) (client : Bool) (now max : ℕ) (halves : Option InitHalves) (drops : Bool) (p : SctpStreams S)
-      (r : Result (Unit {0}) SctpError) (q : SctpStreams S) → StartsWhere m.association b p client now max halves drops r q
-      → OnlyActs m.association p q
-  started_only w false client now max halves drops p r q h =
-      no_acts m.association p (record p { snap = dropped_halves drops p.snap }) q h.1 refl refl refl
-  started_only w true client now max halves drops p r q h =
-      let d = inits_did m.association client now max halves p r q h in
-      record {
-        acts = d.did.acts;
-        went = d.did.went;
-        untold = d.did.told_is;
-        entries = inits_entries m.association client now max halves p r q h;
-        begun = inits_begun client now max halves p r q h;
-        lasts = inits_last w client now max halves p r q h;
-      }
-
   -- entries stay, and what was established over an association that runs is
   abbrev LeavesEntries : SctpStreams S → SctpStreams S → Type 0
   LeavesEntries p q = (q.entries ≡ p.entries) × (AreRunning m.association p → is_established q.state ≡ true) × OnlyActs m.association p q
@@ -157,13 +104,13 @@ module _ {I D S M E X T W N : Type 0} (m : Meanings I D S M E X T W N) where
       (r : Result (Unit {0}) SctpError) (q : SctpStreams S) → StartsSctp m.association p rows client now max halves drops r q
       → LeavesEntries p q
   sctp_entries w rows client now max halves drops p r q h = (
-    started_entries (needs_start m.association rows p) client now max halves drops p r q h,
+    started_entries m (needs_start m.association rows p) client now max halves drops p r q h,
     λ k.
         ap (λ (s : SctpStreams S). is_established s.state)
         (subst (λ (b : Bool). StartsWhere m.association b p client now max halves drops r q)
         (unneeded (is_some (app_of rows)) (m.association.started p.association) k.0) h).1
         ∙ k.1,
-    started_only w (needs_start m.association rows p) client now max halves drops p r q h,
+    started_only m w (needs_start m.association rows p) client now max halves drops p r q h,
   )
 
   preparing_entries : (o : Peer I D S M N) (offer may : Bool) (changes : List Change) (sdp : Sdp) (drawn : N) (c : Peer I D S M N)

@@ -1,43 +1,31 @@
 -- The calls of a peer beside polls keep the use of each stream, and live channels.
 use Rattle.std.proofs.Common.{◌≡◌, ◌⊎◌, inl, inr, ◌++◌, ℕ, Bool, true, false, List, [], append-nil, Option, Some, None, Result, Ok, Err, refl, sym, ap, subst, ◌∙◌}
-use Rattle.std.specs.Prelude.{alloc_error}
 use Rattle.std.specs.declared.alloc.AllocError.{AllocError}
-use Rattle.rtc_wire.specs.declared.datagram_recv.DatagramRecv.{DatagramRecv}
-use Rattle.rtc_wire.specs.declared.datagram_recv.DatagramRecv.TheVariants as datagrams
-use Rattle.rtc_wire.specs.declared.receive.Receive.{Receive}
 use Rattle.rtc_association.specs.AssociationMeaning.{AssociationMeaning}
 use Rattle.rtc_association.specs.AssociationLaws.{AssociationLaws}
 use Rattle.rtc_stream_uses.specs.StreamUses.{IsLive}
 use Rattle.rtc_stream_contents.proofs.LiveCalls.{writes_own}
 use Rattle.rtc_stream_contents.proofs.RunningPolls.{stay_same}
-use Rattle.rtc_ready.specs.Signals.{both}
 use Rattle.rtc_sctp_entries.specs.Entries.{entry_place}
 use Rattle.rtc_sctp_values.specs.declared.sctp_error.SctpError.{SctpError}
 use Rattle.rtc_sctp.specs.Streams.{SctpStreams}
 use Rattle.rtc_sctp.specs.Calls.{WritesStream, WrittenIf, can_write, is_current, is_open_stream}
 use Rattle.rtc_sctp_laws.specs.StreamActs.{written_message}
-use Rattle.rtc_sctp_laws.proofs.CallActs.{writes_did}
+use Rattle.rtc_stream_uses.proofs.AsideActs.{writes_aside}
 use Rattle.rtc_sctp_laws.specs.StreamMessages.{StreamMessage}
 use Rattle.rtc_channels.specs.Channels.{Channels}
-use Rattle.rtc_channels.specs.Openings.{ClosesChannel, MeetsMoment, is_progress_due}
+use Rattle.rtc_channels.specs.Openings.{ClosesChannel}
 use Rattle.rtc_peer_state.specs.declared.phase.Phase.{Phase}
 use Rattle.rtc_peer_state.specs.declared.phase.Phase.TheVariants.{Alive, Closing, Closed}
 use Rattle.rtc_peer_state.specs.declared.rtc_error.RtcError.{RtcError}
-use Rattle.rtc_peer_state.specs.declared.rtc_error.RtcError.TheVariants.{Alloc, Dtls, Media}
 use Rattle.rtc_peer_state.specs.Meanings.{Meanings}
-use Rattle.rtc_polling.specs.declared.input.Input.{Input}
-use Rattle.rtc_polling.specs.declared.input.Input.TheVariants.{Timeout, Receive as Datagram}
 use Rattle.rtc_polling.specs.declared.polled_peer.PolledPeer.{PolledPeer}
 use Rattle.rtc_polling.specs.ChannelCalls.{ClosesDataChannel, SetsChannelThreshold, SetsThresholdIf, WritesChannel, WritesIf, stream_under, write_taken}
 use Rattle.rtc_polling.specs.Closing.{ClosesPeer, ClosesPeerFrom}
-use Rattle.rtc_polling.specs.Statistics.{TimesStatistics}
-use Rattle.rtc_polling.proofs.StatisticsTurns.{StatisticsTimed, statistics_timed}
-use Rattle.rtc_polling.specs.Inputs.{TimesIce, TimesStreams, TimesChannels, TimesMedia, GivesTime, TakesTimeIf, HandlesInputBy, HandlesInputIn, HandlesInput, with_moment, StreamsTimed, ChannelsTimed}
-use Rattle.rtc_polling.specs.Inputs.{HearsStun, HearsDtls, HearsMedia, HearsKind, Hears, Heard, PartFailed}
 use Rattle.rtc_polling.specs.Stages.{Call, InTurn, Failed, Passed}
 use Rattle.rtc_polling.specs.StreamStages.{channel_over}
 use Rattle.rtc_polling_laws.specs.Acts.{message_of_write}
-use Rattle.rtc_polling_laws.specs.RowsChanged.{OnlyActs, RowsChange, RowsChanged, Timed, Progressed, ThresholdSet, StreamClosed}
+use Rattle.rtc_polling_laws.specs.RowsChanged.{OnlyActs, RowsChange, RowsChanged, ThresholdSet, StreamClosed, begun_as}
 use Rattle.rtc_polling_laws.proofs.ChangedRows.{changed_on, one_changed, only_called, rows_same, rows_stay}
 use Rattle.rtc_polling_laws.specs.ChannelStreams.{AreNumberedChannels, IsGone, IsUsedStream}
 use Rattle.rtc_polling_laws.specs.PeerActs.{nothing_came}
@@ -45,17 +33,17 @@ use Rattle.rtc_polling_laws.proofs.ActedClosing.{beside, close_acts}
 use Rattle.rtc_polling_laws.proofs.StreamsJoin.{given_on, same_given}
 use Rattle.rtc_polling_laws.proofs.ClosedRows.{close_only, close_rows}
 use Rattle.rtc_channel_laws.specs.KeptChannels.{CallKeepsStreams}
-use Rattle.rtc_channel_laws.proofs.KeptCalls.{StreamsKept, kept_same, kept_acts, kept_write, kept_timeout, kept_threshold_if, kept_close, ChannelsKept, channels_on, moment_kept, same_channels}
+use Rattle.rtc_channel_laws.proofs.KeptCalls.{StreamsKept, kept_same, kept_acts, kept_write, kept_threshold_if, kept_close, ChannelsKept}
 
 -- a closed peer stays closed
-abbrev StaysClosed : {I D S M N : Type 0} → PolledPeer I D S M N → PolledPeer I D S M N → Type 0
+abbrev pub StaysClosed : {I D S M N : Type 0} → PolledPeer I D S M N → PolledPeer I D S M N → Type 0
 StaysClosed p q = p.core.phase ≡ Closed → q.core.phase ≡ Closed
 
 -- streams and channels stay
-abbrev KeepsBoth : {I D S M N : Type 0} → PolledPeer I D S M N → PolledPeer I D S M N → Type 0
+abbrev pub KeepsBoth : {I D S M N : Type 0} → PolledPeer I D S M N → PolledPeer I D S M N → Type 0
 KeepsBoth p q = (q.core.sctp ≡ p.core.sctp) × (q.core.channels ≡ p.core.channels) × StaysClosed p q
 
-abbrev KeepsRows : {I D S M N : Type 0} → PolledPeer I D S M N → PolledPeer I D S M N → Type 0
+abbrev pub KeepsRows : {I D S M N : Type 0} → PolledPeer I D S M N → PolledPeer I D S M N → Type 0
 KeepsRows p q = (q.core.channels ≡ p.core.channels) × StaysClosed p q
 
 -- what a write took
@@ -64,12 +52,12 @@ written_is : (stream generation : ℕ) (binary : Bool) (bytes : List ℕ) (answe
 written_is stream generation binary bytes (Ok count) = refl
 written_is stream generation binary bytes (Err error) = refl
 
--- a write leaves the entries, and the state of the association
+-- a write leaves the entries, and how the association was begun
 written_same : {S : Type 0} (m : AssociationMeaning S) (can current : Bool) (id : ℕ) (binary : Bool) (bytes : List ℕ) (p : SctpStreams S)
-    (r : Result ℕ SctpError) (q : SctpStreams S) → WrittenIf m can current id binary bytes p r q → (q.entries ≡ p.entries) × (q.state ≡ p.state)
-written_same m false current id binary bytes p r q h = (ap (λ x. x.entries) h.1, ap (λ x. x.state) h.1)
-written_same m true false id binary bytes p r q h = (ap (λ x. x.entries) h.1, ap (λ x. x.state) h.1)
-written_same m true true id binary bytes p r q h = (ap (λ x. x.entries) h.3, ap (λ x. x.state) h.3)
+    (r : Result ℕ SctpError) (q : SctpStreams S) → WrittenIf m can current id binary bytes p r q → (q.entries ≡ p.entries) × (begun_as q ≡ begun_as p)
+written_same m false current id binary bytes p r q h = (ap (λ x. x.entries) h.1, ap begun_as h.1)
+written_same m true false id binary bytes p r q h = (ap (λ x. x.entries) h.1, ap begun_as h.1)
+written_same m true true id binary bytes p r q h = (ap (λ x. x.entries) h.3, ap begun_as h.3)
 
 module _ {I D S M E X T W N : Type 0} (m : Meanings I D S M E X T W N) where
   -- the peer is closed, or the changes of channels and entries are these
@@ -81,7 +69,7 @@ module _ {I D S M E X T W N : Type 0} (m : Meanings I D S M E X T W N) where
       → ChangesRows p q
   changes_none p q is only = inr (rows_stay m.association p.core.channels p.core.sctp q.core.channels q.core.sctp is only)
 
-  changes_one : (p q : PolledPeer I D S M N) → RowsChange m.association p.core.channels p.core.sctp q.core.channels q.core.sctp → ChangesRows p q
+  pub changes_one : (p q : PolledPeer I D S M N) → RowsChange m.association p.core.channels p.core.sctp q.core.channels q.core.sctp → ChangesRows p q
   changes_one p q h = inr (one_changed m.association p.core.channels p.core.sctp q.core.channels q.core.sctp h)
 
   pub over_streams : (p q : PolledPeer I D S M N) (wrote : List StreamMessage) → StreamsKept m.association p.core.sctp wrote q.core.sctp
@@ -112,7 +100,7 @@ module _ {I D S M E X T W N : Type 0} (m : Meanings I D S M E X T W N) where
     changed = changed;
   }
 
-  by_rows : (p q : PolledPeer I D S M N) (wrote : List StreamMessage) → StreamsKept m.association p.core.sctp wrote q.core.sctp → KeepsRows p q
+  pub by_rows : (p q : PolledPeer I D S M N) (wrote : List StreamMessage) → StreamsKept m.association p.core.sctp wrote q.core.sctp → KeepsRows p q
       → (q.core.channels ≡ p.core.channels → ChangesRows p q) → CallKeepsStreams m p wrote q
   by_rows p q wrote h k changes = over_streams p q wrote h k.0 k.1 (changes k.0)
 
@@ -143,152 +131,16 @@ module _ {I D S M E X T W N : Type 0} (m : Meanings I D S M E X T W N) where
   }
 
   -- a call keeps them, whatever it answers
-  abbrev CallKeeps : Call (PolledPeer I D S M N) → Type 0
+  abbrev pub CallKeeps : Call (PolledPeer I D S M N) → Type 0
   CallKeeps call = (p : PolledPeer I D S M N) (r : Result (Unit {0}) RtcError) (q : PolledPeer I D S M N) → call p r q → CallKeepsStreams m p [] q
 
-  turn_keeps : (first rest : Call (PolledPeer I D S M N)) → CallKeeps first → CallKeeps rest → CallKeeps (InTurn first rest)
+  pub turn_keeps : (first rest : Call (PolledPeer I D S M N)) → CallKeeps first → CallKeeps rest → CallKeeps (InTurn first rest)
   turn_keeps first rest one other p r q (Failed error is h) = one p (Err error) q h
   turn_keeps first rest one other p r q (Passed between h k) = calls_on p between q (one p (Ok tt) between h) (other between r q k)
 
   -- what a part alone was told
-  kept_by : (p n q : PolledPeer I D S M N) → q ≡ n → KeepsBoth p n → CallKeepsStreams m p [] q
+  pub kept_by : (p n q : PolledPeer I D S M N) → q ≡ n → KeepsBoth p n → CallKeepsStreams m p [] q
   kept_by p n q is h = same_kept p q (beside KeepsBoth p n q is h)
-
-  ice_keeps : (now : ℕ) → CallKeeps (TimesIce m now)
-  unfolding TimesIce
-  ice_keeps now p (Ok done) q h = kept_by p _ q h.1 (refl, refl, λ k. k)
-  ice_keeps now p (Err Alloc) q h = kept_by p _ q h.1 (refl, refl, λ k. refl)
-  ice_keeps now p (Err _) q h = absurd h
-
-  streams_keep : AssociationLaws m.association → (now : ℕ) → CallKeeps (TimesStreams m now)
-  unfolding TimesStreams
-  streams_keep w now p (Ok done) q h =
-      by_rows p q [] (kept_timeout m.association w now p.core.sctp both (Ok tt) q.core.sctp h.0.0 h.0.1) (beside KeepsRows p _ q h.1 (refl, λ k. k))
-      (λ is. changes_one p q (Timed now both h.0.0 (Ok tt) h.0.1 is))
-  streams_keep w now p (Err Alloc) q h =
-      by_rows p q [] (kept_timeout m.association w now p.core.sctp both (Err alloc_error) q.core.sctp h.0.0 h.0.1) (beside KeepsRows p _ q h.1 (refl, λ k. refl))
-      (λ is. inl (ap (λ (x : PolledPeer I D S M N). x.core.phase) h.1))
-  streams_keep w now p (Err _) q h = absurd h
-
-  -- channels are handed a moment behind the streams
-  timed_rows : (now : ℕ) (p b : PolledPeer I D S M N) → TimesStreams m now p (Ok tt) b → b.core.channels ≡ p.core.channels
-  unfolding TimesStreams
-  timed_rows now p b h = ap (λ (x : PolledPeer I D S M N). x.core.channels) h.1
-
-  timed_streams : (now : ℕ) (p b : PolledPeer I D S M N) → TimesStreams m now p (Ok tt) b → StreamsTimed m.association now p.core.sctp (Ok tt) b.core.sctp
-  unfolding TimesStreams
-  timed_streams now p b h = h.0
-
-  channels_kept : AssociationLaws m.association → (now : ℕ) (p b q : PolledPeer I D S M N) (r : Result (Unit {0}) AllocError)
-      → TimesStreams m now p (Ok tt) b → ChannelsTimed m.association b.core.channels b.core.sctp r q.core.channels q.core.sctp
-      → ChannelsKept m.association p.core.channels p.core.sctp q.core.channels q.core.sctp
-  channels_kept w now p b q r h k =
-      let timed = timed_streams now p b h in
-      channels_on m.association p.core.channels p.core.sctp b.core.channels b.core.sctp q.core.channels q.core.sctp
-      (same_channels m.association p.core.channels p.core.sctp b.core.channels b.core.sctp (timed_rows now p b h)
-      (kept_timeout m.association w now p.core.sctp both (Ok tt) b.core.sctp timed.0 timed.1))
-      (moment_kept m.association w (is_progress_due m.association b.core.channels b.core.sctp) b.core.channels b.core.sctp both r q.core.channels
-      q.core.sctp k.0 k.1)
-
-  channels_keep : AssociationLaws m.association → (now : ℕ) (p b : PolledPeer I D S M N) (r : Result (Unit {0}) RtcError) (q : PolledPeer I D S M N)
-      → TimesStreams m now p (Ok tt) b → (p.core.phase ≡ Closed → b.core.phase ≡ Closed) → TimesChannels m b r q → CallKeepsStreams m p [] q
-  unfolding TimesChannels
-  channels_keep w now p b (Ok done) q h closed k =
-      let timed = timed_streams now p b h in
-      let due = is_progress_due m.association b.core.channels b.core.sctp in
-      over_channels p q (channels_kept w now p b q (Ok tt) h k.0) (λ e. beside StaysClosed b _ q k.1 (λ f. f) (closed e))
-      (changes_one p q
-      (Progressed now both timed.0 b.core.sctp timed.1 due both k.0.0
-      (subst (λ (x : Channels). MeetsMoment m.association due x b.core.sctp both (Ok tt) q.core.channels q.core.sctp k.0.0) (timed_rows now p b h) k.0.1)))
-  channels_keep w now p b (Err Alloc) q h closed k =
-      over_channels p q (channels_kept w now p b q (Err alloc_error) h k.0) (λ e. beside StaysClosed b _ q k.1 (λ f. refl) (closed e))
-      (inl (ap (λ (x : PolledPeer I D S M N). x.core.phase) k.1))
-  channels_keep w now p b (Err _) q h closed k = absurd k
-
-  media_keeps : (now : ℕ) → CallKeeps (TimesMedia m now)
-  unfolding TimesMedia
-  media_keeps now p (Ok done) q h = kept_by p _ q h.1 (refl, refl, λ k. k)
-  media_keeps now p (Err (Media cause)) q h = kept_by p _ q h.2 (refl, refl, λ k. k)
-  media_keeps now p (Err Alloc) q h = kept_by p _ q h.1 (refl, refl, λ k. refl)
-  media_keeps now p (Err _) q h = absurd h
-
-  stays_closed : (now : ℕ) (p : PolledPeer I D S M N) (r : Result (Unit {0}) RtcError) (q : PolledPeer I D S M N) → StatisticsTimed m now p r q
-      → p.core.phase ≡ Closed → q.core.phase ≡ Closed
-  stays_closed now p r q timed closed = by timed.ends
-    where
-      by : ((r ≡ Ok tt) × (q.core.phase ≡ p.core.phase)) ⊎ ((r ≡ Err Alloc) × (q.core.phase ≡ Closed)) → q.core.phase ≡ Closed
-      by (inl same) = same.1 ∙ closed
-      by (inr shut) = shut.1
-
-  statistics_keep : (now : ℕ) → CallKeeps (TimesStatistics m now)
-  statistics_keep now p r q h =
-      let timed = statistics_timed m now p r q h in
-      kept_by p _ q timed.kept (refl, refl, stays_closed now p r q timed)
-
-  -- the streams, the channels behind them, and what follows
-  behind_keep : AssociationLaws m.association → (now : ℕ) (rest : Call (PolledPeer I D S M N)) → CallKeeps rest → (p b : PolledPeer I D S M N)
-      (r : Result (Unit {0}) RtcError) (q : PolledPeer I D S M N) → TimesStreams m now p (Ok tt) b → (p.core.phase ≡ Closed → b.core.phase ≡ Closed)
-      → InTurn (TimesChannels m) rest b r q → CallKeepsStreams m p [] q
-  behind_keep w now rest others p b r q h closed (Failed error is k) = channels_keep w now p b (Err error) q h closed k
-  behind_keep w now rest others p b r q h closed (Passed c k more) =
-      calls_on p c q (channels_keep w now p b (Ok tt) c h closed k) (others c r q more)
-
-  both_keep : AssociationLaws m.association → (now : ℕ) (rest : Call (PolledPeer I D S M N)) → CallKeeps rest
-      → CallKeeps (InTurn (TimesStreams m now) (InTurn (TimesChannels m) rest))
-  both_keep w now rest others p r q (Failed error is h) = streams_keep w now p (Err error) q h
-  both_keep w now rest others p r q (Passed b h k) = behind_keep w now rest others p b r q h (streams_keep w now p (Ok tt) b h).closed k
-
-  gives_keep : AssociationLaws m.association → (now : ℕ) → CallKeeps (GivesTime m now)
-  gives_keep w now p r q h =
-      calls_on p (with_moment now p) q (same_kept p (with_moment now p) (refl, refl, λ k. k))
-      (turn_keeps (TimesIce m now) _ (ice_keeps now)
-      (both_keep w now _ (turn_keeps (TimesMedia m now) (TimesStatistics m now) (media_keeps now) (statistics_keep now))) (with_moment now p) r q h)
-
-  time_keeps : AssociationLaws m.association → (earlier : Bool) (now : ℕ) → CallKeeps (TakesTimeIf m earlier now)
-  time_keeps w true now p r q h = kept_by p p q h.1 (refl, refl, λ k. k)
-  time_keeps w false now p r q h = gives_keep w now p r q h
-
-  stun_keeps : (now : ℕ) (datagram : Receive) (bytes : List ℕ) → CallKeeps (HearsStun m now datagram bytes)
-  unfolding HearsStun
-  stun_keeps now datagram bytes p (Ok done) q h = kept_by p _ q h.1 (refl, refl, λ k. k)
-  stun_keeps now datagram bytes p (Err Alloc) q h = kept_by p _ q h.1 (refl, refl, λ k. refl)
-  stun_keeps now datagram bytes p (Err _) q h = absurd h
-
-  dtls_keeps : (bytes : List ℕ) → CallKeeps (HearsDtls m bytes)
-  unfolding HearsDtls
-  dtls_keeps bytes p (Ok done) q h = kept_by p _ q h.1 (refl, refl, λ k. k)
-  dtls_keeps bytes p (Err (Dtls cause)) q h = kept_by p _ q h.2 (refl, refl, λ k. k)
-  dtls_keeps bytes p (Err Alloc) q h = kept_by p _ q h.1 (refl, refl, λ k. refl)
-  dtls_keeps bytes p (Err _) q h = absurd h
-
-  packet_keeps : (given : M → Result (Unit {0}) AllocError → M → Type 0) (bytes : List ℕ) → CallKeeps (HearsMedia m given bytes)
-  unfolding HearsMedia
-  packet_keeps given bytes p (Ok done) q h = kept_by p _ q h.1 (refl, refl, λ k. k)
-  packet_keeps given bytes p (Err Alloc) q h = kept_by p _ q h.1 (refl, refl, λ k. refl)
-  packet_keeps given bytes p (Err _) q h = absurd h
-
-  kind_keeps : (now : ℕ) (datagram : Receive) (contents : DatagramRecv) → CallKeeps (HearsKind m now datagram contents)
-  kind_keeps now datagram (datagrams.Stun view) p r q h = stun_keeps now datagram view.bytes.now p r q h
-  kind_keeps now datagram (datagrams.Dtls bytes) p r q h = dtls_keeps bytes.now p r q h
-  kind_keeps now datagram (datagrams.Rtp bytes) p r q h = packet_keeps (λ a s b. m.media.rtp_given a now bytes.now s b) bytes.now p r q h
-  kind_keeps now datagram (datagrams.Rtcp bytes) p r q h = packet_keeps (λ a s b. m.media.rtcp_given a now bytes.now s b) bytes.now p r q h
-
-  hears_keep : AssociationLaws m.association → (now : ℕ) (datagram : Receive) → CallKeeps (Hears m now datagram)
-  hears_keep w now datagram p r q (Heard between heard time) =
-      calls_on p between q (kind_keeps now datagram datagram.contents p (Ok tt) between heard) (time_keeps w _ now between r q time)
-  hears_keep w now datagram p r q (PartFailed error is heard) = kind_keeps now datagram datagram.contents p (Err error) q heard
-
-  input_by : AssociationLaws m.association → (input : Input) → CallKeeps (HandlesInputBy m input)
-  input_by w (Timeout now) p r q h = time_keeps w _ now p r q h
-  input_by w (Datagram now datagram) p r q h = hears_keep w now datagram p r q h
-
-  input_in : AssociationLaws m.association → (phase : Phase) (input : Input) → CallKeeps (HandlesInputIn m phase input)
-  input_in w Alive input p r q h = input_by w input p r q h
-  input_in w Closing input p r q h = input_by w input p r q h
-  input_in w Closed input p r q h = kept_by p p q h.1 (refl, refl, λ k. k)
-
-  pub input_keeps : AssociationLaws m.association → (input : Input) → CallKeeps (HandlesInput m input)
-  input_keeps w input p r q h = input_in w p.core.phase input p r q h
 
   threshold_changes : (is_open : Bool) (stream n : ℕ) (p q : PolledPeer I D S M N) → q.core.channels ≡ p.core.channels
       → SetsThresholdIf S is_open stream n p.core.sctp q.core.sctp → ChangesRows p q
@@ -345,8 +197,8 @@ module _ {I D S M E X T W N : Type 0} (m : Meanings I D S M E X T W N) where
         (λ is.
         let same = written_same m.association (can_write m.association stream p.core.sctp) (is_current m.association stream p.core.sctp) stream binary
         bytes p.core.sctp h.0 q.core.sctp h.1 in
-        let did = writes_did m.association stream binary bytes p.core.sctp h.0 q.core.sctp h.1 in
-        changes_none p q is (only_called m.association [] _ p.core.sctp q.core.sctp did same.0 same.1)))
+        let did = writes_aside m.association stream binary bytes p.core.sctp h.0 q.core.sctp h.1 in
+        changes_none p q is (only_called m.association p.core.sctp q.core.sctp did same.0 same.1)))
 
     pub channel_write_keeps : (stream : ℕ) (binary : Bool) (bytes : List ℕ) (p : PolledPeer I D S M N) (r : Result Bool RtcError)
         (q : PolledPeer I D S M N) → WritesChannel m stream binary bytes p r q

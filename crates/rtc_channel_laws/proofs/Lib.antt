@@ -4,6 +4,8 @@ pub mod ConfirmedChannels
 pub mod GoneChannels
 pub mod KeptCalls
 pub mod KeptPeers
+pub mod KeptInputs
+mod KeptStarts
 pub mod KeptAcceptances
 pub mod KeptStaging
 pub mod OpenedOnce

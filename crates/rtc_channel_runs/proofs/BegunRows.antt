@@ -67,7 +67,7 @@ pub answer_numbers : (answer : Result (Option SctpEvent) AllocError) (held held'
     → AreNumberedChannels held → AreNumberedChannels held'
 answer_numbers (Ok (Some e)) held held' h k = event_numbers e held held' h k
 answer_numbers (Ok None) held held' h k = same_numbers held held' h k
-answer_numbers (Err error) held held' h k = same_numbers held held' h k
+answer_numbers (Err error) held held' h k = absurd h
 
 module _ {S : Type 0} where
   -- The numbers of channels rise, and no entry was closed before the association began.
@@ -157,4 +157,4 @@ module _ {S : Type 0} where
       → Left (met_of answer) a b → RowsAnswered answer held held' → IsBegun c held a → IsBegun c held' b
   answer_begun c (Ok (Some e)) held held' a b numbers left h begun = event_begun c e held held' a b numbers left h begun
   answer_begun c (Ok None) held held' a b numbers left h begun = kept_begun c held held' a b h (λ s k. only s b.entries (left s k)) begun
-  answer_begun c (Err error) held held' a b numbers left h begun = kept_begun c held held' a b h (λ s k. only s b.entries (left s k)) begun
+  answer_begun c (Err error) held held' a b numbers left h begun = absurd h

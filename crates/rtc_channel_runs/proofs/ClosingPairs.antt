@@ -100,12 +100,12 @@ level_step a c b act v u k s m h = record {
         ap (λ (n : ℕ). take n h.back) s.core.gets.count ∙ (next_of h.back b a c act u v s m h.back_is).is
         ∙ ap (λ (l : List Item). take a.inbox.received h.back ++ l) (sym got_is)
 
-among_first : (act : AssociationAct) (acts : List AssociationAct) (packets : List (List ℕ)) → Among (given (act ∷ acts)) packets
+pub among_first : (act : AssociationAct) (acts : List AssociationAct) (packets : List (List ℕ)) → Among (given (act ∷ acts)) packets
     → Among (given (act ∷ [])) packets
 among_first (Given b) acts packets m = record { each = λ x k. elim k [ inl e ↦ m.each x (inl e) | inr n ↦ absurd n ] }
 among_first (_) acts packets m = record { each = λ x k. absurd k }
 
-among_rest : (act : AssociationAct) (acts : List AssociationAct) (packets : List (List ℕ)) → Among (given (act ∷ acts)) packets
+pub among_rest : (act : AssociationAct) (acts : List AssociationAct) (packets : List (List ℕ)) → Among (given (act ∷ acts)) packets
     → Among (given acts) packets
 among_rest (Given b) acts packets m = record { each = λ x k. m.each x (inr k) }
 among_rest (_) acts packets m = m

@@ -23,7 +23,8 @@ use Rattle.rtc_polling_laws.proofs.ChannelsOver.{none_under, under_over, under_r
 use Rattle.rtc_joined_runs.specs.NewPairs.{IsNewPeer}
 use Rattle.rtc_joined_runs.specs.PlainPairs.{PlainPolled}
 use Rattle.rtc_channel_runs.specs.ConfirmedChannels.{HasConfig}
-use Rattle.rtc_channel_runs.specs.SettledPairs.{HasEntryOf, WaitsForAnswer}
+use Rattle.rtc_channel_runs.specs.OwnOpenings.{HasEntryOf}
+use Rattle.rtc_channel_runs.specs.SettledPairs.{WaitsForAnswer}
 use Rattle.rtc_channel_runs.proofs.BegunRows.{AreSound, Awaits, HasGone, IsBegun, Stands}
 use Rattle.rtc_channel_runs.proofs.StandingVisits.{IsStanding}
 use Rattle.rtc_channel_runs.proofs.StandingEntries.{HasStanding, NoneClosed}

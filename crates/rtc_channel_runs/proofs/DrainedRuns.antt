@@ -39,18 +39,22 @@ use Rattle.rtc_channel_runs.proofs.RunsTold.{PairTold, StoodIn, new_pair_told, p
 
 module _ {N : Type 0} (draws : Draws N) where
   -- a new pair has no stream in use, and has started no association
+  new_streams : (p : PlainPolled N) (h : IsNewPeer draws p.core) → p.core.sctp ≡ h.built.sctp
+  new_streams p h = ap (λ (x : Peer IceContents DtlsContents Contents MediaContents N). x.sctp) h.rest
+
+  pub new_unstarted : (p : PlainPolled N) → IsNewPeer draws p.core → is_started p.core.sctp.association ≡ false
+  new_unstarted p h =
+      ap (λ (x : SctpStreams Contents). is_started x.association) (new_streams p h)
+      ∙ (plain_laws.same_start fresh_contents h.built.sctp.association (Stirred Other) refl
+      (LimitsSet 1062 h.config.max_message_size h.by_build.by_limits)).0
+
   new_empty : (p : PlainPolled N) → IsNewPeer draws p.core → IsUnused (plain_over draws) (plain_over_laws draws) p.core
-  new_empty p h =
-      let sctp : p.core.sctp ≡ h.built.sctp = ap (λ (x : Peer IceContents DtlsContents Contents MediaContents N). x.sctp) h.rest in
-      let fresh : is_started h.built.sctp.association ≡ false =
-      (plain_laws.same_start fresh_contents h.built.sctp.association (Stirred Other) refl
-      (LimitsSet 1062 h.config.max_message_size h.by_build.by_limits)).0 in
-      record {
-        empty = λ unstarted.
-            ap (λ (x : SctpStreams Contents). x.entries) sctp
-            ∙ ap (λ (x : SctpStreams Contents). x.entries) h.by_build.streams;
-        role = λ started. absurd (true≢false (sym started ∙ ap (λ (x : SctpStreams Contents). is_started x.association) sctp ∙ fresh));
-      }
+  new_empty p h = record {
+    empty = λ unstarted.
+        ap (λ (x : SctpStreams Contents). x.entries) (new_streams p h)
+        ∙ ap (λ (x : SctpStreams Contents). x.entries) h.by_build.streams;
+    role = λ started. absurd (true≢false (sym started ∙ new_unstarted p h));
+  }
 
   pub new_unused : (pair : PlainPair N) → IsNewPair draws pair → AreUnused (plain_over draws) (plain_over_laws draws) pair
   new_unused pair h Left = new_empty pair.left h.left

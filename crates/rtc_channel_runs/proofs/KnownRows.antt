@@ -56,10 +56,10 @@ module _ {S : Type 0} (m : AssociationMeaning S) (w : AssociationLaws m) (v : Ge
   change_known : (held : Channels) (a : SctpStreams S) (held' : Channels) (b : SctpStreams S) → RowsChange m held a held' b → AreKnown m a
       → AreKnown m b
   change_known held a held' b (Stayed rows h) k = only_known a b h k
-  change_known held a held' b (Polled answer streams h rows association entries state) k =
+  change_known held a held' b (Polled answer streams h rows association entries state client) k =
       acts_known m w v u [] streams b association refl entries (λ e. inl (ap is_established (sym state) ∙ e)) (poll_known m w v u a answer streams h k)
   change_known held a held' b (Timed now wake wake' r h is) k = timeout_known m w v u now a wake r b wake' h k
-  change_known held a held' b (Progressed now wake wake' between h due signals signals' t) k =
+  change_known held a held' b (Progressed now wake wake' between h due started signals signals' t) k =
       moment_known due held between signals (Ok tt) held' b signals' t (timeout_known m w v u now a wake (Ok tt) between wake' h k)
   change_known held a held' b (ThresholdSet n place h is) k = threshold_known m w v u n place a b h k
   change_known held a held' b (StreamClosed stream r h is) k = closes_known m w v u stream a r b h k

@@ -15,7 +15,8 @@ use Rattle.rtc_stream_uses.specs.StreamUses.{is_spent_stream}
 use Rattle.rtc_plain_streams.proofs.KnownStreams.{AreKnown, HasEntry}
 use Rattle.rtc_polling_laws.specs.Drained.{AllHeard, AreHeard, AreTriedAgain, IsHeard, IsTriedAgain, is_opening_refused}
 use Rattle.rtc_joined_runs.specs.PlainPairs.{PlainPolled}
-use Rattle.rtc_channel_runs.specs.SettledPairs.{HasEntryOf, IsOpeningRefused, IsSettledPeer}
+use Rattle.rtc_channel_runs.specs.OwnOpenings.{HasEntryOf}
+use Rattle.rtc_channel_runs.specs.SettledPairs.{IsOpeningRefused, IsSettledPeer}
 use Rattle.rtc_channel_runs.proofs.AnsweredOpenings.{free_of}
 use Rattle.rtc_channel_runs.proofs.OpenSides.{both_true}
 

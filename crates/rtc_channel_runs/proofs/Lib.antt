@@ -33,7 +33,9 @@ mod SettledSides
 mod AnsweredOpenings
 mod StillSides
 mod StandingVisits
+mod StandingReadings
 mod StandingEntries
+mod StandingTours
 mod StandingPolls
 mod PlacedEntries
 mod StandingCalls
@@ -58,3 +60,16 @@ pub mod KnownRows
 pub mod KnownRuns
 pub mod KnownSides
 pub mod RefusedSides
+mod OwnedRows
+mod OwnedAllocation
+mod OwnedChanges
+mod SideChanges
+mod RoleSides
+pub mod OwnedRuns
+pub mod OwnSides
+pub mod ThereRows
+pub mod ThereRuns
+pub mod PiecePairs
+pub mod AloneSides
+pub mod UnresetSides
+pub mod SettlesRuns

@@ -143,7 +143,7 @@ module _ {S : Type 0} (m : AssociationMeaning S) where
       numbers = same_numbers held held' rows sound.numbers;
       before = entries_before a b (kept_is a.entries b.entries h.entries) h.begun sound.before;
     }
-    change_sound held a held' b (Polled answer streams h rows association entries state) sound = record {
+    change_sound held a held' b (Polled answer streams h rows association entries state client) sound = record {
       numbers = answer_numbers answer held held' rows sound.numbers;
       before = λ e.
           subst (λ (l : List StreamEntry). NoneClosed l) (sym entries)
@@ -153,7 +153,7 @@ module _ {S : Type 0} (m : AssociationMeaning S) where
       numbers = subst (λ (x : Channels). AreNumberedChannels x) (sym is) sound.numbers;
       before = λ e. timeout_shut m now a wake r b wake' sound.before h;
     }
-    change_sound held a held' b (Progressed now wake wake' between h due signals signals' k) sound =
+    change_sound held a held' b (Progressed now wake wake' between h due started signals signals' k) sound =
         let on = moment_on due held between signals held' b signals' sound.numbers (timeout_shut m now a wake (Ok tt) between wake' sound.before h) k in
         record { numbers = on.numbers; before = λ e. on.shut }
     change_sound held a held' b (ThresholdSet n place h is) sound = record {
@@ -199,12 +199,12 @@ module _ {S : Type 0} (m : AssociationMeaning S) where
         → AreSound held a → IsBegun c held a → IsBegun c held' b
     change_begun c held a held' b (Stayed rows h) sound begun =
         kept_begun c held held' a b rows (kept_is a.entries b.entries h.entries).stands begun
-    change_begun c held a held' b (Polled answer streams h rows association entries state) sound begun =
+    change_begun c held a held' b (Polled answer streams h rows association entries state client) sound begun =
         answer_begun c answer held held' a b sound.numbers
         (λ s k. after_poll (met_of answer) s streams.entries b.entries entries ((poll_goes m w a answer streams h).stands s k)) rows begun
     change_begun c held a held' b (Timed now wake wake' r h is) sound begun =
         entries_begun c held held' a b is (timeout_kept m now a wake r b wake' h) begun
-    change_begun c held a held' b (Progressed now wake wake' between h due signals signals' k) sound begun =
+    change_begun c held a held' b (Progressed now wake wake' between h due started signals signals' k) sound begun =
         (moment_on due held between signals held' b signals' sound.numbers (timeout_shut m now a wake (Ok tt) between wake' sound.before h) k).begun c
         (entries_begun c held held a between refl (timeout_kept m now a wake (Ok tt) between wake' h) begun)
     change_begun c held a held' b (ThresholdSet n place h is) sound begun =

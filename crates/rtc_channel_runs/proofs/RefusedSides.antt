@@ -18,7 +18,8 @@ use Rattle.rtc_polling_laws.specs.Drained.{AreHeard, IsHeard}
 use Rattle.rtc_polling_laws.specs.PeerActs.{PeerActs}
 use Rattle.rtc_joined_runs.specs.PlainPairs.{PlainPolled, plain_over}
 use Rattle.rtc_channel_runs.specs.ChannelUses.{ChannelUse}
-use Rattle.rtc_channel_runs.specs.SettledPairs.{HasEntryOf, IsSettledPeer}
+use Rattle.rtc_channel_runs.specs.OwnOpenings.{HasEntryOf}
+use Rattle.rtc_channel_runs.specs.SettledPairs.{IsSettledPeer}
 use Rattle.rtc_channel_runs.proofs.KeptStreams.{AreKeptStreams}
 use Rattle.rtc_channel_runs.proofs.AnnouncedStreams.{AnnouncedUnlessClosed, HasUseOver, found}
 use Rattle.rtc_channel_runs.proofs.AnsweredOpenings.{OneOf, free_of, one_of}

@@ -29,7 +29,7 @@ own_stream s None h = absurd (no_some s h)
 own_stream s (Some t) h = let same = some_is t s h in grind (arith, same)
 
 -- a channel's stream is found over it
-placed_over : (s c : ℕ) (rows : List Channel) → under_rows c rows ≡ Some s → over_rows s rows ≡ None → ⊥
+pub placed_over : (s c : ℕ) (rows : List Channel) → under_rows c rows ≡ Some s → over_rows s rows ≡ None → ⊥
 placed_over s c [] h k = no_some s h
 placed_over s c (row ∷ rows) h k = by (row.id == c) h (is_of_stream s row.stream) refl k (placed_over s c rows)
   where

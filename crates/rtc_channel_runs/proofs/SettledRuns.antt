@@ -11,14 +11,12 @@ use Rattle.rtc_polling_laws.specs.ChannelStreams.{AreNumberedChannels}
 use Rattle.rtc_polling_laws.specs.Drained.{AreHeard, AreTriedAgain}
 use Rattle.rtc_plain_media.specs.declared.plain_media_event.PlainMediaEvent.{PlainMediaEvent}
 use Rattle.rtc_ids.specs.Draws.{Draws}
-use Rattle.rtc_history.specs.declared.reply.Reply.{Reply}
 use Rattle.rtc_history.specs.declared.side.Side.{Side}
 use Rattle.rtc_history.specs.declared.side.Side.TheVariants.{Left, Right}
-use Rattle.rtc_history.specs.declared.step.Step.{Step}
 use Rattle.rtc_history.specs.PairState.{rtc_at}
 use Rattle.rtc_history.specs.Past.{Entry}
 use Rattle.rtc_history.specs.Performs.{Enters}
-use Rattle.rtc_history.specs.Runs.{Reached, Runs}
+use Rattle.rtc_history.specs.Runs.{Reached}
 use Rattle.rtc_history.specs.Sides.{other_side}
 use Rattle.rtc_history_laws.proofs.EmptyStreams.{AreUnused, went_unused}
 use Rattle.rtc_joined_runs.specs.NewPairs.{IsNewPair}
@@ -30,12 +28,13 @@ use Rattle.rtc_channel_runs.specs.DrainedSides.{IsDrained}
 use Rattle.rtc_channel_runs.specs.SentMessages.{sent_over}
 use Rattle.rtc_channel_runs.specs.ToldMessages.{told_over}
 use Rattle.rtc_channel_runs.specs.ConfirmedChannels.{WasConfirmed}
-use Rattle.rtc_channel_runs.specs.SettledPairs.{AreBothOpening, HasEntryOf, IsRefusedAlone, AreAnswered, AreConfirmedOpen, AreConfirmedSettled, AreInBandStreams, AreOpenAtBoth, HasNothingDue, HasNothingSoon, IsLevelStream, IsOpenAtBoth, IsOpeningRefused, IsSettledPair}
-use Rattle.rtc_channel_runs.specs.SettledPairs.{IsTakenUp, SettlesOpen, WaitsForAnswer}
+use Rattle.rtc_channel_runs.specs.OwnOpenings.{HasEntryOf}
+use Rattle.rtc_channel_runs.specs.SettledPairs.{AreBothOpening, IsRefusedAlone, AreAnswered, AreConfirmedOpen, AreConfirmedSettled, AreInBandStreams, AreOpenAtBoth, HasNothingDue, HasNothingSoon, IsLevelStream, IsOpenAtBoth, IsOpeningRefused, IsSettledPair}
+use Rattle.rtc_channel_runs.specs.SettledPairs.{IsTakenUp, WaitsForAnswer}
 use Rattle.rtc_channel_runs.specs.StillPairs.{IsStillPair}
-use Rattle.rtc_channel_runs.specs.UsesOfRuns.{reached_by, uses_of}
+use Rattle.rtc_channel_runs.specs.UsesOfRuns.{uses_of}
 use Rattle.rtc_channel_runs.proofs.AnsweredOpenings.{none_waits}
-use Rattle.rtc_channel_runs.proofs.DrainedRuns.{new_unused, pair_drained}
+use Rattle.rtc_channel_runs.proofs.DrainedRuns.{pair_drained}
 use Rattle.rtc_channel_runs.proofs.ConfirmedRuns.{SideBegun, SideSound, run_begun}
 use Rattle.rtc_channel_runs.proofs.ConfirmedSides.{IsOpen, Opening, StandsAs, Unanswered, confirmed_stands, new_sound, stands_as}
 use Rattle.rtc_channel_runs.proofs.OpenSides.{both_true, last_all, last_heard, not_closed, stays_under}
@@ -49,7 +48,7 @@ use Rattle.rtc_plain_streams.proofs.BackedRows.{plain_unread}
 use Rattle.rtc_plain_streams.proofs.KnownStreams.{AreKnown}
 use Rattle.rtc_plain_streams.proofs.PlainGenerations.{plain_generations}
 use Rattle.rtc_channel_runs.proofs.RestingSides.{PolledLast, resting_drained, resting_last}
-use Rattle.rtc_channel_runs.proofs.RunsTold.{PairTold, new_pair_told, reached_told}
+use Rattle.rtc_channel_runs.proofs.RunsTold.{PairTold, reached_told}
 use Rattle.rtc_channel_runs.proofs.SettledOpens.{side_open}
 
 module _ {N : Type 0} (draws : Draws N) where
@@ -59,7 +58,7 @@ module _ {N : Type 0} (draws : Draws N) where
     abbrev pub uses : Side → List ChannelUse
     uses at = uses_of (plain_over draws) stun start at past pair ran
 
-    told : PairTold draws pair uses (λ at. sent_over (plain_over draws) stun start at past pair ran) (λ at. told_over (plain_over draws) stun start at past pair ran)
+    pub told : PairTold draws pair uses (λ at. sent_over (plain_over draws) stun start at past pair ran) (λ at. told_over (plain_over draws) stun start at past pair ran)
     told = reached_told draws stun start past pair ran h
 
     empty : AreUnused (plain_over draws) (plain_over_laws draws) pair
@@ -70,13 +69,13 @@ module _ {N : Type 0} (draws : Draws N) where
     drained : (at : Side) → IsDrained at past
     drained at = resting_drained at past (settled.resting at)
 
-    heard : (at : Side) → AreHeard plain_meaning (rtc_at at pair).core.sctp.association (rtc_at at pair).core.sctp.entries
+    pub heard : (at : Side) → AreHeard plain_meaning (rtc_at at pair).core.sctp.association (rtc_at at pair).core.sctp.entries
     heard at = last_heard draws (rtc_at at pair) (resting_last (plain_over draws) (λ n. Unit {0}) stun start past pair ran at (settled.resting at)) (settled.peers at) (empty at).empty
 
     level : (at : Side) → AreLevelStreams (rtc_at at pair) (rtc_at (other_side at) pair)
     level at = pair_level told.acts pair told.exchange settled.peers at
 
-    kept_streams : (at : Side) (s : ℕ) → AreInBandStreams s (rtc_at at pair) (rtc_at (other_side at) pair)
+    pub kept_streams : (at : Side) (s : ℕ) → AreInBandStreams s (rtc_at at pair) (rtc_at (other_side at) pair)
         → AreKeptStreams s (rtc_at at pair) (rtc_at (other_side at) pair)
     kept_streams at s band = kept_by s (rtc_at at pair) (rtc_at (other_side at) pair) (level at) band
 
@@ -257,22 +256,3 @@ module _ {N : Type 0} (draws : Draws N) where
             open_unless none_again at c s
             (settled_refused at (none_due draws (IsLate at) (rtc_at at pair) (late at) (settled.peers at).alive (late at).moment_is.0) c s confirmed
             under band)
-
-  pub run_settles_open : (stun : List ℕ → Bool) (start pair : PlainPair N) (steps : List Step) (replies : List (Reply PlainMediaEvent))
-      → IsNewPair draws start → (run : Runs (plain_over draws) stun start steps replies pair) → SettlesOpen draws stun start steps replies pair run
-  run_settles_open stun start pair steps replies new run =
-      let ran : Reached (plain_over draws) stun start run.past pair = reached_by (plain_over draws) stun start run.past pair run.went in
-      record {
-        level = λ settled at s. settled_level stun start run.past pair ran (new_pair_told draws start new) (new_unused draws start new) settled at s;
-        opened = λ settled at. settled_open stun start run.past pair ran (new_pair_told draws start new) (new_unused draws start new) settled at;
-        answered = λ settled at.
-            settled_answered stun start run.past pair ran (new_pair_told draws start new) (new_unused draws start new) settled new at;
-        idle = λ settled at later.
-            settled_idle stun start run.past pair ran (new_pair_told draws start new) (new_unused draws start new) settled at later;
-        refused = λ settled at idle.
-            settled_refused stun start run.past pair ran (new_pair_told draws start new) (new_unused draws start new) settled new at idle;
-        confirmed = λ settled still at.
-            settled_confirmed stun start run.past pair ran (new_pair_told draws start new) (new_unused draws start new) settled new still at;
-        later = λ settled soon at.
-            settled_later stun start run.past pair ran (new_pair_told draws start new) (new_unused draws start new) settled new soon at;
-      }

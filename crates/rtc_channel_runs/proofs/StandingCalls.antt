@@ -1,5 +1,5 @@
 -- What moments, openings and closes of streams leave of entries whose opening is begun.
-use Rattle.std.proofs.Common.{◌≡◌, inl, inr, ℕ, zero, suc, Bool, true, false, List, [], ◌∷◌, Option, Some, None, Result, Ok, refl, sym, ap, subst, ◌∙◌}
+use Rattle.std.proofs.Common.{◌≡◌, ◌⊎◌, ◌==◌, arith, if◌then◌else◌, inl, inr, ℕ, zero, suc, Bool, true, false, List, [], ◌∷◌, Option, Some, None, Result, Ok, refl, sym, ap, subst, ◌∙◌}
 use Rattle.std.specs.Prelude.{is_some, slice_get, slice_set}
 use Rattle.std.specs.declared.alloc.AllocError.{AllocError}
 use Rattle.std.proofs.lemmas.Option.{same_Some}
@@ -11,19 +11,39 @@ use Rattle.rtc_sctp_entries.specs.declared.asked.Asked.TheVariants as did
 use Rattle.rtc_sctp_entries.specs.declared.stream_entry_state.StreamEntryState.{StreamEntryState}
 use Rattle.rtc_sctp_entries.specs.declared.stream_entry_state.StreamEntryState.TheVariants.{AwaitOpen, AwaitConfig, AwaitDcepAck, Open, Closed}
 use Rattle.rtc_sctp_entries.specs.declared.stream_entry.StreamEntry.{StreamEntry}
-use Rattle.rtc_sctp_entries.specs.Entries.{entry_place, marked_entry, new_entry, new_place, threshold_set, unclosed}
+use Rattle.rtc_sctp_entries.specs.Entries.{Ascend, entry_place, marked_entry, new_entry, new_place, threshold_set, unclosed}
 use Rattle.rtc_sctp.specs.declared.rtc_sctp_state.RtcSctpState.{RtcSctpState}
 use Rattle.rtc_sctp.specs.declared.rtc_sctp_state.RtcSctpState.TheVariants.{Uninited, AwaitRemoteAssociation, AwaitAssociationEstablished, Established}
 use Rattle.rtc_sctp.specs.Streams.{SctpStreams}
 use Rattle.rtc_sctp.specs.Calls.{TimedBy, TakesTimeout}
 use Rattle.rtc_sctp.specs.StreamCalls.{ConfigBy, TakesConfig, Declined, Answered, OpensAwaiting, OpensOver, OpensAt, OpensStream, ClosesAt, ClosesDataStream, SetsThreshold}
 use Rattle.rtc_channel_runs.proofs.PlacedEntries.{place_number}
-use Rattle.rtc_channel_runs.proofs.StandingVisits.{IsStanding}
-use Rattle.rtc_channel_runs.proofs.StandingEntries.{HasStanding, NoneClosed, Kept, kept_is, kept_on, kept_set, kept_unclosed, marked_kept, own_insert, shut_insert, shut_unclosed, stands_insert}
+use Rattle.rtc_sctp.proofs.OrderKept.{open_ascend}
+use Rattle.rtc_stream_uses.specs.StreamUses.{entries_of}
+use Rattle.rtc_stream_uses.proofs.EntriesOf.{entries_own, none_placed}
+use Rattle.rtc_channel_runs.specs.OwnOpenings.{HasEntryOf, HasOpening, IsOpeningState}
+use Rattle.rtc_channel_runs.proofs.StandingVisits.{IsStanding, open_not, same_opening}
+use Rattle.rtc_channel_runs.proofs.StandingEntries.{HasStanding, NoneClosed, Kept, kept_is, kept_on, kept_set, kept_unclosed, marked_kept, openings_insert, own_insert, shut_insert, shut_unclosed, stands_insert}
 use Rattle.rtc_channel_runs.proofs.StandingPolls.{IsShutBefore}
 
 no_entry : (e : StreamEntry) → None ≡ Some e → ⊥
 no_entry e h = cc
+
+-- a stream without entries has none that is so
+cons_not : (e : StreamEntry) (l : List StreamEntry) → e ∷ l ≡ [] → ⊥
+cons_not e l h = cc
+
+own_test : (n s : ℕ) → n ≡ s → (n == s) ≡ true
+own_test n s h = grind (arith, h)
+
+none_listed : (P : StreamEntry → Type 0) (s : ℕ) (es : List StreamEntry) → entries_of s es ≡ [] → HasEntryOf P s es → ⊥
+none_listed P s [] h k = absurd k
+none_listed P s (e ∷ es) h (inl k) = cons_not e (entries_of s es) (sym (entries_own s e es (own_test e.id s k.0)) ∙ h)
+none_listed P s (e ∷ es) h (inr k) = by (e.id == s) h (λ f. none_listed P s es f k)
+  where
+    by : (b : Bool) → (if b then e ∷ entries_of s es else entries_of s es) ≡ [] → (entries_of s es ≡ [] → ⊥) → ⊥
+    by true f rest = cons_not e (entries_of s es) f
+    by false f rest = rest f
 
 -- an entry of a list without closed ones is not closed
 shut_get : (es : List StreamEntry) (i : ℕ) (e : StreamEntry) → NoneClosed es → slice_get es i ≡ Some e → e.state ≡ Closed → ⊥
@@ -130,11 +150,38 @@ module _ {S : Type 0} (m : AssociationMeaning S) where
   over_id Open config p e q e' h = marked_id e e' h.2
   over_id Closed config p e q e' h = marked_id e e' h.2
 
-  -- the stream has such an entry then, the others keep theirs, and none is closed
+  -- none is opened from here by it that has an entry
+  config_opening : (answer : Asked) (config : ChannelConfig) (e e' : StreamEntry) → ConfigBy answer config e (Ok tt) e' → IsOpeningState e'.state
+      → IsOpeningState e.state
+  config_opening did.Done config e e' h o = absurd (open_not e'.state (ap (λ (y : StreamEntry). y.state) h) o)
+  config_opening did.Refused config e e' h o = same_opening e.state e'.state (ap (λ (y : StreamEntry). y.state) h) o
+  config_opening did.OutOfMemory config e e' h o = absurd h
+
+  takes_opening : (config : ChannelConfig) (p : S) (e : StreamEntry) (q : S) (e' : StreamEntry) → TakesConfig m config p e (Ok tt) q e'
+      → IsOpeningState e'.state → IsOpeningState e.state
+  takes_opening config p e q e' (Declined c f g h) o = same_opening e.state e'.state (ap (λ (y : StreamEntry). y.state) h) o
+  takes_opening config p e q e' (Answered answer c f h) o = config_opening answer config e e' h o
+
+  awaiting_opening : (set : Bool) (config : ChannelConfig) (p : S) (e : StreamEntry) (q : S) (e' : StreamEntry)
+      → OpensAwaiting m set config p e (Ok tt) q e' → IsOpeningState e'.state → IsOpeningState e.state
+  awaiting_opening true config p e q e' h o = same_opening e.state e'.state (ap (λ (y : StreamEntry). y.state) h.2) o
+  awaiting_opening false config p e q e' h o = takes_opening config p e q e' h o
+
+  over_opening : (st : StreamEntryState) (config : ChannelConfig) (p : S) (e : StreamEntry) (q : S) (e' : StreamEntry)
+      → OpensOver m st config p e (Ok tt) q e' → IsOpeningState e'.state → IsOpeningState e.state
+  over_opening AwaitConfig config p e q e' h o = awaiting_opening (is_some e.config) config p e q e' h o
+  over_opening AwaitOpen config p e q e' h o = same_opening e.state e'.state (ap (λ (y : StreamEntry). y.state) h.2) o
+  over_opening AwaitDcepAck config p e q e' h o = same_opening e.state e'.state (ap (λ (y : StreamEntry). y.state) h.2) o
+  over_opening Open config p e q e' h o = same_opening e.state e'.state (ap (λ (y : StreamEntry). y.state) h.2) o
+  over_opening Closed config p e q e' h o = same_opening e.state e'.state (ap (λ (y : StreamEntry). y.state) h.2) o
+
+  -- The stream has such an entry then, the others keep theirs, and none is closed. Only the stream is opened from here that was not before,
+  -- and it had no entry.
   pub record Opened (id : ℕ) (es es' : List StreamEntry) : Type 0 where
     pub own : HasStanding id es'
     pub others : (s : ℕ) → HasStanding s es → HasStanding s es'
     pub shut : NoneClosed es'
+    pub openings : (s : ℕ) → HasOpening s es' → HasOpening s es ⊎ ((id ≡ s) × (HasStanding id es → ⊥))
 
   awaits_not : (st : StreamEntryState) → st ≡ AwaitOpen → (st ≡ Closed → ⊥) × (st ≡ AwaitConfig → ⊥)
   awaits_not st is =
@@ -153,7 +200,12 @@ module _ {S : Type 0} (m : AssociationMeaning S) where
         own = own_insert id es (new_place id es) new refl ((λ c. none.0 c), λ c. absurd (none.1 c));
         others = λ s k. stands_insert s es (new_place id es) new k;
         shut = shut_insert es (new_place id es) new (λ c. none.0 c) shut;
+        openings = λ s o. only s (openings_insert s es (new_place id es) new o);
       })
+    where
+      only : (s : ℕ) → HasOpening s es ⊎ ((id ≡ s) × IsOpeningState AwaitOpen) → HasOpening s es ⊎ ((id ≡ s) × (HasStanding id es → ⊥))
+      only s (inl o) = inl o
+      only s (inr o) = inr (o.0, λ k. none_listed IsStanding id es (none_placed id es at) k)
   opens_at (Some place) id config p es q es' at shut h =
       let live : h.0.state ≡ Closed → ⊥ = shut_get es place h.0 shut h.2 in
       let stands = over_standing h.0.state config p h.0 q h.1 live h.3 in
@@ -164,6 +216,7 @@ module _ {S : Type 0} (m : AssociationMeaning S) where
         own = set_stands id es place h.0 h.1 h.2 own stands;
         others = λ s k. other_stands es place h.0 h.1 s h.2 same stands k;
         shut = other_shut es place h.0 h.1 h.2 stands shut;
+        openings = λ s o. inl (other_openings es place h.0 h.1 s h.2 same (over_opening h.0.state config p h.0 q h.1 h.3) o);
       })
     where
       other_stands : (l : List StreamEntry) (i : ℕ) (e e' : StreamEntry) (s : ℕ) → slice_get l i ≡ Some e → e'.id ≡ e.id → IsStanding e'
@@ -175,6 +228,17 @@ module _ {S : Type 0} (m : AssociationMeaning S) where
       other_stands (x ∷ xs) (suc i) e e' s f same st (inl k) = inl k
       other_stands (x ∷ xs) (suc i) e e' s f same st (inr k) = inr (other_stands xs i e e' s f same st k)
 
+      other_openings : (l : List StreamEntry) (i : ℕ) (e e' : StreamEntry) (s : ℕ) → slice_get l i ≡ Some e → e'.id ≡ e.id
+          → (IsOpeningState e'.state → IsOpeningState e.state) → HasOpening s (slice_set l i e') → HasOpening s l
+      other_openings [] i e e' s f same keeps o = absurd (no_entry e f)
+      other_openings (x ∷ xs) zero e e' s f same keeps (inl o) =
+          let is = same_Some x e f in
+          inl
+          (ap (λ (y : StreamEntry). y.id) is ∙ (sym same ∙ o.0), subst (λ (y : StreamEntry). IsOpeningState y.state) (sym is) (keeps o.1))
+      other_openings (x ∷ xs) zero e e' s f same keeps (inr o) = inr o
+      other_openings (x ∷ xs) (suc i) e e' s f same keeps (inl o) = inl o
+      other_openings (x ∷ xs) (suc i) e e' s f same keeps (inr o) = inr (other_openings xs i e e' s f same keeps o)
+
       other_shut : (l : List StreamEntry) (i : ℕ) (e e' : StreamEntry) → slice_get l i ≡ Some e → IsStanding e' → NoneClosed l
           → NoneClosed (slice_set l i e')
       other_shut [] i e e' f st k = absurd (no_entry e f)
@@ -185,6 +249,9 @@ module _ {S : Type 0} (m : AssociationMeaning S) where
       → Opened id p.entries q.entries
   opens_stand id config p q shut h =
       opens_at (entry_place id p.entries) id config p.association p.entries q.association q.entries refl shut h.0
+
+  pub opens_ordered : (id : ℕ) (config : ChannelConfig) (p q : SctpStreams S) → OpensStream m id config p (Ok tt) q → Ascend p.entries → Ascend q.entries
+  opens_ordered id config p q h k = open_ascend m id config p.association p.entries (Ok tt) q.association q.entries h.0 k
 
   -- ---- closes and thresholds
 
@@ -204,7 +271,7 @@ module _ {S : Type 0} (m : AssociationMeaning S) where
   threshold_kept n (Some place) p q h =
       let e' : StreamEntry = record h.0 { threshold = threshold_set n h.0.threshold } in
       kept_on p.entries (slice_set p.entries place e') q.entries
-      (kept_set p.entries place h.0 e' h.1 (record { id_is = refl; stands = λ k. k; shut = λ k. k; banded = λ k. k }))
+      (kept_set p.entries place h.0 e' h.1 (record { id_is = refl; stands = λ k. k; shut = λ k. k; banded = λ k. k; opening = λ k. k }))
       (kept_is (slice_set p.entries place e') q.entries (ap (λ (y : SctpStreams S). y.entries) h.2))
 
   pub threshold_state : (n : ℕ) (place : Option ℕ) (p q : SctpStreams S) → SetsThreshold S n place p q → q.state ≡ p.state

@@ -1,5 +1,5 @@
 -- Entries whose opening is begun, where entries are set, put in and dropped.
-use Rattle.std.proofs.Common.{◌≡◌, inl, inr, ℕ, zero, suc, not, cond, Bool, true, false, List, [], ◌∷◌, ◌++◌, take, drop, insert, Option, Some, None, refl, sym, ap, subst, ◌∙◌}
+use Rattle.std.proofs.Common.{◌≡◌, ◌⊎◌, inl, inr, ℕ, zero, suc, not, cond, Bool, true, false, List, [], ◌∷◌, ◌++◌, take, drop, insert, Option, Some, None, refl, sym, ap, subst, ◌∙◌}
 use Rattle.std.specs.Prelude.{is_some, slice_get, slice_set, if◌then◌else◌}
 use Rattle.std.proofs.lemmas.List.{take-append-drop}
 use Rattle.std.proofs.lemmas.Option.{same_Some}
@@ -8,9 +8,11 @@ use Rattle.rtc_association.specs.declared.assoc_event.AssocEvent.TheVariants as 
 use Rattle.rtc_sctp_entries.specs.declared.stream_entry_state.StreamEntryState.{StreamEntryState}
 use Rattle.rtc_sctp_entries.specs.declared.stream_entry_state.StreamEntryState.TheVariants.{AwaitOpen, AwaitConfig, AwaitDcepAck, Open, Closed}
 use Rattle.rtc_sctp_entries.specs.declared.stream_entry.StreamEntry.{StreamEntry}
-use Rattle.rtc_sctp_entries.specs.Entries.{entry_place, new_place, new_entry, is_closed_state, is_open_awaited, is_out_of_band, unclosed}
+use Rattle.rtc_sctp_entries.specs.Entries.{Ascend, entry_place, new_place, new_entry, is_closed_state, is_open_awaited, is_out_of_band, unclosed}
 use Rattle.rtc_sctp.specs.Polls.{Book, AfterEvent, FinishesAt, finished_entry, with_expected}
-use Rattle.rtc_channel_runs.specs.SettledPairs.{HasEntryOf}
+use Rattle.rtc_sctp_entries.proofs.OrderLemmas.{ascend_set, ascend_with, none_missing}
+use Rattle.rtc_sctp.proofs.OrderKept.{ascend_unclosed}
+use Rattle.rtc_channel_runs.specs.OwnOpenings.{HasEntryOf, HasOpening, IsOpeningState}
 use Rattle.rtc_channel_runs.proofs.StandingVisits.{IsStanding}
 
 -- a stream has an entry whose opening is begun
@@ -27,17 +29,21 @@ abbrev pub AreBanded : List StreamEntry → Type 0
 AreBanded [] = Unit {0}
 AreBanded (e ∷ es) = (is_out_of_band e ≡ false) × AreBanded es
 
--- entries that go on so
+-- entries that go on so: none is opened from here that was not before, and they stay in order
 pub record Kept (es es' : List StreamEntry) : Type 0 where
   pub stands : (s : ℕ) → HasStanding s es → HasStanding s es'
   pub shut : NoneClosed es → NoneClosed es'
   pub banded : AreBanded es → AreBanded es'
+  pub openings : (s : ℕ) → HasOpening s es' → HasOpening s es
+  pub ordered : Ascend es → Ascend es'
 
 pub kept_is : (es es' : List StreamEntry) → es' ≡ es → Kept es es'
 kept_is es es' is = record {
   stands = λ s h. subst (λ (l : List StreamEntry). HasStanding s l) (sym is) h;
   shut = λ h. subst (λ (l : List StreamEntry). NoneClosed l) (sym is) h;
   banded = λ h. subst (λ (l : List StreamEntry). AreBanded l) (sym is) h;
+  openings = λ s h. subst (λ (l : List StreamEntry). HasOpening s l) is h;
+  ordered = λ h. subst (λ (l : List StreamEntry). Ascend l) (sym is) h;
 }
 
 pub kept_on : (es fs gs : List StreamEntry) → Kept es fs → Kept fs gs → Kept es gs
@@ -45,6 +51,8 @@ kept_on es fs gs h k = record {
   stands = λ s x. k.stands s (h.stands s x);
   shut = λ x. k.shut (h.shut x);
   banded = λ x. k.banded (h.banded x);
+  openings = λ s x. h.openings s (k.openings s x);
+  ordered = λ x. k.ordered (h.ordered x);
 }
 
 no_entry : (e : StreamEntry) → None ≡ Some e → ⊥
@@ -56,6 +64,7 @@ pub record EntryKept (e e' : StreamEntry) : Type 0 where
   pub stands : IsStanding e → IsStanding e'
   pub shut : (e.state ≡ Closed → ⊥) → e'.state ≡ Closed → ⊥
   pub banded : is_out_of_band e ≡ false → is_out_of_band e' ≡ false
+  pub opening : IsOpeningState e'.state → IsOpeningState e.state
 
 stands_set : (s : ℕ) (es : List StreamEntry) (i : ℕ) (e e' : StreamEntry) → slice_get es i ≡ Some e → EntryKept e e' → HasStanding s es
     → HasStanding s (slice_set es i e')
@@ -79,11 +88,23 @@ banded_set [] i e e' at k h = absurd (no_entry e at)
 banded_set (x ∷ xs) zero e e' at k h = (k.banded (subst (λ (y : StreamEntry). is_out_of_band y ≡ false) (same_Some x e at) h.0), h.1)
 banded_set (x ∷ xs) (suc i) e e' at k h = (h.0, banded_set xs i e e' at k h.1)
 
+openings_set : (s : ℕ) (es : List StreamEntry) (i : ℕ) (e e' : StreamEntry) → slice_get es i ≡ Some e → EntryKept e e'
+    → HasOpening s (slice_set es i e') → HasOpening s es
+openings_set s [] i e e' at k h = absurd (no_entry e at)
+openings_set s (x ∷ xs) zero e e' at k (inl h) =
+    let same = same_Some x e at in
+    inl (ap (λ (y : StreamEntry). y.id) same ∙ (sym k.id_is ∙ h.0), subst (λ (y : StreamEntry). IsOpeningState y.state) (sym same) (k.opening h.1))
+openings_set s (x ∷ xs) zero e e' at k (inr h) = inr h
+openings_set s (x ∷ xs) (suc i) e e' at k (inl h) = inl h
+openings_set s (x ∷ xs) (suc i) e e' at k (inr h) = inr (openings_set s xs i e e' at k h)
+
 pub kept_set : (es : List StreamEntry) (i : ℕ) (e e' : StreamEntry) → slice_get es i ≡ Some e → EntryKept e e' → Kept es (slice_set es i e')
 kept_set es i e e' at k = record {
   stands = λ s h. stands_set s es i e e' at k h;
   shut = λ h. shut_set es i e e' at k h;
   banded = λ h. banded_set es i e e' at k h;
+  openings = λ s h. openings_set s es i e e' at k h;
+  ordered = λ h. ascend_set 0 es i e e' at k.id_is h;
 }
 
 -- one is put in
@@ -113,6 +134,23 @@ shut_insert es i e f h =
 pub banded_insert : (es : List StreamEntry) (i : ℕ) (e : StreamEntry) → is_out_of_band e ≡ false → AreBanded es → AreBanded (insert es i e)
 banded_insert es i e f h =
     banded_between (take i es) e (drop i es) f (subst (λ (l : List StreamEntry). AreBanded l) (sym (take-append-drop i es)) h)
+
+openings_between : (s : ℕ) (xs : List StreamEntry) (e : StreamEntry) (ys : List StreamEntry) → HasOpening s (xs ++ e ∷ ys)
+    → HasOpening s (xs ++ ys) ⊎ ((e.id ≡ s) × IsOpeningState e.state)
+openings_between s [] e ys (inl h) = inr h
+openings_between s [] e ys (inr h) = inl h
+openings_between s (x ∷ xs) e ys (inl h) = inl (inl h)
+openings_between s (x ∷ xs) e ys (inr h) = by (openings_between s xs e ys h)
+  where
+    by : HasOpening s (xs ++ ys) ⊎ ((e.id ≡ s) × IsOpeningState e.state) → HasOpening s (x ∷ xs ++ ys) ⊎ ((e.id ≡ s) × IsOpeningState e.state)
+    by (inl k) = inl (inr k)
+    by (inr k) = inr k
+
+pub openings_insert : (s : ℕ) (es : List StreamEntry) (i : ℕ) (e : StreamEntry) → HasOpening s (insert es i e)
+    → HasOpening s es ⊎ ((e.id ≡ s) × IsOpeningState e.state)
+openings_insert s es i e h =
+    subst (λ (l : List StreamEntry). HasOpening s l ⊎ ((e.id ≡ s) × IsOpeningState e.state)) (take-append-drop i es)
+    (openings_between s (take i es) e (drop i es) h)
 
 own_between : (s : ℕ) (xs : List StreamEntry) (e : StreamEntry) (ys : List StreamEntry) → e.id ≡ s → IsStanding e → HasStanding s (xs ++ e ∷ ys)
 own_between s [] e ys same h = inl (same, h)
@@ -165,31 +203,52 @@ banded_unclosed (x ∷ xs) h = by (not (is_closed_state x.state)) (banded_unclos
     by true k = (h.0, k)
     by false k = k
 
+openings_unclosed : (s : ℕ) (es : List StreamEntry) → HasOpening s (unclosed es) → HasOpening s es
+openings_unclosed s [] h = absurd h
+openings_unclosed s (x ∷ xs) h = by (not (is_closed_state x.state)) h (openings_unclosed s xs)
+  where
+    by : (b : Bool) → HasOpening s (cond b (x ∷ unclosed xs) (unclosed xs)) → (HasOpening s (unclosed xs) → HasOpening s xs) → HasOpening s (x ∷ xs)
+    by true (inl k) rest = inl k
+    by true (inr k) rest = inr (rest k)
+    by false k rest = inr (rest k)
+
 pub kept_unclosed : (es : List StreamEntry) → Kept es (unclosed es)
 kept_unclosed es = record {
   stands = λ s h. stands_unclosed s es h;
   shut = λ h. shut_unclosed es;
   banded = λ h. banded_unclosed es h;
+  openings = λ s h. openings_unclosed s es h;
+  ordered = λ h. ascend_unclosed es h;
 }
 
 -- events
 config_closed : AwaitConfig ≡ Closed → ⊥
 config_closed h = cc
 
-kept_expected : (place : Option ℕ) (id : ℕ) (es : List StreamEntry)
+config_not : IsOpeningState AwaitConfig → ⊥
+config_not (inl h) = let clash : AwaitConfig ≡ AwaitOpen = h in cc
+config_not (inr h) = let clash : AwaitConfig ≡ AwaitDcepAck = h in cc
+
+kept_expected : (place : Option ℕ) (id : ℕ) (es : List StreamEntry) → entry_place id es ≡ place
     → Kept es (if is_some place then es else insert es (new_place id es) (new_entry id AwaitConfig None))
-kept_expected (Some place) id es = kept_is es es refl
-kept_expected None id es = record {
+kept_expected (Some place) id es at = kept_is es es refl
+kept_expected None id es at = record {
   stands = λ s h. stands_insert s es (new_place id es) (new_entry id AwaitConfig None) h;
   shut = λ h. shut_insert es (new_place id es) (new_entry id AwaitConfig None) (λ c. config_closed c) h;
   banded = λ h. banded_insert es (new_place id es) (new_entry id AwaitConfig None) refl h;
+  openings = λ s h. by s (openings_insert s es (new_place id es) (new_entry id AwaitConfig None) h);
+  ordered = λ h. ascend_with (new_entry id AwaitConfig None) es h (none_missing id es at);
 }
+  where
+    by : (s : ℕ) → HasOpening s es ⊎ ((id ≡ s) × IsOpeningState AwaitConfig) → HasOpening s es
+    by s (inl h) = h
+    by s (inr h) = absurd (config_not h.1)
 
 pub marked_kept : (e : StreamEntry) → EntryKept e (record e { marked = true })
-marked_kept e = record { id_is = refl; stands = λ h. (h.0, λ c. refl); shut = λ h. h; banded = λ h. h }
+marked_kept e = record { id_is = refl; stands = λ h. (h.0, λ c. refl); shut = λ h. h; banded = λ h. h; opening = λ h. h }
 
 finished_kept : (b : Bool) (e : StreamEntry) → EntryKept e (if b then e else record e { marked = true })
-finished_kept true e = record { id_is = refl; stands = λ h. h; shut = λ h. h; banded = λ h. h }
+finished_kept true e = record { id_is = refl; stands = λ h. h; shut = λ h. h; banded = λ h. h; opening = λ h. h }
 finished_kept false e = marked_kept e
 
 kept_finished : (place : Option ℕ) (es es' : List StreamEntry) → FinishesAt place es es' → Kept es es'
@@ -203,10 +262,10 @@ pub kept_after : (e : AssocEvent) (b b' : Book) → AfterEvent e b b' → Kept b
 kept_after assoc.Connected b b' h = kept_is b.entries b'.entries (ap (λ (x : Book). x.entries) h)
 kept_after assoc.Lost b b' h = kept_is b.entries b'.entries (ap (λ (x : Book). x.entries) h)
 kept_after (assoc.Readable id) b b' h =
-    kept_on b.entries (with_expected id b.entries) b'.entries (kept_expected (entry_place id b.entries) id b.entries)
+    kept_on b.entries (with_expected id b.entries) b'.entries (kept_expected (entry_place id b.entries) id b.entries refl)
     (kept_is (with_expected id b.entries) b'.entries (ap (λ (x : Book). x.entries) h))
 kept_after (assoc.Writable id) b b' h =
-    kept_on b.entries (with_expected id b.entries) b'.entries (kept_expected (entry_place id b.entries) id b.entries)
+    kept_on b.entries (with_expected id b.entries) b'.entries (kept_expected (entry_place id b.entries) id b.entries refl)
     (kept_is (with_expected id b.entries) b'.entries (ap (λ (x : Book). x.entries) h))
 kept_after (assoc.Finished id) b b' h = kept_finished (entry_place id b.entries) b.entries b'.entries h.0
 kept_after (assoc.ResetComplete id) b b' h = kept_is b.entries b'.entries (ap (λ (x : Book). x.entries) h)

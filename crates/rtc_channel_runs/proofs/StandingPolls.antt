@@ -5,79 +5,22 @@ use Rattle.rtc_association.specs.declared.assoc_event.AssocEvent.{AssocEvent}
 use Rattle.rtc_association.specs.declared.assoc_event.AssocEvent.TheVariants as assoc
 use Rattle.rtc_association.specs.AssociationMeaning.{AssociationMeaning}
 use Rattle.rtc_association.specs.AssociationLaws.{AssociationLaws}
-use Rattle.rtc_sctp_entries.specs.declared.stream_entry.StreamEntry.{StreamEntry}
 use Rattle.rtc_sctp_entries.specs.declared.sctp_event.SctpEvent.{SctpEvent}
+use Rattle.rtc_sctp_entries.specs.declared.sctp_event.SctpEvent.TheVariants as event
 use Rattle.rtc_sctp_entries.specs.declared.met.Met.{Met}
 use Rattle.rtc_sctp_entries.specs.declared.met.Met.TheVariants.{Nothing, Again, Output, OutOfMemory}
-use Rattle.rtc_sctp_entries.specs.Visits.{Turn, turn}
+use Rattle.rtc_sctp_entries.specs.Entries.{Ascend}
 use Rattle.rtc_sctp.specs.declared.rtc_sctp_state.RtcSctpState.TheVariants.{Uninited, Established}
 use Rattle.rtc_sctp.specs.Streams.{SctpStreams, is_established}
-use Rattle.rtc_sctp.specs.Polls.{Book, book_of, AfterEvent, Else, ThenBy, unclosed_streams, CompletionOf, TransmitIf, TransmitOf, TakesEvent, NotStarted, NoRoom, NoEvent, Event, VisitedThen, VisitsAll, VisitsIf, MakesPass, Over, PollsStreams}
+use Rattle.rtc_sctp.specs.Polls.{Book, book_of, event_met, AfterEvent, TakesPacket, Else, ThenBy, unclosed_streams, CompletionOf, TransmitIf, TransmitOf, TakesEvent, NotStarted, NoRoom, NoEvent, Event, VisitsIf, MakesPass, Over, PollsStreams}
+use Rattle.rtc_sctp.proofs.OrderKept.{tour_ascend}
 use Rattle.rtc_sctp_laws.specs.StreamMessages.{met_of}
+use Rattle.rtc_stream_uses.specs.StreamUses.{TellsStreamOpen}
 use Rattle.rtc_sctp_laws.proofs.PollActs.{met_by}
-use Rattle.rtc_channel_runs.proofs.StandingVisits.{IsStanding, TellsStreamClosed, Goes, visit_goes}
+use Rattle.rtc_channel_runs.specs.OwnOpenings.{HasOpening}
+use Rattle.rtc_channel_runs.proofs.StandingVisits.{IsSilent, TellsStreamClosed, resting, starving}
 use Rattle.rtc_channel_runs.proofs.StandingEntries.{HasStanding, NoneClosed, AreBanded, Kept, kept_is, kept_after, kept_unclosed}
-
--- ---- a visit of entries
-
-record TourGoes (met : Met) (es es' : List StreamEntry) : Type 0 where
-  stands : (s : ℕ) → HasStanding s es → HasStanding s es' ⊎ TellsStreamClosed met s
-  banded : AreBanded es → AreBanded es'
-
--- the first gives something
-stopped : (met : Met) (e e' : StreamEntry) (es : List StreamEntry) → Goes met e e' → TourGoes met (e ∷ es) (e' ∷ es)
-stopped met e e' es k = record { stands = by; banded = λ h. (k.banded h.0, h.1) }
-  where
-    first : (s : ℕ) → e.id ≡ s → IsStanding e' ⊎ TellsStreamClosed met e.id → HasStanding s (e' ∷ es) ⊎ TellsStreamClosed met s
-    first s same (inl h) = inl (inl (k.id_is ∙ same, h))
-    first s same (inr told) = inr (subst (λ (n : ℕ). TellsStreamClosed met n) same told)
-
-    by : (s : ℕ) → HasStanding s (e ∷ es) → HasStanding s (e' ∷ es) ⊎ TellsStreamClosed met s
-    by s (inl h) = first s h.0 (k.stands h.1)
-    by s (inr h) = inl (inr h)
-
--- it gives nothing, and the others are visited
-went_on : (met : Met) (e e' : StreamEntry) (es tail : List StreamEntry) → Goes Nothing e e' → TourGoes met es tail → TourGoes met (e ∷ es) (e' ∷ tail)
-went_on met e e' es tail k rest = record { stands = by; banded = λ h. (k.banded h.0, rest.banded h.1) }
-  where
-    first : (s : ℕ) → e.id ≡ s → IsStanding e' ⊎ TellsStreamClosed Nothing e.id → HasStanding s (e' ∷ tail) ⊎ TellsStreamClosed met s
-    first s same (inl h) = inl (inl (k.id_is ∙ same, h))
-    first s same (inr told) = absurd told
-
-    others : (s : ℕ) → HasStanding s tail ⊎ TellsStreamClosed met s → HasStanding s (e' ∷ tail) ⊎ TellsStreamClosed met s
-    others s (inl h) = inl (inr h)
-    others s (inr told) = inr told
-
-    by : (s : ℕ) → HasStanding s (e ∷ es) → HasStanding s (e' ∷ tail) ⊎ TellsStreamClosed met s
-    by s (inl h) = first s h.0 (k.stands h.1)
-    by s (inr h) = others s (rest.stands s h)
-
-tour_is : (r met : Met) (es fs es' : List StreamEntry) → met ≡ r → es' ≡ fs → TourGoes r es fs → TourGoes met es es'
-tour_is r met es fs es' is same h =
-    subst (λ (x : Met). TourGoes x es es') (sym is) (subst (λ (l : List StreamEntry). TourGoes r es l) (sym same) h)
-
-module _ {S : Type 0} (m : AssociationMeaning S) where
-  then_goes : (now : ℕ) (es : List StreamEntry)
-      → ((a : S) (rs : List ℕ) (met : Met) (a' : S) (rs' : List ℕ) (es' : List StreamEntry) → VisitsAll m now es a rs met a' rs' es' → TourGoes met es es')
-      → (own : Met) (e : StreamEntry) (b : Turn S) (met : Met) (a' : S) (rs' : List ℕ) (es' : List StreamEntry) → Goes own e b.entry
-      → VisitedThen m (VisitsAll m now es) own es b met a' rs' es' → TourGoes met (e ∷ es) es'
-  then_goes now es rest Nothing e b met a' rs' es' k h =
-      tour_is met met (e ∷ es) (b.entry ∷ h.0) es' refl h.2
-      (went_on met e b.entry es h.0 k (rest b.association b.resets met a' rs' h.0 h.1))
-  then_goes now es rest Again e b met a' rs' es' k h = tour_is Again met (e ∷ es) (b.entry ∷ es) es' h.0 h.3 (stopped Again e b.entry es k)
-  then_goes now es rest (Output o) e b met a' rs' es' k h =
-      tour_is (Output o) met (e ∷ es) (b.entry ∷ es) es' h.0 h.3 (stopped (Output o) e b.entry es k)
-  then_goes now es rest OutOfMemory e b met a' rs' es' k h =
-      tour_is OutOfMemory met (e ∷ es) (b.entry ∷ es) es' h.0 h.3 (stopped OutOfMemory e b.entry es k)
-
-  tour_goes : (now : ℕ) (es : List StreamEntry) (a : S) (rs : List ℕ) (met : Met) (a' : S) (rs' : List ℕ) (es' : List StreamEntry)
-      → VisitsAll m now es a rs met a' rs' es' → TourGoes met es es'
-  tour_goes now [] a rs met a' rs' es' h =
-      tour_is met met [] [] es' refl h.3 (record { stands = λ s x. absurd x; banded = λ x. tt })
-  tour_goes now (e ∷ es) a rs met a' rs' es' h =
-      then_goes now es (tour_goes now es) h.0 e h.1 met a' rs' es' (visit_goes m now (turn a e rs) h.0 h.1 h.2) h.3
-
--- ---- a poll
+use Rattle.rtc_channel_runs.proofs.StandingTours.{tour_goes}
 
 -- no entry is closed before the association is begun
 abbrev pub IsShutBefore : {S : Type 0} → SctpStreams S → Type 0
@@ -87,19 +30,30 @@ pub record StreamsGo {S : Type 0} (met : Met) (p q : SctpStreams S) : Type 0 whe
   pub stands : (s : ℕ) → HasStanding s p.entries → HasStanding s q.entries ⊎ TellsStreamClosed met s
   pub before : IsShutBefore p → IsShutBefore q
   pub banded : AreBanded p.entries → AreBanded q.entries
+  pub openings : (s : ℕ) → HasOpening s q.entries → HasOpening s p.entries
+  pub ordered : Ascend p.entries → Ascend q.entries
+  pub tells_open : (s : ℕ) → TellsStreamOpen met s → HasStanding s q.entries
+  pub shut : (s : ℕ) → TellsStreamClosed met s → Ascend p.entries → HasOpening s q.entries → ⊥
+  pub side : q.client ≡ p.client
 
-pub go_kept : {S : Type 0} (met : Met) (p q : SctpStreams S) → Kept p.entries q.entries → (q.state ≡ Uninited → p.state ≡ Uninited)
-    → StreamsGo met p q
-go_kept met p q k back = record {
+pub go_kept : {S : Type 0} (met : Met) (p q : SctpStreams S) → IsSilent met → Kept p.entries q.entries → (q.state ≡ Uninited → p.state ≡ Uninited)
+    → q.client ≡ p.client → StreamsGo met p q
+go_kept met p q silent k back side = record {
   stands = λ s h. inl (k.stands s h);
   before = λ h e. k.shut (h (back e));
   banded = k.banded;
+  openings = k.openings;
+  ordered = k.ordered;
+  tells_open = λ s told. absurd (silent.opens s told);
+  shut = λ s told h opening. silent.closes s told;
+  side = side;
 }
 
-go_same : {S : Type 0} (met : Met) (p n q : SctpStreams S) → q ≡ n → n.entries ≡ p.entries → n.state ≡ p.state → StreamsGo met p q
-go_same {S} met p n q is entries state =
-    go_kept met p q (kept_is p.entries q.entries (ap (λ (x : SctpStreams S). x.entries) is ∙ entries))
-    (λ e. sym (ap (λ (x : SctpStreams S). x.state) is ∙ state) ∙ e)
+go_same : {S : Type 0} (met : Met) (p n q : SctpStreams S) → IsSilent met → q ≡ n → n.entries ≡ p.entries → n.state ≡ p.state
+    → n.client ≡ p.client → StreamsGo met p q
+go_same {S} met p n q silent is entries state side =
+    go_kept met p q silent (kept_is p.entries q.entries (ap (λ (x : SctpStreams S). x.entries) is ∙ entries))
+    (λ e. sym (ap (λ (x : SctpStreams S). x.state) is ∙ state) ∙ e) (ap (λ (x : SctpStreams S). x.client) is ∙ side)
 
 pub go_on : {S : Type 0} (own met : Met) (p b q : SctpStreams S) → ((s : ℕ) → TellsStreamClosed own s → ⊥) → StreamsGo own p b → StreamsGo met b q
     → StreamsGo met p q
@@ -107,6 +61,11 @@ go_on own met p b q silent h k = record {
   stands = λ s x. by s (h.stands s x);
   before = λ x. k.before (h.before x);
   banded = λ x. k.banded (h.banded x);
+  openings = λ s x. h.openings s (k.openings s x);
+  ordered = λ x. k.ordered (h.ordered x);
+  tells_open = k.tells_open;
+  shut = λ s told x opening. k.shut s told (h.ordered x) opening;
+  side = k.side ∙ h.side;
 }
   where
     by : (s : ℕ) → HasStanding s b.entries ⊎ TellsStreamClosed own s → HasStanding s q.entries ⊎ TellsStreamClosed met s
@@ -127,29 +86,60 @@ after_begun (assoc.Finished id) b b' h e = sym (ap (λ (x : Book). x.state) h.1)
 after_begun (assoc.ResetComplete id) b b' h e = sym (ap (λ (x : Book). x.state) h) ∙ e
 after_begun (assoc.BufferedAmountLow id) b b' h e = sym (ap (λ (x : Book). x.state) h) ∙ e
 
-module _ {S : Type 0} (m : AssociationMeaning S) where
-  same_book : (met : Met) (p q : SctpStreams S) → book_of q ≡ book_of p → StreamsGo met p q
-  same_book met p q is =
-      go_kept met p q (kept_is p.entries q.entries (ap (λ (x : Book). x.entries) is)) (λ e. sym (ap (λ (x : Book). x.state) is) ∙ e)
+silent_again : IsSilent Again
+silent_again = record { opens = λ s told. told; closes = λ s told. told }
 
-  event_goes : (p : SctpStreams S) (met : Met) (q : SctpStreams S) → TakesEvent m p.association (book_of p) met q.association (book_of q) → StreamsGo met p q
-  event_goes p met q (NotStarted s e a b) = same_book met p q b
-  event_goes p met q (NoRoom e a b) = same_book met p q b
-  event_goes p met q (NoEvent begun k e b) = same_book met p q b
-  event_goes p met q (Event event begun k e b) =
-      go_kept met p q (kept_after event (book_of p) (book_of q) b) (after_begun event (book_of p) (book_of q) b)
+-- events tell of no stream
+silent_event : (e : AssocEvent) → IsSilent (event_met e)
+silent_event assoc.Connected = silent_again
+silent_event assoc.Lost = record { opens = λ s told. told; closes = λ s told. told }
+silent_event (assoc.Readable id) = silent_again
+silent_event (assoc.Writable id) = silent_again
+silent_event (assoc.Finished id) = silent_again
+silent_event (assoc.ResetComplete id) = silent_again
+silent_event (assoc.BufferedAmountLow id) = record { opens = λ s told. told; closes = λ s told. told }
+
+silent_is : (met r : Met) → met ≡ r → IsSilent r → IsSilent met
+silent_is met r is h = subst (λ (x : Met). IsSilent x) (sym is) h
+
+module _ {S : Type 0} (m : AssociationMeaning S) where
+  -- a packet tells of none either
+  silent_packet : (p : S) (met : Met) (q : S) → TakesPacket m p met q → IsSilent met
+  silent_packet p Nothing q h = resting
+  silent_packet p (Output (event.Transmit packets)) q h = record { opens = λ s told. told; closes = λ s told. told }
+  silent_packet p (Output e) q h = absurd h
+  silent_packet p Again q h = absurd h
+  silent_packet p OutOfMemory q h = starving
+
+  same_book : (met : Met) (p q : SctpStreams S) → IsSilent met → book_of q ≡ book_of p → q.client ≡ p.client → StreamsGo met p q
+  same_book met p q silent is side =
+      go_kept met p q silent (kept_is p.entries q.entries (ap (λ (x : Book). x.entries) is)) (λ e. sym (ap (λ (x : Book). x.state) is) ∙ e) side
+
+  event_goes : (p : SctpStreams S) (met : Met) (q : SctpStreams S) → TakesEvent m p.association (book_of p) met q.association (book_of q)
+      → q.client ≡ p.client → StreamsGo met p q
+  event_goes p met q (NotStarted s e a b) side = same_book met p q (silent_is met Nothing e resting) b side
+  event_goes p met q (NoRoom e a b) side = same_book met p q (silent_is met OutOfMemory e starving) b side
+  event_goes p met q (NoEvent begun k e b) side = same_book met p q (silent_is met Nothing e resting) b side
+  event_goes p met q (Event event begun k e b) side =
+      go_kept met p q (silent_is met (event_met event) e (silent_event event)) (kept_after event (book_of p) (book_of q) b)
+      (after_begun event (book_of p) (book_of q) b) side
 
   transmit_goes : (o : Option (List (List ℕ))) (p : SctpStreams S) (met : Met) (q : SctpStreams S) → TransmitOf m o p met q → StreamsGo met p q
-  transmit_goes (Some packets) p met q h = go_same met p (record p { pushed = None }) q h.1 refl refl
+  transmit_goes (Some packets) p met q h =
+      go_same met p (record p { pushed = None }) q
+      (silent_is met (Output (event.Transmit packets)) h.0 (record { opens = λ s told. told; closes = λ s told. told })) h.1 refl refl refl
   transmit_goes None p met q h = by (m.started p.association) h
     where
       by : (b : Bool) → TransmitIf m b p met q → StreamsGo met p q
-      by false k = go_same met p p q k.1 refl refl
-      by true k = go_same met p (record p { association = q.association }) q k.1 refl refl
+      by false k = go_same met p p q (silent_is met Nothing k.0 resting) k.1 refl refl refl
+      by true k =
+          go_same met p (record p { association = q.association }) q (silent_packet p.association met q.association k.0) k.1 refl refl refl
 
   completion_goes : (l : List ℕ) (p : SctpStreams S) (met : Met) (q : SctpStreams S) → CompletionOf l p met q → StreamsGo met p q
-  completion_goes [] p met q h = go_same met p p q h.1 refl refl
-  completion_goes (id ∷ rest) p met q h = go_same met p (record p { completed = rest }) q h.1 refl refl
+  completion_goes [] p met q h = go_same met p p q (silent_is met Nothing h.0 resting) h.1 refl refl refl
+  completion_goes (id ∷ rest) p met q h =
+      go_same met p (record p { completed = rest }) q
+      (silent_is met (Output (event.StreamResetComplete id)) h.0 (record { opens = λ s told. told; closes = λ s told. told })) h.1 refl refl refl
 
   -- entries are visited where the association is established
   not_before : (a b : Bool) → (a && b) ≡ true → a ≡ false → ⊥
@@ -158,7 +148,7 @@ module _ {S : Type 0} (m : AssociationMeaning S) where
 
   visits_go : (b : Bool) (p : SctpStreams S) (met : Met) (q : SctpStreams S) → (is_established p.state && m.started p.association) ≡ b
       → VisitsIf m b p met q → StreamsGo met p q
-  visits_go false p met q is h = go_same met p p q h.1 refl refl
+  visits_go false p met q is h = go_same met p p q (silent_is met Nothing h.0 resting) h.1 refl refl refl
   visits_go true p met q is h =
       let tour = tour_goes m p.last p.entries p.association p.resets met q.association q.resets q.entries h.0 in
       record {
@@ -168,6 +158,11 @@ module _ {S : Type 0} (m : AssociationMeaning S) where
             (not_before (is_established p.state) (m.started p.association) is
             (ap is_established (sym (ap (λ (y : SctpStreams S). y.state) h.1) ∙ e)));
         banded = tour.banded;
+        openings = tour.openings;
+        ordered = λ x. tour_ascend m p.last 0 p.entries p.association p.resets met q.association q.resets q.entries h.0 x;
+        tells_open = tour.tells_open;
+        shut = λ s told x opening. tour.shut s 0 told x opening;
+        side = ap (λ (y : SctpStreams S). y.client) h.1;
       }
 
   else_goes : (A B : SctpStreams S → Met → SctpStreams S → Type 0) → ((p : SctpStreams S) (met : Met) (q : SctpStreams S) → A p met q → StreamsGo met p q)
@@ -182,20 +177,20 @@ module _ {S : Type 0} (m : AssociationMeaning S) where
       then_step OutOfMemory between d k = rw (k.0, k.1) d
 
   dropped : (p : SctpStreams S) → StreamsGo Nothing p (unclosed_streams p)
-  dropped p = go_kept Nothing p (unclosed_streams p) (kept_unclosed p.entries) (λ e. e)
+  dropped p = go_kept Nothing p (unclosed_streams p) resting (kept_unclosed p.entries) (λ e. e) refl
 
   pass_goes : (p : SctpStreams S) (met : Met) (q : SctpStreams S) → MakesPass m p met q → StreamsGo met p q
   unfolding MakesPass
   pass_goes p met q h =
       go_on Nothing met p (unclosed_streams p) q (λ s told. told) (dropped p)
       (else_goes _ _ (λ p met q k. transmit_goes p.pushed p met q k)
-      (else_goes _ _ (λ p met q k. event_goes p met q k.0)
+      (else_goes _ _ (λ p met q k. event_goes p met q k.0 (ap (λ (y : SctpStreams S). y.client) k.1))
       (else_goes _ _ (λ p met q k. visits_go (is_established p.state && m.started p.association) p met q refl k)
       (λ p met q k. completion_goes p.completed p met q k)))
       (unclosed_streams p) met q h)
 
   over_goes : (n : ℕ) (p q : SctpStreams S) → Over m n p q → StreamsGo Again p q
-  over_goes zero p q h = go_same Again p p q h refl refl
+  over_goes zero p q h = go_same Again p p q silent_again h refl refl refl
   over_goes (suc n) p q h = go_on Again Again p h.0 q (λ s told. told) (over_goes n p h.0 h.1) (pass_goes h.0 Again q h.2)
 
   pub poll_goes : AssociationLaws m → (p : SctpStreams S) (r : Result (Option SctpEvent) AllocError) (q : SctpStreams S) → PollsStreams m p r q

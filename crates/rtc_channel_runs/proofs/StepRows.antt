@@ -23,7 +23,8 @@ use Rattle.rtc_polling_laws.specs.RowsChanged.{RowsChanged}
 use Rattle.rtc_polling_laws.proofs.ActedPolls.{poll_acts}
 use Rattle.rtc_polling_laws.proofs.ChangedRows.{changed_on, none_changed}
 use Rattle.rtc_channel_laws.specs.KeptChannels.{CallKeepsStreams}
-use Rattle.rtc_channel_laws.proofs.KeptPeers.{channel_close_keeps, channel_write_keeps, close_keeps, input_keeps}
+use Rattle.rtc_channel_laws.proofs.KeptInputs.{input_keeps}
+use Rattle.rtc_channel_laws.proofs.KeptPeers.{channel_close_keeps, channel_write_keeps, close_keeps}
 use Rattle.rtc_history.specs.declared.kept.Kept.{Kept}
 use Rattle.rtc_history.specs.declared.outcome.Outcome.{Outcome}
 use Rattle.rtc_history.specs.declared.outcome.Outcome.TheVariants.{Done, Wrote, Polled, Refused, NoSuch, Alloc}

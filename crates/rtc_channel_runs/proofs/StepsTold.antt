@@ -28,7 +28,8 @@ use Rattle.rtc_polling_laws.specs.PeerActs.{PeerActs, came_by, moment_given, not
 use Rattle.rtc_polling_laws.proofs.ActedClosing.{close_acts}
 use Rattle.rtc_polling_laws.proofs.ActedInputs.{channel_close_acts, input_acts, write_acts}
 use Rattle.rtc_channel_laws.specs.KeptChannels.{CallKeepsStreams}
-use Rattle.rtc_channel_laws.proofs.KeptPeers.{channel_close_keeps, channel_write_keeps, close_keeps, input_keeps}
+use Rattle.rtc_channel_laws.proofs.KeptInputs.{input_keeps}
+use Rattle.rtc_channel_laws.proofs.KeptPeers.{channel_close_keeps, channel_write_keeps, close_keeps}
 use Rattle.rtc_joined_peers.specs.JoinedPeers.{CarriesData}
 use Rattle.rtc_joined_peers.proofs.JoinedLemmas.{begun_carries, none_carries}
 use Rattle.rtc_history.specs.declared.kept.Kept.{Kept}

@@ -8,5 +8,6 @@ pub mod ToldMessages
 pub mod DrainedSides
 pub mod ConfirmedChannels
 pub mod StillPairs
+pub mod OwnOpenings
 pub mod SettledPairs
 pub mod HandedOut

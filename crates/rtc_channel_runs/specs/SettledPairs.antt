@@ -31,6 +31,7 @@ use Rattle.rtc_joined_runs.specs.PlainPairs.{PlainPair, PlainPolled, plain_over}
 use Rattle.rtc_channel_runs.specs.ChannelUses.{ChannelUse}
 use Rattle.rtc_channel_runs.specs.OpenUses.{AreJoinedUses}
 use Rattle.rtc_channel_runs.specs.ConfirmedChannels.{WasConfirmed}
+use Rattle.rtc_channel_runs.specs.OwnOpenings.{HasEntryOf, HasOpening, IsInBandChannel, IsOfSide}
 use Rattle.rtc_channel_runs.specs.StillPairs.{IsStillPair}
 use Rattle.rtc_channel_runs.specs.UsesOfRuns.{reached_by, uses_in_run}
 
@@ -128,11 +129,6 @@ AreOpenAtBoth draws uses p others q =
     → AreInBandStreams stream p q
     → IsOpenAtBoth draws channel uses p others q
 
--- a stream has an entry that is so
-abbrev pub HasEntryOf : (StreamEntry → Type 0) → (stream : ℕ) → List StreamEntry → Type 0
-HasEntryOf is_so stream [] = ⊥
-HasEntryOf is_so stream (entry ∷ entries) = ((entry.id ≡ stream) × is_so entry) ⊎ HasEntryOf is_so stream entries
-
 -- the open message for a stream waits for its answer
 abbrev pub WaitsForAnswer : (stream : ℕ) → List StreamEntry → Type 0
 WaitsForAnswer stream entries = HasEntryOf (λ entry. entry.state ≡ AwaitDcepAck) stream entries
@@ -185,9 +181,80 @@ AreConfirmedSettled draws confirmed uses p others q =
     → AreInBandStreams stream p q
     → IsOpenAtBoth draws channel uses p others q ⊎ (IsRefusedAlone stream p q ⊎ AreBothOpening stream p q)
 
+-- the stream of no channel of either side was settled by other means than messages
+pub record AreInBandChannels {N : Type 0} (stream : ℕ) (p q : PlainPolled N) : Type 0 where
+  pub here : IsInBandChannel stream p.core.channels.rows
+  pub there : IsInBandChannel stream q.core.channels.rows
+
+-- an opening from here is over a stream of this side, where no channel was settled for the stream by other means
+abbrev pub AreOwnOpenings : {N : Type 0} → PlainPolled N → Type 0
+AreOwnOpenings p =
+    (stream : ℕ)
+    → IsInBandChannel stream p.core.channels.rows
+    → HasOpening stream p.core.sctp.entries
+    → IsOfSide p.core.sctp.client stream
+
+-- one started its association as the client, and the other one as the server
+abbrev pub AreOnSides : {N : Type 0} → PlainPolled N → PlainPolled N → Type 0
+AreOnSides p q = q.core.sctp.client ≡ p.core.sctp.client → ⊥
+
+-- no stream is opened from both sides, unless a channel was settled for it by other means
+abbrev pub OpenNoneBoth : {N : Type 0} → PlainPolled N → PlainPolled N → Type 0
+OpenNoneBoth p q =
+    (stream : ℕ)
+    → AreInBandChannels stream p q
+    → HasOpening stream p.core.sctp.entries
+    → HasOpening stream q.core.sctp.entries
+    → ⊥
+
+-- no opening waits for its answer, where neither side settled its stream or a channel for it by other means
+abbrev pub WaitsNone : {N : Type 0} → PlainPolled N → PlainPolled N → Type 0
+WaitsNone p q =
+    (stream : ℕ)
+    → AreInBandStreams stream p q
+    → AreInBandChannels stream p q
+    → WaitsForAnswer stream p.core.sctp.entries
+    → ⊥
+
+-- Each channel of one side that was confirmed is open at both, where neither side settled its stream by other means; or the opening of the
+-- stream is refused for now, and it is not open at the other side either.
+abbrev pub AreConfirmedAlone : {N : Type 0} → Draws N → (confirmed : ℕ → Type 0) → (uses : List ChannelUse) → PlainPolled N
+    → (others : List ChannelUse) → PlainPolled N → Type 0
+AreConfirmedAlone draws confirmed uses p others q =
+    (channel stream : ℕ)
+    → confirmed channel
+    → stream_under channel p.core.channels ≡ Some stream
+    → AreInBandStreams stream p q
+    → AreInBandChannels stream p q
+    → IsOpenAtBoth draws channel uses p others q ⊎ IsRefusedAlone stream p q
+
+-- each channel of one side that was confirmed is open at both, where neither side settled its stream by other means
+abbrev pub AreConfirmedInBand : {N : Type 0} → Draws N → (confirmed : ℕ → Type 0) → (uses : List ChannelUse) → PlainPolled N
+    → (others : List ChannelUse) → PlainPolled N → Type 0
+AreConfirmedInBand draws confirmed uses p others q =
+    (channel stream : ℕ)
+    → confirmed channel
+    → stream_under channel p.core.channels ≡ Some stream
+    → AreInBandStreams stream p q
+    → AreInBandChannels stream p q
+    → IsOpenAtBoth draws channel uses p others q
+
+-- the same of streams that are in their first generation: neither was ever reset
+abbrev pub AreConfirmedUnreset : {N : Type 0} → Draws N → (confirmed : ℕ → Type 0) → (uses : List ChannelUse) → PlainPolled N
+    → (others : List ChannelUse) → PlainPolled N → Type 0
+AreConfirmedUnreset draws confirmed uses p others q =
+    (channel stream : ℕ)
+    → confirmed channel
+    → stream_under channel p.core.channels ≡ Some stream
+    → AreInBandStreams stream p q
+    → AreInBandChannels stream p q
+    → generation_of p.core.sctp.association stream ≡ 0
+    → IsOpenAtBoth draws channel uses p others q
+
 -- A run by these steps with these replies leaves it so at both sides, where it left the pair settled. Of channels that were confirmed it
 -- tells where nothing is due for those of the side; they are open where besides no opening is under way at either side, and where the last
--- timeouts of both are late enough.
+-- timeouts of both are late enough. One side is the client and the other one the server; each opening is over a stream of its own side, so
+-- that both never open one, and no opening waits for its answer.
 pub record SettlesOpen {N : Type 0} (draws : Draws N) (stun : List ℕ → Bool) (start : PlainPair N) (steps : List Step)
     (replies : List (Reply PlainMediaEvent)) (pair : PlainPair N) (run : Runs (plain_over draws) stun start steps replies pair)
     : Type 0 where
@@ -213,6 +280,23 @@ pub record SettlesOpen {N : Type 0} (draws : Draws N) (stun : List ℕ → Bool)
       (uses_in_run (plain_over draws) stun start steps replies pair run (other_side at)) (rtc_at (other_side at) pair)
   pub later : IsSettledPair run.past pair → ((at : Side) → HasNothingSoon at run.past pair) → (at : Side)
       → AreConfirmedOpen draws
+      (λ channel. WasConfirmed (plain_over draws) stun start at channel run.past pair
+      (reached_by (plain_over draws) stun start run.past pair run.went))
+      (uses_in_run (plain_over draws) stun start steps replies pair run at) (rtc_at at pair)
+      (uses_in_run (plain_over draws) stun start steps replies pair run (other_side at)) (rtc_at (other_side at) pair)
+  pub own : IsSettledPair run.past pair → (at : Side) → AreOwnOpenings (rtc_at at pair)
+  pub sides : IsSettledPair run.past pair → (at : Side) → AreOnSides (rtc_at at pair) (rtc_at (other_side at) pair)
+  pub parted : IsSettledPair run.past pair → (at : Side) → OpenNoneBoth (rtc_at at pair) (rtc_at (other_side at) pair)
+  pub waits_none : IsSettledPair run.past pair → (at : Side) → WaitsNone (rtc_at at pair) (rtc_at (other_side at) pair)
+  pub alone : IsSettledPair run.past pair → (at : Side)
+      → channels_wake plain_meaning (rtc_at at pair).core.channels (rtc_at at pair).core.sctp ≡ None
+      → AreConfirmedAlone draws
+      (λ channel. WasConfirmed (plain_over draws) stun start at channel run.past pair
+      (reached_by (plain_over draws) stun start run.past pair run.went))
+      (uses_in_run (plain_over draws) stun start steps replies pair run at) (rtc_at at pair)
+      (uses_in_run (plain_over draws) stun start steps replies pair run (other_side at)) (rtc_at (other_side at) pair)
+  pub unreset : IsSettledPair run.past pair → (at : Side) → HasNothingDue at run.past pair
+      → AreConfirmedUnreset draws
       (λ channel. WasConfirmed (plain_over draws) stun start at channel run.past pair
       (reached_by (plain_over draws) stun start run.past pair run.went))
       (uses_in_run (plain_over draws) stun start steps replies pair run at) (rtc_at at pair)

@@ -3,7 +3,9 @@ pub mod StanceSteps
 pub mod StandingPolls
 pub mod StandingChannels
 pub mod UnusedStreams
+pub mod StepKinds
 pub mod EmptyStreams
+pub mod RoleStarts
 pub mod StandingSteps
 pub mod RestartChanges
 pub mod Bounds

@@ -119,7 +119,7 @@ module _ {I D S M E X T W N : Type 0} (m : Meanings I D S M E X T W N) (laws : P
   stopped_unused p offer sdp halves s (inr starts) unused = sdp_unused p offer sdp halves (Err starts.0) s starts.1 unused
 
   -- what stopped started no association
-  stopped_started : (p : Peer I D S M N) (offer : Bool) (sdp : Sdp) (halves : Option InitHalves) (s : SctpStreams S)
+  pub stopped_started : (p : Peer I D S M N) (offer : Bool) (sdp : Sdp) (halves : Option InitHalves) (s : SctpStreams S)
       → (s ≡ p.sctp) ⊎ ((error : SctpError) × StartsBySdp m p offer sdp halves (Err error) s)
       → m.association.started s.association ≡ m.association.started p.sctp.association
   stopped_started p offer sdp halves s (inl same) = ap (λ (x : SctpStreams S). m.association.started x.association) same

@@ -1,3 +1,6 @@
 pub mod JoinedLemmas
 pub mod ShownLemmas
 pub mod ExchangeLemmas
+mod HandshakeMarks
+mod HandshakeSteps
+pub mod HandshakeRoles

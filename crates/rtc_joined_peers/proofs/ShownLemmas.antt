@@ -1,5 +1,5 @@
 -- Of what a peer over plain parts shows, packets of application data are of the DTLS part.
-use Rattle.std.proofs.Common.{◌≡◌, ◌++◌, ◌∷◌, ◌⊎◌, inl, inr, ℕ, List, [], map, append-nil, refl, sym, ap, subst, arith}
+use Rattle.std.proofs.Common.{◌≡◌, ◌++◌, ◌∷◌, ◌⊎◌, ◌<◌, ◌≤◌, inl, inr, ℕ, List, [], map, append-nil, refl, sym, ap, subst, arith}
 use Rattle.rtc_wire.specs.declared.transmit.Transmit.{Transmit}
 use Rattle.rtc_parts_values.specs.Among.{Member, Among}
 use Rattle.rtc_association.proofs.AmongLemmas.{member-append, member-left}
@@ -27,11 +27,11 @@ transmit_of x [] m = absurd m
 transmit_of x (t ∷ transmits) (inl e) = (t, (inl refl, e))
 transmit_of x (t ∷ transmits) (inr m) = let r = transmit_of x transmits m in (r.0, (inr r.1.0, r.1.1))
 
-begins_not : (bytes : List ℕ) → BeginsBelowTwo (23 ∷ bytes) → ⊥
-begins_not bytes h = absurd (omega (arith, h))
+begins_not : (kind : ℕ) (bytes : List ℕ) → 2 ≤ kind → BeginsBelowTwo (kind ∷ bytes) → ⊥
+begins_not kind bytes least h = absurd (omega (arith, least, h))
 
-marked_not : (bytes : List ℕ) → IsMarked (23 ∷ bytes) → ⊥
-marked_not bytes h = let is : ◌≡◌ {A = ℕ} 23 128 = cc (h) in absurd (omega (arith, is))
+marked_not : (kind : ℕ) (bytes : List ℕ) → kind < 128 → IsMarked (kind ∷ bytes) → ⊥
+marked_not kind bytes below h = let is : kind ≡ 128 = cc (h) in absurd (omega (arith, below, is))
 
 each_marked : (x : List ℕ) (datagrams : List (List ℕ)) → EachBegins datagrams → Member x datagrams → IsMarked x
 each_marked x [] h m = absurd m
@@ -47,25 +47,32 @@ same_taken (MediaStirred why ∷ acts) = same_taken acts
 fresh_begin : EachBegins fresh_media.datagrams
 fresh_begin = tt
 
+-- a datagram with the content type of a DTLS record is of the DTLS part
+pub shown_kind : (kind : ℕ) → 2 ≤ kind → kind < 128 → (past : PeerActs) (shown packets : List (List ℕ)) (ice : IceContents) (media : MediaContents)
+    → ShownSince past shown ice media packets → (bytes : List ℕ) → Member (kind ∷ bytes) shown → Member (kind ∷ bytes) (dtls_taken past.dtls)
+shown_kind kind least below past shown packets ice media h bytes m =
+    by
+    (member-append (kind ∷ bytes) (map (λ (transmit : Transmit). transmit.contents) (ice_taken past.ice)) (dtls_taken past.dtls ++ media_taken past.media)
+    (h.sent.each (kind ∷ bytes) (member-left (kind ∷ bytes) shown packets m)))
+  where
+    by : Member (kind ∷ bytes) (map (λ (transmit : Transmit). transmit.contents) (ice_taken past.ice))
+        ⊎ Member (kind ∷ bytes) (dtls_taken past.dtls ++ media_taken past.media) → Member (kind ∷ bytes) (dtls_taken past.dtls)
+    by (inl n) =
+        let t = transmit_of (kind ∷ bytes) (ice_taken past.ice) n in
+        let low = taken_begins fresh_ice ice past.ice t.0 refl h.ice_went t.1.0 in
+        absurd (begins_not kind bytes least (subst (λ (x : List ℕ). BeginsBelowTwo x) (sym t.1.1) low))
+    by (inr n) = elim (member-append (kind ∷ bytes) (dtls_taken past.dtls) (media_taken past.media) n) [
+      | inl k ↦ k
+      | inr k ↦ absurd (marked_not kind bytes below (each_marked (kind ∷ bytes) (datagrams_taken past.media)
+          (taken_begin fresh_media media past.media fresh_begin h.media_went)
+          (subst (λ (l : List (List ℕ)). Member (kind ∷ bytes) l) (same_taken past.media) k)))
+    ]
+
 pub shown_data : (past : PeerActs) (shown packets : List (List ℕ)) (ice : IceContents) (media : MediaContents) → ShownSince past shown ice media packets
     → CarriesData shown (dtls_taken past.dtls)
 shown_data past shown packets ice media h = record {
-  each = λ bytes m. by bytes (member-append (23 ∷ bytes) (map (λ (transmit : Transmit). transmit.contents) (ice_taken past.ice))
-      (dtls_taken past.dtls ++ media_taken past.media) (h.sent.each (23 ∷ bytes) (member-left (23 ∷ bytes) shown packets m)));
+  each = λ bytes m. shown_kind 23 (omega arith) (omega arith) past shown packets ice media h bytes m;
 }
-  where
-    by : (bytes : List ℕ) → Member (23 ∷ bytes) (map (λ (transmit : Transmit). transmit.contents) (ice_taken past.ice))
-        ⊎ Member (23 ∷ bytes) (dtls_taken past.dtls ++ media_taken past.media) → Member (23 ∷ bytes) (dtls_taken past.dtls)
-    by bytes (inl m) =
-        let t = transmit_of (23 ∷ bytes) (ice_taken past.ice) m in
-        let low = taken_begins fresh_ice ice past.ice t.0 refl h.ice_went t.1.0 in
-        absurd (begins_not bytes (subst (λ (x : List ℕ). BeginsBelowTwo x) (sym t.1.1) low))
-    by bytes (inr m) = elim (member-append (23 ∷ bytes) (dtls_taken past.dtls) (media_taken past.media) m) [
-      | inl k ↦ k
-      | inr k ↦ absurd (marked_not bytes (each_marked (23 ∷ bytes) (datagrams_taken past.media)
-          (taken_begin fresh_media media past.media fresh_begin h.media_went)
-          (subst (λ (l : List (List ℕ)). Member (23 ∷ bytes) l) (same_taken past.media) k)))
-    ]
 
 pub shown_on : (past acts : PeerActs) (before after : List (List ℕ)) (ice ice' : IceContents) (media media' : MediaContents) (packets packets' : List (List ℕ))
     → ShownSince past before ice media packets → IceMoved plain_ice ice acts.ice ice' → MediaMoved plain_media_meaning media acts.media media'

@@ -7,6 +7,7 @@ use Rattle.rtc_wire.specs.declared.transmit.Transmit.{Transmit}
 use Rattle.rtc_parts_values.specs.Among.{Member}
 use Rattle.rtc_polling_laws.specs.PeerActs.{came_of_datagram}
 use Rattle.rtc_joined_peers.specs.JoinedPeers.{CarriesData}
+use Rattle.rtc_joined_peers.proofs.JoinedLemmas.{begun_carries}
 use Rattle.rtc_history.specs.declared.sent_packet.SentPacket.{SentPacket}
 use Rattle.rtc_history.specs.declared.side.Side.{Side}
 use Rattle.rtc_history.specs.declared.side.Side.TheVariants.{Left, Right}
@@ -94,3 +95,44 @@ datagram_carries (datagrams.Stun view) bytes others is there = no_data others
 datagram_carries (datagrams.Dtls lent) bytes others is there = one_carries lent.now others (subst (λ (x : List ℕ). Member x others) (sym is) there)
 datagram_carries (datagrams.Rtp lent) bytes others is there = no_data others
 datagram_carries (datagrams.Rtcp lent) bytes others is there = no_data others
+
+-- ---- packets of the handshake
+
+-- each packet of the handshake among these is among those
+pub record CarriesHands (given_packets taken_packets : List (List ℕ)) : Type 0 where
+  pub each : (bytes : List ℕ) → Member (22 ∷ bytes) given_packets → Member (22 ∷ bytes) taken_packets
+
+-- and so is each packet of application data
+pub record Carries (given_packets taken_packets : List (List ℕ)) : Type 0 where
+  pub data_packets : CarriesData given_packets taken_packets
+  pub hands : CarriesHands given_packets taken_packets
+
+one_hands : (bytes : List ℕ) (others : List (List ℕ)) → Member bytes others → CarriesHands (bytes ∷ []) others
+one_hands bytes others there = record {
+  each = λ rest m. elim m [ inl e ↦ subst (λ (x : List ℕ). Member x others) (sym e) there | inr n ↦ absurd n ];
+}
+
+no_hands : (others : List (List ℕ)) → CarriesHands [] others
+no_hands others = record { each = λ rest m. absurd m }
+
+pub nothing_comes : (others : List (List ℕ)) → Carries [] others
+nothing_comes others = record { data_packets = no_data others; hands = no_hands others }
+
+empty_hand : (bytes : List ℕ) → Member (22 ∷ bytes) ([] ∷ []) → ⊥
+empty_hand bytes (inl e) = cc (e)
+empty_hand bytes (inr m) = absurd m
+
+pub begun_comes : (others : List (List ℕ)) → Carries ([] ∷ []) others
+begun_comes others = record { data_packets = begun_carries others; hands = record { each = λ bytes m. absurd (empty_hand bytes m) } }
+
+datagram_hands : (datagram : DatagramRecv) (bytes : List ℕ) (others : List (List ℕ)) → bytes_lent datagram ≡ bytes → Member bytes others
+    → CarriesHands (came_of_datagram datagram).dtls others
+datagram_hands (datagrams.Stun view) bytes others is there = no_hands others
+datagram_hands (datagrams.Dtls lent) bytes others is there = one_hands lent.now others (subst (λ (x : List ℕ). Member x others) (sym is) there)
+datagram_hands (datagrams.Rtp lent) bytes others is there = no_hands others
+datagram_hands (datagrams.Rtcp lent) bytes others is there = no_hands others
+
+pub datagram_comes : (datagram : DatagramRecv) (bytes : List ℕ) (others : List (List ℕ)) → bytes_lent datagram ≡ bytes → Member bytes others
+    → Carries (came_of_datagram datagram).dtls others
+datagram_comes datagram bytes others is there =
+    record { data_packets = datagram_carries datagram bytes others is there; hands = datagram_hands datagram bytes others is there }

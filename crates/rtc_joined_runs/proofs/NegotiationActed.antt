@@ -20,6 +20,7 @@ use Rattle.rtc_peer_state.specs.SdpHalves.{draws_half}
 use Rattle.rtc_peer_state.specs.Stance.{stance_of}
 use Rattle.rtc_polling.specs.declared.polled_peer.PolledPeer.{PolledPeer}
 use Rattle.rtc_polling_laws.specs.Acts.{NegotiationActs, begun_here, with_core}
+use Rattle.rtc_polling_laws.specs.PeerActs.{queue_and_role}
 use Rattle.rtc_polling_laws.proofs.ActJoins.{agent_acts_did}
 use Rattle.rtc_polling_laws.proofs.ActedAcceptances.{offer_did, answer_did}
 use Rattle.rtc_polling_laws.proofs.FollowedParts.{AgentTold, agent_none}
@@ -121,7 +122,7 @@ module _ {I D S M E X T W N : Type 0} (m : Meanings I D S M E X T W N) where
   agent_did p q agent same pushed =
       agent_acts_did m begun_here (p.core.greatest ∷ []) [] p q agent.acts agent.went (none_among _ [] agent.given)
       (none_among _ (p.core.greatest ∷ []) agent.timed) (among_none _) (ap (λ (x : DtlsState D × (S × List StreamEntry) × M). x.0.instance) same)
-      (ap (λ (x : DtlsState D × (S × List StreamEntry) × M). x.0.packets) same) (ap (λ (x : DtlsState D × (S × List StreamEntry) × M). x.1.0) same) pushed (ap (λ (x : DtlsState D × (S × List StreamEntry) × M). x.2) same)
+      (ap (λ (x : DtlsState D × (S × List StreamEntry) × M). queue_and_role x.0) same) (ap (λ (x : DtlsState D × (S × List StreamEntry) × M). x.1.0) same) pushed (ap (λ (x : DtlsState D × (S × List StreamEntry) × M). x.2) same)
 
   same_did : (p q : PolledPeer I D S M N) → q.core ≡ p.core → NegotiationActs m p q
   same_did p q same =
@@ -154,6 +155,7 @@ module _ {I D S M E X T W N : Type 0} (m : Meanings I D S M E X T W N) where
     timed_ice = h.timed_ice;
     timed_dtls = h.timed_dtls;
     timed_media = h.timed_media;
+    role = h.role;
     sent = h.sent;
     handed = h.handed;
     all_handed = h.all_handed;

@@ -1,8 +1,8 @@
 -- What building a peer over fresh plain parts does to these.
-use Rattle.std.proofs.Common.{◌≡◌, ◌∙◌, ◌∷◌, ℕ, Bool, List, [], Result, Ok, refl, sym, ap, subst}
+use Rattle.std.proofs.Common.{◌≡◌, ◌∙◌, ◌∷◌, ℕ, Bool, List, [], None, Result, Ok, refl, sym, ap, subst}
 use Rattle.std.specs.declared.alloc.AllocError.{AllocError}
 use Rattle.rtc_sdp_values.specs.declared.candidate.Candidate.{Candidate}
-use Rattle.rtc_parts_values.specs.Among.{Among}
+use Rattle.rtc_parts_values.specs.Among.{Among, Member}
 use Rattle.rtc_parts_values.specs.Why.{Other}
 use Rattle.rtc_association.specs.AssociationActs.{LimitsSet, Stirred as AssociationStirred}
 use Rattle.rtc_association.proofs.AmongLemmas.{among_none}
@@ -10,6 +10,7 @@ use Rattle.rtc_ice.specs.IceMeaning.{IceMeaning}
 use Rattle.rtc_ice.specs.IceActs.{LiteSet, LocalSet, LocalAdded, Stirred as IceStirred}
 use Rattle.rtc_dtls.specs.DtlsActs.{CertificateSet, Stirred as DtlsStirred}
 use Rattle.rtc_dtls.specs.DtlsState.{DtlsState}
+use Rattle.rtc_dtls.specs.DtlsWords.{dtls_given}
 use Rattle.rtc_sctp.specs.Streams.{SctpStreams}
 use Rattle.rtc_plain_ice.specs.Contents.{IceContents}
 use Rattle.rtc_plain_ice.specs.PlainMeaning.{plain_ice}
@@ -20,7 +21,7 @@ use Rattle.rtc_ids.specs.Draws.{Draws}
 use Rattle.rtc_sctp_laws.specs.StreamMessages.{pushed_packets, reads_of, writes_of}
 use Rattle.rtc_peer_state.specs.declared.peer.Peer.{Peer}
 use Rattle.rtc_peer_state.specs.Built.{creds_or, cert_or, session_drawn, creds_drawn}
-use Rattle.rtc_polling_laws.specs.PeerActs.{PeerActs, peer_acts, contents_taken}
+use Rattle.rtc_polling_laws.specs.PeerActs.{PeerActs, peer_acts, contents_taken, dtls_roles, roles_after}
 use Rattle.rtc_joined_peers.specs.Exchanging.{parts_past}
 use Rattle.rtc_joined_peers.specs.JoinedPeers.{AreUnused, packet_parts}
 use Rattle.rtc_joined_peers.specs.ShownData.{HasShown}
@@ -49,6 +50,9 @@ candidates_told m p [] q h = agent_none m p q h
 candidates_told m p (candidate ∷ candidates) q h =
     told_before m p q candidate h.1.0 h.0 h.1.1.0 (candidates_told m h.0 candidates q h.1.1.1)
 
+none_member : (x : List ℕ) (l : List (List ℕ)) → l ≡ [] → Member x l → ⊥
+none_member x l is m = subst (λ (k : List (List ℕ)). Member x k) is m
+
 -- acts on the parts of a peer that was built, and then given candidates
 pub record WasBuilt {N : Type 0} (p : PlainPolled N) : Type 0 where
   pub acts : PeerActs
@@ -56,6 +60,8 @@ pub record WasBuilt {N : Type 0} (p : PlainPolled N) : Type 0 where
   pub shown : HasShown acts [] p
   pub wrote_none : writes_of acts.association ≡ []
   pub read_none : reads_of acts.association ≡ []
+  pub role : p.core.dtls.active ≡ roles_after None (dtls_roles acts.dtls)
+  pub none_given : dtls_given acts.dtls ≡ []
 
 module _ {N : Type 0} (draws : Draws N) where
   built_acts : (p : Peer IceContents DtlsContents Contents MediaContents N) → IsNewPeer draws p → PeerActs
@@ -96,6 +102,8 @@ module _ {N : Type 0} (draws : Draws N) where
         };
         wrote_none = refl;
         read_none = refl;
+        role = ap (λ (x : DtlsState DtlsContents). x.active) (dtls ∙ h.by_build.by_cert.others);
+        none_given = refl;
       }
 
   pub nothing_sent : (at : Side) (packets : List SentPacket) (acts : PeerActs) (p : PlainPolled N) → packets ≡ [] → HasShown acts [] p
@@ -112,5 +120,9 @@ module _ {N : Type 0} (draws : Draws N) where
           joined = unused_joined (parts_past a.acts) (parts_past b.acts) (packet_parts pair.left) (packet_parts pair.right) a.unused b.unused;
           left = nothing_sent Left pair.packets a.acts pair.left h.packets a.shown;
           right = nothing_sent Right pair.packets b.acts pair.right h.packets b.shown;
+        };
+        hands = record {
+          left = record { role = a.role; crosses = λ bytes m. absurd (none_member (22 ∷ bytes) (dtls_given a.acts.dtls) a.none_given m) };
+          right = record { role = b.role; crosses = λ bytes m. absurd (none_member (22 ∷ bytes) (dtls_given b.acts.dtls) b.none_given m) };
         };
       }

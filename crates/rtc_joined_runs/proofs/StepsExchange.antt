@@ -28,8 +28,6 @@ use Rattle.rtc_polling_laws.specs.PeerActs.{PeerActs, came_by, moment_given, not
 use Rattle.rtc_polling_laws.proofs.ActedClosing.{close_acts}
 use Rattle.rtc_polling_laws.proofs.ActedInputs.{channel_close_acts, input_acts, write_acts}
 use Rattle.rtc_polling_laws.proofs.ActedPolls.{poll_acts}
-use Rattle.rtc_joined_peers.specs.JoinedPeers.{CarriesData}
-use Rattle.rtc_joined_peers.proofs.JoinedLemmas.{none_carries}
 use Rattle.rtc_history.specs.declared.kept.Kept.{Kept}
 use Rattle.rtc_history.specs.declared.outcome.Outcome.{Outcome}
 use Rattle.rtc_history.specs.declared.outcome.Outcome.TheVariants.{Done, Wrote, Polled, Refused, NoSuch, Alloc}
@@ -49,7 +47,7 @@ use Rattle.rtc_history.specs.Performs.{Acts, DrainsOn, DrainsPeer, HandlesRead, 
 use Rattle.rtc_history.specs.Sides.{other_side, side_of}
 use Rattle.rtc_joined_runs.specs.PlainPairs.{HasExchanged, PlainPair, PlainPolled, plain_over}
 use Rattle.rtc_joined_runs.specs.SentContents.{contents_sent}
-use Rattle.rtc_joined_runs.proofs.ContentsLemmas.{Shows, datagram_carries, sent_among, shows_none, shows_one}
+use Rattle.rtc_joined_runs.proofs.ContentsLemmas.{Carries, Shows, datagram_comes, nothing_comes, sent_among, shows_none, shows_one}
 use Rattle.rtc_joined_runs.proofs.NegotiationActed.{answer_acts, negotiates_did, offer_acts}
 use Rattle.rtc_joined_runs.proofs.StandingExchange.{Stands, StandsIn, call_stands, negotiation_stands, pair_stands, same_stands, stands_pair}
 
@@ -59,7 +57,7 @@ plain_over_laws draws = record { ice = plain_ice_laws; dtls = plain_dtls_laws; a
 module _ {N : Type 0} (draws : Draws N) (at : Side) (b : PeerActs) (q : PlainPolled N) where
   -- a call to which no application data comes but what the other side showed, and that shows nothing
   heard_stands : (packets packets' : List SentPacket) (input : Input) (p : PlainPolled N) (r : Result (Unit {0}) RtcError) (next : PlainPolled N)
-      → packets' ≡ packets → CarriesData (came_by input).dtls (contents_sent (other_side at) packets) → HandlesInput (plain_over draws) input p r next
+      → packets' ≡ packets → Carries (came_by input).dtls (contents_sent (other_side at) packets) → HandlesInput (plain_over draws) input p r next
       → Stands at packets b q p → Stands at packets' b q next
   heard_stands packets packets' input p r next kept carried h stands =
       call_stands draws at packets packets' b q p next (came_by input) (moment_given input ∷ []) [] [] [] carried
@@ -68,7 +66,7 @@ module _ {N : Type 0} (draws : Draws N) (at : Side) (b : PeerActs) (q : PlainPol
   closed_stands : (packets packets' : List SentPacket) (p : PlainPolled N) (r : Result (Unit {0}) RtcError) (next : PlainPolled N)
       → packets' ≡ packets → ClosesPeer (plain_over draws) p r next → Stands at packets b q p → Stands at packets' b q next
   closed_stands packets packets' p r next kept h stands =
-      call_stands draws at packets packets' b q p next nothing_came [] [] [] [] (none_carries (contents_sent (other_side at) packets))
+      call_stands draws at packets packets' b q p next nothing_came [] [] [] [] (nothing_comes (contents_sent (other_side at) packets))
       (shows_none at packets packets' kept) (close_acts (plain_over draws) nothing_came [] plain_laws p r next h) stands
 
   polled_stands : (packets packets' : List SentPacket) (p : PlainPolled N) (answer : Result (Output PlainMediaEvent) RtcError) (next : PlainPolled N)
@@ -77,7 +75,7 @@ module _ {N : Type 0} (draws : Draws N) (at : Side) (b : PeerActs) (q : PlainPol
   polled_stands packets packets' p answer next shows h stands =
       let acts = poll_acts (plain_over draws) (plain_over_laws draws) p answer next h in
       call_stands draws at packets packets' b q p next nothing_came (p.core.greatest ∷ []) (contents_shown answer) acts.wrote acts.heard
-      (none_carries (contents_sent (other_side at) packets)) shows acts.did stands
+      (nothing_comes (contents_sent (other_side at) packets)) shows acts.did stands
 
   -- an input or a close
   calls_stand : (call : PlainPolled N → Result (Unit {0}) RtcError → PlainPolled N → Type 0) (packets packets' : List SentPacket)
@@ -93,7 +91,7 @@ module _ {N : Type 0} (draws : Draws N) (at : Side) (b : PeerActs) (q : PlainPol
   done_stands : (packets packets' : List SentPacket) (wrote : List StreamMessage) (p next : PlainPolled N) → packets' ≡ packets
       → CallActs (plain_over draws) wrote p next → Stands at packets b q p → Stands at packets' b q next
   done_stands packets packets' wrote p next kept did stands =
-      call_stands draws at packets packets' b q p next nothing_came [] [] wrote [] (none_carries (contents_sent (other_side at) packets))
+      call_stands draws at packets packets' b q p next nothing_came [] [] wrote [] (nothing_comes (contents_sent (other_side at) packets))
       (shows_none at packets packets' kept) did stands
 
   -- what names a channel that is not open
@@ -152,7 +150,7 @@ module _ {N : Type 0} (draws : Draws N) (at : Side) (b : PeerActs) (q : PlainPol
   read_stands packets packets' (Err why) transmit now kept there p r next h stands = same_stands at packets packets' b q p next h.1 kept stands
   read_stands packets packets' (Ok kind) transmit now kept there p r next h stands =
       heard_stands packets packets' (given.Receive now h.0) p r next kept
-      (datagram_carries h.0.contents transmit.contents (contents_sent (other_side at) packets) h.1.bytes there) h.2 stands
+      (datagram_comes h.0.contents transmit.contents (contents_sent (other_side at) packets) h.1.bytes there) h.2 stands
 
   hears_stand : (stun : List ℕ → Bool) (found : Option Transmit) (now : ℕ) (packets packets' : List SentPacket)
       → ((transmit : Transmit) → found ≡ Some transmit → Member transmit.contents (contents_sent (other_side at) packets))
@@ -237,7 +235,7 @@ module _ {N : Type 0} (draws : Draws N) (b : PeerActs) (q : PlainPolled N) where
   acts_stand stun (Time at now) old sdps packets outcome table new sdps' packets' h stands =
       calls_stand draws at b q (HandlesInput (plain_over draws) (given.Timeout now)) packets packets'
       (λ p r next handles s.
-      heard_stands draws at b q packets packets' (given.Timeout now) p r next h.2 (none_carries (contents_sent (other_side at) packets)) handles s)
+      heard_stands draws at b q packets packets' (given.Timeout now) p r next h.2 (nothing_comes (contents_sent (other_side at) packets)) handles s)
       old outcome table new h.2 h.0 stands
   acts_stand stun (Datagram at packet now) old sdps packets outcome table new sdps' packets' h stands =
       hears_stand draws at b q stun (remote_packet packets at packet) now packets packets' (λ transmit is. sent_among at packets packet transmit is)

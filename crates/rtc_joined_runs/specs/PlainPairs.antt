@@ -1,4 +1,7 @@
 -- Pairs of peers over plain parts, and what was done to these since they were fresh.
+use Rattle.std.specs.Prelude.{ℕ, ◌≡◌, List, ◌∷◌, None}
+use Rattle.rtc_parts_values.specs.Among.{Member}
+use Rattle.rtc_dtls.specs.DtlsWords.{dtls_given, dtls_taken}
 use Rattle.rtc_plain_ice.specs.Contents.{IceContents}
 use Rattle.rtc_plain_ice.specs.PlainMeaning.{plain_ice}
 use Rattle.rtc_plain_dtls.specs.Contents.{DtlsContents}
@@ -12,7 +15,7 @@ use Rattle.rtc_plain_media.specs.declared.plain_mark.PlainMark.{PlainMark}
 use Rattle.rtc_ids.specs.Draws.{Draws}
 use Rattle.rtc_peer_state.specs.Meanings.{Meanings, meanings}
 use Rattle.rtc_polling.specs.declared.polled_peer.PolledPeer.{PolledPeer}
-use Rattle.rtc_polling_laws.specs.PeerActs.{PeerActs}
+use Rattle.rtc_polling_laws.specs.PeerActs.{PeerActs, dtls_roles, roles_after}
 use Rattle.rtc_joined_peers.specs.Exchanging.{PeersExchange}
 use Rattle.rtc_history.specs.declared.side.Side.{Side}
 use Rattle.rtc_history.specs.declared.side.Side.TheVariants.{Left, Right}
@@ -45,7 +48,18 @@ abbrev pub PairExchanges : {N : Type 0} → PairActs → PlainPair N → Type 0
 PairExchanges acts pair =
     PeersExchange acts.left (contents_sent Left pair.packets) pair.left acts.right (contents_sent Right pair.packets) pair.right
 
+-- The DTLS role of a peer is the first that its part was given in these acts; and the packets of the handshake (content type 22, RFC 6347,
+-- section 4.1) that came to it were taken from the other part.
+pub record ShookHands {N : Type 0} (a : PeerActs) (p : PlainPolled N) (b : PeerActs) : Type 0 where
+  pub role : p.core.dtls.active ≡ roles_after None (dtls_roles a.dtls)
+  pub crosses : (bytes : List ℕ) → Member (22 ∷ bytes) (dtls_given a.dtls) → Member (22 ∷ bytes) (dtls_taken b.dtls)
+
+pub record PairShookHands {N : Type 0} (acts : PairActs) (pair : PlainPair N) : Type 0 where
+  pub left : ShookHands acts.left pair.left acts.right
+  pub right : ShookHands acts.right pair.right acts.left
+
 -- there are such acts
 pub record HasExchanged {N : Type 0} (pair : PlainPair N) : Type 0 where
   pub acts : PairActs
   pub exchange : PairExchanges acts pair
+  pub hands : PairShookHands acts pair

@@ -3,7 +3,7 @@ use Rattle.std.proofs.Common.{◌≡◌, ◌≤◌, ◌^◌, ◌⊎◌, inl, inr
 use Rattle.std.specs.declared.alloc.Global.{Global}
 use Rattle.std.specs.Io.KnownBytes.{Consumes, IsAtEnd}
 use Rattle.rtc_channel_runs.proofs.DrainedRuns.{run_hands_out}
-use Rattle.rtc_channel_runs.proofs.SettledRuns.{run_settles_open}
+use Rattle.rtc_channel_runs.proofs.SettlesRuns.{run_settles_open}
 use Rattle.rtc_plain_pair.proofs.PlainFaults.{plain_unfaulted}
 use Rattle.rtc_plain_pair.specs.ProgramPair.{counting, plain_parts, PlainPairState}
 use Rattle.rtc_io.proofs.Told.{reads_input}

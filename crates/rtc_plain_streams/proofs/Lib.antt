@@ -8,3 +8,14 @@ pub mod KnownVisits
 pub mod KnownEntries
 pub mod KnownPolls
 pub mod KnownCalls
+pub mod ThereStreams
+pub mod ThereEntries
+pub mod ThereVisits
+pub mod TherePolls
+pub mod ThereCalls
+pub mod KeptLists
+pub mod HeldItems
+pub mod HeldRows
+pub mod HeldActs
+pub mod PartItems
+pub mod PartActs

@@ -9,7 +9,7 @@ use Rattle.rtc_assoc_state.specs.Contents.{Contents, few_numbers_left, is_closin
 use Rattle.rtc_assoc_state.specs.Streams.{stream_of, put, is_closed_here, any_at_last_generation}
 use Rattle.rtc_assoc_state.specs.Inbox.{is_message_of}
 use Rattle.rtc_assoc_state.specs.Outbox.{Outbox, last_number}
-use Rattle.rtc_assoc_state.specs.Calls.{limited, started_as, said_hello, connected, accepted, snapped, opened, sent, message_written, next_message, taken_out, stream_ended, thresholded, shut_down, lost, timed, event_given, packet_given}
+use Rattle.rtc_assoc_state.specs.Calls.{limited, started_as, said_hello, connected, accepted, snapped, opened, sent, message_written, next_message, taken_out, stream_ended, thresholded, shut_down, timed, event_given, packet_given}
 use Rattle.rtc_assoc_state.specs.PlainMeaning.{plain_meaning, open_cause, write_cause, end_cause, stream_cause, ending_cause, Leaves, Sends, Reads}
 use Rattle.rtc_assoc_state.proofs.RaiseLemmas.{stream_of-stream, stream_of-put, generation-put, own_generation}
 use Rattle.rtc_assoc_state.proofs.ReadableLemmas.{any-filter, any-taken}

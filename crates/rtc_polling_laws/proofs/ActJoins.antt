@@ -1,5 +1,5 @@
 -- What calls did to the parts of a peer, one after the other, and what single acts did.
-use Rattle.std.proofs.Common.{◌≡◌, ◌++◌, inl, inr, ℕ, List, [], map, append-nil, refl, sym, ap, subst, ◌∙◌}
+use Rattle.std.proofs.Common.{◌≡◌, ◌++◌, inl, inr, ℕ, Bool, List, [], map, Option, append-nil, refl, sym, ap, subst, ◌∙◌}
 use Rattle.std.proofs.lemmas.List.{map-append}
 use Rattle.rtc_wire.specs.declared.transmit.Transmit.{Transmit}
 use Rattle.rtc_parts_values.specs.Among.{Member, Among}
@@ -12,6 +12,7 @@ use Rattle.rtc_ice.specs.IceActs.{IceAct, IceMoved, ice_moved-append}
 use Rattle.rtc_ice.specs.IceWords.{ice_given, ice_taken}
 use Rattle.rtc_ice.proofs.IceLemmas.{ice_given-append}
 use Rattle.rtc_dtls.specs.DtlsActs.{DtlsAct, DtlsMoved, dtls_moved-append}
+use Rattle.rtc_dtls.specs.DtlsState.{DtlsState}
 use Rattle.rtc_dtls.specs.DtlsWords.{dtls_given, dtls_taken, dtls_sent, dtls_got}
 use Rattle.rtc_dtls.proofs.DtlsLemmas.{dtls_given-append, dtls_sent-append, dtls_got-append}
 use Rattle.rtc_media.specs.MediaActs.{MediaAct, MediaMoved, media_moved-append}
@@ -22,9 +23,17 @@ use Rattle.rtc_sctp_laws.proofs.ClosingPolls.{started_moved}
 use Rattle.rtc_peer_state.specs.Meanings.{Meanings}
 use Rattle.rtc_polling.specs.declared.polled_peer.PolledPeer.{PolledPeer}
 use Rattle.rtc_polling_laws.specs.PeerActs.{acts_with, Came, peer_acts, media_given, media_taken, ice_moments, dtls_moments, media_moments, contents_taken}
+use Rattle.rtc_polling_laws.specs.PeerActs.{dtls_roles, queue_and_role, roles_after}
 use Rattle.rtc_polling_laws.specs.Acts.{PeerDid}
-use Rattle.rtc_polling_laws.proofs.ActWords.{media_given-append, ice_moments-append, dtls_moments-append, media_moments-append, writes_of-append, reads_of-append}
+use Rattle.rtc_polling_laws.proofs.ActWords.{media_given-append, ice_moments-append, dtls_moments-append, dtls_roles-append, media_moments-append, roles_after-append, writes_of-append, reads_of-append}
 use Rattle.rtc_polling_laws.proofs.ActWords.{among_with, among_pair, taken_first, taken_second, through}
+
+-- what stands to be sent stays, and the role does
+same_queue : {D : Type 0} (d e : DtlsState D) → queue_and_role e ≡ queue_and_role d → e.packets ≡ d.packets
+same_queue d e is = ap (λ (x : List (List ℕ) × Option Bool). x.0) is
+
+same_role : {D : Type 0} (d e : DtlsState D) → queue_and_role e ≡ queue_and_role d → e.active ≡ d.active
+same_role d e is = ap (λ (x : List (List ℕ) × Option Bool). x.1) is
 
 module _ {I D S M E X T W N : Type 0} (m : Meanings I D S M E X T W N) where
   -- all parts are as they were, with what stands to be sent and shown
@@ -32,7 +41,7 @@ module _ {I D S M E X T W N : Type 0} (m : Meanings I D S M E X T W N) where
   SameParts p q =
       (q.core.ice ≡ p.core.ice)
       × (q.core.dtls.instance ≡ p.core.dtls.instance)
-      × (q.core.dtls.packets ≡ p.core.dtls.packets)
+      × (queue_and_role q.core.dtls ≡ queue_and_role p.core.dtls)
       × (q.core.sctp ≡ p.core.sctp)
       × (q.core.media ≡ p.core.media)
 
@@ -48,9 +57,9 @@ module _ {I D S M E X T W N : Type 0} (m : Meanings I D S M E X T W N) where
   pub agent_acts_did : (came : Came) (moments : List ℕ) (shown : List (List ℕ)) (p q : PolledPeer I D S M N) (acts : List IceAct)
       → IceMoved m.ice p.core.ice acts q.core.ice → Among (ice_given acts) came.ice → Among (ice_moments acts) moments
       → Among shown (map (λ (transmit : Transmit). transmit.contents) (ice_taken acts)) → q.core.dtls.instance ≡ p.core.dtls.instance
-      → q.core.dtls.packets ≡ p.core.dtls.packets → q.core.sctp.association ≡ p.core.sctp.association → q.core.sctp.pushed ≡ p.core.sctp.pushed
+      → queue_and_role q.core.dtls ≡ queue_and_role p.core.dtls → q.core.sctp.association ≡ p.core.sctp.association → q.core.sctp.pushed ≡ p.core.sctp.pushed
       → q.core.media ≡ p.core.media → PeerDid m came moments shown [] [] p q
-  agent_acts_did came moments shown p q acts went came_is timed shows dtls packets association pushed media = record {
+  agent_acts_did came moments shown p q acts went came_is timed shows dtls queue association pushed media = record {
     acts = peer_acts acts [] [] [];
     went = record { ice = went; dtls = dtls; association = association; media = media };
     given_ice = came_is;
@@ -59,6 +68,7 @@ module _ {I D S M E X T W N : Type 0} (m : Meanings I D S M E X T W N) where
     timed_ice = timed;
     timed_dtls = among_none moments;
     timed_media = among_none moments;
+    role = same_role p.core.dtls q.core.dtls queue;
     sent = shown_of;
     handed = among_none [];
     all_handed = λ started. refl;
@@ -76,7 +86,7 @@ module _ {I D S M E X T W N : Type 0} (m : Meanings I D S M E X T W N) where
               (member-left x (map (λ (transmit : Transmit). transmit.contents) (ice_taken acts)) [] (shows.each x n))
           | inr n ↦
               member-right x (contents_taken (peer_acts acts [] [] [])) p.core.dtls.packets
-              (subst (λ (l : List (List ℕ)). Member x l) packets n)
+              (subst (λ (l : List (List ℕ)). Member x l) (same_queue p.core.dtls q.core.dtls queue) n)
         ];
       }
 
@@ -84,7 +94,7 @@ module _ {I D S M E X T W N : Type 0} (m : Meanings I D S M E X T W N) where
   pub ice_did : (came : Came) (moments : List ℕ) (shown : List (List ℕ)) (p q : PolledPeer I D S M N) (acts : List IceAct)
       → IceMoved m.ice p.core.ice acts q.core.ice → Among (ice_given acts) came.ice → Among (ice_moments acts) moments
       → Among shown (map (λ (transmit : Transmit). transmit.contents) (ice_taken acts)) → q.core.dtls.instance ≡ p.core.dtls.instance
-      → q.core.dtls.packets ≡ p.core.dtls.packets → q.core.sctp ≡ p.core.sctp → q.core.media ≡ p.core.media
+      → queue_and_role q.core.dtls ≡ queue_and_role p.core.dtls → q.core.sctp ≡ p.core.sctp → q.core.media ≡ p.core.media
       → PeerDid m came moments shown [] [] p q
   ice_did came moments shown p q acts went came_is timed shows dtls packets sctp media =
       agent_acts_did came moments shown p q acts went came_is timed shows dtls packets (ap (λ s. s.association) sctp) (ap (λ s. s.pushed) sctp) media
@@ -93,8 +103,8 @@ module _ {I D S M E X T W N : Type 0} (m : Meanings I D S M E X T W N) where
   pub dtls_did : (came : Came) (moments : List ℕ) (p q : PolledPeer I D S M N) (acts : List DtlsAct)
       → DtlsMoved m.dtls p.core.dtls.instance acts q.core.dtls.instance → Among (dtls_given acts) came.dtls → Among (dtls_moments acts) moments
       → dtls_sent acts ≡ [] → dtls_got acts ≡ [] → Among q.core.dtls.packets (dtls_taken acts ++ p.core.dtls.packets)
-      → q.core.ice ≡ p.core.ice → q.core.sctp ≡ p.core.sctp → q.core.media ≡ p.core.media → PeerDid m came moments [] [] [] p q
-  dtls_did came moments p q acts went came_is timed unsent none packets ice sctp media = record {
+      → q.core.dtls.active ≡ roles_after p.core.dtls.active (dtls_roles acts) → q.core.ice ≡ p.core.ice → q.core.sctp ≡ p.core.sctp → q.core.media ≡ p.core.media → PeerDid m came moments [] [] [] p q
+  dtls_did came moments p q acts went came_is timed unsent none packets role ice sctp media = record {
     acts = peer_acts [] acts [] [];
     went = record { ice = ice; dtls = went; association = ap (λ s. s.association) sctp; media = media };
     given_ice = among_none came.ice;
@@ -103,6 +113,7 @@ module _ {I D S M E X T W N : Type 0} (m : Meanings I D S M E X T W N) where
     timed_ice = among_none moments;
     timed_dtls = timed;
     timed_media = among_none moments;
+    role = role;
     sent =
         subst (λ (l : List (List ℕ)). Among q.core.dtls.packets (l ++ p.core.dtls.packets)) (sym (append-nil (dtls_taken acts))) packets;
     handed = among_none (dtls_got acts);
@@ -117,8 +128,8 @@ module _ {I D S M E X T W N : Type 0} (m : Meanings I D S M E X T W N) where
   pub media_did : (came : Came) (moments : List ℕ) (shown : List (List ℕ)) (p q : PolledPeer I D S M N) (acts : List MediaAct)
       → MediaMoved m.media p.core.media acts q.core.media → Among (media_given acts) came.media → Among (media_moments acts) moments
       → Among shown (media_taken acts) → q.core.ice ≡ p.core.ice → q.core.dtls.instance ≡ p.core.dtls.instance
-      → q.core.dtls.packets ≡ p.core.dtls.packets → q.core.sctp ≡ p.core.sctp → PeerDid m came moments shown [] [] p q
-  media_did came moments shown p q acts went came_is timed shows ice dtls packets sctp = record {
+      → queue_and_role q.core.dtls ≡ queue_and_role p.core.dtls → q.core.sctp ≡ p.core.sctp → PeerDid m came moments shown [] [] p q
+  media_did came moments shown p q acts went came_is timed shows ice dtls queue sctp = record {
     acts = peer_acts [] [] [] acts;
     went = record { ice = ice; dtls = dtls; association = ap (λ s. s.association) sctp; media = went };
     given_ice = among_none came.ice;
@@ -127,10 +138,11 @@ module _ {I D S M E X T W N : Type 0} (m : Meanings I D S M E X T W N) where
     timed_ice = among_none moments;
     timed_dtls = among_none moments;
     timed_media = timed;
+    role = same_role p.core.dtls q.core.dtls queue;
     sent = record {
       each = λ x h. elim (member-append x shown q.core.dtls.packets h) [
         | inl n ↦ member-left x (media_taken acts) p.core.dtls.packets (shows.each x n)
-        | inr n ↦ member-right x (media_taken acts) p.core.dtls.packets (subst (λ (l : List (List ℕ)). Member x l) packets n)
+        | inr n ↦ member-right x (media_taken acts) p.core.dtls.packets (subst (λ (l : List (List ℕ)). Member x l) (same_queue p.core.dtls q.core.dtls queue) n)
       ];
     };
     handed = among_none [];
@@ -150,9 +162,9 @@ module _ {I D S M E X T W N : Type 0} (m : Meanings I D S M E X T W N) where
   pub streams_did : (came : Came) (moments : List ℕ) (outs : List (List ℕ)) (tells : _) (wrote heard : List StreamMessage) (p q : PolledPeer I D S M N)
       → AssociationDid m.association [] outs tells wrote heard p.core.sctp.association q.core.sctp.association
       → pushed_packets q.core.sctp.pushed ≡ pushed_packets p.core.sctp.pushed ++ outs → q.core.ice ≡ p.core.ice
-      → q.core.dtls.instance ≡ p.core.dtls.instance → q.core.dtls.packets ≡ p.core.dtls.packets → q.core.media ≡ p.core.media
+      → q.core.dtls.instance ≡ p.core.dtls.instance → queue_and_role q.core.dtls ≡ queue_and_role p.core.dtls → q.core.media ≡ p.core.media
       → PeerDid m came moments [] wrote heard p q
-  streams_did came moments outs tells wrote heard p q did pushed ice dtls packets media = record {
+  streams_did came moments outs tells wrote heard p q did pushed ice dtls queue media = record {
     acts = peer_acts [] [] did.acts [];
     went = record { ice = ice; dtls = dtls; association = did.went; media = media };
     given_ice = among_none came.ice;
@@ -161,7 +173,8 @@ module _ {I D S M E X T W N : Type 0} (m : Meanings I D S M E X T W N) where
     timed_ice = among_none moments;
     timed_dtls = among_none moments;
     timed_media = among_none moments;
-    sent = same_among _ _ packets;
+    role = same_role p.core.dtls q.core.dtls queue;
+    sent = same_among _ _ (same_queue p.core.dtls q.core.dtls queue);
     handed = subst (λ (l : List (List ℕ)). Among l []) (sym did.given_is) (among_none []);
     all_handed = λ started. did.given_is;
     relayed = record {
@@ -195,6 +208,11 @@ module _ {I D S M E X T W N : Type 0} (m : Meanings I D S M E X T W N) where
       timed_ice = among_with _ _ _ _ (ice_moments-append a.acts.ice b.acts.ice) a.timed_ice b.timed_ice;
       timed_dtls = among_with _ _ _ _ (dtls_moments-append a.acts.dtls b.acts.dtls) a.timed_dtls b.timed_dtls;
       timed_media = among_with _ _ _ _ (media_moments-append a.acts.media b.acts.media) a.timed_media b.timed_media;
+      role =
+          b.role
+          ∙ ap (λ (o : Option Bool). roles_after o (dtls_roles b.acts.dtls)) a.role
+          ∙ sym (roles_after-append p.core.dtls.active (dtls_roles a.acts.dtls) (dtls_roles b.acts.dtls))
+          ∙ ap (roles_after p.core.dtls.active) (sym (dtls_roles-append a.acts.dtls b.acts.dtls));
       sent =
           through s s' q.core.dtls.packets r.core.dtls.packets (contents_taken (acts_with a.acts b.acts)) (contents_taken a.acts) (contents_taken b.acts)
           p.core.dtls.packets (λ x n. taken_first x a.acts b.acts n) (λ x n. taken_second x a.acts b.acts n) a.sent b.sent;

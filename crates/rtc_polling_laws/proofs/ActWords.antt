@@ -1,5 +1,5 @@
 -- What lists of acts gave, took and were handed, joined.
-use Rattle.std.proofs.Common.{◌≡◌, ◌++◌, ◌∷◌, inl, inr, ℕ, List, [], map, refl, sym, ap, subst, ◌∙◌}
+use Rattle.std.proofs.Common.{◌≡◌, ◌++◌, ◌∷◌, inl, inr, ℕ, Bool, List, [], append_assoc, map, Option, refl, sym, ap, subst, ◌∙◌}
 use Rattle.std.proofs.lemmas.List.{map-append}
 use Rattle.rtc_wire.specs.declared.transmit.Transmit.{Transmit}
 use Rattle.rtc_parts_values.specs.Why.{Timed}
@@ -15,6 +15,7 @@ use Rattle.rtc_dtls.proofs.DtlsLemmas.{dtls_taken-append}
 use Rattle.rtc_media.specs.MediaActs.{MediaAct, MediaGiven, MediaTaken, MediaStirred}
 use Rattle.rtc_sctp_laws.specs.StreamMessages.{writes_of, reads_of}
 use Rattle.rtc_polling_laws.specs.PeerActs.{acts_with, PeerActs, media_given, media_taken, ice_moments, dtls_moments, media_moments, contents_taken}
+use Rattle.rtc_polling_laws.specs.PeerActs.{dtls_roles, first_role, role_of_act, roles_after}
 
 pub media_given-append : (xs ys : List MediaAct) → media_given (xs ++ ys) ≡ media_given xs ++ media_given ys
 media_given-append [] ys = refl
@@ -35,6 +36,16 @@ pub dtls_moments-append : (xs ys : List DtlsAct) → dtls_moments (xs ++ ys) ≡
 dtls_moments-append [] ys = refl
 dtls_moments-append (DtlsStirred (DtlsTimed now answer) ∷ xs) ys = ap (λ l. now ∷ l) (dtls_moments-append xs ys)
 dtls_moments-append (_ ∷ xs) ys = dtls_moments-append xs ys
+
+pub dtls_roles-append : (xs ys : List DtlsAct) → dtls_roles (xs ++ ys) ≡ dtls_roles xs ++ dtls_roles ys
+dtls_roles-append [] ys = refl
+dtls_roles-append (x ∷ xs) ys =
+    ap (λ (l : List Bool). role_of_act x ++ l) (dtls_roles-append xs ys) ∙ sym (append_assoc (role_of_act x) (dtls_roles xs) (dtls_roles ys))
+
+-- more roles behind others
+pub roles_after-append : (role : Option Bool) (xs ys : List Bool) → roles_after role (xs ++ ys) ≡ roles_after (roles_after role xs) ys
+roles_after-append role [] ys = refl
+roles_after-append role (x ∷ xs) ys = roles_after-append (first_role role x) xs ys
 
 pub media_moments-append : (xs ys : List MediaAct) → media_moments (xs ++ ys) ≡ media_moments xs ++ media_moments ys
 media_moments-append [] ys = refl

@@ -55,6 +55,7 @@ module _ {I D S M E X T W N : Type 0} (m : Meanings I D S M E X T W N) where
     timed_ice = nil_among _ (p.core.greatest ∷ []) agent.timed;
     timed_dtls = connection.timed;
     timed_media = nil_among _ (p.core.greatest ∷ []) media.timed;
+    role = connection.role;
     sent =
         subst (λ (l : List (List ℕ)). Among l (contents_taken (peer_acts agent.acts connection.acts streams.did.acts media.acts) ++ p.core.dtls.packets))
         (sym connection.packets)
@@ -114,11 +115,11 @@ module _ {I D S M E X T W N : Type 0} (m : Meanings I D S M E X T W N) where
       (connection_none m.dtls p.core.greatest p.core.dtls c.dtls dtls) (call_none m.association p.core.sctp c.sctp sctp) media
   moving_did p c restart creds candidates control active rows client max halves drops media (AtRole follows starts sctp) =
       parts_did p c (follows_told m.ice p.core.ice restart creds candidates control c.ice follows)
-      (starts_told m.dtls p.core.dtls.active active p.core.greatest (Err DtlsAlloc) p.core.dtls c.dtls starts)
+      (starts_told m.dtls p.core.dtls.active active p.core.greatest (Err DtlsAlloc) p.core.dtls c.dtls refl starts)
       (call_none m.association p.core.sctp c.sctp sctp) media
   moving_did p c restart creds candidates control active rows client max halves drops media (AtStart follows starts started) =
       parts_did p c (follows_told m.ice p.core.ice restart creds candidates control c.ice follows)
-      (starts_told m.dtls p.core.dtls.active active p.core.greatest (Ok tt) p.core.dtls c.dtls starts)
+      (starts_told m.dtls p.core.dtls.active active p.core.greatest (Ok tt) p.core.dtls c.dtls refl starts)
       (sctp_did rows client p.core.greatest max halves drops p.core.sctp (Err SctpAlloc) c.sctp started) media
 
   stops_did : (p : PolledPeer I D S M N) (count : ℕ) (asked : Option Asked) (changes : List Change) (sdp : Sdp) (restart : Option (IceCreds × Bool))
@@ -138,7 +139,7 @@ module _ {I D S M E X T W N : Type 0} (m : Meanings I D S M E X T W N) where
       → NegotiationActs m p (with_core c p)
   offer_did p offer (Ok answer) c h =
       parts_did p c (follows_told m.ice p.core.ice _ _ _ _ c.ice h.ice_follows)
-      (starts_told m.dtls p.core.dtls.active (role_for (sdp_setup offer)) p.core.greatest (Ok tt) p.core.dtls c.dtls h.dtls_starts)
+      (starts_told m.dtls p.core.dtls.active (role_for (sdp_setup offer)) p.core.greatest (Ok tt) p.core.dtls c.dtls refl h.dtls_starts)
       (sctp_did (table_after p.core.lines (parsed_lines offer) true) (role_after p.core.dtls.active (sdp_setup offer)) p.core.greatest
       (remote_limit (max_message_size_of offer)) (halves_for m p.core true true [] offer (answer_ids m p.core offer)) false p.core.sctp (Ok tt) c.sctp h.sctp_starts)
       (media_updated m.media _ p.core.media h.media_updated.prepared c.media h.media_updated.by_prepare h.media_updated.by_commit)
@@ -146,14 +147,14 @@ module _ {I D S M E X T W N : Type 0} (m : Meanings I D S M E X T W N) where
   offer_did p offer (Err (SdpRefused error)) c h = core_did p _ c h.1 refl refl refl refl
   offer_did p offer (Err (Dtls Fault)) c h =
       parts_did p c (follows_told m.ice p.core.ice _ _ _ _ c.ice h.ice_follows)
-      (starts_told m.dtls p.core.dtls.active (role_for (sdp_setup offer)) p.core.greatest (Err Fault) p.core.dtls c.dtls h.dtls_fails)
+      (starts_told m.dtls p.core.dtls.active (role_for (sdp_setup offer)) p.core.greatest (Err Fault) p.core.dtls c.dtls refl h.dtls_fails)
       (call_none m.association p.core.sctp c.sctp (ap (λ (x : Peer I D S M N). x.sctp) h.rest))
       (media_prepared m.media _ (Ok tt) p.core.media c.media h.media_prepared)
   offer_did p offer (Err (Dtls WouldBlock)) c h = absurd h
   offer_did p offer (Err (Dtls DtlsAlloc)) c h = absurd h
   offer_did p offer (Err (Sctp error)) c h =
       parts_did p c (follows_told m.ice p.core.ice _ _ _ _ c.ice h.1.ice_follows)
-      (starts_told m.dtls p.core.dtls.active (role_for (sdp_setup offer)) p.core.greatest (Ok tt) p.core.dtls c.dtls h.1.dtls_starts)
+      (starts_told m.dtls p.core.dtls.active (role_for (sdp_setup offer)) p.core.greatest (Ok tt) p.core.dtls c.dtls refl h.1.dtls_starts)
       (sctp_did (table_after p.core.lines (parsed_lines offer) true) (role_after p.core.dtls.active (sdp_setup offer)) p.core.greatest
       (remote_limit (max_message_size_of offer)) (halves_for m p.core true true [] offer (answer_ids m p.core offer)) false p.core.sctp (Err (Proto AssociationFault)) c.sctp h.1.sctp_fails)
       (media_prepared m.media _ (Ok tt) p.core.media c.media h.1.media_prepared)
@@ -169,7 +170,7 @@ module _ {I D S M E X T W N : Type 0} (m : Meanings I D S M E X T W N) where
       → AcceptsAnswer m p.core token answer r c → NegotiationActs m p (with_core c p)
   answer_did p token answer (Ok done) c h =
       parts_did p c (follows_told m.ice p.core.ice _ _ _ _ c.ice h.ice_follows)
-      (starts_told m.dtls p.core.dtls.active (role_for (sdp_setup answer)) p.core.greatest (Ok tt) p.core.dtls c.dtls h.dtls_starts)
+      (starts_told m.dtls p.core.dtls.active (role_for (sdp_setup answer)) p.core.greatest (Ok tt) p.core.dtls c.dtls refl h.dtls_starts)
       (sctp_did (table_after p.core.lines (parsed_lines answer) false) (role_after p.core.dtls.active (sdp_setup answer)) p.core.greatest
       (remote_limit (max_message_size_of answer)) (halves_for m p.core false token.says_init token.changes answer p.core.ids) true p.core.sctp (Ok tt) c.sctp h.sctp_starts)
       (media_updated m.media _ p.core.media h.media_updated.prepared c.media h.media_updated.by_prepare h.media_updated.by_commit)
@@ -181,14 +182,14 @@ module _ {I D S M E X T W N : Type 0} (m : Meanings I D S M E X T W N) where
   answer_did p token answer (Err (SdpRefused error)) c h = core_did p _ c h.1.1 refl refl refl refl
   answer_did p token answer (Err (Dtls Fault)) c h =
       parts_did p c (follows_told m.ice p.core.ice _ _ _ _ c.ice h.ice_follows)
-      (starts_told m.dtls p.core.dtls.active (role_for (sdp_setup answer)) p.core.greatest (Err Fault) p.core.dtls c.dtls h.dtls_fails)
+      (starts_told m.dtls p.core.dtls.active (role_for (sdp_setup answer)) p.core.greatest (Err Fault) p.core.dtls c.dtls refl h.dtls_fails)
       (call_none m.association p.core.sctp c.sctp (ap (λ (x : Peer I D S M N). x.sctp) h.rest))
       (media_prepared m.media _ (Ok tt) p.core.media c.media h.media_prepared)
   answer_did p token answer (Err (Dtls WouldBlock)) c h = absurd h
   answer_did p token answer (Err (Dtls DtlsAlloc)) c h = absurd h
   answer_did p token answer (Err (Sctp error)) c h =
       parts_did p c (follows_told m.ice p.core.ice _ _ _ _ c.ice h.1.ice_follows)
-      (starts_told m.dtls p.core.dtls.active (role_for (sdp_setup answer)) p.core.greatest (Ok tt) p.core.dtls c.dtls h.1.dtls_starts)
+      (starts_told m.dtls p.core.dtls.active (role_for (sdp_setup answer)) p.core.greatest (Ok tt) p.core.dtls c.dtls refl h.1.dtls_starts)
       (sctp_did (table_after p.core.lines (parsed_lines answer) false) (role_after p.core.dtls.active (sdp_setup answer)) p.core.greatest
       (remote_limit (max_message_size_of answer)) (halves_for m p.core false token.says_init token.changes answer p.core.ids) true p.core.sctp (Err (Proto AssociationFault)) c.sctp h.1.sctp_fails)
       (media_prepared m.media _ (Ok tt) p.core.media c.media h.1.media_prepared)

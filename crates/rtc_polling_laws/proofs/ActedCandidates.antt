@@ -24,6 +24,7 @@ module _ {I D S M E X T W N : Type 0} (m : Meanings I D S M E X T W N) where
     timed_ice = nil_among _ [] agent.timed;
     timed_dtls = among_none [];
     timed_media = among_none [];
+    role = refl;
     sent = record { each = λ x h. member-right x (contents_taken (peer_acts agent.acts [] [] [])) p.core.dtls.packets h };
     handed = among_none [];
     all_handed = λ started. refl;

@@ -20,7 +20,7 @@ use Rattle.rtc_peer_state.specs.Meanings.{Meanings}
 use Rattle.rtc_polling.specs.declared.polled_peer.PolledPeer.{PolledPeer}
 use Rattle.rtc_polling.specs.Closing.{ShutsMedia, ShutsStreams, ShutsDtls, BecomesClosing, BeginsClosing, ClosesPeer, ClosesPeerFrom}
 use Rattle.rtc_polling.specs.Stages.{Call, InTurn, Failed, Passed}
-use Rattle.rtc_polling_laws.specs.PeerActs.{Came}
+use Rattle.rtc_polling_laws.specs.PeerActs.{Came, queue_and_role}
 use Rattle.rtc_polling_laws.specs.Acts.{PeerDid}
 use Rattle.rtc_polling_laws.proofs.ActJoins.{SameParts, did_by, dtls_did, media_did, still_did, streams_did, did_on}
 
@@ -48,7 +48,7 @@ module _ {I D S M E X T W N : Type 0} (m : Meanings I D S M E X T W N) (came : C
   call_did wrote p q h beside =
       streams_did m came moments [] [] wrote [] p q h.did
       (ap pushed_packets h.pushed_is ∙ sym (append-nil (pushed_packets p.core.sctp.pushed)))
-      beside.0 (ap (λ d. d.instance) beside.1) (ap (λ d. d.packets) beside.1) beside.2
+      beside.0 (ap (λ d. d.instance) beside.1) (ap queue_and_role beside.1) beside.2
 
   -- a call acts, whatever it answers
   abbrev pub CallActs : Call (PolledPeer I D S M N) → Type 0
@@ -67,7 +67,7 @@ module _ {I D S M E X T W N : Type 0} (m : Meanings I D S M E X T W N) (came : C
       → PeerDid m came moments [] [] [] p q
   shut_media r p q h beside =
       media_did m came moments [] p q (MediaStirred Shut ∷ []) (media_moved-one m.media p.core.media q.core.media (MediaStirred Shut) (r, h))
-      (among_none came.media) (among_none moments) (among_none []) beside.0 (ap (λ d. d.instance) beside.1) (ap (λ d. d.packets) beside.1) beside.2
+      (among_none came.media) (among_none moments) (among_none []) beside.0 (ap (λ d. d.instance) beside.1) (ap queue_and_role beside.1) beside.2
 
   media_acts : CallActs (ShutsMedia m)
   unfolding ShutsMedia
@@ -86,20 +86,21 @@ module _ {I D S M E X T W N : Type 0} (m : Meanings I D S M E X T W N) (came : C
   streams_act p (Err _) q h = absurd h
 
   shut_dtls : (r : Result (Unit {0}) DtlsError) (p q : PolledPeer I D S M N) → m.dtls.shut p.core.dtls.instance r q.core.dtls.instance
-      → q.core.dtls.packets ≡ p.core.dtls.packets → BesideDtls p q → PeerDid m came moments [] [] [] p q
-  shut_dtls r p q h packets beside =
+      → queue_and_role q.core.dtls ≡ queue_and_role p.core.dtls → BesideDtls p q → PeerDid m came moments [] [] [] p q
+  shut_dtls r p q h queue beside =
       dtls_did m came moments p q (Stirred (DtlsClosed r) ∷ [])
       (dtls_moved-one m.dtls p.core.dtls.instance q.core.dtls.instance (Stirred (DtlsClosed r)) h) (among_none came.dtls) (among_none moments) refl refl
-      (subst (λ (l : List (List ℕ)). Among l p.core.dtls.packets) (sym packets) (among_self p.core.dtls.packets)) beside.0 beside.1 beside.2
+      (subst (λ (l : List (List ℕ)). Among l p.core.dtls.packets) (sym (ap (λ x. x.0) queue)) (among_self p.core.dtls.packets)) (ap (λ x. x.1) queue)
+      beside.0 beside.1 beside.2
 
   dtls_acts : CallActs (ShutsDtls m)
   unfolding ShutsDtls
   dtls_acts p (Ok done) q h =
-      shut_dtls (Ok tt) p q h.0 (ap (λ (x : PolledPeer I D S M N). x.core.dtls.packets) h.1) (beside BesideDtls p _ q h.1 (refl, refl, refl, refl, refl))
+      shut_dtls (Ok tt) p q h.0 (ap (λ (x : PolledPeer I D S M N). queue_and_role x.core.dtls) h.1) (beside BesideDtls p _ q h.1 (refl, refl, refl, refl, refl))
   dtls_acts p (Err (Dtls cause)) q h =
-      shut_dtls (Err Fault) p q h.1 (ap (λ (x : PolledPeer I D S M N). x.core.dtls.packets) h.2) (beside BesideDtls p _ q h.2 (refl, refl, refl, refl, refl))
+      shut_dtls (Err Fault) p q h.1 (ap (λ (x : PolledPeer I D S M N). queue_and_role x.core.dtls) h.2) (beside BesideDtls p _ q h.2 (refl, refl, refl, refl, refl))
   dtls_acts p (Err Alloc) q h =
-      shut_dtls (Err DtlsAlloc) p q h.0 (ap (λ (x : PolledPeer I D S M N). x.core.dtls.packets) h.1) (beside BesideDtls p _ q h.1 (refl, refl, refl, refl, refl))
+      shut_dtls (Err DtlsAlloc) p q h.0 (ap (λ (x : PolledPeer I D S M N). queue_and_role x.core.dtls) h.1) (beside BesideDtls p _ q h.1 (refl, refl, refl, refl, refl))
   dtls_acts p (Err _) q h = absurd h
 
   -- nothing was done, to what is another peer

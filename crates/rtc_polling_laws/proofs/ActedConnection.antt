@@ -27,9 +27,9 @@ use Rattle.rtc_polling.specs.DtlsStages.{TimesDtls, TakesDtlsOutput, TakesDtlsAn
 use Rattle.rtc_polling.specs.DtlsStages.{PollsDtlsOutputs, HandsPacket, TellsConnectedFrom, is_dtls_due}
 use Rattle.rtc_polling.specs.IceStages.{PollsIceEvent, PollsIceEvents}
 use Rattle.rtc_polling.specs.Walk.{TellsConnection}
-use Rattle.rtc_polling_laws.specs.PeerActs.{peer_acts, nothing_came, dtls_moments}
+use Rattle.rtc_polling_laws.specs.PeerActs.{peer_acts, nothing_came, dtls_moments, dtls_roles, queue_and_role, roles_after}
 use Rattle.rtc_polling_laws.specs.Acts.{PeerDid}
-use Rattle.rtc_polling_laws.proofs.ActWords.{dtls_moments-append}
+use Rattle.rtc_polling_laws.proofs.ActWords.{dtls_moments-append, dtls_roles-append}
 use Rattle.rtc_polling_laws.proofs.ActJoins.{dtls_did, still_did}
 use Rattle.rtc_polling_laws.proofs.ActedClosing.{beside, BesideDtls, BesideStreams}
 use Rattle.rtc_polling_laws.proofs.VisitActs.{VisitDid, QuietDid, quiet_nothing, plain_visit, still_visit}
@@ -54,6 +54,10 @@ sent_of (packet ∷ packets) = sent_of packets
 got_of : (packets : List (List ℕ)) → dtls_got (takes packets) ≡ []
 got_of [] = refl
 got_of (packet ∷ packets) = got_of packets
+
+roles_of : (packets : List (List ℕ)) → dtls_roles (takes packets) ≡ []
+roles_of [] = refl
+roles_of (packet ∷ packets) = roles_of packets
 
 moments_of : (packets : List (List ℕ)) → dtls_moments (takes packets) ≡ []
 moments_of [] = refl
@@ -95,9 +99,9 @@ module _ {I D S M E X T W N : Type 0} (m : Meanings I D S M E X T W N) (laws : P
   -- packets up to an output, and the output
   output_did : (acts : List DtlsAct) (packets : List (List ℕ)) (k : D) (p q : PolledPeer I D S M N) → DtlsMoved m.dtls p.core.dtls.instance (takes packets) k
       → DtlsMoved m.dtls k acts q.core.dtls.instance → dtls_given acts ≡ [] → dtls_taken acts ≡ [] → dtls_sent acts ≡ [] → dtls_got acts ≡ []
-      → dtls_moments acts ≡ [] → q.core.dtls.packets ≡ p.core.dtls.packets ++ packets → BesideDtls p q
-      → PeerDid m nothing_came (p.core.greatest ∷ []) [] [] [] p q
-  output_did acts packets k p q went more given taken sent got timed queue beside =
+      → dtls_moments acts ≡ [] → dtls_roles acts ≡ [] → q.core.dtls.packets ≡ p.core.dtls.packets ++ packets
+      → q.core.dtls.active ≡ p.core.dtls.active → BesideDtls p q → PeerDid m nothing_came (p.core.greatest ∷ []) [] [] [] p q
+  output_did acts packets k p q went more given taken sent got timed roles queue role beside =
       dtls_did m nothing_came (p.core.greatest ∷ []) p q (takes packets ++ acts)
       (dtls_moved-append m.dtls p.core.dtls.instance k q.core.dtls.instance (takes packets) acts went more)
       (among_nil (dtls_given (takes packets ++ acts)) [] (dtls_given-append (takes packets) acts ∙ ap (λ l. l ++ dtls_given acts) (given_of packets) ∙ given))
@@ -107,6 +111,7 @@ module _ {I D S M E X T W N : Type 0} (m : Meanings I D S M E X T W N) (laws : P
       (dtls_got-append (takes packets) acts ∙ ap (λ l. l ++ dtls_got acts) (got_of packets) ∙ got)
       (queued q.core.dtls.packets p.core.dtls.packets packets (dtls_taken (takes packets ++ acts)) queue
       (dtls_taken-append (takes packets) acts ∙ ap (λ l. dtls_taken (takes packets) ++ l) taken ∙ append-nil (dtls_taken (takes packets)) ∙ taken_of packets))
+      (role ∙ ap (roles_after p.core.dtls.active) (sym (dtls_roles-append (takes packets) acts ∙ ap (λ l. l ++ dtls_roles acts) (roles_of packets) ∙ roles)))
       beside.0 beside.1 beside.2
 
   quiet_of : (p q : PolledPeer I D S M N) → PeerDid m nothing_came (p.core.greatest ∷ []) [] [] [] p q → BesideDtls p q → QuietDid m p q
@@ -115,10 +120,10 @@ module _ {I D S M E X T W N : Type 0} (m : Meanings I D S M E X T W N) (laws : P
   -- an output that tells something, or a moment
   told_did : (call : DtlsCall) (output : DtlsOutput) (d : DtlsState D) (p : PolledPeer I D S M N) (packets : List (List ℕ)) (k : D)
       → DtlsMoved m.dtls p.core.dtls.instance (takes packets) k → DtlsMoved m.dtls k (Stirred call ∷ []) d.instance
-      → dtls_moments (Stirred call ∷ []) ≡ [] → d.packets ≡ p.core.dtls.packets ++ packets → QuietDid m p (with_dtls d p)
-  told_did call output d p packets k went more timed queue =
+      → dtls_moments (Stirred call ∷ []) ≡ [] → dtls_roles (Stirred call ∷ []) ≡ [] → d.packets ≡ p.core.dtls.packets ++ packets → d.active ≡ p.core.dtls.active → QuietDid m p (with_dtls d p)
+  told_did call output d p packets k went more timed roles queue role =
       quiet_of p (with_dtls d p)
-      (output_did (Stirred call ∷ []) packets k p (with_dtls d p) went more refl refl refl refl timed queue (refl, refl, refl, refl, refl))
+      (output_did (Stirred call ∷ []) packets k p (with_dtls d p) went more refl refl refl refl timed roles queue role (refl, refl, refl, refl, refl))
       (refl, refl, refl, refl, refl)
 
   drained : (output : DtlsOutput) (active : Option Bool) (d : DtlsState D) (p : PolledPeer I D S M N) → PollsOutput m.dtls p.core.dtls active (Ok output) d
@@ -126,28 +131,28 @@ module _ {I D S M E X T W N : Type 0} (m : Meanings I D S M E X T W N) (laws : P
   drained output None d p h plain =
       quiet_of p (with_dtls d p)
       (still_did m nothing_came (p.core.greatest ∷ []) p (with_dtls d p)
-      (refl, ap (λ (x : DtlsState D). x.instance) h.1, ap (λ (x : DtlsState D). x.packets) h.1, refl, refl)) (refl, refl, refl, refl, refl)
+      (refl, ap (λ (x : DtlsState D). x.instance) h.1, ap queue_and_role h.1, refl, refl)) (refl, refl, refl, refl, refl)
   drained outputs.Connected (Some active) d p h plain =
       let x = h.0 in
       told_did (Showed DrewConnected) outputs.Connected d p x.0 x.1.0 x.1.1.0
-      (dtls_moved-one m.dtls x.1.0 d.instance (Stirred (Showed DrewConnected)) (refl, x.1.1.1)) refl x.1.1.2
+      (dtls_moved-one m.dtls x.1.0 d.instance (Stirred (Showed DrewConnected)) (refl, x.1.1.1)) refl refl x.1.1.2 (ap (λ (y : DtlsState D). y.active) h.1)
   drained (outputs.KeyingMaterial key profile) (Some active) d p h plain =
       let x = h.0 in
       told_did (Showed (DrewKeying key.now profile)) (outputs.KeyingMaterial key profile) d p x.0 x.1.0 x.1.1.0
-      (dtls_moved-one m.dtls x.1.0 d.instance (Stirred (Showed (DrewKeying key.now profile))) (refl, x.1.1.1)) refl x.1.1.2
+      (dtls_moved-one m.dtls x.1.0 d.instance (Stirred (Showed (DrewKeying key.now profile))) (refl, x.1.1.1)) refl refl x.1.1.2 (ap (λ (y : DtlsState D). y.active) h.1)
   drained (outputs.PeerCert cert) (Some active) d p h plain =
       let x = h.0 in
       told_did (Showed (DrewCert cert.now)) (outputs.PeerCert cert) d p x.0 x.1.0 x.1.1.0
-      (dtls_moved-one m.dtls x.1.0 d.instance (Stirred (Showed (DrewCert cert.now))) (refl, x.1.1.1)) refl x.1.1.2
+      (dtls_moved-one m.dtls x.1.0 d.instance (Stirred (Showed (DrewCert cert.now))) (refl, x.1.1.1)) refl refl x.1.1.2 (ap (λ (y : DtlsState D). y.active) h.1)
   drained (outputs.ApplicationData bytes) (Some active) d p h plain = absurd plain
   drained outputs.CloseNotify (Some active) d p h plain =
       let x = h.0 in
       told_did (Showed DrewClose) outputs.CloseNotify d p x.0 x.1.0 x.1.1.0
-      (dtls_moved-one m.dtls x.1.0 d.instance (Stirred (Showed DrewClose)) (refl, x.1.1.1)) refl x.1.1.2
+      (dtls_moved-one m.dtls x.1.0 d.instance (Stirred (Showed DrewClose)) (refl, x.1.1.1)) refl refl x.1.1.2 (ap (λ (y : DtlsState D). y.active) h.1)
   drained (outputs.Timeout moment) (Some active) d p h plain =
       let x = h.0 in
       quiet_of p (with_dtls d p)
-      (output_did [] x.0 x.1.0 p (with_dtls d p) x.1.1.0 (laws.dtls.timeout_none x.1.0 d.instance moment x.1.1.1) refl refl refl refl refl x.1.1.2
+      (output_did [] x.0 x.1.0 p (with_dtls d p) x.1.1.0 (laws.dtls.timeout_none x.1.0 d.instance moment x.1.1.1) refl refl refl refl refl refl x.1.1.2 (ap (λ (y : DtlsState D). y.active) h.1)
       (refl, refl, refl, refl, refl)) (refl, refl, refl, refl, refl)
 
   -- memory lacked for a packet, which is lost
@@ -156,7 +161,7 @@ module _ {I D S M E X T W N : Type 0} (m : Meanings I D S M E X T W N) (laws : P
   lost None e d p h =
       quiet_of p (with_dtls d p)
       (still_did m nothing_came (p.core.greatest ∷ []) p (with_dtls d p)
-      (refl, ap (λ (x : DtlsState D). x.instance) h.1, ap (λ (x : DtlsState D). x.packets) h.1, refl, refl)) (refl, refl, refl, refl, refl)
+      (refl, ap (λ (x : DtlsState D). x.instance) h.1, ap queue_and_role h.1, refl, refl)) (refl, refl, refl, refl, refl)
   lost (Some active) e d p h =
       let x = h.0 in
       quiet_of p (with_dtls d p)
@@ -170,14 +175,16 @@ module _ {I D S M E X T W N : Type 0} (m : Meanings I D S M E X T W N) (laws : P
               member-left b (dtls_taken (takes (x.0 ++ x.1.0 ∷ []))) p.core.dtls.packets
               (subst (λ (l : List (List ℕ)). Member b l) (sym (taken_of (x.0 ++ x.1.0 ∷ []))) (member-left b x.0 (x.1.0 ∷ []) k))
         ];
-      }) refl refl refl) (refl, refl, refl, refl, refl)
+      }) (ap (λ (y : DtlsState D). y.active) h.1 ∙ ap (roles_after p.core.dtls.active) (sym (roles_of (x.0 ++ x.1.0 ∷ [])))) refl refl refl)
+      (refl, refl, refl, refl, refl)
 
   -- application data that came is handed to the association
   data_did : (bytes : List ℕ) (packets : List (List ℕ)) (k j : D) (p q : PolledPeer I D S M N) → DtlsMoved m.dtls p.core.dtls.instance (takes packets) k
       → DtlsMoved m.dtls k (Got bytes ∷ []) j → q.core.dtls.instance ≡ j → q.core.dtls.packets ≡ p.core.dtls.packets ++ packets
+      → q.core.dtls.active ≡ p.core.dtls.active
       → CallDid m.association (given_packet (m.association.started p.core.sctp.association) bytes) [] p.core.sctp q.core.sctp
       → q.core.ice ≡ p.core.ice → q.core.media ≡ p.core.media → PeerDid m nothing_came (p.core.greatest ∷ []) [] [] [] p q
-  data_did bytes packets k j p q went more same queue h ice media =
+  data_did bytes packets k j p q went more same queue role h ice media =
       let acts : List DtlsAct = takes packets ++ Got bytes ∷ [] in
       let got : dtls_got acts ≡ bytes ∷ [] = dtls_got-append (takes packets) (Got bytes ∷ []) ∙ ap (λ l. l ++ bytes ∷ []) (got_of packets) in
       record {
@@ -198,6 +205,10 @@ module _ {I D S M E X T W N : Type 0} (m : Meanings I D S M E X T W N) (laws : P
             no_moment (dtls_moments acts) (p.core.greatest ∷ [])
             (dtls_moments-append (takes packets) (Got bytes ∷ []) ∙ ap (λ l. l ++ []) (moments_of packets));
         timed_media = among_none (p.core.greatest ∷ []);
+        role =
+            role
+            ∙ ap (roles_after p.core.dtls.active)
+            (sym (dtls_roles-append (takes packets) (Got bytes ∷ []) ∙ ap (λ l. l ++ []) (roles_of packets)));
         sent =
             subst (λ (l : List (List ℕ)). Among q.core.dtls.packets (l ++ p.core.dtls.packets)) (sym (append-nil (dtls_taken acts)))
             (queued q.core.dtls.packets p.core.dtls.packets packets (dtls_taken acts) queue
@@ -227,6 +238,7 @@ module _ {I D S M E X T W N : Type 0} (m : Meanings I D S M E X T W N) (laws : P
       plain_visit m Again p q
       (data_did bytes.now x.0 x.1.0 d.instance p q x.1.1.0 (dtls_moved-one m.dtls x.1.0 d.instance (Got bytes.now) x.1.1.1)
       (ap (λ (y : DtlsState D). y.instance) kept.1) (ap (λ (y : DtlsState D). y.packets) kept.1 ∙ x.1.1.2)
+      (ap (λ (y : DtlsState D). y.active) kept.1 ∙ ap (λ (y : DtlsState D). y.active) h.1)
       (input_did m.association p.core.greatest bytes.now p.core.sctp (Ok tt) q.core.sctp taken.0) kept.0 kept.2)
       refl kept.3 (ap (λ (y : PolledPeer I D S M N). y.core.channels.rows) taken.1)
       (input_entries m.association (m.association.started p.core.sctp.association) p.core.greatest bytes.now p.core.sctp (Ok tt) q.core.sctp taken.0, ap (λ (y : PolledPeer I D S M N). y.core.channels) taken.1, input_states m.association (m.association.started p.core.sctp.association) p.core.greatest bytes.now p.core.sctp (Ok tt) q.core.sctp taken.0) tt
@@ -236,6 +248,7 @@ module _ {I D S M E X T W N : Type 0} (m : Meanings I D S M E X T W N) (laws : P
       plain_visit m (Error Alloc) p q
       (data_did bytes.now x.0 x.1.0 d.instance p q x.1.1.0 (dtls_moved-one m.dtls x.1.0 d.instance (Got bytes.now) x.1.1.1)
       (ap (λ (y : DtlsState D). y.instance) kept.1) (ap (λ (y : DtlsState D). y.packets) kept.1 ∙ x.1.1.2)
+      (ap (λ (y : DtlsState D). y.active) kept.1 ∙ ap (λ (y : DtlsState D). y.active) h.1)
       (input_did m.association p.core.greatest bytes.now p.core.sctp (Err alloc_error) q.core.sctp taken.0) kept.0 kept.2)
       refl kept.3 tt (input_entries m.association (m.association.started p.core.sctp.association) p.core.greatest bytes.now p.core.sctp (Err alloc_error) q.core.sctp taken.0, ap (λ (y : PolledPeer I D S M N). y.core.channels) taken.1, input_states m.association (m.association.started p.core.sctp.association) p.core.greatest bytes.now p.core.sctp (Err alloc_error) q.core.sctp taken.0) tt
   data_acts bytes (Some active) d p _ q h taken = absurd taken

@@ -36,7 +36,7 @@ use Rattle.rtc_polling.specs.Inputs.{TimesIce, TimesStreams, TimesChannels, Time
 use Rattle.rtc_polling.specs.Inputs.{HearsStun, HearsDtls, HearsMedia, HearsKind, Hears, Heard, PartFailed, HandlesInputBy, HandlesInputIn, HandlesInput}
 use Rattle.rtc_polling.specs.Statistics.{TimesStatistics}
 use Rattle.rtc_polling.proofs.StatisticsTurns.{KeepsAllButRound, VisitedOnce, statistics_timed}
-use Rattle.rtc_polling_laws.specs.PeerActs.{Came, nothing_came, came_of_datagram, came_by, moment_given}
+use Rattle.rtc_polling_laws.specs.PeerActs.{Came, nothing_came, came_of_datagram, came_by, moment_given, queue_and_role}
 use Rattle.rtc_polling_laws.specs.Acts.{PeerDid, CallActs as CallDone, message_of_write}
 use Rattle.rtc_polling_laws.proofs.ActJoins.{ice_did, dtls_did, media_did, still_did}
 use Rattle.rtc_polling_laws.proofs.ActedClosing.{beside, BesideIce, BesideDtls, BesideStreams, BesideMedia, call_did, CallActs, did_after, turn_acts, still_by}
@@ -47,7 +47,7 @@ module _ {I D S M E X T W N : Type 0} (m : Meanings I D S M E X T W N) (came : C
       → PeerDid m came (now ∷ []) [] [] [] p q
   time_ice r p q h beside =
       ice_did m came (now ∷ []) [] p q (IceStirred (IceTimed now r) ∷ []) (ice_moved-one m.ice p.core.ice q.core.ice (IceStirred (IceTimed now r)) h)
-      (among_none came.ice) (among_self (now ∷ [])) (among_none []) (ap (λ d. d.instance) beside.0) (ap (λ d. d.packets) beside.0) beside.1 beside.2
+      (among_none came.ice) (among_self (now ∷ [])) (among_none []) (ap (λ d. d.instance) beside.0) (ap queue_and_role beside.0) beside.1 beside.2
 
   ice_timed : CallActs m came (now ∷ []) (TimesIce m now)
   unfolding TimesIce
@@ -82,7 +82,7 @@ module _ {I D S M E X T W N : Type 0} (m : Meanings I D S M E X T W N) (came : C
   time_media r p q h beside =
       media_did m came (now ∷ []) [] p q (MediaStirred (Timed now) ∷ [])
       (media_moved-one m.media p.core.media q.core.media (MediaStirred (Timed now)) (r, h)) (among_none came.media) (among_self (now ∷ []))
-      (among_none []) beside.0 (ap (λ d. d.instance) beside.1) (ap (λ d. d.packets) beside.1) beside.2
+      (among_none []) beside.0 (ap (λ d. d.instance) beside.1) (ap queue_and_role beside.1) beside.2
 
   media_timed : CallActs m came (now ∷ []) (TimesMedia m now)
   unfolding TimesMedia
@@ -99,7 +99,7 @@ module _ {I D S M E X T W N : Type 0} (m : Meanings I D S M E X T W N) (came : C
       media_did m came (now ∷ []) [] p q (MediaStirred Other ∷ [])
       (media_moved-one m.media p.core.media q.core.media (MediaStirred Other)
       (inr (inr (StatsVisited now visited.0 visited.1.0 visited.1.1.0 visited.1.1.1))))
-      (among_none came.media) (among_none (now ∷ [])) (among_none []) beside.0 (ap (λ d. d.instance) beside.1) (ap (λ d. d.packets) beside.1) beside.2
+      (among_none came.media) (among_none (now ∷ [])) (among_none []) beside.0 (ap (λ d. d.instance) beside.1) (ap queue_and_role beside.1) beside.2
 
   statistics_acts : CallActs m came (now ∷ []) (TimesStatistics m now)
   statistics_acts p r q h =
@@ -130,7 +130,7 @@ module _ {I D S M E X T W N : Type 0} (m : Meanings I D S M E X T W N) (now : �
       ice_did m came (now ∷ []) [] p q (IceGiven bytes ∷ [])
       (ice_moved-one m.ice p.core.ice q.core.ice (IceGiven bytes) (ByPacket now datagram.proto datagram.source datagram.destination r h))
       (subst (λ (l : List (List ℕ)). Among (bytes ∷ []) l) (sym is) (among_self (bytes ∷ []))) (among_none (now ∷ [])) (among_none [])
-      (ap (λ d. d.instance) beside.0) (ap (λ d. d.packets) beside.0) beside.1 beside.2
+      (ap (λ d. d.instance) beside.0) (ap queue_and_role beside.0) beside.1 beside.2
 
   stun_acts : (datagram : Receive) (bytes : List ℕ) (came : Came) → came.ice ≡ bytes ∷ [] → CallActs m came (now ∷ []) (HearsStun m now datagram bytes)
   unfolding HearsStun
@@ -144,13 +144,13 @@ module _ {I D S M E X T W N : Type 0} (m : Meanings I D S M E X T W N) (now : �
       → HandsOn m.dtls p.core.dtls active (λ i s j. m.dtls.given i bytes s j) r q.core.dtls → BesideDtls p q → PeerDid m came (now ∷ []) [] [] [] p q
   hear_dtls None bytes came r p q is h beside =
       still_did m came (now ∷ []) p q
-      (beside.0, ap (λ (d : DtlsState D). d.instance) h.1, ap (λ (d : DtlsState D). d.packets) h.1, beside.1, beside.2)
+      (beside.0, ap (λ (d : DtlsState D). d.instance) h.1, ap queue_and_role h.1, beside.1, beside.2)
   hear_dtls (Some active) bytes came r p q is h beside =
       dtls_did m came (now ∷ []) p q (DtlsGiven bytes ∷ [])
       (dtls_moved-one m.dtls p.core.dtls.instance q.core.dtls.instance (DtlsGiven bytes) (r, h.0))
       (subst (λ (l : List (List ℕ)). Among (bytes ∷ []) l) (sym is) (among_self (bytes ∷ []))) (among_none (now ∷ [])) refl refl
       (subst (λ (l : List (List ℕ)). Among l p.core.dtls.packets) (sym (ap (λ (d : DtlsState D). d.packets) h.1)) (among_self p.core.dtls.packets))
-      beside.0 beside.1 beside.2
+      (ap (λ (d : DtlsState D). d.active) h.1) beside.0 beside.1 beside.2
 
   dtls_acts : (bytes : List ℕ) (came : Came) → came.dtls ≡ bytes ∷ [] → CallActs m came (now ∷ []) (HearsDtls m bytes)
   unfolding HearsDtls
@@ -171,7 +171,7 @@ module _ {I D S M E X T W N : Type 0} (m : Meanings I D S M E X T W N) (now : �
   hear_media bytes came p q is went beside =
       media_did m came (now ∷ []) [] p q (MediaGiven bytes ∷ []) went
       (subst (λ (l : List (List ℕ)). Among (bytes ∷ []) l) (sym is) (among_self (bytes ∷ []))) (among_none (now ∷ [])) (among_none [])
-      beside.0 (ap (λ d. d.instance) beside.1) (ap (λ d. d.packets) beside.1) beside.2
+      beside.0 (ap (λ d. d.instance) beside.1) (ap queue_and_role beside.1) beside.2
 
   media_acts : (given : M → Result (Unit {0}) AllocError → M → Type 0) (bytes : List ℕ) (came : Came) → came.media ≡ bytes ∷ [] → MediaHears given bytes
       → CallActs m came (now ∷ []) (HearsMedia m given bytes)

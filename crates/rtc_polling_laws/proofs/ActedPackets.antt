@@ -17,7 +17,7 @@ use Rattle.rtc_polling.specs.declared.polled_peer.PolledPeer.{PolledPeer}
 use Rattle.rtc_polling.specs.Closing.{is_phase_closing}
 use Rattle.rtc_polling.specs.Connection.{with_pushed}
 use Rattle.rtc_polling.specs.StreamStages.{SendsPacket, SendsFirst, left_over}
-use Rattle.rtc_polling_laws.specs.PeerActs.{peer_acts, nothing_came, dtls_moments}
+use Rattle.rtc_polling_laws.specs.PeerActs.{peer_acts, nothing_came, dtls_moments, dtls_roles, roles_after}
 use Rattle.rtc_polling_laws.specs.Acts.{PeerDid}
 use Rattle.rtc_polling_laws.proofs.StreamsJoin.{answer_met, TellsNoOpening, states_by}
 use Rattle.rtc_polling_laws.proofs.VisitActs.{contents_met, MeetsData, KeepsRows, VisitDid, visit_is, plain_visit, still_visit}
@@ -37,6 +37,7 @@ module _ {I D S M E X T W N : Type 0} (m : Meanings I D S M E X T W N) (laws : P
     got : dtls_got acts ≡ []
     timed : dtls_moments acts ≡ []
     packets : e.packets ≡ d.packets
+    role : e.active ≡ roles_after d.active (dtls_roles acts)
 
   data_went : (can : Bool) (packet : List ℕ) (d e : DtlsState D) → SendsData m.dtls d can packet (Ok tt) e → SentActs packet d e
   data_went true packet d e h = record {
@@ -48,6 +49,7 @@ module _ {I D S M E X T W N : Type 0} (m : Meanings I D S M E X T W N) (laws : P
     got = refl;
     timed = refl;
     packets = ap (λ (x : DtlsState D). x.packets) h.1;
+    role = ap (λ (x : DtlsState D). x.active) h.1;
   }
   data_went false packet d e h = cc (h.0)
 
@@ -61,6 +63,7 @@ module _ {I D S M E X T W N : Type 0} (m : Meanings I D S M E X T W N) (laws : P
     got = refl;
     timed = refl;
     packets = ap (λ (x : DtlsState D). x.packets) h.1;
+    role = ap (λ (x : DtlsState D). x.active) h.1;
   }
   data_refused false packet cause d e h = record {
     acts = [];
@@ -71,6 +74,7 @@ module _ {I D S M E X T W N : Type 0} (m : Meanings I D S M E X T W N) (laws : P
     got = refl;
     timed = refl;
     packets = ap (λ (x : DtlsState D). x.packets) h.1;
+    role = ap (λ (x : DtlsState D). x.active) h.1;
   }
 
   nil_among : {A : Type 0} (l k : List A) → l ≡ [] → Among l k
@@ -89,6 +93,7 @@ module _ {I D S M E X T W N : Type 0} (m : Meanings I D S M E X T W N) (laws : P
     timed_ice = among_none (p.core.greatest ∷ []);
     timed_dtls = nil_among (dtls_moments sent.acts) (p.core.greatest ∷ []) sent.timed;
     timed_media = among_none (p.core.greatest ∷ []);
+    role = sent.role;
     sent =
         subst (λ (l : List (List ℕ)). Among l ((dtls_taken sent.acts ++ []) ++ p.core.dtls.packets)) (sym sent.packets)
         (record { each = λ x n. member-right x (dtls_taken sent.acts ++ []) p.core.dtls.packets n });
@@ -151,6 +156,7 @@ module _ {I D S M E X T W N : Type 0} (m : Meanings I D S M E X T W N) (laws : P
         timed_ice = among_none (p.core.greatest ∷ []);
         timed_dtls = among_none (p.core.greatest ∷ []);
         timed_media = among_none (p.core.greatest ∷ []);
+        role = refl;
         sent = among_self p.core.dtls.packets;
         handed = among_none [];
         all_handed = λ started. refl;

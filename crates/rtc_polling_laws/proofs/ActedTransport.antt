@@ -26,7 +26,7 @@ use Rattle.rtc_polling.specs.Connection.{with_ice}
 use Rattle.rtc_polling.specs.DtlsStages.{GivesDtlsTime, TimesDtlsIf}
 use Rattle.rtc_polling.specs.DtlsStages.{TakesKeys, TakesCloseNotify, ChecksCert}
 use Rattle.rtc_polling.specs.IceStages.{TakesIceEvent}
-use Rattle.rtc_polling_laws.specs.PeerActs.{nothing_came}
+use Rattle.rtc_polling_laws.specs.PeerActs.{nothing_came, queue_and_role}
 use Rattle.rtc_polling_laws.specs.Acts.{PeerDid}
 use Rattle.rtc_polling_laws.proofs.ActJoins.{ice_did, dtls_did, media_did, still_did}
 use Rattle.rtc_polling_laws.proofs.ActedClosing.{beside, BesideIce, BesideDtls, BesideMedia, close_acts}
@@ -53,7 +53,7 @@ module _ {I D S M E X T W N : Type 0} (m : Meanings I D S M E X T W N) (laws : P
   ice_told event p q h beside =
       ice_did m nothing_came (p.core.greatest ∷ []) [] p q (IceStirred (IceTold event) ∷ [])
       (ice_moved-one m.ice p.core.ice q.core.ice (IceStirred (IceTold event)) h) (among_none []) (among_none (p.core.greatest ∷ [])) (among_none [])
-      (ap (λ d. d.instance) beside.0) (ap (λ d. d.packets) beside.0) beside.1 beside.2
+      (ap (λ d. d.instance) beside.0) (ap queue_and_role beside.0) beside.1 beside.2
 
   ice_met : (x r : Met E) (event : IceEvent) (p n q : PolledPeer I D S M N) → r ≡ x → q ≡ n → contents_met x ≡ [] → MeetsData x n.core.channels [] → TellsNoOpening (answer_met x)
       → m.ice.polled p.core.ice (Some event) n.core.ice → BesideIce p n → KeepsRows x p.core.channels n.core.channels → VisitDid m p r q
@@ -84,13 +84,13 @@ module _ {I D S M E X T W N : Type 0} (m : Meanings I D S M E X T W N) (laws : P
       → PeerDid m nothing_came (p.core.greatest ∷ []) [] [] [] p q
   handed_time None r p q h beside =
       still_did m nothing_came (p.core.greatest ∷ []) p q
-      (beside.0, ap (λ (d : DtlsState D). d.instance) h.1, ap (λ (d : DtlsState D). d.packets) h.1, beside.1, beside.2)
+      (beside.0, ap (λ (d : DtlsState D). d.instance) h.1, ap queue_and_role h.1, beside.1, beside.2)
   handed_time (Some active) r p q h beside =
       dtls_did m nothing_came (p.core.greatest ∷ []) p q (Stirred (TimedAt p.core.greatest r) ∷ [])
       (dtls_moved-one m.dtls p.core.dtls.instance q.core.dtls.instance (Stirred (TimedAt p.core.greatest r)) h.0) (among_none [])
       (among_self (p.core.greatest ∷ [])) refl refl
       (subst (λ (l : List (List ℕ)). Among l p.core.dtls.packets) (sym (ap (λ (d : DtlsState D). d.packets) h.1)) (among_self p.core.dtls.packets))
-      beside.0 beside.1 beside.2
+      (ap (λ (d : DtlsState D). d.active) h.1) beside.0 beside.1 beside.2
 
   given_time : StageActs m laws.association (GivesDtlsTime m)
   unfolding GivesDtlsTime
@@ -115,7 +115,7 @@ module _ {I D S M E X T W N : Type 0} (m : Meanings I D S M E X T W N) (laws : P
   keyed_did key profile active r p q h beside =
       media_did m nothing_came (p.core.greatest ∷ []) [] p q (MediaStirred Other ∷ [])
       (media_moved-one m.media p.core.media q.core.media (MediaStirred Other) (inr (inr (Keyed key profile active r h))))
-      (among_none []) (among_none (p.core.greatest ∷ [])) (among_none []) beside.0 (ap (λ d. d.instance) beside.1) (ap (λ d. d.packets) beside.1) beside.2
+      (among_none []) (among_none (p.core.greatest ∷ [])) (among_none []) beside.0 (ap (λ d. d.instance) beside.1) (ap queue_and_role beside.1) beside.2
 
   pub keys_act : (key : List ℕ) (profile : SrtpProfile) (active : Bool) → StageActs m laws.association (TakesKeys m key profile active)
   unfolding TakesKeys

@@ -24,7 +24,7 @@ use Rattle.rtc_statistics.specs.Stats.{Reporting}
 use Rattle.rtc_polling.specs.Statistics.{TellsReport, TellsReportOf, TellsStatistics}
 use Rattle.rtc_polling.specs.StreamStages.{TellsStreams}
 use Rattle.rtc_polling.specs.Walk.{StartsOverWhenDue, TellsConnection, TellsArrivals, SendsDatagrams, VisitsParts}
-use Rattle.rtc_polling_laws.specs.PeerActs.{peer_acts, nothing_came}
+use Rattle.rtc_polling_laws.specs.PeerActs.{peer_acts, nothing_came, queue_and_role}
 use Rattle.rtc_polling_laws.specs.Acts.{PeerDid}
 use Rattle.rtc_polling_laws.proofs.ActJoins.{ice_did, media_did}
 use Rattle.rtc_polling_laws.proofs.ActedClosing.{beside, BesideIce, BesideMedia}
@@ -40,12 +40,12 @@ module _ {I D S M E X T W N : Type 0} (m : Meanings I D S M E X T W N) (laws : P
   stirred_did p q h kept =
       media_did m nothing_came (p.core.greatest ∷ []) [] p q (MediaStirred Other ∷ [])
       (media_moved-one m.media p.core.media q.core.media (MediaStirred Other) (inr (inr h))) (among_none []) (among_none (p.core.greatest ∷ []))
-      (among_none []) kept.0 (ap (λ d. d.instance) kept.1) (ap (λ d. d.packets) kept.1) kept.2
+      (among_none []) kept.0 (ap (λ d. d.instance) kept.1) (ap queue_and_role kept.1) kept.2
 
   media_still : (p n q : PolledPeer I D S M N) → q ≡ n → n.core.media ≡ p.core.media → BesideMedia p n → VisitDid m p Nothing q
   media_still p n q is media kept =
       still_visit m Nothing Nothing p n q refl is (refl, λ held. refl, tt)
-      ((kept.0, ap (λ d. d.instance) kept.1, ap (λ d. d.packets) kept.1, kept.2, media), kept.3, kept.4)
+      ((kept.0, ap (λ d. d.instance) kept.1, ap queue_and_role kept.1, kept.2, media), kept.3, kept.4)
 
   told_acts : StageActs m laws.association (TellsMedia m)
   unfolding TellsMedia
@@ -108,15 +108,15 @@ module _ {I D S M E X T W N : Type 0} (m : Meanings I D S M E X T W N) (laws : P
       plain_visit m (Transmit transmit) p q
       (ice_did m nothing_came (p.core.greatest ∷ []) (transmit.contents ∷ []) p q (IceTaken transmit ∷ [])
       (ice_moved-one m.ice p.core.ice q.core.ice (IceTaken transmit) h.0) (among_none []) (among_none (p.core.greatest ∷ []))
-      (among_self (transmit.contents ∷ [])) (ap (λ d. d.instance) kept.0) (ap (λ d. d.packets) kept.0) kept.1 kept.2) refl kept.3 tt (ice_kept m.association p q kept) tt
+      (among_self (transmit.contents ∷ [])) (ap (λ d. d.instance) kept.0) (ap queue_and_role kept.0) kept.1 kept.2) refl kept.3 tt (ice_kept m.association p q kept) tt
   checks_act p _ q h = absurd h
 
   -- the oldest packet that stands to be shown is shown
   given_packet : (packets : List (List ℕ)) (packet : List ℕ) (d e : DtlsState D) → d.packets ≡ packets → GivesPacket m.dtls d packets (Some packet) e
-      → (d.packets ≡ packet ∷ e.packets) × (e.instance ≡ d.instance)
+      → (d.packets ≡ packet ∷ e.packets) × (e.instance ≡ d.instance) × (e.active ≡ d.active)
   given_packet [] packet d e is h = absurd h
   given_packet (b ∷ packets) packet d e is h =
-      (is ∙ ap (λ x. x ∷ packets) (sym h.0) ∙ ap (λ l. packet ∷ l) (sym (ap (λ (x : DtlsState D). x.packets) h.1)), ap (λ (x : DtlsState D). x.instance) h.1)
+      (is ∙ ap (λ x. x ∷ packets) (sym h.0) ∙ ap (λ l. packet ∷ l) (sym (ap (λ (x : DtlsState D). x.packets) h.1)), ap (λ (x : DtlsState D). x.instance) h.1, ap (λ (x : DtlsState D). x.active) h.1)
 
   no_packet : (packets : List (List ℕ)) (d e : DtlsState D) → GivesPacket m.dtls d packets None e → e ≡ d
   no_packet [] d e h = h
@@ -127,7 +127,7 @@ module _ {I D S M E X T W N : Type 0} (m : Meanings I D S M E X T W N) (laws : P
   packets_act addr p Nothing q h =
       let same = no_packet p.core.dtls.packets p.core.dtls q.core.dtls h.0 in
       still_visit m Nothing Nothing p _ q refl h.1 (refl, λ held. refl, tt)
-      ((refl, ap (λ (x : DtlsState D). x.instance) same, ap (λ (x : DtlsState D). x.packets) same, refl, refl), refl, refl)
+      ((refl, ap (λ (x : DtlsState D). x.instance) same, ap queue_and_role same, refl, refl), refl, refl)
   packets_act addr p (Transmit transmit) q h =
       let given = given_packet p.core.dtls.packets transmit.contents p.core.dtls q.core.dtls refl h.1 in
       plain_visit m (Transmit transmit) p q
@@ -145,6 +145,7 @@ module _ {I D S M E X T W N : Type 0} (m : Meanings I D S M E X T W N) (laws : P
         timed_ice = among_none (p.core.greatest ∷ []);
         timed_dtls = among_none (p.core.greatest ∷ []);
         timed_media = among_none (p.core.greatest ∷ []);
+        role = given.2;
         sent =
             subst (λ (l : List (List ℕ)). Among (transmit.contents ∷ q.core.dtls.packets) l) (sym given.0) (among_self (transmit.contents ∷ q.core.dtls.packets));
         handed = among_none [];
@@ -168,7 +169,7 @@ module _ {I D S M E X T W N : Type 0} (m : Meanings I D S M E X T W N) (laws : P
       plain_visit m (Transmit transmit) p q
       (media_did m nothing_came (p.core.greatest ∷ []) (transmit.contents ∷ []) p q (MediaTaken transmit.contents ∷ [])
       (media_moved-one m.media p.core.media q.core.media (MediaTaken transmit.contents) (p.core.greatest, h.1)) (among_none [])
-      (among_none (p.core.greatest ∷ [])) (among_self (transmit.contents ∷ [])) kept.0 (ap (λ d. d.instance) kept.1) (ap (λ d. d.packets) kept.1) kept.2)
+      (among_none (p.core.greatest ∷ [])) (among_self (transmit.contents ∷ [])) kept.0 (ap (λ d. d.instance) kept.1) (ap queue_and_role kept.1) kept.2)
       refl kept.3 tt (media_kept m.association p q kept) tt
   media_sent addr p _ q h = absurd h
 

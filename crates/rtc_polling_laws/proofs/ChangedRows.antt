@@ -1,16 +1,16 @@
 -- Changes of channels and of the entries of their streams, one after the other.
-use Rattle.std.proofs.Common.{◌≡◌, ◌⊎◌, ◌++◌, inl, inr, ℕ, zero, suc, Bool, true, List, [], Option, refl, sym, ap, subst, ◌∙◌}
+use Rattle.std.proofs.Common.{◌≡◌, ◌⊎◌, ◌++◌, inl, inr, ℕ, zero, suc, Bool, true, [], Option, refl, sym, ap, subst, ◌∙◌}
 use Rattle.rtc_association.specs.AssociationActs.{moved-append}
 use Rattle.rtc_association.specs.AssociationLaws.{AssociationLaws}
 use Rattle.rtc_association.specs.AssociationMeaning.{AssociationMeaning}
 use Rattle.rtc_association.specs.AssociationWords.{told}
 use Rattle.rtc_association.proofs.AssociationLemmas.{told-append}
+use Rattle.rtc_sctp.specs.declared.rtc_sctp_state.RtcSctpState.{RtcSctpState}
 use Rattle.rtc_sctp.specs.Streams.{SctpStreams, is_established}
-use Rattle.rtc_sctp_laws.specs.StreamActs.{CallDid}
-use Rattle.rtc_sctp_laws.specs.StreamMessages.{StreamMessage}
 use Rattle.rtc_sctp_laws.proofs.ClosingPolls.{started_moved}
+use Rattle.rtc_stream_uses.proofs.AsideActs.{AsideDid, aside-append}
 use Rattle.rtc_channels.specs.Channels.{Channels}
-use Rattle.rtc_polling_laws.specs.RowsChanged.{ChangeRows, ClosesRow, OnlyActs, RowsChange, RowsChanged, SameRows, Stayed}
+use Rattle.rtc_polling_laws.specs.RowsChanged.{ChangeRows, ClosesRow, OnlyActs, RowsChange, RowsChanged, SameRows, Stayed, begun_as}
 
 pub same_rows : (held held' : Channels) → held' ≡ held → SameRows held held'
 same_rows held held' is = (ap (λ (x : Channels). x.rows) is, ap (λ (x : Channels). x.given) is)
@@ -19,6 +19,13 @@ same_rows held held' is = (ap (λ (x : Channels). x.rows) is, ap (λ (x : Channe
 pub closed_row : (found id : Option ℕ) (pending : Bool) (held held' : Channels) → found ≡ id → ClosesRow id pending held held'
     → ClosesRow found pending held held'
 closed_row found id pending held held' is h = subst (λ (o : Option ℕ). ClosesRow o pending held held') (sym is) h
+
+-- what was begun the same way has one state, and one side
+state_of : {S : Type 0} (a b : SctpStreams S) → begun_as b ≡ begun_as a → b.state ≡ a.state
+state_of a b is = ap (λ (x : RtcSctpState × Bool). x.0) is
+
+client_of : {S : Type 0} (a b : SctpStreams S) → begun_as b ≡ begun_as a → b.client ≡ a.client
+client_of a b is = ap (λ (x : RtcSctpState × Bool). x.1) is
 
 module _ {S : Type 0} (m : AssociationMeaning S) where
   pub none_changed : (held : Channels) (a : SctpStreams S) → RowsChanged m held a held a
@@ -33,26 +40,30 @@ module _ {S : Type 0} (m : AssociationMeaning S) where
       → RowsChanged m held a held' b
   rows_stay held a held' b is only = one_changed held a held' b (Stayed (same_rows held held' is) only)
 
-  pub no_acts : (a n b : SctpStreams S) → b ≡ n → n.association ≡ a.association → n.entries ≡ a.entries → n.state ≡ a.state → OnlyActs m a b
-  no_acts a n b is association entries state = record {
+  pub no_acts : (a n b : SctpStreams S) → b ≡ n → n.association ≡ a.association → n.entries ≡ a.entries → begun_as n ≡ begun_as a → OnlyActs m a b
+  no_acts a n b is association entries begun = record {
     acts = [];
     went = ap (λ (x : SctpStreams S). x.association) is ∙ association;
     untold = refl;
+    aside = tt;
     entries = ap (λ (x : SctpStreams S). x.entries) is ∙ entries;
-    begun = λ e. sym (ap (λ (x : SctpStreams S). x.state) is ∙ state) ∙ e;
-    lasts = λ e. inl (ap is_established (sym (ap (λ (x : SctpStreams S). x.state) is ∙ state)) ∙ e);
+    begun = λ e. sym (state_of a b (ap begun_as is ∙ begun)) ∙ e;
+    lasts = λ e. inl (ap is_established (sym (state_of a b (ap begun_as is ∙ begun))) ∙ e);
+    side = λ e. client_of a b (ap begun_as is ∙ begun);
   }
 
-  -- a call that told nothing, and that leaves entries and state
-  pub only_called : (ins : List (List ℕ)) (wrote : List StreamMessage) (a b : SctpStreams S) → CallDid m ins wrote a b → b.entries ≡ a.entries
-      → b.state ≡ a.state → OnlyActs m a b
-  only_called ins wrote a b d entries state = record {
-    acts = d.did.acts;
-    went = d.did.went;
-    untold = d.did.told_is;
+  -- such acts that leave entries and state
+  pub only_called : (a b : SctpStreams S) → AsideDid m a.association b.association → b.entries ≡ a.entries
+      → begun_as b ≡ begun_as a → OnlyActs m a b
+  only_called a b d entries begun = record {
+    acts = d.acts;
+    went = d.went;
+    untold = d.untold;
+    aside = d.aside;
     entries = entries;
-    begun = λ e. sym state ∙ e;
-    lasts = λ e. inl (ap is_established (sym state) ∙ e);
+    begun = λ e. sym (state_of a b begun) ∙ e;
+    lasts = λ e. inl (ap is_established (sym (state_of a b begun)) ∙ e);
+    side = λ e. client_of a b begun;
   }
 
   -- acts behind others
@@ -61,9 +72,11 @@ module _ {S : Type 0} (m : AssociationMeaning S) where
     acts = h.acts ++ k.acts;
     went = moved-append m a.association b.association c.association h.acts k.acts h.went k.went;
     untold = told-append h.acts k.acts ∙ ap (λ l. l ++ told k.acts) h.untold ∙ k.untold;
+    aside = aside-append h.acts k.acts h.aside k.aside;
     entries = k.entries ∙ h.entries;
     begun = λ e. h.begun (k.begun e);
     lasts = λ e. by (k.lasts e);
+    side = λ e. k.side (started_moved m w h.acts a.association b.association e h.went) ∙ h.side e;
   }
     where
       of_first : (is_established a.state ≡ true) ⊎ (m.started b.association ≡ true) → (is_established a.state ≡ true) ⊎ (m.started c.association ≡ true)

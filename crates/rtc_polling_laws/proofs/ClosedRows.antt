@@ -1,5 +1,5 @@
 -- Closing leaves the greatest moment, the channels, and the entries and the state of streams.
-use Rattle.std.proofs.Common.{◌≡◌, Bool, true, false, [], Result, Ok, Err, refl, ap, ◌∙◌}
+use Rattle.std.proofs.Common.{◌≡◌, Bool, true, false, Result, Ok, Err, refl, ap, ◌∙◌}
 use Rattle.rtc_peer_state.specs.declared.phase.Phase.{Phase}
 use Rattle.rtc_peer_state.specs.declared.phase.Phase.TheVariants.{Alive, Closing, Closed}
 use Rattle.rtc_peer_state.specs.declared.rtc_error.RtcError.{RtcError}
@@ -15,10 +15,11 @@ use Rattle.rtc_sctp.specs.Streams.{SctpStreams}
 use Rattle.rtc_sctp.specs.Calls.{ShutBy, Shuts, is_ended}
 use Rattle.rtc_stream_uses.proofs.CallUses.{shut_entries}
 use Rattle.rtc_association.specs.AssociationLaws.{AssociationLaws}
-use Rattle.rtc_sctp_laws.proofs.CallActs.{shuts_did}
+use Rattle.rtc_sctp.specs.declared.rtc_sctp_state.RtcSctpState.{RtcSctpState}
+use Rattle.rtc_stream_uses.proofs.AsideActs.{shuts_aside}
 use Rattle.rtc_polling_laws.proofs.ActedClosing.{beside}
 use Rattle.rtc_polling_laws.proofs.ChangedRows.{no_acts, only_called, only_on}
-use Rattle.rtc_polling_laws.specs.RowsChanged.{OnlyActs}
+use Rattle.rtc_polling_laws.specs.RowsChanged.{OnlyActs, begun_as}
 
 abbrev pub KeepsChannels : {I D S M N : Type 0} → PolledPeer I D S M N → PolledPeer I D S M N → Type 0
 KeepsChannels p q =
@@ -46,13 +47,17 @@ module _ {I D S M E X T W N : Type 0} (m : Meanings I D S M E X T W N) where
   media_keeps p (Err Alloc) q h = beside KeepsChannels p _ q h.1 (refl, refl, refl, refl)
   media_keeps p (Err _) q h = absurd h
 
+  shuts_begun : (ended : Bool) (p : SctpStreams S) (r : Result (Unit {0}) SctpError) (q : SctpStreams S) → ShutBy m.association ended p r q
+      → begun_as q ≡ begun_as p
+  shuts_begun true p r q h = ap begun_as h.1
+  shuts_begun false p (Ok done) q h = ap begun_as h.1
+  shuts_begun false p (Err (sctp.Proto proto.Fault)) q h = ap begun_as h.1
+  shuts_begun false p (Err sctp.Alloc) q h = ap begun_as h.1
+  shuts_begun false p (Err e) q h = absurd h
+
   shuts_state : (ended : Bool) (p : SctpStreams S) (r : Result (Unit {0}) SctpError) (q : SctpStreams S) → ShutBy m.association ended p r q
       → q.state ≡ p.state
-  shuts_state true p r q h = ap (λ (x : SctpStreams S). x.state) h.1
-  shuts_state false p (Ok done) q h = ap (λ (x : SctpStreams S). x.state) h.1
-  shuts_state false p (Err (sctp.Proto proto.Fault)) q h = ap (λ (x : SctpStreams S). x.state) h.1
-  shuts_state false p (Err sctp.Alloc) q h = ap (λ (x : SctpStreams S). x.state) h.1
-  shuts_state false p (Err e) q h = absurd h
+  shuts_state ended p r q h = ap (λ (x : RtcSctpState × Bool). x.0) (shuts_begun ended p r q h)
 
   shuts_keep : (p : SctpStreams S) (r : Result (Unit {0}) SctpError) (q : SctpStreams S) → Shuts m.association p r q → q.entries ≡ p.entries
   shuts_keep p r q h = shut_entries m.association (is_ended m.association p.association) p r q h
@@ -102,8 +107,8 @@ module _ {I D S M E X T W N : Type 0} (m : Meanings I D S M E X T W N) where
 
   shuts_only : (p : SctpStreams S) (r : Result (Unit {0}) SctpError) (q : SctpStreams S) → Shuts m.association p r q → OnlyActs m.association p q
   shuts_only p r q h =
-      only_called m.association [] [] p q (shuts_did m.association p r q h) (shuts_keep p r q h)
-      (shuts_state (is_ended m.association p.association) p r q h)
+      only_called m.association p q (shuts_aside m.association p r q h) (shuts_keep p r q h)
+      (shuts_begun (is_ended m.association p.association) p r q h)
 
   streams_only : CallOnlyActs (ShutsStreams m)
   unfolding ShutsStreams

@@ -1,5 +1,5 @@
 -- What negotiation does to each part, as lists of acts.
-use Rattle.std.proofs.Common.{◌≡◌, ◌++◌, ◌∷◌, inl, inr, ℕ, Bool, true, false, List, [], Option, Some, None, Result, Ok, Err, refl, ap, ◌∙◌}
+use Rattle.std.proofs.Common.{◌≡◌, ◌++◌, ◌∷◌, inl, inr, ℕ, Bool, true, false, List, [], Option, Some, None, Result, Ok, Err, refl, ap, sym, ◌∙◌}
 use Rattle.std.specs.declared.alloc.AllocError.{AllocError}
 use Rattle.rtc_parts_values.specs.Why.{Other}
 use Rattle.rtc_parts_values.specs.Among.{Among}
@@ -26,7 +26,7 @@ use Rattle.rtc_sctp_laws.specs.StreamActs.{CallDid}
 use Rattle.rtc_sctp_laws.proofs.CallActs.{inits_did}
 use Rattle.rtc_peer_state.specs.PartMoves.{RestartsIce, TakesCreds, TakesCandidates, TakesControl, FollowsSdp, StopsFollowing, AtRestart, AtCandidate}
 use Rattle.rtc_peer_state.specs.PartMoves.{BeginsHandshake, BeginsTimed, StartsDtls, StartsWhere, dropped_halves}
-use Rattle.rtc_polling_laws.specs.PeerActs.{media_given, media_taken, ice_moments, dtls_moments, media_moments}
+use Rattle.rtc_polling_laws.specs.PeerActs.{media_given, media_taken, ice_moments, dtls_moments, media_moments, dtls_roles, first_role, roles_after}
 use Rattle.rtc_polling_laws.proofs.ActWords.{ice_moments-append}
 use Rattle.rtc_polling_laws.proofs.StreamCallActs.{snap_did}
 
@@ -102,6 +102,7 @@ pub record ConnectionTold {D : Type 0} (m : DtlsMeaning D) (now : ℕ) (d e : Dt
   pub got : dtls_got acts ≡ []
   pub timed : Among (dtls_moments acts) (now ∷ [])
   pub packets : e.packets ≡ d.packets
+  pub role : e.active ≡ roles_after d.active (dtls_roles acts)
 
 module _ {D : Type 0} (m : DtlsMeaning D) where
   pub connection_none : (now : ℕ) (d e : DtlsState D) → e ≡ d → ConnectionTold m now d e
@@ -114,12 +115,14 @@ module _ {D : Type 0} (m : DtlsMeaning D) where
     got = refl;
     timed = among_none (now ∷ []);
     packets = ap (λ (x : DtlsState D). x.packets) is;
+    role = ap (λ (x : DtlsState D). x.active) is;
   }
 
   -- a role, a moment, and what follows
   role_told : (now : ℕ) (active : Bool) (d e : DtlsState D) (activated timed : D) (answer : Result (Unit {0}) DtlsError) → m.activated d.instance active activated
-      → m.timed activated now answer timed → e.instance ≡ timed → e.packets ≡ d.packets → ConnectionTold m now d e
-  role_told now active d e activated timed answer role time is packets = record {
+      → m.timed activated now answer timed → e.instance ≡ timed → e.packets ≡ d.packets → e.active ≡ first_role d.active active
+      → ConnectionTold m now d e
+  role_told now active d e activated timed answer role time is queue first = record {
     acts = Stirred (Activated active) ∷ Stirred (TimedAt now answer) ∷ [];
     went = (activated, (role, (timed, (time, is))));
     given = among_none ([] ∷ []);
@@ -127,14 +130,15 @@ module _ {D : Type 0} (m : DtlsMeaning D) where
     sent = refl;
     got = refl;
     timed = among_self (now ∷ []);
-    packets = packets;
+    packets = queue;
+    role = first;
   }
 
   begins_told : (now : ℕ) (active begins : Bool) (d e : DtlsState D) (activated timed : D) (answer r : Result (Unit {0}) DtlsError)
       → m.activated d.instance active activated → m.timed activated now answer timed → BeginsHandshake m begins timed r e.instance
-      → e.packets ≡ d.packets → ConnectionTold m now d e
-  begins_told now active false d e activated timed answer r role time h packets = role_told now active d e activated timed answer role time h.1 packets
-  begins_told now active true d e activated timed answer r role time h packets = record {
+      → e.packets ≡ d.packets → e.active ≡ first_role d.active active → ConnectionTold m now d e
+  begins_told now active false d e activated timed answer r role time h queue first = role_told now active d e activated timed answer role time h.1 queue first
+  begins_told now active true d e activated timed answer r role time h queue first = record {
     acts = Stirred (Activated active) ∷ Stirred (TimedAt now answer) ∷ Given [] ∷ [];
     went = (activated, (role, (timed, (time, (e.instance, ((h.0, h.1), refl))))));
     given = among_self ([] ∷ []);
@@ -142,22 +146,24 @@ module _ {D : Type 0} (m : DtlsMeaning D) where
     sent = refl;
     got = refl;
     timed = among_self (now ∷ []);
-    packets = packets;
+    packets = queue;
+    role = first;
   }
 
   timed_told : (now : ℕ) (active : Bool) (d e : DtlsState D) (activated timed : D) (answer r : Result (Unit {0}) DtlsError)
       → m.activated d.instance active activated → m.timed activated now answer timed → BeginsTimed m answer active timed r e.instance
-      → e.packets ≡ d.packets → ConnectionTold m now d e
-  timed_told now active d e activated timed (Ok done) r role time h packets =
-      begins_told now active active d e activated timed (Ok done) r role time h packets
-  timed_told now active d e activated timed (Err error) r role time h packets =
-      role_told now active d e activated timed (Err error) role time h.1 packets
+      → e.packets ≡ d.packets → e.active ≡ first_role d.active active → ConnectionTold m now d e
+  timed_told now active d e activated timed (Ok done) r role time h queue first =
+      begins_told now active active d e activated timed (Ok done) r role time h queue first
+  timed_told now active d e activated timed (Err error) r role time h queue first =
+      role_told now active d e activated timed (Err error) role time h.1 queue first
 
-  pub starts_told : (role : Option Bool) (active : Bool) (now : ℕ) (r : Result (Unit {0}) DtlsError) (d e : DtlsState D) → StartsDtls m d role active now r e
-      → ConnectionTold m now d e
-  starts_told None active now r d e h =
+  pub starts_told : (role : Option Bool) (active : Bool) (now : ℕ) (r : Result (Unit {0}) DtlsError) (d e : DtlsState D) → d.active ≡ role
+      → StartsDtls m d role active now r e → ConnectionTold m now d e
+  starts_told None active now r d e is h =
       timed_told now active d e h.activated h.timed h.answer r h.by_role h.by_time h.by_packet (ap (λ (x : DtlsState D). x.packets) h.rest)
-  starts_told (Some first) active now r d e h = connection_none now d e h.1
+      (ap (λ (x : DtlsState D). x.active) h.rest ∙ ap (λ (o : Option Bool). first_role o active) (sym is))
+  starts_told (Some first) active now r d e is h = connection_none now d e h.1
 
 -- the streams were started, or not
 pub started_told : {S : Type 0} (m : AssociationMeaning S) (b client : Bool) (now max : ℕ) (halves : Option InitHalves) (drops : Bool)

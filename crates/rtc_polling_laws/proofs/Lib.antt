@@ -24,6 +24,7 @@ pub mod ActedTransport
 pub mod ActedConnection
 pub mod ActedPackets
 pub mod EnsuredRows
+pub mod PolledStreams
 pub mod ActedStreams
 pub mod ActedVisits
 pub mod ActedPolls

@@ -1,7 +1,7 @@
 -- What stages of a poll leave of streams and live channels, one after the other.
 use Rattle.std.proofs.Common.{◌≡◌, ◌≤◌, ◌-◌, ◌^◌, ◌++◌, ◌∷◌, inl, ℕ, Bool, true, false, Option, List, [], append-nil, append_assoc, Result, Ok, Err, refl, sym, ap, subst, ◌∙◌, arith}
 use Rattle.std.specs.declared.alloc.AllocError.{AllocError}
-use Rattle.rtc_association.specs.AssociationActs.{AssociationAct, Moved}
+use Rattle.rtc_association.specs.AssociationActs.{AssociationAct, Given, Moved}
 use Rattle.rtc_association.specs.AssociationLaws.{AssociationLaws}
 use Rattle.rtc_association.specs.AssociationMeaning.{AssociationMeaning}
 use Rattle.rtc_sctp_entries.specs.declared.stream_entry.StreamEntry.{StreamEntry}
@@ -10,7 +10,7 @@ use Rattle.rtc_sctp.specs.declared.rtc_sctp_state.RtcSctpState.TheVariants.{Unin
 use Rattle.rtc_sctp.specs.Streams.{SctpStreams, is_established}
 use Rattle.rtc_sctp.specs.Calls.{InputIf, state_on_input}
 use Rattle.rtc_sctp_laws.specs.StreamMessages.{StreamMessage}
-use Rattle.rtc_sctp_laws.proofs.ActLemmas.{given_did}
+use Rattle.rtc_stream_uses.proofs.AsideActs.{AsideDid, aside_act}
 use Rattle.rtc_sctp_laws.proofs.ClosingPolls.{started_moved}
 use Rattle.rtc_stream_uses.specs.GenerationLaws.{GenerationLaws}
 use Rattle.rtc_stream_uses.specs.StreamUses.{HasOpenInBand, WereOpened, entries_of, messages_of, IsUsed}
@@ -36,7 +36,7 @@ use Rattle.rtc_polling.specs.StreamStages.{channel_over}
 use Rattle.rtc_polling_laws.proofs.ChangedRows.{changed_on, no_acts, rows_stay}
 use Rattle.rtc_polling_laws.proofs.UnsharedRows.{AreApart}
 use Rattle.rtc_polling_laws.proofs.ActedClosing.{BesideIce, BesideDtls, BesideMedia}
-use Rattle.rtc_polling_laws.specs.RowsChanged.{OnlyActs, RowsChanged}
+use Rattle.rtc_polling_laws.specs.RowsChanged.{OnlyActs, RowsChanged, begun_as}
 use Rattle.rtc_polling_laws.specs.ChannelStreams.{IsGone, IsLiveChannel, LeavesLiveBy, LeavesLiveChannel, UnlessLacking, IsUsedStream, OpensByAnswer, TellsByAnswer, StreamsWent, WasOpenInBand, Already, Announced, NoNumber}
 
 -- what is met, as a poll answers it
@@ -58,10 +58,10 @@ pub record StatesStay {S : Type 0} (m : AssociationMeaning S) (p q : SctpStreams
   pub only : OnlyActs m p q
 
 pub states_by : {S : Type 0} (m : AssociationMeaning S) (p n q : SctpStreams S) → q ≡ n → n.association ≡ p.association → n.entries ≡ p.entries
-    → n.state ≡ p.state → StatesStay m p q
-states_by {S} m p n q is association entries state = record {
-  established = stay_same p q (ap (λ (x : SctpStreams S). x.state) is ∙ state);
-  only = no_acts m p n q is association entries state;
+    → begun_as n ≡ begun_as p → StatesStay m p q
+states_by {S} m p n q is association entries begun = record {
+  established = stay_same p q (ap (λ (x : RtcSctpState × Bool). x.0) (ap begun_as is ∙ begun));
+  only = no_acts m p n q is association entries begun;
 }
 
 pub states_same : {S : Type 0} (m : AssociationMeaning S) (p q : SctpStreams S) → q ≡ p → StatesStay m p q
@@ -85,16 +85,18 @@ pub input_states : {S : Type 0} (m : AssociationMeaning S) (started : Bool) (now
 input_states m false now bytes p r q h = states_same m p q h.1
 input_states {S} m true now bytes p r q h =
     let state : q.state ≡ state_on_input p.state = ap (λ (x : SctpStreams S). x.state) h.1 in
-    let did = given_did m p.association q.association now bytes r h.0 in
+    let did : AsideDid m p.association q.association = aside_act m (Given bytes) p.association q.association (now, (r, h.0)) refl refl in
     record {
       established = input_stays m true now bytes p r q h;
       only = record {
         acts = did.acts;
         went = did.went;
-        untold = did.told_is;
+        untold = did.untold;
+        aside = did.aside;
         entries = ap (λ (x : SctpStreams S). x.entries) h.1;
         begun = λ e. input_uninited p.state (sym state ∙ e);
         lasts = λ e. inl (input_established p.state (ap is_established (sym state) ∙ e));
+        side = λ e. ap (λ (x : SctpStreams S). x.client) h.1;
       };
     }
 

@@ -21,14 +21,14 @@ use Rattle.rtc_polling.specs.declared.polled_peer.PolledPeer.{PolledPeer}
 use Rattle.rtc_polling.specs.StreamStages.{channel_over}
 use Rattle.rtc_polling_laws.specs.ChannelStreams.{AreNumberedChannels, StreamsWent}
 use Rattle.rtc_polling_laws.specs.PeerActs.{PeerActs, PeerMoved, Came, nothing_came, came_by, moment_given, contents_taken, media_given}
-use Rattle.rtc_polling_laws.specs.PeerActs.{ice_moments, dtls_moments, media_moments}
+use Rattle.rtc_polling_laws.specs.PeerActs.{ice_moments, dtls_moments, media_moments, dtls_roles, roles_after}
 
 -- Acts in order took the parts of one peer to those of another. What they were given is among what came, and the moments that they were
--- handed are among these. What was shown as contents of datagrams, and the packets that stand to be shown behind it, are among what was
--- taken from the parts in these acts and what stood before. What the association was given came over the DTLS connection, and all of that
--- was given to it, in order, once it was started. What was sent over the connection, or stands to be sent behind it, was taken from the
--- association or stood to be sent before. These messages were written and read, and the identifiers that were read have their names where
--- the association's readings do.
+-- handed are among these. The first role that the DTLS part was given is that of the peer. What was shown as contents of datagrams, and
+-- the packets that stand to be shown behind it, are among what was taken from the parts in these acts and what stood before. What the
+-- association was given came over the DTLS connection, and all of that was given to it, in order, once it was started. What was sent over
+-- the connection, or stands to be sent behind it, was taken from the association or stood to be sent before. These messages were written
+-- and read, and the identifiers that were read have their names where the association's readings do.
 pub record PeerDid {I D S M E X T W N : Type 0} (m : Meanings I D S M E X T W N) (came : Came) (moments : List ℕ)
     (shown : List (List ℕ)) (wrote heard : List StreamMessage) (p q : PolledPeer I D S M N) : Type 0 where
   pub acts : PeerActs
@@ -39,6 +39,7 @@ pub record PeerDid {I D S M E X T W N : Type 0} (m : Meanings I D S M E X T W N)
   pub timed_ice : Among (ice_moments acts.ice) moments
   pub timed_dtls : Among (dtls_moments acts.dtls) moments
   pub timed_media : Among (media_moments acts.media) moments
+  pub role : q.core.dtls.active ≡ roles_after p.core.dtls.active (dtls_roles acts.dtls)
   pub sent : Among (shown ++ q.core.dtls.packets) (contents_taken acts ++ p.core.dtls.packets)
   pub handed : Among (given acts.association) (dtls_got acts.dtls)
   pub all_handed : m.association.started p.core.sctp.association ≡ true → given acts.association ≡ dtls_got acts.dtls

@@ -1,12 +1,13 @@
 -- Acts of the parts of a peer: what came to them, what was taken from them, and the moments that they were handed.
-use Rattle.std.specs.Prelude.{ℕ, ◌++◌, ◌∷◌, List, [], map}
+use Rattle.std.specs.Prelude.{ℕ, ◌++◌, ◌∷◌, Bool, List, [], map, Option, Some, None}
 use Rattle.rtc_wire.specs.declared.transmit.Transmit.{Transmit}
 use Rattle.rtc_wire.specs.declared.datagram_recv.DatagramRecv.{DatagramRecv}
 use Rattle.rtc_wire.specs.declared.datagram_recv.DatagramRecv.TheVariants as datagrams
 use Rattle.rtc_parts_values.specs.Why.{Timed}
 use Rattle.rtc_ice.specs.IceActs.{IceAct, IceMoved, TimedAt as IceTimed, Stirred as IceStirred}
 use Rattle.rtc_ice.specs.IceWords.{ice_taken}
-use Rattle.rtc_dtls.specs.DtlsActs.{DtlsAct, DtlsMoved, TimedAt as DtlsTimed, Stirred as DtlsStirred}
+use Rattle.rtc_dtls.specs.DtlsActs.{DtlsAct, DtlsMoved, Activated, TimedAt as DtlsTimed, Stirred as DtlsStirred}
+use Rattle.rtc_dtls.specs.DtlsState.{DtlsState}
 use Rattle.rtc_dtls.specs.DtlsWords.{dtls_taken}
 use Rattle.rtc_association.specs.AssociationActs.{AssociationAct, Moved}
 use Rattle.rtc_media.specs.MediaActs.{MediaAct, MediaGiven, MediaTaken, MediaStirred, MediaMoved}
@@ -56,6 +57,27 @@ abbrev pub media_moments : List MediaAct → List ℕ
 media_moments [] = []
 media_moments (MediaStirred (Timed now) ∷ acts) = now ∷ media_moments acts
 media_moments (_ ∷ acts) = media_moments acts
+
+-- the roles that a DTLS part was given, in order, and what becomes of a role by them: the first stays
+abbrev pub role_of_act : DtlsAct → List Bool
+role_of_act (DtlsStirred (Activated active)) = active ∷ []
+role_of_act _ = []
+
+abbrev pub dtls_roles : List DtlsAct → List Bool
+dtls_roles [] = []
+dtls_roles (act ∷ acts) = role_of_act act ++ dtls_roles acts
+
+abbrev pub first_role : Option Bool → Bool → Option Bool
+first_role None active = Some active
+first_role (Some role) active = Some role
+
+abbrev pub roles_after : Option Bool → List Bool → Option Bool
+roles_after role [] = role
+roles_after role (active ∷ roles) = roles_after (first_role role active) roles
+
+-- what stands to be sent of a DTLS connection, and its role
+abbrev pub queue_and_role : {D : Type 0} → DtlsState D → List (List ℕ) × Option Bool
+queue_and_role d = (d.packets, d.active)
 
 -- what was taken to be sent in datagrams: from the agent, from the DTLS part and from the media part
 abbrev pub contents_taken : PeerActs → List (List ℕ)

@@ -109,8 +109,8 @@ spoken_now Closed own g h = refl
 -- an acknowledgement behind what was written, and an open message behind what was read
 pub opened_by_ack : (ws hs before : List StreamMessage) (x y : StreamMessage) → IsUnopened ws before → is_dcep_message x ≡ true → is_dcep_message y ≡ true → hs ≡ before ++ y ∷ [] → IsOpened (ws ++ x ∷ []) hs
 opened_by_ack ws hs before x y h k l e = record {
-  dcep = dcep_join ws (x ∷ []) h.0 (rw k refl);
-  begins = begins_dcep ws x h.0 k;
+  dcep = dcep_join ws (x ∷ []) (ap are_dcep h.0) (rw k refl);
+  begins = begins_dcep ws x (ap are_dcep h.0) k;
   before = before;
   last = y;
   last_dcep = l;
@@ -154,7 +154,7 @@ module _ {S : Type 0} (m : AssociationMeaning S) where
 
   -- nothing was written or read of it
   pub unused_blank : (s : ℕ) (a : S) (ws hs : List StreamMessage) → ws ≡ [] → hs ≡ [] → IsUnused m s a ws hs
-  unused_blank s a ws hs h k = inl (ap are_dcep h, ap any_dcep k)
+  unused_blank s a ws hs h k = inl (h, ap any_dcep k)
 
   pub idle_unused : (s : ℕ) (a : S) (ws hs : List StreamMessage) → IsIdleStream m s a ws hs → IsUnused m s a ws hs
   idle_unused s a ws hs (inl h) = unused_blank s a ws hs h.0 h.1

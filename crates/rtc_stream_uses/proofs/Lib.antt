@@ -13,3 +13,4 @@ pub mod EntriesOf
 pub mod UsedTours
 pub mod UsedPolls
 pub mod CallUses
+pub mod AsideActs

@@ -1,13 +1,24 @@
 -- How the generations of the streams of an association change: by packets of the other end alone, and not otherwise than to another one.
-use Rattle.std.specs.Prelude.{ℕ, ◌≡◌, ◌||◌, Bool, true, false, List, Ok, Err}
+use Rattle.std.specs.Prelude.{ℕ, ◌≡◌, ◌||◌, Bool, true, false, List, [], ◌∷◌, Ok, Err}
 use Rattle.rtc_association.specs.declared.assoc_error.AssocError.TheVariants.{Fault}
 use Rattle.rtc_association.specs.AssociationMeaning.{AssociationMeaning}
-use Rattle.rtc_association.specs.AssociationActs.{AssociationAct, Given, Acted}
+use Rattle.rtc_association.specs.AssociationActs.{AssociationAct, Opened, Given, Read, Acted}
 
 -- whether an act gives a packet
 abbrev pub gives_packet : AssociationAct → Bool
 gives_packet (Given packet) = true
 gives_packet _ = false
+
+-- whether an act opens a stream, or reads of one
+abbrev pub opens_or_reads : AssociationAct → Bool
+opens_or_reads (Opened stream generation) = true
+opens_or_reads (Read stream generation identifier bytes) = true
+opens_or_reads _ = false
+
+-- acts that open and read no stream
+abbrev pub OpenAndReadNone : List AssociationAct → Type 0
+OpenAndReadNone [] = Unit {0}
+OpenAndReadNone (act ∷ acts) = (opens_or_reads act ≡ false) × OpenAndReadNone acts
 
 -- A stream has the generation it had. If it was there, it still is; if this end closed it, it is still closed; and an association that is
 -- closing or closed stays so.

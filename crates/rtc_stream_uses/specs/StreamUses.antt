@@ -43,9 +43,9 @@ OneAtMost none one [] = none
 OneAtMost none one (entry ∷ []) = one entry
 OneAtMost none one (entry ∷ other ∷ entries) = ⊥
 
--- Nothing but messages that open channels was written, and none of these was read.
+-- Nothing was written, and no message that opens a channel was read.
 abbrev pub IsUnopened : (written heard : List StreamMessage) → Type 0
-IsUnopened written heard = (are_dcep written ≡ true) × (any_dcep heard ≡ false)
+IsUnopened written heard = (written ≡ []) × (any_dcep heard ≡ false)
 
 -- An open message was written, with no data behind it, and its acknowledgement was not read.
 abbrev pub IsAnnounced : (written heard : List StreamMessage) → Type 0

@@ -1,5 +1,6 @@
 use Rattle.rtc_peer_state.specs.Meanings.{meanings}
-use Rattle.rtc_channel_laws.proofs.KeptPeers.{input_keeps, close_keeps, channel_write_keeps, channel_writes_own, threshold_keeps, channel_close_keeps}
+use Rattle.rtc_channel_laws.proofs.KeptInputs.{input_keeps}
+use Rattle.rtc_channel_laws.proofs.KeptPeers.{close_keeps, channel_write_keeps, channel_writes_own, threshold_keeps, channel_close_keeps}
 use Rattle.rtc_channel_laws.proofs.kept.other_calls_keep_streams.Goals as goal
 
 pub returns-clause-inputs : goal.returns-clause-inputs

@@ -1,6 +1,10 @@
 use Rattle.rtc_channel_runs.proofs.DrainedRuns.{new_unused}
 use Rattle.rtc_channel_runs.proofs.RunsTold.{new_pair_told}
-use Rattle.rtc_channel_runs.proofs.SettledRuns.{run_settles_open, settled_answered, settled_confirmed, settled_idle, settled_later, settled_level, settled_open, settled_refused}
+use Rattle.rtc_channel_runs.proofs.OwnSides.{settled_alone, settled_own, settled_parted, settled_waits_none}
+use Rattle.rtc_channel_runs.proofs.RoleSides.{settled_sides}
+use Rattle.rtc_channel_runs.proofs.SettlesRuns.{run_settles_open}
+use Rattle.rtc_channel_runs.proofs.UnresetSides.{settled_unreset}
+use Rattle.rtc_channel_runs.proofs.SettledRuns.{settled_answered, settled_confirmed, settled_idle, settled_later, settled_level, settled_open, settled_refused}
 use Rattle.rtc_channel_runs.proofs.settling.settled_pairs_have_open_channels.Goals as goal
 
 pub returns-clause-level : goal.returns-clause-level
@@ -30,6 +34,28 @@ returns-clause-confirmed g c = λ stun start pair past new ran settled still at.
 pub returns-clause-later : goal.returns-clause-later
 returns-clause-later g c = λ stun start pair past new ran settled soon at.
     settled_later g.N.Ids.ids stun start past pair ran (new_pair_told g.N.Ids.ids start new) (new_unused g.N.Ids.ids start new) settled new soon at
+
+pub returns-clause-own : goal.returns-clause-own
+returns-clause-own g c = λ stun start pair past new ran settled at. settled_own g.N.Ids.ids stun start past pair ran new settled at
+
+pub returns-clause-sides : goal.returns-clause-sides
+returns-clause-sides g c = λ stun start pair past new ran settled at. settled_sides g.N.Ids.ids stun start past pair ran new settled at
+
+pub returns-clause-parted : goal.returns-clause-parted
+returns-clause-parted g c = λ stun start pair past new ran settled at. settled_parted g.N.Ids.ids stun start past pair ran new settled at
+
+pub returns-clause-waits_none : goal.returns-clause-waits_none
+returns-clause-waits_none g c = λ stun start pair past new ran settled at.
+    settled_waits_none g.N.Ids.ids stun start past pair ran new (new_pair_told g.N.Ids.ids start new) (new_unused g.N.Ids.ids start new) settled at
+
+pub returns-clause-alone : goal.returns-clause-alone
+returns-clause-alone g c = λ stun start pair past new ran settled at idle.
+    settled_alone g.N.Ids.ids stun start past pair ran new (new_pair_told g.N.Ids.ids start new) (new_unused g.N.Ids.ids start new) settled at idle
+
+pub returns-clause-unreset : goal.returns-clause-unreset
+returns-clause-unreset g c = λ stun start pair past new ran settled at later.
+    settled_unreset g.N.Ids.ids stun start past pair ran new (new_pair_told g.N.Ids.ids start new) (new_unused g.N.Ids.ids start new) settled at
+    later
 
 pub returns-clause-ran : goal.returns-clause-ran
 returns-clause-ran g c = λ stun start pair steps replies new run. run_settles_open g.N.Ids.ids stun start pair steps replies new run
