@@ -2,14 +2,11 @@
 ghost use Rattle.std.specs.Prelude.{◌≡◌, ◌≢◌, ◌<◌, ◌≤◌, ◌^◌, ◌⊎◌, true, false, Some, None, IfOk, length};
 ghost use Rattle.rtc_io.specs.Saying.{BreaksOff};
 ghost use Rattle.rtc_io.specs.Programs.{RefusesInput};
-ghost use Rattle.rtc_history.specs.Fresh.{ArePeersFormed, IsFresh};
 ghost use Rattle.rtc_history.specs.Sizes.{steps_size};
-ghost use Rattle.rtc_plain_pair.specs.ProgramPair.{plain_parts};
 ghost use Rattle.rtc_script.specs.Report.{report};
 ghost use Rattle.rtc_pair.specs.Answers.{
   script_program,
   peer_settings,
-  IsPairOf,
   IsReport,
   RanScript,
   KeepsReport,
@@ -56,17 +53,6 @@ fn settings_of(script: &Script, at: Side) -> PeerSettings
     }
 }
 
-// The pair of the program, as the settings of a script make it.
-fn make_program_pair(alloc: Global, script: &Script) -> Result<PlainPair, AllocError>
-    ensures program { IfOk result (λ pair. IsPairOf alloc script.now pair) }
-    ensures fresh { IfOk result (λ pair. IsFresh plain_parts pair) }
-    ensures formed { IfOk result (λ pair. ArePeersFormed plain_parts pair) }
-{
-    let left_settings = settings_of(script, Side::Left);
-    let right_settings = settings_of(script, Side::Right);
-    make_pair(alloc, left_settings, right_settings)
-}
-
 // Replies, with what the steps were performed on.
 fn join_replies<P: Drop>(
     performed: P,
@@ -88,7 +74,9 @@ pub fn run_script(
     requires { steps_size script.now.steps < 2 ^ 32 }
     ensures { IfOk result (λ ran. RanScript alloc script.now ran.1 ran.0) }
 {
-    let mut pair = make_program_pair(alloc, script)?;
+    let left_settings = settings_of(script, Side::Left);
+    let right_settings = settings_of(script, Side::Right);
+    let mut pair = make_pair(alloc, left_settings, right_settings)?;
     let replies = run_pair(alloc, &mut pair, script.steps.as_slice());
     join_replies(pair, replies)
 }

@@ -1,14 +1,3 @@
-pub mod Ops
-pub mod ChannelCounts
-pub mod Staged
-pub mod Negotiated
 pub mod Sized
-pub mod Lent
-pub mod RowsLeft
 pub mod Paired
 pub mod FaultlessSdps
-pub mod Drained
-pub mod PollsKeep
-pub mod Answered
-pub mod AnsweredWrites
-pub mod AnsweredOffers

@@ -1,10 +1,1 @@
-pub mod Brings
 pub mod Completeness
-pub mod Keeping
-pub mod NoSuch
-pub mod OutcomeOf
-pub mod RefusedChannel
-pub mod ShownTable
-pub mod Stages
-pub mod Turns
-pub mod Written

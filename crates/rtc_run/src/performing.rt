@@ -3,13 +3,12 @@ ghost use Rattle.std.specs.Prelude.{◌<◌, ◌^◌, length};
 ghost use Rattle.rtc_history.specs.Performs.{Acts};
 ghost use Rattle.rtc_peer_state.specs.Meanings.{meanings};
 
-use crate::accepting::{deliver_and_accept_answer, deliver_and_accept_offer};
-use crate::channels::{close_channel, write_message};
-use crate::hearing::{close, take_datagram, take_moment};
-use crate::negotiating::negotiate;
-use crate::polling::{drain, poll};
 use rtc_history::{Kept, Reply, SentPacket, Step};
+use rtc_negotiation_steps::{deliver_and_accept_answer, deliver_and_accept_offer, negotiate};
 use rtc_peer::{Association, DtlsInstance, IceAgent, Ids, MediaSession, Rtc};
+use rtc_polling_steps::{
+    close, close_channel, drain, poll, take_datagram, take_moment, write_message,
+};
 use std::alloc::Global;
 
 /// Performs a step at the peer that acts, with the session descriptions and the datagrams of both peers.

@@ -1,0 +1,4 @@
+pub mod Brings
+pub mod Keeping
+pub mod RefusedChannel
+pub mod Stages

@@ -1,0 +1,4 @@
+pub mod Drained
+pub mod PollsKeep
+pub mod Answered
+pub mod AnsweredWrites

@@ -1,0 +1,3 @@
+pub mod OutcomeOf
+pub mod Turns
+pub mod Written

@@ -1,0 +1,2 @@
+pub mod NoSuch
+pub mod ShownTable
