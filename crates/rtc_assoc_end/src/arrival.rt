@@ -187,13 +187,8 @@ impl PlainAssociation {
         self.clock.items_sent = now;
         row.close = CloseState::Queued;
         row.finished = true;
-        count_item(
-            &mut self.received,
-            &mut self.streams,
-            &mut self.packets,
-            row,
-            answer,
-        );
+        let packets = &mut self.packets;
+        count_item(&mut self.received, &mut self.streams, packets, row, answer);
         Ok(())
     }
 

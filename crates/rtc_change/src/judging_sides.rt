@@ -5,11 +5,10 @@ ghost use Rattle.rtc_sdp_values.specs.Sdp.{creds_of, sdp_fingerprint};
 ghost use Rattle.rtc_change.specs.Plans.{same_creds, is_restart as IsRestart, unasked_restart as UnaskedRestart, side_verdict};
 ghost use Rattle.rtc_change.specs.Plans.{changed_init, init_refusal, no_fingerprint};
 
-use crate::releasing::release;
 use crate::{Refusal, View};
 use rtc_sdp_values::{IceCreds, Sdp};
 use rtc_tables::Why;
-use rtc_wire::{Text, TryCopy};
+use rtc_wire::{Text, TryCopy, release};
 use std::alloc::{AllocError, Global};
 
 fn are_same(a: &IceCreds, b: &IceCreds) -> bool

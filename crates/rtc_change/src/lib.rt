@@ -7,7 +7,6 @@ mod changes;
 mod judging_sides;
 mod planning;
 mod refusal;
-mod releasing;
 mod sdp_pending_offer;
 mod table_after;
 mod view;

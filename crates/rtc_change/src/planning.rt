@@ -13,12 +13,12 @@ ghost use Rattle.rtc_tables.specs.Verdict.{first_of, first_refusal};
 ghost use Rattle.rtc_tables.specs.Table.{IsTable, Distinct};
 
 use crate::judging_sides::{is_restart, judge_init, judge_side};
-use crate::releasing::release;
 use crate::table_after::{find_new_places, find_removed, list_rows_after};
 use crate::wrong_lines::judge_new_lines;
 use crate::{Refusal, SdpPendingOffer, View};
 use rtc_sdp_values::Sdp;
 use rtc_tables::{MidIndex, NewLine, ParsedLine, Plan, Why, judge_lines};
+use rtc_wire::release;
 use std::alloc::{AllocError, Global};
 
 // Why a session description is inconsistent; a consistent one has distinct mids.

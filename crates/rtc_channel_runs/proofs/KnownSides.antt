@@ -13,7 +13,7 @@ use Rattle.rtc_sctp_entries.specs.Entries.{is_open_awaited}
 use Rattle.rtc_sctp.specs.Streams.{is_established}
 use Rattle.rtc_stream_uses.specs.StreamUses.{is_spent_stream}
 use Rattle.rtc_plain_streams.proofs.KnownStreams.{AreKnown, HasEntry}
-use Rattle.rtc_polling_laws.specs.Drained.{AllHeard, AreHeard, AreTriedAgain, IsHeard, IsTriedAgain, is_refused}
+use Rattle.rtc_polling_laws.specs.Drained.{AllHeard, AreHeard, AreTriedAgain, IsHeard, IsTriedAgain, is_opening_refused}
 use Rattle.rtc_joined_runs.specs.PlainPairs.{PlainPolled}
 use Rattle.rtc_channel_runs.specs.SettledPairs.{HasEntryOf, IsOpeningRefused, IsSettledPeer}
 use Rattle.rtc_channel_runs.proofs.AnsweredOpenings.{free_of}
@@ -43,12 +43,12 @@ module _ (a : Contents) (s : ℕ) where
 
 -- an entry that waits to be opened is tried again, as the association refuses that for now
 opening_refused : (a : Contents) (last s : ℕ) (es : List StreamEntry) → AreHeard plain_meaning a es → AreTriedAgain last es
-    → HasEntryOf (λ entry. entry.state ≡ AwaitOpen) s es → HasEntryOf (IsTriedAgain last) s es × (is_refused plain_meaning a s ≡ true)
+    → HasEntryOf (λ entry. entry.state ≡ AwaitOpen) s es → HasEntryOf (IsTriedAgain last) s es × (is_opening_refused plain_meaning a s ≡ true)
 opening_refused a last s [] heard tried h = absurd h
 opening_refused a last s (e ∷ es) heard tried (inl h) = by heard.0
   where
-    by : IsHeard plain_meaning a e → HasEntryOf (IsTriedAgain last) s (e ∷ es) × (is_refused plain_meaning a s ≡ true)
-    by (inl it) = (inl (h.0, tried.0 h.1), subst (λ (n : ℕ). is_refused plain_meaning a n ≡ true) h.0 it.2)
+    by : IsHeard plain_meaning a e → HasEntryOf (IsTriedAgain last) s (e ∷ es) × (is_opening_refused plain_meaning a s ≡ true)
+    by (inl it) = (inl (h.0, tried.0 h.1), subst (λ (n : ℕ). is_opening_refused plain_meaning a n ≡ true) h.0 it.2)
     by (inr it) = absurd (true≢false (sym (ap is_open_awaited h.1) ∙ it.4))
 opening_refused a last s (e ∷ es) heard tried (inr h) =
     let later = opening_refused a last s es heard.1 tried.1 h in

@@ -5,10 +5,9 @@ ghost use Rattle.rtc_codecs.specs.CodecRows.{codecs_with, repeated_distances};
 ghost use Rattle.rtc_config.specs.CodecSettings as spec;
 
 use crate::RtcConfig;
-use crate::rtc_config::whole;
 use rtc_codecs::{Codec, collect_distances, set_row};
 use rtc_sdp_values::CodecConfig;
-use rtc_wire::Seq;
+use rtc_wire::{Seq, whole};
 use std::alloc::{AllocError, Global};
 use std::mem;
 

@@ -3,10 +3,9 @@ ghost use Rattle.std.specs.Prelude.{◌≡◌, ◌≤◌, [], IfOk, OnOk};
 ghost use Rattle.rtc_codecs.specs.CodecRows as spec;
 
 use crate::RtcConfig;
-use crate::rtc_config::whole;
 use rtc_codecs::set_extension_row;
 use rtc_sdp_values::{Extension, ExtensionMap};
-use rtc_wire::Seq;
+use rtc_wire::{Seq, whole};
 use std::alloc::{AllocError, Global};
 use std::mem;
 

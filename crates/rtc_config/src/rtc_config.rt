@@ -1,5 +1,5 @@
 //! Configurations of peers.
-ghost use Rattle.std.specs.Prelude.{◌≡◌, IfOk, IsOk, OnOk};
+ghost use Rattle.std.specs.Prelude.{◌≡◌, IfOk};
 ghost use Rattle.rtc_config.specs.FormedConfig.{IsFormedConfig};
 ghost use Rattle.rtc_config.specs.RtcConfig as spec;
 
@@ -46,15 +46,6 @@ impl Model for RtcConfig {
     } };
 
     ghost invariant = { λ config. IsShortCert config.dtls.cert × AreMediaSettings config.media × IsMtu config.mtu };
-}
-
-// What was changed, unless memory ran out meanwhile.
-pub(crate) fn whole<T: Drop>(value: T, changed: Result<(), AllocError>) -> Result<T, AllocError>
-    ensures value { IfOk result (λ given. given ≡ value) }
-    ensures changed { OnOk result (IsOk changed) }
-{
-    changed?;
-    Ok(value)
 }
 
 // The settings of the ICE part where none are set.

@@ -16,12 +16,11 @@ ghost use Rattle.rtc_peer_state.specs.MadeSdp.{
   sdp_of_rows,
 };
 
-use crate::filling::{fill, fill_some, whole};
 use rtc_peer_state::{LineMedia, SdpHead, ToldRow};
 use rtc_sdp_values::{
     Candidate, Direction, LineKind, LineRow, MediaKind, MediaLine, Mid, Msid, Sdp, Ssrc,
 };
-use rtc_wire::{Seq, Text};
+use rtc_wire::{Seq, Text, fill, fill_some, whole};
 use std::alloc::{AllocError, Global};
 use std::mem;
 

@@ -9,12 +9,11 @@ ghost use Rattle.rtc_peer_state.specs.MadeSdp.{
   setup_of_role as SetupOfRole,
 };
 
-use crate::filling::{fill, set, whole};
 use rtc_dtls::{Dtls, DtlsInstance};
 use rtc_ice::IceAgent;
 use rtc_peer_state::SdpHead;
 use rtc_sdp_values::{Candidate, Fingerprint, IceCreds, Setup};
-use rtc_wire::{Bytes, Seq, Text, copy_all};
+use rtc_wire::{Bytes, Seq, Text, copy_all, fill, set, whole};
 use std::alloc::{AllocError, Global};
 
 // Puts the credentials of a restart that is asked for, or else those that are in use.

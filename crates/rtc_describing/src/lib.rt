@@ -2,7 +2,6 @@
 #![tactic(auto)]
 
 mod describing;
-mod filling;
 mod heading;
 mod line_told;
 mod sent_on_lines;

@@ -10,13 +10,12 @@ ghost use Rattle.rtc_peer_state.specs.MadeSdp.{
   newest as Newest,
 };
 
-use crate::filling::{fill, fill_some, set, whole};
 use rtc_change::AddMedia;
 use rtc_codecs::{extensions_of_kind, rows_of_kind};
 use rtc_media::{MediaSession, MediaUpdate};
 use rtc_peer_state::{Formats, LineMedia};
 use rtc_sdp_values::LineRow;
-use rtc_wire::Seq;
+use rtc_wire::{Seq, fill, fill_some, set, whole};
 use std::alloc::{AllocError, Global};
 
 /// Nothing of media.

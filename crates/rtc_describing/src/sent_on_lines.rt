@@ -3,12 +3,11 @@ ghost use Rattle.std.specs.Prelude.{◌≡◌, [], IfOk, OnOk, Option, Some, Non
 ghost use Rattle.std.specs.Option.{option_copied, option_or};
 ghost use Rattle.rtc_peer_state.specs.LineUpdates.{added_media, bare_sending as BareSending, sending_of, inverted, layered};
 
-use crate::filling::{fill, fill_some, set, whole};
 use rtc_change::{AddMedia, Change};
 use rtc_media::{MediaSession, MediaUpdate};
 use rtc_peer_state::Sending;
 use rtc_sdp_values::{MediaLine, Mid, Msid, Simulcast};
-use rtc_wire::{Seq, Text};
+use rtc_wire::{Seq, Text, fill, fill_some, set, whole};
 use std::alloc::{AllocError, Global};
 
 // The media line of a mid that changes add.

@@ -11,12 +11,11 @@ ghost use Rattle.rtc_peer_state.specs.LineUpdates.{
 };
 
 use crate::describing::is_stopped_row;
-use crate::filling::{fill, set, whole};
 use rtc_codecs::{match_rows, share_extensions};
 use rtc_media::MediaUpdate;
 use rtc_peer_state::{Formats, Sending};
 use rtc_sdp_values::{LineRow, MediaKind, MediaLine, Mid, Ssrc};
-use rtc_wire::Seq;
+use rtc_wire::{Seq, fill, set, whole};
 use std::alloc::{AllocError, Global};
 use std::mem;
 

@@ -1,8 +1,8 @@
 //! What a negotiation says of a media line.
-ghost use Rattle.std.specs.Prelude.{◌≡◌, [], IfOk, IsOk, None, OnOk};
+ghost use Rattle.std.specs.Prelude.{◌≡◌, [], None, OnOk};
 
 use rtc_sdp_values::{Extension, LineRow, Mid, Msid, PayloadRow, Simulcast, Ssrc};
-use rtc_wire::{Seq, Text, TryCopy};
+use rtc_wire::{Seq, Text, TryCopy, fill_next, whole};
 use std::alloc::AllocError;
 
 /// A line as a negotiation leaves it. The media part is handed one for each media line of a session description.
@@ -23,29 +23,6 @@ pub struct MediaUpdate {
     pub ssrcs_tx: Seq<(Ssrc, Option<Ssrc>)>,
     /// The streams that the other end sends.
     pub ssrcs_rx: Seq<(Ssrc, Option<Ssrc>)>,
-}
-
-// Puts a copy in place of a value, unless memory ran out before.
-fn fill<T: TryCopy + Drop>(
-    filled: Result<(), AllocError>,
-    place: &mut T,
-    value: &T,
-) -> Result<(), AllocError>
-    ensures before { OnOk result (IsOk filled) }
-    ensures place { OnOk result (place.new ≡ value.now) }
-{
-    filled?;
-    *place = value.copy()?;
-    Ok(())
-}
-
-// What was filled, unless memory ran out meanwhile.
-fn whole<T: Drop>(copied: T, filled: Result<(), AllocError>) -> Result<T, AllocError>
-    ensures value { IfOk result (λ value. value ≡ copied) }
-    ensures filled { OnOk result (IsOk filled) }
-{
-    filled?;
-    Ok(copied)
 }
 
 impl MediaUpdate {
@@ -87,13 +64,13 @@ impl MediaUpdate {
           ssrcs_rx = self.now.ssrcs_rx;
         }) }
     {
-        let filled = fill(Ok(()), &mut update.payloads, &self.payloads);
-        let filled = fill(filled, &mut update.exts, &self.exts);
-        let filled = fill(filled, &mut update.simulcast, &self.simulcast);
-        let filled = fill(filled, &mut update.msid, &self.msid);
-        let filled = fill(filled, &mut update.cname, &self.cname);
-        let filled = fill(filled, &mut update.ssrcs_tx, &self.ssrcs_tx);
-        fill(filled, &mut update.ssrcs_rx, &self.ssrcs_rx)
+        let filled = fill_next(Ok(()), &mut update.payloads, &self.payloads);
+        let filled = fill_next(filled, &mut update.exts, &self.exts);
+        let filled = fill_next(filled, &mut update.simulcast, &self.simulcast);
+        let filled = fill_next(filled, &mut update.msid, &self.msid);
+        let filled = fill_next(filled, &mut update.cname, &self.cname);
+        let filled = fill_next(filled, &mut update.ssrcs_tx, &self.ssrcs_tx);
+        fill_next(filled, &mut update.ssrcs_rx, &self.ssrcs_rx)
     }
 }
 

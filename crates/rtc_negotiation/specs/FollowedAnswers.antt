@@ -11,7 +11,7 @@ use Rattle.rtc_peer_state.specs.Meanings.{Meanings}
 
 module _ {I D S M E X T W N : Type 0} (m : Meanings I D S M E X T W N) where
   -- once they are confirmed it is accepted; one that is refused leaves what an acceptance leaves
-  abbrev pub FollowsAnswer : Peer I D S M N → PendingOffer → Sdp → Result (Unit {0}) RtcError → Peer I D S M N → Type 0
-  FollowsAnswer p token answer (Ok done) q =
+  abbrev pub FollowsLentAnswer : Peer I D S M N → PendingOffer → Sdp → Result (Unit {0}) RtcError → Peer I D S M N → Type 0
+  FollowsLentAnswer p token answer (Ok done) q =
       AcceptsAnswer m p token answer (Ok done) (record q { channels = all_confirmed (fitting_channels token.changes) q.channels })
-  FollowsAnswer p token answer (Err error) q = AcceptsAnswer m p token answer (Err error) q
+  FollowsLentAnswer p token answer (Err error) q = AcceptsAnswer m p token answer (Err error) q

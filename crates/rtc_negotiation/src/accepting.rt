@@ -8,7 +8,7 @@ ghost use Rattle.rtc_peer_state.specs.Calls.{raised};
 ghost use Rattle.rtc_peer_state.specs.Meanings.{meanings};
 ghost use Rattle.rtc_peer_state.specs.RtcErrors.{error_of_refusal};
 ghost use Rattle.rtc_peer_state.specs.Stance.{stance_of, held_by, kept_init as KeptInit};
-ghost use Rattle.rtc_negotiation.specs.FollowedAnswers.{FollowsAnswer};
+ghost use Rattle.rtc_negotiation.specs.FollowedAnswers.{FollowsLentAnswer};
 
 use crate::confirming::confirm_channels;
 use crate::growing::{grow_answer, grow_offer};
@@ -205,7 +205,7 @@ fn follow_answer<I: IceAgent, D: DtlsInstance, S: Association, M: MediaSession, 
     token: &SdpPendingOffer,
     answer: &Sdp,
 ) -> Result<(), RtcError>
-    ensures { FollowsAnswer (meanings I.ice D.dtls S.association M.media N.ids) peer.old token.now answer.now result peer.new }
+    ensures { FollowsLentAnswer (meanings I.ice D.dtls S.association M.media N.ids) peer.old token.now answer.now result peer.new }
 {
     if !is_latest(peer.counter, token) {
         return Err(RtcError::ChangesOutOfOrder);
@@ -230,12 +230,9 @@ fn follow_answer<I: IceAgent, D: DtlsInstance, S: Association, M: MediaSession, 
         fingerprint,
     } = growth;
     drop(own);
-    match move_peer(peer, following, starting, answer, plan.rows.as_slice()) {
-        Ok(()) => {}
-        Err(error) => {
-            drop((plan, fingerprint));
-            return Err(error);
-        }
+    if let Err(error) = move_peer(peer, following, starting, answer, plan.rows.as_slice()) {
+        drop((plan, fingerprint));
+        return Err(error);
     }
     peer.fingerprint = fingerprint;
     peer.media.commit();

@@ -5,13 +5,12 @@ ghost use Rattle.rtc_sdp_values.specs.Sdp.{creds_of, sdp_fingerprint};
 ghost use Rattle.rtc_change.specs.PendingOffer.{staged_restart};
 ghost use Rattle.rtc_negotiation.specs.Growths.{begun_growth, following_of};
 
-use crate::filling::{fill_some, set};
 use crate::following::Following;
 use crate::growth::Growth;
 use crate::starting::Starting;
 use rtc_change::Changes;
 use rtc_sdp_values::{Fingerprint, IceCreds, Sdp};
-use rtc_wire::{Seq, TryCopy};
+use rtc_wire::{Seq, TryCopy, fill_some, set};
 use std::alloc::{AllocError, Global};
 
 /// A restart, lent.

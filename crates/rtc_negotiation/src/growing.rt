@@ -18,7 +18,6 @@ ghost use Rattle.rtc_negotiation.specs.Growths.{following_of, GrowsOffer, GrowsA
 use crate::answering::make_answer;
 use crate::copying::{begin_growth, copy_restart, put_told};
 use crate::draws::{Drawn, draw_along};
-use crate::filling::{set, whole};
 use crate::growth::Growth;
 use crate::starting::Starting;
 use crate::telling_init::tell_init;
@@ -32,6 +31,7 @@ use rtc_media::{MediaSession, MediaUpdate};
 use rtc_peer_state::Peer;
 use rtc_sctp_values::SctpInitData;
 use rtc_sdp_values::{Fingerprint, IceCreds, LineRow, Sdp};
+use rtc_wire::{set, whole};
 use std::alloc::{AllocError, Global};
 
 // A restart with these credentials, which keeps the candidates.
@@ -93,7 +93,8 @@ fn put_followed<I: IceAgent, D: DtlsInstance, S: Association, M: MediaSession, N
     requires creds { growth.old.following.creds ≡ None }
     requires fingerprint { growth.old.fingerprint ≡ None }
     ensures { OnOk result (growth.new ≡ record growth.old {
-      answer = Some (answer_sdp (stance_of (meanings I.ice D.dtls S.association M.media N.ids) peer.now) growth.old.following.restart updates.now
+      answer = Some (answer_sdp (stance_of (meanings I.ice D.dtls S.association M.media N.ids) peer.now)
+          growth.old.following.restart updates.now
           (answer_init (S.association.started peer.now.sctp.association) peer.now.sctp.snap growth.old.starting.halves) offer.now);
       following = following_of growth.old.following.restart offer.now growth.old.following.control;
       fingerprint = option_or peer.now.fingerprint (sdp_fingerprint offer.now);

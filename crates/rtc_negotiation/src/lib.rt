@@ -7,7 +7,6 @@ mod applying;
 mod confirming;
 mod copying;
 mod draws;
-mod filling;
 mod following;
 mod growing;
 mod growth;

@@ -20,7 +20,7 @@ use Rattle.rtc_sctp_entries.specs.Entries.{is_closed_state, is_open_awaited}
 use Rattle.rtc_sctp_entries.specs.Visits.{Turn, turn, is_opening_over, opening_ends, RetriedIf, RetriedAt, is_adopted, is_entry_there, AdoptedIf, OpenedBy, AttendsBy, AttendsIf, VisitsIn, Visits}
 use Rattle.rtc_sctp.specs.Streams.{SctpStreams, is_established}
 use Rattle.rtc_sctp.specs.Polls.{Else, unclosed_streams, GivesCompletion, GivesTransmit, HandlesEvent, VisitedThen, VisitsAll, VisitsIf, VisitsEntries, MakesPass, PollsStreams}
-use Rattle.rtc_polling_laws.specs.Drained.{IsHeard, AreHeard, AllHeard, AreTriedAgain, IsTriedAgain, is_refused}
+use Rattle.rtc_polling_laws.specs.Drained.{IsHeard, AreHeard, AllHeard, AreTriedAgain, IsTriedAgain, is_opening_refused}
 use Rattle.rtc_polling_laws.proofs.MeetingEntries.{closes_meet, begins_meet, threshold_handed}
 use Rattle.rtc_polling_laws.proofs.RestingEntries.{exists_is, pending_is, read_first}
 use Rattle.rtc_polling_laws.proofs.RestingTours.{AllUnclosed, unclosed_left}
@@ -100,14 +100,14 @@ module _ {S : Type 0} (m : AssociationMeaning S) (w : AssociationLaws m) where
   refused_by false false false e other h = let clash : None ≡ Some e = h in cc
 
   waits_heard : (now : ℕ) (t t' : Turn S) (q : S) → t.entry.state ≡ AwaitOpen → q ≡ t.association
-      → is_refused m t.association t.entry.id ≡ true → Retried now (record t { association = q }) t' → Heard now t t'
+      → is_opening_refused m t.association t.entry.id ≡ true → Retried now (record t { association = q }) t' → Heard now t t'
   waits_heard now t t' q state same refused waits = record {
     association = waits.association ∙ same;
     heard =
         inl (
           waits.state ∙ state,
           both_true (is_open_awaited t'.entry.state) (is_some t'.entry.refused) (ap is_open_awaited (waits.state ∙ state)) (ap (λ (o : Option ℕ). is_some o) waits.refused),
-          ap (λ (n : ℕ). is_refused m t.association n) waits.id ∙ refused,
+          ap (λ (n : ℕ). is_opening_refused m t.association n) waits.id ∙ refused,
         );
     tried = λ opening. (opening, (waits.first, (waits.refused, waits.young)));
   }

@@ -18,14 +18,14 @@ abbrev pub AnswersAgain : {I D S M E N : Type 0} → (moment : ℕ) → PolledPe
 AnswersAgain moment p answer q = ((answer ≡ Ok (Timeout moment)) × (q ≡ p)) ⊎ (answer ≡ Err Alloc)
 
 -- whether an opening of a stream is refused for now: the stream is there, or its reset is outstanding
-abbrev pub is_refused : {S : Type 0} → AssociationMeaning S → S → (stream : ℕ) → Bool
-is_refused m a stream = m.has_stream a stream || m.resetting a stream
+abbrev pub is_opening_refused : {S : Type 0} → AssociationMeaning S → S → (stream : ℕ) → Bool
+is_opening_refused m a stream = m.has_stream a stream || m.resetting a stream
 
 -- A stream in use waits to be opened, which is refused for now and tried again; or it was opened, is there, in the generation that its
 -- entry keeps, if it keeps one, is not to be closed, and no whole message of its generation stands unread.
 abbrev pub IsHeard : {S : Type 0} → AssociationMeaning S → S → StreamEntry → Type 0
 IsHeard m a entry =
-    ((entry.state ≡ AwaitOpen) × (is_retrying entry ≡ true) × (is_refused m a entry.id ≡ true))
+    ((entry.state ≡ AwaitOpen) × (is_retrying entry ≡ true) × (is_opening_refused m a entry.id ≡ true))
     ⊎ ((entry.marked ≡ false)
     × (m.has_stream a entry.id ≡ true)
     × (m.has_unread a entry.id (m.generation a entry.id) ≡ false)

@@ -17,6 +17,6 @@ abbrev pub joined_signals : Signals → Signals → Signals
 joined_signals kept raised = record { events = kept.events || raised.events; timeout = kept.timeout || raised.timeout }
 
 -- each signal of the old stands in the new
-pub record Keeps (old new : Signals) : Type 0 where
+pub record KeepsSignals (old new : Signals) : Type 0 where
   pub events : old.events ≡ true → new.events ≡ true
   pub timeout : old.timeout ≡ true → new.timeout ≡ true

@@ -1,6 +1,6 @@
 //! Signals that are kept.
 ghost use Rattle.std.specs.Prelude.{◌≡◌, true, false};
-ghost use Rattle.rtc_ready.specs.Signals.{both, neither, joined_signals, Keeps};
+ghost use Rattle.rtc_ready.specs.Signals.{both, neither, joined_signals, KeepsSignals};
 
 use crate::{Mutation, Wake};
 use std::marker::Model;
@@ -84,8 +84,8 @@ impl Readiness {
     /// Spends a wake: each of its marks raises the signal.
     pub fn fold(&mut self, w: Wake)
         ensures exact { self.new ≡ joined_signals self.old w }
-        ensures keeps { Keeps self.old self.new }
-        ensures raises { Keeps w self.new }
+        ensures keeps { KeepsSignals self.old self.new }
+        ensures raises { KeepsSignals w self.new }
         ensures unmarked { w ≡ neither → self.new ≡ self.old }
     {
         let Wake { events, timeout } = w;

@@ -11,7 +11,7 @@ use crate::streams::RtcSctp;
 use crate::{ProtoError, RtcSctpState, SctpError, SctpInitData};
 use rtc_association::Association;
 use rtc_sctp_entries::{Asked, part};
-use rtc_wire::{DEFAULT_REMOTE_MAX_MESSAGE_SIZE, Moment};
+use rtc_wire::{DEFAULT_REMOTE_MAX_MESSAGE_SIZE, Moment, release};
 
 fn limit_or_default(remote_max: Option<u32>) -> u32
     ensures { result ≡ LimitOrDefault remote_max }
@@ -79,13 +79,6 @@ fn ask_start<S: Association>(
         None => part::start(association, client, now, max_send),
         Some(halves) => start_by_snap(association, halves, now, max_send),
     }
-}
-
-// Gives what was told of halves, once these are dropped.
-fn release<P: Drop, T>(_done: P, told: T) -> T
-    ensures { result ≡ told }
-{
-    told
 }
 
 impl<S: Association> RtcSctp<S> {

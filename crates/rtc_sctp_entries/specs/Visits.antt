@@ -66,8 +66,7 @@ Starves t met t' = (met ≡ OutOfMemory) × (t' ≡ t)
 
 -- the entry is open, with a label
 abbrev pub TellsOpen : {S : Type 0} → List ℕ → Turn S → Met → Turn S → Type 0
-TellsOpen label t met t' =
-    (met ≡ Output (event.Open t.entry.id label)) × (t' ≡ record t { entry = open_entry t.entry })
+TellsOpen label t met t' = (met ≡ Output (event.Open t.entry.id label)) × (t' ≡ record t { entry = open_entry t.entry })
 
 -- what is told where an entry is closed
 abbrev pub close_event : StreamEntry → List ℕ → SctpEvent
@@ -75,8 +74,7 @@ close_event entry resets = event.Close entry.id (has_reset entry.id resets)
 
 -- the entry is closed
 abbrev pub TellsClose : {S : Type 0} → Turn S → Met → Turn S → Type 0
-TellsClose t met t' =
-    (met ≡ Output (close_event t.entry t.resets)) × (t' ≡ record t { entry = closed_entry t.entry })
+TellsClose t met t' = (met ≡ Output (close_event t.entry t.resets)) × (t' ≡ record t { entry = closed_entry t.entry })
 
 -- an entry is open with the label of its config
 abbrev pub Settles : StreamEntry → Met → StreamEntry → Type 0
@@ -127,8 +125,7 @@ module _ {S : Type 0} (m : AssociationMeaning S) where
 
   -- the open message of an entry is written
   abbrev pub AnnouncedBy : Asked → Turn S → Met → Turn S → Type 0
-  AnnouncedBy did.Done t met t' =
-      (met ≡ Again) × (t' ≡ record t { entry = record (in_generation t).entry { state = AwaitDcepAck } })
+  AnnouncedBy did.Done t met t' = (met ≡ Again) × (t' ≡ record t { entry = record (in_generation t).entry { state = AwaitDcepAck } })
   AnnouncedBy did.Refused t met t' = Closes t met t'
   AnnouncedBy did.OutOfMemory t met t' = Starves t met t'
 
@@ -174,8 +171,7 @@ module _ {S : Type 0} (m : AssociationMeaning S) where
 
   -- a stream that is there is adopted where it is out-of-band and live: not stale, and with no reset outstanding
   abbrev pub is_adopted : Turn S → Bool
-  is_adopted t =
-      is_out_of_band t.entry && (not (m.stale t.association t.entry.id) && not (has_reset t.entry.id t.resets))
+  is_adopted t = is_out_of_band t.entry && (not (m.stale t.association t.entry.id) && not (has_reset t.entry.id t.resets))
 
   abbrev pub AdoptedIf : Bool → ℕ → Turn S → Met → Turn S → Type 0
   AdoptedIf true now t met t' = Begins t met t'
@@ -219,8 +215,7 @@ module _ {S : Type 0} (m : AssociationMeaning S) where
     pub asks : AsksReliability m t.association t.entry.id (config_or_fresh t.entry.config) answer between
     pub then : TakenUpBy answer label (record t { association = between }) met t'
 
-  -- an open message is taken: the config of the entry, which it gives where there was none, is taken up, and a malformed
-  -- message marks the entry
+  -- an open message is taken: the config of the entry, given by it where there was none, is taken up; a malformed one marks the entry
   abbrev pub TakenAs : ReadMessage → Turn S → Met → Turn S → Type 0
   TakenAs (read.Open label config) t met t' =
       TakesUp label (record t { entry = record t.entry { config = given_config t.entry.config config } }) met t'

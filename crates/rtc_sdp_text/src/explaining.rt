@@ -6,13 +6,12 @@ ghost use Rattle.rtc_sdp_reader.specs.Reading.{reading};
 ghost use Rattle.rtc_sdp_text.specs.Explanation as spec;
 
 use crate::fates::{came_with, cause, item_fate, next};
-use crate::releasing::release;
 use crate::repairing::{repair, utf8_of};
 use crate::{Cause, Explanation, Fate, Walk};
 use rtc_sdp_grammar::{Item, item_of};
 use rtc_sdp_reader::{Place, read};
 use rtc_sdp_values::SdpError;
-use rtc_wire::{Seq, Text};
+use rtc_wire::{Seq, Text, release};
 use std::alloc::{AllocError, Global};
 
 fn cause_words(cause: Cause) -> &'static str

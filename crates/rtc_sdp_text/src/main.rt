@@ -9,7 +9,6 @@ mod explanation;
 mod fate;
 mod fates;
 mod known_name;
-mod releasing;
 mod repairing;
 mod rewriting;
 mod sdp_kind;

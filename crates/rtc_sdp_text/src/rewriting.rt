@@ -5,12 +5,11 @@ ghost use Rattle.rtc_sdp_text.specs.Repair.{bytes_reading};
 ghost use Rattle.rtc_sdp_text.specs.Rewrite.{Rewrites};
 ghost use Rattle.rtc_sdp_text.specs.declared.text_error.TextError.TheVariants.{Alloc};
 
-use crate::releasing::release;
 use crate::repairing::{repair, utf8_of};
 use crate::{SdpKind, TextError};
 use rtc_lines::{SdpAnswer, SdpOffer};
 use rtc_sdp_values::SdpError;
-use rtc_wire::Text;
+use rtc_wire::{Text, release};
 use std::alloc::{AllocError, Global};
 
 // The text, or that there is no memory for it.

@@ -8,7 +8,6 @@ mod consistency;
 mod direction;
 mod extension;
 mod extension_map;
-mod filling;
 mod fingerprint;
 mod ice_creds;
 mod inconsistent;

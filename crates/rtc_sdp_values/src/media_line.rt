@@ -2,12 +2,11 @@
 ghost use Rattle.std.specs.Prelude.{◌≡◌, OnOk};
 ghost use Rattle.rtc_sdp_values.specs.MediaLine.{bare_line};
 
-use crate::filling::{fill, whole};
 use crate::{
     Candidate, Direction, Extension, Fingerprint, IceCreds, LineKind, Mid, Msid, PayloadRow, Setup,
     Simulcast, Ssrc,
 };
-use rtc_wire::{Seq, Text, TryCopy};
+use rtc_wire::{Seq, Text, TryCopy, fill_next, whole};
 use std::alloc::{AllocError, Global};
 
 /// An m-line of a session description, with its attributes (RFC 8866, section 5.14).
@@ -85,10 +84,10 @@ impl MediaLine {
           sctp_init = self.now.sctp_init;
         }) }
     {
-        let filled = fill(Ok(()), &mut line.candidates, &self.candidates);
-        let filled = fill(filled, &mut line.creds, &self.creds);
-        let filled = fill(filled, &mut line.fingerprint, &self.fingerprint);
-        fill(filled, &mut line.sctp_init, &self.sctp_init)
+        let filled = fill_next(Ok(()), &mut line.candidates, &self.candidates);
+        let filled = fill_next(filled, &mut line.creds, &self.creds);
+        let filled = fill_next(filled, &mut line.fingerprint, &self.fingerprint);
+        fill_next(filled, &mut line.sctp_init, &self.sctp_init)
     }
 
     fn copy_media(&self, line: &mut MediaLine) -> Result<(), AllocError>
@@ -101,12 +100,12 @@ impl MediaLine {
           ssrcs = self.now.ssrcs;
         }) }
     {
-        let filled = fill(Ok(()), &mut line.payloads, &self.payloads);
-        let filled = fill(filled, &mut line.exts, &self.exts);
-        let filled = fill(filled, &mut line.simulcast, &self.simulcast);
-        let filled = fill(filled, &mut line.msid, &self.msid);
-        let filled = fill(filled, &mut line.cname, &self.cname);
-        fill(filled, &mut line.ssrcs, &self.ssrcs)
+        let filled = fill_next(Ok(()), &mut line.payloads, &self.payloads);
+        let filled = fill_next(filled, &mut line.exts, &self.exts);
+        let filled = fill_next(filled, &mut line.simulcast, &self.simulcast);
+        let filled = fill_next(filled, &mut line.msid, &self.msid);
+        let filled = fill_next(filled, &mut line.cname, &self.cname);
+        fill_next(filled, &mut line.ssrcs, &self.ssrcs)
     }
 
     fn fill_copy(&self, line: &mut MediaLine) -> Result<(), AllocError>

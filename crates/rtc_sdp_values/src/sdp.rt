@@ -6,9 +6,8 @@ ghost use Rattle.rtc_fields.specs.Fields.{first};
 ghost use Rattle.rtc_sdp_values.specs.Sdp as spec;
 
 use crate::consistency::inconsistency;
-use crate::filling::{fill, whole};
 use crate::{Candidate, Fingerprint, IceCreds, MediaLine, Mid, SdpError, Setup};
-use rtc_wire::{Seq, TryCopy};
+use rtc_wire::{Seq, TryCopy, fill_next, whole};
 use std::alloc::AllocError;
 
 /// A session description (RFC 8866, section 5).
@@ -190,10 +189,10 @@ impl Sdp {
           lines = self.now.lines;
         }) }
     {
-        let filled = fill(Ok(()), &mut sdp.groups, &self.groups);
-        let filled = fill(filled, &mut sdp.creds, &self.creds);
-        let filled = fill(filled, &mut sdp.fingerprint, &self.fingerprint);
-        fill(filled, &mut sdp.lines, &self.lines)
+        let filled = fill_next(Ok(()), &mut sdp.groups, &self.groups);
+        let filled = fill_next(filled, &mut sdp.creds, &self.creds);
+        let filled = fill_next(filled, &mut sdp.fingerprint, &self.fingerprint);
+        fill_next(filled, &mut sdp.lines, &self.lines)
     }
 }
 
