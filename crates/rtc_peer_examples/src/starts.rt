@@ -1,9 +1,9 @@
 //! Associations that are started by the halves of both sides.
-use crate::direct::Direct;
-use rtc_cases::{is_ok, is_refused, is_true, release};
+use rtc_cases::{is_ok, is_refused, is_true};
+use rtc_endpoints::{Direct, Endpoint};
 use rtc_peer::{ProtoError, RtcError, SctpError, SctpInitData, SdpOffer};
 use rtc_plain::CountIds;
-use rtc_plain_peers::Endpoint;
+use rtc_wire::release;
 use std::alloc::{AllocError, Global};
 
 // The half of this side alone, of the numbers 1 and 2.

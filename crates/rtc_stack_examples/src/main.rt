@@ -9,12 +9,12 @@
 
 mod answers;
 mod codecs;
+mod configs;
 mod exchanging;
 mod layers;
 mod lines;
 mod link;
 mod negotiating;
-mod peers;
 mod sending;
 mod starts;
 mod told;
@@ -23,10 +23,12 @@ mod way;
 mod wire;
 mod work;
 
-use peers::{build_for, build_other};
+use configs::config_for;
 use rtc_cases::{Examples, is_text, is_true, run};
-use rtc_plain_peers::Endpoint;
-use std::alloc::AllocError;
+use rtc_endpoints::{Direct, Endpoint};
+use rtc_peer::RtcConfig;
+use rtc_plain_peers::PairExamples;
+use std::alloc::{AllocError, Global};
 use std::process::ExitCode;
 use std::rt::Files;
 use std::{fs, io};
@@ -95,28 +97,40 @@ fn ask<R: Files + AllocGlobal, P: Endpoint>(
     }
 }
 
-fn ask_made<R: Files + AllocGlobal, P: Endpoint + Drop>(
-    rt: &R,
-    peer: Result<P, AllocError>,
-    other: Result<P, AllocError>,
-    subject: &str,
-    name: &str,
-) -> Result<bool, AllocError> {
-    let mut peer = peer?;
-    let mut other = other?;
-    Ok(ask(rt, &mut peer, &mut other, subject, name))
-}
-
 struct Stacks;
 
-impl Examples for Stacks {
+impl PairExamples for Stacks {
+    fn left_config(
+        alloc: Global,
+        subject: &str,
+        name: &str,
+    ) -> Result<Option<RtcConfig>, AllocError> {
+        config_for(alloc, subject, name)
+    }
+
+    fn right_config(alloc: Global, subject: &str) -> Result<Option<RtcConfig>, AllocError> {
+        config_for(alloc, subject, "")
+    }
+
+    fn does_agree<R: Files + AllocGlobal, P: Endpoint + Direct>(
+        rt: &R,
+        left: &mut P,
+        right: &mut P,
+        subject: &str,
+        name: &str,
+    ) -> bool {
+        ask(rt, left, right, subject, name)
+    }
+}
+
+struct Pairs;
+
+impl Examples for Pairs {
     fn does_agree<R: Files + AllocGlobal>(rt: &R, subject: &str, name: &str) -> bool {
-        let peer = build_for(rt.alloc(), subject, name);
-        let other = build_other(rt.alloc(), subject);
-        is_true(ask_made(rt, peer, other, subject, name))
+        is_true(rtc_plain_peers::does_agree::<Stacks, R>(rt, subject, name))
     }
 }
 
 fn main(rt: HostRuntime) -> io::Result<ExitCode> {
-    run::<Stacks, HostRuntime>(&rt)
+    run::<Pairs, HostRuntime>(&rt)
 }

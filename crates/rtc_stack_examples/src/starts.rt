@@ -1,10 +1,10 @@
 //! Starts of the association by session descriptions (draft-hancke-tsvwg-snap).
 use crate::answers::accept;
 use crate::lines::count_line;
-use rtc_cases::{is_ok, is_true, release};
+use rtc_cases::{is_ok, is_true};
+use rtc_endpoints::Endpoint;
 use rtc_peer::{RtcError, SdpOffer, Why};
-use rtc_plain_peers::Endpoint;
-use rtc_wire::Text;
+use rtc_wire::{Text, release};
 use std::alloc::{AllocError, Global};
 
 fn has_line(alloc: Global, offer: &SdpOffer, wanted: &str) -> Result<bool, AllocError> {

@@ -2,10 +2,9 @@
 use crate::link::Link;
 use crate::sending::Sending;
 use crate::way::Way;
-use rtc_cases::release;
+use rtc_endpoints::{Endpoint, add_host, agree_on_channel};
 use rtc_peer::RtcError;
-use rtc_plain_peers::{Endpoint, add_host, agree_on_channel};
-use rtc_wire::ChannelId;
+use rtc_wire::{ChannelId, release};
 use std::alloc::{AllocError, Global};
 
 // The rounds in which each file of a stored example comes over.

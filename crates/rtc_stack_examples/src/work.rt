@@ -3,10 +3,9 @@ use crate::exchanging::{exchange, wake};
 use crate::negotiating::negotiate;
 use crate::told::Told;
 use crate::wire::Wire;
-use rtc_cases::release;
+use rtc_endpoints::{Endpoint, add_host};
 use rtc_peer::RtcError;
-use rtc_plain_peers::{Endpoint, add_host};
-use rtc_wire::ChannelId;
+use rtc_wire::{ChannelId, release};
 use std::alloc::{AllocError, Global};
 
 // Checks, the handshake and the openings of channels come one after another.

@@ -1,8 +1,8 @@
 //! Datagrams between two peers.
-use crate::{Endpoint, deliver, release};
+use crate::{Endpoint, deliver};
 use rtc_peer::{Input, Output, RtcError};
 use rtc_plain::PlainMediaEvent;
-use rtc_wire::{Moment, Span};
+use rtc_wire::{Moment, Span, release};
 
 // Enough for a handshake and an opening.
 const ROUNDS: usize = 8;
