@@ -46,7 +46,8 @@ fn adds_local<P: Endpoint>(alloc: Global, peer: &mut P) -> Result<bool, AllocErr
 // Both peers are built before. The left one is built of a config where the call is `build`, and the right one by `new`.
 fn is_built<P: Endpoint>(alloc: Global, call: &str) -> bool {
     match call {
-        "new" | "build" => true,
+        "new" => true,
+        "build" => true,
         "builder" => is_ok(P::default_config(alloc)),
         _ => false,
     }

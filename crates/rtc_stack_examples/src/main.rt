@@ -2,14 +2,15 @@
 //! between two peers over a data channel, while datagrams are lost and repeated.
 //!
 //! Each line of the input names an example, and is printed again behind `agrees` or `differs`: `answer PATH` gives a fresh peer the
-//! offer `PATH.offer`, whose answer has the lines of `PATH.answer`; `codecs NAME`, `layers NAME` and `starts NAME` are calls;
-//! `file SIZE SEED LOST TWICE` sends a file, and `work one C M B` and `work turn C M B` so many messages over channels, so that a tool
+//! offer `PATH.offer`, whose answer has the lines of `PATH.answer`; `copy PATH` copies what is read of that offer; `codecs NAME`,
+//! `layers NAME` and `starts NAME` are calls; `file SIZE SEED LOST TWICE` sends a file, and `work one C M B` and `work turn C M B` so many messages over channels, so that a tool
 //! that counts instructions sees what they cost.
 #![tactic(auto)]
 
 mod answers;
 mod codecs;
 mod configs;
+mod copies;
 mod exchanging;
 mod layers;
 mod lines;
@@ -47,6 +48,11 @@ fn is_answered<R: Files + AllocGlobal, P: Endpoint>(
     let expected = read(rt, path, "answer")?;
     let told = answers::answer_to(rt.alloc(), peer, offer.as_str());
     Ok(is_text(told, expected.as_str()))
+}
+
+fn is_read_copied<R: Files + AllocGlobal>(rt: &R, path: &str) -> io::Result<bool> {
+    let offer = read(rt, path, "offer")?;
+    Ok(is_true(copies::does_agree(rt.alloc(), offer.as_str())))
 }
 
 // Whether a peer chooses among codecs as is expected.
@@ -89,6 +95,7 @@ fn ask<R: Files + AllocGlobal, P: Endpoint>(
     match subject {
         "answer" => is_true(is_answered(rt, peer, name)),
         "codecs" => is_true(is_chosen(rt, peer, name)),
+        "copy" => is_true(is_read_copied(rt, name)),
         "file" => is_true(transfer::does_come_over(rt.alloc(), peer, other, name)),
         "layers" => is_true(layers::does_agree(rt.alloc(), peer, name)),
         "starts" => is_true(is_started(rt, peer, name)),
