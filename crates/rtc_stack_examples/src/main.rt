@@ -3,8 +3,8 @@
 //!
 //! Each line of the input names an example, and is printed again behind `agrees` or `differs`: `answer PATH` gives a fresh peer the
 //! offer `PATH.offer`, whose answer has the lines of `PATH.answer`; `copy PATH` copies what is read of that offer; `codecs NAME`,
-//! `layers NAME` and `starts NAME` are calls; `file SIZE SEED LOST TWICE` sends a file, and `work one C M B` and `work turn C M B` so many messages over channels, so that a tool
-//! that counts instructions sees what they cost.
+//! `layers NAME` and `starts NAME` are calls; `file SIZE SEED LOST TWICE` sends a file, and `work one C M B` and `work turn C M B` so
+//! many messages over channels, so that a tool that counts instructions sees what they cost.
 #![tactic(auto)]
 
 mod answers;
