@@ -26,3 +26,14 @@ pub fn add_host<P: Endpoint>(alloc: Global, peer: &mut P, number: u8) -> Result<
     let local = candidate(alloc, number)?;
     Ok(peer.takes(Given::Local(local)))
 }
+
+/// Gives two peers the addresses of the hosts 1 and 2.
+pub fn add_hosts<P: Endpoint>(
+    alloc: Global,
+    left: &mut P,
+    right: &mut P,
+) -> Result<(), AllocError> {
+    add_host(alloc, left, 1)?;
+    add_host(alloc, right, 2)?;
+    Ok(())
+}

@@ -27,4 +27,4 @@ pub use endpoint::Endpoint;
 pub use exchanging::exchange;
 pub use finishing::finish;
 pub use given::Given;
-pub use hosts::{add_host, candidate, host};
+pub use hosts::{add_host, add_hosts, candidate, host};

@@ -1,5 +1,5 @@
 //! Rounds whose answer announces a fingerprint that the certificate of its side has not (RFC 8122, section 6.2).
-use rtc_endpoints::{Ask, Endpoint, add_host, exchange, finish};
+use rtc_endpoints::{Ask, Endpoint, add_hosts, exchange, finish};
 use rtc_peer::{Fingerprint, RtcError, SdpAnswer, SdpOffer, Why};
 use rtc_wire::{Text, release};
 use std::alloc::{AllocError, Global};
@@ -45,11 +45,9 @@ fn meet<P: Endpoint>(
     right: &mut P,
     call: &str,
 ) -> Result<(), RtcError> {
-    add_host(alloc, left, 1)?;
-    add_host(alloc, right, 2)?;
-    let label = String::from_str(alloc, "chat")?;
+    add_hosts(alloc, left, right)?;
     let announced = other_fingerprint(alloc, call)?;
-    agree(left, right, label, announced)?;
+    agree(left, right, String::new(alloc), announced)?;
     exchange(left, right)
 }
 
