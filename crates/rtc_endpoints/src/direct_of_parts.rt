@@ -9,14 +9,21 @@ use rtc_plain::PlainMark;
 use rtc_wire::{ChannelConfig, ChannelId};
 use std::alloc::AllocError;
 
-// Whether a stream was made, and is marked.
-fn marks(made: Result<Option<&mut PlainMark>, AllocError>, count: u64) -> bool {
-    match made {
-        Ok(Some(mark)) => {
+fn mark(mark: Option<&mut PlainMark>, count: u64) -> bool {
+    match mark {
+        Some(mark) => {
             mark.count = count;
             true
         }
-        _ => false,
+        None => false,
+    }
+}
+
+// Whether a stream was made, and is marked.
+fn marks(made: Result<Option<&mut PlainMark>, AllocError>, count: u64) -> bool {
+    match made {
+        Ok(made) => mark(made, count),
+        Err(_) => false,
     }
 }
 
