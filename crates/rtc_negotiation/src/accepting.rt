@@ -230,9 +230,12 @@ fn follow_answer<I: IceAgent, D: DtlsInstance, S: Association, M: MediaSession, 
         fingerprint,
     } = growth;
     drop(own);
-    if let Err(error) = move_peer(peer, following, starting, answer, plan.rows.as_slice()) {
-        drop((plan, fingerprint));
-        return Err(error);
+    match move_peer(peer, following, starting, answer, plan.rows.as_slice()) {
+        Ok(()) => {}
+        Err(error) => {
+            drop((plan, fingerprint));
+            return Err(error);
+        }
     }
     peer.fingerprint = fingerprint;
     peer.media.commit();
