@@ -9,21 +9,14 @@ use rtc_plain::PlainMark;
 use rtc_wire::{ChannelConfig, ChannelId};
 use std::alloc::AllocError;
 
-fn mark(mark: Option<&mut PlainMark>, count: u64) -> bool {
+// Whether there is a stream, which is marked.
+fn marks(mark: Option<&mut PlainMark>, count: u64) -> bool {
     match mark {
         Some(mark) => {
             mark.count = count;
             true
         }
         None => false,
-    }
-}
-
-// Whether a stream was made, and is marked.
-fn marks(made: Result<Option<&mut PlainMark>, AllocError>, count: u64) -> bool {
-    match made {
-        Ok(made) => mark(made, count),
-        Err(_) => false,
     }
 }
 
@@ -76,16 +69,22 @@ impl<
         let mut api = self.direct_api();
         match ask {
             AskStreams::Expect(mid, ssrc, count) => {
-                marks(api.expect_stream_rx(Ssrc(ssrc), None, mid, None), count)
+                match api.expect_stream_rx(Ssrc(ssrc), None, mid, None) {
+                    Ok(made) => marks(made, count),
+                    Err(_) => false,
+                }
             }
             AskStreams::Declare(mid, ssrc, count) => {
-                marks(api.declare_stream_tx(Ssrc(ssrc), None, mid, None), count)
+                match api.declare_stream_tx(Ssrc(ssrc), None, mid, None) {
+                    Ok(made) => marks(made, count),
+                    Err(_) => false,
+                }
             }
             AskStreams::DeclareResent(mid, ssrc, rtx, count) => {
-                marks(
-                    api.declare_stream_tx(Ssrc(ssrc), Some(Ssrc(rtx)), mid, None),
-                    count,
-                )
+                match api.declare_stream_tx(Ssrc(ssrc), Some(Ssrc(rtx)), mid, None) {
+                    Ok(made) => marks(made, count),
+                    Err(_) => false,
+                }
             }
             AskStreams::MakeReceived(mid, ssrc) => {
                 api.make_stream_rx(Ssrc(ssrc), None, mid, None).is_ok()
