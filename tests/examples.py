@@ -1,9 +1,8 @@
 #!/usr/bin/env python3
 """Writes `stdin` and `stdout` of the programs that the gate runs over stored examples, those of crates/rtc_*_examples that have
-`data/calls`. `stdin` names each
-example of the crate's `data/`: the lines of each file `calls`, and the scripts and descriptions, each beside what it expects. `stdout`
-has each of these lines behind `agrees`. With --check nothing is written, and what is not current is refused, as are an example without
-what it expects and a call that `data/calls` leaves out. `data/orderly/` is made by tests/orderly_scripts.py.
+`data/calls`. `stdin` names each example of the crate's `data/`: the lines of each file `calls`, and the offers, each beside its
+answer. `stdout` has each of these lines behind `agrees`. With --check nothing is written, and what is not current is refused, as are
+an offer without an answer and a call that `data/calls` leaves out.
 
 usage: tests/examples.py [--check]
 """
@@ -14,7 +13,7 @@ import sys
 
 TOP = os.path.dirname(os.path.dirname(os.path.abspath(__file__)))
 # Under which word a program is given an example, by the endings of its file and of the one with what it expects.
-ENDINGS = {("script", "report"): "script", ("sdp", "expected"): "description", ("offer", "answer"): "answer"}
+ENDINGS = {("offer", "answer"): "answer"}
 
 
 def read(path):

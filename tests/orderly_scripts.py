@@ -1,6 +1,6 @@
 #!/usr/bin/env python3
-"""Makes the orderly scripts of crates/rtc_signalling_examples/data/orderly/ from a seed, and the list of them with the rounds that
-each is to finish. With --check nothing is written, and what is not current is refused.
+"""Makes the orderly scripts of tests/data/scripts/orderly/ from a seed, and the list `rounds` of them, with how many rounds each is
+to finish. With --check nothing is written, and what is not current is refused.
 
 usage: tests/orderly_scripts.py [--check]
 
@@ -16,7 +16,7 @@ import os
 import random
 import sys
 
-FOLDER = os.path.join(os.path.dirname(os.path.dirname(os.path.abspath(__file__))), "crates", "rtc_signalling_examples", "data", "orderly")
+FOLDER = os.path.join(os.path.dirname(os.path.abspath(__file__)), "data", "scripts", "orderly")
 SEED = 20
 INVERSE = {"sendrecv": "sendrecv", "sendonly": "recvonly", "recvonly": "sendonly", "inactive": "inactive"}
 DIRECTIONS = list(INVERSE)
@@ -236,19 +236,19 @@ def play(chance, theme):
 
 # Each file of the folder, with what it is to hold.
 def files():
-    made, calls, words = {}, "", set()
+    made, rounds, words = {}, "", set()
     for number, (name, theme) in enumerate(sorted(THEMES.items())):
         course = play(Chance(SEED * 1000 + number), theme)
         settings = [f"set {theme.lite} lite"] if theme.lite else []
         settings += [f"set {at} snap" for at in theme.snap]
         made[f"{name}.orderly"] = "".join(f"{line}\n" for line in ["str0m-pair 1", *settings, *course.lines])
-        calls += f"orderly orderly/{name} rounds {course.finished} finished {course.finished}\n"
+        rounds += f"{name} {course.finished}\n"
         words |= {word for line in course.lines for word in line.replace(":", " ").split()}
     every = "offer stage accept answer audio video dir stop channel restart keep new".split() + DIRECTIONS
     missing = set(every) - words
     if missing:
         sys.exit(f"no script has {sorted(missing)}")
-    return {**made, "calls": calls}
+    return {**made, "rounds": rounds}
 
 
 def main():

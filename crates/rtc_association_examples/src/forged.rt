@@ -1,7 +1,8 @@
 //! Packets that are none, and packets that somebody else made.
 use crate::ends::{accept, fresh, give};
 use rtc_association::{AssocEvent, Association};
-use rtc_cases::{is_ok, is_true, keep};
+use rtc_cases::{is_ok, is_true};
+use rtc_wire::whole;
 use std::alloc::{AllocError, Global};
 
 // What a packet does to a server: its first event, how many packets it queues, and the last byte of the first one.
@@ -77,7 +78,7 @@ fn packet(
 ) -> Result<Vec<u8>, AllocError> {
     let mut bytes = Vec::new(alloc);
     let filled = fill(&mut bytes, number, generation, part, content);
-    keep(bytes, filled)
+    whole(bytes, filled)
 }
 
 fn fill(

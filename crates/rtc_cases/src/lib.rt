@@ -4,11 +4,9 @@
 mod answers;
 mod comparing;
 mod examples;
-mod releasing;
 mod running;
 
 pub use answers::{every, gives, is_ok, is_refused, is_true};
 pub use comparing::{has_length, is_copied, is_list, is_text, prints, shows};
 pub use examples::Examples;
-pub use releasing::{keep, release};
 pub use running::run;

@@ -1,9 +1,8 @@
 //! The streams of two peers in one process.
 use crate::notes::Notes;
 use crate::streams::Streams;
-use rtc_cases::release;
 use rtc_sctp::SctpEvent;
-use rtc_wire::{Bytes, ChannelConfig, Moment, Seq, Text};
+use rtc_wire::{Bytes, ChannelConfig, Moment, Seq, Text, release};
 use std::alloc::{AllocError, Global};
 
 /// A side of two peers.

@@ -1,7 +1,7 @@
 //! Rounds whose answer announces a fingerprint that the certificate of its side has not (RFC 8122, section 6.2).
+use rtc_endpoints::{Ask, Endpoint, add_hosts, exchange, finish};
 use rtc_peer::{Fingerprint, RtcError, SdpAnswer, SdpOffer, Why};
-use rtc_plain_peers::{Endpoint, add_host, exchange, finish, release};
-use rtc_wire::Text;
+use rtc_wire::{Text, release};
 use std::alloc::{AllocError, Global};
 
 // The fingerprint of another certificate, or one by a function that peers do not know.
@@ -45,11 +45,9 @@ fn meet<P: Endpoint>(
     right: &mut P,
     call: &str,
 ) -> Result<(), RtcError> {
-    add_host(alloc, left, 1)?;
-    add_host(alloc, right, 2)?;
-    let label = String::from_str(alloc, "chat")?;
+    add_hosts(alloc, left, right)?;
     let announced = other_fingerprint(alloc, call)?;
-    agree(left, right, label, announced)?;
+    agree(left, right, String::new(alloc), announced)?;
     exchange(left, right)
 }
 
@@ -66,8 +64,6 @@ fn is_refused(call: &str, met: &Result<(), RtcError>) -> bool {
 pub fn does_refuse<P: Endpoint>(alloc: Global, left: &mut P, right: &mut P, call: &str) -> bool {
     let met = meet(alloc, left, right, call);
     let refused = is_refused(call, &met);
-    release(
-        met,
-        refused && !left.is_connected() && !right.is_connected(),
-    )
+    let connected = left.does(Ask::BeConnected) | right.does(Ask::BeConnected);
+    release(met, refused & !connected)
 }

@@ -1,18 +1,14 @@
 //! The examples by their names.
-use crate::ask::Ask;
-use crate::direct::Direct;
-use crate::staging::Staging;
 use crate::{
     announced, changes, channels, connected, copies, lines, parts, rounds, starts, streams,
 };
 use rtc_cases::{is_ok, is_true};
-use rtc_peer::{
-    Association, DtlsInstance, IceAgent, Ids, Input, MediaKind, MediaSession, Mid, Rtc, RtcConfig,
-};
-use rtc_plain::{CountIds, PlainMark, PlainMediaEvent};
-use rtc_plain_peers::{Endpoint, Peer, build, build_of, candidate};
+use rtc_endpoints::{Ask, AskDirect, Direct, Endpoint, Given, candidate};
+use rtc_peer::{Input, MediaKind, Mid, RtcConfig};
+use rtc_plain_peers::PairExamples;
 use rtc_wire::{ChannelConfig, Moment};
 use std::alloc::{AllocError, Global};
+use std::rt::Files;
 
 // What a peer without session descriptions does.
 fn drive<P: Direct + Endpoint>(
@@ -37,39 +33,49 @@ fn drive<P: Direct + Endpoint>(
     }
 }
 
-fn adds_remote<P: Staging>(alloc: Global, peer: &mut P) -> Result<bool, AllocError> {
+fn adds_remote<P: Endpoint>(alloc: Global, peer: &mut P) -> Result<bool, AllocError> {
     let remote = candidate(alloc, 2)?;
-    Ok(peer.adds_remote(remote))
+    Ok(peer.takes(Given::Remote(remote)))
 }
 
 fn adds_local<P: Endpoint>(alloc: Global, peer: &mut P) -> Result<bool, AllocError> {
     let local = candidate(alloc, 1)?;
-    Ok(is_ok(peer.add_address(local)))
+    Ok(peer.takes(Given::Local(local)))
 }
 
-fn is_called<P: Endpoint + Staging>(alloc: Global, peer: &mut P, call: &str) -> bool {
+// Both peers are built before. The left one is built of a config where the call is `build`, and the right one by `new`.
+fn is_built<P: Endpoint>(alloc: Global, call: &str) -> bool {
     match call {
-        "add_local_candidate" => is_true(adds_local(alloc, peer)),
-        "add_remote_candidate" => is_true(adds_remote(alloc, peer)),
-        "channels" => peer.lists_channels(),
-        "handle_input" => is_ok(peer.take_input(&Input::Timeout(Moment::FAR_PAST))),
-        "poll_output" => is_ok(peer.give_output()),
-        "close" => is_ok(peer.begin_close()),
+        "new" => true,
+        "build" => true,
+        "builder" => is_ok(P::default_config(alloc)),
         _ => false,
     }
 }
 
-fn stages_channel<P: Staging>(alloc: Global, peer: &mut P) -> Result<bool, AllocError> {
-    let label = String::from_str(alloc, "chat")?;
-    Ok(peer.stages_channel(label))
+fn is_called<P: Endpoint>(alloc: Global, peer: &mut P, call: &str) -> bool {
+    match call {
+        "add_local_candidate" => is_true(adds_local(alloc, peer)),
+        "add_remote_candidate" => is_true(adds_remote(alloc, peer)),
+        "channels" => peer.does(Ask::ListChannels),
+        "handle_input" => is_ok(peer.take_input(&Input::Timeout(Moment::FAR_PAST))),
+        "poll_output" => is_ok(peer.give_output()),
+        "close" => peer.does(Ask::Close),
+        _ => false,
+    }
 }
 
-fn is_staged<P: Staging>(alloc: Global, peer: &mut P, call: &str) -> bool {
+fn stages_channel<P: Endpoint>(alloc: Global, peer: &mut P) -> Result<bool, AllocError> {
+    let label = String::from_str(alloc, "chat")?;
+    Ok(peer.takes(Given::Label(label)))
+}
+
+fn is_staged<P: Endpoint>(alloc: Global, peer: &mut P, call: &str) -> bool {
     match call {
-        "add_media" => peer.stages_line(),
+        "add_media" => peer.does(Ask::StageLine),
         "add_channel" => is_true(stages_channel(alloc, peer)),
-        "add_channel_with_config" => peer.stages_config(ChannelConfig::new(alloc)),
-        "ice_restart" => peer.stages_restart(),
+        "add_channel_with_config" => peer.takes(Given::Channel(ChannelConfig::new(alloc))),
+        "ice_restart" => peer.does(Ask::StageRestart),
         _ => false,
     }
 }
@@ -77,27 +83,22 @@ fn is_staged<P: Staging>(alloc: Global, peer: &mut P, call: &str) -> bool {
 fn is_direct<P: Direct>(alloc: Global, peer: &mut P, mid: Mid, call: &str) -> bool {
     match call {
         "local_ice_credentials" => is_ok(peer.own_creds()),
-        "start_dtls" => peer.does(Ask::StartDtls(true)),
-        "start_sctp" => peer.does(Ask::StartSctp(true)),
+        "start_dtls" => peer.does_directly(AskDirect::StartDtls(true)),
+        "start_sctp" => peer.does_directly(AskDirect::StartSctp(true)),
         "start_sctp_with_snap" => is_true(starts::starts(alloc, peer)),
         "create_data_channel" => is_ok(peer.make_channel(ChannelConfig::new(alloc))),
         "close_data_channel" => channels::close_channel(alloc, peer),
-        "declare_media" => peer.does(Ask::Declare(mid, MediaKind::Audio)),
-        "send_app_specific_feedback" => peer.does(Ask::SendFeedback),
-        "send_pli_feedback" => peer.does(Ask::WishPicture),
+        "declare_media" => peer.does_directly(AskDirect::Declare(mid, MediaKind::Audio)),
+        "send_app_specific_feedback" => peer.does_directly(AskDirect::SendFeedback),
+        "send_pli_feedback" => peer.does_directly(AskDirect::WishPicture),
         _ => false,
     }
 }
 
 // Whether a call on one peer succeeds: it stands behind its subject.
-fn does_succeed<P: Direct + Endpoint + Staging>(
-    alloc: Global,
-    peer: &mut P,
-    mid: Mid,
-    name: &str,
-) -> bool {
+fn does_succeed<P: Direct + Endpoint>(alloc: Global, peer: &mut P, mid: Mid, name: &str) -> bool {
     match name.split_once(' ') {
-        Some(("Built", call)) => (call == "new") | (call == "build"),
+        Some(("Built", call)) => is_built::<P>(alloc, call),
         Some(("Rtc", call)) => is_called(alloc, peer, call),
         Some(("SdpApi", call)) => is_staged(alloc, peer, call),
         Some(("DirectApi", call)) => is_direct(alloc, peer, mid, call),
@@ -116,7 +117,7 @@ fn do_succeed<P: Endpoint>(alloc: Global, left: &mut P, right: &mut P, name: &st
     }
 }
 
-fn ask<P: Direct + Endpoint + Staging>(
+fn ask<P: Direct + Endpoint>(
     alloc: Global,
     left: &mut P,
     right: &mut P,
@@ -134,46 +135,36 @@ fn ask<P: Direct + Endpoint + Staging>(
     }
 }
 
-// Whether an example gives what is expected, where there was memory for both peers.
-fn ask_made<
-    I: IceAgent + Drop,
-    D: DtlsInstance + Drop,
-    S: Association + Drop,
-    M: MediaSession<E = PlainMediaEvent, Rx = PlainMark, Tx = PlainMark> + Drop,
-    N: Ids + Drop,
->(
-    alloc: Global,
-    left: Result<Rtc<I, D, S, M, N>, AllocError>,
-    right: Result<Rtc<I, D, S, M, N>, AllocError>,
-    subject: &str,
-    name: &str,
-) -> Result<bool, AllocError> {
-    let mut left = left?;
-    let mut right = right?;
-    match (Mid::read("a"), Mid::read("b")) {
-        (Some(mid), Some(other)) => {
-            Ok(ask(alloc, &mut left, &mut right, (mid, other), subject, name))
+/// The calls that are made, and what is expected of each.
+pub struct Calls;
+
+impl PairExamples for Calls {
+    fn left_config(
+        alloc: Global,
+        _subject: &str,
+        name: &str,
+    ) -> Result<Option<RtcConfig>, AllocError> {
+        match name {
+            "of a channel are written in an offer" => changes::certified(alloc),
+            "Built build" => Ok(Some(RtcConfig::new(alloc)?)),
+            _ => Ok(None),
         }
-        _ => Ok(false),
     }
-}
 
-// The left peer is made by `new`, but for that of the call `build`, and for one with the certificate `abc`.
-fn make(alloc: Global, name: &str) -> Result<Peer<CountIds>, AllocError> {
-    match name {
-        "of a channel are written in an offer" => changes::build_certified(alloc),
-        "Built build" => build_of(alloc, RtcConfig::new(alloc)?, CountIds::starting(1)),
-        _ => build(alloc, CountIds::starting(1)),
+    fn right_config(_alloc: Global, _subject: &str) -> Result<Option<RtcConfig>, AllocError> {
+        Ok(None)
     }
-}
 
-/// Whether an example gives what is expected, with peers that draw numbers from 1 and from 1,000,001 on. This function alone hands
-/// peers over parts in memory to one over any parts, which is dear to check.
-pub fn does_agree(alloc: Global, subject: &str, name: &str) -> bool {
-    if name == "Built builder" {
-        return is_ok(Peer::<CountIds>::builder(alloc));
+    fn does_agree<R: Files + AllocGlobal, P: Endpoint + Direct>(
+        rt: &R,
+        left: &mut P,
+        right: &mut P,
+        subject: &str,
+        name: &str,
+    ) -> bool {
+        match (Mid::read("a"), Mid::read("b")) {
+            (Some(mid), Some(other)) => ask(rt.alloc(), left, right, (mid, other), subject, name),
+            _ => false,
+        }
     }
-    let left = make(alloc, name);
-    let right = build(alloc, CountIds::starting(1_000_001));
-    is_true(ask_made(alloc, left, right, subject, name))
 }

@@ -1,13 +1,12 @@
 //! Staged changes: channels that are taken out of them, the lines that they add, and what peers tell of them.
 use crate::copies::media;
-use rtc_cases::{is_ok, is_true, release};
+use rtc_cases::{is_ok, is_true};
 use rtc_change::{Change, Changes, Lines, SdpPendingOffer, count_added};
 use rtc_delivery::{deliver_answer, deliver_offer};
+use rtc_endpoints::{Endpoint, add_host, finish};
 use rtc_lines::{Direction, LineRow, MediaKind, MediaLine, Mid, SdpAnswer, SdpOffer, Setup};
 use rtc_peer::{RtcConfig, RtcError};
-use rtc_plain::CountIds;
-use rtc_plain_peers::{Endpoint, Peer, add_host, build_of, finish};
-use rtc_wire::{ChannelConfig, ChannelId, Seq};
+use rtc_wire::{ChannelConfig, ChannelId, Seq, release};
 use std::alloc::{AllocError, Global};
 
 // The offer of a peer whose numbers count up from 1, with the certificate "abc" (its hash is in FIPS 180-2, appendix B.1), one host
@@ -136,11 +135,11 @@ fn is_channel_offered<P: Endpoint>(
     writes_channel(alloc, left, label, expected)
 }
 
-/// A peer with the certificate `abc`.
-pub fn build_certified(alloc: Global) -> Result<Peer<CountIds>, AllocError> {
+/// The config of a peer with the certificate `abc`.
+pub fn certified(alloc: Global) -> Result<Option<RtcConfig>, AllocError> {
     let cert = b"abc".to_vec(alloc)?;
     let config = RtcConfig::new(alloc)?;
-    build_of(alloc, config.set_dtls_cert(cert), CountIds::starting(1))
+    Ok(Some(config.set_dtls_cert(cert)))
 }
 
 // Whether there are m-lines, and each has this setup.

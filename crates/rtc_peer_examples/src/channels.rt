@@ -1,7 +1,6 @@
 //! Channels that are made and closed.
-use crate::ask::Ask;
-use crate::direct::Direct;
 use rtc_cases::{every, gives, is_refused};
+use rtc_endpoints::{AskDirect, Direct};
 use rtc_peer::RtcError;
 use rtc_wire::{ChannelConfig, ChannelId};
 use std::alloc::Global;
@@ -23,13 +22,13 @@ fn refuses<P: Direct>(peer: &mut P, config: ChannelConfig) -> bool {
 
 /// Channels are numbered from 0. One that is settled for a stream that another claims is refused. None has a stream before a poll.
 pub fn make_channels<P: Direct>(alloc: Global, peer: &mut P) -> bool {
-    let started = peer.does(Ask::StartSctp(true));
-    let again = peer.does(Ask::StartSctp(false));
+    let started = peer.does_directly(AskDirect::StartSctp(true));
+    let again = peer.does_directly(AskDirect::StartSctp(false));
     let numbered = makes(peer, settled(alloc, 4), 0);
     let refused = refuses(peer, settled(alloc, 4));
     let counted = makes(peer, ChannelConfig::new(alloc), 1);
-    let streamed = peer.does(Ask::HaveStream(4));
-    let closed = peer.does(Ask::CloseChannel(ChannelId::new(0)));
+    let streamed = peer.does_directly(AskDirect::HaveStream(4));
+    let closed = peer.does_directly(AskDirect::CloseChannel(ChannelId::new(0)));
     every(&[
         started, again, numbered, refused, counted, !streamed, closed,
     ])
@@ -38,5 +37,5 @@ pub fn make_channels<P: Direct>(alloc: Global, peer: &mut P) -> bool {
 /// Whether a channel of the default config is made and closed.
 pub fn close_channel<P: Direct>(alloc: Global, peer: &mut P) -> bool {
     let made = makes(peer, ChannelConfig::new(alloc), 0);
-    made & peer.does(Ask::CloseChannel(ChannelId::new(0)))
+    made & peer.does_directly(AskDirect::CloseChannel(ChannelId::new(0)))
 }

@@ -1,8 +1,9 @@
 //! Calls on the channel of two peers that are connected.
+use rtc_cases::is_true;
+use rtc_endpoints::{Ask, Endpoint, connect, host};
 use rtc_peer::Input;
 use rtc_plain::PlainIce;
-use rtc_plain_peers::{Endpoint, connect, host, is_true, release, succeeds};
-use rtc_wire::{ChannelId, Moment, Protocol, Receive};
+use rtc_wire::{ChannelId, Moment, Protocol, Receive, release};
 use std::alloc::Global;
 
 // Whether a peer takes a DTLS packet of a host for its own.
@@ -22,9 +23,9 @@ fn accept<P: Endpoint>(left: &P, right: &P) -> bool {
 fn ask<P: Endpoint>(left: &mut P, right: &mut P, channel: ChannelId, call: &str) -> bool {
     match call {
         "write" => is_true(left.write(channel, false, b"hello")),
-        "close_data_channel" => succeeds(left.close_channel(channel)),
-        "close" => succeeds(left.begin_close()),
-        "is_connected" => left.is_connected() && right.is_connected(),
+        "close_data_channel" => left.does(Ask::CloseChannel(channel)),
+        "close" => left.does(Ask::Close),
+        "is_connected" => left.does(Ask::BeConnected) & right.does(Ask::BeConnected),
         "accepts" => accept(left, right),
         _ => false,
     }

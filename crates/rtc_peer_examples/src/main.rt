@@ -6,22 +6,19 @@
 #![tactic(auto)]
 
 mod announced;
-mod ask;
 mod calls;
 mod changes;
 mod channels;
 mod connected;
 mod copies;
-mod direct;
-mod direct_of_parts;
 mod lines;
 mod parts;
 mod rounds;
-mod staging;
 mod starts;
 mod streams;
 
-use rtc_cases::{Examples, run};
+use calls::Calls;
+use rtc_cases::{Examples, is_true, run};
 use std::io;
 use std::process::ExitCode;
 use std::rt::Files;
@@ -30,7 +27,7 @@ struct Peers;
 
 impl Examples for Peers {
     fn does_agree<R: Files + AllocGlobal>(rt: &R, subject: &str, name: &str) -> bool {
-        calls::does_agree(rt.alloc(), subject, name)
+        is_true(rtc_plain_peers::does_agree::<Calls, R>(rt, subject, name))
     }
 }
 

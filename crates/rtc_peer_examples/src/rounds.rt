@@ -1,6 +1,8 @@
 //! Calls of a round of two peers.
+use rtc_cases::{is_ok, is_true};
+use rtc_endpoints::{Ask, Endpoint, finish};
 use rtc_peer::{Direction, MediaKind, Mid, RtcError};
-use rtc_plain_peers::{Endpoint, finish, is_true, release, succeeds};
+use rtc_wire::release;
 
 fn is_offered<P: Endpoint>(left: &mut P) -> Result<bool, RtcError> {
     let (_mid, made) = left.offer_media(MediaKind::Audio, Direction::SendRecv, None)?;
@@ -12,7 +14,7 @@ fn is_accepted<P: Endpoint>(left: &mut P, right: &mut P) -> Result<bool, RtcErro
     let (_mid, made) = left.offer_media(MediaKind::Audio, Direction::SendRecv, None)?;
     match made {
         Some((offer, token)) => {
-            let accepted = succeeds(right.accept_offer(offer));
+            let accepted = is_ok(right.accept_offer(offer));
             release(token, Ok(accepted))
         }
         None => Ok(false),
@@ -34,14 +36,14 @@ fn agree<P: Endpoint>(left: &mut P, right: &mut P) -> Result<Option<Mid>, RtcErr
 
 fn is_set<P: Endpoint>(left: &mut P, right: &mut P) -> Result<bool, RtcError> {
     match agree(left, right)? {
-        Some(mid) => Ok(left.set_line(mid, Direction::RecvOnly)?),
+        Some(mid) => Ok(left.does(Ask::SetLine(mid, Direction::RecvOnly))),
         None => Ok(false),
     }
 }
 
 fn is_stopped<P: Endpoint>(left: &mut P, right: &mut P) -> Result<bool, RtcError> {
     match agree(left, right)? {
-        Some(mid) => Ok(left.stop_line(mid)?),
+        Some(mid) => Ok(left.does(Ask::StopLine(mid))),
         None => Ok(false),
     }
 }

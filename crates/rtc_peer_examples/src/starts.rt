@@ -1,9 +1,9 @@
 //! Associations that are started by the halves of both sides.
-use crate::direct::Direct;
-use rtc_cases::{is_ok, is_refused, is_true, release};
+use rtc_cases::{is_ok, is_true};
+use rtc_endpoints::{Direct, Endpoint};
 use rtc_peer::{ProtoError, RtcError, SctpError, SctpInitData, SdpOffer};
 use rtc_plain::CountIds;
-use rtc_plain_peers::Endpoint;
+use rtc_wire::release;
 use std::alloc::{AllocError, Global};
 
 // The half of this side alone, of the numbers 1 and 2.
@@ -21,10 +21,18 @@ fn whole(alloc: Global) -> Result<SctpInitData, AllocError> {
     Ok(halves)
 }
 
+fn lacks_half(started: &Result<(), RtcError>) -> bool {
+    match started {
+        Err(RtcError::Sctp(SctpError::Proto(ProtoError::SnapHalf))) => true,
+        _ => false,
+    }
+}
+
 fn refuses_half<P: Direct>(alloc: Global, peer: &mut P) -> Result<bool, AllocError> {
     let alone = half(alloc)?;
-    let lacks_half = RtcError::Sctp(SctpError::Proto(ProtoError::SnapHalf));
-    Ok(is_refused(peer.start_by_halves(true, alone), &lacks_half))
+    let started = peer.start_by_halves(true, alone);
+    let refused = lacks_half(&started);
+    release(started, Ok(refused))
 }
 
 /// Whether an association starts by both halves.

@@ -6,33 +6,31 @@ use rtc_plain::{PlainDtls, PlainIce, PlainMedia};
 use rtc_wire::Moment;
 use std::alloc::{AllocError, Global};
 
-/// A peer of the default config at moment 0.
-pub fn build<N: Ids + Drop>(alloc: Global, ids: N) -> Result<Peer<N>, AllocError> {
-    Rtc::new(
-        alloc,
-        Moment::FAR_PAST,
-        PlainIce::new(alloc),
-        PlainDtls::new(alloc),
-        PlainAssociation::new(alloc),
-        PlainMedia::new(alloc),
-        ids,
-    )
-}
-
-/// A peer of a config at moment 0.
-pub fn build_of<N: Ids + Drop>(
+/// A peer of a config, or of the default one, at moment 0, where there was memory for the config.
+pub fn build<N: Ids + Drop>(
     alloc: Global,
-    config: RtcConfig,
+    config: Result<Option<RtcConfig>, AllocError>,
     ids: N,
 ) -> Result<Peer<N>, AllocError> {
-    Rtc::build(
-        alloc,
-        config,
-        Moment::FAR_PAST,
-        PlainIce::new(alloc),
-        PlainDtls::new(alloc),
-        PlainAssociation::new(alloc),
-        PlainMedia::new(alloc),
-        ids,
-    )
+    match config? {
+        Some(config) => Rtc::build(
+            alloc,
+            config,
+            Moment::FAR_PAST,
+            PlainIce::new(alloc),
+            PlainDtls::new(alloc),
+            PlainAssociation::new(alloc),
+            PlainMedia::new(alloc),
+            ids,
+        ),
+        None => Rtc::new(
+            alloc,
+            Moment::FAR_PAST,
+            PlainIce::new(alloc),
+            PlainDtls::new(alloc),
+            PlainAssociation::new(alloc),
+            PlainMedia::new(alloc),
+            ids,
+        ),
+    }
 }

@@ -1,9 +1,8 @@
 //! What a fresh peer answers to an offer that comes as text.
 use crate::lines::describe;
-use rtc_cases::release;
+use rtc_endpoints::Endpoint;
 use rtc_peer::{RtcError, SdpAnswer, SdpOffer};
-use rtc_plain_peers::Endpoint;
-use rtc_wire::Text;
+use rtc_wire::{Text, release};
 use std::alloc::{AllocError, Global};
 
 fn write(answer: SdpAnswer) -> Result<Text, AllocError> {

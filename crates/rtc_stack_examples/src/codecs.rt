@@ -1,10 +1,10 @@
 //! Codecs that are chosen out of those of an offer.
 use crate::answers::accept;
-use rtc_cases::{is_true, release};
+use rtc_cases::is_true;
 use rtc_codecs::Codec;
+use rtc_endpoints::Endpoint;
 use rtc_peer::{CodecConfig, PayloadRow, RtcError, SdpAnswer};
-use rtc_plain_peers::Endpoint;
-use rtc_wire::Seq;
+use rtc_wire::{Seq, release};
 use std::alloc::{AllocError, Global};
 
 fn push_row(alloc: Global, rows: &mut Seq<PayloadRow>, codec: Codec) -> Result<(), AllocError> {

@@ -1,9 +1,9 @@
 //! Datagrams that go from one peer to the other one.
 use crate::told::Told;
 use crate::wire::Wire;
+use rtc_endpoints::{Endpoint, deliver};
 use rtc_peer::{Input, Output, RtcError};
 use rtc_plain::PlainMediaEvent;
-use rtc_plain_peers::{Endpoint, deliver};
 use rtc_wire::{Moment, Transmit};
 use std::alloc::AllocError;
 

@@ -1,9 +1,8 @@
 //! Layers that are sent.
 use crate::lines::count_line;
-use rtc_cases::release;
+use rtc_endpoints::Endpoint;
 use rtc_peer::{Direction, MediaKind, MediaLine, Rid, SdpOffer, Simulcast, SimulcastLayer, Ssrc};
-use rtc_plain_peers::Endpoint;
-use rtc_wire::{Seq, Text};
+use rtc_wire::{Seq, Text, release};
 use std::alloc::{AllocError, Global};
 
 // A layer without restrictions.

@@ -1,11 +1,10 @@
 //! What goes between two peers, and the file that comes of it.
 use crate::way::Way;
-use rtc_cases::release;
+use rtc_endpoints::{Endpoint, deliver};
 use rtc_file_records::FileReceiver;
 use rtc_peer::{Event, Input, Output, RtcError};
 use rtc_plain::PlainMediaEvent;
-use rtc_plain_peers::{Endpoint, deliver};
-use rtc_wire::{Moment, Span, Transmit};
+use rtc_wire::{Moment, Span, Transmit, release};
 use std::alloc::Global;
 
 // No peer of a stored example has so much to give at once.

@@ -2,19 +2,20 @@
 //! between two peers over a data channel, while datagrams are lost and repeated.
 //!
 //! Each line of the input names an example, and is printed again behind `agrees` or `differs`: `answer PATH` gives a fresh peer the
-//! offer `PATH.offer`, whose answer has the lines of `PATH.answer`; `codecs NAME`, `layers NAME` and `starts NAME` are calls;
-//! `file SIZE SEED LOST TWICE` sends a file, and `work one C M B` and `work turn C M B` so many messages over channels, so that a tool
-//! that counts instructions sees what they cost.
+//! offer `PATH.offer`, whose answer has the lines of `PATH.answer`; `copy PATH` copies what is read of that offer; `codecs NAME`,
+//! `layers NAME` and `starts NAME` are calls; `file SIZE SEED LOST TWICE` sends a file, and `work one C M B` and `work turn C M B` so
+//! many messages over channels, so that a tool that counts instructions sees what they cost.
 #![tactic(auto)]
 
 mod answers;
 mod codecs;
+mod configs;
+mod copies;
 mod exchanging;
 mod layers;
 mod lines;
 mod link;
 mod negotiating;
-mod peers;
 mod sending;
 mod starts;
 mod told;
@@ -23,10 +24,12 @@ mod way;
 mod wire;
 mod work;
 
-use peers::{build_for, build_other};
+use configs::config_for;
 use rtc_cases::{Examples, is_text, is_true, run};
-use rtc_plain_peers::Endpoint;
-use std::alloc::AllocError;
+use rtc_endpoints::{Direct, Endpoint};
+use rtc_peer::RtcConfig;
+use rtc_plain_peers::PairExamples;
+use std::alloc::{AllocError, Global};
 use std::process::ExitCode;
 use std::rt::Files;
 use std::{fs, io};
@@ -45,6 +48,11 @@ fn is_answered<R: Files + AllocGlobal, P: Endpoint>(
     let expected = read(rt, path, "answer")?;
     let told = answers::answer_to(rt.alloc(), peer, offer.as_str());
     Ok(is_text(told, expected.as_str()))
+}
+
+fn is_read_copied<R: Files + AllocGlobal>(rt: &R, path: &str) -> io::Result<bool> {
+    let offer = read(rt, path, "offer")?;
+    Ok(is_true(copies::does_agree(rt.alloc(), offer.as_str())))
 }
 
 // Whether a peer chooses among codecs as is expected.
@@ -87,6 +95,7 @@ fn ask<R: Files + AllocGlobal, P: Endpoint>(
     match subject {
         "answer" => is_true(is_answered(rt, peer, name)),
         "codecs" => is_true(is_chosen(rt, peer, name)),
+        "copy" => is_true(is_read_copied(rt, name)),
         "file" => is_true(transfer::does_come_over(rt.alloc(), peer, other, name)),
         "layers" => is_true(layers::does_agree(rt.alloc(), peer, name)),
         "starts" => is_true(is_started(rt, peer, name)),
@@ -95,28 +104,40 @@ fn ask<R: Files + AllocGlobal, P: Endpoint>(
     }
 }
 
-fn ask_made<R: Files + AllocGlobal, P: Endpoint + Drop>(
-    rt: &R,
-    peer: Result<P, AllocError>,
-    other: Result<P, AllocError>,
-    subject: &str,
-    name: &str,
-) -> Result<bool, AllocError> {
-    let mut peer = peer?;
-    let mut other = other?;
-    Ok(ask(rt, &mut peer, &mut other, subject, name))
-}
-
 struct Stacks;
 
-impl Examples for Stacks {
+impl PairExamples for Stacks {
+    fn left_config(
+        alloc: Global,
+        subject: &str,
+        name: &str,
+    ) -> Result<Option<RtcConfig>, AllocError> {
+        config_for(alloc, subject, name)
+    }
+
+    fn right_config(alloc: Global, subject: &str) -> Result<Option<RtcConfig>, AllocError> {
+        config_for(alloc, subject, "")
+    }
+
+    fn does_agree<R: Files + AllocGlobal, P: Endpoint + Direct>(
+        rt: &R,
+        left: &mut P,
+        right: &mut P,
+        subject: &str,
+        name: &str,
+    ) -> bool {
+        ask(rt, left, right, subject, name)
+    }
+}
+
+struct Pairs;
+
+impl Examples for Pairs {
     fn does_agree<R: Files + AllocGlobal>(rt: &R, subject: &str, name: &str) -> bool {
-        let peer = build_for(rt.alloc(), subject, name);
-        let other = build_other(rt.alloc(), subject);
-        is_true(ask_made(rt, peer, other, subject, name))
+        is_true(rtc_plain_peers::does_agree::<Stacks, R>(rt, subject, name))
     }
 }
 
 fn main(rt: HostRuntime) -> io::Result<ExitCode> {
-    run::<Stacks, HostRuntime>(&rt)
+    run::<Pairs, HostRuntime>(&rt)
 }

@@ -1,8 +1,7 @@
 //! The offer of the channels, and its answer.
-use rtc_cases::release;
+use rtc_endpoints::{Endpoint, finish};
 use rtc_peer::{RtcError, Sdp, SdpAnswer, SdpOffer};
-use rtc_plain_peers::{Endpoint, finish};
-use rtc_wire::TryCopy;
+use rtc_wire::{TryCopy, release};
 use std::alloc::Global;
 
 fn answer<P: Endpoint>(right: &mut P, offer: &Sdp) -> Result<SdpAnswer, RtcError> {

@@ -1,7 +1,7 @@
 //! The records of a file as messages of a channel.
+use rtc_endpoints::Endpoint;
 use rtc_file_records::FileSender;
 use rtc_peer::RtcError;
-use rtc_plain_peers::Endpoint;
 use rtc_wire::{Bytes, ChannelId};
 use std::alloc::{AllocError, Global};
 

@@ -1,10 +1,10 @@
 //! Starts of the association by session descriptions (draft-hancke-tsvwg-snap).
 use crate::answers::accept;
 use crate::lines::count_line;
-use rtc_cases::{is_ok, is_true, release};
+use rtc_cases::{is_ok, is_true};
+use rtc_endpoints::Endpoint;
 use rtc_peer::{RtcError, SdpOffer, Why};
-use rtc_plain_peers::Endpoint;
-use rtc_wire::Text;
+use rtc_wire::{Text, release};
 use std::alloc::{AllocError, Global};
 
 fn has_line(alloc: Global, offer: &SdpOffer, wanted: &str) -> Result<bool, AllocError> {
@@ -14,24 +14,13 @@ fn has_line(alloc: Global, offer: &SdpOffer, wanted: &str) -> Result<bool, Alloc
 }
 
 // Whether the offer of a channel has a line once.
-fn offers<P: Endpoint>(
-    alloc: Global,
-    peer: &mut P,
-    label: String,
-    wanted: &str,
-) -> Result<bool, RtcError> {
-    let (_channel, made) = peer.offer_channel(label)?;
+fn offers<P: Endpoint>(alloc: Global, peer: &mut P, wanted: &str) -> Result<bool, RtcError> {
+    let (_channel, made) = peer.offer_channel(String::new(alloc))?;
     let told = match &made {
         Some((offer, _)) => has_line(alloc, offer, wanted),
         None => Ok(false),
     };
     Ok(release(made, told)?)
-}
-
-// Whether the first offer of a channel has a line once.
-fn is_told<P: Endpoint>(alloc: Global, peer: &mut P, wanted: &str) -> Result<bool, AllocError> {
-    let label = String::from_str(alloc, "a")?;
-    Ok(is_true(offers(alloc, peer, label, wanted)))
 }
 
 fn tells_changed(why: &Why) -> bool {
@@ -96,7 +85,7 @@ pub fn does_agree<P: Endpoint>(
     match example {
         "are told by an offer" => {
             let wanted = "a=sctp-init:AQAAFAAAAAQAEAAA/////wAAAAU=";
-            is_true(is_told(alloc, peer, wanted))
+            is_true(offers(alloc, peer, wanted))
         }
         "keep the first chunk" => refuses(alloc, peer, first, other, true),
         "need the chunk again" => refuses(alloc, peer, first, other, false),

@@ -2,10 +2,9 @@
 use crate::link::Link;
 use crate::sending::Sending;
 use crate::way::Way;
-use rtc_cases::release;
+use rtc_endpoints::{Endpoint, add_hosts, agree_on_channel};
 use rtc_peer::RtcError;
-use rtc_plain_peers::{Endpoint, add_host, agree_on_channel};
-use rtc_wire::ChannelId;
+use rtc_wire::{ChannelId, release};
 use std::alloc::{AllocError, Global};
 
 // The rounds in which each file of a stored example comes over.
@@ -61,10 +60,8 @@ fn carry<P: Endpoint>(
     way: Way,
     file: &[u8],
 ) -> Result<bool, RtcError> {
-    add_host(alloc, left, 1)?;
-    add_host(alloc, right, 2)?;
-    let label = String::from_str(alloc, "file")?;
-    let channel = agree_on_channel(left, right, label)?;
+    add_hosts(alloc, left, right)?;
+    let channel = agree_on_channel(left, right, String::new(alloc))?;
     send(alloc, left, right, channel, way, file)
 }
 

@@ -3,10 +3,9 @@ use crate::exchanging::{exchange, wake};
 use crate::negotiating::negotiate;
 use crate::told::Told;
 use crate::wire::Wire;
-use rtc_cases::release;
+use rtc_endpoints::{Endpoint, add_hosts};
 use rtc_peer::RtcError;
-use rtc_plain_peers::{Endpoint, add_host};
-use rtc_wire::ChannelId;
+use rtc_wire::{ChannelId, release};
 use std::alloc::{AllocError, Global};
 
 // Checks, the handshake and the openings of channels come one after another.
@@ -86,8 +85,7 @@ fn meet<P: Endpoint>(
     work: Work,
     message: &[u8],
 ) -> Result<Told, RtcError> {
-    add_host(alloc, left, 1)?;
-    add_host(alloc, right, 2)?;
+    add_hosts(alloc, left, right)?;
     negotiate(alloc, left, right, work.channels)?;
     let mut wire = Wire::new(alloc);
     let done = perform(left, right, &mut wire, work, message);

@@ -1,11 +1,13 @@
 //! Peers as endpoints.
-use crate::Endpoint;
+use crate::{Ask, Endpoint, Given};
+use rtc_cases::{is_ok, is_true};
 use rtc_peer::{
-    Association, Candidate, CodecConfig, Direction, DtlsInstance, IceAgent, Ids, Input, MediaKind,
-    MediaSession, Mid, Output, Rtc, RtcError, SdpAnswer, SdpOffer, SdpPendingOffer, Simulcast,
+    Association, CodecConfig, Direction, DtlsInstance, IceAgent, Ids, Input, MediaKind,
+    MediaSession, Mid, Output, Rtc, RtcConfig, RtcError, SdpAnswer, SdpOffer, SdpPendingOffer,
+    Simulcast,
 };
 use rtc_plain::PlainMediaEvent;
-use rtc_wire::ChannelId;
+use rtc_wire::{ChannelId, release};
 use std::alloc::{AllocError, Global};
 
 impl<
@@ -15,8 +17,45 @@ impl<
     M: MediaSession<E = PlainMediaEvent>,
     N: Ids,
 > Endpoint for Rtc<I, D, S, M, N> {
-    fn add_address(&mut self, candidate: Candidate) -> Result<bool, AllocError> {
-        self.add_local_candidate(candidate)
+    fn does(&mut self, ask: Ask) -> bool {
+        match ask {
+            Ask::BeConnected => self.is_connected(),
+            Ask::Close => is_ok(self.close()),
+            Ask::CloseChannel(channel) => is_ok(self.close_data_channel(channel)),
+            Ask::ListChannels => is_ok(self.channels()),
+            Ask::SetLine(mid, dir) => is_true(self.sdp_api().set_direction(mid, dir)),
+            Ask::StopLine(mid) => is_true(self.sdp_api().stop_media(mid)),
+            Ask::StageLine => {
+                let mut api = self.sdp_api();
+                is_ok(api.add_media(MediaKind::Audio, Direction::SendRecv, None, None, None))
+            }
+            Ask::StageRestart => is_ok(self.sdp_api().ice_restart(true)),
+        }
+    }
+
+    fn takes(&mut self, given: Given) -> bool {
+        match given {
+            Given::Local(candidate) => is_true(self.add_local_candidate(candidate)),
+            Given::Remote(candidate) => is_ok(self.add_remote_candidate(candidate)),
+            Given::Withdrawn(candidate) => {
+                let known = self.direct_api().invalidate_candidate(&candidate);
+                release(candidate, known)
+            }
+            Given::Label(label) => is_ok(self.sdp_api().add_channel(label)),
+            Given::Channel(config) => is_ok(self.sdp_api().add_channel_with_config(config)),
+            Given::OwnCreds(creds) => {
+                self.direct_api().set_local_ice_credentials(creds);
+                true
+            }
+            Given::OtherCreds(creds) => {
+                self.direct_api().set_remote_ice_credentials(creds);
+                true
+            }
+            Given::Announced(fingerprint) => {
+                self.direct_api().set_remote_fingerprint(fingerprint);
+                true
+            }
+        }
     }
 
     fn offer_channel(
@@ -61,12 +100,8 @@ impl<
         self.sdp_api().accept_answer(token, answer)
     }
 
-    fn set_line(&mut self, mid: Mid, dir: Direction) -> Result<bool, AllocError> {
-        self.sdp_api().set_direction(mid, dir)
-    }
-
-    fn stop_line(&mut self, mid: Mid) -> Result<bool, AllocError> {
-        self.sdp_api().stop_media(mid)
+    fn default_config(alloc: Global) -> Result<RtcConfig, AllocError> {
+        Rtc::<I, D, S, M, N>::builder(alloc)
     }
 
     fn codecs(&self) -> &CodecConfig {
@@ -91,18 +126,6 @@ impl<
             Some(mut channel) => channel.write(binary, message),
             None => Ok(false),
         }
-    }
-
-    fn close_channel(&mut self, channel: ChannelId) -> Result<(), AllocError> {
-        self.close_data_channel(channel)
-    }
-
-    fn begin_close(&mut self) -> Result<(), RtcError> {
-        self.close()
-    }
-
-    fn is_connected(&self) -> bool {
-        Rtc::is_connected(self)
     }
 
     fn is_for(&self, input: &Input<'_>) -> bool {

@@ -1,6 +1,7 @@
 //! What programs ask of a peer.
+use crate::{Ask, Given};
 use rtc_peer::{
-    Candidate, CodecConfig, Direction, Input, MediaKind, Mid, Output, RtcError, SdpAnswer,
+    CodecConfig, Direction, Input, MediaKind, Mid, Output, RtcConfig, RtcError, SdpAnswer,
     SdpOffer, SdpPendingOffer, Simulcast,
 };
 use rtc_plain::PlainMediaEvent;
@@ -10,8 +11,11 @@ use std::alloc::{AllocError, Global};
 /// What programs ask of a peer (RFC 8825, section 2.2). A function over it is checked without what a peer consists of, and may own
 /// it at no cost.
 pub trait Endpoint {
-    /// Adds an address of this side.
-    fn add_address(&mut self, candidate: Candidate) -> Result<bool, AllocError>;
+    /// Whether a call does what it is asked for.
+    fn does(&mut self, ask: Ask) -> bool;
+
+    /// Whether something is taken that was not there before.
+    fn takes(&mut self, given: Given) -> bool;
 
     /// The number of a new channel with a label, and the offer of it, where there is one.
     fn offer_channel(
@@ -40,11 +44,8 @@ pub trait Endpoint {
     /// Accepts the answer to an offer of this side.
     fn accept_answer(&mut self, token: SdpPendingOffer, answer: SdpAnswer) -> Result<(), RtcError>;
 
-    /// Sets the direction of a media line. It answers whether the line changed.
-    fn set_line(&mut self, mid: Mid, dir: Direction) -> Result<bool, AllocError>;
-
-    /// Stops a media line for good. It answers whether the line changed.
-    fn stop_line(&mut self, mid: Mid) -> Result<bool, AllocError>;
+    /// The default config of peers.
+    fn default_config(alloc: Global) -> Result<RtcConfig, AllocError>;
 
     /// The codecs of the config that it was built from.
     fn codecs(&self) -> &CodecConfig;
@@ -57,15 +58,6 @@ pub trait Endpoint {
 
     /// Writes a message to an open channel. It answers whether it was taken.
     fn write(&mut self, channel: ChannelId, binary: bool, message: &[u8]) -> Result<bool, RtcError>;
-
-    /// Closes a channel.
-    fn close_channel(&mut self, channel: ChannelId) -> Result<(), AllocError>;
-
-    /// Begins to close.
-    fn begin_close(&mut self) -> Result<(), RtcError>;
-
-    /// Whether datagrams, messages and media can go both ways.
-    fn is_connected(&self) -> bool;
 
     /// Whether an input is for this peer, where several share a socket.
     fn is_for(&self, input: &Input<'_>) -> bool;

@@ -1,10 +1,10 @@
-//! Calls without session descriptions.
+//! Calls without session descriptions whose answer is a bool.
 use rtc_peer::{MediaKind, Mid};
 use rtc_wire::ChannelId;
 
 /// A call of a peer without session descriptions. What each is asked for holds where the call succeeds, and answers true or Some.
 #[derive(Clone, Copy)]
-pub enum Ask {
+pub enum AskDirect {
     /// The ICE agent is the controlling one, and is not lite.
     TakeControl,
     /// The other side's certificate and the version of DTLS are not known.
@@ -21,6 +21,8 @@ pub enum Ask {
     Declare(Mid, MediaKind),
     /// A line is removed.
     Remove(Mid),
+    /// The next source that is not in use is this one.
+    DrawSource(u32),
     /// Feedback on transport is sent from now on.
     EnableFeedback,
     /// Feedback of the application is sent, with the bytes 5 and 6.
@@ -29,25 +31,4 @@ pub enum Ask {
     WishPicture,
     /// A line sends redundancy.
     SendRedundancy(Mid),
-}
-
-/// A call on the streams of a line, by sources.
-#[derive(Clone, Copy)]
-pub enum AskStream {
-    /// A stream that is received is made.
-    MakeReceived(Mid, u32),
-    /// A stream that is sent is made.
-    MakeSent(Mid, u32),
-    /// A source is received with a mark, by its number and by its line.
-    HaveReceived(Mid, u32, u64),
-    /// A source is sent with a mark, by its number and by its line.
-    HaveSent(Mid, u32, u64),
-    /// The stream that a line sends gets another source.
-    Renumber(Mid, u32),
-    /// A source is sent.
-    IsSent(u32),
-    /// A stream that is received is dropped.
-    DropReceived(u32),
-    /// A stream that is sent is dropped.
-    DropSent(u32),
 }

@@ -1,6 +1,7 @@
 //! The end of a round.
-use crate::{Endpoint, release};
+use crate::Endpoint;
 use rtc_peer::{RtcError, SdpAnswer, SdpPendingOffer};
+use rtc_wire::release;
 
 /// Accepts what the other side answered to an offer, where that accepted it.
 pub fn finish<P: Endpoint>(

@@ -1,8 +1,8 @@
 //! Datagrams between two peers.
-use crate::{Endpoint, deliver, release};
+use crate::{Endpoint, deliver};
 use rtc_peer::{Input, Output, RtcError};
 use rtc_plain::PlainMediaEvent;
-use rtc_wire::{Moment, Span};
+use rtc_wire::{Moment, Span, release};
 
 // Enough for a handshake and an opening.
 const ROUNDS: usize = 8;
@@ -42,16 +42,19 @@ fn relay<P: Endpoint>(from: &mut P, to: &mut P, now: Moment) -> Result<(), RtcEr
     Ok(())
 }
 
+// Gives a peer the moment, and its datagrams to the other one.
+fn wake<P: Endpoint>(from: &mut P, to: &mut P, now: Moment) -> Result<(), RtcError> {
+    from.take_input(&Input::Timeout(now))?;
+    relay(from, to, now)
+}
+
 /// Exchanges datagrams, from moment 0 on; twenty milliseconds pass before each round. What peers tell is dropped.
 pub fn exchange<P: Endpoint>(left: &mut P, right: &mut P) -> Result<(), RtcError> {
     let mut now = Moment::FAR_PAST;
     for _ in 0..ROUNDS {
         now = now.plus(Span::from_millis(20));
-        let timeout = Input::Timeout(now);
-        left.take_input(&timeout)?;
-        relay(left, right, now)?;
-        right.take_input(&timeout)?;
-        relay(right, left, now)?;
+        wake(left, right, now)?;
+        wake(right, left, now)?;
     }
     Ok(())
 }

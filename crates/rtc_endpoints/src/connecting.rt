@@ -1,5 +1,5 @@
 //! Peers that connect.
-use crate::{Endpoint, add_host, agree_on_channel, exchange};
+use crate::{Endpoint, add_hosts, agree_on_channel, exchange};
 use rtc_peer::RtcError;
 use rtc_wire::ChannelId;
 use std::alloc::Global;
@@ -10,10 +10,8 @@ pub fn connect<P: Endpoint>(
     left: &mut P,
     right: &mut P,
 ) -> Result<ChannelId, RtcError> {
-    add_host(alloc, left, 1)?;
-    add_host(alloc, right, 2)?;
-    let label = String::from_str(alloc, "chat")?;
-    let channel = agree_on_channel(left, right, label)?;
+    add_hosts(alloc, left, right)?;
+    let channel = agree_on_channel(left, right, String::new(alloc))?;
     exchange(left, right)?;
     Ok(channel)
 }
