@@ -19,9 +19,10 @@ use Rattle.rtc_polling.specs.Inputs.{HandlesInput}
 use Rattle.rtc_polling.specs.Walk.{PollsPeer}
 use Rattle.rtc_polling.proofs.Lacking.{poll_lacks}
 use Rattle.rtc_polling_laws.specs.ChannelStreams.{UnlessLacking}
-use Rattle.rtc_polling_laws.specs.RowsChanged.{RowsChanged}
+use Rattle.rtc_polling_laws.specs.RowsChanged.{RowsChanged, RowsPolled}
 use Rattle.rtc_polling_laws.proofs.ActedPolls.{poll_acts}
 use Rattle.rtc_polling_laws.proofs.ChangedRows.{changed_on, none_changed}
+use Rattle.rtc_polling_laws.proofs.PolledRows.{polled_changes}
 use Rattle.rtc_channel_laws.specs.KeptChannels.{CallKeepsStreams}
 use Rattle.rtc_channel_laws.proofs.KeptInputs.{input_keeps}
 use Rattle.rtc_channel_laws.proofs.KeptPeers.{channel_close_keeps, channel_write_keeps, close_keeps}
@@ -74,11 +75,13 @@ module _ {I D S M E X T W N : Type 0} (m : Meanings I D S M E X T W N) where
   module _ (laws : PartsLaws m) where
     -- polls
     answer_rows : (p : PolledPeer I D S M N) (answer : Result (Output E) RtcError) (q : PolledPeer I D S M N) → PollsPeer m p answer q
-        → UnlessLacking answer (RowsChanged m.association p.core.channels p.core.sctp q.core.channels q.core.sctp)
+        → UnlessLacking answer (RowsPolled m.association p.core.channels p.core.sctp q.core.channels q.core.sctp)
         → (q.core.phase ≡ Closed) ⊎ RowsChanged m.association p.core.channels p.core.sctp q.core.channels q.core.sctp
-    answer_rows p (Ok output) q h changed = inr changed
+    answer_rows p (Ok output) q h changed =
+        inr (polled_changes m.association p.core.channels p.core.sctp q.core.channels q.core.sctp changed)
     answer_rows p (Err PeerAlloc) q h changed = inl (poll_lacks m p q h)
-    answer_rows p (Err error) q h changed = inr changed
+    answer_rows p (Err error) q h changed =
+        inr (polled_changes m.association p.core.channels p.core.sctp q.core.channels q.core.sctp changed)
 
     poll_rows : (p : PolledPeer I D S M N) (answer : Result (Output E) RtcError) (q : PolledPeer I D S M N) → PollsPeer m p answer q → StepRows p q
     poll_rows p answer q h = record {
