@@ -78,4 +78,7 @@ pub mod BandedInputs
 pub mod BandedChanges
 pub mod BandedNegotiation
 pub mod BandedAcceptances
+pub mod StepWalks
+pub mod BandedSteps
+pub mod BandedRuns
 pub mod SettlesRuns
