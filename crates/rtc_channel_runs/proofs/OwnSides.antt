@@ -19,7 +19,7 @@ use Rattle.rtc_joined_runs.proofs.StepsExchange.{plain_over_laws}
 use Rattle.rtc_channel_runs.specs.ConfirmedChannels.{WasConfirmed}
 use Rattle.rtc_channel_runs.specs.OwnOpenings.{HasEntryOf, HasOpening}
 use Rattle.rtc_channel_runs.specs.SettledPairs.{AreBothOpening, AreConfirmedAlone, AreInBandChannels, AreOnSides, AreOwnOpenings}
-use Rattle.rtc_channel_runs.specs.SettledPairs.{IsOpenAtBoth, IsOpeningRefused, IsRefusedAlone, IsSettledPair, IsSettledPeer, OpenNoneBoth, WaitsForAnswer}
+use Rattle.rtc_channel_runs.specs.SettledPairs.{IsOpenAtBoth, IsOpeningRefused, IsRefusedAlone, IsSettledPair, IsSettledPeer, OpenNoneBoth, WaitsForAnswer, WaitsNone}
 use Rattle.rtc_channel_runs.specs.UsesOfRuns.{uses_of}
 use Rattle.rtc_channel_runs.proofs.ConfirmedRuns.{SideSound}
 use Rattle.rtc_channel_runs.proofs.ConfirmedSides.{new_sound}
@@ -30,7 +30,7 @@ use Rattle.rtc_channel_runs.proofs.OwnedRows.{owner_side}
 use Rattle.rtc_channel_runs.proofs.OwnedRuns.{new_pair_owned, run_owned}
 use Rattle.rtc_channel_runs.proofs.RoleSides.{settled_sides}
 use Rattle.rtc_channel_runs.proofs.RunsTold.{PairTold}
-use Rattle.rtc_channel_runs.proofs.SettledRuns.{settled_refused}
+use Rattle.rtc_channel_runs.proofs.SettledRuns.{settled_answered, settled_refused}
 
 entry_map : (P Q : StreamEntry → Type 0) (s : ℕ) (es : List StreamEntry) → ((e : StreamEntry) → P e → Q e) → HasEntryOf P s es → HasEntryOf Q s es
 entry_map P Q s [] f h = absurd h
@@ -79,9 +79,14 @@ module _ {N : Type 0} (draws : Draws N) (stun : List ℕ → Bool) (start : Plai
       never_both s (rtc_at at pair) (rtc_at (other_side at) pair) (settled_own settled at) (settled_own settled (other_side at))
       (settled_sides draws stun start past pair ran new settled at) band here there
 
-  -- a channel that was confirmed is open at both sides, or refused alone
+  -- no opening waits for its answer; a channel that was confirmed is open at both sides, or refused alone
   module _ (h : PairTold draws start (λ x. []) (λ x s g. []) (λ x c s g. [])) (unused : AreUnused (plain_over draws) (plain_over_laws draws) start)
       (settled : IsSettledPair past pair) where
+    pub settled_waits_none : (at : Side) → WaitsNone (rtc_at at pair) (rtc_at (other_side at) pair)
+    settled_waits_none at = λ s band channels waits.
+        settled_parted settled at s channels (waits_opening s (rtc_at at pair).core.sctp.entries waits)
+        (refused_here s (rtc_at (other_side at) pair) (settled_answered draws stun start past pair ran h unused settled new at s band waits).0)
+
     pub settled_alone : (at : Side) → channels_wake plain_meaning (rtc_at at pair).core.channels (rtc_at at pair).core.sctp ≡ None
         → AreConfirmedAlone draws (λ c. WasConfirmed (plain_over draws) stun start at c past pair ran)
         (uses_of (plain_over draws) stun start at past pair ran) (rtc_at at pair)

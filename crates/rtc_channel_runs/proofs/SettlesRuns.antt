@@ -12,7 +12,7 @@ use Rattle.rtc_channel_runs.specs.UsesOfRuns.{reached_by}
 use Rattle.rtc_channel_runs.proofs.DrainedRuns.{new_unused}
 use Rattle.rtc_channel_runs.proofs.RunsTold.{new_pair_told}
 use Rattle.rtc_channel_runs.proofs.SettledRuns.{settled_answered, settled_confirmed, settled_idle, settled_later, settled_level, settled_open, settled_refused}
-use Rattle.rtc_channel_runs.proofs.OwnSides.{settled_alone, settled_own, settled_parted}
+use Rattle.rtc_channel_runs.proofs.OwnSides.{settled_alone, settled_own, settled_parted, settled_waits_none}
 use Rattle.rtc_channel_runs.proofs.RoleSides.{settled_sides}
 use Rattle.rtc_channel_runs.proofs.UnresetSides.{settled_unreset}
 
@@ -37,6 +37,8 @@ module _ {N : Type 0} (draws : Draws N) where
         own = λ settled at. settled_own draws stun start run.past pair ran new settled at;
         sides = λ settled at. settled_sides draws stun start run.past pair ran new settled at;
         parted = λ settled at. settled_parted draws stun start run.past pair ran new settled at;
+        waits_none = λ settled at.
+            settled_waits_none draws stun start run.past pair ran new (new_pair_told draws start new) (new_unused draws start new) settled at;
         alone = λ settled at idle.
             settled_alone draws stun start run.past pair ran new (new_pair_told draws start new) (new_unused draws start new) settled at idle;
         unreset = λ settled at later.

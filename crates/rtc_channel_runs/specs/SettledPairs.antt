@@ -207,6 +207,15 @@ OpenNoneBoth p q =
     → HasOpening stream q.core.sctp.entries
     → ⊥
 
+-- no opening waits for its answer, where neither side settled its stream or a channel for it by other means
+abbrev pub WaitsNone : {N : Type 0} → PlainPolled N → PlainPolled N → Type 0
+WaitsNone p q =
+    (stream : ℕ)
+    → AreInBandStreams stream p q
+    → AreInBandChannels stream p q
+    → WaitsForAnswer stream p.core.sctp.entries
+    → ⊥
+
 -- Each channel of one side that was confirmed is open at both, where neither side settled its stream by other means; or the opening of the
 -- stream is refused for now, and it is not open at the other side either.
 abbrev pub AreConfirmedAlone : {N : Type 0} → Draws N → (confirmed : ℕ → Type 0) → (uses : List ChannelUse) → PlainPolled N
@@ -245,7 +254,7 @@ AreConfirmedUnreset draws confirmed uses p others q =
 -- A run by these steps with these replies leaves it so at both sides, where it left the pair settled. Of channels that were confirmed it
 -- tells where nothing is due for those of the side; they are open where besides no opening is under way at either side, and where the last
 -- timeouts of both are late enough. One side is the client and the other one the server; each opening is over a stream of its own side, so
--- that both never open one.
+-- that both never open one, and no opening waits for its answer.
 pub record SettlesOpen {N : Type 0} (draws : Draws N) (stun : List ℕ → Bool) (start : PlainPair N) (steps : List Step)
     (replies : List (Reply PlainMediaEvent)) (pair : PlainPair N) (run : Runs (plain_over draws) stun start steps replies pair)
     : Type 0 where
@@ -278,6 +287,7 @@ pub record SettlesOpen {N : Type 0} (draws : Draws N) (stun : List ℕ → Bool)
   pub own : IsSettledPair run.past pair → (at : Side) → AreOwnOpenings (rtc_at at pair)
   pub sides : IsSettledPair run.past pair → (at : Side) → AreOnSides (rtc_at at pair) (rtc_at (other_side at) pair)
   pub parted : IsSettledPair run.past pair → (at : Side) → OpenNoneBoth (rtc_at at pair) (rtc_at (other_side at) pair)
+  pub waits_none : IsSettledPair run.past pair → (at : Side) → WaitsNone (rtc_at at pair) (rtc_at (other_side at) pair)
   pub alone : IsSettledPair run.past pair → (at : Side)
       → channels_wake plain_meaning (rtc_at at pair).core.channels (rtc_at at pair).core.sctp ≡ None
       → AreConfirmedAlone draws

@@ -15,7 +15,7 @@ ghost use Rattle.rtc_joined_runs.specs.PlainPairs.{PlainPair, plain_over};
 ghost use Rattle.rtc_channel_runs.specs.ConfirmedChannels.{WasConfirmed};
 ghost use Rattle.rtc_channel_runs.specs.SettledPairs.{AreAnswered, AreConfirmedAlone, AreConfirmedOpen, AreConfirmedSettled};
 ghost use Rattle.rtc_channel_runs.specs.SettledPairs.{AreConfirmedUnreset, AreOnSides, AreOpenAtBoth, AreOwnOpenings, OpenNoneBoth};
-ghost use Rattle.rtc_channel_runs.specs.SettledPairs.{HasNothingDue, HasNothingSoon, IsLevelStream, IsSettledPair, SettlesOpen};
+ghost use Rattle.rtc_channel_runs.specs.SettledPairs.{HasNothingDue, HasNothingSoon, IsLevelStream, IsSettledPair, SettlesOpen, WaitsNone};
 ghost use Rattle.rtc_channel_runs.specs.StillPairs.{IsStillPair};
 ghost use Rattle.rtc_channel_runs.specs.UsesOfRuns.{uses_of};
 
@@ -37,10 +37,10 @@ use rtc_ids::Ids;
 ///
 /// A stream that is opened from here is even where this side started the association as the client, and odd where it did as the server,
 /// unless a channel was settled for the stream by other means. One side started it as the client, and the other one as the server: each
-/// did by its DTLS role, and a handshake is finished only between the two roles. So no such stream is opened from both, and the last of
-/// the three cases does not come. Nor does the second one, of a stream that was never reset, which is in its first generation: each
-/// channel that was confirmed and has such a stream is then open at both sides, where the last timeout of its side is later than each
-/// moment that its peer took.
+/// did by its DTLS role, and a handshake is finished only between the two roles. So no such stream is opened from both, no opening waits
+/// for its answer, and the last of the three cases does not come. Nor does the second one, of a stream that was never reset, which is in
+/// its first generation: each channel that was confirmed and has such a stream is then open at both sides, where the last timeout of its
+/// side is later than each moment that its peer took.
 pub fn settled_pairs_have_open_channels<N: Ids>()
     ensures level { (stun : List ℕ → Bool) (start pair : PlainPair N) (past : List (Entry PlainMediaEvent)) → IsNewPair N.ids start
         → Reached (plain_over N.ids) stun start past pair → IsSettledPair past pair → (at : Side) (stream : ℕ)
@@ -80,6 +80,9 @@ pub fn settled_pairs_have_open_channels<N: Ids>()
     ensures parted { (stun : List ℕ → Bool) (start pair : PlainPair N) (past : List (Entry PlainMediaEvent)) → IsNewPair N.ids start
         → Reached (plain_over N.ids) stun start past pair → IsSettledPair past pair → (at : Side)
         → OpenNoneBoth (rtc_at at pair) (rtc_at (other_side at) pair) }
+    ensures waits_none { (stun : List ℕ → Bool) (start pair : PlainPair N) (past : List (Entry PlainMediaEvent)) → IsNewPair N.ids start
+        → Reached (plain_over N.ids) stun start past pair → IsSettledPair past pair → (at : Side)
+        → WaitsNone (rtc_at at pair) (rtc_at (other_side at) pair) }
     ensures alone { (stun : List ℕ → Bool) (start pair : PlainPair N) (past : List (Entry PlainMediaEvent)) → IsNewPair N.ids start
         → (ran : Reached (plain_over N.ids) stun start past pair) → IsSettledPair past pair → (at : Side)
         → channels_wake plain_meaning (rtc_at at pair).core.channels (rtc_at at pair).core.sctp ≡ None

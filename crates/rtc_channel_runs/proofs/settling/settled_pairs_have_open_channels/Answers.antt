@@ -1,6 +1,6 @@
 use Rattle.rtc_channel_runs.proofs.DrainedRuns.{new_unused}
 use Rattle.rtc_channel_runs.proofs.RunsTold.{new_pair_told}
-use Rattle.rtc_channel_runs.proofs.OwnSides.{settled_alone, settled_own, settled_parted}
+use Rattle.rtc_channel_runs.proofs.OwnSides.{settled_alone, settled_own, settled_parted, settled_waits_none}
 use Rattle.rtc_channel_runs.proofs.RoleSides.{settled_sides}
 use Rattle.rtc_channel_runs.proofs.SettlesRuns.{run_settles_open}
 use Rattle.rtc_channel_runs.proofs.UnresetSides.{settled_unreset}
@@ -43,6 +43,10 @@ returns-clause-sides g c = λ stun start pair past new ran settled at. settled_s
 
 pub returns-clause-parted : goal.returns-clause-parted
 returns-clause-parted g c = λ stun start pair past new ran settled at. settled_parted g.N.Ids.ids stun start past pair ran new settled at
+
+pub returns-clause-waits_none : goal.returns-clause-waits_none
+returns-clause-waits_none g c = λ stun start pair past new ran settled at.
+    settled_waits_none g.N.Ids.ids stun start past pair ran new (new_pair_told g.N.Ids.ids start new) (new_unused g.N.Ids.ids start new) settled at
 
 pub returns-clause-alone : goal.returns-clause-alone
 returns-clause-alone g c = λ stun start pair past new ran settled at idle.
