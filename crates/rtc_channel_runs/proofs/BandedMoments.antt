@@ -1,5 +1,5 @@
 -- Channels and entries of streams of which none was settled by other means than messages: as polls and moments change them.
-use Rattle.std.proofs.Common.{◌≡◌, ◌∙◌, ◌∷◌, if◌then◌else◌, ℕ, zero, suc, Bool, true, false, List, [], Option, Some, None, Result, Ok, Err, refl, sym, ap, subst}
+use Rattle.std.proofs.Common.{◌≡◌, ◌∙◌, ◌∷◌, ℕ, zero, suc, Bool, true, false, List, [], Option, Some, None, Result, Ok, Err, refl, sym, ap, subst}
 use Rattle.std.specs.Prelude.{is_some, slice_get, slice_set}
 use Rattle.std.proofs.lemmas.Option.{same_Some}
 use Rattle.std.specs.declared.alloc.AllocError.{AllocError}
@@ -16,13 +16,13 @@ use Rattle.rtc_sctp_entries.specs.declared.stream_entry_state.StreamEntryState.T
 use Rattle.rtc_sctp_entries.specs.declared.stream_entry.StreamEntry.{StreamEntry}
 use Rattle.rtc_sctp_entries.specs.Entries.{entry_place, is_out_of_band, marked_entry, new_entry, new_place}
 use Rattle.rtc_sctp.specs.Calls.{TakesTimeout}
-use Rattle.rtc_sctp.specs.StreamCalls.{ConfigBy, Declined, Answered, OpensAt, OpensAwaiting, OpensOver, OpensStream, TakesConfig}
+use Rattle.rtc_sctp.specs.StreamCalls.{ConfigBy, Declined, Answered, OpensAt, OpensAwaiting, OpensOver, TakesConfig}
 use Rattle.rtc_sctp.specs.Streams.{SctpStreams}
-use Rattle.rtc_channels.specs.Allocation.{Allocates, all_allocated}
+use Rattle.rtc_channels.specs.Allocation.{Allocates}
 use Rattle.rtc_channels.specs.Channels.{Channel, Channels}
-use Rattle.rtc_channels.specs.Openings.{Following, MeetsMoment, OpensAll, OpensChannel, config_handed}
+use Rattle.rtc_channels.specs.Openings.{Following, MeetsMoment, OpensAll, OpensChannel}
 use Rattle.rtc_polling.specs.StreamStages.{channel_over}
-use Rattle.rtc_polling_laws.specs.RowsChanged.{ClosesRow, ConfirmsNone, PollRows, RowsAnswered, RowsChange, RowsPolled, RowsTold, SameRows}
+use Rattle.rtc_polling_laws.specs.RowsChanged.{ClosesRow, ConfirmsNone, PollRows, RowsAnswered, RowsChange, RowsPolled, RowsTold}
 use Rattle.rtc_polling_laws.specs.RowsChanged.{Stayed, Polled, Timed, Progressed, ThresholdSet, StreamClosed, Confirmed, Made}
 use Rattle.rtc_channel_runs.proofs.BandedRows.{AreBandedRows, IsBandedConfig, allocated_banded, ensured_banded, opened_banded, without_banded}
 use Rattle.rtc_channel_runs.proofs.StandingCalls.{closes_kept, threshold_kept, timeout_kept}

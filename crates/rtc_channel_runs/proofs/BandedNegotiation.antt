@@ -1,23 +1,19 @@
 -- Negotiation by peers of which no channel, and no change that is staged or stands in a token, was settled by other means than messages:
 -- where the ops add such alone, it stays so, and entries of streams stay.
-use Rattle.std.proofs.Common.{◌≡◌, ◌∙◌, ◌++◌, ◌∷◌, Bool, true, false, not, ◌&&◌, ℕ, List, [], Option, Some, None, Result, Ok, Err, alloc_error, refl, sym, ap, subst}
+use Rattle.std.proofs.Common.{◌≡◌, ◌∙◌, ◌++◌, ◌∷◌, Bool, true, false, ℕ, List, [], Result, Ok, Err, alloc_error, refl, sym, ap, subst}
 use Rattle.std.specs.declared.alloc.AllocError.{AllocError}
-use Rattle.rtc_association.specs.AssociationLaws.{AssociationLaws}
 use Rattle.rtc_sdp_values.specs.declared.direction.Direction.{Direction}
 use Rattle.rtc_sdp_values.specs.declared.direction.Direction.TheVariants.{Inactive}
-use Rattle.rtc_sdp_values.specs.declared.sdp.Sdp.{Sdp}
 use Rattle.rtc_tables.specs.RowChanges.{RowChange, directed_row, stopped_row}
-use Rattle.rtc_channels.specs.Channels.{Channels, all_confirmed}
+use Rattle.rtc_channels.specs.Channels.{Channels}
 use Rattle.rtc_change.specs.declared.change.Change.{Change}
-use Rattle.rtc_change.specs.declared.change.Change.TheVariants.{AddMedia as Adding, AddChannel as AddingChannel, Direction as Setting}
+use Rattle.rtc_change.specs.declared.change.Change.TheVariants.{AddChannel as AddingChannel, Direction as Setting}
 use Rattle.rtc_change.specs.PendingOffer.{PendingOffer}
 use Rattle.rtc_peer_state.specs.declared.peer.Peer.{Peer}
 use Rattle.rtc_peer_state.specs.declared.phase.Phase.TheVariants.{Closed}
-use Rattle.rtc_peer_state.specs.declared.rtc_error.RtcError.TheVariants.{BadChannel, Alloc as PeerAlloc}
 use Rattle.rtc_peer_state.specs.Calls.{ChangesLine, LacksOffer, after_channels_alone, app_changes, fitting_channels, needs_app}
 use Rattle.rtc_peer_state.specs.Meanings.{Meanings}
 use Rattle.rtc_peer_state.specs.SdpHalves.{draws_half}
-use Rattle.rtc_peer_state.specs.Staging.{lacking_app, with_restart}
 use Rattle.rtc_peer_state.specs.Stance.{stance_of}
 use Rattle.rtc_history.specs.declared.side.Side.{Side}
 use Rattle.rtc_history.specs.declared.op.Op.{Op}

@@ -1,6 +1,6 @@
 -- Rows of channels of which none was settled by other means than messages, nor is to be opened as one that was: as rows are put behind
 -- others, go, are given streams, opened and confirmed.
-use Rattle.std.proofs.Common.{◌≡◌, ◌++◌, ◌∷◌, if◌then◌else◌, ℕ, Bool, true, false, List, [], Option, Some, None, refl, sym, subst, ap}
+use Rattle.std.proofs.Common.{◌≡◌, ◌++◌, ◌∷◌, if◌then◌else◌, ℕ, Bool, true, false, List, [], Option, Some, None, refl, sym, subst}
 use Rattle.rtc_wire.specs.declared.channel_config.ChannelConfig.{ChannelConfig}
 use Rattle.rtc_channels.specs.Allocation.{all_allocated, channel_ensured, is_ensured, opened_by_other, rows_given, sought_by, stream_given}
 use Rattle.rtc_channels.specs.Channels.{Channel, Channels, all_confirmed, has_id, rows_confirmed, unconfirmed, with_channel}

@@ -1,12 +1,8 @@
 -- Where a step settles no channel by other means than messages none is so behind it, nor an entry of a stream, if none was before and the
 -- peer is not closed.
-use Rattle.std.proofs.Common.{◌≡◌, ◌∙◌, ◌⊎◌, inl, inr, ◌++◌, ◌&&◌, not, ℕ, Bool, true, false, List, [], ◌∷◌, Option, Some, None, Result, Ok, Err, alloc_error, refl, sym, ap, subst}
-use Rattle.rtc_wire.specs.DatagramRecv.{kind_by}
-use Rattle.rtc_wire.specs.declared.multiplex_kind.MultiplexKind.{MultiplexKind}
-use Rattle.rtc_wire.specs.declared.net_error.NetError.{NetError}
-use Rattle.rtc_wire.specs.declared.transmit.Transmit.{Transmit}
+use Rattle.std.proofs.Common.{◌≡◌, ◌∙◌, ◌⊎◌, inl, inr, ◌&&◌, not, ℕ, Bool, true, false, List, Option, Some, None, Result, Ok, Err, sym, ap, subst}
 use Rattle.rtc_sctp_entries.specs.declared.stream_entry.StreamEntry.{StreamEntry}
-use Rattle.rtc_channels.specs.Channels.{Channel, Channels, all_confirmed}
+use Rattle.rtc_channels.specs.Channels.{Channels, all_confirmed}
 use Rattle.rtc_change.specs.PendingOffer.{PendingOffer}
 use Rattle.rtc_peer_state.specs.declared.phase.Phase.TheVariants.{Closed}
 use Rattle.rtc_peer_state.specs.declared.rtc_error.RtcError.{RtcError}
@@ -15,7 +11,6 @@ use Rattle.rtc_peer_state.specs.Calls.{fitting_channels}
 use Rattle.rtc_peer_state.specs.Meanings.{Meanings, PartsLaws}
 use Rattle.rtc_polling.specs.declared.input.Input.TheVariants as given
 use Rattle.rtc_polling.specs.declared.output.Output.{Output}
-use Rattle.rtc_polling.specs.declared.output.Output.TheVariants as polled
 use Rattle.rtc_polling.specs.declared.polled_peer.PolledPeer.{PolledPeer}
 use Rattle.rtc_polling.specs.ChannelCalls.{open_stream_under}
 use Rattle.rtc_polling.specs.Closing.{ClosesPeer}
@@ -31,29 +26,21 @@ use Rattle.rtc_channel_laws.proofs.KeptPeers.{close_keeps}
 use Rattle.rtc_history.specs.declared.kept.Kept.{Kept}
 use Rattle.rtc_history.specs.declared.op.Op.{Op}
 use Rattle.rtc_history.specs.declared.outcome.Outcome.{Outcome}
-use Rattle.rtc_history.specs.declared.outcome.Outcome.TheVariants.{Negotiated, Answered, Finished, Done, Wrote, Polled, Refused, NoSuch, Alloc}
-use Rattle.rtc_history.specs.declared.poll_end.PollEnd.{PollEnd}
-use Rattle.rtc_history.specs.declared.poll_end.PollEnd.TheVariants.{Ended, Refused as EndRefused, NoRoom}
+use Rattle.rtc_history.specs.declared.outcome.Outcome.TheVariants.{Negotiated, Answered, Finished, Refused, NoSuch, Alloc}
 use Rattle.rtc_history.specs.declared.sent_packet.SentPacket.{SentPacket}
-use Rattle.rtc_history.specs.declared.shown.Shown.{Shown}
-use Rattle.rtc_history.specs.declared.shown.Shown.TheVariants.{Timeout, Packet, Event}
+use Rattle.rtc_history.specs.declared.shown.Shown.TheVariants.{Timeout}
 use Rattle.rtc_history.specs.declared.side.Side.{Side}
-use Rattle.rtc_history.specs.declared.side.Side.TheVariants.{Left, Right}
 use Rattle.rtc_history.specs.declared.step.Step.{Step}
 use Rattle.rtc_history.specs.declared.step.Step.TheVariants.{Negotiate, AcceptOffer, AcceptAnswer, Time, Datagram, Poll, Drain}
 use Rattle.rtc_history.specs.declared.step.Step.TheVariants.{Write, CloseChannel, Close}
 use Rattle.rtc_history.specs.declared.table.Table.{Table}
-use Rattle.rtc_history.specs.CallReplies.{ClosesOpenChannel, FindsNone, StepCalls, StepClosesChannel, StepWrites, StepWritesOpen}
 use Rattle.rtc_history.specs.Memory.{answers_lack}
-use Rattle.rtc_history.specs.PairState.{PairState, rtc_at, held_token, kept_remote_sdp, remote_packet, spent}
-use Rattle.rtc_history.specs.Past.{Entry}
-use Rattle.rtc_history.specs.Performs.{Acts, DrainsOn, DrainsPeer, HandlesRead, Negotiates, PollsOnce, PollsShown, StepAcceptsAnswer, StepAcceptsOffer, StepPollsPeer, StepTakesDatagram, kept_answer, lent}
-use Rattle.rtc_history.specs.Runs.{Reached}
-use Rattle.rtc_history.specs.Sides.{other_side, side_of}
+use Rattle.rtc_history.specs.PairState.{held_token, kept_remote_sdp, remote_packet}
+use Rattle.rtc_history.specs.Performs.{Acts, Negotiates, StepAcceptsAnswer, StepAcceptsOffer, kept_answer, lent}
 use Rattle.rtc_history.specs.Signalled.{Signalled, NotMade, Unreadable, Readable}
 use Rattle.rtc_channel_runs.specs.InBandSteps.{AreInBandOps, IsInBandStep}
 use Rattle.rtc_channel_runs.proofs.BandedRows.{AreBandedRows, confirmed_banded}
-use Rattle.rtc_channel_runs.proofs.BandedMoments.{IsBanded, banded_same, polled_banded}
+use Rattle.rtc_channel_runs.proofs.BandedMoments.{IsBanded, polled_banded}
 use Rattle.rtc_channel_runs.proofs.BandedInputs.{KeepsBand, SideBanded, band_stays, input_band, shut_band, write_band}
 use Rattle.rtc_channel_runs.proofs.BandedChanges.{AreBandedTokens, IsBandedToken, fitting_banded, held_banded, spent_banded, tokens_more}
 use Rattle.rtc_channel_runs.proofs.BandedNegotiation.{MakesBanded, ops_made}
