@@ -106,7 +106,7 @@ module _ {I D S M E X T W N : Type 0} (m : Meanings I D S M E X T W N) where
   statistics_band : (now : ℕ) → CallKeepsBand (TimesStatistics m now)
   statistics_band now p r q h = by (statistics_timed m now p r q h)
     where
-      by : StatisticsTimed now p r q → KeepsBand p q
+      by : StatisticsTimed m now p r q → KeepsBand p q
       by timed =
           band_stays p q (ap (λ (x : PolledPeer I D S M N). x.core.channels) timed.kept) (ap (λ (x : PolledPeer I D S M N). x.core.sctp.entries) timed.kept)
           (λ closed. ends closed timed.ends)
@@ -198,7 +198,7 @@ module _ {I D S M E X T W N : Type 0} (m : Meanings I D S M E X T W N) where
       phase e = ap (λ (x : PolledPeer I D S M N). x.core.phase) h.1 ∙ e
 
       by : (stream : Option ℕ) → ClosesChannel m.association stream p.core.sctp r q.core.sctp → KeepsBand p q
-      by None closes = band_stays p q channels (ap (λ (x : SctpStreams S). x.entries) closes.1) phase
+      by None closes k = band_stays p q channels (ap (λ (x : SctpStreams S). x.entries) closes.1) phase k
       by (Some stream) closes (inl e) = inl (phase e)
       by (Some stream) closes (inr k) =
           inr

@@ -156,5 +156,5 @@ module _ {I D S M E X T W N : Type 0} (m : Meanings I D S M E X T W N) where
       → MakesBanded p sdps q sdps'
   ops_made asked at ops answers p b sdps made q sdps' band h k =
       let first = ops_go p ops answers b band h in
-      let then = makes_go asked at b sdps made q sdps' k in
-      record { peer = goes_on p b q first then.peer; tokens = λ x tokens. then.tokens (first.staged x) tokens }
+      let after = makes_go asked at b sdps made q sdps' k in
+      record { peer = goes_on p b q first after.peer; tokens = λ x tokens. after.tokens (first.staged x) tokens }

@@ -1,6 +1,6 @@
 -- Rows of channels of which none was settled by other means than messages, nor is to be opened as one that was: as rows are put behind
 -- others, go, are given streams, opened and confirmed.
-use Rattle.std.proofs.Common.{◌≡◌, ◌++◌, ◌∷◌, if◌then◌else◌, ℕ, Bool, true, false, List, [], Option, Some, None, refl, sym, subst}
+use Rattle.std.proofs.Common.{◌≡◌, ◌+◌, ◌++◌, ◌∷◌, if◌then◌else◌, ℕ, Bool, true, false, List, [], Option, Some, None, refl, sym, subst}
 use Rattle.rtc_wire.specs.declared.channel_config.ChannelConfig.{ChannelConfig}
 use Rattle.rtc_channels.specs.Allocation.{all_allocated, channel_ensured, is_ensured, opened_by_other, rows_given, sought_by, stream_given}
 use Rattle.rtc_channels.specs.Channels.{Channel, Channels, all_confirmed, has_id, rows_confirmed, unconfirmed, with_channel}
@@ -35,8 +35,8 @@ banded_in_band s (row ∷ rows) h = ((λ is. h.0.0), banded_in_band s rows h.1)
 
 -- behind others
 banded_more : (rows : List Channel) (row : Channel) → row.negotiated ≡ None → row.config ≡ None → AreBandedRows rows → AreBandedRows (rows ++ row ∷ [])
-banded_more [] row none open h = ((none, subst (λ (o : Option ChannelConfig). IsBandedConfig o) (sym open) no_config), tt)
-banded_more (first ∷ rows) row none open h = (h.0, banded_more rows row none open h.1)
+banded_more [] row none bare h = ((none, subst (λ (o : Option ChannelConfig). IsBandedConfig o) (sym bare) no_config), tt)
+banded_more (first ∷ rows) row none bare h = (h.0, banded_more rows row none bare h.1)
 
 pub ensured_banded : (stream : ℕ) (held : Channels) → AreBandedRows held.rows → AreBandedRows (channel_ensured stream held).rows
 ensured_banded stream held h = by (is_ensured stream held)
