@@ -24,7 +24,6 @@ use Rattle.rtc_channel_laws.proofs.KeptPeers.{channel_close_keeps, channel_write
 use Rattle.rtc_history.specs.declared.kept.Kept.{Kept}
 use Rattle.rtc_history.specs.declared.outcome.Outcome.{Outcome}
 use Rattle.rtc_history.specs.declared.sent_packet.SentPacket.{SentPacket}
-use Rattle.rtc_history.specs.declared.shown.Shown.TheVariants.{Timeout}
 use Rattle.rtc_history.specs.declared.side.Side.{Side}
 use Rattle.rtc_history.specs.declared.side.Side.TheVariants.{Left, Right}
 use Rattle.rtc_history.specs.declared.step.Step.{Step}
