@@ -194,18 +194,8 @@ AreConfirmedAlone draws confirmed uses p others q =
     → AreInBandChannels stream p q
     → IsOpenAtBoth draws channel uses p others q ⊎ IsRefusedAlone stream p q
 
--- each channel of one side that was confirmed is open at both, where neither side settled its stream by other means
-abbrev pub AreConfirmedInBand : {N : Type 0} → Draws N → (confirmed : ℕ → Type 0) → (uses : List ChannelUse) → PlainPolled N
-    → (others : List ChannelUse) → PlainPolled N → Type 0
-AreConfirmedInBand draws confirmed uses p others q =
-    (channel stream : ℕ)
-    → confirmed channel
-    → stream_under channel p.core.channels ≡ Some stream
-    → AreInBandStreams stream p q
-    → AreInBandChannels stream p q
-    → IsOpenAtBoth draws channel uses p others q
-
--- the same of streams that are in their first generation: neither was ever reset
+-- Each channel of one side that was confirmed is open at both, where neither side settled its stream by other means, and the stream is in
+-- its first generation: it was never reset.
 abbrev pub AreConfirmedUnreset : {N : Type 0} → Draws N → (confirmed : ℕ → Type 0) → (uses : List ChannelUse) → PlainPolled N
     → (others : List ChannelUse) → PlainPolled N → Type 0
 AreConfirmedUnreset draws confirmed uses p others q =
@@ -217,7 +207,7 @@ AreConfirmedUnreset draws confirmed uses p others q =
     → generation_of p.core.sctp.association stream ≡ 0
     → IsOpenAtBoth draws channel uses p others q
 
--- the same, whatever settled the stream
+-- each channel of one side that was confirmed is open at both, where its stream was never reset
 abbrev pub AreConfirmedFirst : {N : Type 0} → Draws N → (confirmed : ℕ → Type 0) → (uses : List ChannelUse) → PlainPolled N
     → (others : List ChannelUse) → PlainPolled N → Type 0
 AreConfirmedFirst draws confirmed uses p others q =
